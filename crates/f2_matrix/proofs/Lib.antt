@@ -1,0 +1,9 @@
+pub mod Spans
+pub mod RowOperations
+pub mod Elimination
+pub mod Unique
+pub mod Split
+pub mod Kept
+pub mod Parts
+pub mod Pivots
+pub mod Combinations

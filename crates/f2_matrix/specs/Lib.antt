@@ -1,0 +1,4 @@
+pub mod Spans
+pub mod Echelon
+pub mod Reduction
+pub mod RowOperations

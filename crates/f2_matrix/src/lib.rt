@@ -1,0 +1,12 @@
+//! Linear algebra over the field with two elements: echelon forms, spans and kernels. Vectors are rows.
+#![tactic(auto)]
+
+mod laws;
+mod matrix;
+mod reduced;
+#[cfg(test)]
+mod tests;
+
+pub use laws::{echelon_form_is_unique, kernel_basis_is_unique, row_basis_is_unique};
+pub use matrix::Matrix;
+pub use reduced::Reduced;
