@@ -1,0 +1,19 @@
+mod Examples
+pub mod ExponentLemmas
+pub mod Blocks
+pub mod BasisLemmas
+pub mod FiniteSums
+pub mod Kummer
+pub mod MatrixList
+pub mod Homogeneous
+pub mod LeftUnit
+pub mod Bits
+pub mod Fill
+pub mod Matrices
+pub mod Parity
+pub mod ProductTerms
+pub mod Prune
+pub mod Steps
+pub mod Sums
+pub mod Walk
+pub mod Places

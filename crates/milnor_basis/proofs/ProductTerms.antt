@@ -1,0 +1,68 @@
+-- The terms of a product.
+use Rattle.std.proofs.Common.{◌≡◌, ℕ, ◌+◌, ◌<◌, ◌≤◌, Bool, true, false, List, [], ◌∷◌, ◌++◌, length, take, cond, refl, sym, ◌∙◌, ap, arith, slice_index, slice_index_or}
+use Rattle.std.specs.List.{filter}
+use Rattle.std.proofs.lemmas.List.{append-nil, take_more, take_all}
+use Rattle.milnor_basis.specs.Exponents.{entry, degree_of}
+use Rattle.milnor_basis.specs.Basis.{basis_of}
+use Rattle.milnor_basis.specs.Product.{coefficient, product_terms}
+use Rattle.milnor_basis.specs.Walk.{plus, IsLeft, no_sums, TurnsOver, AreChosen}
+use Rattle.milnor_basis.proofs.Matrices.{coefficient-fillings}
+
+-- at the beginning all is left
+all_left : (r s rows columns diagonals : List ℕ) → length r ≤ 8 → length s ≤ 8 → ((i : ℕ) → i < 8 → slice_index rows i ≡ entry r i) → ((j : ℕ) → j < 8 → slice_index columns j ≡ entry s j) → ((k : ℕ) → slice_index diagonals k ≡ 0)
+    → IsLeft r s (length r) (length s) rows columns diagonals no_sums
+all_left r s rows columns diagonals short narrow er es ed = record {
+  rows_left = λ i l. let e = er i (omega arith) in omega arith;
+  columns_left = λ j l. let e = es j (omega arith) in omega arith;
+  diagonals_so_far = λ k l. ed k;
+  no_more_diagonals = λ k l. ed k;
+  rows_done = λ i l m. absurd (omega arith);
+  columns_done = λ z j l m. absurd (omega arith);
+  is_apart = refl;
+}
+
+-- the elements whose bits are turned over an odd number of times are the terms
+pub terms_are : (r s rows columns diagonals : List ℕ) (degree : ℕ) (before after : List Bool) (terms : List (List ℕ)) → length r ≤ 8 → length s ≤ 8
+    → ((i : ℕ) → i < 8 → slice_index rows i ≡ entry r i) → ((j : ℕ) → j < 8 → slice_index columns j ≡ entry s j) → ((k : ℕ) → slice_index diagonals k ≡ 0)
+    → degree ≡ degree_of r + degree_of s → length before ≡ length (basis_of degree) → ((k : ℕ) → k < length before → slice_index_or before k false ≡ false)
+    → TurnsOver degree (length s) (length r) (length s) rows columns diagonals before after → AreChosen (basis_of degree) after terms → terms ≡ product_terms r s
+terms_are r s rows columns diagonals degree before after terms short narrow er es ed e long clear turns chosen =
+    chosen (coefficient r s) (λ k l.
+    let within : k < length before = omega arith in
+    turns r s no_sums refl narrow short (omega arith) (all_left r s rows columns diagonals short narrow er es ed) k within
+    ∙ ap (λ b. plus b (slice_index_or before k false)) (sym (coefficient-fillings r s (slice_index_or (basis_of degree) k [])))
+    ∙ ap (plus (coefficient r s (slice_index_or (basis_of degree) k []))) (clear k within)
+    ∙ plus-false (coefficient r s (slice_index_or (basis_of degree) k [])))
+    ∙ ap (λ n. filter (coefficient r s) (basis_of n)) e
+  where
+    plus-false : (b : Bool) → plus b false ≡ b
+    plus-false true = refl
+    plus-false false = refl
+
+-- the elements chosen among the first i
+abbrev pub ChosenSoFar : List (List ℕ) → List Bool → ℕ → List (List ℕ) → Type 0
+ChosenSoFar elements bits i chosen = (test : List ℕ → Bool) → ((k : ℕ) → k < length elements → slice_index_or bits k false ≡ test (slice_index_or elements k [])) → chosen ≡ filter test (take i elements)
+
+filter_push : (test : List ℕ → Bool) (xs : List (List ℕ)) (y : List ℕ) → filter test (xs ++ y ∷ []) ≡ filter test xs ++ cond (test y) (y ∷ []) []
+filter_push test [] y = refl
+filter_push test (x ∷ xs) y = at (test x) (filter_push test xs y) where
+  at : (b : Bool) → filter test (xs ++ y ∷ []) ≡ filter test xs ++ cond (test y) (y ∷ []) [] → cond b (x ∷ filter test (xs ++ y ∷ [])) (filter test (xs ++ y ∷ [])) ≡ cond b (x ∷ filter test xs) (filter test xs) ++ cond (test y) (y ∷ []) []
+  at true e = ap (λ ys. x ∷ ys) e
+  at false e = e
+
+module _ (elements : List (List ℕ)) (bits : List Bool) (i : ℕ) (chosen : List (List ℕ)) (within : i < length elements) (so_far : ChosenSoFar elements bits i chosen) where
+  pub chosen_more : slice_index_or bits i false ≡ true → ChosenSoFar elements bits (i + 1) (chosen ++ slice_index_or elements i [] ∷ [])
+  chosen_more set test is =
+      let yes : test (slice_index_or elements i []) ≡ true = sym (is i within) ∙ set in
+      let step : filter test (take (i + 1) elements) ≡ filter test (take i elements) ++ cond (test (slice_index_or elements i [])) (slice_index_or elements i [] ∷ []) [] = ap (filter test) (take_more elements i [] within) ∙ filter_push test (take i elements) (slice_index_or elements i []) in
+      ap (λ xs. xs ++ slice_index_or elements i [] ∷ []) (so_far test is)
+      ∙ sym (step ∙ ap (λ b. filter test (take i elements) ++ cond b (slice_index_or elements i [] ∷ []) []) yes)
+
+  pub chosen_skip : slice_index_or bits i false ≡ false → ChosenSoFar elements bits (i + 1) chosen
+  chosen_skip clear test is =
+      let no : test (slice_index_or elements i []) ≡ false = sym (is i within) ∙ clear in
+      let step : filter test (take (i + 1) elements) ≡ filter test (take i elements) ++ cond (test (slice_index_or elements i [])) (slice_index_or elements i [] ∷ []) [] = ap (filter test) (take_more elements i [] within) ∙ filter_push test (take i elements) (slice_index_or elements i []) in
+      so_far test is ∙ sym (step ∙ ap (λ b. filter test (take i elements) ++ cond b (slice_index_or elements i [] ∷ []) []) no ∙ append-nil (filter test (take i elements)))
+
+pub all_chosen : (elements : List (List ℕ)) (bits : List Bool) (i : ℕ) (chosen : List (List ℕ)) → length elements ≤ i → ChosenSoFar elements bits i chosen → AreChosen elements bits chosen
+all_chosen elements bits i chosen all so_far test is = so_far test is ∙ ap (filter test) (take_all i elements all)

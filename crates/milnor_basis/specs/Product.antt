@@ -1,0 +1,93 @@
+-- The product of two elements of Milnor's basis, as he states it: a sum over matrices.
+use Rattle.std.specs.Prelude.{◌≡◌, ℕ, zero, suc, ◌+◌, ◌-◌, ◌*◌, ◌%◌, ◌^◌, Bool, true, ◌&&◌, nat_eq, if◌then◌else◌, List, [], ◌∷◌, ◌++◌, length, map}
+use Rattle.std.specs.List.{filter, fold, flat_map, list_all, count_by, sum, range_with_len}
+use Rattle.std.specs.Cmp.Lexicographic.{pointwise}
+use Rattle.milnor_basis.specs.Exponents.{entry, degree_of, trimmed, IsTrimmed}
+use Rattle.milnor_basis.specs.Basis.{basis_of}
+
+-- an infinite matrix, its rows and columns counted from 0
+abbrev pub Matrix : Type 0
+Matrix = ℕ → ℕ → ℕ
+
+abbrev pub zero_matrix : Matrix
+zero_matrix = λ i j. 0
+
+-- the matrix with the number v put at row i and column j
+abbrev pub put : ℕ → ℕ → ℕ → Matrix → Matrix
+put i j v x = λ a b. if nat_eq a i && nat_eq b j then v else x a b
+
+-- the places of rows 0 to m and columns 0 to n, all but (0, 0)
+abbrev pub places : ℕ → ℕ → List (ℕ × ℕ)
+places m n = map (λ j. (0, j)) (range_with_len 1 n) ++ flat_map (λ i. map (λ j. (i, j)) (range_with_len 0 (n + 1))) (range_with_len 1 m)
+
+-- the matrices with numbers below bound at these places, and zeros elsewhere
+abbrev pub matrices : List (ℕ × ℕ) → ℕ → List Matrix
+matrices [] bound = zero_matrix ∷ []
+matrices (p ∷ ps) bound = flat_map (λ x. map (λ v. put p.0 p.1 v x) (range_with_len 0 bound)) (matrices ps bound)
+
+-- the sum over j of 2^j x_ij, for j up to n, and the sum over i of x_ij, for i up to m
+abbrev pub row_sum : ℕ → Matrix → ℕ → ℕ
+row_sum n x i = sum (map (λ j. 2 ^ j * x i j) (range_with_len 0 (n + 1)))
+
+abbrev pub column_sum : ℕ → Matrix → ℕ → ℕ
+column_sum m x j = sum (map (λ i. x i j) (range_with_len 0 (m + 1)))
+
+-- rows 1 to m have the sums R, and columns 1 to n the sums S, where m and n are the lengths of R and S
+abbrev pub has_rows : List ℕ → List ℕ → Matrix → Bool
+has_rows r s x = list_all (λ i. nat_eq (row_sum (length s) x i) (entry r (i - 1))) (range_with_len 1 (length r))
+
+abbrev pub has_columns : List ℕ → List ℕ → Matrix → Bool
+has_columns r s x = list_all (λ j. nat_eq (column_sum (length r) x j) (entry s (j - 1))) (range_with_len 1 (length s))
+
+-- the entries x_ij with i + j = k
+abbrev pub diagonal : Matrix → ℕ → List ℕ
+diagonal x k = map (λ i. x i (k - i)) (range_with_len 0 (k + 1))
+
+-- the exponent list T of a matrix: t_k is the sum of diagonal k
+abbrev pub diagonal_sums : ℕ → Matrix → List ℕ
+diagonal_sums n x = trimmed (map (λ k. sum (diagonal x k)) (range_with_len 1 n))
+
+-- Pascal's triangle, and the multinomials
+abbrev pub choose : ℕ → ℕ → ℕ
+choose n zero = 1
+choose zero (suc k) = 0
+choose (suc n) (suc k) = choose n k + choose n (suc k)
+
+abbrev pub multinomial : List ℕ → ℕ
+multinomial [] = 1
+multinomial (x ∷ xs) = choose (x + sum xs) x * multinomial xs
+
+abbrev pub is_odd : ℕ → Bool
+is_odd n = nat_eq (n % 2) 1
+
+-- the product of the multinomials of diagonals 1 to n
+abbrev pub matrix_coefficient : ℕ → Matrix → ℕ
+matrix_coefficient n x = fold ◌*◌ 1 (map (λ k. multinomial (diagonal x k)) (range_with_len 1 n))
+
+-- whether a matrix is one of those that the product of Sq(R) and Sq(S) sums over, with a coefficient that is odd
+abbrev pub counts : List ℕ → List ℕ → Matrix → Bool
+counts r s x = has_rows r s x && has_columns r s x && is_odd (matrix_coefficient (length r + length s) x)
+
+-- the exponent lists of those matrices, one for each; no entry is above the numbers of R and S
+abbrev pub product_diagonals : List ℕ → List ℕ → List (List ℕ)
+product_diagonals r s = map (diagonal_sums (length r + length s)) (filter (counts r s) (matrices (places (length r) (length s)) (suc (sum r + sum s))))
+
+-- the coefficient, mod 2, of Sq(T) in the product of Sq(R) and Sq(S)
+abbrev pub coefficient : List ℕ → List ℕ → List ℕ → Bool
+coefficient r s t = is_odd (count_by (λ d. pointwise nat_eq d t) (product_diagonals r s))
+
+-- the terms of the product with coefficient 1, each once, in basis order
+abbrev pub product_terms : List ℕ → List ℕ → List (List ℕ)
+product_terms r s = filter (coefficient r s) (basis_of (degree_of r + degree_of s))
+
+-- the product as its coefficients on the basis of its degree
+abbrev pub product_bits : List ℕ → List ℕ → List Bool
+product_bits r s = map (coefficient r s) (basis_of (degree_of r + degree_of s))
+
+-- a product's terms are of the degree of the product
+abbrev pub ProductIsHomogeneous : Type 0
+ProductIsHomogeneous = (r s t : List ℕ) → coefficient r s t ≡ true → IsTrimmed t × (degree_of t ≡ degree_of r + degree_of s)
+
+-- Sq() is a left unit
+abbrev pub ProductHasLeftUnit : Type 0
+ProductHasLeftUnit = (s t : List ℕ) → IsTrimmed s → IsTrimmed t → coefficient [] s t ≡ pointwise nat_eq s t

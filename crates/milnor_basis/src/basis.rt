@@ -1,0 +1,167 @@
+ghost use Rattle.std.specs.Prelude.{◌≡◌, ◌≤◌, ◌<◌, ◌↔◌, ◌++◌, [], length, map, drop, slice_index_or, IfOk, IfSome, IsNone, Some, slice_get};
+ghost use Rattle.std.specs.List.{Contains};
+ghost use Rattle.milnor_basis.specs.Exponents.{degree_of, trimmed};
+ghost use Rattle.milnor_basis.specs.Basis.{lists_of, basis_of};
+
+use crate::exps::{Exps, MAX_EXPONENTS};
+use memory::Memory;
+use std::alloc::Global;
+use std::marker::Model;
+
+/// The elements of one degree, in order.
+#[derive(Debug, Drop)]
+struct Level {
+    exps: Vec<Exps>,
+}
+
+impl Model for Level {
+    ghost use Rattle.std.specs.Prelude.{ℕ, List};
+
+    ghost Value = { List (List ℕ) };
+
+    ghost view = { λ l. l.exps.items };
+}
+
+impl Level {
+    /// The basis of degree `n`.
+    fn of_degree(alloc: Global, n: u16) -> Result<Level, Memory>
+        requires { n ≤ 255 }
+        ensures { IfOk result (λ level. level ≡ basis_of n) }
+    {
+        let none = Level {
+            exps: Vec::new(alloc),
+        };
+        none.with_lists(MAX_EXPONENTS, n, [0; 8])
+    }
+
+    /// This level, followed by the elements whose first `k` exponents make up degree `n` and whose others are those of
+    /// `numbers`, in right lexicographic order.
+    fn with_lists(self, k: usize, n: u16, numbers: [u16; 8]) -> Result<Level, Memory>
+        requires { k ≤ 8 }
+        ensures { IfOk result (λ level. level ≡ self ++ map (λ front. trimmed (front ++ drop k numbers)) (lists_of k n)) }
+    {
+        if k == 0 {
+            return self.with_element(n, numbers);
+        }
+        let weight = (1 << k) - 1;
+        let mut level = self;
+        let mut numbers = numbers;
+        for last in 0..=n / weight {
+            numbers[k - 1] = last;
+            level = level.with_lists(k - 1, n - last * weight, numbers)?;
+        }
+        Ok(level)
+    }
+
+    /// This level and then, where `n` is 0, the element with these exponents.
+    fn with_element(self, n: u16, numbers: [u16; 8]) -> Result<Level, Memory>
+        ensures { IfOk result (λ level. level ≡ self ++ map (λ front. trimmed (front ++ numbers)) (lists_of 0 n)) }
+    {
+        let mut level = self;
+        if n == 0 {
+            level.exps.push(Exps::of(numbers))?;
+        }
+        Ok(level)
+    }
+}
+
+/// The Milnor bases of the degrees 0 to a greatest one, which is all that contracts see of it.
+#[derive(Debug, Drop)]
+pub struct Basis {
+    max: u16,
+    levels: Vec<Level>,
+}
+
+impl Model for Basis {
+    ghost use Rattle.std.specs.Prelude.{◌≡◌, ◌+◌, ◌≤◌, ℕ, map};
+    ghost use Rattle.std.specs.List.{range_with_len};
+    ghost use Rattle.milnor_basis.specs.Basis.{basis_of};
+
+    ghost Value = { ℕ };
+
+    ghost view = { λ b. b.max };
+
+    ghost invariant = { λ b. (b.max ≤ 255) × (b.levels.items ≡ map basis_of (range_with_len 0 (b.max + 1))) };
+}
+
+impl Basis {
+    /// The bases of the degrees 0 to `max`.
+    pub fn new(alloc: Global, max: u16) -> Result<Self, Memory>
+        requires { max ≤ 255 }
+        ensures { IfOk result (λ basis. basis ≡ max) }
+    {
+        let mut levels = Vec::new(alloc);
+        for n in 0..=max {
+            levels.push(Level::of_degree(alloc, n)?)?;
+        }
+        Ok(Basis { max, levels })
+    }
+
+    /// The greatest degree.
+    pub fn max(&self) -> u16
+        ensures { result ≡ self.now }
+    {
+        self.max
+    }
+
+    /// The basis of degree `n`, in right lexicographic order.
+    pub fn of_degree(&self, n: u16) -> &[Exps]
+        requires { n ≤ self.now }
+        ensures { result.now ≡ basis_of n }
+    {
+        let level = &self.levels[usize::from(n)];
+        level.exps.as_slice()
+    }
+
+    /// The degree of Sq(R), and its place in the basis of that degree; none where the degree is above the greatest.
+    pub fn place(&self, r: &Exps) -> Option<(u16, usize)>
+        ensures past { IsNone result ↔ (self.now < degree_of r.now) }
+        ensures degree { IfSome result (λ at. at.0 ≡ degree_of r.now) }
+        ensures place { IfSome result (λ at. slice_get (basis_of at.0) at.1 ≡ Some r.now) }
+        ensures small { self.now ≤ 255 }
+    {
+        let degree = r.degree();
+        if degree > u32::from(self.max) {
+            return None;
+        }
+        let degree = degree as u16;
+        let place = place_in(self.of_degree(degree), r)?;
+        Some((degree, place))
+    }
+}
+
+/// The first place in `elements` that holds `r`.
+fn place_in(elements: &[Exps], r: &Exps) -> Option<usize>
+    ensures within { IfSome result (λ i. i < length elements.now) }
+    ensures found { IfSome result (λ i. slice_index_or elements.now i [] ≡ r.now) }
+    ensures none { IsNone result → ¬ Contains elements.now r.now }
+{
+    elements.iter().position(|exps| exps == r)
+}
+
+#[cfg(test)]
+mod tests {
+    use super::*;
+    use std::test::Fail;
+
+    fn sq(r1: u16, r2: u16, r3: u16) -> Exps {
+        Exps::of([r1, r2, r3, 0, 0, 0, 0, 0])
+    }
+
+    #[test]
+    fn lists_and_places_degree_seven(rt: HostRuntime) -> Result<(), Fail> {
+        let basis = Basis::new(rt.alloc(), 7)?;
+        assert_eq!(rt; basis.max(), 7);
+        let want = [sq(7, 0, 0), sq(4, 1, 0), sq(1, 2, 0), sq(0, 0, 1)];
+        assert_eq!(rt; basis.of_degree(7), want.as_slice());
+        let milnor = sq(1, 2, 0);
+        assert_eq!(rt; basis.place(&milnor), Some((7, 2)));
+        assert_eq!(rt; basis.place(&sq(8, 0, 0)), None);
+        assert_eq!(rt;
+            (milnor.degree(), milnor.len(), milnor.exponent(1)),
+            (7, 2, 2)
+        );
+        assert!(rt; !milnor.is_empty());
+        Ok(())
+    }
+}

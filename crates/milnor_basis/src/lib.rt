@@ -1,0 +1,12 @@
+//! Milnor's basis of the Steenrod algebra at 2, and the product of two of its elements.
+#![tactic(auto)]
+
+mod basis;
+mod exps;
+mod laws;
+mod product;
+
+pub use basis::Basis;
+pub use exps::Exps;
+pub use laws::{basis_is_milnors, product_has_left_unit, product_is_homogeneous};
+pub use product::terms;

@@ -1,0 +1,247 @@
+ghost use Rattle.std.specs.Prelude.{◌≡◌, ℕ, ◌≤◌, ◌<◌, ◌+◌, ◌-◌, ◌*◌, ◌^◌, ◌↔◌, IfOk, IsTrue, EachIndex, length, slice_index, slice_set, bit_or};
+ghost use Rattle.milnor_basis.specs.Exponents.{degree_of, entry};
+ghost use Rattle.milnor_basis.specs.Basis.{basis_of};
+ghost use Rattle.milnor_basis.specs.Product.{product_terms};
+ghost use Rattle.milnor_basis.specs.Walk.{least, greatest, next_row, next_column, taken, TurnsOver, TurnsOverEqual, AreChosen};
+
+use crate::basis::Basis;
+use crate::exps::{Exps, MAX_EXPONENTS};
+use memory::Memory;
+use std::alloc::Global;
+
+/// What is left to fill of a matrix. Its places are filled from the last to the first: row by row from the last row up
+/// to row 0, and each row from its last column to the first.
+#[derive(Clone, Copy, Drop)]
+struct Left {
+    /// What is left of the sum of each row, from row 1 on.
+    rows: [u16; 8],
+    /// What is left of the sum of each column, from column 1 on.
+    columns: [u16; 8],
+    /// The sum of each diagonal so far, from diagonal 1 on.
+    diagonals: [u16; 16],
+}
+
+impl Left {
+    /// All the places to fill, for the rows R and the columns S.
+    fn of(r: &Exps, s: &Exps) -> Self
+        ensures rows { (i : ℕ) → i < 8 → slice_index result.rows i ≡ entry r.now i }
+        ensures columns { (j : ℕ) → j < 8 → slice_index result.columns j ≡ entry s.now j }
+        ensures diagonals { (k : ℕ) → slice_index result.diagonals k ≡ 0 }
+    {
+        Left {
+            rows: numbers_of(r),
+            columns: numbers_of(s),
+            diagonals: [0; 16],
+        }
+    }
+
+    /// The least and the greatest number that can stand at this place. The last place of a row or of a column takes
+    /// all that is left of it.
+    fn range(&self, row: usize, column: usize) -> (u16, u16)
+        requires row { row ≤ 8 }
+        requires column { column ≤ 8 }
+        requires place { 0 < row + column }
+        ensures least { result.0 ≡ least row column self.now.rows self.now.columns }
+        ensures greatest { result.1 ≡ greatest row column self.now.rows self.now.columns }
+    {
+        if column == 0 {
+            let row_left = self.rows[row - 1];
+            (row_left, row_left)
+        } else if row == 0 {
+            let column_left = self.columns[column - 1];
+            (column_left, column_left)
+        } else {
+            (
+                0,
+                (self.rows[row - 1] >> column).min(self.columns[column - 1]),
+            )
+        }
+    }
+
+    /// What is left with `number` put at this place, which shares no binary digit with its diagonal.
+    fn put(mut self, row: usize, column: usize, number: u16) -> Self
+        requires row { row ≤ 8 }
+        requires column { column ≤ 8 }
+        requires place { 0 < row + column }
+        requires least { least row column self.rows self.columns ≤ number }
+        requires greatest { number ≤ greatest row column self.rows self.columns }
+        ensures rows { result.rows ≡ taken row (number * 2 ^ column) self.rows }
+        ensures columns { result.columns ≡ taken column number self.columns }
+        ensures diagonals { result.diagonals ≡ slice_set self.diagonals (row + column - 1) (bit_or (slice_index self.diagonals (row + column - 1)) number) }
+    {
+        if row > 0 {
+            self.rows[row - 1] = less(self.rows[row - 1], number, column);
+        }
+        if column > 0 {
+            self.columns[column - 1] -= number;
+        }
+        // With no digit in common this is the sum, and it cannot overflow.
+        self.diagonals[row + column - 1] |= number;
+        self
+    }
+}
+
+/// What is left of a row's sum once `number` stands in this column.
+fn less(left: u16, number: u16, column: usize) -> u16
+    requires column { column ≤ 8 }
+    requires number { number * 2 ^ column ≤ left }
+    ensures { result ≡ left - number * 2 ^ column }
+{
+    left - (number << column)
+}
+
+/// The place that is filled after this one, in a matrix with columns 0 to `width`.
+fn next_place(width: usize, row: usize, column: usize) -> (usize, usize)
+    requires { 0 < row + column }
+    ensures row { result.0 ≡ next_row row column }
+    ensures column { result.1 ≡ next_column width row column }
+{
+    if column > 0 {
+        (row, column - 1)
+    } else {
+        (row - 1, width)
+    }
+}
+
+/// The exponents, with zeros at the end.
+fn numbers_of(r: &Exps) -> [u16; MAX_EXPONENTS]
+    ensures { (i : ℕ) → i < 8 → slice_index result i ≡ entry r.now i }
+{
+    let mut numbers = [0; MAX_EXPONENTS];
+    for i in 0..MAX_EXPONENTS {
+        numbers[i] = r.exponent(i);
+    }
+    numbers
+}
+
+/// Whether all of these numbers are 0.
+fn is_zero(numbers: &[u16]) -> bool
+    ensures { IsTrue result ↔ EachIndex numbers.now (λ k. slice_index numbers.now k ≡ 0) }
+{
+    numbers.iter().all(|number| *number == 0)
+}
+
+/// Turns over the bit of the basis element of this degree whose exponents these are, if there is one.
+fn turn_over(basis: &Basis, degree: u16, diagonals: &[u16; 16], bits: &mut [bool])
+    requires degree { degree ≤ basis.now }
+    requires bits { length bits.old ≡ length (basis_of degree) }
+    ensures { TurnsOverEqual degree diagonals.now bits.old bits.new }
+{
+    let (first, rest) = diagonals.split_at(MAX_EXPONENTS);
+    let mut exponents = [0; MAX_EXPONENTS];
+    exponents.copy_from_slice(first);
+    if let Some((found, place)) = basis.place(&Exps::of(exponents)) {
+        if found == degree && is_zero(rest) {
+            bits[place] = !bits[place];
+        }
+    }
+}
+
+/// Turns over, for each way to fill the places up to (row, column), the bit of its exponent list.
+fn fill(
+    basis: &Basis,
+    degree: u16,
+    width: usize,
+    row: usize,
+    column: usize,
+    left: Left,
+    bits: &mut [bool],
+)
+    requires degree { degree ≤ basis.now }
+    requires bits { length bits.old ≡ length (basis_of degree) }
+    requires row { row ≤ 8 }
+    requires width { width ≤ 8 }
+    requires column { column ≤ width }
+    ensures { TurnsOver degree width row column left.rows left.columns left.diagonals bits.old bits.new }
+{
+    if row == 0 && column == 0 {
+        turn_over(basis, degree, &left.diagonals, bits);
+        return;
+    }
+    let (next_row, next_column) = next_place(width, row, column);
+    let sum = left.diagonals[row + column - 1];
+    let (least, greatest) = left.range(row, column);
+    for number in least..=greatest {
+        if number & sum == 0 {
+            fill(
+                basis,
+                degree,
+                width,
+                next_row,
+                next_column,
+                left.put(row, column, number),
+                bits,
+            );
+        }
+    }
+}
+
+/// The elements whose bit is set, in order.
+fn chosen(alloc: Global, elements: &[Exps], bits: &[bool]) -> Result<Vec<Exps>, Memory>
+    requires { length bits.now ≡ length elements.now }
+    ensures { IfOk result (λ terms. AreChosen elements.now bits.now terms.items) }
+{
+    let mut terms = Vec::new(alloc);
+    for (i, element) in elements.iter().enumerate() {
+        if bits[i] {
+            terms.push(*element)?;
+        }
+    }
+    Ok(terms)
+}
+
+/// The terms of the product of Sq(R) and Sq(S) whose coefficient is odd, each once, in basis order.
+pub fn terms(alloc: Global, basis: &Basis, r: &Exps, s: &Exps) -> Result<Vec<Exps>, Memory>
+    requires { degree_of r.now + degree_of s.now ≤ basis.now }
+    ensures { IfOk result (λ terms. terms.items ≡ product_terms r.now s.now) }
+{
+    let greatest = u32::from(basis.max());
+    let degree = r.degree() + s.degree();
+    prove!(degree <= greatest);
+    let degree = degree as u16;
+    let elements = basis.of_degree(degree);
+    let mut bits = vec![in alloc; false; elements.len()]?;
+    let (height, width) = (r.len(), s.len());
+    fill(
+        basis,
+        degree,
+        width,
+        height,
+        width,
+        Left::of(r, s),
+        &mut bits,
+    );
+    chosen(alloc, elements, &bits)
+}
+
+#[cfg(test)]
+mod tests {
+    use super::*;
+    use std::test::Fail;
+
+    fn sq(r1: u16, r2: u16) -> Exps
+        ensures { degree_of result ≡ r1 + 3 * r2 }
+    {
+        Exps::of([r1, r2, 0, 0, 0, 0, 0, 0])
+    }
+
+    #[test]
+    fn multiplies(rt: HostRuntime) -> Result<(), Fail> {
+        let basis = Basis::new(rt.alloc(), 8)?;
+        let product = terms(rt.alloc(), &basis, &sq(2, 0), &sq(1, 0))?;
+        assert_eq!(rt; product.as_slice(), [sq(3, 0), sq(0, 1)].as_slice());
+        let product = terms(rt.alloc(), &basis, &sq(1, 0), &sq(2, 0))?;
+        assert_eq!(rt; product.as_slice(), [sq(3, 0)].as_slice());
+        let product = terms(rt.alloc(), &basis, &sq(2, 0), &sq(2, 0))?;
+        assert_eq!(rt; product.as_slice(), [sq(1, 1)].as_slice());
+        let product = terms(rt.alloc(), &basis, &sq(4, 0), &sq(4, 0))?;
+        assert_eq!(rt; product.as_slice(), [sq(2, 2)].as_slice());
+        let product = terms(rt.alloc(), &basis, &sq(3, 0), &sq(1, 0))?;
+        assert_eq!(rt; product.as_slice(), [sq(1, 1)].as_slice());
+        let product = terms(rt.alloc(), &basis, &sq(0, 1), &sq(1, 0))?;
+        assert_eq!(rt; product.as_slice(), [sq(1, 1)].as_slice());
+        let product = terms(rt.alloc(), &basis, &sq(1, 0), &sq(1, 0))?;
+        assert!(rt; product.is_empty());
+        Ok(())
+    }
+}
