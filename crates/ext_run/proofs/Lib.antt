@@ -1,0 +1,11 @@
+pub mod AnswerUnique
+pub mod BlockSteps
+pub mod ChartText
+pub mod Choice
+pub mod MapRows
+pub mod Marks
+pub mod NewGenerators
+pub mod ProductSteps
+pub mod Rows
+pub mod TableIsUnique
+pub mod Written

@@ -1,0 +1,12 @@
+use Rattle.std.proofs.Common.{◌≡◌, ◌≤◌, ◌+◌, ◌-◌, map}
+use Rattle.std.specs.Prelude.{max}
+use Rattle.std.specs.List.{range_with_len}
+use Rattle.ext_run.specs.Chart.{mark}
+use Rattle.ext_run.specs.Resolution.{generator_count}
+use Rattle.ext_run.proofs.chart.marks.Given as goal
+
+abbrev pub invariant-loop-k : goal.invariant-loop-k
+invariant-loop-k l = record {
+  marks : l.marks.items ≡ map (λ k. mark (generator_count l.table l.s k)) (range_with_len l.s (l.k - l.s));
+  below : l.k ≤ max l.s (l.t + 1);
+}

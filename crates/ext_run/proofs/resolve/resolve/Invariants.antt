@@ -1,0 +1,5 @@
+use Rattle.ext_run.proofs.Rows.{IsTableSoFar}
+use Rattle.ext_run.proofs.resolve.resolve.Given as goal
+
+abbrev pub invariant-loop-i : goal.invariant-loop-i
+invariant-loop-i l = IsTableSoFar l.t l.i l.table l.gens

@@ -1,0 +1,42 @@
+-- The free module over the Steenrod algebra on generators of given degrees, degree by degree.
+use Rattle.std.specs.Prelude.{ℕ, suc, ℤ, pos, negsuc, ◌+ℤ◌, ◌-ℤ◌, Bool, ◌&&◌, nat_eq, List, [], ◌∷◌, ◌++◌, length, map}
+use Rattle.milnor_basis.specs.Exponents.{degree_of}
+use Rattle.milnor_basis.specs.Basis.{basis_of}
+use Rattle.milnor_basis.specs.Product.{coefficient, product_bits}
+use Rattle.f2_matrix.specs.Spans.{combination}
+
+-- the Milnor basis of a degree, none where that is negative
+abbrev pub basis_at : ℤ → List (List ℕ)
+basis_at (pos n) = basis_of n
+basis_at (negsuc n) = []
+
+-- Basis elements are pairs (g, R) for Sq(R) on generator g, in the order of g and then of R. `degrees` are the
+-- generators' degrees, and g is the number of the first of them.
+abbrev pub free_basis_from : ℕ → List ℤ → ℤ → List (ℕ × List ℕ)
+free_basis_from g [] t = []
+free_basis_from g (d ∷ ds) t = map (λ r. (g, r)) (basis_at (t -ℤ d)) ++ free_basis_from (suc g) ds t
+
+-- the basis in degree t, and how many elements it has
+abbrev pub free_basis : List ℤ → ℤ → List (ℕ × List ℕ)
+free_basis degrees t = free_basis_from 0 degrees t
+
+abbrev pub free_width : List ℤ → ℤ → ℕ
+free_width degrees t = length (free_basis degrees t)
+
+-- Sq(R) on the basis element (g, S), in degree t: on the same generator, by the product of Sq(R) and Sq(S)
+abbrev pub acted : List ℤ → List ℕ → ℤ → ℕ × List ℕ → List Bool
+acted degrees r t e = map (λ f. nat_eq f.0 e.0 && coefficient r e.1 f.1) (free_basis degrees t)
+
+-- Sq(R) on a vector of degree t
+abbrev pub free_action : List ℤ → List ℕ → ℤ → List Bool → List Bool
+free_action degrees r t v =
+    let above = t +ℤ pos (degree_of r) in
+    combination (free_width degrees above) v (map (acted degrees r above) (free_basis degrees t))
+
+-- Sq(R) times a sum of Milnor basis elements of degree n
+abbrev pub times_bits : List ℕ → ℕ → List Bool → List Bool
+times_bits r n v = combination (length (basis_at (pos n +ℤ pos (degree_of r)))) v (map (product_bits r) (basis_of n))
+
+-- the same in a degree n that may be negative, where there are no elements and the sum is empty
+abbrev pub times_at : List ℕ → ℤ → List Bool → List Bool
+times_at r n v = combination (length (basis_at (n +ℤ pos (degree_of r)))) v (map (product_bits r) (basis_at n))

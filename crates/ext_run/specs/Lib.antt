@@ -1,0 +1,10 @@
+pub mod FreeModule
+pub mod LinearMap
+pub mod Sphere
+pub mod Resolution
+pub mod Chart
+pub mod Words
+pub mod Sink
+pub mod Answer
+pub mod FreeLaws
+pub mod SphereLaws
