@@ -1,0 +1,46 @@
+//! `ext`: Ext over the mod 2 Steenrod algebra, as charts.
+#![tactic(auto)]
+
+use ext_run::edge::{Sink, StdSink};
+use ext_run::{MEMORY, WORDS, report, run};
+use memory::Memory;
+use std::alloc::Global;
+use std::io::ErrorKind;
+use std::process::ExitCode;
+use std::{env, io};
+
+fn main(rt: HostRuntime) -> ExitCode {
+    ExitCode::from(status(&rt))
+}
+
+/// Answers the program's arguments on the standard streams.
+fn status(rt: &HostRuntime) -> u8 {
+    let mut err = StdSink::new(rt.stderr());
+    match arguments(rt) {
+        Ok(arguments) => match words(rt.alloc(), arguments.as_slice()) {
+            Ok(words) => {
+                let mut out = StdSink::new(rt.stdout());
+                run(rt, rt.alloc(), words.as_slice(), &mut out, &mut err)
+            }
+            Err(Memory) => refused(MEMORY, &mut err),
+        },
+        Err(e) if e.kind() == ErrorKind::InvalidData => refused(WORDS, &mut err),
+        Err(_) => refused(MEMORY, &mut err),
+    }
+}
+
+/// The status, with its line written.
+fn refused<E: Sink>(status: u8, err: &mut E) -> u8 {
+    report(status, err);
+    status
+}
+
+/// The arguments after the program's name.
+fn arguments(rt: &HostRuntime) -> io::Result<Vec<String>> {
+    let all = env::args(rt)?;
+    Ok(all.skip(1).collect(rt.alloc())?)
+}
+
+fn words<'a>(alloc: Global, arguments: &'a [String]) -> Result<Vec<&'a str>, Memory> {
+    Ok(arguments.iter().map(|word| word.as_str()).collect(alloc)?)
+}
