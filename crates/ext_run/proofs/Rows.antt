@@ -1,13 +1,10 @@
 -- The rows of a resolution, one square more at a time: their generators' degrees, images and kernels.
-use Rattle.std.proofs.Common.{◌≡◌, inl, inr, ℕ, zero, suc, ◌+◌, ◌<◌, ◌≤◌, ℤ, pos, ◌-◌, ◌+ℤ◌, ◌-ℤ◌, ◌≤ℤ◌, ◌<ℤ◌, Bool, true, List, [], ◌∷◌, ◌++◌, length, map, take, drop, replicate, negsuc, false, Option, Some, None, refl, sym, ◌∙◌, ap, subst, arith, add-one}
-use Rattle.std.specs.List.{range_with_len}
+use Rattle.std.proofs.Common.{◌≡◌, inl, inr, ℕ, zero, suc, ◌+◌, ◌<◌, ◌≤◌, ℤ, pos, ◌-◌, ◌+ℤ◌, ◌-ℤ◌, ◌≤ℤ◌, ◌<ℤ◌, Bool, List, [], ◌∷◌, ◌++◌, length, map, take, drop, replicate, negsuc, Option, Some, None, refl, sym, ◌∙◌, ap, subst, arith, add-one}
 use Rattle.std.proofs.lemmas.Int.{ints}
 use Rattle.std.proofs.lemmas.Bool.{cases_lt}
-use Rattle.std.proofs.lemmas.List.{length-take-le, append-nil, append_assoc, get_or_append_left, get_or-append_right, get_or-replicate, get_or-take, take-take, take_at, take_more, get_or_push, length_push, flat_map_more, length-append, length-replicate, length-map, length-set}
-use Rattle.f2_vec.specs.Vectors.{zeros}
-use Rattle.f2_matrix.specs.Spans.{row, HaveWidth, unit_vector, unit_vectors}
+use Rattle.std.proofs.lemmas.List.{length-take-le, append-nil, append_assoc, get_or_append_left, get_or-append_right, get_or-replicate, get_or-take, take-take, take_at, take_more, get_or_push, length_push, flat_map_more, length-append, length-replicate, length-map}
+use Rattle.f2_matrix.specs.Spans.{row, HaveWidth, unit_vectors}
 use Rattle.ext_run.specs.FreeModule.{basis_at, free_basis_from, free_basis, free_width}
-use Rattle.f2_matrix.proofs.Spans.{HaveWidth-nil, HaveWidth-cons}
 use Rattle.ext_run.specs.LinearMap.{map_rows, GradedModule, degree_at, IsWithinReach, AreImages, free_graded}
 use Rattle.ext_run.specs.Sphere.{sphere_width, sphere_graded}
 use Rattle.ext_run.specs.Resolution.{Module, sphere, Content, no_content, square_in, target_over, candidates_over, degrees_from, images_of, IsStepOver, IsStep, IsRowOver, row_of, IsCanonicalTable, below_of}
@@ -109,14 +106,6 @@ IsRowOver-more m below squares more n p len front all step k l =
           let S : List Content → Type 0 = λ z. IsStep m below z (square_in more n) in
           subst R (sym e) (subst S (sym front) step)
     ]
-
--- each vector of a list of unit vectors is of their length
-HaveWidth-map_unit : (n : ℕ) (ks : List ℕ) → HaveWidth n (map (unit_vector n) ks)
-HaveWidth-map_unit n [] = HaveWidth-nil n
-HaveWidth-map_unit n (k ∷ ks) = HaveWidth-cons n (unit_vector n k) (map (unit_vector n) ks) (length-set (zeros n) k true ∙ length-replicate n false) (HaveWidth-map_unit n ks)
-
-pub HaveWidth-unit_vectors : (n : ℕ) → HaveWidth n (unit_vectors n)
-HaveWidth-unit_vectors n = HaveWidth-map_unit n (range_with_len 0 n)
 
 basis_at-negative : (t : ℤ) → t <ℤ pos 0 → basis_at t ≡ []
 basis_at-negative (pos n) h = absurd (omega (arith, ints))

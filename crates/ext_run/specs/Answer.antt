@@ -29,7 +29,7 @@ IsAnswer words status text = MatchOption (command_of words) ((status ≡ 2) × (
 abbrev pub AnswerIsUnique : Type 0
 AnswerIsUnique = (words : List (List ℕ)) (p q : ℕ) (x y : List ℕ) → IsAnswer words p x → IsAnswer words q y → (p ≡ q) × (x ≡ y)
 
--- the line on standard error for a status
+-- the line on standard error for a status other than 0
 abbrev pub line_of : ℕ → List ℕ
 line_of status =
     if nat_eq status 2

@@ -1,4 +1,5 @@
--- The chart of a resolution as text: a line for each s, from the greatest down, and in it a mark for each stem.
+-- The chart of a resolution as text: a line for each s, from the greatest down, and in it a mark for each stem;
+-- and last a line that names the stems.
 use Rattle.std.specs.Prelude.{ℕ, zero, suc, ◌+◌, ◌-◌, ℤ, pos, ◌+ℤ◌, nat_lt, if◌then◌else◌, List, [], ◌∷◌, ◌++◌, map, codes, decimal}
 use Rattle.std.specs.Fmt.{signed_decimal}
 use Rattle.std.specs.List.{range_with_len}

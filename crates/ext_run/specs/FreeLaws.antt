@@ -132,7 +132,7 @@ unit_here n i h = left_unit_same (get_or (basis_of n) i []) (basis_of-member n i
 
 unit_elsewhere : (n i j : ℕ) → i < length (basis_of n) → j < length (basis_of n) → i ≢ j → coefficient [] (get_or (basis_of n) i []) (get_or (basis_of n) j []) ≡ false
 unit_elsewhere n i j h k d =
-    left_unit_other (get_or (basis_of n) i []) (get_or (basis_of n) j []) (basis_of-member n i h).0 (basis_of-member n j k).0 (λ e. d (basis_of-once n i j h k e))
+    left_unit_other (get_or (basis_of n) i []) (get_or (basis_of n) j []) (basis_of-member n i h).0 (λ e. d (basis_of-once n i j h k e))
 
 abbrev unit_rows : ℕ → List (List Bool)
 unit_rows n = map (λ s. map (coefficient [] s) (basis_of n)) (basis_of n)

@@ -10,8 +10,8 @@ abbrev pub basis_at : ℤ → List (List ℕ)
 basis_at (pos n) = basis_of n
 basis_at (negsuc n) = []
 
--- Basis elements are pairs (g, R) for Sq(R) on generator g, in the order of g and then of R. `degrees` are the
--- generators' degrees, and g is the number of the first of them.
+-- Basis elements are pairs (g, R) for Sq(R) on generator g, in the order of g and then of R. The list gives the degrees
+-- of the generators from number g on; where they do not fall, the order is that of degree, then number.
 abbrev pub free_basis_from : ℕ → List ℤ → ℤ → List (ℕ × List ℕ)
 free_basis_from g [] t = []
 free_basis_from g (d ∷ ds) t = map (λ r. (g, r)) (basis_at (t -ℤ d)) ++ free_basis_from (suc g) ds t
@@ -23,7 +23,8 @@ free_basis degrees t = free_basis_from 0 degrees t
 abbrev pub free_width : List ℤ → ℤ → ℕ
 free_width degrees t = length (free_basis degrees t)
 
--- Sq(R) on the basis element (g, S), in degree t: on the same generator, by the product of Sq(R) and Sq(S)
+-- Sq(R) times the basis element (g, S), as its coefficients on the basis of degree t, which is the degree of the product:
+-- the product of Sq(R) and Sq(S), on the same generator
 abbrev pub acted : List ℤ → List ℕ → ℤ → ℕ × List ℕ → List Bool
 acted degrees r t e = map (λ f. nat_eq f.0 e.0 && coefficient r e.1 f.1) (free_basis degrees t)
 
@@ -33,10 +34,6 @@ free_action degrees r t v =
     let above = t +ℤ pos (degree_of r) in
     combination (free_width degrees above) v (map (acted degrees r above) (free_basis degrees t))
 
--- Sq(R) times a sum of Milnor basis elements of degree n
-abbrev pub times_bits : List ℕ → ℕ → List Bool → List Bool
-times_bits r n v = combination (length (basis_at (pos n +ℤ pos (degree_of r)))) v (map (product_bits r) (basis_of n))
-
--- the same in a degree n that may be negative, where there are no elements and the sum is empty
+-- Sq(R) times a sum of Milnor basis elements of degree n, of which there are none where that is negative
 abbrev pub times_at : List ℕ → ℤ → List Bool → List Bool
 times_at r n v = combination (length (basis_at (n +ℤ pos (degree_of r)))) v (map (product_bits r) (basis_at n))

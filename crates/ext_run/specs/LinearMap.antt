@@ -1,10 +1,11 @@
 -- Linear maps from a free module, given by the images of its generators.
 use Rattle.std.specs.Prelude.{◌≡◌, ℕ, ◌<◌, ℤ, pos, ◌+ℤ◌, ◌-ℤ◌, ◌≤ℤ◌, Bool, List, [], length, map, slice_index_or}
 use Rattle.milnor_basis.specs.Exponents.{degree_of}
-use Rattle.f2_matrix.specs.Spans.{combination, row}
+use Rattle.f2_matrix.specs.Spans.{row}
 use Rattle.ext_run.specs.FreeModule.{free_basis, free_width, free_action}
 
--- a graded module over the Steenrod algebra: its dimension in each degree, and Sq(R) on vectors of a degree
+-- what is given of a graded module: its dimension in each degree, and Sq(R) on vectors of a degree (that Sq(R) is linear
+-- and that products act rightly is not asked here)
 pub record GradedModule : Type 0 where
   pub width : ℤ → ℕ
   pub action : List ℕ → ℤ → List Bool → List Bool
@@ -13,6 +14,7 @@ pub record GradedModule : Type 0 where
 abbrev pub free_graded : List ℤ → GradedModule
 free_graded degrees = record { width = free_width degrees; action = free_action degrees }
 
+-- the degree of generator g
 abbrev pub degree_at : List ℤ → ℕ → ℤ
 degree_at degrees g = slice_index_or degrees g (pos 0)
 
@@ -31,10 +33,6 @@ image_of target degrees images e = target.action e.1 (degree_at degrees e.0) (ro
 -- the matrix of the map in degree t: row i is the image of basis element i
 abbrev pub map_rows : GradedModule → List ℤ → List (List Bool) → ℤ → List (List Bool)
 map_rows target degrees images t = map (image_of target degrees images) (free_basis degrees t)
-
--- the map on a vector of degree t
-abbrev pub map_value : GradedModule → List ℤ → List (List Bool) → ℤ → List Bool → List Bool
-map_value target degrees images t v = combination (target.width t) v (map_rows target degrees images t)
 
 -- there is one image for each generator, of the target's dimension in its degree
 pub record AreImages (target : GradedModule) (degrees : List ℤ) (images : List (List Bool)) : Type 0 where

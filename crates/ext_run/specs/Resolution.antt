@@ -1,6 +1,6 @@
--- Bruner's minimal resolution, square by square. The square (s, k) stands for F_s in degree bottom + k.
+-- Bruner's minimal resolution (Calculation of large Ext modules, 1989): free modules F_0, F_1, .. with maps d_s from F_s
+-- to F_(s-1), and d_0 to the module, made square by square. The square (s, k) stands for F_s in degree bottom + k.
 use Rattle.std.specs.Prelude.{◌≡◌, ℕ, zero, suc, ◌+◌, ◌<◌, ◌≤◌, ◌↔◌, ℤ, pos, ◌+ℤ◌, Bool, false, Option, Some, None, List, [], ◌∷◌, ◌++◌, length, take, replicate, slice_index_or}
-use Rattle.std.specs.Prelude.{Some, None}
 use Rattle.std.specs.List.{flat_map, items_where_true}
 use Rattle.f2_vec.specs.Vectors.{bit}
 use Rattle.f2_matrix.specs.Spans.{row, unit_vectors, IsInSpan}
@@ -8,7 +8,7 @@ use Rattle.f2_matrix.specs.Echelon.{IsKernelBasis}
 use Rattle.ext_run.specs.LinearMap.{GradedModule, free_graded, map_rows}
 use Rattle.ext_run.specs.Sphere.{sphere_graded}
 
--- a module over the Steenrod algebra, zero below its bottom degree
+-- what is given of a module: its least degree, and its parts (that it is zero below that degree is not asked here)
 pub record Module : Type 0 where
   pub bottom : ℤ
   pub graded : GradedModule
@@ -35,8 +35,9 @@ degrees_from t (c ∷ squares) = replicate (length c.images) t ++ degrees_from (
 abbrev pub images_of : List Content → List (List Bool)
 images_of squares = flat_map (λ c. c.images) squares
 
--- What d_s goes to: the module for row 0 (nothing is below), and else the free module F_(s-1) of the row below.
--- Its kernel in degree bottom + k, by rows, is what d_s has to cover: all of the module for row 0.
+-- What d_s goes to: the module for row 0 (nothing is below), and else the free module F_(s-1) of the row below, whose
+-- generators above a degree add nothing in it. What d_s has to cover in degree bottom + k is the kernel of d_(s-1) there,
+-- given by its reduced basis; for row 0 it is all of the module, given by the unit vectors.
 abbrev pub target_over : Module → Option (List Content) → GradedModule
 target_over m None = m.graded
 target_over m (Some below) = free_graded (degrees_from m.bottom below)
@@ -75,7 +76,7 @@ abbrev pub below_of : List (List Content) → ℕ → Option (List Content)
 below_of table zero = None
 below_of table (suc s) = Some (row_of table s)
 
--- the canonical resolution of the module through row s and degree bottom + t, the only one there is
+-- the canonical resolution of the module through row s and degree bottom + t: there is at most one, by the law below
 pub record IsCanonicalTable (m : Module) (s t : ℕ) (table : List (List Content)) : Type 0 where
   pub rows : length table ≡ s + 1
   pub squares : (i : ℕ) → i ≤ s → length (row_of table i) ≡ t + 1

@@ -10,7 +10,7 @@ use thiserror::Error;
 
 /// A call to the outside failed.
 #[derive(Clone, Copy, Debug, PartialEq, Eq, Hash, Error)]
-#[error("the outside failed")]
+#[error("a call to the outside failed")]
 pub struct Failed;
 
 /// What takes bytes.

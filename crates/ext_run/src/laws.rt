@@ -2,14 +2,14 @@
 ghost use Rattle.ext_run.specs.Answer.{AnswerIsUnique};
 ghost use Rattle.ext_run.specs.Resolution.{CanonicalTableIsUnique};
 
-/// A module has one canonical resolution through each row and degree.
+/// A module has at most one canonical resolution through each row and degree.
 pub fn canonical_table_is_unique()
     ensures { CanonicalTableIsUnique }
 {
     f2_matrix::kernel_basis_is_unique();
 }
 
-/// The same words have one answer.
+/// The same words have at most one answer.
 pub fn answer_is_unique()
     ensures { AnswerIsUnique }
 {

@@ -1,8 +1,8 @@
-ghost use Rattle.std.specs.Prelude.{◌≡◌, ◌≤◌, ◌+◌, length, IfOk, Some, slice_get};
+ghost use Rattle.std.specs.Prelude.{◌≡◌, ◌≤◌, ◌+◌, pos, length, IfOk, Some, slice_get};
 ghost use Rattle.milnor_basis.specs.Basis.{basis_of};
 ghost use Rattle.milnor_basis.specs.Exponents.{degree_of};
 ghost use Rattle.milnor_basis.specs.Product.{product_bits};
-ghost use Rattle.ext_run.specs.FreeModule.{times_bits};
+ghost use Rattle.ext_run.specs.FreeModule.{times_at};
 
 use f2_vec::BitVec;
 use memory::Memory;
@@ -59,7 +59,7 @@ pub fn product(alloc: Global, basis: &Basis, r: &Exps, s: &Exps) -> Result<BitVe
 pub fn times(alloc: Global, basis: &Basis, r: &Exps, n: u16, v: &BitVec) -> Result<BitVec, Memory>
     requires reach { degree_of r.now + n ≤ basis.now }
     requires width { length v.now ≡ length (basis_of n) }
-    ensures { IfOk result (λ w. w ≡ times_bits r.now n v.now) }
+    ensures { IfOk result (λ w. w ≡ times_at r.now (pos n) v.now) }
 {
     let width = basis.of_degree(degree_above(basis, r, n)).len();
     let mut sum = BitVec::zero(alloc, width)?;

@@ -8,7 +8,7 @@ use memory::Memory;
 use milnor_basis::{Basis, Exps};
 use std::alloc::Global;
 
-/// The module of one generator in degree 0, on which each Sq(R) of positive degree is zero.
+/// The module of one generator in degree 0: Sq() is the identity, and each Sq(R) of positive degree is zero.
 #[derive(Clone, Copy, Debug)]
 pub struct Sphere;
 
@@ -29,13 +29,11 @@ impl Target for Sphere {
         t: i32,
         v: &BitVec,
     ) -> Result<BitVec, Memory> {
-        if r.is_empty() {
+        let degree = r.degree();
+        if degree == 0 {
             v.try_copy(alloc)
         } else {
-            BitVec::zero(
-                alloc,
-                usize::from(i64::from(t) + i64::from(r.degree()) == 0),
-            )
+            BitVec::zero(alloc, usize::from(i64::from(t) + i64::from(degree) == 0))
         }
     }
 

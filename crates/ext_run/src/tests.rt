@@ -1,10 +1,14 @@
 //! What no clause says: the printed text, the words outside the grammar, and each public function once.
-ghost use Rattle.std.specs.Prelude.{◌<◌};
+ghost use Rattle.std.specs.Prelude.{◌<◌, length};
+ghost use Rattle.ext_run.specs.Resolution.{row_of};
 
 use crate::edge::{Failed, MemSink, Sink, StdSink};
 use crate::laws::{answer_is_unique, canonical_table_is_unique};
+use crate::resolve::resolve;
 use crate::run;
+use crate::square::Table;
 use crate::words::{Command, Common, Range, WordsFault, parse};
+use f2_vec::BitVec;
 use std::alloc::Global;
 use std::test::Fail;
 
@@ -100,6 +104,62 @@ fn keeps_the_status(rt: HostRuntime) -> Result<(), Fail> {
     assert_eq!(rt; status, 2);
     assert_eq!(rt; err.written().len(), 0);
     assert_eq!(rt; err.faults(), 1);
+    Ok(())
+}
+
+/// The images of the new generators of a square.
+fn images_at(table: &Table, s: usize, k: usize) -> &[BitVec]
+    requires row { s < length table.now }
+    requires square { k < length (row_of table.now s) }
+{
+    table.row(s).at(k).gens()
+}
+
+/// Whether the vectors have these coordinates, written as 0 and 1.
+fn are_written(vectors: &[BitVec], want: &[&str]) -> bool {
+    vectors.len() == want.len()
+        && vectors.iter().zip(want).all(|(vector, text)| {
+            vector.len() == text.len()
+                && text.bytes().enumerate().all(|(i, digit)| i < vector.len()
+                    && vector.get(i) == (digit == b'1'))
+        })
+}
+
+// Coordinates are those of Milnor's basis on each generator, in order: the generators of row 1 are of degrees
+// 1, 2 and 4, with the images Sq(1), Sq(2) and Sq(4).
+#[test]
+fn steps_through_degree_4(rt: HostRuntime) -> Result<(), Fail> {
+    let table = resolve(rt.alloc(), 2, 4)?;
+    assert!(rt; are_written(images_at(&table, 0, 0), &["1"]));
+    assert!(rt; are_written(images_at(&table, 0, 4), &[]));
+    assert!(rt; are_written(images_at(&table, 1, 0), &[]));
+    assert!(rt; are_written(images_at(&table, 1, 1), &["1"]));
+    assert!(rt; are_written(images_at(&table, 1, 2), &["1"]));
+    assert!(rt; are_written(images_at(&table, 1, 3), &[]));
+    // Sq(4) among Sq(4) and Sq(1,1)
+    assert!(rt; are_written(images_at(&table, 1, 4), &["10"]));
+    // Sq(1) on the first generator, among that and the second generator
+    assert!(rt; are_written(images_at(&table, 2, 2), &["10"]));
+    assert!(rt; are_written(images_at(&table, 2, 3), &[]));
+    // Sq(3) on the first generator and Sq(2) on the second
+    assert!(rt; are_written(images_at(&table, 2, 4), &["1010"]));
+    Ok(())
+}
+
+// For runs in which one allocation is refused: all of the text, or nothing and the status for it.
+#[test]
+fn answers_without_memory(rt: HostRuntime) -> Result<(), Fail> {
+    let alloc = rt.alloc();
+    let mut out = sink(alloc, 1000, 0)?;
+    let mut err = sink(alloc, 1000, 0)?;
+    let status = run(&rt, alloc, &["sphere", "4", "8"], &mut out, &mut err);
+    if status == 12 {
+        assert_eq!(rt; out.written().len(), 0);
+        assert_eq!(rt; err.written(), b"ext: out of memory\n".as_slice());
+    } else {
+        assert_eq!(rt; status, 0);
+        assert_eq!(rt; out.written(), STEMS_8.as_bytes());
+    }
     Ok(())
 }
 

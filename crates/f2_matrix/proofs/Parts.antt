@@ -4,6 +4,7 @@ use Rattle.std.specs.List.{filter}
 use Rattle.std.specs.Prelude.{slice_range}
 use Rattle.std.proofs.lemmas.Bool.{cases_Bool, cases_lt, cases_order, both_ways, false_from_ne_true, and_from, and_parts, not_from_false, not-true}
 use Rattle.std.proofs.lemmas.List.{get_or-take, get_or-drop, get_or-map, get_or_past, length-map, length-take-le, length-drop, take_at, drop_at, get_or_append_left, take_more, take_rest, take_all, map-append}
+use Rattle.std.proofs.lemmas.List.Elements.{filter-append}
 use Rattle.std.proofs.lemmas.Grind.{common_steps}
 use Rattle.f2_vec.specs.Vectors.{zeros, bit, IsZero, IsFirstOne}
 use Rattle.f2_vec.proofs.Sums.{length-zeros, bit-zeros, zeros_from_bits}
@@ -349,14 +350,6 @@ kernel_is_kernel_basis n xs form w h = record {
 }
 
 -- what is kept of one row more
-filter-append : {X : Type 0} (test : X → Bool) (xs ys : List X) → filter test (xs ++ ys) ≡ filter test xs ++ filter test ys
-filter-append test [] ys = refl
-filter-append test (x ∷ xs) ys =
-    elim (cases_Bool (test x)) [
-      | inl e ↦ rw e (ap (λ zs. x ∷ zs) (filter-append test xs ys))
-      | inr e ↦ rw e (filter-append test xs ys)
-    ]
-
 pub image_part_more : (n : ℕ) (rows : List (List Bool)) (i : ℕ) → i < length rows → image_part n (take (i + 1) rows) ≡ image_part n (take i rows) ++ image_part n (row rows i ∷ [])
 image_part_more n rows i l =
     ap (image_part n) (take_more rows i [] l)

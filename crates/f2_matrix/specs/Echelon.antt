@@ -34,7 +34,7 @@ pub record IsKernelBasis (n : ℕ) (xs rows : List (List Bool)) : Type 0 where
   pub reduced : IsReduced rows
   pub nonzero : HasNoZeroRow rows
 
--- a list of rows has one echelon form, its span one reduced basis, and so has its kernel
+-- a list of rows has at most one echelon form, its span at most one reduced basis, and so has its kernel
 abbrev pub EchelonFormIsUnique : Type 0
 EchelonFormIsUnique = (n : ℕ) (xs e f : List (List Bool)) → IsEchelonForm n xs e → IsEchelonForm n xs f → e ≡ f
 

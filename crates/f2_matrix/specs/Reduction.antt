@@ -20,6 +20,7 @@ pub record Reduction : Type 0 where
 abbrev pub augmented : List (List Bool) → List (List Bool)
 augmented rows = map (λ p. p.0 ++ p.1) (zip rows (unit_vectors (length rows)))
 
+-- whether v holds a 1
 abbrev pub has_one : List Bool → Bool
 has_one v = list_any (λ b. b) v
 

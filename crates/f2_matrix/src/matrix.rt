@@ -45,6 +45,7 @@ impl Matrix {
         self.cols
     }
 
+    /// The rows, in order, each of length `cols`.
     pub fn rows(&self) -> &[BitVec]
         ensures rows { result.now ≡ self.now.rows }
         ensures widths { HaveWidth self.now.cols self.now.rows }

@@ -27,12 +27,14 @@ impl BitVec {
         })
     }
 
+    /// How many coordinates there are.
     pub fn len(&self) -> usize
         ensures { result ≡ length self.now }
     {
         self.bits.len()
     }
 
+    /// Whether there is no coordinate.
     pub fn is_empty(&self) -> bool
         ensures { IsTrue result ↔ (self.now ≡ []) }
     {
@@ -74,6 +76,7 @@ impl BitVec {
         self.bits.iter().position(|bit| *bit)
     }
 
+    /// Whether each coordinate is 0.
     pub fn is_zero(&self) -> bool
         ensures { IsTrue result ↔ IsZero self.now }
     {

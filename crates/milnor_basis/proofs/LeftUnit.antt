@@ -4,7 +4,7 @@ use Rattle.std.specs.List.{count_by, filter, flat_map, fold, list_all, range_wit
 use Rattle.std.specs.Cmp.Lexicographic.{pointwise}
 use Rattle.std.proofs.Common.{◌≡◌, ℕ, zero, suc, ◌+◌, ◌-◌, ◌*◌, ◌<◌, ◌≤◌, inl, inr, Bool, true, false, cond, List, [], ◌∷◌, ◌++◌, length, refl, ap, sym, ◌∙◌, arith, zero-add}
 use Rattle.std.proofs.Math.Bool as Booleans
-use Rattle.std.proofs.lemmas.Bool.{and_from, eq-eqb, ne_eqb, cases_eq, cases_lt, cond-true}
+use Rattle.std.proofs.lemmas.Bool.{and_from, eq-eqb, ne_eqb, cases_eq, cases_lt}
 use Rattle.std.proofs.lemmas.List.{append-nil, ext_get_or, get_or_past}
 use Rattle.std.proofs.lemmas.List.FromFn.{get_or-map-range_with_len, length-map-range_with_len}
 use Rattle.std.proofs.lemmas.List.Sums.{get_or-le-sum_by}
@@ -12,21 +12,14 @@ use Rattle.std.proofs.lemmas.Nat.{and_comm}
 use Rattle.milnor_basis.specs.Exponents.{entry, trimmed, IsTrimmed}
 use Rattle.milnor_basis.specs.Product.{Matrix, zero_matrix, put, places, matrices, column_sum, diagonal, diagonal_sums, multinomial, is_odd, matrix_coefficient, counts, product_diagonals, ProductHasLeftUnit}
 use Rattle.milnor_basis.proofs.Kummer.{multinomial-odd_cons, odd-times, sum-cons}
-use Rattle.milnor_basis.proofs.MatrixList.{put-other}
+use Rattle.milnor_basis.proofs.MatrixList.{all-range_same, map-range_same, put-column, put-other, put-same}
+use Rattle.std.proofs.lemmas.List.Elements.{filter-append}
 
 -- filters of lists made from lists
 filter-same : {X : Type 0} (p q : X → Bool) (xs : List X) → ((x : X) → p x ≡ q x) → filter p xs ≡ filter q xs
 filter-same p q [] h = refl
 filter-same p q (x ∷ xs) h =
     ap (λ b. cond b (x ∷ filter p xs) (filter p xs)) (h x) ∙ ap (λ ys. cond (q x) (x ∷ ys) ys) (filter-same p q xs h)
-
-filter-append : {X : Type 0} (p : X → Bool) (xs ys : List X) → filter p (xs ++ ys) ≡ filter p xs ++ filter p ys
-filter-append p [] ys = refl
-filter-append p (x ∷ xs) ys = at (p x) (filter-append p xs ys)
-  where
-    at : (b : Bool) → filter p (xs ++ ys) ≡ filter p xs ++ filter p ys → cond b (x ∷ filter p (xs ++ ys)) (filter p (xs ++ ys)) ≡ cond b (x ∷ filter p xs) (filter p xs) ++ filter p ys
-    at true e = ap (λ zs. x ∷ zs) e
-    at false e = e
 
 filter-map : {X Y : Type 0} (p : Y → Bool) (f : X → Y) (xs : List X) → filter p (map f xs) ≡ map f (filter (λ x. p (f x)) xs)
 filter-map p f [] = refl
@@ -79,17 +72,6 @@ filter-one_if s bound false l =
     nothing [] = refl
     nothing (x ∷ xs) = nothing xs
 
--- ranges over which two functions or tests agree
-map-range_same : {X : Type 0} (f g : ℕ → X) (a n : ℕ) → ((k : ℕ) → a ≤ k → k < a + n → f k ≡ g k) → map f (range_with_len a n) ≡ map g (range_with_len a n)
-map-range_same f g a zero h = refl
-map-range_same f g a (suc n) h =
-    ap (λ x. x ∷ map f (range_with_len (a + 1) n)) (h a (omega arith) (omega arith)) ∙ ap (λ xs. g a ∷ xs) (map-range_same f g (a + 1) n (λ k l m. h k (omega arith) (omega arith)))
-
-all-range_same : (p q : ℕ → Bool) (a n : ℕ) → ((k : ℕ) → a ≤ k → k < a + n → p k ≡ q k) → list_all p (range_with_len a n) ≡ list_all q (range_with_len a n)
-all-range_same p q a zero h = refl
-all-range_same p q a (suc n) h =
-    ap (λ x. x && list_all p (range_with_len (a + 1) n)) (h a (omega arith) (omega arith)) ∙ ap (λ x. q a && x) (all-range_same p q (a + 1) n (λ k l m. h k (omega arith) (omega arith)))
-
 -- the matrix whose row 0 has the numbers c at columns a to a + n - 1, and is 0 elsewhere
 abbrev first_row : ℕ → ℕ → (ℕ → ℕ) → Matrix
 first_row a zero c = zero_matrix
@@ -98,12 +80,6 @@ first_row a (suc n) c = put 0 a (c a) (first_row (a + 1) n c)
 -- whether a matrix has those numbers there
 abbrev has_first_row : ℕ → ℕ → (ℕ → ℕ) → Matrix → Bool
 has_first_row a n c x = list_all (λ j. nat_eq (x 0 j) (c j)) (range_with_len a n)
-
-put-same : (i j v : ℕ) (x : Matrix) → put i j v x i j ≡ v
-put-same i j v x = cond-true (nat_eq i i && nat_eq j j) v (x i j) (and_from (nat_eq i i) (nat_eq j j) (eq-eqb i i refl) (eq-eqb j j refl))
-
-put-column : (i j v : ℕ) (x : Matrix) (a b : ℕ) → (b ≡ j → ⊥) → put i j v x a b ≡ x a b
-put-column i j v x a b h = put-other i j v x a b (λ e f. h f)
 
 -- no other matrix has it
 only_first_row : (c : ℕ → ℕ) (bound : ℕ) → ((j : ℕ) → c j < bound) → (a n : ℕ) → filter (has_first_row a n c) (matrices (map (λ j. (0, j)) (range_with_len a n)) bound) ≡ first_row a n c ∷ []
@@ -233,5 +209,5 @@ odd-one true = refl
 odd-one false = refl
 
 pub product_has_left_unit : ProductHasLeftUnit
-product_has_left_unit s t h g =
+product_has_left_unit s t h =
     ap (λ ds. is_odd (count_by (λ d. pointwise nat_eq d t) ds)) (unit-product_diagonals s h) ∙ odd-one (pointwise nat_eq s t)

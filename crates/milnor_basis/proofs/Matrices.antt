@@ -7,11 +7,12 @@ use Rattle.std.proofs.lemmas.List.{append-nil}
 use Rattle.std.proofs.lemmas.List.Sums.{sum_by-cons}
 use Rattle.milnor_basis.specs.Exponents.{entry}
 use Rattle.milnor_basis.specs.Product.{Matrix, zero_matrix, put, places, matrices, row_sum, column_sum, diagonal, diagonal_sums, multinomial, is_odd, counts, product_diagonals, coefficient}
-use Rattle.milnor_basis.specs.Walk.{plus, is_odd_below, fillings, places_to, Sums, no_sums, add, are_sums_of, next_row, next_column}
+use Rattle.milnor_basis.specs.Walk.{is_odd_below, fillings, places_to, Sums, no_sums, add, are_sums_of, next_row, next_column}
 use Rattle.milnor_basis.proofs.Kummer.{multinomial-odd_cons, odd-times}
-use Rattle.milnor_basis.proofs.Parity.{odd_by, is_odd-count_by, odd_by-map, odd_by-filter, odd_by-flat_map, odd_by-range, range_push, is_odd_below-same}
+use Rattle.milnor_basis.proofs.Parity.{plus-false, odd_by, is_odd-count_by, odd_by-map, odd_by-filter, odd_by-flat_map, odd_by-range, range_push, is_odd_below-same}
 use Rattle.milnor_basis.proofs.Walk.{fillings_step, along}
-use Rattle.milnor_basis.proofs.Sums.{sums_of, sums_put, put_row, put_column}
+use Rattle.milnor_basis.proofs.MatrixList.{put-column}
+use Rattle.milnor_basis.proofs.Sums.{sums_of, sums_put, put_row}
 
 odd_by-same : {X : Type 0} → (p q : X → Bool) (xs : List X) → ((x : X) → p x ≡ q x) → odd_by p xs ≡ odd_by q xs
 odd_by-same p q [] h = refl
@@ -19,10 +20,7 @@ odd_by-same p q (x ∷ xs) h = let here = h x in let rest = odd_by-same p q xs h
 
 -- a count over the matrices is one over the fillings
 odd_by-matrices : (ps : List (ℕ × ℕ)) (bound : ℕ) (test : Matrix → Bool) → odd_by test (matrices ps bound) ≡ fillings put bound ps test zero_matrix
-odd_by-matrices [] bound test = plus-false (test zero_matrix) where
-  plus-false : (b : Bool) → plus b false ≡ b
-  plus-false true = refl
-  plus-false false = refl
+odd_by-matrices [] bound test = plus-false (test zero_matrix)
 odd_by-matrices (p ∷ ps) bound test =
     odd_by-flat_map test (λ x. map (λ v. put p.0 p.1 v x) (range_with_len 0 bound)) (matrices ps bound)
     ∙ odd_by-same (λ x. odd_by test (map (λ v. put p.0 p.1 v x) (range_with_len 0 bound))) (λ x. is_odd_below (λ v. test (put p.0 p.1 v x)) bound) (matrices ps bound)
@@ -64,7 +62,7 @@ sees_sums m n bound test = along (SeesSums m n bound test) n (λ p q x z. refl) 
   where
     kept : (i j v : ℕ) (x : Matrix) (a b : ℕ) → (a ≢ i ⊎ b ≢ j) → put i j v x a b ≡ x a b
     kept i j v x a b (inl h) = put_row i j v x a b h
-    kept i j v x a b (inr h) = put_column i j v x a b h
+    kept i j v x a b (inr h) = put-column i j v x a b h
 
 -- the places of the definition, row by row
 places_are : (m n : ℕ) → places_to n m n ≡ places m n

@@ -1,8 +1,8 @@
 -- The matrices that a product sums over, and what holds of each of them.
 use Rattle.std.specs.Prelude.{◌&&◌, nat_eq, map}
-use Rattle.std.specs.List.{All, count_by, filter, flat_map, range_with_len}
+use Rattle.std.specs.List.{All, count_by, filter, flat_map, list_all, range_with_len}
 use Rattle.std.proofs.Common.{◌≡◌, ℕ, zero, suc, ◌+◌, ◌<◌, ◌≤◌, inl, inr, Bool, true, false, cond, List, [], ◌∷◌, refl, ap, sym, ◌∙◌, arith, zero-add}
-use Rattle.std.proofs.lemmas.Bool.{and_parts, cases_Bool, cond-false, eqb-true, false_from_ne_true, false≢true}
+use Rattle.std.proofs.lemmas.Bool.{and_from, and_parts, cases_Bool, cond-false, cond-true, eq-eqb, eqb-true, false_from_ne_true, false≢true}
 use Rattle.std.proofs.lemmas.List.Elements.{All-append, All-cons, All-head, All-map, All-nil, All-tail, All-weaker}
 use Rattle.std.proofs.lemmas.List.Sums.{sum_by-cons}
 use Rattle.milnor_basis.specs.Product.{Matrix, is_odd, matrices, places, put, zero_matrix}
@@ -79,3 +79,21 @@ places-inside m n =
 -- each matrix that a product sums over is inside its rows and columns
 pub product-matrices-inside : (m n bound : ℕ) → All (IsInside m n) (matrices (places m n) bound)
 product-matrices-inside m n bound = matrices-inside m n bound (places m n) (places-inside m n)
+
+-- ranges over which two functions or tests agree
+pub map-range_same : {X : Type 0} (f g : ℕ → X) (a n : ℕ) → ((k : ℕ) → a ≤ k → k < a + n → f k ≡ g k) → map f (range_with_len a n) ≡ map g (range_with_len a n)
+map-range_same f g a zero h = refl
+map-range_same f g a (suc n) h =
+    ap (λ x. x ∷ map f (range_with_len (a + 1) n)) (h a (omega arith) (omega arith)) ∙ ap (λ xs. g a ∷ xs) (map-range_same f g (a + 1) n (λ k l m. h k (omega arith) (omega arith)))
+
+pub all-range_same : (p q : ℕ → Bool) (a n : ℕ) → ((k : ℕ) → a ≤ k → k < a + n → p k ≡ q k) → list_all p (range_with_len a n) ≡ list_all q (range_with_len a n)
+all-range_same p q a zero h = refl
+all-range_same p q a (suc n) h =
+    ap (λ x. x && list_all p (range_with_len (a + 1) n)) (h a (omega arith) (omega arith)) ∙ ap (λ x. q a && x) (all-range_same p q (a + 1) n (λ k l m. h k (omega arith) (omega arith)))
+
+-- what a number at one place leaves elsewhere
+pub put-same : (i j v : ℕ) (x : Matrix) → put i j v x i j ≡ v
+put-same i j v x = cond-true (nat_eq i i && nat_eq j j) v (x i j) (and_from (nat_eq i i) (nat_eq j j) (eq-eqb i i refl) (eq-eqb j j refl))
+
+pub put-column : (i j v : ℕ) (x : Matrix) (a b : ℕ) → (b ≡ j → ⊥) → put i j v x a b ≡ x a b
+put-column i j v x a b h = put-other i j v x a b (λ e f. h f)

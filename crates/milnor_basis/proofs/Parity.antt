@@ -55,7 +55,7 @@ plus-comm true false = refl
 plus-comm false true = refl
 plus-comm false false = refl
 
-plus-false : (a : Bool) → plus a false ≡ a
+pub plus-false : (a : Bool) → plus a false ≡ a
 plus-false true = refl
 plus-false false = refl
 

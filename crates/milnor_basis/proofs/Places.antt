@@ -37,7 +37,7 @@ is_other false s t e n = refl
 
 -- Sq() times an element is that element
 pub left_unit_same : (s : List ℕ) → IsTrimmed s → coefficient [] s s ≡ true
-left_unit_same s h = is_same (coefficient [] s s) s (product_has_left_unit s s h h)
+left_unit_same s h = is_same (coefficient [] s s) s (product_has_left_unit s s h)
 
-pub left_unit_other : (s t : List ℕ) → IsTrimmed s → IsTrimmed t → s ≢ t → coefficient [] s t ≡ false
-left_unit_other s t h k n = is_other (coefficient [] s t) s t (product_has_left_unit s t h k) n
+pub left_unit_other : (s t : List ℕ) → IsTrimmed s → s ≢ t → coefficient [] s t ≡ false
+left_unit_other s t h n = is_other (coefficient [] s t) s t (product_has_left_unit s t h) n

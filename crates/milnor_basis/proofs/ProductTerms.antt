@@ -6,6 +6,7 @@ use Rattle.milnor_basis.specs.Exponents.{entry, degree_of}
 use Rattle.milnor_basis.specs.Basis.{basis_of}
 use Rattle.milnor_basis.specs.Product.{coefficient, product_terms}
 use Rattle.milnor_basis.specs.Walk.{plus, IsLeft, no_sums, TurnsOver, AreChosen}
+use Rattle.milnor_basis.proofs.Parity.{plus-false}
 use Rattle.milnor_basis.proofs.Matrices.{coefficient-fillings}
 
 -- at the beginning all is left
@@ -34,10 +35,6 @@ terms_are r s rows columns diagonals degree before after terms short narrow er e
     ∙ ap (plus (coefficient r s (slice_index_or (basis_of degree) k []))) (clear k within)
     ∙ plus-false (coefficient r s (slice_index_or (basis_of degree) k [])))
     ∙ ap (λ n. filter (coefficient r s) (basis_of n)) e
-  where
-    plus-false : (b : Bool) → plus b false ≡ b
-    plus-false true = refl
-    plus-false false = refl
 
 -- the elements chosen among the first i
 abbrev pub ChosenSoFar : List (List ℕ) → List Bool → ℕ → List (List ℕ) → Type 0

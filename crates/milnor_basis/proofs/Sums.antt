@@ -1,45 +1,35 @@
 -- What putting one number into a matrix does to its sums.
-use Rattle.std.proofs.Common.{◌≡◌, ℕ, zero, suc, ◌+◌, ◌-◌, ◌*◌, ◌<◌, ◌≤◌, ◌^◌, ◌≢◌, inl, inr, Bool, true, false, ◌&&◌, nat_eq, if◌then◌else◌, List, ◌∷◌, map, length, get_or, set, refl, sym, ◌∙◌, ap, arith, zero-add, bit_and}
+use Rattle.std.proofs.Common.{◌≡◌, ℕ, zero, suc, ◌+◌, ◌-◌, ◌*◌, ◌<◌, ◌≤◌, ◌^◌, ◌≢◌, inl, inr, Bool, true, false, ◌&&◌, nat_eq, map, length, get_or, set, refl, sym, ◌∙◌, ap, arith, zero-add, bit_and}
 use Rattle.std.proofs.Math.Path.{fun_ext}
 use Rattle.std.specs.List.{range_with_len, list_all, sum}
-use Rattle.std.proofs.lemmas.List.Sums.{sum_by-cons}
-use Rattle.std.proofs.lemmas.Bool.{eq-eqb, ne_eqb, eqb-true, eqb-false, cases_Bool}
+use Rattle.std.proofs.lemmas.Bool.{ne_eqb, eqb-true, eqb-false, cases_Bool}
 use Rattle.std.proofs.lemmas.List.FromFn.{length-map-range_with_len, get_or-map-range_with_len}
 use Rattle.std.proofs.Math.Bool.{and_comm}
 use Rattle.milnor_basis.specs.Product.{Matrix, put, row_sum, column_sum, diagonal, multinomial, is_odd}
 use Rattle.milnor_basis.specs.Walk.{Sums, add_at, add}
-use Rattle.milnor_basis.proofs.Kummer.{digits_apart}
+use Rattle.milnor_basis.proofs.Kummer.{digits_apart, sum-cons}
+use Rattle.milnor_basis.proofs.MatrixList.{all-range_same, map-range_same, put-column, put-same}
 
 -- a sum, a list and a test of all, where only the term at j differs
-sum_cons : (x : ℕ) (xs : List ℕ) → sum (x ∷ xs) ≡ x + sum xs
-sum_cons x xs = sum_by-cons (λ y. y) x xs
-
-map_same : (f g : ℕ → ℕ) (a n : ℕ) → ((k : ℕ) → a ≤ k → k < a + n → f k ≡ g k) → map f (range_with_len a n) ≡ map g (range_with_len a n)
-map_same f g a zero h = refl
-map_same f g a (suc n) h = let here = h a (omega arith) (omega arith) in let rest = map_same f g (a + 1) n (λ k l m. h k (omega arith) (omega arith)) in cc
 
 sum_changed : (f g : ℕ → ℕ) (a n j : ℕ) → a ≤ j → j < a + n → ((k : ℕ) → k < a + n → k ≢ j → f k ≡ g k) → g j ≡ 0 → sum (map f (range_with_len a n)) ≡ sum (map g (range_with_len a n)) + f j
 sum_changed f g a zero j l m h z = absurd (omega arith)
 sum_changed f g a (suc n) j l m h z =
-    rw (sum_cons (f a) (map f (range_with_len (a + 1) n)), sum_cons (g a) (map g (range_with_len (a + 1) n)))
+    rw (sum-cons (f a) (map f (range_with_len (a + 1) n)), sum-cons (g a) (map g (range_with_len (a + 1) n)))
     (elim (cases_Bool (nat_eq a j)) [
       | inl e ↦ let same : a ≡ j = eqb-true a j e in
-          let rest : map f (range_with_len (a + 1) n) ≡ map g (range_with_len (a + 1) n) = map_same f g (a + 1) n (λ k p q. h k (omega arith) (omega arith)) in
+          let rest : map f (range_with_len (a + 1) n) ≡ map g (range_with_len (a + 1) n) = map-range_same f g (a + 1) n (λ k p q. h k (omega arith) (omega arith)) in
           let fa : f a ≡ f j = ap f same in let ga : g a ≡ g j = ap g same in
           omega (arith, ap sum rest)
       | inr e ↦ let other : a ≢ j = eqb-false a j e in
           omega (arith, h a (omega arith) other, sum_changed f g (a + 1) n j (omega arith) (omega arith) (λ k p q. h k (omega arith) q) z)
     ])
 
-all_same : (p q : ℕ → Bool) (a n : ℕ) → ((k : ℕ) → a ≤ k → k < a + n → p k ≡ q k) → list_all p (range_with_len a n) ≡ list_all q (range_with_len a n)
-all_same p q a zero h = refl
-all_same p q a (suc n) h = let here = h a (omega arith) (omega arith) in let rest = all_same p q (a + 1) n (λ k l m. h k (omega arith) (omega arith)) in cc
-
 all_changed : (p q : ℕ → Bool) (c : Bool) (a n j : ℕ) → a ≤ j → j < a + n → ((k : ℕ) → k < a + n → k ≢ j → p k ≡ q k) → p j ≡ (q j && c) → list_all p (range_with_len a n) ≡ (list_all q (range_with_len a n) && c)
 all_changed p q c a zero j l m h z = absurd (omega arith)
 all_changed p q c a (suc n) j l m h z = elim (cases_Bool (nat_eq a j)) [
   | inl e ↦ let same : a ≡ j = eqb-true a j e in
-      let rest = all_same p q (a + 1) n (λ k x y. h k (omega arith) (omega arith)) in
+      let rest = all-range_same p q (a + 1) n (λ k x y. h k (omega arith) (omega arith)) in
       let pa : p a ≡ (q a && c) = ap p same ∙ z ∙ ap (λ k. q k && c) (sym same) in
       rw (rest, pa) (swap (q a) c (list_all q (range_with_len (a + 1) n)))
   | inr e ↦ let other : a ≢ j = eqb-false a j e in
@@ -63,7 +53,7 @@ map_changed : (f g : ℕ → ℕ) (a n i j : ℕ) → a + i ≡ j → i < n → 
 map_changed f g a zero i j e l h = absurd (omega arith)
 map_changed f g a (suc n) zero j e l h =
     let same : a ≡ j = omega arith in
-    let rest = map_same f g (a + 1) n (λ k p q. h k (omega arith) (omega arith)) in
+    let rest = map-range_same f g (a + 1) n (λ k p q. h k (omega arith) (omega arith)) in
     let here = ap f same in cc
 map_changed f g a (suc n) (suc i) j e l h =
     let here : f a ≡ g a = h a (omega arith) (omega arith) in
@@ -80,17 +70,8 @@ odd_changed f g n j l h z =
 abbrev pub sums_of : ℕ → ℕ → Matrix → Sums
 sums_of m n x = record { rows = row_sum n x; columns = column_sum m x; diagonals = λ k. sum (diagonal x k); apart = list_all (λ k. is_odd (multinomial (diagonal x k))) (range_with_len 1 (m + n)) }
 
-put_same : (i j v : ℕ) (x : Matrix) → put i j v x i j ≡ v
-put_same i j v x = rw (eq-eqb i i refl, eq-eqb j j refl) refl
-
 pub put_row : (i j v : ℕ) (x : Matrix) (a b : ℕ) → a ≢ i → put i j v x a b ≡ x a b
 put_row i j v x a b h = rw (ne_eqb a i h) refl
-
-pub put_column : (i j v : ℕ) (x : Matrix) (a b : ℕ) → b ≢ j → put i j v x a b ≡ x a b
-put_column i j v x a b h = rw (ne_eqb b j h) (either (nat_eq a i)) where
-  either : (t : Bool) → (if t && false then v else x a b) ≡ x a b
-  either true = refl
-  either false = refl
 
 -- f a is g a, with v added at i
 is_add_at : (f g : ℕ → ℕ) (i v : ℕ) → ((a : ℕ) → a ≢ i → f a ≡ g a) → f i ≡ g i + v → f ≡ add_at i v g
@@ -102,18 +83,18 @@ is_add_at f g i v others here = fun_ext (λ a. elim (cases_Bool (nat_eq a i)) [
 module _ (m n i j v : ℕ) (x : Matrix) (low : i ≤ m) (left : j ≤ n) (zero : x i j ≡ 0) where
   rows_put : row_sum n (put i j v x) ≡ add_at i (2 ^ j * v) (row_sum n x)
   rows_put = is_add_at (row_sum n (put i j v x)) (row_sum n x) i (2 ^ j * v)
-      (λ a h. ap sum (map_same (λ b. 2 ^ b * put i j v x a b) (λ b. 2 ^ b * x a b) 0 (n + 1) (λ k p q. ap (λ y. 2 ^ k * y) (put_row i j v x a k h))))
-      (sum_changed (λ b. 2 ^ b * put i j v x i b) (λ b. 2 ^ b * x i b) 0 (n + 1) j (omega arith) (omega arith) (λ k p h. ap (λ y. 2 ^ k * y) (put_column i j v x i k h)) (let e : 2 ^ j * x i j ≡ 2 ^ j * 0 = ap (λ y. 2 ^ j * y) zero in omega (arith, e))
-      ∙ ap (λ y. row_sum n x i + 2 ^ j * y) (put_same i j v x))
+      (λ a h. ap sum (map-range_same (λ b. 2 ^ b * put i j v x a b) (λ b. 2 ^ b * x a b) 0 (n + 1) (λ k p q. ap (λ y. 2 ^ k * y) (put_row i j v x a k h))))
+      (sum_changed (λ b. 2 ^ b * put i j v x i b) (λ b. 2 ^ b * x i b) 0 (n + 1) j (omega arith) (omega arith) (λ k p h. ap (λ y. 2 ^ k * y) (put-column i j v x i k h)) (let e : 2 ^ j * x i j ≡ 2 ^ j * 0 = ap (λ y. 2 ^ j * y) zero in omega (arith, e))
+      ∙ ap (λ y. row_sum n x i + 2 ^ j * y) (put-same i j v x))
 
   columns_put : column_sum m (put i j v x) ≡ add_at j v (column_sum m x)
   columns_put = is_add_at (column_sum m (put i j v x)) (column_sum m x) j v
-      (λ b h. ap sum (map_same (λ a. put i j v x a b) (λ a. x a b) 0 (m + 1) (λ k p q. put_column i j v x k b h)))
-      (sum_changed (λ a. put i j v x a j) (λ a. x a j) 0 (m + 1) i (omega arith) (omega arith) (λ k p h. put_row i j v x k j h) zero ∙ ap (λ y. column_sum m x j + y) (put_same i j v x))
+      (λ b h. ap sum (map-range_same (λ a. put i j v x a b) (λ a. x a b) 0 (m + 1) (λ k p q. put-column i j v x k b h)))
+      (sum_changed (λ a. put i j v x a j) (λ a. x a j) 0 (m + 1) i (omega arith) (omega arith) (λ k p h. put_row i j v x k j h) zero ∙ ap (λ y. column_sum m x j + y) (put-same i j v x))
 
   on_diagonal : (k : ℕ) → k ≢ i + j → diagonal (put i j v x) k ≡ diagonal x k
-  on_diagonal k h = map_same (λ a. put i j v x a (k - a)) (λ a. x a (k - a)) 0 (k + 1) (λ a p q. elim (cases_Bool (nat_eq a i)) [
-    | inl e ↦ let same : a ≡ i = eqb-true a i e in put_column i j v x a (k - a) (omega arith)
+  on_diagonal k h = map-range_same (λ a. put i j v x a (k - a)) (λ a. x a (k - a)) 0 (k + 1) (λ a p q. elim (cases_Bool (nat_eq a i)) [
+    | inl e ↦ let same : a ≡ i = eqb-true a i e in put-column i j v x a (k - a) (omega arith)
     | inr e ↦ put_row i j v x a (k - a) (eqb-false a i e)
   ])
 
@@ -121,7 +102,7 @@ module _ (m n i j v : ℕ) (x : Matrix) (low : i ≤ m) (left : j ≤ n) (zero :
   across = omega arith
 
   there : put i j v x i (i + j - i) ≡ v
-  there = ap (λ b. put i j v x i b) across ∙ put_same i j v x
+  there = ap (λ b. put i j v x i b) across ∙ put-same i j v x
 
   diagonals_put : (λ k. sum (diagonal (put i j v x) k)) ≡ add_at (i + j) v (λ k. sum (diagonal x k))
   diagonals_put = is_add_at (λ k. sum (diagonal (put i j v x) k)) (λ k. sum (diagonal x k)) (i + j) v

@@ -6,7 +6,7 @@ use Rattle.std.specs.Prelude.{◌≡◌, ℕ, zero, suc, ◌+◌, ◌-◌, ◌*�
 abbrev pub entry : List ℕ → ℕ → ℕ
 entry exponents i = slice_index exponents i
 
--- the sum of r_i (2^i - 1), where the first exponent of the list is r_i
+-- the sum of r_j (2^j - 1), where the list is r_i, r_(i+1), ..
 abbrev pub degree_from : ℕ → List ℕ → ℕ
 degree_from i [] = 0
 degree_from i (r ∷ rs) = r * (2 ^ i - 1) + degree_from (suc i) rs
@@ -15,12 +15,13 @@ degree_from i (r ∷ rs) = r * (2 ^ i - 1) + degree_from (suc i) rs
 abbrev pub degree_of : List ℕ → ℕ
 degree_of exponents = degree_from 1 exponents
 
--- the list without the zeros at its end
+-- r in front of a list without zeros at its end; a zero in front of nothing is dropped
 abbrev pub put_before : ℕ → List ℕ → List ℕ
 put_before zero [] = []
 put_before (suc r) [] = suc r ∷ []
 put_before r (x ∷ xs) = r ∷ x ∷ xs
 
+-- the list without the zeros at its end
 abbrev pub trimmed : List ℕ → List ℕ
 trimmed [] = []
 trimmed (r ∷ rs) = put_before r (trimmed rs)

@@ -68,7 +68,8 @@ matrix_coefficient n x = fold ◌*◌ 1 (map (λ k. multinomial (diagonal x k)) 
 abbrev pub counts : List ℕ → List ℕ → Matrix → Bool
 counts r s x = has_rows r s x && has_columns r s x && is_odd (matrix_coefficient (length r + length s) x)
 
--- the exponent lists of those matrices, one for each; no entry is above the numbers of R and S
+-- The exponent lists of those matrices, one for each. A matrix with these sums has x_ij ≤ r_i for i ≥ 1 and x_0j ≤ s_j,
+-- and zeros past row m and column n, so that none is left out.
 abbrev pub product_diagonals : List ℕ → List ℕ → List (List ℕ)
 product_diagonals r s = map (diagonal_sums (length r + length s)) (filter (counts r s) (matrices (places (length r) (length s)) (suc (sum r + sum s))))
 
@@ -90,4 +91,4 @@ ProductIsHomogeneous = (r s t : List ℕ) → coefficient r s t ≡ true → IsT
 
 -- Sq() is a left unit
 abbrev pub ProductHasLeftUnit : Type 0
-ProductHasLeftUnit = (s t : List ℕ) → IsTrimmed s → IsTrimmed t → coefficient [] s t ≡ pointwise nat_eq s t
+ProductHasLeftUnit = (s t : List ℕ) → IsTrimmed s → coefficient [] s t ≡ pointwise nat_eq s t
