@@ -1,6 +1,8 @@
 //! `ext`: Ext over the mod 2 Steenrod algebra, as charts.
 #![tactic(auto)]
 
+ghost use Rattle.std.specs.Prelude.{◌≡◌};
+
 use ext_run::edge::{Sink, StdSink};
 use ext_run::{MEMORY, WORDS, report, run};
 use memory::Memory;
@@ -30,7 +32,9 @@ fn status(rt: &HostRuntime) -> u8 {
 }
 
 /// The status, with its line written.
-fn refused<E: Sink>(status: u8, err: &mut E) -> u8 {
+fn refused<E: Sink>(status: u8, err: &mut E) -> u8
+    ensures { result ≡ status }
+{
     report(status, err);
     status
 }
