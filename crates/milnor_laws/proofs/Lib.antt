@@ -1,0 +1,9 @@
+pub mod SumsModTwo
+pub mod BinomialSums
+pub mod Powers
+pub mod Coproduct
+pub mod Fillings
+pub mod Coefficients
+pub mod Associative
+pub mod RightUnit
+pub mod Vectors
