@@ -1,0 +1,154 @@
+-- What holds of the basis of generators that are not refused.
+use Rattle.std.specs.Prelude.{◌≡◌, ◌≢◌, ℕ, suc, ◌≤◌, ℤ, pos, negsuc, ◌+ℤ◌, ◌≤ℤ◌, int_le, Bool, true, false, cond, List, [], ◌∷◌, length, All, AllPairs, IsTrue, Option, Some, None, String, string_bytes}
+use Rattle.std.specs.List.{list_all, AllByRecursion}
+use Rattle.std.specs.List.Sorted.{IsStrictlySortedBy}
+use Rattle.std.specs.Option.{option_or}
+use Rattle.std.specs.Map.{keys_of}
+use Rattle.std.specs.String.{string_cmp}
+use Rattle.std.specs.declared.alloc.Global.{Global}
+use Rattle.std.specs.Ordering.{nat_cmp}
+use Rattle.std.specs.Cmp.Lexicographic.{slice_cmp}
+use Rattle.std.proofs.Common.{Less, Equal, get_or, refl, sym, ap, ◌∙◌, arith}
+use Rattle.std.proofs.lemmas.Int.{ints}
+use Rattle.std.proofs.lemmas.Cmp.{nat_list_cmp_total, tied_itself}
+use Rattle.std.proofs.lemmas.List.Elements.{All-from_recursion}
+use Rattle.std.proofs.lemmas.List.Kept.{AllPairs-cons}
+use Rattle.std.proofs.lemmas.List.Sums.{AllPass-from_list_all}
+use Rattle.serde_json.specs.Data.{Members, no_members, member}
+use Rattle.serde_json.specs.View.{view, members_view}
+use Rattle.serde_json.specs.declared.value.Value.{Value}
+use Rattle.module_json.specs.Actions.{is_name}
+use Rattle.module_json.specs.Checks.{unless, members_count}
+use Rattle.module_json.specs.WellFormed.{IsEntryOf, Agree, IsWellFormed}
+use Rattle.module_json.proofs.Counts.{members_counted}
+use Rattle.module_json.specs.ModuleFile.{Generator, Entry, within_limit, degree_of, degree_refusal, generator_refusal, generators_refusal, placed, by_degree, listed, basis, spans, span_refusal}
+use Rattle.module_json.specs.declared.malformed.Malformed.{Malformed}
+use Rattle.module_json.specs.declared.malformed.Malformed.TheVariants.{Name}
+use Rattle.module_json.proofs.Order.{EachPair, Rises, Rises-by_degree, All-placed, All-by_degree}
+
+-- ---- each generator
+
+-- the name and the degree of one that is not refused
+pub record IsFine (g : Generator) : Type 0 where
+  pub name : IsTrue (is_name g.name)
+  pub lowest : negsuc 127 ≤ℤ g.degree
+  pub highest : g.degree ≤ℤ pos 128
+
+none_first : (p q : Option Malformed) → option_or p q ≡ None → (p ≡ None) × (q ≡ None)
+none_first None q h = (refl, h)
+none_first (Some e) q h = absurd (cc)
+
+unless_none : (b : Bool) (e : Malformed) → unless b e ≡ None → b ≡ true
+unless_none true e h = refl
+unless_none false e h = absurd (cc)
+
+limits : (z : ℤ) → within_limit z ≡ true → (negsuc 127 ≤ℤ z) × (z ≤ℤ pos 128)
+limits z h = (grind (arith, ints), grind (arith, ints))
+
+degree_fine : (i : ℕ) (o : Option ℤ) → degree_refusal i o ≡ None → (z : ℤ) × (o ≡ Some z) × ((negsuc 127 ≤ℤ z) × (z ≤ℤ pos 128))
+degree_fine i None h = absurd (cc)
+degree_fine i (Some z) h = (z, refl, limits z (unless_none (within_limit z) _ h))
+
+listed_fine : (i : ℕ) (ms : Members) → generators_refusal i ms ≡ None → AllByRecursion IsFine (listed ms)
+listed_fine i no_members h = tt
+listed_fine i (member name d ms) h =
+    let parts = none_first (generator_refusal i name d) (generators_refusal (suc i) ms) h in
+    let own = none_first (unless (is_name name) (Name i)) (option_or (degree_refusal i (degree_of d)) None) parts.0 in
+    let fine = degree_fine i (degree_of d) (none_first (degree_refusal i (degree_of d)) None own.1).0 in
+    rw fine.1 (record { name = unless_none (is_name name) (Name i) own.0; lowest = fine.2.0; highest = fine.2.1 }, listed_fine (suc i) ms parts.1)
+
+listed_few : (ms : Members) → length (listed ms) ≤ members_count ms
+listed_few no_members = omega arith
+listed_few (member name d ms) = by (degree_of d) refl (listed_few ms)
+  where
+    by : (o : Option ℤ) → degree_of d ≡ o → length (listed ms) ≤ members_count ms → length (listed (member name d ms)) ≤ members_count (member name d ms)
+    by None e few = rw e (omega (arith, few))
+    by (Some z) e few = rw e (omega (arith, few))
+
+length-placed : (g : Generator) (hs : List Generator) → length (placed g hs) ≡ suc (length hs)
+length-placed g [] = refl
+length-placed g (h ∷ hs) = by (int_le g.degree h.degree) (length-placed g hs)
+  where
+    by : (b : Bool) → length (placed g hs) ≡ suc (length hs) → length (cond b (g ∷ h ∷ hs) (h ∷ placed g hs)) ≡ suc (length (h ∷ hs))
+    by true later = refl
+    by false later = ap suc later
+
+length-by_degree : (gs : List Generator) → length (by_degree gs) ≡ length gs
+length-by_degree [] = refl
+length-by_degree (g ∷ gs) = length-placed g (by_degree gs) ∙ ap suc (length-by_degree gs)
+
+-- ---- the names differ
+
+abbrev Apart : List Generator → Type 0
+Apart = EachPair (λ g h. g.name ≢ h.name)
+
+Apart-placed : (g : Generator) (hs : List Generator) → AllByRecursion (λ h. g.name ≢ h.name) hs → Apart hs → Apart (placed g hs)
+Apart-placed g [] other apart = (tt, tt)
+Apart-placed g (h ∷ hs) other apart = by (int_le g.degree h.degree) (Apart-placed g hs other.1 apart.1)
+  where
+    by : (b : Bool) → Apart (placed g hs) → Apart (cond b (g ∷ h ∷ hs) (h ∷ placed g hs))
+    by true later = (other, apart)
+    by false later = (All-placed (λ k. h.name ≢ k.name) g hs (λ e. other.0 (sym e)) apart.0, later)
+
+Apart-by_degree : (gs : List Generator) → Apart gs → Apart (by_degree gs)
+Apart-by_degree [] apart = tt
+Apart-by_degree (g ∷ gs) apart = Apart-placed g (by_degree gs) (All-by_degree (λ h. g.name ≢ h.name) gs apart.0) (Apart-by_degree gs apart.1)
+
+below_differs : (x y : String Global) → string_cmp x y ≡ Less → string_bytes x ≢ string_bytes y
+below_differs x y below = λ same. let tied : slice_cmp nat_cmp (string_bytes x) (string_bytes y) ≡ Equal = rw same (tied_itself nat_list_cmp_total (string_bytes y)) in absurd (cc)
+
+below_all : (x : String Global) (es : List (String Global × Value)) → AllByRecursion (λ y. string_cmp x y ≡ Less) (keys_of es) → AllByRecursion (λ h. string_bytes x ≢ h.name) (listed (members_view es))
+below_all x [] h = tt
+below_all x (e ∷ es) h = by (degree_of (view e.1)) refl (below_all x es h.1)
+  where
+    by : (o : Option ℤ) → degree_of (view e.1) ≡ o → AllByRecursion (λ h. string_bytes x ≢ h.name) (listed (members_view es)) → AllByRecursion (λ h. string_bytes x ≢ h.name) (listed (members_view (e ∷ es)))
+    by None is later = rw is later
+    by (Some z) is later = rw is (below_differs x e.0 h.0, later)
+
+listed_apart : (es : List (String Global × Value)) → IsStrictlySortedBy string_cmp (keys_of es) → Apart (listed (members_view es))
+unfolding IsStrictlySortedBy
+listed_apart [] up = tt
+listed_apart (e ∷ es) up = by (degree_of (view e.1)) refl (listed_apart es up.1)
+  where
+    by : (o : Option ℤ) → degree_of (view e.1) ≡ o → Apart (listed (members_view es)) → Apart (listed (members_view (e ∷ es)))
+    by None is later = rw is later
+    by (Some z) is later = rw is (below_all e.0 es up.0, later)
+
+-- ---- pairs by their places
+
+pairs_by_place : (R : Generator → Generator → Type 0) (gs : List Generator) → EachPair R gs → AllPairs R gs
+pairs_by_place R [] h = λ i j d l m. absurd (omega (arith, m))
+pairs_by_place R (g ∷ gs) h = AllPairs-cons R g gs (All-from_recursion (R g) gs h.0) (pairs_by_place R gs h.1)
+
+near : (z y : ℤ) → int_le z (y +ℤ pos 64) ≡ true → z ≤ℤ (y +ℤ pos 64)
+near z y h = grind (arith, ints)
+
+spans_pairs : (gs : List Generator) → spans gs ≡ true → AllPairs (λ g h. h.degree ≤ℤ (g.degree +ℤ pos 64)) gs
+spans_pairs gs all i j d l m =
+    let g = get_or gs i d in
+    let h = get_or gs j d in
+    let one : list_all (λ k. int_le h.degree (k.degree +ℤ pos 64)) gs ≡ true = AllPass-from_list_all (λ k. list_all (λ n. int_le k.degree (n.degree +ℤ pos 64)) gs) gs all j d m in
+    near h.degree g.degree (AllPass-from_list_all (λ k. int_le h.degree (k.degree +ℤ pos 64)) gs one i d (omega arith))
+
+-- ---- the module
+
+-- A module whose generators and entries are not refused is well formed.
+pub accepted : (es : List (String Global × Value)) (gs : List Generator) (entries : List Entry) → gs ≡ basis (members_view es) → IsStrictlySortedBy string_cmp (keys_of es) → length es ≤ 64 → generators_refusal 0 (members_view es) ≡ None → span_refusal gs ≡ None → length entries ≤ 4096 → All (IsEntryOf gs) entries → AllPairs Agree entries → IsWellFormed (record { generators = gs; entries = entries })
+accepted es gs entries is up few fine spanned few_entries actions agree =
+    let each : AllByRecursion IsFine gs = rw is (All-by_degree IsFine (listed (members_view es)) (listed_fine 0 (members_view es) fine)) in
+    let all = All-from_recursion IsFine gs each in
+    let apart : Apart gs = rw is (Apart-by_degree (listed (members_view es)) (listed_apart es up)) in
+    let rises : Rises gs = rw is (Rises-by_degree (listed (members_view es))) in
+    let count : length gs ≡ length (listed (members_view es)) = rw is (length-by_degree (listed (members_view es))) in
+    record {
+      few_generators = omega (arith, count, listed_few (members_view es), members_counted es);
+      names = λ k d l. (all k d l).name;
+      distinct = pairs_by_place (λ g h. g.name ≢ h.name) gs apart;
+      lowest = λ k d l. (all k d l).lowest;
+      highest = λ k d l. (all k d l).highest;
+      ordered = pairs_by_place (λ g h. g.degree ≤ℤ h.degree) gs rises;
+      span = spans_pairs gs (unless_none (spans gs) _ spanned);
+      few_entries = few_entries;
+      actions = actions;
+      agree = agree;
+    }

@@ -1,0 +1,11 @@
+pub mod Counts
+pub mod Pieces
+pub mod Listing
+pub mod Order
+pub mod Basis
+pub mod Reading
+pub mod Squares
+pub mod Entries
+pub mod Numbering
+pub mod Repeats
+pub mod Examples

@@ -1,0 +1,99 @@
+-- The checks of a module file before its generators and actions: what each one refuses.
+use Rattle.std.specs.Prelude.{ℕ, ◌^◌, ◌==◌, ◌≡◌, ◌≢◌, Bool, true, false, nat_le, ◌+◌, List, length, Option, Some, None, option_and_then, codes, bytes_eq, IsUtf8, Result, Ok, Err}
+use Rattle.serde_json.specs.Data.{Data, Items, no_items, item, Members, no_members, member}
+use Rattle.serde_json.specs.Find.{as_number, as_str, as_array, as_object, as_u64, get}
+use Rattle.serde_json.specs.Read.{read}
+use Rattle.module_json.specs.declared.malformed.Malformed.{Malformed}
+use Rattle.module_json.specs.declared.malformed.Malformed.TheVariants.{Limit, Shape, Kind as OtherKind, Prime as OtherPrime, Memory}
+use Rattle.module_json.specs.declared.malformed.What.TheVariants.{Bytes, Gens as ManyGens, Actions as ManyActions}
+use Rattle.module_json.specs.declared.malformed.Place.TheVariants.{Whole, Kind, Cofiber, Shift, Prime, Gens, Actions}
+
+-- The bytes are a JSON text, with this value.
+pub record IsJson (bytes : List ℕ) (d : Data) : Type 0 where
+  pub is_text : IsUtf8 bytes
+  pub reads : read bytes ≡ Some d
+
+-- What a call answers that refuses so: want of memory is free.
+abbrev pub RefusesBy : {A : Type 0} → Result A Malformed → Option Malformed → Type 0
+RefusesBy (Ok a) r = r ≡ None
+RefusesBy (Err e) r = e ≢ Memory → r ≡ Some e
+
+-- What a call answers whose answer this is: want of memory is free.
+abbrev pub Answers : {A : Type 0} → Result A Malformed → Result A Malformed → Type 0
+Answers (Ok a) r = r ≡ Ok a
+Answers (Err e) r = e ≢ Memory → r ≡ Err e
+
+-- nothing is refused where a value is there
+abbrev pub unless_there : {A : Type 0} → Malformed → Option A → Option Malformed
+unless_there e None = Some e
+unless_there e (Some a) = None
+
+abbrev pub unless_absent : {A : Type 0} → Malformed → Option A → Option Malformed
+unless_absent e None = None
+unless_absent e (Some a) = Some e
+
+abbrev pub unless : Bool → Malformed → Option Malformed
+unless true e = None
+unless false e = Some e
+
+abbrev pub size_refusal : List ℕ → Option Malformed
+size_refusal bytes = unless (nat_le (length bytes) (2 ^ 20)) (Limit Bytes)
+
+abbrev pub whole_refusal : Data → Option Malformed
+whole_refusal d = unless_there (Shape Whole) (as_object d)
+
+-- the text under a key
+abbrev pub text_at : List ℕ → Data → Option (List ℕ)
+text_at key d = option_and_then as_str (get key d)
+
+abbrev pub kind_of_text : Option (List ℕ) → Option Malformed
+kind_of_text None = Some (Shape Kind)
+kind_of_text (Some text) = unless (bytes_eq text (codes "finite dimensional module")) OtherKind
+
+abbrev pub kind_refusal : Data → Option Malformed
+kind_refusal d = kind_of_text (text_at (codes "type") d)
+
+abbrev pub cofiber_refusal : Data → Option Malformed
+cofiber_refusal d = unless_absent (Shape Cofiber) (get (codes "cofiber") d)
+
+abbrev pub shift_refusal : Data → Option Malformed
+shift_refusal d = unless_absent (Shape Shift) (get (codes "shift") d)
+
+abbrev pub prime_of_number : Option ℕ → Option Malformed
+prime_of_number None = Some (Shape Prime)
+prime_of_number (Some p) = unless (p == 2) (OtherPrime p)
+
+abbrev pub prime_of_value : Option Data → Option Malformed
+prime_of_value None = None
+prime_of_value (Some d) = prime_of_number (option_and_then as_u64 (as_number d))
+
+-- The prime may be left out.
+abbrev pub prime_refusal : Data → Option Malformed
+prime_refusal d = prime_of_value (get (codes "p") d)
+
+abbrev pub members_count : Members → ℕ
+members_count no_members = 0
+members_count (member k d ms) = 1 + members_count ms
+
+abbrev pub items_count : Items → ℕ
+items_count no_items = 0
+items_count (item d ds) = 1 + items_count ds
+
+abbrev pub gens_of_value : Option Members → Option Malformed
+gens_of_value None = Some (Shape Gens)
+gens_of_value (Some ms) = unless (nat_le (members_count ms) 64) (Limit ManyGens)
+
+abbrev pub gens_refusal : Data → Option Malformed
+gens_refusal d = gens_of_value (option_and_then as_object (get (codes "gens") d))
+
+abbrev pub actions_of_array : Option Items → Option Malformed
+actions_of_array None = Some (Shape Actions)
+actions_of_array (Some ds) = unless (nat_le (items_count ds) 4096) (Limit ManyActions)
+
+abbrev pub actions_of_value : Option Data → Option Malformed
+actions_of_value None = None
+actions_of_value (Some d) = actions_of_array (as_array d)
+
+-- The actions may be left out.
+abbrev pub actions_refusal : Data → Option Malformed
+actions_refusal d = actions_of_value (get (codes "actions") d)

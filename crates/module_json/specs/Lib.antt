@@ -1,0 +1,5 @@
+pub mod Actions
+pub mod Checks
+pub mod ModuleFile
+pub mod WellFormed
+pub mod Cut

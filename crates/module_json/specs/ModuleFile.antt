@@ -1,0 +1,207 @@
+-- What a module file describes, or the first thing wrong with it.
+use Rattle.std.specs.Prelude.{ℕ, suc, ◌%◌, ◌&&◌, ◌==◌, ◌≡◌, nat_eq, ℤ, pos, ◌+ℤ◌, neg_ℤ, int_le, Bool, not, if◌then◌else◌, List, [], ◌∷◌, ◌++◌, length, slice_index_or, filter, count_by, position, Option, Some, None, option_map, option_and_then, codes, bytes_eq, Result, Ok, Err}
+use Rattle.std.specs.Ordering.{int_eq}
+use Rattle.std.specs.Cmp.Lexicographic.{pointwise}
+use Rattle.std.specs.List.{list_all, range_with_len}
+use Rattle.std.specs.Option.{option_or}
+use Rattle.serde_json.specs.Data.{Data, Items, no_items, item, Members, no_members, member}
+use Rattle.serde_json.specs.Find.{as_number, as_str, as_array, as_object, as_i64, get}
+use Rattle.module_json.specs.Actions.{is_name, Written, action_of}
+use Rattle.module_json.specs.Checks.{IsJson, unless, size_refusal, whole_refusal, kind_refusal, cofiber_refusal, shift_refusal, prime_refusal, gens_refusal, actions_refusal}
+use Rattle.module_json.specs.declared.malformed.Malformed.{Malformed}
+use Rattle.module_json.specs.declared.malformed.Malformed.TheVariants.{Limit, Json, Name, Degree as NoDegree, Action}
+use Rattle.module_json.specs.declared.malformed.What.TheVariants.{Degree, Span}
+use Rattle.module_json.specs.declared.malformed.Why.{Why}
+use Rattle.module_json.specs.declared.malformed.Why.TheVariants.{Syntax, SquareZero, Unknown, WrongDegree, Repeated}
+
+-- the first refusal of a list
+abbrev pub first_of : List (Option Malformed) → Option Malformed
+first_of [] = None
+first_of (r ∷ rs) = option_or r (first_of rs)
+
+-- ---- generators
+
+pub record Generator : Type 0 where
+  pub name : List ℕ
+  pub degree : ℤ
+
+-- The members of `gens`, in the order of the bytes of their keys.
+abbrev pub gens_of : Data → Members
+gens_of d = members_or (option_and_then as_object (get (codes "gens") d))
+  where
+    members_or : Option Members → Members
+    members_or None = no_members
+    members_or (Some ms) = ms
+
+-- a value as a degree
+abbrev pub degree_of : Data → Option ℤ
+degree_of d = option_and_then as_i64 (as_number d)
+
+abbrev pub within_limit : ℤ → Bool
+within_limit z = int_le (neg_ℤ (pos 128)) z && int_le z (pos 128)
+
+abbrev pub degree_refusal : ℕ → Option ℤ → Option Malformed
+degree_refusal i None = Some (NoDegree i)
+degree_refusal i (Some z) = unless (within_limit z) (Limit Degree)
+
+-- what is wrong with generator i
+abbrev pub generator_refusal : ℕ → List ℕ → Data → Option Malformed
+generator_refusal i name d = first_of (unless (is_name name) (Name i) ∷ degree_refusal i (degree_of d) ∷ [])
+
+-- Name, degree and its limit are looked at generator by generator.
+abbrev pub generators_refusal : ℕ → Members → Option Malformed
+generators_refusal i no_members = None
+generators_refusal i (member name d ms) = option_or (generator_refusal i name d) (generators_refusal (suc i) ms)
+
+-- A generator stands before the first one of those that has no smaller degree.
+abbrev pub placed : Generator → List Generator → List Generator
+placed g [] = g ∷ []
+placed g (h ∷ hs) = if int_le g.degree h.degree then g ∷ h ∷ hs else h ∷ placed g hs
+
+-- the generators by degree; those of one degree keep their order
+abbrev pub by_degree : List Generator → List Generator
+by_degree [] = []
+by_degree (g ∷ gs) = placed g (by_degree gs)
+
+-- the generators as they are listed, which is in the order of the bytes of their names
+abbrev pub listed : Members → List Generator
+listed no_members = []
+listed (member name d ms) = onto (degree_of d) (listed ms)
+  where
+    onto : Option ℤ → List Generator → List Generator
+    onto None gs = gs
+    onto (Some z) gs = record { name = name; degree = z } ∷ gs
+
+-- The basis: by degree, and in one degree by the bytes of the names.
+abbrev pub basis : Members → List Generator
+basis ms = by_degree (listed ms)
+
+-- no degree lies more than 64 above another
+abbrev pub spans : List Generator → Bool
+spans gs = list_all (λ g. list_all (λ h. int_le g.degree (h.degree +ℤ pos 64)) gs) gs
+
+abbrev pub span_refusal : List Generator → Option Malformed
+span_refusal gs = unless (spans gs) (Limit Span)
+
+-- ---- actions
+
+-- One action: n, the number of the generator that Sq^n acts on, and the numbers of the sum, in order and each once.
+pub record Entry : Type 0 where
+  pub n : ℕ
+  pub generator : ℕ
+  pub sum : List ℕ
+
+-- The values under `actions`.
+abbrev pub actions_of : Data → Items
+actions_of d = items_or (option_and_then as_array (get (codes "actions") d))
+  where
+    items_or : Option Items → Items
+    items_or None = no_items
+    items_or (Some ds) = ds
+
+-- an action as it is written
+abbrev pub written : Data → Option Written
+written d = option_and_then action_of (as_str d)
+
+-- the number of the generator with a name
+abbrev pub number_of : List Generator → List ℕ → Option ℕ
+number_of gs name = position (λ g. bytes_eq g.name name) gs
+
+-- the numbers of the generators with these names, if each name has one
+abbrev pub numbers_of : List Generator → List (List ℕ) → Option (List ℕ)
+numbers_of gs [] = Some []
+numbers_of gs (name ∷ names) = option_and_then (λ j. option_map (λ js. j ∷ js) (numbers_of gs names)) (number_of gs name)
+
+-- the degree of generator i, 0 where there is none
+abbrev pub degree_at : List Generator → ℕ → ℤ
+degree_at gs i = (slice_index_or gs i (record { name = []; degree = pos 0 })).degree
+
+-- each of these generators has this degree
+abbrev pub are_in : List Generator → ℤ → List ℕ → Bool
+are_in gs z js = list_all (λ j. int_eq (degree_at gs j) z) js
+
+-- whether j stands an odd number of times among the numbers
+abbrev pub is_odd_in : List ℕ → ℕ → Bool
+is_odd_in js j = count_by (λ k. k == j) js % 2 == 1
+
+-- A generator twice in a sum cancels: the numbers below count that stand an odd number of times, in order.
+abbrev pub sum_of : ℕ → List ℕ → List ℕ
+sum_of count js = filter (is_odd_in js) (range_with_len 0 count)
+
+-- one square on one generator, with another sum
+abbrev pub differs : Entry → Entry → Bool
+differs e f = (f.n == e.n) && (f.generator == e.generator) && not (pointwise nat_eq f.sum e.sum)
+
+-- An entry, unless an earlier one has the same square on the same generator with another sum.
+abbrev pub unless_repeated : List Entry → Entry → Result Entry Why
+unless_repeated before e = by_first (position (differs e) before)
+  where
+    by_first : Option ℕ → Result Entry Why
+    by_first None = Ok e
+    by_first (Some first) = Err (Repeated first)
+
+-- The entry of Sq^n on generator i with the sum of the generators js, after the entries before it.
+abbrev pub numbered_entry : List Generator → List Entry → ℕ → ℕ → List ℕ → Result Entry Why
+numbered_entry gs before n i js = if are_in gs (degree_at gs i +ℤ pos n) js then unless_repeated before (record { n = n; generator = i; sum = sum_of (length gs) js }) else Err WrongDegree
+
+abbrev pub named_entry : List Generator → List Entry → ℕ → Option ℕ → Option (List ℕ) → Result Entry Why
+named_entry gs before n None js = Err Unknown
+named_entry gs before n (Some i) None = Err Unknown
+named_entry gs before n (Some i) (Some js) = numbered_entry gs before n i js
+
+-- What an action gives after the entries before it: its entry, or the first thing wrong with it.
+abbrev pub entry_of : List Generator → List Entry → Option Written → Result Entry Why
+entry_of gs before None = Err Syntax
+entry_of gs before (Some w) = if w.n == 0 then Err SquareZero else named_entry gs before w.n (number_of gs w.name) (numbers_of gs w.sum)
+
+-- an answer for the action with index i
+abbrev pub at_index : ℕ → Result Entry Why → Result Entry Malformed
+at_index i (Ok e) = Ok e
+at_index i (Err why) = Err (Action i why)
+
+-- The entries of the actions, after those before them, or the first refusal.
+abbrev pub entries_from : List Generator → List Entry → Items → Result (List Entry) Malformed
+entries_from gs before no_items = Ok before
+entries_from gs before (item d ds) = and_then (λ e. entries_from gs (before ++ e ∷ []) ds) (at_index (length before) (entry_of gs before (written d)))
+  where
+    and_then : (Entry → Result (List Entry) Malformed) → Result Entry Malformed → Result (List Entry) Malformed
+    and_then later (Ok e) = later e
+    and_then later (Err e) = Err e
+
+-- ---- the file
+
+-- A module by its generators, in basis order, and its actions, as listed.
+pub record File : Type 0 where
+  pub generators : List Generator
+  pub entries : List Entry
+
+-- The checks of a JSON value before its generators, in their order.
+abbrev pub header_refusal : Data → Option Malformed
+header_refusal d = first_of (whole_refusal d ∷ kind_refusal d ∷ cofiber_refusal d ∷ shift_refusal d ∷ prime_refusal d ∷ [])
+
+-- The checks of a JSON value before its entries, in their order.
+abbrev pub first_refusal : Data → Option Malformed
+first_refusal d = first_of (header_refusal d ∷ gens_refusal d ∷ generators_refusal 0 (gens_of d) ∷ span_refusal (basis (gens_of d)) ∷ actions_refusal d ∷ [])
+
+-- the module with these entries
+abbrev pub with_entries : List Generator → Result (List Entry) Malformed → Result File Malformed
+with_entries gs (Ok es) = Ok (record { generators = gs; entries = es })
+with_entries gs (Err e) = Err e
+
+abbrev pub unless_refused : Option Malformed → Result File Malformed → Result File Malformed
+unless_refused None r = r
+unless_refused (Some e) r = Err e
+
+-- What a value describes, or its first refusal.
+abbrev pub file_of : Data → Result File Malformed
+file_of d = unless_refused (first_refusal d) (with_entries (basis (gens_of d)) (entries_from (basis (gens_of d)) [] (actions_of d)))
+
+-- What bytes describe: they are too many, or no JSON text, or what their value describes.
+pub data IsFileOf (bytes : List ℕ) : Result File Malformed → Type 0 where
+  too_long : (e : Malformed) → size_refusal bytes ≡ Some e → IsFileOf bytes (Err e)
+  no_json : size_refusal bytes ≡ None → ((d : Data) → IsJson bytes d → ⊥) → IsFileOf bytes (Err Json)
+  value : size_refusal bytes ≡ None → (d : Data) → IsJson bytes d → IsFileOf bytes (file_of d)
+
+-- Bytes describe one thing at most.
+abbrev pub FileIsUnique : Type 0
+FileIsUnique = (bytes : List ℕ) (r s : Result File Malformed) → IsFileOf bytes r → IsFileOf bytes s → r ≡ s

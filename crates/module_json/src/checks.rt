@@ -1,0 +1,169 @@
+ghost use Rattle.std.specs.Prelude.{◌≡◌, ◌≢◌, ◌≤◌, length, Some, IfOk, IfErr};
+ghost use Rattle.std.specs.Result.{result_err};
+ghost use Rattle.std.specs.String.{string_cmp};
+ghost use Rattle.std.specs.BTreeMap.{IsOrdered};
+ghost use Rattle.serde_json.specs.Data.{Data};
+ghost use Rattle.serde_json.specs.View.{view, members_view, items_view};
+ghost use Rattle.module_json.specs.Checks.{IsJson, size_refusal, whole_refusal, kind_refusal, cofiber_refusal, shift_refusal, prime_refusal, gens_refusal, actions_refusal};
+ghost use Rattle.module_json.specs.ModuleFile.{gens_of, actions_of, degree_of, generator_refusal, header_refusal};
+
+use crate::action::names;
+use crate::malformed::{Malformed, Place, What};
+use serde_json::{Map, Value};
+use std::alloc::Global;
+
+/// The most bytes that a module file may have.
+const MOST_BYTES: usize = 1 << 20;
+
+/// The most generators of a module.
+const MOST_GENS: usize = 64;
+
+/// The most actions that a module file may list.
+const MOST_ACTIONS: usize = 4096;
+
+/// The greatest degree of a generator, and its negative is the least.
+const MOST_DEGREE: i64 = 128;
+
+/// The one type of module that files may describe.
+const KIND: &str = "finite dimensional module";
+
+pub(crate) fn check_size(bytes: &[u8]) -> Result<(), Malformed>
+    ensures { result_err result ≡ size_refusal bytes.now }
+{
+    if bytes.len() > MOST_BYTES {
+        return Err(Malformed::Limit { what: What::Bytes });
+    }
+    Ok(())
+}
+
+pub(crate) fn parse(alloc: Global, bytes: &[u8]) -> Result<Value, Malformed>
+    ensures value { IfOk result (λ v. IsJson bytes.now (view v)) }
+    ensures only { IfErr result (λ e. e ≢ Malformed.Memory → e ≡ Malformed.Json) }
+    ensures refuses { IfErr result (λ e. e ≢ Malformed.Memory → (d : Data) → ¬ IsJson bytes.now d) }
+{
+    match Value::from_slice(alloc, bytes) {
+        Ok(value) => Ok(value),
+        Err(fault) => {
+            if fault.is_memory() {
+                return Err(Malformed::Memory);
+            }
+            Err(Malformed::Json)
+        }
+    }
+}
+
+fn check_whole(file: &Value) -> Result<(), Malformed>
+    ensures { result_err result ≡ whole_refusal (view file.now) }
+{
+    if !file.is_object() {
+        return Err(Malformed::Shape { at: Place::Whole });
+    }
+    Ok(())
+}
+
+fn check_kind(file: &Value) -> Result<(), Malformed>
+    ensures { result_err result ≡ kind_refusal (view file.now) }
+{
+    match file.get("type").and_then(Value::as_str) {
+        None => Err(Malformed::Shape { at: Place::Kind }),
+        Some(kind) if kind == KIND => Ok(()),
+        Some(_) => Err(Malformed::Kind),
+    }
+}
+
+fn check_cofiber(file: &Value) -> Result<(), Malformed>
+    ensures { result_err result ≡ cofiber_refusal (view file.now) }
+{
+    match file.get("cofiber") {
+        None => Ok(()),
+        Some(_) => Err(Malformed::Shape { at: Place::Cofiber }),
+    }
+}
+
+fn check_shift(file: &Value) -> Result<(), Malformed>
+    ensures { result_err result ≡ shift_refusal (view file.now) }
+{
+    match file.get("shift") {
+        None => Ok(()),
+        Some(_) => Err(Malformed::Shape { at: Place::Shift }),
+    }
+}
+
+fn check_prime(file: &Value) -> Result<(), Malformed>
+    ensures { result_err result ≡ prime_refusal (view file.now) }
+{
+    let Some(prime) = file.get("p") else {
+        return Ok(());
+    };
+    match prime.as_u64() {
+        None => Err(Malformed::Shape { at: Place::Prime }),
+        Some(2) => Ok(()),
+        Some(given) => Err(Malformed::Prime { given }),
+    }
+}
+
+/// The generators with their degrees, in the order of the bytes of their names.
+#[tactic(auto, using(crate::proofs::Counts::members_counted))]
+pub(crate) fn gens(file: &Value) -> Result<&Map<String, Value>, Malformed>
+    ensures refuses { result_err result ≡ gens_refusal (view file.now) }
+    ensures value { IfOk result (λ m. members_view m.now.entries ≡ gens_of (view file.now)) }
+    ensures few { IfOk result (λ m. length m.now.entries ≤ 64) }
+    ensures ordered { IfOk result (λ m. IsOrdered string_cmp m.now) }
+{
+    let Some(gens) = file.get("gens").and_then(Value::as_object) else {
+        return Err(Malformed::Shape { at: Place::Gens });
+    };
+    if gens.len() > MOST_GENS {
+        return Err(Malformed::Limit { what: What::Gens });
+    }
+    Ok(gens)
+}
+
+/// The actions, as they are listed.
+#[tactic(auto, using(crate::proofs::Counts::items_counted))]
+pub(crate) fn actions(file: &Value) -> Result<&[Value], Malformed>
+    ensures refuses { result_err result ≡ actions_refusal (view file.now) }
+    ensures value { IfOk result (λ a. items_view a.now ≡ actions_of (view file.now)) }
+    ensures few { IfOk result (λ a. length a.now ≤ 4096) }
+{
+    let Some(value) = file.get("actions") else {
+        return Ok(&[]);
+    };
+    let Some(actions) = value.as_array() else {
+        return Err(Malformed::Shape { at: Place::Actions });
+    };
+    if actions.len() > MOST_ACTIONS {
+        return Err(Malformed::Limit {
+            what: What::Actions,
+        });
+    }
+    Ok(actions.as_slice())
+}
+
+/// The degree of generator `i`, whose name and degree are as they should be.
+pub(crate) fn degree(i: usize, name: &str, value: &Value) -> Result<i32, Malformed>
+    ensures refuses { result_err result ≡ generator_refusal i name.now (view value.now) }
+    ensures value { IfOk result (λ z. degree_of (view value.now) ≡ Some z) }
+{
+    if !names(name.as_bytes()) {
+        return Err(Malformed::Name { generator: i });
+    }
+    let Some(degree) = value.as_i64() else {
+        return Err(Malformed::Degree { generator: i });
+    };
+    if degree < -MOST_DEGREE || MOST_DEGREE < degree {
+        return Err(Malformed::Limit { what: What::Degree });
+    }
+    Ok(degree as i32)
+}
+
+/// The checks of a file's value before its generators.
+pub(crate) fn check_header(file: &Value) -> Result<(), Malformed>
+    ensures { result_err result ≡ header_refusal (view file.now) }
+{
+    check_whole(file)?;
+    check_kind(file)?;
+    check_cofiber(file)?;
+    check_shift(file)?;
+    check_prime(file)
+}

@@ -1,0 +1,17 @@
+//! Module files: a finite module over the mod 2 Steenrod algebra, written as JSON, is read, or the first thing
+//! wrong with it is named.
+#![tactic(auto)]
+
+mod action;
+mod checks;
+mod entry;
+mod generator;
+mod laws;
+mod malformed;
+mod spec;
+#[cfg(test)]
+mod tests;
+
+pub use laws::file_is_unique;
+pub use malformed::{Malformed, Place, What, Why};
+pub use spec::{Spec, read};

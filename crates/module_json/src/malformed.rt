@@ -1,0 +1,106 @@
+ghost use Rattle.std.specs.Prelude.{◌≡◌};
+ghost use Rattle.module_json.specs.declared.malformed.Malformed.TheVariants.{Memory as OutOfMemory};
+
+use memory::Memory;
+use std::alloc::{AllocError, AllocFailed};
+use thiserror::Error;
+
+/// What is wrong with a module file: the first check that fails, or want of memory.
+#[derive(Clone, Copy, Debug, PartialEq, Eq, Drop, Error)]
+pub enum Malformed {
+    #[error("past the limit of {what}")]
+    Limit { what: What },
+    #[error("not JSON")]
+    Json,
+    #[error("wrong shape at {at}")]
+    Shape { at: Place },
+    #[error("unknown type")]
+    Kind,
+    #[error("prime {given}")]
+    Prime { given: u64 },
+    /// Generators are numbered in the order of the bytes of their names.
+    #[error("name of generator {generator}")]
+    Name { generator: usize },
+    /// Generators are numbered in the order of the bytes of their names.
+    #[error("degree of generator {generator}")]
+    Degree { generator: usize },
+    /// Actions are numbered from 0, as they are listed.
+    #[error("action {index}: {why}")]
+    Action { index: usize, why: Why },
+    #[error("out of memory")]
+    Memory,
+}
+
+impl From<Memory> for Malformed {
+    ghost from_gives = { λ _ e. e ≡ OutOfMemory };
+
+    fn from(_: Memory) -> Self {
+        Malformed::Memory
+    }
+}
+
+impl From<AllocError> for Malformed {
+    ghost from_gives = { λ _ e. e ≡ OutOfMemory };
+
+    fn from(_: AllocError) -> Self {
+        Malformed::Memory
+    }
+}
+
+impl<T: Drop> From<AllocFailed<T>> for Malformed {
+    ghost from_gives = { λ _ e. e ≡ OutOfMemory };
+
+    fn from(_: AllocFailed<T>) -> Self {
+        Malformed::Memory
+    }
+}
+
+/// What there is too much of.
+#[derive(Clone, Copy, Debug, PartialEq, Eq, Drop, Error)]
+pub enum What {
+    #[error("bytes")]
+    Bytes,
+    #[error("generators")]
+    Gens,
+    #[error("degree")]
+    Degree,
+    #[error("span")]
+    Span,
+    #[error("actions")]
+    Actions,
+}
+
+/// The part of the file that has another shape than it should.
+#[derive(Clone, Copy, Debug, PartialEq, Eq, Drop, Error)]
+pub enum Place {
+    #[error("whole")]
+    Whole,
+    #[error("type")]
+    Kind,
+    #[error("cofiber")]
+    Cofiber,
+    #[error("shift")]
+    Shift,
+    #[error("p")]
+    Prime,
+    #[error("gens")]
+    Gens,
+    #[error("actions")]
+    Actions,
+}
+
+/// What is wrong with an action.
+#[derive(Clone, Copy, Debug, PartialEq, Eq, Drop, Error)]
+pub enum Why {
+    #[error("syntax")]
+    Syntax,
+    #[error("square zero")]
+    SquareZero,
+    #[error("unknown name")]
+    Unknown,
+    #[error("wrong degree")]
+    WrongDegree,
+    /// The same square of the same generator was listed at index `first` with another sum.
+    #[error("differs from action {first}")]
+    Repeated { first: usize },
+}

@@ -1,0 +1,110 @@
+ghost use Rattle.std.specs.Prelude.{◌≡◌, ◌≢◌, ◌<◌, length, Some, Ok, Err, IfOk, IfErr, option_map, slice_get};
+ghost use Rattle.serde_json.specs.View.{view};
+ghost use Rattle.module_json.specs.Checks.{Answers};
+ghost use Rattle.module_json.specs.ModuleFile.{file_of, IsFileOf};
+ghost use Rattle.module_json.specs.WellFormed.{IsWellFormed};
+
+use crate::checks::{actions, check_header, check_size, gens, parse};
+use crate::entry::{Entry, entries};
+use crate::generator::{Generator, check_span, generators};
+use crate::malformed::Malformed;
+use serde_json::Value;
+use std::alloc::Global;
+use std::marker::Model;
+
+/// A module as a file describes it: its generators in basis order, which goes by degree and then by the bytes of the
+/// names, and its actions, as they are listed.
+#[derive(Drop)]
+pub struct Spec {
+    generators: Vec<Generator>,
+    entries: Vec<Entry>,
+}
+
+impl Model for Spec {
+    ghost use Rattle.module_json.specs.ModuleFile.{File};
+    ghost use Rattle.module_json.specs.WellFormed.{IsWellFormed};
+
+    ghost Value = { File };
+
+    ghost view = { λ s. record { generators = s.generators.items; entries = s.entries.items } };
+
+    ghost invariant = { λ s. IsWellFormed (record { generators = s.generators.items; entries = s.entries.items }) };
+}
+
+impl Spec {
+    /// How many generators the module has.
+    pub fn count(&self) -> usize
+        ensures count { result ≡ length self.now.generators }
+        ensures well_formed { IsWellFormed self.now }
+    {
+        self.generators.len()
+    }
+
+    /// How many actions the module lists.
+    pub fn entries(&self) -> usize
+        ensures { result ≡ length self.now.entries }
+    {
+        self.entries.len()
+    }
+
+    /// The name of generator `i`.
+    pub fn name(&self, i: usize) -> &str
+        requires { i < length self.now.generators }
+        ensures { option_map (λ g. g.name) (slice_get self.now.generators i) ≡ Some result.now }
+    {
+        self.generators[i].name.as_str()
+    }
+
+    /// The internal degree of generator `i`.
+    pub fn degree(&self, i: usize) -> i32
+        requires { i < length self.now.generators }
+        ensures { option_map (λ g. g.degree) (slice_get self.now.generators i) ≡ Some result }
+    {
+        self.generators[i].degree
+    }
+
+    /// Action `i`: the number n of Sq^n, the generator that it acts on, and the generators of the sum, in basis order
+    /// and each once.
+    pub fn entry(&self, i: usize) -> (u32, usize, &[usize])
+        requires { i < length self.now.entries }
+        ensures { slice_get self.now.entries i ≡ Some (record { n = result.0; generator = result.1; sum = result.2.now }) }
+    {
+        let entry = &self.entries[i];
+        (entry.n, entry.generator, entry.sum.as_slice())
+    }
+}
+
+/// The module that a value describes, or the first thing wrong with it.
+fn describe(alloc: Global, file: &Value) -> Result<Spec, Malformed>
+    ensures { Answers result (file_of (view file.now)) }
+{
+    check_header(file)?;
+    let members = gens(file)?;
+    let generators = generators(alloc, members)?;
+    check_span(generators.as_slice())?;
+    let actions = actions(file)?;
+    let entries = entries(alloc, generators.as_slice(), actions)?;
+    Ok(Spec {
+        generators,
+        entries,
+    })
+}
+
+/// The module that a file describes, or the first thing wrong with it.
+///
+/// The file is a JSON object of at most 2^20 bytes. Its `"type"` is `"finite dimensional module"`, and its `"p"` is 2 or
+/// left out. `"gens"` has the degree of each generator under its name. `"actions"`, which may be left out, lists texts
+/// such as `Sq2 x0 = x2 + y2`, whose right side is `0` for none. The keys `"cofiber"` and `"shift"` are refused, and
+/// others are passed over. A repeated key has its last value.
+///
+/// An error is the first check that fails, in this order: bytes, JSON, `"type"`, the refused keys, `"p"`, `"gens"`, each
+/// generator in the order of the names' bytes, the span of the degrees, `"actions"`, each action. `Memory` may come at
+/// any time.
+pub fn read(alloc: Global, bytes: &[u8]) -> Result<Spec, Malformed>
+    ensures module { IfOk result (λ s. IsFileOf bytes.now (Ok s)) }
+    ensures refused { IfErr result (λ e. e ≢ Malformed.Memory → IsFileOf bytes.now (Err e)) }
+{
+    check_size(bytes)?;
+    let file = parse(alloc, bytes)?;
+    describe(alloc, &file)
+}
