@@ -2,9 +2,10 @@
 #![tactic(auto)]
 
 ghost use Rattle.std.specs.Prelude.{◌≡◌};
+ghost use Rattle.ext_run.specs.Failure.{status_of};
 
-use ext_run::edge::{Sink, StdSink};
-use ext_run::{MEMORY, WORDS, report, run};
+use edge::{Sink, StdSink, StdSource};
+use ext_run::{Failure, report, run};
 use memory::Memory;
 use std::alloc::Global;
 use std::io::ErrorKind;
@@ -21,22 +22,30 @@ fn status(rt: &HostRuntime) -> u8 {
     match arguments(rt) {
         Ok(arguments) => match words(rt.alloc(), arguments.as_slice()) {
             Ok(words) => {
+                let mut source = StdSource::new(rt.stdin());
                 let mut out = StdSink::new(rt.stdout());
-                run(rt, rt.alloc(), words.as_slice(), &mut out, &mut err)
+                run(
+                    rt,
+                    rt.alloc(),
+                    words.as_slice(),
+                    &mut source,
+                    &mut out,
+                    &mut err,
+                )
             }
-            Err(Memory) => refused(MEMORY, &mut err),
+            Err(Memory) => refused(&Failure::Memory, &mut err),
         },
-        Err(e) if e.kind() == ErrorKind::InvalidData => refused(WORDS, &mut err),
-        Err(_) => refused(MEMORY, &mut err),
+        Err(e) if e.kind() == ErrorKind::InvalidData => refused(&Failure::Words, &mut err),
+        Err(_) => refused(&Failure::Memory, &mut err),
     }
 }
 
-/// The status, with its line written.
-fn refused<E: Sink>(status: u8, err: &mut E) -> u8
-    ensures { result ≡ status }
+/// The status of a failure, with its line written.
+fn refused<E: Sink>(failure: &Failure, err: &mut E) -> u8
+    ensures { result ≡ status_of failure.now }
 {
-    report(status, err);
-    status
+    report(failure, err);
+    failure.status()
 }
 
 /// The arguments after the program's name.

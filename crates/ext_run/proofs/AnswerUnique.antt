@@ -1,21 +1,78 @@
--- The words have one answer, since a range has one canonical resolution.
-use Rattle.std.proofs.Common.{◌≡◌, ℕ, List, [], ap, sym, ◌∙◌}
-use Rattle.std.specs.Prelude.{pos, Option, Some, None, MatchOption}
+-- The words have one answer for the same input: bytes describe one thing, and a range has one canonical resolution.
+use Rattle.std.proofs.Common.{◌≡◌, ℕ, List, ap, sym, subst, ◌∙◌}
+use Rattle.std.specs.Prelude.{Option, Some, None, MatchOption, Result, Ok, Err}
+use Rattle.module_json.specs.ModuleFile.{File, IsFileOf, FileIsUnique}
+use Rattle.module_json.specs.declared.malformed.Malformed.{Malformed}
+use Rattle.module_check.specs.Module.{Module as SteenrodModule, bottom}
+use Rattle.module_check.specs.DerivedAction.{derived_module}
+use Rattle.module_check.specs.Acceptance.{refusal_of}
+use Rattle.module_check.specs.Checked.{sphere_file}
+use Rattle.module_check.specs.declared.fault.CheckFault.{CheckFault}
 use Rattle.ext_run.specs.declared.words.Command.{Command}
-use Rattle.ext_run.specs.declared.words.Command.TheVariants.{Sphere}
+use Rattle.ext_run.specs.declared.words.Command.TheVariants.{Sphere, Resolve, Check}
 use Rattle.ext_run.specs.declared.words.Range.{Range}
-use Rattle.ext_run.specs.Resolution.{Content, sphere, generator_count, CanonicalTableIsUnique}
+use Rattle.ext_run.specs.declared.failure.Failure.{Failure}
+use Rattle.ext_run.specs.declared.failure.Failure.TheVariants.{Words, Malformed as NoModuleFile, NotModule}
+use Rattle.ext_run.specs.Resolution.{Content, generator_count, CanonicalTableIsUnique}
 use Rattle.ext_run.specs.Chart.{chart_text}
 use Rattle.ext_run.specs.Words.{command_of}
-use Rattle.ext_run.specs.Answer.{IsTextOf, IsSphereChart, AnswerIsUnique}
+use Rattle.ext_run.specs.Answer.{module_over, IsChart, IsLineOn, IsModuleAnswer, no_file, no_module, text_of, IsAnswerTo, IsAnswer, AnswerIsUnique}
 
-sphere-chart-unique : CanonicalTableIsUnique → (range : Range) (x y : List ℕ) → IsSphereChart range x → IsSphereChart range y → x ≡ y
-sphere-chart-unique unique range x y a b =
-    a.chart ∙ (ap (λ (table : List (List Content)). chart_text (pos 0) range.s range.t (generator_count table)) (unique sphere range.s range.t a.table b.table a.canonical b.canonical) ∙ sym b.chart)
+chart-unique : CanonicalTableIsUnique → (range : Range) (m : SteenrodModule) (x y : List ℕ) → IsChart range m x → IsChart range m y → x ≡ y
+chart-unique unique range m x y a b =
+    a.chart ∙ (ap (λ (table : List (List Content)). chart_text (bottom m.generators) range.s range.t (generator_count table)) (unique (module_over m) range.s range.t a.table b.table a.canonical b.canonical) ∙ sym b.chart)
 
-answer-of-unique : CanonicalTableIsUnique → (command : Option Command) (p q : ℕ) (x y : List ℕ) → MatchOption command ((p ≡ 2) × (x ≡ [])) (λ c. (p ≡ 0) × IsTextOf c x) → MatchOption command ((q ≡ 2) × (y ≡ [])) (λ c. (q ≡ 0) × IsTextOf c y) → (p ≡ q) × (x ≡ y)
-answer-of-unique unique None p q x y a b = (a.0 ∙ sym b.0, a.1 ∙ sym b.1)
-answer-of-unique unique (Some (Sphere common)) p q x y a b = (a.0 ∙ sym b.0, sphere-chart-unique unique common.range x y a.1 b.1)
+-- the kinds of answers differ
+file_and_refusal : FileIsUnique → (bytes : List ℕ) (f : File) (e : Malformed) → IsFileOf bytes (Ok f) → IsFileOf bytes (Err e) → ⊥
+file_and_refusal files bytes f e p q = let same = files bytes (Ok f) (Err e) p q in cc
 
-pub answer-unique : CanonicalTableIsUnique → AnswerIsUnique
-answer-unique unique words p q x y a b = answer-of-unique unique (command_of words) p q x y a b
+refused_and_accepted : FileIsUnique → (bytes : List ℕ) (f h : File) (e : CheckFault) → IsFileOf bytes (Ok f) → IsFileOf bytes (Ok h) → refusal_of f ≡ Some e → refusal_of h ≡ None → ⊥
+refused_and_accepted files bytes f h e p q r s =
+    let same = files bytes (Ok f) (Ok h) p q in
+    let one : f ≡ h = cc in
+    let never : Some e ≡ None = sym r ∙ (ap refusal_of one ∙ s) in
+    cc
+
+-- the file that is described
+same_file : FileIsUnique → (bytes : List ℕ) (f h : File) → IsFileOf bytes (Ok f) → IsFileOf bytes (Ok h) → f ≡ h
+same_file files bytes f h p q = let same = files bytes (Ok f) (Ok h) p q in cc
+
+same_refusal : FileIsUnique → (bytes : List ℕ) (e d : Malformed) → IsFileOf bytes (Err e) → IsFileOf bytes (Err d) → e ≡ d
+same_refusal files bytes e d p q = let same = files bytes (Err e) (Err d) p q in cc
+
+same_fault : FileIsUnique → (bytes : List ℕ) (f h : File) (e d : CheckFault) → IsFileOf bytes (Ok f) → IsFileOf bytes (Ok h) → refusal_of f ≡ Some e → refusal_of h ≡ Some d → e ≡ d
+same_fault files bytes f h e d p q r s =
+    let same : Some e ≡ Some d = sym r ∙ (ap refusal_of (same_file files bytes f h p q) ∙ s) in
+    cc
+
+module _ (files : FileIsUnique) (IsTextOf : SteenrodModule → List ℕ → Type 0) (texts : (m : SteenrodModule) (x y : List ℕ) → IsTextOf m x → IsTextOf m y → x ≡ y) (bytes : List ℕ) where
+  module-answer-unique : (a b : Result (List ℕ) Failure) → IsModuleAnswer IsTextOf bytes a → IsModuleAnswer IsTextOf bytes b → a ≡ b
+  module-answer-unique a b (no_file e p) (no_file d q) = let same = same_refusal files bytes e d p q in cc
+  module-answer-unique a b (no_file e p) (no_module h d q s) = absurd (file_and_refusal files bytes h e q p)
+  module-answer-unique a b (no_file e p) (text_of h y q s x) = absurd (file_and_refusal files bytes h e q p)
+  module-answer-unique a b (no_module f e p r) (no_file d q) = absurd (file_and_refusal files bytes f d p q)
+  module-answer-unique a b (no_module f e p r) (no_module h d q s) =
+      let file = same_file files bytes f h p q in
+      let fault = same_fault files bytes f h e d p q r s in
+      cc
+  module-answer-unique a b (no_module f e p r) (text_of h y q s x) = absurd (refused_and_accepted files bytes f h e p q r s)
+  module-answer-unique a b (text_of f x p r t) (no_file d q) = absurd (file_and_refusal files bytes f d p q)
+  module-answer-unique a b (text_of f x p r t) (no_module h d q s) = absurd (refused_and_accepted files bytes h f d q p s r)
+  module-answer-unique a b (text_of f x p r t) (text_of h y q s u) =
+      let file = same_file files bytes f h p q in
+      let text = texts (derived_module h) x y (subst (λ (g : File). IsTextOf (derived_module g) x) file t) u in
+      cc
+
+answer-to-unique : CanonicalTableIsUnique → FileIsUnique → (command : Command) (bytes : List ℕ) (a b : Result (List ℕ) Failure) → IsAnswerTo command bytes a → IsAnswerTo command bytes b → a ≡ b
+answer-to-unique unique files (Sphere common) bytes (Ok x) (Ok y) p q = let text = chart-unique unique common.range (derived_module sphere_file) x y p q in cc
+answer-to-unique unique files (Sphere common) bytes (Ok x) (Err e) p q = absurd q
+answer-to-unique unique files (Sphere common) bytes (Err e) b p q = absurd p
+answer-to-unique unique files (Resolve common) bytes a b p q = module-answer-unique files (IsChart common.range) (chart-unique unique common.range) bytes a b p q
+answer-to-unique unique files Check bytes a b p q = module-answer-unique files IsLineOn (λ m x y s t. s ∙ sym t) bytes a b p q
+
+answer-of-unique : CanonicalTableIsUnique → FileIsUnique → (command : Option Command) (bytes : List ℕ) (a b : Result (List ℕ) Failure) → MatchOption command (a ≡ Err Words) (λ c. IsAnswerTo c bytes a) → MatchOption command (b ≡ Err Words) (λ c. IsAnswerTo c bytes b) → a ≡ b
+answer-of-unique unique files None bytes a b p q = p ∙ sym q
+answer-of-unique unique files (Some command) bytes a b p q = answer-to-unique unique files command bytes a b p q
+
+pub answer-unique : CanonicalTableIsUnique → FileIsUnique → AnswerIsUnique
+answer-unique unique files words bytes a b p q = answer-of-unique unique files (command_of words) bytes a b p q

@@ -3,10 +3,10 @@ use Rattle.std.proofs.Common.{◌≡◌, ◌↔◌, ◌⊎◌, inl, inr, ℕ, �
 use Rattle.std.specs.List.{items_where_true}
 use Rattle.std.proofs.lemmas.List.{append-nil, append_assoc, get_or_append_left, get_or_push, length_push, take-append-le, take_at, take_all, take_more}
 use Rattle.std.proofs.lemmas.Bool.{cases_lt, true≢false}
-use Rattle.f2_matrix.specs.Spans.{row, HaveWidth, IsInSpan, HaveSameSpan}
+use Rattle.f2_vec.specs.Spans.{row, HaveWidth, IsInSpan, HaveSameSpan}
+use Rattle.f2_vec.proofs.Spans.{HaveWidth-append, HaveWidth-cons, HaveWidth-nil, row-IsInSpan, span_within, HaveSameSpan_from_rows}
 use Rattle.f2_matrix.specs.Echelon.{IsRowBasis, IsKernelBasis}
 use Rattle.f2_matrix.specs.Reduction.{Rows, Reduction}
-use Rattle.f2_matrix.proofs.Spans.{HaveWidth-append, HaveWidth-cons, HaveWidth-nil, row-IsInSpan, span_within, HaveSameSpan_from_rows}
 use Rattle.ext_run.specs.Resolution.{IsChosen}
 
 -- an index below the length of a list with one more item is below the list's length, or is that length

@@ -2,13 +2,16 @@
 use Rattle.std.proofs.Common.{◌≡◌, ℕ, zero, suc, ◌+◌, ◌<◌, ◌≤◌, Bool, List, [], ◌∷◌, ◌++◌, length, map, drop, get_or, ℤ, pos, ◌+ℤ◌, ◌-ℤ◌, subst, ap, sym, ◌∙◌, arith}
 use Rattle.std.proofs.lemmas.Int.{ints}
 use Rattle.std.proofs.lemmas.List.{append_assoc, append-nil, drop_more, drop_all, get_or-map, length-map, map-append}
-use Rattle.f2_matrix.specs.Spans.{row, HaveWidth}
-use Rattle.f2_matrix.proofs.Spans.{HaveWidth-nil, HaveWidth-append}
-use Rattle.f2_matrix.proofs.Combinations.{map-map}
+use Rattle.f2_vec.specs.Spans.{row, HaveWidth}
+use Rattle.f2_vec.proofs.Spans.{HaveWidth-nil, HaveWidth-append}
+use Rattle.f2_vec.proofs.Combinations.{map-map}
 use Rattle.milnor_basis.specs.Exponents.{degree_of}
-use Rattle.ext_run.specs.FreeLaws.{on, degree_of-basis_at}
-use Rattle.ext_run.specs.FreeModule.{basis_at, free_basis_from}
-use Rattle.ext_run.specs.LinearMap.{GradedModule, AreImages, KeepsWidths, degree_at, image_of, map_rows}
+use Rattle.milnor_product.proofs.Multiples.{degree_of-basis_at}
+use Rattle.free_module.specs.FreeLaws.{on}
+use Rattle.milnor_product.specs.Times.{basis_at}
+use Rattle.free_module.specs.FreeModule.{free_basis_from, degree_at}
+use Rattle.free_module.specs.Graded.{GradedModule, KeepsWidths}
+use Rattle.ext_run.specs.LinearMap.{AreImages, image_of, map_rows}
 
 pub degree_of-element : (xs : List (List ℕ)) (n : ℤ) (i : ℕ) → xs ≡ basis_at n → i < length xs → pos (degree_of (get_or xs i [])) ≡ n
 degree_of-element xs n i e h =

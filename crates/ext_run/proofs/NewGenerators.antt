@@ -2,23 +2,17 @@
 use Rattle.std.proofs.Common.{◌≡◌, ℕ, suc, ◌+◌, ◌<◌, ℤ, pos, ◌-ℤ◌, Bool, true, false, List, [], ◌∷◌, ◌++◌, length, map, replicate, refl, sym, ◌∙◌, ap, subst, arith}
 use Rattle.std.specs.List.{items_where_true}
 use Rattle.std.proofs.lemmas.Int.{ints}
-use Rattle.std.proofs.lemmas.List.{append_assoc, map-append, get_or_append_left, get_or-append-add, get_or-replicate}
-use Rattle.f2_matrix.specs.Spans.{row, HaveWidth}
+use Rattle.std.proofs.lemmas.List.{map-append, get_or_append_left, get_or-append-add, get_or-replicate}
+use Rattle.f2_vec.specs.Spans.{row, HaveWidth}
+use Rattle.f2_vec.proofs.Spans.{HaveWidth-head, HaveWidth-tail, HaveWidth-nil, HaveWidth-cons}
 use Rattle.f2_matrix.specs.Echelon.{IsKernelBasis}
 use Rattle.f2_matrix.specs.Reduction.{Rows}
-use Rattle.f2_matrix.proofs.Spans.{HaveWidth-head, HaveWidth-tail, HaveWidth-nil, HaveWidth-cons}
-use Rattle.ext_run.specs.FreeModule.{basis_at, free_basis_from, free_basis}
-use Rattle.ext_run.specs.LinearMap.{GradedModule, degree_at, image_of, map_rows, HasUnit}
+use Rattle.milnor_product.specs.Times.{basis_at}
+use Rattle.free_module.specs.FreeModule.{free_basis_from, free_basis, degree_at}
+use Rattle.free_module.specs.Graded.{GradedModule, HasUnit}
+use Rattle.free_module.proofs.FreeBasis.{free_basis_from-append}
+use Rattle.ext_run.specs.LinearMap.{image_of, map_rows}
 use Rattle.ext_run.specs.Resolution.{Content, IsChosen, IsStepOver}
-
-pub free_basis_from-append : (g : ℕ) (ds es : List ℤ) (t : ℤ) → free_basis_from g (ds ++ es) t ≡ free_basis_from g ds t ++ free_basis_from (g + length ds) es t
-free_basis_from-append g [] es t = let P : ℕ → Type 0 = λ k. free_basis_from g es t ≡ free_basis_from k es t in let e : g ≡ g + 0 = omega arith in subst P e refl
-free_basis_from-append g (d ∷ ds) es t =
-    let e : suc g + length ds ≡ g + suc (length ds) = omega arith in
-    let front = map (λ (r : List ℕ). let e : ℕ × List ℕ = (g, r) in e) (basis_at (t -ℤ d)) in
-    let rest : free_basis_from (suc g) (ds ++ es) t ≡ free_basis_from (suc g) ds t ++ free_basis_from (g + suc (length ds)) es t =
-    free_basis_from-append (suc g) ds es t ∙ ap (λ k. free_basis_from (suc g) ds t ++ free_basis_from k es t) e in
-    ap (λ (z : List (ℕ × List ℕ)). front ++ z) rest ∙ sym (append_assoc front (free_basis_from (suc g) ds t) (free_basis_from (g + suc (length ds)) es t))
 
 -- two functions that agree on the elements of one generator
 map_same-generator : (f h : ℕ × List ℕ → List Bool) (g : ℕ) (rs : List (List ℕ)) → ((r : List ℕ) → f (g, r) ≡ h (g, r)) → map f (map (λ r. (g, r)) rs) ≡ map h (map (λ r. (g, r)) rs)

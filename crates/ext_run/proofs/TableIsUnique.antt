@@ -3,7 +3,8 @@ use Rattle.std.proofs.Common.{◌≡◌, ◌↔◌, ℕ, zero, suc, ◌≤◌, �
 use Rattle.std.specs.List.{items_where_true}
 use Rattle.std.proofs.lemmas.List.{ext_get_or, take_more_same, take_all}
 use Rattle.f2_matrix.specs.Echelon.{IsKernelBasis, KernelBasisIsUnique}
-use Rattle.ext_run.specs.LinearMap.{GradedModule, map_rows}
+use Rattle.free_module.specs.Graded.{GradedModule}
+use Rattle.ext_run.specs.LinearMap.{map_rows}
 use Rattle.ext_run.specs.Resolution.{Module, Content, no_content, square_in, IsChosen, IsStepOver, IsStep, IsRowOver, row_of, IsCanonicalTable, CanonicalTableIsUnique}
 
 -- two bits are equal if they are false in the same case

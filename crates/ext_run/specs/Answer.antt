@@ -1,37 +1,141 @@
--- What the program answers to its words.
-use Rattle.std.specs.Prelude.{◌≡◌, ℕ, pos, List, [], MatchOption, nat_eq, if◌then◌else◌, map, codes}
-use Rattle.std.specs.Borrow.{Bor}
+-- What the program answers to its words, and to the module file that it reads.
+use Rattle.std.specs.Prelude.{◌≡◌, ℕ, ◌+◌, ◌^◌, List, [], length, Option, Some, None, MatchOption, IfSome, IsOkAnd, Result, Ok, Err, ⊤}
+use Rattle.module_json.specs.ModuleFile.{File, IsFileOf}
+use Rattle.module_json.specs.declared.malformed.Malformed.{Malformed}
+use Rattle.module_check.specs.Module.{Module as SteenrodModule, bottom}
+use Rattle.module_check.specs.ModuleLaws.{module_graded}
+use Rattle.module_check.specs.DerivedAction.{derived_module, top}
+use Rattle.module_check.specs.Acceptance.{refusal_of}
+use Rattle.module_check.specs.Checked.{sphere_file}
+use Rattle.module_check.specs.declared.fault.CheckFault.{CheckFault}
 use Rattle.ext_run.specs.declared.words.Command.{Command}
-use Rattle.ext_run.specs.declared.words.Command.TheVariants.{Sphere}
+use Rattle.ext_run.specs.declared.words.Command.TheVariants.{Sphere, Resolve, Check}
 use Rattle.ext_run.specs.declared.words.Range.{Range}
-use Rattle.ext_run.specs.Resolution.{Content, sphere, IsCanonicalTable, generator_count}
+use Rattle.ext_run.specs.declared.failure.Failure.{Failure}
+use Rattle.ext_run.specs.declared.failure.Failure.TheVariants.{Words, Malformed as NoModuleFile, NotModule, Reading, Writing, Memory}
+use Rattle.ext_run.specs.Resolution.{Module, Content, IsCanonicalTable, generator_count}
 use Rattle.ext_run.specs.Chart.{chart_text}
+use Rattle.ext_run.specs.Check.{check_line}
 use Rattle.ext_run.specs.Words.{command_of}
+use Rattle.ext_run.specs.Failure.{status_of, line_of}
 
--- the bytes of the words
-abbrev pub texts_of : List (Bor (List ℕ)) → List (List ℕ)
-texts_of words = map (λ w. w.now) words
+-- ---- the texts of a module
 
--- text is the chart of the sphere's canonical resolution through the range
-pub record IsSphereChart (range : Range) (text : List ℕ) : Type 0 where
+-- what is resolved of a module
+abbrev pub module_over : SteenrodModule → Module
+module_over m = record { bottom = bottom m.generators; graded = module_graded m }
+
+-- text is the chart of the module's canonical resolution through the range
+pub record IsChart (range : Range) (m : SteenrodModule) (text : List ℕ) : Type 0 where
   pub table : List (List Content)
-  pub canonical : IsCanonicalTable sphere range.s range.t table
-  pub chart : text ≡ chart_text (pos 0) range.s range.t (generator_count table)
+  pub canonical : IsCanonicalTable (module_over m) range.s range.t table
+  pub chart : text ≡ chart_text (bottom m.generators) range.s range.t (generator_count table)
 
-abbrev pub IsTextOf : Command → List ℕ → Type 0
-IsTextOf (Sphere common) text = IsSphereChart common.range text
+-- text is the line on the module
+abbrev pub IsLineOn : SteenrodModule → List ℕ → Type 0
+IsLineOn m text = text ≡ check_line (length m.generators) (bottom m.generators) (top m.generators)
 
--- The answer to the words: status 2 and no text outside the grammar, and else status 0 with the command's text.
--- (A failing sink and want of memory are no part of it.)
-abbrev pub IsAnswer : List (List ℕ) → ℕ → List ℕ → Type 0
-IsAnswer words status text = MatchOption (command_of words) ((status ≡ 2) × (text ≡ [])) (λ command. (status ≡ 0) × IsTextOf command text)
+-- ---- the answer
+
+-- What a command answers that reads a module file: why there is no module, or a text that is right for the module.
+pub data IsModuleAnswer (IsTextOf : SteenrodModule → List ℕ → Type 0) (bytes : List ℕ) : Result (List ℕ) Failure → Type 0 where
+  no_file : (e : Malformed) → IsFileOf bytes (Err e) → IsModuleAnswer IsTextOf bytes (Err (NoModuleFile e))
+  no_module : (f : File) (e : CheckFault) → IsFileOf bytes (Ok f) → refusal_of f ≡ Some e → IsModuleAnswer IsTextOf bytes (Err (NotModule f e))
+  text_of : (f : File) (text : List ℕ) → IsFileOf bytes (Ok f) → refusal_of f ≡ None → IsTextOf (derived_module f) text → IsModuleAnswer IsTextOf bytes (Ok text)
+
+abbrev pub IsAnswerTo : Command → List ℕ → Result (List ℕ) Failure → Type 0
+IsAnswerTo (Sphere common) bytes answer = IsOkAnd answer (IsChart common.range (derived_module sphere_file))
+IsAnswerTo (Resolve common) bytes answer = IsModuleAnswer (IsChart common.range) bytes answer
+IsAnswerTo Check bytes answer = IsModuleAnswer IsLineOn bytes answer
+
+-- The answer to the words, where the input is these bytes: a text, or why there is none. (Devices that fail and want of
+-- memory are no part of it.)
+abbrev pub IsAnswer : List (List ℕ) → List ℕ → Result (List ℕ) Failure → Type 0
+IsAnswer words bytes answer = MatchOption (command_of words) (answer ≡ Err Words) (λ command. IsAnswerTo command bytes answer)
 
 abbrev pub AnswerIsUnique : Type 0
-AnswerIsUnique = (words : List (List ℕ)) (p q : ℕ) (x y : List ℕ) → IsAnswer words p x → IsAnswer words q y → (p ≡ q) × (x ≡ y)
+AnswerIsUnique = (words : List (List ℕ)) (bytes : List ℕ) (a b : Result (List ℕ) Failure) → IsAnswer words bytes a → IsAnswer words bytes b → a ≡ b
+
+-- ---- a source that may not tell what it has left
+
+-- the answer to the words and to all that a source has left; where it does not tell, to some bytes
+pub record IsAnswerFrom (words : List (List ℕ)) (left : Option (List ℕ)) (answer : Result (List ℕ) Failure) : Type 0 where
+  pub bytes : List ℕ
+  pub all : IfSome left (λ l. bytes ≡ l)
+  pub is_answer : IsAnswer words bytes answer
+
+-- the command reads its input
+abbrev pub Reads : Command → Type 0
+Reads (Sphere common) = ⊥
+Reads (Resolve common) = ⊤
+Reads Check = ⊤
+
+abbrev pub WordsRead : List (List ℕ) → Type 0
+WordsRead words = MatchOption (command_of words) ⊥ Reads
+
+-- A failure that the words and the input have is their answer. Reading fails only where the words have it.
+abbrev pub IsCauseFrom : List (List ℕ) → Option (List ℕ) → Failure → Type 0
+IsCauseFrom words left Reading = WordsRead words
+IsCauseFrom words left Writing = ⊤
+IsCauseFrom words left Memory = ⊤
+IsCauseFrom words left failure = IsAnswerFrom words left (Err failure)
+
+-- the same for one command
+pub record IsCommandAnswerFrom (command : Command) (left : Option (List ℕ)) (answer : Result (List ℕ) Failure) : Type 0 where
+  pub bytes : List ℕ
+  pub all : IfSome left (λ l. bytes ≡ l)
+  pub is_answer : IsAnswerTo command bytes answer
+
+abbrev pub IsCommandCauseFrom : Command → Option (List ℕ) → Failure → Type 0
+IsCommandCauseFrom command left Reading = Reads command
+IsCommandCauseFrom command left Writing = ⊥
+IsCommandCauseFrom command left Memory = ⊤
+IsCommandCauseFrom command left failure = IsCommandAnswerFrom command left (Err failure)
+
+-- What a source has left describes, or its first refusal; where it does not tell, what some bytes do.
+pub record IsFileFrom (left : Option (List ℕ)) (file : Result File Malformed) : Type 0 where
+  pub bytes : List ℕ
+  pub all : IfSome left (λ l. bytes ≡ l)
+  pub is_file : IsFileOf bytes file
+
+-- why there is no module: what was read is no module file, or describes none, or a device or the memory failed
+abbrev pub IsFileCauseFrom : Option (List ℕ) → Failure → Type 0
+IsFileCauseFrom left (NoModuleFile e) = IsFileFrom left (Err e)
+IsFileCauseFrom left (NotModule f e) = IsFileFrom left (Ok f) × (refusal_of f ≡ Some e)
+IsFileCauseFrom left Words = ⊥
+IsFileCauseFrom left Writing = ⊥
+IsFileCauseFrom left Reading = ⊤
+IsFileCauseFrom left Memory = ⊤
+
+-- the module that what a source has left describes
+pub record IsModuleFrom (left : Option (List ℕ)) (m : SteenrodModule) : Type 0 where
+  pub file : File
+  pub is_file : IsFileFrom left (Ok file)
+  pub no_refusal : refusal_of file ≡ None
+  pub is_derived : m ≡ derived_module file
 
 -- the line on standard error for a status other than 0
-abbrev pub line_of : ℕ → List ℕ
-line_of status =
-    if nat_eq status 2
-    then codes "ext: words outside the command grammar\n"
-    else if nat_eq status 7 then codes "ext: writing failed\n" else codes "ext: out of memory\n"
+pub record IsLineFrom (words : List (List ℕ)) (left : Option (List ℕ)) (status : ℕ) (line : List ℕ) : Type 0 where
+  pub failure : Failure
+  pub cause : IsCauseFrom words left failure
+  pub status_is : status ≡ status_of failure
+  pub line_is : line ≡ line_of failure
+
+-- one byte past the greatest size of a module file, which is as far as an input is read
+abbrev pub most_read : ℕ
+most_read = 2 ^ 20 + 1
+
+-- the bytes describe a module
+pub record IsAccepted (bytes : List ℕ) : Type 0 where
+  pub file : File
+  pub is_file : IsFileOf bytes (Ok file)
+  pub no_refusal : refusal_of file ≡ None
+
+-- The command has its module: where it reads its input, that is told, and describes one.
+abbrev pub HasModule : Option (List ℕ) → Command → Type 0
+HasModule left (Sphere common) = ⊤
+HasModule left (Resolve common) = MatchOption left ⊥ IsAccepted
+HasModule left Check = MatchOption left ⊥ IsAccepted
+
+abbrev pub IsAnswerable : List (List ℕ) → Option (List ℕ) → Type 0
+IsAnswerable words left = MatchOption (command_of words) ⊥ (HasModule left)

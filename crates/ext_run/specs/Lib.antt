@@ -1,10 +1,9 @@
-pub mod FreeModule
 pub mod LinearMap
-pub mod Sphere
 pub mod Resolution
 pub mod Chart
+pub mod Check
 pub mod Words
-pub mod Sink
+pub mod CommandLine
 pub mod Answer
-pub mod FreeLaws
-pub mod SphereLaws
+pub mod Parts
+pub mod Failure

@@ -3,18 +3,15 @@
 use Rattle.std.specs.Prelude.{◌≡◌, ℕ, zero, suc, ◌+◌, ◌<◌, ◌≤◌, ◌↔◌, ℤ, pos, ◌+ℤ◌, Bool, false, Option, Some, None, List, [], ◌∷◌, ◌++◌, length, take, replicate, slice_index_or}
 use Rattle.std.specs.List.{flat_map, items_where_true}
 use Rattle.f2_vec.specs.Vectors.{bit}
-use Rattle.f2_matrix.specs.Spans.{row, unit_vectors, IsInSpan}
+use Rattle.f2_vec.specs.Spans.{row, unit_vectors, IsInSpan}
 use Rattle.f2_matrix.specs.Echelon.{IsKernelBasis}
-use Rattle.ext_run.specs.LinearMap.{GradedModule, free_graded, map_rows}
-use Rattle.ext_run.specs.Sphere.{sphere_graded}
+use Rattle.free_module.specs.Graded.{GradedModule, free_graded}
+use Rattle.ext_run.specs.LinearMap.{map_rows}
 
 -- what is given of a module: its least degree, and its parts (that it is zero below that degree is not asked here)
 pub record Module : Type 0 where
   pub bottom : ℤ
   pub graded : GradedModule
-
-abbrev pub sphere : Module
-sphere = record { bottom = pos 0; graded = sphere_graded }
 
 -- a square: the images of its new generators, and the reduced basis of the kernel of d_s in its degree
 pub record Content : Type 0 where

@@ -1,12 +1,17 @@
 -- The command that the words of a command line give, none where they are outside the grammar.
-use Rattle.std.specs.Prelude.{ℕ, ◌≤◌, ◌+◌, ◌-◌, ◌*◌, Bool, ◌&&◌, nat_lt, nat_le, if◌then◌else◌, List, [], ◌∷◌, length, Option, Some, None, codes}
+use Rattle.std.specs.Prelude.{ℕ, ◌≤◌, ◌+◌, ◌-◌, ◌*◌, Bool, ◌&&◌, nat_lt, nat_le, if◌then◌else◌, List, [], ◌∷◌, length, Option, Some, None, option_map, map, codes, ⊤}
+use Rattle.std.specs.Borrow.{Bor}
 use Rattle.std.specs.List.{fold, list_all}
 use Rattle.std.specs.Str.{bytes_eq}
 use Rattle.std.specs.Char.{is_ascii_digit}
 use Rattle.ext_run.specs.declared.words.Command.{Command}
-use Rattle.ext_run.specs.declared.words.Command.TheVariants.{Sphere}
+use Rattle.ext_run.specs.declared.words.Command.TheVariants.{Sphere, Resolve, Check}
 use Rattle.ext_run.specs.declared.words.Common.{Common}
 use Rattle.ext_run.specs.declared.words.Range.{Range}
+
+-- the bytes of the words
+abbrev pub texts_of : List (Bor (List ℕ)) → List (List ℕ)
+texts_of words = map (λ w. w.now) words
 
 -- one to three decimal digits
 abbrev pub is_short_number : List ℕ → Bool
@@ -24,19 +29,26 @@ range_of (Some s) (Some t) = Some (record { s = s; t = t })
 range_of (Some s) None = None
 range_of None t = None
 
-abbrev pub common_of : Option Range → Option Common
-common_of None = None
-common_of (Some range) = Some (record { range = range })
+-- the words S and T, S at most 63 and T at most 127
+abbrev pub common_of : List (List ℕ) → Option Common
+common_of (s ∷ t ∷ []) = option_map (λ range. record { range = range }) (range_of (number_up_to 63 s) (number_up_to 127 t))
+common_of _ = None
 
-abbrev pub sphere_of : Option Common → Option Command
-sphere_of None = None
-sphere_of (Some common) = Some (Sphere common)
+-- no words
+abbrev pub check_of : List (List ℕ) → Option Command
+check_of [] = Some Check
+check_of _ = None
 
--- `sphere S T`, S at most 63 and T at most 127
+-- `sphere S T`, `resolve S T` or `check`
 abbrev pub command_of : List (List ℕ) → Option Command
-command_of (name ∷ s ∷ t ∷ []) = if bytes_eq name (codes "sphere") then sphere_of (common_of (range_of (number_up_to 63 s) (number_up_to 127 t))) else None
-command_of _ = None
+command_of [] = None
+command_of (name ∷ words) =
+    if bytes_eq (codes "sphere") name then option_map Sphere (common_of words)
+    else if bytes_eq (codes "resolve") name then option_map Resolve (common_of words)
+    else if bytes_eq (codes "check") name then check_of words else None
 
 -- the command asks for no more than the grammar allows
 abbrev pub IsWithinLimits : Command → Type 0
 IsWithinLimits (Sphere common) = (common.range.s ≤ 63) × (common.range.t ≤ 127)
+IsWithinLimits (Resolve common) = (common.range.s ≤ 63) × (common.range.t ≤ 127)
+IsWithinLimits Check = ⊤

@@ -1,10 +1,11 @@
 ghost use Rattle.std.specs.Prelude.{◌≡◌, ◌<◌, ◌++◌, ◌+ℤ◌, ℕ, pos, [], length, map, slice_index_or, IfOk};
 ghost use Rattle.milnor_basis.specs.Exponents.{degree_of};
-ghost use Rattle.ext_run.specs.LinearMap.{AreImages, IsWithinReach, map_rows};
+ghost use Rattle.free_module.specs.FreeModule.{IsWithinReach};
+ghost use Rattle.ext_run.specs.LinearMap.{AreImages, map_rows};
 
-use crate::free_module::{Gens, Target, elements_at};
 use f2_matrix::Matrix;
 use f2_vec::BitVec;
+use free_module::{Gens, Target, elements_at};
 use memory::Memory;
 use milnor_basis::{Basis, Exps};
 use std::alloc::Global;

@@ -9,9 +9,10 @@ pub fn canonical_table_is_unique()
     f2_matrix::kernel_basis_is_unique();
 }
 
-/// The same words have at most one answer.
+/// The same words have at most one answer to the same input.
 pub fn answer_is_unique()
     ensures { AnswerIsUnique }
 {
     canonical_table_is_unique();
+    module_json::file_is_unique();
 }

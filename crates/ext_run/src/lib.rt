@@ -2,20 +2,20 @@
 #![tactic(auto)]
 
 mod chart;
-pub mod edge;
+mod check_line;
+mod failure;
 mod free_hom;
-mod free_module;
 mod laws;
-mod product;
 mod resolution_step;
 mod resolve;
-mod sphere;
 mod square;
 #[cfg(test)]
 mod tests;
 mod top_call;
 mod words;
+mod writing;
 
+pub use failure::{Failure, report};
 pub use laws::{answer_is_unique, canonical_table_is_unique};
-pub use top_call::{MEMORY, WORDS, report, run};
+pub use top_call::run;
 pub use words::{Command, Common, Range, WordsFault, parse};

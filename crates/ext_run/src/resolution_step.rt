@@ -1,14 +1,15 @@
 ghost use Rattle.std.specs.Prelude.{◌≡◌, ◌++◌, IfOk};
-ghost use Rattle.f2_matrix.specs.Spans.{HaveWidth};
+ghost use Rattle.f2_vec.specs.Spans.{HaveWidth};
 ghost use Rattle.f2_matrix.specs.Echelon.{IsKernelBasis};
-ghost use Rattle.ext_run.specs.LinearMap.{AreImages, IsWithinReach};
+ghost use Rattle.free_module.specs.FreeModule.{IsWithinReach};
+ghost use Rattle.ext_run.specs.LinearMap.{AreImages};
 ghost use Rattle.ext_run.specs.Resolution.{IsChosen, IsStepOver};
 
 use crate::free_hom::Hom;
-use crate::free_module::{Gens, Target};
 use crate::square::Square;
 use f2_matrix::{Matrix, Reduced};
 use f2_vec::BitVec;
+use free_module::{Gens, Target};
 use memory::Memory;
 use milnor_basis::Basis;
 use std::alloc::Global;

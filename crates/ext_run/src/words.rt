@@ -1,10 +1,18 @@
 //! The command grammar.
-ghost use Rattle.std.specs.Prelude.{◌≡◌, ◌≤◌, ◌⊎◌, Some, None, Err, IfOk, map, length};
+ghost use Rattle.std.specs.Prelude.{◌≡◌, ◌≢◌, ◌≤◌, ◌⊎◌, Some, None, [], Err, IfOk, IfSome, OnSome, IfNone, false, length};
 ghost use Rattle.std.specs.List.{list_all};
 ghost use Rattle.std.specs.Char.{is_ascii_digit};
-ghost use Rattle.ext_run.specs.Words.{command_of, number_up_to, is_short_number, decimal_value, range_of, IsWithinLimits};
+ghost use Rattle.clap.specs.Words.{app_of, fault_of, found_of, rows_of, subcommand_of, subcommand_rows_of};
+ghost use Rattle.clap.specs.declared.builder.command.Command.TheViews.{out-Command};
+ghost use Rattle.ext_run.specs.CommandLine.{range_command, command_line, number_in, common_in, command_in};
 ghost use Rattle.ext_run.specs.declared.words.WordsFault as WordsFault;
+ghost use Rattle.ext_run.specs.declared.words.WordsFault.TheVariants.{Memory as WantOfMemory};
+ghost use Rattle.ext_run.specs.Words.{texts_of, command_of, number_up_to, is_short_number, decimal_value, IsWithinLimits};
 
+use clap::error::ErrorKind;
+use clap::{Arg, ArgMatches};
+use memory::Memory;
+use std::alloc::{AllocError, Global};
 use thiserror::Error;
 
 /// How far a resolution goes: through row `s` and through degree `t` above the bottom.
@@ -25,6 +33,10 @@ pub struct Common {
 pub enum Command {
     /// `sphere S T`: the chart of the sphere.
     Sphere(Common),
+    /// `resolve S T`: the chart of the module on standard input.
+    Resolve(Common),
+    /// `check`: a line on the module on standard input.
+    Check,
 }
 
 /// Why words gave no command.
@@ -36,6 +48,14 @@ pub enum WordsFault {
     /// There was no memory to read them.
     #[error("out of memory")]
     Memory,
+}
+
+impl From<Memory> for WordsFault {
+    ghost from_gives = { λ _ fault. fault ≡ WantOfMemory };
+
+    fn from(_: Memory) -> Self {
+        WordsFault::Memory
+    }
 }
 
 /// The greatest row that a command may ask for.
@@ -79,32 +99,97 @@ fn number_up_to(limit: u16, word: &str) -> Option<u16>
     if value <= limit { Some(value) } else { None }
 }
 
-fn range_of(s: &str, t: &str) -> Option<Range>
-    ensures { result ≡ range_of (number_up_to 63 s.now) (number_up_to 127 t.now) }
+/// A command with the words S and T.
+fn range_command<'a>(alloc: Global, name: &'a str) -> Result<clap::Command<'a>, AllocError>
+    ensures app { IfOk result (λ command. app_of command ≡ range_command name.now) }
+    ensures local { IfOk result (λ command. (out-Command command).has_globals ≡ false) }
 {
-    let s = number_up_to(MAX_S, s)?;
-    let t = number_up_to(MAX_T, t)?;
-    Some(Range { s, t })
+    clap::Command::new(alloc, name)
+        .arg(Arg::new(alloc, "S").required(true))?
+        .arg(Arg::new(alloc, "T").required(true))
+}
+
+/// All commands, without `clap`'s help.
+fn command_line<'a>(alloc: Global) -> Result<clap::Command<'a>, AllocError>
+    ensures { IfOk result (λ command. app_of command ≡ command_line) }
+{
+    clap::Command::new(alloc, "ext")
+        .no_binary_name(true)
+        .disable_help_flag(true)
+        .disable_help_subcommand(true)
+        .subcommand_required(true)
+        .subcommand(range_command(alloc, "sphere")?)?
+        .subcommand(range_command(alloc, "resolve")?)?
+        .subcommand(clap::Command::new(alloc, "check"))
+}
+
+/// The matches of the words, none where `clap` refuses them.
+fn matches_of<'a>(alloc: Global, words: &'a [&'a str]) -> Result<Option<ArgMatches<'a>>, Memory>
+    ensures taken { IfOk result (λ found. OnSome found (fault_of command_line (texts_of words.now) ≡ [])) }
+    ensures rows { IfOk result (λ found. IfSome found (λ matches. subcommand_rows_of matches ≡ subcommand_of command_line (texts_of words.now))) }
+    ensures refused { IfOk result (λ found. IfNone found (fault_of command_line (texts_of words.now) ≢ [])) }
+{
+    match command_line(alloc)?.try_get_matches_from(words) {
+        Ok(matches) => Ok(Some(matches)),
+        Err(e) if e.kind() == ErrorKind::OutOfMemory => Err(Memory),
+        Err(_) => Ok(None),
+    }
+}
+
+/// The number of a command's word, at most `limit`.
+fn number_in(matches: &ArgMatches, id: &str, limit: u16) -> Option<u16>
+    ensures { result ≡ number_in (rows_of (found_of matches.now)) id.now limit }
+{
+    number_up_to(limit, matches.get_str(id)?)
+}
+
+/// The numbers S and T of a command's matches.
+fn common_in(matches: &ArgMatches) -> Option<Common>
+    ensures { result ≡ common_in (rows_of (found_of matches.now)) }
+{
+    let s = number_in(matches, "S", MAX_S)?;
+    let t = number_in(matches, "T", MAX_T)?;
+    Some(Common {
+        range: Range { s, t },
+    })
+}
+
+/// The command that matches name.
+fn command_in(matches: &ArgMatches) -> Option<Command>
+    ensures { result ≡ command_in (subcommand_rows_of matches.now) }
+{
+    let (name, inner) = matches.subcommand()?;
+    match name {
+        "sphere" => Some(Command::Sphere(common_in(inner)?)),
+        "resolve" => Some(Command::Resolve(common_in(inner)?)),
+        "check" => Some(Command::Check),
+        _ => None,
+    }
+}
+
+/// The command that the words give, none where they are outside the grammar.
+fn command_of(alloc: Global, words: &[&str]) -> Result<Option<Command>, Memory>
+    ensures { IfOk result (λ command. command ≡ command_of (texts_of words.now)) }
+{
+    // `clap` takes what follows a word `--` as it is, and the grammar has no such word.
+    if words.contains(&"--") {
+        return Ok(None);
+    }
+    match matches_of(alloc, words)? {
+        Some(matches) => Ok(command_in(&matches)),
+        None => Ok(None),
+    }
 }
 
 /// The command that the words after a program's name give.
 ///
 /// # Errors
-/// `Words` where they are outside the grammar.
-pub fn parse(words: &[&str]) -> Result<Command, WordsFault>
-    ensures ok { IfOk result (λ command. command_of (map (λ w. w.now) words.now) ≡ Some command) }
+/// `Words` where they are outside the grammar, and `Memory` where there is none to read them.
+pub fn parse(alloc: Global, words: &[&str]) -> Result<Command, WordsFault>
+    ensures ok { IfOk result (λ command. command_of (texts_of words.now) ≡ Some command) }
     ensures within { IfOk result IsWithinLimits }
-    ensures refused { result ≡ Err WordsFault.Words → command_of (map (λ w. w.now) words.now) ≡ None }
-    ensures refuses { command_of (map (λ w. w.now) words.now) ≡ None → (result ≡ Err WordsFault.Words) ⊎ (result ≡ Err WordsFault.Memory) }
+    ensures refused { result ≡ Err WordsFault.Words → command_of (texts_of words.now) ≡ None }
+    ensures refuses { command_of (texts_of words.now) ≡ None → (result ≡ Err WordsFault.Words) ⊎ (result ≡ Err WordsFault.Memory) }
 {
-    let [name, s, t] = words else {
-        return Err(WordsFault::Words);
-    };
-    if *name != "sphere" {
-        return Err(WordsFault::Words);
-    }
-    match range_of(s, t) {
-        Some(range) => Ok(Command::Sphere(Common { range })),
-        None => Err(WordsFault::Words),
-    }
+    command_of(alloc, words)?.ok_or(WordsFault::Words)
 }

@@ -1,4 +1,3 @@
-pub mod Spans
 pub mod RowOperations
 pub mod Elimination
 pub mod Unique
@@ -6,4 +5,3 @@ pub mod Split
 pub mod Kept
 pub mod Parts
 pub mod Pivots
-pub mod Combinations

@@ -8,12 +8,13 @@ use Rattle.std.proofs.lemmas.List.Elements.{filter-append}
 use Rattle.std.proofs.lemmas.Grind.{common_steps}
 use Rattle.f2_vec.specs.Vectors.{zeros, bit, IsZero, IsFirstOne}
 use Rattle.f2_vec.proofs.Sums.{length-zeros, bit-zeros, zeros_from_bits}
-use Rattle.f2_matrix.specs.Spans.{row, HaveWidth, combination, IsInSpan}
+use Rattle.f2_vec.specs.Spans.{row, HaveWidth, combination, IsInSpan}
+use Rattle.f2_vec.proofs.Spans.{length-combination, sum-IsInSpan, zeros-IsInSpan, row-IsInSpan, combination-IsInSpan, bit-combination_alone, bit-combination_zero, length-IsInSpan}
+use Rattle.f2_vec.proofs.Split.{combination-split, HaveWidth-left, HaveWidth-right}
 use Rattle.f2_matrix.specs.Echelon.{IsReduced, HasNoZeroRow, IsEchelonForm, IsRowBasis, IsKernelBasis}
 use Rattle.f2_matrix.specs.Reduction.{augmented, has_one, image_part, kernel_part}
-use Rattle.f2_matrix.proofs.Spans.{length-combination, sum-IsInSpan, zeros-IsInSpan, row-IsInSpan, combination-IsInSpan, bit-combination_alone, bit-combination_zero, length-IsInSpan}
 use Rattle.f2_matrix.proofs.Unique.{zero_or_first}
-use Rattle.f2_matrix.proofs.Split.{combination-split, combination-augmented, HaveWidth-left, HaveWidth-right, length-augmented}
+use Rattle.f2_matrix.proofs.Split.{combination-augmented, length-augmented}
 use Rattle.f2_matrix.proofs.Kept.{place_of, kept_at, place_of-rises, kept_somewhere}
 
 -- whether a vector has a one

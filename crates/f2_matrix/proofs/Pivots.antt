@@ -3,9 +3,9 @@ use Rattle.std.proofs.Common.{◌≡◌, ◌⊎◌, ℕ, ◌+◌, ◌<◌, Bool,
 use Rattle.std.proofs.lemmas.Bool.{both_ways, cases_lt}
 use Rattle.f2_vec.specs.Vectors.{plus, sum_of, zeros, bit, IsZero, IsFirstOne}
 use Rattle.f2_vec.proofs.Sums.{bit-sum_of, length-sum_of, sum_of-assoc, sum_of-self, sum_of-cancel, sum_of-zeros_right, zeros_from_bits}
-use Rattle.f2_matrix.specs.Spans.{row, HaveWidth, IsInSpan}
+use Rattle.f2_vec.specs.Spans.{row, HaveWidth, IsInSpan}
+use Rattle.f2_vec.proofs.Spans.{sum-IsInSpan, row-IsInSpan, zeros-IsInSpan}
 use Rattle.f2_matrix.specs.Echelon.{IsReduced}
-use Rattle.f2_matrix.proofs.Spans.{sum-IsInSpan, row-IsInSpan, zeros-IsInSpan}
 use Rattle.f2_matrix.proofs.Elimination.{IsFirstOne-unique}
 use Rattle.f2_matrix.proofs.Unique.{zero_without_first, span_first-IsPivot}
 

@@ -1,4 +1,3 @@
-pub mod Spans
 pub mod Echelon
 pub mod Reduction
 pub mod RowOperations

@@ -1,7 +1,7 @@
 -- What the echelon form of a matrix beside the unit matrix says of the span and of the kernel of its rows.
 use Rattle.std.specs.Prelude.{◌≡◌, ℕ, ◌+◌, Bool, ◌&&◌, not, List, ◌++◌, length, map, take, drop}
 use Rattle.std.specs.List.{zip, filter, list_any}
-use Rattle.f2_matrix.specs.Spans.{unit_vectors}
+use Rattle.f2_vec.specs.Spans.{unit_vectors}
 use Rattle.f2_matrix.specs.Echelon.{IsEchelonForm}
 
 -- a matrix: the length of a row, and the rows

@@ -1,7 +1,7 @@
 -- What clearing a column by a row does to the rows.
 use Rattle.std.specs.Prelude.{◌≡◌, ◌≢◌, ℕ, Bool, if◌then◌else◌, List, length}
 use Rattle.f2_vec.specs.Vectors.{sum_of, bit}
-use Rattle.f2_matrix.specs.Spans.{row}
+use Rattle.f2_vec.specs.Spans.{row}
 
 -- the row v with the row p added to it if v has a 1 at place k
 abbrev pub cleared : List Bool → ℕ → List Bool → List Bool

@@ -1,6 +1,6 @@
 ghost use Rattle.std.specs.Prelude.{◌≡◌, ℕ, ◌+◌, ◌<◌, ◌≤◌, Bool, true, false, [], ◌∷◌, ◌++◌, map, length, IfOk, IfSome, IfNone, OnOk, OnErr};
 ghost use Rattle.f2_vec.specs.Vectors.{bit};
-ghost use Rattle.f2_matrix.specs.Spans.{row, HaveWidth, unit_vector};
+ghost use Rattle.f2_vec.specs.Spans.{row, HaveWidth, unit_vector};
 ghost use Rattle.f2_matrix.specs.Echelon.{IsEchelonForm};
 ghost use Rattle.f2_matrix.specs.Reduction.{augmented};
 ghost use Rattle.f2_matrix.specs.RowOperations.{cleared, IsClearedBy};
@@ -19,7 +19,7 @@ pub struct Matrix {
 
 impl Model for Matrix {
     ghost use Rattle.f2_matrix.specs.Reduction.{Rows};
-    ghost use Rattle.f2_matrix.specs.Spans.{HaveWidth};
+    ghost use Rattle.f2_vec.specs.Spans.{HaveWidth};
 
     ghost Value = { Rows };
 

@@ -1,6 +1,6 @@
 ghost use Rattle.std.specs.Prelude.{◌≡◌, ◌⊎◌, ◌↔◌, ℕ, ◌+◌, ◌≤◌, false, [], ◌∷◌, ◌++◌, length, IsTrue, IfOk, OnOk, slice_range};
 ghost use Rattle.f2_vec.specs.Vectors.{sum_of, bit, IsFirstOne};
-ghost use Rattle.f2_matrix.specs.Spans.{HaveWidth, IsInSpan};
+ghost use Rattle.f2_vec.specs.Spans.{HaveWidth, IsInSpan};
 ghost use Rattle.f2_matrix.specs.Echelon.{IsEchelonForm, IsRowBasis, IsKernelBasis};
 ghost use Rattle.f2_matrix.specs.Reduction.{augmented, image_part, kernel_part, IsReductionOf};
 
@@ -26,7 +26,7 @@ impl Model for Reduced {
 
     ghost Value = { Reduction };
 
-    ghost use Rattle.f2_matrix.specs.Spans.{HaveWidth};
+    ghost use Rattle.f2_vec.specs.Spans.{HaveWidth};
     ghost use Rattle.f2_matrix.specs.Echelon.{IsReduced, HasNoZeroRow};
 
     ghost view = { λ r. record { cols = r.cols; height = r.height; image = r.image.items; kernel = r.kernel.items } };

@@ -1,1 +1,4 @@
 pub mod Sums
+pub mod Spans
+pub mod Split
+pub mod Combinations

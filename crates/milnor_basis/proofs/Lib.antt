@@ -17,3 +17,4 @@ pub mod Steps
 pub mod Sums
 pub mod Walk
 pub mod Places
+pub mod TextLemmas

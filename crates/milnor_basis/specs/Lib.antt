@@ -3,3 +3,4 @@ pub mod Basis
 pub mod Product
 pub mod Padding
 pub mod Walk
+pub mod Text

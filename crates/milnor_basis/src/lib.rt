@@ -5,8 +5,10 @@ mod basis;
 mod exps;
 mod laws;
 mod product;
+mod text;
 
 pub use basis::Basis;
 pub use exps::Exps;
 pub use laws::{basis_is_milnors, product_has_left_unit, product_is_homogeneous};
 pub use product::terms;
+pub use text::sq_text;

@@ -1,7 +1,7 @@
 use Rattle.std.proofs.Common.{◌≡◌, ◌<◌, ◌↔◌, ◌++◌, length, Bool, IsTrue, List, [], ◌∷◌, sym, ◌∙◌, ap, arith}
 use Rattle.std.proofs.lemmas.List.{get_or_read}
 use Rattle.std.proofs.lemmas.Bool.{false≢true}
-use Rattle.f2_matrix.specs.Spans.{row, IsInSpan}
+use Rattle.f2_vec.specs.Spans.{row, IsInSpan}
 use Rattle.ext_run.proofs.Choice.{IsChoosing-drop, IsChoosing-keep, IsChosen_from_IsChoosing, IsKernelBasis_from_IsChoosing}
 use Rattle.ext_run.proofs.resolution_step.choose.Goals as goal
 use Rattle.ext_run.proofs.resolution_step.choose.Goals.{then-not-inside+in_ok-try_copy+in_ok-push_row+in_ok-reduced-2+in_ok-try_copy-2+in_ok-push, else-not-inside}

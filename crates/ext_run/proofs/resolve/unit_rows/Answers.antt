@@ -1,6 +1,6 @@
 use Rattle.std.proofs.Common.{◌≡◌, ◌++◌, [], ◌∷◌, List, Bool, sym, ◌∙◌, ap, arith}
 use Rattle.f2_vec.specs.Vectors.{zeros}
-use Rattle.f2_matrix.specs.Spans.{unit_vector}
+use Rattle.f2_vec.specs.Spans.{unit_vector}
 use Rattle.std.proofs.lemmas.List.FromFn.{map-range_with_len_more}
 use Rattle.ext_run.proofs.resolve.unit_rows.Goals as goal
 

@@ -1,6 +1,6 @@
 use Rattle.std.proofs.Common.{◌≡◌, map}
 use Rattle.std.specs.List.{range_with_len}
-use Rattle.f2_matrix.specs.Spans.{unit_vector}
+use Rattle.f2_vec.specs.Spans.{unit_vector}
 use Rattle.ext_run.proofs.resolve.unit_rows.Given as goal
 
 abbrev pub invariant-loop-i : goal.invariant-loop-i

@@ -1,5 +1,5 @@
 use Rattle.std.proofs.Common.{arith}
-use Rattle.f2_matrix.proofs.Split.{part_more}
+use Rattle.f2_vec.proofs.Split.{part_more}
 use Rattle.f2_matrix.proofs.reduced.part.Goals as goal
 
 pub loop-place-preserved : goal.loop-place-preserved

@@ -1,5 +1,5 @@
 use Rattle.std.proofs.Common.{length, ap, sym, subst}
-use Rattle.f2_matrix.specs.Spans.{HaveWidth}
+use Rattle.f2_vec.specs.Spans.{HaveWidth}
 use Rattle.f2_matrix.specs.Echelon.{IsRowBasis, IsKernelBasis}
 use Rattle.f2_matrix.proofs.Parts.{image_part_whole, kernel_part_whole, image_is_row_basis, kernel_is_kernel_basis}
 use Rattle.f2_matrix.proofs.reduced.parts_of.Goals as goal

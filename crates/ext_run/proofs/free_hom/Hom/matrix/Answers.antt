@@ -1,11 +1,12 @@
 use Rattle.std.proofs.Common.{◌≡◌, ◌+ℤ◌, ◌-ℤ◌, ◌<◌, ◌≤◌, [], pos, length, slice_index_or, to_z, of_z, w32, subst, ap, sym, ◌∙◌, arith, rules}
 use Rattle.std.proofs.lemmas.Int.{ints}
 use Rattle.std.proofs.lemmas.List.{get_or_default}
-use Rattle.f2_matrix.specs.Spans.{row, HaveWidth}
+use Rattle.f2_vec.specs.Spans.{row, HaveWidth}
 use Rattle.milnor_basis.specs.Exponents.{degree_of}
-use Rattle.ext_run.specs.FreeModule.{basis_at}
-use Rattle.ext_run.specs.LinearMap.{degree_at, map_rows}
-use Rattle.ext_run.proofs.BlockSteps.{difference}
+use Rattle.milnor_product.specs.Times.{basis_at}
+use Rattle.free_module.specs.FreeModule.{degree_at}
+use Rattle.ext_run.specs.LinearMap.{map_rows}
+use Rattle.free_module.proofs.BlockSteps.{difference}
 use Rattle.ext_run.proofs.MapRows.{degree_of-element, same_block, map_rows-more, map_rows-done, HaveWidth-map_rows}
 use Rattle.ext_run.proofs.free_hom.Hom.matrix.Goals as goal
 use mir.Val.{SFits}

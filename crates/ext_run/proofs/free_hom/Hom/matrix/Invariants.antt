@@ -1,5 +1,5 @@
 use Rattle.std.proofs.Common.{◌≡◌, ◌++◌, map, drop}
-use Rattle.ext_run.specs.FreeModule.{free_basis_from}
+use Rattle.free_module.specs.FreeModule.{free_basis_from}
 use Rattle.ext_run.specs.LinearMap.{image_of, map_rows}
 use Rattle.ext_run.proofs.free_hom.Hom.matrix.Given as goal
 

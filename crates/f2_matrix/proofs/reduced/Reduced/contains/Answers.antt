@@ -1,7 +1,7 @@
 use Rattle.std.proofs.Common.{◌≡◌, ◌⊎◌, [], ◌<◌, length, ap, sym, subst, ◌∙◌, arith}
 use Rattle.std.proofs.lemmas.List.{get_or_read}
 use Rattle.f2_vec.specs.Vectors.{sum_of, IsFirstOne}
-use Rattle.f2_matrix.specs.Spans.{row, HaveWidth}
+use Rattle.f2_vec.specs.Spans.{row, HaveWidth}
 use Rattle.f2_matrix.specs.Echelon.{IsReduced}
 use Rattle.f2_matrix.proofs.Pivots.{start_in_span, difference-IsInSpan, cleared_more, length_after, zero_left, span_left}
 use Rattle.f2_matrix.proofs.reduced.Reduced.contains.Goals as goal

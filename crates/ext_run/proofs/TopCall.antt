@@ -1,0 +1,221 @@
+-- What a failure's status says of its cause, and what the answer to words and input excludes.
+use Rattle.std.proofs.Common.{◌≡◌, ℕ, ◌+◌, ◌^◌, ◌<◌, ◌≤◌, ◌⊎◌, inl, inr, List, [], length, drop, Bool, true, false, Option, Some, None, IfSome, refl, sym, subst, ◌∙◌, ap, arith}
+use Rattle.std.specs.Prelude.{MatchOption, Result, Ok, Err, nat_le, IsOkAnd}
+use Rattle.std.proofs.lemmas.Bool.{leb-true}
+use Rattle.std.proofs.lemmas.List.{drop_all}
+use Rattle.f2_matrix.proofs.Unique.{kernel_basis_unique}
+use Rattle.edge.specs.Faults.{HasRisen}
+use Rattle.edge.specs.Source.{without_first}
+use Rattle.module_json.specs.ModuleFile.{File, IsFileOf, too_long, no_json, value}
+use Rattle.module_json.specs.Checks.{unless, size_refusal}
+use Rattle.module_json.specs.declared.malformed.Malformed.{Malformed}
+use Rattle.module_json.specs.declared.malformed.Malformed.TheVariants.{Limit, Json, Shape, Kind, Prime, Name, Degree, Action, Memory as NoRoom}
+use Rattle.module_json.specs.declared.malformed.What.TheVariants.{Bytes}
+use Rattle.module_json.proofs.Reading.{file_unique}
+use Rattle.module_check.specs.Module.{Module as SteenrodModule}
+use Rattle.module_check.specs.Acceptance.{refusal_of}
+use Rattle.module_check.specs.declared.fault.CheckFault.{CheckFault}
+use Rattle.module_check.specs.declared.fault.CheckFault.TheVariants.{Listed, Relation, Memory as NoMemory}
+use Rattle.ext_run.specs.declared.words.Command.{Command}
+use Rattle.ext_run.specs.declared.words.Command.TheVariants.{Sphere, Resolve, Check}
+use Rattle.ext_run.specs.declared.failure.Failure.{Failure}
+use Rattle.ext_run.specs.declared.failure.Failure.TheVariants.{Words, Malformed as NoModuleFile, NotModule, Reading, Writing, Memory}
+use Rattle.ext_run.specs.Words.{command_of}
+use Rattle.ext_run.specs.Failure.{status_of, malformed_status, fault_status}
+use Rattle.ext_run.specs.Answer.{IsChart, IsLineOn, IsModuleAnswer, no_file, no_module, text_of, IsAnswerTo, IsAnswer, AnswerIsUnique, IsAnswerFrom, IsCauseFrom, Reads, WordsRead, most_read, IsAccepted, HasModule, IsAnswerable}
+use Rattle.ext_run.proofs.AnswerUnique.{answer-unique}
+use Rattle.ext_run.proofs.TableIsUnique.{table_is_unique}
+
+-- ---- one answer
+
+one_answer : AnswerIsUnique
+one_answer = answer-unique (table_is_unique kernel_basis_unique) file_unique
+
+-- the answer from a source that tells what it has left is the answer to that
+told : (words : List (List ℕ)) (left : Option (List ℕ)) (l : List ℕ) (a b : Result (List ℕ) Failure) → left ≡ Some l → IsAnswerFrom words left a → IsAnswer words l b → a ≡ b
+told words left l a b e p q =
+    let same : p.bytes ≡ l = subst (λ (o : Option (List ℕ)). IfSome o (λ m. p.bytes ≡ m)) e p.all in
+    one_answer words l a b (subst (λ (bytes : List ℕ). IsAnswer words bytes a) same p.is_answer) q
+
+-- words outside the grammar have no other answer
+only_words : (words : List (List ℕ)) (bytes : List ℕ) (a : Result (List ℕ) Failure) → command_of words ≡ None → IsAnswer words bytes a → a ≡ Err Words
+only_words words bytes a h p = subst (λ (c : Option Command). MatchOption c (a ≡ Err Words) (λ command. IsAnswerTo command bytes a)) h p
+
+not_words : (P : SteenrodModule → List ℕ → Type 0) (bytes : List ℕ) (a : Result (List ℕ) Failure) → IsModuleAnswer P bytes a → a ≡ Err Words → ⊥
+not_words P bytes a (no_file e p) h = cc
+not_words P bytes a (no_module f e p r) h = cc
+not_words P bytes a (text_of f t p r x) h = cc
+
+words_refused : (c : Option Command) (bytes : List ℕ) (a : Result (List ℕ) Failure) → a ≡ Err Words → MatchOption c (a ≡ Err Words) (λ command. IsAnswerTo command bytes a) → c ≡ None
+words_refused None bytes a e p = refl
+words_refused (Some (Sphere common)) bytes a e p = absurd (subst (IsAnswerTo (Sphere common) bytes) e p)
+words_refused (Some (Resolve common)) bytes a e p = absurd (not_words (IsChart common.range) bytes a p e)
+words_refused (Some Check) bytes a e p = absurd (not_words IsLineOn bytes a p e)
+
+-- ---- the size of a file
+
+within : (n m : ℕ) (e : Malformed) (b : Bool) → nat_le n m ≡ b → unless b e ≡ None → n ≤ m
+within n m e true same h = leb-true n m same
+within n m e false same h = absurd cc
+
+file_fits : (bytes : List ℕ) (f : File) (r : Result File Malformed) → IsFileOf bytes r → r ≡ Ok f → length bytes ≤ 2 ^ 20
+file_fits bytes f r (too_long e h) same = absurd cc
+file_fits bytes f r (no_json h n) same = absurd cc
+file_fits bytes f r (value h d j) same = within (length bytes) (2 ^ 20) (Limit Bytes) (nat_le (length bytes) (2 ^ 20)) refl h
+
+module_fits : (P : SteenrodModule → List ℕ → Type 0) (bytes : List ℕ) (text : List ℕ) (a : Result (List ℕ) Failure) → IsModuleAnswer P bytes a → a ≡ Ok text → length bytes ≤ 2 ^ 20
+module_fits P bytes text a (no_file e p) h = absurd cc
+module_fits P bytes text a (no_module f e p r) h = absurd cc
+module_fits P bytes text a (text_of f t p r x) h = file_fits bytes f (Ok f) p refl
+
+answer_fits : (c : Option Command) (bytes text : List ℕ) → MatchOption c ⊥ Reads → MatchOption c (Ok text ≡ Err Words) (λ command. IsAnswerTo command bytes (Ok text)) → length bytes ≤ 2 ^ 20
+answer_fits None bytes text r p = absurd r
+answer_fits (Some (Sphere common)) bytes text r p = absurd r
+answer_fits (Some (Resolve common)) bytes text r p = module_fits (IsChart common.range) bytes text (Ok text) p refl
+answer_fits (Some Check) bytes text r p = module_fits IsLineOn bytes text (Ok text) p refl
+
+-- drop at a variable: numerals stay folded
+all_dropped : (n m : ℕ) (l : List ℕ) → length l ≤ n → n ≤ m → drop m l ≡ []
+all_dropped n m l h k = drop_all m l (omega arith)
+
+pub read_whole : (words : List (List ℕ)) (old new : Option (List ℕ)) (text : List ℕ) → WordsRead words → IsAnswerFrom words old (Ok text) → new ≡ without_first old most_read → IfSome new (λ l. l ≡ [])
+read_whole words None new text r p e = subst (λ (o : Option (List ℕ)). IfSome o (λ l. l ≡ [])) (sym e) tt
+read_whole words (Some l) new text r p e =
+    let fits : length l ≤ 2 ^ 20 = subst (λ (bytes : List ℕ). length bytes ≤ 2 ^ 20) p.all (answer_fits (command_of words) p.bytes text r p.is_answer) in
+    subst (λ (o : Option (List ℕ)). IfSome o (λ m. m ≡ [])) (sym e) (all_dropped (2 ^ 20) most_read l fits (omega arith))
+
+-- ---- statuses
+
+malformed_statuses : (e : Malformed) → (malformed_status e ≡ 3) ⊎ (malformed_status e ≡ 12)
+malformed_statuses (Limit what) = inl refl
+malformed_statuses Json = inl refl
+malformed_statuses (Shape at) = inl refl
+malformed_statuses Kind = inl refl
+malformed_statuses (Prime given) = inl refl
+malformed_statuses (Name generator) = inl refl
+malformed_statuses (Degree generator) = inl refl
+malformed_statuses (Action index why) = inl refl
+malformed_statuses NoRoom = inr refl
+
+fault_statuses : (e : CheckFault) → (fault_status e ≡ 4) ⊎ (fault_status e ≡ 12)
+fault_statuses (Listed index) = inl refl
+fault_statuses (Relation r s generator) = inl refl
+fault_statuses NoMemory = inr refl
+
+either3 : {A B C : Type 0} → A ⊎ C → A ⊎ B ⊎ C
+either3 (inl a) = inl a
+either3 (inr c) = inr (inr c)
+
+neither : (n a b k : ℕ) → (n ≡ a) ⊎ (n ≡ b) → (a ≡ k → ⊥) → (b ≡ k → ⊥) → n ≡ k → ⊥
+neither n a b k (inl p) x y h = x (sym p ∙ h)
+neither n a b k (inr p) x y h = y (sym p ∙ h)
+
+no_2 : (e : Malformed) → malformed_status e ≡ 2 → ⊥
+no_2 e = neither (malformed_status e) 3 12 2 (malformed_statuses e) (λ h. omega arith) (λ h. omega arith)
+
+no_4 : (e : Malformed) → malformed_status e ≡ 4 → ⊥
+no_4 e = neither (malformed_status e) 3 12 4 (malformed_statuses e) (λ h. omega arith) (λ h. omega arith)
+
+fault_no_2 : (e : CheckFault) → fault_status e ≡ 2 → ⊥
+fault_no_2 e = neither (fault_status e) 4 12 2 (fault_statuses e) (λ h. omega arith) (λ h. omega arith)
+
+fault_no_3 : (e : CheckFault) → fault_status e ≡ 3 → ⊥
+fault_no_3 e = neither (fault_status e) 4 12 3 (fault_statuses e) (λ h. omega arith) (λ h. omega arith)
+
+module _ (words : List (List ℕ)) (left : Option (List ℕ)) where
+  pub refused : (failure : Failure) → IsCauseFrom words left failure → status_of failure ≡ 2 → command_of words ≡ None
+  refused Words p h = words_refused (command_of words) p.bytes (Err Words) refl p.is_answer
+  refused (NoModuleFile e) p h = absurd (no_2 e h)
+  refused (NotModule f e) p h = absurd (fault_no_2 e h)
+  refused Reading p h = absurd (omega arith)
+  refused Writing p h = absurd (omega arith)
+  refused Memory p h = absurd (omega arith)
+
+  pub malformed : (failure : Failure) → IsCauseFrom words left failure → status_of failure ≡ 3 → (e : Malformed) × IsAnswerFrom words left (Err (NoModuleFile e))
+  malformed (NoModuleFile e) p h = (e, p)
+  malformed Words p h = absurd (omega arith)
+  malformed (NotModule f e) p h = absurd (fault_no_3 e h)
+  malformed Reading p h = absurd (omega arith)
+  malformed Writing p h = absurd (omega arith)
+  malformed Memory p h = absurd (omega arith)
+
+  pub not_a_module : (failure : Failure) → IsCauseFrom words left failure → status_of failure ≡ 4 → (f : File) × (e : CheckFault) × IsAnswerFrom words left (Err (NotModule f e))
+  not_a_module (NotModule f e) p h = (f, e, p)
+  not_a_module Words p h = absurd (omega arith)
+  not_a_module (NoModuleFile e) p h = absurd (no_4 e h)
+  not_a_module Reading p h = absurd (omega arith)
+  not_a_module Writing p h = absurd (omega arith)
+  not_a_module Memory p h = absurd (omega arith)
+
+  -- writing fails only with an answer
+  abbrev pub HasText : Failure → Type 0
+  HasText failure = failure ≡ Writing → (text : List ℕ) × IsAnswerFrom words left (Ok text)
+
+  pub refuses : (failure : Failure) → IsCauseFrom words left failure → HasText failure → command_of words ≡ None → (status_of failure ≡ 2) ⊎ (status_of failure ≡ 12)
+  refuses Words p w h = inl refl
+  refuses (NoModuleFile e) p w h = let same = only_words words p.bytes (Err (NoModuleFile e)) h p.is_answer in absurd cc
+  refuses (NotModule f e) p w h = let same = only_words words p.bytes (Err (NotModule f e)) h p.is_answer in absurd cc
+  refuses Reading p w h = absurd (subst (λ (c : Option Command). MatchOption c ⊥ Reads) h p)
+  refuses Writing p w h =
+      let given = w refl in
+      let same = only_words words given.1.bytes (Ok given.0) h given.1.is_answer in
+      absurd cc
+  refuses Memory p w h = inr refl
+
+  module _ (l : List ℕ) (tells : left ≡ Some l) where
+    pub malformed_comes : (failure : Failure) (e : Malformed) → IsCauseFrom words left failure → HasText failure → IsAnswer words l (Err (NoModuleFile e)) → (status_of failure ≡ 3) ⊎ (status_of failure ≡ 6) ⊎ (status_of failure ≡ 12)
+    malformed_comes Words e p w a = let same = told words left l (Err Words) (Err (NoModuleFile e)) tells p a in absurd cc
+    malformed_comes (NoModuleFile d) e p w a = either3 (malformed_statuses d)
+    malformed_comes (NotModule f d) e p w a = let same = told words left l (Err (NotModule f d)) (Err (NoModuleFile e)) tells p a in absurd cc
+    malformed_comes Reading e p w a = inr (inl refl)
+    malformed_comes Writing e p w a =
+        let given = w refl in
+        let same = told words left l (Ok given.0) (Err (NoModuleFile e)) tells given.1 a in
+        absurd cc
+    malformed_comes Memory e p w a = inr (inr refl)
+
+    pub no_module_comes : (failure : Failure) (g : File) (e : CheckFault) → IsCauseFrom words left failure → HasText failure → IsAnswer words l (Err (NotModule g e)) → (status_of failure ≡ 4) ⊎ (status_of failure ≡ 6) ⊎ (status_of failure ≡ 12)
+    no_module_comes Words g e p w a = let same = told words left l (Err Words) (Err (NotModule g e)) tells p a in absurd cc
+    no_module_comes (NoModuleFile d) g e p w a = let same = told words left l (Err (NoModuleFile d)) (Err (NotModule g e)) tells p a in absurd cc
+    no_module_comes (NotModule f d) g e p w a = either3 (fault_statuses d)
+    no_module_comes Reading g e p w a = inr (inl refl)
+    no_module_comes Writing g e p w a =
+        let given = w refl in
+        let same = told words left l (Ok given.0) (Err (NotModule g e)) tells given.1 a in
+        absurd cc
+    no_module_comes Memory g e p w a = inr (inr refl)
+
+    -- a text leaves no failure
+    pub no_failure : (text : List ℕ) (failure : Failure) → IsAnswerFrom words left (Ok text) → IsAnswer words l (Err failure) → ⊥
+    no_failure text failure p a = let same = told words left l (Ok text) (Err failure) tells p a in cc
+
+-- ---- a file that describes a module leaves no failure of its own
+
+accepted_text : (P : SteenrodModule → List ℕ → Type 0) (bytes : List ℕ) (a : Result (List ℕ) Failure) (failure : Failure) → IsAccepted bytes → IsModuleAnswer P bytes a → a ≡ Err failure → ⊥
+accepted_text P bytes a failure accepted (no_file e p) h =
+    let same = file_unique bytes (Ok accepted.file) (Err e) accepted.is_file p in
+    cc
+accepted_text P bytes a failure accepted (no_module f e p r) h =
+    let same = file_unique bytes (Ok accepted.file) (Ok f) accepted.is_file p in
+    let one : accepted.file ≡ f = cc in
+    let never : Some e ≡ None = sym r ∙ (sym (ap refusal_of one) ∙ accepted.no_refusal) in
+    cc
+accepted_text P bytes a failure accepted (text_of f t p r x) h = cc
+
+accepted_failure : (P : SteenrodModule → List ℕ → Type 0) (left : Option (List ℕ)) (bytes : List ℕ) (a : Result (List ℕ) Failure) (failure : Failure) → a ≡ Err failure → IfSome left (λ l. bytes ≡ l) → MatchOption left ⊥ IsAccepted → IsModuleAnswer P bytes a → ⊥
+accepted_failure P None bytes a failure e all accepted p = accepted
+accepted_failure P (Some l) bytes a failure e all accepted p = accepted_text P bytes a failure (subst IsAccepted (sym all) accepted) p e
+
+answerable_failure : (left : Option (List ℕ)) (c : Option Command) (bytes : List ℕ) (a : Result (List ℕ) Failure) (failure : Failure) → a ≡ Err failure → IfSome left (λ l. bytes ≡ l) → MatchOption c ⊥ (HasModule left) → MatchOption c (a ≡ Err Words) (λ command. IsAnswerTo command bytes a) → ⊥
+answerable_failure left None bytes a failure e all has p = has
+answerable_failure left (Some (Sphere common)) bytes a failure e all has p = subst (IsAnswerTo (Sphere common) bytes) e p
+answerable_failure left (Some (Resolve common)) bytes a failure e all has p = accepted_failure (IsChart common.range) left bytes a failure e all has p
+answerable_failure left (Some Check) bytes a failure e all has p = accepted_failure IsLineOn left bytes a failure e all has p
+
+pub complete : (words : List (List ℕ)) (left : Option (List ℕ)) (failure : Failure) → IsCauseFrom words left failure → (failure ≡ Reading → ⊥) → (failure ≡ Writing → ⊥) → IsAnswerable words left → (status_of failure ≡ 0) ⊎ (status_of failure ≡ 12)
+complete words left Words p r w has = absurd (answerable_failure left (command_of words) p.bytes (Err Words) Words refl p.all has p.is_answer)
+complete words left (NoModuleFile e) p r w has = absurd (answerable_failure left (command_of words) p.bytes (Err (NoModuleFile e)) (NoModuleFile e) refl p.all has p.is_answer)
+complete words left (NotModule f e) p r w has = absurd (answerable_failure left (command_of words) p.bytes (Err (NotModule f e)) (NotModule f e) refl p.all has p.is_answer)
+complete words left Reading p r w has = absurd (r refl)
+complete words left Writing p r w has = absurd (w refl)
+complete words left Memory p r w has = inr refl

@@ -1,0 +1,61 @@
+-- A command asks for no more than the grammar allows.
+use Rattle.std.proofs.Common.{◌≡◌, ℕ, ◌≤◌, refl, List, [], ◌∷◌, Bool, true, false, Option, Some, None}
+use Rattle.std.specs.Prelude.{codes, option_map, ◌&&◌, nat_le, if◌then◌else◌, IfSome, IfOk}
+use Rattle.std.specs.Option.{ok_or}
+use Rattle.std.specs.Str.{bytes_eq}
+use Rattle.std.proofs.lemmas.Bool.{leb-true}
+use Rattle.ext_run.specs.declared.words.WordsFault.{WordsFault}
+use Rattle.ext_run.specs.declared.words.Common.{Common}
+use Rattle.ext_run.specs.declared.words.Range.{Range}
+use Rattle.ext_run.specs.declared.words.Command.{Command}
+use Rattle.ext_run.specs.declared.words.Command.TheVariants.{Sphere, Resolve}
+use Rattle.ext_run.specs.Words.{number_up_to, decimal_value, is_short_number, range_of, common_of, check_of, command_of, IsWithinLimits}
+
+up-to : (short within : Bool) (value limit : ℕ) → nat_le value limit ≡ within → IfSome (if short && within then Some value else None) (λ n. n ≤ limit)
+up-to true true value limit e = leb-true value limit e
+up-to true false value limit e = tt
+up-to false within value limit e = tt
+
+number-within : (limit : ℕ) (word : List ℕ) → IfSome (number_up_to limit word) (λ n. n ≤ limit)
+number-within limit word = up-to (is_short_number word) (nat_le (decimal_value word) limit) (decimal_value word) limit refl
+
+abbrev IsWithin : Common → Type 0
+IsWithin common = (common.range.s ≤ 63) × (common.range.t ≤ 127)
+
+range-within : (s t : Option ℕ) → IfSome s (λ n. n ≤ 63) → IfSome t (λ n. n ≤ 127) → IfSome (option_map (λ (range : Range). record { range = range }) (range_of s t)) IsWithin
+range-within None t low high = tt
+range-within (Some s) None low high = tt
+range-within (Some s) (Some t) low high = (low, high)
+
+common-within : (words : List (List ℕ)) → IfSome (common_of words) IsWithin
+common-within [] = tt
+common-within (s ∷ []) = tt
+common-within (s ∷ t ∷ []) = range-within (number_up_to 63 s) (number_up_to 127 t) (number-within 63 s) (number-within 127 t)
+common-within (s ∷ t ∷ u ∷ more) = tt
+
+check-within : (words : List (List ℕ)) → IfSome (check_of words) IsWithinLimits
+check-within [] = tt
+check-within (word ∷ words) = tt
+
+sphere-within : (common : Option Common) → IfSome common IsWithin → IfSome (option_map Sphere common) IsWithinLimits
+sphere-within None h = tt
+sphere-within (Some common) h = h
+
+resolve-within : (common : Option Common) → IfSome common IsWithin → IfSome (option_map Resolve common) IsWithinLimits
+resolve-within None h = tt
+resolve-within (Some common) h = h
+
+named-within : (sphere resolve check : Bool) (common : Option Common) (bare : Option Command) → IfSome common IsWithin → IfSome bare IsWithinLimits →
+    IfSome (if sphere then option_map Sphere common else if resolve then option_map Resolve common else if check then bare else None) IsWithinLimits
+named-within true resolve check common bare h b = sphere-within common h
+named-within false true check common bare h b = resolve-within common h
+named-within false false true common bare h b = b
+named-within false false false common bare h b = tt
+
+pub command-within : (words : List (List ℕ)) → IfSome (command_of words) IsWithinLimits
+command-within [] = tt
+command-within (name ∷ words) = named-within (bytes_eq (codes "sphere") name) (bytes_eq (codes "resolve") name) (bytes_eq (codes "check") name) (common_of words) (check_of words) (common-within words) (check-within words)
+
+pub ok-within : (command : Option Command) (fault : WordsFault) → IfSome command IsWithinLimits → IfOk (ok_or command fault) IsWithinLimits
+ok-within None fault h = tt
+ok-within (Some command) fault h = h

@@ -1,0 +1,97 @@
+-- Why a run has no answer: its status, and its line on standard error.
+use Rattle.std.specs.Prelude.{ℕ, List, ◌++◌, codes, decimal}
+use Rattle.milnor_basis.specs.Text.{sq_text}
+use Rattle.edge.specs.declared.reading.ReadFault.{ReadFault}
+use Rattle.edge.specs.declared.reading.ReadFault.TheVariants.{Failed, Memory as NoSpace}
+use Rattle.module_json.specs.ModuleFile.{Generator}
+use Rattle.module_json.specs.declared.malformed.Malformed.{Malformed}
+use Rattle.module_json.specs.declared.malformed.Malformed.TheVariants.{Limit, Json, Shape, Kind, Prime, Name, Degree, Action, Memory as NoRoom}
+use Rattle.module_json.specs.declared.malformed.What.{What}
+use Rattle.module_json.specs.declared.malformed.What.TheVariants.{Bytes, Gens, Degree as DegreeLimit, Span, Actions}
+use Rattle.module_json.specs.declared.malformed.Place.{Place}
+use Rattle.module_json.specs.declared.malformed.Place.TheVariants.{Whole, Kind as AtType, Cofiber, Shift, Prime as AtPrime, Gens as AtGens, Actions as AtActions}
+use Rattle.module_json.specs.declared.malformed.Why.{Why}
+use Rattle.module_json.specs.declared.malformed.Why.TheVariants.{Syntax, SquareZero, Unknown, WrongDegree, Repeated}
+use Rattle.module_check.specs.Text.{name_at}
+use Rattle.module_check.specs.declared.fault.CheckFault.{CheckFault}
+use Rattle.module_check.specs.declared.fault.CheckFault.TheVariants.{Listed, Relation, Memory as NoMemory}
+use Rattle.ext_run.specs.Chart.{newline}
+use Rattle.ext_run.specs.declared.failure.Failure.{Failure}
+use Rattle.ext_run.specs.declared.failure.Failure.TheVariants.{Words, Malformed as NoModuleFile, NotModule, Reading, Writing, Memory}
+
+abbrev pub what_text : What → List ℕ
+what_text Bytes = codes "bytes"
+what_text Gens = codes "generators"
+what_text DegreeLimit = codes "degree"
+what_text Span = codes "span"
+what_text Actions = codes "actions"
+
+abbrev pub place_text : Place → List ℕ
+place_text Whole = codes "whole"
+place_text AtType = codes "type"
+place_text Cofiber = codes "cofiber"
+place_text Shift = codes "shift"
+place_text AtPrime = codes "p"
+place_text AtGens = codes "gens"
+place_text AtActions = codes "actions"
+
+abbrev pub memory_line : List ℕ
+memory_line = codes "ext: out of memory\n"
+
+-- what is wrong with action `index`
+abbrev pub action_line : ℕ → Why → List ℕ
+action_line index Syntax = codes "ext: module file: action " ++ (decimal index ++ codes ": syntax\n")
+action_line index SquareZero = codes "ext: module file: action " ++ (decimal index ++ codes ": square zero\n")
+action_line index Unknown = codes "ext: module file: action " ++ (decimal index ++ codes ": unknown name\n")
+action_line index WrongDegree = codes "ext: module file: action " ++ (decimal index ++ codes ": wrong degree\n")
+action_line index (Repeated first) = codes "ext: module file: action " ++ (decimal index ++ (codes ": differs from action " ++ (decimal first ++ newline)))
+
+abbrev pub malformed_line : Malformed → List ℕ
+malformed_line (Limit what) = codes "ext: module file: past the limit of " ++ (what_text what ++ newline)
+malformed_line Json = codes "ext: module file: not JSON\n"
+malformed_line (Shape at) = codes "ext: module file: wrong shape at " ++ (place_text at ++ newline)
+malformed_line Kind = codes "ext: module file: unknown type\n"
+malformed_line (Prime given) = codes "ext: module file: prime " ++ (decimal given ++ newline)
+malformed_line (Name generator) = codes "ext: module file: name of generator " ++ (decimal generator ++ newline)
+malformed_line (Degree generator) = codes "ext: module file: degree of generator " ++ (decimal generator ++ newline)
+malformed_line (Action index why) = action_line index why
+malformed_line NoRoom = memory_line
+
+abbrev pub fault_line : List Generator → CheckFault → List ℕ
+fault_line generators (Listed index) = codes "ext: not a module: action " ++ (decimal index ++ codes " differs from its derived value\n")
+fault_line generators (Relation r s generator) =
+    codes "ext: not a module: " ++ (sq_text r ++ (codes " " ++ (sq_text s ++ (codes " on " ++ (name_at generators generator ++ newline)))))
+fault_line generators NoMemory = memory_line
+
+abbrev pub line_of : Failure → List ℕ
+line_of Words = codes "ext: words outside the command grammar\n"
+line_of (NoModuleFile malformed) = malformed_line malformed
+line_of (NotModule file fault) = fault_line file.generators fault
+line_of Reading = codes "ext: reading the module failed\n"
+line_of Writing = codes "ext: writing failed\n"
+line_of Memory = memory_line
+
+-- what stands for a fault of a call: want of memory is one for all
+abbrev pub read_failure : ReadFault → Failure
+read_failure Failed = Reading
+read_failure NoSpace = Memory
+
+abbrev pub file_failure : Malformed → Failure
+file_failure NoRoom = Memory
+file_failure malformed = NoModuleFile malformed
+
+abbrev pub malformed_status : Malformed → ℕ
+malformed_status NoRoom = 12
+malformed_status malformed = 3
+
+abbrev pub fault_status : CheckFault → ℕ
+fault_status NoMemory = 12
+fault_status fault = 4
+
+abbrev pub status_of : Failure → ℕ
+status_of Words = 2
+status_of (NoModuleFile malformed) = malformed_status malformed
+status_of (NotModule file fault) = fault_status fault
+status_of Reading = 6
+status_of Writing = 7
+status_of Memory = 12

@@ -1,0 +1,254 @@
+//! Why a run has no answer: its status, and its line on standard error.
+ghost use Rattle.std.specs.Prelude.{◌≡◌, ◌≤◌, ◌++◌, OnOk, OnErr};
+ghost use Rattle.edge.specs.Faults.{HasRisen};
+ghost use Rattle.edge.specs.Sink.{HasPrefixMore, with_more};
+ghost use Rattle.module_check.specs.Text.{name_at};
+ghost use Rattle.ext_run.specs.Chart.{newline};
+ghost use Rattle.ext_run.specs.Parts.{part_text, parts_text};
+ghost use Rattle.ext_run.specs.declared.failure.Failure.TheVariants.{Memory as WantOfMemory};
+ghost use Rattle.ext_run.specs.Failure.{what_text, place_text, action_line, malformed_line, fault_line, line_of, status_of, malformed_status, fault_status, read_failure, file_failure};
+
+use crate::writing::Part::{self, Nothing, Number, Square, Text};
+use crate::writing::{write_all, write_parts};
+use edge::{Failed, ReadFault, Sink};
+use memory::Memory;
+use module_check::CheckFault;
+use module_json::{Malformed, Place, Spec, What, Why};
+
+/// Why a run has no answer.
+#[derive(Drop)]
+pub enum Failure {
+    /// The words are outside the grammar.
+    Words,
+    /// What was read is no module file.
+    Malformed(Malformed),
+    /// The module file that was read describes no module.
+    NotModule(Spec, CheckFault),
+    /// The module file could not be read.
+    Reading,
+    /// The answer could not be written.
+    Writing,
+    /// There was no memory.
+    Memory,
+}
+
+impl From<Memory> for Failure {
+    ghost from_gives = { λ _ failure. failure ≡ WantOfMemory };
+
+    fn from(_: Memory) -> Self {
+        Failure::Memory
+    }
+}
+
+impl From<ReadFault> for Failure {
+    ghost from_gives = { λ fault failure. failure ≡ read_failure fault };
+
+    fn from(fault: ReadFault) -> Self {
+        match fault {
+            ReadFault::Failed => Failure::Reading,
+            ReadFault::Memory => Failure::Memory,
+        }
+    }
+}
+
+impl From<Malformed> for Failure {
+    ghost from_gives = { λ malformed failure. failure ≡ file_failure malformed };
+
+    fn from(malformed: Malformed) -> Self {
+        match malformed {
+            Malformed::Memory => Failure::Memory,
+            _ => Failure::Malformed(malformed),
+        }
+    }
+}
+
+const MEMORY_LINE: &[u8] = b"ext: out of memory\n";
+
+impl Failure {
+    /// The status that a program ends with.
+    pub fn status(&self) -> u8
+        ensures { result ≡ status_of self.now }
+    {
+        match self {
+            Failure::Words => 2,
+            Failure::Malformed(Malformed::Memory) => 12,
+            Failure::Malformed(_) => 3,
+            Failure::NotModule(_, CheckFault::Memory) => 12,
+            Failure::NotModule(_, _) => 4,
+            Failure::Reading => 6,
+            Failure::Writing => 7,
+            Failure::Memory => 12,
+        }
+    }
+}
+
+/// The parts of a line.
+type Line<'a> = [Part<'a>; 7];
+
+/// A line of one text.
+fn plain<'a>(text: &'a [u8]) -> Line<'a>
+    ensures { parts_text result ≡ text.now }
+{
+    [
+        Text(text),
+        Nothing,
+        Nothing,
+        Nothing,
+        Nothing,
+        Nothing,
+        Nothing,
+    ]
+}
+
+/// A line of three parts.
+fn padded<'a>(first: Part<'a>, second: Part<'a>, third: Part<'a>) -> Line<'a>
+    ensures { parts_text result ≡ part_text first.entry ++ (part_text second.entry ++ part_text third.entry) }
+{
+    [first, second, third, Nothing, Nothing, Nothing, Nothing]
+}
+
+fn what_text(what: What) -> &'static [u8]
+    ensures { result.now ≡ what_text what }
+{
+    match what {
+        What::Bytes => b"bytes",
+        What::Gens => b"generators",
+        What::Degree => b"degree",
+        What::Span => b"span",
+        What::Actions => b"actions",
+    }
+}
+
+fn place_text(at: Place) -> &'static [u8]
+    ensures { result.now ≡ place_text at }
+{
+    match at {
+        Place::Whole => b"whole",
+        Place::Kind => b"type",
+        Place::Cofiber => b"cofiber",
+        Place::Shift => b"shift",
+        Place::Prime => b"p",
+        Place::Gens => b"gens",
+        Place::Actions => b"actions",
+    }
+}
+
+/// The name of a generator, empty where there is none of that number.
+fn name_at(spec: &Spec, generator: usize) -> &[u8]
+    ensures { result.now ≡ name_at spec.now.generators generator }
+{
+    if generator < spec.count() {
+        spec.name(generator).as_bytes()
+    } else {
+        b""
+    }
+}
+
+/// What is wrong with action `index`.
+fn action_line(index: usize, why: Why) -> Line<'static>
+    ensures { parts_text result ≡ action_line index why }
+{
+    let start = Text(b"ext: module file: action ");
+    let number = Number(index as u64);
+    match why {
+        Why::Syntax => padded(start, number, Text(b": syntax\n")),
+        Why::SquareZero => padded(start, number, Text(b": square zero\n")),
+        Why::Unknown => padded(start, number, Text(b": unknown name\n")),
+        Why::WrongDegree => padded(start, number, Text(b": wrong degree\n")),
+        Why::Repeated { first } => [
+            start,
+            number,
+            Text(b": differs from action "),
+            Number(first as u64),
+            Text(b"\n"),
+            Nothing,
+            Nothing,
+        ],
+    }
+}
+
+/// A text, a part and the line's end.
+fn ended<'a>(start: &'a [u8], part: Part<'a>) -> Line<'a>
+    ensures { parts_text result ≡ start.now ++ (part_text part.entry ++ newline) }
+{
+    padded(Text(start), part, Text(b"\n"))
+}
+
+/// What is wrong with a module file.
+fn malformed_line(malformed: Malformed) -> Line<'static>
+    ensures { parts_text result ≡ malformed_line malformed }
+{
+    match malformed {
+        Malformed::Limit { what } => ended(
+            b"ext: module file: past the limit of ",
+            Text(what_text(what)),
+        ),
+        Malformed::Json => plain(b"ext: module file: not JSON\n"),
+        Malformed::Shape { at } => ended(
+            b"ext: module file: wrong shape at ",
+            Text(place_text(at)),
+        ),
+        Malformed::Kind => plain(b"ext: module file: unknown type\n"),
+        Malformed::Prime { given } => ended(b"ext: module file: prime ", Number(given)),
+        Malformed::Name { generator } => ended(
+            b"ext: module file: name of generator ",
+            Number(generator as u64),
+        ),
+        Malformed::Degree { generator } => ended(
+            b"ext: module file: degree of generator ",
+            Number(generator as u64),
+        ),
+        Malformed::Action { index, why } => action_line(index, why),
+        Malformed::Memory => plain(MEMORY_LINE),
+    }
+}
+
+/// Why a module file describes no module.
+fn fault_line<'a>(spec: &'a Spec, fault: &'a CheckFault) -> Line<'a>
+    ensures { parts_text result ≡ fault_line spec.now.generators fault.now }
+{
+    match fault {
+        CheckFault::Listed { index } => padded(
+            Text(b"ext: not a module: action "),
+            Number(*index as u64),
+            Text(b" differs from its derived value\n"),
+        ),
+        CheckFault::Relation { r, s, generator } => [
+            Text(b"ext: not a module: "),
+            Square(r),
+            Text(b" "),
+            Square(s),
+            Text(b" on "),
+            Text(name_at(spec, *generator)),
+            Text(b"\n"),
+        ],
+        CheckFault::Memory => plain(MEMORY_LINE),
+    }
+}
+
+/// Writes the line of a failure. After an error some first bytes are written.
+fn write_line<E: Sink>(failure: &Failure, err: &mut E) -> Result<(), Failed>
+    ensures whole { OnOk result (E.written err.new ≡ with_more (E.written err.old) (line_of failure.now)) }
+    ensures never_fall { E.faults err.old ≤ E.faults err.new }
+    ensures cause { OnErr result (HasRisen (E.faults err.old) (E.faults err.new)) }
+    ensures prefix { HasPrefixMore (line_of failure.now) (E.written err.old) (E.written err.new) }
+{
+    match failure {
+        Failure::Words => write_all(err, b"ext: words outside the command grammar\n"),
+        Failure::Malformed(malformed) => write_parts(err, &malformed_line(*malformed)),
+        Failure::NotModule(spec, fault) => write_parts(err, &fault_line(spec, fault)),
+        Failure::Reading => write_all(err, b"ext: reading the module failed\n"),
+        Failure::Writing => write_all(err, b"ext: writing failed\n"),
+        Failure::Memory => write_all(err, MEMORY_LINE),
+    }
+}
+
+/// Writes the line of a failure to `err`, which takes no memory. Where that fails, some first bytes are written.
+pub fn report<E: Sink>(failure: &Failure, err: &mut E)
+    ensures never_fall { E.faults err.old ≤ E.faults err.new }
+    ensures line { HasPrefixMore (line_of failure.now) (E.written err.old) (E.written err.new) }
+    ensures whole_line { ¬ HasRisen (E.faults err.old) (E.faults err.new) → E.written err.new ≡ with_more (E.written err.old) (line_of failure.now) }
+{
+    // The failure stays what it is where its line cannot be written.
+    let _ = write_line(failure, err);
+}

@@ -1,0 +1,4 @@
+pub mod FreeModule
+pub mod Graded
+pub mod FreeLaws
+pub mod FreeBasis

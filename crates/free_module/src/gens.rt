@@ -1,0 +1,210 @@
+ghost use Rattle.std.specs.Prelude.{◌≡◌, ◌≤◌, ◌<◌, ◌+◌, ◌^◌, ℕ, ℤ, pos, ◌+ℤ◌, ◌-ℤ◌, ◌≤ℤ◌, List, [], ◌∷◌, ◌++◌, Bool, length, take, drop, IfOk, OnOk, OnErr, Some, slice_get};
+ghost use Rattle.milnor_basis.specs.Exponents.{degree_of};
+ghost use Rattle.milnor_product.specs.Times.{basis_at, times_at};
+ghost use Rattle.free_module.specs.FreeLaws.{free_HasUnit, free_KeepsWidths};
+ghost use Rattle.free_module.specs.FreeModule.{IsWithinReach, degree_at, free_basis, free_width};
+ghost use Rattle.free_module.specs.Graded.{free_graded};
+
+use crate::target::Target;
+use f2_vec::BitVec;
+use memory::Memory;
+use milnor_basis::{Basis, Exps};
+use milnor_product::times;
+use std::alloc::Global;
+use std::marker::Model;
+
+/// The generators of a free module, seen as the list of their degrees, which never fall.
+#[derive(Debug, Drop)]
+pub struct Gens {
+    degrees: Vec<i32>,
+}
+
+impl Model for Gens {
+    ghost use Rattle.std.specs.Prelude.{List, ℤ};
+    ghost use Rattle.free_module.specs.FreeModule.{NeverFall};
+
+    ghost Value = { List ℤ };
+
+    ghost view = { λ g. g.degrees.items };
+
+    ghost invariant = { λ g. NeverFall g.degrees.items };
+}
+
+impl Gens {
+    /// No generators.
+    pub fn new(alloc: Global) -> Self
+        ensures { result ≡ [] }
+    {
+        Gens {
+            degrees: Vec::new(alloc),
+        }
+    }
+
+    /// Puts one more generator at the end, of this degree.
+    ///
+    /// # Errors
+    /// `Memory` where there is none for it; the generators are then as before.
+    pub fn push(&mut self, degree: i32) -> Result<(), Memory>
+        requires not_below { (g : ℕ) → g < length self.old → degree_at self.old g ≤ℤ degree }
+        ensures ok { OnOk result (self.new ≡ self.old ++ degree ∷ []) }
+        ensures err { OnErr result (self.new ≡ self.old) }
+    {
+        self.degrees.push(degree)?;
+        Ok(())
+    }
+
+    /// The generators' degrees.
+    pub fn degrees(&self) -> &[i32]
+        ensures { result.now ≡ self.now }
+    {
+        self.degrees.as_slice()
+    }
+
+    /// The place, in the basis of degree `t`, of Sq(R) on the generator with this number. Places and numbers are
+    /// counted from 0.
+    pub fn place(&self, basis: &Basis, t: i32, generator: usize, r: &Exps) -> usize
+        requires there { generator < length self.now }
+        requires degree { (degree_at self.now generator +ℤ pos (degree_of r.now)) ≡ t }
+        requires reach { IsWithinReach basis.now self.now t }
+        requires fits { free_width self.now t < 2 ^ 64 }
+        ensures { slice_get (free_basis self.now t) result ≡ Some (generator, r.now) }
+    {
+        match basis.place(r) {
+            Some((_, place)) => self.block_start(basis, t, generator) + place,
+            None => unreachable!(),
+        }
+    }
+
+    /// The number of a generator and the R of an Sq(R), which on that generator is element `i` of the basis of
+    /// degree `t`.
+    pub fn at(&self, basis: &Basis, t: i32, i: usize) -> (usize, Exps)
+        requires within { i < free_width self.now t }
+        requires reach { IsWithinReach basis.now self.now t }
+        ensures element { slice_get (free_basis self.now t) i ≡ Some (result.0, result.1) }
+        ensures there { result.0 < length self.now }
+        ensures degree { (degree_at self.now result.0 +ℤ pos (degree_of result.1)) ≡ t }
+    {
+        let mut left = i;
+        for generator in 0..self.degrees.len() {
+            let elements = self.block(basis, t, generator);
+            if left < elements.len() {
+                return (generator, elements[left]);
+            }
+            left -= elements.len();
+        }
+        unreachable!()
+    }
+
+    /// The elements Sq(R) that go with a generator in degree `t`.
+    fn block<'a>(&self, basis: &'a Basis, t: i32, generator: usize) -> &'a [Exps]
+        requires there { generator < length self.now }
+        requires reach { IsWithinReach basis.now self.now t }
+        ensures { result.now ≡ basis_at (t -ℤ degree_at self.now generator) }
+    {
+        elements_at(basis, i64::from(t) - i64::from(self.degrees[generator]))
+    }
+
+    /// How many elements of degree `t` stand before those of a generator.
+    fn block_start(&self, basis: &Basis, t: i32, generator: usize) -> usize
+        requires there { generator < length self.now }
+        requires reach { IsWithinReach basis.now self.now t }
+        requires fits { free_width self.now t < 2 ^ 64 }
+        ensures { result ≡ free_width (take generator self.now) t }
+    {
+        let mut start = 0;
+        for g in 0..generator {
+            start += self.block(basis, t, g).len();
+        }
+        start
+    }
+}
+
+impl Target for Gens {
+    ghost graded = { λ gens. free_graded gens };
+
+    ghost reaches = { λ gens max t. IsWithinReach max gens t };
+
+    fn dim(&self, basis: &Basis, t: i32) -> u128 {
+        let mut dim = 0;
+        for degree in self.degrees() {
+            dim += elements_at(basis, i64::from(t) - i64::from(*degree)).len() as u128;
+        }
+        dim
+    }
+
+    fn act(
+        &self,
+        alloc: Global,
+        basis: &Basis,
+        r: &Exps,
+        t: i32,
+        v: &BitVec,
+    ) -> Result<BitVec, Memory> {
+        let mut image = BitVec::zero(alloc, 0)?;
+        let mut start = 0;
+        for degree in self.degrees() {
+            let n = i64::from(t) - i64::from(*degree);
+            let len = elements_at(basis, n).len();
+            let block = part(alloc, v, start, len)?;
+            image = append(image, &times_at(alloc, basis, r, n, &block)?)?;
+            start += len;
+        }
+        Ok(image)
+    }
+
+    ghost has_unit = { λ gens. free_HasUnit gens };
+
+    ghost keeps_widths = { λ gens. free_KeepsWidths gens };
+}
+
+/// The Milnor basis of degree `n`, none where that is negative.
+pub fn elements_at(basis: &Basis, n: i64) -> &[Exps]
+    requires { n ≤ℤ pos basis.now }
+    ensures { result.now ≡ basis_at n }
+{
+    // A degree of the basis fits `u16`, so `n` does where it is not negative.
+    prove!(n <= i64::from(basis.max()));
+    match u16::try_from(n) {
+        Ok(n) => basis.of_degree(n),
+        Err(_) => &[],
+    }
+}
+
+/// Sq(R) times a sum `v` of basis elements of degree `n`, none where that is negative.
+fn times_at(alloc: Global, basis: &Basis, r: &Exps, n: i64, v: &BitVec) -> Result<BitVec, Memory>
+    requires reach { (n +ℤ pos (degree_of r.now)) ≤ℤ pos basis.now }
+    requires width { length v.now ≡ length (basis_at n) }
+    ensures { IfOk result (λ w. w ≡ times_at r.now n v.now) }
+{
+    // A degree of the basis fits `u16`, so `n` does where it is not negative.
+    prove!(n <= i64::from(basis.max()));
+    match u16::try_from(n) {
+        Ok(n) => times(alloc, basis, r, n, v),
+        Err(_) => BitVec::zero(alloc, elements_at(basis, n + i64::from(r.degree())).len()),
+    }
+}
+
+/// The `len` coordinates of `v` from place `start` on.
+fn part(alloc: Global, v: &BitVec, start: usize, len: usize) -> Result<BitVec, Memory>
+    requires { start + len ≤ length v.now }
+    ensures part { IfOk result (λ w. w ≡ take len (drop start v.now)) }
+    ensures fits { start + len < 2 ^ 64 }
+{
+    // A length fits `usize`, so the end of the part does.
+    prove!(start <= v.len());
+    let mut part = BitVec::zero(alloc, 0)?;
+    for i in start..start + len {
+        part.push(v.get(i))?;
+    }
+    Ok(part)
+}
+
+/// `v` with the coordinates of `more` behind its own.
+fn append(mut v: BitVec, more: &BitVec) -> Result<BitVec, Memory>
+    ensures { IfOk result (λ w. w ≡ v ++ more.now) }
+{
+    for i in 0..more.len() {
+        v.push(more.get(i))?;
+    }
+    Ok(v)
+}

@@ -1,0 +1,89 @@
+ghost use Rattle.std.specs.Prelude.{◌≡◌, ◌+ℤ◌, pos, [], ◌∷◌, IfOk};
+ghost use Rattle.milnor_basis.specs.Exponents.{degree_of};
+
+use crate::{Gens, Target, free_basis_is_pairs};
+use f2_vec::BitVec;
+use memory::Memory;
+use milnor_basis::{Basis, Exps};
+use std::alloc::Global;
+use std::test::Fail;
+
+fn sq(r1: u16, r2: u16) -> Exps {
+    Exps::of([r1, r2, 0, 0, 0, 0, 0, 0])
+}
+
+// Generators of degrees 0 and 2.
+fn two_gens(alloc: Global) -> Result<Gens, Memory>
+    ensures { IfOk result (λ gens. gens ≡ pos 0 ∷ pos 2 ∷ []) }
+{
+    let mut gens = Gens::new(alloc);
+    gens.push(0)?;
+    gens.push(2)?;
+    Ok(gens)
+}
+
+// The basis of degree 3 on generators of degrees 0 and 2: Sq(3) and Sq(0,1) on the first, Sq(1) on the second.
+#[test]
+fn places_and_elements(rt: HostRuntime) -> Result<(), Fail> {
+    let alloc = rt.alloc();
+    let basis = Basis::new(alloc, 4)?;
+    let gens = two_gens(alloc)?;
+    assert_eq!(rt; gens.degrees(), [0, 2].as_slice());
+    assert_eq!(rt; gens.dim(&basis, 3), 3);
+    for (place, generator, r) in [(0, 0, sq(3, 0)), (1, 0, sq(0, 1)), (2, 1, sq(1, 0))] {
+        assert_eq!(rt; gens.at(&basis, 3, place), (generator, r), "at {place}");
+    }
+    let (first, second) = (sq(0, 1), sq(1, 0));
+    assert!(rt; first.degree() == 3 && second.degree() == 1);
+    assert_eq!(rt; gens.place(&basis, 3, 0, &first), 1);
+    assert_eq!(rt; gens.place(&basis, 3, 1, &second), 2);
+    Ok(())
+}
+
+// Whether the vector has these coordinates, written as 0 and 1.
+fn is_written(vector: &BitVec, want: &str) -> bool {
+    vector.len() == want.len()
+        && want.bytes().enumerate().all(|(i, digit)| i < vector.len()
+            && vector.get(i) == (digit == b'1'))
+}
+
+// Sq(R) on the sum of all basis elements of degree `t`.
+fn act_on_all<T: Target>(
+    alloc: Global,
+    target: &T,
+    basis: &Basis,
+    r: &Exps,
+    t: i32,
+) -> Result<BitVec, Memory>
+    requires from { T.reaches target.now basis.now t }
+    requires to { T.reaches target.now basis.now (t +ℤ pos (degree_of r.now)) }
+{
+    let Ok(width) = usize::try_from(target.dim(basis, t)) else {
+        return Err(Memory);
+    };
+    let mut all = BitVec::zero(alloc, width)?;
+    for i in 0..width {
+        all.set(i, true);
+    }
+    target.act(alloc, basis, r, t, &all)
+}
+
+// In degree 2 the basis is Sq(2) on the first generator and Sq() on the second. Sq(1) Sq(2) is Sq(3), and Sq(2) Sq(2)
+// is Sq(1,1).
+#[test]
+fn acts(rt: HostRuntime) -> Result<(), Fail> {
+    let alloc = rt.alloc();
+    let basis = Basis::new(alloc, 4)?;
+    let gens = two_gens(alloc)?;
+    let (unit, one, two) = (sq(0, 0), sq(1, 0), sq(2, 0));
+    assert!(rt; unit.degree() == 0 && one.degree() == 1 && two.degree() == 2);
+    assert!(rt; is_written(&act_on_all(alloc, &gens, &basis, &unit, 2)?, "11"));
+    assert!(rt; is_written(&act_on_all(alloc, &gens, &basis, &one, 2)?, "101"));
+    assert!(rt; is_written(&act_on_all(alloc, &gens, &basis, &two, 2)?, "011"));
+    Ok(())
+}
+
+#[test]
+fn laws(_rt: HostRuntime) {
+    free_basis_is_pairs();
+}

@@ -1,0 +1,48 @@
+//! Basis elements as text.
+ghost use Rattle.std.specs.Prelude.{◌≡◌, IfOk, string_bytes};
+ghost use Rattle.milnor_basis.specs.Text.{sq_text};
+
+use crate::exps::Exps;
+use itoa::Buffer;
+use memory::Memory;
+use std::alloc::Global;
+
+/// Sq(R) as text, such as `Sq(0,0,1)`: its exponents up to the last above 0, with a comma between each two. The unit
+/// is `Sq()`.
+///
+/// # Errors
+/// `Memory` where there is none for the text.
+pub fn sq_text(alloc: Global, r: &Exps) -> Result<String, Memory>
+    ensures { IfOk result (λ text. string_bytes text ≡ sq_text r.now) }
+{
+    let mut buffer = Buffer::new();
+    let mut text = String::from_str(alloc, "Sq(")?;
+    for i in 0..r.len() {
+        if i > 0 {
+            text.push(',')?;
+        }
+        text.push_str(buffer.format(r.exponent(i)))?;
+    }
+    text.push(')')?;
+    Ok(text)
+}
+
+#[cfg(test)]
+mod tests {
+    use super::*;
+    use std::test::Fail;
+
+    #[test]
+    fn writes_exponents(rt: HostRuntime) -> Result<(), Fail> {
+        for (numbers, want) in [
+            ([0, 0, 0, 0, 0, 0, 0, 0], "Sq()"),
+            ([0, 0, 1, 0, 0, 0, 0, 0], "Sq(0,0,1)"),
+            ([12, 0, 305, 0, 0, 0, 0, 0], "Sq(12,0,305)"),
+            ([1, 2, 3, 4, 5, 6, 7, 65535], "Sq(1,2,3,4,5,6,7,65535)"),
+        ] {
+            let text = sq_text(rt.alloc(), &Exps::of(numbers))?;
+            assert_eq!(rt; text.as_str(), want);
+        }
+        Ok(())
+    }
+}

@@ -1,0 +1,8 @@
+//! Milnor's product, as coefficients on the basis of its degree.
+#![tactic(auto)]
+
+mod products;
+#[cfg(test)]
+mod tests;
+
+pub use products::{product, times};

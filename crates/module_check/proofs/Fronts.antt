@@ -1,0 +1,121 @@
+-- The front of an exponent list, and the list behind its first number.
+use Rattle.std.proofs.Common.{◌≡◌, ◌≢◌, ℕ, zero, suc, ◌+◌, ◌-◌, ◌*◌, ◌<◌, ◌≤◌, List, [], ◌∷◌, length, map, drop, Bool, get_or, set, refl, sym, ap, ◌∙◌, inl, inr, arith}
+use Rattle.std.specs.Prelude.{not, nat_eq, All}
+use Rattle.std.specs.List.{range_with_len}
+use Rattle.std.specs.Cmp.Lexicographic.{pointwise}
+use Rattle.std.proofs.lemmas.Bool.{cases_lt}
+use Rattle.std.proofs.lemmas.List.Elements.{All-filter, All-weaker}
+use Rattle.milnor_basis.specs.Exponents.{degree_of, entry, put_before, trimmed, IsTrimmed}
+use Rattle.milnor_basis.specs.Product.{product_terms}
+use Rattle.milnor_basis.proofs.ExponentLemmas.{IsTrimmed-tail, entry_past, entry_last}
+use Rattle.module_json.specs.ModuleFile.{File}
+use Rattle.module_check.specs.Module.{unit}
+use Rattle.module_check.specs.DerivedAction.{front, other_terms, square_value, by_product, derived_operator}
+use Rattle.module_check.proofs.Widths.{degree_of-front, degree_of-single, terms_of_degree}
+
+-- ---- the front
+
+pub front_at : (r : List ℕ) (i : ℕ) → front (drop i r) ≡ entry r i + 2 * front (drop (suc i) r)
+front_at [] zero = refl
+front_at [] (suc i) = refl
+front_at (x ∷ r) zero = refl
+front_at (x ∷ r) (suc i) = front_at r i
+
+front_within : (r : List ℕ) (i : ℕ) → front (drop i r) ≤ front r
+front_within r zero = omega arith
+front_within [] (suc i) = omega arith
+front_within (x ∷ r) (suc i) = omega (arith, front_within r i)
+
+pub front_of_degree : (r : List ℕ) → front r ≤ degree_of r
+front_of_degree [] = omega arith
+front_of_degree (x ∷ r) = omega (arith, degree_of-front x r)
+
+pub front_small : (r : List ℕ) (i : ℕ) → front (drop i r) ≤ degree_of r
+front_small r i = omega (arith, front_within r i, front_of_degree r)
+
+pub front_end : (r : List ℕ) (i : ℕ) → length r ≤ i → front (drop i r) ≡ 0
+front_end [] zero l = refl
+front_end [] (suc i) l = refl
+front_end (x ∷ r) zero l = absurd (omega arith)
+front_end (x ∷ r) (suc i) l = front_end r i (omega arith)
+
+-- ---- behind the first number
+
+-- lists with the same numbers are the same but for zeros at the end
+pub trimmed_same : (xs ys : List ℕ) → ((k : ℕ) → entry xs k ≡ entry ys k) → trimmed xs ≡ trimmed ys
+trimmed_same [] [] h = refl
+trimmed_same [] (y ∷ ys) h =
+    let e : y ≡ 0 = sym (h zero) in
+    sym (ap (put_before y) (sym (trimmed_same [] ys (λ k. h (suc k)))) ∙ ap (λ n. put_before n []) e)
+trimmed_same (x ∷ xs) [] h =
+    ap (put_before x) (trimmed_same xs [] (λ k. h (suc k))) ∙ ap (λ n. put_before n []) (h zero)
+trimmed_same (x ∷ xs) (y ∷ ys) h =
+    ap (put_before x) (trimmed_same xs ys (λ k. h (suc k))) ∙ ap (λ n. put_before n (trimmed ys)) (h zero)
+
+entry_behind : (r : List ℕ) (k : ℕ) → entry (drop 1 r) k ≡ entry r (suc k)
+entry_behind [] k = refl
+entry_behind (x ∷ r) k = refl
+
+trimmed_behind : (r : List ℕ) → IsTrimmed r → IsTrimmed (drop 1 r)
+trimmed_behind [] h = refl
+trimmed_behind (x ∷ r) h = IsTrimmed-tail x r h
+
+-- numbers that are those of R behind its first, with zeros at the end
+pub behind_first : (r numbers : List ℕ) (i : ℕ) → IsTrimmed r → length r ≤ i → ((k : ℕ) → suc k < i → entry numbers k ≡ entry r (suc k)) → ((k : ℕ) → i ≤ suc k → entry numbers k ≡ 0) → trimmed numbers ≡ drop 1 r
+behind_first r numbers i t l same rest =
+    trimmed_same numbers (drop 1 r) (λ k. elim (cases_lt (suc k) i) [
+      | inl a ↦ same k a ∙ sym (entry_behind r k)
+      | inr b ↦ rest k b ∙ sym (entry_behind r k ∙ entry_past r (suc k) (omega arith))
+    ])
+    ∙ trimmed_behind r t
+
+-- ---- a list of two numbers or more
+
+pub first_and_behind : (r : List ℕ) → 0 < length r → entry r 0 ∷ drop 1 r ≡ r
+first_and_behind [] l = absurd (omega arith)
+first_and_behind (x ∷ r) l = refl
+
+-- the last number of a list without zeros at its end is not 0, so its front is not
+front_positive : (n : ℕ) (r : List ℕ) → length r ≡ suc n → IsTrimmed r → 0 < front r
+front_positive n r e t =
+    let last : entry r n ≢ 0 = entry_last r n t e in
+    omega (arith, front_at r n, front_within r n)
+
+pub positive_front : (r : List ℕ) → 0 < length r → IsTrimmed r → 0 < front r
+positive_front r l t = front_positive (length r - 1) r (omega arith) t
+
+-- the degrees of the two factors
+pub front_and_behind : (r : List ℕ) → 0 < length r → front r + degree_of (drop 1 r) ≡ degree_of r
+front_and_behind [] l = absurd (omega arith)
+front_and_behind (x ∷ r) l = sym (degree_of-front x r)
+
+-- the other terms are of the degree of Sq(R), and so is the sum of their values
+pub others_of_degree : (r : ℕ) (s : List ℕ) → All (λ t. degree_of t ≡ degree_of (r ∷ s)) (other_terms r s)
+others_of_degree r s =
+    let u = front (r ∷ s) ∷ [] in
+    let whole : degree_of u + degree_of s ≡ degree_of (r ∷ s) = ap (λ n. n + degree_of s) (degree_of-single (front (r ∷ s))) ∙ sym (degree_of-front r s) in
+    All-filter (λ t. not (pointwise nat_eq t (r ∷ s))) (λ t. degree_of t ≡ degree_of (r ∷ s)) (product_terms u s)
+    (All-weaker (λ t. IsTrimmed t × (degree_of t ≡ degree_of u + degree_of s)) (λ t. degree_of t ≡ degree_of (r ∷ s)) (λ t h. h.1 ∙ whole) (product_terms u s) (terms_of_degree u s))
+
+-- ---- the operator of an element, by how many exponents it has
+
+module _ (f : File) (operators : List (List (List Bool))) (r : List ℕ) where
+  pub operator_of_none : length r ≡ 0 → map (unit f.generators) (range_with_len 0 (length f.generators)) ≡ derived_operator f operators r
+  operator_of_none e = by r e where
+    by : (s : List ℕ) → length s ≡ 0 → map (unit f.generators) (range_with_len 0 (length f.generators)) ≡ derived_operator f operators s
+    by [] l = refl
+    by (x ∷ s) l = cc
+
+  pub operator_of_one : length r ≡ 1 → map (square_value f operators (entry r 0)) (range_with_len 0 (length f.generators)) ≡ derived_operator f operators r
+  operator_of_one e = by r e where
+    by : (s : List ℕ) → length s ≡ 1 → map (square_value f operators (entry s 0)) (range_with_len 0 (length f.generators)) ≡ derived_operator f operators s
+    by [] l = cc
+    by (x ∷ []) l = refl
+    by (x ∷ y ∷ s) l = absurd (omega arith)
+
+  pub operator_of_more : 1 < length r → map (by_product f.generators operators (entry r 0) (drop 1 r)) (range_with_len 0 (length f.generators)) ≡ derived_operator f operators r
+  operator_of_more e = by r e where
+    by : (s : List ℕ) → 1 < length s → map (by_product f.generators operators (entry s 0) (drop 1 s)) (range_with_len 0 (length f.generators)) ≡ derived_operator f operators s
+    by [] l = absurd (omega arith)
+    by (x ∷ []) l = absurd (omega arith)
+    by (x ∷ y ∷ s) l = refl

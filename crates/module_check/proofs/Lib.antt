@@ -1,0 +1,15 @@
+pub mod Degrees
+pub mod TextSteps
+pub mod Elements
+pub mod Values
+pub mod Adem
+pub mod Fronts
+pub mod Derivation
+pub mod AboveSpan
+pub mod Widths
+pub mod Derived
+pub mod FirstIn
+pub mod Sides
+pub mod Entries
+pub mod Accepted
+pub mod OneGenerator

@@ -1,0 +1,27 @@
+use Rattle.std.proofs.Common.{◌≡◌, suc, ◌+◌, ◌-◌, ◌*◌, drop, ap, ◌∙◌, arith}
+use Rattle.milnor_basis.specs.Exponents.{entry}
+use Rattle.module_check.specs.DerivedAction.{front}
+use Rattle.module_check.proofs.Fronts.{front_at, front_small, positive_front}
+use Rattle.module_check.proofs.exponents.front.Goals as goal
+
+pub overflow_mul-front : goal.overflow_mul-front
+overflow_mul-front c =
+    let r = c.args.r.now in
+    let k = c.loop-i.i - 1 in
+    let here : suc k ≡ c.loop-i.i = omega (arith, c.loop-i-test.true) in
+    let same : front (drop (suc k) r) ≡ front (drop c.loop-i.i r) = ap (λ n. front (drop n r)) here in
+    omega (arith, front_at r k, front_small r k, c.loop-i.invariant)
+
+pub overflow_add-front : goal.overflow_add-front
+overflow_add-front c =
+    let r = c.args.r.now in
+    let k = c.loop-i.i - 1 in
+    let here : suc k ≡ c.loop-i.i = omega (arith, c.loop-i-test.true) in
+    let same : front (drop (suc k) r) ≡ front (drop c.loop-i.i r) = ap (λ n. front (drop n r)) here in
+    omega (arith, front_at r k, front_small r k, c.loop-i.invariant, c.exponent.ensures)
+
+pub returns-clause-positive : goal.returns-clause-positive
+returns-clause-positive c =
+    let none : c.loop-i.i ≡ 0 = omega (arith, c.loop-i-test.false) in
+    let all : c.loop-i.front ≡ front c.args.r.now = c.loop-i.invariant ∙ ap (λ n. front (drop n c.args.r.now)) none in
+    λ l. let p = positive_front c.args.r.now l c.len-i.ensures.trimmed in omega arith

@@ -1,0 +1,9 @@
+pub mod Module
+pub mod DerivedAction
+pub mod Acceptance
+pub mod Text
+pub mod Generators
+pub mod Operators
+pub mod ModuleLaws
+pub mod Checked
+pub mod Relations

@@ -1,0 +1,22 @@
+//! Modules over the mod 2 Steenrod algebra: a module file describes one, or what keeps it from that is named.
+#![tactic(auto)]
+
+mod acceptance;
+mod checked;
+mod derive;
+mod exponents;
+mod fault;
+mod generators;
+mod laws;
+mod operators;
+mod relations;
+mod squares;
+mod target;
+#[cfg(test)]
+mod tests;
+mod text;
+
+pub use acceptance::check;
+pub use checked::Module;
+pub use fault::CheckFault;
+pub use laws::accepted_is_module;
