@@ -9,18 +9,27 @@ use Rattle.module_check.specs.Acceptance.{refusal_of}
 use Rattle.module_check.specs.Checked.{sphere_file}
 use Rattle.module_check.specs.declared.fault.CheckFault.{CheckFault}
 use Rattle.ext_run.specs.declared.words.Command.{Command}
-use Rattle.ext_run.specs.declared.words.Command.TheVariants.{Sphere, Resolve, Check}
-use Rattle.ext_run.specs.declared.words.Range.{Range}
+use Rattle.ext_run.specs.declared.words.Command.TheVariants.{Sphere, Resolve, Dump, Check}
 use Rattle.ext_run.specs.declared.failure.Failure.{Failure}
-use Rattle.ext_run.specs.declared.failure.Failure.TheVariants.{Words, Malformed as NoModuleFile, NotModule}
-use Rattle.ext_run.specs.Resolution.{Content, generator_count, CanonicalTableIsUnique}
-use Rattle.ext_run.specs.Chart.{chart_text}
+use Rattle.ext_run.specs.declared.failure.Failure.TheVariants.{Words}
+use Rattle.resolution_laws.specs.Resolution.{Content, generator_count, CanonicalTableIsUnique}
+use Rattle.square.specs.Squares.{module_over}
+use Rattle.square.specs.declared.range.Range.{Range}
+use Rattle.ext_chart.specs.Chart.{chart_text}
+use Rattle.ext_chart.specs.Dump.{dump_text}
 use Rattle.ext_run.specs.Words.{command_of}
-use Rattle.ext_run.specs.Answer.{module_over, IsChart, IsLineOn, IsModuleAnswer, no_file, no_module, text_of, IsAnswerTo, IsAnswer, AnswerIsUnique}
+use Rattle.ext_run.specs.Answer.{IsResolved, IsChart, IsDump, IsLineOn, IsModuleAnswer, no_file, no_module, text_of, IsAnswerTo, AnswerIsUnique}
+
+-- two texts that a function makes of two tables of one module and range
+same-text : CanonicalTableIsUnique → (range : Range) (m : SteenrodModule) (text : List (List Content) → List ℕ) (a b : List (List Content)) (x y : List ℕ) → IsResolved range m a → IsResolved range m b → x ≡ text a → y ≡ text b → x ≡ y
+same-text unique range m text a b x y p q e h = e ∙ (ap text (unique (module_over m) range.s range.t a b p.canonical q.canonical) ∙ sym h)
 
 chart-unique : CanonicalTableIsUnique → (range : Range) (m : SteenrodModule) (x y : List ℕ) → IsChart range m x → IsChart range m y → x ≡ y
 chart-unique unique range m x y a b =
-    a.chart ∙ (ap (λ (table : List (List Content)). chart_text (bottom m.generators) range.s range.t (generator_count table)) (unique (module_over m) range.s range.t a.table b.table a.canonical b.canonical) ∙ sym b.chart)
+    same-text unique range m (λ table. chart_text (bottom m.generators) range.s range.t (generator_count table)) a.table b.table x y a.resolved b.resolved a.chart b.chart
+
+dump-unique : CanonicalTableIsUnique → (range : Range) (m : SteenrodModule) (x y : List ℕ) → IsDump range m x → IsDump range m y → x ≡ y
+dump-unique unique range m x y a b = same-text unique range m (dump_text m.generators range.s range.t) a.table b.table x y a.resolved b.resolved a.dump b.dump
 
 -- the kinds of answers differ
 file_and_refusal : FileIsUnique → (bytes : List ℕ) (f : File) (e : Malformed) → IsFileOf bytes (Ok f) → IsFileOf bytes (Err e) → ⊥
@@ -68,6 +77,7 @@ answer-to-unique unique files (Sphere common) bytes (Ok x) (Ok y) p q = let text
 answer-to-unique unique files (Sphere common) bytes (Ok x) (Err e) p q = absurd q
 answer-to-unique unique files (Sphere common) bytes (Err e) b p q = absurd p
 answer-to-unique unique files (Resolve common) bytes a b p q = module-answer-unique files (IsChart common.range) (chart-unique unique common.range) bytes a b p q
+answer-to-unique unique files (Dump common) bytes a b p q = module-answer-unique files (IsDump common.range) (dump-unique unique common.range) bytes a b p q
 answer-to-unique unique files Check bytes a b p q = module-answer-unique files IsLineOn (λ m x y s t. s ∙ sym t) bytes a b p q
 
 answer-of-unique : CanonicalTableIsUnique → FileIsUnique → (command : Option Command) (bytes : List ℕ) (a b : Result (List ℕ) Failure) → MatchOption command (a ≡ Err Words) (λ c. IsAnswerTo c bytes a) → MatchOption command (b ≡ Err Words) (λ c. IsAnswerTo c bytes b) → a ≡ b

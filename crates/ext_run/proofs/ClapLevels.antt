@@ -9,8 +9,8 @@ use Rattle.clap.specs.Simple.{Shape, filled, new_shape, with_index}
 use Rattle.clap.specs.Kinds.{Kinds, or_else}
 use Rattle.clap.specs.Faults.{step_fault, walk_fault, settle_fault, defaults_fault, check_fault}
 use Rattle.clap.specs.declared.error.kind.ErrorKind.TheVariants.{UnknownArgument, MissingRequiredArgument}
+use Rattle.square.specs.declared.range.Range.{Range}
 use Rattle.ext_run.specs.declared.words.Common.{Common}
-use Rattle.ext_run.specs.declared.words.Range.{Range}
 use Rattle.ext_run.specs.Words.{number_up_to, range_of, common_of}
 use Rattle.ext_run.specs.CommandLine.{positional, common_in}
 use Rattle.ext_run.proofs.ClapWords.{Fails, fails-first, fails-as, IsNoNumber, HasNoOption, at, word-turn}

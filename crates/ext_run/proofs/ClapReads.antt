@@ -1,5 +1,5 @@
 -- The matches of `clap` are those of the grammar, where no word is `--`.
-use Rattle.std.proofs.Common.{◌≡◌, refl, List, [], ◌∷◌, Bool, true, false, Option, Some, None, inl, inr, ap, sym, subst, ◌∙◌}
+use Rattle.std.proofs.Common.{◌≡◌, refl, List, [], ◌∷◌, Bool, true, false, Some, None, inl, inr, ap, sym, subst, ◌∙◌}
 use Rattle.std.specs.Prelude.{codes, option_map, is_some, ◌≢◌}
 use Rattle.std.specs.List.{fold}
 use Rattle.std.specs.Str.{bytes_eq}
@@ -12,15 +12,16 @@ use Rattle.clap.specs.declared.error.kind.ErrorKind.TheVariants.{UnknownArgument
 use Rattle.clap.proofs.WalkLemmas.{walk_stopped}
 use Rattle.clap.proofs.FaultLemmas.{stopped_fault}
 use Rattle.ext_run.specs.declared.words.Common.{Common}
-use Rattle.ext_run.specs.declared.words.Command.TheVariants.{Sphere, Resolve, Check}
-use Rattle.ext_run.specs.Words.{command_of}
+use Rattle.ext_run.specs.declared.words.Command.{Command}
+use Rattle.ext_run.specs.declared.words.Command.TheVariants.{Sphere, Resolve, Dump, Check}
+use Rattle.ext_run.specs.Words.{common_of, command_of}
 use Rattle.ext_run.specs.CommandLine.{command_line, command_in}
 use Rattle.ext_run.proofs.ClapWords.{Fails, fails-first, fails-as, word-turn}
 use Rattle.ext_run.proofs.ClapLevels.{refuses, reads, reads-range, bare-none, bare-more, bare_leaf, range_leaf, top, start, rest_fault, has_dashes, first-plain, common_after, walk_over}
 
 -- the command line as it is built
 abbrev ready : App
-ready = record { top = top; subs = range_leaf (codes "sphere") ∷ range_leaf (codes "resolve") ∷ bare_leaf (codes "check") ∷ [] }
+ready = record { top = top; subs = range_leaf (codes "sphere") ∷ range_leaf (codes "resolve") ∷ range_leaf (codes "dump") ∷ bare_leaf (codes "check") ∷ [] }
 
 -- `clap` refuses the words, which give no command, or its matches give the command
 pub data Reads (words : List Text) : Type 0 where
@@ -51,27 +52,42 @@ named-fault name words =
     ap (λ (walking : Kinds). whole_fault walking (walk_behind name words)) (stopped_fault top (names_of ready) start (name, []) words)
     ∙ ap (λ (w : Walk). whole_fault [] w) (after-name name words)
 
--- the errors of the words behind a command's name
-sphere-fault : (words : List Text) → fault_of command_line (codes "sphere" ∷ words) ≡ rest_fault (range_leaf (codes "sphere")) start words
-unfolding walk_fault walked defaults_fault
-sphere-fault words = named-fault (codes "sphere") words ∙ or_else-nil (rest_fault (range_leaf (codes "sphere")) start words)
+-- ---- a command with the words S and T: its errors, its matches, and the command that the grammar gives
 
-resolve-fault : (words : List Text) → fault_of command_line (codes "resolve" ∷ words) ≡ rest_fault (range_leaf (codes "resolve")) start words
+record IsRangeCommand (name : Text) (make : Common → Command) : Type 0 where
+  fault : (words : List Text) → fault_of command_line (name ∷ words) ≡ rest_fault (range_leaf name) start words
+  matches : (words : List Text) → command_in (subcommand_of command_line (name ∷ words)) ≡ option_map make (common_after (walk_over words))
+  given : (words : List Text) → command_of (name ∷ words) ≡ option_map make (common_of words)
+
+is_sphere : IsRangeCommand (codes "sphere") Sphere
 unfolding walk_fault walked defaults_fault
-resolve-fault words = named-fault (codes "resolve") words ∙ or_else-nil (rest_fault (range_leaf (codes "resolve")) start words)
+is_sphere = record {
+  fault = λ words. named-fault (codes "sphere") words ∙ or_else-nil (rest_fault (range_leaf (codes "sphere")) start words);
+  matches = λ words. ap (λ (w : Walk). command_in (entered ready w.stopped)) (after-name (codes "sphere") words);
+  given = λ words. refl;
+}
+
+is_resolve : IsRangeCommand (codes "resolve") Resolve
+unfolding walk_fault walked defaults_fault
+is_resolve = record {
+  fault = λ words. named-fault (codes "resolve") words ∙ or_else-nil (rest_fault (range_leaf (codes "resolve")) start words);
+  matches = λ words. ap (λ (w : Walk). command_in (entered ready w.stopped)) (after-name (codes "resolve") words);
+  given = λ words. refl;
+}
+
+is_dump : IsRangeCommand (codes "dump") Dump
+unfolding walk_fault walked defaults_fault
+is_dump = record {
+  fault = λ words. named-fault (codes "dump") words ∙ or_else-nil (rest_fault (range_leaf (codes "dump")) start words);
+  matches = λ words. ap (λ (w : Walk). command_in (entered ready w.stopped)) (after-name (codes "dump") words);
+  given = λ words. refl;
+}
+
+-- ---- the command without words
 
 check-fault : (words : List Text) → fault_of command_line (codes "check" ∷ words) ≡ rest_fault (bare_leaf (codes "check")) start words
 unfolding walk_fault walked defaults_fault
 check-fault words = named-fault (codes "check") words ∙ or_else-nil (rest_fault (bare_leaf (codes "check")) start words)
-
--- the matches of the words behind a command's name
-sphere-matches : (words : List Text) → command_in (subcommand_of command_line (codes "sphere" ∷ words)) ≡ option_map Sphere (common_after (walk_over words))
-unfolding walked
-sphere-matches words = ap (λ (w : Walk). command_in (entered ready w.stopped)) (after-name (codes "sphere") words)
-
-resolve-matches : (words : List Text) → command_in (subcommand_of command_line (codes "resolve" ∷ words)) ≡ option_map Resolve (common_after (walk_over words))
-unfolding walked
-resolve-matches words = ap (λ (w : Walk). command_in (entered ready w.stopped)) (after-name (codes "resolve") words)
 
 check-matches : (words : List Text) → command_in (subcommand_of command_line (codes "check" ∷ words)) ≡ Some Check
 unfolding walked
@@ -83,16 +99,10 @@ reads-nothing : Reads []
 unfolding walk_fault defaults_fault
 reads-nothing = refused_words (record { first = MissingSubcommand; others = []; is = refl }) refl
 
-reads-sphere : (words : List Text) → has_dashes words ≡ false → Reads (codes "sphere" ∷ words)
-reads-sphere words plain = elim (reads-range (codes "sphere") words plain) [
-  | refuses fails none ↦ refused_words (fails-as _ _ (sphere-fault words) fails) (ap (λ (c : Option Common). option_map Sphere c) none)
-  | reads passes is ↦ read_words (sphere-fault words ∙ passes) (sphere-matches words ∙ ap (λ (c : Option Common). option_map Sphere c) is)
-]
-
-reads-resolve : (words : List Text) → has_dashes words ≡ false → Reads (codes "resolve" ∷ words)
-reads-resolve words plain = elim (reads-range (codes "resolve") words plain) [
-  | refuses fails none ↦ refused_words (fails-as _ _ (resolve-fault words) fails) (ap (λ (c : Option Common). option_map Resolve c) none)
-  | reads passes is ↦ read_words (resolve-fault words ∙ passes) (resolve-matches words ∙ ap (λ (c : Option Common). option_map Resolve c) is)
+reads-numbers : (name : Text) (make : Common → Command) → IsRangeCommand name make → (words : List Text) → has_dashes words ≡ false → Reads (name ∷ words)
+reads-numbers name make command words plain = elim (reads-range name words plain) [
+  | refuses fails none ↦ refused_words (fails-as _ _ (command.fault words) fails) (command.given words ∙ ap (option_map make) none)
+  | reads passes is ↦ read_words (command.fault words ∙ passes) (command.matches words ∙ (ap (option_map make) is ∙ sym (command.given words)))
 ]
 
 reads-check : (words : List Text) → has_dashes words ≡ false → Reads (codes "check" ∷ words)
@@ -100,27 +110,32 @@ reads-check [] plain = read_words (check-fault [] ∙ bare-none (codes "check"))
 reads-check (word ∷ words) plain = refused_words (fails-as _ _ (check-fault (word ∷ words)) (bare-more (codes "check") word words plain)) refl
 
 -- a first word that is no command
-reads-other : (word : Text) (words : List Text) → bytes_eq word (45 ∷ 45 ∷ []) ≡ false → bytes_eq (codes "sphere") word ≡ false → bytes_eq (codes "resolve") word ≡ false → bytes_eq (codes "check") word ≡ false → Reads (word ∷ words)
+reads-other : (word : Text) (words : List Text) → bytes_eq word (45 ∷ 45 ∷ []) ≡ false → bytes_eq (codes "sphere") word ≡ false → bytes_eq (codes "resolve") word ≡ false → bytes_eq (codes "dump") word ≡ false → bytes_eq (codes "check") word ≡ false → Reads (word ∷ words)
 unfolding walk_fault
-reads-other word words plain sphere resolve check =
-    let unnamed : subcommand_met (names_of ready) idle word ≡ None = rw (sphere, resolve, check) refl in
-    let none : command_of (word ∷ words) ≡ None = rw (sphere, resolve, check) refl in
+reads-other word words plain sphere resolve dump check =
+    let unnamed : subcommand_met (names_of ready) idle word ≡ None = rw (sphere, resolve, dump, check) refl in
+    let none : command_of (word ∷ words) ≡ None = rw (sphere, resolve, dump, check) refl in
     elim (word-turn top (record { no_long = λ _. refl; no_short = λ _. refl }) (names_of ready) word [] None 1 unnamed plain) [
       | inl fails ↦ refused_words (fails-first _ _ (fails-first _ _ fails.0)) none
       | inr passes ↦ refused_words (fails-first _ _ (fails-first _ _ (fails-as _ _ passes.0 (record { first = UnknownArgument; others = InvalidSubcommand ∷ []; is = refl })))) none
     ]
 
-by-name : (word : Text) (words : List Text) (sphere resolve check : Bool) → bytes_eq (codes "sphere") word ≡ sphere → bytes_eq (codes "resolve") word ≡ resolve → bytes_eq (codes "check") word ≡ check → bytes_eq word (45 ∷ 45 ∷ []) ≡ false → has_dashes words ≡ false → Reads (word ∷ words)
-by-name word words true resolve check s r c plain more = subst (λ (w : Text). Reads (w ∷ words)) ((bytes_eq-Decides (codes "sphere") word).0 s) (reads-sphere words more)
-by-name word words false true check s r c plain more = subst (λ (w : Text). Reads (w ∷ words)) ((bytes_eq-Decides (codes "resolve") word).0 r) (reads-resolve words more)
-by-name word words false false true s r c plain more = subst (λ (w : Text). Reads (w ∷ words)) ((bytes_eq-Decides (codes "check") word).0 c) (reads-check words more)
-by-name word words false false false s r c plain more = reads-other word words plain s r c
+-- a first word that is a command's name
+same-name : (name word : Text) (words : List Text) → bytes_eq name word ≡ true → Reads (name ∷ words) → Reads (word ∷ words)
+same-name name word words same = subst (λ (w : Text). Reads (w ∷ words)) ((bytes_eq-Decides name word).0 same)
+
+by-name : (word : Text) (words : List Text) (sphere resolve dump check : Bool) → bytes_eq (codes "sphere") word ≡ sphere → bytes_eq (codes "resolve") word ≡ resolve → bytes_eq (codes "dump") word ≡ dump → bytes_eq (codes "check") word ≡ check → bytes_eq word (45 ∷ 45 ∷ []) ≡ false → has_dashes words ≡ false → Reads (word ∷ words)
+by-name word words true resolve dump check s r d c plain more = same-name (codes "sphere") word words s (reads-numbers (codes "sphere") Sphere is_sphere words more)
+by-name word words false true dump check s r d c plain more = same-name (codes "resolve") word words r (reads-numbers (codes "resolve") Resolve is_resolve words more)
+by-name word words false false true check s r d c plain more = same-name (codes "dump") word words d (reads-numbers (codes "dump") Dump is_dump words more)
+by-name word words false false false true s r d c plain more = same-name (codes "check") word words c (reads-check words more)
+by-name word words false false false false s r d c plain more = reads-other word words plain s r d c
 
 pub clap-reads : (words : List Text) → has_dashes words ≡ false → Reads words
 clap-reads [] plain = reads-nothing
 clap-reads (word ∷ words) plain =
     let parts = first-plain word words plain in
-    by-name word words (bytes_eq (codes "sphere") word) (bytes_eq (codes "resolve") word) (bytes_eq (codes "check") word) refl refl refl parts.0 parts.1
+    by-name word words (bytes_eq (codes "sphere") word) (bytes_eq (codes "resolve") word) (bytes_eq (codes "dump") word) (bytes_eq (codes "check") word) refl refl refl refl parts.0 parts.1
 
 -- the matches of words that are taken give their command
 pub taken-reads : (words : List Text) → has_dashes words ≡ false → fault_of command_line words ≡ [] → command_in (subcommand_of command_line words) ≡ command_of words

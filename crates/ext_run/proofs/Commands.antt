@@ -1,17 +1,16 @@
 -- The answer to a command, from the module that it reads.
 use Rattle.std.proofs.Common.{◌≡◌, ℕ, List, [], refl, sym, subst}
 use Rattle.std.specs.Prelude.{Option, Some, None, MatchOption, IfSome, Result, Ok, Err}
-use Rattle.module_json.specs.ModuleFile.{File}
 use Rattle.module_check.specs.Module.{Module as SteenrodModule}
 use Rattle.module_check.specs.DerivedAction.{derived_module}
 use Rattle.module_check.specs.Checked.{sphere_file}
 use Rattle.ext_run.specs.declared.words.Command.{Command}
-use Rattle.ext_run.specs.declared.words.Command.TheVariants.{Sphere, Resolve, Check}
+use Rattle.ext_run.specs.declared.words.Command.TheVariants.{Sphere, Resolve, Dump, Check}
 use Rattle.ext_run.specs.declared.words.Common.{Common}
 use Rattle.ext_run.specs.declared.failure.Failure.{Failure}
 use Rattle.ext_run.specs.declared.failure.Failure.TheVariants.{Words, Malformed as NoModuleFile, NotModule, Reading, Writing, Memory}
 use Rattle.ext_run.specs.Words.{command_of}
-use Rattle.ext_run.specs.Answer.{IsAnswer, IsAnswerTo, IsAnswerFrom, IsCauseFrom, Reads, WordsRead, IsChart, IsLineOn, IsModuleAnswer, no_file, no_module, text_of, IsFileCauseFrom, IsModuleFrom, IsCommandAnswerFrom, IsCommandCauseFrom}
+use Rattle.ext_run.specs.Answer.{IsAnswer, IsAnswerTo, IsAnswerFrom, IsCauseFrom, Reads, WordsRead, IsChart, IsDump, IsLineOn, IsModuleAnswer, no_file, no_module, text_of, IsFileCauseFrom, IsModuleFrom, IsCommandAnswerFrom, IsCommandCauseFrom}
 
 -- some bytes, and all that is left where that is told
 bytes_of : Option (List ℕ) → List ℕ
@@ -30,36 +29,44 @@ sphere_answer common left m text e p = record {
   is_answer = subst (λ (n : SteenrodModule). IsChart common.range n text) e p;
 }
 
-pub resolve_answer : (common : Common) (left : Option (List ℕ)) (m : SteenrodModule) (text : List ℕ) → IsModuleFrom left m → IsChart common.range m text → IsCommandAnswerFrom (Resolve common) left (Ok text)
-resolve_answer common left m text p x = record {
-  bytes = p.is_file.bytes;
-  all = p.is_file.all;
-  is_answer = text_of p.file text p.is_file.is_file p.no_refusal (subst (λ (n : SteenrodModule). IsChart common.range n text) p.is_derived x);
-}
+-- ---- the commands that read a module
 
-pub check_answer : (left : Option (List ℕ)) (m : SteenrodModule) (text : List ℕ) → IsModuleFrom left m → IsLineOn m text → IsCommandAnswerFrom Check left (Ok text)
-check_answer left m text p x = record {
-  bytes = p.is_file.bytes;
-  all = p.is_file.all;
-  is_answer = text_of p.file text p.is_file.is_file p.no_refusal (subst (λ (n : SteenrodModule). IsLineOn n text) p.is_derived x);
-}
+-- the command reads a module file, and answers what is right for it as IsTextOf says
+pub record IsOnModule (command : Command) (IsTextOf : SteenrodModule → List ℕ → Type 0) : Type 0 where
+  pub reads : Reads command
+  pub answers : (bytes : List ℕ) (answer : Result (List ℕ) Failure) → IsModuleAnswer IsTextOf bytes answer → IsAnswerTo command bytes answer
 
--- a command that reads has no answer where there is no module
-pub resolve_cause : (common : Common) (left : Option (List ℕ)) (failure : Failure) → IsFileCauseFrom left failure → IsCommandCauseFrom (Resolve common) left failure
-resolve_cause common left Words p = absurd p
-resolve_cause common left (NoModuleFile e) p = record { bytes = p.bytes; all = p.all; is_answer = no_file e p.is_file }
-resolve_cause common left (NotModule f e) p = record { bytes = p.0.bytes; all = p.0.all; is_answer = no_module f e p.0.is_file p.1 }
-resolve_cause common left Reading p = tt
-resolve_cause common left Writing p = absurd p
-resolve_cause common left Memory p = tt
+pub resolve_on : (command : Command) (common : Common) → command ≡ Resolve common → IsOnModule command (IsChart common.range)
+resolve_on command common is =
+    let on : IsOnModule (Resolve common) (IsChart common.range) = record { reads = tt; answers = λ bytes answer p. p } in
+    subst (λ (c : Command). IsOnModule c (IsChart common.range)) (sym is) on
 
-pub check_cause : (left : Option (List ℕ)) (failure : Failure) → IsFileCauseFrom left failure → IsCommandCauseFrom Check left failure
-check_cause left Words p = absurd p
-check_cause left (NoModuleFile e) p = record { bytes = p.bytes; all = p.all; is_answer = no_file e p.is_file }
-check_cause left (NotModule f e) p = record { bytes = p.0.bytes; all = p.0.all; is_answer = no_module f e p.0.is_file p.1 }
-check_cause left Reading p = tt
-check_cause left Writing p = absurd p
-check_cause left Memory p = tt
+pub dump_on : (command : Command) (common : Common) → command ≡ Dump common → IsOnModule command (IsDump common.range)
+dump_on command common is =
+    let on : IsOnModule (Dump common) (IsDump common.range) = record { reads = tt; answers = λ bytes answer p. p } in
+    subst (λ (c : Command). IsOnModule c (IsDump common.range)) (sym is) on
+
+pub check_on : (command : Command) → command ≡ Check → IsOnModule command IsLineOn
+check_on command is =
+    let on : IsOnModule Check IsLineOn = record { reads = tt; answers = λ bytes answer p. p } in
+    subst (λ (c : Command). IsOnModule c IsLineOn) (sym is) on
+
+module _ (command : Command) (IsTextOf : SteenrodModule → List ℕ → Type 0) (on : IsOnModule command IsTextOf) (left : Option (List ℕ)) where
+  pub module_answer : (m : SteenrodModule) (text : List ℕ) → IsModuleFrom left m → IsTextOf m text → IsCommandAnswerFrom command left (Ok text)
+  module_answer m text p x = record {
+    bytes = p.is_file.bytes;
+    all = p.is_file.all;
+    is_answer = on.answers p.is_file.bytes (Ok text) (text_of p.file text p.is_file.is_file p.no_refusal (subst (λ (n : SteenrodModule). IsTextOf n text) p.is_derived x));
+  }
+
+  -- there is no answer where there is no module
+  pub module_cause : (failure : Failure) → IsFileCauseFrom left failure → IsCommandCauseFrom command left failure
+  module_cause Words p = absurd p
+  module_cause (NoModuleFile e) p = record { bytes = p.bytes; all = p.all; is_answer = on.answers p.bytes (Err (NoModuleFile e)) (no_file e p.is_file) }
+  module_cause (NotModule f e) p = record { bytes = p.0.bytes; all = p.0.all; is_answer = on.answers p.0.bytes (Err (NotModule f e)) (no_module f e p.0.is_file p.1) }
+  module_cause Reading p = on.reads
+  module_cause Writing p = absurd p
+  module_cause Memory p = tt
 
 -- ---- from a command to the words that give it
 

@@ -7,7 +7,7 @@ use Rattle.std.proofs.lemmas.Slice.Eq.{bytes_eq-Decides}
 use Rattle.clap.specs.Walk.{Text}
 use Rattle.ext_run.specs.declared.words.Common.{Common}
 use Rattle.ext_run.specs.declared.words.Command.{Command}
-use Rattle.ext_run.specs.declared.words.Command.TheVariants.{Sphere, Resolve}
+use Rattle.ext_run.specs.declared.words.Command.TheVariants.{Sphere, Resolve, Dump}
 use Rattle.ext_run.specs.Words.{common_of, check_of, command_of}
 use Rattle.ext_run.proofs.ClapWords.{IsNoNumber, no-number}
 use Rattle.ext_run.proofs.ClapLevels.{has_dashes, no-s, no-t}
@@ -32,16 +32,17 @@ dashes-no-check [] dashes = absurd (cc)
 dashes-no-check (word ∷ words) dashes = refl
 
 -- no command, by any name, where the words behind it are none
-no-words : (sphere resolve check : Bool) (common : Option Common) (bare : Option Command) → common ≡ None → bare ≡ None →
-    (if sphere then option_map Sphere common else if resolve then option_map Resolve common else if check then bare else None) ≡ None
-no-words true resolve check common bare c b = ap (λ (o : Option Common). option_map Sphere o) c
-no-words false true check common bare c b = ap (λ (o : Option Common). option_map Resolve o) c
-no-words false false true common bare c b = b
-no-words false false false common bare c b = refl
+no-words : (sphere resolve dump check : Bool) (common : Option Common) (bare : Option Command) → common ≡ None → bare ≡ None →
+    (if sphere then option_map Sphere common else if resolve then option_map Resolve common else if dump then option_map Dump common else if check then bare else None) ≡ None
+no-words true resolve dump check common bare c b = ap (option_map Sphere) c
+no-words false true dump check common bare c b = ap (option_map Resolve) c
+no-words false false true check common bare c b = ap (option_map Dump) c
+no-words false false false true common bare c b = b
+no-words false false false false common bare c b = refl
 
 pub dashes-none : (words : List Text) → has_dashes words ≡ true → command_of words ≡ None
 dashes-none [] dashes = refl
 dashes-none (word ∷ words) dashes = elim (or_cases _ _ dashes) [
   | inl here ↦ subst (λ (w : Text). command_of (w ∷ words) ≡ None) (sym ((bytes_eq-Decides word (45 ∷ 45 ∷ [])).0 here)) refl
-  | inr there ↦ no-words (bytes_eq (codes "sphere") word) (bytes_eq (codes "resolve") word) (bytes_eq (codes "check") word) (common_of words) (check_of words) (dashes-no-common words there) (dashes-no-check words there)
+  | inr there ↦ no-words (bytes_eq (codes "sphere") word) (bytes_eq (codes "resolve") word) (bytes_eq (codes "dump") word) (bytes_eq (codes "check") word) (common_of words) (check_of words) (dashes-no-common words there) (dashes-no-check words there)
 ]

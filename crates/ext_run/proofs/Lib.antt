@@ -1,6 +1,4 @@
 pub mod AnswerUnique
-pub mod ChartText
-pub mod Choice
 pub mod Joined
 pub mod ClapLevels
 pub mod ClapReads
@@ -8,11 +6,8 @@ pub mod ClapWords
 pub mod CommandNames
 pub mod Commands
 pub mod Dashes
-pub mod MapRows
-pub mod NewGenerators
 pub mod Reading
-pub mod Rows
-pub mod TableIsUnique
+pub mod Resolved
 pub mod WordLimits
 pub mod Written
 pub mod TopCall

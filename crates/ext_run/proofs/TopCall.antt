@@ -1,13 +1,12 @@
 -- What a failure's status says of its cause, and what the answer to words and input excludes.
-use Rattle.std.proofs.Common.{◌≡◌, ℕ, ◌+◌, ◌^◌, ◌<◌, ◌≤◌, ◌⊎◌, inl, inr, List, [], length, drop, Bool, true, false, Option, Some, None, IfSome, refl, sym, subst, ◌∙◌, ap, arith}
-use Rattle.std.specs.Prelude.{MatchOption, Result, Ok, Err, nat_le, IsOkAnd}
+use Rattle.std.proofs.Common.{◌≡◌, ℕ, ◌^◌, ◌≤◌, ◌⊎◌, inl, inr, List, [], length, drop, Bool, true, false, Option, Some, None, IfSome, refl, sym, subst, ◌∙◌, ap, arith}
+use Rattle.std.specs.Prelude.{MatchOption, Result, Ok, Err, nat_le}
 use Rattle.std.proofs.lemmas.Bool.{leb-true}
 use Rattle.std.proofs.lemmas.List.{drop_all}
 use Rattle.f2_matrix.proofs.Unique.{kernel_basis_unique}
-use Rattle.edge.specs.Faults.{HasRisen}
 use Rattle.edge.specs.Source.{without_first}
 use Rattle.module_json.specs.ModuleFile.{File, IsFileOf, too_long, no_json, value}
-use Rattle.module_json.specs.Checks.{unless, size_refusal}
+use Rattle.module_json.specs.Checks.{unless}
 use Rattle.module_json.specs.declared.malformed.Malformed.{Malformed}
 use Rattle.module_json.specs.declared.malformed.Malformed.TheVariants.{Limit, Json, Shape, Kind, Prime, Name, Degree, Action, Memory as NoRoom}
 use Rattle.module_json.specs.declared.malformed.What.TheVariants.{Bytes}
@@ -17,14 +16,14 @@ use Rattle.module_check.specs.Acceptance.{refusal_of}
 use Rattle.module_check.specs.declared.fault.CheckFault.{CheckFault}
 use Rattle.module_check.specs.declared.fault.CheckFault.TheVariants.{Listed, Relation, Memory as NoMemory}
 use Rattle.ext_run.specs.declared.words.Command.{Command}
-use Rattle.ext_run.specs.declared.words.Command.TheVariants.{Sphere, Resolve, Check}
+use Rattle.ext_run.specs.declared.words.Command.TheVariants.{Sphere, Resolve, Dump, Check}
 use Rattle.ext_run.specs.declared.failure.Failure.{Failure}
 use Rattle.ext_run.specs.declared.failure.Failure.TheVariants.{Words, Malformed as NoModuleFile, NotModule, Reading, Writing, Memory}
 use Rattle.ext_run.specs.Words.{command_of}
 use Rattle.ext_run.specs.Failure.{status_of, malformed_status, fault_status}
-use Rattle.ext_run.specs.Answer.{IsChart, IsLineOn, IsModuleAnswer, no_file, no_module, text_of, IsAnswerTo, IsAnswer, AnswerIsUnique, IsAnswerFrom, IsCauseFrom, Reads, WordsRead, most_read, IsAccepted, HasModule, IsAnswerable}
+use Rattle.ext_run.specs.Answer.{IsChart, IsDump, IsLineOn, IsModuleAnswer, no_file, no_module, text_of, IsAnswerTo, IsAnswer, AnswerIsUnique, IsAnswerFrom, IsCauseFrom, Reads, WordsRead, most_read, IsAccepted, HasModule, IsAnswerable}
 use Rattle.ext_run.proofs.AnswerUnique.{answer-unique}
-use Rattle.ext_run.proofs.TableIsUnique.{table_is_unique}
+use Rattle.resolution_laws.proofs.TableIsUnique.{table_is_unique}
 
 -- ---- one answer
 
@@ -50,6 +49,7 @@ words_refused : (c : Option Command) (bytes : List ℕ) (a : Result (List ℕ) F
 words_refused None bytes a e p = refl
 words_refused (Some (Sphere common)) bytes a e p = absurd (subst (IsAnswerTo (Sphere common) bytes) e p)
 words_refused (Some (Resolve common)) bytes a e p = absurd (not_words (IsChart common.range) bytes a p e)
+words_refused (Some (Dump common)) bytes a e p = absurd (not_words (IsDump common.range) bytes a p e)
 words_refused (Some Check) bytes a e p = absurd (not_words IsLineOn bytes a p e)
 
 -- ---- the size of a file
@@ -72,6 +72,7 @@ answer_fits : (c : Option Command) (bytes text : List ℕ) → MatchOption c ⊥
 answer_fits None bytes text r p = absurd r
 answer_fits (Some (Sphere common)) bytes text r p = absurd r
 answer_fits (Some (Resolve common)) bytes text r p = module_fits (IsChart common.range) bytes text (Ok text) p refl
+answer_fits (Some (Dump common)) bytes text r p = module_fits (IsDump common.range) bytes text (Ok text) p refl
 answer_fits (Some Check) bytes text r p = module_fits IsLineOn bytes text (Ok text) p refl
 
 -- drop at a variable: numerals stay folded
@@ -210,6 +211,7 @@ answerable_failure : (left : Option (List ℕ)) (c : Option Command) (bytes : Li
 answerable_failure left None bytes a failure e all has p = has
 answerable_failure left (Some (Sphere common)) bytes a failure e all has p = subst (IsAnswerTo (Sphere common) bytes) e p
 answerable_failure left (Some (Resolve common)) bytes a failure e all has p = accepted_failure (IsChart common.range) left bytes a failure e all has p
+answerable_failure left (Some (Dump common)) bytes a failure e all has p = accepted_failure (IsDump common.range) left bytes a failure e all has p
 answerable_failure left (Some Check) bytes a failure e all has p = accepted_failure IsLineOn left bytes a failure e all has p
 
 pub complete : (words : List (List ℕ)) (left : Option (List ℕ)) (failure : Failure) → IsCauseFrom words left failure → (failure ≡ Reading → ⊥) → (failure ≡ Writing → ⊥) → IsAnswerable words left → (status_of failure ≡ 0) ⊎ (status_of failure ≡ 12)

@@ -4,11 +4,11 @@ use Rattle.std.specs.Prelude.{codes, option_map, ◌&&◌, nat_le, if◌then◌e
 use Rattle.std.specs.Option.{ok_or}
 use Rattle.std.specs.Str.{bytes_eq}
 use Rattle.std.proofs.lemmas.Bool.{leb-true}
+use Rattle.square.specs.declared.range.Range.{Range}
 use Rattle.ext_run.specs.declared.words.WordsFault.{WordsFault}
 use Rattle.ext_run.specs.declared.words.Common.{Common}
-use Rattle.ext_run.specs.declared.words.Range.{Range}
 use Rattle.ext_run.specs.declared.words.Command.{Command}
-use Rattle.ext_run.specs.declared.words.Command.TheVariants.{Sphere, Resolve}
+use Rattle.ext_run.specs.declared.words.Command.TheVariants.{Sphere, Resolve, Dump}
 use Rattle.ext_run.specs.Words.{number_up_to, decimal_value, is_short_number, range_of, common_of, check_of, command_of, IsWithinLimits}
 
 up-to : (short within : Bool) (value limit : ℕ) → nat_le value limit ≡ within → IfSome (if short && within then Some value else None) (λ n. n ≤ limit)
@@ -37,24 +37,21 @@ check-within : (words : List (List ℕ)) → IfSome (check_of words) IsWithinLim
 check-within [] = tt
 check-within (word ∷ words) = tt
 
-sphere-within : (common : Option Common) → IfSome common IsWithin → IfSome (option_map Sphere common) IsWithinLimits
-sphere-within None h = tt
-sphere-within (Some common) h = h
+made-within : (make : Common → Command) (common : Option Common) → ((c : Common) → IsWithin c → IsWithinLimits (make c)) → IfSome common IsWithin → IfSome (option_map make common) IsWithinLimits
+made-within make None within h = tt
+made-within make (Some common) within h = within common h
 
-resolve-within : (common : Option Common) → IfSome common IsWithin → IfSome (option_map Resolve common) IsWithinLimits
-resolve-within None h = tt
-resolve-within (Some common) h = h
-
-named-within : (sphere resolve check : Bool) (common : Option Common) (bare : Option Command) → IfSome common IsWithin → IfSome bare IsWithinLimits →
-    IfSome (if sphere then option_map Sphere common else if resolve then option_map Resolve common else if check then bare else None) IsWithinLimits
-named-within true resolve check common bare h b = sphere-within common h
-named-within false true check common bare h b = resolve-within common h
-named-within false false true common bare h b = b
-named-within false false false common bare h b = tt
+named-within : (sphere resolve dump check : Bool) (common : Option Common) (bare : Option Command) → IfSome common IsWithin → IfSome bare IsWithinLimits →
+    IfSome (if sphere then option_map Sphere common else if resolve then option_map Resolve common else if dump then option_map Dump common else if check then bare else None) IsWithinLimits
+named-within true resolve dump check common bare h b = made-within Sphere common (λ c within. within) h
+named-within false true dump check common bare h b = made-within Resolve common (λ c within. within) h
+named-within false false true check common bare h b = made-within Dump common (λ c within. within) h
+named-within false false false true common bare h b = b
+named-within false false false false common bare h b = tt
 
 pub command-within : (words : List (List ℕ)) → IfSome (command_of words) IsWithinLimits
 command-within [] = tt
-command-within (name ∷ words) = named-within (bytes_eq (codes "sphere") name) (bytes_eq (codes "resolve") name) (bytes_eq (codes "check") name) (common_of words) (check_of words) (common-within words) (check-within words)
+command-within (name ∷ words) = named-within (bytes_eq (codes "sphere") name) (bytes_eq (codes "resolve") name) (bytes_eq (codes "dump") name) (bytes_eq (codes "check") name) (common_of words) (check_of words) (common-within words) (check-within words)
 
 pub ok-within : (command : Option Command) (fault : WordsFault) → IfSome command IsWithinLimits → IfOk (ok_or command fault) IsWithinLimits
 ok-within None fault h = tt

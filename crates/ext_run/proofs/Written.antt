@@ -1,5 +1,5 @@
 -- What a sink got, call by call.
-use Rattle.std.proofs.Common.{arith, inl, inr, ◌≡◌, ℕ, ◌+◌, ◌-◌, ◌<◌, ◌≤◌, List, ◌++◌, length, take, drop, ap, sym, subst, refl, ◌∙◌, append_assoc}
+use Rattle.std.proofs.Common.{arith, inl, inr, ◌≡◌, ℕ, ◌+◌, ◌-◌, ◌≤◌, List, ◌++◌, length, take, drop, ap, sym, subst, refl, ◌∙◌, append_assoc}
 use Rattle.std.proofs.Math.Seq.{take-add, take-length, take-append_seam, take-append-add}
 use Rattle.std.proofs.lemmas.Bool.{cases_lt}
 use Rattle.std.proofs.lemmas.List.{take_rest, take_all, take-append-le, length-drop}

@@ -1,35 +1,44 @@
 -- What the program answers to its words, and to the module file that it reads.
-use Rattle.std.specs.Prelude.{◌≡◌, ℕ, ◌+◌, ◌^◌, List, [], length, Option, Some, None, MatchOption, IfSome, IsOkAnd, Result, Ok, Err, ⊤}
+use Rattle.std.specs.Prelude.{◌≡◌, ℕ, ◌+◌, ◌^◌, List, length, Option, Some, None, MatchOption, IfSome, IsOkAnd, Result, Ok, Err, ⊤}
 use Rattle.module_json.specs.ModuleFile.{File, IsFileOf}
 use Rattle.module_json.specs.declared.malformed.Malformed.{Malformed}
 use Rattle.module_check.specs.Module.{Module as SteenrodModule, bottom}
-use Rattle.module_check.specs.ModuleLaws.{module_graded}
 use Rattle.module_check.specs.DerivedAction.{derived_module, top}
 use Rattle.module_check.specs.Acceptance.{refusal_of}
 use Rattle.module_check.specs.Checked.{sphere_file}
 use Rattle.module_check.specs.declared.fault.CheckFault.{CheckFault}
 use Rattle.ext_run.specs.declared.words.Command.{Command}
-use Rattle.ext_run.specs.declared.words.Command.TheVariants.{Sphere, Resolve, Check}
-use Rattle.ext_run.specs.declared.words.Range.{Range}
+use Rattle.ext_run.specs.declared.words.Command.TheVariants.{Sphere, Resolve, Dump, Check}
 use Rattle.ext_run.specs.declared.failure.Failure.{Failure}
 use Rattle.ext_run.specs.declared.failure.Failure.TheVariants.{Words, Malformed as NoModuleFile, NotModule, Reading, Writing, Memory}
-use Rattle.ext_run.specs.Resolution.{Module, Content, IsCanonicalTable, generator_count}
-use Rattle.ext_run.specs.Chart.{chart_text}
-use Rattle.ext_run.specs.Check.{check_line}
+use Rattle.resolution_laws.specs.Resolution.{Content, IsCanonicalTable, generator_count}
+use Rattle.resolution_laws.specs.Exactness.{IsMinimalResolution}
+use Rattle.square.specs.Squares.{module_over}
+use Rattle.square.specs.declared.range.Range.{Range}
+use Rattle.ext_chart.specs.Chart.{chart_text}
+use Rattle.ext_chart.specs.Check.{check_line}
+use Rattle.ext_chart.specs.Dump.{dump_text}
 use Rattle.ext_run.specs.Words.{command_of}
 use Rattle.ext_run.specs.Failure.{status_of, line_of}
 
 -- ---- the texts of a module
 
--- what is resolved of a module
-abbrev pub module_over : SteenrodModule → Module
-module_over m = record { bottom = bottom m.generators; graded = module_graded m }
+-- table is that of the module's canonical resolution through the range, which is exact and minimal
+pub record IsResolved (range : Range) (m : SteenrodModule) (table : List (List Content)) : Type 0 where
+  pub canonical : IsCanonicalTable (module_over m) range.s range.t table
+  pub minimal : IsMinimalResolution (module_over m) range.s range.t table
 
--- text is the chart of the module's canonical resolution through the range
+-- text is the chart of that table
 pub record IsChart (range : Range) (m : SteenrodModule) (text : List ℕ) : Type 0 where
   pub table : List (List Content)
-  pub canonical : IsCanonicalTable (module_over m) range.s range.t table
+  pub resolved : IsResolved range m table
   pub chart : text ≡ chart_text (bottom m.generators) range.s range.t (generator_count table)
+
+-- text is the differentials of that table
+pub record IsDump (range : Range) (m : SteenrodModule) (text : List ℕ) : Type 0 where
+  pub table : List (List Content)
+  pub resolved : IsResolved range m table
+  pub dump : text ≡ dump_text m.generators range.s range.t table
 
 -- text is the line on the module
 abbrev pub IsLineOn : SteenrodModule → List ℕ → Type 0
@@ -46,6 +55,7 @@ pub data IsModuleAnswer (IsTextOf : SteenrodModule → List ℕ → Type 0) (byt
 abbrev pub IsAnswerTo : Command → List ℕ → Result (List ℕ) Failure → Type 0
 IsAnswerTo (Sphere common) bytes answer = IsOkAnd answer (IsChart common.range (derived_module sphere_file))
 IsAnswerTo (Resolve common) bytes answer = IsModuleAnswer (IsChart common.range) bytes answer
+IsAnswerTo (Dump common) bytes answer = IsModuleAnswer (IsDump common.range) bytes answer
 IsAnswerTo Check bytes answer = IsModuleAnswer IsLineOn bytes answer
 
 -- The answer to the words, where the input is these bytes: a text, or why there is none. (Devices that fail and want of
@@ -68,6 +78,7 @@ pub record IsAnswerFrom (words : List (List ℕ)) (left : Option (List ℕ)) (an
 abbrev pub Reads : Command → Type 0
 Reads (Sphere common) = ⊥
 Reads (Resolve common) = ⊤
+Reads (Dump common) = ⊤
 Reads Check = ⊤
 
 abbrev pub WordsRead : List (List ℕ) → Type 0
@@ -135,6 +146,7 @@ pub record IsAccepted (bytes : List ℕ) : Type 0 where
 abbrev pub HasModule : Option (List ℕ) → Command → Type 0
 HasModule left (Sphere common) = ⊤
 HasModule left (Resolve common) = MatchOption left ⊥ IsAccepted
+HasModule left (Dump common) = MatchOption left ⊥ IsAccepted
 HasModule left Check = MatchOption left ⊥ IsAccepted
 
 abbrev pub IsAnswerable : List (List ℕ) → Option (List ℕ) → Type 0

@@ -4,7 +4,7 @@ use Rattle.std.specs.Str.{bytes_eq}
 use Rattle.clap.specs.Walk.{Row, Rule, Text, first_of}
 use Rattle.clap.specs.Simple.{App, new_app, new_rule, on_top, with_rule, with_subcommand}
 use Rattle.ext_run.specs.declared.words.Command.{Command}
-use Rattle.ext_run.specs.declared.words.Command.TheVariants.{Sphere, Resolve, Check}
+use Rattle.ext_run.specs.declared.words.Command.TheVariants.{Sphere, Resolve, Dump, Check}
 use Rattle.ext_run.specs.declared.words.Common.{Common}
 use Rattle.ext_run.specs.Words.{number_up_to, range_of}
 
@@ -21,7 +21,7 @@ no_command = on_top (λ top. record top { no_binary_name = true; disable_help_fl
 
 -- all commands, without help
 abbrev pub command_line : App
-command_line = with_subcommand (with_subcommand (with_subcommand no_command (range_command (codes "sphere")).top) (range_command (codes "resolve")).top) (new_app (codes "check")).top
+command_line = with_subcommand (with_subcommand (with_subcommand (with_subcommand no_command (range_command (codes "sphere")).top) (range_command (codes "resolve")).top) (range_command (codes "dump")).top) (new_app (codes "check")).top
 
 -- the number of a command's word
 abbrev pub number_in : List Row → Text → ℕ → Option ℕ
@@ -35,6 +35,7 @@ abbrev pub command_named : Text → List Row → Option Command
 command_named name rows =
     if bytes_eq (codes "sphere") name then option_map Sphere (common_in rows)
     else if bytes_eq (codes "resolve") name then option_map Resolve (common_in rows)
+    else if bytes_eq (codes "dump") name then option_map Dump (common_in rows)
     else if bytes_eq (codes "check") name then Some Check else None
 
 -- the command of a name with its matches

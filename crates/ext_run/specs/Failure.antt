@@ -15,7 +15,7 @@ use Rattle.module_json.specs.declared.malformed.Why.TheVariants.{Syntax, SquareZ
 use Rattle.module_check.specs.Text.{name_at}
 use Rattle.module_check.specs.declared.fault.CheckFault.{CheckFault}
 use Rattle.module_check.specs.declared.fault.CheckFault.TheVariants.{Listed, Relation, Memory as NoMemory}
-use Rattle.ext_run.specs.Chart.{newline}
+use Rattle.module_check.specs.Text.{newline}
 use Rattle.ext_run.specs.declared.failure.Failure.{Failure}
 use Rattle.ext_run.specs.declared.failure.Failure.TheVariants.{Words, Malformed as NoModuleFile, NotModule, Reading, Writing, Memory}
 

@@ -1,7 +1,3 @@
-pub mod LinearMap
-pub mod Resolution
-pub mod Chart
-pub mod Check
 pub mod Words
 pub mod CommandLine
 pub mod Answer

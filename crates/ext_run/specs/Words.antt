@@ -4,10 +4,10 @@ use Rattle.std.specs.Borrow.{Bor}
 use Rattle.std.specs.List.{fold, list_all}
 use Rattle.std.specs.Str.{bytes_eq}
 use Rattle.std.specs.Char.{is_ascii_digit}
+use Rattle.square.specs.declared.range.Range.{Range}
 use Rattle.ext_run.specs.declared.words.Command.{Command}
-use Rattle.ext_run.specs.declared.words.Command.TheVariants.{Sphere, Resolve, Check}
+use Rattle.ext_run.specs.declared.words.Command.TheVariants.{Sphere, Resolve, Dump, Check}
 use Rattle.ext_run.specs.declared.words.Common.{Common}
-use Rattle.ext_run.specs.declared.words.Range.{Range}
 
 -- the bytes of the words
 abbrev pub texts_of : List (Bor (List ℕ)) → List (List ℕ)
@@ -39,16 +39,18 @@ abbrev pub check_of : List (List ℕ) → Option Command
 check_of [] = Some Check
 check_of _ = None
 
--- `sphere S T`, `resolve S T` or `check`
+-- `sphere S T`, `resolve S T`, `dump S T` or `check`
 abbrev pub command_of : List (List ℕ) → Option Command
 command_of [] = None
 command_of (name ∷ words) =
     if bytes_eq (codes "sphere") name then option_map Sphere (common_of words)
     else if bytes_eq (codes "resolve") name then option_map Resolve (common_of words)
+    else if bytes_eq (codes "dump") name then option_map Dump (common_of words)
     else if bytes_eq (codes "check") name then check_of words else None
 
 -- the command asks for no more than the grammar allows
 abbrev pub IsWithinLimits : Command → Type 0
 IsWithinLimits (Sphere common) = (common.range.s ≤ 63) × (common.range.t ≤ 127)
 IsWithinLimits (Resolve common) = (common.range.s ≤ 63) × (common.range.t ≤ 127)
+IsWithinLimits (Dump common) = (common.range.s ≤ 63) × (common.range.t ≤ 127)
 IsWithinLimits Check = ⊤

@@ -1,19 +1,13 @@
 //! What no clause says: the printed text, the words outside the grammar, and each public function once.
-ghost use Rattle.std.specs.Prelude.{◌≡◌, ◌<◌, ◌≤◌, ◌≤ℤ◌, pos, negsuc, length, replicate, IfOk};
-ghost use Rattle.ext_run.specs.Resolution.{row_of};
+ghost use Rattle.std.specs.Prelude.{◌<◌};
 
-use crate::chart::chart;
-use crate::check_line::check_line;
-use crate::laws::{answer_is_unique, canonical_table_is_unique};
-use crate::resolve::resolve;
-use crate::square::Table;
-use crate::words::{Command, Common, Range, WordsFault, parse};
+use crate::laws::answer_is_unique;
+use crate::words::{Command, Common, WordsFault, parse};
 use crate::{Failure, report, run};
 use edge::{MemSink, MemSource};
-use f2_vec::BitVec;
-use free_module::Gens;
-use module_check::Module;
 use module_json::{Malformed, Place, What, Why};
+use resolution_laws::canonical_table_is_unique;
+use square::Range;
 use std::alloc::Global;
 use std::test::Fail;
 
@@ -34,8 +28,20 @@ fn sink(alloc: Global, piece: usize, failing: u64) -> Result<MemSink, Fail>
     Ok(MemSink::new(alloc, piece, 1000, calls)?)
 }
 
+/// The module of one generator.
+const F2: &str = r#"{"type":"finite dimensional module","p":2,"gens":{"x0":0},"actions":[]}"#;
+
 const C2: &str =
     r#"{"type":"finite dimensional module","p":2,"gens":{"x0":0,"x1":1},"actions":["Sq1 x0 = x1"]}"#;
+
+/// The module of no generator.
+const NONE: &str = r#"{"type":"finite dimensional module","gens":{}}"#;
+
+/// The module of two generators of degree -1.
+const TWO: &str = r#"{"type":"finite dimensional module","gens":{"b":-1,"a":-1}}"#;
+
+const F2_DUMP: &str =
+    "d(0,0,0) = x0\nd(1,1,0) = Sq(1)*(0,0,0)\nd(1,2,0) = Sq(2)*(0,0,0)\nd(1,4,0) = Sq(4)*(0,0,0)\n";
 
 /// A source of these bytes, in which one read fails, and none for 0.
 fn source(alloc: Global, bytes: &str, failing: u64) -> Result<MemSource, Fail> {
@@ -81,28 +87,62 @@ fn charts(rt: HostRuntime) -> Result<(), Fail> {
 
 #[test]
 fn answers_on_module_files(rt: HostRuntime) -> Result<(), Fail> {
-    let none = r#"{"type":"finite dimensional module","gens":{}}"#;
     let ten =
         r#"{"type":"finite dimensional module","gens":{"a":0,"b":0,"c":0,"d":0,"e":0,"f":0,"g":0,"h":0,"i":0,"j":0}}"#;
-    let two = r#"{"type":"finite dimensional module","gens":{"b":-1,"a":-1}}"#;
-    let cases: [(&[&str], &str, &str); 6] = [
+    let lowest = r#"{"type":"finite dimensional module","gens":{"x":-128}}"#;
+    let cases: [(&[&str], &str, &str); 7] = [
         (&["check"], C2, "accepted 2 generators, degrees 0..1\n"),
         (
             &["resolve", "2", "6"],
             C2,
             " 2 |..11.\n 1 |.111..\n 0 |1......\nstems 0..6\n",
         ),
-        (&["check"], none, "accepted 0 generators\n"),
+        (&["check"], NONE, "accepted 0 generators\n"),
         (
             &["resolve", "1", "2"],
-            none,
+            NONE,
             " 1 |..\n 0 |...\nstems 0..2\n",
         ),
         (&["resolve", "0", "0"], ten, " 0 |*\nstems 0..0\n"),
-        (&["resolve", "1", "1"], two, " 1 |2\n 0 |2.\nstems -1..0\n"),
+        (&["resolve", "1", "1"], TWO, " 1 |2\n 0 |2.\nstems -1..0\n"),
+        (
+            &["resolve", "1", "0"],
+            lowest,
+            " 1 |\n 0 |1\nstems -128..-128\n",
+        ),
     ];
     for (words, file, text) in cases {
         assert!(rt; has_answer(&rt, words, file, 0, text, "")?, "at {text}");
+    }
+    Ok(())
+}
+
+#[test]
+fn dumps(rt: HostRuntime) -> Result<(), Fail> {
+    let more = format!(in rt.alloc();
+        "{F2_DUMP}d(2,2,0) = Sq(1)*(1,1,0)\nd(2,4,0) = Sq(3)*(1,1,0) + Sq(2)*(1,2,0)\n"
+    )?;
+    for (s, t, file, text) in [
+        ("1", "4", F2, F2_DUMP),
+        ("2", "4", F2, more.as_str()),
+        ("1", "2", NONE, ""),
+        (
+            "1",
+            "1",
+            TWO,
+            "d(0,-1,0) = a\nd(0,-1,1) = b\nd(1,0,0) = Sq(1)*(0,-1,0)\nd(1,0,1) = Sq(1)*(0,-1,1)\n",
+        ),
+        (
+            "1",
+            "3",
+            C2,
+            "d(0,0,0) = x0\nd(1,2,0) = Sq(2)*(0,0,0)\nd(1,3,0) = Sq(0,1)*(0,0,0)\n",
+        ),
+    ] {
+        assert!(rt;
+            has_answer(&rt, &["dump", s, t], file, 0, text, "")?,
+            "at {text}"
+        );
     }
     Ok(())
 }
@@ -137,14 +177,13 @@ fn refuses_module_files(rt: HostRuntime) -> Result<(), Fail> {
             "ext: not a module: action 0 differs from its derived value\n",
         ),
     ] {
-        assert!(rt;
-            has_answer(&rt, &["check"], file, status, "", line)?,
-            "at {line}"
-        );
-        assert!(rt;
-            has_answer(&rt, &["resolve", "2", "4"], file, status, "", line)?,
-            "at {line}"
-        );
+        let commands: [&[&str]; 3] = [&["check"], &["resolve", "2", "4"], &["dump", "2", "4"]];
+        for words in commands {
+            assert!(rt;
+                has_answer(&rt, words, file, status, "", line)?,
+                "at {line}"
+            );
+        }
     }
     Ok(())
 }
@@ -264,70 +303,9 @@ fn lines_of_refusals(rt: HostRuntime) -> Result<(), Fail> {
     Ok(())
 }
 
-/// The free module on `count` generators of degree `degree`.
-fn free(alloc: Global, count: usize, degree: i32) -> Result<Gens, Fail>
-    ensures { IfOk result (λ gens. gens ≡ replicate count degree) }
-{
-    let mut gens = Gens::new(alloc);
-    for _i in 0..count {
-        gens.push(degree)?;
-    }
-    Ok(gens)
-}
-
-/// The chart of the free module on `count` generators of degree `bottom`.
-fn free_chart(alloc: Global, count: usize, bottom: i32, s: u16, t: u16) -> Result<Vec<u8>, Fail>
-    requires rows { s ≤ 63 }
-    requires degrees { t ≤ 127 }
-    requires not_below { negsuc 127 ≤ℤ bottom }
-    requires not_above { bottom ≤ℤ pos 128 }
-{
-    let gens = free(alloc, count, bottom)?;
-    let table = resolve(alloc, &gens, bottom, s, t)?;
-    Ok(chart(alloc, &table, bottom, s, t)?)
-}
-
-// A free module is its own resolution.
-#[test]
-fn charts_of_free_modules(rt: HostRuntime) -> Result<(), Fail> {
-    let alloc = rt.alloc();
-    let none = free_chart(alloc, 0, 0, 1, 2)?;
-    assert_eq!(rt;
-        none.as_slice(),
-        b" 1 |..\n 0 |...\nstems 0..2\n".as_slice()
-    );
-    let ten = free_chart(alloc, 10, 0, 0, 0)?;
-    assert_eq!(rt; ten.as_slice(), b" 0 |*\nstems 0..0\n".as_slice());
-    let below = free_chart(alloc, 2, -1, 1, 1)?;
-    assert_eq!(rt;
-        below.as_slice(),
-        b" 1 |.\n 0 |2.\nstems -1..0\n".as_slice()
-    );
-    let lowest = free_chart(alloc, 9, -128, 1, 0)?;
-    assert_eq!(rt;
-        lowest.as_slice(),
-        b" 1 |\n 0 |9\nstems -128..-128\n".as_slice()
-    );
-    Ok(())
-}
-
-#[test]
-fn check_lines(rt: HostRuntime) -> Result<(), Fail> {
-    for (count, least, greatest, text) in [
-        (0, 0, 0, "accepted 0 generators\n"),
-        (2, 0, 1, "accepted 2 generators, degrees 0..1\n"),
-        (1, -128, -128, "accepted 1 generators, degrees -128..-128\n"),
-        (64, -64, 0, "accepted 64 generators, degrees -64..0\n"),
-    ] {
-        let line = check_line(rt.alloc(), count, least, greatest)?;
-        assert_eq!(rt; line.as_slice(), text.as_bytes());
-    }
-    Ok(())
-}
-
 #[test]
 fn refuses(rt: HostRuntime) -> Result<(), Fail> {
-    let outside: [&[&str]; 16] = [
+    let outside: [&[&str]; 21] = [
         &[],
         &["sphere", "4"],
         &["sphere", "64", "1"],
@@ -343,6 +321,11 @@ fn refuses(rt: HostRuntime) -> Result<(), Fail> {
         &["sphere", " 4", "8"],
         &["sphere", "", "8"],
         &["Sphere", "4", "8"],
+        &["dump"],
+        &["dump", "4"],
+        &["dump", "64", "1"],
+        &["dump", "1", "128"],
+        &["dump", "1", "2", "3"],
         &["--help"],
     ];
     for (i, words) in outside.iter().enumerate() {
@@ -392,46 +375,6 @@ fn keeps_the_status(rt: HostRuntime) -> Result<(), Fail> {
     Ok(())
 }
 
-/// The images of the new generators of a square.
-fn images_at(table: &Table, s: usize, k: usize) -> &[BitVec]
-    requires row { s < length table.now }
-    requires square { k < length (row_of table.now s) }
-{
-    table.row(s).at(k).gens()
-}
-
-/// Whether the vectors have these coordinates, written as 0 and 1.
-fn are_written(vectors: &[BitVec], want: &[&str]) -> bool {
-    vectors.len() == want.len()
-        && vectors.iter().zip(want).all(|(vector, text)| {
-            vector.len() == text.len()
-                && text.bytes().enumerate().all(|(i, digit)| i < vector.len()
-                    && vector.get(i) == (digit == b'1'))
-        })
-}
-
-// Coordinates are those of Milnor's basis on each generator, in order: the generators of row 1 are of degrees
-// 1, 2 and 4, with the images Sq(1), Sq(2) and Sq(4).
-#[test]
-fn steps_through_degree_4(rt: HostRuntime) -> Result<(), Fail> {
-    let sphere = Module::sphere(rt.alloc())?;
-    let table = resolve(rt.alloc(), &sphere, 0, 2, 4)?;
-    assert!(rt; are_written(images_at(&table, 0, 0), &["1"]));
-    assert!(rt; are_written(images_at(&table, 0, 4), &[]));
-    assert!(rt; are_written(images_at(&table, 1, 0), &[]));
-    assert!(rt; are_written(images_at(&table, 1, 1), &["1"]));
-    assert!(rt; are_written(images_at(&table, 1, 2), &["1"]));
-    assert!(rt; are_written(images_at(&table, 1, 3), &[]));
-    // Sq(4) among Sq(4) and Sq(1,1)
-    assert!(rt; are_written(images_at(&table, 1, 4), &["10"]));
-    // Sq(1) on the first generator, among that and the second generator
-    assert!(rt; are_written(images_at(&table, 2, 2), &["10"]));
-    assert!(rt; are_written(images_at(&table, 2, 3), &[]));
-    // Sq(3) on the first generator and Sq(2) on the second
-    assert!(rt; are_written(images_at(&table, 2, 4), &["1010"]));
-    Ok(())
-}
-
 // For runs in which one allocation is refused: all of the text, or nothing and the status for it.
 #[test]
 fn answers_without_memory(rt: HostRuntime) -> Result<(), Fail> {
@@ -466,11 +409,13 @@ fn parses(rt: HostRuntime) {
     let first = Common {
         range: Range { s: 0, t: 7 },
     };
-    let inside: [(&[&str], Command); 5] = [
+    let inside: [(&[&str], Command); 7] = [
         (&["sphere", "63", "127"], Command::Sphere(last)),
         (&["sphere", "000", "07"], Command::Sphere(first)),
         (&["resolve", "63", "127"], Command::Resolve(last)),
         (&["resolve", "0", "7"], Command::Resolve(first)),
+        (&["dump", "63", "127"], Command::Dump(last)),
+        (&["dump", "0", "7"], Command::Dump(first)),
         (&["check"], Command::Check),
     ];
     for (words, command) in inside {
@@ -481,7 +426,7 @@ fn parses(rt: HostRuntime) {
 #[test]
 fn parses_nothing_else(rt: HostRuntime) {
     let alloc = rt.alloc();
-    let outside: [&[&str]; 36] = [
+    let outside: [&[&str]; 42] = [
         &[],
         &[""],
         &["sphere"],
@@ -511,6 +456,12 @@ fn parses_nothing_else(rt: HostRuntime) {
         &["4", "8", "sphere"],
         &["resolve", "1"],
         &["resolve", "64", "1"],
+        &["dump"],
+        &["dump", "4"],
+        &["dump", "64", "1"],
+        &["dump", "1", "128"],
+        &["dump", "1", "2", "3"],
+        &["dump", "--", "1", "2"],
         &["check", "x"],
         &["check", "check"],
         &["help"],

@@ -8,20 +8,24 @@ ghost use Rattle.module_json.specs.declared.malformed.Malformed.{Malformed as Ma
 ghost use Rattle.module_check.specs.declared.fault.CheckFault.{CheckFault as Fault};
 ghost use Rattle.module_check.specs.DerivedAction.{derived_module, top};
 ghost use Rattle.module_check.specs.Acceptance.{refusal_of};
+ghost use Rattle.square.specs.Tables.{plain_rows};
+ghost use Rattle.resolution_step.specs.Alone.{cut};
+ghost use Rattle.ext_chart.specs.Range.{HoldsRange};
 ghost use Rattle.ext_run.specs.Words.{texts_of, command_of, IsWithinLimits};
-ghost use Rattle.ext_run.specs.Answer.{IsChart, IsLineOn, IsAnswer, IsAnswerTo, IsAnswerFrom, IsCauseFrom, IsCommandAnswerFrom, IsCommandCauseFrom, IsFileFrom, IsFileCauseFrom, IsModuleFrom, IsLineFrom, IsAnswerable, Reads, WordsRead, most_read};
+ghost use Rattle.ext_run.specs.Answer.{IsResolved, IsChart, IsDump, IsLineOn, IsAnswer, IsAnswerTo, IsAnswerFrom, IsCauseFrom, IsCommandAnswerFrom, IsCommandCauseFrom, IsFileFrom, IsFileCauseFrom, IsModuleFrom, IsLineFrom, IsAnswerable, Reads, WordsRead, most_read};
 ghost use Rattle.ext_run.specs.declared.failure.Failure as Failure;
 
-use crate::chart::chart;
-use crate::check_line::check_line;
 use crate::failure::{Failure, report};
-use crate::resolve::resolve;
-use crate::words::{Command, Range, WordsFault, parse};
+use crate::words::{Command, WordsFault, parse};
 use crate::writing::write_all;
 use edge::{Failed, Sink, Source, read_through};
+use ext_chart::{chart, check_line, dump};
 use memory::Memory;
-use module_check::{CheckFault, Module, check};
+use module_check::{CheckFault, Module, check, modules_are_graded_modules};
 use module_json::{Spec, read};
+use resolution_laws::canonical_table_is_minimal_resolution;
+use resolution_step::resolve_alone;
+use square::{NoKeep, Range, Table};
 use std::alloc::Global;
 
 /// The status of an answer that is written whole.
@@ -30,15 +34,45 @@ const WRITTEN: u8 = 0;
 /// How many bytes of a module file are read at most: one past the greatest size of a module file.
 const MOST_READ: usize = 1_048_577;
 
-/// The chart of a module through the range.
-fn module_chart(alloc: Global, module: &Module, range: Range) -> Result<Vec<u8>, Memory>
+/// The canonical resolution of a module through the range.
+fn resolved(alloc: Global, module: Module, range: Range) -> Result<Table, Memory>
     requires rows { range.s ≤ 63 }
     requires degrees { range.t ≤ 127 }
-    ensures { IfOk result (λ text. IsChart range «module».now.plain text.items) }
+    ensures module { IfOk result (λ table. table.resolved ≡ «module») }
+    ensures resolved { IfOk result (λ table. IsResolved range «module».plain (cut range (plain_rows table.rows))) }
+    ensures holds { IfOk result (λ table. HoldsRange table range.s range.t) }
 {
-    let bottom = module.bottom();
-    let table = resolve(alloc, module, bottom, range.s, range.t)?;
-    chart(alloc, &table, bottom, range.s, range.t)
+    canonical_table_is_minimal_resolution();
+    modules_are_graded_modules();
+    let table = Table::new(alloc, module)?;
+    let (resolved, _) = resolve_alone(alloc, table, range, NoKeep);
+    match resolved {
+        Ok(table) => Ok(table),
+        // A keeper that keeps nothing does not fail.
+        Err(_) => Err(Memory),
+    }
+}
+
+/// The chart of a module's resolution through the range.
+#[tactic(auto, using(crate::proofs::Resolved::is_chart))]
+fn chart_of(alloc: Global, module: Module, range: Range) -> Result<Vec<u8>, Memory>
+    requires rows { range.s ≤ 63 }
+    requires degrees { range.t ≤ 127 }
+    ensures { IfOk result (λ text. IsChart range «module».plain text.items) }
+{
+    let table = resolved(alloc, module, range)?;
+    chart(alloc, &table, range)
+}
+
+/// The differentials of a module's resolution through the range.
+#[tactic(auto, using(crate::proofs::Resolved::is_dump))]
+fn dump_of(alloc: Global, module: Module, range: Range) -> Result<Vec<u8>, Memory>
+    requires rows { range.s ≤ 63 }
+    requires degrees { range.t ≤ 127 }
+    ensures { IfOk result (λ text. IsDump range «module».plain text.items) }
+{
+    let table = resolved(alloc, module, range)?;
+    dump(alloc, &table, range)
 }
 
 /// The greatest degree of a generator, and 0 where there is none.
@@ -124,11 +158,15 @@ fn command_text<S: Source>(
     match command {
         Command::Sphere(common) => {
             let sphere = Module::sphere(alloc)?;
-            Ok(module_chart(alloc, &sphere, common.range)?)
+            Ok(chart_of(alloc, sphere, common.range)?)
         }
         Command::Resolve(common) => {
             let module = read_module(alloc, source)?;
-            Ok(module_chart(alloc, &module, common.range)?)
+            Ok(chart_of(alloc, module, common.range)?)
+        }
+        Command::Dump(common) => {
+            let module = read_module(alloc, source)?;
+            Ok(dump_of(alloc, module, common.range)?)
         }
         Command::Check => {
             let module = read_module(alloc, source)?;

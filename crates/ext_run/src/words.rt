@@ -12,17 +12,11 @@ ghost use Rattle.ext_run.specs.Words.{texts_of, command_of, number_up_to, is_sho
 use clap::error::ErrorKind;
 use clap::{Arg, ArgMatches};
 use memory::Memory;
+use square::Range;
 use std::alloc::{AllocError, Global};
 use thiserror::Error;
 
-/// How far a resolution goes: through row `s` and through degree `t` above the bottom.
-#[derive(Clone, Copy, Debug, PartialEq, Eq)]
-pub struct Range {
-    pub s: u16,
-    pub t: u16,
-}
-
-/// What every command has.
+/// What every command but `check` has.
 #[derive(Clone, Copy, Debug, PartialEq, Eq)]
 pub struct Common {
     pub range: Range,
@@ -35,6 +29,8 @@ pub enum Command {
     Sphere(Common),
     /// `resolve S T`: the chart of the module on standard input.
     Resolve(Common),
+    /// `dump S T`: the differentials of the resolution of the module on standard input.
+    Dump(Common),
     /// `check`: a line on the module on standard input.
     Check,
 }
@@ -120,6 +116,7 @@ fn command_line<'a>(alloc: Global) -> Result<clap::Command<'a>, AllocError>
         .subcommand_required(true)
         .subcommand(range_command(alloc, "sphere")?)?
         .subcommand(range_command(alloc, "resolve")?)?
+        .subcommand(range_command(alloc, "dump")?)?
         .subcommand(clap::Command::new(alloc, "check"))
 }
 
@@ -162,6 +159,7 @@ fn command_in(matches: &ArgMatches) -> Option<Command>
     match name {
         "sphere" => Some(Command::Sphere(common_in(inner)?)),
         "resolve" => Some(Command::Resolve(common_in(inner)?)),
+        "dump" => Some(Command::Dump(common_in(inner)?)),
         "check" => Some(Command::Check),
         _ => None,
     }

@@ -5,3 +5,4 @@ pub mod Split
 pub mod Kept
 pub mod Parts
 pub mod Pivots
+pub mod Preimages

@@ -3,16 +3,15 @@ use Rattle.std.proofs.Common.{◌≡◌, ◌≢◌, ℕ, zero, suc, ◌+◌, ◌
 use Rattle.std.specs.List.{filter}
 use Rattle.std.specs.Prelude.{slice_range}
 use Rattle.std.proofs.lemmas.Bool.{cases_Bool, cases_lt, cases_order, both_ways, false_from_ne_true, and_from, and_parts, not_from_false, not-true}
-use Rattle.std.proofs.lemmas.List.{get_or-take, get_or-drop, get_or-map, get_or_past, length-map, length-take-le, length-drop, take_at, drop_at, get_or_append_left, take_more, take_rest, take_all, map-append}
-use Rattle.std.proofs.lemmas.List.Elements.{filter-append}
-use Rattle.std.proofs.lemmas.Grind.{common_steps}
+use Rattle.std.proofs.lemmas.List.{get_or-take, get_or-drop, get_or-map, get_or_past, length-map, length-take-le, length-drop, take_at, drop_at, get_or_append_left, take-append-drop, take_rest, take_all}
 use Rattle.f2_vec.specs.Vectors.{zeros, bit, IsZero, IsFirstOne}
 use Rattle.f2_vec.proofs.Sums.{length-zeros, bit-zeros, zeros_from_bits}
 use Rattle.f2_vec.specs.Spans.{row, HaveWidth, combination, IsInSpan}
 use Rattle.f2_vec.proofs.Spans.{length-combination, sum-IsInSpan, zeros-IsInSpan, row-IsInSpan, combination-IsInSpan, bit-combination_alone, bit-combination_zero, length-IsInSpan}
 use Rattle.f2_vec.proofs.Split.{combination-split, HaveWidth-left, HaveWidth-right}
 use Rattle.f2_matrix.specs.Echelon.{IsReduced, HasNoZeroRow, IsEchelonForm, IsRowBasis, IsKernelBasis}
-use Rattle.f2_matrix.specs.Reduction.{augmented, has_one, image_part, kernel_part}
+use Rattle.f2_matrix.specs.Reduction.{augmented, has_one, image_part, chosen_part, kernel_part}
+use Rattle.f2_matrix.specs.Preimages.{IsPreimage, ArePreimages}
 use Rattle.f2_matrix.proofs.Unique.{zero_or_first}
 use Rattle.f2_matrix.proofs.Split.{combination-augmented, length-augmented}
 use Rattle.f2_matrix.proofs.Kept.{place_of, kept_at, place_of-rises, kept_somewhere}
@@ -350,24 +349,50 @@ kernel_is_kernel_basis n xs form w h = record {
   nonzero = kernel_nonzero n form h.reduced;
 }
 
--- what is kept of one row more
-pub image_part_more : (n : ℕ) (rows : List (List Bool)) (i : ℕ) → i < length rows → image_part n (take (i + 1) rows) ≡ image_part n (take i rows) ++ image_part n (row rows i ∷ [])
-image_part_more n rows i l =
-    ap (image_part n) (take_more rows i [] l)
-    ∙ ap (map (take n)) (filter-append (λ r. has_one (take n r)) (take i rows) (row rows i ∷ []))
-    ∙ map-append (take n) (filter (λ r. has_one (take n r)) (take i rows)) (filter (λ r. has_one (take n r)) (row rows i ∷ []))
+-- the first one of a kernel row is that of a row of the form, which has nothing left of the bar
+kernel_first : (n : ℕ) (form : List (List Bool)) (k p : ℕ) → IsFirstOne (row (kernel_part n form) k) p → (j : ℕ) × (is_right n (row form j) ≡ true) × IsFirstOne (row form j) (n + p)
+kernel_first n form k p f =
+    let kept = filter (is_right n) form in
+    elim (cases_lt k (length kept)) [
+      | inr l ↦ absurd (both_ways (bit (row (kernel_part n form) k) p) (ap (λ v. bit v p) (get_or_past (kernel_part n form) k [] (omega (arith, length-map kept (drop n))))) f.one)
+      | inl l ↦
+          let at = kept_at (is_right n) [] form k l in
+          let j = place_of (is_right n) form k in
+          let same : row (kernel_part n form) k ≡ drop n (row form j) = row-map_drop n kept k l ∙ ap (drop n) at.1 in
+          (j, at.2, right_first n (row form j) p (right_parts n (row form j) at.2).0 (subst (λ v. IsFirstOne v p) same f))
+    ]
 
-pub kernel_part_more : (n : ℕ) (rows : List (List Bool)) (i : ℕ) → i < length rows → kernel_part n (take (i + 1) rows) ≡ kernel_part n (take i rows) ++ kernel_part n (row rows i ∷ [])
-kernel_part_more n rows i l =
-    ap (kernel_part n) (take_more rows i [] l)
-    ∙ ap (map (drop n)) (filter-append (is_right n) (take i rows) (row rows i ∷ []))
-    ∙ map-append (drop n) (filter (is_right n) (take i rows)) (filter (is_right n) (row rows i ∷ []))
+-- a row of the form with a one left of the bar has right of it a preimage of what is left
+chosen_row : (n : ℕ) (xs form : List (List Bool)) (j : ℕ) → HaveWidth n xs → IsEchelonForm (n + length xs) (augmented xs) form → j < length form → has_one (take n (row form j)) ≡ true → IsPreimage n xs (kernel_part n form) (take n (row form j)) (drop n (row form j))
+chosen_row n xs form j w h l t =
+    let r = row form j in
+    let len : length (take n r) ≡ n = length-take-le n r (let e : length r ≡ n + length xs = h.widths j l in omega arith) in
+    let back = form_in_whole n xs form (take n r) (drop n r) w h len (subst (IsInSpan (n + length xs) form) (sym (take-append-drop n r)) (row-IsInSpan (n + length xs) form j h.widths l)) in
+    record { one_each = back.0; gives = back.1; clear = clear }
+  where
+    clear : (k p : ℕ) → IsFirstOne (row (kernel_part n form) k) p → bit (drop n (row form j)) p ≡ false
+    clear k p f =
+        let at = kernel_first n form k p f in
+        let other : at.0 ≢ j = λ e. both_ways (has_one (take n (row form j))) (subst (λ i. has_one (take n (row form i)) ≡ false) e (right_parts n (row form at.0) at.1).0) t in
+        get_or-drop n (row form j) p false ∙ h.reduced.pivots_alone at.0 j (n + p) other at.2
 
--- a row with its pivot left of the bar, right of it, and a zero row
-pub has_left : (n : ℕ) (r : List Bool) (p : ℕ) → IsFirstOne r p → p < n → has_one (take n r) ≡ true
-has_left n r p f l = has_one_at (take n r) p (get_or-take n r p false l ∙ f.one)
+pub chosen_are_preimages : (n : ℕ) (xs form : List (List Bool)) → HaveWidth n xs → IsEchelonForm (n + length xs) (augmented xs) form → ArePreimages n xs (kernel_part n form) (image_part n form) (chosen_part n form)
+chosen_are_preimages n xs form w h =
+    let kept = filter (λ r. has_one (take n r)) form in
+    record {
+      widths = HaveWidth-right n (length xs) kept (HaveWidth-filter (n + length xs) (λ r. has_one (take n r)) form h.widths);
+      as_many = length-map kept (drop n) ∙ sym (length-map kept (take n));
+      each = λ i l.
+          let m : i < length kept = omega (arith, length-map kept (take n)) in
+          let at = kept_at (λ r. has_one (take n r)) [] form i m in
+          let j = place_of (λ r. has_one (take n r)) form i in
+          let left : row (image_part n form) i ≡ take n (row form j) = row-map_take n kept i m ∙ ap (take n) at.1 in
+          let right : row (chosen_part n form) i ≡ drop n (row form j) = row-map_drop n kept i m ∙ ap (drop n) at.1 in
+          rw (left, right) (chosen_row n xs form j w h at.0 at.2);
+    }
 
-pub has_no_left : (n : ℕ) (r : List Bool) (p : ℕ) → IsFirstOne r p → n ≤ p → has_one (take n r) ≡ false
+-- a row with its pivot right of the bar, and a zero row
+has_no_left : (n : ℕ) (r : List Bool) (p : ℕ) → IsFirstOne r p → n ≤ p → has_one (take n r) ≡ false
 has_no_left n r p f l =
     false_from_ne_true (has_one (take n r)) (λ t. elim (zero_or_first (take n r)) [
       | inl z ↦ has_one-nonzero (take n r) t z
@@ -377,14 +402,11 @@ has_no_left n r p f l =
 zero_has_none : (r : List Bool) → IsZero r → has_one r ≡ false
 zero_has_none r z = false_from_ne_true (has_one r) (λ t. has_one-nonzero r t z)
 
-pub image_part-left : (n : ℕ) (r : List Bool) (p : ℕ) → IsFirstOne r p → p < n → image_part n (r ∷ []) ≡ take n r ∷ []
-image_part-left n r p f l = rw (has_left n r p f l) refl
-
-pub kernel_part-left : (n : ℕ) (r : List Bool) (p : ℕ) → IsFirstOne r p → p < n → kernel_part n (r ∷ []) ≡ []
-kernel_part-left n r p f l = rw (has_left n r p f l) refl
-
 pub image_part-right : (n : ℕ) (r : List Bool) (p : ℕ) → IsFirstOne r p → n ≤ p → image_part n (r ∷ []) ≡ []
 image_part-right n r p f l = rw (has_no_left n r p f l) refl
+
+pub chosen_part-right : (n : ℕ) (r : List Bool) (p : ℕ) → IsFirstOne r p → n ≤ p → chosen_part n (r ∷ []) ≡ []
+chosen_part-right n r p f l = rw (has_no_left n r p f l) refl
 
 pub kernel_part-right : (n : ℕ) (r : List Bool) (p : ℕ) → IsFirstOne r p → n ≤ p → kernel_part n (r ∷ []) ≡ drop n r ∷ []
 kernel_part-right n r p f l = rw (has_no_left n r p f l, has_one_at r p f.one) refl
@@ -398,18 +420,15 @@ zero_below (suc n) (x ∷ r) z (suc k) = zero_below n r (λ j. z (suc j)) k
 pub image_part-zero : (n : ℕ) (r : List Bool) → IsZero r → image_part n (r ∷ []) ≡ []
 image_part-zero n r z = rw (zero_has_none (take n r) (zero_below n r z)) refl
 
+pub chosen_part-zero : (n : ℕ) (r : List Bool) → IsZero r → chosen_part n (r ∷ []) ≡ []
+chosen_part-zero n r z = rw (zero_has_none (take n r) (zero_below n r z)) refl
+
 pub kernel_part-zero : (n : ℕ) (r : List Bool) → IsZero r → kernel_part n (r ∷ []) ≡ []
 kernel_part-zero n r z = rw (zero_has_none (take n r) (zero_below n r z), zero_has_none r z) refl
-
-pub slice_left : (n : ℕ) (r : List Bool) → slice_range r 0 n ≡ take n r
-slice_left n r = grind (arith, common_steps)
 
 pub slice_right : (n : ℕ) (r : List Bool) → slice_range r n (length r) ≡ drop n r
 slice_right n r = take_rest r n
 
--- the parts of all rows
-pub image_part_whole : (n m i : ℕ) (rows form ys : List (List Bool)) → ys ≡ image_part n (take i rows) → n ≡ m → rows ≡ form → length rows ≤ i → ys ≡ image_part m form
-image_part_whole n m i rows form ys e f g l = e ∙ ap (image_part n) (take_all i rows l ∙ g) ∙ ap (λ k. image_part k form) f
-
-pub kernel_part_whole : (n m i : ℕ) (rows form ys : List (List Bool)) → ys ≡ kernel_part n (take i rows) → n ≡ m → rows ≡ form → length rows ≤ i → ys ≡ kernel_part m form
-kernel_part_whole n m i rows form ys e f g l = e ∙ ap (kernel_part n) (take_all i rows l ∙ g) ∙ ap (λ k. kernel_part k form) f
+-- a part of the rows up to the last is the part of all
+pub part_whole : {n m i : ℕ} {rows form ys : List (List Bool)} (part : ℕ → List (List Bool) → List (List Bool)) → n ≡ m → rows ≡ form → length rows ≤ i → ys ≡ part n (take i rows) → ys ≡ part m form
+part_whole {n} {m} {i} {rows} {form} part e f l p = p ∙ ap (part n) (take_all i rows l ∙ f) ∙ ap (λ k. part k form) e

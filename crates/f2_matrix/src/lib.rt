@@ -7,6 +7,8 @@ mod reduced;
 #[cfg(test)]
 mod tests;
 
-pub use laws::{echelon_form_is_unique, kernel_basis_is_unique, row_basis_is_unique};
+pub use laws::{
+    echelon_form_is_unique, kernel_basis_is_unique, preimage_is_unique, row_basis_is_unique,
+};
 pub use matrix::Matrix;
 pub use reduced::Reduced;

@@ -1,8 +1,9 @@
-ghost use Rattle.std.specs.Prelude.{◌≡◌, ◌⊎◌, ◌↔◌, ℕ, ◌+◌, ◌≤◌, false, [], ◌∷◌, ◌++◌, length, IsTrue, IfOk, OnOk, slice_range};
-ghost use Rattle.f2_vec.specs.Vectors.{sum_of, bit, IsFirstOne};
+ghost use Rattle.std.specs.Prelude.{◌≡◌, ◌↔◌, ◌+◌, ◌≤◌, [], ◌∷◌, ◌++◌, length, IsTrue, IsSome, IfSome, IfOk, OnOk, slice_range};
+ghost use Rattle.f2_vec.specs.Vectors.{bit, IsZero};
 ghost use Rattle.f2_vec.specs.Spans.{HaveWidth, IsInSpan};
 ghost use Rattle.f2_matrix.specs.Echelon.{IsEchelonForm, IsRowBasis, IsKernelBasis};
-ghost use Rattle.f2_matrix.specs.Reduction.{augmented, image_part, kernel_part, IsReductionOf};
+ghost use Rattle.f2_matrix.specs.Reduction.{augmented, image_part, chosen_part, kernel_part, IsReductionOf};
+ghost use Rattle.f2_matrix.specs.Preimages.{IsPreimageUnder, ArePreimages, pivot_of, quasi_of};
 
 use crate::matrix::Matrix;
 use f2_vec::BitVec;
@@ -10,18 +11,19 @@ use memory::Memory;
 use std::alloc::Global;
 use std::marker::Model;
 
-/// What the echelon form of `[D | I]` says of a matrix D: the reduced basis of the span of its rows, and that
-/// of its kernel.
+/// What the echelon form of `[D | I]` says of a matrix D: the reduced basis of the span of its rows, a preimage
+/// of each vector of that basis, and the reduced basis of its kernel.
 #[derive(Debug, Drop)]
 pub struct Reduced {
     cols: usize,
     height: usize,
     image: Vec<BitVec>,
+    chosen: Vec<BitVec>,
     kernel: Vec<BitVec>,
 }
 
 impl Model for Reduced {
-    ghost use Rattle.std.specs.Prelude.{◌≡◌};
+    ghost use Rattle.std.specs.Prelude.{◌≡◌, length};
     ghost use Rattle.f2_matrix.specs.Reduction.{Reduction};
 
     ghost Value = { Reduction };
@@ -29,9 +31,9 @@ impl Model for Reduced {
     ghost use Rattle.f2_vec.specs.Spans.{HaveWidth};
     ghost use Rattle.f2_matrix.specs.Echelon.{IsReduced, HasNoZeroRow};
 
-    ghost view = { λ r. record { cols = r.cols; height = r.height; image = r.image.items; kernel = r.kernel.items } };
+    ghost view = { λ r. record { cols = r.cols; height = r.height; image = r.image.items; chosen = r.chosen.items; kernel = r.kernel.items } };
 
-    ghost invariant = { λ r. HaveWidth r.cols r.image.items × IsReduced r.image.items × HasNoZeroRow r.image.items × HaveWidth r.height r.kernel.items };
+    ghost invariant = { λ r. HaveWidth r.cols r.image.items × IsReduced r.image.items × HasNoZeroRow r.image.items × HaveWidth r.height r.chosen.items × (length r.chosen.items ≡ length r.image.items) × HaveWidth r.height r.kernel.items };
 }
 
 impl Reduced {
@@ -42,10 +44,25 @@ impl Reduced {
         ensures height { IfOk result (λ r. r.height ≡ length matrix.now.rows) }
         ensures image { IfOk result (λ r. IsRowBasis matrix.now.cols matrix.now.rows r.image) }
         ensures kernel { IfOk result (λ r. IsKernelBasis matrix.now.cols matrix.now.rows r.kernel) }
+        ensures chosen { IfOk result (λ r. ArePreimages matrix.now.cols matrix.now.rows r.kernel r.image r.chosen) }
     {
         let mut form = matrix.augment(alloc)?;
         form.reduce();
         parts_of(alloc, matrix, &form)
+    }
+
+    /// The length of the matrix's rows.
+    pub fn cols(&self) -> usize
+        ensures { result ≡ self.now.cols }
+    {
+        self.cols
+    }
+
+    /// How many rows the matrix has.
+    pub fn height(&self) -> usize
+        ensures { result ≡ self.now.height }
+    {
+        self.height
     }
 
     /// The echelon rows of the span of the matrix's rows, without zero rows.
@@ -54,6 +71,16 @@ impl Reduced {
         ensures widths { HaveWidth self.now.cols self.now.image }
     {
         self.image.as_slice()
+    }
+
+    /// The chosen preimages of the image rows, in order: for each image row the coefficients, one for each row of
+    /// the matrix, that give it and are zero at the pivots of the kernel rows.
+    pub fn chosen(&self) -> &[BitVec]
+        ensures rows { result.now ≡ self.now.chosen }
+        ensures widths { HaveWidth self.now.height self.now.chosen }
+        ensures as_many { length self.now.chosen ≡ length self.now.image }
+    {
+        self.chosen.as_slice()
     }
 
     /// The echelon rows of the matrix's kernel, without zero rows.
@@ -69,34 +96,106 @@ impl Reduced {
         requires { length v.now ≡ self.now.cols }
         ensures { IfOk result (λ inside. IsTrue inside ↔ IsInSpan self.now.cols self.now.image v.now) }
     {
-        let mut rest = v.try_copy(alloc)?;
-        for row in self.image.as_slice() {
-            clear_pivot(&mut rest, row);
+        let cleared = self.clear_pivots(alloc, v)?;
+        Ok(cleared.rest.is_zero())
+    }
+
+    /// The preimage of `v`: the coefficients, one for each row of the matrix, that give `v` and are zero at the
+    /// pivots of the kernel rows. There is one just where `v` is a sum of rows of the matrix.
+    pub fn preimage(&self, alloc: Global, v: &BitVec) -> Result<Option<BitVec>, Memory>
+        requires { length v.now ≡ self.now.cols }
+        ensures inside { IfOk result (λ found. IsSome found ↔ IsInSpan self.now.cols self.now.image v.now) }
+        ensures preimage { IfOk result (λ found. IfSome found (IsPreimageUnder self.now v.now)) }
+        ensures quasi { IfOk result (λ found. IfSome found (λ c. c ≡ quasi_of self.now.height self.now.image self.now.chosen v.now)) }
+    {
+        let cleared = self.clear_pivots(alloc, v)?;
+        if cleared.rest.is_zero() {
+            Ok(Some(cleared.quasi))
+        } else {
+            Ok(None)
         }
-        Ok(rest.is_zero())
+    }
+
+    /// The quasi-inverse at `v`, on every vector: the sum of the chosen preimages of those image rows at whose
+    /// pivots `v` has a 1. It has one coefficient for each row of the matrix, and is the preimage where there is one.
+    pub fn quasi(&self, alloc: Global, v: &BitVec) -> Result<BitVec, Memory>
+        requires { length v.now ≡ self.now.cols }
+        ensures sum { IfOk result (λ c. c ≡ quasi_of self.now.height self.now.image self.now.chosen v.now) }
+        ensures length { IfOk result (λ c. length c ≡ self.now.height) }
+        ensures preimage { IfOk result (λ c. IsInSpan self.now.cols self.now.image v.now → IsPreimageUnder self.now v.now c) }
+    {
+        let cleared = self.clear_pivots(alloc, v)?;
+        Ok(cleared.quasi)
+    }
+
+    /// The same reduction.
+    pub fn try_copy(&self, alloc: Global) -> Result<Reduced, Memory>
+        ensures { IfOk result (λ copy. copy ≡ self.now) }
+    {
+        let image = copy_rows(alloc, self.image.as_slice())?;
+        let chosen = copy_rows(alloc, self.chosen.as_slice())?;
+        let kernel = copy_rows(alloc, self.kernel.as_slice())?;
+        Ok(Reduced {
+            cols: self.cols,
+            height: self.height,
+            image,
+            chosen,
+            kernel,
+        })
+    }
+
+    // Clears the ones of `v` at the pivots of the image rows: something is left just where `v` is outside their span.
+    fn clear_pivots(&self, alloc: Global, v: &BitVec) -> Result<Cleared, Memory>
+        requires { length v.now ≡ self.now.cols }
+        ensures rest { IfOk result (λ cleared. IsZero cleared.rest ↔ IsInSpan self.now.cols self.now.image v.now) }
+        ensures quasi { IfOk result (λ cleared. cleared.quasi ≡ quasi_of self.now.height self.now.image self.now.chosen v.now) }
+        ensures length { IfOk result (λ cleared. length cleared.quasi ≡ self.now.height) }
+    {
+        let mut rest = v.try_copy(alloc)?;
+        let mut quasi = BitVec::zero(alloc, self.height)?;
+        for i in 0..self.image.len() {
+            let row = &self.image[i];
+            if has_pivot(v, row) {
+                rest.xor_with(row);
+                quasi.xor_with(&self.chosen[i]);
+            }
+        }
+        Ok(Cleared { rest, quasi })
     }
 }
 
-// Keeps of the echelon form of [D | I], D the matrix, what is left of the bar where there is a 1, and else what
-// is right of it.
+// A vector with its ones at the pivots of the image rows cleared.
+#[derive(Drop)]
+struct Cleared {
+    // the vector plus those image rows at whose pivots it has a 1
+    rest: BitVec,
+    // the sum of the chosen preimages of these rows
+    quasi: BitVec,
+}
+
+// Keeps of the echelon form of [D | I], D the matrix, both parts where there is a 1 left of the bar, and else
+// what is right of it.
 fn parts_of(alloc: Global, matrix: &Matrix, form: &Matrix) -> Result<Reduced, Memory>
     requires cols { form.now.cols ≡ matrix.now.cols + length matrix.now.rows }
     requires form { IsEchelonForm (matrix.now.cols + length matrix.now.rows) (augmented matrix.now.rows) form.now.rows }
     ensures parts { IfOk result (λ r. IsReductionOf matrix.now.cols matrix.now.rows r) }
     ensures image { IfOk result (λ r. IsRowBasis matrix.now.cols matrix.now.rows r.image) }
     ensures kernel { IfOk result (λ r. IsKernelBasis matrix.now.cols matrix.now.rows r.kernel) }
+    ensures chosen { IfOk result (λ r. ArePreimages matrix.now.cols matrix.now.rows r.kernel r.image r.chosen) }
 {
     let cols = matrix.cols();
     let height = matrix.rows().len();
     let mut image = Vec::new(alloc);
+    let mut chosen = Vec::new(alloc);
     let mut kernel = Vec::new(alloc);
     for row in form.rows() {
-        keep_part(alloc, cols, row, &mut image, &mut kernel)?;
+        keep_part(alloc, cols, row, &mut image, &mut chosen, &mut kernel)?;
     }
     Ok(Reduced {
         cols,
         height,
         image,
+        chosen,
         kernel,
     })
 }
@@ -107,14 +206,19 @@ fn keep_part(
     cols: usize,
     row: &BitVec,
     image: &mut Vec<BitVec>,
+    chosen: &mut Vec<BitVec>,
     kernel: &mut Vec<BitVec>,
 ) -> Result<(), Memory>
     requires { cols ≤ length row.now }
     ensures image { OnOk result (image.new.items ≡ image.old.items ++ image_part cols (row.now ∷ [])) }
+    ensures chosen { OnOk result (chosen.new.items ≡ chosen.old.items ++ chosen_part cols (row.now ∷ [])) }
     ensures kernel { OnOk result (kernel.new.items ≡ kernel.old.items ++ kernel_part cols (row.now ∷ [])) }
 {
     match row.first_one() {
-        Some(pivot) if pivot < cols => image.push(part(alloc, row, 0, cols)?)?,
+        Some(pivot) if pivot < cols => {
+            image.push(part(alloc, row, 0, cols)?)?;
+            chosen.push(part(alloc, row, cols, row.len())?)?;
+        }
         Some(_) => kernel.push(part(alloc, row, cols, row.len())?)?,
         None => {}
     }
@@ -134,15 +238,24 @@ fn part(alloc: Global, row: &BitVec, from: usize, to: usize) -> Result<BitVec, M
     Ok(part)
 }
 
-// Adds `row` where the vector has a 1 at the row's pivot.
-fn clear_pivot(vector: &mut BitVec, row: &BitVec)
-    requires { length vector.old ≡ length row.now }
-    ensures added { (vector.new ≡ vector.old) ⊎ (vector.new ≡ sum_of vector.old row.now) }
-    ensures cleared { (p : ℕ) → IsFirstOne row.now p → bit vector.new p ≡ false }
+// Whether the vector has a 1 at the row's pivot.
+fn has_pivot(vector: &BitVec, row: &BitVec) -> bool
+    requires { length vector.now ≡ length row.now }
+    ensures { result ≡ bit vector.now (pivot_of row.now) }
 {
-    if let Some(pivot) = row.first_one() {
-        if vector.get(pivot) {
-            vector.xor_with(row);
-        }
+    match row.first_one() {
+        Some(pivot) => vector.get(pivot),
+        None => false,
     }
+}
+
+// The same rows.
+fn copy_rows(alloc: Global, rows: &[BitVec]) -> Result<Vec<BitVec>, Memory>
+    ensures { IfOk result (λ copy. copy.items ≡ rows.now) }
+{
+    let mut copy = Vec::with_capacity(alloc, rows.len())?;
+    for row in rows {
+        copy.push(row.try_copy(alloc)?)?;
+    }
+    Ok(copy)
 }

@@ -1,9 +1,10 @@
 -- The basis of a free module, block by block.
 use Rattle.std.proofs.Common.{◌≡◌, ℕ, suc, ◌+◌, ◌-◌, ◌<◌, ◌≤◌, ℤ, pos, negsuc, ◌+ℤ◌, ◌-ℤ◌, List, [], ◌∷◌, ◌++◌, length, map, take, drop, get_or, Some, refl, sym, ◌∙◌, ap, subst, arith, inl, inr}
-use Rattle.std.specs.List.{Contains, slice_get}
+use Rattle.std.specs.List.{All, Contains, slice_get}
 use Rattle.std.proofs.lemmas.Bool.{cases_lt}
 use Rattle.std.proofs.lemmas.Int.{ints}
 use Rattle.std.proofs.lemmas.List.{append_assoc, get_or_append_left, get_or-append_right, get_or-append-add, get_or-map, get_or_default, length-map, length-append, take_more, drop_more, take-append-drop, length-take-le}
+use Rattle.std.proofs.lemmas.List.Elements.{All-from_get_or}
 use Rattle.std.proofs.lemmas.Option.{slice_get-get_or, slice_get_within, get_or_from_slice_get}
 use Rattle.milnor_basis.specs.Exponents.{entry, degree_of, IsTrimmed, IsRightLexBelow}
 use Rattle.milnor_basis.proofs.BasisLemmas.{basis_is_milnors}
@@ -174,6 +175,12 @@ held-IsOfDegree ds t e c =
       trimmed = f.trimmed;
       degree = ap (λ k. degree_at ds k +ℤ pos (degree_of (element (free_basis ds t) c.0).1)) (sym g) ∙ f.degree;
     })
+
+pub All-free_basis : (ds : List ℤ) (t : ℤ) → All (IsOfDegree ds t) (free_basis ds t)
+All-free_basis ds t =
+    All-from_get_or (IsOfDegree ds t) (free_basis ds t) (0, []) (λ i l.
+    let e = element (free_basis ds t) i in
+    held-IsOfDegree ds t e (i, l, get_or_default (free_basis ds t) i e (0, []) l))
 
 IsOfDegree-held : (ds : List ℤ) (t : ℤ) (e : ℕ × List ℕ) → IsOfDegree ds t e → Contains (free_basis ds t) e
 IsOfDegree-held ds t e o =

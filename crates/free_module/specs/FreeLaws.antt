@@ -41,15 +41,15 @@ nat_eq-other : (g h : ℕ) → g ≢ h → nat_eq g h ≡ false
 nat_eq-other g h l = grind (arith, nat_tests)
 
 -- Sq(R) on (g, S) at the elements of its own generator, and at those of another
-own_part : (g : ℕ) (r s : List ℕ) (xs : List (List ℕ)) → map (coefficient_at g r s) (on g xs) ≡ map (coefficient r s) xs
+pub own_part : (g : ℕ) (r s : List ℕ) (xs : List (List ℕ)) → map (coefficient_at g r s) (on g xs) ≡ map (coefficient r s) xs
 own_part g r s [] = refl
 own_part g r s (x ∷ xs) = cc (ap (λ b. b && coefficient r s x) (nat_eq-refl g), own_part g r s xs)
 
-other_part : (g h : ℕ) (r s : List ℕ) (xs : List (List ℕ)) → g ≢ h → map (coefficient_at h r s) (on g xs) ≡ zeros (length xs)
+pub other_part : (g h : ℕ) (r s : List ℕ) (xs : List (List ℕ)) → g ≢ h → map (coefficient_at h r s) (on g xs) ≡ zeros (length xs)
 other_part g h r s [] e = refl
 other_part g h r s (x ∷ xs) e = cc (ap (λ b. b && coefficient r s x) (nat_eq-other g h e), other_part g h r s xs e)
 
-later_parts : (g : ℕ) (ds : List ℤ) (h : ℕ) (r s : List ℕ) (t : ℤ) → h < g → map (coefficient_at h r s) (free_basis_from g ds t) ≡ zeros (length (free_basis_from g ds t))
+pub later_parts : (g : ℕ) (ds : List ℤ) (h : ℕ) (r s : List ℕ) (t : ℤ) → h < g → map (coefficient_at h r s) (free_basis_from g ds t) ≡ zeros (length (free_basis_from g ds t))
 later_parts g [] h r s t l = refl
 later_parts g (d ∷ ds) h r s t l =
     let b = basis_at (t -ℤ d) in

@@ -2,3 +2,4 @@ pub mod FreeModule
 pub mod Graded
 pub mod FreeLaws
 pub mod FreeBasis
+pub mod LinearMap

@@ -7,3 +7,6 @@ pub mod Coefficients
 pub mod Associative
 pub mod RightUnit
 pub mod Vectors
+pub mod FreeModules
+pub mod LinearMaps
+pub mod UnitActs

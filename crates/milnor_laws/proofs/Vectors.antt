@@ -1,24 +1,24 @@
 -- Associativity of vectors.
 use Rattle.std.specs.List.{All}
-use Rattle.std.proofs.Common.{◌≡◌, ℕ, ◌+◌, Bool, true, false, ◌&&◌, if◌then◌else◌, List, [], ◌∷◌, map, length, refl, sym, ◌∙◌, ap, arith}
+use Rattle.std.proofs.Common.{◌≡◌, ℕ, ◌+◌, ℤ, pos, negsuc, ◌+ℤ◌, Bool, true, false, ◌&&◌, if◌then◌else◌, List, [], ◌∷◌, map, length, refl, sym, ◌∙◌, ap, arith}
 use Rattle.std.proofs.Math.Path.{fun_ext}
 use Rattle.std.proofs.Math.Bool as Booleans
+use Rattle.std.proofs.lemmas.Int.{ints}
 use Rattle.std.proofs.lemmas.List.Elements.{All-cons, All-head, All-nil, All-tail}
 use Rattle.f2_vec.specs.Spans.{combination}
 use Rattle.f2_vec.specs.Vectors.{sum_of, zeros}
+use Rattle.f2_vec.proofs.Combinations.{map_same_all, combination-zero_rows}
+use Rattle.f2_vec.proofs.Spans.{combination-zeros}
 use Rattle.milnor_basis.specs.Exponents.{degree_of, IsTrimmed}
 use Rattle.milnor_basis.specs.Basis.{basis_of}
 use Rattle.milnor_basis.specs.Product.{coefficient, product_bits}
 use Rattle.milnor_basis.specs.Walk.{plus}
 use Rattle.milnor_basis.proofs.BasisLemmas.{All-basis_of}
 use Rattle.milnor_basis.proofs.Parity.{odd_by, odd_by-filter}
-use Rattle.milnor_laws.specs.Laws.{multiple, ProductActs, ProductIsAssociativeInVectors}
+use Rattle.milnor_product.specs.Times.{basis_at, times_at}
+use Rattle.milnor_laws.specs.Laws.{ProductActs, ProductIsAssociativeInVectors}
 use Rattle.milnor_laws.proofs.Associative.{associative, odd_by-same_all}
 use Rattle.milnor_laws.proofs.SumsModTwo.{odd_by-same, odd_by-and, odd_by-swap}
-
-map_same_all : {X Y : Type 0} → (P : X → Type 0) (f g : X → Y) (xs : List X) → All P xs → ((x : X) → P x → f x ≡ g x) → map f xs ≡ map g xs
-map_same_all P f g [] all h = refl
-map_same_all P f g (x ∷ xs) all h = ap (λ y. y ∷ map f xs) (h x (All-head P x xs all)) ∙ ap (λ ys. g x ∷ ys) (map_same_all P f g xs (All-tail P x xs all) h)
 
 zeros-map : {Y : Type 0} → (ys : List Y) → zeros (length ys) ≡ map (λ y. false) ys
 zeros-map [] = refl
@@ -111,16 +111,16 @@ module _ (n : ℕ) (v : List Bool) (fits : length v ≡ length (basis_of n)) whe
     abbrev above : List (List ℕ)
     above = basis_of (n + degree_of s + degree_of r)
 
-    one_by_one : multiple r (n + degree_of s) (multiple s n v) ≡ map (λ u. odd_by (λ t. part s t && coefficient r t u) below) above
+    one_by_one : times_at r (pos (n + degree_of s)) (times_at s (pos n) v) ≡ map (λ u. odd_by (λ t. part s t && coefficient r t u) below) above
     one_by_one =
-        ap (multiple r (n + degree_of s)) (multiple-is s (n + degree_of s) refl)
+        ap (times_at r (pos (n + degree_of s))) (multiple-is s (n + degree_of s) refl)
         ∙ ap (combination (length above) (map (part s) below)) (map_same_all (HasDegree (n + degree_of s)) (product_bits r) (λ t. map (coefficient r t) above) below (All-basis_of (n + degree_of s))
         (λ t h. let d = h.1 in let same : degree_of r + degree_of t ≡ n + degree_of s + degree_of r = omega arith in ap (λ k. map (coefficient r t) (basis_of k)) same))
         ∙ combination-map (length above) (part s) (λ t. coefficient r t) below above refl
 
-    together : combination (length above) (product_bits r s) (map (λ t. multiple t n v) factors) ≡ map (λ u. odd_by (λ t. coefficient r s t && part t u) factors) above
+    together : combination (length above) (product_bits r s) (map (λ t. times_at t (pos n) v) factors) ≡ map (λ u. odd_by (λ t. coefficient r s t && part t u) factors) above
     together =
-        ap (combination (length above) (product_bits r s)) (map_same_all (HasDegree (degree_of r + degree_of s)) (λ t. multiple t n v) (λ t. map (part t) above) factors (All-basis_of (degree_of r + degree_of s))
+        ap (combination (length above) (product_bits r s)) (map_same_all (HasDegree (degree_of r + degree_of s)) (λ t. times_at t (pos n) v) (λ t. map (part t) above) factors (All-basis_of (degree_of r + degree_of s))
         (λ t h. let d = h.1 in let same : n + degree_of t ≡ n + degree_of s + degree_of r = omega arith in multiple-is t (n + degree_of t) refl ∙ ap (λ k. map (part t) (basis_of k)) same))
         ∙ combination-map (length above) (coefficient r s) part factors above refl
 
@@ -153,6 +153,25 @@ module _ (n : ℕ) (v : List Bool) (fits : length v ≡ length (basis_of n)) whe
         ∙ sym (odd_by-swap (λ t p. coefficient r s t && (p.1 && coefficient t p.0 u)) factors ps)
         ∙ odd_by-same (λ t. odd_by (λ p. coefficient r s t && (p.1 && coefficient t p.0 u)) ps) (λ t. coefficient r s t && part t u) factors (λ t. odd_by-and (coefficient r s t) (λ p. p.1 && coefficient t p.0 u) ps)
 
+-- there is nothing of negative degree
+acts_on_nothing : (r s : List ℕ) (n : ℕ) → times_at r (negsuc n +ℤ pos (degree_of s)) (times_at s (negsuc n) []) ≡ combination (length (basis_at (negsuc n +ℤ pos (degree_of r + degree_of s)))) (product_bits r s) (map (λ t. times_at t (negsuc n) []) (basis_of (degree_of r + degree_of s)))
+acts_on_nothing r s n =
+    let middle = negsuc n +ℤ pos (degree_of s) in
+    let width : ℤ → ℕ = λ m. length (basis_at m) in
+    let e : middle +ℤ pos (degree_of r) ≡ negsuc n +ℤ pos (degree_of r + degree_of s) = omega (arith, ints) in
+    let w = width (negsuc n +ℤ pos (degree_of r + degree_of s)) in
+    combination-zeros (width (middle +ℤ pos (degree_of r))) (width middle) (map (product_bits r) (basis_at middle))
+    ∙ ap (λ m. zeros (width m)) e
+    ∙ sym (combination-zero_rows w (product_bits r s) (basis_of (degree_of r + degree_of s)))
+    ∙ ap (combination w (product_bits r s)) (map_same_all (HasDegree (degree_of r + degree_of s)) (λ t. zeros w) (λ t. times_at t (negsuc n) []) (basis_of (degree_of r + degree_of s)) (All-basis_of (degree_of r + degree_of s))
+    (λ t h. ap (λ k. zeros (width (negsuc n +ℤ pos k))) (sym h.1)))
+
 pub product_acts : ProductActs
-product_acts r s n v fits =
-    one_by_one n v fits r s ∙ ap (λ f. map f (basis_of (n + degree_of s + degree_of r))) (fun_ext (λ u. parts_agree n v fits r s u)) ∙ sym (together n v fits r s)
+product_acts r s (negsuc n) [] fits = acts_on_nothing r s n
+product_acts r s (negsuc n) (x ∷ v) fits = cc
+product_acts r s (pos n) v fits =
+    let e : n + degree_of s + degree_of r ≡ n + (degree_of r + degree_of s) = omega arith in
+    one_by_one n v fits r s
+    ∙ ap (λ f. map f (basis_of (n + degree_of s + degree_of r))) (fun_ext (λ u. parts_agree n v fits r s u))
+    ∙ sym (together n v fits r s)
+    ∙ ap (λ m. combination (length (basis_of m)) (product_bits r s) (map (λ t. times_at t (pos n) v) (basis_of (degree_of r + degree_of s)))) e

@@ -1,5 +1,5 @@
--- The products of Sq(R) with a basis: their degree, and Sq() as a unit.
-use Rattle.std.proofs.Common.{◌≡◌, ◌≢◌, ℕ, ◌+◌, ◌<◌, Bool, true, false, List, [], ◌∷◌, length, map, get_or, ℤ, pos, negsuc, ◌+ℤ◌, ap, sym, ◌∙◌, arith}
+-- The products of Sq(R) with a basis: their degree and width, and Sq() as a unit.
+use Rattle.std.proofs.Common.{◌≡◌, ◌≢◌, ℕ, ◌+◌, ◌<◌, Bool, true, false, List, [], ◌∷◌, length, map, get_or, ℤ, pos, negsuc, ◌+ℤ◌, refl, ap, sym, subst, ◌∙◌, arith}
 use Rattle.std.proofs.lemmas.List.{length-map, ext_get_or, get_or-map}
 use Rattle.std.proofs.lemmas.Int.{ints}
 use Rattle.f2_vec.specs.Vectors.{zeros, bit}
@@ -25,6 +25,15 @@ products r n m e =
     let k : pos (degree_of s) ≡ n = degree_of-basis_at n i l in
     let f : m ≡ pos (degree_of r + degree_of s) = omega (arith, ints) in
     ap (λ z. map (coefficient r s) (basis_at z)) f)
+
+-- and as wide as the basis of that degree
+pub HaveWidth-products : (r : List ℕ) (n m : ℤ) → m ≡ n +ℤ pos (degree_of r) → HaveWidth (length (basis_at m)) (map (product_bits r) (basis_at n))
+HaveWidth-products r n m e =
+    subst (HaveWidth (length (basis_at m))) (products r n m e) (HaveWidth-map (length (basis_at m)) (λ s. map (coefficient r s) (basis_at m)) (basis_at n) (λ s. length-map (basis_at m) (coefficient r s)))
+
+pub length-times_at : (r : List ℕ) (n : ℤ) (v : List Bool) → length (times_at r n v) ≡ length (basis_at (n +ℤ pos (degree_of r)))
+length-times_at r n v =
+    length-combination (length (basis_at (n +ℤ pos (degree_of r)))) v (map (product_bits r) (basis_at n)) (HaveWidth-products r n (n +ℤ pos (degree_of r)) refl)
 
 -- Sq() on an element has the coefficient 1 at that element alone
 unit_here : (n i : ℕ) → i < length (basis_of n) → coefficient [] (get_or (basis_of n) i []) (get_or (basis_of n) i []) ≡ true

@@ -1,18 +1,18 @@
 -- The steps of the loops that make a product and a multiple.
-use Rattle.std.proofs.Common.{◌≡◌, ℕ, ◌+◌, ◌<◌, Bool, true, false, cond, List, [], length, map, take, get_or, set, Some, pos, ◌+ℤ◌, subst, refl, ap, sym, ◌∙◌, arith}
+use Rattle.std.proofs.Common.{◌≡◌, ℕ, ◌+◌, ◌<◌, Bool, true, false, cond, List, [], length, map, take, get_or, set, Some, pos, refl, ap, sym, ◌∙◌, arith}
 use Rattle.std.specs.List.{slice_get}
 use Rattle.std.proofs.lemmas.List.{get_or_read, get_or-map, length-map}
 use Rattle.std.proofs.lemmas.Option.{slice_get_within}
 use Rattle.f2_vec.specs.Vectors.{sum_of}
-use Rattle.f2_vec.specs.Spans.{row, HaveWidth, combination}
+use Rattle.f2_vec.specs.Spans.{row, combination}
 use Rattle.f2_vec.proofs.Spans.{length-combination}
-use Rattle.f2_vec.proofs.Combinations.{HaveWidth-map, HaveWidth-take, combination_more}
+use Rattle.f2_vec.proofs.Combinations.{HaveWidth-take, combination_more}
 use Rattle.milnor_basis.specs.Exponents.{degree_of}
 use Rattle.milnor_basis.specs.Basis.{basis_of}
 use Rattle.milnor_basis.specs.Product.{coefficient, product_terms, product_bits}
 use Rattle.milnor_basis.proofs.Places.{basis_of-member, basis_of-once}
 use Rattle.milnor_product.proofs.Marks.{IsMarked, IsMarked-more, filter_from}
-use Rattle.milnor_product.proofs.Multiples.{products}
+use Rattle.milnor_product.proofs.Multiples.{HaveWidth-products}
 
 -- x is read at place k of the items
 pub degree_of-read : (n k : ℕ) (items : List (List ℕ)) (x : List ℕ) → items ≡ basis_of n → k < length items → x ≡ get_or items k x → degree_of x ≡ n
@@ -52,20 +52,13 @@ module _ (r s : List ℕ) (items : List (List ℕ)) (k : ℕ) (x : List ℕ) (e 
   term-marked q bits h m =
       IsMarked-more (coefficient r s) (basis_of (degree_of r + degree_of s)) items k q bits (basis_of-once (degree_of r + degree_of s)) (place-is q h) term-passes m
 
--- the products of Sq(R) with the basis of degree n are as wide as the basis of their degree
-HaveWidth-products : (r : List ℕ) (n : ℕ) → HaveWidth (length (basis_of (n + degree_of r))) (map (product_bits r) (basis_of n))
-HaveWidth-products r n =
-    let z : pos (n + degree_of r) ≡ pos n +ℤ pos (degree_of r) = refl in
-    let h : HaveWidth (length (basis_of (n + degree_of r))) (map (λ s. map (coefficient r s) (basis_of (n + degree_of r))) (basis_of n)) = HaveWidth-map (length (basis_of (n + degree_of r))) (λ s. map (coefficient r s) (basis_of (n + degree_of r))) (basis_of n) (λ s. length-map (basis_of (n + degree_of r)) (coefficient r s)) in
-    subst (HaveWidth (length (basis_of (n + degree_of r)))) (products r (pos n) (pos (n + degree_of r)) z) h
-
 -- the sum of the first i multiples
 abbrev pub partial : List ℕ → ℕ → List Bool → ℕ → List Bool
 partial r n v i = combination (length (basis_of (n + degree_of r))) (take i v) (take i (map (product_bits r) (basis_of n)))
 
 pub length-partial : (r : List ℕ) (n : ℕ) (v : List Bool) (i : ℕ) → length (partial r n v i) ≡ length (basis_of (n + degree_of r))
 length-partial r n v i =
-    length-combination (length (basis_of (n + degree_of r))) (take i v) (take i (map (product_bits r) (basis_of n))) (HaveWidth-take (length (basis_of (n + degree_of r))) i (map (product_bits r) (basis_of n)) (HaveWidth-products r n))
+    length-combination (length (basis_of (n + degree_of r))) (take i v) (take i (map (product_bits r) (basis_of n))) (HaveWidth-take (length (basis_of (n + degree_of r))) i (map (product_bits r) (basis_of n)) (HaveWidth-products r (pos n) (pos (n + degree_of r)) refl))
 
 pub length-product_bits : (r s : List ℕ) (n : ℕ) → degree_of s ≡ n → length (product_bits r s) ≡ length (basis_of (n + degree_of r))
 length-product_bits r s n e =
@@ -78,4 +71,4 @@ partial-more r n v i b x h k e f =
     let l : i < length rows = omega (arith, length-map (basis_of n) (product_bits r)) in
     let y : x ≡ get_or (basis_of n) i [] = get_or_read (basis_of n) i x k f [] in
     let p : row rows i ≡ product_bits r x = get_or-map (product_bits r) (basis_of n) i [] [] k ∙ ap (product_bits r) (sym y) in
-    cc (combination_more (length (basis_of (n + degree_of r))) i v rows (HaveWidth-products r n) h l)
+    cc (combination_more (length (basis_of (n + degree_of r))) i v rows (HaveWidth-products r (pos n) (pos (n + degree_of r)) refl) h l)

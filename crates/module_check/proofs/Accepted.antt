@@ -1,25 +1,20 @@
 -- A file that is not refused describes a module.
-use Rattle.std.proofs.Common.{◌≡◌, ℕ, zero, suc, ◌+◌, ◌-◌, ◌<◌, ◌≤◌, pos, ◌+ℤ◌, Bool, true, false, List, [], ◌∷◌, length, map, Contains, Option, Some, None, get_or, refl, ap, sym, subst, ◌∙◌, inl, inr, arith, if◌then◌else◌}
+use Rattle.std.proofs.Common.{◌≡◌, ℕ, zero, suc, ◌+◌, ◌-◌, ◌<◌, ◌≤◌, pos, ◌+ℤ◌, Bool, true, false, List, [], ◌∷◌, length, Contains, Option, Some, None, get_or, refl, ap, sym, subst, ◌∙◌, inl, inr, arith, if◌then◌else◌}
 use Rattle.std.specs.Bool.{beq}
-use Rattle.std.specs.Cmp.{booleans_Decides}
 use Rattle.std.specs.Option.{option_or}
 use Rattle.std.specs.List.{range_with_len}
-use Rattle.std.specs.Cmp.Lexicographic.{pointwise, pointwise_decides}
+use Rattle.std.specs.Cmp.Lexicographic.{pointwise}
 use Rattle.std.proofs.lemmas.Bool.{cases_lt}
 use Rattle.std.proofs.lemmas.List.FromFn.{length-range_with_len, get_or-range_with_len}
-use Rattle.std.proofs.lemmas.Int.{ints}
 use Rattle.milnor_basis.specs.Exponents.{degree_of, IsTrimmed}
 use Rattle.milnor_basis.specs.Basis.{basis_of}
-use Rattle.milnor_basis.specs.Product.{product_terms}
 use Rattle.milnor_basis.proofs.BasisLemmas.{Contains-basis_of}
 use Rattle.module_json.specs.ModuleFile.{File}
-use Rattle.module_check.specs.Module.{Module, degree_at, width, value}
+use Rattle.module_check.specs.Module.{Module, degree_at, width}
 use Rattle.module_check.specs.DerivedAction.{span, derived_module}
-use Rattle.module_check.specs.Operators.{HaveWidths}
 use Rattle.module_check.specs.Acceptance.{IsModule, NeverFall, one_by_one, by_their_product, first_in, relation_on, relation_of, relation_in_degrees, relation_in_degree, first_relation, listed_from, refusal_of, AcceptedIsModule}
 use Rattle.module_check.specs.declared.fault.CheckFault.TheVariants.{Relation}
 use Rattle.module_check.proofs.AboveSpan.{width_above_span}
-use Rattle.module_check.proofs.Widths.{HaveWidth-map_where, length-total, length-act_on, terms_of_degree}
 use Rattle.module_check.proofs.Derived.{derived_widths, derived_identity}
 use Rattle.module_check.proofs.FirstIn.{option_or_none}
 use Rattle.module_check.proofs.Sides.{same_vectors, length-one_by_one, length-by_their_product, both_empty}

@@ -1,5 +1,5 @@
 -- Squares by the Adem relations: binomials mod 2, the power of two in the relation, what a file lists, and the sum of terms.
-use Rattle.std.proofs.Common.{◌≡◌, ◌≢◌, ℕ, zero, suc, ◌+◌, ◌-◌, ◌*◌, ◌/◌, ◌<◌, ◌≤◌, ℤ, pos, ◌+ℤ◌, Bool, true, false, ◌&&◌, ◌==◌, cond, Some, List, [], ◌∷◌, ◌++◌, length, map, drop, nat_eq, bit_and, slice_get, refl, sym, ap, ◌∙◌, arith}
+use Rattle.std.proofs.Common.{◌≡◌, ℕ, zero, suc, ◌+◌, ◌-◌, ◌*◌, ◌/◌, ◌<◌, ◌≤◌, pos, ◌+ℤ◌, Bool, true, false, ◌&&◌, ◌==◌, cond, Some, List, [], ◌∷◌, ◌++◌, map, drop, nat_eq, bit_and, slice_get, refl, sym, ap, ◌∙◌, arith}
 use Rattle.std.specs.Prelude.{nat_lt}
 use Rattle.std.specs.List.{filter, range_with_len}
 use Rattle.std.proofs.Math.Bool as Booleans
@@ -11,7 +11,7 @@ use Rattle.milnor_basis.specs.Product.{choose, is_odd}
 use Rattle.milnor_basis.proofs.Kummer.{choose_odd}
 use Rattle.module_json.specs.ModuleFile.{Generator, Entry}
 use Rattle.module_check.specs.Module.{degree_at, width, total}
-use Rattle.module_check.specs.DerivedAction.{doubled_below, power_below, listed_sum, twice, adem_terms, by_adem}
+use Rattle.module_check.specs.DerivedAction.{doubled_below, listed_sum, twice, by_adem}
 use Rattle.module_check.proofs.Elements.{range_push}
 use Rattle.module_check.proofs.Values.{total_push}
 

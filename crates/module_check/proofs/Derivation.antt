@@ -1,15 +1,14 @@
 -- The derivation, element by element.
-use Rattle.std.proofs.Common.{◌≡◌, ℕ, zero, suc, ◌+◌, ◌<◌, ◌≤◌, pos, ◌+ℤ◌, Bool, Some, List, [], ◌∷◌, ◌++◌, length, map, take, get_or, refl, sym, subst, ap, ◌∙◌, arith, slice_get, EachIndex, Result, Ok, Err, IfOk, length-append}
-use Rattle.std.specs.List.{range_with_len}
+use Rattle.std.proofs.Common.{◌≡◌, ℕ, ◌+◌, ◌<◌, ◌≤◌, Bool, Some, List, [], ◌∷◌, ◌++◌, length, take, get_or, refl, sym, subst, ap, ◌∙◌, arith, slice_get, EachIndex, Result, Ok, Err, IfOk, length-append}
 use Rattle.std.proofs.Math.Numerals.{add-one}
-use Rattle.std.proofs.lemmas.List.{length_push, take_more, take_all, append_assoc, length-take-le, get_or-map, length-map}
+use Rattle.std.proofs.lemmas.List.{length_push, take_more, take_all, append_assoc, length-take-le}
 use Rattle.std.proofs.lemmas.List.FromFn.{length-map-range_with_len, get_or-map-range_with_len}
 use Rattle.std.proofs.lemmas.Option.{slice_get-get_or}
 use Rattle.milnor_basis.specs.Exponents.{degree_of, IsTrimmed}
 use Rattle.milnor_basis.specs.Basis.{basis_of}
 use Rattle.milnor_basis.proofs.BasisLemmas.{All-basis_of}
 use Rattle.module_json.specs.ModuleFile.{File}
-use Rattle.module_check.specs.Module.{Module, degree_at, width, elements_below}
+use Rattle.module_check.specs.Module.{Module, elements_below}
 use Rattle.module_check.specs.DerivedAction.{derived_value, derived_operator, derived_from, elements, span, derived_module}
 use Rattle.module_check.specs.Operators.{HaveWidths}
 use Rattle.module_check.proofs.Elements.{elements_more, length-elements, place_found, place_is, elements_at}

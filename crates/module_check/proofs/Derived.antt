@@ -5,29 +5,27 @@ use Rattle.std.specs.List.{range_with_len, list_any}
 use Rattle.std.specs.Cmp.Lexicographic.{pointwise}
 use Rattle.std.proofs.Math.Numerals.{add-one}
 use borrow.Author.Tests.{ltb-true}
-use Rattle.std.proofs.lemmas.Bool.{cases_lt}
 use Rattle.std.proofs.lemmas.List.{length-map, length_push}
 use Rattle.std.proofs.lemmas.List.Elements.{All-nil, All-append, All-same, All-filter, All-weaker, All-from_get_or}
 use Rattle.std.proofs.Math.Seq.{get_or-append_seam}
 use Rattle.std.proofs.lemmas.List.FromFn.{length-range_with_len, get_or-range_with_len, length-map-range_with_len, get_or-map-range_with_len}
 use Rattle.std.proofs.lemmas.Int.{ints}
 use Rattle.std.proofs.lemmas.Nat.{div-add-mod'}
-use Rattle.std.proofs.lemmas.Option.{slice_get-map, slice_get-get_or, slice_get_within, slice_get_past, get_or_from_slice_get}
-use Rattle.f2_vec.proofs.Sums.{length-zeros}
+use Rattle.std.proofs.lemmas.Option.{slice_get-map, slice_get-get_or}
 use Rattle.f2_vec.specs.Spans.{HaveWidth}
 use Rattle.f2_vec.proofs.Spans.{HaveWidth-cons}
+use Rattle.f2_vec.proofs.Combinations.{HaveWidth-map_where}
 use Rattle.milnor_basis.specs.Exponents.{degree_of, IsTrimmed}
 use Rattle.milnor_basis.specs.Basis.{basis_of}
 use Rattle.milnor_basis.proofs.BasisLemmas.{All-basis_of}
 use Rattle.milnor_basis.specs.Product.{choose, is_odd, product_terms}
 use Rattle.module_json.specs.ModuleFile.{Generator, File}
-use Rattle.module_check.specs.Module.{degree_at, generators_in, width, unit, place_of, or_zeros, value, act_on}
+use Rattle.module_check.specs.Module.{degree_at, generators_in, width, unit, or_zeros, value, act_on}
 use Rattle.module_check.specs.DerivedAction.{listed_sum, sum_vector, doubled_below, power_below, twice, adem_terms, by_adem, square_value, front, other_terms, by_product, derived_value, derived_operator, derived_from, elements, span, derived_module}
 use Rattle.module_check.specs.Operators.{HaveWidths}
-use Rattle.module_check.specs.Relations.{value_at}
 use Rattle.module_check.proofs.Elements.{slice_get-append_left, elements_more}
 use Rattle.module_check.proofs.Values.{widths_nil, widths_more}
-use Rattle.module_check.proofs.Widths.{HaveWidth-map_where, length-total, length-act_on, degree_of-single, degree_of-front, terms_of_degree}
+use Rattle.module_check.proofs.Widths.{length-total, length-act_on, degree_of-single, degree_of-front, terms_of_degree}
 
 Operators : Type 0
 Operators = List (List (List Bool))

@@ -1,5 +1,5 @@
 -- The entries of a file, one after another, against their derived values.
-use Rattle.std.proofs.Common.{◌≡◌, ◌≢◌, ℕ, zero, suc, ◌+◌, ◌<◌, ◌≤◌, pos, ◌+ℤ◌, Bool, true, false, cond, List, [], ◌∷◌, length, drop, IsTrue, ◌||◌, slice_get, Some, None, refl, ap, sym, subst, ◌∙◌, arith}
+use Rattle.std.proofs.Common.{◌≡◌, ℕ, suc, ◌+◌, ◌≤◌, pos, ◌+ℤ◌, Bool, true, false, cond, List, [], ◌∷◌, length, drop, IsTrue, ◌||◌, slice_get, Some, None, refl, ap, sym, subst, ◌∙◌}
 use Rattle.std.specs.Bool.{beq}
 use Rattle.std.specs.Int.{is_power_of_two}
 use Rattle.std.specs.Cmp.{booleans_Decides}
@@ -9,7 +9,7 @@ use Rattle.std.proofs.Math.Seq.{drop-cons}
 use Rattle.std.proofs.lemmas.List.{drop_all}
 use Rattle.std.proofs.lemmas.Option.{get_or_from_slice_get, slice_get_within}
 use Rattle.f2_vec.specs.Vectors.{sum_of, IsZero}
-use Rattle.module_json.specs.ModuleFile.{Generator, Entry}
+use Rattle.module_json.specs.ModuleFile.{Entry}
 use Rattle.module_check.specs.Module.{Module, degree_at, width, value}
 use Rattle.module_check.specs.DerivedAction.{sum_vector}
 use Rattle.module_check.specs.Acceptance.{is_as_derived, listed_from}

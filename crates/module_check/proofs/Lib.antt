@@ -13,3 +13,5 @@ pub mod Sides
 pub mod Entries
 pub mod Accepted
 pub mod OneGenerator
+pub mod GradedModules
+pub mod Crossing

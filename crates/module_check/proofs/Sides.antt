@@ -1,5 +1,5 @@
 -- The two sides of a relation, and how the program finds them.
-use Rattle.std.proofs.Common.{◌≡◌, ◌≢◌, ℕ, zero, suc, ◌+◌, ◌-◌, ◌<◌, ◌≤◌, ℤ, pos, ◌+ℤ◌, Bool, true, false, cond, if◌then◌else◌, List, [], ◌∷◌, ◌++◌, length, map, take, get_or, All, Option, Some, None, option_and_then, nat_lt, filter, refl, ap, sym, subst, ◌∙◌, arith}
+use Rattle.std.proofs.Common.{◌≡◌, ℕ, zero, suc, ◌+◌, ◌-◌, ◌<◌, ◌≤◌, ℤ, pos, ◌+ℤ◌, Bool, true, false, cond, if◌then◌else◌, List, [], ◌∷◌, ◌++◌, length, map, take, get_or, All, Option, Some, None, option_and_then, filter, refl, ap, sym, subst, ◌∙◌, arith}
 use Rattle.std.specs.Bool.{beq}
 use Rattle.std.specs.Option.{ForSome}
 use Rattle.std.specs.Cmp.{booleans_Decides}
@@ -10,12 +10,11 @@ use Rattle.std.proofs.lemmas.List.Elements.{All-get_or, All-same, All-take, All-
 use Rattle.std.proofs.lemmas.List.FromFn.{length-range_with_len, get_or-range_with_len}
 use Rattle.std.proofs.lemmas.Int.{ints}
 use Rattle.std.proofs.lemmas.Option.{same_Some, none-some}
-use Rattle.std.proofs.lemmas.Grind.{common_steps}
 use borrow.Author.Tests.{ltb-false}
 use Rattle.f2_vec.specs.Vectors.{plus, sum_of, zeros, bit, IsZero}
-use Rattle.f2_vec.proofs.Sums.{length-zeros, length-sum_of, bit-sum_of, bit-zeros, sum_of-self, sum_of-assoc, sum_of-comm, sum_of-zeros_left, sum_of-zeros_right, zeros_from_bits}
-use Rattle.f2_vec.specs.Spans.{combination}
+use Rattle.f2_vec.proofs.Sums.{length-zeros, bit-sum_of, bit-zeros, sum_of-self, sum_of-zeros_right, zeros_from_bits}
 use Rattle.f2_vec.proofs.Spans.{combination-zeros}
+use Rattle.f2_vec.proofs.Combinations.{HaveWidth-map_where}
 use Rattle.milnor_basis.specs.Exponents.{degree_of, IsTrimmed}
 use Rattle.milnor_basis.specs.Basis.{basis_of}
 use Rattle.milnor_basis.specs.Product.{product_terms}
@@ -25,12 +24,11 @@ use Rattle.module_check.specs.Module.{Module, degree_at, generators_in, width, p
 use Rattle.module_check.specs.Acceptance.{one_by_one, by_their_product, first_in, relation_on, relation_of, relation_in_degrees, relation_in_degree}
 use Rattle.module_check.specs.Operators.{HaveWidths}
 use Rattle.module_check.specs.Relations.{reaches, reaching, value_at, added}
-use Rattle.module_check.specs.declared.fault.CheckFault.{CheckFault}
 use Rattle.module_check.specs.declared.fault.CheckFault.TheVariants.{Relation}
 use Rattle.module_check.proofs.Values.{total_push}
 use Rattle.module_check.proofs.Elements.{range_push}
 use Rattle.module_check.proofs.FirstIn.{first_in-filter, first_in_nothing}
-use Rattle.module_check.proofs.Widths.{HaveWidth-map_where, length-total, length-act_on, terms_of_degree}
+use Rattle.module_check.proofs.Widths.{length-total, length-act_on, terms_of_degree}
 
 pub same_vectors : (v w : List Bool) → pointwise beq v w ≡ true → v ≡ w
 same_vectors v w h = (pointwise_decides booleans_Decides v w).0 h

@@ -1,5 +1,5 @@
 -- The value of an operator by its place.
-use Rattle.std.proofs.Common.{◌≡◌, ℕ, zero, suc, ◌+◌, ◌^◌, ◌<◌, ◌≤◌, pos, ◌+ℤ◌, Bool, Option, Some, None, option_and_then, option_copied, List, [], ◌∷◌, ◌++◌, length, map, take, get_or, refl, sym, subst, ap, ◌∙◌, inl, inr, arith, cond, ℤ, true, false, slice_get, EachIndex, IfSome, IfNone, Bor}
+use Rattle.std.proofs.Common.{◌≡◌, ℕ, zero, suc, ◌+◌, ◌<◌, ◌≤◌, pos, ◌+ℤ◌, Bool, Option, Some, None, option_and_then, option_copied, List, [], ◌∷◌, ◌++◌, length, map, take, get_or, refl, sym, subst, ap, ◌∙◌, inl, inr, arith, cond, ℤ, true, false, slice_get, EachIndex, IfSome, IfNone, Bor}
 use Rattle.std.specs.List.{range_with_len}
 use Rattle.std.specs.Ordering.{int_eq}
 use Rattle.std.proofs.lemmas.Bool.Decides.{Decides-int_eq}
@@ -17,7 +17,7 @@ use Rattle.module_check.specs.Module.{degree_at, numbers_from, generators_in, wi
 use Rattle.module_check.specs.DerivedAction.{elements, span}
 use Rattle.module_check.specs.Relations.{value_at}
 use Rattle.module_check.specs.Operators.{HaveWidths, AreOperators}
-use Rattle.module_check.proofs.Elements.{slice_get-append_left, slice_get-append_right, element_at_place, place_past, length-elements}
+use Rattle.module_check.proofs.Elements.{slice_get-append_left, slice_get-append_right, element_at_place, length-elements}
 
 -- the width of the value of Sq(R) on generator i
 abbrev pub width_of : List Generator → List ℕ → ℕ → ℕ

@@ -1,10 +1,11 @@
 -- Operators whose values have the widths of their degrees: what follows of the values of vectors and of sums.
 use Rattle.std.proofs.Common.{◌≡◌, ℕ, zero, suc, ◌<◌, ◌+◌, ◌*◌, ◌-◌, ◌^◌, ℤ, pos, ◌+ℤ◌, Bool, true, List, [], ◌∷◌, length, map, All, ap, ◌∙◌, arith}
-use Rattle.std.proofs.lemmas.List.Elements.{All-head, All-tail, All-filter}
+use Rattle.std.proofs.lemmas.List.Elements.{All-filter}
 use Rattle.std.proofs.Math.Nat.{pow-succ'}
 use Rattle.std.proofs.lemmas.Nat.{pow_pos}
 use Rattle.f2_vec.specs.Spans.{HaveWidth}
-use Rattle.f2_vec.proofs.Spans.{HaveWidth-nil, HaveWidth-cons, length-combination}
+use Rattle.f2_vec.proofs.Spans.{length-combination}
+use Rattle.f2_vec.proofs.Combinations.{HaveWidth-map_where}
 use Rattle.milnor_basis.specs.Exponents.{degree_of, degree_from, IsTrimmed}
 use Rattle.milnor_basis.specs.Basis.{basis_of}
 use Rattle.milnor_basis.specs.Product.{coefficient, product_terms}
@@ -14,11 +15,6 @@ use Rattle.module_check.specs.Module.{degree_at, generators_in, width, value, ac
 use Rattle.module_check.specs.DerivedAction.{front}
 use Rattle.module_check.specs.Operators.{HaveWidths}
 use Rattle.module_check.proofs.AboveSpan.{generators_of_degree}
-
-pub HaveWidth-map_where : {A : Type 0} (P : A → Type 0) (n : ℕ) (f : A → List Bool) (xs : List A) → ((x : A) → P x → length (f x) ≡ n) → All P xs → HaveWidth n (map f xs)
-HaveWidth-map_where P n f [] h a = HaveWidth-nil n
-HaveWidth-map_where P n f (x ∷ xs) h a =
-    HaveWidth-cons n (f x) (map f xs) (h x (All-head P x xs a)) (HaveWidth-map_where P n f xs h (All-tail P x xs a))
 
 pub length-total : (n : ℕ) (rows : List (List Bool)) → HaveWidth n rows → length (total n rows) ≡ n
 length-total n rows h = length-combination n (map (λ row. true) rows) rows h

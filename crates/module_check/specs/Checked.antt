@@ -1,6 +1,6 @@
 -- What is known of each module that the program holds, and the module of one generator.
-use Rattle.std.specs.Prelude.{ℕ, pos, List, [], ◌∷◌, codes}
-use Rattle.module_json.specs.ModuleFile.{Generator, File}
+use Rattle.std.specs.Prelude.{pos, [], ◌∷◌, codes}
+use Rattle.module_json.specs.ModuleFile.{File}
 use Rattle.module_check.specs.Module.{Module}
 use Rattle.module_check.specs.Acceptance.{IsModule}
 use Rattle.module_check.specs.Generators.{AreByDegree}

@@ -5,12 +5,12 @@ use Rattle.std.proofs.lemmas.List.{length-map, ext_get_or, get_or-map}
 use Rattle.std.proofs.lemmas.Bool.{eq-eqb, ne_eqb, cases_lt, cases_eq}
 use Rattle.std.proofs.lemmas.Bool.Decides.{Decides-int_eq}
 use Rattle.std.proofs.lemmas.Int.{ints}
-use Rattle.f2_vec.specs.Vectors.{zeros, bit}
+use Rattle.f2_vec.specs.Vectors.{bit}
 use Rattle.f2_vec.specs.Spans.{row, HaveWidth, combination}
 use Rattle.f2_vec.proofs.Spans.{length-combination, bit-combination_alone}
 use Rattle.f2_vec.proofs.Combinations.{map_same, HaveWidth-map}
 use Rattle.milnor_basis.specs.Exponents.{degree_of}
-use Rattle.free_module.specs.Graded.{GradedModule, HasUnit, KeepsWidths}
+use Rattle.free_module.specs.Graded.{GradedModule, HasUnit, KeepsWidths, IsSteenrodModule}
 use Rattle.module_json.specs.ModuleFile.{Generator}
 use Rattle.module_check.specs.Module.{Module, degree_at, numbers_from, generators_in, width, act_on, bottom}
 use Rattle.module_check.specs.Acceptance.{IsModule, value_of}
@@ -92,18 +92,19 @@ act_on-unit m is t v e =
     let z : t +ℤ pos 0 ≡ t = omega (arith, ints) in
     ap (λ s. combination (width gs s) v (map (value_of m []) ns)) z ∙ ap (combination (width gs t) v) same ∙ combination-own ns (numbers_from-rising 0 gs t) v e
 
--- Sq(R) takes a vector of degree t to one of degree t and R's
-pub length-act_on : (m : Module) → IsModule m → (r : List ℕ) (t : ℤ) (v : List Bool) → length (act_on m.generators m.operators r t v) ≡ width m.generators (t +ℤ pos (degree_of r))
-length-act_on m is r t v =
+-- Sq(R) takes the generators of degree t to vectors of degree t and R's
+pub HaveWidth-values : (m : Module) → IsModule m → (r : List ℕ) (t : ℤ) → HaveWidth (width m.generators (t +ℤ pos (degree_of r))) (map (value_of m r) (generators_in m.generators t))
+HaveWidth-values m is r t p h =
     let gs = m.generators in
     let ns = generators_in gs t in
-    let n = width gs (t +ℤ pos (degree_of r)) in
-    let rows = map (value_of m r) ns in
-    let have : HaveWidth n rows = λ p h.
     let b : p < length ns = omega (arith, length-map ns (value_of m r)) in
     let k = generators_in-member gs t p b in
-    ap length (get_or-map (value_of m r) ns p 0 [] b) ∙ is.widths r (get_or ns p 0) ∙ ap (λ s. width gs (s +ℤ pos (degree_of r))) k.1 in
-    length-combination n v rows have
+    ap length (get_or-map (value_of m r) ns p 0 [] b) ∙ is.widths r (get_or ns p 0) ∙ ap (λ s. width gs (s +ℤ pos (degree_of r))) k.1
+
+-- and each vector of degree t to one of degree t and R's
+pub length-act_on : (m : Module) → IsModule m → (r : List ℕ) (t : ℤ) (v : List Bool) → length (act_on m.generators m.operators r t v) ≡ width m.generators (t +ℤ pos (degree_of r))
+length-act_on m is r t v =
+    length-combination (width m.generators (t +ℤ pos (degree_of r))) v (map (value_of m r) (generators_in m.generators t)) (HaveWidth-values m is r t)
 
 numbers_from-none-cons : (g : Generator) (t : ℤ) (b : Bool) → int_eq g.degree t ≡ b → g.degree ≢ t → (i : ℕ) (rest : List ℕ) → rest ≡ [] → cond b (i ∷ rest) rest ≡ []
 numbers_from-none-cons g t true e d i rest r = absurd (d ((Decides-int_eq g.degree t).0 e))
@@ -133,3 +134,7 @@ module_HasUnit m is t v e = act_on-unit m is t v e
 
 pub module_KeepsWidths : (m : Module) → IsModule m → KeepsWidths (module_graded m)
 module_KeepsWidths m is r t v e = length-act_on m is r t v
+
+-- what is held as a module is one
+abbrev pub ModulesAreSteenrodModules : Type 0
+ModulesAreSteenrodModules = (m : Module) → IsModule m → IsSteenrodModule (module_graded m)

@@ -4,11 +4,11 @@ ghost use Rattle.module_check.specs.DerivedAction.{derived_module};
 ghost use Rattle.module_check.specs.Acceptance.{IsModule, value_of};
 ghost use Rattle.module_check.specs.Generators.{AreByDegree};
 ghost use Rattle.module_check.specs.Checked.{sphere_file};
-ghost use Rattle.module_check.specs.Text.{name_at, canonical_text};
+ghost use Rattle.module_check.specs.Text.{name_at, sum_text, canonical_text};
 
 use crate::generators::Generators;
 use crate::operators::{Operator, Operators};
-use crate::text::canonical_text;
+use crate::text::{canonical_text, sum_text};
 use f2_vec::BitVec;
 use memory::Memory;
 use milnor_basis::Exps;
@@ -106,6 +106,14 @@ impl Module {
         ensures { IfOk result (λ v. v ≡ value_of self.now.plain r.now i) }
     {
         self.operators.value(alloc, r, i)
+    }
+
+    /// A vector of degree `t` as text: the names of its generators, in order, with ` + ` between each two.
+    pub fn sum_text(&self, alloc: Global, t: i32, v: &BitVec) -> Result<Vec<u8>, Memory>
+        requires { length v.now ≡ width self.now.plain.generators t }
+        ensures { IfOk result (λ text. text.items ≡ sum_text self.now.plain.generators t v.now) }
+    {
+        sum_text(alloc, self.operators.generators(), i64::from(t), v)
     }
 
     /// The module as text: a line for each generator, and one for each Sq^n of a generator, n a power of two, that is

@@ -19,4 +19,4 @@ mod text;
 pub use acceptance::check;
 pub use checked::Module;
 pub use fault::CheckFault;
-pub use laws::accepted_is_module;
+pub use laws::{accepted_is_module, modules_are_graded_modules};

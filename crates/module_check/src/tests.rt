@@ -58,6 +58,13 @@ fn values(rt: HostRuntime) -> Result<(), Fail> {
     assert_eq!(rt; module.act(alloc, &square(0), 1)?.first_one(), Some(0));
     assert_eq!(rt; module.act(alloc, &square(1), 0)?.first_one(), Some(0));
     assert_eq!(rt; module.act(alloc, &square(1), 1)?.len(), 0);
+    let value = module.act(alloc, &square(1), 0)?;
+    if value.len() == module.dim_in(1) {
+        assert_eq!(rt;
+            module.sum_text(alloc, 1, &value)?.as_slice(),
+            b"x1".as_slice()
+        );
+    }
     Ok(())
 }
 

@@ -107,7 +107,12 @@ fn equation(alloc: Global, n: u16, name: &str, sum: &[u8]) -> Result<Vec<u8>, Me
 }
 
 /// The names of the generators of a vector of degree `t`.
-fn sum_text(alloc: Global, generators: &Generators, t: i64, v: &BitVec) -> Result<Vec<u8>, Memory>
+pub(crate) fn sum_text(
+    alloc: Global,
+    generators: &Generators,
+    t: i64,
+    v: &BitVec,
+) -> Result<Vec<u8>, Memory>
     requires { length v.now ≡ width generators.now t }
     ensures { IfOk result (λ text. text.items ≡ sum_text generators.now t v.now) }
 {

@@ -1,10 +1,9 @@
-use Rattle.std.proofs.Common.{◌≡◌, ◌≢◌, ℕ, List, ◌⊎◌, inl, inr, Some, None, Ok, Err, refl, sym, subst, ap, ◌∙◌}
+use Rattle.std.proofs.Common.{◌≡◌, ℕ, List, ◌⊎◌, Ok, Err, refl, sym, subst, ap, ◌∙◌}
 use Rattle.ext_run.specs.Failure.{status_of}
-use Rattle.ext_run.specs.declared.failure.Failure.{Failure}
 use Rattle.ext_run.specs.declared.failure.Failure.TheVariants.{Malformed as NoModuleFile, NotModule, Reading, Writing, Memory}
 use Rattle.ext_run.specs.Answer.{IsAnswerFrom}
 use Rattle.ext_run.specs.Words.{texts_of}
-use Rattle.ext_run.proofs.TopCall.{no_failure, read_whole, refused, malformed, not_a_module, malformed_comes, no_module_comes, complete}
+use Rattle.ext_run.proofs.TopCall.{no_failure, read_whole, refused, malformed, malformed_comes, no_module_comes, complete}
 use Rattle.ext_run.proofs.top_call.run.Given.{Over}
 use Rattle.ext_run.proofs.top_call.run.Goals as goal
 use Rattle.ext_run.proofs.top_call.run.Goals.{Joined-failure}

@@ -10,7 +10,9 @@ returns c =
     let top = λ (a : App). a.top in
     let sphere : shape_of c.in_ok-range_command.field-0 ≡ (range_command (codes "sphere")).top = ap top c.in_ok-range_command.ensures.app in
     let resolve : shape_of c.in_ok-range_command-2.field-0 ≡ (range_command (codes "resolve")).top = ap top c.in_ok-range_command-2.ensures.app in
+    let dump : shape_of c.in_ok-range_command-3.field-0 ≡ (range_command (codes "dump")).top = ap top c.in_ok-range_command-3.ensures.app in
     let check : shape_of c.new-2.result ≡ (new_app (codes "check")).top = ap top c.new-2.ensures.app in
     let first = c.in_ok-subcommand.ensures.shape c.in_ok-range_command.ensures.local ∙ ap₂ with_subcommand none sphere in
     let second = c.in_ok-subcommand-2.ensures.shape c.in_ok-range_command-2.ensures.local ∙ ap₂ with_subcommand first resolve in
-    IfOk-weaker c.subcommand-3.result _ _ (λ command added. added.shape (search rules) ∙ ap₂ with_subcommand second check) c.subcommand-3.ensures
+    let third = c.in_ok-subcommand-3.ensures.shape c.in_ok-range_command-3.ensures.local ∙ ap₂ with_subcommand second dump in
+    IfOk-weaker c.subcommand-4.result _ _ (λ command added. added.shape (search rules) ∙ ap₂ with_subcommand third check) c.subcommand-4.ensures

@@ -1,7 +1,3 @@
-use Rattle.std.proofs.Common.{List, ℕ, ◌++◌, ◌≡◌, ◌∙◌, ap, sym, arith, append_assoc, map}
-use Rattle.std.specs.Prelude.{codes, decimal}
-use Rattle.std.specs.List.{join_with_byte}
-use Rattle.milnor_basis.specs.Text.{comma}
 use Rattle.ext_run.proofs.Written.{HasPrefixMore-front, HasPrefixMore-behind}
 use Rattle.ext_run.proofs.writing.write_square.Goals as goal
 

@@ -1,17 +1,21 @@
 use Rattle.std.proofs.Common.{◌++◌, [], ◌∷◌, refl, ap, sym, ◌∙◌}
 use Rattle.std.specs.Prelude.{slice_range}
 use Rattle.std.proofs.lemmas.List.{append-nil}
-use Rattle.f2_matrix.proofs.Parts.{image_part-right, kernel_part-right, image_part-zero, kernel_part-zero, slice_right}
+use Rattle.f2_matrix.proofs.Parts.{image_part-right, chosen_part-right, kernel_part-right, image_part-zero, chosen_part-zero, kernel_part-zero, slice_right}
 use Rattle.f2_matrix.proofs.reduced.keep_part.Goals as goal
 
-pub returns-in_ok-push-in-Some-2-clause-image : goal.returns-in_ok-push-in-Some-2-clause-image
-returns-in_ok-push-in-Some-2-clause-image c =
+pub returns-in_ok-push-in-Some-2-2-clause-image : goal.returns-in_ok-push-in-Some-2-2-clause-image
+returns-in_ok-push-in-Some-2-2-clause-image c =
     sym (append-nil c.args.image.now.items) ∙ ap (λ z. c.args.image.now.items ++ z) (sym (image_part-right c.args.cols c.args.row.now c.in-Some.pivot c.in-Some.ensures.first c.if-pivot-cols.false))
 
-pub returns-in_ok-push-in-Some-2-clause-kernel : goal.returns-in_ok-push-in-Some-2-clause-kernel
-returns-in_ok-push-in-Some-2-clause-kernel c =
-    c.in_ok-push-in-Some-2.ensures.items
-    ∙ ap (λ r. c.args.kernel.now.items ++ r ∷ []) (c.in_ok-part-in-Some-2.ensures ∙ ap (slice_range c.args.row.now c.args.cols) c.len.ensures ∙ slice_right c.args.cols c.args.row.now)
+pub returns-in_ok-push-in-Some-2-2-clause-chosen : goal.returns-in_ok-push-in-Some-2-2-clause-chosen
+returns-in_ok-push-in-Some-2-2-clause-chosen c =
+    sym (append-nil c.args.chosen.now.items) ∙ ap (λ z. c.args.chosen.now.items ++ z) (sym (chosen_part-right c.args.cols c.args.row.now c.in-Some.pivot c.in-Some.ensures.first c.if-pivot-cols.false))
+
+pub returns-in_ok-push-in-Some-2-2-clause-kernel : goal.returns-in_ok-push-in-Some-2-2-clause-kernel
+returns-in_ok-push-in-Some-2-2-clause-kernel c =
+    c.in_ok-push-in-Some-2-2.ensures.items
+    ∙ ap (λ r. c.args.kernel.now.items ++ r ∷ []) (c.in_ok-part-in-Some-2-2.ensures ∙ ap (slice_range c.args.row.now c.args.cols) c.len-in-Some-2.ensures ∙ slice_right c.args.cols c.args.row.now)
     ∙ ap (λ z. c.args.kernel.now.items ++ z) (sym (kernel_part-right c.args.cols c.args.row.now c.in-Some.pivot c.in-Some.ensures.first c.if-pivot-cols.false))
 
 pub returns-in-None-clause-image : goal.returns-in-None-clause-image
@@ -21,3 +25,7 @@ returns-in-None-clause-image c =
 pub returns-in-None-clause-kernel : goal.returns-in-None-clause-kernel
 returns-in-None-clause-kernel c =
     sym (append-nil c.args.kernel.now.items) ∙ ap (λ z. c.args.kernel.now.items ++ z) (sym (kernel_part-zero c.args.cols c.args.row.now (c.in-None.ensures.none.0 refl)))
+
+pub returns-in-None-clause-chosen : goal.returns-in-None-clause-chosen
+returns-in-None-clause-chosen c =
+    sym (append-nil c.args.chosen.now.items) ∙ ap (λ z. c.args.chosen.now.items ++ z) (sym (chosen_part-zero c.args.cols c.args.row.now (c.in-None.ensures.none.0 refl)))

@@ -1,5 +1,4 @@
-use Rattle.std.proofs.Common.{◌≡◌, ℕ, List, [], ◌∷◌, pos, ◌+ℤ◌, to_z, of_z, w64, rules, ap, sym, ◌∙◌}
-use mir.Val.{SFits}
+use Rattle.std.proofs.Common.{◌≡◌, [], ◌∷◌, pos, ◌+ℤ◌, to_z, of_z, w64, rules, ap, sym, ◌∙◌}
 use Rattle.std.proofs.lemmas.Int.{to_z-of_z}
 use Rattle.f2_vec.specs.Vectors.{sum_of}
 use Rattle.module_check.specs.Module.{degree_at, value}

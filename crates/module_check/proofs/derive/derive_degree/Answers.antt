@@ -1,5 +1,4 @@
-use Rattle.std.proofs.Common.{◌≡◌, ℕ, ◌+◌, ◌<◌, ◌∷◌, ◌++◌, List, [], length, get_or, slice_get, Some, EachIndex, ap, sym, subst, ◌∙◌, arith}
-use Rattle.milnor_basis.specs.Exponents.{degree_of, IsTrimmed}
+use Rattle.std.proofs.Common.{◌≡◌, ◌+◌, ◌<◌, ◌∷◌, ◌++◌, [], length, get_or, slice_get, Some, EachIndex, ap, sym, subst, ◌∙◌, arith}
 use Rattle.milnor_basis.specs.Basis.{basis_of}
 use Rattle.module_check.specs.DerivedAction.{elements, span}
 use Rattle.module_check.proofs.Values.{width_of}

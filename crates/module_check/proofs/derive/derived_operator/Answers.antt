@@ -1,4 +1,4 @@
-use Rattle.std.proofs.Common.{◌≡◌, ℕ, Bool, List, [], map, length, get_or, drop, EachIndex, ap, sym, subst, ◌∙◌, arith}
+use Rattle.std.proofs.Common.{◌≡◌, [], map, length, get_or, drop, EachIndex, ap, sym, subst, ◌∙◌, arith}
 use Rattle.std.specs.List.{range_with_len}
 use Rattle.milnor_basis.specs.Exponents.{entry}
 use Rattle.milnor_basis.proofs.ExponentLemmas.{entry_last}

@@ -1,4 +1,4 @@
-use Rattle.std.proofs.Common.{◌≡◌, drop, ap, ◌∙◌, arith}
+use Rattle.std.proofs.Common.{drop, ap, ◌∙◌}
 use Rattle.milnor_basis.specs.Exponents.{entry}
 use Rattle.module_check.specs.DerivedAction.{by_product}
 use Rattle.module_check.proofs.Values.{one_value_more}

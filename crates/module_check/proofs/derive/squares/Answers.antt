@@ -1,4 +1,3 @@
-use Rattle.std.proofs.Common.{◌≡◌, drop, ap, ◌∙◌, arith}
 use Rattle.module_check.specs.DerivedAction.{square_value}
 use Rattle.module_check.proofs.Values.{one_value_more}
 use Rattle.module_check.proofs.derive.squares.Goals as goal

@@ -1,4 +1,3 @@
-use Rattle.std.proofs.Common.{◌≡◌, drop, ap, ◌∙◌, arith}
 use Rattle.module_check.specs.Module.{unit}
 use Rattle.module_check.proofs.Values.{one_value_more}
 use Rattle.module_check.proofs.derive.units.Goals as goal

@@ -1,5 +1,5 @@
 -- The values on the first generators.
-use Rattle.std.proofs.Common.{◌≡◌, map, drop}
+use Rattle.std.proofs.Common.{◌≡◌, map}
 use Rattle.std.specs.List.{range_with_len}
 use Rattle.module_check.specs.Module.{unit}
 use Rattle.module_check.proofs.derive.units.Given as goal

@@ -1,6 +1,5 @@
-use Rattle.std.proofs.Common.{◌≡◌, ℕ, List, [], ◌∷◌, ◌++◌, true, false, Vec, sym, ◌∙◌, ap}
+use Rattle.std.proofs.Common.{◌≡◌, [], ◌∷◌, ◌++◌, true, false, sym, ◌∙◌}
 use Rattle.std.proofs.lemmas.List.{append-nil}
-use Rattle.std.specs.Vec.{vec_items}
 use Rattle.module_check.proofs.Sides.{reaching_more}
 use Rattle.module_check.proofs.relations.reaching.Goals.{then-reaches+in_ok-push, else-reaches}
 use Rattle.module_check.proofs.relations.reaching.Goals as goal

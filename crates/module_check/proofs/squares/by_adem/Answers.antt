@@ -1,4 +1,4 @@
-use Rattle.std.proofs.Common.{◌≡◌, ◌+◌, ◌-◌, ◌*◌, ◌<◌, ◌≤◌, pos, ◌+ℤ◌, length, ap, sym, ◌∙◌, arith}
+use Rattle.std.proofs.Common.{◌≡◌, ◌+◌, ◌-◌, ◌*◌, pos, ◌+ℤ◌, length, ap, sym, ◌∙◌, arith}
 use Rattle.f2_vec.proofs.Sums.{length-sum_of, sum_of-zeros_right}
 use Rattle.milnor_basis.specs.Product.{choose, is_odd}
 use Rattle.module_check.specs.Module.{degree_at, width}

@@ -1,4 +1,4 @@
-use Rattle.std.proofs.Common.{◌≡◌, ◌+◌, ◌&&◌, ◌==◌, false, drop, sym, ap, ◌∙◌, arith}
+use Rattle.std.proofs.Common.{◌≡◌, ◌&&◌, ◌==◌, false, sym, ◌∙◌}
 use Rattle.module_json.specs.ModuleFile.{Entry}
 use Rattle.module_check.proofs.Adem.{listed_here, not_listed_here, first_differs, second_differs}
 use Rattle.module_check.proofs.squares.listed.Goals as goal

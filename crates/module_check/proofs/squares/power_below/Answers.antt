@@ -1,6 +1,6 @@
 use Rattle.std.proofs.Common.{◌≡◌, ◌*◌, ap, ◌∙◌, arith}
 use Rattle.module_check.specs.DerivedAction.{doubled_below}
-use Rattle.module_check.proofs.Adem.{doubled_step, doubled_end}
+use Rattle.module_check.proofs.Adem.{doubled_step}
 use Rattle.module_check.proofs.squares.power_below.Goals as goal
 
 pub loop-power-preserved : goal.loop-power-preserved

@@ -1,4 +1,4 @@
-use Rattle.std.proofs.Common.{◌≡◌, ◌<◌, ◌++◌, codes, length, get_or, ap, ◌∙◌, arith}
+use Rattle.std.proofs.Common.{◌≡◌, get_or, arith}
 use Rattle.module_check.specs.Text.{name_at}
 use Rattle.module_check.proofs.TextSteps.{joined_by_plus-first, joined_by_plus-next}
 use Rattle.module_check.proofs.text.joined_names.Goals as goal

@@ -1,4 +1,4 @@
-use Rattle.std.proofs.Common.{◌≡◌, ◌-◌, ◌<◌, ◌≤◌, ℕ, length, take, get_or}
+use Rattle.std.proofs.Common.{◌≡◌, ◌-◌, ◌<◌, ℕ, length, take, get_or}
 use Rattle.std.specs.List.{range_with_len, items_where_true}
 use Rattle.module_check.proofs.text.numbers_of.Given as goal
 

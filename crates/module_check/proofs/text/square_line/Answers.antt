@@ -1,9 +1,8 @@
-use Rattle.std.proofs.Common.{◌≡◌, ◌++◌, ◌+ℤ◌, pos, to_z, of_z, w64, codes, decimal, refl, subst, ap, sym, ◌∙◌, arith}
+use Rattle.std.proofs.Common.{◌≡◌, ◌+ℤ◌, pos, to_z, of_z, w64, refl, subst, arith}
 use Rattle.std.proofs.lemmas.Int.{ints}
 use Rattle.std.specs.Result.{IfOk}
-use Rattle.f2_vec.specs.Vectors.{IsZero}
-use Rattle.module_check.specs.Module.{degree_at, width}
-use Rattle.module_check.specs.Text.{newline, sum_text, square_line}
+use Rattle.module_check.specs.Module.{degree_at}
+use Rattle.module_check.specs.Text.{sum_text}
 use Rattle.module_check.proofs.TextSteps.{square_line-none, square_line-some, square-width}
 use Rattle.module_check.proofs.text.square_line.Goals as goal
 

@@ -2,7 +2,6 @@ use Rattle.std.proofs.Common.{◌≡◌, ◌+ℤ◌, ◌++◌, [], ◌∷◌, Li
 use Rattle.milnor_basis.specs.Exponents.{degree_of}
 use Rattle.module_json.specs.ModuleFile.{Generator}
 use Rattle.module_check.specs.Module.{Module, degree_at, width}
-use Rattle.module_check.specs.DerivedAction.{derived_module}
 use Rattle.module_check.specs.Checked.{sphere_file}
 use Rattle.module_check.proofs.OneGenerator.{identity, sphere-next, sphere-width, sphere-derived, sphere-is_module}
 use Rattle.module_check.proofs.checked.Module.sphere.Goals as goal

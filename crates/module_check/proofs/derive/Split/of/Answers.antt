@@ -1,10 +1,10 @@
-use Rattle.std.proofs.Common.{rules, ◌≡◌, ℕ, ◌+◌, ◌<◌, List, [], ◌∷◌, not, nat_eq, drop, length, ap, sym, ◌∙◌, arith}
+use Rattle.std.proofs.Common.{rules, ◌≡◌, [], ◌∷◌, not, nat_eq, drop, ap, sym, ◌∙◌, arith}
 use Rattle.std.specs.List.{filter}
 use Rattle.std.specs.Cmp.Lexicographic.{pointwise}
 use Rattle.std.proofs.lemmas.Fn.{filter_same}
 use Rattle.milnor_basis.specs.Exponents.{degree_of, entry}
 use Rattle.milnor_basis.specs.Product.{product_terms}
-use Rattle.module_check.specs.DerivedAction.{front, other_terms}
+use Rattle.module_check.specs.DerivedAction.{front}
 use Rattle.module_check.proofs.Widths.{degree_of-single}
 use Rattle.module_check.proofs.Fronts.{first_and_behind, front_and_behind}
 use Rattle.module_check.proofs.derive.Split.of.Goals as goal

@@ -1,11 +1,12 @@
-use Rattle.std.proofs.Common.{◌≡◌, ℕ, ◌+◌, pos, ◌+ℤ◌, Bool, List, [], ◌∷◌, length, map, to_z, of_z, w64, All, ap, sym, subst, ◌∙◌, arith}
+use Rattle.std.proofs.Common.{◌≡◌, ℕ, ◌+◌, pos, ◌+ℤ◌, List, [], ◌∷◌, length, map, to_z, of_z, w64, All, ap, sym, subst, ◌∙◌, arith}
 use Rattle.std.proofs.lemmas.Int.{ints}
 use Rattle.f2_vec.specs.Vectors.{sum_of}
 use Rattle.f2_vec.specs.Spans.{HaveWidth}
+use Rattle.f2_vec.proofs.Combinations.{HaveWidth-map_where}
 use Rattle.milnor_basis.specs.Exponents.{degree_of}
 use Rattle.module_check.specs.Module.{degree_at, width, value, act_on, total}
 use Rattle.module_check.specs.DerivedAction.{front, other_terms}
-use Rattle.module_check.proofs.Widths.{HaveWidth-map_where, length-total, length-act_on, degree_of-front, degree_of-single}
+use Rattle.module_check.proofs.Widths.{length-total, length-act_on, degree_of-front, degree_of-single}
 use Rattle.module_check.proofs.Fronts.{others_of_degree}
 use Rattle.module_check.proofs.derive.Split.value.Goals as goal
 

@@ -1,4 +1,4 @@
-use Rattle.std.proofs.Common.{◌≡◌, ℕ, List, rules, length, ℤ, pos, ◌+ℤ◌, to_z, of_z, w64, refl, ap, sym, ◌∙◌, arith}
+use Rattle.std.proofs.Common.{◌≡◌, ℕ, List, rules, length, ℤ, pos, ◌+ℤ◌, to_z, of_z, w64, refl, ap, sym, ◌∙◌}
 use Rattle.std.proofs.lemmas.Int.{to_z-of_z}
 use mir.Val.{SFits}
 use Rattle.module_json.specs.ModuleFile.{Generator}
@@ -6,7 +6,6 @@ use Rattle.milnor_basis.specs.Exponents.{degree_of}
 use Rattle.f2_vec.specs.Vectors.{sum_of}
 use Rattle.module_check.specs.Module.{degree_at, width, act_on}
 use Rattle.module_check.specs.Acceptance.{one_by_one}
-use Rattle.module_check.proofs.Widths.{length-act_on}
 use Rattle.module_check.proofs.Sides.{one_by_one_width, one_by_one_none, one_by_one_zero, value_is_wide, one_by_one_is}
 use Rattle.module_check.proofs.relations.Pair.add_one_by_one.Goals.{In_ok-image}
 use Rattle.module_check.proofs.relations.Pair.add_one_by_one.Goals as goal

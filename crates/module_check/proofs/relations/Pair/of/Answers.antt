@@ -1,4 +1,4 @@
-use Rattle.std.proofs.Common.{All, sym, subst, ◌∙◌, ◌≤◌}
+use Rattle.std.proofs.Common.{◌∙◌, ◌≤◌}
 use Rattle.std.proofs.lemmas.List.Elements.{All-same}
 use Rattle.milnor_basis.specs.Exponents.{degree_of}
 use Rattle.milnor_basis.specs.Product.{product_terms}

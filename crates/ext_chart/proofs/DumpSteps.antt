@@ -1,0 +1,63 @@
+-- The steps of the loops that write differentials.
+use Rattle.std.proofs.Common.{◌≡◌, ℕ, ◌+◌, ◌-◌, ◌<◌, ◌≤◌, Bool, true, false, cond, List, [], ◌∷◌, ◌++◌, length, map, take, get_or, ℤ, refl, subst, ap, sym, ◌∙◌, arith, append_assoc}
+use Rattle.std.specs.List.{flat_map, range_with_len, items_where_true}
+use Rattle.std.proofs.lemmas.List.{take_all}
+use Rattle.std.proofs.lemmas.List.FromFn.{fill_by_all, map-range_with_len_more}
+use Rattle.f2_vec.specs.Spans.{row}
+use Rattle.f2_vec.proofs.Combinations.{map-map}
+use Rattle.free_module.specs.FreeBasis.{element}
+use Rattle.free_module.specs.FreeModule.{free_basis, free_width}
+use Rattle.module_check.specs.Text.{joined_by_plus}
+use Rattle.module_check.proofs.TextSteps.{items_where_true-more, flat_map_range}
+use Rattle.ext_chart.specs.declared.place.Place.{Place}
+use Rattle.ext_chart.specs.Dump.{square_places, term_text, free_sum_text, generator_line}
+
+-- one place more
+pub square_places-more : (s : ℕ) (t : ℤ) (i : ℕ) (before places : List Place) → places ≡ before ++ square_places s t i → places ++ record { s = s; t = t; i = i } ∷ [] ≡ before ++ square_places s t (i + 1)
+square_places-more s t i before places e =
+    let f : ℕ → Place = λ k. record { s = s; t = t; i = k } in
+    ap (λ p. p ++ f i ∷ []) e ∙ append_assoc before (square_places s t i) (f i ∷ []) ∙ ap (λ p. before ++ p) (sym (map-range_with_len_more f 0 i i (omega arith)))
+
+-- the ones of the first i coordinates, and of one more
+pub ones-more : (v : List Bool) (i : ℕ) (ones : List ℕ) (b : Bool) → i < length v → ones ≡ items_where_true (take i v) (range_with_len 0 i) → b ≡ get_or v i false → ones ++ cond b (i ∷ []) [] ≡ items_where_true (take (i + 1) v) (range_with_len 0 (i + 1))
+ones-more v i ones b h e f =
+    let z : i ≡ i - 0 = omega arith in
+    let y : i + 1 - 0 ≡ i + 1 = omega arith in
+    subst (λ (k : ℕ). ones ++ cond b (i ∷ []) [] ≡ items_where_true (take k v) (range_with_len 0 k)) y
+    (items_where_true-more v 0 i ones b (omega arith) (omega arith)
+    (subst (λ (k : ℕ). ones ≡ items_where_true (take k v) (range_with_len 0 k)) z e)
+    (f ∙ ap (λ (k : ℕ). get_or v k false) z))
+
+pub map-items_where_true : {A B : Type 0} (f : A → B) (bs : List Bool) (xs : List A) → map f (items_where_true bs xs) ≡ items_where_true bs (map f xs)
+map-items_where_true f [] [] = refl
+map-items_where_true f [] (x ∷ xs) = refl
+map-items_where_true f (b ∷ bs) [] = refl
+map-items_where_true f (true ∷ bs) (x ∷ xs) = ap (λ ys. f x ∷ ys) (map-items_where_true f bs xs)
+map-items_where_true f (false ∷ bs) (x ∷ xs) = map-items_where_true f bs xs
+
+-- the text of the basis element at place i
+abbrev pub text_at : List Place → List ℤ → ℤ → ℕ → List ℕ
+text_at places degrees t i = term_text places (element (free_basis degrees t) i)
+
+-- the texts of the elements at the places of the ones
+pub joined-ones : (places : List Place) (degrees : List ℤ) (t : ℤ) (v : List Bool) (ones : List ℕ) (k : ℕ) (text : List ℕ) → length v ≡ free_width degrees t → ones ≡ items_where_true v (range_with_len 0 (length v)) → length ones ≤ k → text ≡ joined_by_plus (map (text_at places degrees t) (take k ones)) → text ≡ free_sum_text places degrees t v
+joined-ones places degrees t v ones k text w o l e =
+    let basis = free_basis degrees t in
+    let all : basis ≡ map (element basis) (range_with_len 0 (length v)) = fill_by_all (element basis) basis (length v) (0, []) (sym w) (λ i h. refl) in
+    let at : map (text_at places degrees t) ones ≡ map (term_text places) (map (element basis) ones) = sym (map-map (term_text places) (element basis) ones) in
+    let items : map (element basis) ones ≡ items_where_true v basis = ap (map (element basis)) o ∙ map-items_where_true (element basis) v (range_with_len 0 (length v)) ∙ ap (items_where_true v) (sym all) in
+    e ∙ ap (λ (xs : List ℕ). joined_by_plus (map (text_at places degrees t) xs)) (take_all k ones l) ∙ ap joined_by_plus (at ∙ ap (map (term_text places)) items)
+
+-- the lines of the first i generators of a square
+abbrev pub lines_through : (List Bool → List ℕ) → ℕ → ℤ → List (List Bool) → ℕ → List ℕ
+lines_through image_text s t images i = flat_map (λ k. generator_line (record { s = s; t = t; i = k }) (image_text (row images k))) (range_with_len 0 i)
+
+pub lines-more : (image_text : List Bool → List ℕ) (s : ℕ) (t : ℤ) (images : List (List Bool)) (i : ℕ) (image : List Bool) (text sum line after : List ℕ) → text ≡ lines_through image_text s t images i → image ≡ row images i → sum ≡ image_text image → line ≡ generator_line (record { s = s; t = t; i = i }) sum → after ≡ text ++ line → after ≡ lines_through image_text s t images (i + 1)
+lines-more image_text s t images i image text sum line after e im su li af =
+    let f : ℕ → List ℕ = λ k. generator_line (record { s = s; t = t; i = k }) (image_text (row images k)) in
+    let one : line ≡ f i = li ∙ ap (generator_line (record { s = s; t = t; i = i })) (su ∙ ap image_text im) in
+    af ∙ flat_map_range f i text line e one
+
+-- the texts of what stands below k put one behind the other, and one more
+pub text-more : (f : ℕ → List ℕ) (k : ℕ) (text line slice after : List ℕ) → text ≡ flat_map f (range_with_len 0 k) → line ≡ f k → slice ≡ line → after ≡ text ++ slice → after ≡ flat_map f (range_with_len 0 (k + 1))
+text-more f k text line slice after e li sl af = af ∙ flat_map_range f k text slice e (sl ∙ li)

@@ -1,0 +1,7 @@
+pub mod Agreement
+pub mod ChartText
+pub mod DumpSteps
+pub mod Examples
+pub mod RowSteps
+pub mod SphereTable
+pub mod TableSquares

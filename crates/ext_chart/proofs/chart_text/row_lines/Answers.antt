@@ -1,0 +1,21 @@
+use Rattle.std.proofs.Common.{arith, ◌≡◌, ◌+◌, ◌-◌, ◌++◌, ap, ◌∙◌}
+use Rattle.resolution_laws.specs.Resolution.{generator_count}
+use Rattle.square.specs.Tables.{plain_rows}
+use Rattle.ext_chart.specs.Chart.{row_line, row_lines}
+use Rattle.ext_chart.proofs.ChartText.{append-row_lines}
+use Rattle.ext_chart.proofs.chart_text.row_lines.Goals as goal
+
+pub loop-i-preserved : goal.loop-i-preserved
+loop-i-preserved c =
+    let count = generator_count (plain_rows c.args.table.now.rows) in
+    let s = c.args.range.s in
+    let t = c.args.range.t in
+    let i = c.loop-i.i in
+    let before = c.loop-i.text.items in
+    let line = c.in_ok-line.line.items in
+    let here : s - i ≡ s + 1 - i - 1 = omega arith in
+    let rest : s + 1 - (i + 1) ≡ s + 1 - i - 1 = omega arith in
+    let text : c.extend_from_slice.new.self.items ≡ before ++ line = c.in_ok-extend_from_slice.ensures.items ∙ ap (λ m. before ++ m) c.as_slice.ensures.value in
+    ap (λ m. m ++ row_lines count t (s + 1 - (i + 1))) text
+    ∙ (ap (λ n. (before ++ line) ++ row_lines count t n) rest
+    ∙ append-row_lines count t (s + 1 - i) before line _ (omega arith) (c.in_ok-line.ensures ∙ ap (row_line count t) here) c.loop-i.invariant)

@@ -1,0 +1,32 @@
+-- The chart of a resolution as text: a line for each s, from the greatest down, and in it a mark for each stem;
+-- and last a line that names the stems.
+use Rattle.std.specs.Prelude.{ℕ, zero, suc, ◌+◌, ◌-◌, ℤ, pos, ◌+ℤ◌, nat_lt, if◌then◌else◌, List, [], ◌∷◌, ◌++◌, map, codes, decimal}
+use Rattle.std.specs.Fmt.{signed_decimal}
+use Rattle.std.specs.List.{range_with_len}
+use Rattle.module_check.specs.Text.{newline}
+
+-- the mark for n generators: a dot for none, a digit up to nine, and a star above
+abbrev pub mark : ℕ → ℕ
+mark zero = 46
+mark (suc n) = if nat_lt n 9 then 49 + n else 42
+
+-- s in at least two places, to the right
+abbrev pub row_label : ℕ → List ℕ
+row_label s = if nat_lt s 10 then 32 ∷ decimal s else decimal s
+
+-- The stem of square (s, k) is k - s above the bottom, so the row's first mark is for k = s. count s k is the
+-- number of generators of the square (s, k).
+abbrev pub row_line : (ℕ → ℕ → ℕ) → ℕ → ℕ → List ℕ
+row_line count t s = row_label s ++ (codes " |" ++ (map (λ k. mark (count s k)) (range_with_len s (t + 1 - s)) ++ newline))
+
+-- the lines of the rows below n, the greatest first
+abbrev pub row_lines : (ℕ → ℕ → ℕ) → ℕ → ℕ → List ℕ
+row_lines count t zero = []
+row_lines count t (suc n) = row_line count t n ++ row_lines count t n
+
+abbrev pub stems_line : ℤ → ℕ → List ℕ
+stems_line bottom t = codes "stems " ++ (signed_decimal bottom ++ (codes ".." ++ (signed_decimal (bottom +ℤ pos t) ++ newline)))
+
+-- the chart of rows 0 to s through degree bottom + t
+abbrev pub chart_text : ℤ → ℕ → ℕ → (ℕ → ℕ → ℕ) → List ℕ
+chart_text bottom s t count = row_lines count t (s + 1) ++ stems_line bottom t

@@ -1,0 +1,105 @@
+//! The chart of a resolution as text.
+ghost use Rattle.std.specs.Prelude.{◌≡◌, ℕ, ◌+◌, ◌-◌, ◌<◌, ◌≤◌, pos, ◌+ℤ◌, ◌≤ℤ◌, IfOk, length, map};
+ghost use Rattle.std.specs.List.{range_with_len};
+ghost use Rattle.module_check.specs.Module.{bottom};
+ghost use Rattle.resolution_laws.specs.Resolution.{generator_count};
+ghost use Rattle.square.specs.Tables.{row_in, plain_rows};
+ghost use Rattle.ext_chart.specs.Chart.{mark, row_label, row_line, row_lines, stems_line, chart_text};
+ghost use Rattle.ext_chart.specs.Range.{HoldsRange};
+
+use crate::images::images;
+use itoa::Buffer;
+use memory::Memory;
+use square::{Range, Table};
+use std::alloc::Global;
+
+/// The mark of a square with this number of generators.
+fn mark(count: usize) -> u8
+    ensures { result ≡ mark count }
+{
+    match count {
+        0 => b'.',
+        1..=9 => b'0' + count as u8,
+        _ => b'*',
+    }
+}
+
+/// The number of a row, in at least two places.
+fn row_label(alloc: Global, s: u16) -> Result<Vec<u8>, Memory>
+    ensures { IfOk result (λ label. label.items ≡ row_label s) }
+{
+    let mut buffer = Buffer::new();
+    let mut label = Vec::new(alloc);
+    if s < 10 {
+        label.push(b' ')?;
+    }
+    label.extend_from_slice(buffer.format(s).as_bytes())?;
+    Ok(label)
+}
+
+/// The marks of a row, from stem 0 on, through `t` degrees above the bottom.
+fn marks(alloc: Global, table: &Table, s: u16, t: u16) -> Result<Vec<u8>, Memory>
+    requires { t < length (row_in table.now.rows s) }
+    ensures { IfOk result (λ marks. marks.items ≡ map (λ k. mark (generator_count (plain_rows table.now.rows) s k)) (range_with_len s (t + 1 - s))) }
+{
+    let mut marks = Vec::new(alloc);
+    for k in s..=t {
+        marks.push(mark(images(table, s, k).len()))?;
+    }
+    Ok(marks)
+}
+
+/// The line of a row.
+fn row_line(alloc: Global, table: &Table, s: u16, t: u16) -> Result<Vec<u8>, Memory>
+    requires { t < length (row_in table.now.rows s) }
+    ensures { IfOk result (λ line. line.items ≡ row_line (generator_count (plain_rows table.now.rows)) t s) }
+{
+    let mut line = row_label(alloc, s)?;
+    let marks = marks(alloc, table, s, t)?;
+    line.extend_from_slice(b" |")?;
+    line.extend_from_slice(marks.as_slice())?;
+    line.push(b'\n')?;
+    Ok(line)
+}
+
+/// The lines of the rows of the range, the greatest first.
+fn row_lines(alloc: Global, table: &Table, range: Range) -> Result<Vec<u8>, Memory>
+    requires { HoldsRange table.now range.s range.t }
+    ensures { IfOk result (λ text. text.items ≡ row_lines (generator_count (plain_rows table.now.rows)) range.t (range.s + 1)) }
+{
+    let mut text = Vec::new(alloc);
+    for i in 0..=range.s {
+        let line = row_line(alloc, table, range.s - i, range.t)?;
+        text.extend_from_slice(line.as_slice())?;
+    }
+    Ok(text)
+}
+
+/// The line that says which stems there are.
+fn stems_line(alloc: Global, bottom: i32, t: u16) -> Result<Vec<u8>, Memory>
+    requires { (bottom +ℤ pos t) ≤ℤ pos 2147483647 }
+    ensures { IfOk result (λ line. line.items ≡ stems_line bottom t) }
+{
+    let mut buffer = Buffer::new();
+    let mut line = Vec::from_slice(alloc, b"stems ")?;
+    line.extend_from_slice(buffer.format(bottom).as_bytes())?;
+    line.extend_from_slice(b"..")?;
+    line.extend_from_slice(buffer.format(bottom + i32::from(t)).as_bytes())?;
+    line.push(b'\n')?;
+    Ok(line)
+}
+
+/// The chart of the rows of the table through the range: a line for each row, the greatest first, in it a mark for each
+/// stem, and last the line of the stems.
+///
+/// # Errors
+/// `Memory` where there is none for the text.
+pub fn chart(alloc: Global, table: &Table, range: Range) -> Result<Vec<u8>, Memory>
+    requires { HoldsRange table.now range.s range.t }
+    ensures { IfOk result (λ text. text.items ≡ chart_text (bottom table.now.resolved.plain.generators) range.s range.t (generator_count (plain_rows table.now.rows))) }
+{
+    let mut text = row_lines(alloc, table, range)?;
+    let stems = stems_line(alloc, table.module().bottom(), range.t)?;
+    text.extend_from_slice(stems.as_slice())?;
+    Ok(text)
+}

@@ -1,7 +1,0 @@
-use Rattle.std.proofs.Common.{◌≡◌, map}
-use Rattle.std.specs.List.{range_with_len}
-use Rattle.f2_vec.specs.Spans.{unit_vector}
-use Rattle.ext_run.proofs.resolve.unit_rows.Given as goal
-
-abbrev pub invariant-loop-i : goal.invariant-loop-i
-invariant-loop-i l = l.rows.items ≡ map (unit_vector l.n) (range_with_len 0 l.i)

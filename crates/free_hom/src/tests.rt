@@ -1,0 +1,91 @@
+ghost use Rattle.std.specs.Prelude.{◌≡◌, pos, Bool, true, List, [], ◌∷◌, length, IfOk};
+
+use crate::Hom;
+use f2_vec::BitVec;
+use free_module::Gens;
+use memory::Memory;
+use milnor_basis::Basis;
+use std::alloc::Global;
+use std::test::Fail;
+
+// Whether the vector has these coordinates, written as 0 and 1.
+fn is_written(vector: &BitVec, want: &str) -> bool {
+    vector.len() == want.len()
+        && want.bytes().enumerate().all(|(i, digit)| i < vector.len()
+            && vector.get(i) == (digit == b'1'))
+}
+
+// The vector of length 3 with these first coordinates, written as 0 and 1.
+fn vector(alloc: Global, text: &str) -> Result<BitVec, Memory>
+    ensures { IfOk result (λ v. length v ≡ 3) }
+{
+    let mut vector = BitVec::zero(alloc, 3)?;
+    for (i, digit) in text.bytes().enumerate() {
+        if i < vector.len() {
+            vector.set(i, digit == b'1');
+        }
+    }
+    Ok(vector)
+}
+
+// Generators of degrees 1 and 2, and one of degree 0.
+fn source(alloc: Global) -> Result<Gens, Memory>
+    ensures { IfOk result (λ gens. gens ≡ pos 1 ∷ pos 2 ∷ []) }
+{
+    let mut gens = Gens::new(alloc);
+    gens.push(1)?;
+    gens.push(2)?;
+    Ok(gens)
+}
+
+fn target(alloc: Global) -> Result<Gens, Memory>
+    ensures { IfOk result (λ gens. gens ≡ pos 0 ∷ []) }
+{
+    let mut gens = Gens::new(alloc);
+    gens.push(0)?;
+    Ok(gens)
+}
+
+// The vector 1.
+fn one(alloc: Global) -> Result<BitVec, Memory>
+    ensures { IfOk result (λ v. v ≡ true ∷ []) }
+{
+    let mut one = BitVec::zero(alloc, 0)?;
+    one.push(true)?;
+    Ok(one)
+}
+
+// Sq(1) and Sq(2) on the generator of degree 0, each the only element of its degree.
+fn images(alloc: Global) -> Result<Vec<BitVec>, Memory>
+    ensures { IfOk result (λ v. v.items ≡ (true ∷ []) ∷ (true ∷ []) ∷ []) }
+{
+    let mut images = Vec::new(alloc);
+    images.push(one(alloc)?)?;
+    images.push(one(alloc)?)?;
+    Ok(images)
+}
+
+// The source's basis in degree 4 is Sq(3) and Sq(0,1) on the first generator, and Sq(2) on the second. Each goes to
+// Sq(1,1), the second of Sq(4) and Sq(1,1): Sq(3) Sq(1), Sq(0,1) Sq(1) and Sq(2) Sq(2) all are that.
+#[test]
+fn maps(rt: HostRuntime) -> Result<(), Fail> {
+    let alloc = rt.alloc();
+    let basis = Basis::new(alloc, 4)?;
+    let (source, target, images) = (source(alloc)?, target(alloc)?, images(alloc)?);
+    let hom = Hom::new(&basis, &source, &target, images.as_slice());
+    let matrix = hom.matrix(alloc, 4)?;
+    assert!(rt; matrix.cols() == 2 && matrix.rows().len() == 3);
+    assert!(rt; matrix.rows().iter().all(|row| is_written(row, "01")));
+    for (v, want) in [
+        ("100", "01"),
+        ("010", "01"),
+        ("001", "01"),
+        ("110", "00"),
+        ("111", "01"),
+        ("000", "00"),
+    ] {
+        let v = vector(alloc, v)?;
+        assert!(rt; is_written(&hom.apply(alloc, 4, &v)?, want), "at {want}");
+    }
+    Ok(())
+}

@@ -1,0 +1,14 @@
+pub mod Choice
+pub mod Chosen
+pub mod Complex
+pub mod Exact
+pub mod Generators
+pub mod Late
+pub mod Minimal
+pub mod NewGenerators
+pub mod Rows
+pub mod Squares
+pub mod TableIsMinimal
+pub mod TableIsUnique
+pub mod StartLaws
+pub mod Shapes

@@ -1,0 +1,180 @@
+-- What a square is made from fits together, and the step to its target is the step on it.
+use Rattle.std.proofs.Common.{◌≡◌, ℕ, zero, suc, ◌+◌, ◌<◌, ◌≤◌, ℤ, pos, ◌+ℤ◌, Bool, List, [], ◌∷◌, ◌++◌, length, replicate, take, Option, Some, IfSome, refl, sym, ◌∙◌, ap, subst, arith}
+use Rattle.std.proofs.lemmas.Int.{ints}
+use Rattle.std.proofs.lemmas.List.{take_all, take_more}
+use Rattle.f2_vec.specs.Spans.{HaveWidth, unit_vectors}
+use Rattle.f2_vec.proofs.Split.{HaveWidth-unit_vectors}
+use Rattle.f2_matrix.specs.Echelon.{IsKernelBasis}
+use Rattle.f2_matrix.specs.Reduction.{Rows, Reduction, IsReductionOf}
+use Rattle.f2_matrix.proofs.Unique.{kernel_basis_unique}
+use Rattle.free_module.specs.FreeModule.{free_width}
+use Rattle.free_module.specs.Graded.{GradedModule, HasUnit, free_graded}
+use Rattle.free_module.specs.LinearMap.{AreImages, map_rows}
+use Rattle.module_check.specs.Module.{bottom, width}
+use Rattle.module_check.specs.ModuleLaws.{module_graded}
+use Rattle.module_check.specs.Checked.{Checked}
+use Rattle.resolution_laws.specs.Resolution.{Content, no_content, square_in, degrees_from, images_of, target_over, candidates_over, IsChosen, IsStepOver}
+use Rattle.resolution_laws.specs.Start.{squares_below, row_below, IsOf}
+use Rattle.resolution_laws.proofs.Generators.{AreImages-row}
+use Rattle.resolution_laws.proofs.NewGenerators.{HaveWidth-IsChosen, IsStepOver_from_choice, map_rows-new}
+use Rattle.resolution_laws.proofs.Rows.{degrees_from-push, free_basis-take}
+use Rattle.resolution_laws.proofs.Shapes.{content_shape}
+use Rattle.resolution_laws.proofs.StartLaws.{content_is_unique, length-squares_below, squares_below-take}
+use Rattle.square.specs.Squares.{module_over, IsSquare}
+use Rattle.square.specs.Tables.{Footing, IsFooting, footing_at}
+use Rattle.square.proofs.Footings.{IsMeasured-made}
+use Rattle.resolution_step.specs.Steps.{listed, given_row, IsReducedStep, IsStepWith}
+use Rattle.resolution_step.proofs.GivenRows.{given_row-below, square_there}
+
+-- ---- the row below
+
+below_is_of : (f : Footing) → IsFooting f → (i : ℕ) (below : List Content) → suc i ≡ f.s → f.below ≡ Some below → (k : ℕ) → k ≤ f.above → IsOf (module_over f.resolved.plain) f.start i k (square_in below k)
+below_is_of f h i below e is k l =
+    let P : Option (List Content) → Type 0 = λ x. IfSome x (λ b. IsOf (module_over f.resolved.plain) f.start i k (square_in b k)) in
+    subst P is (h.below_are i k e l)
+
+-- squares of the start's table in the row below are those that are given
+below_take : (f : Footing) → IsFooting f → (at : ℕ → ℕ → Content) (i : ℕ) (below : List Content) (n : ℕ) → suc i ≡ f.s → f.below ≡ Some below → length below ≡ f.above + 1 → n ≤ f.above + 1 → ((k : ℕ) → k < n → IsOf (module_over f.resolved.plain) f.start i k (at i k)) → squares_below at i n ≡ take n below
+below_take f h at i below n e is len l given =
+    squares_below-take at i n below (omega arith) (λ k b. content_is_unique kernel_basis_unique (module_over f.resolved.plain) f.start i k _ _ (given k b) (below_is_of f h i below e is k (omega arith)))
+
+-- the width of the target over them
+width_below : (f : Footing) → IsFooting f → (at : ℕ → ℕ → Content) (j : ℕ) → j ≤ f.above → ((i k : ℕ) → suc i ≡ f.s → k ≤ j → IsOf (module_over f.resolved.plain) f.start i k (at i k))
+    → (target_over (module_over f.resolved.plain) (row_below at f.s j)).width (bottom f.resolved.plain.generators +ℤ pos j) ≡ (target_over (module_over f.resolved.plain) f.below).width (bottom f.resolved.plain.generators +ℤ pos j)
+width_below f h at j l given = in_row f.s refl
+  where
+    in_row : (s : ℕ) → s ≡ f.s → (target_over (module_over f.resolved.plain) (row_below at s j)).width (bottom f.resolved.plain.generators +ℤ pos j) ≡ (target_over (module_over f.resolved.plain) f.below).width (bottom f.resolved.plain.generators +ℤ pos j)
+    in_row zero e = ap (λ (x : Option (List Content)). (target_over (module_over f.resolved.plain) x).width (bottom f.resolved.plain.generators +ℤ pos j)) (sym (h.has_none (sym e)))
+    in_row (suc i) e =
+        let p = h.has_below i e in
+        let b = bottom f.resolved.plain.generators in
+        let same : squares_below at i (suc j) ≡ take (suc j) p.0 = below_take f h at i p.0 (suc j) e p.1 p.2 (omega arith) (λ k m. given i k e (omega arith)) in
+        ap (λ (x : List Content). free_width (degrees_from b x) (b +ℤ pos j)) same
+        ∙ (ap length (sym (free_basis-take b p.0 (suc j) (b +ℤ pos j) (omega (arith, ints))))
+        ∙ ap (λ (x : Option (List Content)). (target_over (module_over f.resolved.plain) x).width (b +ℤ pos j)) (sym p.1))
+
+-- ---- widths
+
+-- the images of each square of the row are of the dimension of the target in its degree
+images_fit : (f : Footing) → IsFooting f → (j : ℕ) → j < f.above → HaveWidth ((target_over (module_over f.resolved.plain) f.below).width (bottom f.resolved.plain.generators +ℤ pos j)) (square_in f.squares j).images
+images_fit f h j l =
+    let m = module_over f.resolved.plain in
+    let b = bottom f.resolved.plain.generators in
+    let c = square_in f.squares j in
+    let shaped = content_shape kernel_basis_unique m f.start f.s j c (h.before_are j l) in
+    let o = shaped.over in
+    let P : ℕ → Type 0 = λ n. HaveWidth ((target_over m (row_below o.at f.s j)).width (b +ℤ pos n)) c.images in
+    let Q : ℕ → Type 0 = λ n. HaveWidth n c.images in
+    subst Q (width_below f h o.at j (omega arith) o.below) (subst P (length-squares_below o.at f.s j) shaped.shape.image_widths)
+
+pub AreImages-footing : (f : Footing) → IsFooting f → AreImages (target_over (module_over f.resolved.plain) f.below) (degrees_from (bottom f.resolved.plain.generators) f.squares) (images_of f.squares)
+AreImages-footing f h =
+    let len = h.length_is in
+    AreImages-row (target_over (module_over f.resolved.plain) f.below) (bottom f.resolved.plain.generators) f.squares (λ k l. images_fit f h k (omega arith))
+
+-- and so are the candidates, in the degree of the square
+pub HaveWidth-candidates_over : (f : Footing) → IsFooting f → HaveWidth ((target_over (module_over f.resolved.plain) f.below).width (bottom f.resolved.plain.generators +ℤ pos f.above)) (candidates_over (module_over f.resolved.plain) f.below f.above)
+HaveWidth-candidates_over f h = in_row f.s refl
+  where
+    in_row : (s : ℕ) → s ≡ f.s → HaveWidth ((target_over (module_over f.resolved.plain) f.below).width (bottom f.resolved.plain.generators +ℤ pos f.above)) (candidates_over (module_over f.resolved.plain) f.below f.above)
+    in_row zero e =
+        let m = module_over f.resolved.plain in
+        let P : Option (List Content) → Type 0 = λ x. HaveWidth ((target_over m x).width (m.bottom +ℤ pos f.above)) (candidates_over m x f.above) in
+        subst P (sym (h.has_none (sym e))) (HaveWidth-unit_vectors (m.graded.width (m.bottom +ℤ pos f.above)))
+    in_row (suc i) e =
+        let m = module_over f.resolved.plain in
+        let b = m.bottom in
+        let p = h.has_below i e in
+        let len = p.2 in
+        let c = square_in p.0 f.above in
+        let shaped = content_shape kernel_basis_unique m f.start i f.above c (below_is_of f h i p.0 e p.1 f.above (omega arith)) in
+        let o = shaped.over in
+        let squares = squares_below o.at i f.above in
+        let same : squares ≡ take f.above p.0 = below_take f h o.at i p.0 f.above e p.1 p.2 (omega arith) o.before in
+        let all : take f.above p.0 ++ c ∷ [] ≡ p.0 = sym (take_more p.0 f.above no_content (omega arith)) ∙ take_all (f.above + 1) p.0 (omega arith) in
+        let degrees : degrees_from b squares ++ replicate (length c.images) (b +ℤ pos (length squares)) ≡ degrees_from b p.0 =
+        sym (degrees_from-push b squares c) ∙ (ap (λ (x : List Content). degrees_from b (x ++ c ∷ [])) same ∙ ap (degrees_from b) all) in
+        let width : free_width (degrees_from b squares ++ replicate (length c.images) (b +ℤ pos (length squares))) (b +ℤ pos (length squares)) ≡ free_width (degrees_from b p.0) (b +ℤ pos f.above) =
+        ap (λ (ds : List ℤ). free_width ds (b +ℤ pos (length squares))) degrees ∙ ap (λ (n : ℕ). free_width (degrees_from b p.0) (b +ℤ pos n)) (length-squares_below o.at i f.above) in
+        let P : Option (List Content) → Type 0 = λ x. HaveWidth ((target_over m x).width (b +ℤ pos f.above)) (candidates_over m x f.above) in
+        subst P (sym p.1) (subst (λ n. HaveWidth n c.kernel) width shaped.shape.kernel_widths)
+
+-- ---- the step
+
+-- the choice over the matrix of the map, with the kernel and the reduction of that matrix with the chosen as last rows
+pub IsReducedStep_from_choice : (target : GradedModule) (degrees : List ℤ) (images candidates : List (List Bool)) (t : ℤ) (matrix : Rows) (content : Content) (reduction : Reduction) → HasUnit target → length images ≡ length degrees → HaveWidth (target.width t) candidates → matrix.cols ≡ target.width t → matrix.rows ≡ map_rows target degrees images t → IsChosen matrix.cols matrix.rows candidates content.images → IsKernelBasis matrix.cols (matrix.rows ++ content.images) content.kernel → IsReductionOf matrix.cols (matrix.rows ++ content.images) reduction
+    → IsReducedStep target degrees images candidates t content reduction
+IsReducedStep_from_choice target degrees images candidates t matrix content reduction unit one_each w cols rows chosen kernel reduced =
+    let step : IsStepOver target degrees images candidates t content = IsStepOver_from_choice target degrees images candidates t matrix content unit one_each w cols rows chosen kernel in
+    let all : matrix.rows ++ content.images ≡ map_rows target (degrees ++ replicate (length content.images) t) (images ++ content.images) t =
+    ap (λ (z : List (List Bool)). z ++ content.images) rows ∙ sym (map_rows-new target degrees images content.images t unit one_each (HaveWidth-IsChosen (target.width t) _ candidates content.images w step.chosen)) in
+    let P : List (List Bool) → Type 0 = λ z. IsReductionOf (target.width t) z reduction in
+    let Q : ℕ → Type 0 = λ n. IsReductionOf n (matrix.rows ++ content.images) reduction in
+    record { step = step; quasi = subst P all (subst Q cols reduced) }
+
+pub IsStepWith_from_reduced : (f : Footing) → IsFooting f → (target : GradedModule) (degrees : List ℤ) (images candidates : List (List Bool)) (t : ℤ) (content : Content) (reduction : Reduction) → target ≡ target_over (module_over f.resolved.plain) f.below → degrees ≡ degrees_from (bottom f.resolved.plain.generators) f.squares → images ≡ images_of f.squares → candidates ≡ candidates_over (module_over f.resolved.plain) f.below f.above → t ≡ bottom f.resolved.plain.generators +ℤ pos f.above
+    → IsReducedStep target degrees images candidates t content reduction → IsStepWith f content reduction
+IsStepWith_from_reduced f h target degrees images candidates t content reduction e1 e2 e3 e4 e5 p =
+    let m = module_over f.resolved.plain in
+    let b = bottom f.resolved.plain.generators in
+    let A : GradedModule → Type 0 = λ x. IsReducedStep x degrees images candidates t content reduction in
+    let B : List ℤ → Type 0 = λ x. IsReducedStep (target_over m f.below) x images candidates t content reduction in
+    let C : List (List Bool) → Type 0 = λ x. IsReducedStep (target_over m f.below) (degrees_from b f.squares) x candidates t content reduction in
+    let D : List (List Bool) → Type 0 = λ x. IsReducedStep (target_over m f.below) (degrees_from b f.squares) (images_of f.squares) x t content reduction in
+    let E : ℤ → Type 0 = λ x. IsReducedStep (target_over m f.below) (degrees_from b f.squares) (images_of f.squares) (candidates_over m f.below f.above) x content reduction in
+    let F : ℕ → Type 0 = λ n. IsReducedStep (target_over m f.below) (degrees_from b f.squares) (images_of f.squares) (candidates_over m f.below n) (b +ℤ pos n) content reduction in
+    let all = subst F (sym h.length_is) (subst E e5 (subst D e4 (subst C e3 (subst B e2 (subst A e1 p))))) in
+    record { step = all.step; quasi = all.quasi }
+
+-- ---- what is given to the step, as it is read
+
+pub AreImages-given : (f : Footing) → IsFooting f → (target : GradedModule) (degrees : List ℤ) (images : List (List Bool)) → target ≡ target_over (module_over f.resolved.plain) f.below → degrees ≡ degrees_from (bottom f.resolved.plain.generators) f.squares → images ≡ images_of f.squares → AreImages target degrees images
+AreImages-given f h target degrees images e1 e2 e3 =
+    let b = bottom f.resolved.plain.generators in
+    let A : GradedModule → Type 0 = λ x. AreImages x (degrees_from b f.squares) (images_of f.squares) in
+    let B : List ℤ → Type 0 = λ x. AreImages target x (images_of f.squares) in
+    let C : List (List Bool) → Type 0 = λ x. AreImages target degrees x in
+    subst C (sym e3) (subst B (sym e2) (subst A (sym e1) (AreImages-footing f h)))
+
+pub HaveWidth-given : (f : Footing) → IsFooting f → (target : GradedModule) (candidates : List (List Bool)) (t : ℤ) → target ≡ target_over (module_over f.resolved.plain) f.below → candidates ≡ candidates_over (module_over f.resolved.plain) f.below f.above → t ≡ bottom f.resolved.plain.generators +ℤ pos f.above → HaveWidth (target.width t) candidates
+HaveWidth-given f h target candidates t e1 e2 e3 =
+    let m = module_over f.resolved.plain in
+    let A : GradedModule → Type 0 = λ x. HaveWidth (x.width (m.bottom +ℤ pos f.above)) (candidates_over m f.below f.above) in
+    let B : List (List Bool) → Type 0 = λ x. HaveWidth (target.width (m.bottom +ℤ pos f.above)) x in
+    let C : ℤ → Type 0 = λ x. HaveWidth (target.width x) candidates in
+    subst C (sym e3) (subst B (sym e2) (subst A (sym e1) (HaveWidth-candidates_over f h)))
+
+-- row 0
+pub target-module : (f : Footing) → IsFooting f → f.s ≡ 0 → (m : Checked) → m ≡ f.resolved → module_graded m.plain ≡ target_over (module_over f.resolved.plain) f.below
+target-module f h e m same =
+    ap (λ (x : Checked). module_graded x.plain) same ∙ ap (λ (x : Option (List Content)). target_over (module_over f.resolved.plain) x) (sym (h.has_none e))
+
+pub candidates-module : (f : Footing) → IsFooting f → f.s ≡ 0 → (m : Checked) (t : ℤ) (n : ℕ) → m ≡ f.resolved → t ≡ bottom f.resolved.plain.generators +ℤ pos f.above → n ≡ width m.plain.generators t → unit_vectors n ≡ candidates_over (module_over f.resolved.plain) f.below f.above
+candidates-module f h e m t n same at count =
+    ap unit_vectors (count ∙ (ap (λ (x : Checked). width x.plain.generators t) same ∙ ap (width f.resolved.plain.generators) at))
+    ∙ ap (λ (x : Option (List Content)). candidates_over (module_over f.resolved.plain) x f.above) (sym (h.has_none e))
+
+-- the other rows
+pub length-given_row : (f : Footing) → IsFooting f → (i : ℕ) → suc i ≡ f.s → length (given_row f i) ≡ f.above + 1
+length-given_row f h i e =
+    let p = h.has_below i e in
+    ap length (given_row-below f i e ∙ ap listed p.1) ∙ p.2
+
+pub target-row : (f : Footing) → IsFooting f → (i : ℕ) → suc i ≡ f.s → (gens : List ℤ) → gens ≡ degrees_from (bottom f.resolved.plain.generators) (given_row f i) → free_graded gens ≡ target_over (module_over f.resolved.plain) f.below
+target-row f h i e gens are =
+    let p = h.has_below i e in
+    let b = bottom f.resolved.plain.generators in
+    ap free_graded (are ∙ ap (degrees_from b) (given_row-below f i e ∙ ap listed p.1)) ∙ ap (λ (x : Option (List Content)). target_over (module_over f.resolved.plain) x) (sym p.1)
+
+pub candidates-row : (f : Footing) → IsFooting f → (i : ℕ) → suc i ≡ f.s → (t : ℤ) (c : Content) → t ≡ bottom f.resolved.plain.generators +ℤ pos f.above → Some c ≡ footing_at f i t → c.kernel ≡ candidates_over (module_over f.resolved.plain) f.below f.above
+candidates-row f h i e t c at there =
+    let p = h.has_below i e in
+    let len = length-given_row f h i e in
+    let same : c ≡ square_in (given_row f i) f.above = square_there f i f.above t c at (omega arith) there in
+    ap (λ (x : Content). x.kernel) (same ∙ ap (λ (x : List Content). square_in x f.above) (given_row-below f i e ∙ ap listed p.1))
+    ∙ ap (λ (x : Option (List Content)). candidates_over (module_over f.resolved.plain) x f.above) (sym p.1)
+
+-- the square of the step
+pub IsSquare-step : (f : Footing) (content : Content) (reduction : Reduction) → IsFooting f → IsStepWith f content reduction → IsSquare (record { resolved = f.resolved; start = f.start; s = f.s; above = f.above; content = content; quasi = Some reduction })
+IsSquare-step f content reduction h p =
+    (IsMeasured-made f content reduction f.resolved f.start f.s f.above (bottom f.resolved.plain.generators +ℤ pos f.above) reduction.cols reduction.height h p.step p.quasi refl refl refl refl refl refl refl).square

@@ -1,0 +1,94 @@
+//! What no clause says: that there is memory for each call. The sphere's chart is known.
+ghost use Rattle.std.specs.Prelude.{◌≤◌};
+
+use crate::{resolve_alone, step};
+use f2_vec::BitVec;
+use memory::Memory;
+use module_check::Module;
+use square::{KeepFault, MemKeep, NoKeep, Range, Table};
+use std::alloc::Global;
+use std::test::Fail;
+
+// Whether the rows are the one vector with the one coordinate 1.
+fn is_one_row(rows: &[BitVec]) -> bool {
+    match rows {
+        [row] => row.len() == 1 && row.first_one() == Some(0),
+        _ => false,
+    }
+}
+
+// How many generators a square has, none where the square is not there.
+fn generators(table: &Table, s: u16, t: i32) -> Option<usize> {
+    let square = table.at(s, t)?;
+    Some(square.gens().len())
+}
+
+// Whether row `s` has these generators from stem 0 through degree 8, one where there is a 1, and none before stem 0.
+fn is_row(table: &Table, s: u16, row: &str) -> bool {
+    let stem_0 = i32::from(s);
+    for t in 0..stem_0 {
+        if generators(table, s, t) != Some(0) {
+            return false;
+        }
+    }
+    (stem_0..9).zip(row.bytes()).all(|(t, digit)| generators(table, s, t)
+        == Some(if digit == b'1' { 1 } else { 0 }))
+}
+
+// The table through the range; nothing is kept.
+fn resolved(alloc: Global, table: Table, range: Range) -> Result<Table, Memory>
+    requires rows { range.s ≤ 63 }
+    requires degrees { range.t ≤ 127 }
+{
+    match resolve_alone(alloc, table, range, NoKeep).0 {
+        Ok(table) => Ok(table),
+        Err(_) => Err(Memory),
+    }
+}
+
+#[test]
+fn the_first_square_of_the_sphere(rt: HostRuntime) -> Result<(), Fail> {
+    let alloc = rt.alloc();
+    let table = Table::new(alloc, Module::sphere(alloc)?)?;
+    let inputs = table.inputs(alloc, 0, 0)?;
+    let square = step(alloc, &inputs)?;
+    assert!(rt; is_one_row(square.gens()));
+    assert_eq!(rt; square.kernel().len(), 0);
+    match square.kept_quasi() {
+        Some(quasi) => assert!(rt; is_one_row(quasi.image()) && is_one_row(quasi.chosen())),
+        None => assert!(rt; false),
+    }
+    Ok(())
+}
+
+#[test]
+fn the_sphere(rt: HostRuntime) -> Result<(), Fail> {
+    let alloc = rt.alloc();
+    let table = Table::new(alloc, Module::sphere(alloc)?)?;
+    let table = resolved(alloc, table, Range { s: 2, t: 3 })?;
+    let table = resolved(alloc, table, Range { s: 4, t: 8 })?;
+    for (s, row) in [
+        (0, "1........"),
+        (1, "11.1...1"),
+        (2, "1.11..1"),
+        (3, "1..1.."),
+        (4, "1...."),
+    ] {
+        assert!(rt; table.front(s) == 9 && is_row(&table, s, row), "in row {s}");
+    }
+    assert_eq!(rt; table.front(5), 0);
+    Ok(())
+}
+
+#[test]
+fn a_keeper_that_fails(rt: HostRuntime) -> Result<(), Fail> {
+    let alloc = rt.alloc();
+    let table = Table::new(alloc, Module::sphere(alloc)?)?;
+    let mut failing = Vec::new(alloc);
+    failing.push(3)?;
+    let keeper = MemKeep::new(alloc, failing)?;
+    let (resolved, keeper) = resolve_alone(alloc, table, Range { s: 4, t: 8 }, keeper);
+    assert!(rt; matches!(resolved, Err(KeepFault::Failed)));
+    assert!(rt; !keeper.is_live());
+    Ok(())
+}

@@ -1,0 +1,77 @@
+-- A square that is found in a table, and the reduction that it kept.
+use Rattle.std.proofs.Common.{◌≡◌, ℕ, zero, suc, ◌<◌, ℤ, pos, negsuc, ◌+ℤ◌, ◌-ℤ◌, List, [], ◌∷◌, length, take, Option, Some, None, option_and_then, MatchOption, refl, sym, ◌∙◌, ap, subst, arith}
+use Rattle.std.specs.List.{slice_get}
+use Rattle.std.proofs.lemmas.Int.{ints}
+use Rattle.std.proofs.lemmas.Option.{slice_get_within}
+use Rattle.f2_matrix.specs.Reduction.{Reduction}
+use Rattle.f2_matrix.proofs.Unique.{kernel_basis_unique}
+use Rattle.module_check.specs.Module.{bottom}
+use Rattle.module_check.specs.Checked.{Checked}
+use Rattle.resolution_laws.specs.Resolution.{Module, Content, row_of, below_of}
+use Rattle.resolution_laws.specs.Start.{Entry, entry_at, squares_below, row_below}
+use Rattle.resolution_laws.proofs.StartLaws.{content_is_unique, squares_below-same, row_below-same}
+use Rattle.square.specs.Squares.{Placed, module_over, AreUnder, IsQuasi, IsMadeWith, IsSquare}
+use Rattle.square.specs.Tables.{Staircase, row_in, plain_rows, content_at, natural, above_of, square_at, IsQuasiAt, IsTable}
+use Rattle.square.proofs.Places.{content_at-is, table_before, table_below, table_under}
+
+natural-is : (z : ℤ) (k : ℕ) → natural z ≡ Some k → z ≡ pos k
+natural-is (pos n) k e = let same : n ≡ k = cc in ap (λ i. pos i) same
+natural-is (negsuc n) k e = cc
+
+-- a square found at a degree, and its place
+pub record IsFound (table : Staircase) (s : ℕ) (t : ℤ) (q : Placed) : Type 0 where
+  pub above : ℕ
+  pub degree : t ≡ bottom table.resolved.plain.generators +ℤ pos above
+  pub there : slice_get (row_in table.rows s) above ≡ Some q
+
+pub square_found : (table : Staircase) (s : ℕ) (t : ℤ) (q : Placed) → square_at table s t ≡ Some q → IsFound table s t q
+square_found table s t q e = from (above_of (bottom table.resolved.plain.generators) t) refl e
+  where
+    from : (o : Option ℕ) → o ≡ above_of (bottom table.resolved.plain.generators) t → option_and_then (λ k. slice_get (row_in table.rows s) k) o ≡ Some q → IsFound table s t q
+    from None same e = cc
+    from (Some k) same e =
+        let b = bottom table.resolved.plain.generators in
+        let d : t -ℤ b ≡ pos k = natural-is (t -ℤ b) k (sym same) in
+        record { above = k; degree = omega (arith, ints); there = e }
+
+-- a row that has a square is a row of the table
+pub row_within : (rows : List (List Placed)) (s k : ℕ) → k < length (row_in rows s) → s < length rows
+row_within [] s k l = absurd (omega arith)
+row_within (row ∷ rows) zero k l = omega arith
+row_within (row ∷ rows) (suc s) k l = let rest = row_within rows s k l in omega arith
+
+-- ---- what it kept
+
+module _ (table : Staircase) (h : IsTable table) (s k : ℕ) (q : Placed) (r : Reduction) (there : slice_get (row_in table.rows s) k ≡ Some q) where
+  m : Module
+  m = module_over table.resolved.plain
+
+  pub kept_here : IsSquare q → q.quasi ≡ Some r → IsQuasi (module_over table.resolved.plain) (below_of (plain_rows table.rows) s k) (take k (row_of (plain_rows table.rows) s)) (content_at table.rows s k) r
+  unfolding m
+  kept_here square kept =
+      let is = h.placed s k q there in
+      let within = slice_get_within (row_in table.rows s) k q there in
+      let P : Option Reduction → Type 0 = λ o. MatchOption o (entry_at q.start q.s q.above ≡ Some q.content) (IsMadeWith q) in
+      let made : IsMadeWith q r = subst P kept square.read_or_made in
+      let Q : Option Reduction → Type 0 = λ o. MatchOption o (entry_at table.start s k ≡ Some q.content) (λ _. (entry_at table.start s k ≡ None) × (q.start ≡ table.start)) in
+      let start : q.start ≡ table.start = (subst Q kept is.read_or_made).1 in
+      let at = made.at in
+      let under1 = subst (λ (x : Checked). AreUnder (module_over x.plain) q.start q.s q.above at) is.resolved_is made.under in
+      let under2 = subst (λ (x : List Entry). AreUnder m x q.s q.above at) start under1 in
+      let under3 = subst (λ x. AreUnder m table.start x q.above at) is.s_is under2 in
+      let under : AreUnder m table.start s k at = subst (λ x. AreUnder m table.start s x at) is.above_is under3 in
+      let quasi1 = subst (λ (x : Checked). IsQuasi (module_over x.plain) (row_below at q.s q.above) (squares_below at q.s q.above) q.content r) is.resolved_is made.quasi in
+      let quasi2 = subst (λ x. IsQuasi m (row_below at x q.above) (squares_below at x q.above) q.content r) is.s_is quasi1 in
+      let quasi3 = subst (λ x. IsQuasi m (row_below at s x) (squares_below at s x) q.content r) is.above_is quasi2 in
+      let quasi4 = subst (λ (x : Content). IsQuasi m (row_below at s k) (squares_below at s k) x r) (sym (content_at-is table.rows s k q there)) quasi3 in
+      let lower : (i : ℕ) → suc i ≡ s → k < length (row_in table.rows i) = λ i e. let fall = h.never_rise i in let same = ap (λ n. length (row_in table.rows n)) e in omega arith in
+      let known = table_under table h s k (omega arith) lower in
+      let before : squares_below at s k ≡ take k (row_of (plain_rows table.rows) s) =
+      squares_below-same at (content_at table.rows) s k (λ j l. content_is_unique kernel_basis_unique m table.start s j _ _ (under.before j l) (known.before j l)) ∙ table_before table.rows s k (omega arith) in
+      let below : row_below at s k ≡ below_of (plain_rows table.rows) s k =
+      row_below-same at (content_at table.rows) s k (λ i j e l. content_is_unique kernel_basis_unique m table.start i j _ _ (under.below i j e l) (known.below i j e l)) ∙ table_below table.rows s k lower in
+      let quasi5 = subst (λ (x : Option (List Content)). IsQuasi m x (squares_below at s k) (content_at table.rows s k) r) below quasi4 in
+      subst (λ (x : List Content). IsQuasi m (below_of (plain_rows table.rows) s k) x (content_at table.rows s k) r) before quasi5
+
+pub kept_found : (table : Staircase) → IsTable table → (s : ℕ) (t : ℤ) (q : Placed) (r : Reduction) → IsFound table s t q → IsSquare q → q.quasi ≡ Some r → IsQuasiAt table s t r
+kept_found table h s t q r f square kept = record { above = f.above; degree = f.degree; quasi = kept_here table h s f.above q r f.there square kept }

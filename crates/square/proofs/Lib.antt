@@ -1,0 +1,11 @@
+pub mod RowWidths
+pub mod Footings
+pub mod Places
+pub mod Pushing
+pub mod FirstParts
+pub mod Rows
+pub mod Looking
+pub mod Matrices
+pub mod Found
+pub mod Crossing
+pub mod SphereSquare

@@ -1,0 +1,98 @@
+-- The square (0, 0) of the sphere: one generator goes to the module's, and the kernel is zero.
+use Rattle.std.proofs.Common.{◌≡◌, ◌↔◌, ℕ, zero, suc, ◌<◌, pos, ◌+ℤ◌, Bool, true, false, List, [], ◌∷◌, ◌++◌, length, take, Option, None, refl, sym, ◌∙◌, ap, subst, arith}
+use Rattle.f2_vec.specs.Vectors.{bit, zeros}
+use Rattle.f2_vec.specs.Spans.{row, HaveWidth, combination, unit_vectors, IsInSpan, IsInKernel}
+use Rattle.f2_vec.proofs.Split.{HaveWidth-unit_vectors}
+use Rattle.f2_matrix.specs.Echelon.{IsKernelBasis}
+use Rattle.f2_matrix.specs.Reduction.{Rows, Reduction, IsReductionOf}
+use Rattle.module_check.specs.Checked.{Checked, sphere_file}
+use Rattle.module_check.specs.DerivedAction.{derived_module}
+use Rattle.module_check.specs.Module.{Module as SteenrodModule, bottom, width}
+use Rattle.module_check.specs.ModuleLaws.{module_graded, module_HasUnit}
+use Rattle.resolution_laws.specs.Resolution.{Content, IsChosen, IsStep}
+use Rattle.resolution_laws.proofs.NewGenerators.{map_rows-new, IsStepOver_from_choice}
+use Rattle.square.specs.Squares.{module_over, square_matrix, IsQuasi}
+
+abbrev one : List (List Bool)
+one = (true ∷ []) ∷ []
+
+abbrev sphere : SteenrodModule
+sphere = derived_module sphere_file
+
+-- a vector of length 1 that gives zero is zero
+nothing : (c : List Bool) → IsInKernel 1 one c → zeros 1 ≡ c
+nothing [] h = absurd (let e = h.one_each in omega arith)
+nothing (false ∷ []) h = refl
+nothing (true ∷ []) h = let e = h.vanishes in cc
+nothing (b ∷ d ∷ c) h = absurd (let e = h.one_each in omega arith)
+
+no_kernel : IsKernelBasis 1 one []
+no_kernel = record {
+  widths = λ i l. absurd (omega arith);
+  spans_kernel = λ c. (λ h. record { coefficients = []; one_each = refl; sum = nothing c h }, λ s. subst (IsInKernel 1 one) (zero_sum c s) (record { one_each = refl; vanishes = refl }));
+  reduced = record {
+    zero_rows_last = λ i j l z k. refl;
+    pivots_rise = λ i j p q l f g. let e = f.one in cc;
+    pivots_alone = λ i j p d f. refl;
+  };
+  nonzero = λ i l. absurd (omega arith);
+}
+  where
+    zero_sum : (c : List Bool) → IsInSpan 1 [] c → false ∷ [] ≡ c
+    zero_sum c s = none s.coefficients s.one_each s.sum
+      where
+        none : (k : List Bool) → length k ≡ 0 → combination 1 k [] ≡ c → false ∷ [] ≡ c
+        none [] e f = f
+        none (b ∷ k) e f = f
+
+chosen_one : IsChosen 1 [] one one
+chosen_one = record { kept = true ∷ []; one_each = refl; dropped = dropped; chosen_are = refl }
+  where
+    outside : IsInSpan 1 [] (true ∷ []) → true ≡ false
+    outside s = none s.coefficients s.sum
+      where
+        none : (k : List Bool) → combination 1 k [] ≡ true ∷ [] → true ≡ false
+        none [] f = cc
+        none (b ∷ k) f = cc
+
+    dropped : (i : ℕ) → i < 1 → (bit (true ∷ []) i ≡ false) ↔ IsInSpan 1 ([] ++ take i one) (row one i)
+    dropped zero l = (λ e. cc, outside)
+    dropped (suc i) l = absurd (omega arith)
+
+-- the dimension of the sphere in its bottom degree, and the matrix of the map that takes a generator there to its own
+bottom_width : (m : Checked) → m.plain ≡ sphere → width m.plain.generators (bottom m.plain.generators +ℤ pos 0) ≡ 1
+bottom_width m e = ap (λ (p : SteenrodModule). width p.generators (bottom p.generators +ℤ pos 0)) e
+
+pub first_step : (m : Checked) (below : Option (List Content)) (squares : List Content) (images kernel : List (List Bool)) → m.plain ≡ sphere → below ≡ None → squares ≡ [] → images ≡ one → kernel ≡ [] → IsStep (module_over m.plain) below squares (record { images = images; kernel = kernel })
+first_step m below squares images kernel e1 e2 e3 e4 e5 =
+    let c : Content = record { images = images; kernel = kernel } in
+    let t = bottom m.plain.generators +ℤ pos 0 in
+    let n = width m.plain.generators t in
+    let wide : n ≡ 1 = bottom_width m e1 in
+    let matrix : Rows = record { cols = 1; rows = [] } in
+    let chosen1 : IsChosen 1 [] (unit_vectors n) one = subst (λ k. IsChosen 1 [] (unit_vectors k) one) (sym wide) chosen_one in
+    let chosen : IsChosen 1 [] (unit_vectors n) images = subst (λ (x : List (List Bool)). IsChosen 1 [] (unit_vectors n) x) (sym e4) chosen1 in
+    let kernel1 : IsKernelBasis 1 images [] = subst (λ (x : List (List Bool)). IsKernelBasis 1 x []) (sym e4) no_kernel in
+    let kernels : IsKernelBasis 1 images kernel = subst (λ (x : List (List Bool)). IsKernelBasis 1 images x) (sym e5) kernel1 in
+    let step : IsStep (module_over m.plain) None [] c = IsStepOver_from_choice (module_graded m.plain) [] [] (unit_vectors n) t matrix c (module_HasUnit m.plain m.is_module) refl (HaveWidth-unit_vectors n) (sym wide) refl chosen kernels in
+    let P : Option (List Content) → Type 0 = λ x. IsStep (module_over m.plain) x [] c in
+    let Q : List Content → Type 0 = λ x. IsStep (module_over m.plain) below x c in
+    subst Q (sym e3) (subst P (sym e2) step)
+
+pub first_quasi : (m : Checked) (below : Option (List Content)) (squares : List Content) (images kernel : List (List Bool)) (r : Reduction) (cols : ℕ) (rows : List (List Bool)) → m.plain ≡ sphere → below ≡ None → squares ≡ [] → images ≡ one → cols ≡ 1 → rows ≡ one → IsReductionOf cols rows r → IsQuasi (module_over m.plain) below squares (record { images = images; kernel = kernel }) r
+first_quasi m below squares images kernel r cols rows e1 e2 e3 e4 e5 e6 is =
+    let c : Content = record { images = images; kernel = kernel } in
+    let t = bottom m.plain.generators +ℤ pos 0 in
+    let wide : width m.plain.generators t ≡ 1 = bottom_width m e1 in
+    let widths1 : HaveWidth 1 images = subst (HaveWidth 1) (sym e4) (λ i l. one_wide i l) in
+    let widths : HaveWidth (width m.plain.generators t) images = subst (λ n. HaveWidth n images) (sym wide) widths1 in
+    let matrix : square_matrix (module_over m.plain) None [] c ≡ images = map_rows-new (module_graded m.plain) [] [] images t (module_HasUnit m.plain m.is_module) refl widths in
+    let is1 : IsReductionOf (width m.plain.generators t) rows r = subst (λ n. IsReductionOf n rows r) (e5 ∙ sym wide) is in
+    let is2 : IsQuasi (module_over m.plain) None [] c r = subst (λ (x : List (List Bool)). IsReductionOf (width m.plain.generators t) x r) (e6 ∙ sym e4 ∙ sym matrix) is1 in
+    let P : Option (List Content) → Type 0 = λ x. IsQuasi (module_over m.plain) x [] c r in
+    let Q : List Content → Type 0 = λ x. IsQuasi (module_over m.plain) below x c r in
+    subst Q (sym e3) (subst P (sym e2) is2)
+  where
+    one_wide : (i : ℕ) → i < 1 → length (row one i) ≡ 1
+    one_wide zero l = refl
+    one_wide (suc i) l = absurd (omega arith)

@@ -1,0 +1,10 @@
+use Rattle.std.proofs.Common.{ap}
+use Rattle.square.specs.Squares.{entry_of}
+use Rattle.square.specs.Keeping.{Kept}
+use Rattle.square.proofs.FirstParts.{kept_more, first_parts}
+use Rattle.square.proofs.keep.MemKeepKeep.keep.Goals as goal
+
+pub returns-clause-earlier : goal.returns-clause-earlier
+returns-clause-earlier c =
+    let list = ap (λ (k : Kept). k.list) c.self.view_is in
+    first_parts c.args.self.now.list c.then.result (entry_of c.args.square.now) (kept_more c.args.self.now.list _ c.args.square.now _ _ _ _ c.then.result list c.s.ensures c.above.ensures.above c.gens.ensures c.kernel.ensures c.then.ensures)

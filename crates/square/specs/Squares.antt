@@ -1,0 +1,87 @@
+-- A square of a resolution: its module, its place, what it holds, and what is known of it.
+use Rattle.std.specs.Prelude.{◌≡◌, ℕ, suc, ◌<◌, ◌≤◌, ℤ, pos, ◌+ℤ◌, Bool, List, ◌++◌, length, replicate, Option, Some, None, MatchOption}
+use Rattle.f2_matrix.specs.Reduction.{Reduction, IsReductionOf}
+use Rattle.free_module.specs.FreeModule.{free_width}
+use Rattle.free_module.specs.LinearMap.{map_rows}
+use Rattle.module_check.specs.Module.{Module as SteenrodModule, bottom}
+use Rattle.module_check.specs.ModuleLaws.{module_graded}
+use Rattle.module_check.specs.Checked.{Checked}
+use Rattle.resolution_laws.specs.Resolution.{Module, Content, degrees_from, images_of, target_over}
+use Rattle.resolution_laws.specs.Start.{Entry, entry_at, squares_below, row_below, IsOf}
+
+-- what is resolved of a module
+abbrev pub module_over : SteenrodModule → Module
+module_over m = record { bottom = bottom m.generators; graded = module_graded m }
+
+-- ---- a square over the squares of its row before it and the row below it
+
+-- the degrees of the generators of the row with the new ones, which stand last
+abbrev pub degrees_with : Module → List Content → Content → List ℤ
+degrees_with m squares content = degrees_from m.bottom squares ++ replicate (length content.images) (m.bottom +ℤ pos (length squares))
+
+-- the dimensions, in the degree of the square, of what d_s goes to and of F_s with the new generators
+abbrev pub target_width : Module → Option (List Content) → List Content → ℕ
+target_width m below squares = (target_over m below).width (m.bottom +ℤ pos (length squares))
+
+abbrev pub source_width : Module → List Content → Content → ℕ
+source_width m squares content = free_width (degrees_with m squares content) (m.bottom +ℤ pos (length squares))
+
+-- the matrix of d_s in the degree of the square, with the new generators, and its reduction
+abbrev pub square_matrix : Module → Option (List Content) → List Content → Content → List (List Bool)
+square_matrix m below squares content =
+    map_rows (target_over m below) (degrees_with m squares content) (images_of squares ++ content.images) (m.bottom +ℤ pos (length squares))
+
+abbrev pub IsQuasi : Module → Option (List Content) → List Content → Content → Reduction → Type 0
+IsQuasi m below squares content reduction = IsReductionOf (target_width m below squares) (square_matrix m below squares content) reduction
+
+-- ---- squares with their place
+
+-- A square is `above` degrees above the bottom of the module that is resolved, and continues a start, the squares that were
+-- read up to it, itself included where it was read. One that was made has kept the reduction of its matrix.
+pub record Placed : Type 0 where
+  pub resolved : Checked
+  pub start : List Entry
+  pub s : ℕ
+  pub above : ℕ
+  pub content : Content
+  pub quasi : Option Reduction
+
+abbrev pub content_of : Placed → Content
+content_of q = q.content
+
+abbrev pub entry_of : Placed → Entry
+entry_of q = record { s = q.s; above = q.above; content = q.content }
+
+-- at gives the squares of the start's table that (s, k) stands on: those of its row before it, and those of the row below
+-- through k
+pub record AreUnder (m : Module) (start : List Entry) (s k : ℕ) (at : ℕ → ℕ → Content) : Type 0 where
+  pub before : (j : ℕ) → j < k → IsOf m start s j (at s j)
+  pub below : (i j : ℕ) → suc i ≡ s → j ≤ k → IsOf m start i j (at i j)
+
+-- the dimensions, in the square's degree, of what d_s goes to and of F_s with its generators
+pub record AreWidths (q : Placed) (w v : ℕ) : Type 0 where
+  pub at : ℕ → ℕ → Content
+  pub under : AreUnder (module_over q.resolved.plain) q.start q.s q.above at
+  pub target : w ≡ target_width (module_over q.resolved.plain) (row_below at q.s q.above) (squares_below at q.s q.above)
+  pub source : v ≡ source_width (module_over q.resolved.plain) (squares_below at q.s q.above) q.content
+
+-- the start has no square at this place, and reduction is that of the square's matrix
+pub record IsMadeWith (q : Placed) (reduction : Reduction) : Type 0 where
+  pub absent : entry_at q.start q.s q.above ≡ None
+  pub at : ℕ → ℕ → Content
+  pub under : AreUnder (module_over q.resolved.plain) q.start q.s q.above at
+  pub quasi : IsQuasi (module_over q.resolved.plain) (row_below at q.s q.above) (squares_below at q.s q.above) q.content reduction
+
+-- What is known of each square: it holds what its start's table has there, it is within the limits, and it was made with the
+-- reduction that it kept, or else it was read.
+pub record IsSquare (q : Placed) : Type 0 where
+  pub is_of : IsOf (module_over q.resolved.plain) q.start q.s q.above q.content
+  pub row : q.s ≤ 63
+  pub degree : q.above ≤ 127
+  pub read_or_made : MatchOption q.quasi (entry_at q.start q.s q.above ≡ Some q.content) (IsMadeWith q)
+
+-- the same, with the square's degree and its widths
+pub record IsMeasured (q : Placed) (t : ℤ) (w v : ℕ) : Type 0 where
+  pub square : IsSquare q
+  pub degree : t ≡ bottom q.resolved.plain.generators +ℤ pos q.above
+  pub widths : AreWidths q w v

@@ -1,0 +1,159 @@
+-- Tables of squares, and what a square is made from.
+use Rattle.std.specs.Prelude.{◌≡◌, ℕ, zero, suc, ◌+◌, ◌*◌, ◌^◌, ◌<◌, ◌≤◌, ◌⊎◌, ℤ, pos, negsuc, ◌+ℤ◌, ◌-ℤ◌, nat_eq, if◌then◌else◌, List, [], ◌∷◌, ◌++◌, length, map, take, slice_get, slice_index_or, Option, Some, None, option_and_then, MatchOption, IfSome}
+use Rattle.milnor_basis.specs.Basis.{basis_of}
+use Rattle.f2_matrix.specs.Reduction.{Reduction}
+use Rattle.module_check.specs.Module.{bottom}
+use Rattle.module_check.specs.Checked.{Checked}
+use Rattle.resolution_laws.specs.Resolution.{Content, square_in, row_of, below_of}
+use Rattle.resolution_laws.specs.Start.{Entry, entry_at, HasShape, IsOf}
+use Rattle.square.specs.Squares.{Placed, content_of, module_over, entry_of, target_width, source_width, IsQuasi}
+
+-- how many degrees t is above the bottom, none where it is below
+abbrev pub natural : ℤ → Option ℕ
+natural (pos n) = Some n
+natural (negsuc n) = None
+
+abbrev pub above_of : ℤ → ℤ → Option ℕ
+above_of b t = natural (t -ℤ b)
+
+-- ---- rows
+
+-- a row of squares, and how many more have room in it
+pub record Shelf : Type 0 where
+  pub squares : List Placed
+  pub room : ℕ
+
+abbrev pub contents : List Placed → List Content
+contents squares = map content_of squares
+
+-- The dimension, k degrees above the first square of a row, of the free module on the generators of these squares.
+abbrev pub row_width : List Content → ℕ → ℕ
+row_width [] k = 0
+row_width (c ∷ squares) zero = length c.images * length (basis_of 0)
+row_width (c ∷ squares) (suc k) = length c.images * length (basis_of (suc k)) + row_width squares k
+
+-- ---- tables
+
+-- A table of squares of one module: row s has the squares (s, 0), (s, 1), .. . The start is the squares that were read, and
+-- there is room for `spare` squares more, whatever their rows.
+pub record Staircase : Type 0 where
+  pub resolved : Checked
+  pub start : List Entry
+  pub rows : List (List Placed)
+  pub spare : ℕ
+
+abbrev pub row_in : List (List Placed) → ℕ → List Placed
+row_in rows s = slice_index_or rows s []
+
+-- the contents of a table
+abbrev pub plain_rows : List (List Placed) → List (List Content)
+plain_rows rows = map contents rows
+
+abbrev pub content_at : List (List Placed) → ℕ → ℕ → Content
+content_at rows s k = square_in (row_of (plain_rows rows) s) k
+
+-- the square in row s and of degree t
+abbrev pub square_at : Staircase → ℕ → ℤ → Option Placed
+square_at table s t = option_and_then (λ k. slice_get (row_in table.rows s) k) (above_of (bottom table.resolved.plain.generators) t)
+
+-- the rows with one square more at the end of row s
+abbrev pub with_square : List (List Placed) → ℕ → Placed → List (List Placed)
+with_square [] s q = []
+with_square (row ∷ rows) zero q = (row ++ q ∷ []) ∷ rows
+with_square (row ∷ rows) (suc s) q = row ∷ with_square rows s q
+
+abbrev pub AllRead : List (List Placed) → Type 0
+AllRead rows = (s k : ℕ) (q : Placed) → slice_get (row_in rows s) k ≡ Some q → q.quasi ≡ None
+
+-- the square (s, k) is not there, and those that it stands on, (s, k - 1) and (s - 1, k), are
+pub record IsNext (rows : List (List Placed)) (s k : ℕ) : Type 0 where
+  pub absent : length (row_in rows s) ≤ k
+  pub before : (j : ℕ) → suc j ≡ k → j < length (row_in rows s)
+  pub below : (i : ℕ) → suc i ≡ s → k < length (row_in rows i)
+
+-- The same in degree t, and the place is within the limits of a range.
+pub record IsNextAt (table : Staircase) (s : ℕ) (t : ℤ) : Type 0 where
+  pub above : ℕ
+  pub degree : t ≡ bottom table.resolved.plain.generators +ℤ pos above
+  pub row : s ≤ 63
+  pub within : above ≤ 127
+  pub next : IsNext table.rows s above
+
+-- A square of this content can have been read at (s, t): so far every square was, the content fits over those before it, and
+-- its dimensions fit 64 bits.
+pub record IsReadable (table : Staircase) (s : ℕ) (t : ℤ) (content : Content) : Type 0 where
+  pub all_read : AllRead table.rows
+  pub place : IsNextAt table s t
+  pub shape : HasShape (module_over table.resolved.plain) (below_of (plain_rows table.rows) s place.above) (take place.above (row_of (plain_rows table.rows) s)) content
+  pub target_fits : target_width (module_over table.resolved.plain) (below_of (plain_rows table.rows) s place.above) (take place.above (row_of (plain_rows table.rows) s)) < 2 ^ 64
+  pub source_fits : source_width (module_over table.resolved.plain) (take place.above (row_of (plain_rows table.rows) s)) content < 2 ^ 64
+
+-- The square continues the table's start: it has that start, or every square so far was read, and so was it.
+abbrev pub IsContinued : Staircase → Placed → Type 0
+IsContinued table q = (q.start ≡ table.start) ⊎ ((q.quasi ≡ None) × AllRead table.rows × (q.start ≡ table.start ++ entry_of q ∷ []))
+
+-- reduction is that of the matrix of d_s in degree t with the generators of the square there
+pub record IsQuasiAt (table : Staircase) (s : ℕ) (t : ℤ) (reduction : Reduction) : Type 0 where
+  pub above : ℕ
+  pub degree : t ≡ bottom table.resolved.plain.generators +ℤ pos above
+  pub quasi : IsQuasi (module_over table.resolved.plain) (below_of (plain_rows table.rows) s above) (take above (row_of (plain_rows table.rows) s)) (content_at table.rows s above) reduction
+
+-- what is known of the square at (s, k) of a table: its place and its module, what it holds, that it is in the start
+-- exactly where it was read, and that all squares that were read stood before it where it was made
+pub record IsIn (table : Staircase) (s k : ℕ) (q : Placed) : Type 0 where
+  pub s_is : q.s ≡ s
+  pub above_is : q.above ≡ k
+  pub within : k ≤ 127
+  pub resolved_is : q.resolved ≡ table.resolved
+  pub is_of : IsOf (module_over table.resolved.plain) table.start s k q.content
+  pub read_or_made : MatchOption q.quasi (entry_at table.start s k ≡ Some q.content) (λ _. (entry_at table.start s k ≡ None) × (q.start ≡ table.start))
+
+-- What is known of each table: it has 64 rows, of lengths that never rise, squares stand at their places, and each that was
+-- read is there.
+pub record IsTable (table : Staircase) : Type 0 where
+  pub rows : length table.rows ≡ 64
+  pub never_rise : (s : ℕ) → length (row_in table.rows (suc s)) ≤ length (row_in table.rows s)
+  pub placed : (s k : ℕ) (q : Placed) → slice_get (row_in table.rows s) k ≡ Some q → IsIn table s k q
+  pub started : (s k : ℕ) (content : Content) → entry_at table.start s k ≡ Some content → k < length (row_in table.rows s)
+
+-- ---- what a square is made from
+
+-- The place of the square, and the contents of the squares that it stands on: those of its row before it, and those of the
+-- row below through its degree, none for row 0.
+pub record Footing : Type 0 where
+  pub resolved : Checked
+  pub start : List Entry
+  pub s : ℕ
+  pub above : ℕ
+  pub squares : List Content
+  pub below : Option (List Content)
+
+-- the square (i, k) of those
+abbrev pub content_in : Footing → ℕ → ℕ → Option Content
+content_in f i k =
+    if nat_eq i f.s then slice_get f.squares k
+    else (if nat_eq (suc i) f.s then option_and_then (λ below. slice_get below k) f.below else None)
+
+abbrev pub footing_at : Footing → ℕ → ℤ → Option Content
+footing_at f i t = option_and_then (λ k. content_in f i k) (above_of (bottom f.resolved.plain.generators) t)
+
+-- a row below row s
+abbrev pub under_row : ℕ → List Content → Option (List Content)
+under_row zero squares = None
+under_row (suc i) squares = Some squares
+
+-- What is known of what a square is made from: the start has none at its place, and the squares given are those that it
+-- stands on in the start's table.
+pub record IsFooting (f : Footing) : Type 0 where
+  pub row : f.s ≤ 63
+  pub degree : f.above ≤ 127
+  pub absent : entry_at f.start f.s f.above ≡ None
+  pub length_is : length f.squares ≡ f.above
+  pub has_below : (i : ℕ) → suc i ≡ f.s → (below : List Content) × (f.below ≡ Some below) × (length below ≡ f.above + 1)
+  pub has_none : f.s ≡ 0 → f.below ≡ None
+  pub before_are : (j : ℕ) → j < f.above → IsOf (module_over f.resolved.plain) f.start f.s j (square_in f.squares j)
+  pub below_are : (i j : ℕ) → suc i ≡ f.s → j ≤ f.above → IfSome f.below (λ below. IsOf (module_over f.resolved.plain) f.start i j (square_in below j))
+
+-- each row has room for so many squares more
+abbrev pub HaveRoom : List Shelf → ℕ → Type 0
+HaveRoom rows spare = (s : ℕ) (row : Shelf) → slice_get rows s ≡ Some row → spare ≤ row.room

@@ -1,0 +1,100 @@
+ghost use Rattle.std.specs.Prelude.{◌≡◌, ◌+ℤ◌, pos, option_map};
+ghost use Rattle.std.specs.Arc.{arc_value};
+ghost use Rattle.module_check.specs.Module.{bottom};
+ghost use Rattle.square.specs.Squares.{content_of};
+ghost use Rattle.square.specs.Tables.{IsFooting, footing_at};
+
+use crate::row::Row;
+use crate::square::Square;
+use crate::table::above_of;
+use milnor_basis::Basis;
+use module_check::Module;
+use start::Start;
+use std::marker::Model;
+use std::sync::Arc;
+
+/// What a square is made from: its module, its place, and the squares that it stands on, which are those of its row before
+/// it and those of the row below through its degree.
+#[derive(Drop)]
+pub struct Inputs {
+    pub(crate) module: Arc<Module>,
+    pub(crate) basis: Arc<Basis>,
+    pub(crate) start: Start,
+    pub(crate) s: u16,
+    pub(crate) above: u16,
+    pub(crate) t: i32,
+    pub(crate) row: Row,
+    pub(crate) below: Row,
+}
+
+impl Model for Inputs {
+    ghost use Rattle.std.specs.Prelude.{◌≡◌, ◌+ℤ◌, pos};
+    ghost use Rattle.std.specs.Arc.{arc_value};
+    ghost use Rattle.module_check.specs.Module.{bottom};
+    ghost use Rattle.square.specs.Tables.{Footing};
+
+    ghost Value = { Footing };
+
+    ghost use Rattle.square.specs.Tables.{IsFooting, contents, under_row};
+
+    ghost view = { λ i. record { resolved = arc_value i.module; start = i.start; s = i.s; above = i.above; squares = contents i.row.squares; below = under_row i.s (contents i.below.squares) } };
+
+    ghost invariant = { λ i. IsFooting (record { resolved = arc_value i.module; start = i.start; s = i.s; above = i.above; squares = contents i.row.squares; below = under_row i.s (contents i.below.squares) }) × (i.t ≡ bottom (arc_value i.module).plain.generators +ℤ pos i.above) × (arc_value i.basis ≡ 127) };
+}
+
+impl Inputs {
+    /// The square's row.
+    pub fn s(&self) -> u16
+        ensures { result ≡ self.now.s }
+    {
+        self.s
+    }
+
+    /// The square's internal degree.
+    pub fn t(&self) -> i32
+        ensures t { result ≡ bottom self.now.resolved.plain.generators +ℤ pos self.now.above }
+        ensures is_footing { IsFooting self.now }
+    {
+        self.t
+    }
+
+    /// The module that is resolved.
+    pub fn module(&self) -> &Module
+        ensures { result.now ≡ self.now.resolved }
+    {
+        &self.module
+    }
+
+    /// The square in row `s` and of degree `t`, none where that is not among those that the square stands on.
+    pub fn at(&self, s: u16, t: i32) -> Option<&Arc<Square>>
+        ensures { option_map (λ a. content_of (arc_value a.now)) result ≡ footing_at self.now s t }
+    {
+        let k = above_of(self.module.bottom(), t)?;
+        match self.s.checked_sub(s) {
+            Some(0) => self.row.get(k),
+            Some(1) => self.below.get(k),
+            _ => None,
+        }
+    }
+
+    /// The Milnor bases of the degrees through 127.
+    pub fn basis(&self) -> &Basis
+        ensures { result.now ≡ 127 }
+    {
+        &self.basis
+    }
+
+    /// How many degrees the square is above the module's bottom.
+    pub(crate) fn above(&self) -> u16
+        ensures { result ≡ self.now.above }
+    {
+        self.above
+    }
+
+    /// The squares that were read.
+    pub(crate) fn start(&self) -> &Start
+        ensures { result.now ≡ self.now.start }
+    {
+        &self.start
+    }
+}

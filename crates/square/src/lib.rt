@@ -1,0 +1,18 @@
+//! Squares of a resolution, tables of them, and keepers of what is made.
+#![tactic(auto)]
+
+mod inputs;
+mod keep;
+mod quasi;
+mod range;
+mod row;
+mod square;
+mod table;
+#[cfg(test)]
+mod tests;
+
+pub use inputs::Inputs;
+pub use keep::{Keep, KeepFault, MemKeep, NoKeep};
+pub use range::Range;
+pub use square::Square;
+pub use table::Table;

@@ -1,0 +1,170 @@
+ghost use Rattle.std.specs.Prelude.{◌≡◌, ◌≤◌, ◌<◌, ◌+◌, ◌-◌, ◌++◌, ◌^◌, ℕ, ◌≤ℤ◌, pos, negsuc, [], ◌∷◌, length, take, replicate, slice_get, option_map, IfOk, OnOk, OnErr, IsOk, IfErr};
+ghost use Rattle.std.specs.Arc.{arc_value};
+ghost use Rattle.free_module.specs.FreeModule.{degree_at};
+ghost use Rattle.resolution_laws.specs.Resolution.{degrees_from, images_of};
+ghost use Rattle.square.specs.Tables.{contents, row_width};
+
+use crate::square::Square;
+use f2_vec::BitVec;
+use free_module::Gens;
+use memory::Memory;
+use milnor_basis::Basis;
+use std::alloc::Global;
+use std::marker::Model;
+use std::sync::Arc;
+
+/// A row of squares, each shared. It is seen as what they hold, and how many more have room.
+#[derive(Drop)]
+pub(crate) struct Row {
+    squares: Vec<Arc<Square>>,
+}
+
+impl Model for Row {
+    ghost use Rattle.std.specs.Prelude.{◌-◌, map, vec_len, vec_capacity};
+    ghost use Rattle.std.specs.Arc.{arc_value};
+    ghost use Rattle.square.specs.Tables.{Shelf};
+
+    ghost Value = { Shelf };
+
+    ghost view = { λ r. record { squares = map arc_value r.squares.items; room = vec_capacity r.squares - vec_len r.squares } };
+}
+
+impl Row {
+    /// The row of no square.
+    pub(crate) fn new(alloc: Global) -> Row
+        ensures { result.squares ≡ [] }
+    {
+        Row {
+            squares: Vec::new(alloc),
+        }
+    }
+
+    /// How many squares there are.
+    pub(crate) fn len(&self) -> usize
+        ensures { result ≡ length self.now.squares }
+    {
+        self.squares.len()
+    }
+
+    /// The square at place `k`, none where there are fewer.
+    pub(crate) fn get(&self, k: usize) -> Option<&Arc<Square>>
+        ensures { option_map (λ a. arc_value a.now) result ≡ slice_get self.now.squares k }
+    {
+        self.squares.get(k)
+    }
+
+    /// Puts one more square at the end.
+    ///
+    /// # Errors
+    /// The square, where there is no memory for it; the row then has the squares that it had.
+    pub(crate) fn push(&mut self, square: Arc<Square>) -> Result<(), Arc<Square>>
+        ensures ok { OnOk result (self.new.squares ≡ self.old.squares ++ arc_value square ∷ []) }
+        ensures err { OnErr result (self.new.squares ≡ self.old.squares) }
+        ensures room { self.old.room ≤ self.new.room + 1 }
+        ensures kept { OnErr result (self.old.room ≤ self.new.room) }
+        ensures returned { IfErr result (λ a. a ≡ square) }
+        ensures succeeds { 0 < self.old.room → IsOk result }
+    {
+        match self.squares.push(square) {
+            Ok(()) => Ok(()),
+            Err(failed) => Err(failed.value),
+        }
+    }
+
+    /// Makes room for `n` squares more.
+    ///
+    /// # Errors
+    /// `Memory` where there is none for them; the row is then as before.
+    pub(crate) fn reserve(&mut self, n: usize) -> Result<(), Memory>
+        ensures squares { self.new.squares ≡ self.old.squares }
+        ensures ok { OnOk result (n ≤ self.new.room) }
+        ensures room { self.old.room ≤ self.new.room }
+    {
+        self.squares.reserve(n)?;
+        Ok(())
+    }
+
+    /// The first `n` squares, shared.
+    pub(crate) fn share(&self, alloc: Global, n: usize) -> Result<Row, Memory>
+        requires { n ≤ length self.now.squares }
+        ensures { IfOk result (λ row. row.squares ≡ take n self.now.squares) }
+    {
+        let mut row = Row::new(alloc);
+        for square in &self.squares[..n] {
+            let Ok(shared) = Arc::try_clone(square) else {
+                return Err(Memory);
+            };
+            let Ok(()) = row.push(shared) else {
+                return Err(Memory);
+            };
+        }
+        Ok(row)
+    }
+
+    /// The dimension, in degree `k` above the bottom, of the free module on the generators of the first `n` squares.
+    pub(crate) fn width(&self, basis: &Basis, n: u16, k: u16) -> u64
+        requires within { n ≤ length self.now.squares }
+        requires degree { n ≤ k + 1 }
+        requires basis { k ≤ basis.now }
+        requires fits { row_width (take n (contents self.now.squares)) k < 2 ^ 64 }
+        ensures { result ≡ row_width (take n (contents self.now.squares)) k }
+    {
+        let mut width = 0;
+        for i in 0..n {
+            let generators = self.squares[usize::from(i)].gens().len();
+            width += generators as u64 * basis.of_degree(k - i).len() as u64;
+        }
+        width
+    }
+
+    /// The generators of the first `n` squares, the first of which is of degree `bottom`.
+    pub(crate) fn generators(&self, alloc: Global, bottom: i32, n: u16) -> Result<Gens, Memory>
+        requires within { n ≤ length self.now.squares }
+        requires few { n ≤ 128 }
+        requires not_below { negsuc 127 ≤ℤ bottom }
+        requires not_above { bottom ≤ℤ pos 128 }
+        ensures { IfOk result (λ gens. gens ≡ degrees_from bottom (take n (contents self.now.squares))) }
+    {
+        let mut gens = Gens::new(alloc);
+        for i in 0..n {
+            let count = self.squares[usize::from(i)].gens().len();
+            gens = with_generators(gens, count, bottom + i32::from(i))?;
+        }
+        Ok(gens)
+    }
+
+    /// The images of those generators.
+    pub(crate) fn images(&self, alloc: Global, n: u16) -> Result<Vec<BitVec>, Memory>
+        requires { n ≤ length self.now.squares }
+        ensures { IfOk result (λ images. images.items ≡ images_of (take n (contents self.now.squares))) }
+    {
+        let mut images = Vec::new(alloc);
+        for i in 0..n {
+            images = with_copies(alloc, images, self.squares[usize::from(i)].gens())?;
+        }
+        Ok(images)
+    }
+}
+
+/// The generators, with `count` more of this degree.
+fn with_generators(gens: Gens, count: usize, degree: i32) -> Result<Gens, Memory>
+    requires { (g : ℕ) → g < length gens → degree_at gens g ≤ℤ degree }
+    ensures { IfOk result (λ more. more ≡ gens ++ replicate count degree) }
+{
+    let mut more = gens;
+    for _ in 0..count {
+        more.push(degree)?;
+    }
+    Ok(more)
+}
+
+/// The vectors, with copies of `new` behind them.
+fn with_copies(alloc: Global, vectors: Vec<BitVec>, new: &[BitVec]) -> Result<Vec<BitVec>, Memory>
+    ensures { IfOk result (λ more. more.items ≡ vectors.items ++ new.now) }
+{
+    let mut more = vectors;
+    for vector in new {
+        more.push(vector.try_copy(alloc)?)?;
+    }
+    Ok(more)
+}

@@ -1,0 +1,156 @@
+ghost use Rattle.std.specs.Prelude.{◌≡◌, ◌<◌, ◌≤◌, ◌^◌, ◌++◌, ◌+ℤ◌, pos, [], ◌∷◌, Some, None, option_map};
+ghost use Rattle.module_check.specs.Module.{bottom};
+ghost use Rattle.resolution_laws.specs.Resolution.{IsStep};
+ghost use Rattle.square.specs.Squares.{module_over, entry_of, IsSquare, IsQuasi, AreWidths};
+ghost use Rattle.square.specs.Tables.{IsReadable};
+
+use crate::inputs::Inputs;
+use crate::table::Table;
+use f2_matrix::Reduced;
+use f2_vec::BitVec;
+use module_check::Module;
+use start::Start;
+use std::marker::Model;
+use std::snapshot::Snapshot;
+
+/// A square (s, t) of a resolution: the images of its new generators, and the reduced basis of the kernel of d_s in degree
+/// t. It was made from the squares before it, or else it was read from a save file.
+#[derive(Drop)]
+pub struct Square {
+    module: Snapshot<Module>,
+    start: Start,
+    s: u16,
+    above: u16,
+    t: i32,
+    gens: Vec<BitVec>,
+    kernel: Vec<BitVec>,
+    quasi: Option<Reduced>,
+    target_width: u64,
+    width: u64,
+}
+
+impl Model for Square {
+    ghost use Rattle.square.specs.Squares.{Placed};
+
+    ghost Value = { Placed };
+
+    ghost use Rattle.square.specs.Squares.{IsMeasured};
+
+    ghost view = { λ q. record { resolved = q.module.value; start = q.start; s = q.s; above = q.above; content = record { images = q.gens.items; kernel = q.kernel.items }; quasi = q.quasi } };
+
+    ghost invariant = { λ q. IsMeasured (record { resolved = q.module.value; start = q.start; s = q.s; above = q.above; content = record { images = q.gens.items; kernel = q.kernel.items }; quasi = q.quasi }) q.t q.target_width q.width };
+}
+
+impl Square {
+    /// The square that is made from these inputs. `quasi` is the reduction of the matrix of d_s in its degree, with the new
+    /// generators.
+    pub fn made(inputs: &Inputs, gens: Vec<BitVec>, kernel: Vec<BitVec>, quasi: Reduced) -> Square
+        requires step { IsStep (module_over inputs.now.resolved.plain) inputs.now.below inputs.now.squares (record { images = gens.items; kernel = kernel.items }) }
+        requires quasi { IsQuasi (module_over inputs.now.resolved.plain) inputs.now.below inputs.now.squares (record { images = gens.items; kernel = kernel.items }) quasi }
+        ensures { result ≡ record { resolved = inputs.now.resolved; start = inputs.now.start; s = inputs.now.s; above = inputs.now.above; content = record { images = gens.items; kernel = kernel.items }; quasi = Some quasi } }
+    {
+        let target_width = quasi.cols() as u64;
+        let width = quasi.height() as u64;
+        Square {
+            module: Snapshot::of(inputs.module()),
+            start: inputs.start().again(),
+            s: inputs.s(),
+            above: inputs.above(),
+            t: inputs.t(),
+            gens,
+            kernel,
+            quasi: Some(quasi),
+            target_width,
+            width,
+        }
+    }
+
+    /// The square that was read from a save file, the next of its row behind those that were read before.
+    pub fn read(table: &Table, s: u16, t: i32, gens: Vec<BitVec>, kernel: Vec<BitVec>) -> Square
+        requires { IsReadable table.now s t (record { images = gens.items; kernel = kernel.items }) }
+        ensures resolved { result.resolved ≡ table.now.resolved }
+        ensures start { result.start ≡ table.now.start ++ entry_of result ∷ [] }
+        ensures s { result.s ≡ s }
+        ensures t { t ≡ bottom table.now.resolved.plain.generators +ℤ pos result.above }
+        ensures content { result.content ≡ record { images = gens.items; kernel = kernel.items } }
+        ensures quasi { result.quasi ≡ None }
+    {
+        let above = table.above(t);
+        let target_width = table.target_width(s, above);
+        let width = table.width_with(s, above, gens.len());
+        let start = table
+            .start()
+            .then(s, above, gens.as_slice(), kernel.as_slice());
+        Square {
+            module: Snapshot::of(table.module()),
+            start,
+            s,
+            above,
+            t,
+            gens,
+            kernel,
+            quasi: None,
+            target_width,
+            width,
+        }
+    }
+
+    /// Its row.
+    pub fn s(&self) -> u16
+        ensures { result ≡ self.now.s }
+    {
+        self.s
+    }
+
+    /// Its internal degree.
+    pub fn t(&self) -> i32
+        ensures { result ≡ bottom self.now.resolved.plain.generators +ℤ pos self.now.above }
+    {
+        self.t
+    }
+
+    /// How many degrees it is above the module's bottom.
+    pub fn above(&self) -> u16
+        ensures above { result ≡ self.now.above }
+        ensures is_square { IsSquare self.now }
+    {
+        self.above
+    }
+
+    /// The dimensions, in its degree, of what d_s goes to and of F_s with its generators.
+    pub fn widths(&self) -> (u64, u64)
+        ensures { AreWidths self.now result.0 result.1 }
+    {
+        (self.target_width, self.width)
+    }
+
+    /// The images of the new generators.
+    pub fn gens(&self) -> &[BitVec]
+        ensures { result.now ≡ self.now.content.images }
+    {
+        self.gens.as_slice()
+    }
+
+    /// The echelon rows of the kernel.
+    pub fn kernel(&self) -> &[BitVec]
+        ensures { result.now ≡ self.now.content.kernel }
+    {
+        self.kernel.as_slice()
+    }
+
+    /// The reduction of the matrix of d_s in its degree, where it was made.
+    pub fn kept_quasi(&self) -> Option<&Reduced>
+        ensures kept { option_map (λ r. r.now) result ≡ self.now.quasi }
+        ensures is_square { IsSquare self.now }
+    {
+        self.quasi.as_ref()
+    }
+
+    /// The squares that were read up to it.
+    pub(crate) fn start(&self) -> &Start
+        ensures start { result.now ≡ self.now.start }
+        ensures is_square { IsSquare self.now }
+    {
+        &self.start
+    }
+}

@@ -1,0 +1,277 @@
+ghost use Rattle.std.specs.Prelude.{◌≡◌, ℕ, ◌≤◌, ◌<◌, ◌+◌, ◌^◌, ◌+ℤ◌, ◌≤ℤ◌, pos, [], map, take, length, replicate, option_map, IsSome, IfOk, IfErr, OnOk, OnErr, IsOk};
+ghost use Rattle.std.specs.Arc.{arc_value};
+ghost use Rattle.module_check.specs.Module.{bottom};
+ghost use Rattle.resolution_laws.specs.Resolution.{row_of, below_of};
+ghost use Rattle.square.specs.Squares.{module_over, target_width};
+ghost use Rattle.square.specs.Tables.{above_of, row_in, square_at, plain_rows, with_square, contents, under_row, row_width, IsNext, IsNextAt, IsContinued, IsTable, HaveRoom};
+
+use crate::inputs::Inputs;
+use crate::row::Row;
+use crate::square::Square;
+use f2_matrix::Reduced;
+use memory::Memory;
+use milnor_basis::Basis;
+use module_check::Module;
+use start::Start;
+use std::alloc::Global;
+use std::marker::Model;
+use std::sync::Arc;
+
+/// How many rows a table has.
+const ROWS: u16 = 64;
+
+/// The greatest degree above the bottom.
+const MAX_ABOVE: u16 = 127;
+
+/// The squares of a resolution of one module that are there: row s has the squares (s, bottom), (s, bottom + 1), .., and no
+/// row is longer than the one below it, s - 1. Those that were read from a save file stand before all others.
+#[derive(Drop)]
+pub struct Table {
+    module: Arc<Module>,
+    basis: Arc<Basis>,
+    start: Start,
+    rows: Vec<Row>,
+    spare: usize,
+}
+
+impl Model for Table {
+    ghost use Rattle.std.specs.Prelude.{◌≡◌, map};
+    ghost use Rattle.std.specs.Arc.{arc_value};
+    ghost use Rattle.square.specs.Tables.{Staircase};
+
+    ghost Value = { Staircase };
+
+    ghost use Rattle.square.specs.Tables.{IsTable, HaveRoom};
+
+    ghost view = { λ t. record { resolved = arc_value t.module; start = t.start; rows = map (λ r. r.squares) t.rows.items; spare = t.spare } };
+
+    ghost invariant = { λ t. IsTable (record { resolved = arc_value t.module; start = t.start; rows = map (λ r. r.squares) t.rows.items; spare = t.spare }) × (arc_value t.basis ≡ 127) × HaveRoom t.rows.items t.spare };
+}
+
+impl Table {
+    /// The table of no square of this module.
+    ///
+    /// # Errors
+    /// `Memory` where there is none for it.
+    pub fn new(alloc: Global, module: Module) -> Result<Table, Memory>
+        ensures { IfOk result (λ table. table ≡ record { resolved = «module»; start = []; rows = replicate 64 []; spare = 0 }) }
+    {
+        let module = Arc::new(alloc, module)?;
+        let basis = Arc::new(alloc, Basis::new(alloc, MAX_ABOVE)?)?;
+        let rows = empty_rows(alloc)?;
+        Ok(Table {
+            module,
+            basis,
+            start: Start::empty(),
+            rows,
+            spare: 0,
+        })
+    }
+
+    /// The module that is resolved.
+    pub fn module(&self) -> &Module
+        ensures { result.now ≡ self.now.resolved }
+    {
+        &self.module
+    }
+
+    /// The Milnor bases of the degrees through 127.
+    pub fn basis(&self) -> &Basis
+        ensures { result.now ≡ 127 }
+    {
+        &self.basis
+    }
+
+    /// How many squares row `s` has: they are those of the degrees from the bottom on. It is 0 above row 63.
+    pub fn front(&self, s: u16) -> usize
+        ensures front { result ≡ length (row_in self.now.rows s) }
+        ensures is_table { IsTable self.now }
+    {
+        match self.rows.get(usize::from(s)) {
+            Some(row) => row.len(),
+            None => 0,
+        }
+    }
+
+    /// The square in row `s` and of degree `t`, none where it is not there.
+    pub fn at(&self, s: u16, t: i32) -> Option<&Arc<Square>>
+        ensures square { option_map (λ a. arc_value a.now) result ≡ square_at self.now s t }
+        ensures is_table { IsTable self.now }
+    {
+        let k = above_of(self.module.bottom(), t)?;
+        self.rows.get(usize::from(s))?.get(k)
+    }
+
+    /// Makes room for `n` squares more: so many pushes then want no memory.
+    ///
+    /// # Errors
+    /// `Memory` where there is none for them; the table is then as before.
+    pub fn reserve(&mut self, n: usize) -> Result<(), Memory>
+        ensures ok { OnOk result (n ≤ self.new.spare) }
+        ensures same { self.new ≡ record self.old { spare = self.new.spare } }
+        ensures err { OnErr result (self.new ≡ self.old) }
+    {
+        reserve_rows(&mut self.rows, n)?;
+        self.spare = self.spare.max(n);
+        Ok(())
+    }
+
+    /// Puts a square at the end of its row.
+    ///
+    /// # Errors
+    /// `Memory`, with the square, where there is none for it; the table is then as before.
+    pub fn push(&mut self, square: Arc<Square>) -> Result<(), (Memory, Arc<Square>)>
+        requires resolved { (arc_value square).resolved ≡ self.old.resolved }
+        requires next { IsNext self.old.rows (arc_value square).s (arc_value square).above }
+        requires continued { IsContinued self.old (arc_value square) }
+        ensures rows { OnOk result (self.new.rows ≡ with_square self.old.rows (arc_value square).s (arc_value square)) }
+        ensures start { OnOk result (self.new.start ≡ (arc_value square).start) }
+        ensures resolved { self.new.resolved ≡ self.old.resolved }
+        ensures spare { self.old.spare ≤ self.new.spare + 1 }
+        ensures succeeds { 0 < self.old.spare → IsOk result }
+        ensures err { OnErr result (self.new ≡ self.old) }
+        ensures returned { IfErr result (λ e. e.1 ≡ square) }
+    {
+        let s = usize::from(square.s());
+        let start = square.start().again();
+        match self.rows[s].push(square) {
+            Ok(()) => {
+                self.start = start;
+                self.spare = self.spare.saturating_sub(1);
+                Ok(())
+            }
+            Err(square) => Err((Memory, square)),
+        }
+    }
+
+    /// What the square in row `s` and of degree `t` is made from. It is not there yet, and those that it stands on are.
+    ///
+    /// # Errors
+    /// `Memory` where there is none to share those.
+    pub fn inputs(&self, alloc: Global, s: u16, t: i32) -> Result<Inputs, Memory>
+        requires { IsNextAt self.now s t }
+        ensures resolved { IfOk result (λ i. i.resolved ≡ self.now.resolved) }
+        ensures start { IfOk result (λ i. i.start ≡ self.now.start) }
+        ensures s { IfOk result (λ i. i.s ≡ s) }
+        ensures t { IfOk result (λ i. t ≡ bottom self.now.resolved.plain.generators +ℤ pos i.above) }
+        ensures squares { IfOk result (λ i. i.squares ≡ take i.above (row_of (plain_rows self.now.rows) s)) }
+        ensures below { IfOk result (λ i. i.below ≡ below_of (plain_rows self.now.rows) s i.above) }
+    {
+        let above = self.above(t);
+        let row = self.row(s).share(alloc, usize::from(above))?;
+        let below = self.share_below(alloc, s, above)?;
+        let Ok(module) = Arc::try_clone(&self.module) else {
+            return Err(Memory);
+        };
+        let Ok(basis) = Arc::try_clone(&self.basis) else {
+            return Err(Memory);
+        };
+        Ok(Inputs {
+            module,
+            basis,
+            start: self.start.again(),
+            s,
+            above,
+            t,
+            row,
+            below,
+        })
+    }
+
+    /// The squares that were read.
+    pub(crate) fn start(&self) -> &Start
+        ensures start { result.now ≡ self.now.start }
+        ensures is_table { IsTable self.now }
+    {
+        &self.start
+    }
+
+    /// Row `s`.
+    pub(crate) fn row(&self, s: u16) -> &Row
+        requires { s ≤ 63 }
+        ensures row { result.now.squares ≡ row_in self.now.rows s }
+        ensures is_table { IsTable self.now }
+    {
+        &self.rows[usize::from(s)]
+    }
+
+    /// How many degrees `t` is above the bottom.
+    pub(crate) fn above(&self, t: i32) -> u16
+        requires low { bottom self.now.resolved.plain.generators ≤ℤ t }
+        requires high { t ≤ℤ (bottom self.now.resolved.plain.generators +ℤ pos 127) }
+        ensures { t ≡ bottom self.now.resolved.plain.generators +ℤ pos result }
+    {
+        match above_of(self.module.bottom(), t) {
+            Some(above) => above as u16,
+            None => unreachable!(),
+        }
+    }
+
+    /// The dimension of what d_s goes to, `above` degrees above the bottom, where the next square of row `s` is.
+    pub(crate) fn target_width(&self, s: u16, above: u16) -> u64
+        requires s { s ≤ 63 }
+        requires above { above ≤ 127 }
+        requires next { IsNext self.now.rows s above }
+        requires fits { target_width (module_over self.now.resolved.plain) (below_of (plain_rows self.now.rows) s above) (take above (row_of (plain_rows self.now.rows) s)) < 2 ^ 64 }
+        ensures { result ≡ target_width (module_over self.now.resolved.plain) (below_of (plain_rows self.now.rows) s above) (take above (row_of (plain_rows self.now.rows) s)) }
+    {
+        if s == 0 {
+            let t = self.module().bottom() + i32::from(above);
+            return self.module().dim_in(t) as u64;
+        }
+        self.row(s - 1).width(self.basis(), above + 1, above)
+    }
+
+    /// The dimension of F_s in the same degree, where the next square of row `s` has `count` new generators.
+    pub(crate) fn width_with(&self, s: u16, above: u16, count: usize) -> u64
+        requires s { s ≤ 63 }
+        requires above { above ≤ 127 }
+        requires next { IsNext self.now.rows s above }
+        requires fits { row_width (take above (row_of (plain_rows self.now.rows) s)) above + count < 2 ^ 64 }
+        ensures { result ≡ row_width (take above (row_of (plain_rows self.now.rows) s)) above + count }
+    {
+        self.row(s).width(self.basis(), above, above) + count as u64
+    }
+
+    /// What a square in row `s`, `above` degrees above the bottom, stands on in the row below, and no square for row 0.
+    fn share_below(&self, alloc: Global, s: u16, above: u16) -> Result<Row, Memory>
+        requires s { s ≤ 63 }
+        requires next { IsNext self.now.rows s above }
+        ensures { IfOk result (λ row. under_row s (contents row.squares) ≡ below_of (plain_rows self.now.rows) s above) }
+    {
+        if s == 0 {
+            return Ok(Row::new(alloc));
+        }
+        self.row(s - 1).share(alloc, usize::from(above) + 1)
+    }
+}
+
+/// How many degrees `t` is above `bottom`, none where it is below.
+pub(crate) fn above_of(bottom: i32, t: i32) -> Option<usize>
+    ensures { result ≡ above_of bottom t }
+{
+    usize::try_from(i64::from(t) - i64::from(bottom)).ok()
+}
+
+/// As many rows of no square as a table has.
+fn empty_rows(alloc: Global) -> Result<Vec<Row>, Memory>
+    ensures { IfOk result (λ rows. map (λ r. r.squares) rows.items ≡ replicate 64 []) }
+{
+    let mut rows = Vec::new(alloc);
+    for _ in 0..ROWS {
+        rows.push(Row::new(alloc))?;
+    }
+    Ok(rows)
+}
+
+/// Makes room for `n` squares more in each row.
+fn reserve_rows(rows: &mut Vec<Row>, n: usize) -> Result<(), Memory>
+    ensures same { map (λ r. r.squares) rows.new.items ≡ map (λ r. r.squares) rows.old.items }
+    ensures kept { (spare : ℕ) → HaveRoom rows.old.items spare → HaveRoom rows.new.items spare }
+    ensures ok { OnOk result (HaveRoom rows.new.items n) }
+{
+    for s in 0..rows.len() {
+        rows[s].reserve(n)?;
+    }
+    Ok(())
+}
