@@ -1,0 +1,65 @@
+-- The squares below the fronts of rows.
+use Rattle.std.proofs.Common.{◌≡◌, ℕ, zero, suc, ◌+◌, ◌-◌, ◌<◌, ◌≤◌, Bool, false, nat_lt, List, length, set, replicate, slice_index_or, min, refl, sym, ◌∙◌, subst, arith, inl, inr}
+use Rattle.std.proofs.Math.Path.{fun_ext}
+use Rattle.std.proofs.lemmas.Grind.{common_steps}
+use Rattle.std.proofs.lemmas.Bool.Decides.{nat_tests, eqb_tells}
+use Rattle.std.proofs.lemmas.List.{get_or-set_other}
+use Rattle.board_core.specs.Board.{squares_below}
+use Rattle.board_core.specs.Machine.{HasParents, IsNumber, IsRowNumberBelow, count_below, with_square}
+
+zero_front : (n s : ℕ) → slice_index_or (replicate {A = ℕ} n 0) s 0 ≡ 0
+zero_front n s = grind (arith, common_steps)
+
+pub no_squares : (n : ℕ) → squares_below (replicate {A = ℕ} n 0) ≡ (λ s k. false)
+no_squares n = fun_ext (λ s. fun_ext (λ k. let e = zero_front n s in grind (arith, nat_tests)))
+
+pub no_fronts : (n s : ℕ) → slice_index_or (replicate {A = ℕ} n 0) (suc s) 0 ≤ slice_index_or (replicate {A = ℕ} n 0) s 0
+no_fronts n s = let high = zero_front n (suc s) in omega arith
+
+-- ---- how many squares a row has
+
+-- of the numbers below a bound, so many are below a front
+pub count_below-front : (test : ℕ → Bool) (front bound : ℕ) → ((k : ℕ) → test k ≡ nat_lt k front) → count_below test bound ≡ min bound front
+count_below-front test front zero h = omega arith
+count_below-front test front (suc bound) h =
+    let here = h bound in
+    let rest = count_below-front test front bound h in
+    grind (arith, nat_tests)
+
+pub front_number : (front : ℕ) → IsNumber (λ k. nat_lt k front) front
+front_number front = record { bound = front; beyond = λ k h. grind (arith, nat_tests); count = count_below-front (λ k. nat_lt k front) front front (λ k. refl) ∙ omega arith }
+
+pub number_is_front : (test : ℕ → Bool) (front n : ℕ) → ((k : ℕ) → test k ≡ nat_lt k front) → IsNumber test n → n ≡ front
+number_is_front test front n h is =
+    let past : nat_lt front front ≡ nat_lt front front = refl in
+    let beyond : nat_lt is.bound front ≡ false = sym (h is.bound) ∙ is.beyond is.bound (omega arith) in
+    let count = is.count in
+    let small = count_below-front test front is.bound h in
+    let least : front ≤ is.bound = grind (arith, nat_tests) in
+    omega arith
+
+pub below_is_front : (done : ℕ → ℕ → Bool) (s front n : ℕ) → (s ≡ 0 → ⊥) → ((k : ℕ) → done (s - 1) k ≡ nat_lt k front) → IsRowNumberBelow done s n → n ≡ front
+below_is_front done zero front n some h is = absurd (some refl)
+below_is_front done (suc s) front n some h is =
+    let e : suc s - 1 ≡ s = omega arith in
+    number_is_front (done s) front n (subst (λ (i : ℕ). (k : ℕ) → done i k ≡ nat_lt k front) e h) is
+
+-- a square that is not done and has its parents done is the first of its row that is not
+pub stands_first : (done : ℕ → ℕ → Bool) (s k front : ℕ) → ((k : ℕ) → done s k ≡ nat_lt k front) → HasParents done s k → done s k ≡ false → k ≡ front
+stands_first done s zero front h parents absent = let here = h 0 in grind (arith, nat_tests)
+stands_first done s (suc k) front h parents absent =
+    let here = h (suc k) in
+    let there = h k in
+    let before = parents.before k refl in
+    grind (arith, nat_tests)
+
+-- ---- one square more
+
+pub stands_at_front : (fronts : List ℕ) (s k : ℕ) → HasParents (squares_below fronts) s k → squares_below fronts s k ≡ false → slice_index_or fronts s 0 ≡ k
+stands_at_front fronts s k parents absent = sym (stands_first (squares_below fronts) s k (slice_index_or fronts s 0) (λ j. refl) parents absent)
+
+pub add_at_front : (fronts : List ℕ) (s k : ℕ) → s < length fronts → slice_index_or fronts s 0 ≡ k → squares_below (set fronts s (k + 1)) ≡ with_square (squares_below fronts) s k
+add_at_front fronts s k within here = fun_ext (λ i. fun_ext (λ j. at i j))
+  where
+    at : (i j : ℕ) → squares_below (set fronts s (k + 1)) i j ≡ with_square (squares_below fronts) s k i j
+    at i j = elim (eqb_tells i s) [ inl p ↦ grind (arith, nat_tests, common_steps) | inr p ↦ let other = get_or-set_other fronts s i (k + 1) 0 p.1 in grind (arith, nat_tests) ]

@@ -1,0 +1,41 @@
+-- The board stays sound through every history.
+use Rattle.std.proofs.Common.{◌≡◌, ℕ, ℤ, true, List, [], ◌∷◌, ◌++◌, Some, refl, sym, ap, subst}
+use Rattle.board_core.specs.declared.event.Event.{Event}
+use Rattle.board_core.specs.declared.event.Event.TheVariants.{Take, Give, Back, Fail}
+use Rattle.board_core.specs.declared.event.Cause.TheVariants.{Failed, Memory}
+use Rattle.board_core.specs.Board.{IsSound}
+use Rattle.board_core.specs.Machine.{State, IsStart, IsReady, IsHeld, IsLegal, IsHistory, IsAbove, number_or_zero, height, after, opening, is_out, without, with_square, cause_or}
+use Rattle.board_core.specs.Machine.IsHistory.{nothing, then}
+use Rattle.board_core.specs.Laws.{IsReached}
+use Rattle.board_core.proofs.Sound.{sound_take, sound_without, sound_give, held_is_out}
+use Rattle.board_core.proofs.Starts.{above_is, start_is_staircase}
+
+pub height_is : (state : State) (t : ℤ) (k : ℕ) → IsAbove state.bottom t k → height state t ≡ k
+height_is state t k h = ap number_or_zero (above_is state.bottom t k h)
+
+pub opening_is_sound : (bottom : ℤ) (s t : ℕ) (start : List (ℕ × ℤ)) → IsStart bottom start → IsSound (opening bottom s t start)
+opening_is_sound bottom s t start listed = record { staircase = start_is_staircase bottom start listed; once = tt; taken = λ i k out. cc }
+
+-- the square of who has it is out, at its height
+pub held_at_height : (state : State) (who s : ℕ) (t : ℤ) → IsHeld state who s t → is_out state.out s (height state t) ≡ true
+held_at_height state who s t held =
+    let out = held_is_out state.out who s held.above held.held in
+    subst (λ (k : ℕ). is_out state.out s k ≡ true) (sym (height_is state t held.above held.degree)) out
+
+pub stays_sound : (state : State) (event : Event) → IsSound state → IsLegal state event → IsSound (after state event)
+stays_sound state (Take who s t snapshot) sound legal =
+    let ready = subst (λ (k : ℕ). IsReady state s k) (sym (height_is state t legal.above legal.degree)) legal.ready in
+    sound_take state (record { who = who; s = s; above = height state t }) (state.out ++ record { who = who; s = s; above = height state t } ∷ []) sound ready refl
+stays_sound state (Give who s t) sound legal =
+    let taken = sound.taken s (height state t) (held_at_height state who s t legal.held) in
+    sound_give state s (height state t) (with_square state.done s (height state t)) (without state.out s (height state t)) sound taken refl refl
+stays_sound state (Back who s t) sound legal = sound_without state s (height state t) (without state.out s (height state t)) state.failed (Some (cause_or state.cause Memory)) sound refl
+stays_sound state (Fail who s t) sound legal = sound_without state s (height state t) (without state.out s (height state t)) (Some (record { who = who; s = s; above = height state t })) (Some Failed) sound refl
+
+-- what one event keeps, a history keeps
+pub through_history : (P : State → Type 0) → ((state : State) (event : Event) → IsSound state → IsLegal state event → P state → P (after state event)) → (first : State) (events : List Event) (last : State) → IsHistory first events last → IsSound first → P first → IsSound last × P last
+through_history P keeps first [] last (nothing state) sound p = (sound, p)
+through_history P keeps first (event ∷ events) last (then state e es l legal rest) sound p = through_history P keeps (after first event) events last rest (stays_sound first event sound legal) (keeps first event sound legal p)
+
+pub reached_is_sound : (bottom : ℤ) (s t : ℕ) (start : List (ℕ × ℤ)) (events : List Event) (state : State) → IsReached bottom s t start events state → IsSound state
+reached_is_sound bottom s t start events state reached = (through_history (λ _. Unit {0}) (λ _ _ _ _ _. tt) (opening bottom s t start) events state reached.history (opening_is_sound bottom s t start reached.listed) tt).0

@@ -1,0 +1,9 @@
+pub mod BelowFronts
+pub mod Crossing
+pub mod Given
+pub mod Histories
+pub mod Progress
+pub mod Ready
+pub mod RowsOut
+pub mod Sound
+pub mod Starts

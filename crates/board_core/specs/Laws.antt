@@ -1,0 +1,79 @@
+-- What is so after every history of a board, from every start.
+use Rattle.std.specs.Prelude.{◌≡◌, ℕ, zero, suc, ◌+◌, ◌*◌, ℤ, true, false, not, List, [], ◌∷◌, ◌++◌, length, None, ⊤}
+use Rattle.board_core.specs.declared.event.Event.{Event}
+use Rattle.board_core.specs.declared.event.Event.TheVariants.{Take, Give, Back, Fail}
+use Rattle.board_core.specs.Board.{IsOnce, IsTaken}
+use Rattle.board_core.specs.Machine.{Squares, State, IsStart, squares_of, opening, count_below, is_out, IsStaircase, IsInRange, IsLegal, IsHistory}
+
+-- the events are accepted one after another from the opening with this range and start, and lead to the state
+pub record IsReached (bottom : ℤ) (s t : ℕ) (start : List (ℕ × ℤ)) (events : List Event) (state : State) : Type 0 where
+  pub listed : IsStart bottom start
+  pub history : IsHistory (opening bottom s t start) events state
+
+-- The done squares are a staircase.
+abbrev pub DoneIsStaircase : Type 0
+DoneIsStaircase = (bottom : ℤ) (s t : ℕ) (start : List (ℕ × ℤ)) (events : List Event) (state : State) → IsReached bottom s t start events state → IsStaircase state.done
+
+-- the squares that the events give, in their order
+abbrev pub given : List Event → List (ℕ × ℤ)
+given [] = []
+given (Take who s t snapshot ∷ events) = given events
+given (Give who s t ∷ events) = (s, t) ∷ given events
+given (Back who s t ∷ events) = given events
+given (Fail who s t ∷ events) = given events
+
+-- the squares of the start and those that were given, each once and after its parents, are the squares that are done
+pub record AreDoneOnce (bottom : ℤ) (start : List (ℕ × ℤ)) (events : List Event) (state : State) : Type 0 where
+  pub once : IsStart bottom (start ++ given events)
+  pub done : state.done ≡ squares_of bottom (start ++ given events)
+
+-- No square is given twice, nor one of the start again.
+abbrev pub SquaresAreGivenOnce : Type 0
+SquaresAreGivenOnce = (bottom : ℤ) (s t : ℕ) (start : List (ℕ × ℤ)) (events : List Event) (state : State) → IsReached bottom s t start events state → AreDoneOnce bottom start events state
+
+-- each square that is out stands there once, is in the range, is not done, and has its parents done
+pub record AreOutOnce (state : State) : Type 0 where
+  pub once : IsOnce state.out
+  pub taken : (s k : ℕ) → is_out state.out s k ≡ true → IsTaken state s k
+
+abbrev pub SquaresAreOutOnce : Type 0
+SquaresAreOutOnce = (bottom : ℤ) (s t : ℕ) (start : List (ℕ × ℤ)) (events : List Event) (state : State) → IsReached bottom s t start events state → AreOutOnce state
+
+-- a square that whoever asks may take, with the right snapshot
+pub record HasReady (state : State) : Type 0 where
+  pub s : ℕ
+  pub t : ℤ
+  pub snapshot : ℕ × ℕ
+  pub legal : (who : ℕ) → IsLegal state (Take who s t snapshot)
+
+-- a square of the range that is not done
+pub record HasUnfinished (state : State) : Type 0 where
+  pub s : ℕ
+  pub above : ℕ
+  pub in_range : IsInRange state s above
+  pub not_done : state.done s above ≡ false
+
+-- The board does not get stuck.
+abbrev pub SomeSquareIsReady : Type 0
+SomeSquareIsReady = (bottom : ℤ) (s t : ℕ) (start : List (ℕ × ℤ)) (events : List Event) (state : State) → IsReached bottom s t start events state → state.cause ≡ None → state.out ≡ [] → HasUnfinished state → HasReady state
+
+-- how many squares of the first rows and degrees are not in the set
+abbrev pub count_missing : Squares → ℕ → ℕ → ℕ
+count_missing done zero t = 0
+count_missing done (suc s) t = count_below (λ k. not (done s k)) t + count_missing done s t
+
+-- how many squares of the range are not done
+abbrev pub unfinished : State → ℕ
+unfinished state = count_missing state.done (suc state.rows) (suc state.degrees)
+
+-- there is neither a Back nor a Fail
+abbrev pub AllTakeOrGive : List Event → Type 0
+AllTakeOrGive [] = ⊤
+AllTakeOrGive (Take who s t snapshot ∷ events) = AllTakeOrGive events
+AllTakeOrGive (Give who s t ∷ events) = AllTakeOrGive events
+AllTakeOrGive (Back who s t ∷ events) = ⊥
+AllTakeOrGive (Fail who s t ∷ events) = ⊥
+
+-- Two events for each square that the opening leaves unfinished finish the board.
+abbrev pub BoardIsFinished : Type 0
+BoardIsFinished = (bottom : ℤ) (s t : ℕ) (start : List (ℕ × ℤ)) (events : List Event) (state : State) → IsReached bottom s t start events state → AllTakeOrGive events → length events ≡ 2 * unfinished (opening bottom s t start) → (i k : ℕ) → IsInRange state i k → state.done i k ≡ true

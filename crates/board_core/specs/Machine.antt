@@ -1,0 +1,183 @@
+-- The board of squares: the squares of a range are taken, each once those that it stands on are done, and are given back
+-- done. The state of the board is a set of done squares and a list of those that are out; events change it.
+use Rattle.std.specs.Prelude.{◌≡◌, ℕ, zero, suc, ◌+◌, ◌≤◌, ℤ, pos, negsuc, ◌+ℤ◌, ◌-ℤ◌, Bool, true, false, not, ◌&&◌, ◌||◌, cond, nat_eq, List, [], ◌∷◌, ◌++◌, take, slice_get, Option, Some, None}
+use Rattle.std.specs.List.{list_any, filter}
+use Rattle.board_core.specs.declared.event.Entry.{Entry}
+use Rattle.board_core.specs.declared.event.Cause.{Cause}
+use Rattle.board_core.specs.declared.event.Cause.TheVariants.{Failed, Memory}
+use Rattle.board_core.specs.declared.event.Event.{Event}
+use Rattle.board_core.specs.declared.event.Event.TheVariants.{Take, Give, Back, Fail}
+
+-- ---- sets of squares
+
+-- A set of squares (s, k): s is the row, and k how many degrees the square is above the bottom.
+abbrev pub Squares : Type 0
+Squares = ℕ → ℕ → Bool
+
+-- with one square more
+abbrev pub with_square : Squares → ℕ → ℕ → Squares
+with_square done s k = λ i j. done i j || (nat_eq i s && nat_eq j k)
+
+-- The parents of a square are in the set: the one before it in its row, where it is above the bottom, and the one of its
+-- degree in the row below, where its row is not row 0.
+pub record HasParents (done : Squares) (s k : ℕ) : Type 0 where
+  pub before : (j : ℕ) → suc j ≡ k → done s j ≡ true
+  pub below : (i : ℕ) → suc i ≡ s → done i k ≡ true
+
+-- a set that has the parents of each of its squares
+abbrev pub IsStaircase : Squares → Type 0
+IsStaircase done = (s k : ℕ) → done s k ≡ true → HasParents done s k
+
+-- how many of the numbers below bound pass
+abbrev pub count_below : (ℕ → Bool) → ℕ → ℕ
+count_below test zero = 0
+count_below test (suc bound) = cond (test bound) 1 0 + count_below test bound
+
+-- so many numbers pass
+pub record IsNumber (test : ℕ → Bool) (n : ℕ) : Type 0 where
+  pub bound : ℕ
+  pub beyond : (k : ℕ) → bound ≤ k → test k ≡ false
+  pub count : count_below test bound ≡ n
+
+-- ---- the start
+
+-- the degree t is k above the bottom
+abbrev pub IsAbove : ℤ → ℤ → ℕ → Type 0
+IsAbove bottom t k = t ≡ bottom +ℤ pos k
+
+-- how many degrees t is above the bottom, none where it is below
+abbrev pub natural : ℤ → Option ℕ
+natural (pos n) = Some n
+natural (negsuc n) = None
+
+abbrev pub above_of : ℤ → ℤ → Option ℕ
+above_of bottom t = natural (t -ℤ bottom)
+
+abbrev pub is_number : Option ℕ → ℕ → Bool
+is_number (Some n) k = nat_eq k n
+is_number None k = false
+
+-- the squares of a list, each given by its row and its degree
+abbrev pub squares_of : ℤ → List (ℕ × ℤ) → Squares
+squares_of bottom list = λ s k. list_any (λ q. nat_eq s q.0 && is_number (above_of bottom q.1) k) list
+
+-- q is a square that is not in the list, and its parents are
+pub record IsNextSquare (bottom : ℤ) (list : List (ℕ × ℤ)) (q : ℕ × ℤ) : Type 0 where
+  pub above : ℕ
+  pub degree : IsAbove bottom q.1 above
+  pub absent : squares_of bottom list q.0 above ≡ false
+  pub parents : HasParents (squares_of bottom list) q.0 above
+
+-- Squares that may be done before the first event: the list has each square once, and after its parents. They need not lie
+-- in the range.
+abbrev pub IsStart : ℤ → List (ℕ × ℤ) → Type 0
+IsStart bottom list = (n : ℕ) (q : ℕ × ℤ) → slice_get list n ≡ Some q → IsNextSquare bottom (take n list) q
+
+-- the squares of the list stand in rows through s
+abbrev pub AllInRows : ℕ → List (ℕ × ℤ) → Type 0
+AllInRows s list = (n : ℕ) (q : ℕ × ℤ) → slice_get list n ≡ Some q → q.0 ≤ s
+
+-- ---- the machine
+
+-- What the board is at a moment. Its range is the rows through `rows`, in the degrees through `degrees` above the bottom.
+-- It has the squares that are done, a list of those that are out, the one that failed, and why no more squares are given
+-- out, none where they are.
+pub record State : Type 0 where
+  pub rows : ℕ
+  pub degrees : ℕ
+  pub bottom : ℤ
+  pub done : Squares
+  pub out : List Entry
+  pub failed : Option Entry
+  pub cause : Option Cause
+
+-- before the first event
+abbrev pub opening : ℤ → ℕ → ℕ → List (ℕ × ℤ) → State
+opening bottom s t start = record { rows = s; degrees = t; bottom = bottom; done = squares_of bottom start; out = []; failed = None; cause = None }
+
+-- an entry of the list has the square
+abbrev pub is_out : List Entry → ℕ → ℕ → Bool
+is_out out s k = list_any (λ e. nat_eq e.s s && nat_eq e.above k) out
+
+-- this entry is in the list
+abbrev pub has_entry : List Entry → ℕ → ℕ → ℕ → Bool
+has_entry out who s k = list_any (λ e. nat_eq e.who who && (nat_eq e.s s && nat_eq e.above k)) out
+
+-- the list without the square
+abbrev pub without : List Entry → ℕ → ℕ → List Entry
+without out s k = filter (λ e. not (nat_eq e.s s && nat_eq e.above k)) out
+
+-- so many squares of row s are done
+abbrev pub IsRowNumber : Squares → ℕ → ℕ → Type 0
+IsRowNumber done s n = IsNumber (done s) n
+
+-- so many squares of the row below row s are done, 0 for row 0
+abbrev pub IsRowNumberBelow : Squares → ℕ → ℕ → Type 0
+IsRowNumberBelow done zero n = n ≡ 0
+IsRowNumberBelow done (suc s) n = IsRowNumber done s n
+
+-- the square is in the range
+pub record IsInRange (state : State) (s k : ℕ) : Type 0 where
+  pub row : s ≤ state.rows
+  pub degree : k ≤ state.degrees
+
+-- the square may be taken
+pub record IsReady (state : State) (s k : ℕ) : Type 0 where
+  pub runs : state.cause ≡ None
+  pub in_range : IsInRange state s k
+  pub parents : HasParents state.done s k
+  pub not_done : state.done s k ≡ false
+  pub not_out : is_out state.out s k ≡ false
+
+-- the square may be taken, and the snapshot is right
+pub record IsLegalTake (state : State) (s : ℕ) (t : ℤ) (snapshot : ℕ × ℕ) : Type 0 where
+  pub above : ℕ
+  pub degree : IsAbove state.bottom t above
+  pub ready : IsReady state s above
+  pub row : IsRowNumber state.done s snapshot.0
+  pub row_below : IsRowNumberBelow state.done s snapshot.1
+
+-- who has the square
+pub record IsHeld (state : State) (who s : ℕ) (t : ℤ) : Type 0 where
+  pub above : ℕ
+  pub degree : IsAbove state.bottom t above
+  pub held : has_entry state.out who s above ≡ true
+
+-- who has the square, and squares are given out
+pub record IsHeldAndRuns (state : State) (who s : ℕ) (t : ℤ) : Type 0 where
+  pub runs : state.cause ≡ None
+  pub held : IsHeld state who s t
+
+-- the machine accepts the event
+abbrev pub IsLegal : State → Event → Type 0
+IsLegal state (Take who s t snapshot) = IsLegalTake state s t snapshot
+IsLegal state (Give who s t) = IsHeldAndRuns state who s t
+IsLegal state (Back who s t) = IsHeld state who s t
+IsLegal state (Fail who s t) = IsHeldAndRuns state who s t
+
+abbrev pub number_or_zero : Option ℕ → ℕ
+number_or_zero (Some n) = n
+number_or_zero None = 0
+
+-- how many degrees a square of the board is above the bottom
+abbrev pub height : State → ℤ → ℕ
+height state t = number_or_zero (above_of state.bottom t)
+
+-- the cause that stands, or else this one
+abbrev pub cause_or : Option Cause → Cause → Cause
+cause_or (Some cause) other = cause
+cause_or None other = other
+
+-- what an event that is accepted does
+abbrev pub after : State → Event → State
+after state (Take who s t snapshot) = record state { out = state.out ++ record { who = who; s = s; above = height state t } ∷ [] }
+after state (Give who s t) = record state { done = with_square state.done s (height state t); out = without state.out s (height state t) }
+after state (Back who s t) = record state { out = without state.out s (height state t); cause = Some (cause_or state.cause Memory) }
+after state (Fail who s t) = record state { out = without state.out s (height state t); failed = Some (record { who = who; s = s; above = height state t }); cause = Some Failed }
+
+-- ---- histories
+
+-- the events are accepted one after another, and lead from one state to the other
+pub data IsHistory : State → List Event → State → Type 0 where
+  nothing : (state : State) → IsHistory state [] state
+  then : (state : State) (event : Event) (events : List Event) (last : State) → IsLegal state event → IsHistory (after state event) events last → IsHistory state (event ∷ events) last

@@ -1,0 +1,71 @@
+//! What happens to squares, and why the board stops giving them out.
+ghost use Rattle.std.specs.Prelude.{◌≡◌};
+ghost use Rattle.board_core.specs.declared.event.CoreFault.TheVariants.{Memory as OutOfMemory};
+
+use memory::Memory;
+use thiserror::Error;
+
+/// Why no more squares are given out.
+#[derive(Clone, Copy, Debug, PartialEq, Eq, Drop)]
+pub enum Cause {
+    /// A square failed.
+    Failed,
+    /// A square was handed back for want of memory.
+    Memory,
+}
+
+/// A square that is out: who has it, its row, and its degree above the bottom.
+#[derive(Clone, Copy, Debug, PartialEq, Eq, Drop)]
+pub struct Entry {
+    pub who: u64,
+    pub s: u16,
+    pub above: u64,
+}
+
+/// What happens to the square in row `s` and of degree `t`.
+#[derive(Clone, Copy, Debug, PartialEq, Eq, Drop)]
+pub enum Event {
+    /// `who` takes it, having seen so many squares done in row `s` and in row `s - 1`, 0 for row 0.
+    Take {
+        who: u64,
+        s: u16,
+        t: i32,
+        snapshot: (u64, u64),
+    },
+    /// `who` gives it, done.
+    Give {
+        who: u64,
+        s: u16,
+        t: i32,
+    },
+    /// `who` hands it back, for want of memory.
+    Back {
+        who: u64,
+        s: u16,
+        t: i32,
+    },
+    /// `who` has failed at it.
+    Fail {
+        who: u64,
+        s: u16,
+        t: i32,
+    },
+}
+
+/// Why an event was not accepted.
+#[derive(Clone, Copy, Debug, PartialEq, Eq, Drop, Error)]
+pub enum CoreFault {
+    /// The machine does not accept the event, which comes back.
+    #[error("not legal")]
+    NotLegal { event: Event },
+    #[error("out of memory")]
+    Memory,
+}
+
+impl From<Memory> for CoreFault {
+    ghost from_gives = { λ _ fault. fault ≡ OutOfMemory };
+
+    fn from(_: Memory) -> Self {
+        CoreFault::Memory
+    }
+}

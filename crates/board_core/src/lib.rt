@@ -1,0 +1,16 @@
+//! The board of squares as a machine without words: which squares are done, which are out, and what each event does.
+#![tactic(auto)]
+
+mod event;
+mod fronts;
+mod laws;
+mod machine;
+#[cfg(test)]
+mod tests;
+
+pub use event::{Cause, CoreFault, Entry, Event};
+pub use laws::{
+    board_is_finished, done_is_staircase, some_square_is_ready, squares_are_given_once,
+    squares_are_out_once,
+};
+pub use machine::Core;

@@ -1,0 +1,347 @@
+//! The board as the machine that its definition says.
+ghost use Rattle.std.specs.Prelude.{◌≡◌, ℕ, ◌<◌, ◌≤◌, ◌+◌, ◌-◌, ◌^◌, ◌↔◌, ◌+ℤ◌, ◌≤ℤ◌, pos, Some, None, Ok, Err, true, false, vec_capacity, vec_len, slice_index_or, IsOkAnd, IfSome, OnSome, OnOk, OnErr};
+ghost use Rattle.std.specs.Bool.{Decides};
+ghost use Rattle.board_core.specs.Board.{IsSound, squares_below, state_of, IsTaken, IsReadyAt, is_done_at, is_out_at, has_row, IsBounded};
+ghost use Rattle.board_core.specs.Machine.{AllInRows, IsStart, IsAbove, above_of, opening, squares_of, IsReady, IsRowNumber, IsRowNumberBelow, IsLegal, IsLegalTake, IsHeld, IsHeldAndRuns, has_entry, is_out, after, without};
+ghost use Rattle.board_core.specs.declared.event.Event.TheVariants.{Take, Give, Back, Fail};
+ghost use Rattle.board_core.specs.declared.event.CoreFault as CoreFault;
+ghost use Rattle.board_core.specs.declared.event.CoreFault.TheVariants.{NotLegal, Memory as NoMemory};
+
+use crate::event::{Cause, CoreFault, Entry, Event};
+use crate::fronts::{Fronts, ROWS};
+use memory::Memory;
+use std::alloc::Global;
+use std::marker::Model;
+
+/// The board of the squares of a range: which are done, which are out and who has them, and why no more are given out.
+/// Each event changes it as the machine's definition says.
+#[derive(Drop)]
+pub struct Core {
+    rows: u16,
+    degrees: u16,
+    bottom: i32,
+    fronts: Fronts,
+    out: Vec<Entry>,
+    failed: Option<Entry>,
+    cause: Option<Cause>,
+}
+
+impl Model for Core {
+    ghost use Rattle.std.specs.Prelude.{◌-◌, vec_capacity, vec_len};
+    ghost use Rattle.board_core.specs.Board.{Board, IsSound, IsBounded, squares_below};
+
+    ghost Value = { Board };
+
+    ghost view = { λ c. record { rows = c.rows; degrees = c.degrees; bottom = c.bottom; fronts = c.fronts; out = c.out.items; failed = c.failed; cause = c.cause; spare = vec_capacity c.out - vec_len c.out } };
+
+    ghost invariant = { λ c. IsSound (record { rows = c.rows; degrees = c.degrees; bottom = c.bottom; done = squares_below c.fronts; out = c.out.items; failed = c.failed; cause = c.cause }) × IsBounded c.rows c.degrees c.bottom };
+}
+
+impl Core {
+    /// The board before the first event. Its range is the rows through `s`, at most 63, in the degrees from `m` through
+    /// `m + t`, where `t` is at most 127. The squares of `start`, each given by its row and its degree, are done; they
+    /// stand in rows through 63, and need not lie in the range.
+    ///
+    /// # Errors
+    /// None: what is out takes memory as it comes.
+    pub fn new(alloc: Global, s: u16, t: u16, m: i32, start: &[(u16, i32)]) -> Result<Core, Memory>
+        requires rows { s ≤ 63 }
+        requires degrees { t ≤ 127 }
+        requires fits { (m +ℤ pos t) ≤ℤ pos (2 ^ 31 - 1) }
+        requires start { IsStart m start.now }
+        requires start_rows { AllInRows 63 start.now }
+        ensures { IsOkAnd result (λ core. state_of core ≡ opening m s t start.now) }
+    {
+        Ok(Core {
+            rows: s,
+            degrees: t,
+            bottom: m,
+            fronts: fronts_of(m, start),
+            out: Vec::new(alloc),
+            failed: None,
+            cause: None,
+        })
+    }
+
+    /// Makes room for `n` events more: so many want no memory.
+    ///
+    /// # Errors
+    /// `Memory` where there is none for them; the board is then as before.
+    pub fn reserve(&mut self, n: usize) -> Result<(), Memory>
+        ensures state { state_of self.new ≡ state_of self.old }
+        ensures ok { OnOk result (n ≤ self.new.spare) }
+        ensures spare { self.old.spare ≤ self.new.spare }
+    {
+        self.out.reserve(n)?;
+        Ok(())
+    }
+
+    /// Does what the event says, where the machine accepts it.
+    ///
+    /// # Errors
+    /// `NotLegal` with the event exactly where the machine does not accept it, and `Memory` where there is none for one
+    /// more square that is out. After either the board is as before.
+    pub fn apply(&mut self, event: Event) -> Result<(), CoreFault>
+        ensures accepts { OnOk result (IsLegal (state_of self.old) event) }
+        ensures effect { OnOk result (state_of self.new ≡ after (state_of self.old) event) }
+        ensures refuses { (result ≡ Err (NotLegal event)) ↔ (IsLegal (state_of self.old) event → ⊥) }
+        ensures returned { (other : Event) → result ≡ Err (NotLegal other) → other ≡ event }
+        ensures memory { result ≡ Err CoreFault.Memory → self.old.spare ≡ 0 }
+        ensures unchanged { OnErr result (state_of self.new ≡ state_of self.old) }
+        ensures spare { OnOk result (self.old.spare ≤ self.new.spare + 1) }
+        ensures kept { OnErr result (self.old.spare ≤ self.new.spare) }
+    {
+        let accepted = match event {
+            Event::Take {
+                who,
+                s,
+                t,
+                snapshot,
+            } => self.take(who, s, t, snapshot)?,
+            Event::Give { who, s, t } => self.give(who, s, t),
+            Event::Back { who, s, t } => self.back(who, s, t),
+            Event::Fail { who, s, t } => self.fail(who, s, t),
+        };
+        if !accepted {
+            return Err(CoreFault::NotLegal { event });
+        }
+        Ok(())
+    }
+
+    /// A square that may be taken: that in the lowest row which has one. None exactly where there is none.
+    pub fn ready(&self) -> Option<(u16, i32)>
+        ensures some { IfSome result (λ q. IsReadyAt (state_of self.now) q.0 q.1) }
+        ensures none { result ≡ None → (s k : ℕ) → IsReady (state_of self.now) s k → ⊥ }
+    {
+        if self.cause.is_some() {
+            return None;
+        }
+        let taken = self.taken_rows();
+        for s in 0..self.rows + 1 {
+            if !taken[usize::from(s)] && self.has_next(s) {
+                return Some((s, self.bottom + self.fronts.front(s) as i32));
+            }
+        }
+        None
+    }
+
+    /// Whether the square in row `s` and of degree `t` is done.
+    pub fn done(&self, s: u16, t: i32) -> bool
+        ensures done { result ≡ is_done_at (state_of self.now) s t }
+        ensures is_sound { IsSound (state_of self.now) }
+    {
+        match above_of(self.bottom, t) {
+            Some(above) => self.fronts.has(s, above),
+            None => false,
+        }
+    }
+
+    /// Whether the square in row `s` and of degree `t` is out.
+    pub fn out(&self, s: u16, t: i32) -> bool
+        ensures { result ≡ is_out_at (state_of self.now) s t }
+    {
+        match above_of(self.bottom, t) {
+            Some(above) => self.is_out(s, above),
+            None => false,
+        }
+    }
+
+    /// Why no more squares are given out, none where they are.
+    pub fn stopped(&self) -> Option<Cause>
+        ensures { result ≡ self.now.cause }
+    {
+        self.cause
+    }
+
+    /// The square goes out to `who`, where it may be taken and the snapshot is right. Answers whether it did.
+    fn take(&mut self, who: u64, s: u16, t: i32, snapshot: (u64, u64)) -> Result<bool, Memory>
+        ensures accepts { result ≡ Ok true → IsLegalTake (state_of self.old) s t snapshot }
+        ensures effect { result ≡ Ok true → state_of self.new ≡ after (state_of self.old) (Take who s t snapshot) }
+        ensures refuses { result ≡ Ok false → IsLegalTake (state_of self.old) s t snapshot → ⊥ }
+        ensures same { result ≡ Ok false → self.new ≡ self.old }
+        ensures memory { OnErr result (IsLegalTake (state_of self.old) s t snapshot) }
+        ensures full { OnErr result (self.old.spare ≡ 0) }
+        ensures unchanged { OnErr result (state_of self.new ≡ state_of self.old) }
+        ensures spare { OnOk result (self.old.spare ≤ self.new.spare + 1) }
+    {
+        let Some(above) = above_of(self.bottom, t) else {
+            return Ok(false);
+        };
+        let may_take = self.is_ready(s, above) && self.is_seen(s, snapshot);
+        if !may_take {
+            return Ok(false);
+        }
+        self.out.push(Entry { who, s, above })?;
+        Ok(true)
+    }
+
+    /// The square that `who` has is done. Answers whether it is, which it is not where a cause stands.
+    fn give(&mut self, who: u64, s: u16, t: i32) -> bool
+        ensures accepts { result ≡ true → IsHeldAndRuns (state_of self.old) who s t }
+        ensures effect { result ≡ true → state_of self.new ≡ after (state_of self.old) (Give who s t) }
+        ensures refuses { result ≡ false → IsHeldAndRuns (state_of self.old) who s t → ⊥ }
+        ensures same { result ≡ false → state_of self.new ≡ state_of self.old }
+        ensures spare { self.old.spare ≤ self.new.spare }
+    {
+        let Some(above) = self.held_while_running(who, s, t) else {
+            return false;
+        };
+        take_from(&mut self.out, s, above);
+        self.fronts.add(s, above);
+        true
+    }
+
+    /// The square that `who` has is out no more, and no more squares are given out. Answers whether `who` had it.
+    fn back(&mut self, who: u64, s: u16, t: i32) -> bool
+        ensures accepts { result ≡ true → IsHeld (state_of self.old) who s t }
+        ensures effect { result ≡ true → state_of self.new ≡ after (state_of self.old) (Back who s t) }
+        ensures refuses { result ≡ false → IsHeld (state_of self.old) who s t → ⊥ }
+        ensures same { result ≡ false → state_of self.new ≡ state_of self.old }
+        ensures spare { self.old.spare ≤ self.new.spare }
+    {
+        let Some(above) = self.held(who, s, t) else {
+            return false;
+        };
+        take_from(&mut self.out, s, above);
+        self.cause = Some(self.cause.unwrap_or(Cause::Memory));
+        true
+    }
+
+    /// The square that `who` has is the one that failed. Answers whether it is, which it is not where a cause stands.
+    fn fail(&mut self, who: u64, s: u16, t: i32) -> bool
+        ensures accepts { result ≡ true → IsHeldAndRuns (state_of self.old) who s t }
+        ensures effect { result ≡ true → state_of self.new ≡ after (state_of self.old) (Fail who s t) }
+        ensures refuses { result ≡ false → IsHeldAndRuns (state_of self.old) who s t → ⊥ }
+        ensures same { result ≡ false → state_of self.new ≡ state_of self.old }
+        ensures spare { self.old.spare ≤ self.new.spare }
+    {
+        let Some(above) = self.held_while_running(who, s, t) else {
+            return false;
+        };
+        take_from(&mut self.out, s, above);
+        self.failed = Some(Entry { who, s, above });
+        self.cause = Some(Cause::Failed);
+        true
+    }
+
+    /// How many degrees above the bottom the square is, where `who` has it.
+    fn held(&self, who: u64, s: u16, t: i32) -> Option<u64>
+        ensures above { IfSome result (λ k. IsAbove self.now.bottom t k) }
+        ensures held { IfSome result (λ k. has_entry self.now.out who s k ≡ true) }
+        ensures taken { IfSome result (λ k. IsTaken (state_of self.now) s k) }
+        ensures none { result ≡ None → IsHeld (state_of self.now) who s t → ⊥ }
+        ensures is_bounded { IsBounded self.now.rows self.now.degrees self.now.bottom }
+    {
+        let above = above_of(self.bottom, t)?;
+        if !has_entry(&self.out, who, s, above) {
+            return None;
+        }
+        Some(above)
+    }
+
+    /// The same, and none where a cause stands.
+    fn held_while_running(&self, who: u64, s: u16, t: i32) -> Option<u64>
+        ensures runs { OnSome result (self.now.cause ≡ None) }
+        ensures above { IfSome result (λ k. IsAbove self.now.bottom t k) }
+        ensures held { IfSome result (λ k. has_entry self.now.out who s k ≡ true) }
+        ensures taken { IfSome result (λ k. IsTaken (state_of self.now) s k) }
+        ensures none { result ≡ None → IsHeldAndRuns (state_of self.now) who s t → ⊥ }
+        ensures is_bounded { IsBounded self.now.rows self.now.degrees self.now.bottom }
+    {
+        match self.cause {
+            Some(_) => None,
+            None => self.held(who, s, t),
+        }
+    }
+
+    /// Whether the square may be taken.
+    fn is_ready(&self, s: u16, k: u64) -> bool
+        ensures decides { Decides result (IsReady (state_of self.now) s k) }
+        ensures is_bounded { IsBounded self.now.rows self.now.degrees self.now.bottom }
+    {
+        if self.cause.is_some() || s > self.rows {
+            return false;
+        }
+        k == self.fronts.front(s) && self.has_next(s) && !self.is_out(s, k)
+    }
+
+    /// Whether the first square of row `s` that is not done is in the range and has its parents done.
+    fn has_next(&self, s: u16) -> bool
+        requires { s ≤ self.now.rows }
+        ensures { Decides result ((k : ℕ) × IsTaken (state_of self.now) s k) }
+    {
+        let front = self.fronts.front(s);
+        if front > u64::from(self.degrees) {
+            return false;
+        }
+        s == 0 || front < self.fronts.front(s - 1)
+    }
+
+    /// Whether so many squares of row `s` and of the row below are done.
+    fn is_seen(&self, s: u16, snapshot: (u64, u64)) -> bool
+        requires { s ≤ 63 }
+        ensures yes { result ≡ true → IsRowNumber (squares_below self.now.fronts) s snapshot.0 }
+        ensures yes_below { result ≡ true → IsRowNumberBelow (squares_below self.now.fronts) s snapshot.1 }
+        ensures no { IsRowNumber (squares_below self.now.fronts) s snapshot.0 → IsRowNumberBelow (squares_below self.now.fronts) s snapshot.1 → result ≡ true }
+    {
+        let below = if s == 0 { 0 } else { self.fronts.front(s - 1) };
+        snapshot.0 == self.fronts.front(s) && snapshot.1 == below
+    }
+
+    /// Whether the square is out.
+    fn is_out(&self, s: u16, k: u64) -> bool
+        ensures { result ≡ is_out self.now.out s k }
+    {
+        self.out.iter().any(|e| e.s == s && e.above == k)
+    }
+
+    /// The rows that have a square which is out.
+    fn taken_rows(&self) -> [bool; ROWS]
+        ensures { (s : ℕ) → slice_index_or result s false ≡ has_row self.now.out s }
+    {
+        let mut taken = [false; ROWS];
+        for e in &self.out {
+            taken[usize::from(e.s)] = true;
+        }
+        taken
+    }
+}
+
+/// Takes the square from those that are out.
+fn take_from(out: &mut Vec<Entry>, s: u16, k: u64)
+    ensures items { out.new.items ≡ without out.old.items s k }
+    ensures len { vec_len out.new ≤ vec_len out.old }
+    ensures capacity { vec_capacity out.new ≡ vec_capacity out.old }
+{
+    out.retain(|e| !(e.s == s && e.above == k));
+}
+
+/// Whether `who` has the square.
+fn has_entry(out: &[Entry], who: u64, s: u16, k: u64) -> bool
+    ensures { result ≡ has_entry out.now who s k }
+{
+    out.iter().any(|e| e.who == who && e.s == s && e.above == k)
+}
+
+/// How many degrees `t` is above `bottom`, none where it is below.
+fn above_of(bottom: i32, t: i32) -> Option<u64>
+    ensures above { result ≡ above_of bottom t }
+    ensures within { IfSome result (λ k. k < 2 ^ 32) }
+{
+    u64::try_from(i64::from(t) - i64::from(bottom)).ok()
+}
+
+/// The squares of the start.
+fn fronts_of(bottom: i32, start: &[(u16, i32)]) -> Fronts
+    requires start { IsStart bottom start.now }
+    requires rows { AllInRows 63 start.now }
+    ensures { squares_below result ≡ squares_of bottom start.now }
+{
+    let mut fronts = Fronts::none();
+    for (s, t) in start {
+        if let Some(above) = above_of(bottom, *t) {
+            fronts.add(*s, above);
+        }
+    }
+    fronts
+}

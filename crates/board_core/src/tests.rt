@@ -1,0 +1,94 @@
+//! What no clause says: that there is memory for each call, and values worked by hand.
+use crate::{Cause, Core, CoreFault, Event};
+use std::alloc::Global;
+use std::test::Fail;
+
+#[test]
+fn first_square(rt: HostRuntime) -> Result<(), Fail> {
+    let mut core = Core::new(rt.alloc(), 0, 1, 0, &[])?;
+    assert_eq!(rt; core.ready(), Some((0, 0)));
+    let give = Event::Give { who: 7, s: 0, t: 0 };
+    assert_eq!(rt; core.apply(give), Err(CoreFault::NotLegal { event: give }));
+    let take = Event::Take {
+        who: 7,
+        s: 0,
+        t: 0,
+        snapshot: (0, 0),
+    };
+    assert_eq!(rt; core.apply(take), Ok(()));
+    assert!(rt; core.out(0, 0));
+    assert_eq!(rt; core.ready(), None);
+    assert_eq!(rt; core.apply(take), Err(CoreFault::NotLegal { event: take }));
+    assert_eq!(rt; core.apply(give), Ok(()));
+    assert!(rt; core.done(0, 0));
+    assert!(rt; !core.out(0, 0));
+    assert_eq!(rt; core.ready(), Some((0, 1)));
+    Ok(())
+}
+
+#[test]
+fn causes(rt: HostRuntime) -> Result<(), Fail> {
+    let mut core = Core::new(rt.alloc(), 1, 1, 0, &[(0, 0), (0, 1)])?;
+    core.reserve(1)?;
+    assert_eq!(rt; core.ready(), Some((1, 0)));
+    let take = Event::Take {
+        who: 1,
+        s: 1,
+        t: 0,
+        snapshot: (0, 2),
+    };
+    assert_eq!(rt; core.apply(take), Ok(()));
+    let back = Event::Back { who: 1, s: 1, t: 0 };
+    assert_eq!(rt; core.apply(back), Ok(()));
+    assert_eq!(rt; core.stopped(), Some(Cause::Memory));
+    assert_eq!(rt; core.ready(), None);
+    assert_eq!(rt; core.apply(take), Err(CoreFault::NotLegal { event: take }));
+    let mut core = Core::new(rt.alloc(), 0, 0, -3, &[])?;
+    let take = Event::Take {
+        who: 1,
+        s: 0,
+        t: -3,
+        snapshot: (0, 0),
+    };
+    assert_eq!(rt; core.apply(take), Ok(()));
+    let fail = Event::Fail {
+        who: 1,
+        s: 0,
+        t: -3,
+    };
+    assert_eq!(rt; core.apply(fail), Ok(()));
+    assert_eq!(rt; core.stopped(), Some(Cause::Failed));
+    Ok(())
+}
+
+/// Takes and gives a square of a board with bottom 0, where the rows below are whole and its own is done up to it.
+fn take_and_give(core: &mut Core, s: u16, t: i32) -> Result<(), CoreFault> {
+    let below = if s == 0 { 0 } else { 128 };
+    core.apply(Event::Take {
+        who: 0,
+        s,
+        t,
+        snapshot: (u64::from(t.unsigned_abs()), below),
+    })?;
+    core.apply(Event::Give { who: 0, s, t })
+}
+
+#[test]
+fn whole_board(rt: HostRuntime) -> Result<(), Fail> {
+    let mut core = Core::new(rt.alloc(), 63, 127, 0, &[])?;
+    for _ in 0..8192 {
+        let Some((s, t)) = core.ready() else {
+            break;
+        };
+        if take_and_give(&mut core, s, t).is_err() {
+            break;
+        }
+    }
+    assert_eq!(rt; core.ready(), None);
+    for s in 0..64 {
+        for t in 0..128 {
+            assert!(rt; core.done(s, t), "at {s} {t}");
+        }
+    }
+    Ok(())
+}
