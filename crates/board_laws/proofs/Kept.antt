@@ -1,0 +1,131 @@
+-- What stays so with each event: what is done is of the table, and each copy gives what is.
+use Rattle.std.proofs.Common.{◌≡◌, ℕ, Bool, true, false, not, ◌&&◌, nat_eq, if◌then◌else◌, List, [], ◌∷◌, ◌++◌, Option, Some, None, is_some, refl, sym, ◌∙◌, ap, subst, arith, inl, inr}
+use Rattle.std.specs.List.{All}
+use Rattle.std.proofs.lemmas.Bool.{cases_Bool}
+use Rattle.std.proofs.lemmas.Bool.Decides.{nat_tests}
+use Rattle.std.proofs.lemmas.List.Elements.{All-nil, All-head, All-tail, All-push, All-filter, All-contains}
+use Rattle.std.proofs.lemmas.Option.{same_Some}
+use Rattle.board_core.specs.declared.event.Entry.{Entry as Out}
+use Rattle.board_core.specs.declared.event.Cause.{Cause}
+use Rattle.board_core.specs.Machine.{HasParents, IsStaircase}
+use Rattle.resolution_laws.specs.Resolution.{Module, Content, IsStep}
+use Rattle.resolution_laws.specs.Start.{Entry, entry_at, IsOf}
+use Rattle.resolution_laws.proofs.StartLaws.{entry_at-other, entry_at-new}
+use Rattle.board_laws.specs.Filled.{Contents, with_content, Copy, Filled, without_copy, filled_opening, after_take, after_give, IsMadeFromCopy}
+use Rattle.board_laws.specs.Schedules.{AreOf}
+use Rattle.board_laws.proofs.Agreement.{held_squares}
+use Rattle.board_laws.proofs.Copies.{copy_gives}
+
+-- what the step over a copy gives is of the table
+abbrev pub GivesOf : Module → List Entry → Copy → Type 0
+GivesOf m first copy = (content : Content) → IsStep m copy.below copy.row content → IsOf m first copy.out.s copy.out.above content
+
+-- What is known of a board: its done squares and its file are of the table of `first`, each square that `first` lists is done,
+-- the step over any of its copies is of that table, and the file has at each place what is done there.
+pub record IsKept (m : Module) (first : List Entry) (board : Filled) : Type 0 where
+  pub stands : (s k : ℕ) (content : Content) → board.done s k ≡ Some content → IsOf m first s k content
+  pub unread : (s k : ℕ) → board.done s k ≡ None → entry_at first s k ≡ None
+  pub copies : All (GivesOf m first) board.out
+  pub filed : AreOf m first board.file
+  pub same : (s k : ℕ) → entry_at board.file s k ≡ board.done s k
+
+-- ---- the opening
+
+entry_of : (m : Module) (first start : List Entry) → AreOf m first start → (s k : ℕ) (content : Content) → entry_at start s k ≡ Some content → IsOf m first s k content
+entry_of m first [] are s k content e = cc
+entry_of m first (x ∷ start) are s k content e =
+    let P : Entry → Type 0 = λ y. IsOf m first y.s y.above y.content in
+    elim (cases_Bool (nat_eq x.s s && nat_eq x.above k)) [
+      | inl here ↦
+          let row : x.s ≡ s = grind (arith, nat_tests) in
+          let degree : x.above ≡ k = grind (arith, nat_tests) in
+          let read : Some x.content ≡ Some content = sym (ap (λ b. if b then Some x.content else entry_at start s k) here) ∙ e in
+          let one : IsOf m first s x.above x.content = subst (λ (n : ℕ). IsOf m first n x.above x.content) row (All-head P x start are) in
+          let two : IsOf m first s k x.content = subst (λ (n : ℕ). IsOf m first s n x.content) degree one in
+          subst (λ (c : Content). IsOf m first s k c) (same_Some _ _ read) two
+      | inr other ↦
+          let rest : entry_at start s k ≡ Some content = sym (ap (λ b. if b then Some x.content else entry_at start s k) other) ∙ e in
+          entry_of m first start (All-tail P x start are) s k content rest
+    ]
+
+pub opening_is_kept : (m : Module) (first : List Entry) (s t : ℕ) (start : List Entry) → AreOf m first start → ((i k : ℕ) → entry_at start i k ≡ None → entry_at first i k ≡ None) → IsKept m first (filled_opening m s t start)
+opening_is_kept m first s t start are unread = record {
+  stands = entry_of m first start are;
+  unread = unread;
+  copies = All-nil (GivesOf m first);
+  filed = are;
+  same = λ i k. refl;
+}
+
+-- ---- events
+
+none_held : (o : Option Content) → is_some o ≡ false → o ≡ None
+none_held None e = refl
+none_held (Some content) e = cc
+
+pub take_keeps : (m : Module) (first : List Entry) (board : Filled) (who s k : ℕ) → IsKept m first board → IsStaircase (held_squares board.done) → HasParents (held_squares board.done) s k → is_some (board.done s k) ≡ false → IsKept m first (after_take board who s k)
+take_keeps m first board who s k kept stairs parents not_done = record {
+  stands = kept.stands;
+  unread = kept.unread;
+  copies = All-push (GivesOf m first) board.out _ kept.copies (λ content step.
+      copy_gives m first board.done s k content kept.stands stairs parents (kept.unread s k (none_held (board.done s k) not_done)) step);
+  filed = kept.filed;
+  same = kept.same;
+}
+
+pub without_keeps : (m : Module) (first : List Entry) (board : Filled) (s k : ℕ) (failed : Option Out) (cause : Option Cause) → IsKept m first board → IsKept m first (record board { out = without_copy board.out s k; failed = failed; cause = cause })
+without_keeps m first board s k failed cause kept = record {
+  stands = kept.stands;
+  unread = kept.unread;
+  copies = All-filter (λ (copy : Copy). not (nat_eq copy.out.s s && nat_eq copy.out.above k)) (GivesOf m first) board.out kept.copies;
+  filed = kept.filed;
+  same = kept.same;
+}
+
+-- what is given is of the table
+made_is_of : (m : Module) (first : List Entry) (board : Filled) (who s k : ℕ) (content : Content) → IsKept m first board → IsMadeFromCopy m board who s k content → IsOf m first s k content
+made_is_of m first board who s k content kept made =
+    subst (λ (o : Out). IsOf m first o.s o.above content) made.square (All-contains (GivesOf m first) board.out made.copy kept.copies made.held content made.step)
+
+none_left : (here : Bool) (content : Content) (rest : Option Content) → (if here then Some content else rest) ≡ None → rest ≡ None
+none_left true content rest e = cc
+none_left false content rest e = e
+
+more_stands : (m : Module) (first : List Entry) (done : Contents) (s k : ℕ) (content : Content) → ((i j : ℕ) (c : Content) → done i j ≡ Some c → IsOf m first i j c) → IsOf m first s k content → (i j : ℕ) (c : Content) → with_content done s k content i j ≡ Some c → IsOf m first i j c
+more_stands m first done s k content stands new i j c e = elim (cases_Bool (nat_eq i s && nat_eq j k)) [
+  | inl here ↦
+      let row : s ≡ i = grind (arith, nat_tests) in
+      let degree : k ≡ j = grind (arith, nat_tests) in
+      let read : Some content ≡ Some c = sym (ap (λ b. if b then Some content else done i j) here) ∙ e in
+      let one : IsOf m first i k content = subst (λ (n : ℕ). IsOf m first n k content) row new in
+      let two : IsOf m first i j content = subst (λ (n : ℕ). IsOf m first i n content) degree one in
+      subst (λ (x : Content). IsOf m first i j x) (same_Some _ _ read) two
+  | inr other ↦ stands i j c (sym (ap (λ b. if b then Some content else done i j) other) ∙ e)
+]
+
+more_same : (file : List Entry) (done : Contents) (s k : ℕ) (content : Content) → ((i j : ℕ) → entry_at file i j ≡ done i j) → done s k ≡ None → (i j : ℕ) → entry_at (file ++ record { s = s; above = k; content = content } ∷ []) i j ≡ with_content done s k content i j
+more_same file done s k content same absent i j =
+    let e : Entry = record { s = s; above = k; content = content } in
+    elim (cases_Bool (nat_eq i s && nat_eq j k)) [
+      | inl here ↦
+          let row : s ≡ i = grind (arith, nat_tests) in
+          let degree : k ≡ j = grind (arith, nat_tests) in
+          let new : entry_at (file ++ e ∷ []) s k ≡ Some content = entry_at-new file e (same s k ∙ absent) in
+          let one : entry_at (file ++ e ∷ []) i k ≡ Some content = subst (λ (n : ℕ). entry_at (file ++ e ∷ []) n k ≡ Some content) row new in
+          let two : entry_at (file ++ e ∷ []) i j ≡ Some content = subst (λ (n : ℕ). entry_at (file ++ e ∷ []) i n ≡ Some content) degree one in
+          two ∙ sym (ap (λ b. if b then Some content else done i j) here)
+      | inr other ↦
+          let off : s ≡ i → k ≡ j → ⊥ = λ p q. grind (arith, nat_tests) in
+          entry_at-other file e i j off ∙ same i j ∙ sym (ap (λ b. if b then Some content else done i j) other)
+    ]
+
+pub give_keeps : (m : Module) (first : List Entry) (board : Filled) (who s k : ℕ) (content : Content) → IsKept m first board → is_some (board.done s k) ≡ false → IsMadeFromCopy m board who s k content → IsKept m first (after_give board s k content)
+give_keeps m first board who s k content kept not_done made =
+    let new = made_is_of m first board who s k content kept made in
+    record {
+      stands = more_stands m first board.done s k content kept.stands new;
+      unread = λ i j e. kept.unread i j (none_left (nat_eq i s && nat_eq j k) content (board.done i j) e);
+      copies = All-filter (λ (copy : Copy). not (nat_eq copy.out.s s && nat_eq copy.out.above k)) (GivesOf m first) board.out kept.copies;
+      filed = All-push (λ (e : Entry). IsOf m first e.s e.above e.content) board.file _ kept.filed new;
+      same = more_same board.file board.done s k content kept.same (none_held (board.done s k) not_done);
+    }

@@ -1,0 +1,4 @@
+pub mod Agreement
+pub mod Copies
+pub mod Kept
+pub mod Runs

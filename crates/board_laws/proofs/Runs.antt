@@ -1,0 +1,130 @@
+-- A run along a history of the machine, event by event.
+use Rattle.std.proofs.Common.{◌≡◌, ℕ, ℤ, pos, ◌+ℤ◌, List, [], ◌∷◌, ◌++◌, Some, None, refl, sym, ◌∙◌, ap, subst, append_assoc, append-nil}
+use Rattle.std.proofs.lemmas.List.{map-append}
+use Rattle.board_core.specs.declared.event.Event.{Event}
+use Rattle.board_core.specs.declared.event.Event.TheVariants.{Take, Give, Back, Fail}
+use Rattle.board_core.specs.declared.event.Cause.TheVariants.{Failed, Memory}
+use Rattle.board_core.specs.Board.{IsSound}
+use Rattle.board_core.specs.Laws.{given}
+use Rattle.board_core.specs.Machine.{State, IsStart, IsReady, IsLegal, IsHistory, IsAbove, after, cause_or}
+use Rattle.board_core.specs.Machine.IsHistory.{nothing, then}
+use Rattle.board_core.proofs.Given.{given_once}
+use Rattle.board_core.proofs.Histories.{height_is, held_at_height, opening_is_sound, stays_sound}
+use Rattle.resolution_laws.specs.Resolution.{Module, Content}
+use Rattle.resolution_laws.specs.Start.{Entry, entry_at}
+use Rattle.board_laws.specs.Filled.{Filled, without_contents, filled_opening, filled_height, after_take, after_give, after_back, after_fail, IsMadeFromCopy, IsRun}
+use Rattle.board_laws.specs.Filled.IsRun.{no_event, take_first, give_first, back_first, fail_first}
+use Rattle.board_laws.specs.Schedules.{places, AreOf, IsContinued, IsSchedule, IsFilledRight}
+use Rattle.board_laws.proofs.Agreement.{take_agrees, give_agrees, back_agrees, fail_agrees, opening_agrees}
+use Rattle.board_laws.proofs.Kept.{IsKept, opening_is_kept, take_keeps, without_keeps, give_keeps}
+
+-- ---- a history, from its first event on
+
+record IsFirst (state : State) (event : Event) (events : List Event) (last : State) : Type 0 where
+  legal : IsLegal state event
+  rest : IsHistory (after state event) events last
+
+of_none : (state last : State) → IsHistory state [] last → state ≡ last
+of_none state last (nothing same) = refl
+
+of_first : (state : State) (event : Event) (events : List Event) (last : State) → IsHistory state (event ∷ events) last → IsFirst state event events last
+of_first state event events last (then same e es l legal rest) = record { legal = legal; rest = rest }
+
+-- ---- what is so before an event, and at the end
+
+-- at the end of a run from a board with this bottom and this file, with these squares given
+record IsEnd (m : Module) (first : List Entry) (bottom : ℤ) (file : List Entry) (squares : List (ℕ × ℤ)) (state : State) (last : Filled) : Type 0 where
+  agrees : without_contents last ≡ state
+  kept : IsKept m first last
+  continues : IsContinued bottom file squares last.file
+
+-- the board and the machine before an event, and what is known of both
+record IsAlong (m : Module) (first : List Entry) (board : Filled) (events : List Event) (state : State) : Type 0 where
+  history : IsHistory (without_contents board) events state
+  sound : IsSound (without_contents board)
+  kept : IsKept m first board
+
+-- after the first event
+along : (m : Module) (first : List Entry) (board next : Filled) (event : Event) (events : List Event) (state : State) → IsAlong m first board (event ∷ events) state → without_contents next ≡ after (without_contents board) event → IsKept m first next → IsAlong m first next events state
+along m first board next event events state at agrees kept =
+    let split = of_first (without_contents board) event events state at.history in
+    record {
+      history = subst (λ (x : State). IsHistory x events state) (sym agrees) split.rest;
+      sound = subst IsSound (sym agrees) (stays_sound (without_contents board) event at.sound split.legal);
+      kept = kept;
+    }
+
+take_along : (m : Module) (first : List Entry) (board : Filled) (who s : ℕ) (t : ℤ) (snapshot : ℕ × ℕ) (events : List Event) (state : State) → IsAlong m first board (Take who s t snapshot ∷ events) state → IsAlong m first (after_take board who s (filled_height board t)) events state
+take_along m first board who s t snapshot events state at =
+    let old = without_contents board in
+    let legal = (of_first old (Take who s t snapshot) events state at.history).legal in
+    let ready : IsReady old s (filled_height board t) = subst (λ (k : ℕ). IsReady old s k) (sym (height_is old t legal.above legal.degree)) legal.ready in
+    along m first board _ (Take who s t snapshot) events state at (take_agrees board who s t snapshot) (take_keeps m first board who s (filled_height board t) at.kept at.sound.staircase ready.parents ready.not_done)
+
+give_along : (m : Module) (first : List Entry) (board : Filled) (who s : ℕ) (t : ℤ) (content : Content) (events : List Event) (state : State) → IsMadeFromCopy m board who s (filled_height board t) content → IsAlong m first board (Give who s t ∷ events) state → IsAlong m first (after_give board s (filled_height board t) content) events state
+give_along m first board who s t content events state made at =
+    let old = without_contents board in
+    let legal = (of_first old (Give who s t) events state at.history).legal in
+    let taken = at.sound.taken s (filled_height board t) (held_at_height old who s t legal.held) in
+    along m first board _ (Give who s t) events state at (give_agrees board who s t content) (give_keeps m first board who s (filled_height board t) content at.kept taken.not_done made)
+
+back_along : (m : Module) (first : List Entry) (board : Filled) (who s : ℕ) (t : ℤ) (events : List Event) (state : State) → IsAlong m first board (Back who s t ∷ events) state → IsAlong m first (after_back board s (filled_height board t)) events state
+back_along m first board who s t events state at =
+    along m first board _ (Back who s t) events state at (back_agrees board who s t) (without_keeps m first board s (filled_height board t) board.failed (Some (cause_or board.cause Memory)) at.kept)
+
+fail_along : (m : Module) (first : List Entry) (board : Filled) (who s : ℕ) (t : ℤ) (events : List Event) (state : State) → IsAlong m first board (Fail who s t ∷ events) state → IsAlong m first (after_fail board who s (filled_height board t)) events state
+fail_along m first board who s t events state at =
+    along m first board _ (Fail who s t) events state at (fail_agrees board who s t) (without_keeps m first board s (filled_height board t) (Some (record { who = who; s = s; above = filled_height board t })) (Some Failed) at.kept)
+
+-- ---- the file
+
+-- the square that is given stands first of those that follow
+given_first : (board : Filled) (who s : ℕ) (t : ℤ) (content : Content) (squares : List (ℕ × ℤ)) (file : List Entry) → IsLegal (without_contents board) (Give who s t) → IsContinued board.bottom (board.file ++ record { s = s; above = filled_height board t; content = content } ∷ []) squares file → IsContinued board.bottom board.file ((s, t) ∷ squares) file
+given_first board who s t content squares file legal rest =
+    let e : Entry = record { s = s; above = filled_height board t; content = content } in
+    let at : IsAbove board.bottom t (filled_height board t) = subst (λ (k : ℕ). IsAbove board.bottom t k) (sym (height_is (without_contents board) t legal.held.above legal.held.degree)) legal.held.degree in
+    record {
+      more = e ∷ rest.more;
+      follows = rest.follows ∙ append_assoc board.file (e ∷ []) rest.more;
+      places_are = ap (λ (d : ℤ). (s, d) ∷ places board.bottom rest.more) (sym at) ∙ ap (λ (l : List (ℕ × ℤ)). (s, t) ∷ l) rest.places_are;
+    }
+
+-- ---- the run
+
+ends : (m : Module) (first : List Entry) (board : Filled) (events : List Event) (state : State) (last : Filled) → IsRun m board events last → IsAlong m first board events state → IsEnd m first board.bottom board.file (given events) state last
+ends m first board events state last (no_event same) at = record {
+  agrees = of_none (without_contents board) state at.history;
+  kept = at.kept;
+  continues = record { more = []; follows = sym (append-nil board.file); places_are = refl };
+}
+ends m first board events state last (take_first _ who s t snapshot rest _ run) at = ends m first _ rest state last run (take_along m first board who s t snapshot rest state at)
+ends m first board events state last (give_first _ who s t content rest _ made run) at =
+    let end = ends m first _ rest state last run (give_along m first board who s t content rest state made at) in
+    let legal = (of_first (without_contents board) (Give who s t) rest state at.history).legal in
+    record { agrees = end.agrees; kept = end.kept; continues = given_first board who s t content (given rest) last.file legal end.continues }
+ends m first board events state last (back_first _ who s t rest _ run) at = ends m first _ rest state last run (back_along m first board who s t rest state at)
+ends m first board events state last (fail_first _ who s t rest _ run) at = ends m first _ rest state last run (fail_along m first board who s t rest state at)
+
+-- ---- the law
+
+pub schedule_is_right : (m : Module) (first : List Entry) (s t : ℕ) (start : List Entry) (events : List Event) (state : State) (board : Filled) → AreOf m first start → ((i k : ℕ) → entry_at start i k ≡ None → entry_at first i k ≡ None) → IsSchedule m s t start events state board → IsFilledRight m first start events state board
+schedule_is_right m first s t start events state board are unread schedule =
+    let opened = filled_opening m s t start in
+    let reached = schedule.reached in
+    let agrees = opening_agrees m s t start in
+    let end = ends m first opened events state board schedule.run (record {
+      history = subst (λ (x : State). IsHistory x events state) (sym agrees) reached.history;
+      sound = subst IsSound (sym agrees) (opening_is_sound m.bottom s t (places m.bottom start) reached.listed);
+      kept = opening_is_kept m first s t start are unread;
+    }) in
+    let kept = end.kept in
+    let file = end.continues in
+    let all : places m.bottom board.file ≡ places m.bottom start ++ given events = ap (places m.bottom) file.follows ∙ map-append (λ (e : Entry). (e.s, m.bottom +ℤ pos e.above)) start file.more ∙ ap (λ (l : List (ℕ × ℤ)). places m.bottom start ++ l) file.places_are in
+    record {
+      agrees = end.agrees;
+      done = kept.stands;
+      filed = kept.filed;
+      file = file;
+      once = subst (IsStart m.bottom) (sym all) (given_once m.bottom s t (places m.bottom start) events state reached).once;
+      same = kept.same;
+    }

@@ -1,0 +1,5 @@
+use Rattle.board_laws.proofs.Runs.{schedule_is_right}
+use Rattle.board_laws.proofs.every_schedule_continues_its_start.Goals as goal
+
+pub returns : goal.returns
+returns c = λ m s t start events state board are schedule. schedule_is_right m start s t start events state board are (λ i k e. e) schedule

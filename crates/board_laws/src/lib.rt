@@ -1,0 +1,17 @@
+//! What every run of the board with contents gives, as contracts of functions that do nothing.
+#![tactic(auto)]
+
+ghost use Rattle.board_laws.specs.Schedules.{EveryScheduleIsCanonical, EveryScheduleContinuesItsStart};
+
+/// From a start of canonical squares, whatever the order in which squares are taken and given, each done square and each
+/// square of the file is canonical, although its rows were copied when it was taken. The file is the start and then the
+/// squares that were given, in this order, each once.
+pub fn every_schedule_is_canonical()
+    ensures { EveryScheduleIsCanonical }
+{}
+
+/// The same for the table of the start itself: squares that were read stand as they were read, and each other is the step
+/// over the table's squares.
+pub fn every_schedule_continues_its_start()
+    ensures { EveryScheduleContinuesItsStart }
+{}
