@@ -1,20 +1,11 @@
 -- The squares below the fronts of rows.
-use Rattle.std.proofs.Common.{◌≡◌, ℕ, zero, suc, ◌+◌, ◌-◌, ◌<◌, ◌≤◌, Bool, false, nat_lt, List, length, set, replicate, slice_index_or, min, refl, sym, ◌∙◌, subst, arith, inl, inr}
+use Rattle.std.proofs.Common.{◌≡◌, ℕ, zero, suc, ◌+◌, ◌-◌, ◌<◌, ◌≤◌, Bool, false, nat_lt, List, length, set, slice_index_or, min, refl, sym, ◌∙◌, subst, arith, inl, inr}
 use Rattle.std.proofs.Math.Path.{fun_ext}
 use Rattle.std.proofs.lemmas.Grind.{common_steps}
 use Rattle.std.proofs.lemmas.Bool.Decides.{nat_tests, eqb_tells}
 use Rattle.std.proofs.lemmas.List.{get_or-set_other}
 use Rattle.board_core.specs.Board.{squares_below}
 use Rattle.board_core.specs.Machine.{HasParents, IsNumber, IsRowNumberBelow, count_below, with_square}
-
-zero_front : (n s : ℕ) → slice_index_or (replicate {A = ℕ} n 0) s 0 ≡ 0
-zero_front n s = grind (arith, common_steps)
-
-pub no_squares : (n : ℕ) → squares_below (replicate {A = ℕ} n 0) ≡ (λ s k. false)
-no_squares n = fun_ext (λ s. fun_ext (λ k. let e = zero_front n s in grind (arith, nat_tests)))
-
-pub no_fronts : (n s : ℕ) → slice_index_or (replicate {A = ℕ} n 0) (suc s) 0 ≤ slice_index_or (replicate {A = ℕ} n 0) s 0
-no_fronts n s = let high = zero_front n (suc s) in omega arith
 
 -- ---- how many squares a row has
 
@@ -26,8 +17,12 @@ count_below-front test front (suc bound) h =
     let rest = count_below-front test front bound h in
     grind (arith, nat_tests)
 
-pub front_number : (front : ℕ) → IsNumber (λ k. nat_lt k front) front
-front_number front = record { bound = front; beyond = λ k h. grind (arith, nat_tests); count = count_below-front (λ k. nat_lt k front) front front (λ k. refl) ∙ omega arith }
+pub front_number : (test : ℕ → Bool) (front : ℕ) → ((k : ℕ) → test k ≡ nat_lt k front) → IsNumber test front
+front_number test front h = record {
+  bound = front;
+  beyond = λ k least. let here = h k in grind (arith, nat_tests);
+  count = count_below-front test front front h ∙ omega arith;
+}
 
 pub number_is_front : (test : ℕ → Bool) (front n : ℕ) → ((k : ℕ) → test k ≡ nat_lt k front) → IsNumber test n → n ≡ front
 number_is_front test front n h is =

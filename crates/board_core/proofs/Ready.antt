@@ -1,5 +1,5 @@
 -- While squares of the range are unfinished, and none is out, some square is ready.
-use Rattle.std.proofs.Common.{◌≡◌, ℕ, zero, suc, ◌+◌, ◌≤◌, ◌⊎◌, ℤ, pos, ◌+ℤ◌, true, false, Bool, nat_lt, List, [], None, refl, sym, ◌∙◌, ap, subst, arith, inl, inr}
+use Rattle.std.proofs.Common.{◌≡◌, ℕ, zero, suc, ◌+◌, ◌≤◌, ◌⊎◌, ℤ, pos, ◌+ℤ◌, true, false, Bool, nat_lt, List, [], None, refl, sym, ap, subst, arith, inl, inr}
 use Rattle.std.proofs.lemmas.Bool.{cases_Bool}
 use Rattle.std.proofs.lemmas.Bool.Decides.{nat_tests, eqb_tells}
 use Rattle.board_core.specs.declared.event.Entry.{Entry}
@@ -7,8 +7,8 @@ use Rattle.board_core.specs.declared.event.Event.{Event}
 use Rattle.board_core.specs.declared.event.Event.TheVariants.{Take, Give, Back, Fail}
 use Rattle.board_core.specs.Laws.{IsReached, HasReady, HasUnfinished}
 use Rattle.board_core.specs.Board.{IsSound}
-use Rattle.board_core.specs.Machine.{Squares, HasParents, State, IsNumber, IsRowNumberBelow, IsLegal, height, after, opening, is_out, with_square}
-use Rattle.board_core.proofs.BelowFronts.{stands_first, count_below-front}
+use Rattle.board_core.specs.Machine.{Squares, HasParents, State, IsRowNumberBelow, IsLegal, height, after, opening, is_out, with_square}
+use Rattle.board_core.proofs.BelowFronts.{stands_first, front_number}
 use Rattle.board_core.proofs.Starts.{over_start}
 use Rattle.board_core.proofs.Histories.{held_at_height, opening_is_sound, through_history}
 
@@ -42,20 +42,13 @@ fronts_stay state (Give who s t) sound legal fronts =
 fronts_stay state (Back who s t) sound legal fronts = fronts
 fronts_stay state (Fail who s t) sound legal fronts = fronts
 
-number_of : (done : Squares) (s : ℕ) (at : HasFront done s) → IsNumber (done s) at.front
-number_of done s at = record {
-  bound = at.front;
-  beyond = λ k h. let here = at.below k in grind (arith, nat_tests);
-  count = count_below-front (done s) at.front at.front at.below ∙ omega arith;
-}
-
 record HasNumberBelow (done : Squares) (s : ℕ) : Type 0 where
   number : ℕ
   counts : IsRowNumberBelow done s number
 
 number_below : (done : Squares) (s : ℕ) → HaveFronts done → HasNumberBelow done s
 number_below done zero fronts = record { number = 0; counts = refl }
-number_below done (suc s) fronts = record { number = (fronts s).front; counts = number_of done s (fronts s) }
+number_below done (suc s) fronts = record { number = (fronts s).front; counts = front_number (done s) (fronts s).front (fronts s).below }
 
 -- ---- the first square that is not done
 
@@ -129,7 +122,7 @@ some_ready bottom s t start events state reached runs none_out missing =
         above = first.degree;
         degree = refl;
         ready = record { runs = runs; in_range = record { row = omega arith; degree = omega arith }; parents = first.parents; not_done = first.not_done; not_out = free };
-        row = number_of state.done first.row number;
+        row = front_number (state.done first.row) number.front number.below;
         row_below = below.counts;
       };
     }

@@ -1,37 +1,51 @@
 -- The rows of the squares that are out.
-use Rattle.std.proofs.Common.{◌≡◌, ℕ, ◌+◌, ◌<◌, ◌≤◌, Bool, true, false, ◌&&◌, nat_eq, nat_lt, List, [], ◌∷◌, length, take, set, replicate, get_or, None, sym, ◌∙◌, ap, subst, arith, inl, inr}
-use Rattle.std.proofs.lemmas.Grind.{common_steps}
+use Rattle.std.proofs.Common.{◌≡◌, ℕ, ◌<◌, Bool, true, false, not, ◌&&◌, nat_eq, nat_lt, List, [], ◌∷◌, ◌++◌, length, set, get_or, None, sym, ◌∙◌, subst, arith, inl, inr}
 use Rattle.std.proofs.lemmas.Bool.{cases_Bool}
 use Rattle.std.proofs.lemmas.Bool.Decides.{nat_tests, eqb_tells}
-use Rattle.std.proofs.lemmas.List.{get_or-set_other, get_or-set_same}
-use Rattle.std.proofs.lemmas.List.Folds.{list_any_more, list_any_at}
+use Rattle.std.proofs.lemmas.List.{get_or-set_other, get_or-set_same, length-set}
+use Rattle.std.proofs.lemmas.List.Folds.{list_any-append}
+use Rattle.std.proofs.lemmas.Map.Views.{any-filter_same}
 use Rattle.board_core.specs.declared.event.Entry.{Entry}
-use Rattle.board_core.specs.Board.{IsTaken, IsSound, has_row}
-use Rattle.board_core.specs.Machine.{State, IsReady, is_out}
+use Rattle.board_core.specs.Board.{IsTaken, IsSound, IsMarked, has_row}
+use Rattle.board_core.specs.Machine.{State, IsReady, is_out, without}
 use Rattle.board_core.proofs.BelowFronts.{stands_first}
-use Rattle.board_core.proofs.Sound.{out_in_row}
+use Rattle.board_core.proofs.Sound.{is_other, out_in_row}
 
-pub row_within : (state : State) (i : ℕ) (d : Entry) → IsSound state → i < length state.out → (get_or state.out i d).s ≤ state.rows
-row_within state i d sound within =
-    let e = get_or state.out i d in
-    let here : (nat_eq e.s e.s && nat_eq e.above e.above) ≡ true = grind (arith, nat_tests) in
-    (sound.taken e.s e.above (list_any_at (λ (x : Entry). nat_eq x.s e.s && nat_eq x.above e.above) state.out i d within here)).in_range.row
+-- ---- the marks of rows
 
 -- one entry more is marked
-pub one_marked : (marks : List Bool) (out : List Entry) (i r s : ℕ) (d : Entry) → i < length out → r < length marks → r ≡ (get_or out i d).s → get_or marks s false ≡ has_row (take i out) s → get_or (set marks r true) s false ≡ has_row (take (i + 1) out) s
-one_marked marks out i r s d within fits row before =
-    let more = list_any_more (λ (e : Entry). nat_eq e.s s) out i d within in
-    let same : nat_eq r s ≡ nat_eq (get_or out i d).s s = ap (λ (n : ℕ). nat_eq n s) row in
-    elim (eqb_tells r s) [
-      | inl p ↦
-          let here : get_or (set marks r true) s false ≡ true = subst (λ (n : ℕ). get_or (set marks r true) n false ≡ true) p.1 (get_or-set_same marks r true false fits) in
-          let yes : nat_eq r s ≡ true = p.0 in
-          grind arith
-      | inr p ↦
-          let other = get_or-set_other marks r s true false (λ e. p.1 (sym e)) in
-          let no : nat_eq r s ≡ false = p.0 in
-          grind arith
-    ]
+pub marked_with : (busy : List Bool) (rows : ℕ) (out list : List Entry) (e : Entry) → e.s < length busy → list ≡ out ++ e ∷ [] → IsMarked busy rows out → IsMarked (set busy e.s true) rows list
+marked_with busy rows out list e within is marked = subst (IsMarked (set busy e.s true) rows) (sym is) (record {
+  long = subst (λ (n : ℕ). rows < n) (sym (length-set busy e.s true)) marked.long;
+  marks = λ i.
+      let before = marked.marks i in
+      let more = list_any-append (λ (x : Entry). nat_eq x.s i) out (e ∷ []) in
+      elim (eqb_tells e.s i) [
+        | inl p ↦
+            let here : get_or (set busy e.s true) i false ≡ true = subst (λ (n : ℕ). get_or (set busy e.s true) n false ≡ true) p.1 (get_or-set_same busy e.s true false within) in
+            let yes : nat_eq e.s i ≡ true = p.0 in
+            grind arith
+        | inr p ↦
+            let other = get_or-set_other busy e.s i true false (λ same. p.1 (sym same)) in
+            let no : nat_eq e.s i ≡ false = p.0 in
+            grind arith
+      ];
+})
+
+-- the only entry of a row is marked no more
+pub marked_without : (busy : List Bool) (rows : ℕ) (out list : List Entry) (s k : ℕ) → s < length busy → has_row (without out s k) s ≡ false → list ≡ without out s k → IsMarked busy rows out → IsMarked (set busy s false) rows list
+marked_without busy rows out list s k within alone is marked = subst (IsMarked (set busy s false) rows) (sym is) (record {
+  long = subst (λ (n : ℕ). rows < n) (sym (length-set busy s false)) marked.long;
+  marks = λ i. elim (eqb_tells s i) [
+    | inl p ↦ subst (λ (n : ℕ). get_or (set busy s false) n false ≡ has_row (without out s k) n) p.1 (get_or-set_same busy s false false within ∙ sym alone)
+    | inr p ↦
+        let no : nat_eq s i ≡ false = p.0 in
+        let kept = any-filter_same (λ (e : Entry). nat_eq e.s i) (λ e. not (nat_eq e.s s && nat_eq e.above k)) true (λ e h. grind (arith, nat_tests)) out in
+        get_or-set_other busy s i false false (λ same. p.1 (sym same)) ∙ marked.marks i ∙ sym kept
+  ];
+})
+
+-- ---- rows
 
 -- a row that has a square which is out
 record HasOut (out : List Entry) (s : ℕ) : Type 0 where
@@ -78,5 +92,16 @@ row_is_open state s k front fronts sound ready = elim (cases_Bool (has_row state
   | inr clear ↦ clear
 ]
 
-pub all_unmarked : (n s : ℕ) → get_or (replicate n false) s false ≡ false
-all_unmarked n s = grind (arith, common_steps)
+-- a square that is out is the only one of its row
+pub row_clears : (state : State) (s k front : ℕ) → ((j : ℕ) → state.done s j ≡ nat_lt j front) → IsSound state → IsTaken state s k → has_row (without state.out s k) s ≡ false
+row_clears state s k front fronts sound is = elim (cases_Bool (has_row (without state.out s k) s)) [
+  | inl row ↦
+      let out = out_of_row (without state.out s k) s row in
+      let rest = is_other state.out s k s out.above out.here in
+      let taken = sound.taken s out.above rest.there in
+      let here : k ≡ front = stands_first state.done s k front fronts is.parents is.not_done in
+      let there : out.above ≡ front = stands_first state.done s out.above front fronts taken.parents taken.not_done in
+      let other = rest.other in
+      absurd (grind (arith, nat_tests))
+  | inr clear ↦ clear
+]

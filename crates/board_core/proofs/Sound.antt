@@ -56,11 +56,11 @@ once_filtered p (x ∷ out) once = elim (cases_Bool (p x)) [
 ]
 
 -- a square that is out still, where another went
-record IsOther (out : List Entry) (s k i j : ℕ) : Type 0 where
-  there : is_out out i j ≡ true
-  other : (nat_eq i s && nat_eq j k) ≡ false
+pub record IsOther (out : List Entry) (s k i j : ℕ) : Type 0 where
+  pub there : is_out out i j ≡ true
+  pub other : (nat_eq i s && nat_eq j k) ≡ false
 
-is_other : (out : List Entry) (s k i j : ℕ) → is_out (without out s k) i j ≡ true → IsOther out s k i j
+pub is_other : (out : List Entry) (s k i j : ℕ) → is_out (without out s k) i j ≡ true → IsOther out s k i j
 is_other out s k i j e =
     let gone = any-filter_same (λ (e : Entry). nat_eq e.s s && nat_eq e.above k) (λ e. not (nat_eq e.s s && nat_eq e.above k)) false (λ e h. ap not h) out in
     let there = any_filtered (λ (e : Entry). nat_eq e.s i && nat_eq e.above j) (λ e. not (nat_eq e.s s && nat_eq e.above k)) out e in

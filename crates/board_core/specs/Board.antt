@@ -1,5 +1,5 @@
 -- What contracts of Core see: the state of the machine, by the fronts of its rows, and what is known of it.
-use Rattle.std.specs.Prelude.{◌≡◌, ℕ, ◌-◌, ◌^◌, ◌≤◌, ℤ, pos, ◌+ℤ◌, ◌≤ℤ◌, Bool, true, false, nat_eq, nat_lt, slice_index_or, List, [], ◌∷◌, Option, Some, None, ⊤}
+use Rattle.std.specs.Prelude.{◌≡◌, ℕ, ◌-◌, ◌^◌, ◌<◌, ℤ, pos, ◌+ℤ◌, ◌≤ℤ◌, Bool, true, false, nat_eq, nat_lt, slice_index_or, length, List, [], ◌∷◌, Option, Some, None, ⊤}
 use Rattle.std.specs.List.{list_any}
 use Rattle.board_core.specs.declared.event.Entry.{Entry}
 use Rattle.board_core.specs.declared.event.Cause.{Cause}
@@ -48,11 +48,16 @@ pub record IsSound (state : State) : Type 0 where
 abbrev pub has_row : List Entry → ℕ → Bool
 has_row out s = list_any (λ e. nat_eq e.s s) out
 
--- a range of rows through 63, and of degrees through 127 above the bottom, which fit 32 bits
-pub record IsBounded (s t : ℕ) (bottom : ℤ) : Type 0 where
-  pub rows : s ≤ 63
-  pub degrees : t ≤ 127
+-- a range of rows that have a front each, and of degrees through t above the bottom, where t has 16 bits and they fit 32
+pub record IsBounded (s t : ℕ) (bottom : ℤ) (fronts : ℕ) : Type 0 where
+  pub rows : s < fronts
+  pub degrees : t < 2 ^ 16
   pub fits : (bottom +ℤ pos t) ≤ℤ pos (2 ^ 31 - 1)
+
+-- a mark for each row through this one, which says whether a square of the row is out; none of the others is
+pub record IsMarked (busy : List Bool) (rows : ℕ) (out : List Entry) : Type 0 where
+  pub long : rows < length busy
+  pub marks : (s : ℕ) → slice_index_or busy s false ≡ has_row out s
 
 -- a test at a place that may not be there
 abbrev pub holds_at : (ℕ → Bool) → Option ℕ → Bool

@@ -1,18 +1,17 @@
 //! The squares that are done, by the fronts of their rows.
-ghost use Rattle.std.specs.Prelude.{◌≡◌, ℕ, ◌<◌, ◌≤◌, ◌^◌, false, true, nat_lt};
+ghost use Rattle.std.specs.Prelude.{◌≡◌, ℕ, ◌<◌, ◌^◌, false, true, nat_lt, length, IfOk};
 ghost use Rattle.board_core.specs.Board.{squares_below};
 ghost use Rattle.board_core.specs.Machine.{HasParents, IsStaircase, IsNumber, with_square};
 
+use memory::Memory;
+use std::alloc::Global;
 use std::marker::Model;
 
-/// How many rows a board has.
-pub(crate) const ROWS: usize = 64;
-
 /// The squares that are done. In each row they are those below a front, and no front is greater than that of the row below,
-/// so the fronts are all that is kept.
+/// so the fronts are all that is kept. A row that has no front here has no square done.
 #[derive(Drop)]
 pub(crate) struct Fronts {
-    fronts: [u64; ROWS],
+    fronts: Vec<u64>,
 }
 
 impl Model for Fronts {
@@ -20,17 +19,20 @@ impl Model for Fronts {
 
     ghost Value = { List ℕ };
 
-    ghost view = { λ f. f.fronts };
+    ghost view = { λ f. f.fronts.items };
 
-    ghost invariant = { λ f. (s : ℕ) → slice_index_or f.fronts (suc s) 0 ≤ slice_index_or f.fronts s 0 };
+    ghost invariant = { λ f. (s : ℕ) → slice_index_or f.fronts.items (suc s) 0 ≤ slice_index_or f.fronts.items s 0 };
 }
 
 impl Fronts {
-    /// No square is done.
-    pub(crate) fn none() -> Fronts
-        ensures { squares_below result ≡ (λ s k. false) }
+    /// No square is done, and there is a front for each of so many rows.
+    pub(crate) fn none(alloc: Global, rows: usize) -> Result<Fronts, Memory>
+        ensures squares { IfOk result (λ fronts. squares_below fronts ≡ (λ s k. false)) }
+        ensures rows { IfOk result (λ fronts. length fronts ≡ rows) }
     {
-        Fronts { fronts: [0; ROWS] }
+        Ok(Fronts {
+            fronts: vec![in alloc; 0; rows]?,
+        })
     }
 
     /// Whether the square is done.
@@ -45,21 +47,24 @@ impl Fronts {
 
     /// How many squares of row `s` are done.
     pub(crate) fn front(&self, s: u16) -> u64
-        requires { s ≤ 63 }
         ensures number { IsNumber (squares_below self.now s) result }
         ensures done { (k : ℕ) → squares_below self.now s k ≡ nat_lt k result }
         ensures staircase { IsStaircase (squares_below self.now) }
     {
-        self.fronts[usize::from(s)]
+        match self.fronts.get(usize::from(s)) {
+            Some(front) => *front,
+            None => 0,
+        }
     }
 
     /// Makes one square more done.
     pub(crate) fn add(&mut self, s: u16, k: u64)
-        requires row { s ≤ 63 }
+        requires row { s < length self.old }
         requires few { k < 2 ^ 63 }
         requires parents { HasParents (squares_below self.old) s k }
         requires absent { squares_below self.old s k ≡ false }
-        ensures { squares_below self.new ≡ with_square (squares_below self.old) s k }
+        ensures squares { squares_below self.new ≡ with_square (squares_below self.old) s k }
+        ensures rows { length self.new ≡ length self.old }
     {
         self.fronts[usize::from(s)] = k + 1;
     }

@@ -1,14 +1,14 @@
 //! The board as the machine that its definition says.
-ghost use Rattle.std.specs.Prelude.{◌≡◌, ℕ, ◌<◌, ◌≤◌, ◌+◌, ◌-◌, ◌^◌, ◌↔◌, ◌+ℤ◌, ◌≤ℤ◌, pos, Some, None, Ok, Err, true, false, vec_capacity, vec_len, slice_index_or, IsOkAnd, IfSome, OnSome, OnOk, OnErr};
+ghost use Rattle.std.specs.Prelude.{◌≡◌, ℕ, ◌<◌, ◌≤◌, ◌+◌, ◌-◌, ◌^◌, ◌↔◌, ◌+ℤ◌, ◌≤ℤ◌, pos, Some, None, Ok, Err, true, false, vec_capacity, vec_len, length, IfOk, IfSome, OnSome, OnOk, OnErr};
 ghost use Rattle.std.specs.Bool.{Decides};
-ghost use Rattle.board_core.specs.Board.{IsSound, squares_below, state_of, IsTaken, IsReadyAt, is_done_at, is_out_at, has_row, IsBounded};
+ghost use Rattle.board_core.specs.Board.{IsSound, squares_below, state_of, IsTaken, IsReadyAt, is_done_at, is_out_at, has_row, IsBounded, IsMarked};
 ghost use Rattle.board_core.specs.Machine.{AllInRows, IsStart, IsAbove, above_of, opening, squares_of, IsReady, IsRowNumber, IsRowNumberBelow, IsLegal, IsLegalTake, IsHeld, IsHeldAndRuns, has_entry, is_out, after, without};
 ghost use Rattle.board_core.specs.declared.event.Event.TheVariants.{Take, Give, Back, Fail};
 ghost use Rattle.board_core.specs.declared.event.CoreFault as CoreFault;
 ghost use Rattle.board_core.specs.declared.event.CoreFault.TheVariants.{NotLegal, Memory as NoMemory};
 
 use crate::event::{Cause, CoreFault, Entry, Event};
-use crate::fronts::{Fronts, ROWS};
+use crate::fronts::Fronts;
 use memory::Memory;
 use std::alloc::Global;
 use std::marker::Model;
@@ -22,42 +22,43 @@ pub struct Core {
     bottom: i32,
     fronts: Fronts,
     out: Vec<Entry>,
+    /// Which rows of the range have a square that is out.
+    busy: Vec<bool>,
     failed: Option<Entry>,
     cause: Option<Cause>,
 }
 
 impl Model for Core {
-    ghost use Rattle.std.specs.Prelude.{◌-◌, vec_capacity, vec_len};
-    ghost use Rattle.board_core.specs.Board.{Board, IsSound, IsBounded, squares_below};
+    ghost use Rattle.std.specs.Prelude.{◌-◌, vec_capacity, vec_len, length};
+    ghost use Rattle.board_core.specs.Board.{Board, IsSound, IsBounded, IsMarked, squares_below};
 
     ghost Value = { Board };
 
     ghost view = { λ c. record { rows = c.rows; degrees = c.degrees; bottom = c.bottom; fronts = c.fronts; out = c.out.items; failed = c.failed; cause = c.cause; spare = vec_capacity c.out - vec_len c.out } };
 
-    ghost invariant = { λ c. IsSound (record { rows = c.rows; degrees = c.degrees; bottom = c.bottom; done = squares_below c.fronts; out = c.out.items; failed = c.failed; cause = c.cause }) × IsBounded c.rows c.degrees c.bottom };
+    ghost invariant = { λ c. IsSound (record { rows = c.rows; degrees = c.degrees; bottom = c.bottom; done = squares_below c.fronts; out = c.out.items; failed = c.failed; cause = c.cause }) × IsBounded c.rows c.degrees c.bottom (length c.fronts) × IsMarked c.busy.items c.rows c.out.items };
 }
 
 impl Core {
-    /// The board before the first event. Its range is the rows through `s`, at most 63, in the degrees from `m` through
-    /// `m + t`, where `t` is at most 127. The squares of `start`, each given by its row and its degree, are done; they
-    /// stand in rows through 63, and need not lie in the range.
+    /// The board before the first event. Its range is the rows through `s`, in the degrees from `m` through `m + t`. The
+    /// squares of `start`, each given by its row and its degree, are done; they need not lie in the range.
     ///
     /// # Errors
-    /// None: what is out takes memory as it comes.
+    /// `Memory` where there is none for a front for each row through the last of the range and of `start`, and for a mark
+    /// for each row of the range.
     pub fn new(alloc: Global, s: u16, t: u16, m: i32, start: &[(u16, i32)]) -> Result<Core, Memory>
-        requires rows { s ≤ 63 }
-        requires degrees { t ≤ 127 }
         requires fits { (m +ℤ pos t) ≤ℤ pos (2 ^ 31 - 1) }
         requires start { IsStart m start.now }
-        requires start_rows { AllInRows 63 start.now }
-        ensures { IsOkAnd result (λ core. state_of core ≡ opening m s t start.now) }
+        ensures { IfOk result (λ core. state_of core ≡ opening m s t start.now) }
     {
+        let last = last_row(s, start);
         Ok(Core {
             rows: s,
             degrees: t,
             bottom: m,
-            fronts: fronts_of(m, start),
+            fronts: fronts_of(alloc, m, last, start)?,
             out: Vec::new(alloc),
+            busy: vec![in alloc; false; usize::from(s) + 1]?,
             failed: None,
             cause: None,
         })
@@ -116,9 +117,8 @@ impl Core {
         if self.cause.is_some() {
             return None;
         }
-        let taken = self.taken_rows();
-        for s in 0..self.rows + 1 {
-            if !taken[usize::from(s)] && self.has_next(s) {
+        for s in 0..=self.rows {
+            if self.is_open(s) {
                 return Some((s, self.bottom + self.fronts.front(s) as i32));
             }
         }
@@ -172,6 +172,7 @@ impl Core {
             return Ok(false);
         }
         self.out.push(Entry { who, s, above })?;
+        self.busy[usize::from(s)] = true;
         Ok(true)
     }
 
@@ -186,7 +187,7 @@ impl Core {
         let Some(above) = self.held_while_running(who, s, t) else {
             return false;
         };
-        take_from(&mut self.out, s, above);
+        take_from(&mut self.out, &mut self.busy, s, above);
         self.fronts.add(s, above);
         true
     }
@@ -202,7 +203,7 @@ impl Core {
         let Some(above) = self.held(who, s, t) else {
             return false;
         };
-        take_from(&mut self.out, s, above);
+        take_from(&mut self.out, &mut self.busy, s, above);
         self.cause = Some(self.cause.unwrap_or(Cause::Memory));
         true
     }
@@ -218,7 +219,7 @@ impl Core {
         let Some(above) = self.held_while_running(who, s, t) else {
             return false;
         };
-        take_from(&mut self.out, s, above);
+        take_from(&mut self.out, &mut self.busy, s, above);
         self.failed = Some(Entry { who, s, above });
         self.cause = Some(Cause::Failed);
         true
@@ -230,7 +231,7 @@ impl Core {
         ensures held { IfSome result (λ k. has_entry self.now.out who s k ≡ true) }
         ensures taken { IfSome result (λ k. IsTaken (state_of self.now) s k) }
         ensures none { result ≡ None → IsHeld (state_of self.now) who s t → ⊥ }
-        ensures is_bounded { IsBounded self.now.rows self.now.degrees self.now.bottom }
+        ensures is_bounded { IsBounded self.now.rows self.now.degrees self.now.bottom (length self.now.fronts) }
     {
         let above = above_of(self.bottom, t)?;
         if !has_entry(&self.out, who, s, above) {
@@ -246,7 +247,7 @@ impl Core {
         ensures held { IfSome result (λ k. has_entry self.now.out who s k ≡ true) }
         ensures taken { IfSome result (λ k. IsTaken (state_of self.now) s k) }
         ensures none { result ≡ None → IsHeldAndRuns (state_of self.now) who s t → ⊥ }
-        ensures is_bounded { IsBounded self.now.rows self.now.degrees self.now.bottom }
+        ensures is_bounded { IsBounded self.now.rows self.now.degrees self.now.bottom (length self.now.fronts) }
     {
         match self.cause {
             Some(_) => None,
@@ -257,12 +258,21 @@ impl Core {
     /// Whether the square may be taken.
     fn is_ready(&self, s: u16, k: u64) -> bool
         ensures decides { Decides result (IsReady (state_of self.now) s k) }
-        ensures is_bounded { IsBounded self.now.rows self.now.degrees self.now.bottom }
+        ensures is_bounded { IsBounded self.now.rows self.now.degrees self.now.bottom (length self.now.fronts) }
     {
         if self.cause.is_some() || s > self.rows {
             return false;
         }
         k == self.fronts.front(s) && self.has_next(s) && !self.is_out(s, k)
+    }
+
+    /// Whether a square of row `s` may be taken while no cause stands.
+    fn is_open(&self, s: u16) -> bool
+        requires { s ≤ self.now.rows }
+        ensures yes { result ≡ true → self.now.cause ≡ None → (k : ℕ) × IsReady (state_of self.now) s k }
+        ensures no { result ≡ false → (k : ℕ) → IsReady (state_of self.now) s k → ⊥ }
+    {
+        !self.busy[usize::from(s)] && self.has_next(s)
     }
 
     /// Whether the first square of row `s` that is not done is in the range and has its parents done.
@@ -279,7 +289,6 @@ impl Core {
 
     /// Whether so many squares of row `s` and of the row below are done.
     fn is_seen(&self, s: u16, snapshot: (u64, u64)) -> bool
-        requires { s ≤ 63 }
         ensures yes { result ≡ true → IsRowNumber (squares_below self.now.fronts) s snapshot.0 }
         ensures yes_below { result ≡ true → IsRowNumberBelow (squares_below self.now.fronts) s snapshot.1 }
         ensures no { IsRowNumber (squares_below self.now.fronts) s snapshot.0 → IsRowNumberBelow (squares_below self.now.fronts) s snapshot.1 → result ≡ true }
@@ -294,26 +303,19 @@ impl Core {
     {
         self.out.iter().any(|e| e.s == s && e.above == k)
     }
-
-    /// The rows that have a square which is out.
-    fn taken_rows(&self) -> [bool; ROWS]
-        ensures { (s : ℕ) → slice_index_or result s false ≡ has_row self.now.out s }
-    {
-        let mut taken = [false; ROWS];
-        for e in &self.out {
-            taken[usize::from(e.s)] = true;
-        }
-        taken
-    }
 }
 
-/// Takes the square from those that are out.
-fn take_from(out: &mut Vec<Entry>, s: u16, k: u64)
+/// Takes the square, which is the only one of its row that is out, from those that are.
+fn take_from(out: &mut Vec<Entry>, busy: &mut Vec<bool>, s: u16, k: u64)
+    requires row { s < length busy.old.items }
+    requires alone { has_row (without out.old.items s k) s ≡ false }
+    ensures busy { (rows : ℕ) → IsMarked busy.old.items rows out.old.items → IsMarked busy.new.items rows out.new.items }
     ensures items { out.new.items ≡ without out.old.items s k }
     ensures len { vec_len out.new ≤ vec_len out.old }
     ensures capacity { vec_capacity out.new ≡ vec_capacity out.old }
 {
     out.retain(|e| !(e.s == s && e.above == k));
+    busy[usize::from(s)] = false;
 }
 
 /// Whether `who` has the square.
@@ -331,17 +333,30 @@ fn above_of(bottom: i32, t: i32) -> Option<u64>
     u64::try_from(i64::from(t) - i64::from(bottom)).ok()
 }
 
-/// The squares of the start.
-fn fronts_of(bottom: i32, start: &[(u16, i32)]) -> Fronts
-    requires start { IsStart bottom start.now }
-    requires rows { AllInRows 63 start.now }
-    ensures { squares_below result ≡ squares_of bottom start.now }
+/// The greatest of `s` and the rows of the start.
+fn last_row(s: u16, start: &[(u16, i32)]) -> u16
+    ensures range { s ≤ result }
+    ensures start { AllInRows result start.now }
 {
-    let mut fronts = Fronts::none();
+    let mut last = s;
+    for (row, _) in start {
+        last = last.max(*row);
+    }
+    last
+}
+
+/// The squares of the start, with a front for each row through `last`.
+fn fronts_of(alloc: Global, bottom: i32, last: u16, start: &[(u16, i32)]) -> Result<Fronts, Memory>
+    requires start { IsStart bottom start.now }
+    requires rows { AllInRows last start.now }
+    ensures squares { IfOk result (λ fronts. squares_below fronts ≡ squares_of bottom start.now) }
+    ensures rows { IfOk result (λ fronts. length fronts ≡ last + 1) }
+{
+    let mut fronts = Fronts::none(alloc, usize::from(last) + 1)?;
     for (s, t) in start {
         if let Some(above) = above_of(bottom, *t) {
             fronts.add(*s, above);
         }
     }
-    fronts
+    Ok(fronts)
 }

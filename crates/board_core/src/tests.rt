@@ -92,3 +92,35 @@ fn whole_board(rt: HostRuntime) -> Result<(), Fail> {
     }
     Ok(())
 }
+
+#[test]
+fn greatest_range(rt: HostRuntime) -> Result<(), Fail> {
+    let mut core = Core::new(rt.alloc(), 65535, 65535, -65536, &[])?;
+    assert_eq!(rt; core.ready(), Some((0, -65536)));
+    for s in 0..=65535 {
+        let t = -65536;
+        let below = if s == 0 { 0 } else { 1 };
+        let take = Event::Take {
+            who: 0,
+            s,
+            t,
+            snapshot: (0, below),
+        };
+        assert_eq!(rt; core.apply(take), Ok(()), "at {s}");
+        assert_eq!(rt; core.apply(Event::Give { who: 0, s, t }), Ok(()), "at {s}");
+    }
+    assert!(rt; core.done(65535, -65536));
+    assert_eq!(rt; core.ready(), Some((0, -65535)));
+    Ok(())
+}
+
+#[test]
+fn start_past_the_range(rt: HostRuntime) -> Result<(), Fail> {
+    let start = [(0, 5), (1, 5), (2, 5), (0, 6)];
+    let core = Core::new(rt.alloc(), 0, 1, 5, &start)?;
+    assert!(rt; core.done(2, 5));
+    assert!(rt; !core.done(2, 6));
+    assert!(rt; !core.done(3, 5));
+    assert_eq!(rt; core.ready(), None);
+    Ok(())
+}

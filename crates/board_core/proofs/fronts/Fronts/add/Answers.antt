@@ -1,15 +1,15 @@
-use Rattle.std.proofs.Common.{◌≡◌, ℕ, ◌+◌, ◌<◌, false, List, length, set, slice_index_or, sym, ◌∙◌, ap, subst, arith}
+use Rattle.std.proofs.Common.{◌≡◌, ℕ, ◌+◌, ◌<◌, false, List, length, set, slice_index_or, sym, ◌∙◌, ap, subst}
 use Rattle.board_core.specs.Board.{squares_below}
 use Rattle.board_core.specs.Machine.{HasParents, with_square}
 use Rattle.board_core.proofs.BelowFronts.{stands_at_front, add_at_front}
 use Rattle.board_core.proofs.fronts.Fronts.add.Goals as goal
 
-pub returns : goal.returns
-returns c =
-    let fronts : List ℕ = c.self.inside.fronts in
+pub returns-clause-squares : goal.returns-clause-squares
+returns-clause-squares c =
+    let fronts : List ℕ = c.self.inside.fronts.items in
     let seen : fronts ≡ c.args.self.now = c.self.view_is in
     let row : c.from.result ≡ c.args.s = c.from.ensures in
-    let within : c.args.s < length fronts = omega (arith, c.self.told, c.requires.row) in
+    let within : c.args.s < length fronts = subst (λ (f : List ℕ). c.args.s < length f) (sym seen) c.requires.row in
     let parents : HasParents (squares_below fronts) c.args.s c.args.k = subst (λ (f : List ℕ). HasParents (squares_below f) c.args.s c.args.k) (sym seen) c.requires.parents in
     let absent : squares_below fronts c.args.s c.args.k ≡ false = ap (λ (f : List ℕ). squares_below f c.args.s c.args.k) seen ∙ c.requires.absent in
     let here : slice_index_or fronts c.args.s 0 ≡ c.args.k = stands_at_front fronts c.args.s c.args.k parents absent in

@@ -1,10 +1,18 @@
-use Rattle.std.proofs.Common.{sym, subst}
-use Rattle.board_core.specs.Board.{Board, IsTaken, squares_below, state_of}
+use Rattle.std.proofs.Common.{ℕ, refl, sym, subst}
+use Rattle.board_core.specs.Board.{Board, IsBounded, IsTaken, squares_below, state_of}
+use Rattle.board_core.proofs.RowsOut.{row_clears}
 use Rattle.board_core.proofs.Sound.{sound_give}
 use Rattle.board_core.proofs.machine.Core.give.Goals as goal
+
+pub take_from-requires-clause-alone : goal.take_from-requires-clause-alone
+take_from-requires-clause-alone c =
+    let inside = c.self.inside in
+    let taken = subst (λ (b : Board). IsTaken (state_of b) c.args.s c.in-Some.above) (sym c.self.view_is) c.in-Some.ensures.taken in
+    row_clears _ c.args.s c.in-Some.above _ (λ j. refl) c.self.invariant.0 taken
 
 pub invariant_of-self : goal.invariant_of-self
 invariant_of-self c =
     let inside = c.self.inside in
     let taken = subst (λ (b : Board). IsTaken (state_of b) c.args.s c.in-Some.above) (sym c.self.view_is) c.in-Some.ensures.taken in
-    (sound_give _ c.args.s c.in-Some.above (squares_below c.add.new.self) c.take_from.new.out.items c.self.invariant.0 taken c.add.ensures c.take_from.ensures.items, c.self.invariant.1)
+    let bounded = subst (λ (n : ℕ). IsBounded inside.rows inside.degrees inside.bottom n) (sym c.add.ensures.rows) c.self.invariant.1 in
+    (sound_give _ c.args.s c.in-Some.above (squares_below c.add.new.self) c.take_from.new.out.items c.self.invariant.0 taken c.add.ensures.squares c.take_from.ensures.items, bounded, c.take_from.ensures.busy inside.rows c.self.invariant.2)

@@ -1,7 +1,28 @@
-use Rattle.std.proofs.Common.{ℤ, w32, sym, subst}
+use Rattle.std.proofs.Common.{◌≡◌, ℕ, ◌<◌, ℤ, pos, ◌+ℤ◌, ◌≤ℤ◌, ◌-◌, ◌^◌, false, List, length, get_or, None, w32, to_z, of_z, sym, ap, subst, arith}
+use Rattle.std.proofs.lemmas.Grind.{common_steps}
 use Rattle.std.proofs.lemmas.Int.{to_z-of_z}
-use Rattle.board_core.specs.Machine.{IsStart}
+use Rattle.board_core.specs.declared.event.Entry.{Entry}
+use Rattle.board_core.specs.Board.{IsBounded, IsSound, has_row, squares_below}
+use Rattle.board_core.specs.Machine.{Squares, IsStart, opening}
+use Rattle.board_core.proofs.Histories.{opening_is_sound}
 use Rattle.board_core.proofs.machine.Core.new.Goals as goal
 
 pub fronts_of-requires-clause-start : goal.fronts_of-requires-clause-start
 fronts_of-requires-clause-start c = subst (λ (b : ℤ). IsStart b c.args.start.now) (sym (to_z-of_z w32 c.args.m c.ranges.m)) c.requires.start
+
+pub invariant_of-result : goal.invariant_of-result
+invariant_of-result c =
+    let b : ℤ = to_z w32 (of_z w32 c.args.m) in
+    let low : b ≡ c.args.m = to_z-of_z w32 c.args.m c.ranges.m in
+    let fronts : List ℕ = c.in_ok-fronts_of.field-0 in
+    let rows = c.in_ok-fronts_of.ensures.rows in
+    let range = c.last_row-last.ensures.range in
+    let listed : IsStart b c.args.start.now = subst (λ (b : ℤ). IsStart b c.args.start.now) (sym low) c.requires.start in
+    let first = opening_is_sound b c.args.s c.args.t c.args.start.now listed in
+    let filled = subst (λ (d : Squares). IsSound (record (opening b c.args.s c.args.t c.args.start.now) { done = d })) (sym c.in_ok-fronts_of.ensures.squares) first in
+    let sound = subst (λ (l : List Entry). IsSound (record { rows = c.args.s; degrees = c.args.t; bottom = b; done = squares_below fronts; out = l; failed = None; cause = None })) (sym c.new.ensures.items) filled in
+    let fits = subst (λ (b : ℤ). (b +ℤ pos c.args.t) ≤ℤ pos (2 ^ 31 - 1)) (sym low) c.requires.fits in
+    let bounded : IsBounded c.args.s c.args.t b (length fronts) = record { rows = omega arith; degrees = omega (arith, c.ranges.t.fits); fits = fits } in
+    let long : c.args.s < length c.in_ok-vec.field-0.items = omega (arith, c.in_ok-vec.ensures.len, c.from.ensures) in
+    let marks : (i : ℕ) → get_or c.in_ok-vec.field-0.items i false ≡ has_row c.new.result.items i = λ i. let items = c.in_ok-vec.ensures.items in let none = ap (λ (l : List Entry). has_row l i) c.new.ensures.items in grind (arith, common_steps) in
+    (sound, bounded, record { long = long; marks = marks })
