@@ -6,7 +6,7 @@ use Rattle.std.proofs.lemmas.List.{ext_get_or, get_or-take, length-take-le}
 use Rattle.std.proofs.lemmas.List.FromFn.{length-map-range_with_len, get_or-map-range_with_len}
 use Rattle.f2_matrix.specs.Echelon.{KernelBasisIsUnique}
 use Rattle.resolution_laws.specs.Resolution.{Module, Content, no_content, square_in, IsStep, row_of, below_of, IsCanonicalTable}
-use Rattle.resolution_laws.specs.Start.{Entry, entry_at, HasShape, squares_below, row_below, IsReadOrStep, IsOf, is_of}
+use Rattle.resolution_laws.specs.Start.{Entry, entry_at, HasShape, squares_below, row_below, IsReadOrStep, IsOf, is_of, IsCanonicalStart}
 use Rattle.resolution_laws.proofs.TableIsUnique.{step_is_unique}
 
 -- ---- squares given by a function of their places
@@ -87,10 +87,6 @@ canonical_from_contents kernels m s t table rows squares contents = record { row
         let P : List Content → Type 0 = λ x. IsStep m (row_below o.at i k) x (square_in (row_of table i) k) in
         let Q : Option (List Content) → Type 0 = λ x. IsStep m x (take k (row_of table i)) (square_in (row_of table i) k) in
         subst Q (under i k o.at h l o.below) (subst P left o.here)
-
--- A start is canonical each of whose squares is that of the empty start's table.
-abbrev pub IsCanonicalStart : Module → List Entry → Type 0
-IsCanonicalStart m start = (s k : ℕ) (content : Content) → entry_at start s k ≡ Some content → IsOf m [] s k content
 
 canonical_here : (m : Module) (s k : ℕ) (at : ℕ → ℕ → Content) (found : Option Content) (c : Content) → ((read : Content) → found ≡ Some read → IsOf m [] s k read) → ((j : ℕ) → j < k → IsOf m [] s j (at s j)) → ((i j : ℕ) → suc i ≡ s → j ≤ k → IsOf m [] i j (at i j))
     → MatchOption found (IsStep m (row_below at s k) (squares_below at s k) c) (λ read. (c ≡ read) × HasShape m (row_below at s k) (squares_below at s k) c) → IsOf m [] s k c

@@ -42,3 +42,7 @@ IsReadOrStep m start s k at content =
 -- content is that of the square (s, k) of the start's table
 pub data IsOf (m : Module) (start : List Entry) : ℕ → ℕ → Content → Type 0 where
   is_of : (s k : ℕ) (at : ℕ → ℕ → Content) (content : Content) → ((j : ℕ) → j < k → IsOf m start s j (at s j)) → ((i j : ℕ) → suc i ≡ s → j ≤ k → IsOf m start i j (at i j)) → IsReadOrStep m start s k at content → IsOf m start s k content
+
+-- each square of the start is that of the canonical resolution
+abbrev pub IsCanonicalStart : Module → List Entry → Type 0
+IsCanonicalStart m start = (s k : ℕ) (content : Content) → entry_at start s k ≡ Some content → IsOf m [] s k content

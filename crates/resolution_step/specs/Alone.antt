@@ -1,5 +1,5 @@
 -- A table that is continued through a range, and the keeper that its new squares are given to.
-use Rattle.std.specs.Prelude.{◌≡◌, ℕ, ◌+◌, ◌<◌, ◌≤◌, ◌⊎◌, ◌↔◌, ℤ, pos, ◌+ℤ◌, List, [], ◌++◌, length, map, take, slice_get, Option, Some, IfSome, All}
+use Rattle.std.specs.Prelude.{◌≡◌, ℕ, ◌+◌, ◌<◌, ◌≤◌, ◌⊎◌, ◌↔◌, ℤ, pos, ◌+ℤ◌, List, ◌++◌, length, map, take, slice_get, Option, Some, IfSome, All}
 use Rattle.std.specs.Option.{option_map}
 use Rattle.module_check.specs.Module.{bottom}
 use Rattle.module_check.specs.Checked.{Checked}
@@ -33,10 +33,6 @@ pub record HasGrown (old new : Staircase) : Type 0 where
 -- each square of the table is that of its start's table
 abbrev pub AreOfStart : Staircase → Type 0
 AreOfStart table = (s k : ℕ) (q : Placed) → slice_get (row_in table.rows s) k ≡ Some q → IsOf (module_over table.resolved.plain) table.start s k q.content
-
--- the squares that were read are those of the canonical resolution
-abbrev pub IsCanonicalStart : Module → List Entry → Type 0
-IsCanonicalStart m start = (s k : ℕ) (content : Content) → entry_at start s k ≡ Some content → IsOf m [] s k content
 
 -- the square is new at (s, t), and continues the table's start without having been read
 pub record IsNewAt (table : Staircase) (s : ℕ) (t : ℤ) (q : Placed) : Type 0 where

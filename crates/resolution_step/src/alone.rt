@@ -4,11 +4,12 @@ ghost use Rattle.std.specs.Arc.{arc_value};
 ghost use Rattle.edge.specs.Faults.{HasRisen};
 ghost use Rattle.module_check.specs.Module.{bottom};
 ghost use Rattle.resolution_laws.specs.Resolution.{IsCanonicalTable};
+ghost use Rattle.resolution_laws.specs.Start.{IsCanonicalStart};
 ghost use Rattle.square.specs.declared.keep.KeepFault as KeepFault;
 ghost use Rattle.square.specs.declared.keep.KeepFault.TheVariants.{Failed};
 ghost use Rattle.square.specs.Squares.{module_over};
 ghost use Rattle.square.specs.Tables.{row_in, plain_rows, IsNextAt};
-ghost use Rattle.resolution_step.specs.Alone.{IsThrough, cut, HasGrown, AreOfStart, IsCanonicalStart, IsNewAt, HoldsTable, HasGiven, HasGone, IsFollowed};
+ghost use Rattle.resolution_step.specs.Alone.{IsThrough, cut, HasGrown, AreOfStart, IsNewAt, HoldsTable, HasGiven, HasGone, IsFollowed};
 
 use crate::step_on::step;
 use memory::Memory;

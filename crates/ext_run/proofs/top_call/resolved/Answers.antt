@@ -3,7 +3,8 @@ use Rattle.module_check.specs.Checked.{Checked}
 use Rattle.resolution_laws.specs.Resolution.{IsCanonicalTable}
 use Rattle.square.specs.Squares.{module_over}
 use Rattle.square.specs.Tables.{plain_rows}
-use Rattle.resolution_step.specs.Alone.{cut, IsCanonicalStart}
+use Rattle.resolution_laws.specs.Start.{IsCanonicalStart}
+use Rattle.resolution_step.specs.Alone.{cut}
 use Rattle.ext_run.proofs.Resolved.{is_resolved}
 use Rattle.ext_run.proofs.top_call.resolved.Goals as goal
 
