@@ -6,3 +6,4 @@ pub mod Kept
 pub mod Parts
 pub mod Pivots
 pub mod Preimages
+pub mod Eliminate

@@ -1,12 +1,16 @@
 //! Linear algebra over the field with two elements: echelon forms, spans and kernels. Vectors are rows.
 #![tactic(auto)]
 
+mod existence;
 mod laws;
 mod matrix;
 mod reduced;
 #[cfg(test)]
 mod tests;
 
+pub use existence::{
+    echelon_form_exists, kernel_basis_exists, reduction_exists, row_basis_exists, span_is_decidable,
+};
 pub use laws::{
     echelon_form_is_unique, kernel_basis_is_unique, preimage_is_unique, row_basis_is_unique,
 };

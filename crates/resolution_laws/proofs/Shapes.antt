@@ -73,7 +73,7 @@ step_shape m below squares c p step =
     }
 
 -- the kernel of a square of the row below
-kernel_candidates : KernelBasisIsUnique → (m : Module) (start : List Entry) (i k : ℕ) (at : ℕ → ℕ → Content) → ((j : ℕ) → j ≤ k → IsOf m start i j (at i j)) → (o : IsOver m start i k (at i k)) → HasShape m (row_below o.at i k) (squares_below o.at i k) (at i k)
+pub kernel_candidates : KernelBasisIsUnique → (m : Module) (start : List Entry) (i k : ℕ) (at : ℕ → ℕ → Content) → ((j : ℕ) → j ≤ k → IsOf m start i j (at i j)) → (o : IsOver m start i k (at i k)) → HasShape m (row_below o.at i k) (squares_below o.at i k) (at i k)
     → AreCandidates (free_width (degrees_from m.bottom (squares_below at i (suc k))) (m.bottom +ℤ pos k)) (at i k).kernel
 kernel_candidates kernels m start i k at given o shape =
     let c = at i k in
