@@ -7,18 +7,14 @@ use Rattle.f2_matrix.proofs.Unique.{kernel_basis_unique}
 use Rattle.free_module.specs.FreeModule.{free_width}
 use Rattle.free_module.specs.Graded.{KeepsWidths}
 use Rattle.resolution_laws.specs.Resolution.{Module, Content, square_in, degrees_from, target_over, candidates_over, IsStep}
-use Rattle.resolution_laws.specs.Start.{Entry, squares_below, row_below, IsOf}
+use Rattle.resolution_laws.specs.Start.{Entry, squares_below, row_below, IsOf, AreBefore}
 use Rattle.resolution_laws.proofs.Generators.{AreImages-row}
 use Rattle.resolution_laws.proofs.Rows.{free_basis-take}
 use Rattle.resolution_laws.proofs.Shapes.{content_shape, kernel_candidates}
-use Rattle.resolution_laws.proofs.StartLaws.{content_is_unique, length-squares_below, square_in-squares_below, squares_below-same, squares_below-take, row_below-same}
+use Rattle.resolution_laws.proofs.StartLaws.{length-squares_below, square_in-squares_below, squares_below-take}
+use Rattle.resolution_laws.proofs.StartTables.{start_table_shape}
 use Rattle.resolution_existence.specs.Existence.{IsSteppable}
 use Rattle.resolution_existence.proofs.Choose.{has_step}
-
--- the squares that a square (s, k) stands on are of the table of `first`
-pub record AreBefore (m : Module) (first : List Entry) (s k : ℕ) (at : ℕ → ℕ → Content) : Type 0 where
-  pub before : (j : ℕ) → j < k → IsOf m first s j (at s j)
-  pub below : (i j : ℕ) → suc i ≡ s → j ≤ k → IsOf m first i j (at i j)
 
 -- in a degree through that of square j, the target of d_s is the same over the row below through j and through k
 same_width : (m : Module) (s j k : ℕ) (at : ℕ → ℕ → Content) → j ≤ k → (target_over m (row_below at s j)).width (m.bottom +ℤ pos j) ≡ (target_over m (row_below at s k)).width (m.bottom +ℤ pos j)
@@ -32,14 +28,11 @@ same_width m (suc i) j k at l =
 
 image_widths : (m : Module) (first : List Entry) (s k : ℕ) (at : ℕ → ℕ → Content) → AreBefore m first s k at → (j : ℕ) → j < k → HaveWidth ((target_over m (row_below at s k)).width (m.bottom +ℤ pos j)) (at s j).images
 image_widths m first s k at p j l =
-    let shaped = content_shape kernel_basis_unique m first s j (at s j) (p.before j l) in
-    let o = shaped.over in
-    let below : row_below o.at s j ≡ row_below at s j = row_below-same o.at at s j (λ i h e b. content_is_unique kernel_basis_unique m first i h (o.at i h) (at i h) (o.below i h e b) (p.below i h e (omega arith))) in
-    let len : length (squares_below o.at s j) ≡ j = length-squares_below o.at s j in
-    let P : Option (List Content) → Type 0 = λ z. HaveWidth ((target_over m z).width (m.bottom +ℤ pos j)) (at s j).images in
-    let Q : ℕ → Type 0 = λ n. HaveWidth ((target_over m (row_below o.at s j)).width (m.bottom +ℤ pos n)) (at s j).images in
+    let over : AreBefore m first s j at = record { before = λ h b. p.before h (omega arith); below = λ i h e b. p.below i h e (omega arith) } in
+    let shape = start_table_shape kernel_basis_unique m first s j at (at s j) over (p.before j l) in
+    let Q : ℕ → Type 0 = λ n. HaveWidth ((target_over m (row_below at s j)).width (m.bottom +ℤ pos n)) (at s j).images in
     let R : ℕ → Type 0 = λ n. HaveWidth n (at s j).images in
-    subst R (same_width m s j k at (omega arith)) (subst P below (subst Q len shaped.shape.image_widths))
+    subst R (same_width m s j k at (omega arith)) (subst Q (length-squares_below at s j) shape.image_widths)
 
 -- the kernel rows of a square are of the dimension of its free module in its degree
 kernel_widths : (m : Module) (first : List Entry) (i k : ℕ) (at : ℕ → ℕ → Content) → ((j : ℕ) → j ≤ k → IsOf m first i j (at i j)) → HaveWidth (free_width (degrees_from m.bottom (squares_below at i (suc k))) (m.bottom +ℤ pos k)) (at i k).kernel

@@ -6,10 +6,10 @@ use Rattle.std.proofs.lemmas.List.FromFn.{length-map-range_with_len, get_or-map-
 use Rattle.f2_matrix.proofs.Unique.{kernel_basis_unique}
 use Rattle.free_module.specs.Graded.{KeepsWidths}
 use Rattle.resolution_laws.specs.Resolution.{Module, Content, no_content, square_in, IsStep, row_of}
-use Rattle.resolution_laws.specs.Start.{Entry, entry_at, HasShape, squares_below, row_below, IsOf, is_of}
+use Rattle.resolution_laws.specs.Start.{Entry, entry_at, HasShape, squares_below, row_below, IsOf, is_of, AreBefore}
 use Rattle.resolution_laws.proofs.StartLaws.{canonical_from_contents, length-squares_below, square_in-squares_below}
 use Rattle.resolution_existence.specs.Existence.{IsOwnStart, CanonicalTableExists, TableOfStartExists}
-use Rattle.resolution_existence.proofs.Steps.{AreBefore, step_over}
+use Rattle.resolution_existence.proofs.Steps.{step_over}
 
 -- the square (s, k) of the table, where those that it stands on are there
 here_or_read : (m : Module) (start : List Entry) (s k : ℕ) (at : ℕ → ℕ → Content) → KeepsWidths m.graded → AreBefore m start s k at → (found : Option Content) → entry_at start s k ≡ found → ((read : Content) → found ≡ Some read → IsOf m start s k read) → (content : Content) × IsOf m start s k content

@@ -1,14 +1,15 @@
 pub mod Choice
-pub mod Chosen
+mod Chosen
 pub mod Complex
-pub mod Exact
+mod Exact
 pub mod Generators
-pub mod Late
-pub mod Minimal
+mod Late
+mod Minimal
 pub mod NewGenerators
 pub mod Rows
-pub mod Squares
-pub mod TableIsMinimal
+mod Squares
+mod TableIsMinimal
 pub mod TableIsUnique
 pub mod StartLaws
 pub mod Shapes
+pub mod StartTables

@@ -15,7 +15,7 @@ use Rattle.free_module.specs.Graded.{IsSteenrodModule}
 use Rattle.free_module.specs.LinearMap.{image_of, map_rows, mapped}
 use Rattle.free_module.proofs.FreeBasis.{free_basis_from-append}
 use Rattle.resolution_laws.specs.Resolution.{Module, Content, square_in, degrees_from, images_of, row_of}
-use Rattle.resolution_laws.specs.Exactness.{IsBoundedBelow, target_of, differential, IsOperatedOn, IsMinimalAt, IsExactAt}
+use Rattle.resolution_laws.specs.Exactness.{IsBoundedBelow, target_of, differential, IsOperatedOn, IsMinimalAt, AreNeededAt, IsExactAt}
 use Rattle.resolution_laws.proofs.Rows.{degrees_from-between, degrees_from-split}
 use Rattle.resolution_laws.proofs.Chosen.{chosen_apart, relation_without_chosen}
 use Rattle.resolution_laws.proofs.Generators.{element-IsOfDegree, map_rows-take}
@@ -49,22 +49,26 @@ bit-from c n w j h z =
     let at : n + (j - n) ≡ j = omega arith in
     ap (bit c) (sym at) ∙ (sym (get_or-drop n c (j - n) false) ∙ (ap (λ (v : List Bool). bit v (j - n)) z ∙ bit-zeros w (j - n)))
 
-minimal_above : (m : Module) (s t : ℕ) (table : List (List Content)) → IsResolved m s t table → (i k : ℕ) → suc i ≤ s → k ≤ t → IsMinimalAt m table (suc i) k
-minimal_above m s t table p i k h l g j a b bare =
+-- no relation has a coefficient at a chosen generator
+pub are_needed : (m : Module) (s t : ℕ) (table : List (List Content)) → IsResolved m s t table → (i k : ℕ) → i ≤ s → k ≤ t → AreNeededAt m table i k
+are_needed m s t table p i k h l c relation j b bare =
     let u = m.bottom +ℤ pos k in
     let squares = row_of table i in
     let n = (target_of m table i).width u in
-    let count = p.canonical.squares i (omega arith) in
-    let square = square_at m s t table p i k (omega arith) l in
+    let count = p.canonical.squares i h in
+    let square = square_at m s t table p i k h l in
     let old = old_rows m table i k in
     let chosen = (square_in squares k).images in
-    let c = row (square_in (row_of table (suc i)) k).images g in
-    let relation : IsInKernel n (old ++ chosen) c = subst (λ (z : List (List Bool)). IsInKernel n z c) square.rows (image-IsInKernel m s t table p i k g h l a) in
-    let none : drop (length old) c ≡ zeros (length chosen) = relation_without_chosen n old (candidates_of m table i k) chosen square.old_widths square.candidate_widths square.chosen c relation in
+    let whole : IsInKernel n (old ++ chosen) c = subst (λ (z : List (List Bool)). IsInKernel n z c) square.rows relation in
+    let none : drop (length old) c ≡ zeros (length chosen) = relation_without_chosen n old (candidates_of m table i k) chosen square.old_widths square.candidate_widths square.chosen c whole in
     let before = degrees_from m.bottom (take k squares) in
     let len : length old ≡ free_width before u = length-map (free_basis before u) (image_of (target_of m table i) before (images_of (take k squares))) in
     let new = bare-IsNew m.bottom squares k j (omega arith) b bare in
     bit-from c (length old) (length chosen) j (omega arith) none
+
+-- the images of the row above are such relations
+minimal_above : (m : Module) (s t : ℕ) (table : List (List Content)) → IsResolved m s t table → (i k : ℕ) → suc i ≤ s → k ≤ t → IsMinimalAt m table (suc i) k
+minimal_above m s t table p i k h l g j a b bare = are_needed m s t table p i k (omega arith) l (row (square_in (row_of table (suc i)) k).images g) (image-IsInKernel m s t table p i k g h l a) j b bare
 
 empty : (v : List Bool) → length v ≡ 0 → v ≡ []
 empty [] e = refl

@@ -126,3 +126,9 @@ square_at m s t table p i k h l =
       rows = all ∙ map_rows-new target (degrees_from m.bottom before) (images_of before) c.images u good.unit are.one_each (HaveWidth-images m s t table p.canonical i k h l);
       kernel = subst (λ (z : List (List Bool)). IsKernelBasis (target.width u) z c.kernel) (sym all) step.kernel;
     }
+
+-- its images are vectors of the target
+pub image_widths : (m : Module) (s t : ℕ) (table : List (List Content)) → IsResolved m s t table → (i k : ℕ) → i ≤ s → k ≤ t → HaveWidth ((target_of m table i).width (m.bottom +ℤ pos k)) (square_in (row_of table i) k).images
+image_widths m s t table p i k h l =
+    let square = square_at m s t table p i k h l in
+    HaveWidth-IsChosen ((target_of m table i).width (m.bottom +ℤ pos k)) (old_rows m table i k) (candidates_of m table i k) (square_in (row_of table i) k).images square.candidate_widths square.chosen

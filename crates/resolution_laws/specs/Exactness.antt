@@ -1,7 +1,7 @@
 -- That a table is a complex, exact and minimal.
-use Rattle.std.specs.Prelude.{◌≡◌, ℕ, zero, suc, ◌<◌, ◌≤◌, ◌↔◌, ℤ, pos, ◌+ℤ◌, ◌<ℤ◌, Bool, false, List, [], length}
+use Rattle.std.specs.Prelude.{◌≡◌, ℕ, zero, suc, ◌+◌, ◌<◌, ◌≤◌, ◌↔◌, ℤ, pos, ◌+ℤ◌, ◌<ℤ◌, Bool, false, List, [], length}
 use Rattle.f2_vec.specs.Vectors.{bit, zeros}
-use Rattle.f2_vec.specs.Spans.{row, combination, IsInSpan, IsInKernel}
+use Rattle.f2_vec.specs.Spans.{row, HaveWidth, combination, IsInSpan, IsInKernel}
 use Rattle.milnor_basis.specs.Exponents.{degree_of, IsTrimmed}
 use Rattle.free_module.specs.FreeModule.{free_basis, free_width}
 use Rattle.free_module.specs.FreeBasis.{element}
@@ -25,6 +25,12 @@ differential m table s t = map_rows (target_of m table s) (degrees_in m table s)
 
 abbrev pub boundary : Module → List (List Content) → ℕ → ℤ → List Bool → List Bool
 boundary m table s t v = mapped (target_of m table s) (degrees_in m table s) (images_of (row_of table s)) t v
+
+-- the table has the squares of the range, and no more in its rows; the images of a square are vectors of the target of d_s, in
+-- the square's degree
+pub record IsTable (m : Module) (s t : ℕ) (table : List (List Content)) : Type 0 where
+  pub squares : (i : ℕ) → i ≤ s → length (row_of table i) ≡ t + 1
+  pub widths : (i k : ℕ) → i ≤ s → k ≤ t → HaveWidth ((target_of m table i).width (m.bottom +ℤ pos k)) (square_in (row_of table i) k).images
 
 -- d d = 0
 abbrev pub IsComplexAt : Module → List (List Content) → ℕ → ℤ → Type 0
@@ -66,6 +72,15 @@ IsMinimalAt m table (suc s) k =
     let basis = free_basis (degrees_in m table s) (m.bottom +ℤ pos k) in
     (i j : ℕ) → i < length images → j < length basis → (element basis j).1 ≡ [] → bit (row images i) j ≡ false
 
+-- The generators of the square (s, k) are needed: no relation has a coefficient at Sq() on one of them, that is, no vector of
+-- the kernel of d_s in the square's degree has a term without an operation. So none of them can be left out. Of a row
+-- that has another above it this is minimality there; of the last row minimality does not say it.
+abbrev pub AreNeededAt : Module → List (List Content) → ℕ → ℕ → Type 0
+AreNeededAt m table s k =
+    let u = m.bottom +ℤ pos k in
+    let basis = free_basis (degrees_in m table s) u in
+    (v : List Bool) → IsInKernel ((target_of m table s).width u) (differential m table s u) v → (j : ℕ) → j < length basis → (element basis j).1 ≡ [] → bit v j ≡ false
+
 -- ---- the laws
 
 -- nothing is below the bottom
@@ -73,12 +88,14 @@ abbrev pub IsBoundedBelow : Module → Type 0
 IsBoundedBelow m = (t : ℤ) → t <ℤ m.bottom → m.graded.width t ≡ 0
 
 pub record IsMinimalResolution (m : Module) (s t : ℕ) (table : List (List Content)) : Type 0 where
+  pub is_table : IsTable m s t table
   pub complex : (i : ℕ) (degree : ℤ) → i < s → IsComplexAt m table i degree
   pub exact : (i k : ℕ) → i ≤ s → k ≤ t → IsExactAt m table i (m.bottom +ℤ pos k)
   pub minimal : (i k : ℕ) → i ≤ s → k ≤ t → IsMinimalAt m table i k
+  pub needed : (i k : ℕ) → i ≤ s → k ≤ t → AreNeededAt m table i k
   pub late : (i k : ℕ) → i ≤ s → k < i → (square_in (row_of table i) k).images ≡ []
 
--- The canonical resolution of a module over the Steenrod algebra is exact and minimal, and has no generator of row s in
--- degrees below s above the bottom.
+-- The canonical resolution of a module over the Steenrod algebra is exact and minimal, each of its generators is needed, those
+-- of its last row too, and it has no generator of row s in degrees below s above the bottom.
 abbrev pub CanonicalTableIsMinimalResolution : Type 0
 CanonicalTableIsMinimalResolution = (m : Module) (s t : ℕ) (table : List (List Content)) → IsSteenrodModule m.graded → IsBoundedBelow m → IsCanonicalTable m s t table → IsMinimalResolution m s t table

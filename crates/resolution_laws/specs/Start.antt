@@ -1,10 +1,10 @@
 -- Squares that were read from a save file stand as they were read. With those of a start, a table is continued by the step.
-use Rattle.std.specs.Prelude.{◌≡◌, ℕ, zero, suc, ◌<◌, ◌≤◌, pos, ◌+ℤ◌, ◌&&◌, nat_eq, if◌then◌else◌, List, [], ◌∷◌, ◌++◌, length, map, replicate, Option, Some, None, MatchOption}
+use Rattle.std.specs.Prelude.{◌≡◌, ℕ, zero, suc, ◌+◌, ◌<◌, ◌≤◌, ◌↔◌, pos, ◌+ℤ◌, ◌&&◌, nat_eq, if◌then◌else◌, List, [], ◌∷◌, ◌++◌, length, map, replicate, Option, Some, None, MatchOption}
 use Rattle.std.specs.List.{range_with_len}
 use Rattle.f2_vec.specs.Spans.{HaveWidth}
 use Rattle.f2_matrix.specs.Echelon.{IsReduced, HasNoZeroRow}
 use Rattle.free_module.specs.FreeModule.{free_width}
-use Rattle.resolution_laws.specs.Resolution.{Module, Content, degrees_from, target_over, IsStep}
+use Rattle.resolution_laws.specs.Resolution.{Module, Content, square_in, row_of, degrees_from, target_over, IsStep, IsCanonicalTable}
 
 -- a square that was read: its place, `above` degrees above the bottom, and what it holds
 pub record Entry : Type 0 where
@@ -46,3 +46,33 @@ pub data IsOf (m : Module) (start : List Entry) : ℕ → ℕ → Content → Ty
 -- each square of the start is that of the canonical resolution
 abbrev pub IsCanonicalStart : Module → List Entry → Type 0
 IsCanonicalStart m start = (s k : ℕ) (content : Content) → entry_at start s k ≡ Some content → IsOf m [] s k content
+
+-- ---- the laws
+
+-- the squares that the square (s, k) stands on are those of the start's table: those of its row below k, and those of the row
+-- below through k
+pub record AreBefore (m : Module) (start : List Entry) (s k : ℕ) (at : ℕ → ℕ → Content) : Type 0 where
+  pub before : (j : ℕ) → j < k → IsOf m start s j (at s j)
+  pub below : (i j : ℕ) → suc i ≡ s → j ≤ k → IsOf m start i j (at i j)
+
+-- a start's table has at most one content at each place,
+abbrev pub StartTableIsUnique : Type 0
+StartTableIsUnique = (m : Module) (start : List Entry) (s k : ℕ) (c d : Content) → IsOf m start s k c → IsOf m start s k d → c ≡ d
+
+-- which fits over the squares that it stands on, whether it was read or made by the step
+abbrev pub StartTableHasShape : Type 0
+StartTableHasShape = (m : Module) (start : List Entry) (s k : ℕ) (at : ℕ → ℕ → Content) (c : Content) → AreBefore m start s k at → IsOf m start s k c → HasShape m (row_below at s k) (squares_below at s k) c
+
+-- the table of a canonical start is that of the empty start
+abbrev pub CanonicalStartIsCanonical : Type 0
+CanonicalStartIsCanonical = (m : Module) (start : List Entry) → IsCanonicalStart m start → (s k : ℕ) (c : Content) → IsOf m start s k c ↔ IsOf m [] s k c
+
+-- the rows through s of a start's table, through degree bottom + t
+pub record IsTableOf (m : Module) (start : List Entry) (s t : ℕ) (table : List (List Content)) : Type 0 where
+  pub rows : length table ≡ s + 1
+  pub squares : (i : ℕ) → i ≤ s → length (row_of table i) ≡ t + 1
+  pub contents : (i k : ℕ) → i ≤ s → k ≤ t → IsOf m start i k (square_in (row_of table i) k)
+
+-- the table of the empty start is the canonical resolution
+abbrev pub EmptyStartIsCanonical : Type 0
+EmptyStartIsCanonical = (m : Module) (s t : ℕ) (table : List (List Content)) → IsTableOf m [] s t table ↔ IsCanonicalTable m s t table

@@ -4,6 +4,12 @@
 
 ghost use Rattle.resolution_laws.specs.Exactness.{CanonicalTableIsMinimalResolution};
 ghost use Rattle.resolution_laws.specs.Resolution.{CanonicalTableIsUnique};
+ghost use Rattle.resolution_laws.specs.Start.{
+  CanonicalStartIsCanonical,
+  EmptyStartIsCanonical,
+  StartTableHasShape,
+  StartTableIsUnique,
+};
 
 /// A module has at most one canonical resolution through each row and degree.
 pub fn canonical_table_is_unique()
@@ -14,9 +20,38 @@ pub fn canonical_table_is_unique()
 
 /// The canonical resolution of a module over the Steenrod algebra that is zero below its bottom is a minimal resolution, as
 /// far as it goes. The maps of its free modules compose to zero in every degree. In each bidegree that it holds, they are
-/// exact, and its generators are needed. Row s has no generator in degrees below s above the bottom.
+/// exact, and its generators are needed, those of its last row too. Row s has no generator in degrees below s above the bottom.
 pub fn canonical_table_is_minimal_resolution()
     ensures { CanonicalTableIsMinimalResolution }
 {
     milnor_laws::linear_maps();
+}
+
+/// The table of a start has at most one content at each place.
+pub fn start_table_is_unique()
+    ensures { StartTableIsUnique }
+{
+    f2_matrix::kernel_basis_is_unique();
+}
+
+/// Each content of a start's table has the shape of a square over those that it stands on: its images are vectors of the
+/// target of d_s, not more than its dimension, and its kernel rows are reduced, not zero, and of the free module's dimension.
+pub fn start_table_has_shape()
+    ensures { StartTableHasShape }
+{
+    f2_matrix::kernel_basis_is_unique();
+}
+
+/// If each square of a start is that of the canonical resolution, then so is each square of the start's table.
+pub fn canonical_start_is_canonical()
+    ensures { CanonicalStartIsCanonical }
+{
+    f2_matrix::kernel_basis_is_unique();
+}
+
+/// The table of the empty start is the canonical resolution, and there is no other.
+pub fn empty_start_is_canonical()
+    ensures { EmptyStartIsCanonical }
+{
+    f2_matrix::kernel_basis_is_unique();
 }
