@@ -7,3 +7,4 @@ pub mod Parts
 pub mod Pivots
 pub mod Preimages
 pub mod Eliminate
+pub mod Spanning

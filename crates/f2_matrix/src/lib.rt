@@ -4,6 +4,7 @@
 mod existence;
 mod laws;
 mod matrix;
+mod rank;
 mod reduced;
 #[cfg(test)]
 mod tests;
@@ -15,4 +16,5 @@ pub use laws::{
     echelon_form_is_unique, kernel_basis_is_unique, preimage_is_unique, row_basis_is_unique,
 };
 pub use matrix::Matrix;
+pub use rank::spanning_rows_are_full;
 pub use reduced::Reduced;

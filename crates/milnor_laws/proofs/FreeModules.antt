@@ -17,7 +17,7 @@ use Rattle.free_module.specs.FreeLaws.{blocks, coefficient_at, free_action_is_bl
 use Rattle.free_module.specs.Graded.{IsLinear, ActsByProducts, free_graded, FreeModulesAreModules}
 use Rattle.milnor_laws.proofs.Vectors.{product_acts}
 
-HaveWidth-acted : (degrees : List ℤ) (r : List ℕ) (t above : ℤ) → HaveWidth (free_width degrees above) (map (acted degrees r above) (free_basis degrees t))
+pub HaveWidth-acted : (degrees : List ℤ) (r : List ℕ) (t above : ℤ) → HaveWidth (free_width degrees above) (map (acted degrees r above) (free_basis degrees t))
 HaveWidth-acted degrees r t above =
     HaveWidth-map (free_width degrees above) (acted degrees r above) (free_basis degrees t) (λ x. length-map (free_basis degrees above) (coefficient_at x.0 r x.1))
 

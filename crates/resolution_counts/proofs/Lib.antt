@@ -1,0 +1,4 @@
+mod Bare
+mod Cover
+mod Compare
+mod Counts
