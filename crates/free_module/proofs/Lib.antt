@@ -1,3 +1,4 @@
 pub mod BlockSteps
 pub mod FreeBasis
+pub mod Generators
 pub mod MapRows

@@ -1,4 +1,4 @@
-ghost use Rattle.std.specs.Prelude.{◌≡◌, ◌≤◌, ◌<◌, ◌+◌, ◌^◌, ℕ, ℤ, pos, ◌+ℤ◌, ◌-ℤ◌, ◌≤ℤ◌, List, [], ◌∷◌, ◌++◌, Bool, length, take, drop, IfOk, OnOk, OnErr, Some, slice_get};
+ghost use Rattle.std.specs.Prelude.{◌≡◌, ◌≤◌, ◌<◌, ◌+◌, ◌^◌, ℕ, ℤ, pos, ◌+ℤ◌, ◌-ℤ◌, ◌≤ℤ◌, List, [], ◌∷◌, ◌++◌, Bool, length, take, drop, replicate, IfOk, OnOk, OnErr, Some, slice_get};
 ghost use Rattle.milnor_basis.specs.Exponents.{degree_of};
 ghost use Rattle.milnor_product.specs.Times.{basis_at, times_at};
 ghost use Rattle.free_module.specs.FreeLaws.{free_HasUnit, free_KeepsWidths};
@@ -43,13 +43,29 @@ impl Gens {
     /// Puts one more generator at the end, of this degree.
     ///
     /// # Errors
-    /// `Memory` where there is none for it; the generators are then as before.
+    /// `Memory` if allocation fails; the generators are then as before.
     pub fn push(&mut self, degree: i32) -> Result<(), Memory>
         requires not_below { (g : ℕ) → g < length self.old → degree_at self.old g ≤ℤ degree }
         ensures ok { OnOk result (self.new ≡ self.old ++ degree ∷ []) }
         ensures err { OnErr result (self.new ≡ self.old) }
     {
         self.degrees.push(degree)?;
+        Ok(())
+    }
+
+    /// Puts `count` more generators of this degree at the end.
+    ///
+    /// # Errors
+    /// `Memory` if allocation fails; the generators are then as before.
+    pub fn push_many(&mut self, count: usize, degree: i32) -> Result<(), Memory>
+        requires not_below { (g : ℕ) → g < length self.old → degree_at self.old g ≤ℤ degree }
+        ensures ok { OnOk result (self.new ≡ self.old ++ replicate count degree) }
+        ensures err { OnErr result (self.new ≡ self.old) }
+    {
+        self.degrees.reserve(count)?;
+        for _ in 0..count {
+            self.degrees.push_reserved(degree);
+        }
         Ok(())
     }
 

@@ -22,6 +22,17 @@ fn two_gens(alloc: Global) -> Result<Gens, Memory>
     Ok(gens)
 }
 
+#[test]
+fn pushes_many(rt: HostRuntime) -> Result<(), Fail> {
+    let mut gens = Gens::new(rt.alloc());
+    gens.push(-1)?;
+    gens.push_many(3, 2)?;
+    gens.push_many(0, 2)?;
+    gens.push_many(1, 5)?;
+    assert_eq!(rt; gens.degrees(), [-1, 2, 2, 2, 5].as_slice());
+    Ok(())
+}
+
 // The basis of degree 3 on generators of degrees 0 and 2: Sq(3) and Sq(0,1) on the first, Sq(1) on the second.
 #[test]
 fn places_and_elements(rt: HostRuntime) -> Result<(), Fail> {
