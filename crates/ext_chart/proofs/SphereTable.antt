@@ -1,5 +1,5 @@
 -- The sphere's table with its first square.
-use Rattle.std.proofs.Common.{◌≡◌, ℕ, zero, suc, ◌<◌, ◌^◌, ℤ, true, List, [], ◌∷◌, length, replicate, Some, None, refl, sym, ◌∙◌, ap, subst, arith}
+use Rattle.std.proofs.Common.{◌≡◌, ℕ, zero, suc, ◌+◌, ◌<◌, ◌^◌, ℤ, true, List, [], ◌∷◌, length, replicate, Some, None, refl, sym, ◌∙◌, ap, subst, arith}
 use Rattle.std.specs.List.{slice_get}
 use Rattle.std.proofs.lemmas.Int.{ints}
 use Rattle.f2_vec.specs.Spans.{HaveWidth}
@@ -9,6 +9,7 @@ use Rattle.module_check.specs.DerivedAction.{derived_module}
 use Rattle.module_check.specs.Checked.{sphere_file}
 use Rattle.resolution_laws.specs.Resolution.{Content}
 use Rattle.resolution_laws.specs.Start.{HasShape}
+use Rattle.square.specs.declared.range.TheConstants.{MAX_S}
 use Rattle.square.specs.Squares.{Placed, module_over, target_width, source_width}
 use Rattle.square.specs.Tables.{Staircase, row_in, AllRead, IsNext, IsReadable}
 
@@ -72,18 +73,18 @@ sphere_first =
     widths zero l = refl
     widths (suc i) l = absurd (omega arith)
 
-pub first_readable : (table : Staircase) (t : ℤ) (content : Content) → table.rows ≡ replicate 64 [] → table.resolved.plain ≡ derived_module sphere_file → t ≡ bottom table.resolved.plain.generators → content ≡ first_content → IsReadable table 0 t content
+pub first_readable : (table : Staircase) (t : ℤ) (content : Content) → table.rows ≡ replicate (MAX_S + 1) [] → table.resolved.plain ≡ derived_module sphere_file → t ≡ bottom table.resolved.plain.generators → content ≡ first_content → IsReadable table 0 t content
 first_readable table t content none sphere e same =
     let known = subst IsFirst (sym sphere) sphere_first in
     let m = module_over table.resolved.plain in
     record {
-      all_read = subst AllRead (sym none) (none_read 64);
+      all_read = subst AllRead (sym none) (none_read (MAX_S + 1));
       place = record {
         above = 0;
         degree = omega (arith, ints);
         row = omega arith;
         within = omega arith;
-        next = subst (λ rows. IsNext rows 0 0) (sym none) (first_next 64);
+        next = subst (λ rows. IsNext rows 0 0) (sym none) (first_next (MAX_S + 1));
       };
       shape = subst (HasShape m None []) (sym same) known.shape;
       target_fits = known.target;
@@ -91,5 +92,5 @@ first_readable table t content none sphere e same =
     }
 
 -- each square of the table of no square was read
-pub first_read : (table : Staircase) → table.rows ≡ replicate 64 [] → AllRead table.rows
-first_read table none = subst AllRead (sym none) (none_read 64)
+pub first_read : (table : Staircase) → table.rows ≡ replicate (MAX_S + 1) [] → AllRead table.rows
+first_read table none = subst AllRead (sym none) (none_read (MAX_S + 1))

@@ -14,6 +14,7 @@ use Rattle.resolution_laws.specs.Start.{squares_below, IsOf}
 use Rattle.resolution_laws.proofs.Rows.{free_basis-take}
 use Rattle.resolution_laws.proofs.Shapes.{content_shape}
 use Rattle.resolution_laws.proofs.StartLaws.{content_is_unique, length-squares_below, squares_below-take}
+use Rattle.square.specs.declared.range.TheConstants.{MAX_T}
 use Rattle.square.specs.Squares.{Placed, module_over}
 use Rattle.square.specs.Tables.{Staircase, natural, row_in, plain_rows, content_at, square_at, IsTable}
 use Rattle.square.proofs.Places.{length-row_of, slice_get-there, content_at-is, table_content}
@@ -71,7 +72,7 @@ pub record AreImagesAt (table : Staircase) (s k : ℕ) (vectors : List (List Boo
   pub there : k < length (row_in table.rows s)
   pub images : vectors ≡ (content_at table.rows s k).images
   pub widths : HaveWidth (image_width table.resolved.plain.generators (plain_rows table.rows) s (bottom table.resolved.plain.generators +ℤ pos k)) vectors
-  pub degree : k ≤ 127
+  pub degree : k ≤ MAX_T
 
 pub images_at : (table : Staircase) → IsTable table → (s k : ℕ) (t : ℤ) (q : Placed) (images : List (List Bool)) → t ≡ bottom table.resolved.plain.generators +ℤ pos k → Some q ≡ square_at table s t → images ≡ q.content.images → AreImagesAt table s k images
 images_at table h s k t q images e found same =

@@ -7,6 +7,7 @@ ghost use Rattle.resolution_laws.specs.Resolution.{IsCanonicalTable};
 ghost use Rattle.resolution_laws.specs.Start.{IsCanonicalStart};
 ghost use Rattle.square.specs.declared.keep.KeepFault as KeepFault;
 ghost use Rattle.square.specs.declared.keep.KeepFault.TheVariants.{Failed};
+ghost use Rattle.square.specs.declared.range.TheConstants.{MAX_S, MAX_T};
 ghost use Rattle.square.specs.Squares.{module_over};
 ghost use Rattle.square.specs.Tables.{row_in, plain_rows, IsNextAt};
 ghost use Rattle.resolution_step.specs.Alone.{IsThrough, cut, HasGrown, AreOfStart, IsNewAt, HoldsTable, HasGiven, HasGone, IsFollowed};
@@ -28,8 +29,8 @@ pub fn resolve_alone<K: Keep>(
     range: Range,
     mut keeper: K,
 ) -> (Result<Table, KeepFault>, K)
-    requires rows { range.s ≤ 63 }
-    requires degrees { range.t ≤ 127 }
+    requires rows { range.s ≤ MAX_S }
+    requires degrees { range.t ≤ MAX_T }
     requires live { K.is_live keeper }
     requires holds { IfSome (K.kept keeper) (λ list. HoldsTable list table.rows) }
     requires resolved { IfSome (K.resolved keeper) (λ m. table.resolved ≡ m) }
@@ -60,8 +61,8 @@ fn add_rows<K: Keep>(
     range: Range,
     keeper: &mut K,
 ) -> Result<(), KeepFault>
-    requires rows { range.s ≤ 63 }
-    requires degrees { range.t ≤ 127 }
+    requires rows { range.s ≤ MAX_S }
+    requires degrees { range.t ≤ MAX_T }
     requires live { K.is_live keeper.old }
     requires followed { IsFollowed (record { faults = K.faults keeper.old; kept = K.kept keeper.old; resolved = K.resolved keeper.old; start = K.start keeper.old; moment = K.moment keeper.old; since = K.since keeper.old }) table.old }
     ensures through { OnOk result (IsThrough range table.new.rows) }
@@ -86,8 +87,8 @@ fn add_row<K: Keep>(
     t: u16,
     keeper: &mut K,
 ) -> Result<(), KeepFault>
-    requires s { s ≤ 63 }
-    requires t { t ≤ 127 }
+    requires s { s ≤ MAX_S }
+    requires t { t ≤ MAX_T }
     requires below { (i : ℕ) → suc i ≡ s → t < length (row_in table.old.rows i) }
     requires live { K.is_live keeper.old }
     requires followed { IsFollowed (record { faults = K.faults keeper.old; kept = K.kept keeper.old; resolved = K.resolved keeper.old; start = K.start keeper.old; moment = K.moment keeper.old; since = K.since keeper.old }) table.old }

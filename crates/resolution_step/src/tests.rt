@@ -1,5 +1,6 @@
 //! What no clause says: that there is memory for each call. The sphere's chart is known.
 ghost use Rattle.std.specs.Prelude.{◌≤◌};
+ghost use Rattle.square.specs.declared.range.TheConstants.{MAX_S, MAX_T};
 
 use crate::{resolve_alone, step};
 use f2_vec::BitVec;
@@ -37,8 +38,8 @@ fn is_row(table: &Table, s: u16, row: &str) -> bool {
 
 // The table through the range; nothing is kept.
 fn resolved(alloc: Global, table: Table, range: Range) -> Result<Table, Memory>
-    requires rows { range.s ≤ 63 }
-    requires degrees { range.t ≤ 127 }
+    requires rows { range.s ≤ MAX_S }
+    requires degrees { range.t ≤ MAX_T }
 {
     match resolve_alone(alloc, table, range, NoKeep).0 {
         Ok(table) => Ok(table),

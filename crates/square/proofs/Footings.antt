@@ -1,5 +1,5 @@
 -- What is made from a footing is a square.
-use Rattle.std.proofs.Common.{◌≡◌, ℕ, zero, suc, ◌≤◌, ℤ, pos, ◌+ℤ◌, nat_eq, if◌then◌else◌, List, [], length, Option, Some, None, MatchOption, IfSome, refl, sym, ◌∙◌, ap, subst, arith, inl, inr}
+use Rattle.std.proofs.Common.{◌≡◌, ◌↔◌, true, false, ℕ, zero, suc, ◌≤◌, ℤ, pos, ◌+ℤ◌, nat_eq, if◌then◌else◌, List, [], length, Option, Some, None, MatchOption, IfSome, IsSome, refl, sym, ◌∙◌, ap, subst, arith, inl, inr}
 use Rattle.std.proofs.lemmas.Bool.Decides.{eqb_tells}
 use Rattle.std.proofs.lemmas.List.{take_all, length-map}
 use Rattle.f2_matrix.specs.Reduction.{Reduction}
@@ -7,7 +7,7 @@ use Rattle.free_module.specs.FreeModule.{free_basis}
 use Rattle.module_check.specs.Module.{bottom}
 use Rattle.module_check.specs.Checked.{Checked}
 use Rattle.resolution_laws.specs.Resolution.{Content, square_in, IsStep}
-use Rattle.resolution_laws.specs.Start.{Entry, HasShape, squares_below, row_below, IsOf, is_of}
+use Rattle.resolution_laws.specs.Start.{Entry, entry_at, HasShape, squares_below, row_below, IsOf, is_of}
 use Rattle.resolution_laws.proofs.StartLaws.{squares_below-take}
 use Rattle.square.specs.Squares.{Placed, module_over, degrees_with, AreUnder, IsQuasi, IsMeasured}
 use Rattle.square.specs.Tables.{Footing, IsFooting}
@@ -67,6 +67,10 @@ footing_founded f h = record {
         squares_below-take (given f) i (suc f.above) b.0 (omega arith) (λ j l. given_below f i j e ∙ ap (λ x. square_in (below_list x) j) b.1) ∙ take_all (suc f.above) b.0 (omega arith) in
         ap (λ (x : List Content). Some x) all ∙ sym b.1
 
+kept_unread : {X Y : Type 0} (o : Option X) (y : Y) → o ≡ None → (Some y ≡ None) ↔ IsSome o
+kept_unread None y e = (λ f. let same : Some y ≡ None = f in cc, λ some. let same : false ≡ true = some in cc)
+kept_unread (Some x) y e = cc
+
 made_square : (f : Footing) (c : Content) (r : Reduction) → IsFooting f → IsStep (module_over f.resolved.plain) f.below f.squares c → IsQuasi (module_over f.resolved.plain) f.below f.squares c r → (t : ℤ) → t ≡ bottom f.resolved.plain.generators +ℤ pos f.above → IsMeasured (record { resolved = f.resolved; start = f.start; s = f.s; above = f.above; content = c; quasi = Some r }) t r.cols r.height
 made_square f c r h step quasi t degree =
     let m = module_over f.resolved.plain in
@@ -83,7 +87,7 @@ made_square f c r h step quasi t degree =
         is_of = is_of f.s f.above o.at c o.under.before o.under.below (subst T (sym h.absent) is_step);
         row = h.row;
         degree = h.degree;
-        read_or_made = record { absent = h.absent; at = o.at; under = o.under; quasi = is_quasi };
+        kept = record { at = o.at; under = o.under; quasi = is_quasi };
       };
       degree = degree;
       widths = record {
@@ -92,6 +96,7 @@ made_square f c r h step quasi t degree =
         target = is_quasi.cols;
         source = is_quasi.height ∙ length-map (free_basis (degrees_with m (squares_below o.at f.s f.above) c) (m.bottom +ℤ pos (length (squares_below o.at f.s f.above)))) _;
       };
+      where_made = kept_unread (entry_at f.start f.s f.above) r h.absent;
     }
 
 -- the same for the parts of a square

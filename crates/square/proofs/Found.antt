@@ -1,5 +1,5 @@
 -- A square that is found in a table, and the reduction that it kept.
-use Rattle.std.proofs.Common.{◌≡◌, ℕ, zero, suc, ◌<◌, ℤ, pos, negsuc, ◌+ℤ◌, ◌-ℤ◌, List, [], ◌∷◌, length, take, Option, Some, None, option_and_then, MatchOption, refl, sym, ◌∙◌, ap, subst, arith}
+use Rattle.std.proofs.Common.{◌≡◌, ℕ, zero, suc, ◌<◌, ℤ, pos, ◌+ℤ◌, ◌-ℤ◌, List, [], ◌∷◌, length, take, Option, Some, None, option_and_then, IfSome, IsSome, refl, sym, ◌∙◌, ap, subst, arith}
 use Rattle.std.specs.List.{slice_get}
 use Rattle.std.proofs.lemmas.Int.{ints}
 use Rattle.std.proofs.lemmas.Option.{slice_get_within}
@@ -10,13 +10,10 @@ use Rattle.module_check.specs.Checked.{Checked}
 use Rattle.resolution_laws.specs.Resolution.{Module, Content, row_of, below_of}
 use Rattle.resolution_laws.specs.Start.{Entry, entry_at, squares_below, row_below}
 use Rattle.resolution_laws.proofs.StartLaws.{content_is_unique, squares_below-same, row_below-same}
-use Rattle.square.specs.Squares.{Placed, module_over, AreUnder, IsQuasi, IsMadeWith, IsSquare}
-use Rattle.square.specs.Tables.{Staircase, row_in, plain_rows, content_at, natural, above_of, square_at, IsQuasiAt, IsTable}
+use Rattle.square.specs.Squares.{Placed, module_over, AreUnder, IsQuasi, IsKeptOf, KeptWhereMade, IsSquare}
+use Rattle.square.specs.Tables.{Staircase, row_in, plain_rows, content_at, above_of, square_at, IsQuasiAt, IsTable}
+use Rattle.square.proofs.Looking.{natural-is}
 use Rattle.square.proofs.Places.{content_at-is, table_before, table_below, table_under}
-
-natural-is : (z : ℤ) (k : ℕ) → natural z ≡ Some k → z ≡ pos k
-natural-is (pos n) k e = let same : n ≡ k = cc in ap (λ i. pos i) same
-natural-is (negsuc n) k e = cc
 
 -- a square found at a degree, and its place
 pub record IsFound (table : Staircase) (s : ℕ) (t : ℤ) (q : Placed) : Type 0 where
@@ -42,19 +39,28 @@ row_within (row ∷ rows) (suc s) k l = let rest = row_within rows s k l in omeg
 
 -- ---- what it kept
 
+none_unless : {X : Type 0} (o : Option X) → (IsSome o → ⊥) → o ≡ None
+none_unless None h = refl
+none_unless (Some x) h = absurd (h refl)
+
+-- a square that has kept a reduction was not read
+unread : (q : Placed) (r : Reduction) → KeptWhereMade q → q.quasi ≡ Some r → entry_at q.start q.s q.above ≡ None
+unread q r where_made kept = none_unless (entry_at q.start q.s q.above) (λ read. let none = where_made.1 read in cc)
+
 module _ (table : Staircase) (h : IsTable table) (s k : ℕ) (q : Placed) (r : Reduction) (there : slice_get (row_in table.rows s) k ≡ Some q) where
   m : Module
   m = module_over table.resolved.plain
 
-  pub kept_here : IsSquare q → q.quasi ≡ Some r → IsQuasi (module_over table.resolved.plain) (below_of (plain_rows table.rows) s k) (take k (row_of (plain_rows table.rows) s)) (content_at table.rows s k) r
+  pub kept_here : IsSquare q → KeptWhereMade q → q.quasi ≡ Some r → IsQuasi (module_over table.resolved.plain) (below_of (plain_rows table.rows) s k) (take k (row_of (plain_rows table.rows) s)) (content_at table.rows s k) r
   unfolding m
-  kept_here square kept =
+  kept_here square where_made kept =
       let is = h.placed s k q there in
       let within = slice_get_within (row_in table.rows s) k q there in
-      let P : Option Reduction → Type 0 = λ o. MatchOption o (entry_at q.start q.s q.above ≡ Some q.content) (IsMadeWith q) in
-      let made : IsMadeWith q r = subst P kept square.read_or_made in
-      let Q : Option Reduction → Type 0 = λ o. MatchOption o (entry_at table.start s k ≡ Some q.content) (λ _. (entry_at table.start s k ≡ None) × (q.start ≡ table.start)) in
-      let start : q.start ≡ table.start = (subst Q kept is.read_or_made).1 in
+      let P : Option Reduction → Type 0 = λ o. IfSome o (IsKeptOf q) in
+      let made : IsKeptOf q r = subst P kept square.kept in
+      let absent : entry_at table.start s k ≡ None =
+      sym is.entry_is ∙ ap (λ n. entry_at q.start n k) (sym is.s_is) ∙ ap (entry_at q.start q.s) (sym is.above_is) ∙ unread q r where_made kept in
+      let start : q.start ≡ table.start = is.start_is absent in
       let at = made.at in
       let under1 = subst (λ (x : Checked). AreUnder (module_over x.plain) q.start q.s q.above at) is.resolved_is made.under in
       let under2 = subst (λ (x : List Entry). AreUnder m x q.s q.above at) start under1 in
@@ -73,5 +79,5 @@ module _ (table : Staircase) (h : IsTable table) (s k : ℕ) (q : Placed) (r : R
       let quasi5 = subst (λ (x : Option (List Content)). IsQuasi m x (squares_below at s k) (content_at table.rows s k) r) below quasi4 in
       subst (λ (x : List Content). IsQuasi m (below_of (plain_rows table.rows) s k) x (content_at table.rows s k) r) before quasi5
 
-pub kept_found : (table : Staircase) → IsTable table → (s : ℕ) (t : ℤ) (q : Placed) (r : Reduction) → IsFound table s t q → IsSquare q → q.quasi ≡ Some r → IsQuasiAt table s t r
-kept_found table h s t q r f square kept = record { above = f.above; degree = f.degree; quasi = kept_here table h s f.above q r f.there square kept }
+pub kept_found : (table : Staircase) → IsTable table → (s : ℕ) (t : ℤ) (q : Placed) (r : Reduction) → IsFound table s t q → IsSquare q → KeptWhereMade q → q.quasi ≡ Some r → IsQuasiAt table s t r
+kept_found table h s t q r f square where_made kept = record { above = f.above; degree = f.degree; quasi = kept_here table h s f.above q r f.there square where_made kept }

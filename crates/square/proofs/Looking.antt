@@ -1,13 +1,28 @@
 -- What is found at a place of a footing.
-use Rattle.std.proofs.Common.{◌≡◌, ℕ, suc, ℤ, false, nat_eq, if◌then◌else◌, List, Option, Some, None, option_and_then, option_map, refl, sym, ◌∙◌, ap, arith, inl, inr}
+use Rattle.std.proofs.Common.{◌≡◌, ℕ, suc, ℤ, pos, negsuc, ◌+ℤ◌, ◌-ℤ◌, false, nat_eq, if◌then◌else◌, List, Option, Some, None, IfSome, option_and_then, option_map, refl, sym, ◌∙◌, ap, arith, inl, inr}
 use Rattle.std.specs.List.{slice_get}
+use Rattle.std.proofs.lemmas.Int.{ints}
 use Rattle.std.proofs.lemmas.Bool.{eq-eqb}
 use Rattle.std.proofs.lemmas.Bool.Decides.{eqb_tells}
 use Rattle.std.proofs.lemmas.Option.{slice_get-map}
 use Rattle.module_check.specs.Module.{bottom}
+use Rattle.module_check.specs.Checked.{Checked}
 use Rattle.resolution_laws.specs.Resolution.{Content}
 use Rattle.square.specs.Squares.{Placed, content_of}
-use Rattle.square.specs.Tables.{Footing, contents, above_of, content_in, footing_at, under_row}
+use Rattle.square.specs.Tables.{Footing, contents, natural, above_of, IsPlacedAt, AreOfRow, content_in, footing_at, under_row}
+
+pub natural-is : (z : ℤ) (k : ℕ) → natural z ≡ Some k → z ≡ pos k
+natural-is (pos n) k e = let same : n ≡ k = cc in ap (λ i. pos i) same
+natural-is (negsuc n) k e = cc
+
+-- what a row has at the place of a degree stands there
+pub placed_there : {X : Type 0} (o : Option X) (f : X → Placed) (resolved resolved' : Checked) (i i' k : ℕ) (t b u : ℤ) (at : Option ℕ) (row : List Placed) → option_map f o ≡ slice_get row k → AreOfRow resolved' i' row → resolved' ≡ resolved → i' ≡ i → at ≡ above_of b u → at ≡ Some k → b ≡ bottom resolved.plain.generators → u ≡ t → IfSome o (λ x. IsPlacedAt resolved i t (f x))
+placed_there None f resolved resolved' i i' k t b u at row seen are e1 e2 e3 e4 e5 e6 = tt
+placed_there (Some x) f resolved resolved' i i' k t b u at row seen are e1 e2 e3 e4 e5 e6 =
+    let d : u -ℤ b ≡ pos k = natural-is (u -ℤ b) k (sym e3 ∙ e4) in
+    let is = are k (f x) (sym seen) in
+    let above = is.above_is in
+    record { resolved_is = is.resolved_is ∙ e1; s_is = is.s_is ∙ e2; degree = omega (arith, ints) }
 
 twice : {X : Type 0} (o : Option X) (f : X → Placed) → option_map (λ a. content_of (f a)) o ≡ option_map content_of (option_map f o)
 twice None f = refl

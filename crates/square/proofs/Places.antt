@@ -1,5 +1,5 @@
 -- The squares of a table at their places, what is made from them, and what is read behind them.
-use Rattle.std.proofs.Common.{◌≡◌, ℕ, zero, suc, ◌+◌, ◌<◌, ◌≤◌, ℤ, pos, ◌+ℤ◌, List, [], ◌∷◌, ◌++◌, length, take, replicate, Option, Some, None, MatchOption, IfSome, refl, sym, ◌∙◌, ap, subst, arith, add-one}
+use Rattle.std.proofs.Common.{◌≡◌, ℕ, zero, suc, ◌+◌, ◌<◌, ◌≤◌, ℤ, pos, ◌+ℤ◌, List, [], ◌∷◌, ◌++◌, length, take, replicate, Option, Some, None, MatchOption, IfSome, IsSome, refl, sym, ◌∙◌, ap, subst, arith, add-one}
 use Rattle.std.specs.List.{slice_get}
 use Rattle.std.proofs.lemmas.Int.{ints}
 use Rattle.std.proofs.lemmas.List.{length-map, length-take-le, get_or-take, take-map}
@@ -9,8 +9,9 @@ use Rattle.module_check.specs.Checked.{Checked}
 use Rattle.resolution_laws.specs.Resolution.{Module, Content, square_in, row_of, below_of, degrees_from, IsStep}
 use Rattle.resolution_laws.specs.Start.{Entry, entry_at, HasShape, squares_below, row_below, IsOf, is_of}
 use Rattle.resolution_laws.proofs.StartLaws.{squares_below-take, length-squares_below, grown_content, entry_at-new}
+use Rattle.square.specs.declared.range.TheConstants.{MAX_S, MAX_T}
 use Rattle.square.specs.Squares.{Placed, content_of, module_over, AreUnder, IsMeasured, target_width, source_width}
-use Rattle.square.specs.Tables.{Staircase, Footing, contents, row_in, plain_rows, content_at, row_width, under_row, IsNext, IsTable, IsFooting, IsReadable}
+use Rattle.square.specs.Tables.{Staircase, Footing, contents, row_in, plain_rows, content_at, row_width, under_row, AreOfRow, IsNext, IsTable, IsFooting, IsReadable}
 use Rattle.square.proofs.RowWidths.{free_width-more, free_width-row}
 
 -- ---- rows
@@ -76,7 +77,7 @@ next_absent table h s k l = none_from (entry_at table.start s k) (λ c e. let th
 
 -- ---- a footing
 
-pub footing_in : (table : Staircase) → IsTable table → (s k : ℕ) → s ≤ 63 → k ≤ 127 → IsNext table.rows s k → IsFooting (record { resolved = table.resolved; start = table.start; s = s; above = k; squares = take k (row_of (plain_rows table.rows) s); below = below_of (plain_rows table.rows) s k })
+pub footing_in : (table : Staircase) → IsTable table → (s k : ℕ) → s ≤ MAX_S → k ≤ MAX_T → IsNext table.rows s k → IsFooting (record { resolved = table.resolved; start = table.start; s = s; above = k; squares = take k (row_of (plain_rows table.rows) s); below = below_of (plain_rows table.rows) s k })
 footing_in table h s k row degree next =
     let m = module_over table.resolved.plain in
     let rows = plain_rows table.rows in
@@ -118,7 +119,7 @@ source_fits table s k n limit c next count fits =
     let same = source_width-row (module_over table.resolved.plain) squares squares k c (length-take-le k (row_of (plain_rows table.rows) s) (omega arith)) refl in
     omega arith
 
-read_square : (table : Staircase) (s k : ℕ) (c : Content) → IsTable table → s ≤ 63 → k ≤ 127 → IsNext table.rows s k → HasShape (module_over table.resolved.plain) (below_of (plain_rows table.rows) s k) (take k (row_of (plain_rows table.rows) s)) c
+read_square : (table : Staircase) (s k : ℕ) (c : Content) → IsTable table → s ≤ MAX_S → k ≤ MAX_T → IsNext table.rows s k → HasShape (module_over table.resolved.plain) (below_of (plain_rows table.rows) s k) (take k (row_of (plain_rows table.rows) s)) c
     → (t : ℤ) → t ≡ bottom table.resolved.plain.generators +ℤ pos k
     → IsMeasured (record { resolved = table.resolved; start = table.start ++ record { s = s; above = k; content = c } ∷ []; s = s; above = k; content = c; quasi = None }) t (target_width (module_over table.resolved.plain) (below_of (plain_rows table.rows) s k) (take k (row_of (plain_rows table.rows) s))) (row_width (take k (row_of (plain_rows table.rows) s)) k + length c.images)
 read_square table s k c h row degree next shape t at_t =
@@ -146,10 +147,11 @@ read_square table s k c h row degree next shape t at_t =
         is_of = is_of s k at c grown.before grown.below (subst R (sym new) (refl, fits));
         row = row;
         degree = degree;
-        read_or_made = new;
+        kept = tt;
       };
       degree = at_t;
       widths = record { at = at; under = grown; target = w; source = source_width-row m (take k (row_of rows s)) (squares_below at s k) k c (length-squares_below at s k) (sym before) };
+      where_made = (λ e. subst IsSome (sym new) refl, λ read. refl);
     }
 
 -- the same for the parts of a square
@@ -177,6 +179,18 @@ IsMeasured-read table s t c h readable resolved start more above t' w v at_t e1 
     subst V (sym e6) (subst W (sym e5) (subst R e made))
 
 -- ---- parts of rows as they are held
+
+slice_get-first : (xs : List Placed) (n k : ℕ) (x : Placed) → slice_get (take n xs) k ≡ Some x → slice_get xs k ≡ Some x
+slice_get-first xs zero k x e = cc
+slice_get-first [] (suc n) k x e = e
+slice_get-first (y ∷ xs) (suc n) zero x e = e
+slice_get-first (y ∷ xs) (suc n) (suc k) x e = slice_get-first xs n k x e
+
+-- the first squares of a row of a table stand at their places
+pub AreOfRow-first : (table : Staircase) → IsTable table → (resolved : Checked) (s n : ℕ) (squares : List Placed) → resolved ≡ table.resolved → squares ≡ take n (row_in table.rows s) → AreOfRow resolved s squares
+AreOfRow-first table h resolved s n squares e same k q there =
+    let is = h.placed s k q (slice_get-first (row_in table.rows s) n k q (ap (λ (x : List Placed). slice_get x k) (sym same) ∙ there)) in
+    record { resolved_is = is.resolved_is ∙ sym e; s_is = is.s_is; above_is = is.above_is }
 
 pub contents-take : (rows : List (List Placed)) (s n : ℕ) (squares : List Placed) → squares ≡ take n (row_in rows s) → contents squares ≡ take n (row_of (plain_rows rows) s)
 contents-take rows s n squares e = ap contents e ∙ sym (take-map content_of n (row_in rows s)) ∙ ap (take n) (sym (row_of-plain rows s))
@@ -228,9 +242,9 @@ row_in-none zero s = refl
 row_in-none (suc n) zero = refl
 row_in-none (suc n) (suc s) = row_in-none n s
 
-pub no_squares : (resolved : Checked) (start : List Entry) (rows : List (List Placed)) (spare : ℕ) → start ≡ [] → rows ≡ replicate 64 [] → IsTable (record { resolved = resolved; start = start; rows = rows; spare = spare })
+pub no_squares : (resolved : Checked) (start : List Entry) (rows : List (List Placed)) (spare : ℕ) → start ≡ [] → rows ≡ replicate (MAX_S + 1) [] → IsTable (record { resolved = resolved; start = start; rows = rows; spare = spare })
 no_squares resolved start rows spare e f =
-    let none : (s : ℕ) → row_in rows s ≡ [] = λ s. ap (λ (x : List (List Placed)). row_in x s) f ∙ row_in-none 64 s in
+    let none : (s : ℕ) → row_in rows s ≡ [] = λ s. ap (λ (x : List (List Placed)). row_in x s) f ∙ row_in-none (MAX_S + 1) s in
     record {
       rows = ap length f;
       never_rise = λ s. let a = ap length (none s) in let b = ap length (none (suc s)) in omega arith;

@@ -1,15 +1,14 @@
 -- A table with one square more.
-use Rattle.std.proofs.Common.{◌≡◌, ◌≢◌, ◌⊎◌, ℕ, zero, suc, ◌+◌, ◌-◌, ◌<◌, ◌≤◌, List, [], ◌∷◌, ◌++◌, length, map, set, get_or, Option, Some, None, MatchOption, refl, sym, ◌∙◌, ap, subst, arith, inl, inr}
+use Rattle.std.proofs.Common.{◌≡◌, ◌≢◌, ◌⊎◌, true, false, Option, ℕ, zero, suc, ◌+◌, ◌-◌, ◌<◌, ◌≤◌, List, [], ◌∷◌, ◌++◌, length, map, set, get_or, Some, None, IsSome, refl, sym, ◌∙◌, ap, subst, arith, inl, inr}
 use Rattle.std.specs.List.{slice_get}
 use Rattle.std.proofs.lemmas.Bool.Decides.{eqb_tells}
 use Rattle.std.proofs.lemmas.List.{length_push, length-map}
 use Rattle.std.proofs.lemmas.Option.{slice_get_within, slice_get_read}
-use Rattle.f2_matrix.specs.Reduction.{Reduction}
 use Rattle.module_check.specs.Checked.{Checked}
 use Rattle.resolution_laws.specs.Resolution.{Content}
 use Rattle.resolution_laws.specs.Start.{Entry, entry_at, IsOf}
 use Rattle.resolution_laws.proofs.StartLaws.{grown_content, entry_at-other}
-use Rattle.square.specs.Squares.{Placed, entry_of, module_over, IsMadeWith, IsSquare}
+use Rattle.square.specs.Squares.{Placed, entry_of, module_over, WasRead, IsSquare}
 use Rattle.square.specs.Tables.{Shelf, Staircase, row_in, with_square, IsNext, IsContinued, IsIn, IsTable, HaveRoom}
 use Rattle.square.proofs.Places.{next_length}
 
@@ -73,17 +72,14 @@ off_next table h s k i j end there p q =
     let less = never_rises table h s (i - s) in
     omega arith
 
-abbrev IsReadOrMade : List Entry → ℕ → ℕ → Placed → Option Reduction → Type 0
-IsReadOrMade start s k q o = MatchOption o (entry_at start s k ≡ Some q.content) (λ _. (entry_at start s k ≡ None) × (q.start ≡ start))
+not_some : {X : Type 0} (o : Option X) → o ≡ None → IsSome o → ⊥
+not_some None e some = let same : false ≡ true = some in cc
+not_some (Some x) e some = cc
 
-read_or_made-plain : (q : Placed) (o : Option Reduction) → MatchOption o (entry_at q.start q.s q.above ≡ Some q.content) (IsMadeWith q) → IsReadOrMade q.start q.s q.above q o
-read_or_made-plain q None h = h
-read_or_made-plain q (Some r) h = (h.absent, refl)
-
--- a square that was read, under a start that has the same at its place
-still_read : (old start : List Entry) (s k : ℕ) (q : Placed) (o : Option Reduction) → o ≡ None → entry_at start s k ≡ entry_at old s k → IsReadOrMade old s k q o → IsReadOrMade start s k q o
-still_read old start s k q None e same h = same ∙ h
-still_read old start s k q (Some r) e same h = cc
+-- a square that was read is in a start that has the same at its place
+not_absent : (q : Placed) (start : List Entry) (s k : ℕ) → WasRead q → q.s ≡ s → q.above ≡ k → entry_at q.start s k ≡ entry_at start s k → entry_at start s k ≡ None → ⊥
+not_absent q start s k read at_s at_k same none =
+    not_some (entry_at q.start q.s q.above) (ap (λ n. entry_at q.start n q.above) at_s ∙ ap (entry_at q.start s) at_k ∙ same ∙ none) read
 
 module _ (table : Staircase) (q : Placed) (spare : ℕ) (h : IsTable table) (square : IsSquare q) (resolved : q.resolved ≡ table.resolved) (next : IsNext table.rows q.s q.above) where
   abbrev more : Staircase
@@ -130,21 +126,22 @@ module _ (table : Staircase) (q : Placed) (spare : ℕ) (h : IsTable table) (squ
             let off = off_next table h q.s q.above i j row_end there in
             let P : List Entry → Type 0 = λ st. IsOf (module_over table.resolved.plain) st i j c in
             let other = entry_at-other table.start (entry_of q) i j (λ a b. off (omega arith) (omega arith)) in
-            (subst P (sym e.2) (grown_content (module_over table.resolved.plain) table.start (entry_of q) i j c off is), ap (λ (st : List Entry). entry_at st i j) e.2 ∙ other)
+            (subst P (sym e.1) (grown_content (module_over table.resolved.plain) table.start (entry_of q) i j c off is), ap (λ (st : List Entry). entry_at st i j) e.1 ∙ other)
       ]
 
-  still : IsContinued table q → (i j : ℕ) (p : Placed) → slice_get (row_in table.rows i) j ≡ Some p → entry_at q.start i j ≡ entry_at table.start i j → IsReadOrMade table.start i j p p.quasi → IsReadOrMade q.start i j p p.quasi
-  still continued i j p e same is =
+  still : IsContinued table q → (i j : ℕ) (p : Placed) → slice_get (row_in table.rows i) j ≡ Some p → entry_at q.start i j ≡ entry_at table.start i j → entry_at q.start i j ≡ None → p.start ≡ q.start
+  still continued i j p e same none =
+      let is = h.placed i j p e in
       elim continued [
-        | inl st ↦ subst (λ (x : List Entry). IsReadOrMade x i j p p.quasi) (sym st) is
-        | inr st ↦ still_read table.start q.start i j p p.quasi (st.1 i j p e) same is
+        | inl st ↦ is.start_is (sym same ∙ none) ∙ sym st
+        | inr st ↦ absurd (not_absent p q.start i j (st.0 i j p e) is.s_is is.above_is (is.entry_is ∙ sym same) none)
       ]
 
   old_in : IsContinued table q → (i j : ℕ) (p : Placed) → slice_get (row_in table.rows i) j ≡ Some p → IsIn more i j p
   old_in continued i j p e =
       let is = h.placed i j p e in
       let s = stands continued i j p.content (slice_get_within (row_in table.rows i) j p e) is.is_of in
-      record { s_is = is.s_is; above_is = is.above_is; within = is.within; resolved_is = is.resolved_is; is_of = s.0; read_or_made = still continued i j p e s.1 is.read_or_made }
+      record { s_is = is.s_is; above_is = is.above_is; within = is.within; resolved_is = is.resolved_is; is_of = s.0; entry_is = is.entry_is ∙ sym s.1; start_is = still continued i j p e s.1 }
 
   new_in : IsIn more q.s q.above q
   new_in = record {
@@ -153,7 +150,8 @@ module _ (table : Staircase) (q : Placed) (spare : ℕ) (h : IsTable table) (squ
     within = square.degree;
     resolved_is = resolved;
     is_of = subst (λ (m : Checked). IsOf (module_over m.plain) q.start q.s q.above q.content) resolved square.is_of;
-    read_or_made = read_or_made-plain q q.quasi square.read_or_made;
+    entry_is = refl;
+    start_is = λ none. refl;
   }
 
   placed : IsContinued table q → (i j : ℕ) (p : Placed) → slice_get (row_in more.rows i) j ≡ Some p → IsIn more i j p
@@ -177,7 +175,7 @@ module _ (table : Staircase) (q : Placed) (spare : ℕ) (h : IsTable table) (squ
       elim continued [
         | inl same ↦ let old = h.started i j c (ap (λ (st : List Entry). entry_at st i j) (sym same) ∙ e) in omega arith
         | inr same ↦
-            let there : entry_at (table.start ++ entry_of q ∷ []) i j ≡ Some c = ap (λ (st : List Entry). entry_at st i j) (sym same.2) ∙ e in
+            let there : entry_at (table.start ++ entry_of q ∷ []) i j ≡ Some c = ap (λ (st : List Entry). entry_at st i j) (sym same.1) ∙ e in
             elim (cases_same i q.s) [
               | inr d ↦ let old = h.started i j c (sym (entry_at-other table.start (entry_of q) i j (λ a b. d (sym a))) ∙ there) in omega arith
               | inl row ↦
@@ -256,6 +254,6 @@ IsTable-room resolved start rows rows' spare spare' e h =
     subst P (sym e) (record {
       rows = h.rows;
       never_rise = h.never_rise;
-      placed = λ s k q there. let is = h.placed s k q there in record { s_is = is.s_is; above_is = is.above_is; within = is.within; resolved_is = is.resolved_is; is_of = is.is_of; read_or_made = is.read_or_made };
+      placed = λ s k q there. let is = h.placed s k q there in record { s_is = is.s_is; above_is = is.above_is; within = is.within; resolved_is = is.resolved_is; is_of = is.is_of; entry_is = is.entry_is; start_is = is.start_is };
       started = h.started;
     })

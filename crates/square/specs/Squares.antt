@@ -1,5 +1,5 @@
 -- A square of a resolution: its module, its place, what it holds, and what is known of it.
-use Rattle.std.specs.Prelude.{◌≡◌, ℕ, suc, ◌<◌, ◌≤◌, ℤ, pos, ◌+ℤ◌, Bool, List, ◌++◌, length, replicate, Option, Some, None, MatchOption}
+use Rattle.std.specs.Prelude.{◌≡◌, ℕ, suc, ◌<◌, ◌≤◌, ℤ, pos, ◌+ℤ◌, Bool, List, ◌++◌, length, replicate, Option, None, IfSome, IsSome, ◌↔◌}
 use Rattle.f2_matrix.specs.Reduction.{Reduction, IsReductionOf}
 use Rattle.free_module.specs.FreeModule.{free_width}
 use Rattle.free_module.specs.LinearMap.{map_rows}
@@ -8,6 +8,7 @@ use Rattle.module_check.specs.ModuleLaws.{module_graded}
 use Rattle.module_check.specs.Checked.{Checked}
 use Rattle.resolution_laws.specs.Resolution.{Module, Content, degrees_from, images_of, target_over}
 use Rattle.resolution_laws.specs.Start.{Entry, entry_at, squares_below, row_below, IsOf}
+use Rattle.square.specs.declared.range.TheConstants.{MAX_S, MAX_T}
 
 -- what is resolved of a module
 abbrev pub module_over : SteenrodModule → Module
@@ -65,23 +66,31 @@ pub record AreWidths (q : Placed) (w v : ℕ) : Type 0 where
   pub target : w ≡ target_width (module_over q.resolved.plain) (row_below at q.s q.above) (squares_below at q.s q.above)
   pub source : v ≡ source_width (module_over q.resolved.plain) (squares_below at q.s q.above) q.content
 
--- the start has no square at this place, and reduction is that of the square's matrix
-pub record IsMadeWith (q : Placed) (reduction : Reduction) : Type 0 where
-  pub absent : entry_at q.start q.s q.above ≡ None
+-- the square was read: the start has one at its place
+abbrev pub WasRead : Placed → Type 0
+WasRead q = IsSome (entry_at q.start q.s q.above)
+
+-- reduction is that of the square's matrix
+pub record IsKeptOf (q : Placed) (reduction : Reduction) : Type 0 where
   pub at : ℕ → ℕ → Content
   pub under : AreUnder (module_over q.resolved.plain) q.start q.s q.above at
   pub quasi : IsQuasi (module_over q.resolved.plain) (row_below at q.s q.above) (squares_below at q.s q.above) q.content reduction
 
--- What is known of each square: it holds what its start's table has there, it is within the limits, and it was made with the
--- reduction that it kept, or else it was read.
+-- What is known of each square: it holds what its start's table has there, which is what the start has where it was read; it is
+-- within the limits; and the reduction that it kept, if any, is that of its matrix.
 pub record IsSquare (q : Placed) : Type 0 where
   pub is_of : IsOf (module_over q.resolved.plain) q.start q.s q.above q.content
-  pub row : q.s ≤ 63
-  pub degree : q.above ≤ 127
-  pub read_or_made : MatchOption q.quasi (entry_at q.start q.s q.above ≡ Some q.content) (IsMadeWith q)
+  pub row : q.s ≤ MAX_S
+  pub degree : q.above ≤ MAX_T
+  pub kept : IfSome q.quasi (IsKeptOf q)
 
--- the same, with the square's degree and its widths
+-- the square has kept a reduction exactly where it was made
+abbrev pub KeptWhereMade : Placed → Type 0
+KeptWhereMade q = (q.quasi ≡ None) ↔ WasRead q
+
+-- the same, with the square's degree and its widths, and where it has kept its reduction
 pub record IsMeasured (q : Placed) (t : ℤ) (w v : ℕ) : Type 0 where
   pub square : IsSquare q
   pub degree : t ≡ bottom q.resolved.plain.generators +ℤ pos q.above
   pub widths : AreWidths q w v
+  pub where_made : KeptWhereMade q

@@ -1,12 +1,13 @@
 -- Tables of squares, and what a square is made from.
-use Rattle.std.specs.Prelude.{◌≡◌, ℕ, zero, suc, ◌+◌, ◌*◌, ◌^◌, ◌<◌, ◌≤◌, ◌⊎◌, ℤ, pos, negsuc, ◌+ℤ◌, ◌-ℤ◌, nat_eq, if◌then◌else◌, List, [], ◌∷◌, ◌++◌, length, map, take, slice_get, slice_index_or, Option, Some, None, option_and_then, MatchOption, IfSome}
+use Rattle.std.specs.Prelude.{◌≡◌, ℕ, zero, suc, ◌+◌, ◌*◌, ◌^◌, ◌<◌, ◌≤◌, ◌⊎◌, ℤ, pos, negsuc, ◌+ℤ◌, ◌-ℤ◌, nat_eq, if◌then◌else◌, List, [], ◌∷◌, ◌++◌, length, map, take, slice_get, slice_index_or, Option, Some, None, option_and_then, IfSome}
 use Rattle.milnor_basis.specs.Basis.{basis_of}
 use Rattle.f2_matrix.specs.Reduction.{Reduction}
 use Rattle.module_check.specs.Module.{bottom}
 use Rattle.module_check.specs.Checked.{Checked}
 use Rattle.resolution_laws.specs.Resolution.{Content, square_in, row_of, below_of}
 use Rattle.resolution_laws.specs.Start.{Entry, entry_at, HasShape, IsOf}
-use Rattle.square.specs.Squares.{Placed, content_of, module_over, entry_of, target_width, source_width, IsQuasi}
+use Rattle.square.specs.declared.range.TheConstants.{MAX_S, MAX_T}
+use Rattle.square.specs.Squares.{Placed, content_of, module_over, entry_of, target_width, source_width, WasRead, IsQuasi}
 
 -- how many degrees t is above the bottom, none where it is below
 abbrev pub natural : ℤ → Option ℕ
@@ -63,7 +64,7 @@ with_square (row ∷ rows) zero q = (row ++ q ∷ []) ∷ rows
 with_square (row ∷ rows) (suc s) q = row ∷ with_square rows s q
 
 abbrev pub AllRead : List (List Placed) → Type 0
-AllRead rows = (s k : ℕ) (q : Placed) → slice_get (row_in rows s) k ≡ Some q → q.quasi ≡ None
+AllRead rows = (s k : ℕ) (q : Placed) → slice_get (row_in rows s) k ≡ Some q → WasRead q
 
 -- the square (s, k) is not there, and those that it stands on, (s, k - 1) and (s - 1, k), are
 pub record IsNext (rows : List (List Placed)) (s k : ℕ) : Type 0 where
@@ -75,8 +76,8 @@ pub record IsNext (rows : List (List Placed)) (s k : ℕ) : Type 0 where
 pub record IsNextAt (table : Staircase) (s : ℕ) (t : ℤ) : Type 0 where
   pub above : ℕ
   pub degree : t ≡ bottom table.resolved.plain.generators +ℤ pos above
-  pub row : s ≤ 63
-  pub within : above ≤ 127
+  pub row : s ≤ MAX_S
+  pub within : above ≤ MAX_T
   pub next : IsNext table.rows s above
 
 -- A square of this content can have been read at (s, t): so far every square was, the content fits over those before it, and
@@ -90,7 +91,7 @@ pub record IsReadable (table : Staircase) (s : ℕ) (t : ℤ) (content : Content
 
 -- The square continues the table's start: it has that start, or every square so far was read, and so was it.
 abbrev pub IsContinued : Staircase → Placed → Type 0
-IsContinued table q = (q.start ≡ table.start) ⊎ ((q.quasi ≡ None) × AllRead table.rows × (q.start ≡ table.start ++ entry_of q ∷ []))
+IsContinued table q = (q.start ≡ table.start) ⊎ (AllRead table.rows × (q.start ≡ table.start ++ entry_of q ∷ []))
 
 -- reduction is that of the matrix of d_s in degree t with the generators of the square there
 pub record IsQuasiAt (table : Staircase) (s : ℕ) (t : ℤ) (reduction : Reduction) : Type 0 where
@@ -98,23 +99,39 @@ pub record IsQuasiAt (table : Staircase) (s : ℕ) (t : ℤ) (reduction : Reduct
   pub degree : t ≡ bottom table.resolved.plain.generators +ℤ pos above
   pub quasi : IsQuasi (module_over table.resolved.plain) (below_of (plain_rows table.rows) s above) (take above (row_of (plain_rows table.rows) s)) (content_at table.rows s above) reduction
 
--- what is known of the square at (s, k) of a table: its place and its module, what it holds, that it is in the start
--- exactly where it was read, and that all squares that were read stood before it where it was made
+-- what is known of the square at (s, k) of a table: its place and its module, what it holds, that the table's start has the same
+-- at its place as its own, and that its own is the whole start where it was made
 pub record IsIn (table : Staircase) (s k : ℕ) (q : Placed) : Type 0 where
   pub s_is : q.s ≡ s
   pub above_is : q.above ≡ k
-  pub within : k ≤ 127
+  pub within : k ≤ MAX_T
   pub resolved_is : q.resolved ≡ table.resolved
   pub is_of : IsOf (module_over table.resolved.plain) table.start s k q.content
-  pub read_or_made : MatchOption q.quasi (entry_at table.start s k ≡ Some q.content) (λ _. (entry_at table.start s k ≡ None) × (q.start ≡ table.start))
+  pub entry_is : entry_at q.start s k ≡ entry_at table.start s k
+  pub start_is : entry_at table.start s k ≡ None → q.start ≡ table.start
 
--- What is known of each table: it has 64 rows, of lengths that never rise, squares stand at their places, and each that was
+-- What is known of each table: it has a row for each s, of lengths that never rise, squares stand at their places, and each that was
 -- read is there.
 pub record IsTable (table : Staircase) : Type 0 where
-  pub rows : length table.rows ≡ 64
+  pub rows : length table.rows ≡ MAX_S + 1
   pub never_rise : (s : ℕ) → length (row_in table.rows (suc s)) ≤ length (row_in table.rows s)
   pub placed : (s k : ℕ) (q : Placed) → slice_get (row_in table.rows s) k ≡ Some q → IsIn table s k q
   pub started : (s k : ℕ) (content : Content) → entry_at table.start s k ≡ Some content → k < length (row_in table.rows s)
+
+-- the square stands at (s, k) over this module, or in degree t
+pub record IsPlaced (resolved : Checked) (s k : ℕ) (q : Placed) : Type 0 where
+  pub resolved_is : q.resolved ≡ resolved
+  pub s_is : q.s ≡ s
+  pub above_is : q.above ≡ k
+
+pub record IsPlacedAt (resolved : Checked) (s : ℕ) (t : ℤ) (q : Placed) : Type 0 where
+  pub resolved_is : q.resolved ≡ resolved
+  pub s_is : q.s ≡ s
+  pub degree : t ≡ bottom resolved.plain.generators +ℤ pos q.above
+
+-- the squares are the first of row s
+abbrev pub AreOfRow : Checked → ℕ → List Placed → Type 0
+AreOfRow resolved s squares = (k : ℕ) (q : Placed) → slice_get squares k ≡ Some q → IsPlaced resolved s k q
 
 -- ---- what a square is made from
 
@@ -145,8 +162,8 @@ under_row (suc i) squares = Some squares
 -- What is known of what a square is made from: the start has none at its place, and the squares given are those that it
 -- stands on in the start's table.
 pub record IsFooting (f : Footing) : Type 0 where
-  pub row : f.s ≤ 63
-  pub degree : f.above ≤ 127
+  pub row : f.s ≤ MAX_S
+  pub degree : f.above ≤ MAX_T
   pub absent : entry_at f.start f.s f.above ≡ None
   pub length_is : length f.squares ≡ f.above
   pub has_below : (i : ℕ) → suc i ≡ f.s → (below : List Content) × (f.below ≡ Some below) × (length below ≡ f.above + 1)

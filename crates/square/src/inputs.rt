@@ -1,8 +1,9 @@
-ghost use Rattle.std.specs.Prelude.{◌≡◌, ◌+ℤ◌, pos, option_map};
+ghost use Rattle.std.specs.Prelude.{◌≡◌, ◌+ℤ◌, pos, option_map, IfSome};
 ghost use Rattle.std.specs.Arc.{arc_value};
 ghost use Rattle.module_check.specs.Module.{bottom};
+ghost use Rattle.square.specs.declared.range.TheConstants.{MAX_T};
 ghost use Rattle.square.specs.Squares.{content_of};
-ghost use Rattle.square.specs.Tables.{IsFooting, footing_at};
+ghost use Rattle.square.specs.Tables.{IsFooting, IsPlacedAt, footing_at};
 
 use crate::row::Row;
 use crate::square::Square;
@@ -28,18 +29,19 @@ pub struct Inputs {
 }
 
 impl Model for Inputs {
-    ghost use Rattle.std.specs.Prelude.{◌≡◌, ◌+ℤ◌, pos};
+    ghost use Rattle.std.specs.Prelude.{◌≡◌, ◌+ℤ◌, ℕ, suc, pos};
     ghost use Rattle.std.specs.Arc.{arc_value};
     ghost use Rattle.module_check.specs.Module.{bottom};
     ghost use Rattle.square.specs.Tables.{Footing};
 
     ghost Value = { Footing };
 
-    ghost use Rattle.square.specs.Tables.{IsFooting, contents, under_row};
+    ghost use Rattle.square.specs.declared.range.TheConstants.{MAX_T};
+    ghost use Rattle.square.specs.Tables.{IsFooting, AreOfRow, contents, under_row};
 
     ghost view = { λ i. record { resolved = arc_value i.module; start = i.start; s = i.s; above = i.above; squares = contents i.row.squares; below = under_row i.s (contents i.below.squares) } };
 
-    ghost invariant = { λ i. IsFooting (record { resolved = arc_value i.module; start = i.start; s = i.s; above = i.above; squares = contents i.row.squares; below = under_row i.s (contents i.below.squares) }) × (i.t ≡ bottom (arc_value i.module).plain.generators +ℤ pos i.above) × (arc_value i.basis ≡ 127) };
+    ghost invariant = { λ i. IsFooting (record { resolved = arc_value i.module; start = i.start; s = i.s; above = i.above; squares = contents i.row.squares; below = under_row i.s (contents i.below.squares) }) × (i.t ≡ bottom (arc_value i.module).plain.generators +ℤ pos i.above) × (arc_value i.basis ≡ MAX_T) × AreOfRow (arc_value i.module) i.s i.row.squares × ((j : ℕ) → suc j ≡ i.s → AreOfRow (arc_value i.module) j i.below.squares) };
 }
 
 impl Inputs {
@@ -67,7 +69,8 @@ impl Inputs {
 
     /// The square in row `s` and of degree `t`, none where that is not among those that the square stands on.
     pub fn at(&self, s: u16, t: i32) -> Option<&Arc<Square>>
-        ensures { option_map (λ a. content_of (arc_value a.now)) result ≡ footing_at self.now s t }
+        ensures content { option_map (λ a. content_of (arc_value a.now)) result ≡ footing_at self.now s t }
+        ensures placed { IfSome result (λ a. IsPlacedAt self.now.resolved s t (arc_value a.now)) }
     {
         let k = above_of(self.module.bottom(), t)?;
         match self.s.checked_sub(s) {
@@ -77,9 +80,9 @@ impl Inputs {
         }
     }
 
-    /// The Milnor bases of the degrees through 127.
+    /// The Milnor bases of the degrees through `MAX_T`.
     pub fn basis(&self) -> &Basis
-        ensures { result.now ≡ 127 }
+        ensures { result.now ≡ MAX_T }
     {
         &self.basis
     }

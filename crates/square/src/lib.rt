@@ -13,6 +13,6 @@ mod tests;
 
 pub use inputs::Inputs;
 pub use keep::{Keep, KeepFault, MemKeep, NoKeep};
-pub use range::Range;
+pub use range::{MAX_S, MAX_T, Range};
 pub use square::Square;
 pub use table::Table;

@@ -5,6 +5,7 @@ ghost use Rattle.f2_matrix.specs.Reduction.{IsReductionOf};
 ghost use Rattle.free_module.specs.FreeModule.{IsWithinReach};
 ghost use Rattle.free_module.specs.LinearMap.{AreImages, map_rows};
 ghost use Rattle.resolution_laws.specs.Resolution.{row_of, below_of};
+ghost use Rattle.square.specs.declared.range.TheConstants.{MAX_S, MAX_T};
 ghost use Rattle.square.specs.Squares.{module_over, IsQuasi};
 ghost use Rattle.square.specs.Tables.{row_in, plain_rows, content_at, square_at, IsQuasiAt, IsTable};
 
@@ -50,8 +51,8 @@ impl Table {
 
     /// The same, made from the images of the generators of the rows.
     fn quasi_again(&self, alloc: Global, s: u16, above: u16) -> Result<Reduced, Memory>
-        requires row { s ≤ 63 }
-        requires degree { above ≤ 127 }
+        requires row { s ≤ MAX_S }
+        requires degree { above ≤ MAX_T }
         requires there { above < length (row_in self.now.rows s) }
         ensures { IfOk result (λ reduced. IsQuasi (module_over self.now.resolved.plain) (below_of (plain_rows self.now.rows) s above) (take above (row_of (plain_rows self.now.rows) s)) (content_at self.now.rows s above) reduced) }
     {

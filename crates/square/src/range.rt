@@ -1,5 +1,13 @@
+//! How far a resolution goes.
+
+/// The greatest row of a square.
+pub const MAX_S: u16 = 63;
+
+/// How many degrees above the bottom a square may be: the bottom is the module's least degree.
+pub const MAX_T: u16 = 127;
+
 /// How far a resolution goes: through row `s` and through degree `t` above the bottom, which is the module's least degree.
-/// Rows go to 63 and degrees to 127.
+/// Rows go to `MAX_S` and degrees to `MAX_T`.
 #[derive(Clone, Copy, Debug, PartialEq, Eq)]
 pub struct Range {
     pub s: u16,

@@ -2,6 +2,7 @@ ghost use Rattle.std.specs.Prelude.{◌≡◌, ◌≤◌, ◌<◌, ◌+◌, ◌-
 ghost use Rattle.std.specs.Arc.{arc_value};
 ghost use Rattle.free_module.specs.FreeModule.{degree_at};
 ghost use Rattle.resolution_laws.specs.Resolution.{degrees_from, images_of};
+ghost use Rattle.square.specs.declared.range.TheConstants.{MAX_T};
 ghost use Rattle.square.specs.Tables.{contents, row_width};
 
 use crate::square::Square;
@@ -120,7 +121,7 @@ impl Row {
     /// The generators of the first `n` squares, the first of which is of degree `bottom`.
     pub(crate) fn generators(&self, alloc: Global, bottom: i32, n: u16) -> Result<Gens, Memory>
         requires within { n ≤ length self.now.squares }
-        requires few { n ≤ 128 }
+        requires few { n ≤ MAX_T + 1 }
         requires not_below { negsuc 127 ≤ℤ bottom }
         requires not_above { bottom ≤ℤ pos 128 }
         ensures { IfOk result (λ gens. gens ≡ degrees_from bottom (take n (contents self.now.squares))) }

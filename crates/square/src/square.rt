@@ -1,7 +1,7 @@
 ghost use Rattle.std.specs.Prelude.{◌≡◌, ◌<◌, ◌≤◌, ◌^◌, ◌++◌, ◌+ℤ◌, pos, [], ◌∷◌, Some, None, option_map};
 ghost use Rattle.module_check.specs.Module.{bottom};
 ghost use Rattle.resolution_laws.specs.Resolution.{IsStep};
-ghost use Rattle.square.specs.Squares.{module_over, entry_of, IsSquare, IsQuasi, AreWidths};
+ghost use Rattle.square.specs.Squares.{module_over, entry_of, IsSquare, IsQuasi, AreWidths, KeptWhereMade};
 ghost use Rattle.square.specs.Tables.{IsReadable};
 
 use crate::inputs::Inputs;
@@ -141,6 +141,7 @@ impl Square {
     /// The reduction of the matrix of d_s in its degree, where it was made.
     pub fn kept_quasi(&self) -> Option<&Reduced>
         ensures kept { option_map (λ r. r.now) result ≡ self.now.quasi }
+        ensures where_made { KeptWhereMade self.now }
         ensures is_square { IsSquare self.now }
     {
         self.quasi.as_ref()

@@ -1,11 +1,13 @@
-ghost use Rattle.std.specs.Prelude.{◌≡◌, ℕ, ◌≤◌, ◌<◌, ◌+◌, ◌^◌, ◌+ℤ◌, ◌≤ℤ◌, pos, [], map, take, length, replicate, option_map, IsSome, IfOk, IfErr, OnOk, OnErr, IsOk};
+ghost use Rattle.std.specs.Prelude.{◌≡◌, ℕ, suc, ◌≤◌, ◌<◌, ◌+◌, ◌^◌, ◌+ℤ◌, ◌≤ℤ◌, pos, [], map, take, length, replicate, option_map, IsSome, IfOk, IfErr, OnOk, OnErr, IsOk};
 ghost use Rattle.std.specs.Arc.{arc_value};
 ghost use Rattle.module_check.specs.Module.{bottom};
 ghost use Rattle.resolution_laws.specs.Resolution.{row_of, below_of};
+ghost use Rattle.square.specs.declared.range.TheConstants.{MAX_S, MAX_T};
 ghost use Rattle.square.specs.Squares.{module_over, target_width};
 ghost use Rattle.square.specs.Tables.{above_of, row_in, square_at, plain_rows, with_square, contents, under_row, row_width, IsNext, IsNextAt, IsContinued, IsTable, HaveRoom};
 
 use crate::inputs::Inputs;
+use crate::range::{MAX_S, MAX_T};
 use crate::row::Row;
 use crate::square::Square;
 use f2_matrix::Reduced;
@@ -16,12 +18,6 @@ use start::Start;
 use std::alloc::Global;
 use std::marker::Model;
 use std::sync::Arc;
-
-/// How many rows a table has.
-const ROWS: u16 = 64;
-
-/// The greatest degree above the bottom.
-const MAX_ABOVE: u16 = 127;
 
 /// The squares of a resolution of one module that are there: row s has the squares (s, bottom), (s, bottom + 1), .., and no
 /// row is longer than the one below it, s - 1. Those that were read from a save file stand before all others.
@@ -41,11 +37,12 @@ impl Model for Table {
 
     ghost Value = { Staircase };
 
+    ghost use Rattle.square.specs.declared.range.TheConstants.{MAX_T};
     ghost use Rattle.square.specs.Tables.{IsTable, HaveRoom};
 
     ghost view = { λ t. record { resolved = arc_value t.module; start = t.start; rows = map (λ r. r.squares) t.rows.items; spare = t.spare } };
 
-    ghost invariant = { λ t. IsTable (record { resolved = arc_value t.module; start = t.start; rows = map (λ r. r.squares) t.rows.items; spare = t.spare }) × (arc_value t.basis ≡ 127) × HaveRoom t.rows.items t.spare };
+    ghost invariant = { λ t. IsTable (record { resolved = arc_value t.module; start = t.start; rows = map (λ r. r.squares) t.rows.items; spare = t.spare }) × (arc_value t.basis ≡ MAX_T) × HaveRoom t.rows.items t.spare };
 }
 
 impl Table {
@@ -54,10 +51,10 @@ impl Table {
     /// # Errors
     /// `Memory` where there is none for it.
     pub fn new(alloc: Global, module: Module) -> Result<Table, Memory>
-        ensures { IfOk result (λ table. table ≡ record { resolved = «module»; start = []; rows = replicate 64 []; spare = 0 }) }
+        ensures { IfOk result (λ table. table ≡ record { resolved = «module»; start = []; rows = replicate (MAX_S + 1) []; spare = 0 }) }
     {
         let module = Arc::new(alloc, module)?;
-        let basis = Arc::new(alloc, Basis::new(alloc, MAX_ABOVE)?)?;
+        let basis = Arc::new(alloc, Basis::new(alloc, MAX_T)?)?;
         let rows = empty_rows(alloc)?;
         Ok(Table {
             module,
@@ -75,14 +72,14 @@ impl Table {
         &self.module
     }
 
-    /// The Milnor bases of the degrees through 127.
+    /// The Milnor bases of the degrees through `MAX_T`.
     pub fn basis(&self) -> &Basis
-        ensures { result.now ≡ 127 }
+        ensures { result.now ≡ MAX_T }
     {
         &self.basis
     }
 
-    /// How many squares row `s` has: they are those of the degrees from the bottom on. It is 0 above row 63.
+    /// How many squares row `s` has: they are those of the degrees from the bottom on. It is 0 above row `MAX_S`.
     pub fn front(&self, s: u16) -> usize
         ensures front { result ≡ length (row_in self.now.rows s) }
         ensures is_table { IsTable self.now }
@@ -102,12 +99,13 @@ impl Table {
         self.rows.get(usize::from(s))?.get(k)
     }
 
-    /// Makes room for `n` squares more: so many pushes then want no memory.
+    /// Reserves room for `n` more squares, so that the next `n` pushes cannot fail. Room that is there stays.
     ///
     /// # Errors
-    /// `Memory` where there is none for them; the table is then as before.
+    /// `Memory` if allocation fails; the table is then as before.
     pub fn reserve(&mut self, n: usize) -> Result<(), Memory>
         ensures ok { OnOk result (n ≤ self.new.spare) }
+        ensures spare { self.old.spare ≤ self.new.spare }
         ensures same { self.new ≡ record self.old { spare = self.new.spare } }
         ensures err { OnErr result (self.new ≡ self.old) }
     {
@@ -188,7 +186,7 @@ impl Table {
 
     /// Row `s`.
     pub(crate) fn row(&self, s: u16) -> &Row
-        requires { s ≤ 63 }
+        requires { s ≤ MAX_S }
         ensures row { result.now.squares ≡ row_in self.now.rows s }
         ensures is_table { IsTable self.now }
     {
@@ -198,7 +196,7 @@ impl Table {
     /// How many degrees `t` is above the bottom.
     pub(crate) fn above(&self, t: i32) -> u16
         requires low { bottom self.now.resolved.plain.generators ≤ℤ t }
-        requires high { t ≤ℤ (bottom self.now.resolved.plain.generators +ℤ pos 127) }
+        requires high { t ≤ℤ (bottom self.now.resolved.plain.generators +ℤ pos MAX_T) }
         ensures { t ≡ bottom self.now.resolved.plain.generators +ℤ pos result }
     {
         match above_of(self.module.bottom(), t) {
@@ -209,8 +207,8 @@ impl Table {
 
     /// The dimension of what d_s goes to, `above` degrees above the bottom, where the next square of row `s` is.
     pub(crate) fn target_width(&self, s: u16, above: u16) -> u64
-        requires s { s ≤ 63 }
-        requires above { above ≤ 127 }
+        requires s { s ≤ MAX_S }
+        requires above { above ≤ MAX_T }
         requires next { IsNext self.now.rows s above }
         requires fits { target_width (module_over self.now.resolved.plain) (below_of (plain_rows self.now.rows) s above) (take above (row_of (plain_rows self.now.rows) s)) < 2 ^ 64 }
         ensures { result ≡ target_width (module_over self.now.resolved.plain) (below_of (plain_rows self.now.rows) s above) (take above (row_of (plain_rows self.now.rows) s)) }
@@ -224,8 +222,8 @@ impl Table {
 
     /// The dimension of F_s in the same degree, where the next square of row `s` has `count` new generators.
     pub(crate) fn width_with(&self, s: u16, above: u16, count: usize) -> u64
-        requires s { s ≤ 63 }
-        requires above { above ≤ 127 }
+        requires s { s ≤ MAX_S }
+        requires above { above ≤ MAX_T }
         requires next { IsNext self.now.rows s above }
         requires fits { row_width (take above (row_of (plain_rows self.now.rows) s)) above + count < 2 ^ 64 }
         ensures { result ≡ row_width (take above (row_of (plain_rows self.now.rows) s)) above + count }
@@ -235,9 +233,10 @@ impl Table {
 
     /// What a square in row `s`, `above` degrees above the bottom, stands on in the row below, and no square for row 0.
     fn share_below(&self, alloc: Global, s: u16, above: u16) -> Result<Row, Memory>
-        requires s { s ≤ 63 }
+        requires s { s ≤ MAX_S }
         requires next { IsNext self.now.rows s above }
-        ensures { IfOk result (λ row. under_row s (contents row.squares) ≡ below_of (plain_rows self.now.rows) s above) }
+        ensures below { IfOk result (λ row. under_row s (contents row.squares) ≡ below_of (plain_rows self.now.rows) s above) }
+        ensures squares { IfOk result (λ row. (j : ℕ) → suc j ≡ s → row.squares ≡ take (above + 1) (row_in self.now.rows j)) }
     {
         if s == 0 {
             return Ok(Row::new(alloc));
@@ -255,10 +254,10 @@ pub(crate) fn above_of(bottom: i32, t: i32) -> Option<usize>
 
 /// As many rows of no square as a table has.
 fn empty_rows(alloc: Global) -> Result<Vec<Row>, Memory>
-    ensures { IfOk result (λ rows. map (λ r. r.squares) rows.items ≡ replicate 64 []) }
+    ensures { IfOk result (λ rows. map (λ r. r.squares) rows.items ≡ replicate (MAX_S + 1) []) }
 {
     let mut rows = Vec::new(alloc);
-    for _ in 0..ROWS {
+    for _ in 0..=MAX_S {
         rows.push(Row::new(alloc))?;
     }
     Ok(rows)

@@ -17,4 +17,4 @@ read-square-requires c =
 pub push-requires-clause-continued : goal.push-requires-clause-continued
 push-requires-clause-continued c =
     let table = c.in_ok-table.table in
-    subst (IsContinued table) (sym c.in_ok-square.ensures.ok) (inr (c.read-square.ensures.quasi, first_read table (ap (λ (x : Staircase). x.rows) c.in_ok-table.ensures), c.read-square.ensures.start))
+    subst (IsContinued table) (sym c.in_ok-square.ensures.ok) (inr (first_read table (ap (λ (x : Staircase). x.rows) c.in_ok-table.ensures), c.read-square.ensures.start))

@@ -14,7 +14,7 @@ pub unreachable-requires : goal.unreachable-requires
 unreachable-requires c =
     let same : c.bottom-bottom.result ≡ bottom c.args.inputs.now.resolved.plain.generators = c.bottom-bottom.ensures.bottom ∙ ap (λ (m : Checked). bottom m.plain.generators) c.module.ensures in
     let within = c.requires.all in
-    there_is_one c.args.inputs.now c.args.s c.loop-k.k _ (omega (arith, ints, same)) (omega arith) c.in_default.ensures
+    there_is_one c.args.inputs.now c.args.s c.loop-k.k _ (omega (arith, ints, same)) (omega arith) c.in_default.ensures.content
 
 pub with_generators-requires : goal.with_generators-requires
 with_generators-requires c =
@@ -32,7 +32,7 @@ loop-k-preserved c =
     let content = content_of (arc_value c.in-Some.square.now) in
     let same : c.bottom-bottom.result ≡ bottom f.resolved.plain.generators = c.bottom-bottom.ensures.bottom ∙ ap (λ (m : Checked). bottom m.plain.generators) c.module.ensures in
     let within = c.requires.all in
-    let more : take (k + 1) row ≡ take k row ++ content ∷ [] = next_square f c.args.s k t content (omega (arith, ints, same)) (omega arith) c.in-Some.ensures in
+    let more : take (k + 1) row ≡ take k row ++ content ∷ [] = next_square f c.args.s k t content (omega (arith, ints, same)) (omega arith) c.in-Some.ensures.content in
     let count : length c.gens.result.now ≡ length content.images = ap length (c.gens.ensures ∙ ap (λ (q : Placed). q.content.images) c.deref.ensures) in
     let wider : c.in_ok-gens.gens ≡ c.loop-k.gens ++ replicate (length content.images) t = c.in_ok-gens.ensures ∙ ap (λ n. c.loop-k.gens ++ replicate n t) count in
     degrees_from-more b (take k row) (take (k + 1) row) content k c.loop-k.gens c.in_ok-gens.gens t more (length-take-le k row (omega arith)) (omega (arith, ints)) c.loop-k.invariant wider

@@ -21,7 +21,7 @@ loop-k-preserved c =
     let row : given_row f c.s.result ≡ f.squares = ap (given_row f) c.s.ensures ∙ given_row-here f in
     let len = ap length row in
     let within = c.requires.all in
-    let more : take (k + 1) f.squares ≡ take k f.squares ++ content ∷ [] = subst (λ (z : List Content). take (k + 1) z ≡ take k z ++ content ∷ []) row (next_square f c.s.result k t content (omega (arith, ints, same)) (omega arith) c.in-Some.ensures) in
+    let more : take (k + 1) f.squares ≡ take k f.squares ++ content ∷ [] = subst (λ (z : List Content). take (k + 1) z ≡ take k z ++ content ∷ []) row (next_square f c.s.result k t content (omega (arith, ints, same)) (omega arith) c.in-Some.ensures.content) in
     let new : c.gens.result.now ≡ content.images = c.gens.ensures ∙ ap (λ (q : Placed). q.content.images) c.deref.ensures in
     let wider : c.in_ok-images.images.items ≡ c.loop-k.images.items ++ content.images = c.in_ok-images.ensures ∙ ap (λ (z : List (List Bool)). c.loop-k.images.items ++ z) new in
     images_of-more (take k f.squares) (take (k + 1) f.squares) content c.loop-k.images.items _ more c.loop-k.invariant wider

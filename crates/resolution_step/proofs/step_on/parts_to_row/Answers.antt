@@ -32,7 +32,7 @@ candidates : (c : After-kernel) → c.kernel.result.now ≡ candidates_over (mod
 candidates c =
     let before = (goal.at.reduced_step-requires-clause-images c).After-s-below in
     c.kernel.ensures ∙ (ap (λ (q : Placed). q.content.kernel) c.deref.ensures
-    ∙ candidates-row c.args.inputs.now c.t-t.ensures.is_footing (c.s-below.result - 1) (below before) _ (content_of (arc_value c.in-Some.square.now)) (degree before) c.in-Some.ensures)
+    ∙ candidates-row c.args.inputs.now c.t-t.ensures.is_footing (c.s-below.result - 1) (below before) _ (content_of (arc_value c.in-Some.square.now)) (degree before) c.in-Some.ensures.content)
 
 pub row_gens-requires-clause-all : goal.row_gens-requires-clause-all
 row_gens-requires-clause-all c =
@@ -42,7 +42,7 @@ pub unreachable-requires : goal.unreachable-requires
 unreachable-requires c =
     let before = (goal.at.unreachable-requires c).After-s-below in
     let len = length-given_row c.args.inputs.now c.t-t.ensures.is_footing (c.s-below.result - 1) (below before) in
-    there_is_one c.args.inputs.now (c.s-below.result - 1) c.args.inputs.now.above _ (degree before) (omega arith) c.in_default.ensures
+    there_is_one c.args.inputs.now (c.s-below.result - 1) c.args.inputs.now.above _ (degree before) (omega arith) c.in_default.ensures.content
 
 pub reduced_step-requires-clause-images : goal.reduced_step-requires-clause-images
 reduced_step-requires-clause-images c = AreImages-given c.args.inputs.now c.t-t.ensures.is_footing _ _ _ (target c) c.requires.source c.requires.images

@@ -1,5 +1,6 @@
-use Rattle.std.proofs.Common.{List, [], sym, ap, subst}
+use Rattle.std.proofs.Common.{List, [], ◌+◌, sym, ap, subst}
 use Rattle.resolution_laws.specs.Start.{Entry}
+use Rattle.square.specs.declared.range.TheConstants.{MAX_S}
 use Rattle.square.specs.Tables.{Staircase}
 use Rattle.square.specs.Keeping.{Kept}
 use Rattle.resolution_step.specs.Alone.{HoldsTable}
@@ -10,4 +11,4 @@ pub resolve_alone-resolved-requires-clause-holds : goal.resolve_alone-resolved-r
 resolve_alone-resolved-requires-clause-holds g c =
     let table = c.in_ok-table.table in
     let P : List Entry → Type 0 = λ list. HoldsTable list table.rows in
-    subst P (sym (ap (λ (k : Kept). k.list) c.in_ok-keeper.ensures)) (subst (HoldsTable []) (sym (ap (λ (t : Staircase). t.rows) c.in_ok-table.ensures)) (HoldsTable-none 64))
+    subst P (sym (ap (λ (k : Kept). k.list) c.in_ok-keeper.ensures)) (subst (HoldsTable []) (sym (ap (λ (t : Staircase). t.rows) c.in_ok-table.ensures)) (HoldsTable-none (MAX_S + 1)))
