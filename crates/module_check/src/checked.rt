@@ -1,6 +1,6 @@
 ghost use Rattle.std.specs.Prelude.{◌≡◌, ◌<◌, ◌≤◌, ℕ, ℤ, pos, negsuc, ◌≤ℤ◌, ◌<ℤ◌, length, List, [], ◌∷◌, true, IfOk};
 ghost use Rattle.module_check.specs.Module.{degree_at, width, bottom};
-ghost use Rattle.module_check.specs.DerivedAction.{derived_module};
+ghost use Rattle.module_check.specs.DerivedAction.{derived_module, top};
 ghost use Rattle.module_check.specs.Acceptance.{IsModule, value_of};
 ghost use Rattle.module_check.specs.Generators.{AreByDegree};
 ghost use Rattle.module_check.specs.Checked.{sphere_file};
@@ -91,6 +91,15 @@ impl Module {
         ensures none_below { (t : ℤ) → t <ℤ result → width self.now.plain.generators t ≡ 0 }
     {
         self.operators.generators().bottom()
+    }
+
+    /// The greatest degree of a generator, which is that of the last one, and 0 where there is none.
+    pub fn top(&self) -> i32
+        ensures top { result ≡ top self.now.plain.generators }
+        ensures lowest { negsuc 127 ≤ℤ result }
+        ensures highest { result ≤ℤ pos 128 }
+    {
+        self.operators.generators().top()
     }
 
     /// The dimension in degree `t`.

@@ -114,10 +114,12 @@ impl Generators {
         }
     }
 
-    #[tactic(auto, using(crate::proofs::Degrees::top_last))]
     /// The greatest degree, and 0 where there is no generator.
-    fn top(&self) -> i32
-        ensures { result ≡ top self.now }
+    #[tactic(auto, using(crate::proofs::Degrees::top_last))]
+    pub(crate) fn top(&self) -> i32
+        ensures top { result ≡ top self.now }
+        ensures lowest { negsuc 127 ≤ℤ result }
+        ensures highest { result ≤ℤ pos 128 }
     {
         match self.count().checked_sub(1) {
             Some(last) => self.degree(last),

@@ -50,7 +50,7 @@ fn texts(rt: HostRuntime) -> Result<(), Fail> {
 fn values(rt: HostRuntime) -> Result<(), Fail> {
     let alloc = rt.alloc();
     let module = module_of(alloc, C2)?;
-    assert_eq!(rt; (module.count(), module.bottom()), (2, 0));
+    assert_eq!(rt; (module.count(), module.bottom(), module.top()), (2, 0, 1));
     assert_eq!(rt; (module.name(1), module.degree(1)), ("x1", 1));
     for (t, dim) in [(-1, 0), (0, 1), (1, 1), (2, 0)] {
         assert_eq!(rt; module.dim_in(t), dim, "in degree {t}");
