@@ -1,8 +1,9 @@
 -- The checks of a module file before its generators and actions: what each one refuses.
-use Rattle.std.specs.Prelude.{ℕ, ◌^◌, ◌==◌, ◌≡◌, ◌≢◌, Bool, true, false, nat_le, ◌+◌, List, length, Option, Some, None, option_and_then, codes, bytes_eq, IsUtf8, Result, Ok, Err}
+use Rattle.std.specs.Prelude.{ℕ, ◌==◌, ◌≡◌, ◌≢◌, Bool, true, false, nat_le, ◌+◌, List, length, Option, Some, None, option_and_then, codes, bytes_eq, IsUtf8, Result, Ok, Err}
 use Rattle.serde_json.specs.Data.{Data, Items, no_items, item, Members, no_members, member}
 use Rattle.serde_json.specs.Find.{as_number, as_str, as_array, as_object, as_u64, get}
 use Rattle.serde_json.specs.Read.{read}
+use Rattle.module_json.specs.declared.limits.TheConstants.{MAX_FILE_BYTES, MAX_GENERATORS, MAX_ACTIONS}
 use Rattle.module_json.specs.declared.malformed.Malformed.{Malformed}
 use Rattle.module_json.specs.declared.malformed.Malformed.TheVariants.{Limit, Shape, Kind as OtherKind, Prime as OtherPrime, Memory}
 use Rattle.module_json.specs.declared.malformed.What.TheVariants.{Bytes, Gens as ManyGens, Actions as ManyActions}
@@ -37,7 +38,7 @@ unless true e = None
 unless false e = Some e
 
 abbrev pub size_refusal : List ℕ → Option Malformed
-size_refusal bytes = unless (nat_le (length bytes) (2 ^ 20)) (Limit Bytes)
+size_refusal bytes = unless (nat_le (length bytes) MAX_FILE_BYTES) (Limit Bytes)
 
 abbrev pub whole_refusal : Data → Option Malformed
 whole_refusal d = unless_there (Shape Whole) (as_object d)
@@ -81,14 +82,14 @@ items_count (item d ds) = 1 + items_count ds
 
 abbrev pub gens_of_value : Option Members → Option Malformed
 gens_of_value None = Some (Shape Gens)
-gens_of_value (Some ms) = unless (nat_le (members_count ms) 64) (Limit ManyGens)
+gens_of_value (Some ms) = unless (nat_le (members_count ms) MAX_GENERATORS) (Limit ManyGens)
 
 abbrev pub gens_refusal : Data → Option Malformed
 gens_refusal d = gens_of_value (option_and_then as_object (get (codes "gens") d))
 
 abbrev pub actions_of_array : Option Items → Option Malformed
 actions_of_array None = Some (Shape Actions)
-actions_of_array (Some ds) = unless (nat_le (items_count ds) 4096) (Limit ManyActions)
+actions_of_array (Some ds) = unless (nat_le (items_count ds) MAX_ACTIONS) (Limit ManyActions)
 
 abbrev pub actions_of_value : Option Data → Option Malformed
 actions_of_value None = None

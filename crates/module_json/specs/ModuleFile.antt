@@ -8,6 +8,7 @@ use Rattle.serde_json.specs.Data.{Data, Items, no_items, item, Members, no_membe
 use Rattle.serde_json.specs.Find.{as_number, as_str, as_array, as_object, as_i64, get}
 use Rattle.module_json.specs.Actions.{is_name, Written, action_of}
 use Rattle.module_json.specs.Checks.{IsJson, unless, size_refusal, whole_refusal, kind_refusal, cofiber_refusal, shift_refusal, prime_refusal, gens_refusal, actions_refusal}
+use Rattle.module_json.specs.declared.limits.TheConstants.{MAX_DEGREE, MAX_SPAN}
 use Rattle.module_json.specs.declared.malformed.Malformed.{Malformed}
 use Rattle.module_json.specs.declared.malformed.Malformed.TheVariants.{Limit, Json, Name, Degree as NoDegree, Action}
 use Rattle.module_json.specs.declared.malformed.What.TheVariants.{Degree, Span}
@@ -38,7 +39,7 @@ abbrev pub degree_of : Data → Option ℤ
 degree_of d = option_and_then as_i64 (as_number d)
 
 abbrev pub within_limit : ℤ → Bool
-within_limit z = int_le (neg_ℤ (pos 128)) z && int_le z (pos 128)
+within_limit z = int_le (neg_ℤ MAX_DEGREE) z && int_le z MAX_DEGREE
 
 abbrev pub degree_refusal : ℕ → Option ℤ → Option Malformed
 degree_refusal i None = Some (NoDegree i)
@@ -76,9 +77,9 @@ listed (member name d ms) = onto (degree_of d) (listed ms)
 abbrev pub basis : Members → List Generator
 basis ms = by_degree (listed ms)
 
--- no degree lies more than 64 above another
+-- no degree lies more than the greatest span above another
 abbrev pub spans : List Generator → Bool
-spans gs = list_all (λ g. list_all (λ h. int_le g.degree (h.degree +ℤ pos 64)) gs) gs
+spans gs = list_all (λ g. list_all (λ h. int_le g.degree (h.degree +ℤ pos MAX_SPAN)) gs) gs
 
 abbrev pub span_refusal : List Generator → Option Malformed
 span_refusal gs = unless (spans gs) (Limit Span)

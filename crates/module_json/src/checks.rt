@@ -8,21 +8,10 @@ ghost use Rattle.module_json.specs.Checks.{IsJson, size_refusal, whole_refusal, 
 ghost use Rattle.module_json.specs.ModuleFile.{gens_of, actions_of, degree_of, generator_refusal, header_refusal};
 
 use crate::action::names;
+use crate::limits::{MAX_ACTIONS, MAX_DEGREE, MAX_FILE_BYTES, MAX_GENERATORS};
 use crate::malformed::{Malformed, Place, What};
 use serde_json::{Map, Value};
 use std::alloc::Global;
-
-/// The most bytes that a module file may have.
-const MOST_BYTES: usize = 1 << 20;
-
-/// The most generators of a module.
-const MOST_GENS: usize = 64;
-
-/// The most actions that a module file may list.
-const MOST_ACTIONS: usize = 4096;
-
-/// The greatest degree of a generator, and its negative is the least.
-const MOST_DEGREE: i64 = 128;
 
 /// The one type of module that files may describe.
 const KIND: &str = "finite dimensional module";
@@ -30,7 +19,7 @@ const KIND: &str = "finite dimensional module";
 pub(crate) fn check_size(bytes: &[u8]) -> Result<(), Malformed>
     ensures { result_err result ≡ size_refusal bytes.now }
 {
-    if bytes.len() > MOST_BYTES {
+    if bytes.len() > MAX_FILE_BYTES {
         return Err(Malformed::Limit { what: What::Bytes });
     }
     Ok(())
@@ -107,13 +96,13 @@ fn check_prime(file: &Value) -> Result<(), Malformed>
 pub(crate) fn gens(file: &Value) -> Result<&Map<String, Value>, Malformed>
     ensures refuses { result_err result ≡ gens_refusal (view file.now) }
     ensures value { IfOk result (λ m. members_view m.now.entries ≡ gens_of (view file.now)) }
-    ensures few { IfOk result (λ m. length m.now.entries ≤ 64) }
+    ensures few { IfOk result (λ m. length m.now.entries ≤ MAX_GENERATORS) }
     ensures ordered { IfOk result (λ m. IsOrdered string_cmp m.now) }
 {
     let Some(gens) = file.get("gens").and_then(Value::as_object) else {
         return Err(Malformed::Shape { at: Place::Gens });
     };
-    if gens.len() > MOST_GENS {
+    if gens.len() > MAX_GENERATORS {
         return Err(Malformed::Limit { what: What::Gens });
     }
     Ok(gens)
@@ -124,7 +113,7 @@ pub(crate) fn gens(file: &Value) -> Result<&Map<String, Value>, Malformed>
 pub(crate) fn actions(file: &Value) -> Result<&[Value], Malformed>
     ensures refuses { result_err result ≡ actions_refusal (view file.now) }
     ensures value { IfOk result (λ a. items_view a.now ≡ actions_of (view file.now)) }
-    ensures few { IfOk result (λ a. length a.now ≤ 4096) }
+    ensures few { IfOk result (λ a. length a.now ≤ MAX_ACTIONS) }
 {
     let Some(value) = file.get("actions") else {
         return Ok(&[]);
@@ -132,7 +121,7 @@ pub(crate) fn actions(file: &Value) -> Result<&[Value], Malformed>
     let Some(actions) = value.as_array() else {
         return Err(Malformed::Shape { at: Place::Actions });
     };
-    if actions.len() > MOST_ACTIONS {
+    if actions.len() > MAX_ACTIONS {
         return Err(Malformed::Limit {
             what: What::Actions,
         });
@@ -151,7 +140,8 @@ pub(crate) fn degree(i: usize, name: &str, value: &Value) -> Result<i32, Malform
     let Some(degree) = value.as_i64() else {
         return Err(Malformed::Degree { generator: i });
     };
-    if degree < -MOST_DEGREE || MOST_DEGREE < degree {
+    let greatest = i64::from(MAX_DEGREE);
+    if degree < -greatest || greatest < degree {
         return Err(Malformed::Limit { what: What::Degree });
     }
     Ok(degree as i32)

@@ -6,13 +6,11 @@ ghost use Rattle.module_json.specs.Checks.{RefusesBy};
 ghost use Rattle.module_json.specs.ModuleFile.{generator_refusal, generators_refusal, degree_of, listed, basis, spans, span_refusal, number_of};
 
 use crate::checks::degree;
+use crate::limits::MAX_SPAN;
 use crate::malformed::{Malformed, What};
 use serde_json::{Map, Value};
 use std::alloc::Global;
 use std::marker::Model;
-
-/// The most that a generator's degree may lie above another's.
-const MOST_SPAN: i64 = 64;
 
 /// A generator of a module.
 #[derive(Drop)]
@@ -91,10 +89,9 @@ fn are_near(gens: &[Generator]) -> bool
 
 /// Whether a degree lies at most the greatest span above each one of the generators.
 fn is_near(gens: &[Generator], degree: i32) -> bool
-    ensures { result ≡ list_all (λ h. int_le degree (h.degree +ℤ pos 64)) gens.now }
+    ensures { result ≡ list_all (λ h. int_le degree (h.degree +ℤ pos MAX_SPAN)) gens.now }
 {
-    gens.iter()
-        .all(|h| i64::from(degree) <= i64::from(h.degree) + MOST_SPAN)
+    gens.iter().all(|h| i64::from(degree) <= i64::from(h.degree) + i64::from(MAX_SPAN))
 }
 
 /// The number of the generator with a name.
