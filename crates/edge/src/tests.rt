@@ -6,7 +6,7 @@ use crate::{
 };
 use std::alloc::Global;
 use std::io;
-use std::io::{ErrorKind, Read};
+use std::io::{ErrorKind, Read, Write};
 use std::test::Fail;
 
 /// A source of so many bytes a call, in which one call fails, and none for 0.
@@ -109,6 +109,47 @@ impl Read for Broken {
         self.failed = true;
         Err(ErrorKind::BrokenPipe.into())
     }
+}
+
+/// A writer that takes one byte a call, and is interrupted before each.
+#[derive(Drop)]
+struct Narrow {
+    taken: Vec<u8>,
+    interrupted: bool,
+}
+
+impl Write for Narrow {
+    fn write(&mut self, buf: &[u8]) -> io::Result<usize> {
+        self.interrupted = !self.interrupted;
+        if self.interrupted {
+            return Err(ErrorKind::Interrupted.into());
+        }
+        match buf.first() {
+            Some(byte) => {
+                self.taken.push(*byte)?;
+                Ok(1)
+            }
+            None => Ok(0),
+        }
+    }
+
+    fn flush(&mut self) -> io::Result<()> {
+        Ok(())
+    }
+}
+
+#[test]
+fn streams_that_take_one_byte_a_call(rt: HostRuntime) -> Result<(), Fail> {
+    let mut writer = Narrow {
+        taken: Vec::new(rt.alloc()),
+        interrupted: false,
+    };
+    let mut stream = StdSink::new(&mut writer);
+    assert_eq!(rt; stream.write(b"abc"), Ok(1));
+    assert_eq!(rt; stream.write(b"bc"), Ok(1));
+    assert_eq!(rt; stream.write(b"c"), Ok(1));
+    assert_eq!(rt; writer.taken.as_slice(), b"abc".as_slice());
+    Ok(())
 }
 
 #[test]
