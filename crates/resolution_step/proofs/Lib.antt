@@ -1,5 +1,6 @@
 pub mod GivenRows
 pub mod Footings
 pub mod Pushes
+pub mod Orders
 pub mod Progress
 pub mod Canonical

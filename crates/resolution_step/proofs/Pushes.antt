@@ -10,10 +10,11 @@ use Rattle.resolution_laws.specs.Start.{Entry, entry_at, IsOf}
 use Rattle.resolution_laws.proofs.StartLaws.{entry_at-other, entry_at-new}
 use Rattle.square.specs.Squares.{Placed, module_over, entry_of, content_of}
 use Rattle.square.specs.Tables.{Staircase, row_in, with_square, IsNext, IsNextAt}
-use Rattle.square.specs.Keeping.{IsNextIn}
+use Rattle.square.specs.Keeping.{IsNextIn, HoldsTable}
 use Rattle.square.proofs.Places.{next_length, row_in-none}
 use Rattle.square.proofs.Pushing.{length-with_square, row_in-same, row_in-other}
-use Rattle.resolution_step.specs.Alone.{IsMore, HasGrown, AreOfStart, IsNewAt, HoldsTable}
+use Rattle.resolution_step.specs.Alone.{IsMore, HasGrown, AreOfStart}
+use Rattle.resolution_step.specs.Inside.Adding.{IsNewAt}
 
 -- ---- reading a table with one square more
 

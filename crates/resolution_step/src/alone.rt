@@ -1,16 +1,17 @@
 //! A range resolved on one thread.
-ghost use Rattle.std.specs.Prelude.{◌≡◌, ◌+◌, ◌<◌, ◌≤◌, ◌++◌, ◌+ℤ◌, ℕ, suc, pos, length, Err, Some, slice_get, IfSome, IfOk, OnOk};
+ghost use Rattle.std.specs.Prelude.{◌≡◌, ◌+◌, ◌<◌, ◌≤◌, ℕ, suc, length, Err, IfOk, OnOk};
 ghost use Rattle.std.specs.Arc.{arc_value};
 ghost use Rattle.edge.specs.Faults.{HasRisen};
-ghost use Rattle.module_check.specs.Module.{bottom};
 ghost use Rattle.resolution_laws.specs.Resolution.{IsCanonicalTable};
 ghost use Rattle.resolution_laws.specs.Start.{IsCanonicalStart};
 ghost use Rattle.square.specs.declared.keep.KeepFault as KeepFault;
-ghost use Rattle.square.specs.declared.keep.KeepFault.TheVariants.{Failed};
+ghost use Rattle.square.specs.declared.keep.KeepFault.TheVariants.{Failed, Memory as WantOfMemory};
 ghost use Rattle.square.specs.declared.range.TheConstants.{MAX_S, MAX_T};
 ghost use Rattle.square.specs.Squares.{module_over};
 ghost use Rattle.square.specs.Tables.{row_in, plain_rows, IsNextAt};
-ghost use Rattle.resolution_step.specs.Alone.{IsThrough, cut, HasGrown, AreOfStart, IsNewAt, HoldsTable, HasGiven, HasGone, IsFollowed};
+ghost use Rattle.square.specs.Keeping.{IsKeeperOf};
+ghost use Rattle.resolution_step.specs.Alone.{IsThrough, cut, HasGrown, AreOfStart, AreNewAt, IsInRange, HasGiven};
+ghost use Rattle.resolution_step.specs.Inside.Adding.{IsNewAt, IsEndOf, IsInRow, HasAdded};
 
 use crate::step_on::step;
 use memory::Memory;
@@ -18,11 +19,12 @@ use square::{Keep, KeepFault, Range, Square, Table};
 use std::alloc::Global;
 use std::sync::Arc;
 
-/// The table with each square of the range. Those that are not there yet are made, row by row from row 0 on and each row from
-/// its bottom degree on, and each is given to the keeper before it stands in the table.
+/// The table with each square of the range. Those that are not there yet are made, and no others, row by row from row 0 on and
+/// each row from its bottom degree on, and each is given to the keeper.
 ///
 /// # Errors
-/// `Failed` where the keeper failed, and `Memory` where there is none for a square. The squares that were given are kept.
+/// `Failed` if the keeper failed; it is then no longer live. `Memory` if there is no memory for a square; the keeper is then
+/// live. The squares that were given are kept.
 pub fn resolve_alone<K: Keep>(
     alloc: Global,
     mut table: Table,
@@ -31,22 +33,21 @@ pub fn resolve_alone<K: Keep>(
 ) -> (Result<Table, KeepFault>, K)
     requires rows { range.s ≤ MAX_S }
     requires degrees { range.t ≤ MAX_T }
-    requires live { K.is_live keeper }
-    requires holds { IfSome (K.kept keeper) (λ list. HoldsTable list table.rows) }
-    requires resolved { IfSome (K.resolved keeper) (λ m. table.resolved ≡ m) }
-    requires start { IfSome (K.start keeper) (λ start. table.start ≡ start) }
+    requires live { (K.telling keeper).live }
+    requires of_table { IsKeeperOf (K.telling keeper) table }
     ensures through { IfOk result.0 (λ more. IsThrough range more.rows) }
+    ensures only { IfOk result.0 (λ more. AreNewAt (IsInRange range) table.rows more.rows) }
     ensures grown { IfOk result.0 (HasGrown table) }
     ensures are_of_start { IfOk result.0 AreOfStart }
     ensures canonical { IsCanonicalStart (module_over table.resolved.plain) table.start → IfOk result.0 (λ more. IsCanonicalTable (module_over table.resolved.plain) range.s range.t (cut range (plain_rows more.rows))) }
-    ensures live { OnOk result.0 (K.is_live result.1) }
-    ensures no_fault { OnOk result.0 (K.faults result.1 ≡ K.faults keeper) }
-    ensures holds { IfOk result.0 (λ more. IfSome (K.kept result.1) (λ list. HoldsTable list more.rows)) }
-    ensures failed { result.0 ≡ Err KeepFault.Failed → HasRisen (K.faults keeper) (K.faults result.1) }
-    ensures never_fall { K.faults keeper ≤ K.faults result.1 }
-    ensures same_module { K.resolved result.1 ≡ K.resolved keeper }
-    ensures same_start { K.start result.1 ≡ K.start keeper }
-    ensures given { HasGiven (module_over table.resolved.plain) table.start (record { faults = K.faults keeper; kept = K.kept keeper; resolved = K.resolved keeper; start = K.start keeper; moment = K.moment keeper; since = K.since keeper }) (record { faults = K.faults result.1; kept = K.kept result.1; resolved = K.resolved result.1; start = K.start result.1; moment = K.moment result.1; since = K.since result.1 }) }
+    ensures live { OnOk result.0 (K.telling result.1).live }
+    ensures no_fault { OnOk result.0 ((K.telling result.1).faults ≡ (K.telling keeper).faults) }
+    ensures of_table { IfOk result.0 (IsKeeperOf (K.telling result.1)) }
+    ensures failed { result.0 ≡ Err KeepFault.Failed → HasRisen (K.telling keeper).faults (K.telling result.1).faults }
+    ensures dead { result.0 ≡ Err KeepFault.Failed → (K.telling result.1).live → ⊥ }
+    ensures memory { result.0 ≡ Err KeepFault.Memory → (K.telling result.1).faults ≡ (K.telling keeper).faults }
+    ensures lives { result.0 ≡ Err KeepFault.Memory → (K.telling result.1).live }
+    ensures given { HasGiven (module_over table.resolved.plain) table.start (IsInRange range) (K.telling keeper) (K.telling result.1) }
 {
     match add_rows(alloc, &mut table, range, &mut keeper) {
         Ok(()) => (Ok(table), keeper),
@@ -63,15 +64,18 @@ fn add_rows<K: Keep>(
 ) -> Result<(), KeepFault>
     requires rows { range.s ≤ MAX_S }
     requires degrees { range.t ≤ MAX_T }
-    requires live { K.is_live keeper.old }
-    requires followed { IsFollowed (record { faults = K.faults keeper.old; kept = K.kept keeper.old; resolved = K.resolved keeper.old; start = K.start keeper.old; moment = K.moment keeper.old; since = K.since keeper.old }) table.old }
+    requires live { (K.telling keeper.old).live }
+    requires of_table { IsKeeperOf (K.telling keeper.old) table.old }
     ensures through { OnOk result (IsThrough range table.new.rows) }
     ensures are_of_start { OnOk result (AreOfStart table.new) }
-    ensures live { OnOk result (K.is_live keeper.new) }
-    ensures no_fault { OnOk result (K.faults keeper.new ≡ K.faults keeper.old) }
-    ensures followed { OnOk result (IsFollowed (record { faults = K.faults keeper.new; kept = K.kept keeper.new; resolved = K.resolved keeper.new; start = K.start keeper.new; moment = K.moment keeper.new; since = K.since keeper.new }) table.new) }
-    ensures failed { result ≡ Err KeepFault.Failed → HasRisen (K.faults keeper.old) (K.faults keeper.new) }
-    ensures gone { HasGone (record { faults = K.faults keeper.old; kept = K.kept keeper.old; resolved = K.resolved keeper.old; start = K.start keeper.old; moment = K.moment keeper.old; since = K.since keeper.old }) (record { faults = K.faults keeper.new; kept = K.kept keeper.new; resolved = K.resolved keeper.new; start = K.start keeper.new; moment = K.moment keeper.new; since = K.since keeper.new }) table.old table.new }
+    ensures live { OnOk result (K.telling keeper.new).live }
+    ensures no_fault { OnOk result ((K.telling keeper.new).faults ≡ (K.telling keeper.old).faults) }
+    ensures of_table { OnOk result (IsKeeperOf (K.telling keeper.new) table.new) }
+    ensures failed { result ≡ Err KeepFault.Failed → HasRisen (K.telling keeper.old).faults (K.telling keeper.new).faults }
+    ensures dead { result ≡ Err KeepFault.Failed → (K.telling keeper.new).live → ⊥ }
+    ensures memory { result ≡ Err KeepFault.Memory → (K.telling keeper.new).faults ≡ (K.telling keeper.old).faults }
+    ensures lives { result ≡ Err KeepFault.Memory → (K.telling keeper.new).live }
+    ensures added { HasAdded (IsInRange range) (K.telling keeper.old) (K.telling keeper.new) table.old table.new }
 {
     for s in 0..range.s + 1 {
         add_row(alloc, table, s, range.t, keeper)?;
@@ -90,15 +94,18 @@ fn add_row<K: Keep>(
     requires s { s ≤ MAX_S }
     requires t { t ≤ MAX_T }
     requires below { (i : ℕ) → suc i ≡ s → t < length (row_in table.old.rows i) }
-    requires live { K.is_live keeper.old }
-    requires followed { IsFollowed (record { faults = K.faults keeper.old; kept = K.kept keeper.old; resolved = K.resolved keeper.old; start = K.start keeper.old; moment = K.moment keeper.old; since = K.since keeper.old }) table.old }
+    requires live { (K.telling keeper.old).live }
+    requires of_table { IsKeeperOf (K.telling keeper.old) table.old }
     ensures through { OnOk result (t < length (row_in table.new.rows s)) }
     ensures are_of_start { OnOk result (AreOfStart table.new) }
-    ensures live { OnOk result (K.is_live keeper.new) }
-    ensures no_fault { OnOk result (K.faults keeper.new ≡ K.faults keeper.old) }
-    ensures followed { OnOk result (IsFollowed (record { faults = K.faults keeper.new; kept = K.kept keeper.new; resolved = K.resolved keeper.new; start = K.start keeper.new; moment = K.moment keeper.new; since = K.since keeper.new }) table.new) }
-    ensures failed { result ≡ Err KeepFault.Failed → HasRisen (K.faults keeper.old) (K.faults keeper.new) }
-    ensures gone { HasGone (record { faults = K.faults keeper.old; kept = K.kept keeper.old; resolved = K.resolved keeper.old; start = K.start keeper.old; moment = K.moment keeper.old; since = K.since keeper.old }) (record { faults = K.faults keeper.new; kept = K.kept keeper.new; resolved = K.resolved keeper.new; start = K.start keeper.new; moment = K.moment keeper.new; since = K.since keeper.new }) table.old table.new }
+    ensures live { OnOk result (K.telling keeper.new).live }
+    ensures no_fault { OnOk result ((K.telling keeper.new).faults ≡ (K.telling keeper.old).faults) }
+    ensures of_table { OnOk result (IsKeeperOf (K.telling keeper.new) table.new) }
+    ensures failed { result ≡ Err KeepFault.Failed → HasRisen (K.telling keeper.old).faults (K.telling keeper.new).faults }
+    ensures dead { result ≡ Err KeepFault.Failed → (K.telling keeper.new).live → ⊥ }
+    ensures memory { result ≡ Err KeepFault.Memory → (K.telling keeper.new).faults ≡ (K.telling keeper.old).faults }
+    ensures lives { result ≡ Err KeepFault.Memory → (K.telling keeper.new).live }
+    ensures added { HasAdded (IsInRow s t) (K.telling keeper.old) (K.telling keeper.new) table.old table.new }
 {
     let bottom = table.module().bottom();
     for k in table.front(s)..usize::from(t) + 1 {
@@ -117,14 +124,17 @@ fn add_square<K: Keep>(
 ) -> Result<(), KeepFault>
     requires row { s < length table.old.rows }
     requires next { IsNextAt table.old s t }
-    requires live { K.is_live keeper.old }
-    requires followed { IsFollowed (record { faults = K.faults keeper.old; kept = K.kept keeper.old; resolved = K.resolved keeper.old; start = K.start keeper.old; moment = K.moment keeper.old; since = K.since keeper.old }) table.old }
+    requires live { (K.telling keeper.old).live }
+    requires of_table { IsKeeperOf (K.telling keeper.old) table.old }
     ensures longer { OnOk result (length (row_in table.new.rows s) ≡ length (row_in table.old.rows s) + 1) }
-    ensures live { OnOk result (K.is_live keeper.new) }
-    ensures no_fault { OnOk result (K.faults keeper.new ≡ K.faults keeper.old) }
-    ensures followed { OnOk result (IsFollowed (record { faults = K.faults keeper.new; kept = K.kept keeper.new; resolved = K.resolved keeper.new; start = K.start keeper.new; moment = K.moment keeper.new; since = K.since keeper.new }) table.new) }
-    ensures failed { result ≡ Err KeepFault.Failed → HasRisen (K.faults keeper.old) (K.faults keeper.new) }
-    ensures gone { HasGone (record { faults = K.faults keeper.old; kept = K.kept keeper.old; resolved = K.resolved keeper.old; start = K.start keeper.old; moment = K.moment keeper.old; since = K.since keeper.old }) (record { faults = K.faults keeper.new; kept = K.kept keeper.new; resolved = K.resolved keeper.new; start = K.start keeper.new; moment = K.moment keeper.new; since = K.since keeper.new }) table.old table.new }
+    ensures live { OnOk result (K.telling keeper.new).live }
+    ensures no_fault { OnOk result ((K.telling keeper.new).faults ≡ (K.telling keeper.old).faults) }
+    ensures of_table { OnOk result (IsKeeperOf (K.telling keeper.new) table.new) }
+    ensures failed { result ≡ Err KeepFault.Failed → HasRisen (K.telling keeper.old).faults (K.telling keeper.new).faults }
+    ensures dead { result ≡ Err KeepFault.Failed → (K.telling keeper.new).live → ⊥ }
+    ensures memory { result ≡ Err KeepFault.Memory → (K.telling keeper.new).faults ≡ (K.telling keeper.old).faults }
+    ensures lives { result ≡ Err KeepFault.Memory → (K.telling keeper.new).live }
+    ensures added { HasAdded (IsEndOf table.old s) (K.telling keeper.old) (K.telling keeper.new) table.old table.new }
 {
     let square = next_square(alloc, table, s, t)?;
     // A square that was kept also finds its place in the table.

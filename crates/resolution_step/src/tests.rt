@@ -43,7 +43,9 @@ fn resolved(alloc: Global, table: Table, range: Range) -> Result<Table, Memory>
 {
     match resolve_alone(alloc, table, range, NoKeep).0 {
         Ok(table) => Ok(table),
-        Err(_) => Err(Memory),
+        Err(KeepFault::Memory) => Err(Memory),
+        // A keeper that keeps nothing does not fail.
+        Err(KeepFault::Failed) => unreachable!(),
     }
 }
 

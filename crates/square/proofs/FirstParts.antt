@@ -1,10 +1,10 @@
 -- First parts of a list, and of the list with one entry more.
-use Rattle.std.proofs.Common.{◌≡◌, ◌⊎◌, ◌↔◌, ℕ, ◌≤◌, Bool, List, [], ◌∷◌, ◌++◌, length, take, sym, ◌∙◌, ap, arith, inl, inr}
+use Rattle.std.proofs.Common.{◌≡◌, ◌⊎◌, ◌↔◌, ℕ, ◌≤◌, Bool, List, [], ◌∷◌, ◌++◌, length, take, Option, Some, sym, ◌∙◌, ap, arith, inl, inr}
 use Rattle.std.proofs.lemmas.Bool.{cases_lt}
 use Rattle.std.proofs.lemmas.List.{take-append-le, length_push}
 use Rattle.resolution_laws.specs.Start.{Entry}
 use Rattle.square.specs.Squares.{Placed, entry_of}
-use Rattle.square.specs.Keeping.{IsFirstPart}
+use Rattle.square.specs.Inside.MemKeep.{IsFirstPart}
 
 -- a list with the entry of a square, given by its parts
 pub kept_more : (list list' : List Entry) (q : Placed) (s above : ℕ) (images kernel : List (List Bool)) (more : List Entry) → list' ≡ list → s ≡ q.s → above ≡ q.above → images ≡ q.content.images → kernel ≡ q.content.kernel → more ≡ list' ++ record { s = s; above = above; content = record { images = images; kernel = kernel } } ∷ [] → more ≡ list ++ entry_of q ∷ []
@@ -14,19 +14,19 @@ kept_more list list' q s above images kernel more e1 e2 e3 e4 e5 e =
     ap (λ n. entry n above images kernel) e2 ∙ ap (λ n. entry q.s n images kernel) e3 ∙ ap (λ x. entry q.s q.above x kernel) e4 ∙ ap (entry q.s q.above q.content.images) e5 in
     e ∙ ap (λ (x : List Entry). x ++ entry s above images kernel ∷ []) e1 ∙ ap (λ (x : Entry). list ++ x ∷ []) here
 
-pub first_parts : (list more : List Entry) (e : Entry) → more ≡ list ++ e ∷ [] → (m : ℕ) (image : List Entry) → m ≤ length list → IsFirstPart more m image ↔ (IsFirstPart list m image ⊎ IsFirstPart more (length list) image)
+pub first_parts : (list more : List Entry) (e : Entry) → more ≡ list ++ e ∷ [] → (m : ℕ) (image : Option (List Entry)) → m ≤ length list → IsFirstPart more m image ↔ (IsFirstPart list m image ⊎ IsFirstPart more (length list) image)
 first_parts list more e same m image l = (shorter, longer)
   where
     shorter : IsFirstPart more m image → IsFirstPart list m image ⊎ IsFirstPart more (length list) image
     shorter p =
         elim (cases_lt (length list) p.len) [
           | inl b ↦ inr (record { len = p.len; at_least = omega arith; at_most = p.at_most; part = p.part })
-          | inr b ↦ inl (record { len = p.len; at_least = p.at_least; at_most = b; part = p.part ∙ ap (take p.len) same ∙ take-append-le p.len list (e ∷ []) b })
+          | inr b ↦ inl (record { len = p.len; at_least = p.at_least; at_most = b; part = p.part ∙ ap (λ (x : List Entry). Some x) (ap (take p.len) same ∙ take-append-le p.len list (e ∷ []) b) })
         ]
 
     longer : IsFirstPart list m image ⊎ IsFirstPart more (length list) image → IsFirstPart more m image
     longer (inl p) =
         let len = ap length same ∙ length_push list e in
         let most = p.at_most in
-        record { len = p.len; at_least = p.at_least; at_most = omega arith; part = p.part ∙ sym (ap (take p.len) same ∙ take-append-le p.len list (e ∷ []) most) }
+        record { len = p.len; at_least = p.at_least; at_most = omega arith; part = p.part ∙ ap (λ (x : List Entry). Some x) (sym (ap (take p.len) same ∙ take-append-le p.len list (e ∷ []) most)) }
     longer (inr p) = let least = p.at_least in record { len = p.len; at_least = omega arith; at_most = p.at_most; part = p.part }

@@ -3,6 +3,7 @@ pub mod Footings
 pub mod Places
 pub mod Pushing
 pub mod FirstParts
+pub mod Kept
 pub mod Rows
 pub mod Looking
 pub mod Matrices

@@ -1,15 +1,31 @@
--- Keepers of squares: what is kept of each, and what may be left of it.
-use Rattle.std.proofs.Common.{◌∙◌, arith}
-use Rattle.std.proofs.lemmas.List.{take_all}
-use Rattle.std.specs.Prelude.{◌≡◌, ℕ, suc, ◌≤◌, ◌⊎◌, Bool, false, List, [], ◌∷◌, ◌++◌, length, take, Option, None, IsSome}
+-- Keepers of squares: what is kept, and what may be left of it where a run is cut off.
+use Rattle.std.specs.Prelude.{◌≡◌, ℕ, suc, ◌≤◌, ◌⊎◌, ◌↔◌, List, [], ◌∷◌, ◌++◌, length, slice_get, Option, Some, None, IsSome, IfSome}
+use Rattle.std.specs.List.{All}
 use Rattle.std.specs.Option.{option_map}
-use Rattle.edge.specs.Faults.{one_up, is_listed}
-use Rattle.resolution_laws.specs.Start.{Entry, entry_at}
+use Rattle.module_check.specs.Checked.{Checked}
+use Rattle.resolution_laws.specs.Resolution.{Module}
+use Rattle.resolution_laws.specs.Start.{Entry, entry_at, IsOf}
 use Rattle.square.specs.Squares.{Placed, entry_of}
+use Rattle.square.specs.Tables.{Staircase, row_in}
 
--- what a keeper has kept, where it tells, with one square more
-abbrev pub with_kept : Option (List Entry) → Placed → Option (List Entry)
-with_kept kept q = option_map (λ list. list ++ entry_of q ∷ []) kept
+-- ---- a keeper
+
+-- What a contract sees of a keeper: whether it takes squares, how often it has failed, and, each none where it does not tell,
+-- the squares that it has kept, in order, the module whose squares they are and the start that it was opened with. The moment
+-- does not fall, and since gives the images since a moment: each the squares that it stands for, none where it stands for
+-- none.
+pub record Keeper : Type 1 where
+  pub live : Type 0
+  pub faults : ℕ
+  pub kept : Option (List Entry)
+  pub resolved : Option Checked
+  pub start : Option (List Entry)
+  pub moment : ℕ
+  pub since : ℕ → Option (List Entry) → Type 0
+
+-- what a keeper has kept, where it tells, with more squares at the end
+abbrev pub with_squares : Option (List Entry) → List Entry → Option (List Entry)
+with_squares kept given = option_map (λ list. list ++ given) kept
 
 -- the list has no square at the place of q, and has those that it stands on
 pub record IsNextIn (list : List Entry) (q : Placed) : Type 0 where
@@ -18,37 +34,52 @@ pub record IsNextIn (list : List Entry) (q : Placed) : Type 0 where
   pub below : (i : ℕ) → suc i ≡ q.s → IsSome (entry_at list i q.above)
 
 -- an image that may be left of a list at the end of which q is put: the list, with q or without it
-abbrev pub IsImageBetween : List Entry → Placed → List Entry → Type 0
-IsImageBetween list q image = (image ≡ list) ⊎ (image ≡ list ++ entry_of q ∷ [])
+abbrev pub IsImageBetween : List Entry → Placed → Option (List Entry) → Type 0
+IsImageBetween list q image = (image ≡ Some list) ⊎ (image ≡ Some (list ++ entry_of q ∷ []))
 
--- What a keeper of tests holds. Its calls, counted from 1, fail where they are listed in failing; it is live until one does.
-pub record Kept : Type 0 where
-  pub list : List Entry
-  pub failing : List ℕ
-  pub calls : ℕ
-  pub faults : ℕ
-  pub live : Bool
+-- ---- a keeper and a table
 
-abbrev pub keep_fails : Kept → Bool
-keep_fails kept = is_listed kept.failing (one_up kept.calls)
+-- the list has just the squares of these rows
+abbrev pub HoldsTable : List Entry → List (List Placed) → Type 0
+HoldsTable list rows = (s k : ℕ) → entry_at list s k ≡ option_map (λ q. q.content) (slice_get (row_in rows s) k)
 
-abbrev pub after_keep : Kept → Placed → Kept
-after_keep kept q = record kept { list = kept.list ++ entry_of q ∷ []; calls = one_up kept.calls }
+-- The keeper goes with the table: where it tells, its list has just the table's squares, and its module and start are the
+-- table's.
+pub record IsKeeperOf (keeper : Keeper) (table : Staircase) : Type 0 where
+  pub holds : IfSome keeper.kept (λ list. HoldsTable list table.rows)
+  pub resolved : IfSome keeper.resolved (λ m. table.resolved ≡ m)
+  pub start : IfSome keeper.start (λ start. table.start ≡ start)
 
-abbrev pub after_failed_keep : Kept → Kept
-after_failed_keep kept = record kept { calls = one_up kept.calls; faults = one_up kept.faults; live = false }
+-- ---- a keeper from one moment to a later one
 
--- a first part of the list, at least so long
-pub record IsFirstPart (list : List Entry) (least : ℕ) (image : List Entry) : Type 0 where
-  pub len : ℕ
-  pub at_least : least ≤ len
-  pub at_most : len ≤ length list
-  pub part : image ≡ take len list
+-- each square of the list is that of the start's table
+abbrev pub AreOf : Module → List Entry → List Entry → Type 0
+AreOf m start list = All (λ e. IsOf m start e.s e.above e.content) list
 
--- a first part as long as the list is the list
-pub whole_part : (list image : List Entry) → IsFirstPart list (length list) image → image ≡ list
-whole_part list image p = p.part ∙ take_all p.len list p.at_least
+-- the image is the list, and at most one square of the start's table more
+pub record IsImageWith (m : Module) (start list : List Entry) (image : Option (List Entry)) : Type 0 where
+  pub more : List Entry
+  pub at_most_one : length more ≤ 1
+  pub are_of : AreOf m start more
+  pub is : image ≡ Some (list ++ more)
 
--- a first part at least so long is at least as long as less
-pub longer_part : (list : List Entry) (m n : ℕ) (image : List Entry) → m ≤ n → IsFirstPart list n image → IsFirstPart list m image
-longer_part list m n image before p = let least = p.at_least in record { len = p.len; at_least = omega arith; at_most = p.at_most; part = p.part }
+-- the image is the list, a first part of given, and at most one square more
+pub record IsImageAmid (m : Module) (start list given : List Entry) (image : Option (List Entry)) : Type 0 where
+  pub first : List Entry
+  pub rest : List Entry
+  pub parts : given ≡ first ++ rest
+  pub with_more : IsImageWith m start (list ++ first) image
+
+-- From old to new the keeper was given these squares of the start's table, and they stand at the end of what it has kept. Each
+-- image since then is what was kept before them, a first part of them, and at most one square more; each image now has all of
+-- them. Images since an earlier moment are those had before, and those since then.
+pub record HasKept (m : Module) (start : List Entry) (old new : Keeper) (given : List Entry) : Type 0 where
+  pub are_of : AreOf m start given
+  pub kept : new.kept ≡ with_squares old.kept given
+  pub same_module : new.resolved ≡ old.resolved
+  pub same_start : new.start ≡ old.start
+  pub never_fall : old.faults ≤ new.faults
+  pub later : old.moment ≤ new.moment
+  pub since : IfSome old.kept (λ list. (image : Option (List Entry)) → new.since old.moment image → IsImageAmid m start list given image)
+  pub now : IfSome old.kept (λ list. (image : Option (List Entry)) → new.since new.moment image → IsImageWith m start (list ++ given) image)
+  pub earlier : IfSome old.kept (λ list. (m : ℕ) (image : Option (List Entry)) → m ≤ old.moment → new.since m image ↔ (old.since m image ⊎ new.since old.moment image))

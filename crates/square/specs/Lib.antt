@@ -1,3 +1,4 @@
 pub mod Squares
 pub mod Tables
 pub mod Keeping
+pub mod Inside

@@ -1,10 +1,10 @@
 //! Where squares are kept.
-ghost use Rattle.std.specs.Prelude.{◌≡◌, ◌≢◌, ℕ, ◌≤◌, ◌<◌, ◌↔◌, ◌⊎◌, Option, Some, None, List, [], true, false, length, IfSome, IfOk, OnOk, OnErr, Err};
+ghost use Rattle.std.specs.Prelude.{◌≡◌, ◌≢◌, ℕ, ◌≤◌, ◌<◌, ◌↔◌, ◌⊎◌, Option, Some, None, List, [], ◌∷◌, true, false, length, IfSome, IsOkAnd, OnOk, OnErr, Err};
 ghost use Rattle.edge.specs.Faults.{HasRisen, one_up};
-ghost use Rattle.module_check.specs.Checked.{Checked};
 ghost use Rattle.resolution_laws.specs.Start.{Entry};
 ghost use Rattle.square.specs.Squares.{entry_of};
-ghost use Rattle.square.specs.Keeping.{with_kept, IsNextIn, IsImageBetween, keep_fails, after_keep, after_failed_keep, IsFirstPart, whole_part, longer_part};
+ghost use Rattle.square.specs.Keeping.{Keeper, with_squares, IsNextIn, IsImageBetween};
+ghost use Rattle.square.specs.Inside.MemKeep.{keep_fails, after_keep, after_failed_keep, IsFirstPart, whole_part, longer_part};
 ghost use Rattle.square.specs.declared.keep.KeepFault as KeepFault;
 ghost use Rattle.square.specs.declared.keep.KeepFault.TheVariants.{Failed, Memory as WantOfMemory};
 
@@ -21,7 +21,7 @@ pub enum KeepFault {
     /// The keeper failed, and keeps no more.
     #[error("a square could not be kept")]
     Failed,
-    /// There was no memory to keep it.
+    /// The keeper is out of memory.
     #[error("out of memory")]
     Memory,
 }
@@ -34,59 +34,44 @@ impl From<Memory> for KeepFault {
     }
 }
 
-/// What keeps squares, as a save file does. An image is what may be left of it where a run is cut off, seen as the list of
-/// squares that it stands for.
+/// What keeps squares, as a save file does.
+///
+/// An image is what may be left of it where a run is cut off. Contracts see it as the list of squares that it stands for, or as
+/// none where it stands for no list, as torn bytes do: so a clause that says which lists an image may be also says that it is
+/// not torn.
 pub trait Keep {
-    /// It takes squares.
-    ghost is_live: { Self → Type 0 };
-
-    /// How often it has failed.
-    ghost faults: { Self → ℕ };
-
-    /// What it has kept, in order, none where it does not tell.
-    ghost kept: { Self → Option (List Entry) };
-
-    /// The module whose squares it keeps, none where it does not tell.
-    ghost resolved: { Self → Option Checked };
-
-    /// The start that it was opened with, none where it does not tell.
-    ghost start: { Self → Option (List Entry) };
-
-    /// The moment, which does not fall.
-    ghost moment: { Self → ℕ };
-
-    /// The images since a moment.
-    ghost since: { Self → ℕ → List Entry → Type 0 };
+    /// What contracts see of the keeper.
+    ghost telling: { Self → Keeper };
 
     /// Puts a square at the end of what is kept.
     ///
     /// # Errors
-    /// `Failed` where the keeper failed; it is then no longer live, and keeps what it kept. `Memory` where there was none; the
-    /// keeper is then as before.
+    /// `Failed` if the keeper failed; it is then no longer live, and keeps what it kept. `Memory` if it is out of memory; it is
+    /// then as before.
     fn keep(&mut self, square: &Square) -> Result<(), KeepFault>
-        requires live { is_live self.old }
-        requires next { IfSome (kept self.old) (λ list. IsNextIn list square.now) }
-        requires resolved { IfSome (resolved self.old) (λ m. square.now.resolved ≡ m) }
-        requires start { IfSome (start self.old) (λ st. square.now.start ≡ st) }
-        ensures live { OnOk result (is_live self.new) }
-        ensures no_fault { OnOk result (faults self.new ≡ faults self.old) }
-        ensures put { OnOk result (kept self.new ≡ with_kept (kept self.old) square.now) }
-        ensures failed { result ≡ Err KeepFault.Failed → HasRisen (faults self.old) (faults self.new) }
-        ensures dead { result ≡ Err KeepFault.Failed → is_live self.new → ⊥ }
-        ensures unput { result ≡ Err KeepFault.Failed → kept self.new ≡ kept self.old }
+        requires live { (telling self.old).live }
+        requires next { IfSome (telling self.old).kept (λ list. IsNextIn list square.now) }
+        requires resolved { IfSome (telling self.old).resolved (λ m. square.now.resolved ≡ m) }
+        requires start { IfSome (telling self.old).start (λ st. square.now.start ≡ st) }
+        ensures live { OnOk result (telling self.new).live }
+        ensures no_fault { OnOk result ((telling self.new).faults ≡ (telling self.old).faults) }
+        ensures put { OnOk result ((telling self.new).kept ≡ with_squares (telling self.old).kept (entry_of square.now ∷ [])) }
+        ensures failed { result ≡ Err KeepFault.Failed → HasRisen (telling self.old).faults (telling self.new).faults }
+        ensures dead { result ≡ Err KeepFault.Failed → (telling self.new).live → ⊥ }
+        ensures unput { result ≡ Err KeepFault.Failed → (telling self.new).kept ≡ (telling self.old).kept }
         ensures memory { result ≡ Err KeepFault.Memory → self.new ≡ self.old }
-        ensures never_fall { faults self.old ≤ faults self.new }
-        ensures same_module { resolved self.new ≡ resolved self.old }
-        ensures same_start { start self.new ≡ start self.old }
-        ensures later { moment self.old ≤ moment self.new }
-        ensures between { IfSome (kept self.old) (λ list. (image : List Entry) → since self.new (moment self.old) image → IsImageBetween list square.now image) }
-        ensures earlier { IfSome (kept self.old) (λ list. (m : ℕ) (image : List Entry) → m ≤ moment self.old → since self.new m image ↔ (since self.old m image ⊎ since self.new (moment self.old) image)) };
+        ensures never_fall { (telling self.old).faults ≤ (telling self.new).faults }
+        ensures same_module { (telling self.new).resolved ≡ (telling self.old).resolved }
+        ensures same_start { (telling self.new).start ≡ (telling self.old).start }
+        ensures later { (telling self.old).moment ≤ (telling self.new).moment }
+        ensures between { IfSome (telling self.old).kept (λ list. (image : Option (List Entry)) → (telling self.new).since (telling self.old).moment image → IsImageBetween list square.now image) }
+        ensures earlier { IfSome (telling self.old).kept (λ list. (m : ℕ) (image : Option (List Entry)) → m ≤ (telling self.old).moment → (telling self.new).since m image ↔ ((telling self.old).since m image ⊎ (telling self.new).since (telling self.old).moment image)) };
 
     /// An image since a moment is one since each earlier moment.
-    ghost since_earlier: { (k : Self) (m n : ℕ) (image : List Entry) → m ≤ n → since k n image → since k m image };
+    ghost since_earlier: { (k : Self) (m n : ℕ) (image : Option (List Entry)) → m ≤ n → (telling k).since n image → (telling k).since m image };
 
     /// While the keeper is live, every image now is what it has kept.
-    ghost image_is_kept: { (k : Self) → is_live k → IfSome (kept k) (λ list. (image : List Entry) → since k (moment k) image → image ≡ list) };
+    ghost image_is_kept: { (k : Self) → (telling k).live → IfSome (telling k).kept (λ list. (image : Option (List Entry)) → (telling k).since (telling k).moment image → image ≡ Some list) };
 }
 
 /// A keeper that keeps nothing, and takes no memory.
@@ -94,19 +79,7 @@ pub trait Keep {
 pub struct NoKeep;
 
 impl Keep for NoKeep {
-    ghost is_live = { λ _. Unit {0} };
-
-    ghost faults = { λ _. 0 };
-
-    ghost kept = { λ _. None };
-
-    ghost resolved = { λ _. None };
-
-    ghost start = { λ _. None };
-
-    ghost moment = { λ _. 0 };
-
-    ghost since = { λ _ _ _. ⊥ };
+    ghost telling = { λ _. record { live = Unit {0}; faults = 0; kept = None; resolved = None; start = None; moment = 0; since = λ _ _. ⊥ } };
 
     fn keep(&mut self, _square: &Square) -> Result<(), KeepFault> {
         Ok(())
@@ -128,7 +101,7 @@ pub struct MemKeep {
 }
 
 impl Model for MemKeep {
-    ghost use Rattle.square.specs.Keeping.{Kept};
+    ghost use Rattle.square.specs.Inside.MemKeep.{Kept};
 
     ghost Value = { Kept };
 
@@ -141,7 +114,7 @@ impl MemKeep {
     /// # Errors
     /// None: it takes over the memory that it needs.
     pub fn new(_alloc: Global, failing: Vec<u64>) -> Result<MemKeep, Memory>
-        ensures { IfOk result (λ keeper. keeper ≡ record { list = []; failing = failing.items; calls = 0; faults = 0; live = true }) }
+        ensures { IsOkAnd result (λ keeper. keeper ≡ record { list = []; failing = failing.items; calls = 0; faults = 0; live = true }) }
     {
         Ok(MemKeep {
             list: Start::empty(),
@@ -169,33 +142,21 @@ impl MemKeep {
 }
 
 impl Keep for MemKeep {
-    ghost is_live = { λ k. k.live ≡ true };
-
-    ghost faults = { λ k. k.faults };
-
-    ghost kept = { λ k. Some k.list };
-
-    ghost resolved = { λ _. None };
-
-    ghost start = { λ _. None };
-
-    ghost moment = { λ k. length k.list };
-
-    ghost since = { λ k m image. IsFirstPart k.list m image };
+    ghost telling = { λ k. record { live = k.live ≡ true; faults = k.faults; kept = Some k.list; resolved = None; start = None; moment = length k.list; since = λ m image. IsFirstPart k.list m image } };
 
     fn keep(&mut self, square: &Square) -> Result<(), KeepFault>
         requires { self.old.live ≡ true }
         ensures live { OnOk result (self.new.live ≡ true) }
         ensures no_fault { OnOk result (self.new.faults ≡ self.old.faults) }
-        ensures put { OnOk result (Some self.new.list ≡ with_kept (Some self.old.list) square.now) }
+        ensures put { OnOk result (Some self.new.list ≡ with_squares (Some self.old.list) (entry_of square.now ∷ [])) }
         ensures failed { result ≡ Err KeepFault.Failed → HasRisen self.old.faults self.new.faults }
         ensures dead { result ≡ Err KeepFault.Failed → self.new.live ≡ true → ⊥ }
         ensures unput { result ≡ Err KeepFault.Failed → Some self.new.list ≡ Some self.old.list }
         ensures memory { result ≡ Err KeepFault.Memory → self.new ≡ self.old }
         ensures never_fall { self.old.faults ≤ self.new.faults }
         ensures later { length self.old.list ≤ length self.new.list }
-        ensures between { (image : List Entry) → IsFirstPart self.new.list (length self.old.list) image → IsImageBetween self.old.list square.now image }
-        ensures earlier { (m : ℕ) (image : List Entry) → m ≤ length self.old.list → IsFirstPart self.new.list m image ↔ (IsFirstPart self.old.list m image ⊎ IsFirstPart self.new.list (length self.old.list) image) }
+        ensures between { (image : Option (List Entry)) → IsFirstPart self.new.list (length self.old.list) image → IsImageBetween self.old.list square.now image }
+        ensures earlier { (m : ℕ) (image : Option (List Entry)) → m ≤ length self.old.list → IsFirstPart self.new.list m image ↔ (IsFirstPart self.old.list m image ⊎ IsFirstPart self.new.list (length self.old.list) image) }
         ensures keeps { OnOk result ((keep_fails self.old ≡ false) × (self.new ≡ after_keep self.old square.now)) }
         ensures fails { OnErr result ((keep_fails self.old ≡ true) × (result ≡ Err KeepFault.Failed) × (self.new ≡ after_failed_keep self.old)) }
     {

@@ -1,11 +1,16 @@
-use Rattle.std.proofs.Common.{◌≡◌, ◌+◌, length, refl, sym, ◌∙◌, ap, arith}
+use Rattle.std.proofs.Common.{◌≡◌, ◌+◌, ◌<◌, ◌≤◌, ℕ, length, refl, sym, ◌∙◌, ap, arith, inl, inr}
 use Rattle.std.proofs.lemmas.Int.{ints}
 use Rattle.module_check.specs.Module.{bottom}
 use Rattle.module_check.specs.Checked.{Checked}
 use Rattle.square.specs.Tables.{row_in}
-use Rattle.resolution_step.proofs.Pushes.{length-IsMore, HasGrown-same}
-use Rattle.resolution_step.proofs.Progress.{HasGone-none, HasGone-then}
+use Rattle.resolution_step.specs.Inside.Adding.{IsEndOf, IsInRow}
+use Rattle.resolution_step.proofs.Pushes.{length-IsMore}
+use Rattle.resolution_step.proofs.Progress.{HasAdded-start, HasAdded-weaker, HasAdded-then}
 use Rattle.resolution_step.proofs.alone.add_row.Goals as goal
+
+-- the places of row s before k and through t
+abbrev IsSoFar : ℕ → ℕ → ℕ → ℕ → ℕ → Type 0
+IsSoFar s t n i k = (i ≡ s) × (k < n) × (k ≤ t)
 
 pub loop-k-init : goal.loop-k-init
 loop-k-init g c =
@@ -16,13 +21,13 @@ loop-k-init g c =
       are_of_start = λ s k q there. (c.front-k.ensures.is_table.placed s k q there).is_of;
       live = c.requires.live;
       no_fault = refl;
-      followed = c.requires.followed;
-      gone = HasGone-none _ table table (record { images = g.met.K.Keep.image_is_kept keeper c.requires.live; earlier = g.met.K.Keep.since_earlier keeper }) (HasGrown-same table table refl refl refl) refl (λ h. h);
+      of_table = c.requires.of_table;
+      added = HasAdded-start _ _ table (record { images = g.met.K.Keep.image_is_kept keeper c.requires.live; earlier = g.met.K.Keep.since_earlier keeper });
     }
 
 pub add_square-requires-clause-next : goal.add_square-requires-clause-next
 add_square-requires-clause-next g c =
-    let grown = c.loop-k.invariant.gone.grown in
+    let grown = c.loop-k.invariant.added.grown in
     let len = c.loop-k.invariant.len in
     let k = c.loop-k.k in
     let through = c.requires.t in
@@ -40,18 +45,45 @@ add_square-requires-clause-next g c =
       };
     }
 
-pub returns-in_err-add_square-clause-gone : goal.returns-in_err-add_square-clause-gone
-returns-in_err-add_square-clause-gone g c = HasGone-then _ _ _ c.args.table.now c.loop-k.table c.add_square.new.table c.loop-k.invariant.gone c.add_square.ensures.gone
+pub returns-in_err-add_square-clause-added : goal.returns-in_err-add_square-clause-added
+returns-in_err-add_square-clause-added g c =
+    let s = c.args.s in
+    let t = c.args.t in
+    let k = c.loop-k.k in
+    let table = c.loop-k.table in
+    let len = c.loop-k.invariant.len in
+    let last = c.from-k-end.ensures in
+    HasAdded-then (IsSoFar s t k) (IsEndOf table s) (IsInRow s t)
+    (λ i j h. (h.0, h.2))
+    (λ i j h. (h.0, let e = h.1 in omega (arith, len)))
+    (λ i j a b h e. inr (h.0 ∙ sym e.0, let l = h.1 in let f = e.1 in omega (arith, len)))
+    _ _ _ c.args.table.now table c.add_square.new.table c.loop-k.invariant.added c.add_square.ensures.added
 
 pub loop-k-preserved : goal.loop-k-preserved
 loop-k-preserved g c =
     let before = c.loop-k.invariant in
     let made = c.in_ok-add_square.ensures in
+    let s = c.args.s in
+    let t = c.args.t in
+    let k = c.loop-k.k in
+    let table = c.loop-k.table in
+    let len = before.len in
+    let last = c.from-k-end.ensures in
     record {
       len = made.longer ∙ ap (λ n. n + 1) before.len;
-      are_of_start = c.add_square.ensures.gone.are_of_start before.are_of_start;
+      are_of_start = c.add_square.ensures.added.are_of_start before.are_of_start;
       live = made.live;
       no_fault = made.no_fault ∙ before.no_fault;
-      followed = made.followed;
-      gone = HasGone-then _ _ _ c.args.table.now c.loop-k.table c.add_square.new.table before.gone c.add_square.ensures.gone;
+      of_table = made.of_table;
+      added = HasAdded-then (IsSoFar s t k) (IsEndOf table s) (IsSoFar s t (k + 1))
+          (λ i j h. (h.0, (let l = h.1 in omega arith), h.2))
+          (λ i j h. (h.0, (let e = h.1 in omega (arith, len)), let e = h.1 in omega (arith, len)))
+          (λ i j a b h e. inr (h.0 ∙ sym e.0, let l = h.1 in let f = e.1 in omega (arith, len)))
+          _ _ _ c.args.table.now table c.add_square.new.table before.added c.add_square.ensures.added;
     }
+
+pub returns-clause-added : goal.returns-clause-added
+returns-clause-added g c =
+    let s = c.args.s in
+    let t = c.args.t in
+    HasAdded-weaker (IsSoFar s t c.loop-k.k) (IsInRow s t) (λ i j h. (h.0, h.2)) _ _ c.args.table.now c.loop-k.table c.loop-k.invariant.added

@@ -1,14 +1,16 @@
-use Rattle.std.proofs.Common.{◌≡◌, length}
+use Rattle.std.proofs.Common.{◌≡◌, ◌<◌, ◌≤◌, length}
 use Rattle.square.specs.Tables.{row_in}
-use Rattle.resolution_step.specs.Alone.{AreOfStart, HasGone, IsFollowed}
+use Rattle.square.specs.Keeping.{IsKeeperOf}
+use Rattle.resolution_step.specs.Alone.{AreOfStart}
+use Rattle.resolution_step.specs.Inside.Adding.{HasAdded}
 use Rattle.resolution_step.proofs.alone.add_row.Given as goal
 
 abbrev pub invariant-loop-k : goal.invariant-loop-k
 invariant-loop-k g l = record {
   len : length (row_in l.table.rows l.s) ≡ l.k;
   are_of_start : AreOfStart l.table;
-  live : g.K.Keep.is_live l.keeper;
-  no_fault : g.K.Keep.faults l.keeper ≡ g.K.Keep.faults l.fn.keeper;
-  followed : IsFollowed (record { faults = g.K.Keep.faults l.keeper; kept = g.K.Keep.kept l.keeper; resolved = g.K.Keep.resolved l.keeper; start = g.K.Keep.start l.keeper; moment = g.K.Keep.moment l.keeper; since = g.K.Keep.since l.keeper }) l.table;
-  gone : HasGone (record { faults = g.K.Keep.faults l.fn.keeper; kept = g.K.Keep.kept l.fn.keeper; resolved = g.K.Keep.resolved l.fn.keeper; start = g.K.Keep.start l.fn.keeper; moment = g.K.Keep.moment l.fn.keeper; since = g.K.Keep.since l.fn.keeper }) (record { faults = g.K.Keep.faults l.keeper; kept = g.K.Keep.kept l.keeper; resolved = g.K.Keep.resolved l.keeper; start = g.K.Keep.start l.keeper; moment = g.K.Keep.moment l.keeper; since = g.K.Keep.since l.keeper }) l.fn.table l.table;
+  live : (g.K.Keep.telling l.keeper).live;
+  no_fault : (g.K.Keep.telling l.keeper).faults ≡ (g.K.Keep.telling l.fn.keeper).faults;
+  of_table : IsKeeperOf (g.K.Keep.telling l.keeper) l.table;
+  added : HasAdded (λ i k. (i ≡ l.s) × (k < l.k) × (k ≤ l.t)) (g.K.Keep.telling l.fn.keeper) (g.K.Keep.telling l.keeper) l.fn.table l.table;
 }

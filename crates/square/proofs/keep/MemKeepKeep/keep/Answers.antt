@@ -1,6 +1,6 @@
 use Rattle.std.proofs.Common.{ap}
 use Rattle.square.specs.Squares.{entry_of}
-use Rattle.square.specs.Keeping.{Kept}
+use Rattle.square.specs.Inside.MemKeep.{Kept}
 use Rattle.square.proofs.FirstParts.{kept_more, first_parts}
 use Rattle.square.proofs.keep.MemKeepKeep.keep.Goals as goal
 

@@ -1,0 +1,2 @@
+-- What the loop keeps as it goes.
+pub mod Adding
