@@ -4,8 +4,8 @@ use Rattle.std.proofs.Math.Path.{fun_ext}
 use Rattle.std.proofs.lemmas.Grind.{common_steps}
 use Rattle.std.proofs.lemmas.Bool.Decides.{nat_tests, eqb_tells}
 use Rattle.std.proofs.lemmas.List.{get_or-set_other}
-use Rattle.board_core.specs.Board.{squares_below}
-use Rattle.board_core.specs.Machine.{HasParents, IsNumber, IsRowNumberBelow, count_below, with_square}
+use Rattle.board_core.specs.Board.{below_fronts}
+use Rattle.board_core.specs.Machine.{HasParents, IsNumber, IsRowNumberBelow, count_below, insert_square}
 
 -- ---- how many squares a row has
 
@@ -50,11 +50,11 @@ stands_first done s (suc k) front h parents absent =
 
 -- ---- one square more
 
-pub stands_at_front : (fronts : List ℕ) (s k : ℕ) → HasParents (squares_below fronts) s k → squares_below fronts s k ≡ false → slice_index_or fronts s 0 ≡ k
-stands_at_front fronts s k parents absent = sym (stands_first (squares_below fronts) s k (slice_index_or fronts s 0) (λ j. refl) parents absent)
+pub stands_at_front : (fronts : List ℕ) (s k : ℕ) → HasParents (below_fronts fronts) s k → below_fronts fronts s k ≡ false → slice_index_or fronts s 0 ≡ k
+stands_at_front fronts s k parents absent = sym (stands_first (below_fronts fronts) s k (slice_index_or fronts s 0) (λ j. refl) parents absent)
 
-pub add_at_front : (fronts : List ℕ) (s k : ℕ) → s < length fronts → slice_index_or fronts s 0 ≡ k → squares_below (set fronts s (k + 1)) ≡ with_square (squares_below fronts) s k
+pub add_at_front : (fronts : List ℕ) (s k : ℕ) → s < length fronts → slice_index_or fronts s 0 ≡ k → below_fronts (set fronts s (k + 1)) ≡ insert_square (below_fronts fronts) s k
 add_at_front fronts s k within here = fun_ext (λ i. fun_ext (λ j. at i j))
   where
-    at : (i j : ℕ) → squares_below (set fronts s (k + 1)) i j ≡ with_square (squares_below fronts) s k i j
+    at : (i j : ℕ) → below_fronts (set fronts s (k + 1)) i j ≡ insert_square (below_fronts fronts) s k i j
     at i j = elim (eqb_tells i s) [ inl p ↦ grind (arith, nat_tests, common_steps) | inr p ↦ let other = get_or-set_other fronts s i (k + 1) 0 p.1 in grind (arith, nat_tests) ]

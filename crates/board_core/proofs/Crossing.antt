@@ -3,6 +3,7 @@ use denote.Param.Send.{IsSend, IsSync, sendable}
 use Rattle.std.proofs.Crossing.{crosses}
 use Rattle.board_core.specs.contracts.fronts.Fronts as Fronts
 use Rattle.board_core.specs.contracts.machine.Core as Core
+use Rattle.board_core.proofs.Sent.{File-send, File-sync}
 
 Fronts-send : IsSend Fronts.the_row
 Fronts-send = search (crosses, sendable) depth 20
@@ -11,7 +12,7 @@ Fronts-sync : IsSync Fronts.the_row
 Fronts-sync = search (crosses, sendable) depth 20
 
 pub Core-send : IsSend Core.the_row
-Core-send = search (crosses, sendable, Fronts-send) depth 20
+Core-send = search (crosses, sendable, Fronts-send, File-send) depth 30
 
 pub Core-sync : IsSync Core.the_row
-Core-sync = search (crosses, sendable, Fronts-sync) depth 20
+Core-sync = search (crosses, sendable, Fronts-sync, File-sync) depth 30

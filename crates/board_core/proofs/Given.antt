@@ -7,7 +7,7 @@ use Rattle.board_core.specs.declared.event.Event.{Event}
 use Rattle.board_core.specs.declared.event.Event.TheVariants.{Take, Give, Back, Fail}
 use Rattle.board_core.specs.Laws.{IsReached, AreDoneOnce, given}
 use Rattle.board_core.specs.Board.{IsSound}
-use Rattle.board_core.specs.Machine.{Squares, HasParents, State, IsStart, IsNextSquare, IsLegal, IsHistory, IsAbove, above_of, is_number, height, after, opening, squares_of, with_square}
+use Rattle.board_core.specs.Machine.{Squares, HasParents, State, IsStart, IsNextSquare, IsLegal, IsHistory, IsAbove, above_of, is_number, height, after, opening, squares_of, insert_square}
 use Rattle.board_core.specs.Machine.IsHistory.{nothing, then}
 use Rattle.board_core.proofs.Starts.{above_is}
 use Rattle.board_core.proofs.Histories.{height_is, held_at_height, opening_is_sound, stays_sound}
@@ -17,7 +17,7 @@ or_false true b = refl
 or_false false true = refl
 or_false false false = refl
 
-squares_with : (b : ℤ) (list : List (ℕ × ℤ)) (s k : ℕ) (t : ℤ) → IsAbove b t k → squares_of b (list ++ (s, t) ∷ []) ≡ with_square (squares_of b list) s k
+squares_with : (b : ℤ) (list : List (ℕ × ℤ)) (s k : ℕ) (t : ℤ) → IsAbove b t k → squares_of b (list ++ (s, t) ∷ []) ≡ insert_square (squares_of b list) s k
 squares_with b list s k t at = fun_ext (λ i. fun_ext (λ j.
     list_any-append (λ (q : ℕ × ℤ). nat_eq i q.0 && is_number (above_of b q.1) j) list ((s, t) ∷ [])
     ∙ or_false (squares_of b list i j) (nat_eq i s && is_number (above_of b t) j)
@@ -53,7 +53,7 @@ record AreDone (b : ℤ) (list : List (ℕ × ℤ)) (done : Squares) : Type 0 wh
   all : done ≡ squares_of b list
 
 -- those with the square that is given
-given_one : (state : State) (who s : ℕ) (t : ℤ) (list : List (ℕ × ℤ)) → IsSound state → IsLegal state (Give who s t) → AreDone state.bottom list state.done → AreDone state.bottom (list ++ (s, t) ∷ []) (with_square state.done s (height state t))
+given_one : (state : State) (who s : ℕ) (t : ℤ) (list : List (ℕ × ℤ)) → IsSound state → IsLegal state (Give who s t) → AreDone state.bottom list state.done → AreDone state.bottom (list ++ (s, t) ∷ []) (insert_square state.done s (height state t))
 given_one state who s t list sound legal are =
     let b = state.bottom in
     let k = height state t in
@@ -63,7 +63,7 @@ given_one state who s t list sound legal are =
     let parents : HasParents (squares_of b list) s k = subst (λ (d : Squares). HasParents d s k) are.all taken.parents in
     record {
       once = start_with b list (s, t) are.once (record { above = k; degree = at; absent = absent; parents = parents });
-      all = ap (λ (d : Squares). with_square d s k) are.all ∙ sym (squares_with b list s k t at);
+      all = ap (λ (d : Squares). insert_square d s k) are.all ∙ sym (squares_with b list s k t at);
     }
 
 given_all : (first : State) (events : List Event) (last : State) (list : List (ℕ × ℤ)) → IsHistory first events last → IsSound first → AreDone first.bottom list first.done → AreDone first.bottom (list ++ given events) last.done
@@ -82,7 +82,16 @@ given_all first (Fail who s t ∷ events) last list (then state e es l legal res
     let more = stays_sound first (Fail who s t) sound legal in
     given_all (after first (Fail who s t)) events last list rest more are
 
+-- the file has those that it had, and then the squares that are given
+file_is : (first : State) (events : List Event) (last : State) → IsHistory first events last → last.file ≡ first.file ++ given events
+file_is first [] last (nothing state) = sym (append-nil first.file)
+file_is first (Take who s t snapshot ∷ events) last (then state e es l legal rest) = file_is (after first (Take who s t snapshot)) events last rest
+file_is first (Give who s t ∷ events) last (then state e es l legal rest) = file_is (after first (Give who s t)) events last rest ∙ append_assoc first.file ((s, t) ∷ []) (given events)
+file_is first (Back who s t ∷ events) last (then state e es l legal rest) = file_is (after first (Back who s t)) events last rest
+file_is first (Fail who s t ∷ events) last (then state e es l legal rest) = file_is (after first (Fail who s t)) events last rest
+
 pub given_once : (bottom : ℤ) (s t : ℕ) (start : List (ℕ × ℤ)) (events : List Event) (state : State) → IsReached bottom s t start events state → AreDoneOnce bottom start events state
 given_once bottom s t start events state reached =
     let all = given_all (opening bottom s t start) events state start reached.history (opening_is_sound bottom s t start reached.listed) (record { once = reached.listed; all = refl }) in
-    record { once = all.once; done = all.all }
+    let file = file_is (opening bottom s t start) events state reached.history in
+    record { file = file; once = subst (IsStart bottom) (sym file) all.once; done = all.all ∙ ap (squares_of bottom) (sym file) }

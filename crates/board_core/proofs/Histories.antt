@@ -1,20 +1,20 @@
 -- The board stays sound through every history.
-use Rattle.std.proofs.Common.{◌≡◌, ℕ, ℤ, true, List, [], ◌∷◌, ◌++◌, Some, refl, sym, ap, subst}
+use Rattle.std.proofs.Common.{◌≡◌, ℕ, ℤ, true, List, [], ◌∷◌, ◌++◌, refl, sym, ap, subst}
 use Rattle.board_core.specs.declared.event.Event.{Event}
 use Rattle.board_core.specs.declared.event.Event.TheVariants.{Take, Give, Back, Fail}
 use Rattle.board_core.specs.declared.event.Cause.TheVariants.{Failed, Memory}
 use Rattle.board_core.specs.Board.{IsSound}
-use Rattle.board_core.specs.Machine.{State, IsStart, IsReady, IsHeld, IsLegal, IsHistory, IsAbove, number_or_zero, height, after, opening, is_out, without, with_square, cause_or}
+use Rattle.board_core.specs.Machine.{State, IsStart, IsReady, IsHeld, IsLegal, IsHistory, IsAbove, number_or_zero, height, after, opening, is_out, without, insert_square, cause_or}
 use Rattle.board_core.specs.Machine.IsHistory.{nothing, then}
 use Rattle.board_core.specs.Laws.{IsReached}
-use Rattle.board_core.proofs.Sound.{sound_take, sound_without, sound_give, held_is_out}
+use Rattle.board_core.proofs.Sound.{sound_take, sound_back, sound_fail, sound_give, held_is_out}
 use Rattle.board_core.proofs.Starts.{above_is, start_is_staircase}
 
 pub height_is : (state : State) (t : ℤ) (k : ℕ) → IsAbove state.bottom t k → height state t ≡ k
 height_is state t k h = ap number_or_zero (above_is state.bottom t k h)
 
 pub opening_is_sound : (bottom : ℤ) (s t : ℕ) (start : List (ℕ × ℤ)) → IsStart bottom start → IsSound (opening bottom s t start)
-opening_is_sound bottom s t start listed = record { staircase = start_is_staircase bottom start listed; once = tt; taken = λ i k out. cc }
+opening_is_sound bottom s t start listed = record { staircase = start_is_staircase bottom start listed; once = tt; taken = λ i k out. cc; failed_taken = λ e is. cc; none_failed = λ none. refl }
 
 -- the square of who has it is out, at its height
 pub held_at_height : (state : State) (who s : ℕ) (t : ℤ) → IsHeld state who s t → is_out state.out s (height state t) ≡ true
@@ -28,9 +28,11 @@ stays_sound state (Take who s t snapshot) sound legal =
     sound_take state (record { who = who; s = s; above = height state t }) (state.out ++ record { who = who; s = s; above = height state t } ∷ []) sound ready refl
 stays_sound state (Give who s t) sound legal =
     let taken = sound.taken s (height state t) (held_at_height state who s t legal.held) in
-    sound_give state s (height state t) (with_square state.done s (height state t)) (without state.out s (height state t)) sound taken refl refl
-stays_sound state (Back who s t) sound legal = sound_without state s (height state t) (without state.out s (height state t)) state.failed (Some (cause_or state.cause Memory)) sound refl
-stays_sound state (Fail who s t) sound legal = sound_without state s (height state t) (without state.out s (height state t)) (Some (record { who = who; s = s; above = height state t })) (Some Failed) sound refl
+    sound_give state s (height state t) (insert_square state.done s (height state t)) (without state.out s (height state t)) (state.file ++ (s, t) ∷ []) sound legal.no_cause taken refl refl
+stays_sound state (Back who s t) sound legal = sound_back state s (height state t) (without state.out s (height state t)) (cause_or state.cause Memory) sound refl
+stays_sound state (Fail who s t) sound legal =
+    let taken = sound.taken s (height state t) (held_at_height state who s t legal.held) in
+    sound_fail state (record { who = who; s = s; above = height state t }) (without state.out s (height state t)) Failed sound taken refl
 
 -- what one event keeps, a history keeps
 pub through_history : (P : State → Type 0) → ((state : State) (event : Event) → IsSound state → IsLegal state event → P state → P (after state event)) → (first : State) (events : List Event) (last : State) → IsHistory first events last → IsSound first → P first → IsSound last × P last

@@ -1,9 +1,12 @@
-pub mod BelowFronts
-pub mod Crossing
+mod BelowFronts
+mod Causes
+mod Crossing
 pub mod Given
+mod Growth
 pub mod Histories
-pub mod Progress
-pub mod Ready
-pub mod RowsOut
-pub mod Sound
+mod Progress
+mod Ready
+mod RowsOut
+mod Sent
+mod Sound
 pub mod Starts

@@ -5,12 +5,12 @@ use Rattle.std.proofs.lemmas.Bool.{cases_Bool}
 use Rattle.std.proofs.lemmas.Bool.Decides.{nat_tests, eqb_tells}
 use Rattle.std.proofs.lemmas.List.Folds.{list_any-append}
 use Rattle.std.proofs.lemmas.Map.Views.{any-filter_same}
-use Rattle.board_core.specs.declared.event.Entry.{Entry}
+use Rattle.board_core.specs.declared.event.Out.{Out}
 use Rattle.board_core.specs.declared.event.Event.{Event}
 use Rattle.board_core.specs.declared.event.Event.TheVariants.{Take, Give, Back, Fail}
 use Rattle.board_core.specs.Laws.{IsReached, AllTakeOrGive, count_missing, unfinished}
 use Rattle.board_core.specs.Board.{IsOnce, IsSound}
-use Rattle.board_core.specs.Machine.{Squares, State, IsInRange, IsReady, IsLegal, IsHistory, count_below, height, after, opening, squares_of, is_out, without, with_square}
+use Rattle.board_core.specs.Machine.{Squares, State, IsInRange, IsReady, IsLegal, IsHistory, count_below, height, after, opening, squares_of, is_out, without, insert_square}
 use Rattle.board_core.specs.Machine.IsHistory.{nothing, then}
 use Rattle.board_core.proofs.Histories.{height_is, held_at_height, opening_is_sound, stays_sound}
 
@@ -46,19 +46,19 @@ missing_same p q (suc s) t h =
     let rest = missing_same p q s t (λ i k l. h i k (omega arith)) in
     omega arith
 
-missing_with : (done : Squares) (s k rows degrees : ℕ) → s < rows → k < degrees → done s k ≡ false → count_missing (with_square done s k) rows degrees + 1 ≡ count_missing done rows degrees
+missing_with : (done : Squares) (s k rows degrees : ℕ) → s < rows → k < degrees → done s k ≡ false → count_missing (insert_square done s k) rows degrees + 1 ≡ count_missing done rows degrees
 missing_with done s k zero degrees l m absent = absurd (omega arith)
 missing_with done s k (suc rows) degrees l m absent = elim (eqb_tells rows s) [
   | inl p ↦
       let last : rows ≡ s = p.1 in
       let test = p.0 in
-      let same = count_same (λ j. not (with_square done s k rows j)) (λ j. not (done rows j || nat_eq j k)) degrees (λ j n. grind arith) in
+      let same = count_same (λ j. not (insert_square done s k rows j)) (λ j. not (done rows j || nat_eq j k)) degrees (λ j n. grind arith) in
       let row = row_with (done rows) k degrees m (subst (λ (i : ℕ). done i k ≡ false) (sym last) absent) in
-      let rest = missing_same (with_square done s k) done rows degrees (λ i j n. grind (arith, nat_tests)) in
+      let rest = missing_same (insert_square done s k) done rows degrees (λ i j n. grind (arith, nat_tests)) in
       omega arith
   | inr p ↦
       let test = p.0 in
-      let same = count_same (λ j. not (with_square done s k rows j)) (λ j. not (done rows j)) degrees (λ j n. grind arith) in
+      let same = count_same (λ j. not (insert_square done s k rows j)) (λ j. not (done rows j)) degrees (λ j n. grind arith) in
       let rest = missing_with done s k rows degrees (omega (arith, p.1)) m absent in
       omega arith
 ]
@@ -88,7 +88,7 @@ abbrev steps : State → ℕ
 steps state = 2 * count_missing (busy state) (suc state.rows) (suc state.degrees) + length state.out
 
 -- a list with one entry less
-shorter : (out : List Entry) (s k : ℕ) → IsOnce out → is_out out s k ≡ true → length (without out s k) + 1 ≡ length out
+shorter : (out : List Out) (s k : ℕ) → IsOnce out → is_out out s k ≡ true → length (without out s k) + 1 ≡ length out
 shorter [] s k once e = cc
 shorter (x ∷ out) s k once e = elim (cases_Bool (nat_eq x.s s && nat_eq x.above k)) [
   | inl same ↦
@@ -97,22 +97,22 @@ shorter (x ∷ out) s k once e = elim (cases_Bool (nat_eq x.s s && nat_eq x.abov
       let gone : is_out out s k ≡ false = subst (λ (j : ℕ). is_out out s j ≡ false) degree (subst (λ (i : ℕ). is_out out i x.above ≡ false) row once.0) in
       let rest = untouched out s k gone in
       let head : without (x ∷ out) s k ≡ without out s k = ap (λ b. cond (not b) (x ∷ without out s k) (without out s k)) same in
-      let long = ap (λ (l : List Entry). length l) (head ∙ rest) in
+      let long = ap (λ (l : List Out). length l) (head ∙ rest) in
       omega arith
   | inr other ↦
       let there : is_out out s k ≡ true = ap (λ b. b || is_out out s k) (sym other) ∙ e in
       let rest = shorter out s k once.1 there in
       let head : without (x ∷ out) s k ≡ x ∷ without out s k = ap (λ b. cond (not b) (x ∷ without out s k) (without out s k)) other in
-      let long = ap (λ (l : List Entry). length l) head in
+      let long = ap (λ (l : List Out). length l) head in
       omega arith
 ]
   where
-    untouched : (out : List Entry) (s k : ℕ) → is_out out s k ≡ false → without out s k ≡ out
+    untouched : (out : List Out) (s k : ℕ) → is_out out s k ≡ false → without out s k ≡ out
     untouched [] s k e = refl
     untouched (y ∷ out) s k e =
         let this : (nat_eq y.s s && nat_eq y.above k) ≡ false = grind arith in
         let others : is_out out s k ≡ false = grind arith in
-        ap (λ b. cond (not b) (y ∷ without out s k) (without out s k)) this ∙ ap (λ (l : List Entry). y ∷ l) (untouched out s k others)
+        ap (λ b. cond (not b) (y ∷ without out s k) (without out s k)) this ∙ ap (λ (l : List Out). y ∷ l) (untouched out s k others)
 
 -- ---- one event
 
@@ -129,21 +129,21 @@ take_with false false true true = refl
 take_with false false true false = refl
 take_with false false false degree = refl
 
-busy_take : (state : State) (who s k : ℕ) → busy (record state { out = state.out ++ record { who = who; s = s; above = k } ∷ [] }) ≡ with_square (busy state) s k
+busy_take : (state : State) (who s k : ℕ) → busy (record state { out = state.out ++ record { who = who; s = s; above = k } ∷ [] }) ≡ insert_square (busy state) s k
 busy_take state who s k = fun_ext (λ i. fun_ext (λ j.
-    ap (λ b. state.done i j || b) (list_any-append (λ (e : Entry). nat_eq e.s i && nat_eq e.above j) state.out (record { who = who; s = s; above = k } ∷ []))
+    ap (λ b. state.done i j || b) (list_any-append (λ (e : Out). nat_eq e.s i && nat_eq e.above j) state.out (record { who = who; s = s; above = k } ∷ []))
     ∙ take_with (state.done i j) (is_out state.out i j) (nat_eq s i) (nat_eq k j)
     ∙ ap (λ b. (state.done i j || is_out state.out i j) || (b && nat_eq k j)) (eq_swap s i)
     ∙ ap (λ b. (state.done i j || is_out state.out i j) || (nat_eq i s && b)) (eq_swap k j)))
 
 -- another square is out as before
-others_stay : (out : List Entry) (s k i j : ℕ) → (nat_eq i s && nat_eq j k) ≡ false → is_out (without out s k) i j ≡ is_out out i j
-others_stay out s k i j other = any-filter_same (λ (e : Entry). nat_eq e.s i && nat_eq e.above j) (λ e. not (nat_eq e.s s && nat_eq e.above k)) true (λ e h.
+others_stay : (out : List Out) (s k i j : ℕ) → (nat_eq i s && nat_eq j k) ≡ false → is_out (without out s k) i j ≡ is_out out i j
+others_stay out s k i j other = any-filter_same (λ (e : Out). nat_eq e.s i && nat_eq e.above j) (λ e. not (nat_eq e.s s && nat_eq e.above k)) true (λ e h.
     let row : e.s ≡ i = grind (arith, nat_tests) in
     let degree : e.above ≡ j = grind (arith, nat_tests) in
     ap not (subst (λ (n : ℕ). (nat_eq e.s s && nat_eq n k) ≡ false) (sym degree) (subst (λ (n : ℕ). (nat_eq n s && nat_eq j k) ≡ false) (sym row) other))) out
 
-busy_give : (state : State) (s k : ℕ) → is_out state.out s k ≡ true → busy (record state { done = with_square state.done s k; out = without state.out s k }) ≡ busy state
+busy_give : (state : State) (s k : ℕ) → is_out state.out s k ≡ true → busy (record state { done = insert_square state.done s k; out = without state.out s k }) ≡ busy state
 busy_give state s k out = fun_ext (λ i. fun_ext (λ j. elim (cases_Bool (nat_eq i s && nat_eq j k)) [
   | inl same ↦
       let row : i ≡ s = grind (arith, nat_tests) in
@@ -210,7 +210,7 @@ no_steps state e i k within =
     let free : is_out state.out i k ≡ false = no_out state.out none in
     sym (plain_or (state.done i k)) ∙ ap (λ b. state.done i k || b) (sym free) ∙ here
   where
-    no_out : (out : List Entry) → length out ≡ 0 → is_out out i k ≡ false
+    no_out : (out : List Out) → length out ≡ 0 → is_out out i k ≡ false
     no_out [] e = refl
     no_out (x ∷ out) e = absurd (omega arith)
 

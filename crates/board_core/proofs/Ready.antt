@@ -2,12 +2,12 @@
 use Rattle.std.proofs.Common.{◌≡◌, ℕ, zero, suc, ◌+◌, ◌≤◌, ◌⊎◌, ℤ, pos, ◌+ℤ◌, true, false, Bool, nat_lt, List, [], None, refl, sym, ap, subst, arith, inl, inr}
 use Rattle.std.proofs.lemmas.Bool.{cases_Bool}
 use Rattle.std.proofs.lemmas.Bool.Decides.{nat_tests, eqb_tells}
-use Rattle.board_core.specs.declared.event.Entry.{Entry}
+use Rattle.board_core.specs.declared.event.Out.{Out}
 use Rattle.board_core.specs.declared.event.Event.{Event}
 use Rattle.board_core.specs.declared.event.Event.TheVariants.{Take, Give, Back, Fail}
 use Rattle.board_core.specs.Laws.{IsReached, HasReady, HasUnfinished}
 use Rattle.board_core.specs.Board.{IsSound}
-use Rattle.board_core.specs.Machine.{Squares, HasParents, State, IsRowNumberBelow, IsLegal, height, after, opening, is_out, with_square}
+use Rattle.board_core.specs.Machine.{Squares, HasParents, State, IsRowNumberBelow, IsLegal, height, after, opening, is_out, insert_square}
 use Rattle.board_core.proofs.BelowFronts.{stands_first, front_number}
 use Rattle.board_core.proofs.Starts.{over_start}
 use Rattle.board_core.proofs.Histories.{held_at_height, opening_is_sound, through_history}
@@ -22,7 +22,7 @@ record HasFront (done : Squares) (s : ℕ) : Type 0 where
 abbrev HaveFronts : Squares → Type 0
 HaveFronts done = (s : ℕ) → HasFront done s
 
-fronts_more : (done : Squares) (s k : ℕ) → HasParents done s k → done s k ≡ false → HaveFronts done → HaveFronts (with_square done s k)
+fronts_more : (done : Squares) (s k : ℕ) → HasParents done s k → done s k ≡ false → HaveFronts done → HaveFronts (insert_square done s k)
 fronts_more done s k parents absent fronts i = elim (eqb_tells i s) [
   | inl p ↦
       let at = fronts i in
@@ -41,6 +41,12 @@ fronts_stay state (Give who s t) sound legal fronts =
     fronts_more state.done s (height state t) taken.parents taken.not_done fronts
 fronts_stay state (Back who s t) sound legal fronts = fronts
 fronts_stay state (Fail who s t) sound legal fronts = fronts
+
+runs_on : (state : State) (event : Event) → IsSound state → IsLegal state event → state.running ≡ true → (after state event).running ≡ true
+runs_on state (Take who s t snapshot) sound legal runs = runs
+runs_on state (Give who s t) sound legal runs = runs
+runs_on state (Back who s t) sound legal runs = runs
+runs_on state (Fail who s t) sound legal runs = runs
 
 record HasNumberBelow (done : Squares) (s : ℕ) : Type 0 where
   number : ℕ
@@ -102,10 +108,12 @@ first_missing done (suc n) s k within absent = elim (before (done s) k) [
 -- ---- the law
 
 pub some_ready : (bottom : ℤ) (s t : ℕ) (start : List (ℕ × ℤ)) (events : List Event) (state : State) → IsReached bottom s t start events state → state.cause ≡ None → state.out ≡ [] → HasUnfinished state → HasReady state
-some_ready bottom s t start events state reached runs none_out missing =
+some_ready bottom s t start events state reached no_cause none_out missing =
     let no_fronts : HaveFronts (λ i j. false) = λ i. record { front = 0; below = λ k. grind (arith, nat_tests) } in
     let first_fronts = over_start HaveFronts no_fronts fronts_more bottom start reached.listed in
-    let kept = through_history (λ st. HaveFronts st.done) fronts_stay (opening bottom s t start) events state reached.history (opening_is_sound bottom s t start reached.listed) first_fronts in
+    let opened = opening_is_sound bottom s t start reached.listed in
+    let kept = through_history (λ st. HaveFronts st.done) fronts_stay (opening bottom s t start) events state reached.history opened first_fronts in
+    let running : state.running ≡ true = (through_history (λ st. st.running ≡ true) runs_on (opening bottom s t start) events state reached.history opened refl).1 in
     let first = first_missing state.done (missing.s + missing.above) missing.s missing.above (omega arith) missing.not_done in
     let number = kept.1 first.row in
     let below = number_below state.done first.row kept.1 in
@@ -113,7 +121,7 @@ some_ready bottom s t start events state reached runs none_out missing =
     let d = first.degree_within in
     let row = missing.in_range.row in
     let degree = missing.in_range.degree in
-    let free : is_out state.out first.row first.degree ≡ false = ap (λ (l : List Entry). is_out l first.row first.degree) none_out in
+    let free : is_out state.out first.row first.degree ≡ false = ap (λ (l : List Out). is_out l first.row first.degree) none_out in
     record {
       s = first.row;
       t = state.bottom +ℤ pos first.degree;
@@ -121,7 +129,7 @@ some_ready bottom s t start events state reached runs none_out missing =
       legal = λ who. record {
         above = first.degree;
         degree = refl;
-        ready = record { runs = runs; in_range = record { row = omega arith; degree = omega arith }; parents = first.parents; not_done = first.not_done; not_out = free };
+        ready = record { running = running; no_cause = no_cause; in_range = record { row = omega arith; degree = omega arith }; parents = first.parents; not_done = first.not_done; not_out = free };
         row = front_number (state.done first.row) number.front number.below;
         row_below = below.counts;
       };

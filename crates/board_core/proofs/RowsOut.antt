@@ -5,8 +5,9 @@ use Rattle.std.proofs.lemmas.Bool.Decides.{nat_tests, eqb_tells}
 use Rattle.std.proofs.lemmas.List.{get_or-set_other, get_or-set_same, length-set}
 use Rattle.std.proofs.lemmas.List.Folds.{list_any-append}
 use Rattle.std.proofs.lemmas.Map.Views.{any-filter_same}
-use Rattle.board_core.specs.declared.event.Entry.{Entry}
-use Rattle.board_core.specs.Board.{IsTaken, IsSound, IsMarked, has_row}
+use Rattle.board_core.specs.declared.event.Out.{Out}
+use Rattle.board_core.specs.Board.{IsTaken, IsSound}
+use Rattle.board_core.specs.Inside.{IsMarked, has_row}
 use Rattle.board_core.specs.Machine.{State, IsReady, is_out, without}
 use Rattle.board_core.proofs.BelowFronts.{stands_first}
 use Rattle.board_core.proofs.Sound.{is_other, out_in_row}
@@ -14,12 +15,12 @@ use Rattle.board_core.proofs.Sound.{is_other, out_in_row}
 -- ---- the marks of rows
 
 -- one entry more is marked
-pub marked_with : (busy : List Bool) (rows : ℕ) (out list : List Entry) (e : Entry) → e.s < length busy → list ≡ out ++ e ∷ [] → IsMarked busy rows out → IsMarked (set busy e.s true) rows list
+pub marked_with : (busy : List Bool) (rows : ℕ) (out list : List Out) (e : Out) → e.s < length busy → list ≡ out ++ e ∷ [] → IsMarked busy rows out → IsMarked (set busy e.s true) rows list
 marked_with busy rows out list e within is marked = subst (IsMarked (set busy e.s true) rows) (sym is) (record {
   long = subst (λ (n : ℕ). rows < n) (sym (length-set busy e.s true)) marked.long;
   marks = λ i.
       let before = marked.marks i in
-      let more = list_any-append (λ (x : Entry). nat_eq x.s i) out (e ∷ []) in
+      let more = list_any-append (λ (x : Out). nat_eq x.s i) out (e ∷ []) in
       elim (eqb_tells e.s i) [
         | inl p ↦
             let here : get_or (set busy e.s true) i false ≡ true = subst (λ (n : ℕ). get_or (set busy e.s true) n false ≡ true) p.1 (get_or-set_same busy e.s true false within) in
@@ -33,14 +34,14 @@ marked_with busy rows out list e within is marked = subst (IsMarked (set busy e.
 })
 
 -- the only entry of a row is marked no more
-pub marked_without : (busy : List Bool) (rows : ℕ) (out list : List Entry) (s k : ℕ) → s < length busy → has_row (without out s k) s ≡ false → list ≡ without out s k → IsMarked busy rows out → IsMarked (set busy s false) rows list
+pub marked_without : (busy : List Bool) (rows : ℕ) (out list : List Out) (s k : ℕ) → s < length busy → has_row (without out s k) s ≡ false → list ≡ without out s k → IsMarked busy rows out → IsMarked (set busy s false) rows list
 marked_without busy rows out list s k within alone is marked = subst (IsMarked (set busy s false) rows) (sym is) (record {
   long = subst (λ (n : ℕ). rows < n) (sym (length-set busy s false)) marked.long;
   marks = λ i. elim (eqb_tells s i) [
     | inl p ↦ subst (λ (n : ℕ). get_or (set busy s false) n false ≡ has_row (without out s k) n) p.1 (get_or-set_same busy s false false within ∙ sym alone)
     | inr p ↦
         let no : nat_eq s i ≡ false = p.0 in
-        let kept = any-filter_same (λ (e : Entry). nat_eq e.s i) (λ e. not (nat_eq e.s s && nat_eq e.above k)) true (λ e h. grind (arith, nat_tests)) out in
+        let kept = any-filter_same (λ (e : Out). nat_eq e.s i) (λ e. not (nat_eq e.s s && nat_eq e.above k)) true (λ e h. grind (arith, nat_tests)) out in
         get_or-set_other busy s i false false (λ same. p.1 (sym same)) ∙ marked.marks i ∙ sym kept
   ];
 })
@@ -48,11 +49,11 @@ marked_without busy rows out list s k within alone is marked = subst (IsMarked (
 -- ---- rows
 
 -- a row that has a square which is out
-record HasOut (out : List Entry) (s : ℕ) : Type 0 where
+record HasOut (out : List Out) (s : ℕ) : Type 0 where
   above : ℕ
   here : is_out out s above ≡ true
 
-out_of_row : (out : List Entry) (s : ℕ) → has_row out s ≡ true → HasOut out s
+out_of_row : (out : List Out) (s : ℕ) → has_row out s ≡ true → HasOut out s
 out_of_row [] s h = cc
 out_of_row (e ∷ out) s h = elim (cases_Bool (nat_eq e.s s)) [
   | inl row ↦ record { above = e.above; here = grind (arith, nat_tests) }
@@ -63,12 +64,13 @@ out_of_row (e ∷ out) s h = elim (cases_Bool (nat_eq e.s s)) [
 ]
 
 -- the first square of a row that is not done, where it is in the range and has its parents done, and none of the row is out
-pub ready_first : (state : State) (s k front : ℕ) → ((j : ℕ) → state.done s j ≡ nat_lt j front) → state.cause ≡ None → IsTaken state s k → has_row state.out s ≡ false → IsReady state s front
-ready_first state s k front fronts runs taken clear =
+pub ready_first : (state : State) (s k front : ℕ) → ((j : ℕ) → state.done s j ≡ nat_lt j front) → state.running ≡ true → state.cause ≡ None → IsTaken state s k → has_row state.out s ≡ false → IsReady state s front
+ready_first state s k front fronts running no_cause taken clear =
     let first : k ≡ front = stands_first state.done s k front fronts taken.parents taken.not_done in
     let t : IsTaken state s front = subst (λ (n : ℕ). IsTaken state s n) first taken in
     record {
-      runs = runs;
+      running = running;
+      no_cause = no_cause;
       in_range = t.in_range;
       parents = t.parents;
       not_done = t.not_done;

@@ -5,7 +5,7 @@ use Rattle.std.proofs.lemmas.Int.{ints}
 use Rattle.std.proofs.lemmas.List.{take_all}
 use Rattle.std.proofs.lemmas.List.Folds.{list_any_more}
 use Rattle.std.proofs.lemmas.Option.{slice_get-get_or}
-use Rattle.board_core.specs.Machine.{Squares, HasParents, IsStaircase, with_square, IsAbove, natural, above_of, is_number, squares_of, IsNextSquare, IsStart}
+use Rattle.board_core.specs.Machine.{Squares, HasParents, IsStaircase, insert_square, IsAbove, natural, above_of, is_number, squares_of, IsNextSquare, IsStart}
 use Rattle.board_core.proofs.Sound.{staircase_more}
 
 pub above_is : (b t : ℤ) (k : ℕ) → IsAbove b t k → above_of b t ≡ Some k
@@ -20,13 +20,13 @@ pub same_above : (b t : ℤ) (j k : ℕ) → above_of b t ≡ Some j → IsAbove
 same_above b t j k e h = let f = above_is b t k h in cc
 
 -- one square more of the list
-pub one_more : (b : ℤ) (list : List (ℕ × ℤ)) (i : ℕ) (d : ℕ × ℤ) (k : ℕ) → i < length list → above_of b (get_or list i d).1 ≡ Some k → squares_of b (take (i + 1) list) ≡ with_square (squares_of b (take i list)) (get_or list i d).0 k
+pub one_more : (b : ℤ) (list : List (ℕ × ℤ)) (i : ℕ) (d : ℕ × ℤ) (k : ℕ) → i < length list → above_of b (get_or list i d).1 ≡ Some k → squares_of b (take (i + 1) list) ≡ insert_square (squares_of b (take i list)) (get_or list i d).0 k
 one_more b list i d k within e = fun_ext (λ s. fun_ext (λ j.
     list_any_more (λ (q : ℕ × ℤ). nat_eq s q.0 && is_number (above_of b q.1) j) list i d within
     ∙ ap (λ (o : Option ℕ). squares_of b (take i list) s j || (nat_eq s (get_or list i d).0 && is_number o j)) e))
 
 -- what is so of no squares, and stays so with one square more that is not there and has its parents, is so of a start's
-pub over_start : (P : Squares → Type 0) → P (λ s k. false) → ((done : Squares) (s k : ℕ) → HasParents done s k → done s k ≡ false → P done → P (with_square done s k)) → (b : ℤ) (list : List (ℕ × ℤ)) → IsStart b list → P (squares_of b list)
+pub over_start : (P : Squares → Type 0) → P (λ s k. false) → ((done : Squares) (s k : ℕ) → HasParents done s k → done s k ≡ false → P done → P (insert_square done s k)) → (b : ℤ) (list : List (ℕ × ℤ)) → IsStart b list → P (squares_of b list)
 over_start P none more b list start = subst (λ (l : List (ℕ × ℤ)). P (squares_of b l)) (take_all (length list) list (omega arith)) (parts (length list) (omega arith))
   where
     parts : (i : ℕ) → i ≤ length list → P (squares_of b (take i list))

@@ -1,9 +1,12 @@
 -- What is so after every history of a board, from every start.
-use Rattle.std.specs.Prelude.{◌≡◌, ℕ, zero, suc, ◌+◌, ◌*◌, ℤ, true, false, not, List, [], ◌∷◌, ◌++◌, length, None, ⊤}
+use Rattle.std.specs.Prelude.{◌≡◌, ℕ, zero, suc, ◌+◌, ◌*◌, ◌≤◌, ℤ, true, false, not, List, [], ◌∷◌, ◌++◌, length, Option, Some, None, ⊤}
+use Rattle.board_core.specs.declared.event.Out.{Out}
+use Rattle.board_core.specs.declared.event.Cause.{Cause}
+use Rattle.board_core.specs.declared.event.Cause.TheVariants.{Failed, Memory}
 use Rattle.board_core.specs.declared.event.Event.{Event}
 use Rattle.board_core.specs.declared.event.Event.TheVariants.{Take, Give, Back, Fail}
 use Rattle.board_core.specs.Board.{IsOnce, IsTaken}
-use Rattle.board_core.specs.Machine.{Squares, State, IsStart, squares_of, opening, count_below, is_out, IsStaircase, IsInRange, IsLegal, IsHistory}
+use Rattle.board_core.specs.Machine.{Squares, State, IsStart, squares_of, opening, count_below, is_out, IsStaircase, IsRowNumber, IsInRange, IsLegal, IsHistory}
 
 -- the events are accepted one after another from the opening with this range and start, and lead to the state
 pub record IsReached (bottom : ℤ) (s t : ℕ) (start : List (ℕ × ℤ)) (events : List Event) (state : State) : Type 0 where
@@ -22,22 +25,47 @@ given (Give who s t ∷ events) = (s, t) ∷ given events
 given (Back who s t ∷ events) = given events
 given (Fail who s t ∷ events) = given events
 
--- the squares of the start and those that were given, each once and after its parents, are the squares that are done
+-- the file has the squares of the start and then those that were given, each once and after its parents, and these are the
+-- squares that are done
 pub record AreDoneOnce (bottom : ℤ) (start : List (ℕ × ℤ)) (events : List Event) (state : State) : Type 0 where
-  pub once : IsStart bottom (start ++ given events)
-  pub done : state.done ≡ squares_of bottom (start ++ given events)
+  pub file : state.file ≡ start ++ given events
+  pub once : IsStart bottom state.file
+  pub done : state.done ≡ squares_of bottom state.file
 
 -- No square is given twice, nor one of the start again.
 abbrev pub SquaresAreGivenOnce : Type 0
 SquaresAreGivenOnce = (bottom : ℤ) (s t : ℕ) (start : List (ℕ × ℤ)) (events : List Event) (state : State) → IsReached bottom s t start events state → AreDoneOnce bottom start events state
 
--- each square that is out stands there once, is in the range, is not done, and has its parents done
+-- each square that is out stands there once; it and the one that failed are in the range, are not done, and have their
+-- parents done
 pub record AreOutOnce (state : State) : Type 0 where
   pub once : IsOnce state.out
   pub taken : (s k : ℕ) → is_out state.out s k ≡ true → IsTaken state s k
+  pub failed_taken : (e : Out) → state.failed ≡ Some e → IsTaken state e.s e.above
 
 abbrev pub SquaresAreOutOnce : Type 0
 SquaresAreOutOnce = (bottom : ℤ) (s t : ℕ) (start : List (ℕ × ℤ)) (events : List Event) (state : State) → IsReached bottom s t start events state → AreOutOnce state
+
+-- the cause that the first Back or Fail of the events brings, none where they have neither
+abbrev pub first_cause : List Event → Option Cause
+first_cause [] = None
+first_cause (Take who s t snapshot ∷ events) = first_cause events
+first_cause (Give who s t ∷ events) = first_cause events
+first_cause (Back who s t ∷ events) = Some Memory
+first_cause (Fail who s t ∷ events) = Some Failed
+
+-- The cause that stands is that of the first Back or Fail.
+abbrev pub CauseIsTheFirst : Type 0
+CauseIsTheFirst = (bottom : ℤ) (s t : ℕ) (start : List (ℕ × ℤ)) (events : List Event) (state : State) → IsReached bottom s t start events state → state.cause ≡ first_cause events
+
+-- what was done is done still, and no row has fewer squares done
+pub record HasGrown (first last : State) : Type 0 where
+  pub stays : (s k : ℕ) → first.done s k ≡ true → last.done s k ≡ true
+  pub rows : (s m n : ℕ) → IsRowNumber first.done s m → IsRowNumber last.done s n → m ≤ n
+
+-- No event takes a square from those that are done.
+abbrev pub DoneSquaresGrow : Type 0
+DoneSquaresGrow = (first : State) (events : List Event) (last : State) → IsHistory first events last → HasGrown first last
 
 -- a square that whoever asks may take, with the right snapshot
 pub record HasReady (state : State) : Type 0 where

@@ -1,3 +1,4 @@
 pub mod Board
+pub mod Inside
 pub mod Laws
 pub mod Machine

@@ -2,7 +2,7 @@
 -- done. The state of the board is a set of done squares and a list of those that are out; events change it.
 use Rattle.std.specs.Prelude.{◌≡◌, ℕ, zero, suc, ◌+◌, ◌≤◌, ℤ, pos, negsuc, ◌+ℤ◌, ◌-ℤ◌, Bool, true, false, not, ◌&&◌, ◌||◌, cond, nat_eq, List, [], ◌∷◌, ◌++◌, take, slice_get, Option, Some, None}
 use Rattle.std.specs.List.{list_any, filter}
-use Rattle.board_core.specs.declared.event.Entry.{Entry}
+use Rattle.board_core.specs.declared.event.Out.{Out}
 use Rattle.board_core.specs.declared.event.Cause.{Cause}
 use Rattle.board_core.specs.declared.event.Cause.TheVariants.{Failed, Memory}
 use Rattle.board_core.specs.declared.event.Event.{Event}
@@ -15,8 +15,8 @@ abbrev pub Squares : Type 0
 Squares = ℕ → ℕ → Bool
 
 -- with one square more
-abbrev pub with_square : Squares → ℕ → ℕ → Squares
-with_square done s k = λ i j. done i j || (nat_eq i s && nat_eq j k)
+abbrev pub insert_square : Squares → ℕ → ℕ → Squares
+insert_square done s k = λ i j. done i j || (nat_eq i s && nat_eq j k)
 
 -- The parents of a square are in the set: the one before it in its row, where it is above the bottom, and the one of its
 -- degree in the row below, where its row is not row 0.
@@ -80,31 +80,33 @@ AllInRows s list = (n : ℕ) (q : ℕ × ℤ) → slice_get list n ≡ Some q �
 -- ---- the machine
 
 -- What the board is at a moment. Its range is the rows through `rows`, in the degrees through `degrees` above the bottom.
--- It has the squares that are done, a list of those that are out, the one that failed, and why no more squares are given
--- out, none where they are.
+-- It has the squares that are done, a list of those that are out, the one that failed, the list of the squares that the save
+-- file has, each by its row and its degree, why no more squares are given out, none where they are, and whether it runs.
 pub record State : Type 0 where
   pub rows : ℕ
   pub degrees : ℕ
   pub bottom : ℤ
   pub done : Squares
-  pub out : List Entry
-  pub failed : Option Entry
+  pub out : List Out
+  pub failed : Option Out
+  pub file : List (ℕ × ℤ)
   pub cause : Option Cause
+  pub running : Bool
 
--- before the first event
+-- before the first event: the squares of the start are done, and the file has them
 abbrev pub opening : ℤ → ℕ → ℕ → List (ℕ × ℤ) → State
-opening bottom s t start = record { rows = s; degrees = t; bottom = bottom; done = squares_of bottom start; out = []; failed = None; cause = None }
+opening bottom s t start = record { rows = s; degrees = t; bottom = bottom; done = squares_of bottom start; out = []; failed = None; file = start; cause = None; running = true }
 
 -- an entry of the list has the square
-abbrev pub is_out : List Entry → ℕ → ℕ → Bool
+abbrev pub is_out : List Out → ℕ → ℕ → Bool
 is_out out s k = list_any (λ e. nat_eq e.s s && nat_eq e.above k) out
 
 -- this entry is in the list
-abbrev pub has_entry : List Entry → ℕ → ℕ → ℕ → Bool
+abbrev pub has_entry : List Out → ℕ → ℕ → ℕ → Bool
 has_entry out who s k = list_any (λ e. nat_eq e.who who && (nat_eq e.s s && nat_eq e.above k)) out
 
 -- the list without the square
-abbrev pub without : List Entry → ℕ → ℕ → List Entry
+abbrev pub without : List Out → ℕ → ℕ → List Out
 without out s k = filter (λ e. not (nat_eq e.s s && nat_eq e.above k)) out
 
 -- so many squares of row s are done
@@ -123,7 +125,8 @@ pub record IsInRange (state : State) (s k : ℕ) : Type 0 where
 
 -- the square may be taken
 pub record IsReady (state : State) (s k : ℕ) : Type 0 where
-  pub runs : state.cause ≡ None
+  pub running : state.running ≡ true
+  pub no_cause : state.cause ≡ None
   pub in_range : IsInRange state s k
   pub parents : HasParents state.done s k
   pub not_done : state.done s k ≡ false
@@ -137,23 +140,24 @@ pub record IsLegalTake (state : State) (s : ℕ) (t : ℤ) (snapshot : ℕ × �
   pub row : IsRowNumber state.done s snapshot.0
   pub row_below : IsRowNumberBelow state.done s snapshot.1
 
--- who has the square
+-- the board runs, and who has the square
 pub record IsHeld (state : State) (who s : ℕ) (t : ℤ) : Type 0 where
+  pub running : state.running ≡ true
   pub above : ℕ
   pub degree : IsAbove state.bottom t above
   pub held : has_entry state.out who s above ≡ true
 
--- who has the square, and squares are given out
-pub record IsHeldAndRuns (state : State) (who s : ℕ) (t : ℤ) : Type 0 where
-  pub runs : state.cause ≡ None
+-- the same, and no cause stands
+pub record IsHeldWithoutCause (state : State) (who s : ℕ) (t : ℤ) : Type 0 where
+  pub no_cause : state.cause ≡ None
   pub held : IsHeld state who s t
 
 -- the machine accepts the event
 abbrev pub IsLegal : State → Event → Type 0
 IsLegal state (Take who s t snapshot) = IsLegalTake state s t snapshot
-IsLegal state (Give who s t) = IsHeldAndRuns state who s t
+IsLegal state (Give who s t) = IsHeldWithoutCause state who s t
 IsLegal state (Back who s t) = IsHeld state who s t
-IsLegal state (Fail who s t) = IsHeldAndRuns state who s t
+IsLegal state (Fail who s t) = IsHeldWithoutCause state who s t
 
 abbrev pub number_or_zero : Option ℕ → ℕ
 number_or_zero (Some n) = n
@@ -171,7 +175,7 @@ cause_or None other = other
 -- what an event that is accepted does
 abbrev pub after : State → Event → State
 after state (Take who s t snapshot) = record state { out = state.out ++ record { who = who; s = s; above = height state t } ∷ [] }
-after state (Give who s t) = record state { done = with_square state.done s (height state t); out = without state.out s (height state t) }
+after state (Give who s t) = record state { done = insert_square state.done s (height state t); out = without state.out s (height state t); file = state.file ++ (s, t) ∷ [] }
 after state (Back who s t) = record state { out = without state.out s (height state t); cause = Some (cause_or state.cause Memory) }
 after state (Fail who s t) = record state { out = without state.out s (height state t); failed = Some (record { who = who; s = s; above = height state t }); cause = Some Failed }
 

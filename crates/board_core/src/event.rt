@@ -10,13 +10,13 @@ use thiserror::Error;
 pub enum Cause {
     /// A square failed.
     Failed,
-    /// A square was handed back for want of memory.
+    /// A square was handed back because memory ran out.
     Memory,
 }
 
 /// A square that is out: who has it, its row, and its degree above the bottom.
 #[derive(Clone, Copy, Debug, PartialEq, Eq, Drop)]
-pub struct Entry {
+pub struct Out {
     pub who: u64,
     pub s: u16,
     pub above: u64,
@@ -38,7 +38,7 @@ pub enum Event {
         s: u16,
         t: i32,
     },
-    /// `who` hands it back, for want of memory.
+    /// `who` hands it back because memory ran out.
     Back {
         who: u64,
         s: u16,

@@ -1,7 +1,7 @@
 //! The squares that are done, by the fronts of their rows.
 ghost use Rattle.std.specs.Prelude.{◌≡◌, ℕ, ◌<◌, ◌^◌, false, true, nat_lt, length, IfOk};
-ghost use Rattle.board_core.specs.Board.{squares_below};
-ghost use Rattle.board_core.specs.Machine.{HasParents, IsStaircase, IsNumber, with_square};
+ghost use Rattle.board_core.specs.Board.{below_fronts};
+ghost use Rattle.board_core.specs.Machine.{HasParents, IsStaircase, IsNumber, insert_square};
 
 use memory::Memory;
 use std::alloc::Global;
@@ -27,7 +27,7 @@ impl Model for Fronts {
 impl Fronts {
     /// No square is done, and there is a front for each of so many rows.
     pub(crate) fn none(alloc: Global, rows: usize) -> Result<Fronts, Memory>
-        ensures squares { IfOk result (λ fronts. squares_below fronts ≡ (λ s k. false)) }
+        ensures squares { IfOk result (λ fronts. below_fronts fronts ≡ (λ s k. false)) }
         ensures rows { IfOk result (λ fronts. length fronts ≡ rows) }
     {
         Ok(Fronts {
@@ -37,7 +37,7 @@ impl Fronts {
 
     /// Whether the square is done.
     pub(crate) fn has(&self, s: u16, k: u64) -> bool
-        ensures { result ≡ squares_below self.now s k }
+        ensures { result ≡ below_fronts self.now s k }
     {
         match self.fronts.get(usize::from(s)) {
             Some(front) => k < *front,
@@ -47,9 +47,9 @@ impl Fronts {
 
     /// How many squares of row `s` are done.
     pub(crate) fn front(&self, s: u16) -> u64
-        ensures number { IsNumber (squares_below self.now s) result }
-        ensures done { (k : ℕ) → squares_below self.now s k ≡ nat_lt k result }
-        ensures staircase { IsStaircase (squares_below self.now) }
+        ensures number { IsNumber (below_fronts self.now s) result }
+        ensures done { (k : ℕ) → below_fronts self.now s k ≡ nat_lt k result }
+        ensures staircase { IsStaircase (below_fronts self.now) }
     {
         match self.fronts.get(usize::from(s)) {
             Some(front) => *front,
@@ -61,9 +61,9 @@ impl Fronts {
     pub(crate) fn add(&mut self, s: u16, k: u64)
         requires row { s < length self.old }
         requires few { k < 2 ^ 63 }
-        requires parents { HasParents (squares_below self.old) s k }
-        requires absent { squares_below self.old s k ≡ false }
-        ensures squares { squares_below self.new ≡ with_square (squares_below self.old) s k }
+        requires parents { HasParents (below_fronts self.old) s k }
+        requires absent { below_fronts self.old s k ≡ false }
+        ensures squares { below_fronts self.new ≡ insert_square (below_fronts self.old) s k }
         ensures rows { length self.new ≡ length self.old }
     {
         self.fronts[usize::from(s)] = k + 1;

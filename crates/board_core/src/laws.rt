@@ -1,20 +1,32 @@
 //! What is so after every history of a board, as contracts of functions that do nothing.
-ghost use Rattle.board_core.specs.Laws.{DoneIsStaircase, SquaresAreGivenOnce, SquaresAreOutOnce, SomeSquareIsReady, BoardIsFinished};
+ghost use Rattle.board_core.specs.Laws.{DoneIsStaircase, SquaresAreGivenOnce, SquaresAreOutOnce, CauseIsTheFirst, DoneSquaresGrow, SomeSquareIsReady, BoardIsFinished};
 
 /// The done squares are a staircase: with each square, they have its parents.
 pub fn done_is_staircase()
     ensures { DoneIsStaircase }
 {}
 
-/// No square is given twice, nor one of the start again: the squares of the start and those that were given, each once and
-/// after its parents, are the squares that are done.
+/// No square is given twice, nor one of the start again: the file has the squares of the start and then those that were
+/// given, each once and after its parents, and these are the squares that are done.
 pub fn squares_are_given_once()
     ensures { SquaresAreGivenOnce }
 {}
 
-/// A square that is out stands there once, is in the range, is not done, and has its parents done.
+/// A square that is out stands there once, is in the range, is not done, and has its parents done; so the last three of the
+/// square that failed.
 pub fn squares_are_out_once()
     ensures { SquaresAreOutOnce }
+{}
+
+/// The cause that stands is that of the first Back or Fail: `Failed` where it is a Fail, `Memory` where it is a Back, and none
+/// where there is neither.
+pub fn cause_is_the_first()
+    ensures { CauseIsTheFirst }
+{}
+
+/// A square that is done stays done, and the number of done squares of a row never falls.
+pub fn done_squares_grow()
+    ensures { DoneSquaresGrow }
 {}
 
 /// While no cause stands, with squares of the range unfinished and none out, some square is ready.

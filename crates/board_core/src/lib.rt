@@ -2,15 +2,16 @@
 #![tactic(auto)]
 
 mod event;
+mod file;
 mod fronts;
 mod laws;
 mod machine;
 #[cfg(test)]
 mod tests;
 
-pub use event::{Cause, CoreFault, Entry, Event};
+pub use event::{Cause, CoreFault, Event, Out};
 pub use laws::{
-    board_is_finished, done_is_staircase, some_square_is_ready, squares_are_given_once,
-    squares_are_out_once,
+    board_is_finished, cause_is_the_first, done_is_staircase, done_squares_grow,
+    some_square_is_ready, squares_are_given_once, squares_are_out_once,
 };
 pub use machine::Core;

@@ -1,13 +1,15 @@
 //! The board as the machine that its definition says.
 ghost use Rattle.std.specs.Prelude.{◌≡◌, ℕ, ◌<◌, ◌≤◌, ◌+◌, ◌-◌, ◌^◌, ◌↔◌, ◌+ℤ◌, ◌≤ℤ◌, pos, Some, None, Ok, Err, true, false, vec_capacity, vec_len, length, IfOk, IfSome, OnSome, OnOk, OnErr};
 ghost use Rattle.std.specs.Bool.{Decides};
-ghost use Rattle.board_core.specs.Board.{IsSound, squares_below, state_of, IsTaken, IsReadyAt, is_done_at, is_out_at, has_row, IsBounded, IsMarked};
-ghost use Rattle.board_core.specs.Machine.{AllInRows, IsStart, IsAbove, above_of, opening, squares_of, IsReady, IsRowNumber, IsRowNumberBelow, IsLegal, IsLegalTake, IsHeld, IsHeldAndRuns, has_entry, is_out, after, without};
+ghost use Rattle.board_core.specs.Board.{IsSound, below_fronts, state_of, IsTaken, IsReadyAt, is_done_at, is_out_at};
+ghost use Rattle.board_core.specs.Inside.{has_row, IsBounded, IsMarked};
+ghost use Rattle.board_core.specs.Machine.{AllInRows, IsStart, IsAbove, above_of, opening, squares_of, IsReady, IsRowNumber, IsRowNumberBelow, IsLegal, IsLegalTake, IsHeld, IsHeldWithoutCause, has_entry, is_out, after, without};
 ghost use Rattle.board_core.specs.declared.event.Event.TheVariants.{Take, Give, Back, Fail};
 ghost use Rattle.board_core.specs.declared.event.CoreFault as CoreFault;
 ghost use Rattle.board_core.specs.declared.event.CoreFault.TheVariants.{NotLegal, Memory as NoMemory};
 
-use crate::event::{Cause, CoreFault, Entry, Event};
+use crate::event::{Cause, CoreFault, Event, Out};
+use crate::file::File;
 use crate::fronts::Fronts;
 use memory::Memory;
 use std::alloc::Global;
@@ -21,22 +23,24 @@ pub struct Core {
     degrees: u16,
     bottom: i32,
     fronts: Fronts,
-    out: Vec<Entry>,
+    out: Vec<Out>,
     /// Which rows of the range have a square that is out.
     busy: Vec<bool>,
-    failed: Option<Entry>,
+    failed: Option<Out>,
+    file: File,
     cause: Option<Cause>,
 }
 
 impl Model for Core {
-    ghost use Rattle.std.specs.Prelude.{◌-◌, vec_capacity, vec_len, length};
-    ghost use Rattle.board_core.specs.Board.{Board, IsSound, IsBounded, IsMarked, squares_below};
+    ghost use Rattle.std.specs.Prelude.{◌-◌, true, vec_capacity, vec_len, length};
+    ghost use Rattle.board_core.specs.Board.{Board, below_fronts};
+    ghost use Rattle.board_core.specs.Inside.{IsWellKept};
 
     ghost Value = { Board };
 
-    ghost view = { λ c. record { rows = c.rows; degrees = c.degrees; bottom = c.bottom; fronts = c.fronts; out = c.out.items; failed = c.failed; cause = c.cause; spare = vec_capacity c.out - vec_len c.out } };
+    ghost view = { λ c. record { rows = c.rows; degrees = c.degrees; bottom = c.bottom; fronts = c.fronts; out = c.out.items; failed = c.failed; file = c.file; cause = c.cause; running = true; spare = vec_capacity c.out - vec_len c.out } };
 
-    ghost invariant = { λ c. IsSound (record { rows = c.rows; degrees = c.degrees; bottom = c.bottom; done = squares_below c.fronts; out = c.out.items; failed = c.failed; cause = c.cause }) × IsBounded c.rows c.degrees c.bottom (length c.fronts) × IsMarked c.busy.items c.rows c.out.items };
+    ghost invariant = { λ c. IsWellKept (record { rows = c.rows; degrees = c.degrees; bottom = c.bottom; done = below_fronts c.fronts; out = c.out.items; failed = c.failed; file = c.file; cause = c.cause; running = true }) (length c.fronts) c.busy.items };
 }
 
 impl Core {
@@ -44,7 +48,7 @@ impl Core {
     /// squares of `start`, each given by its row and its degree, are done; they need not lie in the range.
     ///
     /// # Errors
-    /// `Memory` where there is none for a front for each row through the last of the range and of `start`, and for a mark
+    /// `Memory` if allocation fails: there is a front for each row through the last of the range and of `start`, and a mark
     /// for each row of the range.
     pub fn new(alloc: Global, s: u16, t: u16, m: i32, start: &[(u16, i32)]) -> Result<Core, Memory>
         requires fits { (m +ℤ pos t) ≤ℤ pos (2 ^ 31 - 1) }
@@ -60,14 +64,15 @@ impl Core {
             out: Vec::new(alloc),
             busy: vec![in alloc; false; usize::from(s) + 1]?,
             failed: None,
+            file: File::opened(start),
             cause: None,
         })
     }
 
-    /// Makes room for `n` events more: so many want no memory.
+    /// Reserves room for `n` more squares that are out, so that the next `n` events cannot fail with `Memory`.
     ///
     /// # Errors
-    /// `Memory` where there is none for them; the board is then as before.
+    /// `Memory` if allocation fails; the board is then as before.
     pub fn reserve(&mut self, n: usize) -> Result<(), Memory>
         ensures state { state_of self.new ≡ state_of self.old }
         ensures ok { OnOk result (n ≤ self.new.spare) }
@@ -80,8 +85,8 @@ impl Core {
     /// Does what the event says, where the machine accepts it.
     ///
     /// # Errors
-    /// `NotLegal` with the event exactly where the machine does not accept it, and `Memory` where there is none for one
-    /// more square that is out. After either the board is as before.
+    /// `NotLegal` with the event exactly where the machine does not accept it, and `Memory` if there is no room for one more
+    /// square that is out and allocation fails. After either the board is as before.
     pub fn apply(&mut self, event: Event) -> Result<(), CoreFault>
         ensures accepts { OnOk result (IsLegal (state_of self.old) event) }
         ensures effect { OnOk result (state_of self.new ≡ after (state_of self.old) event) }
@@ -172,24 +177,25 @@ impl Core {
         if !may_take {
             return Ok(false);
         }
-        self.out.push(Entry { who, s, above })?;
+        self.out.push(Out { who, s, above })?;
         self.busy[usize::from(s)] = true;
         Ok(true)
     }
 
     /// The square that `who` has is done. Answers whether it is, which it is not where a cause stands.
     fn give(&mut self, who: u64, s: u16, t: i32) -> bool
-        ensures accepts { result ≡ true → IsHeldAndRuns (state_of self.old) who s t }
+        ensures accepts { result ≡ true → IsHeldWithoutCause (state_of self.old) who s t }
         ensures effect { result ≡ true → state_of self.new ≡ after (state_of self.old) (Give who s t) }
-        ensures refuses { result ≡ false → IsHeldAndRuns (state_of self.old) who s t → ⊥ }
+        ensures refuses { result ≡ false → IsHeldWithoutCause (state_of self.old) who s t → ⊥ }
         ensures same { result ≡ false → state_of self.new ≡ state_of self.old }
         ensures spare { self.old.spare ≤ self.new.spare }
     {
-        let Some(above) = self.held_while_running(who, s, t) else {
+        let Some(above) = self.held_without_cause(who, s, t) else {
             return false;
         };
         take_from(&mut self.out, &mut self.busy, s, above);
         self.fronts.add(s, above);
+        self.file = self.file.then(s, t);
         true
     }
 
@@ -211,17 +217,17 @@ impl Core {
 
     /// The square that `who` has is the one that failed. Answers whether it is, which it is not where a cause stands.
     fn fail(&mut self, who: u64, s: u16, t: i32) -> bool
-        ensures accepts { result ≡ true → IsHeldAndRuns (state_of self.old) who s t }
+        ensures accepts { result ≡ true → IsHeldWithoutCause (state_of self.old) who s t }
         ensures effect { result ≡ true → state_of self.new ≡ after (state_of self.old) (Fail who s t) }
-        ensures refuses { result ≡ false → IsHeldAndRuns (state_of self.old) who s t → ⊥ }
+        ensures refuses { result ≡ false → IsHeldWithoutCause (state_of self.old) who s t → ⊥ }
         ensures same { result ≡ false → state_of self.new ≡ state_of self.old }
         ensures spare { self.old.spare ≤ self.new.spare }
     {
-        let Some(above) = self.held_while_running(who, s, t) else {
+        let Some(above) = self.held_without_cause(who, s, t) else {
             return false;
         };
         take_from(&mut self.out, &mut self.busy, s, above);
-        self.failed = Some(Entry { who, s, above });
+        self.failed = Some(Out { who, s, above });
         self.cause = Some(Cause::Failed);
         true
     }
@@ -242,12 +248,12 @@ impl Core {
     }
 
     /// The same, and none where a cause stands.
-    fn held_while_running(&self, who: u64, s: u16, t: i32) -> Option<u64>
-        ensures runs { OnSome result (self.now.cause ≡ None) }
+    fn held_without_cause(&self, who: u64, s: u16, t: i32) -> Option<u64>
+        ensures no_cause { OnSome result (self.now.cause ≡ None) }
         ensures above { IfSome result (λ k. IsAbove self.now.bottom t k) }
         ensures held { IfSome result (λ k. has_entry self.now.out who s k ≡ true) }
         ensures taken { IfSome result (λ k. IsTaken (state_of self.now) s k) }
-        ensures none { result ≡ None → IsHeldAndRuns (state_of self.now) who s t → ⊥ }
+        ensures none { result ≡ None → IsHeldWithoutCause (state_of self.now) who s t → ⊥ }
         ensures is_bounded { IsBounded self.now.rows self.now.degrees self.now.bottom (length self.now.fronts) }
     {
         match self.cause {
@@ -290,9 +296,9 @@ impl Core {
 
     /// Whether so many squares of row `s` and of the row below are done.
     fn is_seen(&self, s: u16, snapshot: (u64, u64)) -> bool
-        ensures yes { result ≡ true → IsRowNumber (squares_below self.now.fronts) s snapshot.0 }
-        ensures yes_below { result ≡ true → IsRowNumberBelow (squares_below self.now.fronts) s snapshot.1 }
-        ensures no { IsRowNumber (squares_below self.now.fronts) s snapshot.0 → IsRowNumberBelow (squares_below self.now.fronts) s snapshot.1 → result ≡ true }
+        ensures yes { result ≡ true → IsRowNumber (below_fronts self.now.fronts) s snapshot.0 }
+        ensures yes_below { result ≡ true → IsRowNumberBelow (below_fronts self.now.fronts) s snapshot.1 }
+        ensures no { IsRowNumber (below_fronts self.now.fronts) s snapshot.0 → IsRowNumberBelow (below_fronts self.now.fronts) s snapshot.1 → result ≡ true }
     {
         let below = if s == 0 { 0 } else { self.fronts.front(s - 1) };
         snapshot.0 == self.fronts.front(s) && snapshot.1 == below
@@ -307,7 +313,7 @@ impl Core {
 }
 
 /// Takes the square, which is the only one of its row that is out, from those that are.
-fn take_from(out: &mut Vec<Entry>, busy: &mut Vec<bool>, s: u16, k: u64)
+fn take_from(out: &mut Vec<Out>, busy: &mut Vec<bool>, s: u16, k: u64)
     requires row { s < length busy.old.items }
     requires alone { has_row (without out.old.items s k) s ≡ false }
     ensures busy { (rows : ℕ) → IsMarked busy.old.items rows out.old.items → IsMarked busy.new.items rows out.new.items }
@@ -320,7 +326,7 @@ fn take_from(out: &mut Vec<Entry>, busy: &mut Vec<bool>, s: u16, k: u64)
 }
 
 /// Whether `who` has the square.
-fn has_entry(out: &[Entry], who: u64, s: u16, k: u64) -> bool
+fn has_entry(out: &[Out], who: u64, s: u16, k: u64) -> bool
     ensures { result ≡ has_entry out.now who s k }
 {
     out.iter().any(|e| e.who == who && e.s == s && e.above == k)
@@ -350,7 +356,7 @@ fn last_row(s: u16, start: &[(u16, i32)]) -> u16
 fn fronts_of(alloc: Global, bottom: i32, last: u16, start: &[(u16, i32)]) -> Result<Fronts, Memory>
     requires start { IsStart bottom start.now }
     requires rows { AllInRows last start.now }
-    ensures squares { IfOk result (λ fronts. squares_below fronts ≡ squares_of bottom start.now) }
+    ensures squares { IfOk result (λ fronts. below_fronts fronts ≡ squares_of bottom start.now) }
     ensures rows { IfOk result (λ fronts. length fronts ≡ last + 1) }
 {
     let mut fronts = Fronts::none(alloc, usize::from(last) + 1)?;

@@ -1,19 +1,18 @@
 -- Without contents the board does what the machine does.
-use Rattle.std.proofs.Common.{◌≡◌, ℕ, ℤ, pos, ◌+ℤ◌, Bool, true, false, not, cond, ◌&&◌, ◌||◌, nat_eq, if◌then◌else◌, List, [], ◌∷◌, map, Option, Some, is_some, refl, sym, ◌∙◌, ap, arith}
+use Rattle.std.proofs.Common.{◌≡◌, ℕ, ℤ, pos, ◌+ℤ◌, Bool, true, false, not, cond, ◌&&◌, ◌||◌, nat_eq, if◌then◌else◌, List, [], ◌∷◌, ◌++◌, map, Option, Some, is_some, refl, sym, ◌∙◌, ap, arith}
 use Rattle.std.specs.List.{filter}
 use Rattle.std.proofs.Math.Path.{fun_ext}
 use Rattle.std.proofs.Math.Bool.{or_comm}
 use Rattle.std.proofs.lemmas.Bool.Decides.{nat_tests}
 use Rattle.std.proofs.lemmas.List.{map-append}
-use Rattle.board_core.specs.declared.event.Entry.{Entry as Out}
+use Rattle.board_core.specs.declared.event.Out.{Out}
 use Rattle.board_core.specs.declared.event.Cause.TheVariants.{Failed, Memory}
 use Rattle.board_core.specs.declared.event.Event.TheVariants.{Take, Give, Back, Fail}
-use Rattle.board_core.specs.Machine.{State, Squares, after, opening, squares_of, with_square, without, above_of, is_number, cause_or}
+use Rattle.board_core.specs.Machine.{State, Squares, IsAbove, after, opening, squares_of, insert_square, without, above_of, is_number, cause_or}
 use Rattle.board_core.proofs.Starts.{above_is}
 use Rattle.resolution_laws.specs.Resolution.{Module, Content}
 use Rattle.resolution_laws.specs.Start.{Entry, entry_at}
-use Rattle.board_laws.specs.Filled.{Contents, with_content, Copy, Filled, without_contents, filled_opening, filled_height, without_copy, after_take, after_give, after_back, after_fail}
-use Rattle.board_laws.specs.Schedules.{places}
+use Rattle.board_laws.specs.Filled.{Contents, with_content, Copy, Filled, without_contents, filled_opening, filled_height, places, without_copy, IsCopyFor, after_take, after_give, after_back, after_fail}
 
 -- the squares that hold something
 abbrev pub held_squares : Contents → Squares
@@ -23,7 +22,7 @@ some_first : (here : Bool) (content : Content) (rest : Option Content) → is_so
 some_first true content rest = refl
 some_first false content rest = refl
 
-more_held : (done : Contents) (s k : ℕ) (content : Content) → held_squares (with_content done s k content) ≡ with_square (held_squares done) s k
+more_held : (done : Contents) (s k : ℕ) (content : Content) → held_squares (with_content done s k content) ≡ insert_square (held_squares done) s k
 more_held done s k content = fun_ext (λ i. fun_ext (λ j. some_first (nat_eq i s && nat_eq j k) content (done i j) ∙ or_comm (nat_eq i s && nat_eq j k) (is_some (done i j))))
 
 map-filter : {X Y : Type 0} (f : X → Y) (p : Y → Bool) (xs : List X) → map f (filter (λ x. p (f x)) xs) ≡ filter p (map f xs)
@@ -44,24 +43,32 @@ take_agrees board who s t snapshot =
     let state = without_contents board in
     ap (λ (list : List Out). let new : State = record state { out = list } in new) (map-append (λ (copy : Copy). copy.out) board.out _)
 
-pub give_agrees : (board : Filled) (who s : ℕ) (t : ℤ) (content : Content) → without_contents (after_give board s (filled_height board t) content) ≡ after (without_contents board) (Give who s t)
-give_agrees board who s t content =
+-- the square that is given is the last of the file
+file_with : (board : Filled) (s : ℕ) (t : ℤ) (content : Content) → IsAbove board.bottom t (filled_height board t) → places board.bottom (board.file ++ record { s = s; above = filled_height board t; content = content } ∷ []) ≡ places board.bottom board.file ++ (s, t) ∷ []
+file_with board s t content at =
+    map-append (λ (e : Entry). (e.s, board.bottom +ℤ pos e.above)) board.file (record { s = s; above = filled_height board t; content = content } ∷ [])
+    ∙ ap (λ (d : ℤ). places board.bottom board.file ++ (s, d) ∷ []) (sym at)
+
+pub give_agrees : (board : Filled) (who s : ℕ) (t : ℤ) (content : Content) → IsAbove board.bottom t (filled_height board t) → without_contents (after_give board s (filled_height board t) content) ≡ after (without_contents board) (Give who s t)
+give_agrees board who s t content at =
     let state = without_contents board in
     let k = filled_height board t in
     let list = map (λ (copy : Copy). copy.out) (without_copy board.out s k) in
-    ap (λ (done : Squares). let new : State = record state { done = done; out = list } in new) (more_held board.done s k content)
-    ∙ ap (λ (list : List Out). let new : State = record state { done = with_square (held_squares board.done) s k; out = list } in new) (out_without board.out s k)
+    let file = places board.bottom (board.file ++ record { s = s; above = k; content = content } ∷ []) in
+    ap (λ (done : Squares). let new : State = record state { done = done; out = list; file = file } in new) (more_held board.done s k content)
+    ∙ ap (λ (list : List Out). let new : State = record state { done = insert_square (held_squares board.done) s k; out = list; file = file } in new) (out_without board.out s k)
+    ∙ ap (λ (file : List (ℕ × ℤ)). let new : State = record state { done = insert_square (held_squares board.done) s k; out = without state.out s k; file = file } in new) (file_with board s t content at)
 
 pub back_agrees : (board : Filled) (who s : ℕ) (t : ℤ) → without_contents (after_back board s (filled_height board t)) ≡ after (without_contents board) (Back who s t)
 back_agrees board who s t =
     let state = without_contents board in
     ap (λ (list : List Out). let new : State = record state { out = list; cause = Some (cause_or board.cause Memory) } in new) (out_without board.out s (filled_height board t))
 
-pub fail_agrees : (board : Filled) (who s : ℕ) (t : ℤ) → without_contents (after_fail board who s (filled_height board t)) ≡ after (without_contents board) (Fail who s t)
-fail_agrees board who s t =
+pub fail_agrees : (board : Filled) (who s : ℕ) (t : ℤ) (copy : Copy) → IsCopyFor board.out who s (filled_height board t) copy → without_contents (after_fail board copy s (filled_height board t)) ≡ after (without_contents board) (Fail who s t)
+fail_agrees board who s t copy is =
     let state = without_contents board in
-    let k = filled_height board t in
-    ap (λ (list : List Out). let new : State = record state { out = list; failed = Some (record { who = who; s = s; above = k }); cause = Some Failed } in new) (out_without board.out s k)
+    ap (λ (list : List Out). let new : State = record state { out = list; failed = Some copy.out; cause = Some Failed } in new) (out_without board.out s (filled_height board t))
+    ∙ ap (λ (e : Out). let new : State = record state { out = without state.out s (filled_height board t); failed = Some e; cause = Some Failed } in new) is.square
 
 -- ---- the opening
 

@@ -5,27 +5,26 @@ use Rattle.std.proofs.lemmas.Bool.{cases_Bool}
 use Rattle.std.proofs.lemmas.Bool.Decides.{nat_tests}
 use Rattle.std.proofs.lemmas.List.Elements.{All-nil, All-head, All-tail, All-push, All-filter, All-contains}
 use Rattle.std.proofs.lemmas.Option.{same_Some}
-use Rattle.board_core.specs.declared.event.Entry.{Entry as Out}
+use Rattle.board_core.specs.declared.event.Out.{Out}
 use Rattle.board_core.specs.declared.event.Cause.{Cause}
-use Rattle.board_core.specs.Machine.{HasParents, IsStaircase}
+use Rattle.board_core.specs.declared.event.Cause.TheVariants.{Failed, Memory}
+use Rattle.board_core.specs.Machine.{HasParents, IsStaircase, cause_or}
 use Rattle.resolution_laws.specs.Resolution.{Module, Content, IsStep}
 use Rattle.resolution_laws.specs.Start.{Entry, entry_at, IsOf}
 use Rattle.resolution_laws.proofs.StartLaws.{entry_at-other, entry_at-new}
-use Rattle.board_laws.specs.Filled.{Contents, with_content, Copy, Filled, without_copy, filled_opening, after_take, after_give, IsMadeFromCopy}
-use Rattle.board_laws.specs.Schedules.{AreOf}
+use Rattle.board_laws.specs.Filled.{Contents, with_content, Copy, Filled, without_copy, filled_opening, after_take, after_give, after_back, after_fail, IsCopyFor, IsMadeFromCopy}
+use Rattle.board_laws.specs.Schedules.{AreOf, GivesOf}
 use Rattle.board_laws.proofs.Agreement.{held_squares}
 use Rattle.board_laws.proofs.Copies.{copy_gives}
 
--- what the step over a copy gives is of the table
-abbrev pub GivesOf : Module → List Entry → Copy → Type 0
-GivesOf m first copy = (content : Content) → IsStep m copy.below copy.row content → IsOf m first copy.out.s copy.out.above content
-
 -- What is known of a board: its done squares and its file are of the table of `first`, each square that `first` lists is done,
--- the step over any of its copies is of that table, and the file has at each place what is done there.
+-- the step over any of its copies is of that table, that of the square that failed too, and the file has at each place what is
+-- done there.
 pub record IsKept (m : Module) (first : List Entry) (board : Filled) : Type 0 where
   pub stands : (s k : ℕ) (content : Content) → board.done s k ≡ Some content → IsOf m first s k content
   pub unread : (s k : ℕ) → board.done s k ≡ None → entry_at first s k ≡ None
   pub copies : All (GivesOf m first) board.out
+  pub failed : (copy : Copy) → board.failed ≡ Some copy → GivesOf m first copy
   pub filed : AreOf m first board.file
   pub same : (s k : ℕ) → entry_at board.file s k ≡ board.done s k
 
@@ -53,6 +52,7 @@ opening_is_kept m first s t start are unread = record {
   stands = entry_of m first start are;
   unread = unread;
   copies = All-nil (GivesOf m first);
+  failed = λ copy e. cc;
   filed = are;
   same = λ i k. refl;
 }
@@ -69,23 +69,33 @@ take_keeps m first board who s k kept stairs parents not_done = record {
   unread = kept.unread;
   copies = All-push (GivesOf m first) board.out _ kept.copies (λ content step.
       copy_gives m first board.done s k content kept.stands stairs parents (kept.unread s k (none_held (board.done s k) not_done)) step);
+  failed = kept.failed;
   filed = kept.filed;
   same = kept.same;
 }
 
-pub without_keeps : (m : Module) (first : List Entry) (board : Filled) (s k : ℕ) (failed : Option Out) (cause : Option Cause) → IsKept m first board → IsKept m first (record board { out = without_copy board.out s k; failed = failed; cause = cause })
-without_keeps m first board s k failed cause kept = record {
+stop_keeps : (m : Module) (first : List Entry) (board : Filled) (s k : ℕ) (failed : Option Copy) (cause : Option Cause) → IsKept m first board → ((copy : Copy) → failed ≡ Some copy → GivesOf m first copy) → IsKept m first (record board { out = without_copy board.out s k; failed = failed; cause = cause })
+stop_keeps m first board s k failed cause kept gives = record {
   stands = kept.stands;
   unread = kept.unread;
   copies = All-filter (λ (copy : Copy). not (nat_eq copy.out.s s && nat_eq copy.out.above k)) (GivesOf m first) board.out kept.copies;
+  failed = gives;
   filed = kept.filed;
   same = kept.same;
 }
+
+pub back_keeps : (m : Module) (first : List Entry) (board : Filled) (s k : ℕ) → IsKept m first board → IsKept m first (after_back board s k)
+back_keeps m first board s k kept = stop_keeps m first board s k board.failed (Some (cause_or board.cause Memory)) kept kept.failed
+
+pub fail_keeps : (m : Module) (first : List Entry) (board : Filled) (who s k : ℕ) (copy : Copy) → IsKept m first board → IsCopyFor board.out who s k copy → IsKept m first (after_fail board copy s k)
+fail_keeps m first board who s k copy kept is =
+    let here = All-contains (GivesOf m first) board.out copy kept.copies is.held in
+    stop_keeps m first board s k (Some copy) (Some Failed) kept (λ other e. subst (GivesOf m first) (same_Some _ _ e) here)
 
 -- what is given is of the table
 made_is_of : (m : Module) (first : List Entry) (board : Filled) (who s k : ℕ) (content : Content) → IsKept m first board → IsMadeFromCopy m board who s k content → IsOf m first s k content
 made_is_of m first board who s k content kept made =
-    subst (λ (o : Out). IsOf m first o.s o.above content) made.square (All-contains (GivesOf m first) board.out made.copy kept.copies made.held content made.step)
+    subst (λ (o : Out). IsOf m first o.s o.above content) made.is_copy.square (All-contains (GivesOf m first) board.out made.copy kept.copies made.is_copy.held content made.step)
 
 none_left : (here : Bool) (content : Content) (rest : Option Content) → (if here then Some content else rest) ≡ None → rest ≡ None
 none_left true content rest e = cc
@@ -126,6 +136,7 @@ give_keeps m first board who s k content kept not_done made =
       stands = more_stands m first board.done s k content kept.stands new;
       unread = λ i j e. kept.unread i j (none_left (nat_eq i s && nat_eq j k) content (board.done i j) e);
       copies = All-filter (λ (copy : Copy). not (nat_eq copy.out.s s && nat_eq copy.out.above k)) (GivesOf m first) board.out kept.copies;
+      failed = kept.failed;
       filed = All-push (λ (e : Entry). IsOf m first e.s e.above e.content) board.file _ kept.filed new;
       same = more_same board.file board.done s k content kept.same (none_held (board.done s k) not_done);
     }

@@ -3,20 +3,19 @@ use Rattle.std.proofs.Common.{◌≡◌, ℕ, ℤ, pos, ◌+ℤ◌, List, [], �
 use Rattle.std.proofs.lemmas.List.{map-append}
 use Rattle.board_core.specs.declared.event.Event.{Event}
 use Rattle.board_core.specs.declared.event.Event.TheVariants.{Take, Give, Back, Fail}
-use Rattle.board_core.specs.declared.event.Cause.TheVariants.{Failed, Memory}
 use Rattle.board_core.specs.Board.{IsSound}
 use Rattle.board_core.specs.Laws.{given}
-use Rattle.board_core.specs.Machine.{State, IsStart, IsReady, IsLegal, IsHistory, IsAbove, after, cause_or}
+use Rattle.board_core.specs.Machine.{State, IsStart, IsReady, IsHeld, IsLegal, IsHistory, IsAbove, after}
 use Rattle.board_core.specs.Machine.IsHistory.{nothing, then}
 use Rattle.board_core.proofs.Given.{given_once}
 use Rattle.board_core.proofs.Histories.{height_is, held_at_height, opening_is_sound, stays_sound}
 use Rattle.resolution_laws.specs.Resolution.{Module, Content}
 use Rattle.resolution_laws.specs.Start.{Entry, entry_at}
-use Rattle.board_laws.specs.Filled.{Filled, without_contents, filled_opening, filled_height, after_take, after_give, after_back, after_fail, IsMadeFromCopy, IsRun}
+use Rattle.board_laws.specs.Filled.{Copy, Filled, without_contents, filled_opening, filled_height, places, after_take, after_give, after_back, after_fail, IsCopyFor, IsMadeFromCopy, IsRun}
 use Rattle.board_laws.specs.Filled.IsRun.{no_event, take_first, give_first, back_first, fail_first}
-use Rattle.board_laws.specs.Schedules.{places, AreOf, IsContinued, IsSchedule, IsFilledRight}
+use Rattle.board_laws.specs.Schedules.{AreOf, IsExtension, IsSchedule, IsFilledRight}
 use Rattle.board_laws.proofs.Agreement.{take_agrees, give_agrees, back_agrees, fail_agrees, opening_agrees}
-use Rattle.board_laws.proofs.Kept.{IsKept, opening_is_kept, take_keeps, without_keeps, give_keeps}
+use Rattle.board_laws.proofs.Kept.{IsKept, opening_is_kept, take_keeps, give_keeps, back_keeps, fail_keeps}
 
 -- ---- a history, from its first event on
 
@@ -36,7 +35,7 @@ of_first state event events last (then same e es l legal rest) = record { legal 
 record IsEnd (m : Module) (first : List Entry) (bottom : ℤ) (file : List Entry) (squares : List (ℕ × ℤ)) (state : State) (last : Filled) : Type 0 where
   agrees : without_contents last ≡ state
   kept : IsKept m first last
-  continues : IsContinued bottom file squares last.file
+  continues : IsExtension bottom file squares last.file
 
 -- the board and the machine before an event, and what is known of both
 record IsAlong (m : Module) (first : List Entry) (board : Filled) (events : List Event) (state : State) : Type 0 where
@@ -61,28 +60,32 @@ take_along m first board who s t snapshot events state at =
     let ready : IsReady old s (filled_height board t) = subst (λ (k : ℕ). IsReady old s k) (sym (height_is old t legal.above legal.degree)) legal.ready in
     along m first board _ (Take who s t snapshot) events state at (take_agrees board who s t snapshot) (take_keeps m first board who s (filled_height board t) at.kept at.sound.staircase ready.parents ready.not_done)
 
+-- the square that somebody has is at its height
+at_height : (board : Filled) (who s : ℕ) (t : ℤ) → IsHeld (without_contents board) who s t → IsAbove board.bottom t (filled_height board t)
+at_height board who s t held = subst (λ (k : ℕ). IsAbove board.bottom t k) (sym (height_is (without_contents board) t held.above held.degree)) held.degree
+
 give_along : (m : Module) (first : List Entry) (board : Filled) (who s : ℕ) (t : ℤ) (content : Content) (events : List Event) (state : State) → IsMadeFromCopy m board who s (filled_height board t) content → IsAlong m first board (Give who s t ∷ events) state → IsAlong m first (after_give board s (filled_height board t) content) events state
 give_along m first board who s t content events state made at =
     let old = without_contents board in
     let legal = (of_first old (Give who s t) events state at.history).legal in
     let taken = at.sound.taken s (filled_height board t) (held_at_height old who s t legal.held) in
-    along m first board _ (Give who s t) events state at (give_agrees board who s t content) (give_keeps m first board who s (filled_height board t) content at.kept taken.not_done made)
+    along m first board _ (Give who s t) events state at (give_agrees board who s t content (at_height board who s t legal.held)) (give_keeps m first board who s (filled_height board t) content at.kept taken.not_done made)
 
 back_along : (m : Module) (first : List Entry) (board : Filled) (who s : ℕ) (t : ℤ) (events : List Event) (state : State) → IsAlong m first board (Back who s t ∷ events) state → IsAlong m first (after_back board s (filled_height board t)) events state
 back_along m first board who s t events state at =
-    along m first board _ (Back who s t) events state at (back_agrees board who s t) (without_keeps m first board s (filled_height board t) board.failed (Some (cause_or board.cause Memory)) at.kept)
+    along m first board _ (Back who s t) events state at (back_agrees board who s t) (back_keeps m first board s (filled_height board t) at.kept)
 
-fail_along : (m : Module) (first : List Entry) (board : Filled) (who s : ℕ) (t : ℤ) (events : List Event) (state : State) → IsAlong m first board (Fail who s t ∷ events) state → IsAlong m first (after_fail board who s (filled_height board t)) events state
-fail_along m first board who s t events state at =
-    along m first board _ (Fail who s t) events state at (fail_agrees board who s t) (without_keeps m first board s (filled_height board t) (Some (record { who = who; s = s; above = filled_height board t })) (Some Failed) at.kept)
+fail_along : (m : Module) (first : List Entry) (board : Filled) (who s : ℕ) (t : ℤ) (copy : Copy) (events : List Event) (state : State) → IsCopyFor board.out who s (filled_height board t) copy → IsAlong m first board (Fail who s t ∷ events) state → IsAlong m first (after_fail board copy s (filled_height board t)) events state
+fail_along m first board who s t copy events state is at =
+    along m first board _ (Fail who s t) events state at (fail_agrees board who s t copy is) (fail_keeps m first board who s (filled_height board t) copy at.kept is)
 
 -- ---- the file
 
 -- the square that is given stands first of those that follow
-given_first : (board : Filled) (who s : ℕ) (t : ℤ) (content : Content) (squares : List (ℕ × ℤ)) (file : List Entry) → IsLegal (without_contents board) (Give who s t) → IsContinued board.bottom (board.file ++ record { s = s; above = filled_height board t; content = content } ∷ []) squares file → IsContinued board.bottom board.file ((s, t) ∷ squares) file
+given_first : (board : Filled) (who s : ℕ) (t : ℤ) (content : Content) (squares : List (ℕ × ℤ)) (file : List Entry) → IsLegal (without_contents board) (Give who s t) → IsExtension board.bottom (board.file ++ record { s = s; above = filled_height board t; content = content } ∷ []) squares file → IsExtension board.bottom board.file ((s, t) ∷ squares) file
 given_first board who s t content squares file legal rest =
     let e : Entry = record { s = s; above = filled_height board t; content = content } in
-    let at : IsAbove board.bottom t (filled_height board t) = subst (λ (k : ℕ). IsAbove board.bottom t k) (sym (height_is (without_contents board) t legal.held.above legal.held.degree)) legal.held.degree in
+    let at = at_height board who s t legal.held in
     record {
       more = e ∷ rest.more;
       follows = rest.follows ∙ append_assoc board.file (e ∷ []) rest.more;
@@ -103,7 +106,7 @@ ends m first board events state last (give_first _ who s t content rest _ made r
     let legal = (of_first (without_contents board) (Give who s t) rest state at.history).legal in
     record { agrees = end.agrees; kept = end.kept; continues = given_first board who s t content (given rest) last.file legal end.continues }
 ends m first board events state last (back_first _ who s t rest _ run) at = ends m first _ rest state last run (back_along m first board who s t rest state at)
-ends m first board events state last (fail_first _ who s t rest _ run) at = ends m first _ rest state last run (fail_along m first board who s t rest state at)
+ends m first board events state last (fail_first _ who s t copy rest _ is run) at = ends m first _ rest state last run (fail_along m first board who s t copy rest state is at)
 
 -- ---- the law
 
@@ -120,11 +123,14 @@ schedule_is_right m first s t start events state board are unread schedule =
     let kept = end.kept in
     let file = end.continues in
     let all : places m.bottom board.file ≡ places m.bottom start ++ given events = ap (places m.bottom) file.follows ∙ map-append (λ (e : Entry). (e.s, m.bottom +ℤ pos e.above)) start file.more ∙ ap (λ (l : List (ℕ × ℤ)). places m.bottom start ++ l) file.places_are in
+    let done = given_once m.bottom s t (places m.bottom start) events state reached in
     record {
       agrees = end.agrees;
       done = kept.stands;
       filed = kept.filed;
+      copies = kept.copies;
+      failed = kept.failed;
       file = file;
-      once = subst (IsStart m.bottom) (sym all) (given_once m.bottom s t (places m.bottom start) events state reached).once;
+      once = subst (IsStart m.bottom) (done.file ∙ sym all) done.once;
       same = kept.same;
     }

@@ -1,9 +1,10 @@
 -- The board of squares with what they hold. Whoever takes a square copies the rows that it stands on, as they are at that
 -- moment, and gives the step over this copy, however the rows have grown since. Which events are accepted is said by the
 -- machine without contents.
-use Rattle.std.specs.Prelude.{◌≡◌, ℕ, zero, suc, ℤ, not, ◌&&◌, nat_eq, if◌then◌else◌, List, [], ◌∷◌, ◌++◌, map, Option, Some, None, is_some}
+use Rattle.std.specs.Prelude.{◌≡◌, ℕ, zero, suc, ℤ, pos, ◌+ℤ◌, Bool, true, not, ◌&&◌, nat_eq, if◌then◌else◌, List, [], ◌∷◌, ◌++◌, map, Option, Some, None, is_some}
 use Rattle.std.specs.List.{filter, filter_map, range_with_len, Contains}
-use Rattle.board_core.specs.declared.event.Entry.{Entry as Out}
+use Rattle.std.specs.Option.{option_map}
+use Rattle.board_core.specs.declared.event.Out.{Out}
 use Rattle.board_core.specs.declared.event.Cause.{Cause}
 use Rattle.board_core.specs.declared.event.Cause.TheVariants.{Failed, Memory}
 use Rattle.board_core.specs.declared.event.Event.{Event}
@@ -36,25 +37,30 @@ pub record Copy : Type 0 where
   pub below : Option (List Content)
   pub row : List Content
 
--- What the board is at a moment: as in the machine, with what the done squares hold, the rows copied for those that are out,
--- and the file, to whose end each square goes that is given.
+-- What the board is at a moment: as in the machine, with what the done squares hold, the rows copied for those that are out
+-- and for the one that failed, and what the squares of the file hold, to whose end each square goes that is given.
 pub record Filled : Type 0 where
   pub rows : ℕ
   pub degrees : ℕ
   pub bottom : ℤ
   pub done : Contents
   pub out : List Copy
-  pub failed : Option Out
-  pub cause : Option Cause
+  pub failed : Option Copy
   pub file : List Entry
+  pub cause : Option Cause
+  pub running : Bool
+
+-- where the squares of a list stand: each by its row and its degree
+abbrev pub places : ℤ → List Entry → List (ℕ × ℤ)
+places bottom list = map (λ e. (e.s, bottom +ℤ pos e.above)) list
 
 -- the machine's state
 abbrev pub without_contents : Filled → State
-without_contents board = record { rows = board.rows; degrees = board.degrees; bottom = board.bottom; done = λ s k. is_some (board.done s k); out = map (λ copy. copy.out) board.out; failed = board.failed; cause = board.cause }
+without_contents board = record { rows = board.rows; degrees = board.degrees; bottom = board.bottom; done = λ s k. is_some (board.done s k); out = map (λ copy. copy.out) board.out; failed = option_map (λ copy. copy.out) board.failed; file = places board.bottom board.file; cause = board.cause; running = board.running }
 
 -- before the first event: the squares of the start are done, and the file has them
 abbrev pub filled_opening : Module → ℕ → ℕ → List Entry → Filled
-filled_opening m s t start = record { rows = s; degrees = t; bottom = m.bottom; done = entry_at start; out = []; failed = None; cause = None; file = start }
+filled_opening m s t start = record { rows = s; degrees = t; bottom = m.bottom; done = entry_at start; out = []; failed = None; file = start; cause = None; running = true }
 
 -- how many degrees a square of the board is above the bottom
 abbrev pub filled_height : Filled → ℤ → ℕ
@@ -75,14 +81,19 @@ after_give board s k content = record board { done = with_content board.done s k
 abbrev pub after_back : Filled → ℕ → ℕ → Filled
 after_back board s k = record board { out = without_copy board.out s k; cause = Some (cause_or board.cause Memory) }
 
-abbrev pub after_fail : Filled → ℕ → ℕ → ℕ → Filled
-after_fail board who s k = record board { out = without_copy board.out s k; failed = Some (record { who = who; s = s; above = k }); cause = Some Failed }
+-- the copy of the square becomes that of the one that failed
+abbrev pub after_fail : Filled → Copy → ℕ → ℕ → Filled
+after_fail board copy s k = record board { out = without_copy board.out s k; failed = Some copy; cause = Some Failed }
 
--- content is the step over the rows that who copied for the square (s, k)
+-- the rows that who copied for the square (s, k)
+pub record IsCopyFor (out : List Copy) (who s k : ℕ) (copy : Copy) : Type 0 where
+  pub held : Contains out copy
+  pub square : copy.out ≡ record { who = who; s = s; above = k }
+
+-- content is the step over these rows
 pub record IsMadeFromCopy (m : Module) (board : Filled) (who s k : ℕ) (content : Content) : Type 0 where
   pub copy : Copy
-  pub held : Contains board.out copy
-  pub square : copy.out ≡ record { who = who; s = s; above = k }
+  pub is_copy : IsCopyFor board.out who s k copy
   pub step : IsStep m copy.below copy.row content
 
 -- ---- runs
@@ -93,4 +104,4 @@ pub data IsRun (m : Module) : Filled → List Event → Filled → Type 0 where
   take_first : (board : Filled) (who s : ℕ) (t : ℤ) (snapshot : ℕ × ℕ) (events : List Event) (last : Filled) → IsRun m (after_take board who s (filled_height board t)) events last → IsRun m board (Take who s t snapshot ∷ events) last
   give_first : (board : Filled) (who s : ℕ) (t : ℤ) (content : Content) (events : List Event) (last : Filled) → IsMadeFromCopy m board who s (filled_height board t) content → IsRun m (after_give board s (filled_height board t) content) events last → IsRun m board (Give who s t ∷ events) last
   back_first : (board : Filled) (who s : ℕ) (t : ℤ) (events : List Event) (last : Filled) → IsRun m (after_back board s (filled_height board t)) events last → IsRun m board (Back who s t ∷ events) last
-  fail_first : (board : Filled) (who s : ℕ) (t : ℤ) (events : List Event) (last : Filled) → IsRun m (after_fail board who s (filled_height board t)) events last → IsRun m board (Fail who s t ∷ events) last
+  fail_first : (board : Filled) (who s : ℕ) (t : ℤ) (copy : Copy) (events : List Event) (last : Filled) → IsCopyFor board.out who s (filled_height board t) copy → IsRun m (after_fail board copy s (filled_height board t)) events last → IsRun m board (Fail who s t ∷ events) last

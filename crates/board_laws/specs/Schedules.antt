@@ -1,23 +1,23 @@
 -- What is so after every run of the board with contents, whatever the order in which squares are taken and given.
-use Rattle.std.specs.Prelude.{◌≡◌, ℕ, ℤ, pos, ◌+ℤ◌, List, [], ◌++◌, map, Some}
+use Rattle.std.specs.Prelude.{◌≡◌, ℕ, ℤ, List, [], ◌++◌, Some}
 use Rattle.std.specs.List.{All}
 use Rattle.board_core.specs.declared.event.Event.{Event}
 use Rattle.board_core.specs.Laws.{IsReached, given}
 use Rattle.board_core.specs.Machine.{State, IsStart}
-use Rattle.resolution_laws.specs.Resolution.{Module, Content}
+use Rattle.resolution_laws.specs.Resolution.{Module, Content, IsStep}
 use Rattle.resolution_laws.specs.Start.{Entry, entry_at, IsOf}
-use Rattle.board_laws.specs.Filled.{Filled, without_contents, filled_opening, IsRun}
-
--- where the squares of a list stand: each by its row and its degree
-abbrev pub places : ℤ → List Entry → List (ℕ × ℤ)
-places bottom list = map (λ e. (e.s, bottom +ℤ pos e.above)) list
+use Rattle.board_laws.specs.Filled.{Copy, Filled, without_contents, filled_opening, places, IsRun}
 
 -- each square of the list is that of the table of the start
 abbrev pub AreOf : Module → List Entry → List Entry → Type 0
 AreOf m start list = All (λ e. IsOf m start e.s e.above e.content) list
 
+-- what the step over a copy gives is of that table
+abbrev pub GivesOf : Module → List Entry → Copy → Type 0
+GivesOf m start copy = (content : Content) → IsStep m copy.below copy.row content → IsOf m start copy.out.s copy.out.above content
+
 -- the file is the start, followed by the squares at these places, in their order
-pub record IsContinued (bottom : ℤ) (start : List Entry) (squares : List (ℕ × ℤ)) (file : List Entry) : Type 0 where
+pub record IsExtension (bottom : ℤ) (start : List Entry) (squares : List (ℕ × ℤ)) (file : List Entry) : Type 0 where
   pub more : List Entry
   pub follows : file ≡ start ++ more
   pub places_are : places bottom more ≡ squares
@@ -28,14 +28,16 @@ pub record IsSchedule (m : Module) (s t : ℕ) (start : List Entry) (events : Li
   pub reached : IsReached m.bottom s t (places m.bottom start) events state
   pub run : IsRun m (filled_opening m s t start) events board
 
--- The board is the machine's state with contents, and these are those of the table of `first`, on the board and in the file.
--- The file is the start and the squares that the events give; it has each square once and after its parents, and at each
--- place what the board has there.
+-- The board is the machine's state with contents, and these are those of the table of `first`, on the board and in the file;
+-- so is the step over each copy, of a square that is out or that failed. The file is the start and the squares that the events
+-- give; it has each square once and after its parents, and at each place what the board has there.
 pub record IsFilledRight (m : Module) (first start : List Entry) (events : List Event) (state : State) (board : Filled) : Type 0 where
   pub agrees : without_contents board ≡ state
   pub done : (s k : ℕ) (content : Content) → board.done s k ≡ Some content → IsOf m first s k content
   pub filed : AreOf m first board.file
-  pub file : IsContinued m.bottom start (given events) board.file
+  pub copies : All (GivesOf m first) board.out
+  pub failed : (copy : Copy) → board.failed ≡ Some copy → GivesOf m first copy
+  pub file : IsExtension m.bottom start (given events) board.file
   pub once : IsStart m.bottom (places m.bottom board.file)
   pub same : (s k : ℕ) → entry_at board.file s k ≡ board.done s k
 

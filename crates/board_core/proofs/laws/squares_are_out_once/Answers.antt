@@ -4,4 +4,4 @@ use Rattle.board_core.proofs.laws.squares_are_out_once.Goals as goal
 pub returns : goal.returns
 returns c = λ bottom s t start events state reached.
     let sound = reached_is_sound bottom s t start events state reached in
-    record { once = sound.once; taken = sound.taken }
+    record { once = sound.once; taken = sound.taken; failed_taken = sound.failed_taken }

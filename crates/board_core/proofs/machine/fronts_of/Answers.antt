@@ -1,8 +1,8 @@
 use Rattle.std.proofs.Common.{◌≡◌, ℕ, ◌+◌, ◌≤◌, ℤ, pos, List, length, take, get_or, false, Option, Some, SFits, to_z, of_z, w32, rules, sym, ◌∙◌, ap, subst, arith}
 use Rattle.std.proofs.lemmas.Int.{to_z-of_z}
 use Rattle.std.proofs.lemmas.Option.{slice_get-get_or}
-use Rattle.board_core.specs.Board.{squares_below}
-use Rattle.board_core.specs.Machine.{Squares, HasParents, IsNextSquare, above_of, squares_of, with_square}
+use Rattle.board_core.specs.Board.{below_fronts}
+use Rattle.board_core.specs.Machine.{Squares, HasParents, IsNextSquare, above_of, squares_of, insert_square}
 use Rattle.board_core.proofs.Starts.{next_square, same_above, one_more, above_is}
 use Rattle.board_core.proofs.machine.fronts_of.Goals as goal
 use Rattle.board_core.proofs.machine.fronts_of.Goals.{in-Some, in_default}
@@ -37,7 +37,7 @@ add-requires-clause-parents c =
     let fits : SFits w32 t = search rules in
     let at = found b t (to_z w32 (of_z w32 b)) (to_z w32 (of_z w32 t)) c.in-Some.above c.above_of.result c.above_of.ensures.above low (to_z-of_z w32 t fits) c.in-Some.is in
     let next = next_square b list i (0, pos 0) c.requires.start c.loop-s-test.true in
-    (here b list i c.in-Some.above (squares_below c.loop-s.fronts) (squares_of (to_z w32 (of_z w32 b)) (take i list)) next (ap (λ z. squares_of z (take i list)) low) c.loop-s.invariant.squares at).0
+    (here b list i c.in-Some.above (below_fronts c.loop-s.fronts) (squares_of (to_z w32 (of_z w32 b)) (take i list)) next (ap (λ z. squares_of z (take i list)) low) c.loop-s.invariant.squares at).0
 
 pub add-requires-clause-absent : goal.add-requires-clause-absent
 add-requires-clause-absent c =
@@ -49,7 +49,7 @@ add-requires-clause-absent c =
     let fits : SFits w32 t = search rules in
     let at = found b t (to_z w32 (of_z w32 b)) (to_z w32 (of_z w32 t)) c.in-Some.above c.above_of.result c.above_of.ensures.above low (to_z-of_z w32 t fits) c.in-Some.is in
     let next = next_square b list i (0, pos 0) c.requires.start c.loop-s-test.true in
-    (here b list i c.in-Some.above (squares_below c.loop-s.fronts) (squares_of (to_z w32 (of_z w32 b)) (take i list)) next (ap (λ z. squares_of z (take i list)) low) c.loop-s.invariant.squares at).1
+    (here b list i c.in-Some.above (below_fronts c.loop-s.fronts) (squares_of (to_z w32 (of_z w32 b)) (take i list)) next (ap (λ z. squares_of z (take i list)) low) c.loop-s.invariant.squares at).1
 
 pub loop-s-preserved : goal.loop-s-preserved
 loop-s-preserved c =
@@ -60,11 +60,11 @@ loop-s-preserved c =
     let low = to_z-of_z w32 b c.ranges.bottom in
     let fits : SFits w32 q.1 = search rules in
     let next = next_square b list i (0, pos 0) c.requires.start c.loop-s-test.true in
-    let before : squares_below c.loop-s.fronts ≡ squares_of b (take i list) = c.loop-s.invariant.squares ∙ ap (λ z. squares_of z (take i list)) low in
-    let after : squares_below c.match-above_of.fronts ≡ squares_of b (take (i + 1) list) = elim c.match-above_of.branch [
+    let before : below_fronts c.loop-s.fronts ≡ squares_of b (take i list) = c.loop-s.invariant.squares ∙ ap (λ z. squares_of z (take i list)) low in
+    let after : below_fronts c.match-above_of.fronts ≡ squares_of b (take (i + 1) list) = elim c.match-above_of.branch [
       | in-Some w ↦
           let at = found b q.1 (to_z w32 (of_z w32 b)) (to_z w32 (of_z w32 q.1)) w.in-Some.above c.above_of.result c.above_of.ensures.above low (to_z-of_z w32 q.1 fits) w.in-Some.is in
-          ap squares_below w.fronts-is ∙ w.add.ensures.squares ∙ ap (λ (d : Squares). with_square d q.0 w.in-Some.above) before ∙ sym (one_more b list i (0, pos 0) w.in-Some.above c.loop-s-test.true at)
+          ap below_fronts w.fronts-is ∙ w.add.ensures.squares ∙ ap (λ (d : Squares). insert_square d q.0 w.in-Some.above) before ∙ sym (one_more b list i (0, pos 0) w.in-Some.above c.loop-s-test.true at)
       | in_default w ↦
           let there = above_is b q.1 next.above next.degree in
           let here : c.above_of.result ≡ Some next.above = c.above_of.ensures.above ∙ ap (λ z. above_of z (to_z w32 (of_z w32 q.1))) low ∙ ap (above_of b) (to_z-of_z w32 q.1 fits) ∙ there in

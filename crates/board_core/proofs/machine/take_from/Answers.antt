@@ -1,6 +1,6 @@
 use Rattle.std.proofs.Common.{◌≡◌, ℕ, false, set, rules, sym, subst}
 use Rattle.std.proofs.lemmas.Fn.{filter_same}
-use Rattle.board_core.specs.Board.{IsMarked}
+use Rattle.board_core.specs.Inside.{IsMarked}
 use Rattle.board_core.specs.Machine.{without}
 use Rattle.board_core.proofs.RowsOut.{marked_without}
 use Rattle.board_core.proofs.machine.take_from.Goals as goal

@@ -1,16 +1,21 @@
 use Rattle.std.proofs.Common.{refl, sym, subst}
 use Rattle.board_core.specs.Board.{Board, IsTaken, state_of}
 use Rattle.board_core.proofs.RowsOut.{row_clears}
-use Rattle.board_core.proofs.Sound.{sound_without}
+use Rattle.board_core.proofs.Sound.{sound_fail}
 use Rattle.board_core.proofs.machine.Core.fail.Goals as goal
 
 pub take_from-requires-clause-alone : goal.take_from-requires-clause-alone
 take_from-requires-clause-alone c =
     let inside = c.self.inside in
     let taken = subst (λ (b : Board). IsTaken (state_of b) c.args.s c.in-Some.above) (sym c.self.view_is) c.in-Some.ensures.taken in
-    row_clears _ c.args.s c.in-Some.above _ (λ j. refl) c.self.invariant.0 taken
+    row_clears _ c.args.s c.in-Some.above _ (λ j. refl) c.self.invariant.sound taken
 
 pub invariant_of-self : goal.invariant_of-self
 invariant_of-self c =
     let inside = c.self.inside in
-    (sound_without _ c.args.s c.in-Some.above c.take_from.new.out.items _ _ c.self.invariant.0 c.take_from.ensures.items, c.self.invariant.1, c.take_from.ensures.busy inside.rows c.self.invariant.2)
+    let taken = subst (λ (b : Board). IsTaken (state_of b) c.args.s c.in-Some.above) (sym c.self.view_is) c.in-Some.ensures.taken in
+    record {
+      sound = sound_fail _ (record { who = c.args.who; s = c.args.s; above = c.in-Some.above }) c.take_from.new.out.items _ c.self.invariant.sound taken c.take_from.ensures.items;
+      bounded = c.self.invariant.bounded;
+      marked = c.take_from.ensures.busy inside.rows c.self.invariant.marked;
+    }

@@ -1,5 +1,6 @@
-use Rattle.std.proofs.Common.{ℕ, refl, sym, subst}
-use Rattle.board_core.specs.Board.{Board, IsBounded, IsTaken, squares_below, state_of}
+use Rattle.std.proofs.Common.{ℕ, refl, sym, ◌∙◌, ap, subst}
+use Rattle.board_core.specs.Board.{Board, IsTaken, below_fronts, state_of}
+use Rattle.board_core.specs.Inside.{IsBounded}
 use Rattle.board_core.proofs.RowsOut.{row_clears}
 use Rattle.board_core.proofs.Sound.{sound_give}
 use Rattle.board_core.proofs.machine.Core.give.Goals as goal
@@ -8,11 +9,16 @@ pub take_from-requires-clause-alone : goal.take_from-requires-clause-alone
 take_from-requires-clause-alone c =
     let inside = c.self.inside in
     let taken = subst (λ (b : Board). IsTaken (state_of b) c.args.s c.in-Some.above) (sym c.self.view_is) c.in-Some.ensures.taken in
-    row_clears _ c.args.s c.in-Some.above _ (λ j. refl) c.self.invariant.0 taken
+    row_clears _ c.args.s c.in-Some.above _ (λ j. refl) c.self.invariant.sound taken
 
 pub invariant_of-self : goal.invariant_of-self
 invariant_of-self c =
     let inside = c.self.inside in
     let taken = subst (λ (b : Board). IsTaken (state_of b) c.args.s c.in-Some.above) (sym c.self.view_is) c.in-Some.ensures.taken in
-    let bounded = subst (λ (n : ℕ). IsBounded inside.rows inside.degrees inside.bottom n) (sym c.add.ensures.rows) c.self.invariant.1 in
-    (sound_give _ c.args.s c.in-Some.above (squares_below c.add.new.self) c.take_from.new.out.items c.self.invariant.0 taken c.add.ensures.squares c.take_from.ensures.items, bounded, c.take_from.ensures.busy inside.rows c.self.invariant.2)
+    let bounded = subst (λ (n : ℕ). IsBounded inside.rows inside.degrees inside.bottom n) (sym c.add.ensures.rows) c.self.invariant.bounded in
+    let no_cause = ap (λ (b : Board). b.cause) c.self.view_is ∙ c.in-Some.ensures.no_cause in
+    record {
+      sound = sound_give _ c.args.s c.in-Some.above (below_fronts c.add.new.self) c.take_from.new.out.items _ c.self.invariant.sound no_cause taken c.add.ensures.squares c.take_from.ensures.items;
+      bounded = bounded;
+      marked = c.take_from.ensures.busy inside.rows c.self.invariant.marked;
+    }

@@ -1,5 +1,5 @@
 use Rattle.std.proofs.Common.{◌≡◌, sym, subst, arith}
-use Rattle.board_core.specs.Board.{Board, squares_below, state_of}
+use Rattle.board_core.specs.Board.{Board, below_fronts, state_of}
 use Rattle.board_core.specs.Machine.{IsReady}
 use Rattle.board_core.proofs.BelowFronts.{stands_first}
 use Rattle.board_core.proofs.Sound.{ready_is_taken}
@@ -16,6 +16,6 @@ returns-else-has_next-clause-decides c = (λ e. absurd (cc), λ ready. absurd (n
           cc
       | else-k-front w ↦
           let here = subst (λ (b : Board). IsReady (state_of b) c.args.s c.args.k) (sym c.self.view_is) ready in
-          let first : c.args.k ≡ c.front.result = stands_first (squares_below c.self.inside.fronts) c.args.s c.args.k c.front.result c.front.ensures.done here.parents here.not_done in
+          let first : c.args.k ≡ c.front.result = stands_first (below_fronts c.self.inside.fronts) c.args.s c.args.k c.front.result c.front.ensures.done here.parents here.not_done in
           omega arith
     ]

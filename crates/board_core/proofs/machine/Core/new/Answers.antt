@@ -1,8 +1,9 @@
-use Rattle.std.proofs.Common.{◌≡◌, ℕ, ◌<◌, ℤ, pos, ◌+ℤ◌, ◌≤ℤ◌, ◌-◌, ◌^◌, false, List, length, get_or, None, w32, to_z, of_z, sym, ap, subst, arith}
+use Rattle.std.proofs.Common.{◌≡◌, ℕ, ◌<◌, ℤ, pos, ◌+ℤ◌, ◌≤ℤ◌, ◌-◌, ◌^◌, false, true, List, length, get_or, None, w32, to_z, of_z, sym, ap, subst, arith}
 use Rattle.std.proofs.lemmas.Grind.{common_steps}
 use Rattle.std.proofs.lemmas.Int.{to_z-of_z}
-use Rattle.board_core.specs.declared.event.Entry.{Entry}
-use Rattle.board_core.specs.Board.{IsBounded, IsSound, has_row, squares_below}
+use Rattle.board_core.specs.declared.event.Out.{Out}
+use Rattle.board_core.specs.Board.{IsSound, below_fronts}
+use Rattle.board_core.specs.Inside.{IsBounded, has_row}
 use Rattle.board_core.specs.Machine.{Squares, IsStart, opening}
 use Rattle.board_core.proofs.Histories.{opening_is_sound}
 use Rattle.board_core.proofs.machine.Core.new.Goals as goal
@@ -19,10 +20,11 @@ invariant_of-result c =
     let range = c.last_row-last.ensures.range in
     let listed : IsStart b c.args.start.now = subst (λ (b : ℤ). IsStart b c.args.start.now) (sym low) c.requires.start in
     let first = opening_is_sound b c.args.s c.args.t c.args.start.now listed in
-    let filled = subst (λ (d : Squares). IsSound (record (opening b c.args.s c.args.t c.args.start.now) { done = d })) (sym c.in_ok-fronts_of.ensures.squares) first in
-    let sound = subst (λ (l : List Entry). IsSound (record { rows = c.args.s; degrees = c.args.t; bottom = b; done = squares_below fronts; out = l; failed = None; cause = None })) (sym c.new.ensures.items) filled in
+    let listed_so = subst (λ (f : List (ℕ × ℤ)). IsSound (record (opening b c.args.s c.args.t c.args.start.now) { file = f })) (sym c.opened.ensures) first in
+    let filled = subst (λ (d : Squares). IsSound (record (opening b c.args.s c.args.t c.args.start.now) { done = d; file = c.opened.result })) (sym c.in_ok-fronts_of.ensures.squares) listed_so in
+    let sound = subst (λ (l : List Out). IsSound (record { rows = c.args.s; degrees = c.args.t; bottom = b; done = below_fronts fronts; out = l; failed = None; file = c.opened.result; cause = None; running = true })) (sym c.new.ensures.items) filled in
     let fits = subst (λ (b : ℤ). (b +ℤ pos c.args.t) ≤ℤ pos (2 ^ 31 - 1)) (sym low) c.requires.fits in
     let bounded : IsBounded c.args.s c.args.t b (length fronts) = record { rows = omega arith; degrees = omega (arith, c.ranges.t.fits); fits = fits } in
     let long : c.args.s < length c.in_ok-vec.field-0.items = omega (arith, c.in_ok-vec.ensures.len, c.from.ensures) in
-    let marks : (i : ℕ) → get_or c.in_ok-vec.field-0.items i false ≡ has_row c.new.result.items i = λ i. let items = c.in_ok-vec.ensures.items in let none = ap (λ (l : List Entry). has_row l i) c.new.ensures.items in grind (arith, common_steps) in
-    (sound, bounded, record { long = long; marks = marks })
+    let marks : (i : ℕ) → get_or c.in_ok-vec.field-0.items i false ≡ has_row c.new.result.items i = λ i. let items = c.in_ok-vec.ensures.items in let none = ap (λ (l : List Out). has_row l i) c.new.ensures.items in grind (arith, common_steps) in
+    record { sound = sound; bounded = bounded; marked = record { long = long; marks = marks } }

@@ -1,6 +1,7 @@
 use Rattle.std.proofs.Common.{◌≡◌, ◌<◌, ℕ, length, set, true, sym, subst, arith}
-use Rattle.board_core.specs.Board.{Board, IsMarked, state_of}
-use Rattle.board_core.specs.declared.event.Entry.{Entry}
+use Rattle.board_core.specs.Board.{Board, state_of}
+use Rattle.board_core.specs.Inside.{IsMarked}
+use Rattle.board_core.specs.declared.event.Out.{Out}
 use Rattle.board_core.specs.Machine.{IsReady}
 use Rattle.board_core.proofs.RowsOut.{marked_with}
 use Rattle.board_core.proofs.Sound.{sound_take}
@@ -12,11 +13,11 @@ invariant_of-self-2 c =
     let is : c.is_ready.result ≡ true = elim c.if-is_ready.branch [ then-is_ready w ↦ w.if-is_ready.true | else-is_ready w ↦ cc ] in
     let here = subst (λ (b : Board). IsReady (state_of b) c.args.s c.in-Some.above) (sym c.self.view_is) (c.is_ready.ensures.decides.0 is) in
     let inside = c.self.inside in
-    let e : Entry = record { who = c.args.who; s = c.args.s; above = c.in-Some.above } in
-    let before = c.self.invariant.2 in
+    let e : Out = record { who = c.args.who; s = c.args.s; above = c.in-Some.above } in
+    let before = c.self.invariant.marked in
     let row = here.in_range.row in
     let long = before.long in
     let within : c.args.s < length inside.busy.items = omega arith in
     let marked = marked_with inside.busy.items inside.rows inside.out.items c.push.new.self.items e within c.in_ok-push.ensures.items before in
     let same = subst (λ (n : ℕ). IsMarked (set inside.busy.items n true) inside.rows c.push.new.self.items) (sym c.from.ensures) marked in
-    (sound_take _ e c.push.new.self.items c.self.invariant.0 here c.in_ok-push.ensures.items, c.self.invariant.1, same)
+    record { sound = sound_take _ e c.push.new.self.items c.self.invariant.sound here c.in_ok-push.ensures.items; bounded = c.self.invariant.bounded; marked = same }
