@@ -1,17 +1,17 @@
--- Basis elements of a free module are operations on generators: (g, R) is Sq(R) on the unit vector of (g, ()). Operations of
--- positive degree give no term without an operation.
+-- Basis elements of a free module are operations on generators: (g, R) is Sq(R) on the unit vector of (g, ()).
 use Rattle.std.proofs.Common.{◌≡◌, inl, inr, ℕ, ◌<◌, Bool, true, false, ◌&&◌, nat_eq, ℤ, pos, ◌+ℤ◌, List, [], length, map, refl, sym, ◌∙◌, ap, subst, arith}
 use Rattle.std.specs.Cmp.Lexicographic.{bytes_decides, pointwise}
 use Rattle.std.proofs.lemmas.Int.{ints}
-use Rattle.std.proofs.lemmas.Bool.{false_from_ne_true, and_parts, true≢false}
+use Rattle.std.proofs.lemmas.Bool.{cases_lt, false_from_ne_true, and_parts, true≢false}
 use Rattle.std.proofs.lemmas.Bool.Decides.{eqb_tells, nat_tests}
-use Rattle.std.proofs.lemmas.List.{ext_get_or, get_or-map, get_or_default, length-map}
+use Rattle.std.proofs.lemmas.List.{nil_from_length, ext_get_or, get_or-map, get_or_default, length-map}
 use Rattle.f2_vec.specs.Vectors.{bit}
 use Rattle.f2_vec.specs.Spans.{row, HaveWidth, combination, unit_vector}
 use Rattle.f2_vec.proofs.Combinations.{combination_alone}
 use Rattle.f2_vec.proofs.Spans.{bit-combination_zero}
 use Rattle.f2_vec.proofs.Split.{length-unit_vector, bit-unit_vector}
 use Rattle.milnor_basis.specs.Exponents.{degree_of, IsTrimmed}
+use Rattle.milnor_basis.proofs.ExponentLemmas.{length_within}
 use Rattle.milnor_basis.specs.Product.{coefficient}
 use Rattle.milnor_laws.proofs.FreeModules.{HaveWidth-acted}
 use Rattle.milnor_laws.proofs.RightUnit.{product_has_unit}
@@ -89,21 +89,5 @@ unit_is_acted ds t g i p r at degree l e =
 
 -- ---- operations of positive degree
 
-pub action_has_no_bare : (ds : List ℤ) (r : List ℕ) (t : ℤ) (v : List Bool) (j : ℕ) → 0 < degree_of r → j < free_width ds (t +ℤ pos (degree_of r)) → (element (free_basis ds (t +ℤ pos (degree_of r))) j).1 ≡ [] → bit (free_action ds r t v) j ≡ false
-action_has_no_bare ds r t v j h l bare =
-    let u = t +ℤ pos (degree_of r) in
-    let basis = free_basis ds t in
-    let rows = map (acted ds r u) basis in
-    let f = element (free_basis ds u) j in
-    let above = (element-IsOfDegree ds u j l).degree in
-    let none : degree_of f.1 ≡ 0 = ap degree_of bare in
-    bit-combination_zero (free_width ds u) v rows j (HaveWidth-acted ds r t u) (λ i b.
-    let m : i < length basis = omega (arith, length-map basis (acted ds r u)) in
-    let e = element basis i in
-    let below = (element-IsOfDegree ds t i m).degree in
-    let apart : nat_eq f.0 e.0 ≡ false = elim (eqb_tells f.0 e.0) [
-      | inr q ↦ q.0
-      | inl q ↦ absurd (let same : degree_at ds f.0 ≡ degree_at ds e.0 = ap (degree_at ds) q.1 in omega (arith, ints))
-    ] in
-    ap (λ (x : List Bool). bit x j) (get_or-map (acted ds r u) basis i (0, []) [] m)
-    ∙ (get_or-map (coefficient_at e.0 r e.1) (free_basis ds u) j (0, []) false l ∙ ap (λ x. x && coefficient r e.1 f.1) apart))
+pub positive_degree : (r : List ℕ) → IsTrimmed r → (r ≡ [] → ⊥) → 0 < degree_of r
+positive_degree r trimmed some = elim (cases_lt 0 (degree_of r)) [ inl y ↦ y | inr y ↦ absurd (some (nil_from_length r (let n = length_within r trimmed in omega arith))) ]

@@ -3,7 +3,7 @@
 use Rattle.std.proofs.Common.{◌≡◌, inl, inr, ℕ, zero, suc, ◌<◌, ◌≤◌, Bool, ℤ, pos, ◌+ℤ◌, List, [], ◌∷◌, length, map, refl, sym, ◌∙◌, ap, subst, arith}
 use Rattle.std.proofs.lemmas.Bool.{cases_lt, both_ways}
 use Rattle.std.proofs.lemmas.Int.{ints}
-use Rattle.std.proofs.lemmas.List.{length-map}
+use Rattle.std.proofs.lemmas.List.{length-map, nil_from_length}
 use Rattle.f2_vec.specs.Vectors.{bit, sum_of, zeros}
 use Rattle.f2_vec.specs.Spans.{row, HaveWidth, combination, IsInSpan, unit_vector, unit_vectors}
 use Rattle.f2_vec.proofs.Combinations.{map-map, map_same_all, combination-combination}
@@ -25,11 +25,12 @@ use Rattle.resolution_laws.specs.Resolution.{Module, Content, images_of, row_of}
 use Rattle.resolution_laws.specs.Exactness.{degrees_in, target_of, differential, boundary, IsExactAt}
 use Rattle.resolution_laws.proofs.Complex.{length-differential}
 use Rattle.resolution_laws.proofs.Generators.{element-IsOfDegree}
+use Rattle.resolution_laws.proofs.Squares.{target_is_module}
 use Rattle.f2_matrix.specs.Rank.{SpanAll}
 use Rattle.resolution_counts.specs.Cochains.{IsModuleMap}
 use Rattle.resolution_counts.specs.Counts.{IsMinimalTable}
-use Rattle.resolution_counts.proofs.Bare.{place_of_generator, unit_is_acted}
-use Rattle.resolution_counts.proofs.Cover.{Covered, target_is_module, images_fit, differential_widths, covers, covered_length, boundary_covered, generator_degree, image_covered, chosen_each}
+use Rattle.resolution_counts.proofs.Bare.{place_of_generator, positive_degree, unit_is_acted}
+use Rattle.resolution_counts.proofs.Cover.{Covered, images_fit, differential_widths, covers, covered_length, boundary_covered, generator_degree, image_covered, chosen_each}
 use Rattle.f2_matrix.proofs.Spanning.{spanning_is_full}
 
 -- A map of modules between the targets of d_i in two tables. In the degrees of the range it takes what d_i covers to what d_i
@@ -123,7 +124,7 @@ module _ (m : Module) (s t : ℕ) (a b : List (List Content)) (pair : ArePair m 
       let y = row q.images g in
       let fit = images_fit m s t a pair.left.is_table i h in
       let through : Y.action r u (boundary m b i u y) ≡ boundary m b i (u +ℤ pos (degree_of r)) ((target_of m b (suc i)).action r u y) =
-      maps_commute Y es (images_of (row_of b i)) (target_is_module m b i pair.steenrod) (images_fit m s t b pair.right.is_table i h) r u y o.trimmed (q.fit.widths g o.generator) in
+      maps_commute Y es (images_of (row_of b i)) (target_is_module free_modules_are_modules m b i pair.steenrod) (images_fit m s t b pair.right.is_table i h) r u y o.trimmed (q.fit.widths g o.generator) in
       let over : Y.action r u (boundary m b i u y) ≡ Y.action r u (p.f u v) = ap (Y.action r u) (q.over g o.generator) in
       let acts : p.f (u +ℤ pos (degree_of r)) (X.action r u v) ≡ Y.action r u (p.f u v) = p.is_map.acts r u v o.trimmed (fit.widths g o.generator) in
       let P : ℤ → Type 0 = λ z. boundary m b i z ((target_of m b (suc i)).action r u y) ≡ p.f z (X.action r u v) in
@@ -142,10 +143,6 @@ module _ (m : Module) (s t : ℕ) (a b : List (List Content)) (pair : ArePair m 
       all ∙ (ap (combination n v) each ∙ sym (p.is_map.linear d v (differential m a i d) (old_widths d)))
 
   -- ---- onto
-
-  empty : (r : List ℕ) → length r ≤ 0 → r ≡ []
-  empty [] l = refl
-  empty (x ∷ r) l = absurd (omega arith)
 
   -- a combination of the new rows is reached
   new_reached : (d : ℤ) (v : List Bool) → IsInSpan (free_width es d) (new_rows d) (new d v)
@@ -173,7 +170,7 @@ module _ (m : Module) (s t : ℕ) (a b : List (List Content)) (pair : ArePair m 
       let r = e.1 in
       let d = degree_at es g in
       let degree = generator_degree m s t b pair.right.is_table i h g o.generator in
-      let positive : 0 < degree_of r = elim (cases_lt 0 (degree_of r)) [ inl y ↦ y | inr y ↦ absurd (some (empty r (let n = length_within r o.trimmed in omega arith))) ] in
+      let positive : 0 < degree_of r = positive_degree r o.trimmed some in
       let is = degree.is in
       let sum = o.degree in
       let less : degree.k < k = omega (arith, ints) in

@@ -1,29 +1,26 @@
 -- Two minimal tables of a module have equally many generators at each square.
 use Rattle.std.proofs.Common.{◌≡◌, ℕ, zero, suc, ◌+◌, ◌<◌, ◌≤◌, Bool, ℤ, pos, ◌+ℤ◌, ◌-ℤ◌, List, [], ◌∷◌, ◌++◌, length, map, take, replicate, refl, sym, ◌∙◌, ap, arith, add-one}
 use Rattle.std.proofs.lemmas.Int.{ints}
-use Rattle.std.proofs.lemmas.List.{take_more, length-take-le, length-append}
+use Rattle.std.proofs.lemmas.List.{map-id, take_more, length-take-le, length-append}
 use Rattle.f2_vec.specs.Spans.{combination}
 use Rattle.milnor_product.specs.Times.{basis_at}
 use Rattle.free_module.specs.FreeModule.{free_basis_from, free_basis, free_width}
 use Rattle.free_module.proofs.FreeBasis.{free_basis_from-append}
 use Rattle.resolution_laws.specs.Resolution.{Module, Content, no_content, square_in, degrees_from, row_of}
 use Rattle.resolution_laws.specs.Exactness.{degrees_in}
+use Rattle.resolution_laws.proofs.NewGenerators.{minus_self}
 use Rattle.resolution_laws.proofs.Rows.{degrees_from-push, free_basis-take}
 use Rattle.resolution_counts.specs.Counts.{MinimalTablesHaveSameCounts, MinimalResolutionsHaveSameCounts}
 use Rattle.resolution_counts.proofs.Compare.{IsComparison, ArePair, lift, not_fewer, next}
 
 -- ---- the dimensions are the same
 
-map-id : (rows : List (List Bool)) → rows ≡ map (λ v. v) rows
-map-id [] = refl
-map-id (r ∷ rows) = ap (λ (z : List (List Bool)). r ∷ z) (map-id rows)
-
 on_module : (m : Module) (t : ℕ) (a b : List (List Content)) → IsComparison m t a b 0
 on_module m t a b = record {
   f = λ d v. v;
   is_map = record {
     fits = λ d v e. e;
-    linear = λ d c rows w. ap (combination (m.graded.width d) c) (map-id rows);
+    linear = λ d c rows w. ap (combination (m.graded.width d) c) (sym (map-id rows));
     acts = λ r d v trimmed e. refl;
   };
   into = λ k c v e. e;
@@ -62,8 +59,7 @@ new_count : (g n : ℕ) (u : ℤ) → length (free_basis_from g (replicate n u) 
 new_count g zero u = refl
 new_count g (suc n) u =
     let rest = free_basis_from (suc g) (replicate n u) u in
-    let none : u -ℤ u ≡ pos 0 = omega (arith, ints) in
-    ap (λ (z : ℤ). length (map (λ r. (g, r)) (basis_at z) ++ rest)) none ∙ ap suc (new_count (suc g) n u)
+    ap (λ (z : ℤ). length (map (λ r. (g, r)) (basis_at z) ++ rest)) (minus_self u) ∙ ap suc (new_count (suc g) n u)
 
 -- the dimension in the degree of a square is that on the generators before it and one for each new generator
 width_here : (b : ℤ) (squares : List Content) (k : ℕ) → k < length squares → free_width (degrees_from b squares) (b +ℤ pos k) ≡ free_width (degrees_from b (take k squares)) (b +ℤ pos k) + length (square_in squares k).images

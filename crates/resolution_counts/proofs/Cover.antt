@@ -13,6 +13,7 @@ use Rattle.resolution_laws.specs.Resolution.{Module, Content, images_of, row_of}
 use Rattle.resolution_laws.specs.Exactness.{degrees_in, target_of, differential, boundary, IsTable, IsExactAt}
 use Rattle.resolution_laws.proofs.Complex.{length-differential}
 use Rattle.resolution_laws.proofs.Generators.{AreImages-row, generator_at}
+use Rattle.resolution_laws.proofs.Squares.{target_is_module}
 use Rattle.resolution_counts.specs.Counts.{IsMinimalTable}
 use Rattle.resolution_counts.proofs.Bare.{place_of_generator}
 
@@ -21,15 +22,11 @@ abbrev pub Covered : Module → List (List Content) → ℕ → ℤ → List Boo
 Covered m table zero d v = length v ≡ m.graded.width d
 Covered m table (suc i) d v = IsInKernel ((target_of m table i).width d) (differential m table i d) v
 
-pub target_is_module : (m : Module) (table : List (List Content)) (i : ℕ) → IsSteenrodModule m.graded → IsSteenrodModule (target_of m table i)
-target_is_module m table zero h = h
-target_is_module m table (suc i) h = free_modules_are_modules (degrees_in m table i)
-
 pub images_fit : (m : Module) (s t : ℕ) (table : List (List Content)) → IsTable m s t table → (i : ℕ) → i ≤ s → AreImages (target_of m table i) (degrees_in m table i) (images_of (row_of table i))
 images_fit m s t table p i h = let n = p.squares i h in AreImages-row (target_of m table i) m.bottom (row_of table i) (λ k l. p.widths i k h (omega arith))
 
 pub differential_widths : (m : Module) (s t : ℕ) (table : List (List Content)) → IsSteenrodModule m.graded → IsTable m s t table → (i : ℕ) → i ≤ s → (d : ℤ) → HaveWidth ((target_of m table i).width d) (differential m table i d)
-differential_widths m s t table steenrod p i h d = HaveWidth-map_rows (target_of m table i) (degrees_in m table i) (images_of (row_of table i)) d (target_is_module m table i steenrod).widths (images_fit m s t table p i h)
+differential_widths m s t table steenrod p i h d = HaveWidth-map_rows (target_of m table i) (degrees_in m table i) (images_of (row_of table i)) d (target_is_module free_modules_are_modules m table i steenrod).widths (images_fit m s t table p i h)
 
 -- exactness, in one form for all rows
 pub covers : (m : Module) (table : List (List Content)) (i : ℕ) (d : ℤ) → HaveWidth ((target_of m table i).width d) (differential m table i d) → IsExactAt m table i d → (v : List Bool) → Covered m table i d v ↔ IsInSpan ((target_of m table i).width d) (differential m table i d) v
@@ -72,7 +69,7 @@ image_covered m s t table steenrod p i h g l =
     let exact : IsExactAt m table i d = subst (λ (z : ℤ). IsExactAt m table i z) (sym degree.is) (p.exact i degree.k h degree.within) in
     let rows = differential m table i d in
     let fit = images_fit m s t table p.is_table i h in
-    let same : row rows at.0 ≡ v = get_or-map (image_of target ds vs) (free_basis ds d) at.0 (0, []) [] at.1.within ∙ (ap (image_of target ds vs) at.1.is ∙ (target_is_module m table i steenrod).unit d v (fit.widths g l)) in
+    let same : row rows at.0 ≡ v = get_or-map (image_of target ds vs) (free_basis ds d) at.0 (0, []) [] at.1.within ∙ (ap (image_of target ds vs) at.1.is ∙ (target_is_module free_modules_are_modules m table i steenrod).unit d v (fit.widths g l)) in
     let b : at.0 < length rows = let w = at.1.within in omega (arith, length-differential m table i d) in
     (covers m table i d wide exact v).1 (subst (IsInSpan (target.width d) rows) same (row-IsInSpan (target.width d) rows at.0 wide b))
 

@@ -2,3 +2,4 @@ mod Bare
 mod Cover
 mod Compare
 mod Counts
+mod Cochains

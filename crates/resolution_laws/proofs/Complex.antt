@@ -17,7 +17,7 @@ use Rattle.resolution_laws.specs.Resolution.{Module, Content, square_in, images_
 use Rattle.resolution_laws.specs.Exactness.{degrees_in, target_of, differential, boundary, IsComplexAt}
 use Rattle.free_module.proofs.MapRows.{HaveWidth-map_rows}
 use Rattle.resolution_laws.proofs.Generators.{generator_at}
-use Rattle.resolution_laws.proofs.Squares.{IsResolved, target-IsSteenrodModule, candidates_of, AreImages-all, square_at}
+use Rattle.resolution_laws.proofs.Squares.{IsResolved, target_is_module, candidates_of, AreImages-all, square_at}
 
 pub action-zeros : (m : GradedModule) → IsLinear m → (r : List ℕ) (t : ℤ) → m.action r t (zeros (m.width t)) ≡ zeros (m.width (t +ℤ pos (degree_of r)))
 action-zeros m linear r t = linear r t [] [] (HaveWidth-nil (m.width t))
@@ -41,7 +41,7 @@ image-IsInKernel m s t table p i k h l b w =
 
 pub HaveWidth-differential : (m : Module) (s t : ℕ) (table : List (List Content)) → IsResolved m s t table → (i : ℕ) (degree : ℤ) → i ≤ s → HaveWidth ((target_of m table i).width degree) (differential m table i degree)
 HaveWidth-differential m s t table p i degree h =
-    HaveWidth-map_rows (target_of m table i) (degrees_in m table i) (images_of (row_of table i)) degree (target-IsSteenrodModule m s t table p i).widths (AreImages-all m s t table p.canonical i h)
+    HaveWidth-map_rows (target_of m table i) (degrees_in m table i) (images_of (row_of table i)) degree (target_is_module p.free m table i p.steenrod).widths (AreImages-all m s t table p.canonical i h)
 
 -- the boundary of the image of a generator is zero
 boundary-image : (m : Module) (s t : ℕ) (table : List (List Content)) → IsResolved m s t table → (i g : ℕ) → suc i ≤ s → g < length (degrees_in m table (suc i)) → boundary m table i (degree_at (degrees_in m table (suc i)) g) (row (images_of (row_of table (suc i))) g) ≡ zeros ((target_of m table i).width (degree_at (degrees_in m table (suc i)) g))
@@ -65,7 +65,7 @@ boundary-element m s t table p i degree h e o =
     let d = degree_at ds e.0 in
     let x = row images e.0 in
     let y = image_of (target_of m table (suc i)) ds images e in
-    let good = target-IsSteenrodModule m s t table p i in
+    let good = target_is_module p.free m table i p.steenrod in
     let are = AreImages-all m s t table p.canonical (suc i) (omega arith) in
     let below = AreImages-all m s t table p.canonical i (omega arith) in
     let through : target.action r d (boundary m table i d x) ≡ boundary m table i (d +ℤ pos (degree_of r)) y = p.commute target (degrees_in m table i) (images_of (row_of table i)) good below r d x o.trimmed (are.widths e.0 o.generator) in

@@ -7,7 +7,7 @@ mod Late
 mod Minimal
 pub mod NewGenerators
 pub mod Rows
-mod Squares
+pub mod Squares
 mod TableIsMinimal
 pub mod TableIsUnique
 pub mod StartLaws

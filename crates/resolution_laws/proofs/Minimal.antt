@@ -3,7 +3,7 @@
 use Rattle.std.proofs.Common.{◌≡◌, inl, inr, ℕ, zero, suc, ◌+◌, ◌-◌, ◌<◌, ◌≤◌, Bool, false, ℤ, pos, ◌+ℤ◌, ◌<ℤ◌, List, [], ◌∷◌, ◌++◌, length, take, drop, refl, sym, ◌∙◌, ap, subst, arith}
 use Rattle.std.proofs.lemmas.Int.{ints}
 use Rattle.std.proofs.lemmas.Bool.{cases_lt}
-use Rattle.std.proofs.lemmas.List.{get_or_append_left, get_or-drop, length-map, length-take-le}
+use Rattle.std.proofs.lemmas.List.{nil_from_length, get_or_append_left, get_or-drop, length-map, length-take-le}
 use Rattle.f2_vec.specs.Vectors.{bit, zeros}
 use Rattle.f2_vec.specs.Spans.{row, combination, IsInSpan, IsInKernel}
 use Rattle.f2_vec.proofs.Sums.{bit-zeros}
@@ -70,16 +70,12 @@ are_needed m s t table p i k h l c relation j b bare =
 minimal_above : (m : Module) (s t : ℕ) (table : List (List Content)) → IsResolved m s t table → (i k : ℕ) → suc i ≤ s → k ≤ t → IsMinimalAt m table (suc i) k
 minimal_above m s t table p i k h l g j a b bare = are_needed m s t table p i k (omega arith) l (row (square_in (row_of table (suc i)) k).images g) (image-IsInKernel m s t table p i k g h l a) j b bare
 
-empty : (v : List Bool) → length v ≡ 0 → v ≡ []
-empty [] e = refl
-empty (x ∷ v) e = absurd (omega arith)
-
 -- Sq(R) on a vector below the bottom is zero
 operated-below : (m : Module) → IsSteenrodModule m.graded → IsBoundedBelow m → (u : ℤ) (v : List Bool) (o : IsOperatedOn m.graded u v) → o.degree <ℤ m.bottom → v ≡ zeros (m.graded.width u)
 operated-below m steenrod bounded u v o h =
     let act = m.graded.action o.r o.degree in
     let none : m.graded.width o.degree ≡ 0 = bounded o.degree h in
-    let x : o.vector ≡ zeros (m.graded.width o.degree) = empty o.vector (o.fits ∙ none) ∙ ap zeros (sym none) in
+    let x : o.vector ≡ zeros (m.graded.width o.degree) = nil_from_length o.vector (o.fits ∙ none) ∙ ap zeros (sym none) in
     let e : v ≡ act (zeros (m.graded.width o.degree)) = o.is_value ∙ ap act x in
     let f : act (zeros (m.graded.width o.degree)) ≡ zeros (m.graded.width u) = action-zeros m.graded steenrod.linear o.r o.degree ∙ ap (λ (z : ℤ). zeros (m.graded.width z)) o.degrees_add in
     e ∙ f

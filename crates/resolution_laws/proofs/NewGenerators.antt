@@ -16,7 +16,7 @@ use Rattle.free_module.proofs.FreeBasis.{free_basis_from-append, All-free_basis}
 use Rattle.free_module.specs.LinearMap.{image_of, map_rows}
 use Rattle.resolution_laws.specs.Resolution.{Content, IsChosen, IsStepOver}
 
-minus_self : (t : ℤ) → t -ℤ t ≡ pos 0
+pub minus_self : (t : ℤ) → t -ℤ t ≡ pos 0
 minus_self t = omega (arith, ints)
 
 -- the generators of degree t from number g on give, in degree t, their images

@@ -8,7 +8,7 @@ use Rattle.f2_matrix.specs.Echelon.{IsKernelBasis}
 use Rattle.free_module.specs.Graded.{GradedModule, free_graded, IsSteenrodModule, FreeModulesAreModules}
 use Rattle.free_module.specs.LinearMap.{AreImages, map_rows, MapsCommute}
 use Rattle.resolution_laws.specs.Resolution.{Module, Content, no_content, square_in, degrees_from, images_of, target_over, candidates_over, IsChosen, IsStepOver, row_of, below_of, IsCanonicalTable}
-use Rattle.resolution_laws.specs.Exactness.{target_of, differential, IsBoundedBelow}
+use Rattle.resolution_laws.specs.Exactness.{degrees_in, target_of, differential, IsBoundedBelow}
 use Rattle.free_module.proofs.MapRows.{HaveWidth-map_rows}
 use Rattle.resolution_laws.proofs.NewGenerators.{map_rows-new, HaveWidth-IsChosen}
 use Rattle.resolution_laws.proofs.Rows.{row_of-IsRowOver, degrees_from-push, images_of-push, HaveWidth-kernels}
@@ -22,9 +22,9 @@ pub record IsResolved (m : Module) (s t : ℕ) (table : List (List Content)) : T
   pub bounded : IsBoundedBelow m
   pub canonical : IsCanonicalTable m s t table
 
-pub target-IsSteenrodModule : (m : Module) (s t : ℕ) (table : List (List Content)) → IsResolved m s t table → (i : ℕ) → IsSteenrodModule (target_of m table i)
-target-IsSteenrodModule m s t table p zero = p.steenrod
-target-IsSteenrodModule m s t table p (suc i) = p.free _
+pub target_is_module : FreeModulesAreModules → (m : Module) (table : List (List Content)) (i : ℕ) → IsSteenrodModule m.graded → IsSteenrodModule (target_of m table i)
+target_is_module free m table zero steenrod = steenrod
+target_is_module free m table (suc i) steenrod = free (degrees_in m table i)
 
 -- the rows of d_s in the square's degree on the generators before it, and its candidates
 abbrev pub old_rows : Module → List (List Content) → ℕ → ℕ → List (List Bool)
@@ -103,7 +103,7 @@ pub record IsSquare (m : Module) (table : List (List Content)) (i k : ℕ) : Typ
 pub square_at : (m : Module) (s t : ℕ) (table : List (List Content)) → IsResolved m s t table → (i k : ℕ) → i ≤ s → k ≤ t → IsSquare m table i k
 square_at m s t table p i k h l =
     let target = target_of m table i in
-    let good = target-IsSteenrodModule m s t table p i in
+    let good = target_is_module p.free m table i p.steenrod in
     let squares = row_of table i in
     let c = square_in squares k in
     let u = m.bottom +ℤ pos k in
