@@ -6,6 +6,8 @@ use Rattle.board_core.specs.Machine.{Squares, HasParents, IsStaircase}
 use Rattle.resolution_laws.specs.Resolution.{Module, Content, no_content, IsStep}
 use Rattle.resolution_laws.specs.Start.{Entry, entry_at, HasShape, squares_below, row_below, IsOf}
 use Rattle.resolution_laws.specs.Start.IsOf.{is_of}
+use Rattle.resolution_existence.proofs.Steps.{step_over}
+use Rattle.free_module.specs.Graded.{KeepsWidths}
 use Rattle.board_laws.specs.Filled.{Contents, row_copy, copy_below}
 use Rattle.board_laws.proofs.Agreement.{held_squares}
 
@@ -65,3 +67,16 @@ copy_gives m first done s k content stands stairs parents absent step =
     (λ j l. stands s j (at s j) (held (done s j) (before j l)))
     (λ i j e l. stands i j (at i j) (held (done i j) (under i j e l)))
     (subst P (sym absent) whole)
+
+-- and there is a step over the copy
+pub copy_steps : (m : Module) (first : List Entry) (done : Contents) (s k : ℕ) → KeepsWidths m.graded → ((i j : ℕ) (c : Content) → done i j ≡ Some c → IsOf m first i j c) → IsStaircase (held_squares done) → HasParents (held_squares done) s k → (content : Content) × IsStep m (copy_below done s k) (row_copy (done s) k) content
+copy_steps m first done s k keeps stands stairs parents =
+    let at = content_in done in
+    let before : (j : ℕ) → j < k → is_some (done s j) ≡ true = own_row (held_squares done) stairs s k parents in
+    let under : (i j : ℕ) → suc i ≡ s → j ≤ k → is_some (done i j) ≡ true = λ i j e l. row_before (held_squares done) stairs i k (parents.below i e) j l in
+    let step = step_over m first s k at keeps (record {
+      before = λ j l. stands s j (at s j) (held (done s j) (before j l));
+      below = λ i j e l. stands i j (at i j) (held (done i j) (under i j e l));
+    }) in
+    let own : IsStep m (row_below at s k) (row_copy (done s) k) step.0 = subst (λ (l : List Content). IsStep m (row_below at s k) l step.0) (sym (row_copied done s k before)) step.1 in
+    (step.0, subst (λ (o : Option (List Content)). IsStep m o (row_copy (done s) k) step.0) (sym (below_copied done s k under)) own)

@@ -1,4 +1,5 @@
-pub mod Agreement
-pub mod Copies
-pub mod Kept
-pub mod Runs
+mod Agreement
+mod Copies
+mod Existence
+mod Kept
+mod Runs

@@ -19,14 +19,14 @@ use Rattle.board_laws.proofs.Kept.{IsKept, opening_is_kept, take_keeps, give_kee
 
 -- ---- a history, from its first event on
 
-record IsFirst (state : State) (event : Event) (events : List Event) (last : State) : Type 0 where
-  legal : IsLegal state event
-  rest : IsHistory (after state event) events last
+pub record IsFirst (state : State) (event : Event) (events : List Event) (last : State) : Type 0 where
+  pub legal : IsLegal state event
+  pub rest : IsHistory (after state event) events last
 
 of_none : (state last : State) → IsHistory state [] last → state ≡ last
 of_none state last (nothing same) = refl
 
-of_first : (state : State) (event : Event) (events : List Event) (last : State) → IsHistory state (event ∷ events) last → IsFirst state event events last
+pub of_first : (state : State) (event : Event) (events : List Event) (last : State) → IsHistory state (event ∷ events) last → IsFirst state event events last
 of_first state event events last (then same e es l legal rest) = record { legal = legal; rest = rest }
 
 -- ---- what is so before an event, and at the end
@@ -38,10 +38,10 @@ record IsEnd (m : Module) (first : List Entry) (bottom : ℤ) (file : List Entry
   continues : IsExtension bottom file squares last.file
 
 -- the board and the machine before an event, and what is known of both
-record IsAlong (m : Module) (first : List Entry) (board : Filled) (events : List Event) (state : State) : Type 0 where
-  history : IsHistory (without_contents board) events state
-  sound : IsSound (without_contents board)
-  kept : IsKept m first board
+pub record IsAlong (m : Module) (first : List Entry) (board : Filled) (events : List Event) (state : State) : Type 0 where
+  pub history : IsHistory (without_contents board) events state
+  pub sound : IsSound (without_contents board)
+  pub kept : IsKept m first board
 
 -- after the first event
 along : (m : Module) (first : List Entry) (board next : Filled) (event : Event) (events : List Event) (state : State) → IsAlong m first board (event ∷ events) state → without_contents next ≡ after (without_contents board) event → IsKept m first next → IsAlong m first next events state
@@ -53,7 +53,7 @@ along m first board next event events state at agrees kept =
       kept = kept;
     }
 
-take_along : (m : Module) (first : List Entry) (board : Filled) (who s : ℕ) (t : ℤ) (snapshot : ℕ × ℕ) (events : List Event) (state : State) → IsAlong m first board (Take who s t snapshot ∷ events) state → IsAlong m first (after_take board who s (filled_height board t)) events state
+pub take_along : (m : Module) (first : List Entry) (board : Filled) (who s : ℕ) (t : ℤ) (snapshot : ℕ × ℕ) (events : List Event) (state : State) → IsAlong m first board (Take who s t snapshot ∷ events) state → IsAlong m first (after_take board who s (filled_height board t)) events state
 take_along m first board who s t snapshot events state at =
     let old = without_contents board in
     let legal = (of_first old (Take who s t snapshot) events state at.history).legal in
@@ -64,18 +64,18 @@ take_along m first board who s t snapshot events state at =
 at_height : (board : Filled) (who s : ℕ) (t : ℤ) → IsHeld (without_contents board) who s t → IsAbove board.bottom t (filled_height board t)
 at_height board who s t held = subst (λ (k : ℕ). IsAbove board.bottom t k) (sym (height_is (without_contents board) t held.above held.degree)) held.degree
 
-give_along : (m : Module) (first : List Entry) (board : Filled) (who s : ℕ) (t : ℤ) (content : Content) (events : List Event) (state : State) → IsMadeFromCopy m board who s (filled_height board t) content → IsAlong m first board (Give who s t ∷ events) state → IsAlong m first (after_give board s (filled_height board t) content) events state
+pub give_along : (m : Module) (first : List Entry) (board : Filled) (who s : ℕ) (t : ℤ) (content : Content) (events : List Event) (state : State) → IsMadeFromCopy m board who s (filled_height board t) content → IsAlong m first board (Give who s t ∷ events) state → IsAlong m first (after_give board s (filled_height board t) content) events state
 give_along m first board who s t content events state made at =
     let old = without_contents board in
     let legal = (of_first old (Give who s t) events state at.history).legal in
     let taken = at.sound.taken s (filled_height board t) (held_at_height old who s t legal.held) in
     along m first board _ (Give who s t) events state at (give_agrees board who s t content (at_height board who s t legal.held)) (give_keeps m first board who s (filled_height board t) content at.kept taken.not_done made)
 
-back_along : (m : Module) (first : List Entry) (board : Filled) (who s : ℕ) (t : ℤ) (events : List Event) (state : State) → IsAlong m first board (Back who s t ∷ events) state → IsAlong m first (after_back board s (filled_height board t)) events state
+pub back_along : (m : Module) (first : List Entry) (board : Filled) (who s : ℕ) (t : ℤ) (events : List Event) (state : State) → IsAlong m first board (Back who s t ∷ events) state → IsAlong m first (after_back board s (filled_height board t)) events state
 back_along m first board who s t events state at =
     along m first board _ (Back who s t) events state at (back_agrees board who s t) (back_keeps m first board s (filled_height board t) at.kept)
 
-fail_along : (m : Module) (first : List Entry) (board : Filled) (who s : ℕ) (t : ℤ) (copy : Copy) (events : List Event) (state : State) → IsCopyFor board.out who s (filled_height board t) copy → IsAlong m first board (Fail who s t ∷ events) state → IsAlong m first (after_fail board copy s (filled_height board t)) events state
+pub fail_along : (m : Module) (first : List Entry) (board : Filled) (who s : ℕ) (t : ℤ) (copy : Copy) (events : List Event) (state : State) → IsCopyFor board.out who s (filled_height board t) copy → IsAlong m first board (Fail who s t ∷ events) state → IsAlong m first (after_fail board copy s (filled_height board t)) events state
 fail_along m first board who s t copy events state is at =
     along m first board _ (Fail who s t) events state at (fail_agrees board who s t copy is) (fail_keeps m first board who s (filled_height board t) copy at.kept is)
 

@@ -2,6 +2,7 @@
 use Rattle.std.specs.Prelude.{◌≡◌, ℕ, ℤ, List, [], ◌++◌, Some}
 use Rattle.std.specs.List.{All}
 use Rattle.board_core.specs.declared.event.Event.{Event}
+use Rattle.free_module.specs.Graded.{KeepsWidths}
 use Rattle.board_core.specs.Laws.{IsReached, given}
 use Rattle.board_core.specs.Machine.{State, IsStart}
 use Rattle.resolution_laws.specs.Resolution.{Module, Content, IsStep}
@@ -48,3 +49,11 @@ EveryScheduleIsCanonical = (m : Module) (s t : ℕ) (start : List Entry) (events
 -- From squares as they were read every schedule gives those of the start's table.
 abbrev pub EveryScheduleContinuesItsStart : Type 0
 EveryScheduleContinuesItsStart = (m : Module) (s t : ℕ) (start : List Entry) (events : List Event) (state : State) (board : Filled) → AreOf m start start → IsSchedule m s t start events state board → IsFilledRight m start start events state board
+
+-- Along each history that the machine accepts there is such a run, where operations of the module keep widths: from canonical
+-- squares, and from squares as they were read.
+abbrev pub EveryHistoryHasARun : Type 0
+EveryHistoryHasARun = (m : Module) (s t : ℕ) (start : List Entry) (events : List Event) (state : State) → KeepsWidths m.graded → AreOf m [] start → IsReached m.bottom s t (places m.bottom start) events state → (board : Filled) × IsSchedule m s t start events state board
+
+abbrev pub EveryHistoryFromItsStartHasARun : Type 0
+EveryHistoryFromItsStartHasARun = (m : Module) (s t : ℕ) (start : List Entry) (events : List Event) (state : State) → KeepsWidths m.graded → AreOf m start start → IsReached m.bottom s t (places m.bottom start) events state → (board : Filled) × IsSchedule m s t start events state board

@@ -1,7 +1,7 @@
 //! What every run of the board with contents gives, as contracts of functions that do nothing.
 #![tactic(auto)]
 
-ghost use Rattle.board_laws.specs.Schedules.{EveryScheduleIsCanonical, EveryScheduleContinuesItsStart};
+ghost use Rattle.board_laws.specs.Schedules.{EveryScheduleIsCanonical, EveryScheduleContinuesItsStart, EveryHistoryHasARun, EveryHistoryFromItsStartHasARun};
 
 /// From a start of canonical squares, whatever the order in which squares are taken and given, each done square and each
 /// square of the file is canonical, although its rows were copied when it was taken. The file is the start and then the
@@ -14,4 +14,14 @@ pub fn every_schedule_is_canonical()
 /// over the table's squares.
 pub fn every_schedule_continues_its_start()
     ensures { EveryScheduleContinuesItsStart }
+{}
+
+/// Along each history that the machine accepts from a start of canonical squares there is a run with contents.
+pub fn every_history_has_a_run()
+    ensures { EveryHistoryHasARun }
+{}
+
+/// The same from a start whose squares are those of its own table.
+pub fn every_history_from_its_start_has_a_run()
+    ensures { EveryHistoryFromItsStartHasARun }
 {}
