@@ -12,8 +12,8 @@ pub fn squares_are_given_once()
     ensures { SquaresAreGivenOnce }
 {}
 
-/// A square that is out stands there once, is in the range, is not done, and has its parents done; so the last three of the
-/// square that failed.
+/// A square that is out stands there once, is in the range, is not done, and has its parents done. The square that failed is
+/// in the range, is not done, and has its parents done.
 pub fn squares_are_out_once()
     ensures { SquaresAreOutOnce }
 {}

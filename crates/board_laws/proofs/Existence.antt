@@ -1,6 +1,6 @@
 -- Along each history of the machine there is a run: each square that is taken has a step over what is copied.
 use Rattle.std.proofs.Common.{◌≡◌, ℕ, ℤ, true, not, ◌&&◌, ◌||◌, nat_eq, List, [], ◌∷◌, map, None, refl, sym, ◌∙◌, ap, subst, arith, inl, inr}
-use Rattle.std.specs.List.{All, Contains}
+use Rattle.std.specs.List.{All}
 use Rattle.std.proofs.lemmas.Bool.{cases_Bool}
 use Rattle.std.proofs.lemmas.Bool.Decides.{nat_tests}
 use Rattle.std.proofs.lemmas.List.Elements.{All-nil, All-push, All-filter, All-contains, Contains-append_right}
