@@ -56,7 +56,7 @@ same_test ds t g i j r l h e =
           none ∙ sym p.0
     ]
 
-acted_on_generator : (ds : List ℤ) (t : ℤ) (g i : ℕ) (r : List ℕ) → i < free_width ds t → element (free_basis ds t) i ≡ (g, r) → acted ds r t (g, []) ≡ unit_vector (free_width ds t) i
+pub acted_on_generator : (ds : List ℤ) (t : ℤ) (g i : ℕ) (r : List ℕ) → i < free_width ds t → element (free_basis ds t) i ≡ (g, r) → acted ds r t (g, []) ≡ unit_vector (free_width ds t) i
 acted_on_generator ds t g i r l e =
     let basis = free_basis ds t in
     let n = free_width ds t in

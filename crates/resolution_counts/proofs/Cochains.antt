@@ -19,31 +19,24 @@ use Rattle.resolution_laws.proofs.Generators.{element-IsOfDegree}
 use Rattle.resolution_counts.specs.Cochains.{IsModuleMap, field_width, field_in, IsCochain, codifferential, CochainsHaveZeroDifferential}
 use Rattle.resolution_counts.specs.Counts.{IsMinimalTable}
 use Rattle.resolution_counts.proofs.Bare.{place_of_generator, positive_degree, unit_is_acted}
+use Rattle.resolution_counts.proofs.Maps.{acted_is_zero}
 use Rattle.resolution_counts.proofs.Cover.{boundary_covered, covered_length, differential_widths}
 
 -- ---- a map to F2 in degree u
-
--- operations of positive degree are zero there
-acted_is_zero : (u d : ℤ) (r : List ℕ) (v : List Bool) → 0 < degree_of r → (field_in u).action r d v ≡ zeros (field_width u (d +ℤ pos (degree_of r)))
-acted_is_zero u d r v h =
-    elim (eqb_tells (degree_of r) 0) [
-      | inl p ↦ absurd (let e = p.1 in omega arith)
-      | inr p ↦ ap (λ b. if b then v else zeros (field_width u (d +ℤ pos (degree_of r)))) p.0
-    ]
 
 combination-none : (n : ℕ) (c : List Bool) → combination n c [] ≡ zeros n
 combination-none n [] = refl
 combination-none n (x ∷ c) = refl
 
 -- in other degrees there is nothing
-elsewhere : (u d : ℤ) (v : List Bool) → int_eq d u ≡ false → length v ≡ field_width u d → v ≡ zeros (field_width u d)
+pub elsewhere : (u d : ℤ) (v : List Bool) → int_eq d u ≡ false → length v ≡ field_width u d → v ≡ zeros (field_width u d)
 elsewhere u d v off len =
     let none : field_width u d ≡ 0 = ap (λ b. if b then 1 else 0) off in
     nil_from_length v (len ∙ none) ∙ ap zeros (sym none)
 
 module _ (ds : List ℤ) (u : ℤ) (f : ℤ → List Bool → List Bool) (p : IsModuleMap (free_graded ds) (field_in u) f) where
   -- it is zero on each basis element with an operation
-  element_vanishes : (j : ℕ) → j < free_width ds u → ((element (free_basis ds u) j).1 ≡ [] → ⊥) → f u (unit_vector (free_width ds u) j) ≡ zeros (field_width u u)
+  pub element_vanishes : (j : ℕ) → j < free_width ds u → ((element (free_basis ds u) j).1 ≡ [] → ⊥) → f u (unit_vector (free_width ds u) j) ≡ zeros (field_width u u)
   element_vanishes j l some =
       let e = element (free_basis ds u) j in
       let o = element-IsOfDegree ds u j l in
@@ -53,7 +46,7 @@ module _ (ds : List ℤ) (u : ℤ) (f : ℤ → List Bool → List Bool) (p : Is
       let at = place_of_generator ds g o.generator in
       let x = unit_vector (free_width ds d) at.0 in
       let value : f (d +ℤ pos (degree_of r)) (free_action ds r d x) ≡ zeros (field_width u (d +ℤ pos (degree_of r))) =
-      p.acts r d x o.trimmed (length-unit_vector (free_width ds d) at.0) ∙ acted_is_zero u d r (f d x) (positive_degree r o.trimmed some) in
+      p.acts r d x o.trimmed (length-unit_vector (free_width ds d) at.0) ∙ acted_is_zero u r d (f d x) (positive_degree r o.trimmed some) in
       let P : ℤ → Type 0 = λ z. f z (free_action ds r d x) ≡ zeros (field_width u z) in
       ap (f u) (unit_is_acted ds u g j at.0 r at.1 o.degree l refl) ∙ subst P o.degree value
 

@@ -30,6 +30,7 @@ use Rattle.f2_matrix.specs.Rank.{SpanAll}
 use Rattle.resolution_counts.specs.Cochains.{IsModuleMap}
 use Rattle.resolution_counts.specs.Counts.{IsMinimalTable}
 use Rattle.resolution_counts.proofs.Bare.{place_of_generator, positive_degree, unit_is_acted}
+use Rattle.resolution_counts.proofs.Maps.{mapped_is_map}
 use Rattle.resolution_counts.proofs.Cover.{Covered, images_fit, differential_widths, covers, covered_length, boundary_covered, generator_degree, image_covered, chosen_each}
 use Rattle.f2_matrix.proofs.Spanning.{spanning_is_full}
 
@@ -238,11 +239,7 @@ module _ (m : Module) (s t : ℕ) (a b : List (List Content)) (pair : ArePair m 
   pub next : ((k : ℕ) → k ≤ t → free_width ds (m.bottom +ℤ pos k) ≡ free_width es (m.bottom +ℤ pos k)) → IsComparison m t a b (suc i)
   next same = record {
     f = new;
-    is_map = record {
-      fits = λ d v e. length-combination (free_width es d) v (new_rows d) (new_widths d);
-      linear = λ d c rows w. combination-combination (free_width es d) (free_width ds d) c rows (new_rows d) (length-new_rows d) w (new_widths d);
-      acts = λ r d v trimmed e. sym (maps_commute (target_of m b (suc i)) ds q.images (free_modules_are_modules es) q.fit r d v trimmed e);
-    };
+    is_map = mapped_is_map (target_of m b (suc i)) ds q.images (free_modules_are_modules es) q.fit;
     into = λ k c v relation.
         let u = m.bottom +ℤ pos k in
         let e : length v ≡ free_width ds u = covered_length m a (suc i) u v relation in

@@ -1,5 +1,7 @@
 mod Bare
+mod Maps
 mod Cover
 mod Compare
 mod Counts
 mod Cochains
+mod Values

@@ -1,12 +1,12 @@
 -- The cochain complex Hom_A(F_s, F2) of a table, whose cohomology is Ext_A(M, F2) as far as the table goes. A cochain of row s in
 -- degree t is a linear map of modules over the Steenrod algebra from F_s to F2 in degree t, and its differential is that
 -- map after d_(s+1).
-use Rattle.std.specs.Prelude.{◌≡◌, ℕ, suc, ◌<◌, ◌≤◌, ℤ, pos, ◌+ℤ◌, Bool, nat_eq, if◌then◌else◌, List, length, map}
+use Rattle.std.specs.Prelude.{◌≡◌, ℕ, suc, ◌<◌, ◌≤◌, ℤ, pos, ◌+ℤ◌, Bool, nat_eq, if◌then◌else◌, List, [], ◌∷◌, length, map}
 use Rattle.std.specs.Ordering.{int_eq}
 use Rattle.f2_vec.specs.Vectors.{zeros}
 use Rattle.f2_vec.specs.Spans.{HaveWidth, combination}
 use Rattle.milnor_basis.specs.Exponents.{degree_of, IsTrimmed}
-use Rattle.free_module.specs.FreeModule.{free_width}
+use Rattle.free_module.specs.FreeModule.{degree_at, free_width, acted}
 use Rattle.free_module.specs.Graded.{GradedModule, free_graded, IsSteenrodModule}
 use Rattle.resolution_laws.specs.Resolution.{Module, Content}
 use Rattle.resolution_laws.specs.Exactness.{degrees_in, boundary}
@@ -36,3 +36,20 @@ codifferential m table s f d v = f d (boundary m table (suc s) d v)
 abbrev pub CochainsHaveZeroDifferential : Type 0
 CochainsHaveZeroDifferential = (m : Module) (s t : ℕ) (table : List (List Content)) → IsSteenrodModule m.graded → IsMinimalTable m s t table → (i k : ℕ) → i < s → k ≤ t → (f : ℤ → List Bool → List Bool) → IsCochain m table i (m.bottom +ℤ pos k) f →
     (d : ℤ) (v : List Bool) → length v ≡ free_width (degrees_in m table (suc i)) d → codifferential m table i f d v ≡ zeros (field_width (m.bottom +ℤ pos k) d)
+
+-- ---- how many cochains there are
+
+-- Sq() on generator g, as a vector of its degree
+abbrev pub generator_vector : List ℤ → ℕ → List Bool
+generator_vector degrees g = acted degrees [] (degree_at degrees g) (g, [])
+
+-- A cochain in degree t of a free module may take each list of values on the generators of degree t, and is determined by them.
+-- So the cochains are a vector space of as many dimensions as there are generators of that degree, which for row s of a
+-- table in the degree of square (s, k) is `generator_count table s k`.
+pub record AreGivenByValues (degrees : List ℤ) (t : ℤ) : Type 0 where
+  pub each : (values : ℕ → Bool) → (f : ℤ → List Bool → List Bool) × IsModuleMap (free_graded degrees) (field_in t) f × ((g : ℕ) → g < length degrees → degree_at degrees g ≡ t → f t (generator_vector degrees g) ≡ values g ∷ [])
+  pub one : (f e : ℤ → List Bool → List Bool) → IsModuleMap (free_graded degrees) (field_in t) f → IsModuleMap (free_graded degrees) (field_in t) e → ((g : ℕ) → g < length degrees → degree_at degrees g ≡ t → f t (generator_vector degrees g) ≡ e t (generator_vector degrees g)) →
+      (d : ℤ) (v : List Bool) → length v ≡ free_width degrees d → f d v ≡ e d v
+
+abbrev pub CochainsAreGivenByValues : Type 0
+CochainsAreGivenByValues = (degrees : List ℤ) (t : ℤ) → AreGivenByValues degrees t

@@ -1,7 +1,7 @@
 //! How many generators a minimal resolution has, as contracts of functions that do nothing.
 #![tactic(auto)]
 
-ghost use Rattle.resolution_counts.specs.Cochains.{CochainsHaveZeroDifferential};
+ghost use Rattle.resolution_counts.specs.Cochains.{CochainsAreGivenByValues, CochainsHaveZeroDifferential};
 ghost use Rattle.resolution_counts.specs.Counts.{MinimalResolutionsHaveSameCounts, MinimalTablesHaveSameCounts};
 
 /// Two tables of a module over the Steenrod algebra that are exact, with each generator needed, have equally many
@@ -19,4 +19,10 @@ pub fn minimal_resolutions_have_same_counts()
 /// cochains of row s in degree t are Ext^(s,t) of the module with coefficients in F2.
 pub fn cochains_have_zero_differential()
     ensures { CochainsHaveZeroDifferential }
+{}
+
+/// A map of modules from a free module to F2 in degree t is given by its values on the generators of degree t, which may be
+/// any. So these maps are a vector space of as many dimensions as there are generators of that degree.
+pub fn cochains_are_given_by_values()
+    ensures { CochainsAreGivenByValues }
 {}
