@@ -8,11 +8,9 @@ use Rattle.std.proofs.lemmas.List.{nil_from_length, ext_get_or, get_or-map, get_
 use Rattle.f2_vec.specs.Vectors.{bit}
 use Rattle.f2_vec.specs.Spans.{row, HaveWidth, combination, unit_vector}
 use Rattle.f2_vec.proofs.Combinations.{combination_alone}
-use Rattle.f2_vec.proofs.Spans.{bit-combination_zero}
 use Rattle.f2_vec.proofs.Split.{length-unit_vector, bit-unit_vector}
 use Rattle.milnor_basis.specs.Exponents.{degree_of, IsTrimmed}
 use Rattle.milnor_basis.proofs.ExponentLemmas.{length_within}
-use Rattle.milnor_basis.specs.Product.{coefficient}
 use Rattle.milnor_laws.proofs.FreeModules.{HaveWidth-acted}
 use Rattle.milnor_laws.proofs.RightUnit.{product_has_unit}
 use Rattle.free_module.specs.FreeBasis.{element}

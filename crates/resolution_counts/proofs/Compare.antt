@@ -1,9 +1,9 @@
 -- Maps between two minimal tables of a module, row by row: each row's map covers that of the row below, and is one to one and
 -- onto in each degree of the range.
-use Rattle.std.proofs.Common.{◌≡◌, inl, inr, ℕ, zero, suc, ◌<◌, ◌≤◌, Bool, ℤ, pos, ◌+ℤ◌, List, [], ◌∷◌, length, map, refl, sym, ◌∙◌, ap, subst, arith}
-use Rattle.std.proofs.lemmas.Bool.{cases_lt, both_ways}
+use Rattle.std.proofs.Common.{◌≡◌, ℕ, zero, suc, ◌<◌, ◌≤◌, Bool, ℤ, pos, ◌+ℤ◌, List, [], length, map, refl, sym, ◌∙◌, ap, subst, arith}
+use Rattle.std.proofs.lemmas.Bool.{both_ways}
 use Rattle.std.proofs.lemmas.Int.{ints}
-use Rattle.std.proofs.lemmas.List.{length-map, nil_from_length}
+use Rattle.std.proofs.lemmas.List.{length-map}
 use Rattle.f2_vec.specs.Vectors.{bit, sum_of, zeros}
 use Rattle.f2_vec.specs.Spans.{row, HaveWidth, combination, IsInSpan, unit_vector, unit_vectors}
 use Rattle.f2_vec.proofs.Combinations.{map-map, map_same_all, combination-combination}
@@ -12,7 +12,6 @@ use Rattle.f2_vec.proofs.Split.{row-unit_vectors, length-unit_vector, length-uni
 use Rattle.f2_vec.proofs.Sums.{length-sum_of, sum_of-comm, sum_of-self, sum_of-cancel, zeros_from_bits}
 use Rattle.f2_matrix.proofs.Parts.{combination_where-IsInSpan}
 use Rattle.milnor_basis.specs.Exponents.{degree_of, IsTrimmed}
-use Rattle.milnor_basis.proofs.ExponentLemmas.{length_within}
 use Rattle.milnor_laws.proofs.FreeModules.{free_modules_are_modules}
 use Rattle.milnor_laws.proofs.LinearMaps.{maps_commute}
 use Rattle.free_module.specs.FreeBasis.{IsOfDegree, element}

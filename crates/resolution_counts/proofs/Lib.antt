@@ -5,3 +5,4 @@ mod Compare
 mod Counts
 mod Cochains
 mod Values
+mod Degrees

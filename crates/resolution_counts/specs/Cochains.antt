@@ -2,13 +2,14 @@
 -- degree t is a linear map of modules over the Steenrod algebra from F_s to F2 in degree t, and its differential is that
 -- map after d_(s+1).
 use Rattle.std.specs.Prelude.{◌≡◌, ℕ, suc, ◌<◌, ◌≤◌, ℤ, pos, ◌+ℤ◌, Bool, nat_eq, if◌then◌else◌, List, [], ◌∷◌, length, map}
+use Rattle.std.specs.List.{filter}
 use Rattle.std.specs.Ordering.{int_eq}
 use Rattle.f2_vec.specs.Vectors.{zeros}
 use Rattle.f2_vec.specs.Spans.{HaveWidth, combination}
 use Rattle.milnor_basis.specs.Exponents.{degree_of, IsTrimmed}
 use Rattle.free_module.specs.FreeModule.{degree_at, free_width, acted}
 use Rattle.free_module.specs.Graded.{GradedModule, free_graded, IsSteenrodModule}
-use Rattle.resolution_laws.specs.Resolution.{Module, Content}
+use Rattle.resolution_laws.specs.Resolution.{Module, Content, row_of, generator_count}
 use Rattle.resolution_laws.specs.Exactness.{degrees_in, boundary}
 use Rattle.resolution_counts.specs.Counts.{IsMinimalTable}
 
@@ -44,8 +45,7 @@ abbrev pub generator_vector : List ℤ → ℕ → List Bool
 generator_vector degrees g = acted degrees [] (degree_at degrees g) (g, [])
 
 -- A cochain in degree t of a free module may take each list of values on the generators of degree t, and is determined by them.
--- So the cochains are a vector space of as many dimensions as there are generators of that degree, which for row s of a
--- table in the degree of square (s, k) is `generator_count table s k`.
+-- So the cochains are a vector space of as many dimensions as there are generators of that degree.
 pub record AreGivenByValues (degrees : List ℤ) (t : ℤ) : Type 0 where
   pub each : (values : ℕ → Bool) → (f : ℤ → List Bool → List Bool) × IsModuleMap (free_graded degrees) (field_in t) f × ((g : ℕ) → g < length degrees → degree_at degrees g ≡ t → f t (generator_vector degrees g) ≡ values g ∷ [])
   pub one : (f e : ℤ → List Bool → List Bool) → IsModuleMap (free_graded degrees) (field_in t) f → IsModuleMap (free_graded degrees) (field_in t) e → ((g : ℕ) → g < length degrees → degree_at degrees g ≡ t → f t (generator_vector degrees g) ≡ e t (generator_vector degrees g)) →
@@ -53,3 +53,7 @@ pub record AreGivenByValues (degrees : List ℤ) (t : ℤ) : Type 0 where
 
 abbrev pub CochainsAreGivenByValues : Type 0
 CochainsAreGivenByValues = (degrees : List ℤ) (t : ℤ) → AreGivenByValues degrees t
+
+-- row s of a table has as many generators of the degree of the square (s, k) as that square
+abbrev pub GeneratorsAreCounted : Type 0
+GeneratorsAreCounted = (m : Module) (table : List (List Content)) (s k : ℕ) → k < length (row_of table s) → length (filter (λ d. int_eq d (m.bottom +ℤ pos k)) (degrees_in m table s)) ≡ generator_count table s k

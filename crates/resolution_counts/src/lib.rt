@@ -1,7 +1,7 @@
 //! How many generators a minimal resolution has, as contracts of functions that do nothing.
 #![tactic(auto)]
 
-ghost use Rattle.resolution_counts.specs.Cochains.{CochainsAreGivenByValues, CochainsHaveZeroDifferential};
+ghost use Rattle.resolution_counts.specs.Cochains.{CochainsAreGivenByValues, CochainsHaveZeroDifferential, GeneratorsAreCounted};
 ghost use Rattle.resolution_counts.specs.Counts.{MinimalResolutionsHaveSameCounts, MinimalTablesHaveSameCounts};
 
 /// Two tables of a module over the Steenrod algebra that are exact, with each generator needed, have equally many
@@ -25,4 +25,9 @@ pub fn cochains_have_zero_differential()
 /// any. So these maps are a vector space of as many dimensions as there are generators of that degree.
 pub fn cochains_are_given_by_values()
     ensures { CochainsAreGivenByValues }
+{}
+
+/// Row s of a table has as many generators of the degree of a square (s, t) as that square.
+pub fn generators_are_counted()
+    ensures { GeneratorsAreCounted }
 {}
