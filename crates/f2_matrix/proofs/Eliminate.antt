@@ -9,7 +9,7 @@ use Rattle.f2_vec.specs.Spans.{row, HaveWidth, combination}
 use Rattle.f2_vec.proofs.Spans.{length-IsInSpan}
 use Rattle.f2_matrix.specs.Preimages.{at_pivots}
 use Rattle.f2_matrix.specs.Reduction.{Reduction, augmented, has_one, image_part, chosen_part, kernel_part}
-use Rattle.f2_matrix.specs.RowOperations.{cleared}
+use Rattle.f2_matrix.specs.Inside.RowOperations.{cleared}
 use Rattle.f2_matrix.proofs.Elimination.{IsEliminated, IsEliminated-start, IsEliminated-skip, IsEliminated-settle, IsEchelonForm-from_IsEliminated}
 use Rattle.f2_matrix.proofs.RowOperations.{IsClearedBy_parts}
 use Rattle.f2_matrix.proofs.Split.{HaveWidth-augmented}

@@ -1,10 +1,14 @@
-pub mod RowOperations
-pub mod Elimination
+mod RowOperations
+mod Elimination
+mod BlockSteps
+mod BlockSums
+mod BlockParts
 pub mod Unique
-pub mod Split
-pub mod Kept
+mod Split
+mod Kept
 pub mod Parts
-pub mod Pivots
-pub mod Preimages
+mod Pivots
+mod Preimages
 pub mod Eliminate
 pub mod Spanning
+pub mod Crossing

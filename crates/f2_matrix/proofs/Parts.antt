@@ -1,9 +1,8 @@
 -- The parts of the echelon form of [D | I] are the reduced bases of the span and of the kernel of D's rows.
 use Rattle.std.proofs.Common.{◌≡◌, ◌≢◌, ℕ, zero, suc, ◌+◌, ◌-◌, ◌<◌, ◌≤◌, Bool, true, false, ◌&&◌, not, List, [], ◌∷◌, ◌++◌, length, map, take, drop, refl, ap, sym, ◌∙◌, arith, subst, inl, inr}
 use Rattle.std.specs.List.{filter}
-use Rattle.std.specs.Prelude.{slice_range}
 use Rattle.std.proofs.lemmas.Bool.{cases_Bool, cases_lt, cases_order, both_ways, false_from_ne_true, and_from, and_parts, not_from_false, not-true}
-use Rattle.std.proofs.lemmas.List.{get_or-take, get_or-drop, get_or-map, get_or_past, length-map, length-take-le, length-drop, take_at, drop_at, get_or_append_left, take-append-drop, take_rest, take_all}
+use Rattle.std.proofs.lemmas.List.{get_or-take, get_or-take, get_or-drop, get_or-map, get_or_past, length-map, length-take-le, length-drop, take_at, drop_at, get_or_append_left, take-append-drop, take_rest, take_all}
 use Rattle.f2_vec.specs.Vectors.{zeros, bit, IsZero, IsFirstOne}
 use Rattle.f2_vec.proofs.Sums.{length-zeros, bit-zeros, zeros_from_bits}
 use Rattle.f2_vec.specs.Spans.{row, HaveWidth, combination, IsInSpan}
@@ -399,6 +398,18 @@ has_no_left n r p f l =
       | inr g ↦ let at = left_first n r g.0 g.1 in both_ways (bit r g.0) (f.zeros_before g.0 (omega (arith, at.0))) at.1.one
     ])
 
+has_left : (n : ℕ) (r : List Bool) (p : ℕ) → IsFirstOne r p → p < n → has_one (take n r) ≡ true
+has_left n r p f l = has_one_at (take n r) p (get_or-take n r p false l ∙ f.one)
+
+pub image_part-left : (n : ℕ) (r : List Bool) (p : ℕ) → IsFirstOne r p → p < n → image_part n (r ∷ []) ≡ take n r ∷ []
+image_part-left n r p f l = rw (has_left n r p f l) refl
+
+pub chosen_part-left : (n : ℕ) (r : List Bool) (p : ℕ) → IsFirstOne r p → p < n → chosen_part n (r ∷ []) ≡ drop n r ∷ []
+chosen_part-left n r p f l = rw (has_left n r p f l) refl
+
+pub kernel_part-left : (n : ℕ) (r : List Bool) (p : ℕ) → IsFirstOne r p → p < n → kernel_part n (r ∷ []) ≡ []
+kernel_part-left n r p f l = rw (has_left n r p f l) refl
+
 zero_has_none : (r : List Bool) → IsZero r → has_one r ≡ false
 zero_has_none r z = false_from_ne_true (has_one r) (λ t. has_one-nonzero r t z)
 
@@ -426,8 +437,9 @@ chosen_part-zero n r z = rw (zero_has_none (take n r) (zero_below n r z)) refl
 pub kernel_part-zero : (n : ℕ) (r : List Bool) → IsZero r → kernel_part n (r ∷ []) ≡ []
 kernel_part-zero n r z = rw (zero_has_none (take n r) (zero_below n r z), zero_has_none r z) refl
 
-pub slice_right : (n : ℕ) (r : List Bool) → slice_range r n (length r) ≡ drop n r
-slice_right n r = take_rest r n
+-- the part of a row right of the bar
+pub right_of : (n : ℕ) (r : List Bool) → take (length r - n) (drop n r) ≡ drop n r
+right_of n r = take_rest r n
 
 -- a part of the rows up to the last is the part of all
 pub part_whole : {n m i : ℕ} {rows form ys : List (List Bool)} (part : ℕ → List (List Bool) → List (List Bool)) → n ≡ m → rows ≡ form → length rows ≤ i → ys ≡ part n (take i rows) → ys ≡ part m form

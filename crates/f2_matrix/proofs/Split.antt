@@ -1,11 +1,13 @@
 -- The rows of [D | I], their parts left and right of the bar, and their combinations.
-use Rattle.std.proofs.Common.{◌≡◌, ℕ, zero, suc, ◌+◌, ◌<◌, nat_eq, Bool, false, List, [], ◌∷◌, ◌++◌, length, map, take, drop, refl, ap, sym, ◌∙◌, arith}
+use Rattle.f2_vec.specs.Vectors.{sum_of, zeros, placed}
+use Rattle.f2_vec.proofs.Sums.{length-zeros, sum_of-zeros_left}
+use Rattle.std.proofs.lemmas.List.{set-append_right}
+use Rattle.std.proofs.Common.{true, set, ◌-◌, ◌≡◌, ℕ, zero, suc, ◌+◌, ◌<◌, Bool, List, [], ◌∷◌, ◌++◌, length, map, take, drop, refl, ap, sym, ◌∙◌, arith}
 use Rattle.std.specs.List.{zip}
-use Rattle.std.proofs.lemmas.List.{length-append, take_at, drop_at, take_more, append_assoc}
-use Rattle.f2_vec.specs.Vectors.{bit}
+use Rattle.std.proofs.lemmas.List.{length-append, take_at, drop_at, take_more}
 use Rattle.f2_vec.specs.Spans.{row, HaveWidth, combination, unit_vector, unit_vectors}
 use Rattle.f2_vec.proofs.Spans.{HaveWidth-head, HaveWidth-tail, HaveWidth-nil, HaveWidth-cons}
-use Rattle.f2_vec.proofs.Split.{combination-split, row-unit_vectors, length-unit_vectors, length-unit_vector, HaveWidth-unit_vectors, combination-unit_vectors, bit-unit_vector}
+use Rattle.f2_vec.proofs.Split.{combination-split, row-unit_vectors, length-unit_vectors, HaveWidth-unit_vectors, combination-unit_vectors}
 use Rattle.f2_matrix.specs.Reduction.{augmented}
 
 -- the parts of the rows of [D | I]
@@ -68,14 +70,26 @@ row-augmented xs i l = row_beside xs (unit_vectors (length xs)) i l (omega (arit
     row_beside (x ∷ xs) (u ∷ us) zero l m = refl
     row_beside (x ∷ xs) (u ∷ us) (suc i) l m = row_beside xs us i (omega arith) (omega arith)
 
--- one coordinate of the unit vector more
-pub with_unit_more : (r w new : List Bool) (n i k : ℕ) → i < n → k < n → w ≡ r ++ take k (unit_vector n i) → new ≡ w ++ nat_eq k i ∷ [] → new ≡ r ++ take (k + 1) (unit_vector n i)
-with_unit_more r w new n i k l m e f =
-    let unit = unit_vector n i in
-    let more : take (k + 1) unit ≡ take k unit ++ bit unit k ∷ [] = take_more unit k false (omega (arith, length-unit_vector n i)) in
-    f ∙ ap (λ x. x ++ nat_eq k i ∷ []) e ∙ append_assoc r (take k unit) (nat_eq k i ∷ []) ∙ ap (λ b. r ++ (take k unit ++ b ∷ [])) (sym (bit-unit_vector n i k l)) ∙ ap (λ x. r ++ x) (sym more)
-
 -- one row of [D | I] more
 pub augmented_more : (xs ys new : List (List Bool)) (u : List Bool) (i : ℕ) → i < length xs → ys ≡ take i (augmented xs) → u ≡ row xs i ++ unit_vector (length xs) i → new ≡ ys ++ u ∷ [] → new ≡ take (i + 1) (augmented xs)
 augmented_more xs ys new u i l e f g =
     g ∙ ap (λ x. x ++ u ∷ []) e ∙ ap (λ r. take i (augmented xs) ++ r ∷ []) (f ∙ sym (row-augmented xs i l)) ∙ sym (take_more (augmented xs) i [] (omega (arith, length-augmented xs)))
+
+pub length-beside : (r : List Bool) (n len : ℕ) → len ≡ length r + n → length (sum_of (zeros len) (placed (length (zeros len)) 0 r)) ≡ len
+length-beside r n len e =
+    let lz : length (zeros len) ≡ len = length-zeros len in
+    let rest : length (zeros len) - (0 + length r) ≡ n = omega (arith, lz) in
+    let long : length (r ++ zeros n) ≡ len = length-append r (zeros n) ∙ omega (arith, length-zeros n) in
+    ap (λ k. length (sum_of (zeros len) (r ++ zeros k))) rest ∙ ap length (sum_of-zeros_left len (r ++ zeros n) long) ∙ long
+
+-- a row, moved into zeros, with a one behind it
+pub unit_beside : (r : List Bool) (n i len : ℕ) → len ≡ length r + n → i < n → set (sum_of (zeros len) (placed (length (zeros len)) 0 r)) (length r + i) true ≡ r ++ unit_vector n i
+unit_beside r n i len e h =
+    let lz : length (zeros len) ≡ len = length-zeros len in
+    let rest : length (zeros len) - (0 + length r) ≡ n = omega (arith, lz) in
+    let long : length (r ++ zeros n) ≡ len = length-append r (zeros n) ∙ omega (arith, length-zeros n) in
+    let back : (length r + i) - length r ≡ i = omega arith in
+    ap (λ k. set (sum_of (zeros len) (r ++ zeros k)) (length r + i) true) rest
+    ∙ ap (λ v. set v (length r + i) true) (sum_of-zeros_left len (r ++ zeros n) long)
+    ∙ set-append_right r (zeros n) (length r) (length r + i) true refl (omega arith)
+    ∙ ap (λ k. r ++ set (zeros n) k true) back

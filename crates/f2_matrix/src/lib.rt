@@ -1,11 +1,13 @@
 //! Linear algebra over the field with two elements: echelon forms, spans and kernels. Vectors are rows.
 #![tactic(auto)]
 
+mod blocks;
 mod existence;
 mod laws;
 mod matrix;
 mod rank;
 mod reduced;
+mod scratch;
 #[cfg(test)]
 mod tests;
 
@@ -18,3 +20,4 @@ pub use laws::{
 pub use matrix::Matrix;
 pub use rank::spanning_rows_are_full;
 pub use reduced::Reduced;
+pub use scratch::Scratch;

@@ -1,10 +1,13 @@
+//! Matrices, and their elimination row by row.
 ghost use Rattle.std.specs.Prelude.{◌≡◌, ℕ, ◌+◌, ◌<◌, ◌≤◌, Bool, true, false, [], ◌∷◌, ◌++◌, map, length, IfOk, IfSome, IfNone, OnOk, OnErr};
 ghost use Rattle.f2_vec.specs.Vectors.{bit};
 ghost use Rattle.f2_vec.specs.Spans.{row, HaveWidth, unit_vector};
 ghost use Rattle.f2_matrix.specs.Echelon.{IsEchelonForm};
 ghost use Rattle.f2_matrix.specs.Reduction.{augmented};
-ghost use Rattle.f2_matrix.specs.RowOperations.{cleared, IsClearedBy};
+ghost use Rattle.f2_matrix.specs.Inside.RowOperations.{cleared, IsClearedBy};
 
+use crate::blocks::reduce_blocks;
+use crate::scratch::Scratch;
 use f2_vec::BitVec;
 use memory::Memory;
 use std::alloc::Global;
@@ -72,6 +75,20 @@ impl Matrix {
         reduce_rows(self.rows.as_mut_slice(), self.cols);
     }
 
+    /// The same by blocks of up to eight pivots, with room that was made for the matrix's columns.
+    pub fn reduce_with(&mut self, scratch: &mut Scratch)
+        requires { scratch.old ≡ self.old.cols }
+        ensures cols { self.new.cols ≡ self.old.cols }
+        ensures form { IsEchelonForm self.old.cols self.old.rows self.new.rows }
+        ensures scratch { scratch.new ≡ scratch.old }
+    {
+        reduce_blocks(
+            self.cols,
+            self.rows.as_mut_slice(),
+            scratch.table.as_mut_slice(),
+        );
+    }
+
     /// The matrix with the unit matrix put to the right of it, `[D | I]`.
     pub fn augment(&self, alloc: Global) -> Result<Matrix, Memory>
         ensures cols { IfOk result (λ m. m.cols ≡ self.now.cols + length self.now.rows) }
@@ -87,7 +104,7 @@ impl Matrix {
     }
 }
 
-// Gauss and Jordan's elimination: the first `settled` rows have their pivots, the others are zero so far.
+/// Gauss and Jordan's elimination: the first `settled` rows have their pivots, the others are zero so far.
 fn reduce_rows(rows: &mut [BitVec], cols: usize)
     requires { HaveWidth cols rows.old }
     ensures { IsEchelonForm cols rows.old rows.new }
@@ -102,7 +119,7 @@ fn reduce_rows(rows: &mut [BitVec], cols: usize)
     }
 }
 
-// The first row, at or after place `from`, with a 1 in column `col`.
+/// The first row, at or after place `from`, with a 1 in column `col`.
 fn row_with_one_at(rows: &[BitVec], from: usize, col: usize) -> Option<usize>
     requires { (i : ℕ) → i < length rows.now → col < length (row rows.now i) }
     ensures at_or_after { IfSome result (λ i. from ≤ i) }
@@ -118,7 +135,7 @@ fn row_with_one_at(rows: &[BitVec], from: usize, col: usize) -> Option<usize>
     None
 }
 
-// Adds the row at place `pivot` to each other row that has a 1 in column `col`.
+/// Adds the row at place `pivot` to each other row that has a 1 in column `col`.
 fn clear_column(rows: &mut [BitVec], pivot: usize, col: usize)
     requires within { pivot < length rows.old }
     requires widths { HaveWidth (length (row rows.old pivot)) rows.old }
@@ -132,8 +149,8 @@ fn clear_column(rows: &mut [BitVec], pivot: usize, col: usize)
     }
 }
 
-// Adds `pivot_row` to each of the rows that has a 1 in column `col`.
-fn clear_by(rows: &mut [BitVec], pivot_row: &BitVec, col: usize)
+/// Adds `pivot_row` to each of the rows that has a 1 in column `col`.
+pub fn clear_by(rows: &mut [BitVec], pivot_row: &BitVec, col: usize)
     requires widths { HaveWidth (length pivot_row.now) rows.old }
     requires col { col < length pivot_row.now }
     ensures { rows.new ≡ map (cleared pivot_row.now col) rows.old }
@@ -145,7 +162,7 @@ fn clear_by(rows: &mut [BitVec], pivot_row: &BitVec, col: usize)
     }
 }
 
-// Each row, followed by the unit vector of its number.
+/// Each row, followed by the unit vector of its number.
 fn augmented_rows(alloc: Global, rows: &[BitVec]) -> Result<Vec<BitVec>, Memory>
     ensures { IfOk result (λ wider. wider.items ≡ augmented rows.now) }
 {
@@ -156,14 +173,17 @@ fn augmented_rows(alloc: Global, rows: &[BitVec]) -> Result<Vec<BitVec>, Memory>
     Ok(wider)
 }
 
-// The row, followed by the unit vector of length `n` with its 1 at place `i`.
+/// The row, followed by the unit vector of length `n` with its 1 at place `i`.
 fn with_unit(alloc: Global, row: &BitVec, n: usize, i: usize) -> Result<BitVec, Memory>
     requires { i < n }
     ensures { IfOk result (λ wider. wider ≡ row.now ++ unit_vector n i) }
 {
-    let mut wider = row.try_copy(alloc)?;
-    for place in 0..n {
-        wider.push(place == i)?;
-    }
+    let Some(len) = row.len().checked_add(n) else {
+        // No memory holds a row of that length.
+        return Err(Memory);
+    };
+    let mut wider = BitVec::zero(alloc, len)?;
+    wider.xor_at(0, row);
+    wider.set(row.len() + i, true);
     Ok(wider)
 }

@@ -1,4 +1,5 @@
-ghost use Rattle.std.specs.Prelude.{◌≡◌, ◌↔◌, ◌+◌, ◌≤◌, [], ◌∷◌, ◌++◌, length, IsTrue, IsSome, IfSome, IfOk, OnOk, slice_range};
+//! What is kept of the reduction of a matrix, and the questions that it answers.
+ghost use Rattle.std.specs.Prelude.{◌≡◌, ◌↔◌, ◌+◌, ◌≤◌, [], ◌∷◌, ◌++◌, length, IsTrue, IsSome, IfSome, IfOk, OnOk};
 ghost use Rattle.f2_vec.specs.Vectors.{bit, IsZero};
 ghost use Rattle.f2_vec.specs.Spans.{HaveWidth, IsInSpan};
 ghost use Rattle.f2_matrix.specs.Echelon.{IsEchelonForm, IsRowBasis, IsKernelBasis};
@@ -6,6 +7,7 @@ ghost use Rattle.f2_matrix.specs.Reduction.{augmented, image_part, chosen_part, 
 ghost use Rattle.f2_matrix.specs.Preimages.{IsPreimageUnder, ArePreimages, pivot_of, quasi_of};
 
 use crate::matrix::Matrix;
+use crate::scratch::Scratch;
 use f2_vec::BitVec;
 use memory::Memory;
 use std::alloc::Global;
@@ -23,17 +25,14 @@ pub struct Reduced {
 }
 
 impl Model for Reduced {
-    ghost use Rattle.std.specs.Prelude.{◌≡◌, length};
     ghost use Rattle.f2_matrix.specs.Reduction.{Reduction};
+    ghost use Rattle.f2_matrix.specs.Inside.Parts.{AreParts};
 
     ghost Value = { Reduction };
 
-    ghost use Rattle.f2_vec.specs.Spans.{HaveWidth};
-    ghost use Rattle.f2_matrix.specs.Echelon.{IsReduced, HasNoZeroRow};
-
     ghost view = { λ r. record { cols = r.cols; height = r.height; image = r.image.items; chosen = r.chosen.items; kernel = r.kernel.items } };
 
-    ghost invariant = { λ r. HaveWidth r.cols r.image.items × IsReduced r.image.items × HasNoZeroRow r.image.items × HaveWidth r.height r.chosen.items × (length r.chosen.items ≡ length r.image.items) × HaveWidth r.height r.kernel.items };
+    ghost invariant = { λ r. AreParts r.cols r.height r.image.items r.chosen.items r.kernel.items };
 }
 
 impl Reduced {
@@ -47,7 +46,8 @@ impl Reduced {
         ensures chosen { IfOk result (λ r. ArePreimages matrix.now.cols matrix.now.rows r.kernel r.image r.chosen) }
     {
         let mut form = matrix.augment(alloc)?;
-        form.reduce();
+        let mut scratch = Scratch::new(alloc, form.cols())?;
+        form.reduce_with(&mut scratch);
         parts_of(alloc, matrix, &form)
     }
 
@@ -132,9 +132,9 @@ impl Reduced {
     pub fn try_copy(&self, alloc: Global) -> Result<Reduced, Memory>
         ensures { IfOk result (λ copy. copy ≡ self.now) }
     {
-        let image = copy_rows(alloc, self.image.as_slice())?;
-        let chosen = copy_rows(alloc, self.chosen.as_slice())?;
-        let kernel = copy_rows(alloc, self.kernel.as_slice())?;
+        let image = Vec::from_clones(alloc, self.image.as_slice())?;
+        let chosen = Vec::from_clones(alloc, self.chosen.as_slice())?;
+        let kernel = Vec::from_clones(alloc, self.kernel.as_slice())?;
         Ok(Reduced {
             cols: self.cols,
             height: self.height,
@@ -144,7 +144,7 @@ impl Reduced {
         })
     }
 
-    // Clears the ones of `v` at the pivots of the image rows: something is left just where `v` is outside their span.
+    /// Clears the ones of `v` at the pivots of the image rows: something is left just where `v` is outside their span.
     fn clear_pivots(&self, alloc: Global, v: &BitVec) -> Result<Cleared, Memory>
         requires { length v.now ≡ self.now.cols }
         ensures rest { IfOk result (λ cleared. IsZero cleared.rest ↔ IsInSpan self.now.cols self.now.image v.now) }
@@ -164,17 +164,17 @@ impl Reduced {
     }
 }
 
-// A vector with its ones at the pivots of the image rows cleared.
+/// A vector with its ones at the pivots of the image rows cleared.
 #[derive(Drop)]
 struct Cleared {
-    // the vector plus those image rows at whose pivots it has a 1
+    /// the vector plus those image rows at whose pivots it has a 1
     rest: BitVec,
-    // the sum of the chosen preimages of these rows
+    /// the sum of the chosen preimages of these rows
     quasi: BitVec,
 }
 
-// Keeps of the echelon form of [D | I], D the matrix, both parts where there is a 1 left of the bar, and else
-// what is right of it.
+/// Keeps of the echelon form of [D | I], D the matrix, both parts where there is a 1 left of the bar, and else
+/// what is right of it.
 fn parts_of(alloc: Global, matrix: &Matrix, form: &Matrix) -> Result<Reduced, Memory>
     requires cols { form.now.cols ≡ matrix.now.cols + length matrix.now.rows }
     requires form { IsEchelonForm (matrix.now.cols + length matrix.now.rows) (augmented matrix.now.rows) form.now.rows }
@@ -200,7 +200,7 @@ fn parts_of(alloc: Global, matrix: &Matrix, form: &Matrix) -> Result<Reduced, Me
     })
 }
 
-// Puts what is kept of one row of the form behind what is kept of those before it.
+/// Puts what is kept of one row of the form behind what is kept of those before it.
 fn keep_part(
     alloc: Global,
     cols: usize,
@@ -214,31 +214,19 @@ fn keep_part(
     ensures chosen { OnOk result (chosen.new.items ≡ chosen.old.items ++ chosen_part cols (row.now ∷ [])) }
     ensures kernel { OnOk result (kernel.new.items ≡ kernel.old.items ++ kernel_part cols (row.now ∷ [])) }
 {
+    let right = row.len() - cols;
     match row.first_one() {
         Some(pivot) if pivot < cols => {
-            image.push(part(alloc, row, 0, cols)?)?;
-            chosen.push(part(alloc, row, cols, row.len())?)?;
+            image.push(row.part(alloc, 0, cols)?)?;
+            chosen.push(row.part(alloc, cols, right)?)?;
         }
-        Some(_) => kernel.push(part(alloc, row, cols, row.len())?)?,
+        Some(_) => kernel.push(row.part(alloc, cols, right)?)?,
         None => {}
     }
     Ok(())
 }
 
-// The coordinates at places `from` up to `to`.
-fn part(alloc: Global, row: &BitVec, from: usize, to: usize) -> Result<BitVec, Memory>
-    requires order { from ≤ to }
-    requires within { to ≤ length row.now }
-    ensures { IfOk result (λ part. part ≡ slice_range row.now from to) }
-{
-    let mut part = BitVec::zero(alloc, 0)?;
-    for place in from..to {
-        part.push(row.get(place))?;
-    }
-    Ok(part)
-}
-
-// Whether the vector has a 1 at the row's pivot.
+/// Whether the vector has a 1 at the row's pivot.
 fn has_pivot(vector: &BitVec, row: &BitVec) -> bool
     requires { length vector.now ≡ length row.now }
     ensures { result ≡ bit vector.now (pivot_of row.now) }
@@ -247,15 +235,4 @@ fn has_pivot(vector: &BitVec, row: &BitVec) -> bool
         Some(pivot) => vector.get(pivot),
         None => false,
     }
-}
-
-// The same rows.
-fn copy_rows(alloc: Global, rows: &[BitVec]) -> Result<Vec<BitVec>, Memory>
-    ensures { IfOk result (λ copy. copy.items ≡ rows.now) }
-{
-    let mut copy = Vec::with_capacity(alloc, rows.len())?;
-    for row in rows {
-        copy.push(row.try_copy(alloc)?)?;
-    }
-    Ok(copy)
 }

@@ -1,4 +1,11 @@
 pub mod Sums
+mod Packed
+mod Lanes
+mod Moved
+mod Cut
+mod Appended
+pub mod Ones
 pub mod Spans
 pub mod Split
 pub mod Combinations
+pub mod Crossing

@@ -1,20 +1,43 @@
-ghost use Rattle.std.specs.Prelude.{◌≡◌, ◌<◌, ◌↔◌, Bool, List, [], ◌∷◌, ◌++◌, length, IsTrue, IsNone, IfOk, IfSome, OnOk, OnErr, slice_set};
-ghost use Rattle.f2_vec.specs.Vectors.{sum_of, zeros, bit, IsZero, IsFirstOne};
+//! The vector type: its coordinates are kept packed in words.
+ghost use Rattle.std.specs.Prelude.{◌≡◌, ◌+◌, ◌<◌, ◌≤◌, ◌↔◌, [], ◌∷◌, ◌++◌, length, take, drop, IsTrue, IsNone, IfOk, IfSome, if◌then◌else◌, OnOk, OnErr, EachIndex, slice_index, slice_set};
+ghost use Rattle.std.specs.List.{range_with_len, items_where_true};
+ghost use Rattle.f2_vec.specs.Vectors.{sum_of, zeros, placed, bit, IsZero, IsFirstOne};
+ghost use Rattle.f2_vec.specs.Spans.{unit_vector};
+ghost use Rattle.f2_vec.specs.Inside.Packed.{unit_bits, HasRoom};
 
+use crate::words::{low_bits, sum_words, word_from, xor_moved, xor_words};
 use memory::Memory;
-use std::alloc::Global;
+use std::alloc::{AllocError, Global};
 use std::marker::Model;
 
-/// A vector over the field with two elements, seen as the list of its coordinates.
+/// A vector over the field with two elements, seen as the list of its coordinates. They stand 64 to a word, lowest
+/// bit first, and the bits of the last word that are no coordinate are 0.
 #[derive(Debug, Drop)]
 pub struct BitVec {
-    bits: Vec<bool>,
+    len: usize,
+    words: Vec<u64>,
 }
 
 impl Model for BitVec {
+    ghost use Rattle.std.specs.Prelude.{Bool, List};
+    ghost use Rattle.f2_vec.specs.Inside.Packed.{unit_bits, HasRoom};
+
     ghost Value = { List Bool };
 
-    ghost view = { λ v. v.bits.items };
+    ghost view = { λ v. unit_bits 64 v.len v.words.items };
+
+    ghost invariant = { λ v. HasRoom 64 v.len v.words.items };
+}
+
+impl Clone for BitVec {
+    ghost is_clone = { λ v copy. copy ≡ v };
+
+    fn clone(&self) -> Result<Self, AllocError> {
+        Ok(BitVec {
+            len: self.len,
+            words: self.words.clone()?,
+        })
+    }
 }
 
 impl BitVec {
@@ -23,22 +46,33 @@ impl BitVec {
         ensures { IfOk result (λ v. v ≡ zeros n) }
     {
         Ok(BitVec {
-            bits: vec![in alloc; false; n]?,
+            len: n,
+            words: vec![in alloc; 0; n.div_ceil(64)]?,
         })
+    }
+
+    /// The unit vector of length `n` with its 1 at place `i`.
+    pub fn unit(alloc: Global, n: usize, i: usize) -> Result<Self, Memory>
+        requires { i < n }
+        ensures { IfOk result (λ v. v ≡ unit_vector n i) }
+    {
+        let mut unit = BitVec::zero(alloc, n)?;
+        unit.set(i, true);
+        Ok(unit)
     }
 
     /// How many coordinates there are.
     pub fn len(&self) -> usize
         ensures { result ≡ length self.now }
     {
-        self.bits.len()
+        self.len
     }
 
     /// Whether there is no coordinate.
     pub fn is_empty(&self) -> bool
         ensures { IsTrue result ↔ (self.now ≡ []) }
     {
-        self.bits.is_empty()
+        self.len == 0
     }
 
     /// The coordinate at place `i`.
@@ -46,7 +80,15 @@ impl BitVec {
         requires { i < length self.now }
         ensures { result ≡ bit self.now i }
     {
-        self.bits[i]
+        (self.words[i / 64] >> (i % 64)) & 1 == 1
+    }
+
+    /// The coordinate at place `i` as a number, 0 or 1, without a branch.
+    pub fn get_number(&self, i: usize) -> usize
+        requires { i < length self.now }
+        ensures { result ≡ (if bit self.now i then 1 else 0) }
+    {
+        ((self.words[i / 64] >> (i % 64)) & 1) as usize
     }
 
     /// Makes `b` the coordinate at place `i`.
@@ -54,17 +96,56 @@ impl BitVec {
         requires { i < length self.old }
         ensures { self.new ≡ slice_set self.old i b }
     {
-        self.bits[i] = b;
+        let mask = 1u64 << (i % 64);
+        if b {
+            self.words[i / 64] |= mask;
+        } else {
+            self.words[i / 64] &= !mask;
+        }
     }
 
-    /// Adds `other` to this vector.
+    /// Adds `other`, of the same length, to this vector.
     pub fn xor_with(&mut self, other: &BitVec)
         requires { length self.old ≡ length other.now }
         ensures { self.new ≡ sum_of self.old other.now }
     {
-        for i in 0..self.bits.len() {
-            self.bits[i] ^= other.bits[i];
+        xor_words(self.words.as_mut_slice(), other.words.as_slice());
+    }
+
+    /// Makes this vector the sum of `a` and `b`, all of one length.
+    pub fn set_sum(&mut self, a: &BitVec, b: &BitVec)
+        requires left { length a.now ≡ length self.old }
+        requires right { length b.now ≡ length self.old }
+        ensures { self.new ≡ sum_of a.now b.now }
+    {
+        sum_words(
+            self.words.as_mut_slice(),
+            a.words.as_slice(),
+            b.words.as_slice(),
+        );
+    }
+
+    /// Adds `other`, moved up to place `at`, to this vector. It has to end within this vector.
+    pub fn xor_at(&mut self, at: usize, other: &BitVec)
+        requires { at + length other.now ≤ length self.old }
+        ensures { self.new ≡ sum_of self.old (placed (length self.old) at other.now) }
+    {
+        xor_moved(self.words.as_mut_slice(), at, other.words.as_slice());
+    }
+
+    /// The `len` coordinates from place `from` on.
+    pub fn part(&self, alloc: Global, from: usize, len: usize) -> Result<Self, Memory>
+        requires { from + len ≤ length self.now }
+        ensures { IfOk result (λ part. part ≡ take len (drop from self.now)) }
+    {
+        // A length fits `usize`, so each place of the part does.
+        prove!(from <= self.len());
+        let all = self.words.as_slice();
+        let mut words = vec![in alloc; 0; len.div_ceil(64)]?;
+        for i in 0..words.len() {
+            words[i] = low_bits(word_from(all, from + 64 * i), len - 64 * i);
         }
+        Ok(BitVec { len, words })
     }
 
     /// The first place that holds a 1.
@@ -73,7 +154,15 @@ impl BitVec {
         ensures first { IfSome result (λ p. IsFirstOne self.now p) }
         ensures within { IfSome result (λ p. p < length self.now) }
     {
-        self.bits.iter().position(|bit| *bit)
+        // The length fits `usize`, so the place of a 1 does.
+        let _len = self.len;
+        for i in 0..self.words.len() {
+            let word = self.words[i];
+            if word != 0 {
+                return Some(64 * i + word.trailing_zeros() as usize);
+            }
+        }
+        None
     }
 
     /// Whether each coordinate is 0.
@@ -83,12 +172,51 @@ impl BitVec {
         self.first_one().is_none()
     }
 
+    /// The places that hold a 1, in rising order.
+    pub fn ones(&self, alloc: Global) -> Result<Vec<usize>, Memory>
+        ensures places { IfOk result (λ ones. ones.items ≡ items_where_true self.now (range_with_len 0 (length self.now))) }
+        ensures within { IfOk result (λ ones. EachIndex ones.items (λ k. slice_index ones.items k < length self.now)) }
+    {
+        let mut ones = Vec::new(alloc);
+        for i in 0..self.len() {
+            if self.get(i) {
+                ones.push(i)?;
+            }
+        }
+        Ok(ones)
+    }
+
     /// Puts one more coordinate at the end.
     pub fn push(&mut self, b: bool) -> Result<(), Memory>
         ensures ok { OnOk result (self.new ≡ self.old ++ b ∷ []) }
         ensures err { OnErr result (self.new ≡ self.old) }
     {
-        self.bits.push(b)?;
+        let len = self.len;
+        let Some(longer) = len.checked_add(1) else {
+            // No memory holds a vector of that length.
+            return Err(Memory);
+        };
+        if len % 64 == 0 {
+            self.words.push(0)?;
+        }
+        self.len = longer;
+        self.set(len, b);
+        Ok(())
+    }
+
+    /// Puts the coordinates of `other` at the end, in order.
+    pub fn append(&mut self, other: &BitVec) -> Result<(), Memory>
+        ensures ok { OnOk result (self.new ≡ self.old ++ other.now) }
+        ensures err { OnErr result (self.new ≡ self.old) }
+    {
+        let at = self.len;
+        let Some(longer) = at.checked_add(other.len) else {
+            // No memory holds a vector of that length.
+            return Err(Memory);
+        };
+        self.words.resize(longer.div_ceil(64), 0)?;
+        self.len = longer;
+        self.xor_at(at, other);
         Ok(())
     }
 
@@ -97,7 +225,8 @@ impl BitVec {
         ensures { IfOk result (λ v. v ≡ self.now) }
     {
         Ok(BitVec {
-            bits: Vec::from_slice(alloc, self.bits.as_slice())?,
+            len: self.len,
+            words: Vec::from_slice(alloc, self.words.as_slice())?,
         })
     }
 }

@@ -1,0 +1,41 @@
+//! Room for the tables of an elimination by blocks.
+ghost use Rattle.std.specs.Prelude.{◌≡◌, IfOk};
+
+use f2_vec::BitVec;
+use memory::Memory;
+use std::alloc::Global;
+use std::marker::Model;
+
+/// Room for the sums of up to eight rows, seen as the length of a row.
+#[derive(Debug, Drop)]
+pub struct Scratch {
+    cols: usize,
+    pub(crate) table: Vec<BitVec>,
+}
+
+impl Model for Scratch {
+    ghost use Rattle.std.specs.Prelude.{ℕ};
+    ghost use Rattle.std.specs.Coded.{coded_ℕ};
+    ghost use Rattle.f2_matrix.specs.Inside.Blocks.{IsRoomForSums};
+
+    ghost Value = { ℕ };
+
+    ghost coded = { coded_ℕ };
+
+    ghost view = { λ s. s.cols };
+
+    ghost invariant = { λ s. IsRoomForSums s.cols s.table.items };
+}
+
+impl Scratch {
+    /// Room for the rows of a matrix with this many columns.
+    pub fn new(alloc: Global, cols: usize) -> Result<Self, Memory>
+        ensures { IfOk result (λ s. s ≡ cols) }
+    {
+        let mut table = Vec::with_capacity(alloc, 256)?;
+        for _ in 0..256usize {
+            table.push(BitVec::zero(alloc, cols)?)?;
+        }
+        Ok(Scratch { cols, table })
+    }
+}

@@ -1,0 +1,2 @@
+-- What a vector is inside. No clause of a public call says any of it.
+pub mod Packed
