@@ -9,6 +9,9 @@ use Rattle.ext_run.specs.declared.words.Command.TheVariants.{Sphere, Resolve, Du
 use Rattle.ext_run.specs.declared.words.Common.{Common}
 use Rattle.ext_run.specs.declared.failure.Failure.{Failure}
 use Rattle.ext_run.specs.declared.failure.Failure.TheVariants.{Words, Malformed as NoModuleFile, NotModule, Reading, Writing, Memory}
+use Rattle.ext_run.specs.declared.words.WordsFault.{WordsFault}
+use Rattle.ext_run.specs.declared.words.WordsFault.TheVariants.{Words as Outside, Memory as NoSpace}
+use Rattle.ext_run.specs.Failure.{words_failure}
 use Rattle.ext_run.specs.Words.{command_of}
 use Rattle.ext_run.specs.Answer.{IsAnswer, IsAnswerTo, IsAnswerFrom, IsCauseFrom, Reads, WordsRead, IsChart, IsDump, IsLineOn, IsModuleAnswer, no_file, no_module, text_of, IsFileCauseFrom, IsModuleFrom, IsCommandAnswerFrom, IsCommandCauseFrom}
 
@@ -95,12 +98,17 @@ words_cause words left command Memory e p = tt
 refused_as : (words : List (List ℕ)) (bytes : List ℕ) (a : Result (List ℕ) Failure) → command_of words ≡ None → a ≡ Err Words → IsAnswer words bytes a
 refused_as words bytes a e p = subst (λ (o : Option Command). MatchOption o (a ≡ Err Words) (λ c. IsAnswerTo c bytes a)) (sym e) p
 
-pub refused_cause : (words : List (List ℕ)) (left : Option (List ℕ)) → command_of words ≡ None → IsCauseFrom words left Words
+refused_cause : (words : List (List ℕ)) (left : Option (List ℕ)) → command_of words ≡ None → IsCauseFrom words left Words
 refused_cause words left e = record {
   bytes = bytes_of left;
   all = all_of left;
   is_answer = refused_as words (bytes_of left) (Err Words) e refl;
 }
+
+-- a fault of the words is their refusal, or want of memory
+pub words_fault_cause : (words : List (List ℕ)) (left : Option (List ℕ)) (fault : WordsFault) → (fault ≡ Outside → command_of words ≡ None) → IsCauseFrom words left (words_failure fault)
+words_fault_cause words left Outside e = refused_cause words left (e refl)
+words_fault_cause words left NoSpace e = tt
 
 -- no command has a failed write as its cause
 pub not_writing : (command : Command) (left : Option (List ℕ)) → IsCommandCauseFrom command left Writing → ⊥

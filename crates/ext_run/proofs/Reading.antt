@@ -1,5 +1,5 @@
 -- What a source has left, read up to one byte past the greatest size of a module file.
-use Rattle.std.proofs.Common.{◌≡◌, ◌≢◌, ℕ, ◌^◌, ◌<◌, min, List, length, take, drop, inl, inr, refl, sym, ◌∙◌, ap, subst, arith}
+use Rattle.std.proofs.Common.{◌≡◌, ◌≢◌, ℕ, ◌+◌, ◌^◌, ◌<◌, min, List, length, take, drop, inl, inr, refl, sym, ◌∙◌, ap, subst, arith}
 use Rattle.std.specs.Prelude.{IfSome, Option, Some, None, Result, Err}
 use Rattle.std.proofs.lemmas.Bool.{cases_lt, lt-leb}
 use Rattle.std.proofs.lemmas.List.{take_all, length-take, length-take-le, drop_min}
@@ -11,6 +11,10 @@ use Rattle.module_json.specs.declared.malformed.Malformed.TheVariants.{Limit, Js
 use Rattle.module_json.specs.declared.malformed.What.TheVariants.{Bytes}
 use Rattle.ext_run.specs.Failure.{file_failure}
 use Rattle.ext_run.specs.Answer.{IsFileFrom, IsFileCauseFrom, most_read}
+
+pub most_read-is : most_read ≡ 2 ^ 20 + 1
+unfolding most_read
+most_read-is = refl
 
 -- bytes past the limit are refused by their size alone
 size_refusal-long : (l : List ℕ) → 2 ^ 20 < length l → size_refusal l ≡ Some (Limit Bytes)
@@ -28,9 +32,9 @@ file_of_longer read l file h k (value s d j) = absurd (never_both read s (size_r
 file_of_all : (read l : List ℕ) (file : Result File Malformed) → read ≡ take most_read l → IsFileOf read file → IsFileOf l file
 file_of_all read l file e p = elim (cases_lt (2 ^ 20) (length l)) [
   | inl k ↦
-      let len : length read ≡ most_read = ap length e ∙ length-take-le most_read l (omega arith) in
-      file_of_longer read l file (omega arith) k p
-  | inr k ↦ subst (λ (x : List ℕ). IsFileOf x file) (e ∙ take_all most_read l (omega arith)) p
+      let len : length read ≡ most_read = ap length e ∙ length-take-le most_read l (omega (arith, most_read-is)) in
+      file_of_longer read l file (omega (arith, most_read-is)) k p
+  | inr k ↦ subst (λ (x : List ℕ). IsFileOf x file) (e ∙ take_all most_read l (omega (arith, most_read-is))) p
 ]
 
 pub file-read : (left : Option (List ℕ)) (read : List ℕ) (file : Result File Malformed) → IfSome left (λ l. read ≡ take most_read l) → IsFileOf read file → IsFileFrom left file

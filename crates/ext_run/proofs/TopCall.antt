@@ -23,6 +23,7 @@ use Rattle.ext_run.specs.Words.{command_of}
 use Rattle.ext_run.specs.Failure.{status_of, malformed_status, fault_status}
 use Rattle.ext_run.specs.Answer.{IsChart, IsDump, IsLineOn, IsModuleAnswer, no_file, no_module, text_of, IsAnswerTo, IsAnswer, AnswerIsUnique, IsAnswerFrom, IsCauseFrom, Reads, WordsRead, most_read, IsAccepted, HasModule, IsAnswerable}
 use Rattle.ext_run.proofs.AnswerUnique.{answer-unique}
+use Rattle.ext_run.proofs.Reading.{most_read-is}
 use Rattle.resolution_laws.proofs.TableIsUnique.{table_is_unique}
 
 -- ---- one answer
@@ -83,7 +84,7 @@ pub read_whole : (words : List (List ℕ)) (old new : Option (List ℕ)) (text :
 read_whole words None new text r p e = subst (λ (o : Option (List ℕ)). IfSome o (λ l. l ≡ [])) (sym e) tt
 read_whole words (Some l) new text r p e =
     let fits : length l ≤ 2 ^ 20 = subst (λ (bytes : List ℕ). length bytes ≤ 2 ^ 20) p.all (answer_fits (command_of words) p.bytes text r p.is_answer) in
-    subst (λ (o : Option (List ℕ)). IfSome o (λ m. m ≡ [])) (sym e) (all_dropped (2 ^ 20) most_read l fits (omega arith))
+    subst (λ (o : Option (List ℕ)). IfSome o (λ m. m ≡ [])) (sym e) (all_dropped (2 ^ 20) most_read l fits (omega (arith, most_read-is)))
 
 -- ---- statuses
 

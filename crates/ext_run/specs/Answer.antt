@@ -133,7 +133,7 @@ pub record IsLineFrom (words : List (List ℕ)) (left : Option (List ℕ)) (stat
   pub line_is : line ≡ line_of failure
 
 -- one byte past the greatest size of a module file, which is as far as an input is read
-abbrev pub most_read : ℕ
+unfoldable pub most_read : ℕ
 most_read = 2 ^ 20 + 1
 
 -- the bytes describe a module

@@ -16,6 +16,8 @@ use Rattle.module_check.specs.Text.{name_at}
 use Rattle.module_check.specs.declared.fault.CheckFault.{CheckFault}
 use Rattle.module_check.specs.declared.fault.CheckFault.TheVariants.{Listed, Relation, Memory as NoMemory}
 use Rattle.module_check.specs.Text.{newline}
+use Rattle.ext_run.specs.declared.words.WordsFault.{WordsFault}
+use Rattle.ext_run.specs.declared.words.WordsFault.TheVariants.{Words as Outside, Memory as NoSpaceForWords}
 use Rattle.ext_run.specs.declared.failure.Failure.{Failure}
 use Rattle.ext_run.specs.declared.failure.Failure.TheVariants.{Words, Malformed as NoModuleFile, NotModule, Reading, Writing, Memory}
 
@@ -72,6 +74,10 @@ line_of Writing = codes "ext: writing failed\n"
 line_of Memory = memory_line
 
 -- what stands for a fault of a call: want of memory is one for all
+abbrev pub words_failure : WordsFault → Failure
+words_failure Outside = Words
+words_failure NoSpaceForWords = Memory
+
 abbrev pub read_failure : ReadFault → Failure
 read_failure Failed = Reading
 read_failure NoSpace = Memory

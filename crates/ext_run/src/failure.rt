@@ -6,8 +6,9 @@ ghost use Rattle.module_check.specs.Text.{name_at};
 ghost use Rattle.module_check.specs.Text.{newline};
 ghost use Rattle.ext_run.specs.Parts.{part_text, parts_text};
 ghost use Rattle.ext_run.specs.declared.failure.Failure.TheVariants.{Memory as WantOfMemory};
-ghost use Rattle.ext_run.specs.Failure.{what_text, place_text, action_line, malformed_line, fault_line, line_of, status_of, malformed_status, fault_status, read_failure, file_failure};
+ghost use Rattle.ext_run.specs.Failure.{what_text, place_text, action_line, malformed_line, fault_line, line_of, status_of, malformed_status, fault_status, words_failure, read_failure, file_failure};
 
+use crate::words::WordsFault;
 use crate::writing::Part::{self, Nothing, Number, Square, Text};
 use crate::writing::{write_all, write_parts};
 use edge::{Failed, ReadFault, Sink};
@@ -37,6 +38,17 @@ impl From<Memory> for Failure {
 
     fn from(_: Memory) -> Self {
         Failure::Memory
+    }
+}
+
+impl From<WordsFault> for Failure {
+    ghost from_gives = { λ fault failure. failure ≡ words_failure fault };
+
+    fn from(fault: WordsFault) -> Self {
+        match fault {
+            WordsFault::Words => Failure::Words,
+            WordsFault::Memory => Failure::Memory,
+        }
     }
 }
 

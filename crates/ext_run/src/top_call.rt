@@ -16,7 +16,7 @@ ghost use Rattle.ext_run.specs.Answer.{IsResolved, IsChart, IsDump, IsLineOn, Is
 ghost use Rattle.ext_run.specs.declared.failure.Failure as Failure;
 
 use crate::failure::{Failure, report};
-use crate::words::{Command, WordsFault, parse};
+use crate::words::{Command, parse};
 use crate::writing::write_all;
 use edge::{Failed, Sink, Source, read_through};
 use ext_chart::{chart, check_line, dump};
@@ -25,14 +25,11 @@ use module_check::{CheckFault, Module, check, modules_are_graded_modules};
 use module_json::{Spec, read};
 use resolution_laws::canonical_table_is_minimal_resolution;
 use resolution_step::resolve_alone;
-use square::{NoKeep, Range, Table};
+use square::{KeepFault, NoKeep, Range, Table};
 use std::alloc::Global;
 
 /// The status of an answer that is written whole.
 const WRITTEN: u8 = 0;
-
-/// How many bytes of a module file are read at most: one past the greatest size of a module file.
-const MOST_READ: usize = 1_048_577;
 
 /// The canonical resolution of a module through the range.
 fn resolved(alloc: Global, module: Module, range: Range) -> Result<Table, Memory>
@@ -48,8 +45,9 @@ fn resolved(alloc: Global, module: Module, range: Range) -> Result<Table, Memory
     let (resolved, _) = resolve_alone(alloc, table, range, NoKeep);
     match resolved {
         Ok(table) => Ok(table),
+        Err(KeepFault::Memory) => Err(Memory),
         // A keeper that keeps nothing does not fail.
-        Err(_) => Err(Memory),
+        Err(KeepFault::Failed) => unreachable!(),
     }
 }
 
@@ -98,6 +96,14 @@ fn module_line(alloc: Global, module: &Module) -> Result<Vec<u8>, Memory>
     )
 }
 
+/// How many bytes are read at most: one past the greatest size of a module file, so that a longer file is seen to be one.
+#[tactic(auto, unfolding(crate::specs::Answer::most_read))]
+fn most_read() -> usize
+    ensures { result ≡ most_read }
+{
+    (1 << 20) + 1
+}
+
 /// The module file that a source has left.
 fn read_file<S: Source>(alloc: Global, source: &mut S) -> Result<Spec, Failure>
     ensures file { IfOk result (λ spec. IsFileFrom (S.left source.old) (Ok spec)) }
@@ -106,9 +112,9 @@ fn read_file<S: Source>(alloc: Global, source: &mut S) -> Result<Spec, Failure>
     ensures given { HasGivenUpTo most_read (S.left source.old) (S.left source.new) }
     ensures read { result ≢ Err Failure.Reading → result ≢ Err Failure.Memory → S.left source.new ≡ without_first (S.left source.old) most_read }
     ensures never_fall { S.faults source.old ≤ S.faults source.new }
-    ensures no_fault { OnOk result (S.faults source.new ≡ S.faults source.old) }
+    ensures no_fault { result ≢ Err Failure.Reading → S.faults source.new ≡ S.faults source.old }
 {
-    let bytes = read_through(alloc, source, MOST_READ)?;
+    let bytes = read_through(alloc, source, most_read())?;
     Ok(read(alloc, bytes.as_slice())?)
 }
 
@@ -133,7 +139,7 @@ fn read_module<S: Source>(alloc: Global, source: &mut S) -> Result<Module, Failu
     ensures given { HasGivenUpTo most_read (S.left source.old) (S.left source.new) }
     ensures read { result ≢ Err Failure.Reading → result ≢ Err Failure.Memory → S.left source.new ≡ without_first (S.left source.old) most_read }
     ensures never_fall { S.faults source.old ≤ S.faults source.new }
-    ensures no_fault { OnOk result (S.faults source.new ≡ S.faults source.old) }
+    ensures no_fault { result ≢ Err Failure.Reading → S.faults source.new ≡ S.faults source.old }
 {
     let spec = read_file(alloc, source)?;
     module_of(alloc, spec)
@@ -153,7 +159,7 @@ fn command_text<S: Source>(
     ensures given { HasGivenUpTo most_read (S.left source.old) (S.left source.new) }
     ensures read { Reads command → result ≢ Err Failure.Reading → result ≢ Err Failure.Memory → S.left source.new ≡ without_first (S.left source.old) most_read }
     ensures never_fall { S.faults source.old ≤ S.faults source.new }
-    ensures no_fault { OnOk result (S.faults source.new ≡ S.faults source.old) }
+    ensures no_fault { result ≢ Err Failure.Reading → S.faults source.new ≡ S.faults source.old }
 {
     match command {
         Command::Sphere(common) => {
@@ -185,13 +191,10 @@ fn text_of<S: Source>(alloc: Global, words: &[&str], source: &mut S) -> Result<V
     ensures given { HasGivenUpTo most_read (S.left source.old) (S.left source.new) }
     ensures read { WordsRead (texts_of words.now) → result ≢ Err Failure.Reading → result ≢ Err Failure.Memory → S.left source.new ≡ without_first (S.left source.old) most_read }
     ensures never_fall { S.faults source.old ≤ S.faults source.new }
-    ensures no_fault { OnOk result (S.faults source.new ≡ S.faults source.old) }
+    ensures no_fault { result ≢ Err Failure.Reading → S.faults source.new ≡ S.faults source.old }
 {
-    match parse(alloc, words) {
-        Ok(command) => command_text(alloc, command, source),
-        Err(WordsFault::Words) => Err(Failure::Words),
-        Err(WordsFault::Memory) => Err(Failure::Memory),
-    }
+    let command = parse(alloc, words)?;
+    command_text(alloc, command, source)
 }
 
 /// Answers the words on `out`.
@@ -212,7 +215,8 @@ fn answer<S: Source, O: Sink>(
     ensures read { WordsRead (texts_of words.now) → result ≢ Err Failure.Reading → result ≢ Err Failure.Memory → S.left source.new ≡ without_first (S.left source.old) most_read }
     ensures source_never_falls { S.faults source.old ≤ S.faults source.new }
     ensures never_falls { O.faults out.old ≤ O.faults out.new }
-    ensures no_fault { OnOk result ((S.faults source.new ≡ S.faults source.old) × (O.faults out.new ≡ O.faults out.old)) }
+    ensures no_read_fault { result ≢ Err Failure.Reading → S.faults source.new ≡ S.faults source.old }
+    ensures no_write_fault { OnOk result (O.faults out.new ≡ O.faults out.old) }
 {
     let text = text_of(alloc, words, source)?;
     match write_all(out, text.as_slice()) {
@@ -254,7 +258,7 @@ pub fn run<R, S: Source, O: Sink, E: Sink>(
     ensures source_never_falls { S.faults source.old ≤ S.faults source.new }
     ensures out_never_falls { O.faults out.old ≤ O.faults out.new }
     ensures err_never_falls { E.faults err.old ≤ E.faults err.new }
-    ensures no_read_fault { result ≡ 0 → S.faults source.new ≡ S.faults source.old }
+    ensures no_read_fault { result ≢ 6 → S.faults source.new ≡ S.faults source.old }
     ensures no_write_fault { result ≡ 0 → O.faults out.new ≡ O.faults out.old }
     ensures line { result ≢ 0 → (line : List ℕ) × IsLineFrom (texts_of words.now) (S.left source.old) result line × HasPrefixMore line (E.written err.old) (E.written err.new) }
     ensures whole_line { result ≢ 0 → ¬ HasRisen (E.faults err.old) (E.faults err.new) → (line : List ℕ) × IsLineFrom (texts_of words.now) (S.left source.old) result line × (E.written err.new ≡ with_more (E.written err.old) line) }

@@ -1,6 +1,15 @@
+use Rattle.std.proofs.Common.{ap, Err}
+use Rattle.std.proofs.lemmas.Result.{err_from_is_err_and}
 use Rattle.ext_run.specs.Words.{texts_of}
-use Rattle.ext_run.proofs.Commands.{refused_cause}
+use Rattle.ext_run.specs.Failure.{words_failure}
+use Rattle.ext_run.specs.Answer.{IsCauseFrom}
+use Rattle.ext_run.proofs.Commands.{words_fault_cause}
 use Rattle.ext_run.proofs.top_call.text_of.Goals as goal
 
-pub returns-in-Err-Words-clause-cause : goal.returns-in-Err-Words-clause-cause
-returns-in-Err-Words-clause-cause g c = refused_cause (texts_of c.args.words.now) _ (c.in-Err-Words.ensures.refused cc)
+pub returns-in_err-command-clause-cause : goal.returns-in_err-command-clause-cause
+returns-in_err-command-clause-cause g c =
+    let p = err_from_is_err_and c.from_residual.result c.from_residual.ensures.1 in
+    let fault = c.in_err-command.field-0.0 in
+    let cause : IsCauseFrom (texts_of c.args.words.now) (g.S.Source.left c.args.source.now) (words_failure fault) =
+    words_fault_cause (texts_of c.args.words.now) _ fault (λ h. c.in_err-command.ensures.refused (ap Err h)) in
+    rw (p.1, p.2) cause
