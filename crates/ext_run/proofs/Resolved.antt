@@ -3,7 +3,8 @@ use Rattle.std.proofs.Common.{◌≡◌, ℕ, ◌+◌, List, take, sym, ◌∙�
 use Rattle.std.proofs.lemmas.List.{take-take}
 use Rattle.module_check.specs.Module.{bottom}
 use Rattle.module_check.specs.Checked.{Checked}
-use Rattle.module_check.specs.ModuleLaws.{ModulesAreSteenrodModules, width-below}
+use Rattle.module_check.specs.Graded.{ModulesAreSteenrodModules}
+use Rattle.module_check.specs.ModuleLaws.{width-below}
 use Rattle.resolution_laws.specs.Resolution.{Content, row_of, IsCanonicalTable, generator_count}
 use Rattle.resolution_laws.specs.Exactness.{CanonicalTableIsMinimalResolution}
 use Rattle.square.specs.declared.range.Range.{Range}

@@ -4,10 +4,11 @@ use Rattle.std.specs.Ordering.{int_eq}
 use Rattle.std.specs.Cmp.{signed_Decides}
 use Rattle.std.proofs.lemmas.List.Elements.{All-head, All-tail, All-from_get_or}
 use Rattle.std.proofs.lemmas.Int.{ints}
-use Rattle.module_json.specs.ModuleFile.{Generator}
-use Rattle.module_check.specs.Module.{no_generator, degree_at, numbers_from, generators_in, width, bottom}
+use Rattle.module_json.specs.ModuleFile.{Generator, no_generator, degree_at}
+use Rattle.module_check.specs.Module.{numbers_from, generators_in, width, bottom}
 use Rattle.module_check.specs.DerivedAction.{top, span}
-use Rattle.module_check.specs.Acceptance.{NeverFall}
+use Rattle.module_json.specs.WellFormed.{NeverFall}
+use Rattle.module_check.proofs.Degrees.{NeverFall-tail}
 use Rattle.module_check.proofs.Values.{degree_in}
 
 pub generators_of_degree : (gs : List Generator) (t : ℤ) → All (λ j. degree_at gs j ≡ t) (generators_in gs t)
@@ -25,9 +26,6 @@ numbers_none (g ∷ gs) k t h =
 -- a degree above those of all generators
 pub width_above : (gs : List Generator) (t : ℤ) → All (λ g. g.degree <ℤ t) gs → width gs t ≡ 0
 width_above gs t h = ap length (numbers_none gs 0 t h)
-
-NeverFall-tail : (g : Generator) (gs : List Generator) → NeverFall (g ∷ gs) → NeverFall gs
-NeverFall-tail g gs h i j d a b = h (suc i) (suc j) d (omega arith) (omega arith)
 
 bottom-le : (gs : List Generator) (i : ℕ) → NeverFall gs → i < length gs → bottom gs ≤ℤ degree_at gs i
 bottom-le [] i h l = absurd (omega arith)

@@ -9,10 +9,11 @@ use Rattle.std.proofs.lemmas.List.FromFn.{length-range_with_len, get_or-range_wi
 use Rattle.milnor_basis.specs.Exponents.{degree_of, IsTrimmed}
 use Rattle.milnor_basis.specs.Basis.{basis_of}
 use Rattle.milnor_basis.proofs.BasisLemmas.{Contains-basis_of}
-use Rattle.module_json.specs.ModuleFile.{File}
-use Rattle.module_check.specs.Module.{Module, degree_at, width}
+use Rattle.module_json.specs.ModuleFile.{File, degree_at}
+use Rattle.module_check.specs.Module.{Module, width}
 use Rattle.module_check.specs.DerivedAction.{span, derived_module}
-use Rattle.module_check.specs.Acceptance.{IsModule, NeverFall, one_by_one, by_their_product, first_in, relation_on, relation_of, relation_in_degrees, relation_in_degree, first_relation, listed_from, refusal_of, AcceptedIsModule}
+use Rattle.module_json.specs.WellFormed.{NeverFall}
+use Rattle.module_check.specs.Acceptance.{IsModule, one_by_one, by_their_product, first_in, relation_on, relation_of, relation_in_degrees, relation_in_degree, first_relation, listed_from, refusal_of, AcceptedIsModule}
 use Rattle.module_check.specs.declared.fault.CheckFault.TheVariants.{Relation}
 use Rattle.module_check.proofs.AboveSpan.{width_above_span}
 use Rattle.module_check.proofs.Derived.{derived_widths, derived_identity}

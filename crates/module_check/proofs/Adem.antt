@@ -9,8 +9,8 @@ use Rattle.std.proofs.lemmas.List.Elements.{filter-append}
 use Rattle.f2_vec.specs.Vectors.{sum_of}
 use Rattle.milnor_basis.specs.Product.{choose, is_odd}
 use Rattle.milnor_basis.proofs.Kummer.{choose_odd}
-use Rattle.module_json.specs.ModuleFile.{Generator, Entry}
-use Rattle.module_check.specs.Module.{degree_at, width, total}
+use Rattle.module_json.specs.ModuleFile.{Generator, Entry, degree_at}
+use Rattle.module_check.specs.Module.{width, total}
 use Rattle.module_check.specs.DerivedAction.{doubled_below, listed_sum, twice, by_adem}
 use Rattle.module_check.proofs.Elements.{range_push}
 use Rattle.module_check.proofs.Values.{total_push}

@@ -7,7 +7,7 @@ use Rattle.module_check.specs.contracts.generators.Generator as Generator
 use Rattle.module_check.specs.contracts.generators.Generators as Generators
 use Rattle.module_check.specs.contracts.operators.Operator as Operator
 use Rattle.module_check.specs.contracts.operators.Operators as Operators
-use Rattle.module_check.specs.contracts.checked.Module as Module
+use Rattle.module_check.specs.contracts.finite_module.Module as Module
 
 Generator-send : IsSend Generator.the_row
 Generator-send = search (crosses, sendable) depth 20

@@ -1,18 +1,18 @@
 -- The generators of one degree, and how far apart the degrees are.
-use Rattle.std.proofs.Common.{◌≡◌, ℕ, suc, ◌+◌, ◌-◌, ◌<◌, ◌≤◌, ℤ, pos, negsuc, ◌+ℤ◌, ◌≤ℤ◌, ◌<ℤ◌, Bool, true, false, cond, Some, option_map, List, [], ◌∷◌, ◌++◌, length, take, refl, sym, ap, ◌∙◌, arith, slice_get, slice_index_or}
-use Rattle.std.specs.Prelude.{int_lt}
+use Rattle.std.proofs.Common.{◌≡◌, ℕ, suc, ◌+◌, ◌-◌, ◌<◌, ◌≤◌, ℤ, pos, ◌+ℤ◌, ◌≤ℤ◌, ◌<ℤ◌, Bool, true, false, cond, Some, option_map, List, [], ◌∷◌, ◌++◌, length, take, refl, sym, ap, ◌∙◌, arith, slice_get, slice_index_or}
+use Rattle.std.specs.Prelude.{int_lt, neg_ℤ}
 use Rattle.std.specs.Ordering.{int_eq}
 use Rattle.std.specs.List.{count_by, range_with_len}
 use Rattle.std.proofs.lemmas.Int.{ints, by_lt_z}
-use Rattle.module_json.specs.ModuleFile.{Generator, File}
+use Rattle.module_json.specs.ModuleFile.{Generator, degree_at, no_generator}
 use Rattle.std.proofs.lemmas.Bool.Decides.{Decides-int_eq}
 use Rattle.std.proofs.lemmas.List.{take_more}
 use Rattle.std.proofs.lemmas.Option.{slice_get-get_or}
 use Rattle.std.proofs.lemmas.List.Sums.{sum_by-cons}
-use Rattle.module_json.specs.WellFormed.{IsWellFormed}
-use Rattle.module_check.specs.Module.{degree_at, numbers_from, generators_in, width, bottom, no_generator}
+use Rattle.module_json.specs.WellFormed.{NeverFall, AreByDegree}
+use Rattle.module_json.specs.declared.limits.TheConstants.{MAX_DEGREE, MAX_SPAN}
+use Rattle.module_check.specs.Module.{numbers_from, generators_in, width, bottom}
 use Rattle.module_check.specs.DerivedAction.{top}
-use Rattle.module_check.specs.Generators.{AreByDegree}
 
 -- ---- the last generator
 
@@ -28,31 +28,27 @@ top_last (g ∷ gs) last e =
 
 -- how far apart the least and the greatest degree are
 pub record AreNear (gs : List Generator) : Type 0 where
-  pub lowest : negsuc 127 ≤ℤ bottom gs
+  pub lowest : neg_ℤ MAX_DEGREE ≤ℤ bottom gs
   pub above : bottom gs ≤ℤ top gs
-  pub near : top gs ≤ℤ (bottom gs +ℤ pos 64)
-  pub highest : top gs ≤ℤ pos 128
+  pub near : top gs ≤ℤ (bottom gs +ℤ pos MAX_SPAN)
+  pub highest : top gs ≤ℤ MAX_DEGREE
 
 pub are_near : (gs : List Generator) → AreByDegree gs → AreNear gs
 are_near [] h = record { lowest = omega (arith, ints); above = omega (arith, ints); near = omega (arith, ints); highest = omega (arith, ints) }
-are_near (g ∷ []) h = record { lowest = h.lowest 0 (omega arith); above = omega (arith, ints); near = omega (arith, ints); highest = h.highest 0 (omega arith) }
+are_near (g ∷ []) h = record { lowest = h.lowest 0 no_generator (omega arith); above = omega (arith, ints); near = omega (arith, ints); highest = h.highest 0 no_generator (omega arith) }
 are_near (g ∷ x ∷ gs) h =
     let e : top (x ∷ gs) ≡ degree_at (x ∷ gs) (length gs) = top_at x gs in
     record {
-      lowest = h.lowest 0 (omega arith);
-      above = rw e (h.ordered 0 (suc (length gs)) (omega arith) (omega arith));
-      near = rw e (h.span 0 (suc (length gs)) (omega arith) (omega arith));
-      highest = rw e (h.highest (suc (length gs)) (omega arith));
+      lowest = h.lowest 0 no_generator (omega arith);
+      above = rw e (h.ordered 0 (suc (length gs)) no_generator (omega arith) (omega arith));
+      near = rw e (h.span 0 (suc (length gs)) no_generator (omega arith) (omega arith));
+      highest = rw e (h.highest (suc (length gs)) no_generator (omega arith));
     }
 
 -- ---- the generators of one degree
 
--- no degree falls
-abbrev pub AreOrdered : List Generator → Type 0
-AreOrdered gs = (i j : ℕ) → i < j → j < length gs → degree_at gs i ≤ℤ degree_at gs j
-
-ordered_tail : (g : Generator) (gs : List Generator) → AreOrdered (g ∷ gs) → AreOrdered gs
-ordered_tail g gs h i j l m = h (suc i) (suc j) (omega arith) (omega arith)
+pub NeverFall-tail : (g : Generator) (gs : List Generator) → NeverFall (g ∷ gs) → NeverFall gs
+NeverFall-tail g gs h i j d l m = h (suc i) (suc j) d (omega arith) (omega arith)
 
 -- whether a generator is of a degree below t, and of degree t
 abbrev pub is_below : ℤ → Generator → Bool
@@ -100,18 +96,18 @@ pub width_is : (gs : List Generator) (t : ℤ) → width gs t ≡ count_by (is_i
 width_is gs t = length_numbers 0 gs t
 
 -- no generator of a degree above the greatest
-pub width_past : (gs : List Generator) (t : ℤ) → AreByDegree gs → pos 128 <ℤ t → width gs t ≡ 0
+pub width_past : (gs : List Generator) (t : ℤ) → AreByDegree gs → MAX_DEGREE <ℤ t → width gs t ≡ 0
 width_past gs t h l =
-    width_is gs t ∙ count_none (is_in t) gs (λ j m. let k = h.highest j m in eq_no (degree_at gs j) t (λ e. omega (arith, ints)))
+    width_is gs t ∙ count_none (is_in t) gs (λ j m. let k : degree_at gs j ≤ℤ MAX_DEGREE = h.highest j no_generator m in eq_no (degree_at gs j) t (λ e. omega (arith, ints)))
 
 range_same : (a b m n : ℕ) → a ≡ b → m ≡ n → range_with_len a m ≡ range_with_len b n
 range_same a b m n e f = cc
 
 -- those of degree t stand behind those of lower degrees
-numbers_from_are : (i : ℕ) (gs : List Generator) (t : ℤ) → AreOrdered gs → numbers_from i gs t ≡ range_with_len (i + count_by (is_below t) gs) (count_by (is_in t) gs)
+numbers_from_are : (i : ℕ) (gs : List Generator) (t : ℤ) → NeverFall gs → numbers_from i gs t ≡ range_with_len (i + count_by (is_below t) gs) (count_by (is_in t) gs)
 numbers_from_are i [] t h = refl
 numbers_from_are i (g ∷ gs) t h =
-    let later = numbers_from_are (suc i) gs t (ordered_tail g gs h) in
+    let later = numbers_from_are (suc i) gs t (NeverFall-tail g gs h) in
     let rest = numbers_from (suc i) gs t in
     let pick = λ (b : Bool). cond b (i ∷ rest) rest in
     by_order (numbers_from i (g ∷ gs) t ≡ range_with_len (i + count_by (is_below t) (g ∷ gs)) (count_by (is_in t) (g ∷ gs))) g.degree t
@@ -122,14 +118,14 @@ numbers_from_are i (g ∷ gs) t h =
     ap pick no ∙ later ∙ range_same _ _ _ _ (omega arith) (omega arith))
     (λ s.
     let yes : int_eq g.degree t ≡ true = eq_yes g.degree t s in
-    let none : count_by (is_below t) gs ≡ 0 = count_none (is_below t) gs (λ j m. let k = h 0 (suc j) (omega arith) (omega arith) in lt_no (degree_at gs j) t (omega (arith, ints))) in
+    let none : count_by (is_below t) gs ≡ 0 = count_none (is_below t) gs (λ j m. let k : g.degree ≤ℤ degree_at gs j = h 0 (suc j) no_generator (omega arith) (omega arith) in lt_no (degree_at gs j) t (omega (arith, ints))) in
     let a : count_by (is_below t) (g ∷ gs) ≡ 0 + count_by (is_below t) gs = count-cons (is_below t) g gs false (lt_no g.degree t (omega (arith, ints))) in
     let b : count_by (is_in t) (g ∷ gs) ≡ suc (count_by (is_in t) gs) = count-cons (is_in t) g gs true yes ∙ omega arith in
     let here : i + count_by (is_below t) (g ∷ gs) ≡ i = omega arith in
     ap pick yes ∙ ap (λ xs. i ∷ xs) (later ∙ range_same _ (i + 1) _ _ (omega arith) refl) ∙ sym (range_same _ _ _ _ here b))
     (λ l.
     let no : int_eq g.degree t ≡ false = eq_no g.degree t (λ e. omega (arith, ints)) in
-    let none : count_by (is_in t) gs ≡ 0 = count_none (is_in t) gs (λ j m. let k = h 0 (suc j) (omega arith) (omega arith) in eq_no (degree_at gs j) t (λ e. omega (arith, ints))) in
+    let none : count_by (is_in t) gs ≡ 0 = count_none (is_in t) gs (λ j m. let k : g.degree ≤ℤ degree_at gs j = h 0 (suc j) no_generator (omega arith) (omega arith) in eq_no (degree_at gs j) t (λ e. omega (arith, ints))) in
     let b : count_by (is_in t) (g ∷ gs) ≡ 0 = count-cons (is_in t) g gs false no ∙ omega arith in
     ap pick no ∙ later ∙ range_same _ (suc i + count_by (is_below t) gs) _ 0 refl none ∙ sym (range_same _ (i + count_by (is_below t) (g ∷ gs)) _ 0 refl b))
 
@@ -157,15 +153,6 @@ generators_in_end gs t start len a b =
     no e = cc
 
 -- ---- what a module file gives
-
-pub by_degree : (f : File) → IsWellFormed f → AreByDegree f.generators
-by_degree f h = record {
-  few = h.few_generators;
-  lowest = λ i l. h.lowest i no_generator l;
-  highest = λ i l. h.highest i no_generator l;
-  ordered = λ i j l m. h.ordered i j no_generator l m;
-  span = λ i j l m. h.span i j no_generator l m;
-}
 
 -- one more generator of the file
 pub one_more : (gs xs ys : List Generator) (i : ℕ) (name name' : List ℕ) (degree degree' : ℤ) → xs ≡ take i gs → i < length gs → option_map (λ g. g.name) (slice_get gs i) ≡ Some name → option_map (λ g. g.degree) (slice_get gs i) ≡ Some degree → name' ≡ name → degree' ≡ degree → ys ≡ xs ++ record { name = name'; degree = degree' } ∷ []

@@ -10,7 +10,7 @@ use Rattle.milnor_basis.proofs.BasisLemmas.{All-basis_of}
 use Rattle.module_json.specs.ModuleFile.{File}
 use Rattle.module_check.specs.Module.{Module, elements_below}
 use Rattle.module_check.specs.DerivedAction.{derived_value, derived_operator, derived_from, elements, span, derived_module}
-use Rattle.module_check.specs.Operators.{HaveWidths}
+use Rattle.module_check.specs.Inside.Operators.{HaveWidths}
 use Rattle.module_check.proofs.Elements.{elements_more, length-elements, place_found, place_is, elements_at}
 use Rattle.module_check.proofs.Derived.{length-derived_value}
 use Rattle.module_check.proofs.Values.{width_of}

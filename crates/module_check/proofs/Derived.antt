@@ -19,10 +19,10 @@ use Rattle.milnor_basis.specs.Exponents.{degree_of, IsTrimmed}
 use Rattle.milnor_basis.specs.Basis.{basis_of}
 use Rattle.milnor_basis.proofs.BasisLemmas.{All-basis_of}
 use Rattle.milnor_basis.specs.Product.{choose, is_odd, product_terms}
-use Rattle.module_json.specs.ModuleFile.{Generator, File}
-use Rattle.module_check.specs.Module.{degree_at, generators_in, width, unit, or_zeros, value, act_on}
+use Rattle.module_json.specs.ModuleFile.{Generator, File, degree_at}
+use Rattle.module_check.specs.Module.{generators_in, width, unit, or_zeros, value, act_on}
 use Rattle.module_check.specs.DerivedAction.{listed_sum, sum_vector, doubled_below, power_below, twice, adem_terms, by_adem, square_value, front, other_terms, by_product, derived_value, derived_operator, derived_from, elements, span, derived_module}
-use Rattle.module_check.specs.Operators.{HaveWidths}
+use Rattle.module_check.specs.Inside.Operators.{HaveWidths}
 use Rattle.module_check.proofs.Elements.{slice_get-append_left, elements_more}
 use Rattle.module_check.proofs.Values.{widths_nil, widths_more}
 use Rattle.module_check.proofs.Widths.{length-total, length-act_on, degree_of-single, degree_of-front, terms_of_degree}

@@ -1,13 +1,14 @@
 -- The front of an exponent list, and the list behind its first number.
-use Rattle.std.proofs.Common.{◌≡◌, ◌≢◌, ℕ, zero, suc, ◌+◌, ◌-◌, ◌*◌, ◌<◌, ◌≤◌, List, [], ◌∷◌, length, map, drop, Bool, refl, sym, ap, ◌∙◌, inl, inr, arith}
+use Rattle.std.proofs.Common.{◌≡◌, ◌≢◌, ℕ, zero, suc, ◌+◌, ◌-◌, ◌*◌, ◌<◌, ◌≤◌, List, [], ◌∷◌, length, map, drop, Bool, refl, sym, ap, subst, ◌∙◌, inl, inr, arith}
 use Rattle.std.specs.Prelude.{not, nat_eq, All}
 use Rattle.std.specs.List.{range_with_len}
 use Rattle.std.specs.Cmp.Lexicographic.{pointwise}
 use Rattle.std.proofs.lemmas.Bool.{cases_lt}
 use Rattle.std.proofs.lemmas.List.Elements.{All-filter, All-weaker}
-use Rattle.milnor_basis.specs.Exponents.{degree_of, entry, put_before, trimmed, IsTrimmed}
+use Rattle.milnor_basis.specs.Exponents.{degree_of, entry, trimmed, IsTrimmed}
 use Rattle.milnor_basis.specs.Product.{product_terms}
 use Rattle.milnor_basis.proofs.ExponentLemmas.{IsTrimmed-tail, entry_past, entry_last}
+use Rattle.milnor_laws.proofs.Coefficients.{trimmed_same}
 use Rattle.module_json.specs.ModuleFile.{File}
 use Rattle.module_check.specs.Module.{unit}
 use Rattle.module_check.specs.DerivedAction.{front, other_terms, square_value, by_product, derived_operator}
@@ -40,17 +41,6 @@ front_end (x ∷ r) zero l = absurd (omega arith)
 front_end (x ∷ r) (suc i) l = front_end r i (omega arith)
 
 -- ---- behind the first number
-
--- lists with the same numbers are the same but for zeros at the end
-pub trimmed_same : (xs ys : List ℕ) → ((k : ℕ) → entry xs k ≡ entry ys k) → trimmed xs ≡ trimmed ys
-trimmed_same [] [] h = refl
-trimmed_same [] (y ∷ ys) h =
-    let e : y ≡ 0 = sym (h zero) in
-    sym (ap (put_before y) (sym (trimmed_same [] ys (λ k. h (suc k)))) ∙ ap (λ n. put_before n []) e)
-trimmed_same (x ∷ xs) [] h =
-    ap (put_before x) (trimmed_same xs [] (λ k. h (suc k))) ∙ ap (λ n. put_before n []) (h zero)
-trimmed_same (x ∷ xs) (y ∷ ys) h =
-    ap (put_before x) (trimmed_same xs ys (λ k. h (suc k))) ∙ ap (λ n. put_before n (trimmed ys)) (h zero)
 
 entry_behind : (r : List ℕ) (k : ℕ) → entry (drop 1 r) k ≡ entry r (suc k)
 entry_behind [] k = refl
@@ -90,12 +80,16 @@ front_and_behind [] l = absurd (omega arith)
 front_and_behind (x ∷ r) l = sym (degree_of-front x r)
 
 -- the other terms are of the degree of Sq(R), and so is the sum of their values
-pub others_of_degree : (r : ℕ) (s : List ℕ) → All (λ t. degree_of t ≡ degree_of (r ∷ s)) (other_terms r s)
+others_of_degree : (r : ℕ) (s : List ℕ) → All (λ t. degree_of t ≡ degree_of (r ∷ s)) (other_terms r s)
 others_of_degree r s =
     let u = front (r ∷ s) ∷ [] in
     let whole : degree_of u + degree_of s ≡ degree_of (r ∷ s) = ap (λ n. n + degree_of s) (degree_of-single (front (r ∷ s))) ∙ sym (degree_of-front r s) in
     All-filter (λ t. not (pointwise nat_eq t (r ∷ s))) (λ t. degree_of t ≡ degree_of (r ∷ s)) (product_terms u s)
     (All-weaker (λ t. IsTrimmed t × (degree_of t ≡ degree_of u + degree_of s)) (λ t. degree_of t ≡ degree_of (r ∷ s)) (λ t h. h.1 ∙ whole) (product_terms u s) (terms_of_degree u s))
+
+pub others_in_degree : (r : ℕ) (s : List ℕ) (n : ℕ) (terms : List (List ℕ)) → n ≡ degree_of (r ∷ s) → terms ≡ other_terms r s → All (λ t. degree_of t ≡ n) terms
+others_in_degree r s n terms e f =
+    subst (λ (xs : List (List ℕ)). All (λ t. degree_of t ≡ n) xs) (sym f) (subst (λ m. All (λ t. degree_of t ≡ m) (other_terms r s)) (sym e) (others_of_degree r s))
 
 -- ---- the operator of an element, by how many exponents it has
 

@@ -11,9 +11,11 @@ use Rattle.milnor_basis.specs.Product.{coefficient, product_bits}
 use Rattle.milnor_basis.proofs.BasisLemmas.{All-basis_of}
 use Rattle.free_module.specs.Graded.{IsLinear, ActsByProducts}
 use Rattle.milnor_laws.proofs.UnitActs.{acts_by_products}
-use Rattle.module_check.specs.Module.{Module, degree_at, generators_in, width, act_on}
+use Rattle.module_json.specs.ModuleFile.{degree_at}
+use Rattle.module_check.specs.Module.{Module, generators_in, width, act_on}
 use Rattle.module_check.specs.Acceptance.{IsModule, value_of}
-use Rattle.module_check.specs.ModuleLaws.{generators_in-member, HaveWidth-values, module_graded, module_HasUnit, module_KeepsWidths, ModulesAreSteenrodModules}
+use Rattle.module_check.specs.Graded.{module_graded, ModulesAreSteenrodModules}
+use Rattle.module_check.specs.ModuleLaws.{generators_in-member, HaveWidth-values, module_HasUnit, module_KeepsWidths}
 
 -- Sq(R) is given by a matrix
 module_IsLinear : (m : Module) → IsModule m → IsLinear (module_graded m)

@@ -1,17 +1,17 @@
 pub mod Degrees
 pub mod TextSteps
-pub mod Elements
-pub mod Values
-pub mod Adem
-pub mod Fronts
-pub mod Derivation
-pub mod AboveSpan
-pub mod Widths
-pub mod Derived
-pub mod FirstIn
-pub mod Sides
-pub mod Entries
-pub mod Accepted
-pub mod OneGenerator
-pub mod GradedModules
+mod Elements
+mod Values
+mod Adem
+mod Fronts
+mod Derivation
+mod AboveSpan
+mod Widths
+mod Derived
+mod FirstIn
+mod Sides
+mod Entries
+mod Accepted
+mod OneGenerator
+mod GradedModules
 pub mod Crossing

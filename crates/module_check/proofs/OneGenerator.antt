@@ -1,26 +1,27 @@
 -- The module of one generator.
-use Rattle.std.proofs.Common.{◌≡◌, ℕ, zero, suc, ◌+◌, ◌<◌, pos, negsuc, ◌+ℤ◌, ◌≤ℤ◌, Bool, true, List, [], ◌∷◌, Some, length, get_or, refl, ap, sym, subst, ◌∙◌, arith}
-use Rattle.std.specs.Prelude.{slice_get}
+use Rattle.std.proofs.Common.{◌≡◌, ℕ, zero, suc, ◌+◌, ◌<◌, pos, ◌+ℤ◌, ◌≤ℤ◌, Bool, true, List, [], ◌∷◌, Some, length, get_or, refl, ap, sym, subst, ◌∙◌, arith}
+use Rattle.std.specs.Prelude.{slice_get, neg_ℤ, All}
 use Rattle.milnor_basis.specs.Exponents.{degree_of}
-use Rattle.module_json.specs.ModuleFile.{Generator}
-use Rattle.module_check.specs.Module.{Module, degree_at, width}
+use Rattle.module_json.specs.ModuleFile.{Generator, degree_at}
+use Rattle.module_json.specs.declared.limits.TheConstants.{MAX_DEGREE}
+use Rattle.module_check.specs.Module.{Module, width}
 use Rattle.module_check.specs.DerivedAction.{elements, span, derived_module}
 use Rattle.module_check.specs.Acceptance.{IsModule}
-use Rattle.module_check.specs.Generators.{AreByDegree}
+use Rattle.module_json.specs.WellFormed.{AreByDegree}
 use Rattle.module_check.specs.Checked.{sphere_file}
 use Rattle.module_check.proofs.Accepted.{accepted_is_module}
 
 -- what is asked of the generators of a module, where there is one
-pub one_by_degree : (g : Generator) → negsuc 127 ≤ℤ g.degree → g.degree ≤ℤ pos 128 → AreByDegree (g ∷ [])
-one_by_degree g low high = record { few = omega arith; lowest = only_low; highest = only_high; ordered = λ i j l m. absurd (omega arith); span = λ i j l m. absurd (omega arith) }
+pub one_by_degree : (g : Generator) → neg_ℤ MAX_DEGREE ≤ℤ g.degree → g.degree ≤ℤ MAX_DEGREE → AreByDegree (g ∷ [])
+one_by_degree g low high = record { few = omega arith; lowest = only_low; highest = only_high; ordered = λ i j d l m. absurd (omega arith); span = λ i j d l m. absurd (omega arith) }
   where
-    only_low : (i : ℕ) → i < 1 → negsuc 127 ≤ℤ degree_at (g ∷ []) i
-    only_low zero l = low
-    only_low (suc i) l = absurd (omega arith)
+    only_low : All (λ h. neg_ℤ MAX_DEGREE ≤ℤ h.degree) (g ∷ [])
+    only_low zero d l = low
+    only_low (suc i) d l = absurd (omega arith)
 
-    only_high : (i : ℕ) → i < 1 → degree_at (g ∷ []) i ≤ℤ pos 128
-    only_high zero l = high
-    only_high (suc i) l = absurd (omega arith)
+    only_high : All (λ h. h.degree ≤ℤ MAX_DEGREE) (g ∷ [])
+    only_high zero d l = high
+    only_high (suc i) d l = absurd (omega arith)
 
 -- the operator of Sq(), the only one
 abbrev pub identity : List (List Bool)

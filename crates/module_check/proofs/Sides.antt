@@ -19,11 +19,11 @@ use Rattle.milnor_basis.specs.Exponents.{degree_of, IsTrimmed}
 use Rattle.milnor_basis.specs.Basis.{basis_of}
 use Rattle.milnor_basis.specs.Product.{product_terms}
 use Rattle.milnor_basis.proofs.BasisLemmas.{All-basis_of}
-use Rattle.module_json.specs.ModuleFile.{Generator}
-use Rattle.module_check.specs.Module.{Module, degree_at, generators_in, width, place_of, or_zeros, value, act_on, total}
+use Rattle.module_json.specs.ModuleFile.{Generator, degree_at}
+use Rattle.module_check.specs.Module.{Module, generators_in, width, place_of, or_zeros, value, act_on, total}
 use Rattle.module_check.specs.Acceptance.{one_by_one, by_their_product, first_in, relation_on, relation_of, relation_in_degrees, relation_in_degree}
-use Rattle.module_check.specs.Operators.{HaveWidths}
-use Rattle.module_check.specs.Relations.{reaches, reaching, value_at, added}
+use Rattle.module_check.specs.Inside.Operators.{HaveWidths}
+use Rattle.module_check.specs.Inside.Relations.{reaches, reaching, value_at, added}
 use Rattle.module_check.specs.declared.fault.CheckFault.TheVariants.{Relation}
 use Rattle.module_check.proofs.Values.{total_push}
 use Rattle.module_check.proofs.Elements.{range_push}

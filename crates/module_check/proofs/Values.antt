@@ -12,11 +12,11 @@ use Rattle.f2_vec.proofs.Combinations.{combination_more}
 use Rattle.f2_vec.specs.Vectors.{sum_of, zeros}
 use Rattle.f2_vec.proofs.Sums.{length-zeros, sum_of-comm, sum_of-assoc}
 use Rattle.milnor_basis.specs.Exponents.{degree_of}
-use Rattle.module_json.specs.ModuleFile.{Generator}
-use Rattle.module_check.specs.Module.{degree_at, numbers_from, generators_in, width, or_zeros, value, act_on, total, place_of, elements_below}
+use Rattle.module_json.specs.ModuleFile.{Generator, degree_at}
+use Rattle.module_check.specs.Module.{numbers_from, generators_in, width, or_zeros, value, act_on, total, place_of, elements_below}
 use Rattle.module_check.specs.DerivedAction.{elements, span}
-use Rattle.module_check.specs.Relations.{value_at}
-use Rattle.module_check.specs.Operators.{HaveWidths, AreOperators}
+use Rattle.module_check.specs.Inside.Relations.{value_at}
+use Rattle.module_check.specs.Inside.Operators.{HaveWidths, AreOperators}
 use Rattle.module_check.proofs.Elements.{slice_get-append_left, slice_get-append_right, element_at_place, length-elements}
 
 -- the width of the value of Sq(R) on generator i

@@ -10,10 +10,10 @@ use Rattle.milnor_basis.specs.Exponents.{degree_of, degree_from, IsTrimmed}
 use Rattle.milnor_basis.specs.Basis.{basis_of}
 use Rattle.milnor_basis.specs.Product.{coefficient, product_terms}
 use Rattle.milnor_basis.proofs.BasisLemmas.{All-basis_of}
-use Rattle.module_json.specs.ModuleFile.{Generator}
-use Rattle.module_check.specs.Module.{degree_at, generators_in, width, value, act_on, total}
+use Rattle.module_json.specs.ModuleFile.{Generator, degree_at}
+use Rattle.module_check.specs.Module.{generators_in, width, value, act_on, total}
 use Rattle.module_check.specs.DerivedAction.{front}
-use Rattle.module_check.specs.Operators.{HaveWidths}
+use Rattle.module_check.specs.Inside.Operators.{HaveWidths}
 use Rattle.module_check.proofs.AboveSpan.{generators_of_degree}
 
 pub length-total : (n : ℕ) (rows : List (List Bool)) → HaveWidth n rows → length (total n rows) ≡ n

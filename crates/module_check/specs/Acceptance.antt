@@ -1,5 +1,5 @@
 -- Which module files describe a module over the Steenrod algebra, and why the others do not.
-use Rattle.std.specs.Prelude.{◌≡◌, ℕ, suc, ◌+◌, ◌-◌, ◌<◌, pos, ◌+ℤ◌, ◌≤ℤ◌, Bool, ◌||◌, if◌then◌else◌, List, [], ◌∷◌, length, map, AllPairs, Option, Some, None}
+use Rattle.std.specs.Prelude.{◌≡◌, ℕ, suc, ◌+◌, ◌-◌, ◌<◌, pos, ◌+ℤ◌, Bool, ◌||◌, if◌then◌else◌, List, [], ◌∷◌, length, map, Option, Some, None}
 use Rattle.std.specs.Bool.{beq}
 use Rattle.std.specs.Int.{is_power_of_two}
 use Rattle.std.specs.List.{range_with_len}
@@ -8,8 +8,9 @@ use Rattle.std.specs.Cmp.Lexicographic.{pointwise}
 use Rattle.milnor_basis.specs.Exponents.{degree_of, IsTrimmed}
 use Rattle.milnor_basis.specs.Basis.{basis_of}
 use Rattle.milnor_basis.specs.Product.{product_terms}
-use Rattle.module_json.specs.ModuleFile.{Generator, Entry, File}
-use Rattle.module_check.specs.Module.{Module, degree_at, width, unit, value, act_on, total}
+use Rattle.module_json.specs.ModuleFile.{Generator, Entry, File, degree_at}
+use Rattle.module_json.specs.WellFormed.{NeverFall}
+use Rattle.module_check.specs.Module.{Module, width, unit, value, act_on, total}
 use Rattle.module_check.specs.DerivedAction.{sum_vector, span, derived_module}
 use Rattle.module_check.specs.declared.fault.CheckFault.{CheckFault}
 use Rattle.module_check.specs.declared.fault.CheckFault.TheVariants.{Listed, Relation}
@@ -61,10 +62,6 @@ relation_in_degree m n = first_in (relation_in_degrees m n) (range_with_len 1 (n
 
 abbrev pub first_relation : Module → Option CheckFault
 first_relation m = first_in (relation_in_degree m) (range_with_len 2 (span m.generators - 1))
-
--- the degrees of generators do not fall
-abbrev pub NeverFall : List Generator → Type 0
-NeverFall gs = AllPairs (λ g h. g.degree ≤ℤ h.degree) gs
 
 -- why a file describes no module: an entry that differs from its derived value, or else a relation that fails
 abbrev pub refusal_of : File → Option CheckFault

@@ -3,7 +3,7 @@ use Rattle.std.specs.Prelude.{pos, [], ◌∷◌, codes}
 use Rattle.module_json.specs.ModuleFile.{File}
 use Rattle.module_check.specs.Module.{Module}
 use Rattle.module_check.specs.Acceptance.{IsModule}
-use Rattle.module_check.specs.Generators.{AreByDegree}
+use Rattle.module_json.specs.WellFormed.{AreByDegree}
 
 -- the generators and operators of a module over the Steenrod algebra, with the proof that they are one
 pub record Checked : Type 0 where

@@ -7,8 +7,8 @@ use Rattle.std.specs.Cmp.Lexicographic.{pointwise}
 use Rattle.milnor_basis.specs.Exponents.{degree_of}
 use Rattle.milnor_basis.specs.Basis.{basis_of}
 use Rattle.milnor_basis.specs.Product.{choose, is_odd, product_terms}
-use Rattle.module_json.specs.ModuleFile.{Generator, Entry, File}
-use Rattle.module_check.specs.Module.{Module, degree_at, generators_in, width, unit, value, act_on, total, bottom}
+use Rattle.module_json.specs.ModuleFile.{Generator, Entry, File, degree_at}
+use Rattle.module_check.specs.Module.{Module, generators_in, width, unit, value, act_on, total, bottom}
 
 -- the sum that is listed for Sq^n on generator i, empty where none is
 abbrev pub listed_sum : List Entry → ℕ → ℕ → List ℕ

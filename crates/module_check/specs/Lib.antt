@@ -1,9 +1,8 @@
 pub mod Module
 pub mod DerivedAction
 pub mod Acceptance
-pub mod Text
-pub mod Generators
-pub mod Operators
-pub mod ModuleLaws
+pub mod Graded
 pub mod Checked
-pub mod Relations
+pub mod Text
+pub mod ModuleLaws
+pub mod Inside

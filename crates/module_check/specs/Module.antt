@@ -1,25 +1,18 @@
 -- A finite module over the Steenrod algebra: a basis, and the value of each Sq(R) on it.
-use Rattle.std.specs.Prelude.{ℕ, zero, suc, ◌+◌, ℤ, pos, ◌+ℤ◌, Bool, true, nat_eq, if◌then◌else◌, List, [], ◌∷◌, length, map, Option, Some, None, option_map, option_and_then, position, slice_get, slice_index_or}
+use Rattle.std.specs.Prelude.{ℕ, zero, suc, ◌+◌, ℤ, pos, ◌+ℤ◌, Bool, true, nat_eq, if◌then◌else◌, List, [], ◌∷◌, length, map, Option, Some, None, option_map, option_and_then, position, slice_get}
 use Rattle.std.specs.Cmp.Lexicographic.{pointwise}
 use Rattle.std.specs.Ordering.{int_eq}
 use Rattle.f2_vec.specs.Vectors.{zeros}
 use Rattle.f2_vec.specs.Spans.{combination}
 use Rattle.milnor_basis.specs.Exponents.{degree_of}
 use Rattle.milnor_basis.specs.Basis.{basis_of}
-use Rattle.module_json.specs.ModuleFile.{Generator}
+use Rattle.module_json.specs.ModuleFile.{Generator, degree_at}
 
 -- The generators are a basis as a vector space, by degree and in one degree by name. An operator is the list of the
 -- values of one Sq(R) on them; the operators stand in the order of degree, and in one degree in that of Milnor's basis.
 pub record Module : Type 0 where
   pub generators : List Generator
   pub operators : List (List (List Bool))
-
-abbrev pub no_generator : Generator
-no_generator = record { name = []; degree = pos 0 }
-
--- the degree of generator i
-abbrev pub degree_at : List Generator → ℕ → ℤ
-degree_at gs i = (slice_index_or gs i no_generator).degree
 
 -- the numbers, from i on, of the generators of degree t
 abbrev pub numbers_from : ℕ → List Generator → ℤ → List ℕ

@@ -1,5 +1,6 @@
--- The laws of a module's action on vectors: Sq() acts as the identity, and Sq(R) raises degrees by its own.
-use Rattle.std.proofs.Common.{◌≡◌, ◌≢◌, ℕ, zero, suc, ◌+◌, ◌<◌, Bool, true, false, cond, nat_eq, List, [], ◌∷◌, length, map, get_or, ℤ, pos, ◌+ℤ◌, ◌<ℤ◌, refl, ap, sym, ◌∙◌, inl, inr, arith}
+-- Lemmas on a module's action on vectors: Sq() acts as the identity, and Sq(R) raises degrees by its own. What a module is as
+-- a target of linear maps stands on them.
+use Rattle.std.proofs.Common.{◌≡◌, ◌≢◌, ℕ, zero, suc, ◌+◌, ◌<◌, Bool, true, false, cond, nat_eq, List, [], ◌∷◌, length, map, get_or, ℤ, pos, ◌+ℤ◌, ◌≤ℤ◌, ◌<ℤ◌, refl, ap, sym, ◌∙◌, inl, inr, arith}
 use Rattle.std.specs.Ordering.{int_eq}
 use Rattle.std.proofs.lemmas.List.{length-map, ext_get_or, get_or-map}
 use Rattle.std.proofs.lemmas.Bool.{eq-eqb, ne_eqb, cases_lt, cases_eq}
@@ -10,11 +11,12 @@ use Rattle.f2_vec.specs.Spans.{row, HaveWidth, combination}
 use Rattle.f2_vec.proofs.Spans.{length-combination, bit-combination_alone}
 use Rattle.f2_vec.proofs.Combinations.{map_same, HaveWidth-map}
 use Rattle.milnor_basis.specs.Exponents.{degree_of}
-use Rattle.free_module.specs.Graded.{GradedModule, HasUnit, KeepsWidths, IsSteenrodModule}
-use Rattle.module_json.specs.ModuleFile.{Generator}
-use Rattle.module_check.specs.Module.{Module, degree_at, numbers_from, generators_in, width, act_on, bottom}
+use Rattle.free_module.specs.Graded.{HasUnit, KeepsWidths}
+use Rattle.module_json.specs.ModuleFile.{Generator, no_generator, degree_at}
+use Rattle.module_check.specs.Module.{Module, numbers_from, generators_in, width, act_on, bottom}
 use Rattle.module_check.specs.Acceptance.{IsModule, value_of}
-use Rattle.module_check.specs.Generators.{AreByDegree}
+use Rattle.module_check.specs.Graded.{module_graded}
+use Rattle.module_json.specs.WellFormed.{AreByDegree}
 
 -- p-th of the generators of degree t: one of the generators, counted from i on, and of that degree
 pub record IsNumberFrom (i : ℕ) (gs : List Generator) (t : ℤ) (n : ℕ) : Type 0 where
@@ -122,19 +124,11 @@ width-below [] b t l = refl
 width-below (g ∷ gs) b t l =
     ap length (numbers_from-none 0 (g ∷ gs) t (λ k h e. elim (cases_eq k 0) [
       | inl z ↦ let w : g.degree ≡ t = sym (ap (degree_at (g ∷ gs)) z) ∙ e in omega (arith, ints)
-      | inr z ↦ let w = b.ordered 0 k (omega arith) h in omega (arith, ints)
+      | inr z ↦ let w : degree_at (g ∷ gs) 0 ≤ℤ degree_at (g ∷ gs) k = b.ordered 0 k no_generator (omega arith) h in omega (arith, ints)
     ]))
-
--- a module as what a linear map may go to
-abbrev pub module_graded : Module → GradedModule
-module_graded m = record { width = width m.generators; action = act_on m.generators m.operators }
 
 pub module_HasUnit : (m : Module) → IsModule m → HasUnit (module_graded m)
 module_HasUnit m is t v e = act_on-unit m is t v e
 
 pub module_KeepsWidths : (m : Module) → IsModule m → KeepsWidths (module_graded m)
 module_KeepsWidths m is r t v e = length-act_on m is r t v
-
--- what is held as a module is one
-abbrev pub ModulesAreSteenrodModules : Type 0
-ModulesAreSteenrodModules = (m : Module) → IsModule m → IsSteenrodModule (module_graded m)

@@ -3,8 +3,8 @@
 use Rattle.std.specs.Prelude.{ℕ, ℤ, pos, ◌+ℤ◌, Bool, if◌then◌else◌, List, [], ◌∷◌, ◌++◌, length, map, codes, decimal, slice_index_or}
 use Rattle.std.specs.Fmt.{signed_decimal}
 use Rattle.std.specs.List.{flat_map, range_with_len, items_where_true, list_any}
-use Rattle.module_json.specs.ModuleFile.{Generator}
-use Rattle.module_check.specs.Module.{Module, degree_at, generators_in, value, no_generator}
+use Rattle.module_json.specs.ModuleFile.{Generator, degree_at, no_generator}
+use Rattle.module_check.specs.Module.{Module, generators_in, value}
 
 abbrev pub newline : List ℕ
 newline = 10 ∷ []

@@ -1,12 +1,13 @@
+//! The check that a module file describes a module over the Steenrod algebra.
 ghost use Rattle.std.specs.Prelude.{◌≡◌, ◌≢◌, ◌^◌, ◌<◌, Some, None, length, IfOk, IfErr, OnOk};
 ghost use Rattle.module_json.specs.WellFormed.{IsWellFormed};
 ghost use Rattle.module_check.specs.DerivedAction.{derived_module};
 ghost use Rattle.module_check.specs.Acceptance.{is_as_derived, listed_from, refusal_of};
 
-use crate::checked::Module;
 use crate::derive::derive;
-use crate::exponents::square;
+use crate::exponents::sq;
 use crate::fault::CheckFault;
+use crate::finite_module::Module;
 use crate::operators::Operators;
 use crate::relations::{check_relations, degree_above};
 use memory::Memory;
@@ -64,6 +65,6 @@ fn is_as_derived(
     let generators = operators.generators();
     let t = degree_above(generators, i, n);
     let mut difference = generators.sum(alloc, sum, t)?;
-    operators.add_value(&mut difference, &square(n as u16), i);
+    operators.add_value(&mut difference, &sq(n as u16), i);
     Ok(difference.is_zero())
 }

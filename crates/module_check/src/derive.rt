@@ -1,14 +1,17 @@
+//! The action that a module file gives: each Sq(R) on each generator.
 ghost use Rattle.std.specs.Prelude.{◌≡◌, ◌<◌, ◌≤◌, ◌+◌, ◌++◌, pos, ◌+ℤ◌, ◌∷◌, [], drop, length, map, take, slice_index_or, EachIndex, IfOk, OnOk};
 ghost use Rattle.std.specs.List.{range_with_len};
 ghost use Rattle.milnor_basis.specs.Exponents.{degree_of, entry};
 ghost use Rattle.milnor_basis.specs.Basis.{basis_of};
-ghost use Rattle.module_check.specs.Module.{degree_at, width, unit};
+ghost use Rattle.module_json.specs.ModuleFile.{degree_at};
+ghost use Rattle.module_json.specs.declared.limits.TheConstants.{MAX_SPAN};
+ghost use Rattle.module_check.specs.Module.{width, unit};
 ghost use Rattle.module_check.specs.DerivedAction.{front, square_value, other_terms, by_product, derived_operator, derived_from, elements, span, derived_module};
 
-use crate::exponents::{front, rest, square};
+use crate::exponents::{front, rest, sq};
 use crate::generators::Generators;
 use crate::operators::{Operator, Operators};
-use crate::squares::square_value;
+use crate::sq_n::square_value;
 use f2_vec::BitVec;
 use memory::Memory;
 use milnor_basis::{Basis, Exps, terms};
@@ -37,7 +40,7 @@ fn derive_degree(
 ) -> Result<(), Memory>
     requires generators { operators.old.generators ≡ spec.now.generators }
     requires degree { n ≤ span spec.now.generators }
-    requires small { n ≤ 64 }
+    requires small { n ≤ MAX_SPAN }
     requires before { operators.old.operators ≡ derived_from spec.now [] (elements n) }
     ensures generators { operators.new.generators ≡ spec.now.generators }
     ensures after { OnOk result (operators.new.operators ≡ derived_from spec.now [] (elements (n + 1))) }
@@ -59,7 +62,7 @@ fn derived_operator(
 ) -> Result<Operator, Memory>
     requires generators { operators.now.generators ≡ spec.now.generators }
     requires degree { degree_of r.now ≤ span spec.now.generators }
-    requires small { degree_of r.now ≤ 64 }
+    requires small { degree_of r.now ≤ MAX_SPAN }
     ensures operator { IfOk result (λ operator. operator ≡ derived_operator spec.now operators.now.operators r.now) }
     ensures widths { IfOk result (λ operator. EachIndex operator (λ i. length (slice_index_or operator i []) ≡ width spec.now.generators (degree_at spec.now.generators i +ℤ pos (degree_of r.now)))) }
 {
@@ -100,7 +103,7 @@ fn squares(alloc: Global, spec: &Spec, operators: &Operators, n: u16) -> Result<
 fn products(alloc: Global, operators: &Operators, r: &Exps) -> Result<Operator, Memory>
     requires long { 1 < length r.now }
     requires degree { degree_of r.now ≤ span operators.now.generators }
-    requires small { degree_of r.now ≤ 64 }
+    requires small { degree_of r.now ≤ MAX_SPAN }
     ensures { IfOk result (λ operator. operator ≡ map (by_product operators.now.generators operators.now.operators (entry r.now 0) (drop 1 r.now)) (range_with_len 0 (length operators.now.generators))) }
 {
     let count = operators.generators().count();
@@ -135,11 +138,11 @@ impl Split {
     fn of(alloc: Global, basis: &Basis, r: &Exps) -> Result<Self, Memory>
         requires long { 1 < length r.now }
         requires degree { degree_of r.now ≤ basis.now }
-        requires small { degree_of r.now ≤ 64 }
+        requires small { degree_of r.now ≤ MAX_SPAN }
         ensures exponent { IfOk result (λ split. split.exponent ≡ entry r.now 0) }
         ensures rest { IfOk result (λ split. split.rest ≡ drop 1 r.now) }
     {
-        let square = square(front(r));
+        let square = sq(front(r));
         let rest = rest(r);
         let mut others = terms(alloc, basis, &square, &rest)?;
         others.retain(|term| term != r);

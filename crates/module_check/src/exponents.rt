@@ -1,3 +1,4 @@
+//! Exponent lists: that of Sq^n, and the first number of a list and those behind it.
 ghost use Rattle.std.specs.Prelude.{◌≡◌, ◌<◌, ◌^◌, [], ◌∷◌, length, drop};
 ghost use Rattle.milnor_basis.specs.Exponents.{degree_of};
 ghost use Rattle.module_check.specs.DerivedAction.{front};
@@ -6,7 +7,7 @@ use milnor_basis::Exps;
 
 /// Sq^n.
 #[tactic(auto, using(crate::proofs::TextSteps::trimmed_square))]
-pub(crate) fn square(n: u16) -> Exps
+pub(crate) fn sq(n: u16) -> Exps
     requires { 0 < n }
     ensures { result ≡ n ∷ [] }
 {

@@ -1,8 +1,11 @@
-ghost use Rattle.std.specs.Prelude.{◌≡◌, ℕ, ◌-◌, ◌<◌, ◌≤◌, pos, negsuc, ◌+ℤ◌, ◌≤ℤ◌, int_lt, nat_eq, [], ◌∷◌, length, IfOk};
+//! The generators of a module, and those of one degree.
+ghost use Rattle.std.specs.Prelude.{◌≡◌, ℕ, ◌-◌, ◌<◌, ◌≤◌, pos, ◌+ℤ◌, neg_ℤ, ◌≤ℤ◌, int_lt, nat_eq, [], ◌∷◌, length, IfOk};
 ghost use Rattle.std.specs.List.{count_by, list_any, range_with_len};
 ghost use Rattle.std.specs.Ordering.{int_eq};
 ghost use Rattle.milnor_basis.specs.Exponents.{degree_of};
-ghost use Rattle.module_check.specs.Module.{degree_at, generators_in, width, unit, bottom};
+ghost use Rattle.module_json.specs.ModuleFile.{degree_at};
+ghost use Rattle.module_json.specs.declared.limits.TheConstants.{MAX_GENERATORS, MAX_DEGREE, MAX_SPAN};
+ghost use Rattle.module_check.specs.Module.{generators_in, width, unit, bottom};
 ghost use Rattle.module_check.specs.DerivedAction.{sum_vector, top, span};
 ghost use Rattle.module_check.specs.Text.{name_at};
 
@@ -42,7 +45,7 @@ impl Model for Generators {
 
     ghost Value = { List Named };
 
-    ghost use Rattle.module_check.specs.Generators.{AreByDegree};
+    ghost use Rattle.module_json.specs.WellFormed.{AreByDegree};
 
     ghost view = { λ g. g.list.items };
 
@@ -66,8 +69,8 @@ impl Generators {
 
     /// One generator.
     pub(crate) fn one(alloc: Global, name: &str, degree: i32) -> Result<Self, Memory>
-        requires lowest { negsuc 127 ≤ℤ degree }
-        requires highest { degree ≤ℤ pos 128 }
+        requires lowest { neg_ℤ MAX_DEGREE ≤ℤ degree }
+        requires highest { degree ≤ℤ MAX_DEGREE }
         ensures { IfOk result (λ generators. generators ≡ record { name = name.now; degree = degree } ∷ []) }
     {
         let name = String::from_str(alloc, name)?;
@@ -79,7 +82,7 @@ impl Generators {
     /// How many generators there are.
     pub(crate) fn count(&self) -> usize
         ensures count { result ≡ length self.now }
-        ensures few { result ≤ 64 }
+        ensures few { result ≤ MAX_GENERATORS }
     {
         self.list.len()
     }
@@ -97,8 +100,8 @@ impl Generators {
     pub(crate) fn degree(&self, i: usize) -> i32
         requires { i < length self.now }
         ensures degree { result ≡ degree_at self.now i }
-        ensures lowest { negsuc 127 ≤ℤ result }
-        ensures highest { result ≤ℤ pos 128 }
+        ensures lowest { neg_ℤ MAX_DEGREE ≤ℤ result }
+        ensures highest { result ≤ℤ MAX_DEGREE }
     {
         let generator = &self.list[i];
         generator.degree
@@ -118,8 +121,8 @@ impl Generators {
     #[tactic(auto, using(crate::proofs::Degrees::top_last))]
     pub(crate) fn top(&self) -> i32
         ensures top { result ≡ top self.now }
-        ensures lowest { negsuc 127 ≤ℤ result }
-        ensures highest { result ≤ℤ pos 128 }
+        ensures lowest { neg_ℤ MAX_DEGREE ≤ℤ result }
+        ensures highest { result ≤ℤ MAX_DEGREE }
     {
         match self.count().checked_sub(1) {
             Some(last) => self.degree(last),
@@ -130,8 +133,9 @@ impl Generators {
     /// How far apart the least and the greatest degree are.
     pub(crate) fn span(&self) -> u16
         ensures span { result ≡ span self.now }
-        ensures small { result ≤ 64 }
+        ensures small { result ≤ MAX_SPAN }
     {
+        // The invariant is known where a field is read.
         let _ = &self.list;
         (self.top() - self.bottom()) as u16
     }

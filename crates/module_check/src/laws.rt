@@ -1,6 +1,6 @@
-// Laws over the definitions, as contracts of functions that do nothing.
+//! Laws over the definitions, as contracts of functions that do nothing.
 ghost use Rattle.module_check.specs.Acceptance.{AcceptedIsModule};
-ghost use Rattle.module_check.specs.ModuleLaws.{ModulesAreSteenrodModules};
+ghost use Rattle.module_check.specs.Graded.{ModulesAreSteenrodModules};
 
 /// A file whose generators stand by degree, and that is not refused, describes a module: each relation holds, also
 /// those of a degree above the span, that no check looks at.

@@ -2,21 +2,21 @@
 #![tactic(auto)]
 
 mod acceptance;
-mod checked;
 mod derive;
 mod exponents;
 mod fault;
+mod finite_module;
 mod generators;
 mod laws;
 mod operators;
 mod relations;
-mod squares;
+mod sq_n;
 mod target;
 #[cfg(test)]
 mod tests;
 mod text;
 
 pub use acceptance::check;
-pub use checked::Module;
 pub use fault::CheckFault;
+pub use finite_module::Module;
 pub use laws::{accepted_is_module, modules_are_graded_modules};

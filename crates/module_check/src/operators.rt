@@ -1,12 +1,14 @@
+//! The value of each Sq(R) on each generator, and on vectors.
 ghost use Rattle.std.specs.Prelude.{◌≡◌, ◌+◌, ◌^◌, ◌<◌, ◌≤◌, ◌↔◌, ℕ, pos, ◌+ℤ◌, [], ◌∷◌, ◌++◌, Some, length, map, slice_get, slice_index_or, All, EachIndex, IfOk, IfSome, IfNone, IsNone, OnOk, OnErr, option_copied};
 ghost use Rattle.std.specs.List.{range_with_len};
 ghost use Rattle.f2_vec.specs.Vectors.{sum_of, zeros};
 ghost use Rattle.milnor_basis.specs.Exponents.{degree_of};
 ghost use Rattle.milnor_basis.specs.Basis.{basis_of};
-ghost use Rattle.module_check.specs.Module.{degree_at, width, value, act_on, total, place_of, elements_below};
+ghost use Rattle.module_json.specs.ModuleFile.{degree_at};
+ghost use Rattle.module_check.specs.Module.{width, value, act_on, total, place_of, elements_below};
 ghost use Rattle.module_check.specs.DerivedAction.{elements, span};
-ghost use Rattle.module_check.specs.Operators.{HaveWidths};
-ghost use Rattle.module_check.specs.Relations.{value_at};
+ghost use Rattle.module_check.specs.Inside.Operators.{HaveWidths};
+ghost use Rattle.module_check.specs.Inside.Relations.{value_at};
 
 use crate::generators::Generators;
 use f2_vec::BitVec;
@@ -58,7 +60,7 @@ pub(crate) struct Operators {
 
 impl Model for Operators {
     ghost use Rattle.module_check.specs.Module.{Module};
-    ghost use Rattle.module_check.specs.Operators.{AreOperators};
+    ghost use Rattle.module_check.specs.Inside.Operators.{AreOperators};
 
     ghost Value = { Module };
 

@@ -1,14 +1,17 @@
-ghost use Rattle.std.specs.Prelude.{◌≡◌, ◌≢◌, ◌+◌, ◌-◌, ◌<◌, ◌≤◌, pos, negsuc, ◌+ℤ◌, ◌≤ℤ◌, Some, None, length, map, All, IfOk, IfErr, OnOk};
+//! The relations of a module: Sq(R) on Sq(S) is their product.
+ghost use Rattle.std.specs.Prelude.{◌≡◌, ◌≢◌, ◌+◌, ◌-◌, ◌<◌, ◌≤◌, pos, ◌+ℤ◌, neg_ℤ, ◌≤ℤ◌, Some, None, length, map, All, IfOk, IfErr, OnOk};
 ghost use Rattle.std.specs.Option.{ForSome};
 ghost use Rattle.f2_vec.specs.Vectors.{sum_of};
 ghost use Rattle.milnor_basis.specs.Exponents.{degree_of};
 ghost use Rattle.milnor_basis.specs.Basis.{basis_of};
 ghost use Rattle.milnor_basis.specs.Product.{product_terms};
-ghost use Rattle.module_check.specs.Module.{degree_at, width, place_of};
+ghost use Rattle.module_json.specs.ModuleFile.{degree_at};
+ghost use Rattle.module_json.specs.declared.limits.TheConstants.{MAX_DEGREE};
+ghost use Rattle.module_check.specs.Module.{width, place_of};
 ghost use Rattle.module_check.specs.DerivedAction.{span};
 ghost use Rattle.module_check.specs.Acceptance.{one_by_one, by_their_product, first_in, relation_on, relation_of, relation_in_degrees, relation_in_degree, first_relation};
-ghost use Rattle.module_check.specs.Operators.{HaveWidths};
-ghost use Rattle.module_check.specs.Relations.{reaches, reaching, value_at, added};
+ghost use Rattle.module_check.specs.Inside.Operators.{HaveWidths};
+ghost use Rattle.module_check.specs.Inside.Relations.{reaches, reaching, value_at, added};
 
 use crate::fault::CheckFault;
 use crate::generators::Generators;
@@ -142,8 +145,8 @@ fn places(alloc: Global, operators: &Operators, elements: &[Exps]) -> Result<Vec
 pub(crate) fn degree_above(generators: &Generators, i: usize, n: u32) -> i64
     requires { i < length generators.now }
     ensures degree { result ≡ (degree_at generators.now i +ℤ pos n) }
-    ensures lowest { negsuc 127 ≤ℤ result }
-    ensures highest { result ≤ℤ (pos 128 +ℤ pos n) }
+    ensures lowest { neg_ℤ MAX_DEGREE ≤ℤ result }
+    ensures highest { result ≤ℤ (MAX_DEGREE +ℤ pos n) }
 {
     i64::from(generators.degree(i)) + i64::from(n)
 }

@@ -1,7 +1,9 @@
+//! A module as the target of linear maps.
 ghost use Rattle.std.specs.Prelude.{ℕ, ℤ};
-ghost use Rattle.module_check.specs.ModuleLaws.{module_graded, module_HasUnit, module_KeepsWidths};
+ghost use Rattle.module_check.specs.Graded.{module_graded};
+ghost use Rattle.module_check.specs.ModuleLaws.{module_HasUnit, module_KeepsWidths};
 
-use crate::checked::Module;
+use crate::finite_module::Module;
 use f2_vec::BitVec;
 use free_module::Target;
 use memory::Memory;

@@ -1,3 +1,4 @@
+//! Modules from small files: their texts, values and refusals.
 ghost use Rattle.std.specs.Prelude.{◌≡◌, pos, ◌+ℤ◌, length};
 ghost use Rattle.milnor_basis.specs.Exponents.{degree_of};
 
@@ -14,7 +15,7 @@ const C2: &str =
     r#"{"type":"finite dimensional module","p":2,"gens":{"x0":0,"x1":1},"actions":["Sq1 x0 = x1"]}"#;
 
 /// Sq^n.
-fn square(n: u16) -> Exps {
+fn sq(n: u16) -> Exps {
     Exps::of([n, 0, 0, 0, 0, 0, 0, 0])
 }
 
@@ -55,10 +56,10 @@ fn values(rt: HostRuntime) -> Result<(), Fail> {
     for (t, dim) in [(-1, 0), (0, 1), (1, 1), (2, 0)] {
         assert_eq!(rt; module.dim_in(t), dim, "in degree {t}");
     }
-    assert_eq!(rt; module.act(alloc, &square(0), 1)?.first_one(), Some(0));
-    assert_eq!(rt; module.act(alloc, &square(1), 0)?.first_one(), Some(0));
-    assert_eq!(rt; module.act(alloc, &square(1), 1)?.len(), 0);
-    let value = module.act(alloc, &square(1), 0)?;
+    assert_eq!(rt; module.act(alloc, &sq(0), 1)?.first_one(), Some(0));
+    assert_eq!(rt; module.act(alloc, &sq(1), 0)?.first_one(), Some(0));
+    assert_eq!(rt; module.act(alloc, &sq(1), 1)?.len(), 0);
+    let value = module.act(alloc, &sq(1), 0)?;
     if value.len() == module.dim_in(1) {
         assert_eq!(rt;
             module.sum_text(alloc, 1, &value)?.as_slice(),
@@ -73,8 +74,8 @@ fn sphere(rt: HostRuntime) -> Result<(), Fail> {
     let alloc = rt.alloc();
     let sphere = Module::sphere(alloc)?;
     assert_eq!(rt; sphere.count(), 1);
-    assert_eq!(rt; sphere.act(alloc, &square(0), 0)?.first_one(), Some(0));
-    assert_eq!(rt; sphere.act(alloc, &square(1), 0)?.len(), 0);
+    assert_eq!(rt; sphere.act(alloc, &sq(0), 0)?.first_one(), Some(0));
+    assert_eq!(rt; sphere.act(alloc, &sq(1), 0)?.len(), 0);
     let text = sphere.canonical_text(alloc)?;
     assert_eq!(rt; text.as_slice(), b"gen x0 0\n".as_slice());
     Ok(())
@@ -116,8 +117,8 @@ fn accepted(rt: HostRuntime) -> Result<(), Fail> {
 fn refused(rt: HostRuntime) -> Result<(), Fail> {
     let alloc = rt.alloc();
     let twice = |n, generator| CheckFault::Relation {
-        r: square(n),
-        s: square(n),
+        r: sq(n),
+        s: sq(n),
         generator,
     };
     for (gens, actions, fault) in [
@@ -182,7 +183,7 @@ fn target(rt: HostRuntime) -> Result<(), Fail> {
     let mut v = BitVec::zero(alloc, module.dim_in(0))?;
     assert_eq!(rt; v.len(), 1);
     v.set(0, true);
-    let image = acted(alloc, &module, &basis, &square(1), 0, &v)?;
+    let image = acted(alloc, &module, &basis, &sq(1), 0, &v)?;
     assert_eq!(rt; image.first_one(), Some(0));
     Ok(())
 }

@@ -1,10 +1,11 @@
 //! The canonical text of a module.
 ghost use Rattle.std.specs.Prelude.{◌≡◌, ◌<◌, ◌+◌, ◌++◌, [], ◌∷◌, pos, ◌+ℤ◌, length, map, codes, decimal, IfOk, EachIndex, slice_index};
 ghost use Rattle.std.specs.List.{flat_map, range_with_len, items_where_true};
-ghost use Rattle.module_check.specs.Module.{degree_at, generators_in, width};
+ghost use Rattle.module_json.specs.ModuleFile.{degree_at};
+ghost use Rattle.module_check.specs.Module.{generators_in, width};
 ghost use Rattle.module_check.specs.Text.{newline, name_at, generator_line, joined_by_plus, sum_text, square_line, powers, canonical_text};
 
-use crate::exponents::square;
+use crate::exponents::sq;
 use crate::generators::Generators;
 use crate::operators::Operators;
 use f2_vec::BitVec;
@@ -81,7 +82,7 @@ fn square_line(alloc: Global, operators: &Operators, i: usize, n: u16) -> Result
     requires square { 0 < n }
     ensures { IfOk result (λ line. line.items ≡ square_line operators.now i n) }
 {
-    let value = operators.value(alloc, &square(n), i)?;
+    let value = operators.value(alloc, &sq(n), i)?;
     if value.is_zero() {
         return Ok(Vec::new(alloc));
     }

@@ -1,5 +1,5 @@
 -- What holds of the basis of generators that are not refused.
-use Rattle.std.specs.Prelude.{◌≡◌, ◌≢◌, ℕ, suc, ◌≤◌, ℤ, pos, negsuc, ◌+ℤ◌, ◌≤ℤ◌, int_le, Bool, true, false, cond, List, [], ◌∷◌, length, All, AllPairs, IsTrue, Option, Some, None, String, string_bytes}
+use Rattle.std.specs.Prelude.{◌≡◌, ◌≢◌, ℕ, suc, ◌≤◌, ℤ, pos, neg_ℤ, ◌+ℤ◌, ◌≤ℤ◌, int_le, Bool, true, false, cond, List, [], ◌∷◌, length, All, AllPairs, IsTrue, Option, Some, None, String, string_bytes}
 use Rattle.std.specs.List.{list_all, AllByRecursion}
 use Rattle.std.specs.List.Sorted.{IsStrictlySortedBy}
 use Rattle.std.specs.Option.{option_or}
@@ -17,6 +17,7 @@ use Rattle.std.proofs.lemmas.List.Sums.{AllPass-from_list_all}
 use Rattle.serde_json.specs.Data.{Members, no_members, member}
 use Rattle.serde_json.specs.View.{view, members_view}
 use Rattle.serde_json.specs.declared.value.Value.{Value}
+use Rattle.module_json.specs.declared.limits.TheConstants.{MAX_GENERATORS, MAX_ACTIONS, MAX_DEGREE, MAX_SPAN}
 use Rattle.module_json.specs.Actions.{is_name}
 use Rattle.module_json.specs.Checks.{unless, members_count}
 use Rattle.module_json.specs.WellFormed.{IsEntryOf, Agree, IsWellFormed}
@@ -31,8 +32,8 @@ use Rattle.module_json.proofs.Order.{EachPair, Rises, Rises-by_degree, All-place
 -- the name and the degree of one that is not refused
 pub record IsFine (g : Generator) : Type 0 where
   pub name : IsTrue (is_name g.name)
-  pub lowest : negsuc 127 ≤ℤ g.degree
-  pub highest : g.degree ≤ℤ pos 128
+  pub lowest : neg_ℤ MAX_DEGREE ≤ℤ g.degree
+  pub highest : g.degree ≤ℤ MAX_DEGREE
 
 none_first : (p q : Option Malformed) → option_or p q ≡ None → (p ≡ None) × (q ≡ None)
 none_first None q h = (refl, h)
@@ -42,10 +43,10 @@ unless_none : (b : Bool) (e : Malformed) → unless b e ≡ None → b ≡ true
 unless_none true e h = refl
 unless_none false e h = absurd (cc)
 
-limits : (z : ℤ) → within_limit z ≡ true → (negsuc 127 ≤ℤ z) × (z ≤ℤ pos 128)
+limits : (z : ℤ) → within_limit z ≡ true → (neg_ℤ MAX_DEGREE ≤ℤ z) × (z ≤ℤ MAX_DEGREE)
 limits z h = (grind (arith, ints), grind (arith, ints))
 
-degree_fine : (i : ℕ) (o : Option ℤ) → degree_refusal i o ≡ None → (z : ℤ) × (o ≡ Some z) × ((negsuc 127 ≤ℤ z) × (z ≤ℤ pos 128))
+degree_fine : (i : ℕ) (o : Option ℤ) → degree_refusal i o ≡ None → (z : ℤ) × (o ≡ Some z) × ((neg_ℤ MAX_DEGREE ≤ℤ z) × (z ≤ℤ MAX_DEGREE))
 degree_fine i None h = absurd (cc)
 degree_fine i (Some z) h = (z, refl, limits z (unless_none (within_limit z) _ h))
 
@@ -120,20 +121,20 @@ pairs_by_place : (R : Generator → Generator → Type 0) (gs : List Generator) 
 pairs_by_place R [] h = λ i j d l m. absurd (omega (arith, m))
 pairs_by_place R (g ∷ gs) h = AllPairs-cons R g gs (All-from_recursion (R g) gs h.0) (pairs_by_place R gs h.1)
 
-near : (z y : ℤ) → int_le z (y +ℤ pos 64) ≡ true → z ≤ℤ (y +ℤ pos 64)
+near : (z y : ℤ) → int_le z (y +ℤ pos MAX_SPAN) ≡ true → z ≤ℤ (y +ℤ pos MAX_SPAN)
 near z y h = grind (arith, ints)
 
-spans_pairs : (gs : List Generator) → spans gs ≡ true → AllPairs (λ g h. h.degree ≤ℤ (g.degree +ℤ pos 64)) gs
+spans_pairs : (gs : List Generator) → spans gs ≡ true → AllPairs (λ g h. h.degree ≤ℤ (g.degree +ℤ pos MAX_SPAN)) gs
 spans_pairs gs all i j d l m =
     let g = get_or gs i d in
     let h = get_or gs j d in
-    let one : list_all (λ k. int_le h.degree (k.degree +ℤ pos 64)) gs ≡ true = AllPass-from_list_all (λ k. list_all (λ n. int_le k.degree (n.degree +ℤ pos 64)) gs) gs all j d m in
-    near h.degree g.degree (AllPass-from_list_all (λ k. int_le h.degree (k.degree +ℤ pos 64)) gs one i d (omega arith))
+    let one : list_all (λ k. int_le h.degree (k.degree +ℤ pos MAX_SPAN)) gs ≡ true = AllPass-from_list_all (λ k. list_all (λ n. int_le k.degree (n.degree +ℤ pos MAX_SPAN)) gs) gs all j d m in
+    near h.degree g.degree (AllPass-from_list_all (λ k. int_le h.degree (k.degree +ℤ pos MAX_SPAN)) gs one i d (omega arith))
 
 -- ---- the module
 
 -- A module whose generators and entries are not refused is well formed.
-pub accepted : (es : List (String Global × Value)) (gs : List Generator) (entries : List Entry) → gs ≡ basis (members_view es) → IsStrictlySortedBy string_cmp (keys_of es) → length es ≤ 64 → generators_refusal 0 (members_view es) ≡ None → span_refusal gs ≡ None → length entries ≤ 4096 → All (IsEntryOf gs) entries → AllPairs Agree entries → IsWellFormed (record { generators = gs; entries = entries })
+pub accepted : (es : List (String Global × Value)) (gs : List Generator) (entries : List Entry) → gs ≡ basis (members_view es) → IsStrictlySortedBy string_cmp (keys_of es) → length es ≤ MAX_GENERATORS → generators_refusal 0 (members_view es) ≡ None → span_refusal gs ≡ None → length entries ≤ MAX_ACTIONS → All (IsEntryOf gs) entries → AllPairs Agree entries → IsWellFormed (record { generators = gs; entries = entries })
 accepted es gs entries is up few fine spanned few_entries actions agree =
     let each : AllByRecursion IsFine gs = rw is (All-by_degree IsFine (listed (members_view es)) (listed_fine 0 (members_view es) fine)) in
     let all = All-from_recursion IsFine gs each in
@@ -141,13 +142,15 @@ accepted es gs entries is up few fine spanned few_entries actions agree =
     let rises : Rises gs = rw is (Rises-by_degree (listed (members_view es))) in
     let count : length gs ≡ length (listed (members_view es)) = rw is (length-by_degree (listed (members_view es))) in
     record {
-      few_generators = omega (arith, count, listed_few (members_view es), members_counted es);
+      by_degree = record {
+        few = omega (arith, count, listed_few (members_view es), members_counted es);
+        lowest = λ k d l. (all k d l).lowest;
+        highest = λ k d l. (all k d l).highest;
+        ordered = pairs_by_place (λ g h. g.degree ≤ℤ h.degree) gs rises;
+        span = spans_pairs gs (unless_none (spans gs) _ spanned);
+      };
       names = λ k d l. (all k d l).name;
       distinct = pairs_by_place (λ g h. g.name ≢ h.name) gs apart;
-      lowest = λ k d l. (all k d l).lowest;
-      highest = λ k d l. (all k d l).highest;
-      ordered = pairs_by_place (λ g h. g.degree ≤ℤ h.degree) gs rises;
-      span = spans_pairs gs (unless_none (spans gs) _ spanned);
       few_entries = few_entries;
       actions = actions;
       agree = agree;

@@ -14,12 +14,12 @@ pub record IsJson (bytes : List ℕ) (d : Data) : Type 0 where
   pub is_text : IsUtf8 bytes
   pub reads : read bytes ≡ Some d
 
--- What a call answers that refuses so: want of memory is free.
+-- What a call answers that refuses so; it may also run out of memory.
 abbrev pub RefusesBy : {A : Type 0} → Result A Malformed → Option Malformed → Type 0
 RefusesBy (Ok a) r = r ≡ None
 RefusesBy (Err e) r = e ≢ Memory → r ≡ Some e
 
--- What a call answers whose answer this is: want of memory is free.
+-- What a call answers whose answer this is; it may also run out of memory.
 abbrev pub Answers : {A : Type 0} → Result A Malformed → Result A Malformed → Type 0
 Answers (Ok a) r = r ≡ Ok a
 Answers (Err e) r = e ≢ Memory → r ≡ Err e

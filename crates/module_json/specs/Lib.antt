@@ -2,4 +2,4 @@ pub mod Actions
 pub mod Checks
 pub mod ModuleFile
 pub mod WellFormed
-pub mod Cut
+pub mod Inside

@@ -113,9 +113,13 @@ abbrev pub numbers_of : List Generator → List (List ℕ) → Option (List ℕ)
 numbers_of gs [] = Some []
 numbers_of gs (name ∷ names) = option_and_then (λ j. option_map (λ js. j ∷ js) (numbers_of gs names)) (number_of gs name)
 
--- the degree of generator i, 0 where there is none
+-- what stands for a generator where there is none
+abbrev pub no_generator : Generator
+no_generator = record { name = []; degree = pos 0 }
+
+-- the degree of generator i
 abbrev pub degree_at : List Generator → ℕ → ℤ
-degree_at gs i = (slice_index_or gs i (record { name = []; degree = pos 0 })).degree
+degree_at gs i = (slice_index_or gs i no_generator).degree
 
 -- each of these generators has this degree
 abbrev pub are_in : List Generator → ℤ → List ℕ → Bool

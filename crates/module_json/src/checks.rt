@@ -1,3 +1,4 @@
+//! The checks of a module file before its actions.
 ghost use Rattle.std.specs.Prelude.{◌≡◌, ◌≢◌, ◌≤◌, length, Some, IfOk, IfErr};
 ghost use Rattle.std.specs.Result.{result_err};
 ghost use Rattle.std.specs.String.{string_cmp};
@@ -16,6 +17,7 @@ use std::alloc::Global;
 /// The one type of module that files may describe.
 const KIND: &str = "finite dimensional module";
 
+/// The check of the size of a file.
 pub(crate) fn check_size(bytes: &[u8]) -> Result<(), Malformed>
     ensures { result_err result ≡ size_refusal bytes.now }
 {
@@ -25,6 +27,7 @@ pub(crate) fn check_size(bytes: &[u8]) -> Result<(), Malformed>
     Ok(())
 }
 
+/// The JSON value of a file.
 pub(crate) fn parse(alloc: Global, bytes: &[u8]) -> Result<Value, Malformed>
     ensures value { IfOk result (λ v. IsJson bytes.now (view v)) }
     ensures only { IfErr result (λ e. e ≢ Malformed.Memory → e ≡ Malformed.Json) }
@@ -41,6 +44,7 @@ pub(crate) fn parse(alloc: Global, bytes: &[u8]) -> Result<Value, Malformed>
     }
 }
 
+/// The check that a file is a JSON object.
 fn check_whole(file: &Value) -> Result<(), Malformed>
     ensures { result_err result ≡ whole_refusal (view file.now) }
 {
@@ -50,6 +54,7 @@ fn check_whole(file: &Value) -> Result<(), Malformed>
     Ok(())
 }
 
+/// The check of `"type"`.
 fn check_kind(file: &Value) -> Result<(), Malformed>
     ensures { result_err result ≡ kind_refusal (view file.now) }
 {
@@ -60,6 +65,7 @@ fn check_kind(file: &Value) -> Result<(), Malformed>
     }
 }
 
+/// The check that there is no `"cofiber"`.
 fn check_cofiber(file: &Value) -> Result<(), Malformed>
     ensures { result_err result ≡ cofiber_refusal (view file.now) }
 {
@@ -69,6 +75,7 @@ fn check_cofiber(file: &Value) -> Result<(), Malformed>
     }
 }
 
+/// The check that there is no `"shift"`.
 fn check_shift(file: &Value) -> Result<(), Malformed>
     ensures { result_err result ≡ shift_refusal (view file.now) }
 {
@@ -78,6 +85,7 @@ fn check_shift(file: &Value) -> Result<(), Malformed>
     }
 }
 
+/// The check that `"p"` is 2, or left out.
 fn check_prime(file: &Value) -> Result<(), Malformed>
     ensures { result_err result ≡ prime_refusal (view file.now) }
 {

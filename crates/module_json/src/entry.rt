@@ -1,3 +1,4 @@
+//! The entries of a module file: its actions, with generators by number.
 ghost use Rattle.std.specs.Prelude.{◌≡◌, ◌≢◌, ◌<◌, ◌&&◌, ◌==◌, [], length, map, position, Some, Ok, Err, IfOk, IfErr, IfSome, option_map, All, AllPairs};
 ghost use Rattle.std.specs.Ordering.{int_eq};
 ghost use Rattle.serde_json.specs.View.{view, items_view};
@@ -63,6 +64,7 @@ fn have_degree(gens: &[Generator], degree: i64, numbers: &[usize]) -> bool
     numbers.iter().all(|j| has_degree(gens, degree, *j))
 }
 
+/// Whether generator `j` has this degree.
 fn has_degree(gens: &[Generator], degree: i64, j: usize) -> bool
     requires { j < length gens.now }
     ensures { result ≡ int_eq (degree_at gens.now j) degree }

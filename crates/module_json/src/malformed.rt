@@ -1,3 +1,4 @@
+//! What can be wrong with a module file.
 ghost use Rattle.std.specs.Prelude.{◌≡◌};
 ghost use Rattle.module_json.specs.declared.malformed.Malformed.TheVariants.{Memory as OutOfMemory};
 
@@ -5,7 +6,7 @@ use memory::Memory;
 use std::alloc::{AllocError, AllocFailed};
 use thiserror::Error;
 
-/// What is wrong with a module file: the first check that fails, or want of memory.
+/// What is wrong with a module file: the first check that fails, or out of memory.
 #[derive(Clone, Copy, Debug, PartialEq, Eq, Drop, Error)]
 pub enum Malformed {
     #[error("past the limit of {what}")]

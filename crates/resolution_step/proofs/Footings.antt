@@ -11,7 +11,7 @@ use Rattle.free_module.specs.FreeModule.{free_width}
 use Rattle.free_module.specs.Graded.{GradedModule, HasUnit, free_graded}
 use Rattle.free_module.specs.LinearMap.{AreImages, map_rows}
 use Rattle.module_check.specs.Module.{bottom, width}
-use Rattle.module_check.specs.ModuleLaws.{module_graded}
+use Rattle.module_check.specs.Graded.{module_graded}
 use Rattle.module_check.specs.Checked.{Checked}
 use Rattle.resolution_laws.specs.Resolution.{Content, no_content, square_in, degrees_from, images_of, target_over, candidates_over, IsChosen, IsStepOver}
 use Rattle.resolution_laws.specs.Start.{squares_below, row_below, IsOf}

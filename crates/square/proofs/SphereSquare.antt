@@ -8,7 +8,8 @@ use Rattle.f2_matrix.specs.Reduction.{Rows, Reduction, IsReductionOf}
 use Rattle.module_check.specs.Checked.{Checked, sphere_file}
 use Rattle.module_check.specs.DerivedAction.{derived_module}
 use Rattle.module_check.specs.Module.{Module as SteenrodModule, bottom, width}
-use Rattle.module_check.specs.ModuleLaws.{module_graded, module_HasUnit}
+use Rattle.module_check.specs.Graded.{module_graded}
+use Rattle.module_check.specs.ModuleLaws.{module_HasUnit}
 use Rattle.resolution_laws.specs.Resolution.{Content, IsChosen, IsStep}
 use Rattle.resolution_laws.proofs.NewGenerators.{map_rows-new, IsStepOver_from_choice}
 use Rattle.square.specs.Squares.{module_over, square_matrix, IsQuasi}

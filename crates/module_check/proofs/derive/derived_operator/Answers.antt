@@ -4,7 +4,7 @@ use Rattle.milnor_basis.specs.Exponents.{entry}
 use Rattle.milnor_basis.proofs.ExponentLemmas.{entry_last}
 use Rattle.module_check.specs.Module.{unit}
 use Rattle.module_check.specs.DerivedAction.{square_value, by_product, derived_operator}
-use Rattle.module_check.specs.Operators.{HaveWidths}
+use Rattle.module_check.specs.Inside.Operators.{HaveWidths}
 use Rattle.module_check.proofs.Values.{width_of}
 use Rattle.module_check.proofs.Fronts.{operator_of_none, operator_of_one, operator_of_more}
 use Rattle.module_check.proofs.Derivation.{derived_widths_of, if_ok_is}

@@ -3,7 +3,7 @@ use Rattle.std.specs.List.{range_with_len}
 use Rattle.std.proofs.lemmas.Result.{err_from_is_err_and}
 use Rattle.std.proofs.lemmas.Grind.{common_steps}
 use Rattle.module_check.specs.Acceptance.{first_in, relation_in_degrees}
-use Rattle.module_check.specs.Relations.{reaching}
+use Rattle.module_check.specs.Inside.Relations.{reaching}
 use Rattle.module_check.proofs.FirstIn.{first_in_range_more, first_in_range_found}
 use Rattle.module_check.proofs.Sides.{nothing_reached}
 use Rattle.module_check.proofs.relations.check_degree.Goals as goal

@@ -3,7 +3,7 @@ use Rattle.std.proofs.lemmas.Result.{err_from_is_err_and}
 use Rattle.milnor_basis.specs.Exponents.{degree_of}
 use Rattle.milnor_basis.specs.Basis.{basis_of}
 use Rattle.module_check.specs.Acceptance.{first_in, relation_of}
-use Rattle.module_check.specs.Relations.{reaching}
+use Rattle.module_check.specs.Inside.Relations.{reaching}
 use Rattle.module_check.proofs.FirstIn.{first_in_more_at, first_in_found_at, first_in_all}
 use Rattle.module_check.proofs.Sides.{degree_in_basis}
 use Rattle.module_check.proofs.relations.check_degrees.Goals.{After-r-item}

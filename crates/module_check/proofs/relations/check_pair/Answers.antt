@@ -3,7 +3,7 @@ use Rattle.std.proofs.lemmas.Result.{err_from_is_err_and}
 use Rattle.std.proofs.lemmas.List.Elements.{All-same, All-get_or}
 use Rattle.milnor_basis.specs.Exponents.{degree_of}
 use Rattle.module_check.specs.Acceptance.{relation_on}
-use Rattle.module_check.specs.Relations.{reaching}
+use Rattle.module_check.specs.Inside.Relations.{reaching}
 use Rattle.module_check.proofs.FirstIn.{first_in_more, first_in_found, first_in_all}
 use Rattle.module_check.proofs.Sides.{reaching_within, relation_of-reaching}
 use Rattle.module_check.proofs.relations.check_pair.Goals.{In_ok-pair}

@@ -1,6 +1,6 @@
 use Rattle.std.specs.Prelude.{◌≡◌, ℕ, suc, List, ◌++◌, map, length, Option, Some, None, option_map}
 use Rattle.module_json.specs.Actions.{pieces, with_names}
-use Rattle.module_json.specs.Cut.{later_pieces}
+use Rattle.module_json.specs.Inside.Cut.{later_pieces}
 use Rattle.module_json.proofs.action.names_of_sum.Given as goal
 
 abbrev length_left : Option (List ℕ) → ℕ

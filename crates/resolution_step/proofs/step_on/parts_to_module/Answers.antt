@@ -3,7 +3,7 @@ use Rattle.std.proofs.lemmas.Int.{to_z-of_z}
 use Rattle.std.proofs.lemmas.Result.{IfOk-weaker}
 use Rattle.f2_vec.specs.Spans.{unit_vectors}
 use Rattle.module_check.specs.Module.{bottom}
-use Rattle.module_check.specs.ModuleLaws.{module_graded}
+use Rattle.module_check.specs.Graded.{module_graded}
 use Rattle.resolution_laws.specs.Resolution.{candidates_over}
 use Rattle.resolution_laws.proofs.Rows.{IsWithinReach-row}
 use Rattle.square.specs.Squares.{module_over}

@@ -11,7 +11,7 @@ use Rattle.module_check.proofs.derive.Split.of.Goals as goal
 
 pub terms-requires : goal.terms-requires
 terms-requires c =
-    let first : degree_of c.square-square.result ≡ front c.args.r.now = ap degree_of c.square-square.ensures ∙ degree_of-single c.front.result ∙ c.front.ensures.front in
+    let first : degree_of c.sq-square.result ≡ front c.args.r.now = ap degree_of c.sq-square.ensures ∙ degree_of-single c.front.result ∙ c.front.ensures.front in
     let second : degree_of c.rest-rest.result ≡ degree_of (drop 1 c.args.r.now) = ap degree_of c.rest-rest.ensures in
     omega (arith, front_and_behind c.args.r.now (omega arith))
 
@@ -21,7 +21,7 @@ invariant_of-result c =
     let e = c.exponent.result in
     let s = c.rest-rest.result in
     let whole : e ∷ s ≡ r = ap (λ n. n ∷ s) c.exponent.ensures ∙ ap (λ t. entry r 0 ∷ t) c.rest-rest.ensures ∙ first_and_behind r (omega arith) in
-    let square : c.square-square.result ≡ front (e ∷ s) ∷ [] = c.square-square.ensures ∙ ap (λ n. n ∷ []) (c.front.ensures.front ∙ ap front (sym whole)) in
+    let square : c.sq-square.result ≡ front (e ∷ s) ∷ [] = c.sq-square.ensures ∙ ap (λ n. n ∷ []) (c.front.ensures.front ∙ ap front (sym whole)) in
     let kept : c.retain.new.self.items ≡ filter (λ t. not (pointwise nat_eq t r)) c.in_ok-others.others.items = filter_same _ (λ t. not (pointwise nat_eq t r)) _ (λ x b f t. search rules) _ _ c.retain.ensures.filtered in
     record {
       square_is = square;

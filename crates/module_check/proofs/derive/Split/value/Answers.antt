@@ -1,21 +1,20 @@
-use Rattle.std.proofs.Common.{◌≡◌, ℕ, ◌+◌, pos, ◌+ℤ◌, List, [], ◌∷◌, length, map, to_z, of_z, w64, All, ap, sym, subst, ◌∙◌, arith}
+use Rattle.std.proofs.Common.{◌≡◌, ℕ, ◌+◌, pos, ◌+ℤ◌, List, [], ◌∷◌, length, map, to_z, of_z, w64, ap, sym, ◌∙◌, arith}
 use Rattle.std.proofs.lemmas.Int.{ints}
 use Rattle.f2_vec.specs.Vectors.{sum_of}
 use Rattle.f2_vec.specs.Spans.{HaveWidth}
 use Rattle.f2_vec.proofs.Combinations.{HaveWidth-map_where}
 use Rattle.milnor_basis.specs.Exponents.{degree_of}
-use Rattle.module_check.specs.Module.{degree_at, width, value, act_on, total}
+use Rattle.module_json.specs.ModuleFile.{degree_at}
+use Rattle.module_check.specs.Module.{width, value, act_on, total}
 use Rattle.module_check.specs.DerivedAction.{front, other_terms}
 use Rattle.module_check.proofs.Widths.{length-total, length-act_on, degree_of-front, degree_of-single}
-use Rattle.module_check.proofs.Fronts.{others_of_degree}
+use Rattle.module_check.proofs.Fronts.{others_in_degree}
 use Rattle.module_check.proofs.derive.Split.value.Goals as goal
 
 pub sum_on-requires-clause-degrees : goal.sum_on-requires-clause-degrees
 sum_on-requires-clause-degrees c =
     let split = c.args.self.now in
-    let all = subst (λ n. All (λ t. degree_of t ≡ n) (other_terms split.exponent split.rest)) (sym split.degree_is) (others_of_degree split.exponent split.rest) in
-    let terms : c.as_slice.result.now ≡ other_terms split.exponent split.rest = c.as_slice.ensures.value ∙ split.others_are in
-    subst (λ (xs : List (List ℕ)). All (λ t. degree_of t ≡ split.degree) xs) (sym terms) all
+    others_in_degree split.exponent split.rest split.degree c.as_slice.result.now split.degree_is (c.as_slice.ensures.value ∙ split.others_are)
 
 pub xor_with-requires : goal.xor_with-requires
 xor_with-requires c =
@@ -24,8 +23,6 @@ xor_with-requires c =
     let split = c.args.self.now in
     let i = c.args.i in
     let widths = c.generators.ensures.widths in
-    let all = subst (λ n. All (λ t. degree_of t ≡ n) (other_terms split.exponent split.rest)) (sym split.degree_is) (others_of_degree split.exponent split.rest) in
-    let terms : c.as_slice.result.now ≡ other_terms split.exponent split.rest = c.as_slice.ensures.value ∙ split.others_are in
     let t = to_z w64 (of_z w64 (to_z w64 (of_z w64 c.from.result) +ℤ to_z w64 (of_z w64 c.from-2.result))) in
     let degree : c.degree.result ≡ degree_at gs i = c.degree.ensures.degree ∙ ap (λ g. degree_at g i) c.generators.ensures.generators in
     let at : t ≡ degree_at gs i +ℤ pos (degree_of split.rest) = omega (arith, ints, c.from.ensures, c.from-2.ensures, c.degree.ensures.lowest, c.degree.ensures.highest, c.degree-2.ensures.degree) in
@@ -35,7 +32,7 @@ xor_with-requires c =
     let up : t +ℤ pos (degree_of split.square) ≡ degree_at gs i +ℤ pos split.degree = omega (arith, ints, at, square, whole) in
     let first : length c.in_ok-sum.sum ≡ w = ap length c.in_ok-sum.ensures ∙ length-act_on gs operators split.square t c.in_ok-value.value widths ∙ ap (width gs) up in
     let wide : HaveWidth w (map (λ r. value gs operators r i) c.as_slice.result.now) =
-    HaveWidth-map_where (λ r. degree_of r ≡ split.degree) w (λ r. value gs operators r i) c.as_slice.result.now (λ r h. widths r i ∙ ap (λ n. width gs (degree_at gs i +ℤ pos n)) h) (subst (λ (xs : List (List ℕ)). All (λ r. degree_of r ≡ split.degree) xs) (sym terms) all) in
+    HaveWidth-map_where (λ r. degree_of r ≡ split.degree) w (λ r. value gs operators r i) c.as_slice.result.now (λ r h. widths r i ∙ ap (λ n. width gs (degree_at gs i +ℤ pos n)) h) (others_in_degree split.exponent split.rest split.degree c.as_slice.result.now split.degree_is (c.as_slice.ensures.value ∙ split.others_are)) in
     first ∙ sym (ap length c.in_ok-others.ensures ∙ length-total w (map (λ r. value gs operators r i) c.as_slice.result.now) wide)
 
 pub returns : goal.returns
@@ -45,7 +42,6 @@ returns c =
     let split = c.args.self.now in
     let i = c.args.i in
     let widths = c.generators.ensures.widths in
-    let all = subst (λ n. All (λ t. degree_of t ≡ n) (other_terms split.exponent split.rest)) (sym split.degree_is) (others_of_degree split.exponent split.rest) in
     let terms : c.as_slice.result.now ≡ other_terms split.exponent split.rest = c.as_slice.ensures.value ∙ split.others_are in
     let t = to_z w64 (of_z w64 (to_z w64 (of_z w64 c.from.result) +ℤ to_z w64 (of_z w64 c.from-2.result))) in
     let degree : c.degree.result ≡ degree_at gs i = c.degree.ensures.degree ∙ ap (λ g. degree_at g i) c.generators.ensures.generators in

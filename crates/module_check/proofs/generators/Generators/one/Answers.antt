@@ -1,7 +1,7 @@
 use Rattle.std.proofs.Common.{◌≡◌, ◌++◌, List, ℕ, [], ◌∷◌, to_z, of_z, w32, ap, sym, subst, ◌∙◌, arith}
 use Rattle.std.proofs.lemmas.Int.{ints}
 use Rattle.module_json.specs.ModuleFile.{Generator}
-use Rattle.module_check.specs.Generators.{AreByDegree}
+use Rattle.module_json.specs.WellFormed.{AreByDegree}
 use Rattle.module_check.proofs.OneGenerator.{one_by_degree}
 use Rattle.module_check.proofs.generators.Generators.one.Goals as goal
 

@@ -1,6 +1,6 @@
 use Rattle.std.proofs.Common.{subst, arith}
 use Rattle.std.proofs.lemmas.Int.{to_z-of_z}
-use Rattle.module_check.specs.Generators.{AreByDegree}
+use Rattle.module_json.specs.WellFormed.{AreByDegree}
 use Rattle.module_check.proofs.Degrees.{generators_in_are, generators_in_end}
 use Rattle.module_check.proofs.generators.Generators.within.Goals as goal
 

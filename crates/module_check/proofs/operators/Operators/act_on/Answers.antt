@@ -5,8 +5,9 @@ use Rattle.std.proofs.lemmas.List.FromFn.{length-range_with_len}
 use Rattle.f2_vec.specs.Vectors.{sum_of}
 use Rattle.f2_vec.specs.Spans.{combination}
 use Rattle.milnor_basis.specs.Exponents.{degree_of}
-use Rattle.module_check.specs.Module.{Module, degree_at, generators_in, width, value, act_on}
-use Rattle.module_check.specs.Operators.{HaveWidths}
+use Rattle.module_json.specs.ModuleFile.{degree_at}
+use Rattle.module_check.specs.Module.{Module, generators_in, width, value, act_on}
+use Rattle.module_check.specs.Inside.Operators.{HaveWidths}
 use Rattle.module_check.proofs.Values.{degree_of_number, act_more, act_all}
 use Rattle.module_check.proofs.operators.Operators.act_on.Goals as goal
 use Rattle.module_check.proofs.operators.Operators.act_on.Goals.{then-get, else-get}

@@ -1,6 +1,7 @@
 -- The sum of the values of the first elements.
 use Rattle.std.proofs.Common.{◌≡◌, pos, ◌+ℤ◌, length, map, take}
-use Rattle.module_check.specs.Module.{degree_at, width, value, total}
+use Rattle.module_json.specs.ModuleFile.{degree_at}
+use Rattle.module_check.specs.Module.{width, value, total}
 use Rattle.module_check.proofs.operators.Operators.sum_on.Given as goal
 
 abbrev pub invariant-loop-r : goal.invariant-loop-r

@@ -1,10 +1,10 @@
 use Rattle.std.proofs.Common.{◌≡◌, ℕ, List, rules, length, ℤ, pos, ◌+ℤ◌, to_z, of_z, w64, refl, ap, sym, ◌∙◌}
 use Rattle.std.proofs.lemmas.Int.{to_z-of_z}
 use mir.Val.{SFits}
-use Rattle.module_json.specs.ModuleFile.{Generator}
+use Rattle.module_json.specs.ModuleFile.{Generator, degree_at}
 use Rattle.milnor_basis.specs.Exponents.{degree_of}
 use Rattle.f2_vec.specs.Vectors.{sum_of}
-use Rattle.module_check.specs.Module.{degree_at, width, act_on}
+use Rattle.module_check.specs.Module.{width, act_on}
 use Rattle.module_check.specs.Acceptance.{one_by_one}
 use Rattle.module_check.proofs.Sides.{one_by_one_width, one_by_one_none, one_by_one_zero, value_is_wide, one_by_one_is}
 use Rattle.module_check.proofs.relations.Pair.add_one_by_one.Goals.{In_ok-image}

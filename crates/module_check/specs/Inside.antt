@@ -1,0 +1,3 @@
+-- Words of the contracts of private types and functions.
+pub mod Operators
+pub mod Relations
