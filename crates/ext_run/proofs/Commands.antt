@@ -13,7 +13,8 @@ use Rattle.ext_run.specs.declared.words.WordsFault.{WordsFault}
 use Rattle.ext_run.specs.declared.words.WordsFault.TheVariants.{Words as Outside, Memory as NoSpace}
 use Rattle.ext_run.specs.Failure.{words_failure}
 use Rattle.ext_run.specs.Words.{command_of}
-use Rattle.ext_run.specs.Answer.{IsAnswer, IsAnswerTo, IsAnswerFrom, IsCauseFrom, Reads, WordsRead, IsChart, IsDump, IsLineOn, IsModuleAnswer, no_file, no_module, text_of, IsFileCauseFrom, IsModuleFrom, IsCommandAnswerFrom, IsCommandCauseFrom}
+use Rattle.ext_run.specs.Input.{IsFileCauseFrom, IsModuleFrom}
+use Rattle.ext_run.specs.Answer.{IsAnswer, IsAnswerTo, IsAnswerFrom, IsCauseFrom, Reads, WordsRead, IsChart, IsDump, IsLineOn, IsModuleAnswer, no_file, no_module, text_of, IsCommandAnswerFrom, IsCommandCauseFrom}
 
 -- some bytes, and all that is left where that is told
 bytes_of : Option (List ℕ) → List ℕ
@@ -29,7 +30,7 @@ pub sphere_answer : (common : Common) (left : Option (List ℕ)) (m : SteenrodMo
 sphere_answer common left m text e p = record {
   bytes = bytes_of left;
   all = all_of left;
-  is_answer = subst (λ (n : SteenrodModule). IsChart common.range n text) e p;
+  holds = subst (λ (n : SteenrodModule). IsChart common.range n text) e p;
 }
 
 -- ---- the commands that read a module
@@ -59,14 +60,14 @@ module _ (command : Command) (IsTextOf : SteenrodModule → List ℕ → Type 0)
   module_answer m text p x = record {
     bytes = p.is_file.bytes;
     all = p.is_file.all;
-    is_answer = on.answers p.is_file.bytes (Ok text) (text_of p.file text p.is_file.is_file p.no_refusal (subst (λ (n : SteenrodModule). IsTextOf n text) p.is_derived x));
+    holds = on.answers p.is_file.bytes (Ok text) (text_of p.file text p.is_file.holds p.no_refusal (subst (λ (n : SteenrodModule). IsTextOf n text) p.is_derived x));
   }
 
   -- there is no answer where there is no module
   pub module_cause : (failure : Failure) → IsFileCauseFrom left failure → IsCommandCauseFrom command left failure
   module_cause Words p = absurd p
-  module_cause (NoModuleFile e) p = record { bytes = p.bytes; all = p.all; is_answer = on.answers p.bytes (Err (NoModuleFile e)) (no_file e p.is_file) }
-  module_cause (NotModule f e) p = record { bytes = p.0.bytes; all = p.0.all; is_answer = on.answers p.0.bytes (Err (NotModule f e)) (no_module f e p.0.is_file p.1) }
+  module_cause (NoModuleFile e) p = record { bytes = p.bytes; all = p.all; holds = on.answers p.bytes (Err (NoModuleFile e)) (no_file e p.holds) }
+  module_cause (NotModule f e) p = record { bytes = p.0.bytes; all = p.0.all; holds = on.answers p.0.bytes (Err (NotModule f e)) (no_module f e p.0.holds p.1) }
   module_cause Reading p = on.reads
   module_cause Writing p = absurd p
   module_cause Memory p = tt
@@ -77,7 +78,7 @@ pub words_answer : (words : List (List ℕ)) (left : Option (List ℕ)) (command
 words_answer words left command answer e p = record {
   bytes = p.bytes;
   all = p.all;
-  is_answer = subst (λ (o : Option Command). MatchOption o (answer ≡ Err Words) (λ c. IsAnswerTo c p.bytes answer)) (sym e) p.is_answer;
+  holds = subst (λ (o : Option Command). MatchOption o (answer ≡ Err Words) (λ c. IsAnswerTo c p.bytes answer)) (sym e) p.holds;
 }
 
 pub words_read : (words : List (List ℕ)) (command : Command) → command_of words ≡ Some command → Reads command → WordsRead words
@@ -102,7 +103,7 @@ refused_cause : (words : List (List ℕ)) (left : Option (List ℕ)) → command
 refused_cause words left e = record {
   bytes = bytes_of left;
   all = all_of left;
-  is_answer = refused_as words (bytes_of left) (Err Words) e refl;
+  holds = refused_as words (bytes_of left) (Err Words) e refl;
 }
 
 -- a fault of the words is their refusal, or want of memory

@@ -1,13 +1,13 @@
-pub mod AnswerUnique
-pub mod Joined
-pub mod ClapLevels
-pub mod ClapReads
-pub mod ClapWords
-pub mod CommandNames
-pub mod Commands
-pub mod Dashes
-pub mod Reading
-pub mod Resolved
-pub mod WordLimits
-pub mod Written
-pub mod TopCall
+mod AnswerUnique
+mod Joined
+mod ClapLevels
+mod ClapReads
+mod ClapWords
+mod CommandNames
+mod Commands
+mod Dashes
+mod Reading
+mod Resolved
+mod WordLimits
+mod Written
+pub mod Causes

@@ -10,7 +10,7 @@ use Rattle.module_json.specs.declared.malformed.Malformed.{Malformed}
 use Rattle.module_json.specs.declared.malformed.Malformed.TheVariants.{Limit, Json, Shape, Kind, Prime, Name, Degree, Action, Memory}
 use Rattle.module_json.specs.declared.malformed.What.TheVariants.{Bytes}
 use Rattle.ext_run.specs.Failure.{file_failure}
-use Rattle.ext_run.specs.Answer.{IsFileFrom, IsFileCauseFrom, most_read}
+use Rattle.ext_run.specs.Input.{IsFileFrom, IsFileCauseFrom, most_read}
 
 pub most_read-is : most_read ≡ 2 ^ 20 + 1
 unfolding most_read
@@ -38,8 +38,8 @@ file_of_all read l file e p = elim (cases_lt (2 ^ 20) (length l)) [
 ]
 
 pub file-read : (left : Option (List ℕ)) (read : List ℕ) (file : Result File Malformed) → IfSome left (λ l. read ≡ take most_read l) → IsFileOf read file → IsFileFrom left file
-file-read None read file e p = record { bytes = read; all = tt; is_file = p }
-file-read (Some l) read file e p = record { bytes = l; all = refl; is_file = file_of_all read l file e p }
+file-read None read file e p = record { bytes = read; all = tt; holds = p }
+file-read (Some l) read file e p = record { bytes = l; all = refl; holds = file_of_all read l file e p }
 
 pub rest-read : (left new : Option (List ℕ)) (read : List ℕ) (n : ℕ) → n ≡ length read → IfSome left (λ l. read ≡ take most_read l) → new ≡ without_first left n → new ≡ without_first left most_read
 rest-read None new read n count e r = r

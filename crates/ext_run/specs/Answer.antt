@@ -1,5 +1,5 @@
 -- What the program answers to its words, and to the module file that it reads.
-use Rattle.std.specs.Prelude.{◌≡◌, ℕ, ◌+◌, ◌^◌, List, length, Option, Some, None, MatchOption, IfSome, IsOkAnd, Result, Ok, Err, ⊤}
+use Rattle.std.specs.Prelude.{◌≡◌, ℕ, List, length, Option, Some, None, MatchOption, IsOkAnd, Result, Ok, Err, ⊤}
 use Rattle.module_json.specs.ModuleFile.{File, IsFileOf}
 use Rattle.module_json.specs.declared.malformed.Malformed.{Malformed}
 use Rattle.module_check.specs.Module.{Module as SteenrodModule, bottom}
@@ -10,7 +10,7 @@ use Rattle.module_check.specs.declared.fault.CheckFault.{CheckFault}
 use Rattle.ext_run.specs.declared.words.Command.{Command}
 use Rattle.ext_run.specs.declared.words.Command.TheVariants.{Sphere, Resolve, Dump, Check}
 use Rattle.ext_run.specs.declared.failure.Failure.{Failure}
-use Rattle.ext_run.specs.declared.failure.Failure.TheVariants.{Words, Malformed as NoModuleFile, NotModule, Reading, Writing, Memory}
+use Rattle.ext_run.specs.declared.failure.Failure.TheVariants.{Words, Malformed as NoModuleFile, NotModule}
 use Rattle.resolution_laws.specs.Resolution.{Content, IsCanonicalTable, generator_count}
 use Rattle.resolution_laws.specs.Exactness.{IsMinimalResolution}
 use Rattle.square.specs.Squares.{module_over}
@@ -20,6 +20,7 @@ use Rattle.ext_chart.specs.Check.{check_line}
 use Rattle.ext_chart.specs.Dump.{dump_text}
 use Rattle.ext_run.specs.Words.{command_of}
 use Rattle.ext_run.specs.Failure.{status_of, line_of}
+use Rattle.ext_run.specs.Input.{IsOfInput, IsCauseOf, IsAccepted}
 
 -- ---- the texts of a module
 
@@ -68,11 +69,13 @@ AnswerIsUnique = (words : List (List ℕ)) (bytes : List ℕ) (a b : Result (Lis
 
 -- ---- a source that may not tell what it has left
 
--- the answer to the words and to all that a source has left; where it does not tell, to some bytes
-pub record IsAnswerFrom (words : List (List ℕ)) (left : Option (List ℕ)) (answer : Result (List ℕ) Failure) : Type 0 where
-  pub bytes : List ℕ
-  pub all : IfSome left (λ l. bytes ≡ l)
-  pub is_answer : IsAnswer words bytes answer
+-- the answer to the words and to the input
+abbrev pub IsAnswerFrom : List (List ℕ) → Option (List ℕ) → Result (List ℕ) Failure → Type 0
+IsAnswerFrom words left answer = IsOfInput (λ bytes. IsAnswer words bytes answer) left
+
+-- the same for one command
+abbrev pub IsCommandAnswerFrom : Command → Option (List ℕ) → Result (List ℕ) Failure → Type 0
+IsCommandAnswerFrom command left answer = IsOfInput (λ bytes. IsAnswerTo command bytes answer) left
 
 -- the command reads its input
 abbrev pub Reads : Command → Type 0
@@ -86,44 +89,10 @@ WordsRead words = MatchOption (command_of words) ⊥ Reads
 
 -- A failure that the words and the input have is their answer. Reading fails only where the words have it.
 abbrev pub IsCauseFrom : List (List ℕ) → Option (List ℕ) → Failure → Type 0
-IsCauseFrom words left Reading = WordsRead words
-IsCauseFrom words left Writing = ⊤
-IsCauseFrom words left Memory = ⊤
-IsCauseFrom words left failure = IsAnswerFrom words left (Err failure)
-
--- the same for one command
-pub record IsCommandAnswerFrom (command : Command) (left : Option (List ℕ)) (answer : Result (List ℕ) Failure) : Type 0 where
-  pub bytes : List ℕ
-  pub all : IfSome left (λ l. bytes ≡ l)
-  pub is_answer : IsAnswerTo command bytes answer
+IsCauseFrom words left failure = IsCauseOf (WordsRead words) ⊤ (λ f. IsAnswerFrom words left (Err f)) failure
 
 abbrev pub IsCommandCauseFrom : Command → Option (List ℕ) → Failure → Type 0
-IsCommandCauseFrom command left Reading = Reads command
-IsCommandCauseFrom command left Writing = ⊥
-IsCommandCauseFrom command left Memory = ⊤
-IsCommandCauseFrom command left failure = IsCommandAnswerFrom command left (Err failure)
-
--- What a source has left describes, or its first refusal; where it does not tell, what some bytes do.
-pub record IsFileFrom (left : Option (List ℕ)) (file : Result File Malformed) : Type 0 where
-  pub bytes : List ℕ
-  pub all : IfSome left (λ l. bytes ≡ l)
-  pub is_file : IsFileOf bytes file
-
--- why there is no module: what was read is no module file, or describes none, or a device or the memory failed
-abbrev pub IsFileCauseFrom : Option (List ℕ) → Failure → Type 0
-IsFileCauseFrom left (NoModuleFile e) = IsFileFrom left (Err e)
-IsFileCauseFrom left (NotModule f e) = IsFileFrom left (Ok f) × (refusal_of f ≡ Some e)
-IsFileCauseFrom left Words = ⊥
-IsFileCauseFrom left Writing = ⊥
-IsFileCauseFrom left Reading = ⊤
-IsFileCauseFrom left Memory = ⊤
-
--- the module that what a source has left describes
-pub record IsModuleFrom (left : Option (List ℕ)) (m : SteenrodModule) : Type 0 where
-  pub file : File
-  pub is_file : IsFileFrom left (Ok file)
-  pub no_refusal : refusal_of file ≡ None
-  pub is_derived : m ≡ derived_module file
+IsCommandCauseFrom command left failure = IsCauseOf (Reads command) ⊥ (λ f. IsCommandAnswerFrom command left (Err f)) failure
 
 -- the line on standard error for a status other than 0
 pub record IsLineFrom (words : List (List ℕ)) (left : Option (List ℕ)) (status : ℕ) (line : List ℕ) : Type 0 where
@@ -131,16 +100,6 @@ pub record IsLineFrom (words : List (List ℕ)) (left : Option (List ℕ)) (stat
   pub cause : IsCauseFrom words left failure
   pub status_is : status ≡ status_of failure
   pub line_is : line ≡ line_of failure
-
--- one byte past the greatest size of a module file, which is as far as an input is read
-unfoldable pub most_read : ℕ
-most_read = 2 ^ 20 + 1
-
--- the bytes describe a module
-pub record IsAccepted (bytes : List ℕ) : Type 0 where
-  pub file : File
-  pub is_file : IsFileOf bytes (Ok file)
-  pub no_refusal : refusal_of file ≡ None
 
 -- The command has its module: where it reads its input, that is told, and describes one.
 abbrev pub HasModule : Option (List ℕ) → Command → Type 0

@@ -1,5 +1,7 @@
 pub mod Words
 pub mod CommandLine
+pub mod Input
 pub mod Answer
+pub mod Run
 pub mod Parts
 pub mod Failure

@@ -6,7 +6,7 @@ use Rattle.square.specs.Tables.{plain_rows}
 use Rattle.resolution_laws.specs.Start.{IsCanonicalStart}
 use Rattle.resolution_step.specs.Alone.{cut}
 use Rattle.ext_run.proofs.Resolved.{is_resolved}
-use Rattle.ext_run.proofs.top_call.resolved.Goals as goal
+use Rattle.ext_run.proofs.texts.resolved.Goals as goal
 
 pub returns-in-Ok-clause-resolved : goal.returns-in-Ok-clause-resolved
 returns-in-Ok-clause-resolved c =

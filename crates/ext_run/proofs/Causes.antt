@@ -20,8 +20,10 @@ use Rattle.ext_run.specs.declared.words.Command.TheVariants.{Sphere, Resolve, Du
 use Rattle.ext_run.specs.declared.failure.Failure.{Failure}
 use Rattle.ext_run.specs.declared.failure.Failure.TheVariants.{Words, Malformed as NoModuleFile, NotModule, Reading, Writing, Memory}
 use Rattle.ext_run.specs.Words.{command_of}
+use Rattle.ext_run.specs.Run.{IsStatusOf, IsComplete}
 use Rattle.ext_run.specs.Failure.{status_of, malformed_status, fault_status}
-use Rattle.ext_run.specs.Answer.{IsChart, IsDump, IsLineOn, IsModuleAnswer, no_file, no_module, text_of, IsAnswerTo, IsAnswer, AnswerIsUnique, IsAnswerFrom, IsCauseFrom, Reads, WordsRead, most_read, IsAccepted, HasModule, IsAnswerable}
+use Rattle.ext_run.specs.Input.{most_read, IsAccepted}
+use Rattle.ext_run.specs.Answer.{IsChart, IsDump, IsLineOn, IsModuleAnswer, no_file, no_module, text_of, IsAnswerTo, IsAnswer, AnswerIsUnique, IsAnswerFrom, IsCauseFrom, Reads, WordsRead, HasModule, IsAnswerable}
 use Rattle.ext_run.proofs.AnswerUnique.{answer-unique}
 use Rattle.ext_run.proofs.Reading.{most_read-is}
 use Rattle.resolution_laws.proofs.TableIsUnique.{table_is_unique}
@@ -35,7 +37,7 @@ one_answer = answer-unique (table_is_unique kernel_basis_unique) file_unique
 told : (words : List (List ℕ)) (left : Option (List ℕ)) (l : List ℕ) (a b : Result (List ℕ) Failure) → left ≡ Some l → IsAnswerFrom words left a → IsAnswer words l b → a ≡ b
 told words left l a b e p q =
     let same : p.bytes ≡ l = subst (λ (o : Option (List ℕ)). IfSome o (λ m. p.bytes ≡ m)) e p.all in
-    one_answer words l a b (subst (λ (bytes : List ℕ). IsAnswer words bytes a) same p.is_answer) q
+    one_answer words l a b (subst (λ (bytes : List ℕ). IsAnswer words bytes a) same p.holds) q
 
 -- words outside the grammar have no other answer
 only_words : (words : List (List ℕ)) (bytes : List ℕ) (a : Result (List ℕ) Failure) → command_of words ≡ None → IsAnswer words bytes a → a ≡ Err Words
@@ -83,7 +85,7 @@ all_dropped n m l h k = drop_all m l (omega arith)
 pub read_whole : (words : List (List ℕ)) (old new : Option (List ℕ)) (text : List ℕ) → WordsRead words → IsAnswerFrom words old (Ok text) → new ≡ without_first old most_read → IfSome new (λ l. l ≡ [])
 read_whole words None new text r p e = subst (λ (o : Option (List ℕ)). IfSome o (λ l. l ≡ [])) (sym e) tt
 read_whole words (Some l) new text r p e =
-    let fits : length l ≤ 2 ^ 20 = subst (λ (bytes : List ℕ). length bytes ≤ 2 ^ 20) p.all (answer_fits (command_of words) p.bytes text r p.is_answer) in
+    let fits : length l ≤ 2 ^ 20 = subst (λ (bytes : List ℕ). length bytes ≤ 2 ^ 20) p.all (answer_fits (command_of words) p.bytes text r p.holds) in
     subst (λ (o : Option (List ℕ)). IfSome o (λ m. m ≡ [])) (sym e) (all_dropped (2 ^ 20) most_read l fits (omega (arith, most_read-is)))
 
 -- ---- statuses
@@ -124,9 +126,53 @@ fault_no_2 e = neither (fault_status e) 4 12 2 (fault_statuses e) (λ h. omega a
 fault_no_3 : (e : CheckFault) → fault_status e ≡ 3 → ⊥
 fault_no_3 e = neither (fault_status e) 4 12 3 (fault_statuses e) (λ h. omega arith) (λ h. omega arith)
 
+pub never_0 : (failure : Failure) → status_of failure ≡ 0 → ⊥
+never_0 Words h = omega arith
+never_0 (NoModuleFile e) h = neither (malformed_status e) 3 12 0 (malformed_statuses e) (λ p. omega arith) (λ p. omega arith) h
+never_0 (NotModule f e) h = neither (fault_status e) 4 12 0 (fault_statuses e) (λ p. omega arith) (λ p. omega arith) h
+never_0 Reading h = omega arith
+never_0 Writing h = omega arith
+never_0 Memory h = omega arith
+
+pub only_reading : (failure : Failure) → status_of failure ≡ 6 → failure ≡ Reading
+only_reading Words h = absurd (omega arith)
+only_reading (NoModuleFile e) h = absurd (neither (malformed_status e) 3 12 6 (malformed_statuses e) (λ p. omega arith) (λ p. omega arith) h)
+only_reading (NotModule f e) h = absurd (neither (fault_status e) 4 12 6 (fault_statuses e) (λ p. omega arith) (λ p. omega arith) h)
+only_reading Reading h = refl
+only_reading Writing h = absurd (omega arith)
+only_reading Memory h = absurd (omega arith)
+
+pub only_writing : (failure : Failure) → status_of failure ≡ 7 → failure ≡ Writing
+only_writing Words h = absurd (omega arith)
+only_writing (NoModuleFile e) h = absurd (neither (malformed_status e) 3 12 7 (malformed_statuses e) (λ p. omega arith) (λ p. omega arith) h)
+only_writing (NotModule f e) h = absurd (neither (fault_status e) 4 12 7 (fault_statuses e) (λ p. omega arith) (λ p. omega arith) h)
+only_writing Reading h = absurd (omega arith)
+only_writing Writing h = refl
+only_writing Memory h = absurd (omega arith)
+
+-- the statuses that there are
+abbrev IsKnown : ℕ → Type 0
+IsKnown n = (n ≡ 0) ⊎ (n ≡ 2) ⊎ (n ≡ 3) ⊎ (n ≡ 4) ⊎ (n ≡ 6) ⊎ (n ≡ 7) ⊎ (n ≡ 12)
+
+known_malformed : (n : ℕ) → (n ≡ 3) ⊎ (n ≡ 12) → IsKnown n
+known_malformed n (inl h) = inr (inr (inl h))
+known_malformed n (inr h) = inr (inr (inr (inr (inr (inr h)))))
+
+known_fault : (n : ℕ) → (n ≡ 4) ⊎ (n ≡ 12) → IsKnown n
+known_fault n (inl h) = inr (inr (inr (inl h)))
+known_fault n (inr h) = inr (inr (inr (inr (inr (inr h)))))
+
+known_status : (failure : Failure) → IsKnown (status_of failure)
+known_status Words = inr (inl refl)
+known_status (NoModuleFile e) = known_malformed (malformed_status e) (malformed_statuses e)
+known_status (NotModule f e) = known_fault (fault_status e) (fault_statuses e)
+known_status Reading = inr (inr (inr (inr (inl refl))))
+known_status Writing = inr (inr (inr (inr (inr (inl refl)))))
+known_status Memory = inr (inr (inr (inr (inr (inr refl)))))
+
 module _ (words : List (List ℕ)) (left : Option (List ℕ)) where
   pub refused : (failure : Failure) → IsCauseFrom words left failure → status_of failure ≡ 2 → command_of words ≡ None
-  refused Words p h = words_refused (command_of words) p.bytes (Err Words) refl p.is_answer
+  refused Words p h = words_refused (command_of words) p.bytes (Err Words) refl p.holds
   refused (NoModuleFile e) p h = absurd (no_2 e h)
   refused (NotModule f e) p h = absurd (fault_no_2 e h)
   refused Reading p h = absurd (omega arith)
@@ -155,12 +201,12 @@ module _ (words : List (List ℕ)) (left : Option (List ℕ)) where
 
   pub refuses : (failure : Failure) → IsCauseFrom words left failure → HasText failure → command_of words ≡ None → (status_of failure ≡ 2) ⊎ (status_of failure ≡ 12)
   refuses Words p w h = inl refl
-  refuses (NoModuleFile e) p w h = let same = only_words words p.bytes (Err (NoModuleFile e)) h p.is_answer in absurd cc
-  refuses (NotModule f e) p w h = let same = only_words words p.bytes (Err (NotModule f e)) h p.is_answer in absurd cc
+  refuses (NoModuleFile e) p w h = let same = only_words words p.bytes (Err (NoModuleFile e)) h p.holds in absurd cc
+  refuses (NotModule f e) p w h = let same = only_words words p.bytes (Err (NotModule f e)) h p.holds in absurd cc
   refuses Reading p w h = absurd (subst (λ (c : Option Command). MatchOption c ⊥ Reads) h p)
   refuses Writing p w h =
       let given = w refl in
-      let same = only_words words given.1.bytes (Ok given.0) h given.1.is_answer in
+      let same = only_words words given.1.bytes (Ok given.0) h given.1.holds in
       absurd cc
   refuses Memory p w h = inr refl
 
@@ -215,10 +261,34 @@ answerable_failure left (Some (Resolve common)) bytes a failure e all has p = ac
 answerable_failure left (Some (Dump common)) bytes a failure e all has p = accepted_failure (IsDump common.range) left bytes a failure e all has p
 answerable_failure left (Some Check) bytes a failure e all has p = accepted_failure IsLineOn left bytes a failure e all has p
 
-pub complete : (words : List (List ℕ)) (left : Option (List ℕ)) (failure : Failure) → IsCauseFrom words left failure → (failure ≡ Reading → ⊥) → (failure ≡ Writing → ⊥) → IsAnswerable words left → (status_of failure ≡ 0) ⊎ (status_of failure ≡ 12)
-complete words left Words p r w has = absurd (answerable_failure left (command_of words) p.bytes (Err Words) Words refl p.all has p.is_answer)
-complete words left (NoModuleFile e) p r w has = absurd (answerable_failure left (command_of words) p.bytes (Err (NoModuleFile e)) (NoModuleFile e) refl p.all has p.is_answer)
-complete words left (NotModule f e) p r w has = absurd (answerable_failure left (command_of words) p.bytes (Err (NotModule f e)) (NotModule f e) refl p.all has p.is_answer)
+pub complete : (words : List (List ℕ)) (left : Option (List ℕ)) (failure : Failure) → IsCauseFrom words left failure → (failure ≡ Reading → ⊥) → (failure ≡ Writing → ⊥) → IsComplete words left (status_of failure)
+complete words left Words p r w has = absurd (answerable_failure left (command_of words) p.bytes (Err Words) Words refl p.all has p.holds)
+complete words left (NoModuleFile e) p r w has = absurd (answerable_failure left (command_of words) p.bytes (Err (NoModuleFile e)) (NoModuleFile e) refl p.all has p.holds)
+complete words left (NotModule f e) p r w has = absurd (answerable_failure left (command_of words) p.bytes (Err (NotModule f e)) (NotModule f e) refl p.all has p.holds)
 complete words left Reading p r w has = absurd (r refl)
 complete words left Writing p r w has = absurd (w refl)
 complete words left Memory p r w has = inr refl
+
+-- ---- the status of a run
+
+pub status_of_failure : (words : List (List ℕ)) (left : Option (List ℕ)) (failure : Failure) → IsCauseFrom words left failure → HasText words left failure → IsStatusOf words left (status_of failure)
+status_of_failure words left failure p w = record {
+  known = known_status failure;
+  refused = refused words left failure p;
+  refuses = refuses words left failure p w;
+  malformed = malformed words left failure p;
+  malformed_comes = λ l e tells a. malformed_comes words left l tells failure e p w a;
+  no_module = not_a_module words left failure p;
+  no_module_comes = λ l f e tells a. no_module_comes words left l tells failure f e p w a;
+}
+
+pub status_of_text : (words : List (List ℕ)) (left : Option (List ℕ)) (text : List ℕ) → IsAnswerFrom words left (Ok text) → IsStatusOf words left 0
+status_of_text words left text p = record {
+  known = inl refl;
+  refused = λ h. absurd (omega arith);
+  refuses = λ h. let same = only_words words p.bytes (Ok text) h p.holds in absurd cc;
+  malformed = λ h. absurd (omega arith);
+  malformed_comes = λ l e tells a. absurd (no_failure words left l tells text (NoModuleFile e) p a);
+  no_module = λ h. absurd (omega arith);
+  no_module_comes = λ l f e tells a. absurd (no_failure words left l tells text (NotModule f e) p a);
+}

@@ -4,7 +4,7 @@ use Rattle.std.specs.Prelude.{Ok}
 use Rattle.ext_run.specs.declared.words.Command.{Command}
 use Rattle.ext_run.specs.Answer.{IsChart, IsDump, IsLineOn, Reads, IsCommandAnswerFrom, IsCommandCauseFrom}
 use Rattle.ext_run.proofs.Commands.{sphere_answer, resolve_on, dump_on, check_on, module_answer, module_cause}
-use Rattle.ext_run.proofs.top_call.command_text.Goals as goal
+use Rattle.ext_run.proofs.answer.command_text.Goals as goal
 
 pub returns-in_err-module-in-Resolve-clause-cause : goal.returns-in_err-module-in-Resolve-clause-cause
 returns-in_err-module-in-Resolve-clause-cause g c =

@@ -1,0 +1,53 @@
+-- What a source has left, as the input of a command, and the module file that it is.
+use Rattle.std.specs.Prelude.{◌≡◌, ℕ, ◌+◌, ◌^◌, List, Option, Some, None, IfSome, Result, Ok, Err, ⊤}
+use Rattle.module_json.specs.ModuleFile.{File, IsFileOf}
+use Rattle.module_json.specs.declared.malformed.Malformed.{Malformed}
+use Rattle.module_check.specs.Module.{Module as SteenrodModule}
+use Rattle.module_check.specs.DerivedAction.{derived_module}
+use Rattle.module_check.specs.Acceptance.{refusal_of}
+use Rattle.ext_run.specs.declared.failure.Failure.{Failure}
+use Rattle.ext_run.specs.declared.failure.Failure.TheVariants.{Words, Malformed as NoModuleFile, NotModule, Reading, Writing, Memory}
+
+-- P holds of all that a source has left; where it does not tell that, of some bytes.
+pub record IsOfInput (P : List ℕ → Type 0) (left : Option (List ℕ)) : Type 0 where
+  pub bytes : List ℕ
+  pub all : IfSome left (λ l. bytes ≡ l)
+  pub holds : P bytes
+
+-- Why there is no answer: a failed read or write, where there may be one, or want of memory; or what Is says of the failure.
+abbrev pub IsCauseOf : Type 0 → Type 0 → (Failure → Type 0) → Failure → Type 0
+IsCauseOf MayRead MayWrite Is Reading = MayRead
+IsCauseOf MayRead MayWrite Is Writing = MayWrite
+IsCauseOf MayRead MayWrite Is Memory = ⊤
+IsCauseOf MayRead MayWrite Is failure = Is failure
+
+-- one byte past the greatest size of a module file, which is as far as an input is read
+unfoldable pub most_read : ℕ
+most_read = 2 ^ 20 + 1
+
+-- what the input describes as a module file, or its first refusal
+abbrev pub IsFileFrom : Option (List ℕ) → Result File Malformed → Type 0
+IsFileFrom left file = IsOfInput (λ bytes. IsFileOf bytes file) left
+
+-- the input is no module file, or describes no module
+abbrev pub IsRefusalFrom : Option (List ℕ) → Failure → Type 0
+IsRefusalFrom left (NoModuleFile e) = IsFileFrom left (Err e)
+IsRefusalFrom left (NotModule f e) = IsFileFrom left (Ok f) × (refusal_of f ≡ Some e)
+IsRefusalFrom left failure = ⊥
+
+-- why there is no module
+abbrev pub IsFileCauseFrom : Option (List ℕ) → Failure → Type 0
+IsFileCauseFrom left failure = IsCauseOf ⊤ ⊥ (IsRefusalFrom left) failure
+
+-- the module that the input describes
+pub record IsModuleFrom (left : Option (List ℕ)) (m : SteenrodModule) : Type 0 where
+  pub file : File
+  pub is_file : IsFileFrom left (Ok file)
+  pub no_refusal : refusal_of file ≡ None
+  pub is_derived : m ≡ derived_module file
+
+-- the bytes describe a module
+pub record IsAccepted (bytes : List ℕ) : Type 0 where
+  pub file : File
+  pub is_file : IsFileOf bytes (Ok file)
+  pub no_refusal : refusal_of file ≡ None

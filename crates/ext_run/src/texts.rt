@@ -1,0 +1,80 @@
+//! The texts on a module: its chart, its differentials and the line on it.
+ghost use Rattle.std.specs.Prelude.{◌≡◌, ◌≤◌, IfOk};
+ghost use Rattle.module_check.specs.DerivedAction.{top};
+ghost use Rattle.square.specs.Tables.{plain_rows};
+ghost use Rattle.resolution_step.specs.Alone.{cut};
+ghost use Rattle.ext_chart.specs.Range.{HoldsRange};
+ghost use Rattle.ext_run.specs.Answer.{IsResolved, IsChart, IsDump, IsLineOn};
+
+use ext_chart::{chart, check_line, dump};
+use memory::Memory;
+use module_check::{Module, modules_are_graded_modules};
+use resolution_laws::canonical_table_is_minimal_resolution;
+use resolution_step::resolve_alone;
+use square::{KeepFault, NoKeep, Range, Table};
+use std::alloc::Global;
+
+/// The canonical resolution of a module through the range.
+fn resolved(alloc: Global, module: Module, range: Range) -> Result<Table, Memory>
+    requires rows { range.s ≤ 63 }
+    requires degrees { range.t ≤ 127 }
+    ensures module { IfOk result (λ table. table.resolved ≡ «module») }
+    ensures resolved { IfOk result (λ table. IsResolved range «module».plain (cut range (plain_rows table.rows))) }
+    ensures holds { IfOk result (λ table. HoldsRange table range.s range.t) }
+{
+    canonical_table_is_minimal_resolution();
+    modules_are_graded_modules();
+    let table = Table::new(alloc, module)?;
+    let (resolved, _) = resolve_alone(alloc, table, range, NoKeep);
+    match resolved {
+        Ok(table) => Ok(table),
+        Err(KeepFault::Memory) => Err(Memory),
+        // A keeper that keeps nothing does not fail.
+        Err(KeepFault::Failed) => unreachable!(),
+    }
+}
+
+/// The chart of a module's resolution through the range.
+#[tactic(auto, using(crate::proofs::Resolved::is_chart))]
+pub(crate) fn chart_of(alloc: Global, module: Module, range: Range) -> Result<Vec<u8>, Memory>
+    requires rows { range.s ≤ 63 }
+    requires degrees { range.t ≤ 127 }
+    ensures { IfOk result (λ text. IsChart range «module».plain text.items) }
+{
+    let table = resolved(alloc, module, range)?;
+    chart(alloc, &table, range)
+}
+
+/// The differentials of a module's resolution through the range.
+#[tactic(auto, using(crate::proofs::Resolved::is_dump))]
+pub(crate) fn dump_of(alloc: Global, module: Module, range: Range) -> Result<Vec<u8>, Memory>
+    requires rows { range.s ≤ 63 }
+    requires degrees { range.t ≤ 127 }
+    ensures { IfOk result (λ text. IsDump range «module».plain text.items) }
+{
+    let table = resolved(alloc, module, range)?;
+    dump(alloc, &table, range)
+}
+
+/// The greatest degree of a generator, and 0 where there is none.
+#[tactic(auto, using(module_check::proofs::Degrees::top_last))]
+fn greatest_degree(module: &Module) -> i32
+    ensures { result ≡ top «module».now.plain.generators }
+{
+    match module.count().checked_sub(1) {
+        Some(last) => module.degree(last),
+        None => 0,
+    }
+}
+
+/// The line on a module.
+pub(crate) fn module_line(alloc: Global, module: &Module) -> Result<Vec<u8>, Memory>
+    ensures { IfOk result (λ text. IsLineOn «module».now.plain text.items) }
+{
+    check_line(
+        alloc,
+        module.count(),
+        module.bottom(),
+        greatest_degree(module),
+    )
+}
