@@ -1,10 +1,9 @@
--- The generators of a row and their places, a square at a time.
+-- The places of the generators of a row, a square at a time.
 use Rattle.std.proofs.Common.{◌≡◌, ℕ, suc, ◌+◌, ◌<◌, ℤ, pos, ◌+ℤ◌, List, [], ◌∷◌, ◌++◌, length, take, replicate, refl, sym, ◌∙◌, ap, arith}
 use Rattle.std.proofs.lemmas.Int.{ints}
 use Rattle.std.proofs.lemmas.List.{append-nil, append_assoc, length-append, length-replicate, length-take-le, take_more}
 use Rattle.std.proofs.lemmas.List.FromFn.{length-map-range_with_len}
 use Rattle.resolution_laws.specs.Resolution.{Content, no_content, square_in, degrees_from}
-use Rattle.resolution_laws.proofs.Rows.{degrees_from-more}
 use Rattle.ext_chart.specs.declared.place.Place.{Place}
 use Rattle.ext_chart.specs.Dump.{square_places, places_from}
 
@@ -30,23 +29,14 @@ length-places_from s b (x ∷ squares) =
     let same = length-replicate n b in
     length-append (square_places s b n) (places_from s (b +ℤ pos 1) squares) ∙ (omega arith ∙ sym (length-append (replicate n b) (degrees_from (b +ℤ pos 1) squares)))
 
--- the degrees and the places of the generators of some squares of row s
-pub record AreOfRow (s : ℕ) (b : ℤ) (squares : List Content) (degrees : List ℤ) (list : List Place) : Type 0 where
-  pub gens : degrees ≡ degrees_from b squares
-  pub places : list ≡ places_from s b squares
-
-pub row-more : (s : ℕ) (b : ℤ) (row : List Content) (k : ℕ) (t : ℤ) (count : ℕ) (gens wider : List ℤ) (places more : List Place) → k < length row → t ≡ b +ℤ pos k → count ≡ length (square_in row k).images → AreOfRow s b (take k row) gens places
-    → wider ≡ gens ++ replicate count t → more ≡ places ++ square_places s t count → AreOfRow s b (take (k + 1) row) wider more
-row-more s b row k t count gens wider places more l e n before w m =
+-- the places with those of one square more
+pub places-more : (s : ℕ) (b : ℤ) (row : List Content) (k : ℕ) (t : ℤ) (count : ℕ) (places more : List Place) → k < length row → t ≡ b +ℤ pos k → count ≡ length (square_in row k).images → places ≡ places_from s b (take k row) → more ≡ places ++ square_places s t count → more ≡ places_from s b (take (k + 1) row)
+places-more s b row k t count places more l e n before m =
     let c = square_in row k in
     let next : take (k + 1) row ≡ take k row ++ c ∷ [] = take_more row k no_content l in
     let len : length (take k row) ≡ k = length-take-le k row (omega arith) in
     let degree : t ≡ b +ℤ pos (length (take k row)) = e ∙ ap (λ i. b +ℤ pos i) (sym len) in
-    record {
-      gens = degrees_from-more b (take k row) (take (k + 1) row) c k gens wider t next len e before.gens (w ∙ ap (λ i. gens ++ replicate i t) n);
-      places =
-          m ∙ (ap (λ (z : List Place). z ++ square_places s t count) before.places
-          ∙ (ap (λ i. places_from s b (take k row) ++ square_places s t i) n
-          ∙ (ap (λ (u : ℤ). places_from s b (take k row) ++ square_places s u (length c.images)) degree
-          ∙ (sym (places_from-push s b (take k row) c) ∙ ap (places_from s b) (sym next)))));
-    }
+    m ∙ (ap (λ (z : List Place). z ++ square_places s t count) before
+    ∙ (ap (λ i. places_from s b (take k row) ++ square_places s t i) n
+    ∙ (ap (λ (u : ℤ). places_from s b (take k row) ++ square_places s u (length c.images)) degree
+    ∙ (sym (places_from-push s b (take k row) c) ∙ ap (places_from s b) (sym next)))))

@@ -1,4 +1,3 @@
 pub mod Chart
 pub mod Check
 pub mod Dump
-pub mod Range

@@ -3,9 +3,8 @@ ghost use Rattle.std.specs.Prelude.{◌≡◌, ℕ, ◌+◌, ◌-◌, ◌<◌, �
 ghost use Rattle.std.specs.List.{range_with_len};
 ghost use Rattle.module_check.specs.Module.{bottom};
 ghost use Rattle.resolution_laws.specs.Resolution.{generator_count};
-ghost use Rattle.square.specs.Tables.{row_in, plain_rows};
+ghost use Rattle.square.specs.Tables.{row_in, plain_rows, IsThrough};
 ghost use Rattle.ext_chart.specs.Chart.{mark, row_label, row_line, row_lines, stems_line, chart_text};
-ghost use Rattle.ext_chart.specs.Range.{HoldsRange};
 
 use crate::images::images;
 use itoa::Buffer;
@@ -64,7 +63,7 @@ fn row_line(alloc: Global, table: &Table, s: u16, t: u16) -> Result<Vec<u8>, Mem
 
 /// The lines of the rows of the range, the greatest first.
 fn row_lines(alloc: Global, table: &Table, range: Range) -> Result<Vec<u8>, Memory>
-    requires { HoldsRange table.now range.s range.t }
+    requires { IsThrough range table.now.rows }
     ensures { IfOk result (λ text. text.items ≡ row_lines (generator_count (plain_rows table.now.rows)) range.t (range.s + 1)) }
 {
     let mut text = Vec::new(alloc);
@@ -95,7 +94,7 @@ fn stems_line(alloc: Global, bottom: i32, t: u16) -> Result<Vec<u8>, Memory>
 /// # Errors
 /// `Memory` where there is none for the text.
 pub fn chart(alloc: Global, table: &Table, range: Range) -> Result<Vec<u8>, Memory>
-    requires { HoldsRange table.now range.s range.t }
+    requires { IsThrough range table.now.rows }
     ensures { IfOk result (λ text. text.items ≡ chart_text (bottom table.now.resolved.plain.generators) range.s range.t (generator_count (plain_rows table.now.rows))) }
 {
     let mut text = row_lines(alloc, table, range)?;

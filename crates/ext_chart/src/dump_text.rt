@@ -2,9 +2,8 @@
 ghost use Rattle.std.specs.Prelude.{◌≡◌, ◌<◌, suc, length, IfOk};
 ghost use Rattle.module_check.specs.Module.{bottom};
 ghost use Rattle.resolution_laws.specs.Resolution.{row_of, degrees_from};
-ghost use Rattle.square.specs.Tables.{row_in, plain_rows};
+ghost use Rattle.square.specs.Tables.{row_in, plain_rows, IsThrough};
 ghost use Rattle.ext_chart.specs.Dump.{places_from, square_text, row_text, dump_text};
-ghost use Rattle.ext_chart.specs.Range.{HoldsRange};
 
 use crate::images::{degree, images};
 use crate::lines::{first_lines, free_lines};
@@ -19,7 +18,7 @@ use std::alloc::Global;
 /// # Errors
 /// `Memory` where there is none for the text.
 pub fn dump(alloc: Global, table: &Table, range: Range) -> Result<Vec<u8>, Memory>
-    requires { HoldsRange table.now range.s range.t }
+    requires { IsThrough range table.now.rows }
     ensures { IfOk result (λ text. text.items ≡ dump_text table.now.resolved.plain.generators range.s range.t (plain_rows table.now.rows)) }
 {
     let mut text = Vec::new(alloc);

@@ -1,5 +1,5 @@
 ghost use Rattle.std.specs.Prelude.{◌≡◌, true, pos, List, [], ◌∷◌, length, IfOk};
-ghost use Rattle.ext_chart.specs.Range.{HoldsRange};
+ghost use Rattle.square.specs.Tables.{IsThrough};
 
 use crate::lines::{first_lines, free_lines};
 use crate::place::{Place, with_square};
@@ -94,7 +94,7 @@ fn one_image(alloc: Global) -> Result<Vec<BitVec>, Memory>
 
 // The sphere's table with its square (0, 0), which was read: the image of its one generator is x0.
 fn sphere_table(alloc: Global) -> Result<Table, Memory>
-    ensures { IfOk result (λ table. HoldsRange table 0 0) }
+    ensures { IfOk result (λ table. IsThrough (record { s = 0; t = 0 }) table.rows) }
 {
     let mut table = Table::new(alloc, Module::sphere(alloc)?)?;
     let images = one_image(alloc)?;

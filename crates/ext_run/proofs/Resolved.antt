@@ -9,12 +9,11 @@ use Rattle.resolution_laws.specs.Resolution.{Content, row_of, IsCanonicalTable, 
 use Rattle.resolution_laws.specs.Exactness.{CanonicalTableIsMinimalResolution}
 use Rattle.square.specs.declared.range.Range.{Range}
 use Rattle.square.specs.Squares.{module_over}
-use Rattle.square.specs.Tables.{Staircase, plain_rows}
+use Rattle.square.specs.Tables.{Staircase, plain_rows, IsThrough}
 use Rattle.resolution_step.specs.Alone.{cut}
 use Rattle.resolution_step.proofs.Canonical.{row_of-cut}
 use Rattle.ext_chart.specs.Chart.{chart_text}
 use Rattle.ext_chart.specs.Dump.{dump_text}
-use Rattle.ext_chart.specs.Range.{HoldsRange}
 use Rattle.ext_chart.proofs.Agreement.{AgreeThrough, chart_text-agree, dump_text-agree}
 use Rattle.ext_run.specs.Answer.{IsResolved, IsChart, IsDump}
 
@@ -25,12 +24,12 @@ is_resolved minimal modules range m table canonical = record {
 }
 
 -- a table has the same squares through a range as what is cut of it
-cut-agrees : (range : Range) (table : Staircase) → HoldsRange table range.s range.t → AgreeThrough range.s range.t (plain_rows table.rows) (cut range (plain_rows table.rows))
+cut-agrees : (range : Range) (table : Staircase) → IsThrough range table.rows → AgreeThrough range.s range.t (plain_rows table.rows) (cut range (plain_rows table.rows))
 cut-agrees range table holds i h =
     let rows = plain_rows table.rows in
     sym (take-take (range.t + 1) (range.t + 1) (row_of rows i) (omega arith)) ∙ ap (take (range.t + 1)) (sym (row_of-cut range table.rows holds i h))
 
-pub is_chart : (range : Range) (m : Checked) (table : Staircase) (text : List ℕ) → table.resolved ≡ m → IsResolved range m.plain (cut range (plain_rows table.rows)) → HoldsRange table range.s range.t → text ≡ chart_text (bottom table.resolved.plain.generators) range.s range.t (generator_count (plain_rows table.rows)) → IsChart range m.plain text
+pub is_chart : (range : Range) (m : Checked) (table : Staircase) (text : List ℕ) → table.resolved ≡ m → IsResolved range m.plain (cut range (plain_rows table.rows)) → IsThrough range table.rows → text ≡ chart_text (bottom table.resolved.plain.generators) range.s range.t (generator_count (plain_rows table.rows)) → IsChart range m.plain text
 is_chart range m table text same resolved holds is = record {
   table = cut range (plain_rows table.rows);
   resolved = resolved;
@@ -39,7 +38,7 @@ is_chart range m table text same resolved holds is = record {
       ∙ ap (λ (c : Checked). chart_text (bottom c.plain.generators) range.s range.t (generator_count (cut range (plain_rows table.rows)))) same;
 }
 
-pub is_dump : (range : Range) (m : Checked) (table : Staircase) (text : List ℕ) → table.resolved ≡ m → IsResolved range m.plain (cut range (plain_rows table.rows)) → HoldsRange table range.s range.t → text ≡ dump_text table.resolved.plain.generators range.s range.t (plain_rows table.rows) → IsDump range m.plain text
+pub is_dump : (range : Range) (m : Checked) (table : Staircase) (text : List ℕ) → table.resolved ≡ m → IsResolved range m.plain (cut range (plain_rows table.rows)) → IsThrough range table.rows → text ≡ dump_text table.resolved.plain.generators range.s range.t (plain_rows table.rows) → IsDump range m.plain text
 is_dump range m table text same resolved holds is = record {
   table = cut range (plain_rows table.rows);
   resolved = resolved;

@@ -1,9 +1,8 @@
 //! The texts on a module: its chart, its differentials and the line on it.
 ghost use Rattle.std.specs.Prelude.{◌≡◌, ◌≤◌, IfOk};
 ghost use Rattle.module_check.specs.DerivedAction.{top};
-ghost use Rattle.square.specs.Tables.{plain_rows};
+ghost use Rattle.square.specs.Tables.{plain_rows, IsThrough};
 ghost use Rattle.resolution_step.specs.Alone.{cut};
-ghost use Rattle.ext_chart.specs.Range.{HoldsRange};
 ghost use Rattle.ext_run.specs.Answer.{IsResolved, IsChart, IsDump, IsLineOn};
 
 use ext_chart::{chart, check_line, dump};
@@ -20,7 +19,7 @@ fn resolved(alloc: Global, module: Module, range: Range) -> Result<Table, Memory
     requires degrees { range.t ≤ 127 }
     ensures module { IfOk result (λ table. table.resolved ≡ «module») }
     ensures resolved { IfOk result (λ table. IsResolved range «module».plain (cut range (plain_rows table.rows))) }
-    ensures holds { IfOk result (λ table. HoldsRange table range.s range.t) }
+    ensures holds { IfOk result (λ table. IsThrough range table.rows) }
 {
     canonical_table_is_minimal_resolution();
     modules_are_graded_modules();

@@ -8,9 +8,9 @@ use Rattle.resolution_laws.specs.Start.{Entry, IsOf, IsCanonicalStart}
 use Rattle.resolution_laws.proofs.StartLaws.{canonical_content, canonical_from_contents}
 use Rattle.square.specs.declared.range.Range.{Range}
 use Rattle.square.specs.Squares.{Placed, module_over}
-use Rattle.square.specs.Tables.{Staircase, contents, row_in, plain_rows, content_at}
+use Rattle.square.specs.Tables.{Staircase, contents, row_in, plain_rows, content_at, IsThrough}
 use Rattle.square.proofs.Places.{length-row_of, slice_get-there, content_at-is}
-use Rattle.resolution_step.specs.Alone.{IsThrough, cut, HasGrown, AreOfStart}
+use Rattle.resolution_step.specs.Alone.{cut, HasGrown, AreOfStart}
 
 -- a row with a square is one of the rows
 row_there : (rows : List (List Placed)) (s t : ℕ) → t < length (row_in rows s) → s < length rows

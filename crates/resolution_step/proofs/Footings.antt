@@ -1,5 +1,5 @@
 -- What a square is made from fits together, and the step to its target is the step on it.
-use Rattle.std.proofs.Common.{◌≡◌, ℕ, zero, suc, ◌+◌, ◌<◌, ◌≤◌, ℤ, pos, ◌+ℤ◌, Bool, List, [], ◌∷◌, ◌++◌, length, replicate, take, Option, Some, IfSome, refl, sym, ◌∙◌, ap, subst, arith}
+use Rattle.std.proofs.Common.{◌≡◌, ℕ, zero, suc, ◌+◌, ◌<◌, ◌≤◌, ℤ, pos, ◌+ℤ◌, Bool, List, [], ◌∷◌, ◌++◌, length, replicate, take, Option, Some, None, IfSome, option_map, refl, sym, ◌∙◌, ap, subst, arith}
 use Rattle.std.proofs.lemmas.Int.{ints}
 use Rattle.std.proofs.lemmas.List.{take_all, take_more}
 use Rattle.f2_vec.specs.Spans.{HaveWidth, unit_vectors}
@@ -8,10 +8,9 @@ use Rattle.f2_matrix.specs.Echelon.{IsKernelBasis}
 use Rattle.f2_matrix.specs.Reduction.{Rows, Reduction, IsReductionOf}
 use Rattle.f2_matrix.proofs.Unique.{kernel_basis_unique}
 use Rattle.free_module.specs.FreeModule.{free_width}
-use Rattle.free_module.specs.Graded.{GradedModule, HasUnit, free_graded}
+use Rattle.free_module.specs.Graded.{GradedModule, HasUnit}
 use Rattle.free_module.specs.LinearMap.{AreImages, map_rows}
 use Rattle.module_check.specs.Module.{bottom, width}
-use Rattle.module_check.specs.Graded.{module_graded}
 use Rattle.module_check.specs.Checked.{Checked}
 use Rattle.resolution_laws.specs.Resolution.{Content, no_content, square_in, degrees_from, images_of, target_over, candidates_over, IsChosen, IsStepOver}
 use Rattle.resolution_laws.specs.Start.{squares_below, row_below, IsOf}
@@ -21,10 +20,9 @@ use Rattle.resolution_laws.proofs.Rows.{degrees_from-push, free_basis-take}
 use Rattle.resolution_laws.proofs.Shapes.{content_shape}
 use Rattle.resolution_laws.proofs.StartLaws.{content_is_unique, length-squares_below, squares_below-take}
 use Rattle.square.specs.Squares.{module_over, IsSquare}
-use Rattle.square.specs.Tables.{Footing, IsFooting, footing_at}
+use Rattle.square.specs.Tables.{Footing, IsFooting}
 use Rattle.square.proofs.Footings.{IsMeasured-made}
-use Rattle.resolution_step.specs.Steps.{listed, given_row, IsReducedStep, IsStepWith}
-use Rattle.resolution_step.proofs.GivenRows.{given_row-below, square_there}
+use Rattle.resolution_step.specs.Steps.{IsReducedStep, IsStepWith}
 
 -- ---- the row below
 
@@ -144,35 +142,24 @@ HaveWidth-given f h target candidates t e1 e2 e3 =
     let C : ℤ → Type 0 = λ x. HaveWidth (target.width x) candidates in
     subst C (sym e3) (subst B (sym e2) (subst A (sym e1) (HaveWidth-candidates_over f h)))
 
--- row 0
-pub target-module : (f : Footing) → IsFooting f → f.s ≡ 0 → (m : Checked) → m ≡ f.resolved → module_graded m.plain ≡ target_over (module_over f.resolved.plain) f.below
-target-module f h e m same =
-    ap (λ (x : Checked). module_graded x.plain) same ∙ ap (λ (x : Option (List Content)). target_over (module_over f.resolved.plain) x) (sym (h.has_none e))
+-- the kernel of the square below
+pub candidates-row : (f : Footing) (kernel : List (List Bool)) → Some kernel ≡ option_map (λ below. (square_in below f.above).kernel) f.below → kernel ≡ candidates_over (module_over f.resolved.plain) f.below f.above
+candidates-row f kernel e = from f.below e
+  where
+    from : (o : Option (List Content)) → Some kernel ≡ option_map (λ below. (square_in below f.above).kernel) o → kernel ≡ candidates_over (module_over f.resolved.plain) o f.above
+    from None same = cc
+    from (Some below) same = let is : kernel ≡ (square_in below f.above).kernel = cc in is
 
-pub candidates-module : (f : Footing) → IsFooting f → f.s ≡ 0 → (m : Checked) (t : ℤ) (n : ℕ) → m ≡ f.resolved → t ≡ bottom f.resolved.plain.generators +ℤ pos f.above → n ≡ width m.plain.generators t → unit_vectors n ≡ candidates_over (module_over f.resolved.plain) f.below f.above
-candidates-module f h e m t n same at count =
-    ap unit_vectors (count ∙ (ap (λ (x : Checked). width x.plain.generators t) same ∙ ap (width f.resolved.plain.generators) at))
-    ∙ ap (λ (x : Option (List Content)). candidates_over (module_over f.resolved.plain) x f.above) (sym (h.has_none e))
+-- and for row 0 the unit vectors
+pub candidates-module : (f : Footing) → None ≡ option_map (λ below. (square_in below f.above).kernel) f.below → (m : Checked) (t : ℤ) (n : ℕ) → m ≡ f.resolved → t ≡ bottom f.resolved.plain.generators +ℤ pos f.above → n ≡ width m.plain.generators t → unit_vectors n ≡ candidates_over (module_over f.resolved.plain) f.below f.above
+candidates-module f e m t n same at count = units ∙ from f.below e
+  where
+    units : unit_vectors n ≡ unit_vectors (width f.resolved.plain.generators (bottom f.resolved.plain.generators +ℤ pos f.above))
+    units = ap unit_vectors (count ∙ (ap (λ (x : Checked). width x.plain.generators t) same ∙ ap (width f.resolved.plain.generators) at))
 
--- the other rows
-pub length-given_row : (f : Footing) → IsFooting f → (i : ℕ) → suc i ≡ f.s → length (given_row f i) ≡ f.above + 1
-length-given_row f h i e =
-    let p = h.has_below i e in
-    ap length (given_row-below f i e ∙ ap listed p.1) ∙ p.2
-
-pub target-row : (f : Footing) → IsFooting f → (i : ℕ) → suc i ≡ f.s → (gens : List ℤ) → gens ≡ degrees_from (bottom f.resolved.plain.generators) (given_row f i) → free_graded gens ≡ target_over (module_over f.resolved.plain) f.below
-target-row f h i e gens are =
-    let p = h.has_below i e in
-    let b = bottom f.resolved.plain.generators in
-    ap free_graded (are ∙ ap (degrees_from b) (given_row-below f i e ∙ ap listed p.1)) ∙ ap (λ (x : Option (List Content)). target_over (module_over f.resolved.plain) x) (sym p.1)
-
-pub candidates-row : (f : Footing) → IsFooting f → (i : ℕ) → suc i ≡ f.s → (t : ℤ) (c : Content) → t ≡ bottom f.resolved.plain.generators +ℤ pos f.above → Some c ≡ footing_at f i t → c.kernel ≡ candidates_over (module_over f.resolved.plain) f.below f.above
-candidates-row f h i e t c at there =
-    let p = h.has_below i e in
-    let len = length-given_row f h i e in
-    let same : c ≡ square_in (given_row f i) f.above = square_there f i f.above t c at (omega arith) there in
-    ap (λ (x : Content). x.kernel) (same ∙ ap (λ (x : List Content). square_in x f.above) (given_row-below f i e ∙ ap listed p.1))
-    ∙ ap (λ (x : Option (List Content)). candidates_over (module_over f.resolved.plain) x f.above) (sym p.1)
+    from : (o : Option (List Content)) → None ≡ option_map (λ below. (square_in below f.above).kernel) o → unit_vectors (width f.resolved.plain.generators (bottom f.resolved.plain.generators +ℤ pos f.above)) ≡ candidates_over (module_over f.resolved.plain) o f.above
+    from None same = refl
+    from (Some below) same = cc
 
 -- the square of the step
 pub IsSquare-step : (f : Footing) (content : Content) (reduction : Reduction) → IsFooting f → IsStepWith f content reduction → IsSquare (record { resolved = f.resolved; start = f.start; s = f.s; above = f.above; content = content; quasi = Some reduction })

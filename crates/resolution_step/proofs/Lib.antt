@@ -1,4 +1,3 @@
-pub mod GivenRows
 pub mod Footings
 pub mod Pushes
 pub mod Orders

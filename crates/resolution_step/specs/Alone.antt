@@ -10,10 +10,6 @@ use Rattle.square.specs.Keeping.{Keeper, HasKept}
 
 -- ---- tables
 
--- each square of the range is there
-abbrev pub IsThrough : Range → List (List Placed) → Type 0
-IsThrough range rows = (s : ℕ) → s ≤ range.s → range.t < length (row_in rows s)
-
 -- the contents of the squares of the range
 abbrev pub cut : Range → List (List Content) → List (List Content)
 cut range rows = map (take (range.t + 1)) (take (range.s + 1) rows)

@@ -8,9 +8,9 @@ ghost use Rattle.square.specs.declared.keep.KeepFault as KeepFault;
 ghost use Rattle.square.specs.declared.keep.KeepFault.TheVariants.{Failed, Memory as WantOfMemory};
 ghost use Rattle.square.specs.declared.range.TheConstants.{MAX_S, MAX_T};
 ghost use Rattle.square.specs.Squares.{module_over};
-ghost use Rattle.square.specs.Tables.{row_in, plain_rows, IsNextAt};
+ghost use Rattle.square.specs.Tables.{row_in, plain_rows, IsThrough, IsNextAt};
 ghost use Rattle.square.specs.Keeping.{IsKeeperOf};
-ghost use Rattle.resolution_step.specs.Alone.{IsThrough, cut, HasGrown, AreOfStart, AreNewAt, IsInRange, HasGiven};
+ghost use Rattle.resolution_step.specs.Alone.{cut, HasGrown, AreOfStart, AreNewAt, IsInRange, HasGiven};
 ghost use Rattle.resolution_step.specs.Inside.Adding.{IsNewAt, IsEndOf, IsInRow, HasAdded};
 
 use crate::step_on::step;

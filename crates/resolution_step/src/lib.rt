@@ -3,7 +3,6 @@
 
 mod alone;
 mod choice;
-mod row;
 mod step_on;
 #[cfg(test)]
 mod tests;

@@ -1,16 +1,14 @@
 //! The step.
-ghost use Rattle.std.specs.Prelude.{◌≡◌, ◌<◌, IfOk};
+ghost use Rattle.std.specs.Prelude.{◌≡◌, IfOk};
 ghost use Rattle.f2_vec.specs.Spans.{HaveWidth};
 ghost use Rattle.free_module.specs.FreeModule.{IsWithinReach};
 ghost use Rattle.free_module.specs.LinearMap.{AreImages};
-ghost use Rattle.module_check.specs.Module.{bottom};
-ghost use Rattle.resolution_laws.specs.Resolution.{degrees_from, images_of};
-ghost use Rattle.square.specs.Squares.{IsSquare};
+ghost use Rattle.resolution_laws.specs.Resolution.{candidates_over};
+ghost use Rattle.square.specs.Squares.{module_over, IsSquare};
 ghost use Rattle.square.specs.Tables.{IsFooting};
 ghost use Rattle.resolution_step.specs.Steps.{IsReducedStep, IsStepWith, IsStepOf};
 
 use crate::choice::{choose, copy_rows, unit_rows};
-use crate::row::{degrees_above, row_gens, row_images};
 use f2_matrix::Reduced;
 use f2_vec::BitVec;
 use free_hom::Hom;
@@ -40,75 +38,38 @@ struct Parts {
     quasi: Reduced,
 }
 
-/// What the square that is the step on these inputs holds.
+/// What the square that is the step on these inputs holds. The new generators have to cover the kernel of the square below,
+/// or for row 0 all of the module.
 fn parts_on(alloc: Global, inputs: &Inputs) -> Result<Parts, Memory>
     ensures is_footing { IsFooting inputs.now }
     ensures step { IfOk result (λ parts. IsStepWith inputs.now (record { images = parts.images.items; kernel = parts.kernel.items }) parts.quasi) }
 {
-    let n = degrees_above(inputs);
-    let source = row_gens(alloc, inputs, inputs.s(), n)?;
-    let images = row_images(alloc, inputs, n)?;
-    if inputs.s() == 0 {
-        parts_to_module(alloc, inputs, &source, images.as_slice())
-    } else {
-        parts_to_row(alloc, inputs, n, &source, images.as_slice())
+    match inputs.kernel_below() {
+        Some(kernel) => parts_over(alloc, inputs, kernel),
+        None => {
+            let units = unit_rows(alloc, inputs.module().dim_in(inputs.t()))?;
+            parts_over(alloc, inputs, units.as_slice())
+        }
     }
 }
 
-/// The same for row 0, whose map goes to the module.
-fn parts_to_module(
-    alloc: Global,
-    inputs: &Inputs,
-    source: &Gens,
-    images: &[BitVec],
-) -> Result<Parts, Memory>
-    requires s { inputs.now.s ≡ 0 }
-    requires source { source.now ≡ degrees_from (bottom inputs.now.resolved.plain.generators) inputs.now.squares }
-    requires images { images.now ≡ images_of inputs.now.squares }
-    ensures { IfOk result (λ parts. IsStepWith inputs.now (record { images = parts.images.items; kernel = parts.kernel.items }) parts.quasi) }
-{
-    let module = inputs.module();
-    let t = inputs.t();
-    let candidates = unit_rows(alloc, module.dim_in(t))?;
-    reduced_step(
-        alloc,
-        inputs.basis(),
-        module,
-        candidates.as_slice(),
-        source,
-        images,
-        t,
-    )
-}
-
-/// The same for the other rows, whose map goes to the free module on the generators of the row below. `above` is how many
-/// degrees the square is above the bottom.
-fn parts_to_row(
-    alloc: Global,
-    inputs: &Inputs,
-    above: u16,
-    source: &Gens,
-    images: &[BitVec],
-) -> Result<Parts, Memory>
-    requires s { 0 < inputs.now.s }
-    requires above { above ≡ inputs.now.above }
-    requires source { source.now ≡ degrees_from (bottom inputs.now.resolved.plain.generators) inputs.now.squares }
-    requires images { images.now ≡ images_of inputs.now.squares }
-    ensures { IfOk result (λ parts. IsStepWith inputs.now (record { images = parts.images.items; kernel = parts.kernel.items }) parts.quasi) }
+/// The same, where `candidates` are the vectors to cover.
+fn parts_over(alloc: Global, inputs: &Inputs, candidates: &[BitVec]) -> Result<Parts, Memory>
+    requires { candidates.now ≡ candidates_over (module_over inputs.now.resolved.plain) inputs.now.below inputs.now.above }
+    ensures is_footing { IsFooting inputs.now }
+    ensures step { IfOk result (λ parts. IsStepWith inputs.now (record { images = parts.images.items; kernel = parts.kernel.items }) parts.quasi) }
 {
     let t = inputs.t();
-    let below = inputs.s() - 1;
-    let target = row_gens(alloc, inputs, below, above + 1)?;
-    let Some(square) = inputs.at(below, t) else {
-        unreachable!()
-    };
+    let target = inputs.below(alloc)?;
+    let source = inputs.generators(alloc)?;
+    let images = inputs.images(alloc)?;
     reduced_step(
         alloc,
         inputs.basis(),
         &target,
-        square.kernel(),
-        source,
-        images,
+        candidates,
+        &source,
+        images.as_slice(),
         t,
     )
 }

@@ -1,12 +1,13 @@
-pub mod RowWidths
+mod RowWidths
 pub mod Footings
 pub mod Places
 pub mod Pushing
-pub mod FirstParts
+mod FirstParts
 pub mod Kept
-pub mod Rows
-pub mod Looking
-pub mod Matrices
-pub mod Found
+mod Rows
+mod Looking
+mod Matrices
+pub mod Targets
+mod Found
 pub mod Crossing
-pub mod SphereSquare
+mod SphereSquare

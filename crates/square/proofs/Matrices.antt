@@ -62,7 +62,7 @@ pub images_read : (table : Staircase) (s n : ℕ) (squares : List Placed) (image
 images_read table s n squares images images' e0 e same = e0 ∙ e ∙ ap (λ (x : List Placed). images_of (take n (contents x))) same ∙ ap (λ (x : List Content). images_of (take n x)) (sym (row_of-plain table.rows s))
 
 -- the images of row 0, and of a row above it
-pub first_images : (table : Staircase) → IsTable table → (s k : ℕ) (target : GradedModule) (gens : List ℤ) (images : List (List Bool)) → s ≡ 0 → k < length (row_in table.rows s) → target ≡ (module_over table.resolved.plain).graded → gens ≡ degrees_from (module_over table.resolved.plain).bottom (take (k + 1) (row_of (plain_rows table.rows) s)) → images ≡ images_of (take (k + 1) (row_of (plain_rows table.rows) s)) → AreImages target gens images
+first_images : (table : Staircase) → IsTable table → (s k : ℕ) (target : GradedModule) (gens : List ℤ) (images : List (List Bool)) → s ≡ 0 → k < length (row_in table.rows s) → target ≡ (module_over table.resolved.plain).graded → gens ≡ degrees_from (module_over table.resolved.plain).bottom (take (k + 1) (row_of (plain_rows table.rows) s)) → images ≡ images_of (take (k + 1) (row_of (plain_rows table.rows) s)) → AreImages target gens images
 first_images table h s k target gens images zeroth l e1 e2 e3 =
     let m = module_over table.resolved.plain in
     let low = ap (λ n. length (row_in table.rows n)) zeroth in
@@ -74,7 +74,7 @@ first_images table h s k target gens images zeroth l e1 e2 e3 =
     let S : List (List Bool) → Type 0 = λ x. AreImages m.graded (degrees_from m.bottom (take (k + 1) (row_of (plain_rows table.rows) s))) x in
     subst Q (sym e1) (subst R (sym e2) (subst S (sym e3) (subst P (sym zeroth) are)))
 
-pub upper_images : (table : Staircase) → IsTable table → (s i k : ℕ) (below gens : List ℤ) (images : List (List Bool)) → suc i ≡ s → k < length (row_in table.rows s) → below ≡ degrees_from (module_over table.resolved.plain).bottom (take (k + 1) (row_of (plain_rows table.rows) i)) → gens ≡ degrees_from (module_over table.resolved.plain).bottom (take (k + 1) (row_of (plain_rows table.rows) s)) → images ≡ images_of (take (k + 1) (row_of (plain_rows table.rows) s)) → AreImages (free_graded below) gens images
+upper_images : (table : Staircase) → IsTable table → (s i k : ℕ) (below gens : List ℤ) (images : List (List Bool)) → suc i ≡ s → k < length (row_in table.rows s) → below ≡ degrees_from (module_over table.resolved.plain).bottom (take (k + 1) (row_of (plain_rows table.rows) i)) → gens ≡ degrees_from (module_over table.resolved.plain).bottom (take (k + 1) (row_of (plain_rows table.rows) s)) → images ≡ images_of (take (k + 1) (row_of (plain_rows table.rows) s)) → AreImages (free_graded below) gens images
 upper_images table h s i k below gens images above l e1 e2 e3 =
     let m = module_over table.resolved.plain in
     let b = m.bottom in
@@ -90,6 +90,15 @@ upper_images table h s i k below gens images above l e1 e2 e3 =
     let S : List (List Bool) → Type 0 = λ x. AreImages target (degrees_from b (take (k + 1) (row_of rows s))) x in
     let lower : degrees_from b (take (suc k) (row_of rows i)) ≡ below = ap (λ n. degrees_from b (take n (row_of rows i))) (sym (add-one k)) ∙ sym e1 in
     subst Q lower (subst R (sym e2) (subst S (sym e3) (subst P above are)))
+
+-- the images of a row are vectors of the target over the row below
+pub images_fit : (table : Staircase) → IsTable table → (s k : ℕ) (target : GradedModule) (gens : List ℤ) (images : List (List Bool)) → k < length (row_in table.rows s) → target ≡ target_over (module_over table.resolved.plain) (below_of (plain_rows table.rows) s k) → gens ≡ degrees_from (module_over table.resolved.plain).bottom (take (k + 1) (row_of (plain_rows table.rows) s)) → images ≡ images_of (take (k + 1) (row_of (plain_rows table.rows) s)) → AreImages target gens images
+images_fit table h zero k target gens images l e1 e2 e3 = first_images table h zero k target gens images refl l e1 e2 e3
+images_fit table h (suc i) k target gens images l e1 e2 e3 =
+    let b = bottom table.resolved.plain.generators in
+    let row = row_of (plain_rows table.rows) i in
+    let P : GradedModule → Type 0 = λ x. AreImages x gens images in
+    subst P (ap (λ n. free_graded (degrees_from b (take n row))) (add-one k) ∙ sym e1) (upper_images table h (suc i) i k (degrees_from b (take (k + 1) row)) gens images refl l refl e2 e3)
 
 pub within_reach : (table : Staircase) (s k max n : ℕ) (gens : List ℤ) (t : ℤ) → gens ≡ degrees_from (module_over table.resolved.plain).bottom (take n (row_of (plain_rows table.rows) s)) → t ≡ bottom table.resolved.plain.generators +ℤ pos k → k ≤ max → IsWithinReach max gens t
 within_reach table s k max n gens t e at l = IsWithinReach-row (bottom table.resolved.plain.generators) (take n (row_of (plain_rows table.rows) s)) k max gens t at e l

@@ -1,4 +1,5 @@
 pub mod Squares
 pub mod Tables
+pub mod Below
 pub mod Keeping
 pub mod Inside

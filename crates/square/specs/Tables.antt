@@ -6,6 +6,7 @@ use Rattle.module_check.specs.Module.{bottom}
 use Rattle.module_check.specs.Checked.{Checked}
 use Rattle.resolution_laws.specs.Resolution.{Content, square_in, row_of, below_of}
 use Rattle.resolution_laws.specs.Start.{Entry, entry_at, HasShape, IsOf}
+use Rattle.square.specs.declared.range.Range.{Range}
 use Rattle.square.specs.declared.range.TheConstants.{MAX_S, MAX_T}
 use Rattle.square.specs.Squares.{Placed, content_of, module_over, entry_of, target_width, source_width, WasRead, IsQuasi}
 
@@ -65,6 +66,10 @@ with_square (row ∷ rows) (suc s) q = row ∷ with_square rows s q
 
 abbrev pub AllRead : List (List Placed) → Type 0
 AllRead rows = (s k : ℕ) (q : Placed) → slice_get (row_in rows s) k ≡ Some q → WasRead q
+
+-- each square of the range is there
+abbrev pub IsThrough : Range → List (List Placed) → Type 0
+IsThrough range rows = (s : ℕ) → s ≤ range.s → range.t < length (row_in rows s)
 
 -- the square (s, k) is not there, and those that it stands on, (s, k - 1) and (s - 1, k), are
 pub record IsNext (rows : List (List Placed)) (s k : ℕ) : Type 0 where

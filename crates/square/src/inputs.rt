@@ -1,16 +1,23 @@
-ghost use Rattle.std.specs.Prelude.{◌≡◌, ◌+ℤ◌, pos, option_map, IfSome};
+ghost use Rattle.std.specs.Prelude.{◌≡◌, ◌+ℤ◌, pos, option_map, ℕ, ◌≤◌, IfOk, IfSome};
 ghost use Rattle.std.specs.Arc.{arc_value};
 ghost use Rattle.module_check.specs.Module.{bottom};
+ghost use Rattle.resolution_laws.specs.Resolution.{degrees_from, images_of, square_in, target_over};
+ghost use Rattle.square.specs.Below.{graded_of, reaches_of};
 ghost use Rattle.square.specs.declared.range.TheConstants.{MAX_T};
-ghost use Rattle.square.specs.Squares.{content_of};
+ghost use Rattle.square.specs.Squares.{content_of, module_over};
 ghost use Rattle.square.specs.Tables.{IsFooting, IsPlacedAt, footing_at};
 
+use crate::below::Below;
 use crate::row::Row;
 use crate::square::Square;
 use crate::table::above_of;
+use f2_vec::BitVec;
+use free_module::Gens;
+use memory::Memory;
 use milnor_basis::Basis;
 use module_check::Module;
 use start::Start;
+use std::alloc::Global;
 use std::marker::Model;
 use std::sync::Arc;
 
@@ -36,6 +43,8 @@ impl Model for Inputs {
 
     ghost Value = { Footing };
 
+    ghost use Rattle.resolution_laws.specs.Resolution.{degrees_from, images_of, square_in, target_over};
+    ghost use Rattle.square.specs.Below.{graded_of, reaches_of};
     ghost use Rattle.square.specs.declared.range.TheConstants.{MAX_T};
     ghost use Rattle.square.specs.Tables.{IsFooting, AreOfRow, contents, under_row};
 
@@ -87,9 +96,59 @@ impl Inputs {
         &self.basis
     }
 
+    /// The generators of the squares of its row before it.
+    ///
+    /// # Errors
+    /// `Memory` if allocation fails.
+    pub fn generators(&self, alloc: Global) -> Result<Gens, Memory>
+        ensures { IfOk result (λ gens. gens ≡ degrees_from (bottom self.now.resolved.plain.generators) self.now.squares) }
+    {
+        self.row.generators(alloc, self.module.bottom(), self.above)
+    }
+
+    /// A copy of the images of those generators.
+    ///
+    /// # Errors
+    /// `Memory` if allocation fails.
+    pub fn images(&self, alloc: Global) -> Result<Vec<BitVec>, Memory>
+        ensures { IfOk result (λ images. images.items ≡ images_of self.now.squares) }
+    {
+        self.row.images(alloc, self.above)
+    }
+
+    /// The target of d_s: the module for row 0, and above it the free module on the generators of the row below through the
+    /// square's degree.
+    ///
+    /// # Errors
+    /// `Memory` if allocation fails.
+    pub fn below(&self, alloc: Global) -> Result<Below<'_>, Memory>
+        ensures graded { IfOk result (λ below. graded_of below ≡ target_over (module_over self.now.resolved.plain) self.now.below) }
+        ensures reaches { IfOk result (λ below. (max k : ℕ) → k ≤ max → reaches_of below max (bottom self.now.resolved.plain.generators +ℤ pos k)) }
+    {
+        if self.s == 0 {
+            return Ok(Below::Module(self.module()));
+        }
+        let gens = self
+            .below
+            .generators(alloc, self.module.bottom(), self.above + 1)?;
+        Ok(Below::Row(gens))
+    }
+
+    /// The echelon rows of the kernel of the square below, which has the same degree, none for row 0.
+    pub fn kernel_below(&self) -> Option<&[BitVec]>
+        ensures { option_map (λ rows. rows.now) result ≡ option_map (λ below. (square_in below self.now.above).kernel) self.now.below }
+    {
+        if self.s == 0 {
+            return None;
+        }
+        let square = self.below.get(usize::from(self.above))?;
+        Some(square.kernel())
+    }
+
     /// How many degrees the square is above the module's bottom.
-    pub(crate) fn above(&self) -> u16
-        ensures { result ≡ self.now.above }
+    pub fn above(&self) -> u16
+        ensures above { result ≡ self.now.above }
+        ensures is_footing { IsFooting self.now }
     {
         self.above
     }

@@ -1,9 +1,9 @@
 //! Squares of a resolution, tables of them, and keepers of what is made.
 #![tactic(auto)]
 
+mod below;
 mod inputs;
 mod keep;
-mod quasi;
 mod range;
 mod row;
 mod square;
@@ -11,6 +11,7 @@ mod table;
 #[cfg(test)]
 mod tests;
 
+pub use below::Below;
 pub use inputs::Inputs;
 pub use keep::{Keep, KeepFault, MemKeep, NoKeep};
 pub use range::{MAX_S, MAX_T, Range};

@@ -1,16 +1,24 @@
-ghost use Rattle.std.specs.Prelude.{◌≡◌, ℕ, suc, ◌≤◌, ◌<◌, ◌+◌, ◌^◌, ◌+ℤ◌, ◌≤ℤ◌, pos, [], map, take, length, replicate, option_map, IsSome, IfOk, IfErr, OnOk, OnErr, IsOk};
+ghost use Rattle.std.specs.Prelude.{◌≡◌, ℕ, suc, ◌≤◌, ◌<◌, ◌+◌, ◌^◌, ◌+ℤ◌, ◌≤ℤ◌, pos, [], map, take, length, replicate, Some, option_map, IsSome, IfOk, IfErr, OnOk, OnErr, IsOk};
 ghost use Rattle.std.specs.Arc.{arc_value};
 ghost use Rattle.module_check.specs.Module.{bottom};
-ghost use Rattle.resolution_laws.specs.Resolution.{row_of, below_of};
+ghost use Rattle.f2_matrix.specs.Reduction.{IsReductionOf};
+ghost use Rattle.free_module.specs.FreeModule.{IsWithinReach};
+ghost use Rattle.free_module.specs.LinearMap.{AreImages, map_rows};
+ghost use Rattle.resolution_laws.specs.Resolution.{row_of, below_of, degrees_from, images_of, target_over};
+ghost use Rattle.square.specs.Below.{graded_of, reaches_of};
 ghost use Rattle.square.specs.declared.range.TheConstants.{MAX_S, MAX_T};
-ghost use Rattle.square.specs.Squares.{module_over, target_width};
-ghost use Rattle.square.specs.Tables.{above_of, row_in, square_at, plain_rows, with_square, contents, under_row, row_width, IsNext, IsNextAt, IsContinued, IsTable, HaveRoom};
+ghost use Rattle.square.specs.Squares.{module_over, target_width, IsQuasi};
+ghost use Rattle.square.specs.Tables.{above_of, row_in, square_at, plain_rows, with_square, contents, under_row, row_width, content_at, IsNext, IsNextAt, IsContinued, IsQuasiAt, IsTable, HaveRoom};
 
+use crate::below::Below;
 use crate::inputs::Inputs;
 use crate::range::{MAX_S, MAX_T};
 use crate::row::Row;
 use crate::square::Square;
 use f2_matrix::Reduced;
+use f2_vec::BitVec;
+use free_hom::Hom;
+use free_module::{Gens, Target};
 use memory::Memory;
 use milnor_basis::Basis;
 use module_check::Module;
@@ -176,6 +184,93 @@ impl Table {
         })
     }
 
+    /// The generators of the first `n` squares of row `s`.
+    ///
+    /// # Errors
+    /// `Memory` if allocation fails.
+    pub fn generators(&self, alloc: Global, s: u16, n: u16) -> Result<Gens, Memory>
+        requires { n ≤ length (row_in self.now.rows s) }
+        ensures { IfOk result (λ gens. gens ≡ degrees_from (bottom self.now.resolved.plain.generators) (take n (row_of (plain_rows self.now.rows) s))) }
+    {
+        if usize::from(s) >= self.rows.len() {
+            return Ok(Gens::new(alloc));
+        }
+        self.row(s).generators(alloc, self.module().bottom(), n)
+    }
+
+    /// A copy of the images of those generators.
+    ///
+    /// # Errors
+    /// `Memory` if allocation fails.
+    pub fn images(&self, alloc: Global, s: u16, n: u16) -> Result<Vec<BitVec>, Memory>
+        requires { n ≤ length (row_in self.now.rows s) }
+        ensures { IfOk result (λ images. images.items ≡ images_of (take n (row_of (plain_rows self.now.rows) s))) }
+    {
+        if usize::from(s) >= self.rows.len() {
+            return Ok(Vec::new(alloc));
+        }
+        self.row(s).images(alloc, n)
+    }
+
+    /// The target of d_s, with the generators of the row below through `above` degrees above the bottom.
+    ///
+    /// # Errors
+    /// `Memory` if allocation fails.
+    pub fn below(&self, alloc: Global, s: u16, above: u16) -> Result<Below<'_>, Memory>
+        requires degree { above ≤ MAX_T }
+        requires there { (i : ℕ) → suc i ≡ s → above < length (row_in self.now.rows i) }
+        ensures graded { IfOk result (λ below. graded_of below ≡ target_over (module_over self.now.resolved.plain) (below_of (plain_rows self.now.rows) s above)) }
+        ensures reaches { IfOk result (λ below. (max k : ℕ) → k ≤ max → reaches_of below max (bottom self.now.resolved.plain.generators +ℤ pos k)) }
+    {
+        if s == 0 {
+            return Ok(Below::Module(self.module()));
+        }
+        let gens = self.generators(alloc, s - 1, above + 1)?;
+        Ok(Below::Row(gens))
+    }
+
+    /// The reduction of the matrix of d_s in degree `t`, with the generators of the square there: a copy of the one that the
+    /// square kept, and else it is made again.
+    ///
+    /// # Errors
+    /// `Memory` where there is none for it.
+    pub fn quasi(&self, alloc: Global, s: u16, t: i32) -> Result<Reduced, Memory>
+        requires { IsSome (square_at self.now s t) }
+        ensures { IfOk result (λ reduced. IsQuasiAt self.now s t reduced) }
+    {
+        let square = self.there(s, t);
+        match square.kept_quasi() {
+            Some(kept) => kept.try_copy(alloc),
+            None => self.quasi_again(alloc, s, square.above()),
+        }
+    }
+
+    /// The square in row `s` and of degree `t`, which is there.
+    fn there(&self, s: u16, t: i32) -> &Arc<Square>
+        requires { IsSome (square_at self.now s t) }
+        ensures square { square_at self.now s t ≡ Some (arc_value result.now) }
+        ensures is_table { IsTable self.now }
+    {
+        match self.at(s, t) {
+            Some(square) => square,
+            None => unreachable!(),
+        }
+    }
+
+    /// The same, made from the images of the generators of the rows.
+    fn quasi_again(&self, alloc: Global, s: u16, above: u16) -> Result<Reduced, Memory>
+        requires row { s ≤ MAX_S }
+        requires degree { above ≤ MAX_T }
+        requires there { above < length (row_in self.now.rows s) }
+        ensures { IfOk result (λ reduced. IsQuasi (module_over self.now.resolved.plain) (below_of (plain_rows self.now.rows) s above) (take above (row_of (plain_rows self.now.rows) s)) (content_at self.now.rows s above) reduced) }
+    {
+        let t = self.module.bottom() + i32::from(above);
+        let target = self.below(alloc, s, above)?;
+        let gens = self.generators(alloc, s, above + 1)?;
+        let images = self.images(alloc, s, above + 1)?;
+        reduction(alloc, self.basis(), &gens, &target, images.as_slice(), t)
+    }
+
     /// The squares that were read.
     pub(crate) fn start(&self) -> &Start
         ensures start { result.now ≡ self.now.start }
@@ -273,4 +368,22 @@ fn reserve_rows(rows: &mut Vec<Row>, n: usize) -> Result<(), Memory>
         rows[s].reserve(n)?;
     }
     Ok(())
+}
+
+/// The reduction of the matrix, in degree `t`, of the map that takes the generators to these images.
+fn reduction<T: Target>(
+    alloc: Global,
+    basis: &Basis,
+    gens: &Gens,
+    target: &T,
+    images: &[BitVec],
+    t: i32,
+) -> Result<Reduced, Memory>
+    requires images { AreImages (T.graded target.now) gens.now images.now }
+    requires source { IsWithinReach basis.now gens.now t }
+    requires target { T.reaches target.now basis.now t }
+    ensures { IfOk result (λ reduced. IsReductionOf ((T.graded target.now).width t) (map_rows (T.graded target.now) gens.now images.now t) reduced) }
+{
+    let matrix = Hom::new(basis, gens, target, images).matrix(alloc, t)?;
+    Reduced::of(alloc, &matrix)
 }

@@ -1,13 +1,14 @@
-use Rattle.std.proofs.Common.{length, sym, ◌∙◌, ap}
-use Rattle.resolution_step.specs.Steps.{given_row}
-use Rattle.resolution_step.proofs.GivenRows.{given_row-here}
+use Rattle.std.proofs.Common.{◌≡◌, pos, ◌+ℤ◌, w32, to_z, of_z, FitsSigned, ◌∙◌, rules}
+use Rattle.std.proofs.lemmas.Int.{to_z-of_z}
+use Rattle.module_check.specs.Module.{bottom}
+use Rattle.resolution_step.proofs.Footings.{candidates-row, candidates-module}
 use Rattle.resolution_step.proofs.step_on.parts_on.Goals as goal
 
-pub row_gens-requires-clause-all : goal.row_gens-requires-clause-all
-row_gens-requires-clause-all c =
-    let f = c.args.inputs.now in
-    let count = c.degrees_above-n.ensures in
-    ap length (ap (given_row f) c.s.ensures ∙ given_row-here f) ∙ (count.is_footing.length_is ∙ sym count.above)
+pub parts_over-requires : goal.parts_over-requires
+parts_over-requires c = candidates-row c.args.inputs.now c.in-Some.kernel.now c.in-Some.ensures
 
-pub row_images-requires-clause-all : goal.row_images-requires-clause-all
-row_images-requires-clause-all c = c.degrees_above-n.ensures.is_footing.length_is ∙ sym c.degrees_above-n.ensures.above
+pub parts_over-requires-in-None : goal.parts_over-requires-in-None
+parts_over-requires-in-None c =
+    let fits : FitsSigned w32 c.t.result = search rules in
+    let degree : to_z w32 (of_z w32 c.t.result) ≡ bottom c.args.inputs.now.resolved.plain.generators +ℤ pos c.args.inputs.now.above = to_z-of_z w32 c.t.result fits ∙ c.t.ensures.t in
+    c.as_slice.ensures.value ∙ (c.in_ok-units-in-None.ensures ∙ candidates-module c.args.inputs.now c.in-None.ensures c.module.result.now _ c.dim_in.result c.module.ensures degree c.dim_in.ensures)

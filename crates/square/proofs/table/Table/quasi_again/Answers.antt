@@ -1,79 +1,49 @@
-use Rattle.std.proofs.Common.{◌≡◌, ◌+◌, ◌-◌, pos, ◌+ℤ◌, take, ap, ◌∙◌, w32, to_z, of_z, arith}
+use Rattle.std.proofs.Common.{◌≡◌, ℕ, ℤ, suc, ◌+◌, ◌<◌, pos, ◌+ℤ◌, length, take, ap, sym, subst, ◌∙◌, w32, to_z, of_z, arith}
 use Rattle.std.proofs.lemmas.Int.{ints}
 use Rattle.std.proofs.lemmas.Result.{IfOk-weaker}
 use Rattle.f2_matrix.specs.Reduction.{Reduction, IsReductionOf}
-use Rattle.free_module.specs.Graded.{free_graded}
 use Rattle.free_module.specs.LinearMap.{map_rows}
 use Rattle.module_check.specs.Module.{bottom}
 use Rattle.module_check.specs.Checked.{Checked}
 use Rattle.resolution_laws.specs.Resolution.{row_of, below_of}
+use Rattle.square.specs.Below.{graded_of, reaches_of}
 use Rattle.square.specs.Squares.{module_over, IsQuasi}
-use Rattle.square.specs.Tables.{plain_rows, content_at}
-use Rattle.square.proofs.Matrices.{gens_read, images_read, first_images, upper_images, within_reach, quasi_made, first_target, upper_target}
+use Rattle.square.specs.Tables.{Staircase, IsTable, row_in, plain_rows, content_at}
+use Rattle.square.proofs.Matrices.{images_fit, within_reach, quasi_made}
 use Rattle.square.proofs.table.Table.quasi_again.Goals as goal
+use Rattle.square.proofs.table.Table.quasi_again.Goals.{After-as_slice}
+
+degree : (c : After-as_slice) → to_z w32 (of_z w32 (to_z w32 (of_z w32 c.bottom.result) +ℤ to_z w32 (of_z w32 c.from.result))) ≡ bottom c.args.self.now.resolved.plain.generators +ℤ pos c.args.above
+degree c =
+    let low : c.bottom.result ≡ bottom c.args.self.now.resolved.plain.generators = c.bottom.ensures.bottom ∙ ap (λ (m : Checked). bottom m.plain.generators) (c.deref.ensures ∙ ap (λ (t : Staircase). t.resolved) c.self.view_is) in
+    omega (arith, ints, c.bottom.ensures.lowest, c.bottom.ensures.highest)
+
+pub below-requires-clause-there : goal.below-requires-clause-there
+below-requires-clause-there c i e =
+    let h = subst IsTable c.self.view_is c.self.invariant.0 in
+    let same = ap (λ n. length (row_in c.args.self.now.rows n)) e in
+    let longer = h.never_rise i in
+    let there = c.requires.there in
+    omega arith
 
 pub reduction-requires-clause-images : goal.reduction-requires-clause-images
 reduction-requires-clause-images c =
-    let low : c.bottom-bottom.result ≡ bottom c.args.self.now.resolved.plain.generators = c.bottom-bottom.ensures.bottom ∙ ap (λ (m : Checked). bottom m.plain.generators) c.module.ensures in
-    let gens = gens_read c.args.self.now c.args.s (c.args.above + 1) _ c.row.result.now.squares c.in_ok-gens.gens c.in_ok-gens.ensures (omega (arith, ints, c.bottom-bottom.ensures.lowest, c.bottom-bottom.ensures.highest)) c.row.ensures.row in
-    let images = images_read c.args.self.now c.args.s (c.args.above + 1) c.row-2.result.now.squares c.in_ok-images.images.items c.as_slice.result.now c.as_slice.ensures.value c.in_ok-images.ensures c.row-2.ensures.row in
-    first_images c.args.self.now c.row.ensures.is_table c.args.s c.args.above _ c.in_ok-gens.gens c.as_slice.result.now c.if-s-eq0.true c.requires.there (ap (λ (m : Checked). (module_over m.plain).graded) c.module-then-s-eq0.ensures) gens images
+    images_fit c.args.self.now (subst IsTable c.self.view_is c.self.invariant.0) c.args.s c.args.above (graded_of c.in_ok-target.target) c.in_ok-gens.gens c.as_slice.result.now c.requires.there c.in_ok-target.ensures.graded c.in_ok-gens.ensures (c.as_slice.ensures.value ∙ c.in_ok-images.ensures)
 
 pub reduction-requires-clause-source : goal.reduction-requires-clause-source
 reduction-requires-clause-source c =
-    let low : c.bottom-bottom.result ≡ bottom c.args.self.now.resolved.plain.generators = c.bottom-bottom.ensures.bottom ∙ ap (λ (m : Checked). bottom m.plain.generators) c.module.ensures in
-    let gens = gens_read c.args.self.now c.args.s (c.args.above + 1) _ c.row.result.now.squares c.in_ok-gens.gens c.in_ok-gens.ensures (omega (arith, ints, c.bottom-bottom.ensures.lowest, c.bottom-bottom.ensures.highest)) c.row.ensures.row in
-    let at : to_z w32 (of_z w32 (to_z w32 (of_z w32 c.bottom-bottom.result) +ℤ to_z w32 (of_z w32 c.from.result))) ≡ bottom c.args.self.now.resolved.plain.generators +ℤ pos c.args.above = omega (arith, ints, c.bottom-bottom.ensures.lowest, c.bottom-bottom.ensures.highest) in
-    within_reach c.args.self.now c.args.s c.args.above c.basis.result.now (c.args.above + 1) c.in_ok-gens.gens _ gens at (omega (arith, c.requires.degree, c.basis.ensures))
+    within_reach c.args.self.now c.args.s c.args.above c.basis.result.now (c.args.above + 1) c.in_ok-gens.gens _ c.in_ok-gens.ensures (degree c) (omega (arith, c.requires.degree, c.basis.ensures))
 
-pub returns-then-s-eq0 : goal.returns-then-s-eq0
-returns-then-s-eq0 c =
-    let low : c.bottom-bottom.result ≡ bottom c.args.self.now.resolved.plain.generators = c.bottom-bottom.ensures.bottom ∙ ap (λ (m : Checked). bottom m.plain.generators) c.module.ensures in
-    let gens = gens_read c.args.self.now c.args.s (c.args.above + 1) _ c.row.result.now.squares c.in_ok-gens.gens c.in_ok-gens.ensures (omega (arith, ints, c.bottom-bottom.ensures.lowest, c.bottom-bottom.ensures.highest)) c.row.ensures.row in
-    let t = to_z w32 (of_z w32 (to_z w32 (of_z w32 c.bottom-bottom.result) +ℤ to_z w32 (of_z w32 c.from.result))) in
-    let at : t ≡ bottom c.args.self.now.resolved.plain.generators +ℤ pos c.args.above = omega (arith, ints, c.bottom-bottom.ensures.lowest, c.bottom-bottom.ensures.highest) in
-    let images = images_read c.args.self.now c.args.s (c.args.above + 1) c.row-2.result.now.squares c.in_ok-images.images.items c.as_slice.result.now c.as_slice.ensures.value c.in_ok-images.ensures c.row-2.ensures.row in
-    let target = (module_over c.module-then-s-eq0.result.now.plain).graded in
-    let same = ap (λ (m : Checked). (module_over m.plain).graded) c.module-then-s-eq0.ensures ∙ first_target c.args.self.now c.args.s c.args.above c.if-s-eq0.true in
-    let P : Reduction → Type 0 = λ r. IsReductionOf (target.width t) (map_rows target c.in_ok-gens.gens c.as_slice.result.now t) r in
-    let Q : Reduction → Type 0 = λ r. IsQuasi (module_over c.args.self.now.resolved.plain) (below_of (plain_rows c.args.self.now.rows) c.args.s c.args.above) (take c.args.above (row_of (plain_rows c.args.self.now.rows) c.args.s)) (content_at c.args.self.now.rows c.args.s c.args.above) r in
-    IfOk-weaker c.reduction.result P Q (λ r is. quasi_made c.args.self.now c.args.s c.args.above target c.in_ok-gens.gens c.as_slice.result.now t r c.requires.there same gens images at is) c.reduction.ensures
-
-pub reduction-requires-2-clause-images : goal.reduction-requires-2-clause-images
-reduction-requires-2-clause-images c =
-    let low : c.bottom-bottom.result ≡ bottom c.args.self.now.resolved.plain.generators = c.bottom-bottom.ensures.bottom ∙ ap (λ (m : Checked). bottom m.plain.generators) c.module.ensures in
-    let gens = gens_read c.args.self.now c.args.s (c.args.above + 1) _ c.row.result.now.squares c.in_ok-gens.gens c.in_ok-gens.ensures (omega (arith, ints, c.bottom-bottom.ensures.lowest, c.bottom-bottom.ensures.highest)) c.row.ensures.row in
-    let images = images_read c.args.self.now c.args.s (c.args.above + 1) c.row-2.result.now.squares c.in_ok-images.images.items c.as_slice-2.result.now c.as_slice-2.ensures.value c.in_ok-images.ensures c.row-2.ensures.row in
-    let some = c.if-s-eq0.false in
-    let below = gens_read c.args.self.now (c.args.s - 1) (c.args.above + 1) _ c.row-3.result.now.squares c.in_ok-below.below c.in_ok-below.ensures (omega (arith, ints, c.bottom-bottom.ensures.lowest, c.bottom-bottom.ensures.highest)) c.row-3.ensures.row in
-    upper_images c.args.self.now c.row.ensures.is_table c.args.s (c.args.s - 1) c.args.above c.in_ok-below.below c.in_ok-gens.gens c.as_slice-2.result.now (omega arith) c.requires.there below gens images
-
-pub reduction-requires-2-clause-source : goal.reduction-requires-2-clause-source
-reduction-requires-2-clause-source c =
-    let low : c.bottom-bottom.result ≡ bottom c.args.self.now.resolved.plain.generators = c.bottom-bottom.ensures.bottom ∙ ap (λ (m : Checked). bottom m.plain.generators) c.module.ensures in
-    let gens = gens_read c.args.self.now c.args.s (c.args.above + 1) _ c.row.result.now.squares c.in_ok-gens.gens c.in_ok-gens.ensures (omega (arith, ints, c.bottom-bottom.ensures.lowest, c.bottom-bottom.ensures.highest)) c.row.ensures.row in
-    let at : to_z w32 (of_z w32 (to_z w32 (of_z w32 c.bottom-bottom.result) +ℤ to_z w32 (of_z w32 c.from.result))) ≡ bottom c.args.self.now.resolved.plain.generators +ℤ pos c.args.above = omega (arith, ints, c.bottom-bottom.ensures.lowest, c.bottom-bottom.ensures.highest) in
-    within_reach c.args.self.now c.args.s c.args.above c.basis-2.result.now (c.args.above + 1) c.in_ok-gens.gens _ gens at (omega (arith, c.requires.degree, c.basis-2.ensures))
-
-pub reduction-requires-2-clause-target : goal.reduction-requires-2-clause-target
-reduction-requires-2-clause-target c =
-    let low : c.bottom-bottom.result ≡ bottom c.args.self.now.resolved.plain.generators = c.bottom-bottom.ensures.bottom ∙ ap (λ (m : Checked). bottom m.plain.generators) c.module.ensures in
-    let some = c.if-s-eq0.false in
-    let below = gens_read c.args.self.now (c.args.s - 1) (c.args.above + 1) _ c.row-3.result.now.squares c.in_ok-below.below c.in_ok-below.ensures (omega (arith, ints, c.bottom-bottom.ensures.lowest, c.bottom-bottom.ensures.highest)) c.row-3.ensures.row in
-    let at : to_z w32 (of_z w32 (to_z w32 (of_z w32 c.bottom-bottom.result) +ℤ to_z w32 (of_z w32 c.from.result))) ≡ bottom c.args.self.now.resolved.plain.generators +ℤ pos c.args.above = omega (arith, ints, c.bottom-bottom.ensures.lowest, c.bottom-bottom.ensures.highest) in
-    within_reach c.args.self.now (c.args.s - 1) c.args.above c.basis-2.result.now (c.args.above + 1) c.in_ok-below.below _ below at (omega (arith, c.requires.degree, c.basis-2.ensures))
+pub reduction-requires-clause-target : goal.reduction-requires-clause-target
+reduction-requires-clause-target c =
+    let P : ℤ → Type 0 = reaches_of c.in_ok-target.target c.basis.result.now in
+    subst P (sym (degree c)) (c.in_ok-target.ensures.reaches c.basis.result.now c.args.above (omega (arith, c.requires.degree, c.basis.ensures)))
 
 pub returns : goal.returns
 returns c =
-    let low : c.bottom-bottom.result ≡ bottom c.args.self.now.resolved.plain.generators = c.bottom-bottom.ensures.bottom ∙ ap (λ (m : Checked). bottom m.plain.generators) c.module.ensures in
-    let gens = gens_read c.args.self.now c.args.s (c.args.above + 1) _ c.row.result.now.squares c.in_ok-gens.gens c.in_ok-gens.ensures (omega (arith, ints, c.bottom-bottom.ensures.lowest, c.bottom-bottom.ensures.highest)) c.row.ensures.row in
-    let t = to_z w32 (of_z w32 (to_z w32 (of_z w32 c.bottom-bottom.result) +ℤ to_z w32 (of_z w32 c.from.result))) in
-    let at : t ≡ bottom c.args.self.now.resolved.plain.generators +ℤ pos c.args.above = omega (arith, ints, c.bottom-bottom.ensures.lowest, c.bottom-bottom.ensures.highest) in
-    let images = images_read c.args.self.now c.args.s (c.args.above + 1) c.row-2.result.now.squares c.in_ok-images.images.items c.as_slice-2.result.now c.as_slice-2.ensures.value c.in_ok-images.ensures c.row-2.ensures.row in
-    let some = c.if-s-eq0.false in
-    let below = gens_read c.args.self.now (c.args.s - 1) (c.args.above + 1) _ c.row-3.result.now.squares c.in_ok-below.below c.in_ok-below.ensures (omega (arith, ints, c.bottom-bottom.ensures.lowest, c.bottom-bottom.ensures.highest)) c.row-3.ensures.row in
-    let target = free_graded c.in_ok-below.below in
-    let same = upper_target c.args.self.now c.args.s (c.args.s - 1) c.args.above c.in_ok-below.below (omega arith) below in
-    let P : Reduction → Type 0 = λ r. IsReductionOf (target.width t) (map_rows target c.in_ok-gens.gens c.as_slice-2.result.now t) r in
+    let before = (goal.at.returns c).After-as_slice in
+    let t = to_z w32 (of_z w32 (to_z w32 (of_z w32 c.bottom.result) +ℤ to_z w32 (of_z w32 c.from.result))) in
+    let target = graded_of c.in_ok-target.target in
+    let P : Reduction → Type 0 = λ r. IsReductionOf (target.width t) (map_rows target c.in_ok-gens.gens c.as_slice.result.now t) r in
     let Q : Reduction → Type 0 = λ r. IsQuasi (module_over c.args.self.now.resolved.plain) (below_of (plain_rows c.args.self.now.rows) c.args.s c.args.above) (take c.args.above (row_of (plain_rows c.args.self.now.rows) c.args.s)) (content_at c.args.self.now.rows c.args.s c.args.above) r in
-    IfOk-weaker c.reduction-2.result P Q (λ r is. quasi_made c.args.self.now c.args.s c.args.above target c.in_ok-gens.gens c.as_slice-2.result.now t r c.requires.there same gens images at is) c.reduction-2.ensures
+    IfOk-weaker c.reduction.result P Q (λ r is. quasi_made c.args.self.now c.args.s c.args.above target c.in_ok-gens.gens c.as_slice.result.now t r c.requires.there c.in_ok-target.ensures.graded c.in_ok-gens.ensures (c.as_slice.ensures.value ∙ c.in_ok-images.ensures) (degree before) is) c.reduction.ensures
