@@ -13,10 +13,10 @@ use Rattle.board_core.specs.Machine.{State, IsReady, IsHeld, IsHistory, has_entr
 use Rattle.board_core.proofs.Histories.{height_is, opening_is_sound}
 use Rattle.free_module.specs.Graded.{KeepsWidths}
 use Rattle.resolution_laws.specs.Resolution.{Module, Content, IsStep}
-use Rattle.resolution_laws.specs.Start.{Entry, entry_at}
+use Rattle.resolution_laws.specs.Start.{Entry, entry_at, AreOf}
 use Rattle.board_laws.specs.Filled.{Copy, Filled, without_contents, filled_opening, filled_height, places, after_take, IsCopyFor, IsMadeFromCopy, IsRun}
 use Rattle.board_laws.specs.Filled.IsRun.{no_event, take_first, give_first, back_first, fail_first}
-use Rattle.board_laws.specs.Schedules.{AreOf, IsSchedule, EveryHistoryHasARun, EveryHistoryFromItsStartHasARun}
+use Rattle.board_laws.specs.Schedules.{IsSchedule, EveryHistoryHasARun, EveryHistoryFromItsStartHasARun}
 use Rattle.board_laws.proofs.Agreement.{opening_agrees}
 use Rattle.board_laws.proofs.Copies.{copy_steps}
 use Rattle.board_laws.proofs.Kept.{opening_is_kept}

@@ -10,10 +10,10 @@ use Rattle.board_core.specs.declared.event.Cause.{Cause}
 use Rattle.board_core.specs.declared.event.Cause.TheVariants.{Failed, Memory}
 use Rattle.board_core.specs.Machine.{HasParents, IsStaircase, cause_or}
 use Rattle.resolution_laws.specs.Resolution.{Module, Content}
-use Rattle.resolution_laws.specs.Start.{Entry, entry_at, IsOf}
+use Rattle.resolution_laws.specs.Start.{Entry, entry_at, IsOf, AreOf}
 use Rattle.resolution_laws.proofs.StartLaws.{entry_at-other, entry_at-new}
 use Rattle.board_laws.specs.Filled.{Contents, with_content, Copy, Filled, without_copy, filled_opening, after_take, after_give, after_back, after_fail, IsCopyFor, IsMadeFromCopy}
-use Rattle.board_laws.specs.Schedules.{AreOf, GivesOf}
+use Rattle.board_laws.specs.Schedules.{GivesOf}
 use Rattle.board_laws.proofs.Agreement.{held_squares}
 use Rattle.board_laws.proofs.Copies.{copy_gives}
 

@@ -10,10 +10,10 @@ use Rattle.board_core.specs.Machine.IsHistory.{nothing, then}
 use Rattle.board_core.proofs.Given.{given_once}
 use Rattle.board_core.proofs.Histories.{height_is, held_at_height, opening_is_sound, stays_sound}
 use Rattle.resolution_laws.specs.Resolution.{Module, Content}
-use Rattle.resolution_laws.specs.Start.{Entry, entry_at}
+use Rattle.resolution_laws.specs.Start.{Entry, entry_at, AreOf}
 use Rattle.board_laws.specs.Filled.{Copy, Filled, without_contents, filled_opening, filled_height, places, after_take, after_give, after_back, after_fail, IsCopyFor, IsMadeFromCopy, IsRun}
 use Rattle.board_laws.specs.Filled.IsRun.{no_event, take_first, give_first, back_first, fail_first}
-use Rattle.board_laws.specs.Schedules.{AreOf, IsExtension, IsSchedule, IsFilledRight}
+use Rattle.board_laws.specs.Schedules.{IsExtension, IsSchedule, IsFilledRight}
 use Rattle.board_laws.proofs.Agreement.{take_agrees, give_agrees, back_agrees, fail_agrees, opening_agrees}
 use Rattle.board_laws.proofs.Kept.{IsKept, opening_is_kept, take_keeps, give_keeps, back_keeps, fail_keeps}
 

@@ -6,12 +6,8 @@ use Rattle.free_module.specs.Graded.{KeepsWidths}
 use Rattle.board_core.specs.Laws.{IsReached, given}
 use Rattle.board_core.specs.Machine.{State, IsStart}
 use Rattle.resolution_laws.specs.Resolution.{Module, Content, IsStep}
-use Rattle.resolution_laws.specs.Start.{Entry, entry_at, IsOf}
+use Rattle.resolution_laws.specs.Start.{Entry, entry_at, IsOf, AreOf}
 use Rattle.board_laws.specs.Filled.{Copy, Filled, without_contents, filled_opening, places, IsRun}
-
--- each square of the list is that of the table of the start
-abbrev pub AreOf : Module → List Entry → List Entry → Type 0
-AreOf m start list = All (λ e. IsOf m start e.s e.above e.content) list
 
 -- what the step over a copy gives is of that table
 abbrev pub GivesOf : Module → List Entry → Copy → Type 0

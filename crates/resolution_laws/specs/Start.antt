@@ -1,6 +1,6 @@
 -- Squares that were read from a save file stand as they were read. With those of a start, a table is continued by the step.
 use Rattle.std.specs.Prelude.{◌≡◌, ℕ, zero, suc, ◌+◌, ◌<◌, ◌≤◌, ◌↔◌, pos, ◌+ℤ◌, ◌&&◌, nat_eq, if◌then◌else◌, List, [], ◌∷◌, ◌++◌, length, map, replicate, Option, Some, None, MatchOption}
-use Rattle.std.specs.List.{range_with_len}
+use Rattle.std.specs.List.{All, range_with_len}
 use Rattle.f2_vec.specs.Spans.{HaveWidth}
 use Rattle.f2_matrix.specs.Echelon.{IsReduced, HasNoZeroRow}
 use Rattle.free_module.specs.FreeModule.{free_width}
@@ -42,6 +42,10 @@ IsReadOrStep m start s k at content =
 -- content is that of the square (s, k) of the start's table
 pub data IsOf (m : Module) (start : List Entry) : ℕ → ℕ → Content → Type 0 where
   is_of : (s k : ℕ) (at : ℕ → ℕ → Content) (content : Content) → ((j : ℕ) → j < k → IsOf m start s j (at s j)) → ((i j : ℕ) → suc i ≡ s → j ≤ k → IsOf m start i j (at i j)) → IsReadOrStep m start s k at content → IsOf m start s k content
+
+-- each square of the list is that of the start's table
+abbrev pub AreOf : Module → List Entry → List Entry → Type 0
+AreOf m start list = All (λ e. IsOf m start e.s e.above e.content) list
 
 -- each square of the start is that of the canonical resolution
 abbrev pub IsCanonicalStart : Module → List Entry → Type 0

@@ -5,9 +5,9 @@ use Rattle.std.proofs.lemmas.List.{append-nil, append_assoc}
 use Rattle.std.proofs.lemmas.List.Elements.{All-nil, All-cons, All-append}
 use Rattle.std.proofs.lemmas.Option.{IfSome_then}
 use Rattle.resolution_laws.specs.Resolution.{Module}
-use Rattle.resolution_laws.specs.Start.{Entry, IsOf}
+use Rattle.resolution_laws.specs.Start.{Entry, IsOf, AreOf}
 use Rattle.square.specs.Squares.{Placed, entry_of}
-use Rattle.square.specs.Keeping.{Keeper, with_squares, IsImageBetween, AreOf, IsImageWith, IsImageAmid, HasKept}
+use Rattle.square.specs.Keeping.{Keeper, with_squares, IsImageBetween, IsImageWith, IsImageAmid, HasKept}
 
 -- ---- options
 

@@ -1,10 +1,9 @@
 -- Keepers of squares: what is kept, and what may be left of it where a run is cut off.
 use Rattle.std.specs.Prelude.{◌≡◌, ℕ, suc, ◌≤◌, ◌⊎◌, ◌↔◌, List, [], ◌∷◌, ◌++◌, length, slice_get, Option, Some, None, IsSome, IfSome}
-use Rattle.std.specs.List.{All}
 use Rattle.std.specs.Option.{option_map}
 use Rattle.module_check.specs.Checked.{Checked}
 use Rattle.resolution_laws.specs.Resolution.{Module}
-use Rattle.resolution_laws.specs.Start.{Entry, entry_at, IsOf}
+use Rattle.resolution_laws.specs.Start.{Entry, entry_at, AreOf}
 use Rattle.square.specs.Squares.{Placed, entry_of}
 use Rattle.square.specs.Tables.{Staircase, row_in}
 
@@ -51,10 +50,6 @@ pub record IsKeeperOf (keeper : Keeper) (table : Staircase) : Type 0 where
   pub start : IfSome keeper.start (λ start. table.start ≡ start)
 
 -- ---- a keeper from one moment to a later one
-
--- each square of the list is that of the start's table
-abbrev pub AreOf : Module → List Entry → List Entry → Type 0
-AreOf m start list = All (λ e. IsOf m start e.s e.above e.content) list
 
 -- the image is the list, and at most one square of the start's table more
 pub record IsImageWith (m : Module) (start list : List Entry) (image : Option (List Entry)) : Type 0 where
