@@ -1,3 +1,4 @@
+//! Linear maps from a free module, and their matrices.
 ghost use Rattle.std.specs.Prelude.{◌≡◌, ◌<◌, ◌++◌, ◌+ℤ◌, ℕ, pos, [], length, map, slice_index_or, IfOk};
 ghost use Rattle.f2_vec.specs.Spans.{row};
 ghost use Rattle.milnor_basis.specs.Exponents.{degree_of};
@@ -6,9 +7,10 @@ ghost use Rattle.free_module.specs.LinearMap.{AreImages, map_rows, mapped};
 
 use f2_matrix::Matrix;
 use f2_vec::BitVec;
-use free_module::{Gens, Target, elements_at};
+use free_module::{Gens, Target};
 use memory::Memory;
 use milnor_basis::{Basis, Exps};
+use milnor_product::elements_at;
 use std::alloc::Global;
 
 /// A linear map from a free module, given by the images of the generators.

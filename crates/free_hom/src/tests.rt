@@ -1,3 +1,4 @@
+//! A map of free modules, computed by hand.
 ghost use Rattle.std.specs.Prelude.{◌≡◌, pos, Bool, true, List, [], ◌∷◌, length, IfOk};
 
 use crate::Hom;
@@ -65,7 +66,7 @@ fn images(alloc: Global) -> Result<Vec<BitVec>, Memory>
     Ok(images)
 }
 
-// The source's basis in degree 4 is Sq(3) and Sq(0,1) on the first generator, and Sq(2) on the second. Each goes to
+// The source's basis in degree 4 is Sq(3) and Sq(0,1) on the first generator, and Sq(2) on the second. Each is taken to
 // Sq(1,1), the second of Sq(4) and Sq(1,1): Sq(3) Sq(1), Sq(0,1) Sq(1) and Sq(2) Sq(2) all are that.
 #[test]
 fn maps(rt: HostRuntime) -> Result<(), Fail> {

@@ -8,11 +8,7 @@ use Rattle.f2_vec.specs.Vectors.{zeros}
 use Rattle.milnor_basis.specs.Exponents.{degree_of}
 use Rattle.milnor_product.specs.Times.{basis_at, times_at}
 use Rattle.free_module.specs.FreeModule.{free_basis_from}
-use Rattle.free_module.specs.FreeLaws.{blocks, length-free_basis_from}
-
-pub basis_at-negative : (n : ℤ) → n <ℤ pos 0 → [] ≡ basis_at n
-basis_at-negative (pos n) h = absurd (omega (arith, ints))
-basis_at-negative (negsuc n) h = refl
+use Rattle.free_module.specs.Inside.FreeLaws.{blocks, length-free_basis_from}
 
 -- the generators from k on, and those after it
 pub length-rest : (ds : List ℤ) (t : ℤ) (k : ℕ) → k < length ds → length (free_basis_from k (drop k ds) t) ≡ length (basis_at (t -ℤ get_or ds k (pos 0))) + length (free_basis_from (k + 1) (drop (k + 1) ds) t)

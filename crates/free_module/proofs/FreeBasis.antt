@@ -13,7 +13,7 @@ use Rattle.milnor_product.specs.Times.{basis_at}
 use Rattle.milnor_product.proofs.Multiples.{degree_of-basis_at}
 use Rattle.free_module.specs.FreeModule.{degree_at, free_basis_from, free_basis, free_width}
 use Rattle.free_module.specs.FreeBasis.{IsOfDegree, IsElementBelow, element, FreeBasisIsPairs}
-use Rattle.free_module.specs.FreeLaws.{on}
+use Rattle.free_module.specs.Inside.FreeLaws.{on, length-free_basis_from}
 
 -- the generators of two lists
 pub free_basis_from-append : (g : ℕ) (ds es : List ℤ) (t : ℤ) → free_basis_from g (ds ++ es) t ≡ free_basis_from g ds t ++ free_basis_from (g + length ds) es t
@@ -37,11 +37,6 @@ element-later k d ds t i l =
     let b = basis_at (t -ℤ d) in
     get_or-append_right (on k b) (free_basis_from (suc k) ds t) (length b) i (0, []) (length-map b (λ r. (k, r))) l
 
-pub length-block : (k : ℕ) (d : ℤ) (ds : List ℤ) (t : ℤ) → length (free_basis_from k (d ∷ ds) t) ≡ length (basis_at (t -ℤ d)) + length (free_basis_from (suc k) ds t)
-length-block k d ds t =
-    let b = basis_at (t -ℤ d) in
-    length-append (on k b) (free_basis_from (suc k) ds t) ∙ ap (λ n. n + length (free_basis_from (suc k) ds t)) (length-map b (λ r. (k, r)))
-
 trimmed-basis_at : (n : ℤ) (i : ℕ) → i < length (basis_at n) → IsTrimmed (get_or (basis_at n) i [])
 trimmed-basis_at (pos n) i h = (basis_of-member n i h).0
 trimmed-basis_at (negsuc n) i h = absurd (omega arith)
@@ -62,7 +57,7 @@ element-from : (k : ℕ) (ds : List ℤ) (t : ℤ) (i : ℕ) → i < length (fre
 element-from k [] t i h = absurd (omega arith)
 element-from k (d ∷ ds) t i h =
     let b = basis_at (t -ℤ d) in
-    let n = length-block k d ds t in
+    let n = length-free_basis_from k d ds t in
     elim (cases_lt i (length b)) [
       | inl l ↦
           let r = get_or b i [] in
@@ -91,7 +86,7 @@ in_order-from : (k : ℕ) (ds : List ℤ) (t : ℤ) (i j : ℕ) → i < j → j 
 in_order-from k [] t i j l h = absurd (omega arith)
 in_order-from k (d ∷ ds) t i j l h =
     let b = basis_at (t -ℤ d) in
-    let n = length-block k d ds t in
+    let n = length-free_basis_from k d ds t in
     let Below : ℕ × List ℕ → ℕ × List ℕ → Type 0 = IsElementBelow in
     elim (cases_lt j (length b)) [
       | inl m ↦
@@ -141,7 +136,7 @@ free_basis-at ds t g h =
 pub start_within : (ds : List ℤ) (t : ℤ) (g : ℕ) → g < length ds → free_width (take g ds) t + length (basis_at (t -ℤ degree_at ds g)) ≤ free_width ds t
 start_within ds t g h =
     let rest = free_basis_from g (degree_at ds g ∷ drop (g + 1) ds) t in
-    omega (arith, ap length (free_basis-at ds t g h), length-append (free_basis (take g ds) t) rest, length-block g (degree_at ds g) (drop (g + 1) ds) t)
+    omega (arith, ap length (free_basis-at ds t g h), length-append (free_basis (take g ds) t) rest, length-free_basis_from g (degree_at ds g) (drop (g + 1) ds) t)
 
 pub start_more : (ds : List ℤ) (t : ℤ) (g : ℕ) → g < length ds → free_width (take (g + 1) ds) t ≡ free_width (take g ds) t + length (basis_at (t -ℤ degree_at ds g))
 start_more ds t g h =
@@ -150,7 +145,7 @@ start_more ds t g h =
     let split = free_basis_from-append 0 (take g ds) (d ∷ []) t in
     let last = free_basis_from (0 + length (take g ds)) (d ∷ []) t in
     ap (λ (xs : List ℤ). free_width xs t) more
-    ∙ (ap length split ∙ (length-append (free_basis (take g ds) t) last ∙ omega (arith, length-block (0 + length (take g ds)) d [] t)))
+    ∙ (ap length split ∙ (length-append (free_basis (take g ds) t) last ∙ omega (arith, length-free_basis_from (0 + length (take g ds)) d [] t)))
 
 pub free_basis-place : (ds : List ℤ) (t : ℤ) (g p : ℕ) (r : List ℕ) → g < length ds → slice_get (basis_at (t -ℤ degree_at ds g)) p ≡ Some r → slice_get (free_basis ds t) (free_width (take g ds) t + p) ≡ Some (g, r)
 free_basis-place ds t g p r h e =

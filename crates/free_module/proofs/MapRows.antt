@@ -9,7 +9,7 @@ use Rattle.f2_vec.proofs.Spans.{length-combination}
 use Rattle.f2_vec.proofs.Combinations.{map-map, HaveWidth-take, HaveWidth-map_where, combination_more}
 use Rattle.milnor_basis.specs.Exponents.{degree_of}
 use Rattle.milnor_product.proofs.Multiples.{degree_of-basis_at}
-use Rattle.free_module.specs.FreeLaws.{on}
+use Rattle.free_module.specs.Inside.FreeLaws.{on}
 use Rattle.milnor_product.specs.Times.{basis_at}
 use Rattle.free_module.specs.FreeModule.{free_basis_from, free_basis, free_width, degree_at}
 use Rattle.free_module.specs.FreeBasis.{IsOfDegree}

@@ -1,5 +1,5 @@
 pub mod FreeModule
 pub mod Graded
-pub mod FreeLaws
 pub mod FreeBasis
 pub mod LinearMap
+pub mod Inside

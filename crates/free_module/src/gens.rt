@@ -1,7 +1,8 @@
+//! The generators of a free module, and the module on them.
 ghost use Rattle.std.specs.Prelude.{◌≡◌, ◌≤◌, ◌<◌, ◌+◌, ◌^◌, ℕ, ℤ, pos, ◌+ℤ◌, ◌-ℤ◌, ◌≤ℤ◌, List, [], ◌∷◌, ◌++◌, Bool, length, take, drop, replicate, IfOk, OnOk, OnErr, Some, slice_get};
 ghost use Rattle.milnor_basis.specs.Exponents.{degree_of};
 ghost use Rattle.milnor_product.specs.Times.{basis_at, times_at};
-ghost use Rattle.free_module.specs.FreeLaws.{free_HasUnit, free_KeepsWidths};
+ghost use Rattle.free_module.specs.Inside.FreeLaws.{free_HasUnit, free_KeepsWidths};
 ghost use Rattle.free_module.specs.FreeModule.{IsWithinReach, degree_at, free_basis, free_width};
 ghost use Rattle.free_module.specs.Graded.{free_graded};
 
@@ -9,7 +10,7 @@ use crate::target::Target;
 use f2_vec::BitVec;
 use memory::Memory;
 use milnor_basis::{Basis, Exps};
-use milnor_product::times;
+use milnor_product::{elements_at, times};
 use std::alloc::Global;
 use std::marker::Model;
 
@@ -171,19 +172,6 @@ impl Target for Gens {
     ghost has_unit = { λ gens. free_HasUnit gens };
 
     ghost keeps_widths = { λ gens. free_KeepsWidths gens };
-}
-
-/// The Milnor basis of degree `n`, none where that is negative.
-pub fn elements_at(basis: &Basis, n: i64) -> &[Exps]
-    requires { n ≤ℤ pos basis.now }
-    ensures { result.now ≡ basis_at n }
-{
-    // A degree of the basis fits `u16`, so `n` does where it is not negative.
-    prove!(n <= i64::from(basis.max()));
-    match u16::try_from(n) {
-        Ok(n) => basis.of_degree(n),
-        Err(_) => &[],
-    }
 }
 
 /// Sq(R) times a sum `v` of basis elements of degree `n`, none where that is negative.

@@ -1,4 +1,4 @@
-//! Free modules over the Steenrod algebra, and what a linear map from one may go to.
+//! Free modules over the Steenrod algebra, and the target of a linear map from one.
 #![tactic(auto)]
 
 mod gens;
@@ -7,6 +7,6 @@ mod target;
 #[cfg(test)]
 mod tests;
 
-pub use gens::{Gens, elements_at};
+pub use gens::Gens;
 pub use laws::free_basis_is_pairs;
 pub use target::Target;

@@ -1,3 +1,4 @@
+//! The target of a linear map.
 ghost use Rattle.std.specs.Prelude.{◌≡◌, ℕ, ℤ, pos, ◌+ℤ◌, Bool, length, IfOk};
 ghost use Rattle.milnor_basis.specs.Exponents.{degree_of};
 ghost use Rattle.free_module.specs.Graded.{GradedModule, HasUnit, KeepsWidths};
@@ -7,7 +8,7 @@ use memory::Memory;
 use milnor_basis::{Basis, Exps};
 use std::alloc::Global;
 
-/// What a linear map may go to: a graded module, with Milnor's basis elements acting on it.
+/// The target of a linear map: a graded module, with Milnor's basis elements acting on it.
 pub trait Target {
     /// The module.
     ghost graded: { Self → GradedModule };

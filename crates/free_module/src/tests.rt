@@ -1,3 +1,4 @@
+//! Bases, places and actions of small free modules, computed by hand.
 ghost use Rattle.std.specs.Prelude.{◌≡◌, ◌+ℤ◌, pos, [], ◌∷◌, IfOk};
 ghost use Rattle.milnor_basis.specs.Exponents.{degree_of};
 

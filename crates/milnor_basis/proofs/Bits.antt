@@ -10,8 +10,8 @@ use Rattle.std.proofs.Math.Pow.{pow_mono}
 use Rattle.milnor_basis.specs.Exponents.{entry, degree_of, put_before, trimmed, IsTrimmed}
 use Rattle.milnor_basis.specs.Basis.{basis_of}
 use Rattle.milnor_basis.proofs.BasisLemmas.{basis_is_milnors}
-use Rattle.milnor_basis.specs.Walk.{plus, TurnsOverEqual}
-use Rattle.milnor_basis.proofs.ExponentLemmas.{entry-trimmed, entry_last, entry_within, length_above}
+use Rattle.milnor_basis.specs.Inside.Walk.{plus, TurnsOverEqual}
+use Rattle.milnor_basis.proofs.ExponentLemmas.{trimmed-zeros, entry-trimmed, entry_last, entry_within, length_above}
 
 -- the element of a degree's basis at place k
 abbrev element : ℕ → ℕ → List ℕ
@@ -45,13 +45,8 @@ same_exponents xs ys e = elim (cases_Bool (pointwise nat_eq xs ys)) [ inl t ↦ 
 other_exponents : (xs ys : List ℕ) → xs ≢ ys → pointwise nat_eq xs ys ≡ false
 other_exponents xs ys e = elim (cases_Bool (pointwise nat_eq xs ys)) [ inl t ↦ absurd (e (same_text xs ys (sym t))) | inr f ↦ f ]
 
--- zeros at the end may be cut off
-pub trimmed_zeros : (xs : List ℕ) → ((i : ℕ) → entry xs i ≡ 0) → trimmed xs ≡ []
-trimmed_zeros [] z = refl
-trimmed_zeros (x ∷ xs) z = let here : x ≡ 0 = z 0 in rw (trimmed_zeros xs (λ i. z (suc i)), here) refl
-
 trimmed_take : (n : ℕ) (xs : List ℕ) → ((i : ℕ) → n ≤ i → entry xs i ≡ 0) → trimmed (take n xs) ≡ trimmed xs
-trimmed_take zero xs z = sym (trimmed_zeros xs (λ i. z i (omega arith)))
+trimmed_take zero xs z = sym (trimmed-zeros xs (λ i. z i (omega arith)))
 trimmed_take (suc n) [] z = refl
 trimmed_take (suc n) (x ∷ xs) z = ap (put_before x) (trimmed_take n xs (λ i l. z (suc i) (omega arith)))
 

@@ -8,7 +8,7 @@ use Rattle.std.proofs.Math.Nat.{pow-suc}
 use Rattle.std.proofs.lemmas.Nat.{mul-le}
 use Rattle.std.proofs.lemmas.List.{get_or_past, drop_more}
 use Rattle.milnor_basis.specs.Exponents.{entry, degree_from, degree_of, put_before, trimmed, IsTrimmed}
-use Rattle.milnor_basis.specs.Padding.{padded, padded-trimmed}
+use Rattle.milnor_basis.specs.Inside.Padding.{padded, padded-trimmed}
 
 -- what `put_before` does to a degree, to entries and to trimming
 degree_from-put_before : (i r : ℕ) (t : List ℕ) → degree_from i (put_before r t) ≡ r * (2 ^ i - 1) + degree_from (suc i) t
@@ -128,7 +128,8 @@ degree_from_bound b i (r ∷ rs) h =
 pub same_from_trimmed : (rs ss : List ℕ) → length rs ≡ length ss → trimmed rs ≡ trimmed ss → rs ≡ ss
 same_from_trimmed rs ss e h = sym (padded-trimmed (length ss) rs e) ∙ ap (padded (length ss)) h ∙ padded-trimmed (length ss) ss refl
 
-same_answers : (a b : Bool) → (a ≡ true → b ≡ true) → (b ≡ true → a ≡ true) → a ≡ b
+-- two tests that hold together are one
+pub same_answers : (a b : Bool) → (a ≡ true → b ≡ true) → (b ≡ true → a ≡ true) → a ≡ b
 same_answers true b f g = sym (f refl)
 same_answers false true f g = g refl
 same_answers false false f g = refl
@@ -213,3 +214,15 @@ length_within rs h = by (length rs) refl
         let power : 1 + j < 2 ^ (1 + j) = below_power (1 + j) in
         let least : 1 * (2 ^ (1 + j) - 1) ≤ entry rs j * (2 ^ (1 + j) - 1) = mul-le 1 (2 ^ (1 + j) - 1) (entry rs j) (2 ^ (1 + j) - 1) last (omega arith) in
         omega arith
+
+-- zeros at the end may be cut off
+pub trimmed-zeros : (xs : List ℕ) → ((i : ℕ) → entry xs i ≡ 0) → trimmed xs ≡ []
+trimmed-zeros [] z = refl
+trimmed-zeros (x ∷ xs) z = let here : x ≡ 0 = z 0 in rw (trimmed-zeros xs (λ i. z (suc i)), here) refl
+
+-- lists with the same exponents, but for zeros, are one when trimmed
+pub trimmed-same : (xs ys : List ℕ) → ((i : ℕ) → entry xs i ≡ entry ys i) → trimmed xs ≡ trimmed ys
+trimmed-same [] [] h = refl
+trimmed-same [] (y ∷ ys) h = sym (trimmed-zeros (y ∷ ys) (λ i. sym (h i)))
+trimmed-same (x ∷ xs) [] h = trimmed-zeros (x ∷ xs) h
+trimmed-same (x ∷ xs) (y ∷ ys) h = let here : x ≡ y = h 0 in let rest = trimmed-same xs ys (λ i. h (suc i)) in cc

@@ -7,11 +7,12 @@ use Rattle.std.proofs.lemmas.List.FromFn.{length-map-range_with_len, get_or-map-
 use Rattle.std.specs.Cmp.Lexicographic.{pointwise}
 use Rattle.milnor_basis.specs.Exponents.{entry, trimmed}
 use Rattle.milnor_basis.specs.Basis.{basis_of}
-use Rattle.milnor_basis.specs.Walk.{plus, is_odd_below, fillings, places_to, Sums, add, are_sums_of, IsLeft, least, greatest, taken, next_row, next_column, TurnsOver, TurnsOverEqual}
+use Rattle.milnor_basis.specs.Inside.Walk.{plus, is_odd_below, fillings, places_to, Sums, add, are_sums_of, IsLeft, least, greatest, taken, next_row, next_column, TurnsOver, TurnsOverEqual}
 use Rattle.milnor_basis.proofs.Parity.{plus-assoc, is_odd_below-none, is_odd_below-up_to}
 use Rattle.milnor_basis.proofs.Walk.{fillings_step}
 use Rattle.milnor_basis.proofs.Prune.{outside, not_apart}
-use Rattle.milnor_basis.proofs.Bits.{trimmed_zeros}
+use Rattle.milnor_basis.proofs.Ranges.{list_all-range}
+use Rattle.milnor_basis.proofs.ExponentLemmas.{trimmed-same}
 use Rattle.milnor_basis.proofs.Steps.{left_after, next_is, greatest_below}
 
 -- whether an odd number of ways goes on from the number v at (row, column)
@@ -82,26 +83,14 @@ module _ (degree w row column : ℕ) (rows columns diagonals : List ℕ) (above 
       let with_diagonals = subst (λ (xs : List ℕ). TurnsOver degree w (next_row row column) (next_column w row column) (taken row (number * 2 ^ column) rows) (taken column number columns) xs middle after) ed with_columns in
       turned number middle after many wide long same least_le le_greatest apart inv with_diagonals
 
--- a test of all numbers of a range
-list_all-passes : (p : ℕ → Bool) (a n : ℕ) → ((i : ℕ) → a ≤ i → i < a + n → p i ≡ true) → list_all p (range_with_len a n) ≡ true
-list_all-passes p a zero h = refl
-list_all-passes p a (suc n) h = let here = h a (omega arith) (omega arith) in let rest = list_all-passes p (a + 1) n (λ i l m. h i (omega arith) (omega arith)) in rw (here, rest) refl
-
--- lists with the same exponents, but for zeros, are one when trimmed
-trimmed-same : (xs ys : List ℕ) → ((i : ℕ) → entry xs i ≡ entry ys i) → trimmed xs ≡ trimmed ys
-trimmed-same [] [] h = refl
-trimmed-same [] (y ∷ ys) h = sym (trimmed_zeros (y ∷ ys) (λ i. sym (h i)))
-trimmed-same (x ∷ xs) [] h = trimmed_zeros (x ∷ xs) h
-trimmed-same (x ∷ xs) (y ∷ ys) h = let here : x ≡ y = h 0 in let rest = trimmed-same xs ys (λ i. h (suc i)) in cc
-
 -- where all is filled
 at_end : (degree w : ℕ) (rows columns diagonals : List ℕ) (before after : List Bool) → TurnsOverEqual degree diagonals before after → TurnsOver degree w 0 0 rows columns diagonals before after
 at_end degree w rows columns diagonals before after turns r s sums e p q low is k l =
     let t = slice_index_or (basis_of degree) k [] in
-    let whole_rows : list_all (λ i. nat_eq (sums.rows i) (entry r (i - 1))) (range_with_len 1 (length r)) ≡ true = list_all-passes (λ i. nat_eq (sums.rows i) (entry r (i - 1))) 1 (length r) (λ i h m.
+    let whole_rows : list_all (λ i. nat_eq (sums.rows i) (entry r (i - 1))) (range_with_len 1 (length r)) ≡ true = list_all-range (λ i. nat_eq (sums.rows i) (entry r (i - 1))) 1 (length r) (λ i h m.
     let at : suc (i - 1) ≡ i = omega arith in let sum_at : sums.rows (suc (i - 1)) ≡ sums.rows i = ap sums.rows at in let left = is.rows_left (i - 1) (omega arith) in let done = is.rows_done (i - 1) (omega arith) (omega arith) in
     eq-eqb (sums.rows i) (entry r (i - 1)) (omega arith)) in
-    let whole_columns : list_all (λ j. nat_eq (sums.columns j) (entry s (j - 1))) (range_with_len 1 (length s)) ≡ true = list_all-passes (λ j. nat_eq (sums.columns j) (entry s (j - 1))) 1 (length s) (λ j h m.
+    let whole_columns : list_all (λ j. nat_eq (sums.columns j) (entry s (j - 1))) (range_with_len 1 (length s)) ≡ true = list_all-range (λ j. nat_eq (sums.columns j) (entry s (j - 1))) 1 (length s) (λ j h m.
     let at : suc (j - 1) ≡ j = omega arith in let sum_at : sums.columns (suc (j - 1)) ≡ sums.columns j = ap sums.columns at in let left = is.columns_left (j - 1) (omega arith) in let done = is.columns_done refl (j - 1) (omega arith) (omega arith) in
     eq-eqb (sums.columns j) (entry s (j - 1)) (omega arith)) in
     let same : trimmed diagonals ≡ trimmed (map sums.diagonals (range_with_len 1 (length r + length s))) = trimmed-same diagonals (map sums.diagonals (range_with_len 1 (length r + length s))) (λ i. elim (cases_Bool (nat_lt i (length r + length s))) [

@@ -10,6 +10,12 @@ use Rattle.std.proofs.lemmas.Bool.Decides.{nat_tests}
 use Rattle.std.proofs.lemmas.List.Sums.{sum_by-cons, sum_by-set}
 use Rattle.milnor_basis.specs.Product.{choose, multinomial, is_odd}
 
+-- Pascal's triangle is 0 past its edge
+pub choose-past : (n k : ℕ) → n < k → choose n k ≡ 0
+choose-past n zero l = absurd (omega arith)
+choose-past zero (suc k) l = refl
+choose-past (suc n) (suc k) l = omega (arith, choose-past n k (omega arith), choose-past n (suc k) (omega arith))
+
 abbrev double : ℕ → ℕ
 double zero = zero
 double (suc n) = suc (suc (double n))

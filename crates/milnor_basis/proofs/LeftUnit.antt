@@ -10,7 +10,7 @@ use Rattle.std.proofs.lemmas.List.FromFn.{get_or-map-range_with_len, length-map-
 use Rattle.std.proofs.lemmas.List.Sums.{get_or-le-sum_by}
 use Rattle.std.proofs.lemmas.Nat.{and_comm}
 use Rattle.milnor_basis.specs.Exponents.{entry, trimmed, IsTrimmed}
-use Rattle.milnor_basis.specs.Product.{Matrix, zero_matrix, put, places, matrices, column_sum, diagonal, diagonal_sums, multinomial, is_odd, matrix_coefficient, counts, product_diagonals, ProductHasLeftUnit}
+use Rattle.milnor_basis.specs.Product.{coefficient, Matrix, zero_matrix, put, places, matrices, column_sum, diagonal, diagonal_sums, multinomial, is_odd, matrix_coefficient, counts, product_diagonals}
 use Rattle.milnor_basis.proofs.Kummer.{multinomial-odd_cons, odd-times, sum-cons}
 use Rattle.milnor_basis.proofs.MatrixList.{all-range_same, map-range_same, put-column, put-other, put-same}
 use Rattle.std.proofs.lemmas.List.Elements.{filter-append}
@@ -208,6 +208,6 @@ odd-one : (b : Bool) → is_odd (0 + cond b 1 0) ≡ b
 odd-one true = refl
 odd-one false = refl
 
-pub product_has_left_unit : ProductHasLeftUnit
+pub product_has_left_unit : (s t : List ℕ) → IsTrimmed s → coefficient [] s t ≡ pointwise nat_eq s t
 product_has_left_unit s t h =
     ap (λ ds. is_odd (count_by (λ d. pointwise nat_eq d t) ds)) (unit-product_diagonals s h) ∙ odd-one (pointwise nat_eq s t)

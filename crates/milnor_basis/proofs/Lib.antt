@@ -1,20 +1,22 @@
 mod Examples
+pub mod Ranges
 pub mod ExponentLemmas
-pub mod Blocks
+mod Blocks
 pub mod BasisLemmas
-pub mod FiniteSums
+mod FiniteSums
 pub mod Kummer
 pub mod MatrixList
 pub mod Homogeneous
 pub mod LeftUnit
-pub mod Bits
-pub mod Fill
+mod Bits
+mod Fill
 pub mod Matrices
 pub mod Parity
-pub mod ProductTerms
+mod ProductTerms
 pub mod Prune
-pub mod Steps
-pub mod Sums
-pub mod Walk
+mod Steps
+mod Sums
+mod Walk
 pub mod Places
 pub mod TextLemmas
+pub mod Crossing

@@ -7,16 +7,13 @@ use Rattle.std.proofs.lemmas.List.{append-nil}
 use Rattle.std.proofs.lemmas.List.Sums.{sum_by-cons}
 use Rattle.milnor_basis.specs.Exponents.{entry}
 use Rattle.milnor_basis.specs.Product.{Matrix, zero_matrix, put, places, matrices, row_sum, column_sum, diagonal, diagonal_sums, multinomial, is_odd, counts, product_diagonals, coefficient}
-use Rattle.milnor_basis.specs.Walk.{is_odd_below, fillings, places_to, Sums, no_sums, add, are_sums_of, next_row, next_column}
+use Rattle.milnor_basis.specs.Inside.Walk.{is_odd_below, fillings, places_to, Sums, no_sums, add, are_sums_of, next_row, next_column}
 use Rattle.milnor_basis.proofs.Kummer.{multinomial-odd_cons, odd-times}
-use Rattle.milnor_basis.proofs.Parity.{plus-false, odd_by, is_odd-count_by, odd_by-map, odd_by-filter, odd_by-flat_map, odd_by-range, range_push, is_odd_below-same}
+use Rattle.milnor_basis.proofs.Parity.{plus-false, odd_by, is_odd-count_by, odd_by-map, odd_by-filter, odd_by-flat_map, odd_by-range, odd_by-same, is_odd_below-same}
+use Rattle.milnor_basis.proofs.Ranges.{range-suc}
 use Rattle.milnor_basis.proofs.Walk.{fillings_step, along}
 use Rattle.milnor_basis.proofs.MatrixList.{put-column}
 use Rattle.milnor_basis.proofs.Sums.{sums_of, sums_put, put_row}
-
-odd_by-same : {X : Type 0} → (p q : X → Bool) (xs : List X) → ((x : X) → p x ≡ q x) → odd_by p xs ≡ odd_by q xs
-odd_by-same p q [] h = refl
-odd_by-same p q (x ∷ xs) h = let here = h x in let rest = odd_by-same p q xs h in cc
 
 -- a count over the matrices is one over the fillings
 odd_by-matrices : (ps : List (ℕ × ℕ)) (bound : ℕ) (test : Matrix → Bool) → odd_by test (matrices ps bound) ≡ fillings put bound ps test zero_matrix
@@ -75,7 +72,7 @@ places_are (suc m) n =
     ap (λ ps. ps ++ map (λ j. (suc m, j)) (range_with_len 0 (suc n))) (places_are m n) ∙ ap (λ ps. (top ++ flat_map row (range_with_len 1 m)) ++ ps) last
     ∙ append_assoc top (flat_map row (range_with_len 1 m)) (row (suc m))
     ∙ ap (λ ps. top ++ ps) (sym (flat_map_push row (range_with_len 1 m) (suc m)))
-    ∙ ap (λ ks. top ++ flat_map row ks) (sym (range_push 1 m (suc m) e))
+    ∙ ap (λ ks. top ++ flat_map row ks) (sym (range-suc 1 m (suc m) e))
   where
     flat_map_push : (f : ℕ → List (ℕ × ℕ)) (xs : List ℕ) (y : ℕ) → flat_map f (xs ++ y ∷ []) ≡ flat_map f xs ++ f y
     flat_map_push f [] y = append-nil (f y)

@@ -3,7 +3,8 @@ use Rattle.std.proofs.Common.{◌≡◌, ℕ, zero, suc, ◌+◌, ◌<◌, ◌�
 use Rattle.std.specs.List.{count_by, filter, flat_map, range_with_len}
 use Rattle.std.proofs.lemmas.List.Sums.{sum_by-cons}
 use Rattle.milnor_basis.specs.Product.{is_odd}
-use Rattle.milnor_basis.specs.Walk.{plus, is_odd_below}
+use Rattle.milnor_basis.specs.Inside.Walk.{plus, is_odd_below}
+use Rattle.milnor_basis.proofs.Ranges.{range-suc}
 
 pub plus-assoc : (a b c : Bool) → plus (plus a b) c ≡ plus a (plus b c)
 plus-assoc true true true = refl
@@ -34,6 +35,10 @@ pub odd_by-append : {X : Type 0} → (p : X → Bool) (xs ys : List X) → odd_b
 odd_by-append p [] ys = refl
 odd_by-append p (x ∷ xs) ys = ap (plus (p x)) (odd_by-append p xs ys) ∙ sym (plus-assoc (p x) (odd_by p xs) (odd_by p ys))
 
+pub odd_by-same : {X : Type 0} → (p q : X → Bool) (xs : List X) → ((x : X) → p x ≡ q x) → odd_by p xs ≡ odd_by q xs
+odd_by-same p q [] h = refl
+odd_by-same p q (x ∷ xs) h = ap (λ b. plus b (odd_by p xs)) (h x) ∙ ap (plus (q x)) (odd_by-same p q xs h)
+
 pub odd_by-map : {X Y : Type 0} → (p : Y → Bool) (f : X → Y) (xs : List X) → odd_by p (map f xs) ≡ odd_by (λ x. p (f x)) xs
 odd_by-map p f [] = refl
 odd_by-map p f (x ∷ xs) = ap (plus (p (f x))) (odd_by-map p f xs)
@@ -49,7 +54,7 @@ pub odd_by-flat_map : {X Y : Type 0} → (p : Y → Bool) (f : X → List Y) (xs
 odd_by-flat_map p f [] = refl
 odd_by-flat_map p f (x ∷ xs) = odd_by-append p (f x) (flat_map f xs) ∙ ap (plus (odd_by p (f x))) (odd_by-flat_map p f xs)
 
-plus-comm : (a b : Bool) → plus a b ≡ plus b a
+pub plus-comm : (a b : Bool) → plus a b ≡ plus b a
 plus-comm true true = refl
 plus-comm true false = refl
 plus-comm false true = refl
@@ -59,16 +64,11 @@ pub plus-false : (a : Bool) → plus a false ≡ a
 plus-false true = refl
 plus-false false = refl
 
--- a range by its last number
-pub range_push : (a n b : ℕ) → a + n ≡ b → range_with_len a (suc n) ≡ range_with_len a n ++ b ∷ []
-range_push a zero b e = let f : a ≡ b = omega arith in ap (λ k. k ∷ []) f
-range_push a (suc n) b e = ap (λ ks. a ∷ ks) (range_push (a + 1) n b (omega arith))
-
 -- a count over 0 to n - 1
 pub odd_by-range : (p : ℕ → Bool) (n : ℕ) → odd_by p (range_with_len 0 n) ≡ is_odd_below p n
 odd_by-range p zero = refl
 odd_by-range p (suc n) = let e : 0 + n ≡ n = omega arith in
-    ap (odd_by p) (range_push 0 n n e) ∙ odd_by-append p (range_with_len 0 n) (n ∷ []) ∙ plus-comm (odd_by p (range_with_len 0 n)) (plus (p n) false)
+    ap (odd_by p) (range-suc 0 n n e) ∙ odd_by-append p (range_with_len 0 n) (n ∷ []) ∙ plus-comm (odd_by p (range_with_len 0 n)) (plus (p n) false)
     ∙ ap (λ b. plus b (odd_by p (range_with_len 0 n))) (plus-false (p n)) ∙ ap (plus (p n)) (odd_by-range p n)
 
 pub is_odd_below-same : (p q : ℕ → Bool) (n : ℕ) → ((v : ℕ) → v < n → p v ≡ q v) → is_odd_below p n ≡ is_odd_below q n

@@ -6,7 +6,7 @@ use Rattle.std.specs.List.{range_with_len, list_all}
 use Rattle.std.proofs.lemmas.Bool.{eq-eqb, ne_eqb, eqb-true, eqb-false, leb-true, leb-false, cases_Bool}
 use Rattle.std.specs.Cmp.Lexicographic.{pointwise}
 use Rattle.milnor_basis.specs.Exponents.{entry, trimmed}
-use Rattle.milnor_basis.specs.Walk.{fillings, places_to, Sums, add_at, add, are_sums_of, IsLeft, least, greatest, next_row, next_column}
+use Rattle.milnor_basis.specs.Inside.Walk.{fillings, places_to, Sums, add_at, add, are_sums_of, IsLeft, least, greatest, next_row, next_column}
 use Rattle.milnor_basis.proofs.Parity.{is_odd_below-none}
 use Rattle.milnor_basis.proofs.Walk.{fillings_step, along}
 

@@ -7,7 +7,7 @@ use Rattle.std.proofs.lemmas.List.{get_or-set_same, get_or-set_other}
 use Rattle.std.proofs.lemmas.Nat.{or_disjoint, and_comm, pow_pos}
 use Rattle.std.proofs.lemmas.Bool.{eq-eqb, eqb-true, eqb-false, cases_Bool}
 use Rattle.milnor_basis.specs.Exponents.{entry}
-use Rattle.milnor_basis.specs.Walk.{Sums, add_at, add, IsLeft, least, greatest, taken, next_row, next_column}
+use Rattle.milnor_basis.specs.Inside.Walk.{Sums, add_at, add, IsLeft, least, greatest, taken, next_row, next_column}
 use Rattle.milnor_basis.proofs.Prune.{add_at-other, add_at-same}
 
 taken-same : (xs : List ℕ) (i v : ℕ) → i < length xs → slice_index (taken (suc i) v xs) i ≡ slice_index xs i - v

@@ -6,7 +6,7 @@ use Rattle.std.proofs.lemmas.Bool.{ne_eqb, eqb-true, eqb-false, cases_Bool}
 use Rattle.std.proofs.lemmas.List.FromFn.{length-map-range_with_len, get_or-map-range_with_len}
 use Rattle.std.proofs.Math.Bool.{and_comm}
 use Rattle.milnor_basis.specs.Product.{Matrix, put, row_sum, column_sum, diagonal, multinomial, is_odd}
-use Rattle.milnor_basis.specs.Walk.{Sums, add_at, add}
+use Rattle.milnor_basis.specs.Inside.Walk.{Sums, add_at, add}
 use Rattle.milnor_basis.proofs.Kummer.{digits_apart, sum-cons}
 use Rattle.milnor_basis.proofs.MatrixList.{all-range_same, map-range_same, put-column, put-same}
 

@@ -10,7 +10,8 @@ use Rattle.milnor_basis.specs.Text.{comma}
 abbrev pub written : List ℕ → ℕ → List ℕ
 written r i = codes "Sq(" ++ join_with_byte comma (map decimal (take i r))
 
-join-one_more : (c : ℕ) (xs : List (List ℕ)) (x : List ℕ) → 0 < length xs → join_with_byte c (xs ++ x ∷ []) ≡ join_with_byte c xs ++ (c ∷ x)
+-- one more text at the end of a joined list
+pub join-one_more : (c : ℕ) (xs : List (List ℕ)) (x : List ℕ) → 0 < length xs → join_with_byte c (xs ++ x ∷ []) ≡ join_with_byte c xs ++ (c ∷ x)
 join-one_more c [] x l = absurd (omega arith)
 join-one_more c (y ∷ []) x l = refl
 join-one_more c (y ∷ z ∷ xs) x l =

@@ -2,8 +2,8 @@
 use Rattle.std.proofs.Common.{◌≡◌, ℕ, zero, suc, ◌+◌, ◌<◌, Bool, List, [], ◌∷◌, ◌++◌, map, refl, sym, ◌∙◌, ap, arith, append_assoc}
 use Rattle.std.specs.List.{range_with_len}
 use Rattle.std.proofs.lemmas.List.{map-append}
-use Rattle.milnor_basis.specs.Walk.{is_odd_below, fillings, places_to, next_row, next_column}
-use Rattle.milnor_basis.proofs.Parity.{range_push}
+use Rattle.milnor_basis.specs.Inside.Walk.{is_odd_below, fillings, places_to, next_row, next_column}
+use Rattle.milnor_basis.proofs.Ranges.{range-suc}
 
 -- the last place is filled first
 pub fillings_push : {X : Type 0} → (put : ℕ → ℕ → ℕ → X → X) (bound : ℕ) (ps : List (ℕ × ℕ)) (i j : ℕ) (test : X → Bool) (x : X)
@@ -12,11 +12,11 @@ fillings_push put bound [] i j test x = refl
 fillings_push put bound (p ∷ ps) i j test x = fillings_push put bound ps i j (λ y. is_odd_below (λ v. test (put p.0 p.1 v y)) bound) x
 
 pub places_top : (w c : ℕ) → places_to w zero (suc c) ≡ places_to w zero c ++ (0, suc c) ∷ []
-places_top w c = let e : 1 + c ≡ suc c = omega arith in ap (map (λ j. (0, j))) (range_push 1 c (suc c) e) ∙ map-append (λ j. (0, j)) (range_with_len 1 c) (suc c ∷ [])
+places_top w c = let e : 1 + c ≡ suc c = omega arith in ap (map (λ j. (0, j))) (range-suc 1 c (suc c) e) ∙ map-append (λ j. (0, j)) (range_with_len 1 c) (suc c ∷ [])
 
 pub places_row : (w i c : ℕ) → places_to w (suc i) (suc c) ≡ places_to w (suc i) c ++ (suc i, suc c) ∷ []
 places_row w i c = let e : 0 + suc c ≡ suc c = omega arith in
-    ap (λ ks. places_to w i w ++ map (λ j. (suc i, j)) ks) (range_push 0 (suc c) (suc c) e)
+    ap (λ ks. places_to w i w ++ map (λ j. (suc i, j)) ks) (range-suc 0 (suc c) (suc c) e)
     ∙ ap (λ ks. places_to w i w ++ ks) (map-append (λ j. (suc i, j)) (range_with_len 0 (suc c)) (suc c ∷ []))
     ∙ sym (append_assoc (places_to w i w) (map (λ j. (suc i, j)) (range_with_len 0 (suc c))) ((suc i, suc c) ∷ []))
 

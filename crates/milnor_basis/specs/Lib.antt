@@ -1,6 +1,5 @@
 pub mod Exponents
 pub mod Basis
 pub mod Product
-pub mod Padding
-pub mod Walk
 pub mod Text
+pub mod Inside

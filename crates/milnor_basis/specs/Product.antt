@@ -88,7 +88,3 @@ product_bits r s = map (coefficient r s) (basis_of (degree_of r + degree_of s))
 -- a product's terms are of the degree of the product
 abbrev pub ProductIsHomogeneous : Type 0
 ProductIsHomogeneous = (r s t : List ℕ) → coefficient r s t ≡ true → IsTrimmed t × (degree_of t ≡ degree_of r + degree_of s)
-
--- Sq() is a left unit
-abbrev pub ProductHasLeftUnit : Type 0
-ProductHasLeftUnit = (s t : List ℕ) → IsTrimmed s → coefficient [] s t ≡ pointwise nat_eq s t

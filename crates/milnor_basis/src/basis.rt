@@ -1,3 +1,4 @@
+//! The basis of each degree, in right lexicographic order.
 ghost use Rattle.std.specs.Prelude.{◌≡◌, ◌≤◌, ◌<◌, ◌↔◌, ◌++◌, [], length, map, drop, slice_index_or, IfOk, IfSome, IsNone, Some, slice_get};
 ghost use Rattle.std.specs.List.{Contains};
 ghost use Rattle.milnor_basis.specs.Exponents.{degree_of, trimmed};

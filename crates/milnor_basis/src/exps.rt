@@ -1,3 +1,4 @@
+//! Exponent lists.
 ghost use Rattle.std.specs.Prelude.{◌≡◌, ◌≤◌, ◌<◌, ◌^◌, ◌↔◌, ℕ, List, [], length, IsTrue, nat_eq};
 ghost use Rattle.std.specs.Cmp.{partial_equiv_from_equiv};
 ghost use Rattle.std.specs.Cmp.Lexicographic.{pointwise, nat_list_eq_equiv};
@@ -17,7 +18,7 @@ pub struct Exps {
 impl Model for Exps {
     ghost use Rattle.std.specs.Prelude.{◌≡◌, ◌<◌, ◌^◌, List, ℕ, length};
     ghost use Rattle.milnor_basis.specs.Exponents.{entry, trimmed};
-    ghost use Rattle.milnor_basis.specs.Padding.{padded, padded-trimmed};
+    ghost use Rattle.milnor_basis.specs.Inside.Padding.{padded, padded-trimmed};
     ghost use Rattle.std.proofs.Common.{ap};
 
     ghost Value = { List ℕ };

@@ -1,6 +1,6 @@
-// Laws over the definitions, as contracts of functions that do nothing.
+//! Laws over the definitions, as contracts of functions that do nothing.
 ghost use Rattle.milnor_basis.specs.Basis.{BasisIsMilnors};
-ghost use Rattle.milnor_basis.specs.Product.{ProductHasLeftUnit, ProductIsHomogeneous};
+ghost use Rattle.milnor_basis.specs.Product.{ProductIsHomogeneous};
 
 /// The lists that `Basis` gives are the exponent lists of each degree, each once, in right lexicographic order.
 pub fn basis_is_milnors()
@@ -10,9 +10,4 @@ pub fn basis_is_milnors()
 /// Each term of a product is of the degree of the product.
 pub fn product_is_homogeneous()
     ensures { ProductIsHomogeneous }
-{}
-
-/// Sq() is a left unit of the product.
-pub fn product_has_left_unit()
-    ensures { ProductHasLeftUnit }
 {}

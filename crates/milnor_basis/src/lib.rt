@@ -9,6 +9,6 @@ mod text;
 
 pub use basis::Basis;
 pub use exps::Exps;
-pub use laws::{basis_is_milnors, product_has_left_unit, product_is_homogeneous};
-pub use product::terms;
+pub use laws::{basis_is_milnors, product_is_homogeneous};
+pub use product::{coefficients, terms};
 pub use text::sq_text;

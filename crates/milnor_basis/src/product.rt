@@ -1,8 +1,9 @@
+//! The product of two elements of the basis: the matrices of Milnor's formula are filled place by place.
 ghost use Rattle.std.specs.Prelude.{◌≡◌, ℕ, ◌≤◌, ◌<◌, ◌+◌, ◌-◌, ◌*◌, ◌^◌, ◌↔◌, IfOk, IsTrue, EachIndex, length, slice_index, slice_set, bit_or};
 ghost use Rattle.milnor_basis.specs.Exponents.{degree_of, entry};
 ghost use Rattle.milnor_basis.specs.Basis.{basis_of};
-ghost use Rattle.milnor_basis.specs.Product.{product_terms};
-ghost use Rattle.milnor_basis.specs.Walk.{least, greatest, next_row, next_column, taken, TurnsOver, TurnsOverEqual, AreChosen};
+ghost use Rattle.milnor_basis.specs.Product.{product_bits, product_terms};
+ghost use Rattle.milnor_basis.specs.Inside.Walk.{least, greatest, next_row, next_column, taken, TurnsOver, TurnsOverEqual, AreChosen};
 
 use crate::basis::Basis;
 use crate::exps::{Exps, MAX_EXPONENTS};
@@ -190,17 +191,29 @@ fn chosen(alloc: Global, elements: &[Exps], bits: &[bool]) -> Result<Vec<Exps>, 
     Ok(terms)
 }
 
-/// The terms of the product of Sq(R) and Sq(S) whose coefficient is odd, each once, in basis order.
-pub fn terms(alloc: Global, basis: &Basis, r: &Exps, s: &Exps) -> Result<Vec<Exps>, Memory>
+/// The degree of the product of Sq(R) and Sq(S), which is at most the basis's greatest.
+fn product_degree(basis: &Basis, r: &Exps, s: &Exps) -> u16
     requires { degree_of r.now + degree_of s.now ≤ basis.now }
-    ensures { IfOk result (λ terms. terms.items ≡ product_terms r.now s.now) }
+    ensures { result ≡ degree_of r.now + degree_of s.now }
 {
+    // A degree of the basis fits `u16`, so the sum does.
     let greatest = u32::from(basis.max());
     let degree = r.degree() + s.degree();
     prove!(degree <= greatest);
-    let degree = degree as u16;
-    let elements = basis.of_degree(degree);
-    let mut bits = vec![in alloc; false; elements.len()]?;
+    degree as u16
+}
+
+/// The coefficients mod 2 of the product of Sq(R) and Sq(S): for each element of the basis of the product's degree,
+/// in basis order, whether its coefficient in Milnor's formula is odd.
+///
+/// # Errors
+/// `Memory` if allocation fails.
+pub fn coefficients(alloc: Global, basis: &Basis, r: &Exps, s: &Exps) -> Result<Vec<bool>, Memory>
+    requires { degree_of r.now + degree_of s.now ≤ basis.now }
+    ensures { IfOk result (λ bits. bits.items ≡ product_bits r.now s.now) }
+{
+    let degree = product_degree(basis, r, s);
+    let mut bits = vec![in alloc; false; basis.of_degree(degree).len()]?;
     let (height, width) = (r.len(), s.len());
     fill(
         basis,
@@ -211,6 +224,19 @@ pub fn terms(alloc: Global, basis: &Basis, r: &Exps, s: &Exps) -> Result<Vec<Exp
         Left::of(r, s),
         &mut bits,
     );
+    Ok(bits)
+}
+
+/// The terms of the product of Sq(R) and Sq(S) whose coefficient is odd, each once, in basis order.
+///
+/// # Errors
+/// `Memory` if allocation fails.
+pub fn terms(alloc: Global, basis: &Basis, r: &Exps, s: &Exps) -> Result<Vec<Exps>, Memory>
+    requires { degree_of r.now + degree_of s.now ≤ basis.now }
+    ensures { IfOk result (λ terms. terms.items ≡ product_terms r.now s.now) }
+{
+    let elements = basis.of_degree(product_degree(basis, r, s));
+    let bits = coefficients(alloc, basis, r, s)?;
     chosen(alloc, elements, &bits)
 }
 

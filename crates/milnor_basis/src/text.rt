@@ -11,7 +11,7 @@ use std::alloc::Global;
 /// is `Sq()`.
 ///
 /// # Errors
-/// `Memory` where there is none for the text.
+/// `Memory` if allocation fails.
 pub fn sq_text(alloc: Global, r: &Exps) -> Result<String, Memory>
     ensures { IfOk result (λ text. string_bytes text ≡ sq_text r.now) }
 {

@@ -11,18 +11,18 @@ use Rattle.std.proofs.lemmas.List.FromFn.{length-map-range_with_len}
 use Rattle.milnor_basis.specs.Exponents.{degree_of, trimmed, IsTrimmed}
 use Rattle.milnor_basis.specs.Basis.{basis_of}
 use Rattle.milnor_basis.specs.Product.{coefficient, product_terms}
-use Rattle.milnor_basis.specs.Walk.{plus, is_odd_below}
+use Rattle.milnor_basis.specs.Inside.Walk.{plus, is_odd_below}
 use Rattle.milnor_basis.proofs.BasisLemmas.{All-basis_of, Contains-basis_of}
-use Rattle.milnor_basis.proofs.ExponentLemmas.{IsTrimmed-trimmed, length-trimmed, length_within}
+use Rattle.milnor_basis.proofs.ExponentLemmas.{same_answers, IsTrimmed-trimmed, length-trimmed, length_within}
 use Rattle.milnor_basis.proofs.Homogeneous.{product_is_homogeneous}
-use Rattle.milnor_basis.proofs.Parity.{odd_by, is_odd-count_by, odd_by-filter}
+use Rattle.milnor_basis.proofs.Parity.{odd_by, odd_by-same, is_odd-count_by, odd_by-filter}
 use Rattle.milnor_basis.proofs.Places.{basis_of-once}
 use Rattle.milnor_laws.specs.Laws.{ProductIsAssociative}
-use Rattle.milnor_laws.proofs.SumsModTwo.{odd_by-same, odd_by-none, odd_by-and, is_odd_below-first, is_odd_below-one, splits, one_lower}
+use Rattle.milnor_laws.proofs.SumsModTwo.{odd_by-none, odd_by-and, is_odd_below-first, is_odd_below-one, splits, one_lower}
 use Rattle.milnor_laws.proofs.BinomialSums.{binomial_sum, binomial_sum-same}
 use Rattle.milnor_laws.proofs.Powers.{Monomial, Test, less, agree, agree_at, agree_from, Term, shift, odd_terms, odd_terms-same, odd_terms-and, odd_terms-odd_by}
 use Rattle.milnor_laws.proofs.Coproduct.{TripleTest, term, triangle, coproduct, left_split, right_split, coassociative}
-use Rattle.milnor_laws.proofs.Coefficients.{exponents, exponents-past, is_pair, same_truth, listed, listed-agree, listed-is, coefficient_is}
+use Rattle.milnor_laws.proofs.Coefficients.{exponents, exponents-past, is_pair, listed, listed-agree, listed-is, coefficient_is}
 
 -- the exponents of x_1 to x_n alone are read
 
@@ -31,7 +31,7 @@ IsRead n c = 0 < c.diagonal × (c.diagonal ≤ n)
 
 odd_terms-agree : (n : ℕ) (cs : List Term) → All (IsRead n) cs → (t u : Monomial) → ((k : ℕ) → 0 < k → k ≤ n → t k ≡ u k) → (f : Test) → odd_terms n cs t f ≡ odd_terms n cs u f
 odd_terms-agree n [] read t u h f =
-    ap (λ b. b && f (λ _. 0) (λ _. 0)) (same_truth (agree n (λ _. 0) t) (agree n (λ _. 0) u)
+    ap (λ b. b && f (λ _. 0) (λ _. 0)) (same_answers (agree n (λ _. 0) t) (agree n (λ _. 0) u)
     (λ e. agree_from n (λ _. 0) u (λ k l m. agree_at n (λ _. 0) t e k l m ∙ h k l m))
     (λ e. agree_from n (λ _. 0) t (λ k l m. agree_at n (λ _. 0) u e k l m ∙ sym (h k l m))))
 odd_terms-agree n (c ∷ cs) read t u h f =

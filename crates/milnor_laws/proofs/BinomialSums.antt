@@ -1,9 +1,10 @@
 -- Sums over 0 to n weighted by the binomial coefficients mod 2.
 use Rattle.std.proofs.Common.{◌≡◌, ℕ, zero, suc, ◌+◌, ◌<◌, ◌≤◌, ◌%◌, Bool, true, false, not, ◌&&◌, List, [], ◌∷◌, refl, sym, ◌∙◌, ap, arith, zero-add}
 use Rattle.milnor_basis.specs.Product.{choose, is_odd}
-use Rattle.milnor_basis.specs.Walk.{plus, is_odd_below}
-use Rattle.milnor_basis.proofs.Parity.{odd_by, plus-assoc, plus-false, is_odd_below-same}
-use Rattle.milnor_laws.proofs.SumsModTwo.{plus-comm, plus-four, plus-and, is_odd_below-plus, is_odd_below-first}
+use Rattle.milnor_basis.specs.Inside.Walk.{plus, is_odd_below}
+use Rattle.milnor_basis.proofs.Kummer.{choose-past}
+use Rattle.milnor_basis.proofs.Parity.{odd_by, plus-assoc, plus-comm, plus-false, is_odd_below-same}
+use Rattle.milnor_laws.proofs.SumsModTwo.{plus-four, plus-and, is_odd_below-plus, is_odd_below-first}
 
 -- the sum of h v, as often as v of n things can be chosen: the last of the n is left, or it is taken
 abbrev pub binomial_sum : ℕ → (ℕ → Bool) → Bool
@@ -55,18 +56,13 @@ is_odd-add (suc m) n =
     turned true false = refl
     turned false b = refl
 
-pub choose_past : (n k : ℕ) → n < k → choose n k ≡ 0
-choose_past n zero l = absurd (omega arith)
-choose_past zero (suc k) l = refl
-choose_past (suc n) (suc k) l = omega (arith, choose_past n k (omega arith), choose_past n (suc k) (omega arith))
-
 pub binomial_sum-is : (n : ℕ) (h : ℕ → Bool) → binomial_sum n h ≡ is_odd_below (λ v. is_odd (choose n v) && h v) (suc n)
 binomial_sum-is zero h = sym (plus-false (h 0))
 binomial_sum-is (suc n) h =
     let a : ℕ → Bool = λ v. is_odd (choose n v) && h (suc v) in
     let b : ℕ → Bool = λ v. is_odd (choose n (suc v)) && h (suc v) in
     let front : is_odd_below (λ v. is_odd (choose n v) && h v) (suc (suc n)) ≡ plus (h 0) (is_odd_below b (suc n)) = is_odd_below-first (λ v. is_odd (choose n v) && h v) (suc n) in
-    let past : is_odd_below (λ v. is_odd (choose n v) && h v) (suc (suc n)) ≡ is_odd_below (λ v. is_odd (choose n v) && h v) (suc n) = ap (λ k. plus (is_odd k && h (suc n)) (is_odd_below (λ v. is_odd (choose n v) && h v) (suc n))) (choose_past n (suc n) (omega arith)) in
+    let past : is_odd_below (λ v. is_odd (choose n v) && h v) (suc (suc n)) ≡ is_odd_below (λ v. is_odd (choose n v) && h v) (suc n) = ap (λ k. plus (is_odd k && h (suc n)) (is_odd_below (λ v. is_odd (choose n v) && h v) (suc n))) (choose-past n (suc n) (omega arith)) in
     let left : binomial_sum n h ≡ plus (h 0) (is_odd_below b (suc n)) = binomial_sum-is n h ∙ sym past ∙ front in
     let pascal : is_odd_below (λ v. is_odd (choose (suc n) (suc v)) && h (suc v)) (suc n) ≡ plus (is_odd_below a (suc n)) (is_odd_below b (suc n)) =
     is_odd_below-same (λ v. is_odd (choose (suc n) (suc v)) && h (suc v)) (λ v. plus (a v) (b v)) (suc n)

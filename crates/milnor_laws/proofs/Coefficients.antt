@@ -9,11 +9,12 @@ use Rattle.std.proofs.lemmas.List.Sums.{get_or-le-sum_by}
 use Rattle.std.proofs.lemmas.Nat.{mul-le, pow_pos}
 use Rattle.milnor_basis.specs.Exponents.{entry, put_before, trimmed, IsTrimmed}
 use Rattle.milnor_basis.specs.Product.{coefficient}
-use Rattle.milnor_basis.specs.Walk.{places_to, Sums, no_sums, are_sums_of}
-use Rattle.milnor_basis.proofs.Bits.{trimmed_zeros}
-use Rattle.milnor_basis.proofs.ExponentLemmas.{entry-trimmed, entry_past}
+use Rattle.milnor_basis.specs.Inside.Walk.{places_to, Sums, no_sums, are_sums_of}
+use Rattle.milnor_basis.proofs.ExponentLemmas.{entry-trimmed, entry_past, same_answers, trimmed-same}
 use Rattle.milnor_basis.proofs.Matrices.{coefficient-fillings}
-use Rattle.milnor_laws.proofs.SumsModTwo.{odd_by-same, splits}
+use Rattle.milnor_basis.proofs.Parity.{odd_by-same}
+use Rattle.milnor_basis.proofs.Ranges.{list_all-range}
+use Rattle.milnor_laws.proofs.SumsModTwo.{splits}
 use Rattle.milnor_laws.proofs.Powers.{Monomial, Test, variable, variable-same, agree, agree_at, agree_from, agree_not, shift, shift-shift, odd_terms-one}
 use Rattle.milnor_laws.proofs.Coproduct.{term, triangle, in_box, coproduct, in_box_raised, coproduct_raised, by_factors}
 use Rattle.milnor_laws.proofs.Fillings.{from_one, are_terms, IsBounded, IsInBox, fillings_are, fillings_same, places_to-inside}
@@ -81,11 +82,6 @@ is_pair-bounded n r s v (suc i) j l p q above a b =
 
 -- what the definition asks of a matrix's sums, in other words
 
-pub same_truth : (a b : Bool) → (a ≡ true → b ≡ true) → (b ≡ true → a ≡ true) → a ≡ b
-same_truth true b f g = sym (f refl)
-same_truth false true f g = g refl
-same_truth false false f g = refl
-
 all_at : (p : ℕ → Bool) (a n : ℕ) → list_all p (range_with_len a n) ≡ true → (k : ℕ) → a ≤ k → k < a + n → p k ≡ true
 all_at p a zero h k l m = absurd (omega arith)
 all_at p a (suc n) h k l m =
@@ -94,10 +90,6 @@ all_at p a (suc n) h k l m =
       | inl same ↦ ap p same ∙ both.0
       | inr other ↦ all_at p (a + 1) n both.1 k (omega arith) (omega arith)
     ]
-
-all_from : (p : ℕ → Bool) (a n : ℕ) → ((k : ℕ) → a ≤ k → k < a + n → p k ≡ true) → list_all p (range_with_len a n) ≡ true
-all_from p a zero h = refl
-all_from p a (suc n) h = and_from (p a) (list_all p (range_with_len (a + 1) n)) (h a (omega arith) (omega arith)) (all_from p (a + 1) n (λ k l m. h k (omega arith) (omega arith)))
 
 module _ (n : ℕ) (g : ℕ → ℕ) (r : List ℕ) (short : length r ≤ n) (past : (k : ℕ) → length r < k → g k ≡ 0) where
   -- whether the sum i is as the definition asks
@@ -118,15 +110,9 @@ module _ (n : ℕ) (g : ℕ → ℕ) (r : List ℕ) (short : length r ≤ n) (pa
 
   asked-is : list_all asked (range_with_len 1 (length r)) ≡ agree n (from_one g) (exponents r)
   asked-is =
-      same_truth (list_all asked (range_with_len 1 (length r))) (agree n (from_one g) (exponents r))
+      same_answers (list_all asked (range_with_len 1 (length r))) (agree n (from_one g) (exponents r))
       (λ h. agree_from n (from_one g) (exponents r) (λ k l m. asked-agree h k l))
-      (λ h. all_from asked 1 (length r) (λ k l m. agree-asked h k l m))
-
--- lists with the same entries are the same up to zeros at the end
-pub trimmed_same : (xs ys : List ℕ) → ((i : ℕ) → entry xs i ≡ entry ys i) → trimmed xs ≡ trimmed ys
-trimmed_same [] ys h = sym (trimmed_zeros ys (λ i. sym (h i)))
-trimmed_same (x ∷ xs) [] h = trimmed_zeros (x ∷ xs) h
-trimmed_same (x ∷ xs) (y ∷ ys) h = ap (λ z. put_before z (trimmed xs)) (h 0) ∙ ap (put_before y) (trimmed_same xs ys (λ i. h (suc i)))
+      (λ h. list_all-range asked 1 (length r) (λ k l m. agree-asked h k l m))
 
 -- the list of the exponents of x_1 to x_k
 abbrev pub listed : ℕ → Monomial → List ℕ
@@ -145,9 +131,9 @@ module _ (n k : ℕ) (d : Monomial) (few : k ≤ n) (past : (i : ℕ) → k < i 
 
   pub listed-is : (t : List ℕ) → IsTrimmed t → length t ≤ n → pointwise nat_eq (listed k d) t ≡ agree n d (exponents t)
   listed-is t tight short =
-      same_truth (pointwise nat_eq (listed k d) t) (agree n d (exponents t))
+      same_answers (pointwise nat_eq (listed k d) t) (agree n d (exponents t))
       (λ h. let e : listed k d ≡ t = (bytes_decides (listed k d) t).0 h in agree_from n d (exponents t) (λ i l m. listed-agree i l m ∙ ap (λ u. exponents u i) e))
-      (λ h. (bytes_decides (listed k d) t).1 (trimmed_same (map d (range_with_len 1 k)) t (λ i. elim (cases_lt i n) [
+      (λ h. (bytes_decides (listed k d) t).1 (trimmed-same (map d (range_with_len 1 k)) t (λ i. elim (cases_lt i n) [
         | inl within ↦ entry-range i within ∙ agree_at n d (exponents t) h (suc i) (omega arith) (omega arith)
         | inr beyond ↦ entry_past (map d (range_with_len 1 k)) i (omega (arith, length-map-range_with_len d 1 k)) ∙ sym (entry_past t i (omega arith))
       ]) ∙ tight))

@@ -6,13 +6,13 @@ use Rattle.std.proofs.Math.Bool as Booleans
 use Rattle.std.proofs.lemmas.Bool.{cases_eq, cases_lt, and_right, false_from_ne_true, false≢true}
 use Rattle.std.proofs.lemmas.List.Elements.{All-append, All-head, All-map, All-tail, All-weaker}
 use Rattle.milnor_basis.specs.Product.{choose, is_odd}
-use Rattle.milnor_basis.specs.Walk.{is_odd_below, fillings, places_to, Sums, no_sums, add_at, add}
-use Rattle.milnor_basis.proofs.Kummer.{choose_odd}
+use Rattle.milnor_basis.specs.Inside.Walk.{is_odd_below, fillings, places_to, Sums, no_sums, add_at, add}
+use Rattle.milnor_basis.proofs.Kummer.{choose_odd, choose-past}
 use Rattle.milnor_basis.proofs.MatrixList.{IsPlace, All-range}
 use Rattle.milnor_basis.proofs.Parity.{is_odd_below-same, is_odd_below-none}
 use Rattle.milnor_basis.proofs.Prune.{add_at-other, add_at-same}
 use Rattle.milnor_laws.proofs.SumsModTwo.{is_odd_below-swap, is_odd_below-ends}
-use Rattle.milnor_laws.proofs.BinomialSums.{choose_past, binomial_sum-is}
+use Rattle.milnor_laws.proofs.BinomialSums.{binomial_sum-is}
 use Rattle.milnor_laws.proofs.Powers.{Monomial, Test, variable, variable-other, less, less-same, less-other, agree, agree_at, agree_from, agree_not, Term, shift, shift-shift, odd_terms, odd_terms-fails}
 use Rattle.milnor_laws.proofs.Coproduct.{term}
 
@@ -96,7 +96,7 @@ module _ (n : ℕ) (d t : Monomial) (k v : ℕ) (above : 0 < k) (within : k ≤ 
   pub apart_added : (nat_eq (bit_and v (d k)) 0 && agree n (add_at k v d) t) ≡ (is_odd (choose (t k) v) && agree n d (less t k v))
   apart_added = elim (cases_lt (t k) v) [
     | inl past ↦ and_right (nat_eq (bit_and v (d k)) 0) (agree n (add_at k v d) t) (agree_not n (add_at k v d) t k above within (λ e. omega (arith, add_at-same k v d)))
-        ∙ sym (ap (λ c. is_odd c && agree n d (less t k v)) (choose_past (t k) v past))
+        ∙ sym (ap (λ c. is_odd c && agree n d (less t k v)) (choose-past (t k) v past))
     | inr enough ↦ by_parts enough (agree n d (less t k v)) refl
   ]
 
@@ -142,7 +142,7 @@ fillings_are n bound m w fits (p ∷ ps) inside t f bounded =
     ∙ ap (λ b. odd v && b) (fillings_are n bound m w fits ps (All-tail (IsPlace m w) p ps inside) (less t k v) (shift v (term p) f) (IsBounded-shift n bound v (term p) f bounded)))
     ∙ is_odd_below-ends (λ v. odd v && terms v) bound (suc (t k))
     (λ v l. and_right (odd v) (terms v) (odd_terms-fails n (map term ps) (less t k v) (shift v (term p) f) (bounded v p.0 p.1 l (omega arith) (omega arith) above)))
-    (λ v l. ap (λ c. is_odd c && terms v) (choose_past (t k) v (omega arith)))
+    (λ v l. ap (λ c. is_odd c && terms v) (choose-past (t k) v (omega arith)))
     ∙ sym (binomial_sum-is (t k) terms)
 
 -- the places that a product fills

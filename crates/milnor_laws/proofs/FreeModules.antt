@@ -13,7 +13,7 @@ use Rattle.milnor_basis.proofs.BasisLemmas.{All-basis_of}
 use Rattle.milnor_product.specs.Times.{basis_at, times_at}
 use Rattle.milnor_product.proofs.Multiples.{length-times_at}
 use Rattle.free_module.specs.FreeModule.{free_basis_from, free_basis, free_width, acted, free_action}
-use Rattle.free_module.specs.FreeLaws.{blocks, coefficient_at, free_action_is_blocks, free_HasUnit, free_KeepsWidths, length-free_basis_from}
+use Rattle.free_module.specs.Inside.FreeLaws.{blocks, coefficient_at, free_action_is_blocks, free_HasUnit, free_KeepsWidths, length-free_basis_from}
 use Rattle.free_module.specs.Graded.{IsLinear, ActsByProducts, free_graded, FreeModulesAreModules}
 use Rattle.milnor_laws.proofs.Vectors.{product_acts}
 

@@ -1,12 +1,12 @@
-pub mod SumsModTwo
-pub mod BinomialSums
-pub mod Powers
-pub mod Coproduct
-pub mod Fillings
+mod SumsModTwo
+mod BinomialSums
+mod Powers
+mod Coproduct
+mod Fillings
 pub mod Coefficients
-pub mod Associative
+mod Associative
 pub mod RightUnit
-pub mod Vectors
+mod Vectors
 pub mod FreeModules
 pub mod LinearMaps
 pub mod UnitActs

@@ -13,7 +13,7 @@ use Rattle.milnor_basis.specs.Product.{coefficient, product_bits}
 use Rattle.milnor_product.specs.Times.{basis_at}
 use Rattle.free_module.specs.FreeModule.{degree_at, free_basis_from, free_basis, free_width, acted, free_action}
 use Rattle.free_module.specs.FreeBasis.{IsOfDegree}
-use Rattle.free_module.specs.FreeLaws.{coefficient_at, on, own_part, other_part, later_parts}
+use Rattle.free_module.specs.Inside.FreeLaws.{coefficient_at, on, own_part, other_part, later_parts}
 use Rattle.free_module.specs.Graded.{GradedModule, IsSteenrodModule}
 use Rattle.free_module.specs.LinearMap.{image_of, map_rows, AreImages, mapped, MapsCommute}
 use Rattle.free_module.proofs.FreeBasis.{All-free_basis}

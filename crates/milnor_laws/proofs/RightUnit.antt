@@ -7,13 +7,13 @@ use Rattle.std.proofs.Math.Bool as Booleans
 use Rattle.std.proofs.lemmas.Bool.{and_right, cases_Bool, cases_lt, false_from_ne_true, false≢true}
 use Rattle.milnor_basis.specs.Exponents.{trimmed, IsTrimmed}
 use Rattle.milnor_basis.specs.Product.{coefficient}
-use Rattle.milnor_basis.proofs.ExponentLemmas.{entry_past}
+use Rattle.milnor_basis.proofs.ExponentLemmas.{entry_past, same_answers, trimmed-same}
 use Rattle.milnor_basis.proofs.LeftUnit.{product_has_left_unit}
 use Rattle.milnor_laws.specs.Laws.{ProductHasUnit}
 use Rattle.milnor_laws.proofs.SumsModTwo.{is_odd_below-one, splits-below}
 use Rattle.milnor_laws.proofs.Powers.{Monomial, Test, variable, variable-same, agree, agree_at, agree_from, agree_not, shift, odd_terms-same, odd_terms-fails, odd_terms-one}
 use Rattle.milnor_laws.proofs.Coproduct.{term, triangle, coproduct, coproduct_raised, by_factors}
-use Rattle.milnor_laws.proofs.Coefficients.{exponents, exponents-past, same_truth, trimmed_same, coefficient_is}
+use Rattle.milnor_laws.proofs.Coefficients.{exponents, exponents-past, coefficient_is}
 use Rattle.milnor_laws.proofs.Associative.{coefficient_not_trimmed}
 
 -- pairs x^a 1
@@ -57,8 +57,8 @@ coproduct_alone n = by_factors n (λ t. (g : Monomial → Bool) → coproduct n 
 
 exponents_same : (n : ℕ) (s t : List ℕ) → IsTrimmed s → IsTrimmed t → length s ≤ n → length t ≤ n → agree n (exponents t) (exponents s) ≡ pointwise nat_eq s t
 exponents_same n s t hs ht ls lt =
-    same_truth (agree n (exponents t) (exponents s)) (pointwise nat_eq s t)
-    (λ h. (bytes_decides s t).1 (sym hs ∙ trimmed_same s t (λ i. elim (cases_lt i n) [
+    same_answers (agree n (exponents t) (exponents s)) (pointwise nat_eq s t)
+    (λ h. (bytes_decides s t).1 (sym hs ∙ trimmed-same s t (λ i. elim (cases_lt i n) [
       | inl within ↦ sym (agree_at n (exponents t) (exponents s) h (suc i) (omega arith) (omega arith))
       | inr past ↦ entry_past s i (omega arith) ∙ sym (entry_past t i (omega arith))
     ]) ∙ ht))

@@ -1,14 +1,8 @@
 -- Sums mod 2: over lists, over the numbers below a bound, and over the ways to write a number as a sum of two.
 use Rattle.std.proofs.Common.{◌≡◌, ◌≢◌, ℕ, zero, suc, ◌+◌, ◌-◌, ◌<◌, ◌≤◌, inl, inr, Bool, true, false, ◌&&◌, List, [], ◌∷◌, map, refl, sym, ◌∙◌, ap, arith}
 use Rattle.std.proofs.lemmas.Bool.{cases_eq}
-use Rattle.milnor_basis.specs.Walk.{plus, is_odd_below}
-use Rattle.milnor_basis.proofs.Parity.{odd_by, odd_by-map, plus-assoc, plus-false, is_odd_below-same, is_odd_below-none, is_odd_below-up_to}
-
-pub plus-comm : (a b : Bool) → plus a b ≡ plus b a
-plus-comm true true = refl
-plus-comm true false = refl
-plus-comm false true = refl
-plus-comm false false = refl
+use Rattle.milnor_basis.specs.Inside.Walk.{plus, is_odd_below}
+use Rattle.milnor_basis.proofs.Parity.{odd_by, odd_by-map, odd_by-same, plus-assoc, plus-false, is_odd_below-same, is_odd_below-none, is_odd_below-up_to}
 
 pub plus-swap : (a b c : Bool) → plus a (plus b c) ≡ plus b (plus a c)
 plus-swap true true c = refl
@@ -45,10 +39,6 @@ plus-and true false false = refl
 plus-and false b c = refl
 
 -- sums over a list
-
-pub odd_by-same : {X : Type 0} → (p q : X → Bool) (xs : List X) → ((x : X) → p x ≡ q x) → odd_by p xs ≡ odd_by q xs
-odd_by-same p q [] h = refl
-odd_by-same p q (x ∷ xs) h = ap (λ b. plus b (odd_by p xs)) (h x) ∙ ap (plus (q x)) (odd_by-same p q xs h)
 
 pub odd_by-plus : {X : Type 0} → (p q : X → Bool) (xs : List X) → odd_by (λ x. plus (p x) (q x)) xs ≡ plus (odd_by p xs) (odd_by q xs)
 odd_by-plus p q [] = refl

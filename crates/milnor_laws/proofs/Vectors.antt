@@ -12,13 +12,13 @@ use Rattle.f2_vec.proofs.Spans.{combination-zeros}
 use Rattle.milnor_basis.specs.Exponents.{degree_of, IsTrimmed}
 use Rattle.milnor_basis.specs.Basis.{basis_of}
 use Rattle.milnor_basis.specs.Product.{coefficient, product_bits}
-use Rattle.milnor_basis.specs.Walk.{plus}
+use Rattle.milnor_basis.specs.Inside.Walk.{plus}
 use Rattle.milnor_basis.proofs.BasisLemmas.{All-basis_of}
-use Rattle.milnor_basis.proofs.Parity.{odd_by, odd_by-filter}
+use Rattle.milnor_basis.proofs.Parity.{odd_by, odd_by-filter, odd_by-same}
 use Rattle.milnor_product.specs.Times.{basis_at, times_at}
 use Rattle.milnor_laws.specs.Laws.{ProductActs, ProductIsAssociativeInVectors}
 use Rattle.milnor_laws.proofs.Associative.{associative, odd_by-same_all}
-use Rattle.milnor_laws.proofs.SumsModTwo.{odd_by-same, odd_by-and, odd_by-swap}
+use Rattle.milnor_laws.proofs.SumsModTwo.{odd_by-and, odd_by-swap}
 
 zeros-map : {Y : Type 0} → (ys : List Y) → zeros (length ys) ≡ map (λ y. false) ys
 zeros-map [] = refl

@@ -1,3 +1,2 @@
-pub mod Marks
 pub mod Multiples
-pub mod ProductSteps
+mod ProductSteps

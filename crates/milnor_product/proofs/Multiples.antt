@@ -1,5 +1,5 @@
 -- The products of Sq(R) with a basis: their degree and width, and Sq() as a unit.
-use Rattle.std.proofs.Common.{◌≡◌, ◌≢◌, ℕ, ◌+◌, ◌<◌, Bool, true, false, List, [], ◌∷◌, length, map, get_or, ℤ, pos, negsuc, ◌+ℤ◌, refl, ap, sym, subst, ◌∙◌, arith}
+use Rattle.std.proofs.Common.{◌≡◌, ◌≢◌, ℕ, ◌+◌, ◌<◌, Bool, true, false, List, [], ◌∷◌, length, map, get_or, ℤ, pos, negsuc, ◌+ℤ◌, ◌<ℤ◌, refl, ap, sym, subst, ◌∙◌, arith}
 use Rattle.std.proofs.lemmas.List.{length-map, ext_get_or, get_or-map}
 use Rattle.std.proofs.lemmas.Int.{ints}
 use Rattle.f2_vec.specs.Vectors.{zeros, bit}
@@ -16,6 +16,10 @@ use Rattle.milnor_product.specs.Times.{basis_at, times_at}
 pub degree_of-basis_at : (n : ℤ) (i : ℕ) → i < length (basis_at n) → pos (degree_of (get_or (basis_at n) i [])) ≡ n
 degree_of-basis_at (pos n) i h = ap pos (basis_of-member n i h).1
 degree_of-basis_at (negsuc n) i h = absurd (omega arith)
+
+pub basis_at-negative : (n : ℤ) → n <ℤ pos 0 → [] ≡ basis_at n
+basis_at-negative (pos n) h = absurd (omega (arith, ints))
+basis_at-negative (negsuc n) h = refl
 
 -- the products of Sq(R) with the basis of degree n are of degree n and R's
 pub products : (r : List ℕ) (n m : ℤ) → m ≡ n +ℤ pos (degree_of r) → map (λ s. map (coefficient r s) (basis_at m)) (basis_at n) ≡ map (product_bits r) (basis_at n)

@@ -5,4 +5,4 @@ mod products;
 #[cfg(test)]
 mod tests;
 
-pub use products::{product, times};
+pub use products::{elements_at, product, times};

@@ -1,22 +1,25 @@
-ghost use Rattle.std.specs.Prelude.{◌≡◌, ◌≤◌, ◌+◌, pos, length, IfOk, Some, slice_get};
+//! Products of basis elements, and multiples of sums of them, as vectors.
+ghost use Rattle.std.specs.Prelude.{◌≡◌, ◌≤◌, ◌+◌, pos, ◌≤ℤ◌, length, IfOk};
 ghost use Rattle.milnor_basis.specs.Basis.{basis_of};
 ghost use Rattle.milnor_basis.specs.Exponents.{degree_of};
 ghost use Rattle.milnor_basis.specs.Product.{product_bits};
-ghost use Rattle.milnor_product.specs.Times.{times_at};
+ghost use Rattle.milnor_product.specs.Times.{basis_at, times_at};
 
 use f2_vec::BitVec;
 use memory::Memory;
-use milnor_basis::{Basis, Exps, terms};
+use milnor_basis::{Basis, Exps, coefficients};
 use std::alloc::Global;
 
-/// The degree of Sq(R), which is at most the basis's greatest.
-fn degree(basis: &Basis, r: &Exps) -> u16
-    requires { degree_of r.now ≤ basis.now }
-    ensures { result ≡ degree_of r.now }
+/// The Milnor basis of degree `n`, in right lexicographic order; none where that is negative.
+pub fn elements_at(basis: &Basis, n: i64) -> &[Exps]
+    requires { n ≤ℤ pos basis.now }
+    ensures { result.now ≡ basis_at n }
 {
-    match basis.place(r) {
-        Some((degree, _)) => degree,
-        None => unreachable!(),
+    // A degree of the basis fits `u16`, so `n` does where it is not negative.
+    prove!(n <= i64::from(basis.max()));
+    match u16::try_from(n) {
+        Ok(n) => basis.of_degree(n),
+        Err(_) => &[],
     }
 }
 
@@ -26,34 +29,24 @@ fn degree_above(basis: &Basis, r: &Exps, n: u16) -> u16
     ensures { result ≡ degree_of r.now + n }
 {
     // A degree of the basis fits `u16`, so the sum does.
-    prove!(n <= basis.max());
-    degree(basis, r) + n
-}
-
-/// The place of Sq(R) in the basis of its degree, which is at most the basis's greatest.
-fn place(basis: &Basis, r: &Exps) -> usize
-    requires { degree_of r.now ≤ basis.now }
-    ensures { slice_get (basis_of (degree_of r.now)) result ≡ Some r.now }
-{
-    match basis.place(r) {
-        Some((_, place)) => place,
-        None => unreachable!(),
-    }
+    let greatest = u32::from(basis.max());
+    let degree = r.degree() + u32::from(n);
+    prove!(degree <= greatest);
+    degree as u16
 }
 
 /// The product of Sq(R) and Sq(S), as its coefficients on the basis of its degree.
 ///
 /// # Errors
-/// `Memory` where there is none for the vector.
+/// `Memory` if allocation fails.
 pub fn product(alloc: Global, basis: &Basis, r: &Exps, s: &Exps) -> Result<BitVec, Memory>
     requires { degree_of r.now + degree_of s.now ≤ basis.now }
     ensures { IfOk result (λ v. v ≡ product_bits r.now s.now) }
 {
-    let degree = degree_above(basis, r, degree(basis, s));
-    let mut bits = BitVec::zero(alloc, basis.of_degree(degree).len())?;
-    let terms = terms(alloc, basis, r, s)?;
-    for term in &terms {
-        bits.set(place(basis, term), true);
+    let odd = coefficients(alloc, basis, r, s)?;
+    let mut bits = BitVec::zero(alloc, 0)?;
+    for bit in &odd {
+        bits.push(*bit)?;
     }
     Ok(bits)
 }
@@ -62,7 +55,7 @@ pub fn product(alloc: Global, basis: &Basis, r: &Exps, s: &Exps) -> Result<BitVe
 /// degrees.
 ///
 /// # Errors
-/// `Memory` where there is none for the vector.
+/// `Memory` if allocation fails.
 pub fn times(alloc: Global, basis: &Basis, r: &Exps, deg: u16, v: &BitVec) -> Result<BitVec, Memory>
     requires reach { degree_of r.now + deg ≤ basis.now }
     requires width { length v.now ≡ length (basis_of deg) }

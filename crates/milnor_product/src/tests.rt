@@ -1,3 +1,4 @@
+//! Products and multiples, computed by hand.
 ghost use Rattle.std.specs.Prelude.{◌≡◌, ◌≤◌, length, IfOk};
 ghost use Rattle.milnor_basis.specs.Basis.{basis_of};
 

@@ -7,7 +7,7 @@ use Rattle.f2_vec.specs.Spans.{row, HaveWidth}
 use Rattle.milnor_product.specs.Times.{basis_at}
 use Rattle.free_module.specs.FreeModule.{free_basis_from, free_basis, free_width, degree_at, IsWithinReach}
 use Rattle.free_module.specs.Graded.{GradedModule}
-use Rattle.free_module.proofs.BlockSteps.{basis_at-negative}
+use Rattle.milnor_product.proofs.Multiples.{basis_at-negative}
 use Rattle.free_module.proofs.FreeBasis.{free_basis_from-append}
 use Rattle.free_module.specs.LinearMap.{map_rows, AreImages}
 use Rattle.resolution_laws.specs.Resolution.{Module, Content, no_content, square_in, target_over, degrees_from, images_of, IsStepOver, IsStep, row_of, IsCanonicalTable, below_of}

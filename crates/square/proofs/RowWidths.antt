@@ -4,7 +4,7 @@ use Rattle.std.proofs.lemmas.Int.{ints}
 use Rattle.milnor_basis.specs.Basis.{basis_of}
 use Rattle.milnor_product.specs.Times.{basis_at}
 use Rattle.free_module.specs.FreeModule.{free_basis_from, free_width}
-use Rattle.free_module.specs.FreeLaws.{length-free_basis_from}
+use Rattle.free_module.specs.Inside.FreeLaws.{length-free_basis_from}
 use Rattle.resolution_laws.specs.Resolution.{Content, square_in, degrees_from}
 use Rattle.resolution_laws.proofs.Rows.{free_basis_from-above}
 use Rattle.square.specs.Tables.{row_width}

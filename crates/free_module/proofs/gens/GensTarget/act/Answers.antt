@@ -1,7 +1,7 @@
 use Rattle.std.proofs.Common.{◌≡◌, ◌-ℤ◌, ◌≤◌, ◌<◌, pos, length, drop, slice_index_or, to_z, of_z, w32, ap, sym, ◌∙◌, arith, rules}
 use Rattle.std.proofs.lemmas.Int.{ints}
 use Rattle.std.proofs.lemmas.List.{length-take-le, length-drop}
-use Rattle.free_module.specs.FreeLaws.{free_action_is_blocks}
+use Rattle.free_module.specs.Inside.FreeLaws.{free_action_is_blocks}
 use Rattle.milnor_product.specs.Times.{basis_at, times_at}
 use Rattle.free_module.proofs.BlockSteps.{length-rest, difference, blocks-more, blocks-done}
 use Rattle.free_module.proofs.gens.GensTarget.act.Goals as goal

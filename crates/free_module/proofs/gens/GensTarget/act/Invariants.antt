@@ -1,6 +1,6 @@
 use Rattle.std.proofs.Common.{◌≡◌, ◌+◌, ◌++◌, length, drop}
 use Rattle.free_module.specs.FreeModule.{free_basis_from}
-use Rattle.free_module.specs.FreeLaws.{blocks}
+use Rattle.free_module.specs.Inside.FreeLaws.{blocks}
 use Rattle.free_module.proofs.gens.GensTarget.act.Given as goal
 
 abbrev pub invariant-loop-degree : goal.invariant-loop-degree

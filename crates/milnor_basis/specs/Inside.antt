@@ -1,0 +1,3 @@
+-- Words that only contracts of private functions and a model cite: no public contract stands on them.
+pub mod Padding
+pub mod Walk
