@@ -3,7 +3,7 @@ mod BinomialSums
 mod Powers
 mod Coproduct
 mod Fillings
-pub mod Coefficients
+mod Coefficients
 mod Associative
 pub mod RightUnit
 mod Vectors

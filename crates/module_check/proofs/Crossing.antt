@@ -1,8 +1,8 @@
 -- A module may go to any thread, and any thread may share it.
 use denote.Param.Send.{IsSend, IsSync, sendable}
 use Rattle.std.proofs.Crossing.{crosses}
-use Rattle.f2_vec.specs.contracts.bit_vec.BitVec as BitVec
-use Rattle.milnor_basis.specs.contracts.basis.Basis as Basis
+use Rattle.f2_vec.proofs.Crossing.{BitVec-send, BitVec-sync}
+use Rattle.milnor_basis.proofs.Crossing.{Basis-send, Basis-sync}
 use Rattle.module_check.specs.contracts.generators.Generator as Generator
 use Rattle.module_check.specs.contracts.generators.Generators as Generators
 use Rattle.module_check.specs.contracts.operators.Operator as Operator
@@ -20,18 +20,6 @@ Generators-send = search (crosses, sendable, Generator-send) depth 20
 
 Generators-sync : IsSync Generators.the_row
 Generators-sync = search (crosses, sendable, Generator-sync) depth 20
-
-BitVec-send : IsSend BitVec.the_row
-BitVec-send = search (crosses, sendable) depth 20
-
-BitVec-sync : IsSync BitVec.the_row
-BitVec-sync = search (crosses, sendable) depth 20
-
-Basis-send : IsSend Basis.the_row
-Basis-send = search (crosses, sendable) depth 20
-
-Basis-sync : IsSync Basis.the_row
-Basis-sync = search (crosses, sendable) depth 20
 
 Operator-send : IsSend Operator.the_row
 Operator-send = search (crosses, sendable, BitVec-send) depth 20

@@ -7,8 +7,7 @@ use Rattle.std.proofs.lemmas.Bool.{cases_lt}
 use Rattle.std.proofs.lemmas.List.Elements.{All-filter, All-weaker}
 use Rattle.milnor_basis.specs.Exponents.{degree_of, entry, trimmed, IsTrimmed}
 use Rattle.milnor_basis.specs.Product.{product_terms}
-use Rattle.milnor_basis.proofs.ExponentLemmas.{IsTrimmed-tail, entry_past, entry_last}
-use Rattle.milnor_laws.proofs.Coefficients.{trimmed_same}
+use Rattle.milnor_basis.proofs.ExponentLemmas.{IsTrimmed-tail, entry_past, entry_last, trimmed-same}
 use Rattle.module_json.specs.ModuleFile.{File}
 use Rattle.module_check.specs.Module.{unit}
 use Rattle.module_check.specs.DerivedAction.{front, other_terms, square_value, by_product, derived_operator}
@@ -53,7 +52,7 @@ trimmed_behind (x ∷ r) h = IsTrimmed-tail x r h
 -- numbers that are those of R behind its first, with zeros at the end
 pub behind_first : (r numbers : List ℕ) (i : ℕ) → IsTrimmed r → length r ≤ i → ((k : ℕ) → suc k < i → entry numbers k ≡ entry r (suc k)) → ((k : ℕ) → i ≤ suc k → entry numbers k ≡ 0) → trimmed numbers ≡ drop 1 r
 behind_first r numbers i t l same rest =
-    trimmed_same numbers (drop 1 r) (λ k. elim (cases_lt (suc k) i) [
+    trimmed-same numbers (drop 1 r) (λ k. elim (cases_lt (suc k) i) [
       | inl a ↦ same k a ∙ sym (entry_behind r k)
       | inr b ↦ rest k b ∙ sym (entry_behind r k ∙ entry_past r (suc k) (omega arith))
     ])

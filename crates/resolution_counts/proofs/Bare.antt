@@ -15,7 +15,7 @@ use Rattle.milnor_laws.proofs.FreeModules.{HaveWidth-acted}
 use Rattle.milnor_laws.proofs.RightUnit.{product_has_unit}
 use Rattle.free_module.specs.FreeBasis.{element}
 use Rattle.free_module.specs.FreeModule.{degree_at, free_basis, free_width, acted, free_action}
-use Rattle.free_module.specs.FreeLaws.{coefficient_at}
+use Rattle.free_module.specs.Inside.FreeLaws.{coefficient_at}
 use Rattle.free_module.proofs.FreeBasis.{free_basis_is_pairs}
 use Rattle.resolution_laws.proofs.Generators.{element-IsOfDegree}
 

@@ -3,7 +3,7 @@ use Rattle.std.proofs.Common.{inl, inr, ℕ, zero, suc, ◌+◌, ◌<◌, ◌≤
 use Rattle.std.proofs.lemmas.List.{take_all}
 use Rattle.f2_vec.specs.Spans.{row, HaveWidth}
 use Rattle.f2_vec.proofs.Spans.{HaveWidth-append, HaveWidth-nil}
-use Rattle.free_module.specs.FreeLaws.{free_KeepsWidths}
+use Rattle.free_module.specs.Inside.FreeLaws.{free_KeepsWidths}
 use Rattle.free_module.specs.Graded.{KeepsWidths}
 use Rattle.free_module.specs.LinearMap.{map_rows}
 use Rattle.free_module.proofs.MapRows.{HaveWidth-map_rows}

@@ -1,6 +1,6 @@
 -- The target of the linear map d_s.
 use Rattle.std.specs.Prelude.{ℕ, ℤ}
-use Rattle.free_module.specs.FreeLaws.{free_HasUnit, free_KeepsWidths}
+use Rattle.free_module.specs.Inside.FreeLaws.{free_HasUnit, free_KeepsWidths}
 use Rattle.free_module.specs.FreeModule.{IsWithinReach}
 use Rattle.free_module.specs.Graded.{GradedModule, HasUnit, KeepsWidths, free_graded}
 use Rattle.module_check.specs.Graded.{module_graded}
