@@ -36,17 +36,6 @@ pub(crate) fn choose(
     Ok((chosen, reduced))
 }
 
-/// A copy of each row.
-pub(crate) fn copy_rows(alloc: Global, rows: &[BitVec]) -> Result<Vec<BitVec>, Memory>
-    ensures { IfOk result (λ copies. copies.items ≡ rows.now) }
-{
-    let mut copies = Vec::with_capacity(alloc, rows.len())?;
-    for row in rows {
-        copies.push(row.try_copy(alloc)?)?;
-    }
-    Ok(copies)
-}
-
 /// The rows of the unit matrix.
 pub(crate) fn unit_rows(alloc: Global, n: usize) -> Result<Vec<BitVec>, Memory>
     ensures { IfOk result (λ rows. rows.items ≡ unit_vectors n) }

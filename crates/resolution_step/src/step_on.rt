@@ -8,7 +8,7 @@ ghost use Rattle.square.specs.Squares.{module_over, IsSquare};
 ghost use Rattle.square.specs.Tables.{IsFooting};
 ghost use Rattle.resolution_step.specs.Steps.{IsReducedStep, IsStepWith, IsStepOf};
 
-use crate::choice::{choose, copy_rows, unit_rows};
+use crate::choice::{choose, unit_rows};
 use f2_matrix::Reduced;
 use f2_vec::BitVec;
 use free_hom::Hom;
@@ -93,7 +93,7 @@ fn reduced_step<T: Target>(
 {
     let matrix = Hom::new(basis, source, target, images).matrix(alloc, t)?;
     let (chosen, quasi) = choose(alloc, matrix, candidates)?;
-    let kernel = copy_rows(alloc, quasi.kernel())?;
+    let kernel = Vec::from_clones(alloc, quasi.kernel())?;
     Ok(Parts {
         images: chosen,
         kernel,
