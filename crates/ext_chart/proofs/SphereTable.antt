@@ -12,17 +12,13 @@ use Rattle.resolution_laws.specs.Start.{HasShape}
 use Rattle.square.specs.declared.range.TheConstants.{MAX_S}
 use Rattle.square.specs.Squares.{Placed, module_over, target_width, source_width}
 use Rattle.square.specs.Tables.{Staircase, row_in, AllRead, IsNext, IsReadable}
+use Rattle.square.proofs.Places.{row_in-none}
 
 -- one generator, whose image is x0
 abbrev pub first_content : Content
 first_content = record { images = (true ∷ []) ∷ []; kernel = [] }
 
 -- ---- a table of no square
-
-row_in-none : (n s : ℕ) → row_in (replicate n []) s ≡ []
-row_in-none zero s = refl
-row_in-none (suc n) zero = refl
-row_in-none (suc n) (suc s) = row_in-none n s
 
 none_read : (n : ℕ) → AllRead (replicate n [])
 none_read n s k q e =

@@ -6,17 +6,12 @@ use Rattle.std.proofs.lemmas.List.{map_more, flat_map_more, take_more, take-appe
 use Rattle.std.proofs.lemmas.Grind.{flat_map-append}
 use Rattle.milnor_basis.specs.Exponents.{entry}
 use Rattle.milnor_basis.specs.Text.{comma}
+use Rattle.milnor_basis.proofs.TextLemmas.{join-one_more}
 use Rattle.ext_run.specs.Parts.{separator}
 
 -- the first i exponents
 abbrev pub joined : List ℕ → ℕ → List ℕ
 joined r i = join_with_byte comma (map decimal (take i r))
-
-join-one_more : (c : ℕ) (xs : List (List ℕ)) (x : List ℕ) → 0 < length xs → join_with_byte c (xs ++ x ∷ []) ≡ join_with_byte c xs ++ (c ∷ x)
-join-one_more c [] x l = absurd (omega arith)
-join-one_more c (y ∷ []) x l = refl
-join-one_more c (y ∷ z ∷ xs) x l =
-    ap (λ (t : List ℕ). y ++ (c ∷ t)) (join-one_more c (z ∷ xs) x (omega arith)) ∙ sym (append_assoc y (c ∷ join_with_byte c (z ∷ xs)) (c ∷ x))
 
 -- one exponent more
 pub joined-more : (r : List ℕ) (i : ℕ) → i < length r → joined r (i + 1) ≡ joined r i ++ (separator i ++ decimal (entry r i))

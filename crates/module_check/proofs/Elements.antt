@@ -14,6 +14,7 @@ use Rattle.std.proofs.lemmas.Option.{slice_get_within, slice_get-get_or, get_or_
 use Rattle.milnor_basis.specs.Exponents.{degree_of, entry, IsRightLexBelow}
 use Rattle.milnor_basis.specs.Basis.{basis_of}
 use Rattle.milnor_basis.proofs.BasisLemmas.{basis_is_milnors}
+use Rattle.milnor_basis.proofs.Ranges.{range-more}
 use Rattle.module_check.specs.Module.{elements_below, place_of}
 use Rattle.module_check.specs.DerivedAction.{elements}
 
@@ -27,15 +28,10 @@ slice_get-append_right [] ys i j e = let same : i ≡ j = omega arith in ap (sli
 slice_get-append_right (x ∷ xs) ys zero j e = absurd (omega arith)
 slice_get-append_right (x ∷ xs) ys (suc i) j e = slice_get-append_right xs ys i j (omega arith)
 
--- one more number at the end of a range
-pub range_push : (a n j : ℕ) → a + n ≡ j → range_with_len a (n + 1) ≡ range_with_len a n ++ j ∷ []
-range_push a n j e =
-    sym (map-id (range_with_len a (n + 1))) ∙ map-range_with_len_more (λ (x : ℕ). x) a n j e ∙ ap (λ xs. xs ++ j ∷ []) (map-id (range_with_len a n))
-
 -- one degree more
 pub elements_more : (n : ℕ) → elements (suc n) ≡ elements n ++ basis_of n
 elements_more n =
-    ap (λ k. flat_map basis_of (range_with_len 0 k)) (sym (add-one n)) ∙ ap (flat_map basis_of) (range_push 0 n n (omega arith)) ∙ flat_map-append basis_of (range_with_len 0 n) (n ∷ []) ∙ ap (λ xs. elements n ++ xs) (append-nil (basis_of n))
+    ap (λ k. flat_map basis_of (range_with_len 0 k)) (sym (add-one n)) ∙ ap (flat_map basis_of) (range-more 0 n n (omega arith)) ∙ flat_map-append basis_of (range_with_len 0 n) (n ∷ []) ∙ ap (λ xs. elements n ++ xs) (append-nil (basis_of n))
 
 pub length-elements : (n : ℕ) → length (elements n) ≡ elements_below n
 length-elements zero = refl

@@ -19,6 +19,7 @@ use Rattle.milnor_basis.specs.Exponents.{degree_of, IsTrimmed}
 use Rattle.milnor_basis.specs.Basis.{basis_of}
 use Rattle.milnor_basis.specs.Product.{product_terms}
 use Rattle.milnor_basis.proofs.BasisLemmas.{All-basis_of}
+use Rattle.milnor_basis.proofs.Ranges.{range-more}
 use Rattle.module_json.specs.ModuleFile.{Generator, degree_at}
 use Rattle.module_check.specs.Module.{Module, generators_in, width, place_of, or_zeros, value, act_on, total}
 use Rattle.module_check.specs.Acceptance.{one_by_one, by_their_product, first_in, relation_on, relation_of, relation_in_degrees, relation_in_degree}
@@ -26,7 +27,6 @@ use Rattle.module_check.specs.Inside.Operators.{HaveWidths}
 use Rattle.module_check.specs.Inside.Relations.{reaches, reaching, value_at, added}
 use Rattle.module_check.specs.declared.fault.CheckFault.TheVariants.{Relation}
 use Rattle.module_check.proofs.Values.{total_push}
-use Rattle.module_check.proofs.Elements.{range_push}
 use Rattle.module_check.proofs.FirstIn.{first_in-filter, first_in_nothing}
 use Rattle.module_check.proofs.Widths.{length-total, length-act_on, terms_of_degree}
 
@@ -206,7 +206,7 @@ relation_unreached m r s i h e =
 pub reaching_more : (gs : List Generator) (n k : ℕ) (b : Bool) → b ≡ reaches gs n k → (xs ys : List ℕ) → xs ≡ filter (reaches gs n) (range_with_len 0 k) → ys ≡ xs ++ cond b (k ∷ []) [] → ys ≡ filter (reaches gs n) (range_with_len 0 (k + 1))
 reaching_more gs n k b e xs ys before now =
     now ∙ ap (λ zs. zs ++ cond b (k ∷ []) []) before ∙ ap (λ c. filter (reaches gs n) (range_with_len 0 k) ++ cond c (k ∷ []) []) e
-    ∙ sym (filter-append (reaches gs n) (range_with_len 0 k) (k ∷ [])) ∙ ap (filter (reaches gs n)) (sym (range_push 0 k k (omega arith)))
+    ∙ sym (filter-append (reaches gs n) (range_with_len 0 k) (k ∷ [])) ∙ ap (filter (reaches gs n)) (sym (range-more 0 k k (omega arith)))
 
 -- the terms of a product of a degree up to n
 pub terms_within : (r s : List ℕ) (n : ℕ) → degree_of r + degree_of s ≤ n → All (λ t. degree_of t ≤ n) (product_terms r s)

@@ -5,6 +5,7 @@ use Rattle.std.proofs.lemmas.List.{append-nil, append_assoc, get_or_append_left,
 use Rattle.std.proofs.lemmas.Bool.{cases_lt, true≢false}
 use Rattle.f2_vec.specs.Spans.{row, HaveWidth, IsInSpan, HaveSameSpan}
 use Rattle.f2_vec.proofs.Spans.{HaveWidth-append, HaveWidth-cons, HaveWidth-nil, row-IsInSpan, span_within, HaveSameSpan_from_rows}
+use Rattle.f2_vec.proofs.Ones.{items_where_true-push}
 use Rattle.f2_matrix.specs.Echelon.{IsRowBasis, IsKernelBasis}
 use Rattle.f2_matrix.specs.Reduction.{Rows, Reduction}
 use Rattle.resolution_laws.specs.Resolution.{IsChosen}
@@ -18,14 +19,6 @@ below_push xs x i h =
 -- the row kept or not kept
 abbrev kept_row : Bool → List Bool → List (List Bool)
 kept_row b x = if b then x ∷ [] else []
-
-items_where_true-push : (kept : List Bool) (rows : List (List Bool)) (b : Bool) (x : List Bool) → length kept ≡ length rows → items_where_true (kept ++ b ∷ []) (rows ++ x ∷ []) ≡ items_where_true kept rows ++ kept_row b x
-items_where_true-push [] [] true x e = refl
-items_where_true-push [] [] false x e = refl
-items_where_true-push [] (r ∷ rows) b x e = cc
-items_where_true-push (k ∷ kept) [] b x e = cc
-items_where_true-push (true ∷ kept) (r ∷ rows) b x e = ap (λ (z : List (List Bool)). r ∷ z) (items_where_true-push kept rows b x (omega arith))
-items_where_true-push (false ∷ kept) (r ∷ rows) b x e = items_where_true-push kept rows b x (omega arith)
 
 pub HaveWidth-push : (n : ℕ) (rows : List (List Bool)) (x : List Bool) → HaveWidth n rows → length x ≡ n → HaveWidth n (rows ++ x ∷ [])
 HaveWidth-push n rows x h e = HaveWidth-append n rows (x ∷ []) h (HaveWidth-cons n x [] e (HaveWidth-nil n))
@@ -75,7 +68,7 @@ IsChosen-push n old candidates chosen b x p h = record {
     | inl m ↦ same_case n old _ _ _ _ _ _ (sym (get_or_append_left p.kept (b ∷ []) false i (omega (arith, p.one_each)))) (sym (take-append-le i candidates (x ∷ []) (omega arith))) (sym (get_or_append_left candidates (x ∷ []) [] i m)) (p.dropped i m)
     | inr e ↦ same_case n old _ _ _ _ _ _ (sym (get_or_push p.kept b false i (p.one_each ∙ sym e))) (sym (take_at candidates (x ∷ []) i (sym e))) (sym (get_or_push candidates x [] i (sym e))) h
   ];
-  chosen_are = ap (λ (c : List (List Bool)). c ++ kept_row b x) p.chosen_are ∙ sym (items_where_true-push p.kept candidates b x p.one_each);
+  chosen_are = ap (λ (c : List (List Bool)). c ++ kept_row b x) p.chosen_are ∙ sym (items_where_true-push p.kept b candidates x p.one_each);
 }
 
 -- The choice so far: chosen are those of the candidates, and with old they have the span of old and all of these.

@@ -10,6 +10,7 @@ use Rattle.free_module.specs.Graded.{GradedModule}
 use Rattle.milnor_product.proofs.Multiples.{basis_at-negative}
 use Rattle.free_module.proofs.FreeBasis.{free_basis_from-append}
 use Rattle.free_module.specs.LinearMap.{map_rows, AreImages}
+use Rattle.free_module.proofs.Generators.{at_most-replicate}
 use Rattle.resolution_laws.specs.Resolution.{Module, Content, no_content, square_in, target_over, degrees_from, images_of, IsStepOver, IsStep, row_of, IsCanonicalTable, below_of}
 use Rattle.resolution_laws.proofs.NewGenerators.{HaveWidth-IsChosen}
 
@@ -55,20 +56,6 @@ degrees_from-between b (x ∷ squares) g h =
           let e : degree_at (here ++ rest) g ≡ degree_at rest (g - n) = get_or-append_right here rest n g (pos 0) len l in
           let p = degrees_from-between (b +ℤ pos 1) squares (g - n) (omega arith) in
           subst (IsBetween b (suc (length squares))) (sym e) (record { from = omega (arith, ints, p.from); below = omega (arith, ints, p.below) })
-    ]
-
--- generators of degree d more keep each degree at most d
-pub at_most-replicate : (degrees : List ℤ) (n : ℕ) (d : ℤ) → ((g : ℕ) → g < length degrees → degree_at degrees g ≤ℤ d) → (g : ℕ) → g < length (degrees ++ replicate n d) → degree_at (degrees ++ replicate n d) g ≤ℤ d
-at_most-replicate degrees n d h g l =
-    let whole = length-append degrees (replicate n d) in
-    let len = length-replicate n d in
-    let P : ℤ → Type 0 = λ t. t ≤ℤ d in
-    let same : d ≤ℤ d = omega (arith, ints) in
-    elim (cases_lt g (length degrees)) [
-      | inl b ↦ subst P (sym (get_or_append_left degrees (replicate n d) (pos 0) g b)) (h g b)
-      | inr b ↦
-          let e : degree_at (degrees ++ replicate n d) g ≡ d = get_or-append_right degrees (replicate n d) (length degrees) g (pos 0) refl b ∙ get_or-replicate n (g - length degrees) d (pos 0) (omega arith) in
-          subst P (sym e) same
     ]
 
 pub not_below-replicate : (degrees : List ℤ) (n : ℕ) (d : ℤ) (w : ℤ) (gens : List ℤ) → w ≡ d → gens ≡ degrees ++ replicate n d → ((g : ℕ) → g < length degrees → degree_at degrees g ≤ℤ d) → (g : ℕ) → g < length gens → degree_at gens g ≤ℤ w

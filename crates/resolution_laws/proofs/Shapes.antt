@@ -7,6 +7,7 @@ use Rattle.std.proofs.lemmas.List.FromFn.{map-range_with_len_more}
 use Rattle.f2_vec.specs.Vectors.{bit, IsFirstOne}
 use Rattle.f2_vec.specs.Spans.{row, HaveWidth}
 use Rattle.f2_vec.proofs.Split.{length-unit_vectors, HaveWidth-unit_vectors}
+use Rattle.f2_vec.proofs.Sums.{one_within}
 use Rattle.f2_matrix.specs.Echelon.{IsReduced, HasNoZeroRow, KernelBasisIsUnique}
 use Rattle.f2_matrix.proofs.Unique.{first_one}
 use Rattle.free_module.specs.FreeModule.{free_basis, free_width}
@@ -17,9 +18,6 @@ use Rattle.resolution_laws.proofs.Rows.{degrees_from-push}
 use Rattle.resolution_laws.proofs.StartLaws.{IsOver, content_is_unique, length-squares_below, square_in-squares_below, squares_below-same}
 
 -- ---- reduced rows of length n are at most n
-
-one_within : (v : List Bool) (p : ℕ) → bit v p ≡ true → p < length v
-one_within v p one = elim (cases_lt p (length v)) [ inl l ↦ l | inr l ↦ absurd (both_ways (bit v p) (get_or_past v p false l) one) ]
 
 -- the pivot of row i is at or after place i
 late_pivot : (rows : List (List Bool)) → IsReduced rows → HasNoZeroRow rows → (i p : ℕ) → i < length rows → IsFirstOne (row rows i) p → i ≤ p

@@ -10,27 +10,20 @@ use Rattle.square.specs.declared.range.Range.{Range}
 use Rattle.square.specs.Squares.{Placed, module_over}
 use Rattle.square.specs.Tables.{Staircase, contents, row_in, plain_rows, content_at, IsThrough}
 use Rattle.square.proofs.Places.{length-row_of, slice_get-there, content_at-is}
+use Rattle.square.proofs.Found.{row_within}
 use Rattle.resolution_step.specs.Alone.{cut, HasGrown, AreOfStart}
-
--- a row with a square is one of the rows
-row_there : (rows : List (List Placed)) (s t : ℕ) → t < length (row_in rows s) → s < length rows
-row_there rows s t l =
-    elim (cases_lt s (length rows)) [
-      | inl b ↦ b
-      | inr b ↦ absurd (let none = ap length (get_or_past rows s [] b) in omega arith)
-    ]
 
 -- the rows of the range
 module _ (range : Range) (rows : List (List Placed)) (through : IsThrough range rows) where
   length-cut : length (cut range (plain_rows rows)) ≡ range.s + 1
   length-cut =
-      let there = row_there rows range.s range.t (through range.s (omega arith)) in
+      let there = row_within rows range.s range.t (through range.s (omega arith)) in
       let all = length-map rows contents in
       length-map (take (range.s + 1) (plain_rows rows)) (take (range.t + 1)) ∙ length-take-le (range.s + 1) (plain_rows rows) (omega arith)
 
   pub row_of-cut : (i : ℕ) → i ≤ range.s → row_of (cut range (plain_rows rows)) i ≡ take (range.t + 1) (row_of (plain_rows rows) i)
   row_of-cut i h =
-      let there = row_there rows range.s range.t (through range.s (omega arith)) in
+      let there = row_within rows range.s range.t (through range.s (omega arith)) in
       let all = length-map rows contents in
       let len : length (take (range.s + 1) (plain_rows rows)) ≡ range.s + 1 = length-take-le (range.s + 1) (plain_rows rows) (omega arith) in
       get_or-map (take (range.t + 1)) (take (range.s + 1) (plain_rows rows)) i [] [] (omega arith)

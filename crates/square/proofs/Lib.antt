@@ -8,6 +8,6 @@ mod Rows
 mod Looking
 mod Matrices
 pub mod Targets
-mod Found
+pub mod Found
 pub mod Crossing
 mod SphereSquare
