@@ -1,14 +1,19 @@
 //! `ext`: Ext over the mod 2 Steenrod algebra, as charts.
 #![tactic(auto)]
 
-ghost use Rattle.std.specs.Prelude.{◌≡◌};
-ghost use Rattle.ext_run.specs.Failure.{status_of};
+ghost use Rattle.std.specs.Prelude.{◌≡◌, ◌≢◌, ◌≤◌, map, string_bytes, IfOk};
+ghost use Rattle.edge.specs.Faults.{HasRisen};
+ghost use Rattle.edge.specs.Sink.{HasPrefixMore, with_more};
+ghost use Rattle.ext_run.specs.declared.failure.Failure.TheVariants.{Words as OutsideGrammar, Memory as OutOfMemory};
+ghost use Rattle.ext_run.specs.Failure.{status_of, line_of};
+ghost use Rattle.ext_run.specs.Run.{IsStatusOf, HasRead, HasAnswered, HasReported, IsComplete};
+ghost use Rattle.ext_run.specs.Words.{texts_of};
 
-use edge::{Sink, StdSink, StdSource};
+use edge::{Sink, Source, StdSink, StdSource};
 use ext_run::{Failure, report, run};
 use memory::Memory;
 use std::alloc::Global;
-use std::io::ErrorKind;
+use std::io::{ErrorKind, Stderr, Stdin, Stdout};
 use std::process::ExitCode;
 use std::{env, io};
 
@@ -18,34 +23,61 @@ fn main(rt: HostRuntime) -> ExitCode {
 
 /// Answers the program's arguments on the standard streams.
 fn status(rt: &HostRuntime) -> u8 {
+    let mut source = StdSource::new(rt.stdin());
+    let mut out = StdSink::new(rt.stdout());
     let mut err = StdSink::new(rt.stderr());
     match arguments(rt) {
-        Ok(arguments) => match words(rt.alloc(), arguments.as_slice()) {
-            Ok(words) => {
-                let mut source = StdSource::new(rt.stdin());
-                let mut out = StdSink::new(rt.stdout());
-                run(
-                    rt,
-                    rt.alloc(),
-                    words.as_slice(),
-                    &mut source,
-                    &mut out,
-                    &mut err,
-                )
-            }
-            Err(Memory) => refused(&Failure::Memory, &mut err),
-        },
-        Err(e) if e.kind() == ErrorKind::InvalidData => refused(&Failure::Words, &mut err),
-        Err(_) => refused(&Failure::Memory, &mut err),
+        Ok(arguments) => answer::<StdSource<Stdin>, StdSink<Stdout>, StdSink<Stderr>>(
+            rt,
+            arguments.as_slice(),
+            &mut source,
+            &mut out,
+            &mut err,
+        ),
+        Err(e) => refused(&failure_of(e.kind()), &mut err),
+    }
+}
+
+/// Answers the arguments after the program's name: what `run` answers to their texts.
+fn answer<S: Source, O: Sink, E: Sink>(
+    rt: &HostRuntime,
+    arguments: &[String],
+    source: &mut S,
+    out: &mut O,
+    err: &mut E,
+) -> u8
+    ensures status { IsStatusOf (map string_bytes arguments.now) (S.left source.old) result }
+    ensures read { HasRead S.left S.faults (map string_bytes arguments.now) result source.old source.new }
+    ensures answered { HasAnswered O.written O.faults (map string_bytes arguments.now) (S.left source.old) result out.old out.new }
+    ensures reported { HasReported E.written E.faults (map string_bytes arguments.now) (S.left source.old) result err.old err.new }
+    ensures complete { ¬ HasRisen (S.faults source.old) (S.faults source.new) → ¬ HasRisen (O.faults out.old) (O.faults out.new) → IsComplete (map string_bytes arguments.now) (S.left source.old) result }
+{
+    match words(rt.alloc(), arguments) {
+        Ok(words) => run(rt, rt.alloc(), words.as_slice(), source, out, err),
+        Err(Memory) => refused(&Failure::Memory, err),
     }
 }
 
 /// The status of a failure, with its line written.
 fn refused<E: Sink>(failure: &Failure, err: &mut E) -> u8
-    ensures { result ≡ status_of failure.now }
+    ensures status { result ≡ status_of failure.now }
+    ensures never_falls { E.faults err.old ≤ E.faults err.new }
+    ensures line { HasPrefixMore (line_of failure.now) (E.written err.old) (E.written err.new) }
+    ensures whole_line { ¬ HasRisen (E.faults err.old) (E.faults err.new) → E.written err.new ≡ with_more (E.written err.old) (line_of failure.now) }
 {
     report(failure, err);
     failure.status()
+}
+
+/// The failure where there are no arguments: one of them is no text, and so no word of the grammar, or memory ended.
+fn failure_of(kind: ErrorKind) -> Failure
+    ensures outside { kind ≡ ErrorKind.InvalidData → result ≡ OutsideGrammar }
+    ensures memory { kind ≢ ErrorKind.InvalidData → result ≡ OutOfMemory }
+{
+    match kind {
+        ErrorKind::InvalidData => Failure::Words,
+        _ => Failure::Memory,
+    }
 }
 
 /// The arguments after the program's name.
@@ -54,6 +86,13 @@ fn arguments(rt: &HostRuntime) -> io::Result<Vec<String>> {
     Ok(all.skip(1).collect(rt.alloc())?)
 }
 
-fn words<'a>(alloc: Global, arguments: &'a [String]) -> Result<Vec<&'a str>, Memory> {
-    Ok(arguments.iter().map(|word| word.as_str()).collect(alloc)?)
+/// The arguments' texts, as words.
+fn words<'a>(alloc: Global, arguments: &'a [String]) -> Result<Vec<&'a str>, Memory>
+    ensures { IfOk result (λ words. texts_of words.items ≡ map string_bytes arguments.now) }
+{
+    let mut words = Vec::new(alloc);
+    for argument in arguments {
+        words.push(argument.as_str())?;
+    }
+    Ok(words)
 }

@@ -9,6 +9,8 @@ use module_json::{Malformed, Place, What, Why};
 use resolution_laws::canonical_table_is_unique;
 use square::Range;
 use std::alloc::Global;
+use std::process::Abort;
+use std::str::from_utf8;
 use std::test::Fail;
 
 const STEMS_8: &str =
@@ -51,21 +53,26 @@ fn source(alloc: Global, bytes: &str, failing: u64) -> Result<MemSource, Fail> {
     Ok(MemSource::new(alloc, bytes, 7, calls)?)
 }
 
-/// Whether these words, with this module file, have this status, text and line.
-fn has_answer(
-    rt: &HostRuntime,
+/// Compares the status, the text and the line that these words have with this module file.
+fn assert_answer<R: Abort + AllocGlobal>(
+    rt: &R,
     words: &[&str],
     file: &str,
     status: u8,
     text: &str,
     line: &str,
-) -> Result<bool, Fail> {
+) -> Result<(), Fail> {
     let alloc = rt.alloc();
     let mut source = source(alloc, file, 0)?;
     let mut out = sink(alloc, 1000, 0)?;
     let mut err = sink(alloc, 1000, 0)?;
     let got = run(rt, alloc, words, &mut source, &mut out, &mut err);
-    Ok(got == status && out.written() == text.as_bytes() && err.written() == line.as_bytes())
+    assert_eq!(rt;
+        (got, from_utf8(out.written())?, from_utf8(err.written())?),
+        (status, text, line),
+        "at {words:?}"
+    );
+    Ok(())
 }
 
 #[test]
@@ -77,10 +84,7 @@ fn charts(rt: HostRuntime) -> Result<(), Fail> {
         (["sphere", "2", "1"], " 2 |\n 1 |1\n 0 |1.\nstems 0..1\n"),
         (["sphere", "4", "12"], STEMS_12),
     ] {
-        assert!(rt;
-            has_answer(&rt, words.as_slice(), "", 0, text, "")?,
-            "at {text}"
-        );
+        assert_answer(&rt, words.as_slice(), "", 0, text, "")?;
     }
     Ok(())
 }
@@ -112,7 +116,7 @@ fn answers_on_module_files(rt: HostRuntime) -> Result<(), Fail> {
         ),
     ];
     for (words, file, text) in cases {
-        assert!(rt; has_answer(&rt, words, file, 0, text, "")?, "at {text}");
+        assert_answer(&rt, words, file, 0, text, "")?;
     }
     Ok(())
 }
@@ -139,10 +143,7 @@ fn dumps(rt: HostRuntime) -> Result<(), Fail> {
             "d(0,0,0) = x0\nd(1,2,0) = Sq(2)*(0,0,0)\nd(1,3,0) = Sq(0,1)*(0,0,0)\n",
         ),
     ] {
-        assert!(rt;
-            has_answer(&rt, &["dump", s, t], file, 0, text, "")?,
-            "at {text}"
-        );
+        assert_answer(&rt, &["dump", s, t], file, 0, text, "")?;
     }
     Ok(())
 }
@@ -179,10 +180,7 @@ fn refuses_module_files(rt: HostRuntime) -> Result<(), Fail> {
     ] {
         let commands: [&[&str]; 3] = [&["check"], &["resolve", "2", "4"], &["dump", "2", "4"]];
         for words in commands {
-            assert!(rt;
-                has_answer(&rt, words, file, status, "", line)?,
-                "at {line}"
-            );
+            assert_answer(&rt, words, file, status, "", line)?;
         }
     }
     Ok(())
@@ -296,6 +294,8 @@ fn lines_of_refusals(rt: HostRuntime) -> Result<(), Fail> {
             "action 4095: differs from action 12",
         ),
     ] {
+        let shown = format!(in rt.alloc(); "{malformed}")?;
+        assert_eq!(rt; shown.as_str(), text);
         let err = line_of(rt.alloc(), Failure::Malformed(malformed))?;
         let want = format!(in rt.alloc(); "ext: module file: {text}\n")?;
         assert_eq!(rt; err.written(), want.as_bytes());
@@ -328,8 +328,8 @@ fn refuses(rt: HostRuntime) -> Result<(), Fail> {
         &["dump", "1", "2", "3"],
         &["--help"],
     ];
-    for (i, words) in outside.iter().enumerate() {
-        assert!(rt; has_answer(&rt, words, C2, 2, "", WORDS_LINE)?, "at {i}");
+    for words in outside {
+        assert_answer(&rt, words, C2, 2, "", WORDS_LINE)?;
     }
     Ok(())
 }
@@ -419,7 +419,7 @@ fn parses(rt: HostRuntime) {
         (&["check"], Command::Check),
     ];
     for (words, command) in inside {
-        assert_eq!(rt; parse(alloc, words), Ok(command));
+        assert_eq!(rt; parse(alloc, words), Ok(command), "at {words:?}");
     }
 }
 
@@ -470,8 +470,8 @@ fn parses_nothing_else(rt: HostRuntime) {
         &["-h"],
         &["--version"],
     ];
-    for (i, words) in outside.iter().enumerate() {
-        assert_eq!(rt; parse(alloc, words), Err(WordsFault::Words), "at {i}");
+    for words in outside {
+        assert_eq!(rt; parse(alloc, words), Err(WordsFault::Words), "at {words:?}");
     }
 }
 
