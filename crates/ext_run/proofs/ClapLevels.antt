@@ -10,6 +10,7 @@ use Rattle.clap.specs.Kinds.{Kinds, or_else}
 use Rattle.clap.specs.Faults.{step_fault, walk_fault, settle_fault, defaults_fault, check_fault}
 use Rattle.clap.specs.declared.error.kind.ErrorKind.TheVariants.{UnknownArgument, MissingRequiredArgument}
 use Rattle.square.specs.declared.range.Range.{Range}
+use Rattle.square.specs.declared.range.TheConstants.{MAX_S, MAX_T}
 use Rattle.ext_run.specs.declared.words.Common.{Common}
 use Rattle.ext_run.specs.Words.{number_up_to, range_of, common_of}
 use Rattle.ext_run.specs.CommandLine.{positional, common_in}
@@ -104,11 +105,11 @@ range-none : (s : Option ℕ) → range_of s None ≡ None
 range-none None = refl
 range-none (Some s) = refl
 
-pub no-s : (s t : Text) → number_up_to 63 s ≡ None → common_of (s ∷ t ∷ []) ≡ None
-no-s s t e = ap (λ (n : Option ℕ). common_from (range_of n (number_up_to 127 t))) e
+pub no-s : (s t : Text) → number_up_to MAX_S s ≡ None → common_of (s ∷ t ∷ []) ≡ None
+no-s s t e = ap (λ (n : Option ℕ). common_from (range_of n (number_up_to MAX_T t))) e
 
-pub no-t : (s t : Text) → number_up_to 127 t ≡ None → common_of (s ∷ t ∷ []) ≡ None
-no-t s t e = ap (λ (n : Option ℕ). common_from (range_of (number_up_to 63 s) n)) e ∙ ap common_from (range-none (number_up_to 63 s))
+pub no-t : (s t : Text) → number_up_to MAX_T t ≡ None → common_of (s ∷ t ∷ []) ≡ None
+no-t s t e = ap (λ (n : Option ℕ). common_from (range_of (number_up_to MAX_S s) n)) e ∙ ap common_from (range-none (number_up_to MAX_S s))
 
 reads-none : (name : Text) → ReadsRange name []
 unfolding walk_fault defaults_fault
@@ -124,9 +125,9 @@ reads-one name s plain_s = elim (next-word (range_leaf name) (no_option name) s 
 reads-two : (name s t : Text) → bytes_eq s (45 ∷ 45 ∷ []) ≡ false → bytes_eq t (45 ∷ 45 ∷ []) ≡ false → ReadsRange name (s ∷ t ∷ [])
 unfolding walk_fault defaults_fault
 reads-two name s t plain_s plain_t = elim (next-word (range_leaf name) (no_option name) s (t ∷ []) [] None 1 plain_s) [
-  | inl fails ↦ refuses fails.0 (no-s s t (fails.1.none 63))
+  | inl fails ↦ refuses fails.0 (no-s s t (fails.1.none MAX_S))
   | inr goes ↦ elim (next-word (range_leaf name) (no_option name) t [] [] (Some (codes "S", s ∷ [])) 2 plain_t) [
-    | inl fails ↦ refuses (fails-as _ _ goes.fault fails.0) (no-t s t (fails.1.none 127))
+    | inl fails ↦ refuses (fails-as _ _ goes.fault fails.0) (no-t s t (fails.1.none MAX_T))
     | inr goes_on ↦ reads (goes.fault ∙ goes_on.fault) (ap common_after (goes.ends ∙ goes_on.ends))
   ]
 ]

@@ -5,6 +5,7 @@ use Rattle.std.specs.Str.{bytes_eq}
 use Rattle.std.proofs.lemmas.Bool.{or_cases}
 use Rattle.std.proofs.lemmas.Slice.Eq.{bytes_eq-Decides}
 use Rattle.clap.specs.Walk.{Text}
+use Rattle.square.specs.declared.range.TheConstants.{MAX_S, MAX_T}
 use Rattle.ext_run.specs.declared.words.Common.{Common}
 use Rattle.ext_run.specs.declared.words.Command.{Command}
 use Rattle.ext_run.specs.declared.words.Command.TheVariants.{Sphere, Resolve, Dump}
@@ -19,9 +20,9 @@ dashes-no-common : (words : List Text) → has_dashes words ≡ true → common_
 dashes-no-common [] dashes = refl
 dashes-no-common (s ∷ []) dashes = refl
 dashes-no-common (s ∷ t ∷ []) dashes = elim (or_cases _ _ dashes) [
-  | inl here ↦ no-s s t ((dashes-no-number s here).none 63)
+  | inl here ↦ no-s s t ((dashes-no-number s here).none MAX_S)
   | inr there ↦ elim (or_cases _ _ there) [
-    | inl last ↦ no-t s t ((dashes-no-number t last).none 127)
+    | inl last ↦ no-t s t ((dashes-no-number t last).none MAX_T)
     | inr none ↦ absurd (cc)
   ]
 ]

@@ -5,6 +5,7 @@ use Rattle.std.specs.Option.{ok_or}
 use Rattle.std.specs.Str.{bytes_eq}
 use Rattle.std.proofs.lemmas.Bool.{leb-true}
 use Rattle.square.specs.declared.range.Range.{Range}
+use Rattle.square.specs.declared.range.TheConstants.{MAX_S, MAX_T}
 use Rattle.ext_run.specs.declared.words.WordsFault.{WordsFault}
 use Rattle.ext_run.specs.declared.words.Common.{Common}
 use Rattle.ext_run.specs.declared.words.Command.{Command}
@@ -20,9 +21,9 @@ number-within : (limit : ℕ) (word : List ℕ) → IfSome (number_up_to limit w
 number-within limit word = up-to (is_short_number word) (nat_le (decimal_value word) limit) (decimal_value word) limit refl
 
 abbrev IsWithin : Common → Type 0
-IsWithin common = (common.range.s ≤ 63) × (common.range.t ≤ 127)
+IsWithin common = (common.range.s ≤ MAX_S) × (common.range.t ≤ MAX_T)
 
-range-within : (s t : Option ℕ) → IfSome s (λ n. n ≤ 63) → IfSome t (λ n. n ≤ 127) → IfSome (option_map (λ (range : Range). record { range = range }) (range_of s t)) IsWithin
+range-within : (s t : Option ℕ) → IfSome s (λ n. n ≤ MAX_S) → IfSome t (λ n. n ≤ MAX_T) → IfSome (option_map (λ (range : Range). record { range = range }) (range_of s t)) IsWithin
 range-within None t low high = tt
 range-within (Some s) None low high = tt
 range-within (Some s) (Some t) low high = (low, high)
@@ -30,7 +31,7 @@ range-within (Some s) (Some t) low high = (low, high)
 common-within : (words : List (List ℕ)) → IfSome (common_of words) IsWithin
 common-within [] = tt
 common-within (s ∷ []) = tt
-common-within (s ∷ t ∷ []) = range-within (number_up_to 63 s) (number_up_to 127 t) (number-within 63 s) (number-within 127 t)
+common-within (s ∷ t ∷ []) = range-within (number_up_to MAX_S s) (number_up_to MAX_T t) (number-within MAX_S s) (number-within MAX_T t)
 common-within (s ∷ t ∷ u ∷ more) = tt
 
 check-within : (words : List (List ℕ)) → IfSome (check_of words) IsWithinLimits

@@ -3,6 +3,7 @@ use Rattle.std.specs.Prelude.{ℕ, List, Option, Some, None, option_map, option_
 use Rattle.std.specs.Str.{bytes_eq}
 use Rattle.clap.specs.Walk.{Row, Rule, Text, first_of}
 use Rattle.clap.specs.Simple.{App, new_app, new_rule, on_top, with_rule, with_subcommand}
+use Rattle.square.specs.declared.range.TheConstants.{MAX_S, MAX_T}
 use Rattle.ext_run.specs.declared.words.Command.{Command}
 use Rattle.ext_run.specs.declared.words.Command.TheVariants.{Sphere, Resolve, Dump, Check}
 use Rattle.ext_run.specs.declared.words.Common.{Common}
@@ -29,7 +30,7 @@ number_in rows id limit = option_and_then (number_up_to limit) (first_of id rows
 
 -- the numbers S and T of a command's matches
 abbrev pub common_in : List Row → Option Common
-common_in rows = option_map (λ range. record { range = range }) (range_of (number_in rows (codes "S") 63) (number_in rows (codes "T") 127))
+common_in rows = option_map (λ range. record { range = range }) (range_of (number_in rows (codes "S") MAX_S) (number_in rows (codes "T") MAX_T))
 
 abbrev pub command_named : Text → List Row → Option Command
 command_named name rows =

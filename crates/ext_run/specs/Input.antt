@@ -1,5 +1,6 @@
 -- What a source has left, as the input of a command, and the module file that it is.
 use Rattle.std.specs.Prelude.{◌≡◌, ℕ, ◌+◌, ◌^◌, List, Option, Some, None, IfSome, Result, Ok, Err, ⊤}
+use Rattle.module_json.specs.declared.limits.TheConstants.{MAX_FILE_BYTES}
 use Rattle.module_json.specs.ModuleFile.{File, IsFileOf}
 use Rattle.module_json.specs.declared.malformed.Malformed.{Malformed}
 use Rattle.module_check.specs.Module.{Module as SteenrodModule}
@@ -23,7 +24,7 @@ IsCauseOf MayRead MayWrite Is failure = Is failure
 
 -- one byte past the greatest size of a module file, which is as far as an input is read
 unfoldable pub most_read : ℕ
-most_read = 2 ^ 20 + 1
+most_read = MAX_FILE_BYTES + 1
 
 -- what the input describes as a module file, or its first refusal
 abbrev pub IsFileFrom : Option (List ℕ) → Result File Malformed → Type 0

@@ -5,6 +5,7 @@ use Rattle.std.specs.List.{fold, list_all}
 use Rattle.std.specs.Str.{bytes_eq}
 use Rattle.std.specs.Char.{is_ascii_digit}
 use Rattle.square.specs.declared.range.Range.{Range}
+use Rattle.square.specs.declared.range.TheConstants.{MAX_S, MAX_T}
 use Rattle.ext_run.specs.declared.words.Command.{Command}
 use Rattle.ext_run.specs.declared.words.Command.TheVariants.{Sphere, Resolve, Dump, Check}
 use Rattle.ext_run.specs.declared.words.Common.{Common}
@@ -29,9 +30,9 @@ range_of (Some s) (Some t) = Some (record { s = s; t = t })
 range_of (Some s) None = None
 range_of None t = None
 
--- the words S and T, S at most 63 and T at most 127
+-- the words S and T, within the greatest row and the greatest degree of a range
 abbrev pub common_of : List (List ℕ) → Option Common
-common_of (s ∷ t ∷ []) = option_map (λ range. record { range = range }) (range_of (number_up_to 63 s) (number_up_to 127 t))
+common_of (s ∷ t ∷ []) = option_map (λ range. record { range = range }) (range_of (number_up_to MAX_S s) (number_up_to MAX_T t))
 common_of _ = None
 
 -- no words
@@ -50,7 +51,7 @@ command_of (name ∷ words) =
 
 -- the command asks for no more than the grammar allows
 abbrev pub IsWithinLimits : Command → Type 0
-IsWithinLimits (Sphere common) = (common.range.s ≤ 63) × (common.range.t ≤ 127)
-IsWithinLimits (Resolve common) = (common.range.s ≤ 63) × (common.range.t ≤ 127)
-IsWithinLimits (Dump common) = (common.range.s ≤ 63) × (common.range.t ≤ 127)
+IsWithinLimits (Sphere common) = (common.range.s ≤ MAX_S) × (common.range.t ≤ MAX_T)
+IsWithinLimits (Resolve common) = (common.range.s ≤ MAX_S) × (common.range.t ≤ MAX_T)
+IsWithinLimits (Dump common) = (common.range.s ≤ MAX_S) × (common.range.t ≤ MAX_T)
 IsWithinLimits Check = ⊤

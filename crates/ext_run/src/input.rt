@@ -11,7 +11,7 @@ ghost use Rattle.ext_run.specs.declared.failure.Failure as Failure;
 use crate::failure::Failure;
 use edge::{Source, read_through};
 use module_check::{CheckFault, Module, check};
-use module_json::{Spec, read};
+use module_json::{MAX_FILE_BYTES, Spec, read};
 use std::alloc::Global;
 
 /// How many bytes are read at most: one past the greatest size of a module file, so that a longer file is seen to be one.
@@ -19,7 +19,7 @@ use std::alloc::Global;
 fn most_read() -> usize
     ensures { result ≡ most_read }
 {
-    (1 << 20) + 1
+    MAX_FILE_BYTES + 1
 }
 
 /// The module file that a source has left.

@@ -1,6 +1,6 @@
 //! The texts on a module: its chart, its differentials and the line on it.
 ghost use Rattle.std.specs.Prelude.{◌≡◌, ◌≤◌, IfOk};
-ghost use Rattle.module_check.specs.DerivedAction.{top};
+ghost use Rattle.square.specs.declared.range.TheConstants.{MAX_S, MAX_T};
 ghost use Rattle.square.specs.Tables.{plain_rows, IsThrough};
 ghost use Rattle.resolution_step.specs.Alone.{cut};
 ghost use Rattle.ext_run.specs.Answer.{IsResolved, IsChart, IsDump, IsLineOn};
@@ -15,8 +15,8 @@ use std::alloc::Global;
 
 /// The canonical resolution of a module through the range.
 fn resolved(alloc: Global, module: Module, range: Range) -> Result<Table, Memory>
-    requires rows { range.s ≤ 63 }
-    requires degrees { range.t ≤ 127 }
+    requires rows { range.s ≤ MAX_S }
+    requires degrees { range.t ≤ MAX_T }
     ensures module { IfOk result (λ table. table.resolved ≡ «module») }
     ensures resolved { IfOk result (λ table. IsResolved range «module».plain (cut range (plain_rows table.rows))) }
     ensures holds { IfOk result (λ table. IsThrough range table.rows) }
@@ -36,8 +36,8 @@ fn resolved(alloc: Global, module: Module, range: Range) -> Result<Table, Memory
 /// The chart of a module's resolution through the range.
 #[tactic(auto, using(crate::proofs::Resolved::is_chart))]
 pub(crate) fn chart_of(alloc: Global, module: Module, range: Range) -> Result<Vec<u8>, Memory>
-    requires rows { range.s ≤ 63 }
-    requires degrees { range.t ≤ 127 }
+    requires rows { range.s ≤ MAX_S }
+    requires degrees { range.t ≤ MAX_T }
     ensures { IfOk result (λ text. IsChart range «module».plain text.items) }
 {
     let table = resolved(alloc, module, range)?;
@@ -47,33 +47,17 @@ pub(crate) fn chart_of(alloc: Global, module: Module, range: Range) -> Result<Ve
 /// The differentials of a module's resolution through the range.
 #[tactic(auto, using(crate::proofs::Resolved::is_dump))]
 pub(crate) fn dump_of(alloc: Global, module: Module, range: Range) -> Result<Vec<u8>, Memory>
-    requires rows { range.s ≤ 63 }
-    requires degrees { range.t ≤ 127 }
+    requires rows { range.s ≤ MAX_S }
+    requires degrees { range.t ≤ MAX_T }
     ensures { IfOk result (λ text. IsDump range «module».plain text.items) }
 {
     let table = resolved(alloc, module, range)?;
     dump(alloc, &table, range)
 }
 
-/// The greatest degree of a generator, and 0 where there is none.
-#[tactic(auto, using(module_check::proofs::Degrees::top_last))]
-fn greatest_degree(module: &Module) -> i32
-    ensures { result ≡ top «module».now.plain.generators }
-{
-    match module.count().checked_sub(1) {
-        Some(last) => module.degree(last),
-        None => 0,
-    }
-}
-
 /// The line on a module.
 pub(crate) fn module_line(alloc: Global, module: &Module) -> Result<Vec<u8>, Memory>
     ensures { IfOk result (λ text. IsLineOn «module».now.plain text.items) }
 {
-    check_line(
-        alloc,
-        module.count(),
-        module.bottom(),
-        greatest_degree(module),
-    )
+    check_line(alloc, module.count(), module.bottom(), module.top())
 }

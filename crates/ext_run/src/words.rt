@@ -12,7 +12,7 @@ ghost use Rattle.ext_run.specs.Words.{texts_of, command_of, number_up_to, is_sho
 use clap::error::ErrorKind;
 use clap::{Arg, ArgMatches};
 use memory::Memory;
-use square::Range;
+use square::{MAX_S, MAX_T, Range};
 use std::alloc::{AllocError, Global};
 use thiserror::Error;
 
@@ -53,12 +53,6 @@ impl From<Memory> for WordsFault {
         WordsFault::Memory
     }
 }
-
-/// The greatest row that a command may ask for.
-const MAX_S: u16 = 63;
-
-/// The greatest degree that a command may ask for.
-const MAX_T: u16 = 127;
 
 fn are_digits(bytes: &[u8]) -> bool
     ensures { result ≡ list_all is_ascii_digit bytes.now }
