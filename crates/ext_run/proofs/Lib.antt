@@ -1,3 +1,4 @@
+mod AnswerExists
 mod AnswerUnique
 mod Joined
 mod ClapLevels

@@ -2,6 +2,7 @@ pub mod Words
 pub mod CommandLine
 pub mod Input
 pub mod Answer
+pub mod Existence
 pub mod Run
 pub mod Parts
 pub mod Failure

@@ -1,5 +1,6 @@
-// Laws over the definitions, as contracts of functions that do nothing.
+//! Laws over the definitions, as contracts of functions that do nothing.
 ghost use Rattle.ext_run.specs.Answer.{AnswerIsUnique};
+ghost use Rattle.ext_run.specs.Existence.{AnswerExists};
 
 /// The same words have at most one answer to the same input.
 pub fn answer_is_unique()
@@ -7,4 +8,15 @@ pub fn answer_is_unique()
 {
     resolution_laws::canonical_table_is_unique();
     module_json::file_is_unique();
+}
+
+/// All words have an answer to each input. If they read it, it is asked that the input is described: as a module file, or by
+/// its first refusal.
+pub fn answer_exists()
+    ensures { AnswerExists }
+{
+    resolution_existence::canonical_table_exists();
+    resolution_laws::canonical_table_is_minimal_resolution();
+    module_check::modules_are_graded_modules();
+    module_check::accepted_is_module();
 }

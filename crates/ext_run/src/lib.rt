@@ -13,6 +13,6 @@ mod writing;
 
 pub use answer::run;
 pub use failure::{Failure, report};
-pub use laws::answer_is_unique;
+pub use laws::{answer_exists, answer_is_unique};
 pub use square::Range;
 pub use words::{Command, Common, WordsFault, parse};

@@ -1,0 +1,121 @@
+-- The answer: for a module that a file describes there is a canonical table through each range, and the texts are made of it.
+use Rattle.std.proofs.Common.{◌≡◌, ℕ, ℤ, pos, ◌<ℤ◌, ◌≤ℤ◌, List, [], ◌∷◌, length, Option, Some, None, refl, sym, ◌∙◌, ap, subst, arith, inl, inr}
+use Rattle.std.specs.Prelude.{Result, Ok, Err, MatchOption, AllPairs}
+use Rattle.std.proofs.lemmas.List.Elements.{All-from_recursion}
+use Rattle.std.proofs.lemmas.List.Kept.{AllPairs-cons}
+use Rattle.std.proofs.lemmas.Bool.{cases_eq}
+use Rattle.std.proofs.lemmas.Int.{ints}
+use Rattle.module_json.specs.ModuleFile.{Generator, Entry, File, IsFileOf, basis, degree_at, listed, unless_refused, with_entries, first_refusal, gens_of, entries_from, actions_of}
+use Rattle.module_json.specs.ModuleFile.IsFileOf.{too_long, no_json, value}
+use Rattle.module_json.specs.WellFormed.{NeverFall}
+use Rattle.module_json.specs.declared.malformed.Malformed.{Malformed}
+use Rattle.module_json.proofs.Order.{EachPair, Rises-by_degree}
+use Rattle.module_check.specs.Module.{Module as SteenrodModule, bottom, width}
+use Rattle.module_check.specs.DerivedAction.{derived_module, top}
+use Rattle.module_check.specs.Acceptance.{IsModule, AcceptedIsModule, refusal_of}
+use Rattle.module_check.specs.Graded.{ModulesAreSteenrodModules}
+use Rattle.module_check.specs.Checked.{sphere_file}
+use Rattle.module_check.specs.ModuleLaws.{numbers_from-none}
+use Rattle.module_check.specs.declared.fault.CheckFault.{CheckFault}
+use Rattle.resolution_laws.specs.Resolution.{Content, generator_count}
+use Rattle.resolution_laws.specs.Exactness.{IsBoundedBelow, CanonicalTableIsMinimalResolution}
+use Rattle.resolution_existence.specs.Existence.{CanonicalTableExists}
+use Rattle.square.specs.Squares.{module_over}
+use Rattle.square.specs.declared.range.Range.{Range}
+use Rattle.ext_chart.specs.Chart.{chart_text}
+use Rattle.ext_chart.specs.Check.{check_line}
+use Rattle.ext_chart.specs.Dump.{dump_text}
+use Rattle.ext_run.specs.declared.words.Command.{Command}
+use Rattle.ext_run.specs.declared.words.Command.TheVariants.{Sphere, Resolve, Dump, Check}
+use Rattle.ext_run.specs.declared.failure.Failure.{Failure}
+use Rattle.ext_run.specs.declared.failure.Failure.TheVariants.{Words, Malformed as NoModuleFile, NotModule}
+use Rattle.ext_run.specs.Answer.{IsResolved, IsChart, IsDump, IsLineOn, IsModuleAnswer, no_file, no_module, text_of, IsAnswerTo, Reads}
+use Rattle.ext_run.specs.Words.{command_of}
+use Rattle.ext_run.specs.Existence.{IsDescribed, AnswerExists}
+
+-- the laws that it stands on
+pub record Laws : Type 0 where
+  pub exists : CanonicalTableExists
+  pub minimal : CanonicalTableIsMinimalResolution
+  pub modules : ModulesAreSteenrodModules
+  pub accepted : AcceptedIsModule
+
+-- ---- the table
+
+below_all : (gs : List Generator) → NeverFall gs → (t : ℤ) → t <ℤ bottom gs → width gs t ≡ 0
+below_all [] b t l = refl
+below_all (g ∷ gs) b t l =
+    ap length (numbers_from-none 0 (g ∷ gs) t (λ k h e. elim (cases_eq k 0) [
+      | inl z ↦ let w : g.degree ≡ t = sym (ap (degree_at (g ∷ gs)) z) ∙ e in omega (arith, ints)
+      | inr z ↦ let w = b 0 k (record { name = []; degree = pos 0 }) (omega arith) h in omega (arith, ints)
+    ]))
+
+table_exists : Laws → (range : Range) (m : SteenrodModule) → IsModule m → NeverFall m.generators → (table : List (List Content)) × IsResolved range m table
+table_exists laws range m is order =
+    let steenrod = laws.modules m is in
+    let bounded : IsBoundedBelow (module_over m) = below_all m.generators order in
+    let table = laws.exists (module_over m) range.s range.t steenrod.widths in
+    (table.0, record { canonical = table.1; minimal = laws.minimal (module_over m) range.s range.t table.0 steenrod bounded table.1 })
+
+chart_exists : Laws → (range : Range) (m : SteenrodModule) → IsModule m → NeverFall m.generators → (text : List ℕ) × IsChart range m text
+chart_exists laws range m is order =
+    let table = table_exists laws range m is order in
+    (chart_text (bottom m.generators) range.s range.t (generator_count table.0), record { table = table.0; resolved = table.1; chart = refl })
+
+dump_exists : Laws → (range : Range) (m : SteenrodModule) → IsModule m → NeverFall m.generators → (text : List ℕ) × IsDump range m text
+dump_exists laws range m is order =
+    let table = table_exists laws range m is order in
+    (dump_text m.generators range.s range.t table.0, record { table = table.0; resolved = table.1; dump = refl })
+
+line_exists : (m : SteenrodModule) → IsModule m → NeverFall m.generators → (text : List ℕ) × IsLineOn m text
+line_exists m is order = (check_line (length m.generators) (bottom m.generators) (top m.generators), refl)
+
+-- ---- the generators of a file stand by degree
+
+accepted_generators : (refusal : Option Malformed) (gs : List Generator) (es : Result (List Entry) Malformed) (f : File) → unless_refused refusal (with_entries gs es) ≡ Ok f → gs ≡ f.generators
+accepted_generators (Some e) gs es f p = cc
+accepted_generators None gs (Err e) f p = cc
+accepted_generators None gs (Ok es) f p = let made : File = record { generators = gs; entries = es } in let same : made ≡ f = cc in ap (λ (x : File). x.generators) same
+
+pairs_by_place : (R : Generator → Generator → Type 0) (gs : List Generator) → EachPair R gs → AllPairs R gs
+pairs_by_place R [] h = λ i j d l m. absurd (omega (arith, m))
+pairs_by_place R (g ∷ gs) h = AllPairs-cons R g gs (All-from_recursion (R g) gs h.0) (pairs_by_place R gs h.1)
+
+in_order : (bytes : List ℕ) (r : Result File Malformed) → IsFileOf bytes r → (f : File) → r ≡ Ok f → NeverFall f.generators
+in_order bytes r (too_long e h) f p = cc
+in_order bytes r (no_json h none) f p = cc
+in_order bytes r (value h d is) f p =
+    let gs = basis (gens_of d) in
+    subst NeverFall (accepted_generators (first_refusal d) gs (entries_from gs [] (actions_of d)) f p) (pairs_by_place (λ g h. g.degree ≤ℤ h.degree) gs (Rises-by_degree (listed (gens_of d))))
+
+-- ---- the answer
+
+module _ (accepted : AcceptedIsModule) (IsTextOf : SteenrodModule → List ℕ → Type 0) (text : (m : SteenrodModule) → IsModule m → NeverFall m.generators → (x : List ℕ) × IsTextOf m x) (bytes : List ℕ) where
+  of_file : (f : File) → IsFileOf bytes (Ok f) → (found : Option CheckFault) → refusal_of f ≡ found → (answer : Result (List ℕ) Failure) × IsModuleAnswer IsTextOf bytes answer
+  of_file f is (Some e) h = (Err (NotModule f e), no_module f e is h)
+  of_file f is None h =
+      let order : NeverFall f.generators = in_order bytes (Ok f) is f refl in
+      let x = text (derived_module f) (accepted f order h) order in
+      (Ok x.0, text_of f x.0 is h x.1)
+
+  of_bytes : (file : Result File Malformed) → IsFileOf bytes file → (answer : Result (List ℕ) Failure) × IsModuleAnswer IsTextOf bytes answer
+  of_bytes (Ok f) is = of_file f is (refusal_of f) refl
+  of_bytes (Err e) is = (Err (NoModuleFile e), no_file e is)
+
+one_alone : NeverFall sphere_file.generators
+one_alone i j d l k = absurd (omega arith)
+
+to_command : Laws → (command : Command) (bytes : List ℕ) → (Reads command → IsDescribed bytes) → (answer : Result (List ℕ) Failure) × IsAnswerTo command bytes answer
+to_command laws (Sphere common) bytes file =
+    let x = chart_exists laws common.range (derived_module sphere_file) (laws.accepted sphere_file one_alone refl) one_alone in
+    (Ok x.0, x.1)
+to_command laws (Resolve common) bytes file = let d = file tt in of_bytes laws.accepted (IsChart common.range) (chart_exists laws common.range) bytes d.file d.is_file
+to_command laws (Dump common) bytes file = let d = file tt in of_bytes laws.accepted (IsDump common.range) (dump_exists laws common.range) bytes d.file d.is_file
+to_command laws Check bytes file = let d = file tt in of_bytes laws.accepted IsLineOn line_exists bytes d.file d.is_file
+
+to_words : Laws → (command : Option Command) (bytes : List ℕ) → (MatchOption command ⊥ Reads → IsDescribed bytes) → (answer : Result (List ℕ) Failure) × MatchOption command (answer ≡ Err Words) (λ c. IsAnswerTo c bytes answer)
+to_words laws None bytes file = (Err Words, refl)
+to_words laws (Some command) bytes file = to_command laws command bytes file
+
+pub answer_is_there : Laws → AnswerExists
+answer_is_there laws words bytes file = to_words laws (command_of words) bytes file
