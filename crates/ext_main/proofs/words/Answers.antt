@@ -6,7 +6,7 @@ use Rattle.ext_main.proofs.words.Goals as goal
 
 pub loop-argument-preserved : goal.loop-argument-preserved
 loop-argument-preserved c =
-    texts-more string_bytes c.args.arguments.now c.loop-argument.words.items _ c.loop-argument.argument-index c.argument-item.result _ (omega arith) c.loop-argument.invariant (c.as_str.ensures ∙ ap string_bytes c.argument-item.is) c.in_ok-push.ensures.items
+    texts-more string_bytes c.args.arguments.now c.loop-argument.words.items _ c.loop-argument.argument-index c.argument-item.result _ (omega arith) c.loop-argument.invariant (c.as_str.ensures.value ∙ ap string_bytes c.argument-item.is) c.in_ok-push.ensures.items
 
 pub returns : goal.returns
 returns c = c.loop-argument.invariant ∙ ap (map string_bytes) (take_all c.loop-argument.argument-index c.args.arguments.now (omega arith))
