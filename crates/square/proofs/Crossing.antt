@@ -6,16 +6,23 @@ use Rattle.f2_matrix.proofs.Crossing.{Reduced-send, Reduced-sync}
 use Rattle.milnor_basis.proofs.Crossing.{Basis-send, Basis-sync}
 use Rattle.module_check.proofs.Crossing.{Module-send, Module-sync}
 use Rattle.start.proofs.Sent.{Start-send, Start-sync}
+use Rattle.square.specs.contracts.kernel.Kernel as Kernel
 use Rattle.square.specs.contracts.square.Square as Square
 use Rattle.square.specs.contracts.row.Row as Row
 use Rattle.square.specs.contracts.inputs.Inputs as Inputs
 use Rattle.square.specs.contracts.table.Table as Table
 
+Kernel-send : IsSend Kernel.the_row
+Kernel-send = search (crosses, sendable, BitVec-send, Reduced-send) depth 20
+
+Kernel-sync : IsSync Kernel.the_row
+Kernel-sync = search (crosses, sendable, BitVec-sync, Reduced-sync) depth 20
+
 pub Square-send : IsSend Square.the_row
-Square-send = search (crosses, sendable, BitVec-send, Reduced-send, Start-send) depth 20
+Square-send = search (crosses, sendable, BitVec-send, Reduced-send, Start-send) depth 30
 
 pub Square-sync : IsSync Square.the_row
-Square-sync = search (crosses, sendable, BitVec-sync, Reduced-sync, Start-sync) depth 20
+Square-sync = search (crosses, sendable, BitVec-sync, Reduced-sync, Start-sync) depth 30
 
 Row-send : IsSend Row.the_row
 Row-send = search (crosses, sendable, Square-send, Square-sync) depth 20

@@ -2,14 +2,17 @@
 use Rattle.std.proofs.Common.{◌≡◌, ◌↔◌, true, false, ℕ, zero, suc, ◌≤◌, ℤ, pos, ◌+ℤ◌, nat_eq, if◌then◌else◌, List, [], length, Option, Some, None, MatchOption, IfSome, IsSome, refl, sym, ◌∙◌, ap, subst, arith, inl, inr}
 use Rattle.std.proofs.lemmas.Bool.Decides.{eqb_tells}
 use Rattle.std.proofs.lemmas.List.{take_all, length-map}
+use Rattle.f2_matrix.specs.Echelon.{IsKernelBasis}
 use Rattle.f2_matrix.specs.Reduction.{Reduction}
+use Rattle.f2_matrix.proofs.Parts.{kernel_is_kernel_basis}
+use Rattle.f2_matrix.proofs.Unique.{kernel_basis_unique}
 use Rattle.free_module.specs.FreeModule.{free_basis}
 use Rattle.module_check.specs.Module.{bottom}
 use Rattle.module_check.specs.Checked.{Checked}
-use Rattle.resolution_laws.specs.Resolution.{Content, square_in, IsStep}
+use Rattle.resolution_laws.specs.Resolution.{Module, Content, square_in, IsStep}
 use Rattle.resolution_laws.specs.Start.{Entry, entry_at, HasShape, squares_below, row_below, IsOf, is_of}
 use Rattle.resolution_laws.proofs.StartLaws.{squares_below-take}
-use Rattle.square.specs.Squares.{Placed, module_over, degrees_with, AreUnder, IsQuasi, IsMeasured}
+use Rattle.square.specs.Squares.{Placed, module_over, degrees_with, target_width, square_matrix, AreUnder, IsQuasi, IsMeasured}
 use Rattle.square.specs.Tables.{Footing, IsFooting}
 
 below_list : Option (List Content) → List Content
@@ -98,6 +101,14 @@ made_square f c r h step quasi t degree =
       };
       where_made = kept_unread (entry_at f.start f.s f.above) r h.absent;
     }
+
+-- the kernel of a step is that of the reduction of its matrix
+pub kernel_of_reduction : (m : Module) (below : Option (List Content)) (squares : List Content) (c : Content) (r : Reduction) → IsStep m below squares c → IsQuasi m below squares c r → r.kernel ≡ c.kernel
+kernel_of_reduction m below squares c r step quasi =
+    let n = target_width m below squares in
+    let xs = square_matrix m below squares c in
+    let basis : IsKernelBasis n xs r.kernel = subst (IsKernelBasis n xs) (sym quasi.kernel) (kernel_is_kernel_basis n xs quasi.form quasi.widths quasi.is_form) in
+    kernel_basis_unique n xs r.kernel c.kernel basis step.kernel
 
 -- the same for the parts of a square
 pub IsMeasured-made : (f : Footing) (c : Content) (r : Reduction) (resolved : Checked) (start : List Entry) (s above : ℕ) (t : ℤ) (w v : ℕ) → IsFooting f → IsStep (module_over f.resolved.plain) f.below f.squares c → IsQuasi (module_over f.resolved.plain) f.below f.squares c r

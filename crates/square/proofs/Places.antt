@@ -3,15 +3,14 @@ use Rattle.std.proofs.Common.{◌≡◌, ℕ, zero, suc, ◌+◌, ◌<◌, ◌�
 use Rattle.std.specs.List.{slice_get}
 use Rattle.std.proofs.lemmas.Int.{ints}
 use Rattle.std.proofs.lemmas.List.{length-map, length-take-le, get_or-take, take-map}
-use Rattle.free_module.specs.FreeModule.{free_width}
 use Rattle.module_check.specs.Module.{bottom, width}
 use Rattle.module_check.specs.Checked.{Checked}
-use Rattle.resolution_laws.specs.Resolution.{Module, Content, square_in, row_of, below_of, degrees_from, IsStep}
+use Rattle.resolution_laws.specs.Resolution.{Content, square_in, row_of, below_of, degrees_from, IsStep}
 use Rattle.resolution_laws.specs.Start.{Entry, entry_at, HasShape, squares_below, row_below, IsOf, is_of}
-use Rattle.resolution_laws.proofs.StartLaws.{squares_below-take, length-squares_below, grown_content, entry_at-new}
+use Rattle.resolution_laws.proofs.StartLaws.{squares_below-take, grown_content, entry_at-new}
 use Rattle.square.specs.declared.range.TheConstants.{MAX_S, MAX_T}
 use Rattle.square.specs.Squares.{Placed, content_of, module_over, AreUnder, IsMeasured, target_width, source_width}
-use Rattle.square.specs.Tables.{Staircase, Footing, contents, row_in, plain_rows, content_at, row_width, under_row, AreOfRow, IsNext, IsTable, IsFooting, IsReadable}
+use Rattle.square.specs.Tables.{Staircase, Footing, contents, row_in, plain_rows, content_at, row_width, next_width, under_row, AreOfRow, IsNext, IsTable, IsFooting, IsReadable}
 use Rattle.square.proofs.RowWidths.{free_width-more, free_width-row}
 
 -- ---- rows
@@ -103,25 +102,9 @@ footing_in table h s k row degree next =
 
 -- ---- one square read more
 
-pub source_width-row : (m : Module) (squares wanted : List Content) (k : ℕ) (c : Content) → length wanted ≡ k → squares ≡ wanted → row_width squares k + length c.images ≡ source_width m wanted c
-source_width-row m squares wanted k c len same =
-    let u = m.bottom +ℤ pos (length wanted) in
-    let more = free_width-more (degrees_from m.bottom wanted) (length c.images) u in
-    let old : free_width (degrees_from m.bottom wanted) u ≡ row_width wanted k = free_width-row m.bottom wanted (length wanted) ∙ ap (row_width wanted) len in
-    let e = ap (λ x. row_width x k) same in
-    omega arith
-
-pub source_fits : (table : Staircase) (s k n limit : ℕ) (c : Content) → IsNext table.rows s k → n ≡ length c.images → source_width (module_over table.resolved.plain) (take k (row_of (plain_rows table.rows) s)) c < limit → row_width (take k (row_of (plain_rows table.rows) s)) k + n < limit
-source_fits table s k n limit c next count fits =
-    let end = next_length table.rows s k next in
-    let whole = length-row_of table.rows s in
-    let squares = take k (row_of (plain_rows table.rows) s) in
-    let same = source_width-row (module_over table.resolved.plain) squares squares k c (length-take-le k (row_of (plain_rows table.rows) s) (omega arith)) refl in
-    omega arith
-
 read_square : (table : Staircase) (s k : ℕ) (c : Content) → IsTable table → s ≤ MAX_S → k ≤ MAX_T → IsNext table.rows s k → HasShape (module_over table.resolved.plain) (below_of (plain_rows table.rows) s k) (take k (row_of (plain_rows table.rows) s)) c
     → (t : ℤ) → t ≡ bottom table.resolved.plain.generators +ℤ pos k
-    → IsMeasured (record { resolved = table.resolved; start = table.start ++ record { s = s; above = k; content = c } ∷ []; s = s; above = k; content = c; quasi = None }) t (target_width (module_over table.resolved.plain) (below_of (plain_rows table.rows) s k) (take k (row_of (plain_rows table.rows) s))) (row_width (take k (row_of (plain_rows table.rows) s)) k + length c.images)
+    → IsMeasured (record { resolved = table.resolved; start = table.start ++ record { s = s; above = k; content = c } ∷ []; s = s; above = k; content = c; quasi = None }) t (target_width (module_over table.resolved.plain) (below_of (plain_rows table.rows) s k) (take k (row_of (plain_rows table.rows) s))) (source_width (module_over table.resolved.plain) (take k (row_of (plain_rows table.rows) s)) c)
 read_square table s k c h row degree next shape t at_t =
     let m = module_over table.resolved.plain in
     let rows = plain_rows table.rows in
@@ -150,13 +133,13 @@ read_square table s k c h row degree next shape t at_t =
         kept = tt;
       };
       degree = at_t;
-      widths = record { at = at; under = grown; target = w; source = source_width-row m (take k (row_of rows s)) (squares_below at s k) k c (length-squares_below at s k) (sym before) };
+      widths = record { at = at; under = grown; target = w; source = ap (λ x. source_width m x c) (sym before) };
       where_made = (λ e. subst IsSome (sym new) refl, λ read. refl);
     }
 
 -- the same for the parts of a square
 pub IsMeasured-read : (table : Staircase) (s : ℕ) (t : ℤ) (c : Content) → IsTable table → IsReadable table s t c → (resolved : Checked) (start more : List Entry) (above : ℕ) (t' : ℤ) (w v : ℕ) → t ≡ bottom table.resolved.plain.generators +ℤ pos above → t' ≡ t → resolved ≡ table.resolved → start ≡ table.start → more ≡ start ++ record { s = s; above = above; content = c } ∷ []
-    → w ≡ target_width (module_over table.resolved.plain) (below_of (plain_rows table.rows) s above) (take above (row_of (plain_rows table.rows) s)) → v ≡ row_width (take above (row_of (plain_rows table.rows) s)) above + length c.images
+    → w ≡ target_width (module_over table.resolved.plain) (below_of (plain_rows table.rows) s above) (take above (row_of (plain_rows table.rows) s)) → v ≡ source_width (module_over table.resolved.plain) (take above (row_of (plain_rows table.rows) s)) c
     → IsMeasured (record { resolved = resolved; start = more; s = s; above = above; content = c; quasi = None }) t' w v
 IsMeasured-read table s t c h readable resolved start more above t' w v at_t e1 e2 e3 e4 e5 e6 =
     let m = module_over table.resolved.plain in
@@ -172,7 +155,7 @@ IsMeasured-read table s t c h readable resolved start more above t' w v at_t e1 
     let p : Placed = record { resolved = resolved; start = more; s = s; above = above; content = c; quasi = None } in
     let e : q ≡ p = cc in
     let wide = target_width m (below_of rows s above) (take above (row_of rows s)) in
-    let tall = row_width (take above (row_of rows s)) above + length c.images in
+    let tall = source_width m (take above (row_of rows s)) c in
     let R : Placed → Type 0 = λ x. IsMeasured x t' wide tall in
     let W : ℕ → Type 0 = λ n. IsMeasured p t' n tall in
     let V : ℕ → Type 0 = λ n. IsMeasured p t' w n in
@@ -226,6 +209,19 @@ target_width-above table s i k e next =
 
 pub target_width-read : (table : Staircase) (s k n : ℕ) (m : Checked) (t : ℤ) → n ≡ width m.plain.generators t → m ≡ table.resolved → t ≡ bottom table.resolved.plain.generators +ℤ pos k → s ≡ 0 → IsNext table.rows s k → n ≡ target_width (module_over table.resolved.plain) (below_of (plain_rows table.rows) s k) (take k (row_of (plain_rows table.rows) s))
 target_width-read table s k n m t e same at first next = e ∙ ap (λ (x : Checked). width x.plain.generators t) same ∙ target_width-first table s k t first next at
+
+-- the dimension of F_s in the same degree
+pub next_width-row : (table : Staircase) (s k count : ℕ) (row : List Placed) → row ≡ row_in table.rows s → IsNext table.rows s k → row_width (take k (contents row)) k + count ≡ next_width table s k count
+next_width-row table s k count row same next =
+    let m = module_over table.resolved.plain in
+    let end = next_length table.rows s k next in
+    let whole = length-row_of table.rows s in
+    let squares = take k (row_of (plain_rows table.rows) s) in
+    let held : take k (contents row) ≡ squares = ap (λ (x : List Placed). take k (contents x)) same ∙ ap (take k) (sym (row_of-plain table.rows s)) in
+    let len : length squares ≡ k = length-take-le k (row_of (plain_rows table.rows) s) (omega arith) in
+    let old = free_width-row m.bottom squares (length squares) ∙ ap (row_width squares) len ∙ ap (λ x. row_width x k) (sym held) in
+    let more = free_width-more (degrees_from m.bottom squares) count (m.bottom +ℤ pos (length squares)) in
+    omega arith
 
 -- a footing given by its parts
 pub IsFooting-same : (resolved resolved' : Checked) (start start' : List Entry) (s above : ℕ) (squares squares' : List Content) (below below' : Option (List Content)) → resolved' ≡ resolved → start' ≡ start → squares' ≡ squares → below' ≡ below → IsFooting (record { resolved = resolved; start = start; s = s; above = above; squares = squares; below = below }) → IsFooting (record { resolved = resolved'; start = start'; s = s; above = above; squares = squares'; below = below' })

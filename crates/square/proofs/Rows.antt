@@ -25,17 +25,17 @@ square_at_place f items squares i j x seen l same e =
     let there : slice_get items i ≡ Some x = slice_get_read items (length items) i x refl (omega arith) (e ∙ ap (λ k. get_or items k x) same) in
     square_in-contents squares i (f x) (ap (λ (row : List Placed). slice_get row i) (sym seen) ∙ slice_get-map f items i ∙ ap (option_map f) there)
 
--- the dimension with one square more
-pub record IsWider (squares : List Content) (i k w limit : ℕ) : Type 0 where
+-- the dimension with one square more, which is at most that of the first n
+pub record IsWider (squares : List Content) (n i k w : ℕ) : Type 0 where
   pub sum : w ≡ row_width (take (i + 1) squares) k
-  pub fits : w < limit
+  pub at_most : w ≤ row_width (take n squares) k
 
-pub one_wider : (squares : List Content) (n i k w g b limit : ℕ) → n ≤ length squares → i < n → n ≤ k + 1 → w ≡ row_width (take i squares) k → g ≡ length (square_in squares i).images → b ≡ length (basis_of (k - i)) → row_width (take n squares) k < limit → IsWider squares i k (w + g * b) limit
-one_wider squares n i k w g b limit within below degree e1 e2 e3 fits =
+pub one_wider : (squares : List Content) (n i k w g b : ℕ) → n ≤ length squares → i < n → n ≤ k + 1 → w ≡ row_width (take i squares) k → g ≡ length (square_in squares i).images → b ≡ length (basis_of (k - i)) → IsWider squares n i k (w + g * b)
+one_wider squares n i k w g b within below degree e1 e2 e3 =
     let more = row_width-more squares i k (omega arith) (omega arith) in
     let le = row_width-le squares (i + 1) n k (omega arith) in
     let product : g * b ≡ length (square_in squares i).images * length (basis_of (k - i)) = ap (λ x. x * b) e2 ∙ ap (λ x. length (square_in squares i).images * x) e3 in
-    record { sum = omega arith; fits = omega arith }
+    record { sum = omega arith; at_most = omega arith }
 
 -- the generators and the images with one square more
 pub generators_more : (b t : ℤ) (squares : List Content) (i count : ℕ) (gens wider : List ℤ) → i < length squares → t ≡ b +ℤ pos i → count ≡ length (square_in squares i).images → gens ≡ degrees_from b (take i squares) → wider ≡ gens ++ replicate count t → wider ≡ degrees_from b (take (i + 1) squares)

@@ -20,12 +20,16 @@ module_over m = record { bottom = bottom m.generators; graded = module_graded m 
 abbrev pub degrees_with : Module → List Content → Content → List ℤ
 degrees_with m squares content = degrees_from m.bottom squares ++ replicate (length content.images) (m.bottom +ℤ pos (length squares))
 
--- the dimensions, in the degree of the square, of what d_s goes to and of F_s with the new generators
+-- the dimensions, in the degree of the square, of what d_s goes to, of F_s with `count` new generators, and of F_s with those of
+-- a content
 abbrev pub target_width : Module → Option (List Content) → List Content → ℕ
 target_width m below squares = (target_over m below).width (m.bottom +ℤ pos (length squares))
 
+abbrev pub width_with : Module → List Content → ℕ → ℕ
+width_with m squares count = free_width (degrees_from m.bottom squares ++ replicate count (m.bottom +ℤ pos (length squares))) (m.bottom +ℤ pos (length squares))
+
 abbrev pub source_width : Module → List Content → Content → ℕ
-source_width m squares content = free_width (degrees_with m squares content) (m.bottom +ℤ pos (length squares))
+source_width m squares content = width_with m squares (length content.images)
 
 -- the matrix of d_s in the degree of the square, with the new generators, and its reduction
 abbrev pub square_matrix : Module → Option (List Content) → List Content → Content → List (List Bool)

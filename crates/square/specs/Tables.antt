@@ -8,7 +8,7 @@ use Rattle.resolution_laws.specs.Resolution.{Content, square_in, row_of, below_o
 use Rattle.resolution_laws.specs.Start.{Entry, entry_at, HasShape, IsOf}
 use Rattle.square.specs.declared.range.Range.{Range}
 use Rattle.square.specs.declared.range.TheConstants.{MAX_S, MAX_T}
-use Rattle.square.specs.Squares.{Placed, content_of, module_over, entry_of, target_width, source_width, WasRead, IsQuasi}
+use Rattle.square.specs.Squares.{Placed, content_of, module_over, entry_of, target_width, width_with, source_width, WasRead, IsQuasi}
 
 -- how many degrees t is above the bottom, none where it is below
 abbrev pub natural : ℤ → Option ℕ
@@ -84,6 +84,21 @@ pub record IsNextAt (table : Staircase) (s : ℕ) (t : ℤ) : Type 0 where
   pub row : s ≤ MAX_S
   pub within : above ≤ MAX_T
   pub next : IsNext table.rows s above
+
+-- the dimensions, k degrees above the bottom, of what d_s goes to and of F_s with `count` new generators, where the next square
+-- of row s is
+abbrev pub next_target_width : Staircase → ℕ → ℕ → ℕ
+next_target_width table s k = target_width (module_over table.resolved.plain) (below_of (plain_rows table.rows) s k) (take k (row_of (plain_rows table.rows) s))
+
+abbrev pub next_width : Staircase → ℕ → ℕ → ℕ → ℕ
+next_width table s k count = width_with (module_over table.resolved.plain) (take k (row_of (plain_rows table.rows) s)) count
+
+abbrev pub next_widths : Staircase → ℕ → ℕ → ℕ → ℕ × ℕ
+next_widths table s k count = (next_target_width table s k, next_width table s k count)
+
+-- both fit 64 bits
+abbrev pub FitWords : ℕ × ℕ → Type 0
+FitWords w = (w.0 < 2 ^ 64) × (w.1 < 2 ^ 64)
 
 -- A square of this content can have been read at (s, t): so far every square was, the content fits over those before it, and
 -- its dimensions fit 64 bits.

@@ -4,6 +4,7 @@
 mod below;
 mod inputs;
 mod keep;
+mod kernel;
 mod range;
 mod row;
 mod square;

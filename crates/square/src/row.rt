@@ -1,6 +1,5 @@
-ghost use Rattle.std.specs.Prelude.{◌≡◌, ◌≤◌, ◌<◌, ◌+◌, ◌-◌, ◌++◌, ◌^◌, ℕ, ◌≤ℤ◌, pos, negsuc, [], ◌∷◌, length, take, replicate, slice_get, option_map, IfOk, OnOk, OnErr, IsOk, IfErr};
+ghost use Rattle.std.specs.Prelude.{◌≡◌, ◌≤◌, ◌<◌, ◌+◌, ◌-◌, ◌++◌, ◌^◌, ◌≤ℤ◌, pos, negsuc, [], ◌∷◌, length, take, slice_get, option_map, SomeIff, IfOk, OnOk, OnErr, IsOk, IfErr};
 ghost use Rattle.std.specs.Arc.{arc_value};
-ghost use Rattle.free_module.specs.FreeModule.{degree_at};
 ghost use Rattle.resolution_laws.specs.Resolution.{degrees_from, images_of};
 ghost use Rattle.square.specs.declared.range.TheConstants.{MAX_T};
 ghost use Rattle.square.specs.Tables.{contents, row_width};
@@ -102,20 +101,21 @@ impl Row {
         Ok(row)
     }
 
-    /// The dimension, in degree `k` above the bottom, of the free module on the generators of the first `n` squares.
-    pub(crate) fn width(&self, basis: &Basis, n: u16, k: u16) -> u64
+    /// The dimension, in degree `k` above the bottom, of the free module on the generators of the first `n` squares, none where
+    /// it does not fit 64 bits.
+    pub(crate) fn width(&self, basis: &Basis, n: u16, k: u16) -> Option<u64>
         requires within { n ≤ length self.now.squares }
         requires degree { n ≤ k + 1 }
         requires basis { k ≤ basis.now }
-        requires fits { row_width (take n (contents self.now.squares)) k < 2 ^ 64 }
-        ensures { result ≡ row_width (take n (contents self.now.squares)) k }
+        ensures { SomeIff result (row_width (take n (contents self.now.squares)) k < 2 ^ 64) (row_width (take n (contents self.now.squares)) k) }
     {
-        let mut width = 0;
+        let mut width: u64 = 0;
         for i in 0..n {
-            let generators = self.squares[usize::from(i)].gens().len();
-            width += generators as u64 * basis.of_degree(k - i).len() as u64;
+            let generators = self.squares[usize::from(i)].gens().len() as u64;
+            let elements = basis.of_degree(k - i).len() as u64;
+            width = width.checked_add(generators.checked_mul(elements)?)?;
         }
-        width
+        Some(width)
     }
 
     /// The generators of the first `n` squares, the first of which is of degree `bottom`.
@@ -129,7 +129,7 @@ impl Row {
         let mut gens = Gens::new(alloc);
         for i in 0..n {
             let count = self.squares[usize::from(i)].gens().len();
-            gens = with_generators(gens, count, bottom + i32::from(i))?;
+            gens.push_many(count, bottom + i32::from(i))?;
         }
         Ok(gens)
     }
@@ -141,31 +141,8 @@ impl Row {
     {
         let mut images = Vec::new(alloc);
         for i in 0..n {
-            images = with_copies(alloc, images, self.squares[usize::from(i)].gens())?;
+            images.extend_with_clones(self.squares[usize::from(i)].gens())?;
         }
         Ok(images)
     }
-}
-
-/// The generators, with `count` more of this degree.
-fn with_generators(gens: Gens, count: usize, degree: i32) -> Result<Gens, Memory>
-    requires { (g : ℕ) → g < length gens → degree_at gens g ≤ℤ degree }
-    ensures { IfOk result (λ more. more ≡ gens ++ replicate count degree) }
-{
-    let mut more = gens;
-    for _ in 0..count {
-        more.push(degree)?;
-    }
-    Ok(more)
-}
-
-/// The vectors, with copies of `new` behind them.
-fn with_copies(alloc: Global, vectors: Vec<BitVec>, new: &[BitVec]) -> Result<Vec<BitVec>, Memory>
-    ensures { IfOk result (λ more. more.items ≡ vectors.items ++ new.now) }
-{
-    let mut more = vectors;
-    for vector in new {
-        more.push(vector.try_copy(alloc)?)?;
-    }
-    Ok(more)
 }

@@ -5,6 +5,7 @@ ghost use Rattle.square.specs.Squares.{module_over, entry_of, IsSquare, IsQuasi,
 ghost use Rattle.square.specs.Tables.{IsReadable};
 
 use crate::inputs::Inputs;
+use crate::kernel::Kernel;
 use crate::table::Table;
 use f2_matrix::Reduced;
 use f2_vec::BitVec;
@@ -23,8 +24,7 @@ pub struct Square {
     above: u16,
     t: i32,
     gens: Vec<BitVec>,
-    kernel: Vec<BitVec>,
-    quasi: Option<Reduced>,
+    kernel: Kernel,
     target_width: u64,
     width: u64,
 }
@@ -35,15 +35,16 @@ impl Model for Square {
     ghost Value = { Placed };
 
     ghost use Rattle.square.specs.Squares.{IsMeasured};
+    ghost use Rattle.square.specs.Inside.Kernel.{rows_of, quasi_of};
 
-    ghost view = { λ q. record { resolved = q.module.value; start = q.start; s = q.s; above = q.above; content = record { images = q.gens.items; kernel = q.kernel.items }; quasi = q.quasi } };
+    ghost view = { λ q. record { resolved = q.module.value; start = q.start; s = q.s; above = q.above; content = record { images = q.gens.items; kernel = rows_of q.kernel }; quasi = quasi_of q.kernel } };
 
-    ghost invariant = { λ q. IsMeasured (record { resolved = q.module.value; start = q.start; s = q.s; above = q.above; content = record { images = q.gens.items; kernel = q.kernel.items }; quasi = q.quasi }) q.t q.target_width q.width };
+    ghost invariant = { λ q. IsMeasured (record { resolved = q.module.value; start = q.start; s = q.s; above = q.above; content = record { images = q.gens.items; kernel = rows_of q.kernel }; quasi = quasi_of q.kernel }) q.t q.target_width q.width };
 }
 
 impl Square {
     /// The square that is made from these inputs. `quasi` is the reduction of the matrix of d_s in its degree, with the new
-    /// generators.
+    /// generators. The kernel is kept once, as a part of it.
     pub fn made(inputs: &Inputs, gens: Vec<BitVec>, kernel: Vec<BitVec>, quasi: Reduced) -> Square
         requires step { IsStep (module_over inputs.now.resolved.plain) inputs.now.below inputs.now.squares (record { images = gens.items; kernel = kernel.items }) }
         requires quasi { IsQuasi (module_over inputs.now.resolved.plain) inputs.now.below inputs.now.squares (record { images = gens.items; kernel = kernel.items }) quasi }
@@ -58,8 +59,7 @@ impl Square {
             above: inputs.above(),
             t: inputs.t(),
             gens,
-            kernel,
-            quasi: Some(quasi),
+            kernel: Kernel::Made(quasi),
             target_width,
             width,
         }
@@ -76,8 +76,10 @@ impl Square {
         ensures quasi { result.quasi ≡ None }
     {
         let above = table.above(t);
-        let target_width = table.target_width(s, above);
-        let width = table.width_with(s, above, gens.len());
+        let (target_width, width) = match table.next_widths(s, t, gens.len()) {
+            Some(widths) => widths,
+            None => unreachable!(),
+        };
         let start = table
             .start()
             .then(s, above, gens.as_slice(), kernel.as_slice());
@@ -88,8 +90,7 @@ impl Square {
             above,
             t,
             gens,
-            kernel,
-            quasi: None,
+            kernel: Kernel::Read(kernel),
             target_width,
             width,
         }
@@ -135,7 +136,7 @@ impl Square {
     pub fn kernel(&self) -> &[BitVec]
         ensures { result.now ≡ self.now.content.kernel }
     {
-        self.kernel.as_slice()
+        self.kernel.rows()
     }
 
     /// The reduction of the matrix of d_s in its degree, where it was made.
@@ -144,7 +145,7 @@ impl Square {
         ensures where_made { KeptWhereMade self.now }
         ensures is_square { IsSquare self.now }
     {
-        self.quasi.as_ref()
+        self.kernel.quasi()
     }
 
     /// The squares that were read up to it.

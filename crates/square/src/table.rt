@@ -1,4 +1,4 @@
-ghost use Rattle.std.specs.Prelude.{◌≡◌, ℕ, suc, ◌≤◌, ◌<◌, ◌+◌, ◌^◌, ◌+ℤ◌, ◌≤ℤ◌, pos, [], map, take, length, replicate, Some, option_map, IsSome, IfOk, IfErr, OnOk, OnErr, IsOk};
+ghost use Rattle.std.specs.Prelude.{◌≡◌, ℕ, suc, ◌≤◌, ◌<◌, ◌+◌, ◌^◌, ◌+ℤ◌, ◌≤ℤ◌, pos, [], map, take, length, replicate, Some, option_map, SomeIff, IsSome, IfOk, IfErr, OnOk, OnErr, IsOk};
 ghost use Rattle.std.specs.Arc.{arc_value};
 ghost use Rattle.module_check.specs.Module.{bottom};
 ghost use Rattle.f2_matrix.specs.Reduction.{IsReductionOf};
@@ -7,8 +7,8 @@ ghost use Rattle.free_module.specs.LinearMap.{AreImages, map_rows};
 ghost use Rattle.resolution_laws.specs.Resolution.{row_of, below_of, degrees_from, images_of, target_over};
 ghost use Rattle.square.specs.Below.{graded_of, reaches_of};
 ghost use Rattle.square.specs.declared.range.TheConstants.{MAX_S, MAX_T};
-ghost use Rattle.square.specs.Squares.{module_over, target_width, IsQuasi};
-ghost use Rattle.square.specs.Tables.{above_of, row_in, square_at, plain_rows, with_square, contents, under_row, row_width, content_at, IsNext, IsNextAt, IsContinued, IsQuasiAt, IsTable, HaveRoom};
+ghost use Rattle.square.specs.Squares.{module_over, IsQuasi};
+ghost use Rattle.square.specs.Tables.{above_of, row_in, square_at, plain_rows, with_square, contents, under_row, content_at, next_target_width, next_width, next_widths, FitWords, IsNext, IsNextAt, IsContinued, IsQuasiAt, IsTable, HaveRoom};
 
 use crate::below::Below;
 use crate::inputs::Inputs;
@@ -229,6 +229,18 @@ impl Table {
         Ok(Below::Row(gens))
     }
 
+    /// The dimensions, in degree `t`, of what d_s goes to and of F_s with `count` new generators, where the next square of row
+    /// `s` is. None where one of them does not fit 64 bits.
+    pub fn next_widths(&self, s: u16, t: i32, count: usize) -> Option<(u64, u64)>
+        requires { IsNextAt self.now s t }
+        ensures { (k : ℕ) → t ≡ bottom self.now.resolved.plain.generators +ℤ pos k → SomeIff result (FitWords (next_widths self.now s k count)) (next_widths self.now s k count) }
+    {
+        let above = self.above(t);
+        let target_width = self.target_width(s, above)?;
+        let width = self.width_with(s, above, count)?;
+        Some((target_width, width))
+    }
+
     /// The reduction of the matrix of d_s in degree `t`, with the generators of the square there: a copy of the one that the
     /// square kept, and else it is made again.
     ///
@@ -300,30 +312,31 @@ impl Table {
         }
     }
 
-    /// The dimension of what d_s goes to, `above` degrees above the bottom, where the next square of row `s` is.
-    pub(crate) fn target_width(&self, s: u16, above: u16) -> u64
+    /// The dimension of what d_s goes to, `above` degrees above the bottom, where the next square of row `s` is. None where it
+    /// does not fit 64 bits.
+    fn target_width(&self, s: u16, above: u16) -> Option<u64>
         requires s { s ≤ MAX_S }
         requires above { above ≤ MAX_T }
         requires next { IsNext self.now.rows s above }
-        requires fits { target_width (module_over self.now.resolved.plain) (below_of (plain_rows self.now.rows) s above) (take above (row_of (plain_rows self.now.rows) s)) < 2 ^ 64 }
-        ensures { result ≡ target_width (module_over self.now.resolved.plain) (below_of (plain_rows self.now.rows) s above) (take above (row_of (plain_rows self.now.rows) s)) }
+        ensures { SomeIff result (next_target_width self.now s above < 2 ^ 64) (next_target_width self.now s above) }
     {
         if s == 0 {
             let t = self.module().bottom() + i32::from(above);
-            return self.module().dim_in(t) as u64;
+            return Some(self.module().dim_in(t) as u64);
         }
         self.row(s - 1).width(self.basis(), above + 1, above)
     }
 
-    /// The dimension of F_s in the same degree, where the next square of row `s` has `count` new generators.
-    pub(crate) fn width_with(&self, s: u16, above: u16, count: usize) -> u64
+    /// The dimension of F_s in the same degree, where the next square of row `s` has `count` new generators. None where it does
+    /// not fit 64 bits.
+    fn width_with(&self, s: u16, above: u16, count: usize) -> Option<u64>
         requires s { s ≤ MAX_S }
         requires above { above ≤ MAX_T }
         requires next { IsNext self.now.rows s above }
-        requires fits { row_width (take above (row_of (plain_rows self.now.rows) s)) above + count < 2 ^ 64 }
-        ensures { result ≡ row_width (take above (row_of (plain_rows self.now.rows) s)) above + count }
+        ensures { SomeIff result (next_width self.now s above count < 2 ^ 64) (next_width self.now s above count) }
     {
-        self.row(s).width(self.basis(), above, above) + count as u64
+        let width = self.row(s).width(self.basis(), above, above)?;
+        width.checked_add(count as u64)
     }
 
     /// What a square in row `s`, `above` degrees above the bottom, stands on in the row below, and no square for row 0.

@@ -90,6 +90,30 @@ fn a_table_of_one_square(rt: HostRuntime) -> Result<(), Fail> {
     Ok(())
 }
 
+// A value that may go to any thread, and that any thread may share.
+fn crosses_threads<T: Send + Sync>(_value: &T) {}
+
+#[test]
+fn threads_may_share_squares(rt: HostRuntime) -> Result<(), Fail> {
+    let alloc = rt.alloc();
+    let table = Table::new(alloc, Module::sphere(alloc)?)?;
+    let inputs = table.inputs(alloc, 0, 0)?;
+    crosses_threads(table.module());
+    crosses_threads(&table);
+    crosses_threads(&inputs);
+    crosses_threads(&first_square(alloc, &inputs)?);
+    Ok(())
+}
+
+#[test]
+fn widths_of_the_first_square(rt: HostRuntime) -> Result<(), Fail> {
+    let alloc = rt.alloc();
+    let table = Table::new(alloc, Module::sphere(alloc)?)?;
+    assert_eq!(rt; table.next_widths(0, 0, 1), Some((1, 1)));
+    assert_eq!(rt; table.next_widths(0, 0, 3), Some((1, 3)));
+    Ok(())
+}
+
 #[test]
 fn keepers(rt: HostRuntime) -> Result<(), Fail> {
     let alloc = rt.alloc();

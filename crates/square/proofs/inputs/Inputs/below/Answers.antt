@@ -1,14 +1,11 @@
-use Rattle.std.proofs.Common.{◌≡◌, ◌+◌, ◌<◌, pos, ◌+ℤ◌, take, ◌∙◌, ap, sym, refl, arith}
+use Rattle.std.proofs.Common.{◌≡◌, ◌+◌, take, ◌∙◌, ap, sym, refl, arith}
 use Rattle.std.proofs.lemmas.Int.{ints}
-use Rattle.std.proofs.lemmas.List.{length-map}
-use Rattle.std.proofs.lemmas.Result.{IfOk-weaker}
 use Rattle.std.specs.Arc.{arc_value}
 use Rattle.module_check.specs.Module.{bottom}
 use Rattle.module_check.specs.Checked.{Checked}
-use Rattle.square.specs.Squares.{content_of}
 use Rattle.resolution_laws.proofs.Rows.{IsWithinReach-row}
 use Rattle.square.specs.Tables.{Footing, contents}
-use Rattle.square.proofs.Targets.{HasRow, row_held_below, row_target, module_target}
+use Rattle.square.proofs.Targets.{row_held_below, row_target, module_target}
 use Rattle.square.proofs.inputs.Inputs.below.Goals as goal
 
 pub returns-then-self-eq0-clause-graded : goal.returns-then-self-eq0-clause-graded

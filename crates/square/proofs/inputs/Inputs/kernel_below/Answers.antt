@@ -1,4 +1,4 @@
-use Rattle.std.proofs.Common.{◌≡◌, ◌<◌, option_map, ◌∙◌, ap, sym, refl, arith}
+use Rattle.std.proofs.Common.{option_map, ◌∙◌, ap, sym, refl, arith}
 use Rattle.std.specs.Arc.{arc_value}
 use Rattle.std.specs.List.{slice_get}
 use Rattle.square.specs.Squares.{Placed}

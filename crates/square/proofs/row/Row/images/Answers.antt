@@ -1,6 +1,7 @@
-use Rattle.std.proofs.Common.{◌≡◌, ℕ, take, ap, sym, subst, ◌∙◌, arith}
+use Rattle.std.proofs.Common.{◌≡◌, ◌++◌, ℕ, Bool, List, take, ap, sym, subst, ◌∙◌, arith}
 use Rattle.std.proofs.lemmas.List.{length-map}
 use Rattle.std.specs.Arc.{arc_value}
+use Rattle.std.specs.List.{each_same}
 use Rattle.resolution_laws.specs.Resolution.{Content, images_of}
 use Rattle.square.specs.Squares.{Placed, content_of}
 use Rattle.square.specs.Tables.{Shelf, contents}
@@ -11,8 +12,10 @@ pub loop-i-preserved : goal.loop-i-preserved
 loop-i-preserved c =
     let len = length-map c.args.self.now.squares content_of in
     let there = square_at_place arc_value c.self.inside.squares.items c.args.self.now.squares c.loop-i.i c.from.result c.index.result.now (ap (λ (r : Shelf). r.squares) c.self.view_is) (omega (arith, c.requires, c.loop-i-test.true)) c.from.ensures c.index.ensures in
-    let new = c.gens.ensures ∙ ap (λ (q : Placed). q.content.images) c.deref.ensures ∙ ap (λ (x : Content). x.images) (sym there) in
-    images_more (contents c.args.self.now.squares) c.loop-i.i c.loop-i.images.items c.in_ok-images.images.items c.gens.result.now (omega (arith, c.requires, c.loop-i-test.true)) new c.loop-i.invariant c.in_ok-images.ensures
+    let same = c.gens.ensures ∙ ap (λ (q : Placed). q.content.images) c.deref.ensures ∙ ap (λ (x : Content). x.images) (sym there) in
+    let clones = c.in_ok-extend_with_clones.ensures.items in
+    let put = clones.1 ∙ ap (λ (new : List (List Bool)). c.loop-i.images.items ++ new) (each_same c.gens.result.now clones.0 clones.2) in
+    images_more (contents c.args.self.now.squares) c.loop-i.i c.loop-i.images.items c.extend_with_clones.new.self.items c.gens.result.now (omega (arith, c.requires, c.loop-i-test.true)) same c.loop-i.invariant put
 
 pub returns : goal.returns
 returns c =

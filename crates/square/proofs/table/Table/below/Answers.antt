@@ -1,4 +1,4 @@
-use Rattle.std.proofs.Common.{◌≡◌, ◌+◌, ◌-◌, suc, ◌∙◌, ap, refl, arith}
+use Rattle.std.proofs.Common.{◌+◌, ◌-◌, ◌∙◌, ap, refl, arith}
 use Rattle.module_check.specs.Checked.{Checked}
 use Rattle.square.specs.Squares.{module_over}
 use Rattle.square.proofs.Matrices.{within_reach, first_target, upper_target}

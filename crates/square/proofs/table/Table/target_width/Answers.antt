@@ -1,4 +1,4 @@
-use Rattle.std.proofs.Common.{◌≡◌, ◌+◌, ◌-◌, List, take, ap, sym, ◌∙◌, arith}
+use Rattle.std.proofs.Common.{◌≡◌, ◌+◌, ◌-◌, ◌<◌, ◌^◌, ℕ, List, SomeIff, take, ap, subst, sym, ◌∙◌, arith}
 use Rattle.std.proofs.lemmas.Int.{ints}
 use Rattle.module_check.specs.Module.{bottom}
 use Rattle.module_check.specs.Checked.{Checked}
@@ -10,18 +10,13 @@ use Rattle.square.proofs.table.Table.target_width.Goals as goal
 pub returns-then-s-eq0 : goal.returns-then-s-eq0
 returns-then-s-eq0 c =
     let low : c.bottom.result ≡ bottom c.args.self.now.resolved.plain.generators = c.bottom.ensures.bottom ∙ ap (λ (m : Checked). bottom m.plain.generators) c.module.ensures in
-    target_width-read c.args.self.now c.args.s c.args.above c.dim_in.result c.module-then-s-eq0.result.now _ c.dim_in.ensures c.module-then-s-eq0.ensures (omega (arith, ints, c.bottom.ensures.lowest, c.bottom.ensures.highest, c.requires.above)) c.if-s-eq0.true c.requires.next
-
-pub width-requires-clause-fits : goal.width-requires-clause-fits
-width-requires-clause-fits c =
-    let some = c.if-s-eq0.false in
-    let e = target_width-above c.args.self.now c.args.s (c.args.s - 1) c.args.above (omega arith) c.requires.next in
-    let same = ap (λ (x : List Placed). row_width (take (c.args.above + 1) (contents x)) c.args.above) c.row.ensures.row in
-    omega (arith, c.requires.fits)
+    let is = target_width-read c.args.self.now c.args.s c.args.above c.dim_in.result c.module-then-s-eq0.result.now _ c.dim_in.ensures c.module-then-s-eq0.ensures (omega (arith, ints, c.bottom.ensures.lowest, c.bottom.ensures.highest, c.requires.above)) c.if-s-eq0.true c.requires.next in
+    let word = c.dim_in.type_inv in
+    (omega arith, is)
 
 pub returns : goal.returns
 returns c =
     let some = c.if-s-eq0.false in
     let e = target_width-above c.args.self.now c.args.s (c.args.s - 1) c.args.above (omega arith) c.requires.next in
     let same = ap (λ (x : List Placed). row_width (take (c.args.above + 1) (contents x)) c.args.above) c.row.ensures.row in
-    c.width.ensures ∙ same ∙ sym e
+    subst (λ (n : ℕ). SomeIff c.width.result (n < 2 ^ 64) n) (same ∙ sym e) c.width.ensures
