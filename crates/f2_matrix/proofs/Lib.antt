@@ -1,14 +1,15 @@
 mod RowOperations
-mod Elimination
+pub mod Elimination
 mod BlockSteps
 mod BlockSums
 mod BlockParts
 pub mod Unique
-mod Split
-mod Kept
+pub mod Split
+pub mod Kept
 pub mod Parts
-mod Pivots
-mod Preimages
+pub mod Pivots
+pub mod Preimages
 pub mod Eliminate
 pub mod Spanning
 pub mod Crossing
+pub mod Choice

@@ -8,7 +8,7 @@ use Rattle.free_module.specs.Graded.{KeepsWidths}
 use Rattle.free_module.specs.LinearMap.{map_rows}
 use Rattle.free_module.proofs.MapRows.{HaveWidth-map_rows}
 use Rattle.resolution_laws.specs.Resolution.{Module, Content, degrees_from, images_of, target_over, candidates_over, IsChosen, IsStepOver}
-use Rattle.resolution_laws.proofs.Choice.{IsChoice, IsChoice-drop_at, IsChoice-keep_at}
+use Rattle.f2_matrix.proofs.Choice.{IsChoice, IsChoice-drop_at, IsChoice-keep_at}
 use Rattle.resolution_laws.proofs.NewGenerators.{HaveWidth-IsChosen}
 use Rattle.resolution_laws.proofs.Rows.{AreImages-more}
 use Rattle.resolution_existence.specs.Existence.{ChoiceExists, StepExists}

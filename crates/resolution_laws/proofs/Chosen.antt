@@ -9,7 +9,7 @@ use Rattle.f2_vec.specs.Spans.{row, HaveWidth, combination, IsInSpan, IsInKernel
 use Rattle.f2_vec.proofs.Sums.{length-zeros, sum_of-cancel, sum_of-zeros_right}
 use Rattle.f2_vec.proofs.Spans.{HaveWidth-append, HaveWidth-head, HaveWidth-tail, length-combination, combination-zeros, combination-append, zeros-IsInSpan, sum-IsInSpan, row-IsInSpan, span_within}
 use Rattle.resolution_laws.specs.Resolution.{IsChosen}
-use Rattle.resolution_laws.proofs.Choice.{HaveWidth-push, IsInSpan-push, last-IsInSpan, each_row_push}
+use Rattle.f2_matrix.proofs.Choice.{HaveWidth-push, IsInSpan-push, last-IsInSpan, each_row_push}
 use Rattle.resolution_laws.proofs.NewGenerators.{HaveWidth-items_where_true, HaveWidth-IsChosen}
 
 -- the rows of two lists are in the span of both

@@ -1,4 +1,3 @@
-pub mod Choice
 mod Chosen
 pub mod Complex
 mod Exact

@@ -1,10 +1,10 @@
 -- Bruner's minimal resolution (Calculation of large Ext modules, 1989): free modules F_0, F_1, .. with maps d_s from F_s
 -- to F_(s-1), and d_0 to the module, made square by square. The square (s, k) stands for F_s in degree bottom + k.
-use Rattle.std.specs.Prelude.{◌≡◌, ℕ, zero, suc, ◌+◌, ◌<◌, ◌≤◌, ◌↔◌, ℤ, pos, ◌+ℤ◌, Bool, false, Option, Some, None, List, [], ◌∷◌, ◌++◌, length, take, replicate, slice_index_or}
-use Rattle.std.specs.List.{flat_map, items_where_true}
-use Rattle.f2_vec.specs.Vectors.{bit}
-use Rattle.f2_vec.specs.Spans.{row, unit_vectors, IsInSpan}
+use Rattle.std.specs.Prelude.{◌≡◌, ℕ, zero, suc, ◌+◌, ◌≤◌, ℤ, pos, ◌+ℤ◌, Bool, Option, Some, None, List, [], ◌∷◌, ◌++◌, length, take, replicate, slice_index_or}
+use Rattle.std.specs.List.{flat_map}
+use Rattle.f2_vec.specs.Spans.{unit_vectors}
 use Rattle.f2_matrix.specs.Echelon.{IsKernelBasis}
+pub use Rattle.f2_matrix.specs.Choice.{IsChosen}
 use Rattle.free_module.specs.Graded.{GradedModule, free_graded}
 use Rattle.free_module.specs.LinearMap.{map_rows}
 
@@ -42,13 +42,6 @@ target_over m (Some below) = free_graded (degrees_from m.bottom below)
 abbrev pub candidates_over : Module → Option (List Content) → ℕ → List (List Bool)
 candidates_over m None k = unit_vectors (m.graded.width (m.bottom +ℤ pos k))
 candidates_over m (Some below) k = (square_in below k).kernel
-
--- chosen are the candidates, in order, without each that lies in the span of old and the candidates before it
-pub record IsChosen (n : ℕ) (old candidates chosen : List (List Bool)) : Type 0 where
-  pub kept : List Bool
-  pub one_each : length kept ≡ length candidates
-  pub dropped : (i : ℕ) → i < length candidates → (bit kept i ≡ false) ↔ IsInSpan n (old ++ take i candidates) (row candidates i)
-  pub chosen_are : chosen ≡ items_where_true kept candidates
 
 -- The step in degree t: over generators of these degrees and images, all below degree t, the candidates give the
 -- new generators, which stand last in the basis, and with them the kernel.

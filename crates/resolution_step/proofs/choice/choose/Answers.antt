@@ -3,7 +3,7 @@ use Rattle.std.proofs.lemmas.List.{get_or_read}
 use Rattle.std.proofs.lemmas.Bool.{false≢true}
 use Rattle.f2_vec.specs.Spans.{row, IsInSpan}
 use Rattle.f2_matrix.specs.Reduction.{IsReductionOf}
-use Rattle.resolution_laws.proofs.Choice.{IsChoosing-drop, IsChoosing-keep, IsChosen_from_IsChoosing, IsKernelBasis_from_IsChoosing}
+use Rattle.f2_matrix.proofs.Choice.{IsChoosing-drop, IsChoosing-keep, IsChosen_from_IsChoosing, IsKernelBasis_from_IsChoosing}
 use Rattle.resolution_step.proofs.choice.choose.Goals as goal
 use Rattle.resolution_step.proofs.choice.choose.Goals.{then-not-inside+in_ok-try_copy+in_ok-push_row+in_ok-reduced-2+in_ok-try_copy-2+in_ok-push, else-not-inside}
 

@@ -1,5 +1,5 @@
 use Rattle.f2_matrix.specs.Reduction.{IsReductionOf}
-use Rattle.resolution_laws.proofs.Choice.{IsChoosing}
+use Rattle.f2_matrix.proofs.Choice.{IsChoosing}
 use Rattle.resolution_step.proofs.choice.choose.Given as goal
 
 abbrev pub invariant-loop-candidate : goal.invariant-loop-candidate

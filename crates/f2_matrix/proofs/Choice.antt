@@ -1,6 +1,5 @@
 -- The choice of candidates, one candidate more at a time.
 use Rattle.std.proofs.Common.{◌≡◌, ◌↔◌, ◌⊎◌, inl, inr, ℕ, ◌+◌, ◌<◌, ◌≤◌, Bool, true, false, if◌then◌else◌, List, [], ◌∷◌, ◌++◌, length, take, refl, sym, ◌∙◌, ap, subst, arith}
-use Rattle.std.specs.List.{items_where_true}
 use Rattle.std.proofs.lemmas.List.{append-nil, append_assoc, get_or_append_left, get_or_push, length_push, take-append-le, take_at, take_all, take_more}
 use Rattle.std.proofs.lemmas.Bool.{cases_lt, true≢false}
 use Rattle.f2_vec.specs.Spans.{row, HaveWidth, IsInSpan, HaveSameSpan}
@@ -8,7 +7,7 @@ use Rattle.f2_vec.proofs.Spans.{HaveWidth-append, HaveWidth-cons, HaveWidth-nil,
 use Rattle.f2_vec.proofs.Ones.{items_where_true-push}
 use Rattle.f2_matrix.specs.Echelon.{IsRowBasis, IsKernelBasis}
 use Rattle.f2_matrix.specs.Reduction.{Rows, Reduction}
-use Rattle.resolution_laws.specs.Resolution.{IsChosen}
+use Rattle.f2_matrix.specs.Choice.{IsChosen}
 
 -- an index below the length of a list with one more item is below the list's length, or is that length
 below_push : {X : Type 0} (xs : List X) (x : X) (i : ℕ) → i < length (xs ++ x ∷ []) → (i < length xs) ⊎ (i ≡ length xs)
