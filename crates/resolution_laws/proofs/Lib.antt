@@ -1,4 +1,5 @@
 mod Chosen
+mod Covered
 pub mod Complex
 mod Exact
 pub mod Generators

@@ -1,3 +1,4 @@
 pub mod Resolution
 pub mod Start
 pub mod Exactness
+pub mod Covered

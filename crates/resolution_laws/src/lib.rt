@@ -2,6 +2,7 @@
 //! nothing.
 #![tactic(auto)]
 
+ghost use Rattle.resolution_laws.specs.Covered.{MadeRowsAreCovered};
 ghost use Rattle.resolution_laws.specs.Exactness.{CanonicalTableIsMinimalResolution};
 ghost use Rattle.resolution_laws.specs.Resolution.{CanonicalTableIsUnique};
 ghost use Rattle.resolution_laws.specs.Start.{
@@ -53,5 +54,14 @@ pub fn canonical_start_is_canonical()
 pub fn empty_start_is_canonical()
     ensures { EmptyStartIsCanonical }
 {
+    f2_matrix::kernel_basis_is_unique();
+}
+
+/// In a row above row 0, where no square of the row and of the one below it was read, each row of the matrix of d_s in the
+/// degree of the next square is a sum of the candidates there.
+pub fn made_rows_are_covered()
+    ensures { MadeRowsAreCovered }
+{
+    milnor_laws::linear_maps();
     f2_matrix::kernel_basis_is_unique();
 }
