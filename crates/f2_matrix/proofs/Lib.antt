@@ -10,6 +10,7 @@ pub mod Parts
 pub mod Pivots
 pub mod Preimages
 pub mod Eliminate
+pub mod FromParts
 pub mod Spanning
 pub mod Crossing
 pub mod Choice

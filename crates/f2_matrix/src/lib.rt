@@ -7,6 +7,7 @@ mod laws;
 mod matrix;
 mod rank;
 mod reduced;
+mod rows;
 mod scratch;
 #[cfg(test)]
 mod tests;
@@ -20,4 +21,5 @@ pub use laws::{
 pub use matrix::Matrix;
 pub use rank::spanning_rows_are_full;
 pub use reduced::Reduced;
+pub use rows::Rows;
 pub use scratch::Scratch;

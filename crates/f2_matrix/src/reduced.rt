@@ -1,12 +1,14 @@
 //! What is kept of the reduction of a matrix, and the questions that it answers.
-ghost use Rattle.std.specs.Prelude.{◌≡◌, ◌↔◌, ◌+◌, ◌≤◌, [], ◌∷◌, ◌++◌, length, IsTrue, IsSome, IfSome, IfOk, OnOk};
-ghost use Rattle.f2_vec.specs.Vectors.{bit, IsZero};
-ghost use Rattle.f2_vec.specs.Spans.{HaveWidth, IsInSpan};
-ghost use Rattle.f2_matrix.specs.Echelon.{IsEchelonForm, IsRowBasis, IsKernelBasis};
+ghost use Rattle.std.specs.Prelude.{◌≡◌, ℕ, ◌<◌, map, slice_index_or, ◌↔◌, ◌+◌, ◌≤◌, [], ◌∷◌, ◌++◌, length, IsTrue, IsSome, IfSome, IfOk, OnOk};
+ghost use Rattle.f2_vec.specs.Vectors.{sum_of, bit, IsZero};
+ghost use Rattle.f2_vec.specs.Spans.{HaveWidth, combination, IsInSpan};
+ghost use Rattle.f2_matrix.specs.Echelon.{IsReduced, HasNoZeroRow, IsEchelonForm, IsRowBasis, IsKernelBasis};
 ghost use Rattle.f2_matrix.specs.Reduction.{augmented, image_part, chosen_part, kernel_part, IsReductionOf};
-ghost use Rattle.f2_matrix.specs.Preimages.{IsPreimageUnder, ArePreimages, pivot_of, quasi_of};
+ghost use Rattle.f2_matrix.specs.Inside.Parts.{rest_of};
+ghost use Rattle.f2_matrix.specs.Preimages.{IsPreimageUnder, ArePreimages, quasi_of};
 
 use crate::matrix::Matrix;
+use crate::rows::Rows;
 use crate::scratch::Scratch;
 use f2_vec::BitVec;
 use memory::Memory;
@@ -19,9 +21,9 @@ use std::marker::Model;
 pub struct Reduced {
     cols: usize,
     height: usize,
-    image: Vec<BitVec>,
+    image: Rows,
     chosen: Vec<BitVec>,
-    kernel: Vec<BitVec>,
+    kernel: Rows,
 }
 
 impl Model for Reduced {
@@ -30,9 +32,9 @@ impl Model for Reduced {
 
     ghost Value = { Reduction };
 
-    ghost view = { λ r. record { cols = r.cols; height = r.height; image = r.image.items; chosen = r.chosen.items; kernel = r.kernel.items } };
+    ghost view = { λ r. record { cols = r.cols; height = r.height; image = r.image; chosen = r.chosen.items; kernel = r.kernel } };
 
-    ghost invariant = { λ r. AreParts r.cols r.height r.image.items r.chosen.items r.kernel.items };
+    ghost invariant = { λ r. AreParts r.cols r.height r.image r.chosen.items r.kernel };
 }
 
 impl Reduced {
@@ -49,6 +51,32 @@ impl Reduced {
         let mut scratch = Scratch::new(alloc, form.cols())?;
         form.reduce_with(&mut scratch);
         parts_of(alloc, matrix, &form)
+    }
+
+    /// The reduction with these parts, of a matrix with `height` rows of length `cols`: the echelon rows of their span, a
+    /// chosen preimage for each, and the echelon rows of the kernel. Nothing is reduced.
+    pub fn from_parts(
+        cols: usize,
+        height: usize,
+        image: Rows,
+        chosen: Vec<BitVec>,
+        kernel: Rows,
+    ) -> Reduced
+        requires image { HaveWidth cols image }
+        requires reduced { IsReduced image }
+        requires nonzero { HasNoZeroRow image }
+        requires chosen { HaveWidth height chosen.items }
+        requires as_many { length chosen.items ≡ length image }
+        requires kernel { HaveWidth height kernel }
+        ensures { result ≡ record { cols = cols; height = height; image = image; chosen = chosen.items; kernel = kernel } }
+    {
+        Reduced {
+            cols,
+            height,
+            image,
+            chosen,
+            kernel,
+        }
     }
 
     /// The length of the matrix's rows.
@@ -91,13 +119,30 @@ impl Reduced {
         self.kernel.as_slice()
     }
 
+    /// The image rows, to be shared.
+    pub fn image_rows(&self) -> &Rows
+        ensures rows { result.now ≡ self.now.image }
+        ensures widths { HaveWidth self.now.cols self.now.image }
+        ensures reduced { IsReduced self.now.image }
+        ensures nonzero { HasNoZeroRow self.now.image }
+    {
+        &self.image
+    }
+
+    /// The kernel rows, to be shared.
+    pub fn kernel_rows(&self) -> &Rows
+        ensures rows { result.now ≡ self.now.kernel }
+        ensures widths { HaveWidth self.now.height self.now.kernel }
+    {
+        &self.kernel
+    }
+
     /// Whether `v` is a sum of rows of the matrix.
     pub fn contains(&self, alloc: Global, v: &BitVec) -> Result<bool, Memory>
         requires { length v.now ≡ self.now.cols }
         ensures { IfOk result (λ inside. IsTrue inside ↔ IsInSpan self.now.cols self.now.image v.now) }
     {
-        let cleared = self.clear_pivots(alloc, v)?;
-        Ok(cleared.rest.is_zero())
+        Ok(self.rest(alloc, v)?.is_zero())
     }
 
     /// The preimage of `v`: the coefficients, one for each row of the matrix, that give `v` and are zero at the
@@ -108,12 +153,10 @@ impl Reduced {
         ensures preimage { IfOk result (λ found. IfSome found (IsPreimageUnder self.now v.now)) }
         ensures quasi { IfOk result (λ found. IfSome found (λ c. c ≡ quasi_of self.now.height self.now.image self.now.chosen v.now)) }
     {
-        let cleared = self.clear_pivots(alloc, v)?;
-        if cleared.rest.is_zero() {
-            Ok(Some(cleared.quasi))
-        } else {
-            Ok(None)
+        if !self.contains(alloc, v)? {
+            return Ok(None);
         }
+        Ok(Some(self.quasi(alloc, v)?))
     }
 
     /// The quasi-inverse at `v`, on every vector: the sum of the chosen preimages of those image rows at whose
@@ -124,17 +167,18 @@ impl Reduced {
         ensures length { IfOk result (λ c. length c ≡ self.now.height) }
         ensures preimage { IfOk result (λ c. IsInSpan self.now.cols self.now.image v.now → IsPreimageUnder self.now v.now c) }
     {
-        let cleared = self.clear_pivots(alloc, v)?;
-        Ok(cleared.quasi)
+        let mut quasi = BitVec::zero(alloc, self.height)?;
+        add_at_pivots(&mut quasi, v, self.image.pivots(), self.chosen.as_slice());
+        Ok(quasi)
     }
 
-    /// The same reduction.
+    /// The same reduction. Its image and kernel rows are shared, not copied.
     pub fn try_copy(&self, alloc: Global) -> Result<Reduced, Memory>
         ensures { IfOk result (λ copy. copy ≡ self.now) }
     {
-        let image = Vec::from_clones(alloc, self.image.as_slice())?;
         let chosen = Vec::from_clones(alloc, self.chosen.as_slice())?;
-        let kernel = Vec::from_clones(alloc, self.kernel.as_slice())?;
+        let image = self.image.share()?;
+        let kernel = self.kernel.share()?;
         Ok(Reduced {
             cols: self.cols,
             height: self.height,
@@ -144,33 +188,30 @@ impl Reduced {
         })
     }
 
-    /// Clears the ones of `v` at the pivots of the image rows: something is left just where `v` is outside their span.
-    fn clear_pivots(&self, alloc: Global, v: &BitVec) -> Result<Cleared, Memory>
+    /// `v` with its ones at the pivots of the image rows cleared: something is left just where `v` is outside their span.
+    fn rest(&self, alloc: Global, v: &BitVec) -> Result<BitVec, Memory>
         requires { length v.now ≡ self.now.cols }
-        ensures rest { IfOk result (λ cleared. IsZero cleared.rest ↔ IsInSpan self.now.cols self.now.image v.now) }
-        ensures quasi { IfOk result (λ cleared. cleared.quasi ≡ quasi_of self.now.height self.now.image self.now.chosen v.now) }
-        ensures length { IfOk result (λ cleared. length cleared.quasi ≡ self.now.height) }
+        ensures rest { IfOk result (λ rest. rest ≡ rest_of self.now.cols self.now.image v.now) }
+        ensures zero { IfOk result (λ rest. IsZero rest ↔ IsInSpan self.now.cols self.now.image v.now) }
     {
         let mut rest = v.try_copy(alloc)?;
-        let mut quasi = BitVec::zero(alloc, self.height)?;
-        for i in 0..self.image.len() {
-            let row = &self.image[i];
-            if has_pivot(v, row) {
-                rest.xor_with(row);
-                quasi.xor_with(&self.chosen[i]);
-            }
-        }
-        Ok(Cleared { rest, quasi })
+        add_at_pivots(&mut rest, v, self.image.pivots(), self.image.as_slice());
+        Ok(rest)
     }
 }
 
-/// A vector with its ones at the pivots of the image rows cleared.
-#[derive(Drop)]
-struct Cleared {
-    /// the vector plus those image rows at whose pivots it has a 1
-    rest: BitVec,
-    /// the sum of the chosen preimages of these rows
-    quasi: BitVec,
+/// Adds to `sum` those of the rows at whose pivots `v` has a 1.
+fn add_at_pivots(sum: &mut BitVec, v: &BitVec, pivots: &[usize], rows: &[BitVec])
+    requires as_many { length rows.now ≡ length pivots.now }
+    requires within { (i : ℕ) → i < length pivots.now → slice_index_or pivots.now i 0 < length v.now }
+    requires widths { HaveWidth (length sum.old) rows.now }
+    ensures { sum.new ≡ sum_of sum.old (combination (length sum.old) (map (bit v.now) pivots.now) rows.now) }
+{
+    for i in 0..pivots.len() {
+        if v.get(pivots[i]) {
+            sum.xor_with(&rows[i]);
+        }
+    }
 }
 
 /// Keeps of the echelon form of [D | I], D the matrix, both parts where there is a 1 left of the bar, and else
@@ -191,6 +232,8 @@ fn parts_of(alloc: Global, matrix: &Matrix, form: &Matrix) -> Result<Reduced, Me
     for row in form.rows() {
         keep_part(alloc, cols, row, &mut image, &mut chosen, &mut kernel)?;
     }
+    let image = Rows::of(alloc, image)?;
+    let kernel = Rows::of(alloc, kernel)?;
     Ok(Reduced {
         cols,
         height,
@@ -224,15 +267,4 @@ fn keep_part(
         None => {}
     }
     Ok(())
-}
-
-/// Whether the vector has a 1 at the row's pivot.
-fn has_pivot(vector: &BitVec, row: &BitVec) -> bool
-    requires { length vector.now ≡ length row.now }
-    ensures { result ≡ bit vector.now (pivot_of row.now) }
-{
-    match row.first_one() {
-        Some(pivot) => vector.get(pivot),
-        None => false,
-    }
 }

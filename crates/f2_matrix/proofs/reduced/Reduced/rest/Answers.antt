@@ -1,0 +1,30 @@
+use Rattle.std.proofs.Common.{◌≡◌, ◌<◌, length, get_or, ap, sym, subst, ◌∙◌}
+use Rattle.f2_vec.specs.Vectors.{IsZero}
+use Rattle.f2_vec.specs.Spans.{HaveWidth}
+use Rattle.f2_matrix.specs.Echelon.{IsReduced, HasNoZeroRow}
+use Rattle.f2_matrix.specs.Inside.Parts.{rest_of}
+use Rattle.f2_matrix.proofs.Pivots.{pivots_within, rest_is, zero_left, span_left}
+use Rattle.f2_matrix.proofs.reduced.Reduced.rest.Goals as goal
+
+pub add_at_pivots-requires-clause-within : goal.add_at_pivots-requires-clause-within
+add_at_pivots-requires-clause-within c = λ i l.
+    let width : length c.args.v.now ≡ c.self.inside.cols = c.requires ∙ ap (λ r. r.cols) (sym c.self.view_is) in
+    subst (λ n. get_or c.pivots.result.now i 0 < n) (sym width) (pivots_within c.self.inside.cols c.self.inside.image c.pivots.result.now i c.self.invariant.image_widths c.self.invariant.nonzero c.pivots.ensures l)
+
+pub returns-clause-rest : goal.returns-clause-rest
+returns-clause-rest c =
+    let width : length c.args.v.now ≡ c.self.inside.cols = c.requires ∙ ap (λ r. r.cols) (sym c.self.view_is) in
+    rest_is c.self.inside.cols c.self.inside.image c.as_slice.result.now c.pivots.result.now c.args.v.now c.in_ok-rest.rest c.add_at_pivots.new.sum width c.in_ok-rest.ensures c.pivots.ensures c.as_slice.ensures c.add_at_pivots.ensures
+    ∙ ap (λ r. rest_of r.cols r.image c.args.v.now) c.self.view_is
+
+pub returns-clause-zero : goal.returns-clause-zero
+returns-clause-zero c =
+    let self = c.args.self.now in
+    let v = c.args.v.now in
+    let widths = subst (λ r. HaveWidth r.cols r.image) c.self.view_is c.self.invariant.image_widths in
+    let reduced = subst (λ r. IsReduced r.image) c.self.view_is c.self.invariant.reduced in
+    let nonzero = subst (λ r. HasNoZeroRow r.image) c.self.view_is c.self.invariant.nonzero in
+    let is : c.add_at_pivots.new.sum ≡ rest_of self.cols self.image v = returns-clause-rest c in (
+      λ z. zero_left self.cols self.image v widths c.requires (subst IsZero is z),
+      λ s. subst IsZero (sym is) (span_left self.cols self.image v widths reduced nonzero c.requires s),
+    )
