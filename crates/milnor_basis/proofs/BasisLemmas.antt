@@ -3,9 +3,8 @@ use Rattle.std.proofs.Common.{◌≡◌, ℕ, zero, suc, ◌+◌, ◌-◌, ◌*�
 use Rattle.std.proofs.Math.Nat.{pow-le-pow_right, div-eq_of_lt}
 use Rattle.std.specs.List.{flat_map, range_with_len, All, AllPairs, Contains}
 use Rattle.std.proofs.lemmas.Bool.{cases_lt}
-use Rattle.std.proofs.lemmas.List.{map-id, append-nil, append_assoc, drop-set, flat_map_more, map-append, length_push, length-take-le, take_all, take_more, get_or_push, get_or_append_left, get_or-append_right}
+use Rattle.std.proofs.lemmas.List.{append-nil, append_assoc, drop-set, flat_map_more, map-append, length_push, length-take-le, take_all, take_more, get_or_push, get_or_append_left, get_or-append_right}
 use Rattle.std.proofs.lemmas.List.Elements.{All-nil, All-cons, All-map, All-weaker, All-contains}
-use Rattle.std.proofs.lemmas.List.FromFn.{map-range_with_len_more}
 use Rattle.std.proofs.lemmas.Nat.{mul-le, le-div, div-add-mod'}
 use Rattle.milnor_basis.specs.Exponents.{entry, degree_of, put_before, trimmed, IsTrimmed, IsRightLexBelow}
 use Rattle.milnor_basis.specs.Basis.{lists_of, basis_of, BasisIsMilnors}
@@ -37,7 +36,7 @@ placed-front rest r (front ∷ fronts) =
     cc (ap trimmed here, placed-front rest r fronts)
 
 -- the definition of `lists_of`, with the exponents that are given behind it
-placed-suc : (k n : ℕ) (rest : List ℕ) → placed (suc k) n rest ≡ flat_map (λ r. placed k (n - r * (2 ^ suc k - 1)) (r ∷ rest)) (range_with_len 0 (n / (2 ^ suc k - 1) + 1))
+pub placed-suc : (k n : ℕ) (rest : List ℕ) → placed (suc k) n rest ≡ flat_map (λ r. placed k (n - r * (2 ^ suc k - 1)) (r ∷ rest)) (range_with_len 0 (n / (2 ^ suc k - 1) + 1))
 placed-suc k n rest =
     map-flat_map (λ front. trimmed (front ++ rest)) (λ r. map (λ front. front ++ r ∷ []) (lists_of k (n - r * (2 ^ suc k - 1)))) (range_with_len 0 (n / (2 ^ suc k - 1) + 1))
     ∙ flat_map_agree _ _ (λ r. placed-front rest r (lists_of k (n - r * (2 ^ suc k - 1)))) (range_with_len 0 (n / (2 ^ suc k - 1) + 1))
@@ -58,6 +57,25 @@ pub drop_set_back : (numbers : List ℕ) (k r : ℕ) → 0 < k → k ≤ length 
 drop_set_back numbers k r h w =
     let back : k - 1 + 1 ≡ k = omega arith in
     drop-set numbers (k - 1) r (omega arith) ∙ ap (λ j. r ∷ drop j numbers) back
+
+-- A single exponent is the degree.
+one_from : (m a n : ℕ) → a + m ≡ n → flat_map (λ r. map (λ front. front ++ r ∷ []) (lists_of zero (n - r * 1))) (range_with_len a (suc m)) ≡ (n ∷ []) ∷ []
+one_from zero a n e =
+    let same : a ≡ n = omega arith in
+    let none : n - a * 1 ≡ 0 = omega arith in
+    ap (λ k. map (λ front. front ++ a ∷ []) (lists_of zero k) ++ []) none ∙ ap (λ b. (b ∷ []) ∷ []) same
+one_from (suc m) a n e =
+    let some : n - a * 1 ≡ suc m = omega arith in
+    ap (λ k. map (λ front. front ++ a ∷ []) (lists_of zero k) ++ flat_map (λ r. map (λ front. front ++ r ∷ []) (lists_of zero (n - r * 1))) (range_with_len (a + 1) (suc m))) some
+    ∙ one_from m (a + 1) n (omega arith)
+
+pub lists_of_one : (n : ℕ) → lists_of 1 n ≡ (n ∷ []) ∷ []
+lists_of_one n =
+    let count : n / 1 + 1 ≡ suc n = omega arith in
+    ap (λ m. flat_map (λ r. map (λ front. front ++ r ∷ []) (lists_of zero (n - r * 1))) (range_with_len 0 m)) count ∙ one_from n 0 n (omega arith)
+
+pub placed_one : (n : ℕ) (rest : List ℕ) → placed 1 n rest ≡ trimmed (n ∷ rest) ∷ []
+placed_one n rest = ap (map (λ front. trimmed (front ++ rest))) (lists_of_one n)
 
 -- one turn of the loop of `Level::with_lists`
 pub placed_turn :
@@ -92,7 +110,7 @@ trimmed-zero : (rs : List ℕ) → trimmed (rs ++ 0 ∷ []) ≡ trimmed (rs ++ [
 trimmed-zero [] = refl
 trimmed-zero (r ∷ rs) = ap (put_before r) (trimmed-zero rs)
 
-placed-zero : (k n : ℕ) → placed k n (0 ∷ []) ≡ placed k n []
+pub placed-zero : (k n : ℕ) → placed k n (0 ∷ []) ≡ placed k n []
 placed-zero k n = map_agree (λ front. trimmed (front ++ 0 ∷ [])) (λ front. trimmed (front ++ [])) trimmed-zero (lists_of k n)
 
 -- one exponent less, where the last does not fit the degree

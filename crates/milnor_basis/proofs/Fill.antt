@@ -1,5 +1,5 @@
 -- The loop over the numbers at one place.
-use Rattle.std.proofs.Common.{◌≡◌, ℕ, zero, suc, ◌+◌, ◌-◌, ◌*◌, ◌<◌, ◌≤◌, ◌^◌, ◌≢◌, inl, inr, Bool, true, false, ◌&&◌, nat_eq, nat_lt, List, [], ◌∷◌, map, length, refl, sym, ◌∙◌, ap, subst, arith, slice_index, slice_index_or, slice_set, bit_and, bit_or}
+use Rattle.std.proofs.Common.{◌≡◌, ℕ, suc, ◌+◌, ◌-◌, ◌*◌, ◌<◌, ◌≤◌, ◌^◌, ◌≢◌, inl, inr, Bool, true, false, ◌&&◌, nat_eq, nat_lt, List, [], map, length, refl, sym, ◌∙◌, ap, subst, arith, slice_index, slice_index_or, slice_set, bit_and, bit_or}
 use Rattle.std.specs.List.{sum, range_with_len, list_all}
 use Rattle.std.proofs.lemmas.Bool.{eq-eqb, ne_eqb, ltb-true, ltb-false, cases_Bool}
 use Rattle.std.proofs.lemmas.List.{get_or_past}

@@ -9,6 +9,7 @@ pub mod MatrixList
 pub mod Homogeneous
 pub mod LeftUnit
 mod Bits
+mod Counting
 mod Fill
 pub mod Matrices
 pub mod Parity

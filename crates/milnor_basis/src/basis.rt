@@ -1,9 +1,9 @@
 //! The basis of each degree, in right lexicographic order.
-ghost use Rattle.std.specs.Prelude.{◌≡◌, ◌≤◌, ◌<◌, ◌↔◌, ◌++◌, [], length, map, drop, slice_index_or, IfOk, IfSome, IsNone, Some, slice_get};
-ghost use Rattle.std.specs.List.{Contains};
+ghost use Rattle.std.specs.Prelude.{◌≡◌, ℕ, suc, ◌+◌, ◌-◌, ◌*◌, ◌^◌, ◌≤◌, ◌<◌, ◌↔◌, ◌++◌, ◌∷◌, [], length, map, drop, IfOk, IfSome, IsNone, Some, slice_get};
 ghost use Rattle.milnor_basis.specs.Exponents.{degree_of, trimmed};
 ghost use Rattle.milnor_basis.specs.Basis.{lists_of, basis_of};
 
+use crate::counts::Counts;
 use crate::exps::{Exps, MAX_EXPONENTS};
 use memory::Memory;
 use std::alloc::Global;
@@ -38,10 +38,11 @@ impl Level {
     /// This level, followed by the elements whose first `k` exponents make up degree `n` and whose others are those of
     /// `numbers`, in right lexicographic order.
     fn with_lists(self, k: usize, n: u16, numbers: [u16; 8]) -> Result<Level, Memory>
-        requires { k ≤ 8 }
+        requires first { 0 < k }
+        requires last { k ≤ 8 }
         ensures { IfOk result (λ level. level ≡ self ++ map (λ front. trimmed (front ++ drop k numbers)) (lists_of k n)) }
     {
-        if k == 0 {
+        if k == 1 {
             return self.with_element(n, numbers);
         }
         let weight = (1 << k) - 1;
@@ -54,14 +55,14 @@ impl Level {
         Ok(level)
     }
 
-    /// This level and then, where `n` is 0, the element with these exponents.
+    /// This level, followed by the element whose first exponent is `n` and whose others are those of `numbers`.
     fn with_element(self, n: u16, numbers: [u16; 8]) -> Result<Level, Memory>
-        ensures { IfOk result (λ level. level ≡ self ++ map (λ front. trimmed (front ++ numbers)) (lists_of 0 n)) }
+        ensures { IfOk result (λ level. level ≡ self ++ trimmed (n ∷ drop 1 numbers) ∷ []) }
     {
         let mut level = self;
-        if n == 0 {
-            level.exps.push(Exps::of(numbers))?;
-        }
+        let mut numbers = numbers;
+        numbers[0] = n;
+        level.exps.push(Exps::of(numbers))?;
         Ok(level)
     }
 }
@@ -71,6 +72,7 @@ impl Level {
 pub struct Basis {
     max: u16,
     levels: Vec<Level>,
+    counts: Counts,
 }
 
 impl Model for Basis {
@@ -82,7 +84,7 @@ impl Model for Basis {
 
     ghost view = { λ b. b.max };
 
-    ghost invariant = { λ b. (b.max ≤ 255) × (b.levels.items ≡ map basis_of (range_with_len 0 (b.max + 1))) };
+    ghost invariant = { λ b. (b.max ≤ 255) × (b.levels.items ≡ map basis_of (range_with_len 0 (b.max + 1))) × (b.counts ≡ b.max) };
 }
 
 impl Basis {
@@ -95,7 +97,12 @@ impl Basis {
         for n in 0..=max {
             levels.push(Level::of_degree(alloc, n)?)?;
         }
-        Ok(Basis { max, levels })
+        let counts = Counts::new(alloc, max)?;
+        Ok(Basis {
+            max,
+            levels,
+            counts,
+        })
     }
 
     /// The greatest degree.
@@ -121,23 +128,32 @@ impl Basis {
         ensures place { IfSome result (λ at. slice_get (basis_of at.0) at.1 ≡ Some r.now) }
         ensures small { self.now ≤ 255 }
     {
-        let degree = r.degree();
+        let mut degree = 0;
+        let mut place = 0;
+        for i in 0..r.len() {
+            let below = degree;
+            degree = self.degree_with(below, i, r.exponent(i))?;
+            // What comes before in right lexicographic order has a smaller exponent at `i` and the same ones after it.
+            place += self.counts.of(degree, i + 1) - self.counts.of(below, i + 1);
+        }
+        Some((degree, place))
+    }
+
+    /// The degree with `number` as the exponent at place `i`, counted from 0, of one of degree `below` without it; none
+    /// where that is above the greatest.
+    fn degree_with(&self, below: u16, i: usize, number: u16) -> Option<u16>
+        requires below { below ≤ self.now }
+        requires place { i < 8 }
+        ensures past { IsNone result ↔ (self.now < below + number * (2 ^ suc i - 1)) }
+        ensures degree { IfSome result (λ degree. degree ≡ below + number * (2 ^ suc i - 1)) }
+        ensures small { self.now ≤ 255 }
+    {
+        let degree = u32::from(below) + u32::from(number) * ((1 << (i + 1)) - 1);
         if degree > u32::from(self.max) {
             return None;
         }
-        let degree = degree as u16;
-        let place = place_in(self.of_degree(degree), r)?;
-        Some((degree, place))
+        Some(degree as u16)
     }
-}
-
-/// The first place in `elements` that holds `r`.
-fn place_in(elements: &[Exps], r: &Exps) -> Option<usize>
-    ensures within { IfSome result (λ i. i < length elements.now) }
-    ensures found { IfSome result (λ i. slice_index_or elements.now i [] ≡ r.now) }
-    ensures none { IsNone result → ¬ Contains elements.now r.now }
-{
-    elements.iter().position(|exps| exps == r)
 }
 
 #[cfg(test)]
@@ -163,6 +179,17 @@ mod tests {
             (7, 2, 2)
         );
         assert!(rt; !milnor.is_empty());
+        Ok(())
+    }
+
+    #[test]
+    fn places_each_element(rt: HostRuntime) -> Result<(), Fail> {
+        let basis = Basis::new(rt.alloc(), 40)?;
+        for n in 0..=40 {
+            for (i, element) in basis.of_degree(n).iter().enumerate() {
+                assert_eq!(rt; basis.place(element), Some((n, i)));
+            }
+        }
         Ok(())
     }
 }

@@ -2,6 +2,7 @@
 #![tactic(auto)]
 
 mod basis;
+mod counts;
 mod exps;
 mod laws;
 mod product;

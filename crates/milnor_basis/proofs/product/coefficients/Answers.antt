@@ -1,7 +1,6 @@
 -- The bits begin clear, so those that are set at the end are the odd coefficients.
-use Rattle.std.proofs.Common.{◌≡◌, ℕ, ◌+◌, length, replicate, List, Bool, false, slice_index_or, ap, subst, ◌∙◌, arith}
+use Rattle.std.proofs.Common.{◌≡◌, ℕ, length, replicate, List, Bool, false, slice_index_or, ap, subst, ◌∙◌, arith}
 use Rattle.std.proofs.lemmas.List.{take_at, get_or-replicate, length-replicate}
-use Rattle.milnor_basis.specs.Exponents.{degree_of}
 use Rattle.milnor_basis.specs.Basis.{basis_of}
 use Rattle.milnor_basis.specs.Inside.Walk.{TurnsOver}
 use Rattle.milnor_basis.proofs.ProductTerms.{bits_are}

@@ -1,9 +1,19 @@
-use Rattle.std.proofs.Common.{◌≡◌, ◌≤◌, ◌<◌, ◌*◌, ◌/◌, ◌-◌, ◌^◌, ◌%◌, length, drop, ◌∙◌, arith}
+use Rattle.std.proofs.Common.{◌≡◌, ◌≤◌, ◌<◌, ◌*◌, ◌/◌, ◌-◌, ◌^◌, ◌%◌, ◌++◌, ◌∷◌, [], IfOk, length, drop, ap, sym, subst, ◌∙◌, arith}
 use Rattle.std.proofs.lemmas.List.{drop-set-lt, length-set}
 use Rattle.std.proofs.lemmas.Nat.{one_shl, pow_below}
-use Rattle.milnor_basis.proofs.BasisLemmas.{placed_turn, placed_end}
+use Rattle.milnor_basis.proofs.BasisLemmas.{placed, placed_one, placed_turn, placed_end}
+use Rattle.std.proofs.lemmas.Result.{IfOk-weaker}
+use Rattle.milnor_basis.specs.Exponents.{trimmed}
 use Rattle.milnor_basis.proofs.basis.Level.+with_lists.Goals as goal
 use Rattle.milnor_basis.proofs.basis.Level.+with_lists.Goals.{else-loop-last-test, then-loop-last-test+in_ok-level+else-last-last-end}
+
+pub returns-then-k-eq1 : goal.returns-then-k-eq1
+returns-then-k-eq1 t c =
+    let self = c.args.self in
+    let n = c.args.n in
+    subst (λ k. IfOk c.with_element.result (λ level. level ≡ self ++ placed k n (drop k c.args.numbers))) (sym c.if-k-eq1.true)
+    (IfOk-weaker c.with_element.result (λ level. level ≡ self ++ trimmed (n ∷ drop 1 c.args.numbers) ∷ []) (λ level. level ≡ self ++ placed 1 n (drop 1 c.args.numbers))
+    (λ level e. e ∙ ap (λ xs. self ++ xs) (sym (placed_one n (drop 1 c.args.numbers)))) c.with_element.ensures)
 
 pub nonzero_div-last-end : goal.nonzero_div-last-end
 nonzero_div-last-end t c =

@@ -1,0 +1,76 @@
+//! How many exponent lists there are of each degree and length, by which places in a basis are counted.
+ghost use Rattle.std.specs.Prelude.{◌≡◌, ℕ, ◌+◌, ◌*◌, ◌≤◌, ◌<◌, IfOk, length, slice_index};
+ghost use Rattle.milnor_basis.specs.Basis.{lists_of};
+ghost use Rattle.milnor_basis.specs.Inside.Counted.{IsCounted};
+
+use crate::exps::MAX_EXPONENTS;
+use memory::Memory;
+use std::alloc::Global;
+use std::marker::Model;
+
+/// How many numbers are kept of a degree: one for each length from 0 to 8.
+const LENGTHS: usize = MAX_EXPONENTS + 1;
+
+/// For each degree from 0 to a greatest one, which is all that contracts see, and each k from 0 to 8, how many lists
+/// of k exponents have that degree.
+#[derive(Debug, Drop)]
+pub(crate) struct Counts {
+    max: u16,
+    numbers: Vec<usize>,
+}
+
+impl Model for Counts {
+    ghost use Rattle.std.specs.Prelude.{◌≡◌, ◌+◌, ◌*◌, ◌≤◌, ℕ, length};
+    ghost use Rattle.milnor_basis.specs.Inside.Counted.{IsCounted};
+
+    ghost Value = { ℕ };
+
+    ghost view = { λ c. c.max };
+
+    ghost invariant = { λ c. (c.max ≤ 255) × (length c.numbers.items ≡ 9 * (c.max + 1)) × IsCounted c.numbers.items };
+}
+
+impl Counts {
+    /// The counts of the degrees 0 to `max`.
+    pub(crate) fn new(alloc: Global, max: u16) -> Result<Self, Memory>
+        requires { max ≤ 255 }
+        ensures { IfOk result (λ counts. counts ≡ max) }
+    {
+        let mut numbers = Vec::new(alloc);
+        for n in 0..=max {
+            numbers = with_degree(numbers, n)?;
+        }
+        Ok(Counts { max, numbers })
+    }
+
+    /// How many lists of `k` exponents have degree `n`.
+    pub(crate) fn of(&self, n: u16, k: usize) -> usize
+        requires degree { n ≤ self.now }
+        requires exponents { k ≤ 8 }
+        ensures { result ≡ length (lists_of k n) }
+    {
+        self.numbers[LENGTHS * usize::from(n) + k]
+    }
+}
+
+/// The counts of the degrees below `n`, followed by those of degree `n`: the last of k exponents is 0, or it can be
+/// made smaller by 1.
+fn with_degree(numbers: Vec<usize>, n: u16) -> Result<Vec<usize>, Memory>
+    requires degree { n ≤ 255 }
+    requires below { length numbers.items ≡ 9 * n }
+    requires counted { IsCounted numbers.items }
+    ensures below { IfOk result (λ more. length more.items ≡ 9 * (n + 1)) }
+    ensures counted { IfOk result (λ more. IsCounted more.items) }
+{
+    let mut numbers = numbers;
+    let mut count = usize::from(n == 0);
+    numbers.push(count)?;
+    for k in 1..=MAX_EXPONENTS {
+        let weight = (1 << k) - 1;
+        if weight <= n {
+            count += numbers[LENGTHS * usize::from(n - weight) + k];
+        }
+        numbers.push(count)?;
+    }
+    Ok(numbers)
+}
