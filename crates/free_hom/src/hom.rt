@@ -1,7 +1,7 @@
 //! Linear maps from a free module, and their matrices.
-ghost use Rattle.std.specs.Prelude.{◌≡◌, ◌<◌, ◌++◌, ◌+ℤ◌, ℕ, pos, [], length, map, slice_index_or, IfOk};
+ghost use Rattle.std.specs.Prelude.{◌≡◌, ◌<◌, ◌++◌, ◌+ℤ◌, ◌≤ℤ◌, pos, length, map, IfOk};
 ghost use Rattle.f2_vec.specs.Spans.{row};
-ghost use Rattle.milnor_basis.specs.Exponents.{degree_of};
+ghost use Rattle.milnor_product.specs.Times.{basis_at};
 ghost use Rattle.free_module.specs.FreeModule.{IsWithinReach, free_width};
 ghost use Rattle.free_module.specs.LinearMap.{AreImages, map_rows, mapped};
 
@@ -9,8 +9,7 @@ use f2_matrix::Matrix;
 use f2_vec::BitVec;
 use free_module::{Gens, Target};
 use memory::Memory;
-use milnor_basis::{Basis, Exps};
-use milnor_product::elements_at;
+use milnor_basis::Basis;
 use std::alloc::Global;
 
 /// A linear map from a free module, given by the images of the generators.
@@ -52,8 +51,8 @@ impl<'a, T: Target> Hom<'a, T> {
         };
         let mut rows = Vec::new(alloc);
         for (g, degree) in self.source.degrees().iter().enumerate() {
-            let elements = elements_at(self.basis, i64::from(t) - i64::from(*degree));
-            rows = self.with_block(alloc, rows, elements, *degree, &self.images[g])?;
+            let above = i64::from(t) - i64::from(*degree);
+            rows = self.with_block(alloc, rows, above, *degree, &self.images[g])?;
         }
         Ok(Matrix::from_rows(cols, rows))
     }
@@ -90,22 +89,30 @@ impl<'a, T: Target> Hom<'a, T> {
             .act(alloc, self.basis, &r, degree, &self.images[generator])
     }
 
-    /// `rows`, and behind them Sq(S) on `image`, a vector of degree `degree`, for each S of these elements.
+    /// `rows`, and behind them Sq(R) on `image`, a vector of degree `degree`, for each R of degree `above`, of which there
+    /// are none where that is negative.
     fn with_block(
         &self,
         alloc: Global,
         mut rows: Vec<BitVec>,
-        elements: &[Exps],
+        above: i64,
         degree: i32,
         image: &BitVec,
     ) -> Result<Vec<BitVec>, Memory>
+        requires within { above ≤ℤ pos self.now.basis.now }
         requires width { length image.now ≡ (T.graded self.now.target.now).width degree }
-        requires reach { (i : ℕ) → i < length elements.now → T.reaches self.now.target.now self.now.basis.now (degree +ℤ pos (degree_of (slice_index_or elements.now i []))) }
-        ensures { IfOk result (λ v. v.items ≡ rows.items ++ map (λ s. (T.graded self.now.target.now).action s degree image.now) elements.now) }
+        requires reach { T.reaches self.now.target.now self.now.basis.now (degree +ℤ above) }
+        ensures { IfOk result (λ v. v.items ≡ rows.items ++ map (λ r. (T.graded self.now.target.now).action r degree image.now) (basis_at above)) }
     {
-        for s in elements {
-            rows.push(self.target.act(alloc, self.basis, s, degree, image)?)?;
-        }
+        // A degree of the basis fits `u16`, so `above` does where it is not negative.
+        prove!(above <= i64::from(self.basis.max()));
+        let Ok(above) = u16::try_from(above) else {
+            return Ok(rows);
+        };
+        let mut block = self
+            .target
+            .act_all(alloc, self.basis, above, degree, image)?;
+        rows.append(&mut block)?;
         Ok(rows)
     }
 }

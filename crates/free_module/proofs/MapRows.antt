@@ -1,6 +1,5 @@
 -- The rows of a linear map, generator by generator, and their widths.
-use Rattle.std.proofs.Common.{◌≡◌, ℕ, zero, suc, ◌+◌, ◌<◌, ◌≤◌, Bool, true, false, cond, Some, slice_get, List, [], ◌∷◌, ◌++◌, length, map, take, drop, get_or, ℤ, pos, ◌+ℤ◌, ◌-ℤ◌, subst, ap, sym, ◌∙◌, arith}
-use Rattle.std.proofs.lemmas.Int.{ints}
+use Rattle.std.proofs.Common.{◌≡◌, ℕ, suc, ◌+◌, ◌<◌, ◌≤◌, Bool, true, false, cond, Some, slice_get, List, [], ◌∷◌, ◌++◌, length, map, take, drop, get_or, ℤ, pos, ◌-ℤ◌, ap, sym, ◌∙◌, arith}
 use Rattle.std.proofs.lemmas.List.{append_assoc, append-nil, drop_more, drop_all, take_all, get_or-map, length-map, map-append}
 use Rattle.std.proofs.lemmas.Option.{slice_get_within, get_or_from_slice_get}
 use Rattle.f2_vec.specs.Vectors.{bit, sum_of}

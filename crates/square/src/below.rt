@@ -41,6 +41,22 @@ impl<'a> Target for Below<'a> {
         }
     }
 
+    fn act_all(
+        &self,
+        alloc: Global,
+        basis: &Basis,
+        degree: u16,
+        t: i32,
+        v: &BitVec,
+    ) -> Result<Vec<BitVec>, Memory> {
+        match self {
+            Below::Module(module) => {
+                <Module as Target>::act_all(module, alloc, basis, degree, t, v)
+            }
+            Below::Row(gens) => gens.act_all(alloc, basis, degree, t, v),
+        }
+    }
+
     ghost has_unit = { below_HasUnit };
 
     ghost keeps_widths = { below_KeepsWidths };

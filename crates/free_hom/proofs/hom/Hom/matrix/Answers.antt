@@ -1,13 +1,12 @@
-use Rattle.std.proofs.Common.{◌≡◌, ◌+ℤ◌, ◌-ℤ◌, ◌<◌, ◌≤◌, [], pos, length, slice_index_or, to_z, of_z, w32, subst, ap, sym, ◌∙◌, arith, rules}
+use Rattle.std.proofs.Common.{◌≡◌, ◌-ℤ◌, ◌<◌, ◌≤◌, [], pos, length, slice_index_or, to_z, of_z, w32, subst, ap, sym, ◌∙◌, arith, rules}
 use Rattle.std.proofs.lemmas.Int.{ints}
 use Rattle.std.proofs.lemmas.List.{get_or_default}
 use Rattle.f2_vec.specs.Spans.{row, HaveWidth}
-use Rattle.milnor_basis.specs.Exponents.{degree_of}
 use Rattle.milnor_product.specs.Times.{basis_at}
 use Rattle.free_module.specs.FreeModule.{degree_at}
 use Rattle.free_module.specs.LinearMap.{map_rows}
 use Rattle.free_module.proofs.BlockSteps.{difference}
-use Rattle.free_module.proofs.MapRows.{degree_of-element, same_block, map_rows-more, map_rows-done, HaveWidth-map_rows}
+use Rattle.free_module.proofs.MapRows.{same_block, map_rows-more, map_rows-done, HaveWidth-map_rows}
 use Rattle.free_hom.proofs.hom.Hom.matrix.Goals as goal
 use mir.Val.{SFits}
 
@@ -24,6 +23,20 @@ with_block-requires-clause-width g c =
     let l : k < length c.args.self.now.images.now = omega (arith, images.one_each) in
     ap length (get_or_default c.args.self.now.images.now k c.index-self-g.result [] l) ∙ images.widths k h ∙ ap (g.T.Target.graded c.args.self.now.target.now).width q
 
+pub with_block-requires-clause-within : goal.with_block-requires-clause-within
+with_block-requires-clause-within g c =
+    let k = c.loop-g.g in
+    let source = c.args.self.now.source.now in
+    let ds = c.degrees-degree-items.result.now in
+    let d = slice_index_or ds k (pos 0) in
+    let ft : SFits w32 c.args.t = search rules in
+    let fd : SFits w32 d = search rules in
+    let z = difference c.from.result c.from-in-loop-g.result c.args.t d ft fd c.from.ensures c.from-in-loop-g.ensures in
+    let dd : d ≡ degree_at source k = ap (λ xs. slice_index_or xs k (pos 0)) c.degrees-degree-items.ensures in
+    let h : k < length source = rw c.degrees-degree-items.ensures at c.loop-g-test.true in
+    let reach = c.requires.source k h in
+    omega (arith, ints)
+
 pub with_block-requires-clause-reach : goal.with_block-requires-clause-reach
 with_block-requires-clause-reach g c =
     let k = c.loop-g.g in
@@ -32,11 +45,7 @@ with_block-requires-clause-reach g c =
     let ft : SFits w32 c.args.t = search rules in
     let fd : SFits w32 d = search rules in
     let z = difference c.from.result c.from-in-loop-g.result c.args.t d ft fd c.from.ensures c.from-in-loop-g.ensures in
-    let b : c.elements_at-elements.result.now ≡ basis_at (c.args.t -ℤ d) = c.elements_at-elements.ensures ∙ ap basis_at z in
-    λ i l.
-    let e = degree_of-element c.elements_at-elements.result.now (c.args.t -ℤ d) i b l in
-    let q : c.args.t ≡ to_z w32 (of_z w32 d) +ℤ pos (degree_of (slice_index_or c.elements_at-elements.result.now i [])) = omega (arith, ints) in
-    subst (g.T.Target.reaches c.args.self.now.target.now c.args.self.now.basis.now) q c.requires.target
+    subst (g.T.Target.reaches c.args.self.now.target.now c.args.self.now.basis.now) (omega (arith, ints)) c.requires.target
 
 pub loop-g-preserved : goal.loop-g-preserved
 loop-g-preserved g c =
@@ -50,12 +59,12 @@ loop-g-preserved g c =
     let fd : SFits w32 d = search rules in
     let z = difference c.from.result c.from-in-loop-g.result c.args.t d ft fd c.from.ensures c.from-in-loop-g.ensures in
     let dd : d ≡ degree_at source k = ap (λ xs. slice_index_or xs k (pos 0)) c.degrees-degree-items.ensures in
-    let b : c.elements_at-elements.result.now ≡ basis_at (c.args.t -ℤ degree_at source k) = c.elements_at-elements.ensures ∙ ap basis_at z ∙ ap (λ x. basis_at (c.args.t -ℤ x)) dd in
+    let b = ap basis_at z ∙ ap (λ x. basis_at (c.args.t -ℤ x)) dd in
     let q : to_z w32 (of_z w32 d) ≡ degree_at source k = omega (arith, ints) in
     let h : k < length source = rw c.degrees-degree-items.ensures at c.loop-g-test.true in
     let l : k < length images = omega (arith, c.args.self.now.are_images.one_each) in
     let im = get_or_default images k c.index-self-g.result [] l in
-    let block = same_block target.action (to_z w32 (of_z w32 d)) (degree_at source k) (slice_index_or images k c.index-self-g.result) (row images k) c.elements_at-elements.result.now (basis_at (c.args.t -ℤ degree_at source k)) q im b in
+    let block = same_block target.action (to_z w32 (of_z w32 d)) (degree_at source k) (slice_index_or images k c.index-self-g.result) (row images k) _ (basis_at (c.args.t -ℤ degree_at source k)) q im b in
     let tt : to_z w32 (of_z w32 c.args.t) ≡ c.args.t = omega (arith, ints) in
     let inv = simp tt at c.loop-g.invariant in
     let more = map_rows-more target source images c.args.t k c.loop-g.rows.items h in
