@@ -1,5 +1,5 @@
 -- Sums over 0 to n weighted by the binomial coefficients mod 2.
-use Rattle.std.proofs.Common.{◌≡◌, ℕ, zero, suc, ◌+◌, ◌<◌, ◌≤◌, ◌%◌, Bool, true, false, not, ◌&&◌, List, [], ◌∷◌, refl, sym, ◌∙◌, ap, arith, zero-add}
+use Rattle.std.proofs.Common.{◌≡◌, ℕ, zero, suc, ◌+◌, ◌≤◌, ◌%◌, Bool, true, false, not, ◌&&◌, List, [], ◌∷◌, refl, sym, ◌∙◌, ap, arith, zero-add}
 use Rattle.milnor_basis.specs.Product.{choose, is_odd}
 use Rattle.milnor_basis.specs.Inside.Walk.{plus, is_odd_below}
 use Rattle.milnor_basis.proofs.Kummer.{choose-past}

@@ -2,12 +2,12 @@
 use Rattle.std.specs.Prelude.{nat_eq}
 use Rattle.std.specs.Cmp.Lexicographic.{bytes_decides, pointwise}
 use Rattle.std.specs.List.{list_all, range_with_len, sum}
-use Rattle.std.proofs.Common.{◌≡◌, ◌≢◌, ◌⊎◌, ℕ, zero, suc, ◌+◌, ◌-◌, ◌*◌, ◌^◌, ◌<◌, ◌≤◌, inl, inr, Bool, true, false, ◌&&◌, List, [], ◌∷◌, map, length, refl, sym, ◌∙◌, ap, arith}
-use Rattle.std.proofs.lemmas.Bool.{cases_eq, cases_lt, and_from, and_left, and_parts, and_right, eq-eqb, eqb-true}
+use Rattle.std.proofs.Common.{◌≡◌, ◌≢◌, ◌⊎◌, ℕ, zero, suc, ◌+◌, ◌-◌, ◌*◌, ◌^◌, ◌<◌, ◌≤◌, inl, inr, Bool, true, false, ◌&&◌, List, map, length, refl, sym, ◌∙◌, ap, arith}
+use Rattle.std.proofs.lemmas.Bool.{cases_eq, cases_lt, and_left, and_parts, and_right, eq-eqb, eqb-true}
 use Rattle.std.proofs.lemmas.List.FromFn.{get_or-map-range_with_len, length-map-range_with_len}
 use Rattle.std.proofs.lemmas.List.Sums.{get_or-le-sum_by}
 use Rattle.std.proofs.lemmas.Nat.{mul-le, pow_pos}
-use Rattle.milnor_basis.specs.Exponents.{entry, put_before, trimmed, IsTrimmed}
+use Rattle.milnor_basis.specs.Exponents.{entry, trimmed, IsTrimmed}
 use Rattle.milnor_basis.specs.Product.{coefficient}
 use Rattle.milnor_basis.specs.Inside.Walk.{places_to, Sums, no_sums, are_sums_of}
 use Rattle.milnor_basis.proofs.ExponentLemmas.{entry-trimmed, entry_past, same_answers, trimmed-same}

@@ -10,3 +10,4 @@ mod Vectors
 pub mod FreeModules
 pub mod LinearMaps
 pub mod UnitActs
+pub mod Indecomposables
