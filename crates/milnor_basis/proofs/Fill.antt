@@ -1,5 +1,5 @@
 -- The loop over the numbers at one place.
-use Rattle.std.proofs.Common.{◌≡◌, ℕ, suc, ◌+◌, ◌-◌, ◌*◌, ◌<◌, ◌≤◌, ◌^◌, ◌≢◌, inl, inr, Bool, true, false, ◌&&◌, nat_eq, nat_lt, List, [], map, length, refl, sym, ◌∙◌, ap, subst, arith, slice_index, slice_index_or, slice_set, bit_and, bit_or}
+use Rattle.std.proofs.Common.{◌≡◌, ℕ, zero, suc, ◌+◌, ◌-◌, ◌*◌, ◌<◌, ◌≤◌, ◌^◌, ◌≢◌, inl, inr, Bool, true, false, ◌&&◌, nat_eq, nat_lt, List, [], map, length, refl, sym, ◌∙◌, ap, subst, arith, slice_index, slice_index_or, slice_set, bit_and, bit_or}
 use Rattle.std.specs.List.{sum, range_with_len, list_all}
 use Rattle.std.proofs.lemmas.Bool.{eq-eqb, ne_eqb, ltb-true, ltb-false, cases_Bool}
 use Rattle.std.proofs.lemmas.List.{get_or_past}
@@ -33,16 +33,19 @@ module _ (degree w row column : ℕ) (rows columns diagonals : List ℕ) (above 
       rw none refl
 
   -- nor does one above the greatest, so at the end all have had their turn
-  pub loop_end : (number : ℕ) (after : List Bool) → number ≡ suc (greatest row column rows columns) → TurnsOverBelow degree w row column rows columns diagonals number before after → TurnsOver degree w row column rows columns diagonals before after
-  loop_end number after last inv r s sums e p q low is k l =
+  pub loop_end : (number : ℕ) (after : List Bool) → greatest row column rows columns < number → TurnsOverBelow degree w row column rows columns diagonals number before after → TurnsOver degree w row column rows columns diagonals before after
+  loop_end number after past inv r s sums e p q low is k l =
       let bound = suc (sum r + sum s) in
+      let high = suc (greatest row column rows columns) in
       let small = greatest_below r s rows columns diagonals w row column sums is e low right above in
-      let more : (bound - number) + number ≡ bound = omega arith in
-      let all = is_odd_below-up_to (goes_on degree w row column r s sums k) number (bound - number)
-      (λ v h. outside r s (slice_index_or (basis_of degree) k []) rows columns diagonals bound w row column sums is e low right above v (inr (omega arith))) in
+      let to_bound : (bound - high) + high ≡ bound = omega arith in
+      let to_number : (number - high) + high ≡ number = omega arith in
+      let none = λ (v : ℕ) (h : high ≤ v). outside r s (slice_index_or (basis_of degree) k []) rows columns diagonals bound w row column sums is e low right above v (inr (omega arith)) in
+      let all = is_odd_below-up_to (goes_on degree w row column r s sums k) high (bound - high) none in
+      let had = is_odd_below-up_to (goes_on degree w row column r s sums k) high (number - high) none in
       inv r s sums e p q low is k l
       ∙ ap (λ b. plus b (slice_index_or before k false))
-      (sym all ∙ ap (is_odd_below (goes_on degree w row column r s sums k)) more
+      (ap (is_odd_below (goes_on degree w row column r s sums k)) (sym to_number) ∙ had ∙ sym all ∙ ap (is_odd_below (goes_on degree w row column r s sums k)) to_bound
       ∙ sym (fillings_step add bound w row column (are_sums_of r s (slice_index_or (basis_of degree) k [])) sums above))
 
   -- a number that shares a digit with its diagonal leads to nothing
@@ -54,6 +57,15 @@ module _ (degree w row column : ℕ) (rows columns diagonals : List ℕ) (above 
       let apart : (sums.apart && nat_eq (bit_and number (sums.diagonals (row + column))) 0) ≡ false = rw (is.is_apart, fails) refl in
       let none = not_apart r s (slice_index_or (basis_of degree) k []) (suc (sum r + sum s)) w (next_row row column) (next_column w row column) (add row column number sums) apart in
       inv r s sums e p q low is k l ∙ ap (λ b. plus (plus b (is_odd_below (goes_on degree w row column r s sums k) number)) (slice_index_or before k false)) (sym none)
+
+  -- nor do all those from a number on up to another
+  pub loop_skips : (more number : ℕ) (after : List Bool) → w ≤ 8 → row ≤ 8 → ((v : ℕ) → number ≤ v → v < more + number → bit_and v (slice_index diagonals (row + column - 1)) ≢ 0)
+      → TurnsOverBelow degree w row column rows columns diagonals number before after → TurnsOverBelow degree w row column rows columns diagonals (more + number) before after
+  loop_skips zero number after wide high shares inv = let e : number ≡ 0 + number = omega arith in subst (λ n. TurnsOverBelow degree w row column rows columns diagonals n before after) e inv
+  loop_skips (suc more) number after wide high shares inv =
+      let e : suc (more + number) ≡ suc more + number = omega arith in
+      subst (λ n. TurnsOverBelow degree w row column rows columns diagonals n before after) e
+      (loop_skip (more + number) after wide high (shares (more + number) (omega arith) (omega arith)) (loop_skips more number after wide high (λ v a b. shares v a (omega arith)) inv))
 
   -- once the bits of a number are turned over, it has had its turn
   turned : (number : ℕ) (middle after : List Bool) → length rows ≡ 8 → length columns ≡ 8 → length diagonals ≡ 16 → length middle ≡ length before

@@ -56,7 +56,7 @@ choose-odd_even n (suc k) = omega (arith, choose-even_even n (suc k), choose-eve
 and-halves : (a b r s : ℕ) → r < 2 → s < 2 → bit_and (a * 2 + r) (b * 2 + s) ≡ bit_and a b * 2 + bit_and r s
 and-halves a b r s = and_block 1 a b r s
 
-and-digits : (m n a b r s : ℕ) → r < 2 → s < 2 → m ≡ a * 2 + r → n ≡ b * 2 + s → bit_and m n ≡ bit_and a b * 2 + bit_and r s
+pub and-digits : (m n a b r s : ℕ) → r < 2 → s < 2 → m ≡ a * 2 + r → n ≡ b * 2 + s → bit_and m n ≡ bit_and a b * 2 + bit_and r s
 and-digits m n a b r s p q e f = ap (λ k. bit_and k n) e ∙ ap (λ k. bit_and (a * 2 + r) k) f ∙ and-halves a b r s p q
 
 and-even_even : (a b : ℕ) → bit_and (double a) (double b) ≡ bit_and a b * 2

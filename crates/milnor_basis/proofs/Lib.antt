@@ -10,6 +10,7 @@ pub mod Homogeneous
 pub mod LeftUnit
 mod Bits
 mod Counting
+mod Digits
 mod Fill
 pub mod Matrices
 pub mod Parity

@@ -1,5 +1,5 @@
 //! The product of two elements of the basis: the matrices of Milnor's formula are filled place by place.
-ghost use Rattle.std.specs.Prelude.{◌≡◌, ℕ, ◌≤◌, ◌<◌, ◌+◌, ◌-◌, ◌*◌, ◌^◌, ◌↔◌, IfOk, IsTrue, EachIndex, length, slice_index, slice_set, bit_or};
+ghost use Rattle.std.specs.Prelude.{◌≡◌, ℕ, ◌≤◌, ◌<◌, ◌+◌, ◌-◌, ◌*◌, ◌^◌, ◌↔◌, IfOk, IsTrue, EachIndex, length, slice_index, slice_set, bit_and, bit_or, ◌≢◌};
 ghost use Rattle.milnor_basis.specs.Exponents.{degree_of, entry};
 ghost use Rattle.milnor_basis.specs.Basis.{basis_of};
 ghost use Rattle.milnor_basis.specs.Product.{product_bits, product_terms};
@@ -162,19 +162,35 @@ fn fill(
     let (next_row, next_column) = next_place(width, row, column);
     let sum = left.diagonals[row + column - 1];
     let (least, greatest) = left.range(row, column);
-    for number in least..=greatest {
-        if number & sum == 0 {
+    let mut number = u32::from(least);
+    while number <= u32::from(greatest) {
+        let put = number as u16;
+        if put & sum == 0 {
             fill(
                 basis,
                 degree,
                 width,
                 next_row,
                 next_column,
-                left.put(row, column, number),
+                left.put(row, column, put),
                 bits,
             );
+            number = next_apart(put, sum);
+        } else {
+            number += 1;
         }
     }
+}
+
+/// The least number above `number` that shares no binary digit with `sum`, where `number` does not.
+fn next_apart(number: u16, sum: u16) -> u32
+    requires { bit_and number sum ≡ 0 }
+    ensures above { number < result }
+    ensures least { (v : ℕ) → number < v → v < result → bit_and v sum ≢ 0 }
+{
+    // The digits of `sum` carry the 1 past themselves.
+    let past = u32::from(number) + u32::from(sum) + 1;
+    past - (past & u32::from(sum))
 }
 
 /// The elements whose bit is set, in order.

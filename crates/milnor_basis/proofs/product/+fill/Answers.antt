@@ -1,8 +1,8 @@
 -- Each number has its turn.
-use Rattle.std.proofs.Common.{◌≡◌, ℕ, ◌<◌, ◌≢◌, ◌⊎◌, inl, inr, ◌+◌, suc, List, Bool, sym, ap, subst, ◌∙◌, arith, add-one, rules}
-use Rattle.milnor_basis.proofs.Fill.{TurnsOverBelow, loop_start, loop_end, loop_skip, loop_turn, turns_at_end}
+use Rattle.std.proofs.Common.{◌≡◌, ℕ, ◌<◌, ◌≤◌, ◌-◌, ◌≢◌, ◌⊎◌, inl, inr, ◌+◌, suc, sym, subst, ◌∙◌, arith, add-one, rules}
+use Rattle.milnor_basis.proofs.Fill.{TurnsOverBelow, loop_start, loop_end, loop_skip, loop_skips, loop_turn, turns_at_end}
+use Rattle.milnor_basis.specs.Inside.Walk.{least, greatest}
 use Rattle.milnor_basis.proofs.product.+fill.Goals as goal
-use Rattle.milnor_basis.proofs.product.+fill.Goals.{then-number-sum-eq0, else-number-sum-eq0}
 
 above : (row column : ℕ) → ((row ≡ 0) × (column ≡ 0 → ⊥)) ⊎ (row ≡ 0 → ⊥) → 0 < row + column
 above row column (inl h) = let ne : column ≢ 0 = h.1 in omega arith
@@ -14,44 +14,46 @@ returns-then-column-eq0 t c = turns_at_end c.args.degree c.args.width c.args.row
 pub loop-number-init : goal.loop-number-init
 loop-number-init t c =
     let base = loop_start c.args.degree c.args.width c.args.row c.args.column c.args.left.rows c.args.left.columns c.args.left.diagonals (above c.args.row c.args.column c.else-row-eq0.either) c.requires.column c.args.bits.now in
-    subst (λ (n : ℕ). TurnsOverBelow c.args.degree c.args.width c.args.row c.args.column c.args.left.rows c.args.left.columns c.args.left.diagonals n c.args.bits.now c.args.bits.now) (sym c.range-least.ensures.least) base
+    let from : c.from-number.result ≡ least c.args.row c.args.column c.args.left.rows c.args.left.columns = c.from-number.ensures ∙ c.range-least.ensures.least in
+    record {
+      from = omega arith;
+      turned = subst (λ (n : ℕ). TurnsOverBelow c.args.degree c.args.width c.args.row c.args.column c.args.left.rows c.args.left.columns c.args.left.diagonals n c.args.bits.now c.args.bits.now) (sym from) base;
+    }
 
-turned_on : (degree w row column : ℕ) (rows columns diagonals : List ℕ) (number : ℕ) (before after after' : List Bool) → after' ≡ after → TurnsOverBelow degree w row column rows columns diagonals (suc number) before after → TurnsOverBelow degree w row column rows columns diagonals (suc number) before after'
-turned_on degree w row column rows columns diagonals number before after after' e h =
-    subst (λ (bits : List Bool). TurnsOverBelow degree w row column rows columns diagonals (suc number) before bits) (sym e) h
+pub loop-number-preserved-then-put-sum-eq0 : goal.loop-number-preserved-then-put-sum-eq0
+loop-number-preserved-then-put-sum-eq0 t c =
+    let higher = above c.args.row c.args.column c.else-row-eq0.either in
+    let n = c.loop-number.number in
+    let next = c.next_apart-number.result in
+    let past : n < next = c.next_apart-number.ensures.above in
+    let from : least c.args.row c.args.column c.args.left.rows c.args.left.columns ≤ n = c.loop-number.invariant.from in
+    let to : n ≤ greatest c.args.row c.args.column c.args.left.rows c.args.left.columns = omega (arith, c.loop-number-test.true, c.from.ensures, c.range-least.ensures.greatest) in
+    let turned = loop_turn c.args.degree c.args.width c.args.row c.args.column c.args.left.rows c.args.left.columns c.args.left.diagonals higher c.requires.column c.args.bits.now n
+    c.next_place-next_row.result.0 c.next_place-next_row.result.1 c.loop-number.bits c.fill.new.bits c.put.result.rows c.put.result.columns c.put.result.diagonals
+    c.next_place-next_row.ensures.row c.next_place-next_row.ensures.column c.put.ensures.rows c.put.ensures.columns c.put.ensures.diagonals
+    (search rules) (search rules) (search rules) c.loop-number.auto.bits from to c.if-put-sum-eq0.true c.loop-number.invariant.turned c.fill.ensures
+    in
+    let skipped = loop_skips c.args.degree c.args.width c.args.row c.args.column c.args.left.rows c.args.left.columns c.args.left.diagonals higher c.requires.column c.args.bits.now (next - suc n) (suc n) c.fill.new.bits c.requires.width c.requires.row
+    (λ v l m. c.next_apart-number.ensures.least v (omega arith) (omega arith)) turned
+    in
+    let whole : next - suc n + suc n ≡ next = omega arith in
+    record {
+      from = omega arith;
+      turned = subst (λ (m : ℕ). TurnsOverBelow c.args.degree c.args.width c.args.row c.args.column c.args.left.rows c.args.left.columns c.args.left.diagonals m c.args.bits.now c.fill.new.bits) whole skipped;
+    }
 
 pub loop-number-preserved : goal.loop-number-preserved
 loop-number-preserved t c =
     let higher = above c.args.row c.args.column c.else-row-eq0.either in
-    let turned : TurnsOverBelow c.args.degree c.args.width c.args.row c.args.column c.args.left.rows c.args.left.columns c.args.left.diagonals (suc c.loop-number.number) c.args.bits.now c.if-number-sum-eq0.bits =
-    elim c.if-number-sum-eq0.branch [
-      | then-number-sum-eq0 w ↦
-          turned_on c.args.degree c.args.width c.args.row c.args.column c.args.left.rows c.args.left.columns c.args.left.diagonals c.loop-number.number c.args.bits.now w.fill.new.bits c.if-number-sum-eq0.bits w.bits-is
-          (loop_turn c.args.degree c.args.width c.args.row c.args.column c.args.left.rows c.args.left.columns c.args.left.diagonals higher c.requires.column c.args.bits.now c.loop-number.number
-          c.next_place-next_row.result.0 c.next_place-next_row.result.1 c.loop-number.bits w.fill.new.bits w.put.result.rows w.put.result.columns w.put.result.diagonals
-          c.next_place-next_row.ensures.row c.next_place-next_row.ensures.column w.put.ensures.rows w.put.ensures.columns w.put.ensures.diagonals
-          (search rules) (search rules) (search rules) c.loop-number.auto.bits (omega arith) (omega arith) w.if-number-sum-eq0.true c.loop-number.invariant w.fill.ensures)
-      | else-number-sum-eq0 w ↦
-          turned_on c.args.degree c.args.width c.args.row c.args.column c.args.left.rows c.args.left.columns c.args.left.diagonals c.loop-number.number c.args.bits.now c.loop-number.bits c.if-number-sum-eq0.bits w.bits-is
-          (loop_skip c.args.degree c.args.width c.args.row c.args.column c.args.left.rows c.args.left.columns c.args.left.diagonals higher c.requires.column c.args.bits.now c.loop-number.number c.loop-number.bits c.requires.width c.requires.row w.if-number-sum-eq0.false c.loop-number.invariant)
-    ] in
-    subst (λ (n : ℕ). TurnsOverBelow c.args.degree c.args.width c.args.row c.args.column c.args.left.rows c.args.left.columns c.args.left.diagonals n c.args.bits.now c.if-number-sum-eq0.bits) (sym (add-one c.loop-number.number)) turned
+    let skipped = loop_skip c.args.degree c.args.width c.args.row c.args.column c.args.left.rows c.args.left.columns c.args.left.diagonals higher c.requires.column c.args.bits.now c.loop-number.number c.loop-number.bits c.requires.width c.requires.row c.if-put-sum-eq0.false c.loop-number.invariant.turned in
+    let from = c.loop-number.invariant.from in
+    record {
+      from = omega arith;
+      turned = subst (λ (n : ℕ). TurnsOverBelow c.args.degree c.args.width c.args.row c.args.column c.args.left.rows c.args.left.columns c.args.left.diagonals n c.args.bits.now c.loop-number.bits) (sym (add-one c.loop-number.number)) skipped;
+    }
 
-pub returns-after-number-sum-eq0 : goal.returns-after-number-sum-eq0
-returns-after-number-sum-eq0 t c =
+pub returns : goal.returns
+returns t c =
     let higher = above c.args.row c.args.column c.else-row-eq0.either in
-    let turned : TurnsOverBelow c.args.degree c.args.width c.args.row c.args.column c.args.left.rows c.args.left.columns c.args.left.diagonals (suc c.loop-number.number) c.args.bits.now c.if-number-sum-eq0.bits =
-    elim c.if-number-sum-eq0.branch [
-      | then-number-sum-eq0 w ↦
-          turned_on c.args.degree c.args.width c.args.row c.args.column c.args.left.rows c.args.left.columns c.args.left.diagonals c.loop-number.number c.args.bits.now w.fill.new.bits c.if-number-sum-eq0.bits w.bits-is
-          (loop_turn c.args.degree c.args.width c.args.row c.args.column c.args.left.rows c.args.left.columns c.args.left.diagonals higher c.requires.column c.args.bits.now c.loop-number.number
-          c.next_place-next_row.result.0 c.next_place-next_row.result.1 c.loop-number.bits w.fill.new.bits w.put.result.rows w.put.result.columns w.put.result.diagonals
-          c.next_place-next_row.ensures.row c.next_place-next_row.ensures.column w.put.ensures.rows w.put.ensures.columns w.put.ensures.diagonals
-          (search rules) (search rules) (search rules) c.loop-number.auto.bits (omega arith) (omega arith) w.if-number-sum-eq0.true c.loop-number.invariant w.fill.ensures)
-      | else-number-sum-eq0 w ↦
-          turned_on c.args.degree c.args.width c.args.row c.args.column c.args.left.rows c.args.left.columns c.args.left.diagonals c.loop-number.number c.args.bits.now c.loop-number.bits c.if-number-sum-eq0.bits w.bits-is
-          (loop_skip c.args.degree c.args.width c.args.row c.args.column c.args.left.rows c.args.left.columns c.args.left.diagonals higher c.requires.column c.args.bits.now c.loop-number.number c.loop-number.bits c.requires.width c.requires.row w.if-number-sum-eq0.false c.loop-number.invariant)
-    ] in
-    let last : suc c.loop-number.number ≡ suc c.range-least.result.1 = omega arith in
-    loop_end c.args.degree c.args.width c.args.row c.args.column c.args.left.rows c.args.left.columns c.args.left.diagonals higher c.requires.column c.args.bits.now (suc c.loop-number.number) c.if-number-sum-eq0.bits
-    (last ∙ ap suc c.range-least.ensures.greatest) turned
+    loop_end c.args.degree c.args.width c.args.row c.args.column c.args.left.rows c.args.left.columns c.args.left.diagonals higher c.requires.column c.args.bits.now c.loop-number.number c.loop-number.bits
+    (omega (arith, c.loop-number-test.false, c.from.ensures, c.range-least.ensures.greatest)) c.loop-number.invariant.turned
