@@ -14,3 +14,4 @@ pub mod FromParts
 pub mod Spanning
 pub mod Crossing
 pub mod Choice
+mod Columns

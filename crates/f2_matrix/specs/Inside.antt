@@ -2,3 +2,4 @@
 pub mod RowOperations
 pub mod Blocks
 pub mod Parts
+pub mod Columns

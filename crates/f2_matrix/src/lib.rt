@@ -11,6 +11,7 @@ mod rows;
 mod scratch;
 #[cfg(test)]
 mod tests;
+mod transpose;
 
 pub use existence::{
     echelon_form_exists, kernel_basis_exists, reduction_exists, row_basis_exists, span_is_decidable,
