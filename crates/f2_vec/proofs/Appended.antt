@@ -1,10 +1,10 @@
 -- A vector behind another: words of zeros are added, and the other vector is added to them.
 use Rattle.std.specs.Int.{bit_at, div_ceil}
 use Rattle.std.specs.Prelude.{◌==◌}
-use Rattle.std.proofs.Common.{◌≡◌, ℕ, ◌+◌, ◌-◌, ◌*◌, ◌/◌, ◌%◌, ◌<◌, ◌≤◌, Bool, false, List, [], ◌++◌, length, get_or, replicate, take, refl, ap, sym, ◌∙◌, arith, subst, inl, inr}
-use Rattle.std.proofs.lemmas.List.{get_or_past, length-append, length-replicate, get_or_append_left, get_or-append_right, take_all, append-nil}
+use Rattle.std.proofs.Common.{◌≡◌, ℕ, ◌+◌, ◌-◌, ◌/◌, ◌%◌, ◌≤◌, Bool, false, List, ◌++◌, length, get_or, replicate, take, refl, ap, sym, ◌∙◌, arith, inl, inr}
+use Rattle.std.proofs.lemmas.List.{get_or_past, length-append, get_or_append_left, get_or-append_right, take_all, append-nil}
 use Rattle.std.proofs.lemmas.Bool.{cases_lt}
-use Rattle.f2_vec.specs.Vectors.{sum_of, zeros, placed, bit}
+use Rattle.f2_vec.specs.Vectors.{sum_of, zeros, placed}
 use Rattle.f2_vec.specs.Inside.Packed.{unit_bit, unit_bits, HasRoom}
 use Rattle.f2_vec.proofs.Sums.{length-zeros, bit-zeros}
 use Rattle.f2_vec.proofs.Combinations.{sum_of-padded}

@@ -1,15 +1,15 @@
 -- Words moved down, and a part of a vector made of them word by word.
 use Rattle.std.specs.Int.{bit_at, div_ceil}
-use Rattle.std.specs.Int.Bits.{bit_and, bit_or, bit_xor, mask_lt}
-use Rattle.std.proofs.Common.{◌≡◌, ◌≢◌, ℕ, zero, suc, ◌+◌, ◌-◌, ◌*◌, ◌/◌, ◌%◌, ◌^◌, ◌<◌, ◌≤◌, Bool, true, false, cond, List, [], ◌∷◌, ◌++◌, length, get_or, set, take, drop, refl, ap, sym, ◌∙◌, arith, inl, inr}
+use Rattle.std.specs.Int.Bits.{bit_and, bit_or, mask_lt}
+use Rattle.std.proofs.Common.{◌≡◌, ℕ, ◌+◌, ◌-◌, ◌*◌, ◌/◌, ◌%◌, ◌^◌, ◌<◌, ◌≤◌, false, List, length, get_or, set, take, drop, ap, sym, ◌∙◌, arith, inl, inr}
 use Rattle.std.specs.Prelude.{◌==◌}
-use Rattle.std.proofs.lemmas.List.{get_or_past, get_or-take, get_or-drop, length-take-le, length-drop, get_or-set_same, get_or-set_other, length-set, length-append, get_or_append_left, get_or-append_right}
-use Rattle.std.proofs.lemmas.Nat.{shr_split, shr-shr, pow_pos, and_mask}
-use Rattle.std.proofs.lemmas.Nat.Bits.{bit_at_or, bit_at-lt, bit_at-zero, bit_at_above, bit_at_cat_low, bit_at_cat_high}
-use Rattle.std.proofs.lemmas.Bool.{cases_eq, cases_lt, lt-ltb, le-ltb}
+use Rattle.std.proofs.lemmas.List.{get_or-take, get_or-drop, length-take-le, length-drop, get_or-set_same, get_or-set_other, length-set}
+use Rattle.std.proofs.lemmas.Nat.{and_mask}
+use Rattle.std.proofs.lemmas.Nat.Bits.{bit_at_or, bit_at_above}
+use Rattle.std.proofs.lemmas.Bool.{cases_eq, cases_lt}
 use Rattle.f2_vec.specs.Inside.Packed.{unit_bit, unit_bits, HasRoom}
 use Rattle.f2_vec.proofs.Moved.{bit_at-mod, shl_low, shl_high, shr_bit, max_left, max_right, unit_bit_word, unit_bit_same_word}
-use Rattle.f2_vec.proofs.Packed.{unit_bit-at, none_past, bit_at-plus, length-unit_bits, bit-unit_bits, bit-unit_bits_within, unit_bits_from}
+use Rattle.f2_vec.proofs.Packed.{unit_bit-at, none_past, length-unit_bits, bit-unit_bits_within, unit_bits_from}
 
 -- ---- words moved down
 

@@ -4,6 +4,9 @@ mod Lanes
 mod Moved
 mod Cut
 mod Appended
+mod Next
+mod Turned
+mod Four
 pub mod Ones
 pub mod Spans
 pub mod Split

@@ -1,15 +1,15 @@
 -- Words moved up by some bits.
-use Rattle.std.specs.Int.{bit_at, div_ceil}
-use Rattle.std.specs.Int.Bits.{bit_and, bit_or, bit_xor, mask_lt}
-use Rattle.std.proofs.Common.{◌≡◌, ◌≢◌, ℕ, zero, suc, ◌+◌, ◌-◌, ◌*◌, ◌/◌, ◌%◌, ◌^◌, ◌<◌, ◌≤◌, Bool, true, false, cond, List, [], ◌∷◌, ◌++◌, length, get_or, set, take, drop, refl, ap, sym, ◌∙◌, arith, inl, inr}
-use Rattle.std.specs.Prelude.{◌==◌, nat_lt, max, slice_range}
-use Rattle.std.proofs.lemmas.List.{get_or_past, get_or-take, get_or-drop, length-take-le, length-drop, get_or-set_same, get_or-set_other, length-set, length-append, get_or_append_left, get_or-append_right}
-use Rattle.std.proofs.lemmas.Nat.{shr_split, shr-shr, pow_pos, and_mask}
-use Rattle.std.proofs.lemmas.Nat.Bits.{bit_at_or, bit_at-lt, bit_at-zero, bit_at_above, bit_at_cat_low, bit_at_cat_high}
+use Rattle.std.specs.Int.{bit_at}
+use Rattle.std.specs.Int.Bits.{bit_or, bit_xor}
+use Rattle.std.proofs.Common.{◌≡◌, ℕ, ◌+◌, ◌-◌, ◌*◌, ◌/◌, ◌%◌, ◌^◌, ◌<◌, ◌≤◌, Bool, true, false, cond, List, ◌++◌, length, get_or, set, ap, sym, ◌∙◌, arith, inl, inr}
+use Rattle.std.specs.Prelude.{◌==◌, nat_lt, max}
+use Rattle.std.proofs.lemmas.List.{get_or_past, get_or-set_same, get_or-set_other, length-set, length-append, get_or_append_left, get_or-append_right}
+use Rattle.std.proofs.lemmas.Nat.{shr_split, shr-shr, pow_pos}
+use Rattle.std.proofs.lemmas.Nat.Bits.{bit_at_or, bit_at-zero, bit_at_above, bit_at_cat_low, bit_at_cat_high}
 use Rattle.std.proofs.lemmas.Bool.{cases_eq, cases_lt, lt-ltb, le-ltb}
 use Rattle.f2_vec.specs.Vectors.{plus, sum_of, zeros, placed, bit}
 use Rattle.f2_vec.specs.Inside.Packed.{unit_bit, unit_bits, HasRoom, moved_bit}
-use Rattle.f2_vec.proofs.Sums.{plus-false, length-zeros, bit-zeros, length-sum_of, bit-sum_of}
+use Rattle.f2_vec.proofs.Sums.{length-zeros, bit-zeros, length-sum_of, bit-sum_of}
 use Rattle.f2_vec.proofs.Packed.{unit_bit-at, none_past, bit_at-plus, length-unit_bits, bit-unit_bits, bit-unit_bits_within, unit_bits_from}
 
 ltb_true : (a b : ℕ) → a < b → nat_lt a b ≡ true

@@ -1,12 +1,11 @@
 -- Bits packed in words, as a list: reads, a bit that is set, one bit more, sums, the first 1.
-use Rattle.std.specs.Int.{bit_at, trailing_zeros, w64, div_ceil}
+use Rattle.std.specs.Int.{bit_at, div_ceil}
 use Rattle.std.specs.Int.Bits.{bit_and, bit_xor}
-use Rattle.std.specs.List.{range_with_len}
-use Rattle.std.proofs.Common.{◌≡◌, ◌≢◌, ℕ, zero, suc, ◌+◌, ◌-◌, ◌*◌, ◌/◌, ◌%◌, ◌^◌, ◌<◌, ◌≤◌, Bool, true, false, List, [], ◌∷◌, ◌++◌, length, get_or, set, replicate, map, refl, ap, sym, ◌∙◌, arith, inl, inr}
+use Rattle.std.proofs.Common.{◌≡◌, ◌≢◌, ℕ, zero, suc, ◌+◌, ◌*◌, ◌/◌, ◌%◌, ◌^◌, ◌<◌, ◌≤◌, Bool, false, List, [], ◌∷◌, ◌++◌, length, get_or, set, replicate, refl, ap, sym, ◌∙◌, arith, inl, inr}
 use Rattle.std.specs.Prelude.{◌==◌}
-use Rattle.std.proofs.lemmas.List.{ext_get_or, get_or_past, get_or_read, length-set, length-replicate, get_or-set_same, get_or-set_other, get_or-replicate, get_or_append_left, get_or-append_right, length_push, get_or_push, set_at}
+use Rattle.std.proofs.lemmas.List.{get_or_past, get_or_read, length-set, length-replicate, get_or-set_same, get_or-set_other, get_or-replicate, get_or_append_left, length_push, get_or_push, set_at}
 use Rattle.std.proofs.lemmas.List.FromFn.{length-map-range_with_len, get_or-map-range_with_len, fill_by_all}
-use Rattle.std.proofs.lemmas.Nat.Bits.{bit_at_xor, bit_at-lt, bit_at-zero, shr_and_one, bit_at-trailing_zeros}
+use Rattle.std.proofs.lemmas.Nat.Bits.{bit_at_xor, bit_at-lt, bit_at-zero, shr_and_one}
 use Rattle.std.proofs.lemmas.Bool.{cases_eq, cases_lt}
 use Rattle.f2_vec.specs.Vectors.{plus, sum_of, zeros, bit}
 use Rattle.f2_vec.specs.Inside.Packed.{unit_bit, unit_bits, HasRoom}
@@ -192,7 +191,7 @@ same_lengths n m us vs u v e f h = let le = ap length e in let lf = ap length f 
 pub as_many_words : (n : ℕ) (us vs : List ℕ) → HasRoom 64 n us → HasRoom 64 n vs → length us ≡ length vs
 as_many_words n us vs r s = omega (arith, r.enough, r.tight, s.enough, s.tight)
 
--- ---- the first bit
+-- ---- a bit by its word
 
 at_word : (i t : ℕ) → t < 64 → (64 * i + t) / 64 ≡ i
 at_word i t h = omega arith
@@ -203,29 +202,6 @@ in_word i t h = omega arith
 pub unit_bit-at : (us : List ℕ) (i t : ℕ) → t < 64 → unit_bit 64 us (64 * i + t) ≡ (bit_at (get_or us i 0) t == 1)
 unfolding unit_bit
 unit_bit-at us i t h = ap (λ q. bit_at (get_or us q 0) ((64 * i + t) % 64) == 1) (at_word i t h) ∙ ap (λ r. bit_at (get_or us i 0) r == 1) (in_word i t h)
-
-pub first_in_word : (us : List ℕ) (i x : ℕ) → x ≡ get_or us i 0 → 0 < x → x < 2 ^ 64 → ((k : ℕ) → k < 64 * i → unit_bit 64 us k ≡ false) → (unit_bit 64 us (64 * i + trailing_zeros w64 x) ≡ true) × ((k : ℕ) → k < 64 * i + trailing_zeros w64 x → unit_bit 64 us k ≡ false)
-first_in_word us i x e p l before =
-    let t = trailing_zeros w64 x in
-    let f = bit_at-trailing_zeros w64 x p l in (
-      unit_bit-at us i t f.0 ∙ ap (λ y. bit_at y t == 1) (sym e) ∙ ap (λ y. y == 1) f.1,
-      λ k h. elim (cases_lt k (64 * i)) [
-        | inl b ↦ before k b
-        | inr b ↦
-            let j = k - 64 * i in
-            let g : 64 * i + j ≡ k = omega arith in
-            let jt : j < t = omega arith in
-            let j64 : j < 64 = omega (arith, f.0) in
-            ap (unit_bit 64 us) (sym g) ∙ unit_bit-at us i j j64 ∙ ap (λ y. bit_at y j == 1) (sym e) ∙ ap (λ y. y == 1) (f.2 j jt)
-      ],
-    )
-
--- a word that is 0 goes by
-pub none_in_word : (us : List ℕ) (i : ℕ) → get_or us i 0 ≡ 0 → ((k : ℕ) → k < 64 * i → unit_bit 64 us k ≡ false) → (k : ℕ) → k < 64 * (i + 1) → unit_bit 64 us k ≡ false
-none_in_word us i e before k h = elim (cases_lt k (64 * i)) [
-  | inl b ↦ before k b
-  | inr b ↦ let q : k / 64 ≡ i = omega arith in unit_bit_zero 64 us k (ap (λ j. get_or us j 0) q ∙ e)
-]
 
 -- past the words there is no bit
 pub none_past : (us : List ℕ) (k : ℕ) → 64 * length us ≤ k → unit_bit 64 us k ≡ false

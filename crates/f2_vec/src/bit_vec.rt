@@ -1,11 +1,13 @@
 //! The vector type: its coordinates are kept packed in words.
 ghost use Rattle.std.specs.Prelude.{◌≡◌, ◌+◌, ◌<◌, ◌≤◌, ◌↔◌, [], ◌∷◌, ◌++◌, length, take, drop, IsTrue, IsNone, IfOk, IfSome, if◌then◌else◌, OnOk, OnErr, EachIndex, slice_index, slice_set};
 ghost use Rattle.std.specs.List.{range_with_len, items_where_true};
-ghost use Rattle.f2_vec.specs.Vectors.{sum_of, zeros, placed, bit, IsZero, IsFirstOne};
+ghost use Rattle.f2_vec.specs.Vectors.{sum_of, zeros, placed, bit, IsZero, IsZeroFrom, IsFirstOne, IsNextOne};
 ghost use Rattle.f2_vec.specs.Spans.{unit_vector};
 ghost use Rattle.f2_vec.specs.Inside.Packed.{unit_bits, HasRoom};
 
-use crate::words::{low_bits, sum_words, word_from, xor_moved, xor_words};
+use crate::words::{
+    low_bits, sum_words, word_from, word_without, xor_four_words, xor_moved, xor_words,
+};
 use memory::Memory;
 use std::alloc::{AllocError, Global};
 use std::marker::Model;
@@ -104,12 +106,37 @@ impl BitVec {
         }
     }
 
+    /// Turns the coordinate at place `i` over, without a branch.
+    pub fn flip(&mut self, i: usize)
+        requires { i < length self.old }
+        ensures { self.new ≡ sum_of self.old (unit_vector (length self.old) i) }
+    {
+        self.words[i / 64] ^= 1 << (i % 64);
+    }
+
     /// Adds `other`, of the same length, to this vector.
     pub fn xor_with(&mut self, other: &BitVec)
         requires { length self.old ≡ length other.now }
         ensures { self.new ≡ sum_of self.old other.now }
     {
         xor_words(self.words.as_mut_slice(), other.words.as_slice());
+    }
+
+    /// Adds the four vectors, of the same length, to this vector in one pass over its words.
+    pub fn xor_with_four(&mut self, a: &BitVec, b: &BitVec, c: &BitVec, d: &BitVec)
+        requires first { length a.now ≡ length self.old }
+        requires second { length b.now ≡ length self.old }
+        requires third { length c.now ≡ length self.old }
+        requires fourth { length d.now ≡ length self.old }
+        ensures { self.new ≡ sum_of (sum_of (sum_of (sum_of self.old a.now) b.now) c.now) d.now }
+    {
+        xor_four_words(
+            self.words.as_mut_slice(),
+            a.words.as_slice(),
+            b.words.as_slice(),
+            c.words.as_slice(),
+            d.words.as_slice(),
+        );
     }
 
     /// Makes this vector the sum of `a` and `b`, all of one length.
@@ -154,10 +181,20 @@ impl BitVec {
         ensures first { IfSome result (λ p. IsFirstOne self.now p) }
         ensures within { IfSome result (λ p. p < length self.now) }
     {
+        self.next_one(0)
+    }
+
+    /// The first place at or after `from` that holds a 1. `from` may be past the end: then there is none.
+    pub fn next_one(&self, from: usize) -> Option<usize>
+        ensures none { IsNone result ↔ IsZeroFrom self.now from }
+        ensures next { IfSome result (λ p. IsNextOne self.now from p) }
+        ensures within { IfSome result (λ p. p < length self.now) }
+    {
         // The length fits `usize`, so the place of a 1 does.
         let _len = self.len;
-        for i in 0..self.words.len() {
-            let word = self.words[i];
+        let words = self.words.as_slice();
+        for i in from / 64..words.len() {
+            let word = word_without(words, i, from);
             if word != 0 {
                 return Some(64 * i + word.trailing_zeros() as usize);
             }
@@ -178,10 +215,12 @@ impl BitVec {
         ensures within { IfOk result (λ ones. EachIndex ones.items (λ k. slice_index ones.items k < length self.now)) }
     {
         let mut ones = Vec::new(alloc);
-        for i in 0..self.len() {
-            if self.get(i) {
-                ones.push(i)?;
-            }
+        let mut from = 0;
+        while let Some(place) = self.next_one(from) {
+            ones.push(place)?;
+            // A length fits `usize`, so what follows a place of the vector does.
+            prove!(place < self.len());
+            from = place + 1;
         }
         Ok(ones)
     }

@@ -1,5 +1,5 @@
 //! Words of 64 bits, lowest bit first: sums, bits moved up or down, the lowest bits.
-ghost use Rattle.std.specs.Prelude.{◌≡◌, ℕ, ◌+◌, ◌*◌, ◌<◌, ◌≤◌, ◌==◌, length, slice_index_or, bit_xor};
+ghost use Rattle.std.specs.Prelude.{◌≡◌, ℕ, ◌+◌, ◌*◌, ◌/◌, ◌<◌, ◌≤◌, ◌==◌, length, slice_index_or, bit_xor};
 ghost use Rattle.std.specs.Int.{bit_at};
 ghost use Rattle.f2_vec.specs.Vectors.{plus};
 ghost use Rattle.f2_vec.specs.Inside.Packed.{unit_bit, moved_bit};
@@ -20,6 +20,20 @@ pub fn xor_words(words: &mut [u64], other: &[u64])
     }
     for k in i..words.len() {
         words[k] ^= other[k];
+    }
+}
+
+/// Adds the words of the four slices, place by place.
+pub fn xor_four_words(words: &mut [u64], a: &[u64], b: &[u64], c: &[u64], d: &[u64])
+    requires first { length a.now ≡ length words.old }
+    requires second { length b.now ≡ length words.old }
+    requires third { length c.now ≡ length words.old }
+    requires fourth { length d.now ≡ length words.old }
+    ensures length { length words.new ≡ length words.old }
+    ensures words { (k : ℕ) → slice_index_or words.new k 0 ≡ bit_xor (slice_index_or words.old k 0) (bit_xor (bit_xor (bit_xor (slice_index_or a.now k 0) (slice_index_or b.now k 0)) (slice_index_or c.now k 0)) (slice_index_or d.now k 0)) }
+{
+    for k in 0..words.len() {
+        words[k] ^= a[k] ^ b[k] ^ c[k] ^ d[k];
     }
 }
 
@@ -88,4 +102,18 @@ pub fn low_bits(word: u64, count: usize) -> u64
     } else {
         word
     }
+}
+
+/// The word at place `at`, without those of its bits that stand before bit `from` of all the words.
+pub fn word_without(words: &[u64], at: usize, from: usize) -> u64
+    requires within { at < length words.now }
+    requires reached { from / 64 ≤ at }
+    ensures before { (b : ℕ) → b < 64 → 64 * at + b < from → bit_at result b ≡ 0 }
+    ensures others { (b : ℕ) → b < 64 → from ≤ 64 * at + b → (bit_at result b == 1) ≡ unit_bit 64 words.now (64 * at + b) }
+{
+    let word = words[at];
+    if at == from / 64 {
+        return (word >> (from % 64)) << (from % 64);
+    }
+    word
 }

@@ -1,4 +1,4 @@
-use Rattle.std.proofs.Common.{◌≡◌, ◌<◌, arith}
+use Rattle.std.proofs.Common.{arith}
 use Rattle.f2_vec.proofs.Cut.{lower_alone, lower_both}
 use Rattle.f2_vec.proofs.words.word_from.Goals as goal
 

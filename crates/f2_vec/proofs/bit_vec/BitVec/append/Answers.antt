@@ -1,9 +1,9 @@
 use Rattle.std.specs.Int.{div_ceil}
-use Rattle.std.proofs.Common.{◌≡◌, ℕ, ◌+◌, ◌*◌, ◌≤◌, List, Bool, ◌++◌, length, replicate, take, ap, sym, ◌∙◌, arith, subst}
+use Rattle.std.proofs.Common.{◌≡◌, ℕ, ◌+◌, List, Bool, ◌++◌, length, replicate, take, ap, sym, ◌∙◌, arith}
 use Rattle.f2_vec.specs.Vectors.{zeros}
 use Rattle.f2_vec.specs.Inside.Packed.{HasRoom, unit_bits}
 use Rattle.f2_vec.proofs.Packed.{length-unit_bits}
-use Rattle.f2_vec.proofs.Appended.{HasZerosBehind, HasZerosBehind-resized, HasRoom-behind, unit_bits-behind, sum_behind}
+use Rattle.f2_vec.proofs.Appended.{HasZerosBehind-resized, HasRoom-behind, unit_bits-behind, sum_behind}
 use Rattle.f2_vec.proofs.bit_vec.BitVec.append.Goals as goal
 
 -- the words are longer, and hold n coordinates and m zeros

@@ -1,7 +1,6 @@
-use Rattle.std.specs.Int.{bit_at}
 use Rattle.std.specs.Int.Bits.{bit_and}
 use Rattle.std.specs.Prelude.{◌==◌}
-use Rattle.std.proofs.Common.{◌≡◌, ◌<◌, ◌/◌, ◌%◌, ◌^◌, ℕ, suc, zero, Bool, true, false, cond, length, ap, refl, sym, ◌∙◌, arith, subst}
+use Rattle.std.proofs.Common.{◌≡◌, ◌<◌, ◌/◌, ◌%◌, ◌^◌, ℕ, suc, zero, Bool, cond, length, ap, sym, ◌∙◌, arith, subst}
 use Rattle.std.proofs.lemmas.Nat.Bits.{shr_and_one, bit_at-lt}
 use Rattle.f2_vec.specs.Vectors.{bit}
 use Rattle.f2_vec.proofs.Packed.{length-unit_bits, bit-unit_bits, unit_bit-read}

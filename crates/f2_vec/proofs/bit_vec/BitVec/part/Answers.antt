@@ -1,8 +1,6 @@
-use Rattle.std.specs.Prelude.{◌==◌}
-use Rattle.std.specs.Int.{div_ceil, bit_at}
-use Rattle.std.proofs.Common.{◌≡◌, ◌<◌, ◌≤◌, ◌+◌, ◌-◌, ◌*◌, ◌%◌, ℕ, length, take, drop, ap, sym, ◌∙◌, arith, subst}
+use Rattle.std.specs.Int.{div_ceil}
+use Rattle.std.proofs.Common.{◌≡◌, ◌<◌, ◌≤◌, ℕ, length, take, drop, ap, sym, ◌∙◌, arith, subst}
 use Rattle.std.proofs.lemmas.List.{length-replicate, length-set}
-use Rattle.f2_vec.specs.Inside.Packed.{unit_bit, unit_bits, HasRoom}
 use Rattle.f2_vec.proofs.Packed.{length-unit_bits}
 use Rattle.f2_vec.proofs.Cut.{AreCutUpTo, cut_more, HasRoom-cut, unit_bits-cut}
 use Rattle.f2_vec.proofs.bit_vec.BitVec.part.Goals as goal

@@ -1,5 +1,5 @@
 -- The words so far hold the first coordinates of the part.
-use Rattle.std.proofs.Common.{◌≡◌, ◌-◌, length}
+use Rattle.std.proofs.Common.{◌≡◌, length}
 use Rattle.std.specs.Int.{div_ceil}
 use Rattle.f2_vec.proofs.Cut.{AreCutUpTo}
 use Rattle.f2_vec.proofs.bit_vec.BitVec.part.Given as goal

@@ -1,10 +1,10 @@
-use Rattle.std.specs.Int.{bit_at, w64}
+use Rattle.std.specs.Int.{w64}
 use Rattle.std.specs.Int.Bits.{bit_and, bit_or}
 use Rattle.std.specs.Int.{bit_not}
 use Rattle.std.specs.Prelude.{◌==◌}
-use Rattle.std.proofs.Common.{◌≡◌, ◌<◌, ◌*◌, ◌/◌, ◌%◌, ◌^◌, ℕ, List, Bool, true, false, length, get_or, set, ap, sym, ◌∙◌, arith, subst}
+use Rattle.std.proofs.Common.{◌≡◌, ◌<◌, ◌*◌, ◌/◌, ◌%◌, ◌^◌, ℕ, List, Bool, true, false, length, get_or, set, ap, sym, ◌∙◌, arith}
 use Rattle.std.proofs.lemmas.Nat.Bits.{bit_at_set_same, bit_at_set_other, bit_at_clear_same, bit_at_clear_other}
-use Rattle.f2_vec.specs.Inside.Packed.{HasRoom, unit_bit, unit_bits}
+use Rattle.f2_vec.specs.Inside.Packed.{HasRoom, unit_bits}
 use Rattle.f2_vec.proofs.Packed.{length-unit_bits, HasBitSet, HasBitSet-word, HasRoom-set, unit_bits-set}
 use Rattle.f2_vec.proofs.bit_vec.BitVec.set.Goals as goal
 

@@ -1,7 +1,7 @@
 use Rattle.std.proofs.Common.{◌≡◌, ◌+◌, ◌≤◌, ◌<◌, ◌*◌, ℕ, List, Bool, length, ap, sym, ◌∙◌, arith, subst}
 use Rattle.std.proofs.lemmas.List.{with_items_is}
 use Rattle.f2_vec.specs.Vectors.{plus, sum_of, placed}
-use Rattle.f2_vec.specs.Inside.Packed.{HasRoom, unit_bit, unit_bits, moved_bit}
+use Rattle.f2_vec.specs.Inside.Packed.{unit_bit, unit_bits, moved_bit}
 use Rattle.f2_vec.proofs.Packed.{length-unit_bits}
 use Rattle.f2_vec.proofs.Moved.{HasRoom-moved, unit_bits-moved}
 use Rattle.f2_vec.proofs.bit_vec.BitVec.xor_at.Goals as goal

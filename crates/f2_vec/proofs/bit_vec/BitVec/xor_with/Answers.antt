@@ -1,8 +1,7 @@
-use Rattle.std.specs.Int.Bits.{bit_xor}
-use Rattle.std.proofs.Common.{◌≡◌, ◌/◌, ℕ, List, length, get_or, ap, sym, ◌∙◌, arith, subst}
+use Rattle.std.proofs.Common.{◌≡◌, length, ap, sym, ◌∙◌, subst}
 use Rattle.std.proofs.lemmas.List.{with_items_is}
-use Rattle.f2_vec.specs.Vectors.{plus, sum_of}
-use Rattle.f2_vec.specs.Inside.Packed.{HasRoom, unit_bit, unit_bits}
+use Rattle.f2_vec.specs.Vectors.{sum_of}
+use Rattle.f2_vec.specs.Inside.Packed.{HasRoom, unit_bits}
 use Rattle.f2_vec.proofs.Packed.{same_lengths, as_many_words, unit_bit-sums, HasRoom-sum, unit_bits-sum}
 use Rattle.f2_vec.proofs.bit_vec.BitVec.xor_with.Goals as goal
 

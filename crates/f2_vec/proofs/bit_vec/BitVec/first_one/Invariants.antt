@@ -1,7 +1,0 @@
--- No bit is set in the words so far.
-use Rattle.std.proofs.Common.{◌≡◌, ℕ, ◌*◌, ◌<◌, false}
-use Rattle.f2_vec.specs.Inside.Packed.{unit_bit}
-use Rattle.f2_vec.proofs.bit_vec.BitVec.first_one.Given as goal
-
-abbrev pub invariant-loop-i : goal.invariant-loop-i
-invariant-loop-i l = (k : ℕ) → k < 64 * l.i → unit_bit 64 l.self-inside.words.items k ≡ false
