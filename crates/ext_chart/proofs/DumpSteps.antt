@@ -1,5 +1,5 @@
 -- The steps of the loops that write differentials.
-use Rattle.std.proofs.Common.{◌≡◌, ℕ, ◌+◌, ◌-◌, ◌<◌, ◌≤◌, Bool, true, false, cond, List, [], ◌∷◌, ◌++◌, length, map, take, get_or, ℤ, refl, subst, ap, sym, ◌∙◌, arith, append_assoc}
+use Rattle.std.proofs.Common.{◌≡◌, ℕ, ◌+◌, ◌≤◌, Bool, true, false, List, [], ◌∷◌, ◌++◌, length, map, take, ℤ, refl, ap, sym, ◌∙◌, arith, append_assoc}
 use Rattle.std.specs.List.{flat_map, range_with_len, items_where_true}
 use Rattle.std.proofs.lemmas.List.{take_all}
 use Rattle.std.proofs.lemmas.List.FromFn.{fill_by_all, map-range_with_len_more}
@@ -8,7 +8,7 @@ use Rattle.f2_vec.proofs.Combinations.{map-map}
 use Rattle.free_module.specs.FreeBasis.{element}
 use Rattle.free_module.specs.FreeModule.{free_basis, free_width}
 use Rattle.module_check.specs.Text.{joined_by_plus}
-use Rattle.module_check.proofs.TextSteps.{items_where_true-more, flat_map_range}
+use Rattle.module_check.proofs.TextSteps.{flat_map_range}
 use Rattle.ext_chart.specs.declared.place.Place.{Place}
 use Rattle.ext_chart.specs.Dump.{square_places, term_text, free_sum_text, generator_line}
 
@@ -17,16 +17,6 @@ pub square_places-more : (s : ℕ) (t : ℤ) (i : ℕ) (before places : List Pla
 square_places-more s t i before places e =
     let f : ℕ → Place = λ k. record { s = s; t = t; i = k } in
     ap (λ p. p ++ f i ∷ []) e ∙ append_assoc before (square_places s t i) (f i ∷ []) ∙ ap (λ p. before ++ p) (sym (map-range_with_len_more f 0 i i (omega arith)))
-
--- the ones of the first i coordinates, and of one more
-pub ones-more : (v : List Bool) (i : ℕ) (ones : List ℕ) (b : Bool) → i < length v → ones ≡ items_where_true (take i v) (range_with_len 0 i) → b ≡ get_or v i false → ones ++ cond b (i ∷ []) [] ≡ items_where_true (take (i + 1) v) (range_with_len 0 (i + 1))
-ones-more v i ones b h e f =
-    let z : i ≡ i - 0 = omega arith in
-    let y : i + 1 - 0 ≡ i + 1 = omega arith in
-    subst (λ (k : ℕ). ones ++ cond b (i ∷ []) [] ≡ items_where_true (take k v) (range_with_len 0 k)) y
-    (items_where_true-more v 0 i ones b (omega arith) (omega arith)
-    (subst (λ (k : ℕ). ones ≡ items_where_true (take k v) (range_with_len 0 k)) z e)
-    (f ∙ ap (λ (k : ℕ). get_or v k false) z))
 
 pub map-items_where_true : {A B : Type 0} (f : A → B) (bs : List Bool) (xs : List A) → map f (items_where_true bs xs) ≡ items_where_true bs (map f xs)
 map-items_where_true f [] [] = refl

@@ -5,3 +5,4 @@ pub mod Examples
 pub mod RowSteps
 pub mod SphereTable
 pub mod TableSquares
+pub mod Targets

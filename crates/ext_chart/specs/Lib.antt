@@ -1,3 +1,4 @@
 pub mod Chart
 pub mod Check
 pub mod Dump
+pub mod Inside

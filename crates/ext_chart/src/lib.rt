@@ -6,6 +6,7 @@ mod check_text;
 mod dump_text;
 mod images;
 mod lines;
+mod named_target;
 mod place;
 mod row_gens;
 mod terms;

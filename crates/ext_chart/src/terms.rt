@@ -1,6 +1,5 @@
 //! A vector of a free module as a sum of terms.
-ghost use Rattle.std.specs.Prelude.{◌≡◌, ◌<◌, length, IfOk, EachIndex, slice_index};
-ghost use Rattle.std.specs.List.{range_with_len, items_where_true};
+ghost use Rattle.std.specs.Prelude.{◌≡◌, ◌<◌, length, IfOk};
 ghost use Rattle.free_module.specs.FreeBasis.{element};
 ghost use Rattle.free_module.specs.FreeModule.{IsWithinReach, free_basis, free_width};
 ghost use Rattle.ext_chart.specs.Dump.{term_text, free_sum_text};
@@ -27,7 +26,7 @@ pub(crate) fn free_sum_text(
     requires reach { IsWithinReach basis.now gens.now t }
     ensures { IfOk result (λ text. text.items ≡ free_sum_text places.now gens.now t v.now) }
 {
-    let ones = ones(alloc, v)?;
+    let ones = v.ones(alloc)?;
     let mut text = Vec::new(alloc);
     for (k, i) in ones.iter().enumerate() {
         if k > 0 {
@@ -37,20 +36,6 @@ pub(crate) fn free_sum_text(
         text.extend_from_slice(term.as_slice())?;
     }
     Ok(text)
-}
-
-/// The places of the ones of `v`, in order.
-fn ones(alloc: Global, v: &BitVec) -> Result<Vec<usize>, Memory>
-    ensures places { IfOk result (λ ones. ones.items ≡ items_where_true v.now (range_with_len 0 (length v.now))) }
-    ensures within { IfOk result (λ ones. EachIndex ones.items (λ k. slice_index ones.items k < length v.now)) }
-{
-    let mut ones = Vec::new(alloc);
-    for i in 0..v.len() {
-        if v.get(i) {
-            ones.push(i)?;
-        }
-    }
-    Ok(ones)
 }
 
 /// Element `i` of the basis in degree `t`.

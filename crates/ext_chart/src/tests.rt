@@ -1,8 +1,10 @@
 ghost use Rattle.std.specs.Prelude.{◌≡◌, true, pos, List, [], ◌∷◌, length, IfOk};
 ghost use Rattle.square.specs.Tables.{IsThrough};
 
-use crate::lines::{first_lines, free_lines};
-use crate::place::{Place, with_square};
+use crate::lines::square_lines;
+use crate::named_target::NamedTarget;
+use crate::place::with_square;
+use crate::row_gens::RowGens;
 use crate::{chart, check_line, dump};
 use f2_vec::BitVec;
 use free_module::Gens;
@@ -37,8 +39,9 @@ fn row_one(alloc: Global) -> Result<Gens, Memory>
 
 // The generator x0 of the sphere's module, in degree 0, is the image of the one generator of its row 0.
 #[test]
-fn writes_first_lines(rt: HostRuntime) -> Result<(), Fail> {
+fn writes_lines_of_row_zero(rt: HostRuntime) -> Result<(), Fail> {
     let alloc = rt.alloc();
+    let basis = Basis::new(alloc, 0)?;
     let sphere = Module::sphere(alloc)?;
     let mut image = BitVec::zero(alloc, sphere.dim_in(0))?;
     if !image.is_empty() {
@@ -46,7 +49,8 @@ fn writes_first_lines(rt: HostRuntime) -> Result<(), Fail> {
     }
     let mut images = Vec::new(alloc);
     images.push(image)?;
-    let lines = first_lines(alloc, &sphere, 0, images.as_slice())?;
+    let target = NamedTarget::Module(&sphere);
+    let lines = square_lines(alloc, &basis, &target, 0, 0, images.as_slice())?;
     assert_eq!(rt; lines.as_slice(), b"d(0,0,0) = x0\n".as_slice());
     Ok(())
 }
@@ -58,26 +62,18 @@ fn writes_lines(rt: HostRuntime) -> Result<(), Fail> {
     let alloc = rt.alloc();
     let basis = Basis::new(alloc, 4)?;
     let gens = row_one(alloc)?;
-    let mut places: Vec<Place> = Vec::new(alloc);
+    let mut places = Vec::new(alloc);
     for t in [1, 2, 4] {
         places = with_square(places, 1, t, 1)?;
     }
     if places.len() == 3 {
         let mut images = Vec::new(alloc);
         images.push(image(alloc)?)?;
-        let lines = free_lines(
-            alloc,
-            &basis,
-            &gens,
-            places.as_slice(),
-            2,
-            4,
-            images.as_slice(),
-        )?;
+        let target = NamedTarget::Row(RowGens { gens, places });
+        let lines = square_lines(alloc, &basis, &target, 2, 4, images.as_slice())?;
         let want = b"d(2,4,0) = Sq(3)*(1,1,0) + Sq(2)*(1,2,0)\n".as_slice();
         assert_eq!(rt; lines.as_slice(), want);
     }
-    assert_eq!(rt; places.len(), 3);
     Ok(())
 }
 

@@ -1,4 +1,4 @@
-use Rattle.std.proofs.Common.{◌≡◌, ℕ, length, take, w32, ◌∙◌, ap, subst, arith}
+use Rattle.std.proofs.Common.{length, w32, ◌∙◌, ap, arith}
 use Rattle.std.proofs.lemmas.Int.{to_z-of_z}
 use Rattle.std.proofs.lemmas.List.{take_all}
 use Rattle.module_check.specs.Module.{bottom}

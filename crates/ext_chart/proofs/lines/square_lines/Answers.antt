@@ -1,9 +1,9 @@
 use Rattle.std.proofs.Common.{◌≡◌, ◌<◌, ◌++◌, [], length, to_z, of_z, w32, ap, ◌∙◌, arith}
 use Rattle.std.proofs.lemmas.Int.{ints}
 use Rattle.std.proofs.lemmas.List.{get_or_default}
-use Rattle.module_check.specs.Text.{sum_text}
+use Rattle.ext_chart.specs.Inside.Targets.{text_over}
 use Rattle.ext_chart.proofs.DumpSteps.{lines_through, lines-more}
-use Rattle.ext_chart.proofs.lines.first_lines.Goals as goal
+use Rattle.ext_chart.proofs.lines.square_lines.Goals as goal
 
 pub loop-i-preserved : goal.loop-i-preserved
 loop-i-preserved c =
@@ -12,7 +12,7 @@ loop-i-preserved c =
     let i = c.loop-i.i in
     let l : i < length images = c.loop-i-test.true in
     let image = c.index-images-i.result in
-    lines-more (sum_text c.args.over.now.plain.generators t) 0 t images i image c.loop-i.text.items c.as_slice.result.now c.in_ok-line.line.items c.extend_from_slice.new.self.items
+    lines-more (text_over c.args.target.now t) c.args.s t images i image c.loop-i.text.items c.as_slice.result.now c.in_ok-line.line.items c.extend_from_slice.new.self.items
     c.loop-i.invariant
     (c.index-images-i.is ∙ get_or_default images i image [] l)
     (c.as_slice.ensures.value ∙ c.in_ok-sum.ensures)
@@ -24,6 +24,6 @@ returns c =
     let images = c.args.images.now in
     let t = c.args.t in
     let tt : to_z w32 (of_z w32 t) ≡ t = omega (arith, ints) in
-    let inv : c.loop-i.text.items ≡ lines_through (sum_text c.args.over.now.plain.generators t) 0 t images c.loop-i.i = simp tt at c.loop-i.invariant in
+    let inv : c.loop-i.text.items ≡ lines_through (text_over c.args.target.now t) c.args.s t images c.loop-i.i = simp tt at c.loop-i.invariant in
     let all : c.loop-i.i ≡ length images = omega arith in
-    inv ∙ ap (lines_through (sum_text c.args.over.now.plain.generators t) 0 t images) all
+    inv ∙ ap (lines_through (text_over c.args.target.now t) c.args.s t images) all
