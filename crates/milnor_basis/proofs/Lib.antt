@@ -20,5 +20,6 @@ mod Steps
 mod Sums
 mod Walk
 pub mod Places
+pub mod KeptProducts
 pub mod TextLemmas
 pub mod Crossing

@@ -2,3 +2,4 @@
 pub mod Counted
 pub mod Padding
 pub mod Walk
+pub mod Kept

@@ -1,5 +1,5 @@
 -- The product of two elements of Milnor's basis, as he states it: a sum over matrices.
-use Rattle.std.specs.Prelude.{◌≡◌, ℕ, zero, suc, ◌+◌, ◌-◌, ◌*◌, ◌%◌, ◌^◌, Bool, true, ◌&&◌, nat_eq, if◌then◌else◌, List, [], ◌∷◌, ◌++◌, length, map}
+use Rattle.std.specs.Prelude.{◌≡◌, ℕ, zero, suc, ◌+◌, ◌-◌, ◌*◌, ◌%◌, ◌^◌, Bool, true, false, ◌&&◌, nat_eq, if◌then◌else◌, List, [], ◌∷◌, ◌++◌, length, map}
 use Rattle.std.specs.List.{filter, fold, flat_map, list_all, count_by, sum, range_with_len}
 use Rattle.std.specs.Cmp.Lexicographic.{pointwise}
 use Rattle.milnor_basis.specs.Exponents.{entry, degree_of, trimmed, IsTrimmed}
@@ -84,6 +84,21 @@ product_terms r s = filter (coefficient r s) (basis_of (degree_of r + degree_of 
 -- the product as its coefficients on the basis of its degree
 abbrev pub product_bits : List ℕ → List ℕ → List Bool
 product_bits r s = map (coefficient r s) (basis_of (degree_of r + degree_of s))
+
+-- the places of the bits that are set, rising, where the first stands at place i
+abbrev pub places_from : ℕ → List Bool → List ℕ
+places_from i [] = []
+places_from i (true ∷ bits) = i ∷ places_from (suc i) bits
+places_from i (false ∷ bits) = places_from (suc i) bits
+
+-- the places of the product's terms in the basis of its degree, rising
+abbrev pub product_places : List ℕ → List ℕ → List ℕ
+product_places r s = places_from 0 (product_bits r s)
+
+-- the factors of products that are kept together: each element of a degree from the left, one element from the right
+pub record Factors : Type 0 where
+  pub degree : ℕ
+  pub right : List ℕ
 
 -- a product's terms are of the degree of the product
 abbrev pub ProductIsHomogeneous : Type 0

@@ -5,8 +5,10 @@ ghost use Rattle.milnor_basis.specs.Basis.{lists_of, basis_of};
 
 use crate::counts::Counts;
 use crate::exps::{Exps, MAX_EXPONENTS};
+use crate::multiples::Kept;
 use memory::Memory;
 use std::alloc::Global;
+use std::fmt;
 use std::marker::Model;
 
 /// The elements of one degree, in order.
@@ -68,11 +70,12 @@ impl Level {
 }
 
 /// The Milnor bases of the degrees 0 to a greatest one, which is all that contracts see of it.
-#[derive(Debug, Drop)]
+#[derive(Drop)]
 pub struct Basis {
     max: u16,
     levels: Vec<Level>,
     counts: Counts,
+    kept: Kept,
 }
 
 impl Model for Basis {
@@ -84,7 +87,14 @@ impl Model for Basis {
 
     ghost view = { λ b. b.max };
 
-    ghost invariant = { λ b. (b.max ≤ 255) × (b.levels.items ≡ map basis_of (range_with_len 0 (b.max + 1))) × (b.counts ≡ b.max) };
+    ghost invariant = { λ b. (b.max ≤ 255) × (b.levels.items ≡ map basis_of (range_with_len 0 (b.max + 1))) × (b.counts ≡ b.max) × (b.kept ≡ b.max + 1) };
+}
+
+impl fmt::Debug for Basis {
+    fn fmt<W: fmt::Write>(&self, f: &mut fmt::Formatter<W>) -> fmt::Result {
+        let max = self.max;
+        write!(f, "Basis({max})")
+    }
 }
 
 impl Basis {
@@ -98,10 +108,12 @@ impl Basis {
             levels.push(Level::of_degree(alloc, n)?)?;
         }
         let counts = Counts::new(alloc, max)?;
+        let kept = Kept::new(alloc, max)?;
         Ok(Basis {
             max,
             levels,
             counts,
+            kept,
         })
     }
 
@@ -110,6 +122,13 @@ impl Basis {
         ensures { result ≡ self.now }
     {
         self.max
+    }
+
+    /// The products that were made so far.
+    pub(crate) fn kept(&self) -> &Kept
+        ensures { result.now ≡ self.now + 1 }
+    {
+        &self.kept
     }
 
     /// The basis of degree `n`, in right lexicographic order.

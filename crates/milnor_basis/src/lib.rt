@@ -5,11 +5,13 @@ mod basis;
 mod counts;
 mod exps;
 mod laws;
+mod multiples;
 mod product;
 mod text;
 
 pub use basis::Basis;
 pub use exps::Exps;
 pub use laws::{basis_is_milnors, product_is_homogeneous};
+pub use multiples::Multiples;
 pub use product::{coefficients, terms};
 pub use text::sq_text;

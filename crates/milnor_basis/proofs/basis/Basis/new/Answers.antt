@@ -20,5 +20,5 @@ invariant_of-result c =
       | then-loop-n-test+in_ok-of_degree+in_ok-push+else-n-max w ↦
           let made = level_more c.loop-n.levels.items w.push.new.self.items w.in_ok-of_degree.field-0 c.loop-n.n c.loop-n.invariant w.in_ok-of_degree.ensures w.in_ok-push.ensures.items in
           let last : c.loop-n.n ≡ c.args.max = omega arith in
-          (c.requires, ap (λ v. v.items) w.levels-is ∙ made ∙ ap (λ n. map basis_of (range_with_len 0 (n + 1))) last, c.in_ok-counts.ensures)
+          (c.requires, ap (λ v. v.items) w.levels-is ∙ made ∙ ap (λ n. map basis_of (range_with_len 0 (n + 1))) last, c.in_ok-counts.ensures, c.in_ok-kept.ensures)
     ]

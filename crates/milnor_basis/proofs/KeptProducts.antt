@@ -1,0 +1,93 @@
+-- The places of products, one product behind the other.
+use Rattle.std.proofs.Common.{◌≡◌, ℕ, suc, ◌+◌, ◌-◌, ◌<◌, ◌≤◌, Bool, true, false, cond, List, [], ◌∷◌, ◌++◌, length, map, take, drop, get_or, refl, ap, sym, subst, ◌∙◌, arith, inl, inr, length-append}
+use Rattle.std.proofs.lemmas.Bool.{cases_lt}
+use Rattle.std.proofs.lemmas.List.{drop_more, drop_all, append_assoc, append-nil, get_or_append_left, get_or_push, take-append-le, drop-append-le, length-drop, length-map, get_or-map}
+use Rattle.std.proofs.Math.Seq.{drop-append_seam, take-length}
+use Rattle.milnor_basis.specs.Basis.{basis_of}
+use Rattle.milnor_basis.specs.Product.{places_from, product_places}
+use Rattle.milnor_basis.specs.Inside.Kept.{HoldFirst}
+
+-- one bit more
+pub places_more : (bits : List Bool) (i : ℕ) (numbers : List ℕ) (b : Bool) → i < length bits → b ≡ get_or bits i false → numbers ++ places_from i (drop i bits) ≡ (numbers ++ cond b (i ∷ []) []) ++ places_from (i + 1) (drop (i + 1) bits)
+places_more bits i numbers b l e =
+    let n : suc i ≡ i + 1 = omega arith in
+    ap (λ xs. numbers ++ places_from i xs) (drop_more bits i false l)
+    ∙ ap (λ c. numbers ++ places_from i (c ∷ drop (i + 1) bits)) (sym e)
+    ∙ at b ∙ ap (λ j. (numbers ++ cond b (i ∷ []) []) ++ places_from j (drop (i + 1) bits)) n
+  where
+    at : (c : Bool) → numbers ++ places_from i (c ∷ drop (i + 1) bits) ≡ (numbers ++ cond c (i ∷ []) []) ++ places_from (suc i) (drop (i + 1) bits)
+    at true = sym (append_assoc numbers (i ∷ []) (places_from (suc i) (drop (i + 1) bits)))
+    at false = ap (λ xs. xs ++ places_from (suc i) (drop (i + 1) bits)) (sym (append-nil numbers))
+
+pub places_done : (bits : List Bool) (i : ℕ) (numbers : List ℕ) → length bits ≤ i → numbers ++ places_from i (drop i bits) ≡ numbers
+places_done bits i numbers l = ap (λ xs. numbers ++ places_from i xs) (drop_all i bits l) ∙ append-nil numbers
+
+-- a part stays as it is, whatever is put behind the list
+part_kept : (xs ys : List ℕ) (o m : ℕ) → o + m ≤ length xs → take m (drop o (xs ++ ys)) ≡ take m (drop o xs)
+part_kept xs ys o m l =
+    let rest : m ≤ length (drop o xs) = omega (arith, length-drop o xs) in
+    ap (take m) (drop-append-le o xs ys (omega arith)) ∙ take-append-le m (drop o xs) ys rest
+
+part_new : (xs ys : List ℕ) → take (length (xs ++ ys) - length xs) (drop (length xs) (xs ++ ys)) ≡ ys
+part_new xs ys =
+    let n : length (xs ++ ys) - length xs ≡ length ys = omega (arith, length-append xs ys) in
+    ap (λ m. take m (drop (length xs) (xs ++ ys))) n ∙ ap (take (length ys)) (drop-append_seam xs ys) ∙ take-length ys
+
+pub hold_none : (degree : ℕ) (s : List ℕ) → HoldFirst degree s 0 (0 ∷ []) []
+hold_none degree s = record {
+  count = refl;
+  end = refl;
+  rising = λ i l. absurd (omega arith);
+  within = λ i l. absurd (omega arith);
+  held = λ i l. absurd (omega arith);
+}
+
+-- one product more
+pub hold_more : (degree : ℕ) (s : List ℕ) (n : ℕ) (offsets places offsets' places' : List ℕ) (end : ℕ) → HoldFirst degree s n offsets places
+    → places' ≡ places ++ product_places (get_or (basis_of degree) n []) s → end ≡ length places' → offsets' ≡ offsets ++ end ∷ []
+    → HoldFirst degree s (n + 1) offsets' places'
+hold_more degree s n offsets places offsets' places' end h grown to ends =
+    let more = product_places (get_or (basis_of degree) n []) s in
+    let room : length places' ≡ length places + length more = ap length grown ∙ length-append places more in
+    let count : length offsets ≡ n + 1 = h.count in
+    let first : (i : ℕ) → i ≤ n → get_or offsets' i 0 ≡ get_or offsets i 0 = λ i l. ap (λ xs. get_or xs i 0) ends ∙ get_or_append_left offsets (end ∷ []) 0 i (omega arith) in
+    let last : get_or offsets' (n + 1) 0 ≡ end = ap (λ xs. get_or xs (n + 1) 0) ends ∙ get_or_push offsets end 0 (n + 1) count in
+    let below : (i : ℕ) → i < n → get_or offsets' i 0 + (get_or offsets' (i + 1) 0 - get_or offsets' i 0) ≤ length places = λ i l.
+    omega (arith, first i (omega arith), first (i + 1) (omega arith), h.rising i l, h.within i l)
+    in
+    record {
+      count = ap length ends ∙ length-append offsets (end ∷ []) ∙ omega arith;
+      end = last ∙ to;
+      rising = λ i l. elim (cases_lt i n) [
+        | inl a ↦ omega (arith, first i (omega arith), first (i + 1) (omega arith), h.rising i a)
+        | inr b ↦ let same : i ≡ n = omega arith in subst (λ j. get_or offsets' j 0 ≤ get_or offsets' (j + 1) 0) (sym same) (omega (arith, first n (omega arith), h.end))
+      ];
+      within = λ i l. elim (cases_lt i n) [
+        | inl a ↦ omega (arith, first (i + 1) (omega arith), h.within i a)
+        | inr b ↦ let same : i ≡ n = omega arith in subst (λ j. get_or offsets' (j + 1) 0 ≤ length places') (sym same) (omega arith)
+      ];
+      held = λ i l. elim (cases_lt i n) [
+        | inl a ↦
+            let f : get_or offsets' i 0 ≡ get_or offsets i 0 = first i (omega arith) in
+            let t : get_or offsets' (i + 1) 0 ≡ get_or offsets (i + 1) 0 = first (i + 1) (omega arith) in
+            ap (λ xs. take (get_or offsets' (i + 1) 0 - get_or offsets' i 0) (drop (get_or offsets' i 0) xs)) grown
+            ∙ part_kept places more (get_or offsets' i 0) (get_or offsets' (i + 1) 0 - get_or offsets' i 0) (below i a)
+            ∙ ap (λ o. take (get_or offsets' (i + 1) 0 - o) (drop o places)) f
+            ∙ ap (λ o. take (o - get_or offsets i 0) (drop (get_or offsets i 0) places)) t
+            ∙ h.held i a
+        | inr b ↦
+            let same : n ≡ i = omega arith in
+            let f : get_or offsets' n 0 ≡ length places = first n (omega arith) ∙ h.end in
+            subst (λ j. take (get_or offsets' (j + 1) 0 - get_or offsets' j 0) (drop (get_or offsets' j 0) places') ≡ product_places (get_or (basis_of degree) j []) s) same
+            (ap (λ o. take (o - get_or offsets' n 0) (drop (get_or offsets' n 0) places')) (last ∙ to)
+            ∙ ap (λ o. take (length places' - o) (drop o places')) f
+            ∙ ap (λ xs. take (length xs - length places) (drop (length places) xs)) grown
+            ∙ part_new places more)
+      ];
+    }
+
+-- two ways to list the same bits
+pub same_bits : {V : Type 0} (f : V → List Bool) (g : List ℕ → List Bool) (rows : List V) (elements : List (List ℕ)) (i : ℕ) (x : V) → map f rows ≡ map g elements → i < length rows → x ≡ get_or rows i x → f x ≡ g (get_or elements i [])
+same_bits f g rows elements i x e l is =
+    let within : i < length elements = omega (arith, ap length e, length-map rows f, length-map elements g) in
+    ap f is ∙ sym (get_or-map f rows i x (f x) l) ∙ ap (λ bits. get_or bits i (f x)) e ∙ get_or-map g elements i [] (f x) within

@@ -1,0 +1,16 @@
+-- Lists of places, one behind the other.
+use Rattle.std.specs.Prelude.{◌≡◌, ℕ, ◌+◌, ◌-◌, ◌<◌, ◌≤◌, List, [], length, take, drop, slice_index, slice_index_or}
+use Rattle.milnor_basis.specs.Basis.{basis_of}
+use Rattle.milnor_basis.specs.Product.{product_places}
+
+-- the products with S of the first n elements of a degree: offsets has where the places of each begin and where the last end
+pub record HoldFirst (degree : ℕ) (s : List ℕ) (n : ℕ) (offsets places : List ℕ) : Type 0 where
+  pub count : length offsets ≡ n + 1
+  pub end : slice_index offsets n ≡ length places
+  pub rising : (i : ℕ) → i < n → slice_index offsets i ≤ slice_index offsets (i + 1)
+  pub within : (i : ℕ) → i < n → slice_index offsets (i + 1) ≤ length places
+  pub held : (i : ℕ) → i < n → take (slice_index offsets (i + 1) - slice_index offsets i) (drop (slice_index offsets i) places) ≡ product_places (slice_index_or (basis_of degree) i []) s
+
+-- the products with S of all elements of a degree
+abbrev pub HoldProducts : ℕ → List ℕ → List ℕ → List ℕ → Type 0
+HoldProducts degree s offsets places = HoldFirst degree s (length (basis_of degree)) offsets places

@@ -1,0 +1,240 @@
+//! The products of one element with all elements of a degree, which a basis keeps as they are made.
+ghost use Rattle.std.specs.Prelude.{◌≡◌, ◌≤◌, ◌<◌, ◌+◌, ◌++◌, [], length, map, slice_index_or, IfOk, IsTrue, ◌↔◌};
+ghost use Rattle.milnor_basis.specs.Exponents.{degree_of};
+ghost use Rattle.milnor_basis.specs.Basis.{basis_of};
+ghost use Rattle.milnor_basis.specs.Product.{product_bits, product_places, places_from, Factors};
+
+use crate::basis::Basis;
+use crate::exps::Exps;
+use crate::product::coefficients;
+use memory::Memory;
+use once_cell::race::OnceBox;
+use std::alloc::Global;
+use std::marker::Model;
+
+/// The products Sq(R) Sq(S) of one S with each R of a degree, seen as that degree and S.
+#[derive(Drop)]
+pub struct Multiples {
+    degree: u16,
+    right: Exps,
+    /// Where the places of each product begin, and where the last end.
+    offsets: Vec<u32>,
+    /// The places of the terms, product by product.
+    places: Vec<u16>,
+}
+
+impl Model for Multiples {
+    ghost use Rattle.milnor_basis.specs.Product.{Factors};
+    ghost use Rattle.milnor_basis.specs.Inside.Kept.{HoldProducts};
+
+    ghost Value = { Factors };
+
+    ghost view = { λ m. record { degree = m.degree; right = m.right } };
+
+    ghost invariant = { λ m. HoldProducts m.degree m.right m.offsets.items m.places.items };
+}
+
+impl Multiples {
+    /// The products of the elements of this degree with Sq(S).
+    fn make(alloc: Global, basis: &Basis, degree: u16, s: &Exps) -> Result<Self, Memory>
+        requires { degree + degree_of s.now ≤ basis.now }
+        ensures { IfOk result (λ m. m ≡ record { degree = degree; right = s.now }) }
+    {
+        let mut offsets = Vec::new(alloc);
+        let mut places = Vec::new(alloc);
+        offsets.push(0)?;
+        for bits in &bits_of_multiples(alloc, basis, degree, s)? {
+            places = with_places(places, bits)?;
+            let Ok(end) = u32::try_from(places.len()) else {
+                return Err(Memory);
+            };
+            offsets.push(end)?;
+        }
+        places.shrink_to_fit();
+        Ok(Multiples {
+            degree,
+            right: *s,
+            offsets,
+            places,
+        })
+    }
+
+    /// The places of the terms of the product with the element at place `i` of the basis of R's degree, in rising
+    /// order: places in the basis of the product's degree.
+    pub fn of(&self, i: usize) -> &[u16]
+        requires { i < length (basis_of self.now.degree) }
+        ensures { result.now ≡ product_places (slice_index_or (basis_of self.now.degree) i []) self.now.right }
+    {
+        let start = self.offsets[i] as usize;
+        let end = self.offsets[i + 1] as usize;
+        &self.places[start..end]
+    }
+
+    /// Whether these are the products with Sq(S) of the elements of this degree.
+    fn are_of(&self, degree: u16, s: &Exps) -> bool
+        ensures { IsTrue result ↔ (self.now ≡ record { degree = degree; right = s.now }) }
+    {
+        self.degree == degree && self.right == *s
+    }
+}
+
+/// The numbers, and behind them the places of these bits that are set.
+fn with_places(mut numbers: Vec<u16>, bits: &[bool]) -> Result<Vec<u16>, Memory>
+    ensures { IfOk result (λ v. v.items ≡ numbers.items ++ places_from 0 bits.now) }
+{
+    for (place, bit) in bits.iter().enumerate() {
+        if *bit {
+            let Ok(place) = u16::try_from(place) else {
+                return Err(Memory);
+            };
+            numbers.push(place)?;
+        }
+    }
+    Ok(numbers)
+}
+
+/// For each R of this degree, in basis order, the coefficients mod 2 of the product of Sq(R) and Sq(S).
+pub(crate) fn bits_of_multiples(
+    alloc: Global,
+    basis: &Basis,
+    degree: u16,
+    s: &Exps,
+) -> Result<Vec<Vec<bool>>, Memory>
+    requires { degree + degree_of s.now ≤ basis.now }
+    ensures { IfOk result (λ rows. map (λ bits. bits.items) rows.items ≡ map (λ r. product_bits r s.now) (basis_of degree)) }
+{
+    let mut rows = Vec::new(alloc);
+    for r in basis.of_degree(degree) {
+        rows.push(coefficients(alloc, basis, r, s)?)?;
+    }
+    Ok(rows)
+}
+
+/// The cells of the products of a degree with the elements of another, by the places of these.
+#[derive(Drop)]
+struct Cells {
+    cells: Vec<OnceBox<Multiples>>,
+}
+
+impl Cells {
+    /// So many cells, all empty.
+    fn new(alloc: Global, count: usize) -> Result<Self, Memory> {
+        let mut cells = Vec::new(alloc);
+        for _ in 0..count {
+            cells.push(OnceBox::new(alloc))?;
+        }
+        Ok(Cells { cells })
+    }
+}
+
+/// The products that were made so far. Threads may make the same ones at a time; those of the first to finish are kept.
+#[derive(Drop)]
+pub(crate) struct Kept {
+    /// The number of degrees.
+    side: usize,
+    /// For each pair of degrees the cells of its products, made once they are asked for.
+    pairs: Vec<OnceBox<Cells>>,
+}
+
+impl Model for Kept {
+    ghost use Rattle.std.specs.Prelude.{◌≡◌, ◌*◌, ℕ};
+    ghost use Rattle.std.specs.Vec.{vec_len};
+
+    ghost Value = { ℕ };
+
+    ghost view = { λ k. k.side };
+
+    ghost invariant = { λ k. vec_len k.pairs ≡ k.side * k.side };
+}
+
+impl Kept {
+    /// Nothing yet, for the degrees 0 to `max`.
+    pub(crate) fn new(alloc: Global, max: u16) -> Result<Self, Memory>
+        ensures { IfOk result (λ kept. kept ≡ max + 1) }
+    {
+        let side = usize::from(max) + 1;
+        let mut pairs = Vec::new(alloc);
+        for _ in 0..side * side {
+            pairs.push(OnceBox::new(alloc))?;
+        }
+        Ok(Kept { side, pairs })
+    }
+
+    /// The cells of the products of the elements of degree `left` with the `count` elements of degree `right`.
+    fn cells(&self, alloc: Global, left: u16, right: u16, count: usize) -> Result<&Cells, Memory>
+        requires left { left < self.now }
+        requires right { right < self.now }
+    {
+        let pair = &self.pairs[usize::from(left) * self.side + usize::from(right)];
+        pair.get_or_try_init(|| -> Result<_, Memory> {
+            Ok(Box::new(alloc, Cells::new(alloc, count)?)?)
+        })
+    }
+}
+
+impl Basis {
+    /// The products Sq(R) Sq(S) for each R of this degree. They are kept once they are made, and may be asked for from
+    /// more than one thread at a time.
+    ///
+    /// # Errors
+    /// `Memory` if allocation fails.
+    pub fn multiples(&self, alloc: Global, degree: u16, s: &Exps) -> Result<&Multiples, Memory>
+        requires { degree + degree_of s.now ≤ self.now }
+        ensures { IfOk result (λ m. m.now ≡ record { degree = degree; right = s.now }) }
+    {
+        let Some((right, place)) = self.place(s) else {
+            unreachable!()
+        };
+        let count = self.of_degree(right).len();
+        let cells = self.kept().cells(alloc, degree, right, count)?;
+        let cell = cells.cells.get(place).ok_or(Memory)?;
+        let multiples = cell.get_or_try_init(|| -> Result<_, Memory> {
+            Ok(Box::new(alloc, Multiples::make(alloc, self, degree, s)?)?)
+        })?;
+        // Each cell is for one pair of factors, so that no other is found there.
+        if multiples.are_of(degree, s) {
+            Ok(multiples)
+        } else {
+            Err(Memory)
+        }
+    }
+}
+
+#[cfg(test)]
+mod tests {
+    use super::*;
+    use std::test::Fail;
+
+    fn sq(r1: u16) -> Exps {
+        Exps::of([r1, 0, 0, 0, 0, 0, 0, 0])
+    }
+
+    // The bases in order: of degree 3 (3), (0,1); of 4 (4), (1,1); of 5 (5), (2,1); of 8 (8), (5,1), (2,2), (1,0,1). The
+    // products of Sq(3) and of Sq(0,1) with Sq(1) are both Sq(1,1), and those with Sq(2) are 0 and Sq(2,1).
+    #[test]
+    fn keeps_products(rt: HostRuntime) -> Result<(), Fail> {
+        let alloc = rt.alloc();
+        let basis = Basis::new(alloc, 8)?;
+        let degree_one = [0u16].as_slice();
+        let cases: [(u16, usize, u16, &[u16]); 8] = [
+            (1, 0, 1, &[]),
+            (1, 0, 2, degree_one),
+            (2, 0, 1, &[0, 1]),
+            (2, 0, 2, &[1]),
+            (3, 0, 1, &[1]),
+            (3, 1, 1, &[1]),
+            (3, 1, 2, &[1]),
+            (4, 0, 4, &[2]),
+        ];
+        for (degree, place, right, want) in cases {
+            let s = sq(right);
+            assert!(rt; degree <= 4 && s.degree() <= 4);
+            assert!(rt; place < basis.of_degree(degree).len());
+            let made = basis.multiples(alloc, degree, &s)?;
+            assert_eq!(rt; made.of(place), want, "of degree {degree}");
+            let again = basis.multiples(alloc, degree, &s)?;
+            assert_eq!(rt; again.of(place), want, "of degree {degree}");
+        }
+        Ok(())
+    }
+}
