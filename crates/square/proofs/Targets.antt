@@ -85,22 +85,30 @@ pub module_target : (f now : Footing) → IsFooting f → f ≡ now → f.s ≡ 
 module_target f now h same e m is =
     ap (λ (x : Checked). module_graded x.plain) is ∙ ap (λ (x : Option (List Content)). target_over (module_over f.resolved.plain) x) (sym (h.has_none e)) ∙ ap (λ (x : Footing). target_over (module_over x.resolved.plain) x.below) same
 
--- the kernel of the square below
+-- the square below, and its kernel
+abbrev pub content_below : Footing → Option Content
+content_below f = option_map (λ below. square_in below f.above) f.below
+
 abbrev pub below_kernel : Footing → Option (List (List Bool))
 below_kernel f = option_map (λ below. (square_in below f.above).kernel) f.below
 
-pub kernel_there : (f now : Footing) → IsFooting f → f ≡ now → (squares : List Placed) (q : Placed) (kernel : List (List Bool)) → under_row f.s (contents squares) ≡ f.below → 0 < f.s → slice_get squares f.above ≡ Some q → kernel ≡ q.content.kernel → Some kernel ≡ below_kernel now
-kernel_there f now h same squares q kernel under l there e =
-    let r = row_held_below f h squares under l in
-    let is : kernel ≡ (square_in (contents squares) f.above).kernel = e ∙ ap (λ (c : Content). c.kernel) (sym (square_in-contents squares f.above q there)) in
-    ap (λ (x : List (List Bool)). Some x) is ∙ ap (option_map (λ below. (square_in below f.above).kernel)) (sym r.below) ∙ ap below_kernel same
-
-pub not_none : (f : Footing) → IsFooting f → (squares : List Placed) → under_row f.s (contents squares) ≡ f.below → 0 < f.s → slice_get squares f.above ≡ None → ⊥
-not_none f h squares under l none =
+content_there : (f : Footing) → IsFooting f → (squares : List Placed) (o : Option Placed) → under_row f.s (contents squares) ≡ f.below → 0 < f.s → o ≡ slice_get squares f.above → option_map content_of o ≡ content_below f
+content_there f h squares o under l e =
     let r = row_held_below f h squares under l in
     let len = r.count in
     let there = slice_get-there squares f.above (omega arith) in
-    let both : None ≡ Some there.0 = sym none ∙ there.1 in cc
+    let is : content_of there.0 ≡ square_in (contents squares) f.above = sym (square_in-contents squares f.above there.0 there.1) in
+    ap (option_map content_of) (e ∙ there.1) ∙ ap (λ (c : Content). Some c) is ∙ ap (option_map (λ below. square_in below f.above)) (sym r.below)
 
-pub no_kernel_below : (f now : Footing) → IsFooting f → f ≡ now → f.s ≡ 0 → None ≡ below_kernel now
-no_kernel_below f now h same e = ap (option_map (λ below. (square_in below f.above).kernel)) (sym (h.has_none e)) ∙ ap below_kernel same
+pub square_there : (f now : Footing) → IsFooting f → f ≡ now → (squares : List Placed) (o : Option Placed) → under_row f.s (contents squares) ≡ f.below → 0 < f.s → o ≡ slice_get squares f.above → option_map content_of o ≡ content_below now
+square_there f now h same squares o under l e = content_there f h squares o under l e ∙ ap content_below same
+
+pub no_square_below : (f now : Footing) → IsFooting f → f ≡ now → f.s ≡ 0 → None ≡ content_below now
+no_square_below f now h same e = ap (option_map (λ below. square_in below f.above)) (sym (h.has_none e)) ∙ ap content_below same
+
+pub kernel_below_is : (f : Footing) (o : Option Content) → o ≡ content_below f → option_map (λ (c : Content). c.kernel) o ≡ below_kernel f
+kernel_below_is f o e = ap (option_map (λ (c : Content). c.kernel)) e ∙ both f.below
+  where
+    both : (below : Option (List Content)) → option_map (λ (c : Content). c.kernel) (option_map (λ squares. square_in squares f.above) below) ≡ option_map (λ squares. (square_in squares f.above).kernel) below
+    both (Some squares) = refl
+    both None = refl

@@ -11,6 +11,7 @@ use crate::below::Below;
 use crate::row::Row;
 use crate::square::Square;
 use crate::table::above_of;
+use f2_matrix::Rows;
 use f2_vec::BitVec;
 use free_module::Gens;
 use memory::Memory;
@@ -138,11 +139,31 @@ impl Inputs {
     pub fn kernel_below(&self) -> Option<&[BitVec]>
         ensures { option_map (λ rows. rows.now) result ≡ option_map (λ below. (square_in below self.now.above).kernel) self.now.below }
     {
+        let square = self.square_below()?;
+        Some(square.kernel())
+    }
+
+    /// The same rows, for one more owner: shared where the square below was made, and copied where it was read.
+    ///
+    /// # Errors
+    /// `Memory` if allocation fails, or if there are too many owners to count.
+    pub fn kernel_rows_below(&self, alloc: Global) -> Result<Option<Rows>, Memory>
+        ensures { IfOk result (λ rows. rows ≡ option_map (λ below. (square_in below self.now.above).kernel) self.now.below) }
+    {
+        match self.square_below() {
+            Some(square) => Ok(Some(square.kernel_rows(alloc)?)),
+            None => Ok(None),
+        }
+    }
+
+    /// The square below, which has the same degree, none for row 0.
+    fn square_below(&self) -> Option<&Arc<Square>>
+        ensures { option_map (λ a. content_of (arc_value a.now)) result ≡ option_map (λ below. square_in below self.now.above) self.now.below }
+    {
         if self.s == 0 {
             return None;
         }
-        let square = self.below.get(usize::from(self.above))?;
-        Some(square.kernel())
+        self.below.get(usize::from(self.above))
     }
 
     /// How many degrees the square is above the module's bottom.

@@ -1,11 +1,14 @@
 //! The kernel of a square, as it is kept.
-ghost use Rattle.std.specs.Prelude.{◌≡◌, option_map};
+ghost use Rattle.std.specs.Prelude.{◌≡◌, option_map, IfOk};
 ghost use Rattle.square.specs.Inside.Kernel.{rows_of, quasi_of};
 
-use f2_matrix::Reduced;
+use f2_matrix::{Reduced, Rows};
 use f2_vec::BitVec;
+use memory::Memory;
+use std::alloc::Global;
 
-/// The kernel of a square. Of one that was made it stands in the reduction that is kept, and of one that was read alone.
+/// The kernel of a square: a part of the reduction that a square that was made has kept, and of one that was read the rows
+/// alone.
 #[derive(Drop)]
 pub(crate) enum Kernel {
     Made(Reduced),
@@ -20,6 +23,16 @@ impl Kernel {
         match self {
             Kernel::Made(quasi) => quasi.kernel(),
             Kernel::Read(rows) => rows.as_slice(),
+        }
+    }
+
+    /// The same rows, for one more owner: those of the reduction where one is kept, and else a copy.
+    pub(crate) fn shared(&self, alloc: Global) -> Result<Rows, Memory>
+        ensures { IfOk result (λ rows. rows ≡ rows_of self.now) }
+    {
+        match self {
+            Kernel::Made(quasi) => quasi.kernel_rows().share(),
+            Kernel::Read(rows) => Rows::of(alloc, Vec::from_clones(alloc, rows.as_slice())?),
         }
     }
 

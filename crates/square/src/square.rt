@@ -1,4 +1,4 @@
-ghost use Rattle.std.specs.Prelude.{◌≡◌, ◌<◌, ◌≤◌, ◌^◌, ◌++◌, ◌+ℤ◌, pos, [], ◌∷◌, Some, None, option_map};
+ghost use Rattle.std.specs.Prelude.{◌≡◌, ◌<◌, ◌≤◌, ◌^◌, ◌++◌, ◌+ℤ◌, pos, [], ◌∷◌, Some, None, option_map, IfOk};
 ghost use Rattle.module_check.specs.Module.{bottom};
 ghost use Rattle.resolution_laws.specs.Resolution.{IsStep};
 ghost use Rattle.square.specs.Squares.{module_over, entry_of, IsSquare, IsQuasi, AreWidths, KeptWhereMade};
@@ -7,10 +7,12 @@ ghost use Rattle.square.specs.Tables.{IsReadable};
 use crate::inputs::Inputs;
 use crate::kernel::Kernel;
 use crate::table::Table;
-use f2_matrix::Reduced;
+use f2_matrix::{Reduced, Rows};
 use f2_vec::BitVec;
+use memory::Memory;
 use module_check::Module;
 use start::Start;
+use std::alloc::Global;
 use std::marker::Model;
 use std::snapshot::Snapshot;
 
@@ -137,6 +139,16 @@ impl Square {
         ensures { result.now ≡ self.now.content.kernel }
     {
         self.kernel.rows()
+    }
+
+    /// The echelon rows of the kernel, for one more owner: shared where the square was made, and copied where it was read.
+    ///
+    /// # Errors
+    /// `Memory` if allocation fails, or if there are too many owners to count.
+    pub fn kernel_rows(&self, alloc: Global) -> Result<Rows, Memory>
+        ensures { IfOk result (λ rows. rows ≡ self.now.content.kernel) }
+    {
+        self.kernel.shared(alloc)
     }
 
     /// The reduction of the matrix of d_s in its degree, where it was made.

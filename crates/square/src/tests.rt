@@ -78,6 +78,7 @@ fn a_table_of_one_square(rt: HostRuntime) -> Result<(), Fail> {
         Some(square) => {
             assert!(rt; is_one_row(square.gens()));
             assert_eq!(rt; square.kernel().len(), 0);
+            assert_eq!(rt; square.kernel_rows(alloc)?.as_slice().len(), 0);
             assert_eq!(rt; (square.s(), square.t(), square.above()), (0, 0, 0));
             assert_eq!(rt; square.widths(), (1, 1));
             assert!(rt; square.kept_quasi().is_some());
@@ -102,6 +103,16 @@ fn threads_may_share_squares(rt: HostRuntime) -> Result<(), Fail> {
     crosses_threads(&table);
     crosses_threads(&inputs);
     crosses_threads(&first_square(alloc, &inputs)?);
+    Ok(())
+}
+
+#[test]
+fn nothing_below_row_zero(rt: HostRuntime) -> Result<(), Fail> {
+    let alloc = rt.alloc();
+    let table = Table::new(alloc, Module::sphere(alloc)?)?;
+    let inputs = table.inputs(alloc, 0, 0)?;
+    assert!(rt; inputs.kernel_below().is_none());
+    assert!(rt; inputs.kernel_rows_below(alloc)?.is_none());
     Ok(())
 }
 
