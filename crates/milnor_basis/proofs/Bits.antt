@@ -17,16 +17,16 @@ use Rattle.milnor_basis.proofs.ExponentLemmas.{trimmed-zeros, entry-trimmed, ent
 abbrev element : ℕ → ℕ → List ℕ
 element n k = slice_index_or (basis_of n) k []
 
-elements_distinct : (n i j : ℕ) → i < j → j < length (basis_of n) → element n i ≢ element n j
+pub elements_distinct : (n i j : ℕ) → i < j → j < length (basis_of n) → element n i ≢ element n j
 elements_distinct n i j l m e = let below = (basis_is_milnors n).in_order i j l m in
     let same : entry (element n i) below.place ≡ entry (element n j) below.place = ap (λ r. entry r below.place) e in
     let smaller = below.smaller in omega arith
 
-element_at : (n k : ℕ) → k < length (basis_of n) → IsTrimmed (element n k) × (degree_of (element n k) ≡ n)
+pub element_at : (n k : ℕ) → k < length (basis_of n) → IsTrimmed (element n k) × (degree_of (element n k) ≡ n)
 element_at n k l = ((basis_is_milnors n).members (element n k)).0 (Contains-get_or (basis_of n) k [] l)
 
 -- an element of a degree up to 255 has at most 8 exponents
-short : (t : List ℕ) → IsTrimmed t → degree_of t ≤ 255 → length t ≤ 8
+pub short : (t : List ℕ) → IsTrimmed t → degree_of t ≤ 255 → length t ≤ 8
 short t trim small = elim (cases_Bool (nat_le (length t) 8)) [
   | inl f ↦ leb-true (length t) 8 f
   | inr f ↦ let more : 8 < length t = leb-false (length t) 8 f in
@@ -39,19 +39,19 @@ short t trim small = elim (cases_Bool (nat_le (length t) 8)) [
       absurd (omega arith)
 ]
 
-same_exponents : (xs ys : List ℕ) → xs ≡ ys → pointwise nat_eq xs ys ≡ true
+pub same_exponents : (xs ys : List ℕ) → xs ≡ ys → pointwise nat_eq xs ys ≡ true
 same_exponents xs ys e = elim (cases_Bool (pointwise nat_eq xs ys)) [ inl t ↦ t | inr f ↦ absurd (other_text xs ys (sym f) e) ]
 
-other_exponents : (xs ys : List ℕ) → xs ≢ ys → pointwise nat_eq xs ys ≡ false
+pub other_exponents : (xs ys : List ℕ) → xs ≢ ys → pointwise nat_eq xs ys ≡ false
 other_exponents xs ys e = elim (cases_Bool (pointwise nat_eq xs ys)) [ inl t ↦ absurd (e (same_text xs ys (sym t))) | inr f ↦ f ]
 
-trimmed_take : (n : ℕ) (xs : List ℕ) → ((i : ℕ) → n ≤ i → entry xs i ≡ 0) → trimmed (take n xs) ≡ trimmed xs
+pub trimmed_take : (n : ℕ) (xs : List ℕ) → ((i : ℕ) → n ≤ i → entry xs i ≡ 0) → trimmed (take n xs) ≡ trimmed xs
 trimmed_take zero xs z = sym (trimmed-zeros xs (λ i. z i (omega arith)))
 trimmed_take (suc n) [] z = refl
 trimmed_take (suc n) (x ∷ xs) z = ap (put_before x) (trimmed_take n xs (λ i l. z (suc i) (omega arith)))
 
 -- a list of exponents that is an element of a degree up to 255 has none past the eighth
-no_more_exponents : (xs : List ℕ) (degree k : ℕ) → degree ≤ 255 → k < length (basis_of degree) → trimmed xs ≡ element degree k → (i : ℕ) → 8 ≤ i → entry xs i ≡ 0
+pub no_more_exponents : (xs : List ℕ) (degree k : ℕ) → degree ≤ 255 → k < length (basis_of degree) → trimmed xs ≡ element degree k → (i : ℕ) → 8 ≤ i → entry xs i ≡ 0
 no_more_exponents xs degree k small l e i p =
     let at = element_at degree k l in
     let d = at.1 in

@@ -12,6 +12,10 @@ mod Bits
 mod Counting
 mod Digits
 mod Fill
+mod FreeRows
+mod FreeFill
+mod FreeTable
+mod FreeStart
 pub mod Matrices
 pub mod Parity
 mod ProductTerms

@@ -37,7 +37,7 @@ open_next n (suc i) zero a b p (inr l) = (inl (omega arith), inl (omega arith))
 open_next n (suc i) (suc c) a b p (inl l) = (inl (omega arith), inl (omega arith))
 open_next n (suc i) (suc c) a b p (inr l) = (inr (l.0, omega arith), inr (omega arith))
 
-next_fits : (m n row column : ℕ) → row ≤ m → column ≤ n → (next_row row column ≤ m) × (next_column n row column ≤ n)
+pub next_fits : (m n row column : ℕ) → row ≤ m → column ≤ n → (next_row row column ≤ m) × (next_column n row column ≤ n)
 next_fits m n zero zero p q = (omega arith, omega arith)
 next_fits m n zero (suc c) p q = (omega arith, omega arith)
 next_fits m n (suc i) zero p q = (omega arith, omega arith)

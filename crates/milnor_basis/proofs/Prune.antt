@@ -11,7 +11,7 @@ use Rattle.milnor_basis.proofs.Parity.{is_odd_below-none}
 use Rattle.milnor_basis.proofs.Walk.{fillings_step, along}
 
 -- a fault of the sums that no place up to row `top` mends leaves no filling
-abbrev IsDead : (bound w : ℕ) (test : Sums → Bool) → ℕ → (Sums → Type 0) → ℕ → ℕ → Type 0
+abbrev pub IsDead : (bound w : ℕ) (test : Sums → Bool) → ℕ → (Sums → Type 0) → ℕ → ℕ → Type 0
 IsDead bound w test top Bad row column = row ≤ top → (x : Sums) → Bad x → fillings add bound (places_to w row column) test x ≡ false
 
 next_row-le : (top row column : ℕ) → row ≤ top → next_row row column ≤ top
@@ -19,7 +19,7 @@ next_row-le top zero zero p = p
 next_row-le top (suc i) zero p = omega arith
 next_row-le top row (suc c) p = p
 
-dead_rows : (bound w : ℕ) (test : Sums → Bool) (top : ℕ) (Bad : Sums → Type 0) → ((i j v : ℕ) (x : Sums) → i ≤ top → Bad x → Bad (add i j v x)) → ((x : Sums) → Bad x → test x ≡ false)
+pub dead_rows : (bound w : ℕ) (test : Sums → Bool) (top : ℕ) (Bad : Sums → Type 0) → ((i j v : ℕ) (x : Sums) → i ≤ top → Bad x → Bad (add i j v x)) → ((x : Sums) → Bad x → test x ≡ false)
     → (row column : ℕ) → IsDead bound w test top Bad row column
 dead_rows bound w test top Bad closed fails = along (IsDead bound w test top Bad) w (λ p x b. fails x b) (λ row column above ih p x b.
     fillings_step add bound w row column test x above
@@ -36,7 +36,7 @@ dead_top bound w test top Bad closed fails (suc c) p x b =
     (λ v l. dead_top bound w test top Bad closed fails c (omega arith) (add 0 (suc c) v x) (closed (suc c) v x p b))
 
 -- a test of all numbers of a range fails where one fails
-list_all-fails : (p : ℕ → Bool) (a n i : ℕ) → a ≤ i → i < a + n → p i ≡ false → list_all p (range_with_len a n) ≡ false
+pub list_all-fails : (p : ℕ → Bool) (a n i : ℕ) → a ≤ i → i < a + n → p i ≡ false → list_all p (range_with_len a n) ≡ false
 list_all-fails p a zero i l m h = absurd (omega arith)
 list_all-fails p a (suc n) i l m h = elim (cases_Bool (nat_eq a i)) [
   | inl e ↦ let pa : p a ≡ false = ap p (eqb-true a i e) ∙ h in rw pa refl
@@ -79,7 +79,7 @@ module _ (r s t : List ℕ) (x : Sums) where
       third true false d = refl
       third false b d = refl
 
-add_at-le : (i v : ℕ) (f : ℕ → ℕ) (a : ℕ) → f a ≤ add_at i v f a
+pub add_at-le : (i v : ℕ) (f : ℕ → ℕ) (a : ℕ) → f a ≤ add_at i v f a
 add_at-le i v f a = either (nat_eq a i) where
   either : (b : Bool) → f a ≤ (if b then f a + v else f a)
   either true = omega arith
@@ -92,12 +92,12 @@ pub add_at-same : (i v : ℕ) (f : ℕ → ℕ) → add_at i v f i ≡ f i + v
 add_at-same i v f = rw (eq-eqb i i refl) refl
 
 module _ (r s t : List ℕ) (bound w : ℕ) where
-  row_too_large : (i : ℕ) → i < length r → (row column : ℕ) (x : Sums) → entry r i < x.rows (suc i) → fillings add bound (places_to w row column) (are_sums_of r s t) x ≡ false
+  pub row_too_large : (i : ℕ) → i < length r → (row column : ℕ) (x : Sums) → entry r i < x.rows (suc i) → fillings add bound (places_to w row column) (are_sums_of r s t) x ≡ false
   row_too_large i l row column x h = dead_rows bound w (are_sums_of r s t) row (λ y. entry r i < y.rows (suc i))
       (λ a b v y p q. let up : y.rows (suc i) ≤ add_at a (2 ^ b * v) y.rows (suc i) = add_at-le a (2 ^ b * v) y.rows (suc i) in omega arith)
       (λ y q. row_fails r s t y i l (λ e. omega arith)) row column (omega arith) x h
 
-  column_too_large : (j : ℕ) → j < length s → (row column : ℕ) (x : Sums) → entry s j < x.columns (suc j) → fillings add bound (places_to w row column) (are_sums_of r s t) x ≡ false
+  pub column_too_large : (j : ℕ) → j < length s → (row column : ℕ) (x : Sums) → entry s j < x.columns (suc j) → fillings add bound (places_to w row column) (are_sums_of r s t) x ≡ false
   column_too_large j l row column x h = dead_rows bound w (are_sums_of r s t) row (λ y. entry s j < y.columns (suc j))
       (λ a b v y p q. let up : y.columns (suc j) ≤ add_at b v y.columns (suc j) = add_at-le b v y.columns (suc j) in omega arith)
       (λ y q. column_fails r s t y j l (λ e. omega arith)) row column (omega arith) x h
@@ -111,12 +111,12 @@ module _ (r s t : List ℕ) (bound w : ℕ) where
       (λ a b v y p q e. q (sym (add_at-other a (2 ^ b * v) y.rows (suc i) (omega arith)) ∙ e))
       (λ y q. row_fails r s t y i l q) i column (omega arith) x h
 
-  column_not_full : (j : ℕ) → j < length s → (x : Sums) → x.columns (suc j) ≢ entry s j → fillings add bound (places_to w zero j) (are_sums_of r s t) x ≡ false
+  pub column_not_full : (j : ℕ) → j < length s → (x : Sums) → x.columns (suc j) ≢ entry s j → fillings add bound (places_to w zero j) (are_sums_of r s t) x ≡ false
   column_not_full j l x h = dead_top bound w (are_sums_of r s t) j (λ y. y.columns (suc j) ≢ entry s j)
       (λ b v y p q e. q (sym (add_at-other b v y.columns (suc j) (omega arith)) ∙ e))
       (λ y q. column_fails r s t y j l q) j (omega arith) x h
 
-over_quotient : (n d v : ℕ) → 0 < d → n / d < v → n < d * v
+pub over_quotient : (n d v : ℕ) → 0 < d → n / d < v → n < d * v
 over_quotient n d v p l = let m : n / d + 1 ≤ v = omega arith in let times = mul-le-mul_left d m in omega arith
 
 -- a number outside these bounds leads to nothing

@@ -10,15 +10,15 @@ use Rattle.milnor_basis.specs.Exponents.{entry}
 use Rattle.milnor_basis.specs.Inside.Walk.{Sums, add_at, add, IsLeft, least, greatest, taken, next_row, next_column}
 use Rattle.milnor_basis.proofs.Prune.{add_at-other, add_at-same}
 
-taken-same : (xs : List ℕ) (i v : ℕ) → i < length xs → slice_index (taken (suc i) v xs) i ≡ slice_index xs i - v
+pub taken-same : (xs : List ℕ) (i v : ℕ) → i < length xs → slice_index (taken (suc i) v xs) i ≡ slice_index xs i - v
 taken-same xs i v l = get_or-set_same xs i (slice_index xs i - v) 0 l
 
-taken-other : (xs : List ℕ) (at v i : ℕ) → at ≢ suc i → slice_index (taken at v xs) i ≡ slice_index xs i
+pub taken-other : (xs : List ℕ) (at v i : ℕ) → at ≢ suc i → slice_index (taken at v xs) i ≡ slice_index xs i
 taken-other xs zero v i h = refl
 taken-other xs (suc a) v i h = let other : i ≢ a = omega arith in get_or-set_other xs a i (slice_index xs a - v) 0 other
 
 -- what is left and the sum so far still make up the whole
-taken_sum : (xs : List ℕ) (at v u : ℕ) (f : ℕ → ℕ) (i n : ℕ) → i < length xs → u ≡ v → (at ≡ suc i → v ≤ slice_index xs i) → slice_index xs i + f (suc i) ≡ n → slice_index (taken at v xs) i + add_at at u f (suc i) ≡ n
+pub taken_sum : (xs : List ℕ) (at v u : ℕ) (f : ℕ → ℕ) (i n : ℕ) → i < length xs → u ≡ v → (at ≡ suc i → v ≤ slice_index xs i) → slice_index xs i + f (suc i) ≡ n → slice_index (taken at v xs) i + add_at at u f (suc i) ≡ n
 taken_sum xs at v u f i n l e fits h = elim (cases_Bool (nat_eq at (suc i))) [
   | inl t ↦ let same : at ≡ suc i = eqb-true at (suc i) t in
       let left : slice_index (taken at v xs) i ≡ slice_index xs i - v = ap (λ a. slice_index (taken a v xs) i) same ∙ taken-same xs i v l in
@@ -29,7 +29,7 @@ taken_sum xs at v u f i n l e fits h = elim (cases_Bool (nat_eq at (suc i))) [
       let sum = add_at-other at u f (suc i) (omega arith) in omega arith
 ]
 
-under_quotient : (n d v : ℕ) → 0 < d → v ≤ n / d → v * d ≤ n
+pub under_quotient : (n d v : ℕ) → 0 < d → v ≤ n / d → v * d ≤ n
 under_quotient n d v p l = let times = mul-le-mul_left d l in omega arith
 
 -- a number that is not too great fits its row and its column
@@ -110,7 +110,7 @@ next_is m w zero (suc c) h p q r = (omega arith, omega arith, omega arith)
 next_is m w (suc i) zero h p q r = (omega arith, omega arith, omega arith)
 next_is m w (suc i) (suc c) h p q r = (omega arith, omega arith, omega arith)
 
-entry-sum : (xs : List ℕ) (i : ℕ) → entry xs i ≤ sum xs
+pub entry-sum : (xs : List ℕ) (i : ℕ) → entry xs i ≤ sum xs
 entry-sum [] i = omega arith
 entry-sum (x ∷ xs) zero = omega (arith, sum_by-cons (λ y. y) x xs)
 entry-sum (x ∷ xs) (suc i) = omega (arith, sum_by-cons (λ y. y) x xs, entry-sum xs i)

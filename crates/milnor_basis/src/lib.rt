@@ -1,6 +1,7 @@
 //! Milnor's basis of the Steenrod algebra at 2, and the product of two of its elements.
 #![tactic(auto)]
 
+mod all_products;
 mod basis;
 mod counts;
 mod exps;

@@ -92,7 +92,7 @@ fn less(left: u16, number: u16, column: usize) -> u16
 }
 
 /// The place that is filled after this one, in a matrix with columns 0 to `width`.
-fn next_place(width: usize, row: usize, column: usize) -> (usize, usize)
+pub(crate) fn next_place(width: usize, row: usize, column: usize) -> (usize, usize)
     requires { 0 < row + column }
     ensures row { result.0 ≡ next_row row column }
     ensures column { result.1 ≡ next_column width row column }
@@ -105,7 +105,7 @@ fn next_place(width: usize, row: usize, column: usize) -> (usize, usize)
 }
 
 /// The exponents, with zeros at the end.
-fn numbers_of(r: &Exps) -> [u16; MAX_EXPONENTS]
+pub(crate) fn numbers_of(r: &Exps) -> [u16; MAX_EXPONENTS]
     ensures { (i : ℕ) → i < 8 → slice_index result i ≡ entry r.now i }
 {
     let mut numbers = [0; MAX_EXPONENTS];
@@ -116,7 +116,7 @@ fn numbers_of(r: &Exps) -> [u16; MAX_EXPONENTS]
 }
 
 /// Whether all of these numbers are 0.
-fn is_zero(numbers: &[u16]) -> bool
+pub(crate) fn is_zero(numbers: &[u16]) -> bool
     ensures { IsTrue result ↔ EachIndex numbers.now (λ k. slice_index numbers.now k ≡ 0) }
 {
     numbers.iter().all(|number| *number == 0)
@@ -183,7 +183,7 @@ fn fill(
 }
 
 /// The least number above `number` that shares no binary digit with `sum`, where `number` does not.
-fn next_apart(number: u16, sum: u16) -> u32
+pub(crate) fn next_apart(number: u16, sum: u16) -> u32
     requires { bit_and number sum ≡ 0 }
     ensures above { number < result }
     ensures least { (v : ℕ) → number < v → v < result → bit_and v sum ≢ 0 }
@@ -208,7 +208,7 @@ fn chosen(alloc: Global, elements: &[Exps], bits: &[bool]) -> Result<Vec<Exps>, 
 }
 
 /// The degree of the product of Sq(R) and Sq(S), which is at most the basis's greatest.
-fn product_degree(basis: &Basis, r: &Exps, s: &Exps) -> u16
+pub(crate) fn product_degree(basis: &Basis, r: &Exps, s: &Exps) -> u16
     requires { degree_of r.now + degree_of s.now ≤ basis.now }
     ensures { result ≡ degree_of r.now + degree_of s.now }
 {

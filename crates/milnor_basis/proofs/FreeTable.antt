@@ -1,0 +1,84 @@
+-- The table of the products of all R of a degree: one bit of it, and its rows.
+use Rattle.std.proofs.Common.{◌≡◌, ℕ, zero, suc, ◌+◌, ◌-◌, ◌*◌, ◌/◌, ◌<◌, ◌≤◌, ◌≢◌, inl, inr, Bool, true, false, not, ◌&&◌, nat_eq, Some, List, [], ◌∷◌, length, map, take, drop, set, refl, sym, ◌∙◌, ap, subst, arith, slice_index, slice_index_or, slice_get}
+use Rattle.std.specs.Cmp.Lexicographic.{pointwise}
+use Rattle.std.proofs.lemmas.Bool.{cases_eq, cases_lt}
+use Rattle.std.proofs.lemmas.Nat.{div-mul-add, mul-add-lt}
+use Rattle.std.proofs.lemmas.List.{get_or-set_same, get_or-set_other, get_or-drop, length-drop}
+use Rattle.std.proofs.lemmas.Option.{get_or_from_slice_get, slice_get_within}
+use Rattle.milnor_basis.specs.Exponents.{degree_of, trimmed}
+use Rattle.milnor_basis.specs.Basis.{basis_of}
+use Rattle.milnor_basis.specs.Inside.Walk.{plus}
+use Rattle.milnor_basis.specs.Inside.FreeRows.{element, IsTurnedOver, are_elements}
+use Rattle.milnor_basis.proofs.Bits.{same_exponents, other_exponents, trimmed_take, no_more_exponents}
+use Rattle.milnor_basis.proofs.ExponentLemmas.{entry_past}
+use Rattle.milnor_basis.proofs.Places.{basis_of-once, basis_of-member}
+
+-- a place in a table tells its row and its column
+row_of : (n p k a b : ℕ) → k < n → b < n → p * n + k ≡ a * n + b → p ≡ a
+row_of n p k a b l m e = sym (div-mul-add p n k l) ∙ ap (λ x. x / n) e ∙ div-mul-add a n b m
+
+second_false : (a b : Bool) → b ≡ false → (a && b) ≡ false
+second_false true b h = h
+second_false false b h = refl
+
+pub within_table : (d n p k : ℕ) → p < d → k < n → p * n + k < d * n
+within_table d n p k l m = let turned : n * d ≡ d * n = grind arith in omega (arith, mul-add-lt p n k d l m)
+
+-- no element of a degree is of another
+pub other_degree : (n : ℕ) (r : List ℕ) → degree_of r ≢ n → (k : ℕ) → k < length (basis_of n) → r ≢ element n k
+other_degree n r h k l e = h (ap degree_of e ∙ (basis_of-member n k l).1)
+
+-- diagonals past the eighth are 0 in each element, and those before it tell it
+pub too_long : (n : ℕ) (diagonals : List ℕ) → n ≤ 255 → (((i : ℕ) → i < length (drop 8 diagonals) → slice_index (drop 8 diagonals) i ≡ 0) → ⊥) → (k : ℕ) → k < length (basis_of n) → trimmed diagonals ≢ element n k
+too_long n diagonals small some k l e =
+    some (λ i m. get_or-drop 8 diagonals i 0 ∙ no_more_exponents diagonals n k small l e (8 + i) (omega arith))
+
+pub front_tells : (diagonals : List ℕ) → ((i : ℕ) → i < length (drop 8 diagonals) → slice_index (drop 8 diagonals) i ≡ 0) → trimmed (take 8 diagonals) ≡ trimmed diagonals
+front_tells diagonals zeros = trimmed_take 8 diagonals (λ i l. elim (cases_lt i (length diagonals)) [
+  | inl m ↦
+      let at : 8 + (i - 8) ≡ i = omega arith in
+      ap (slice_index diagonals) (sym at) ∙ sym (get_or-drop 8 diagonals (i - 8) 0) ∙ zeros (i - 8) (omega (arith, length-drop 8 diagonals))
+  | inr m ↦ entry_past diagonals i m
+])
+
+module _ (degree product : ℕ) (rows diagonals : List ℕ) (bits : List Bool) where
+  none_turned : ((p k : ℕ) → p < length (basis_of degree) → k < length (basis_of product) → are_elements degree product rows diagonals p k ≡ false) → IsTurnedOver degree product (are_elements degree product rows diagonals) bits bits
+  none_turned none p k l m = sym (ap (λ b. plus b (slice_index_or bits (p * length (basis_of product) + k) false)) (none p k l m))
+
+  pub no_row : ((p : ℕ) → p < length (basis_of degree) → trimmed rows ≢ element degree p) → IsTurnedOver degree product (are_elements degree product rows diagonals) bits bits
+  no_row none = none_turned (λ p k l m. rw (other_exponents (trimmed rows) (element degree p) (none p l)) refl)
+
+  pub no_column : ((k : ℕ) → k < length (basis_of product) → trimmed diagonals ≢ element product k) → IsTurnedOver degree product (are_elements degree product rows diagonals) bits bits
+  no_column none = none_turned (λ p k l m. second_false (pointwise nat_eq (trimmed rows) (element degree p)) (pointwise nat_eq (trimmed diagonals) (element product k)) (other_exponents (trimmed diagonals) (element product k) (none k m)))
+
+  pub one_turned : (a b at : ℕ) → length bits ≡ length (basis_of degree) * length (basis_of product) → slice_get (basis_of degree) a ≡ Some (trimmed rows) → slice_get (basis_of product) b ≡ Some (trimmed diagonals)
+      → at ≡ a * length (basis_of product) + b → IsTurnedOver degree product (are_elements degree product rows diagonals) bits (set bits at (not (slice_index_or bits at false)))
+  one_turned a b at long ra rb e p k l m =
+      let n = length (basis_of product) in
+      let la : a < length (basis_of degree) = slice_get_within (basis_of degree) a (trimmed rows) ra in
+      let lb : b < n = slice_get_within (basis_of product) b (trimmed diagonals) rb in
+      let ea : element degree a ≡ trimmed rows = get_or_from_slice_get (basis_of degree) a (trimmed rows) [] ra in
+      let eb : element product b ≡ trimmed diagonals = get_or_from_slice_get (basis_of product) b (trimmed diagonals) [] rb in
+      let within : at < length bits = omega (arith, within_table (length (basis_of degree)) n a b la lb) in
+      elim (cases_eq p a) [
+        | inr dp ↦
+            let other : p * n + k ≢ at = (λ q. dp (row_of n p k a b m lb (q ∙ e))) in
+            let differs : trimmed rows ≢ element degree p = (λ q. dp (basis_of-once degree p a l la (sym q ∙ sym ea))) in
+            get_or-set_other bits at (p * n + k) (not (slice_index_or bits at false)) false other
+            ∙ sym (rw (other_exponents (trimmed rows) (element degree p) differs) refl)
+        | inl ep ↦ elim (cases_eq k b) [
+          | inr dk ↦
+              let other : p * n + k ≢ at = (λ q. let again : p * n + k ≡ a * n + b = q ∙ e in let same : p * n ≡ a * n = ap (λ x. x * n) ep in dk (omega arith)) in
+              let differs : trimmed diagonals ≢ element product k = (λ q. dk (basis_of-once product k b m lb (sym q ∙ sym eb))) in
+              get_or-set_other bits at (p * n + k) (not (slice_index_or bits at false)) false other
+              ∙ sym (ap (λ c. plus c (slice_index_or bits (p * n + k) false)) (second_false (pointwise nat_eq (trimmed rows) (element degree p)) (pointwise nat_eq (trimmed diagonals) (element product k)) (other_exponents (trimmed diagonals) (element product k) differs)))
+          | inl ek ↦
+              let here : p * n + k ≡ at = ap (λ x. x * n + k) ep ∙ ap (λ x. a * n + x) ek ∙ sym e in
+              let row_same : pointwise nat_eq (trimmed rows) (element degree p) ≡ true = same_exponents (trimmed rows) (element degree p) (sym ea ∙ ap (element degree) (sym ep)) in
+              let column_same : pointwise nat_eq (trimmed diagonals) (element product k) ≡ true = same_exponents (trimmed diagonals) (element product k) (sym eb ∙ ap (element product) (sym ek)) in
+              ap (λ i. slice_index_or (set bits at (not (slice_index_or bits at false))) i false) here
+              ∙ get_or-set_same bits at (not (slice_index_or bits at false)) false within
+              ∙ ap (λ i. not (slice_index_or bits i false)) (sym here)
+              ∙ sym (rw (row_same, column_same) refl)
+        ]
+      ]

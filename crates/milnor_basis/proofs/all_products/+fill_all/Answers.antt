@@ -1,0 +1,77 @@
+-- Each number has its turn.
+use Rattle.std.proofs.Common.{◌≡◌, ℕ, ◌<◌, ◌≤◌, ◌-◌, ◌≢◌, ◌⊎◌, inl, inr, ◌+◌, suc, List, Bool, sym, ap, subst, ◌∙◌, arith, add-one, rules}
+use Rattle.milnor_basis.specs.Exponents.{degree_of}
+use Rattle.milnor_basis.specs.Inside.FreeRows.{least_free, greatest_free}
+use Rattle.milnor_basis.proofs.FreeRows.{put_degree}
+use Rattle.milnor_basis.proofs.FreeFill.{TurnsOverAllBelow, free_start, free_end, free_skip, free_skips, free_turn, free_turns_at_end}
+use Rattle.milnor_basis.proofs.all_products.+fill_all.Goals as goal
+
+above : (row column : ℕ) → ((row ≡ 0) × (column ≡ 0 → ⊥)) ⊎ (row ≡ 0 → ⊥) → 0 < row + column
+above row column (inl h) = let ne : column ≢ 0 = h.1 in omega arith
+above row column (inr h) = let ne : row ≢ 0 = h in omega arith
+
+pub returns-then-column-eq0 : goal.returns-then-column-eq0
+returns-then-column-eq0 t c =
+    free_turns_at_end c.args.degrees.0 c.args.degrees.1 c.args.width c.args.row c.args.column c.args.open.room c.args.open.rows c.args.open.columns c.args.open.diagonals c.args.table.now c.turn_over_both.new.table
+    (omega (arith, c.requires.small, c.requires.smaller)) (search rules) c.if-row-eq0.true c.if-column-eq0.true c.turn_over_both.ensures
+
+pub loop-number-init : goal.loop-number-init
+loop-number-init t c =
+    let from : c.from-number.result ≡ least_free c.args.row c.args.column c.args.open.room c.args.open.columns = c.from-number.ensures ∙ c.range-least.ensures.least in
+    let base = free_start c.args.degrees.0 c.args.degrees.1 c.args.width c.args.row c.args.column c.args.open.room c.args.open.rows c.args.open.columns c.args.open.diagonals
+          (omega (arith, c.requires.small, c.requires.smaller)) c.requires.row (above c.args.row c.args.column c.else-row-eq0.either) c.requires.column (search rules) c.args.table.now
+    in
+    record {
+      from = omega arith;
+      turned = subst (λ (n : ℕ). TurnsOverAllBelow c.args.degrees.0 c.args.degrees.1 c.args.width c.args.row c.args.column c.args.open.room c.args.open.rows c.args.open.columns c.args.open.diagonals n c.args.table.now c.args.table.now) (sym from) base;
+    }
+
+pub fill_all-requires : goal.fill_all-requires
+fill_all-requires t c =
+    let to : c.loop-number.number ≤ greatest_free c.args.row c.args.column c.args.open.room c.args.open.columns = omega (arith, c.loop-number-test.true, c.from.ensures, c.range-least.ensures.greatest) in
+    let room : c.put.result.room + degree_of c.put.result.rows ≤ 255 =
+    put_degree c.args.open.room c.put.result.room c.args.open.rows c.put.result.rows c.args.open.columns c.args.row c.args.column c.loop-number.number (search rules) c.requires.row to c.requires.room c.put.ensures.room c.put.ensures.rows
+    in
+    search rules
+
+pub loop-number-preserved-then-put-sum-eq0 : goal.loop-number-preserved-then-put-sum-eq0
+loop-number-preserved-then-put-sum-eq0 t c =
+    let higher = above c.args.row c.args.column c.else-row-eq0.either in
+    let n = c.loop-number.number in
+    let next = c.next_apart-number.result in
+    let past : n < next = c.next_apart-number.ensures.above in
+    let from : least_free c.args.row c.args.column c.args.open.room c.args.open.columns ≤ n = c.loop-number.invariant.from in
+    let to : n ≤ greatest_free c.args.row c.args.column c.args.open.room c.args.open.columns = omega (arith, c.loop-number-test.true, c.from.ensures, c.range-least.ensures.greatest) in
+    let turned = free_turn c.args.degrees.0 c.args.degrees.1 c.args.width c.args.row c.args.column c.args.open.room c.args.open.rows c.args.open.columns c.args.open.diagonals
+          (omega (arith, c.requires.small, c.requires.smaller)) c.requires.row higher c.requires.column (search rules) c.args.table.now n
+          c.next_place-next_row.result.0 c.next_place-next_row.result.1 c.put.result.room c.loop-number.table c.fill_all.new.table c.put.result.rows c.put.result.columns c.put.result.diagonals
+          c.next_place-next_row.ensures.row c.next_place-next_row.ensures.column c.put.ensures.room c.put.ensures.rows c.put.ensures.columns c.put.ensures.diagonals
+          (search rules) (search rules) from to c.if-put-sum-eq0.true c.loop-number.invariant.turned c.fill_all.ensures
+    in
+    let skipped = free_skips c.args.degrees.0 c.args.degrees.1 c.args.width c.args.row c.args.column c.args.open.room c.args.open.rows c.args.open.columns c.args.open.diagonals
+          (omega (arith, c.requires.small, c.requires.smaller)) c.requires.row higher c.requires.column (search rules) c.args.table.now (next - suc n) (suc n) c.fill_all.new.table
+          (λ v l m. c.next_apart-number.ensures.least v (omega arith) (omega arith)) turned
+    in
+    let whole : next - suc n + suc n ≡ next = omega arith in
+    record {
+      from = omega arith;
+      turned = subst (λ (m : ℕ). TurnsOverAllBelow c.args.degrees.0 c.args.degrees.1 c.args.width c.args.row c.args.column c.args.open.room c.args.open.rows c.args.open.columns c.args.open.diagonals m c.args.table.now c.fill_all.new.table) whole skipped;
+    }
+
+pub loop-number-preserved : goal.loop-number-preserved
+loop-number-preserved t c =
+    let higher = above c.args.row c.args.column c.else-row-eq0.either in
+    let skipped = free_skip c.args.degrees.0 c.args.degrees.1 c.args.width c.args.row c.args.column c.args.open.room c.args.open.rows c.args.open.columns c.args.open.diagonals
+          (omega (arith, c.requires.small, c.requires.smaller)) c.requires.row higher c.requires.column (search rules) c.args.table.now c.loop-number.number c.loop-number.table c.if-put-sum-eq0.false c.loop-number.invariant.turned
+    in
+    let from = c.loop-number.invariant.from in
+    record {
+      from = omega arith;
+      turned = subst (λ (n : ℕ). TurnsOverAllBelow c.args.degrees.0 c.args.degrees.1 c.args.width c.args.row c.args.column c.args.open.room c.args.open.rows c.args.open.columns c.args.open.diagonals n c.args.table.now c.loop-number.table) (sym (add-one c.loop-number.number)) skipped;
+    }
+
+pub returns : goal.returns
+returns t c =
+    free_end c.args.degrees.0 c.args.degrees.1 c.args.width c.args.row c.args.column c.args.open.room c.args.open.rows c.args.open.columns c.args.open.diagonals
+    (omega (arith, c.requires.small, c.requires.smaller)) c.requires.row (above c.args.row c.args.column c.else-row-eq0.either) c.requires.column (search rules) c.args.table.now c.loop-number.number c.loop-number.table
+    (omega (arith, c.loop-number-test.false, c.from.ensures, c.range-least.ensures.greatest)) c.loop-number.invariant.turned

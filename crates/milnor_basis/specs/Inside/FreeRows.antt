@@ -1,0 +1,67 @@
+-- The matrices of Milnor's product whose columns are S and whose rows make up any R of one degree, filled place by place
+-- from the last to the first.
+use Rattle.std.specs.Prelude.{◌≡◌, ℕ, zero, suc, ◌+◌, ◌-◌, ◌*◌, ◌<◌, ◌≤◌, ◌^◌, Bool, true, false, ◌&&◌, nat_eq, List, [], ◌∷◌, length, min, ◌/◌, slice_index, slice_index_or, slice_set}
+use Rattle.std.specs.List.{sum}
+use Rattle.std.specs.Cmp.Lexicographic.{pointwise}
+use Rattle.milnor_basis.specs.Exponents.{entry, degree_of, trimmed}
+use Rattle.milnor_basis.specs.Basis.{basis_of}
+use Rattle.milnor_basis.specs.Inside.Padding.{padded}
+use Rattle.milnor_basis.specs.Inside.Walk.{plus, fillings, places_to, Sums, add, are_sums_of}
+
+-- What a filling that has come to (row, column) knows: the sums of rows 1 to 8 so far and the degree that is left for them,
+-- what is left of columns 1 to 8, and the sums of diagonals 1 to 16 so far.
+pub record IsFree (degree : ℕ) (s : List ℕ) (row column room : ℕ) (rows columns diagonals : List ℕ) (sums : Sums) : Type 0 where
+  pub rows_so_far : (i : ℕ) → i < 8 → slice_index rows i ≡ sums.rows (suc i)
+  pub room_left : room + degree_of rows ≡ degree
+  pub room_done : row ≡ 0 → room ≡ 0
+  pub columns_left : (j : ℕ) → j < length s → slice_index columns j + sums.columns (suc j) ≡ entry s j
+  pub columns_done : row ≡ 0 → (j : ℕ) → column ≤ j → j < length s → slice_index columns j ≡ 0
+  pub diagonals_so_far : (k : ℕ) → k < 8 + length s → slice_index diagonals k ≡ sums.diagonals (suc k)
+  pub no_more_diagonals : (k : ℕ) → 8 + length s ≤ k → slice_index diagonals k ≡ 0
+  pub is_apart : sums.apart ≡ true
+
+-- The least and the greatest number that can stand at (row, column), where row i takes 2^i - 1 of the degree for each of its
+-- sum: the first place of row 1 takes all that is left of it, and the place in row 0 what is left of its column.
+abbrev first_of_row : ℕ → ℕ → ℕ
+first_of_row zero room = room
+first_of_row (suc i) room = 0
+
+abbrev pub least_free : ℕ → ℕ → ℕ → List ℕ → ℕ
+least_free zero zero room columns = 0
+least_free zero (suc j) room columns = slice_index columns j
+least_free (suc i) zero room columns = first_of_row i room
+least_free (suc i) (suc j) room columns = 0
+
+abbrev pub greatest_free : ℕ → ℕ → ℕ → List ℕ → ℕ
+greatest_free zero zero room columns = 0
+greatest_free zero (suc j) room columns = slice_index columns j
+greatest_free (suc i) zero room columns = room / (2 ^ suc i - 1)
+greatest_free (suc i) (suc j) room columns = min (room / (2 ^ suc i - 1) / 2 ^ suc j) (slice_index columns j)
+
+-- the list with v added to its number at i, counted from 1
+abbrev pub added : ℕ → ℕ → List ℕ → List ℕ
+added zero v xs = xs
+added (suc i) v xs = slice_set xs i (slice_index xs i + v)
+
+-- the element of a degree's basis at place k
+abbrev pub element : ℕ → ℕ → List ℕ
+element n k = slice_index_or (basis_of n) k []
+
+-- A table has a row for each R of a degree, with a bit for each T of the degree of the products. Two tables of which the
+-- second has those bits turned over at which `turns` holds of the places of R and T.
+abbrev pub IsTurnedOver : ℕ → ℕ → (ℕ → ℕ → Bool) → List Bool → List Bool → Type 0
+IsTurnedOver degree product turns before after = (p k : ℕ) → p < length (basis_of degree) → k < length (basis_of product)
+    → slice_index_or after (p * length (basis_of product) + k) false ≡ plus (turns p k) (slice_index_or before (p * length (basis_of product) + k) false)
+
+-- the bit of R and T alone
+abbrev pub are_elements : ℕ → ℕ → List ℕ → List ℕ → ℕ → ℕ → Bool
+are_elements degree product r t p k = pointwise nat_eq (trimmed r) (element degree p) && pointwise nat_eq (trimmed t) (element product k)
+
+-- whether an odd number of ways to fill the places up to (row, column) leads to the R and the T at these places
+abbrev pub leads_to : ℕ → ℕ → List ℕ → ℕ → ℕ → Sums → ℕ → ℕ → Bool
+leads_to degree product s row column sums p k = fillings add (suc (sum (padded 8 (element degree p)) + sum s)) (places_to (length s) row column) (are_sums_of (padded 8 (element degree p)) s (element product k)) sums
+
+-- the bits to which the ways to fill the places up to (row, column) lead, whatever S asks and whatever is filled already
+abbrev pub TurnsOverAll : ℕ → ℕ → ℕ → ℕ → ℕ → ℕ → List ℕ → List ℕ → List ℕ → List Bool → List Bool → Type 0
+TurnsOverAll degree product width row column room rows columns diagonals before after = (s : List ℕ) (sums : Sums) → width ≡ length s → length s ≤ 8 → IsFree degree s row column room rows columns diagonals sums
+    → IsTurnedOver degree product (leads_to degree product s row column sums) before after

@@ -1,0 +1,168 @@
+//! The products of all elements of a degree with one element: one walk fills the matrices of all of them.
+ghost use Rattle.std.specs.Prelude.{◌≡◌, ℕ, ◌≤◌, ◌<◌, ◌+◌, ◌-◌, ◌*◌, ◌^◌, ◌≢◌, IfOk, IfSome, IsNone, Some, length, map, slice_index, slice_set, slice_get, bit_or};
+ghost use Rattle.milnor_basis.specs.Exponents.{degree_of, entry, trimmed};
+ghost use Rattle.milnor_basis.specs.Basis.{basis_of};
+ghost use Rattle.milnor_basis.specs.Product.{product_bits};
+ghost use Rattle.milnor_basis.specs.Inside.Walk.{next_row, next_column, taken};
+ghost use Rattle.milnor_basis.specs.Inside.FreeRows.{least_free, greatest_free, added, element, are_elements, IsTurnedOver, TurnsOverAll};
+
+use crate::basis::Basis;
+use crate::exps::{Exps, MAX_EXPONENTS};
+use crate::product::{is_zero, next_apart, next_place};
+use memory::Memory;
+use std::alloc::Global;
+
+/// What is left to fill of a matrix whose rows make up any element of a degree.
+#[derive(Clone, Copy, Drop)]
+struct Open {
+    /// The degree that is left for the rows.
+    room: u16,
+    /// The sum of each row so far, from row 1 on.
+    rows: [u16; 8],
+    /// What is left of the sum of each column, from column 1 on.
+    columns: [u16; 8],
+    /// The sum of each diagonal so far, from diagonal 1 on.
+    diagonals: [u16; 16],
+}
+
+impl Open {
+    /// The least and the greatest number that can stand at this place.
+    fn range(&self, row: usize, column: usize) -> (u16, u16)
+        requires row { row ≤ 8 }
+        requires column { column ≤ 8 }
+        requires place { 0 < row + column }
+        ensures least { result.0 ≡ least_free row column self.now.room self.now.columns }
+        ensures greatest { result.1 ≡ greatest_free row column self.now.room self.now.columns }
+    {
+        if row == 0 {
+            let column_left = self.columns[column - 1];
+            return (column_left, column_left);
+        }
+        let most = self.room / ((1 << row) - 1);
+        if column > 0 {
+            (0, (most >> column).min(self.columns[column - 1]))
+        } else if row == 1 {
+            (self.room, most)
+        } else {
+            (0, most)
+        }
+    }
+
+    /// What is left with `number` put at this place, which shares no binary digit with its diagonal.
+    fn put(mut self, row: usize, column: usize, number: u16) -> Self
+        requires row { row ≤ 8 }
+        requires column { column ≤ 8 }
+        requires place { 0 < row + column }
+        requires greatest { number ≤ greatest_free row column self.room self.columns }
+        requires degree { self.room + degree_of self.rows ≤ 255 }
+        ensures room { result.room ≡ self.room - number * 2 ^ column * (2 ^ row - 1) }
+        ensures rows { result.rows ≡ added row (number * 2 ^ column) self.rows }
+        ensures columns { result.columns ≡ taken column number self.columns }
+        ensures diagonals { result.diagonals ≡ slice_set self.diagonals (row + column - 1) (bit_or (slice_index self.diagonals (row + column - 1)) number) }
+    {
+        if row > 0 {
+            let weighed = number << column;
+            self.rows[row - 1] += weighed;
+            self.room -= weighed * ((1 << row) - 1);
+        }
+        if column > 0 {
+            self.columns[column - 1] -= number;
+        }
+        // With no digit in common this is the sum, and it cannot overflow.
+        self.diagonals[row + column - 1] |= number;
+        self
+    }
+}
+
+/// The place of Sq(R) in the basis of degree `n`; none where R is of another degree.
+fn place_in(basis: &Basis, n: u16, r: &Exps) -> Option<usize>
+    requires { n ≤ basis.now }
+    ensures found { IfSome result (λ i. slice_get (basis_of n) i ≡ Some r.now) }
+    ensures none { IsNone result → (k : ℕ) → k < length (basis_of n) → r.now ≢ element n k }
+{
+    let (degree, place) = basis.place(r)?;
+    if degree == n { Some(place) } else { None }
+}
+
+/// The place in the basis of degree `n` of the element whose exponents these are; none where it is of another degree.
+fn place_of_diagonals(basis: &Basis, n: u16, diagonals: &[u16; 16]) -> Option<usize>
+    requires degree { n ≤ basis.now }
+    requires small { n ≤ 255 }
+    ensures found { IfSome result (λ i. slice_get (basis_of n) i ≡ Some (trimmed diagonals.now)) }
+    ensures none { IsNone result → (k : ℕ) → k < length (basis_of n) → trimmed diagonals.now ≢ element n k }
+{
+    let (first, rest) = diagonals.split_at(MAX_EXPONENTS);
+    if !is_zero(rest) {
+        return None;
+    }
+    let mut exponents = [0; MAX_EXPONENTS];
+    exponents.copy_from_slice(first);
+    place_in(basis, n, &Exps::of(exponents))
+}
+
+/// Turns over the bit of R, which the rows make up, and of T, which the diagonals make up, if they are of these degrees.
+fn turn_over_both(basis: &Basis, degree: u16, product: u16, open: &Open, table: &mut [bool])
+    requires degree { degree ≤ basis.now }
+    requires product { product ≤ basis.now }
+    requires small { product ≤ 255 }
+    requires table { length table.old ≡ length (basis_of degree) * length (basis_of product) }
+    ensures { IsTurnedOver degree product (are_elements degree product open.now.rows open.now.diagonals) table.old table.new }
+{
+    let Some(row) = place_in(basis, degree, &Exps::of(open.rows)) else {
+        return;
+    };
+    let Some(column) = place_of_diagonals(basis, product, &open.diagonals) else {
+        return;
+    };
+    let bit = row * basis.of_degree(product).len() + column;
+    table[bit] = !table[bit];
+}
+
+/// Turns over, for each way to fill the places up to (row, column), the bit of R and T. `degrees` are those of R and of
+/// the products.
+fn fill_all(
+    basis: &Basis,
+    degrees: (u16, u16),
+    width: usize,
+    row: usize,
+    column: usize,
+    open: Open,
+    table: &mut [bool],
+)
+    requires degree { degrees.0 ≤ basis.now }
+    requires product { degrees.1 ≤ basis.now }
+    requires small { degrees.0 ≤ degrees.1 }
+    requires smaller { degrees.1 ≤ 255 }
+    requires room { open.room + degree_of open.rows ≤ 255 }
+    requires table { length table.old ≡ length (basis_of degrees.0) * length (basis_of degrees.1) }
+    requires row { row ≤ 8 }
+    requires width { width ≤ 8 }
+    requires column { column ≤ width }
+    ensures { TurnsOverAll degrees.0 degrees.1 width row column open.room open.rows open.columns open.diagonals table.old table.new }
+{
+    if row == 0 && column == 0 {
+        turn_over_both(basis, degrees.0, degrees.1, &open, table);
+        return;
+    }
+    let (next_row, next_column) = next_place(width, row, column);
+    let sum = open.diagonals[row + column - 1];
+    let (least, greatest) = open.range(row, column);
+    let mut number = u32::from(least);
+    while number <= u32::from(greatest) {
+        let put = number as u16;
+        if put & sum == 0 {
+            fill_all(
+                basis,
+                degrees,
+                width,
+                next_row,
+                next_column,
+                open.put(row, column, put),
+                table,
+            );
+            number = next_apart(put, sum);
+        } else {
+            number += 1;
+        }
+    }
+}
