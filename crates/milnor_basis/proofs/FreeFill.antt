@@ -1,5 +1,5 @@
 -- The loop over the numbers at one place, for all R of a degree.
-use Rattle.std.proofs.Common.{◌≡◌, ℕ, zero, suc, ◌+◌, ◌-◌, ◌*◌, ◌<◌, ◌≤◌, ◌^◌, ◌≢◌, ◌⊎◌, inl, inr, Bool, true, false, ◌&&◌, nat_eq, nat_lt, nat_le, List, [], ◌∷◌, map, length, refl, sym, ◌∙◌, ap, subst, arith, slice_index, slice_index_or, slice_set, bit_and, bit_or}
+use Rattle.std.proofs.Common.{◌≡◌, ℕ, zero, suc, ◌+◌, ◌-◌, ◌*◌, ◌<◌, ◌≤◌, ◌^◌, ◌≢◌, ◌⊎◌, inl, inr, Bool, true, false, ◌&&◌, nat_eq, nat_lt, nat_le, List, map, length, refl, sym, ◌∙◌, ap, subst, arith, slice_index, slice_index_or, slice_set, bit_and, bit_or}
 use Rattle.std.specs.List.{sum, range_with_len, list_all}
 use Rattle.std.proofs.lemmas.Bool.{eq-eqb, ne_eqb, ltb-true, ltb-false, leb-true, leb-false, cases_Bool}
 use Rattle.std.proofs.lemmas.List.{get_or_past}
@@ -8,12 +8,11 @@ use Rattle.std.specs.Cmp.Lexicographic.{pointwise}
 use Rattle.milnor_basis.specs.Exponents.{entry, degree_of, trimmed}
 use Rattle.milnor_basis.specs.Basis.{basis_of}
 use Rattle.milnor_basis.specs.Inside.Padding.{padded}
-use Rattle.milnor_basis.specs.Inside.Walk.{plus, is_odd_below, fillings, places_to, Sums, add, are_sums_of, taken, next_row, next_column}
+use Rattle.milnor_basis.specs.Inside.Walk.{plus, is_odd_below, Sums, add, are_sums_of, taken, next_row, next_column}
 use Rattle.milnor_basis.specs.Inside.FreeRows.{IsFree, least_free, greatest_free, added, element, IsTurnedOver, are_elements, leads_to, TurnsOverAll}
 use Rattle.milnor_basis.proofs.Parity.{plus-assoc, is_odd_below-none, is_odd_below-up_to}
 use Rattle.milnor_basis.proofs.Walk.{fillings_step}
 use Rattle.milnor_basis.proofs.Prune.{not_apart}
-use Rattle.milnor_basis.proofs.Steps.{next_is}
 use Rattle.milnor_basis.proofs.Places.{basis_of-member}
 use Rattle.milnor_basis.specs.Inside.Padding.{padded-trimmed}
 use Rattle.milnor_basis.proofs.ExponentLemmas.{length-padded, trimmed-padded, degree_of-trimmed, trimmed-same, same_answers}

@@ -1,16 +1,15 @@
 -- Fillings whose rows make up any R of a degree: which numbers lead to no matrix that counts, and what a number leaves.
-use Rattle.std.proofs.Common.{◌≡◌, ℕ, zero, suc, ◌+◌, ◌-◌, ◌*◌, ◌/◌, ◌%◌, ◌<◌, ◌≤◌, ◌^◌, ◌≢◌, ◌⊎◌, inl, inr, Bool, true, false, ◌&&◌, nat_eq, nat_le, List, [], ◌∷◌, map, length, refl, sym, ◌∙◌, ap, subst, arith, slice_index, slice_set, bit_and, bit_or}
+use Rattle.std.proofs.Common.{◌≡◌, ℕ, zero, suc, ◌+◌, ◌-◌, ◌*◌, ◌/◌, ◌%◌, ◌<◌, ◌≤◌, ◌^◌, ◌≢◌, ◌⊎◌, inl, inr, Bool, true, false, nat_eq, nat_le, List, [], ◌∷◌, map, length, refl, sym, ◌∙◌, ap, arith, slice_index, slice_set, bit_and, bit_or}
 use Rattle.std.specs.List.{sum, range_with_len, list_all}
 use Rattle.std.proofs.Math.Nat.{mod-eq_of_lt}
 use Rattle.std.proofs.lemmas.Nat.{or_disjoint, and_comm, pow_pos, mul-le, one_shl}
-use Rattle.std.proofs.lemmas.Bool.{eq-eqb, ne_eqb, eqb-true, eqb-false, leb-true, leb-false, cases_Bool}
+use Rattle.std.proofs.lemmas.Bool.{eq-eqb, eqb-true, eqb-false, leb-true, leb-false, cases_Bool}
 use Rattle.std.proofs.lemmas.List.{get_or-set_same, get_or-set_other, ext_get_or, length-set}
 use Rattle.std.proofs.lemmas.List.FromFn.{length-map-range_with_len, get_or-map-range_with_len}
-use Rattle.std.specs.Cmp.Lexicographic.{pointwise}
-use Rattle.milnor_basis.specs.Exponents.{entry, degree_from, degree_of, trimmed}
+use Rattle.milnor_basis.specs.Exponents.{entry, degree_from, degree_of}
 use Rattle.milnor_basis.specs.Inside.Walk.{fillings, places_to, Sums, add_at, add, are_sums_of, taken, next_row, next_column}
 use Rattle.milnor_basis.specs.Inside.FreeRows.{IsFree, least_free, greatest_free, added}
-use Rattle.milnor_basis.proofs.Prune.{IsDead, dead_rows, list_all-fails, add_at-le, add_at-other, add_at-same, over_quotient, row_too_large, column_too_large, column_not_full}
+use Rattle.milnor_basis.proofs.Prune.{dead_rows, list_all-fails, add_at-le, add_at-other, add_at-same, over_quotient, row_too_large, column_too_large, column_not_full}
 use Rattle.milnor_basis.proofs.Steps.{taken_sum, taken-same, taken-other, under_quotient, entry-sum}
 use Rattle.milnor_basis.proofs.ExponentLemmas.{below_power, entry_within}
 use Rattle.milnor_basis.proofs.MatrixList.{map-range_same}

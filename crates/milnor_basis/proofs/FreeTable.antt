@@ -1,16 +1,19 @@
 -- The table of the products of all R of a degree: one bit of it, and its rows.
-use Rattle.std.proofs.Common.{◌≡◌, ℕ, zero, suc, ◌+◌, ◌-◌, ◌*◌, ◌/◌, ◌<◌, ◌≤◌, ◌≢◌, inl, inr, Bool, true, false, not, ◌&&◌, nat_eq, Some, List, [], ◌∷◌, length, map, take, drop, set, refl, sym, ◌∙◌, ap, subst, arith, slice_index, slice_index_or, slice_get}
+use Rattle.std.proofs.Common.{◌≡◌, ℕ, ◌+◌, ◌-◌, ◌*◌, ◌/◌, ◌<◌, ◌≤◌, ◌≢◌, inl, inr, Bool, true, false, not, ◌&&◌, nat_eq, Some, List, [], ◌∷◌, ◌++◌, length, map, replicate, take, drop, set, refl, sym, ◌∙◌, ap, arith, slice_index, slice_index_or, slice_get}
 use Rattle.std.specs.Cmp.Lexicographic.{pointwise}
 use Rattle.std.proofs.lemmas.Bool.{cases_eq, cases_lt}
 use Rattle.std.proofs.lemmas.Nat.{div-mul-add, mul-add-lt}
-use Rattle.std.proofs.lemmas.List.{get_or-set_same, get_or-set_other, get_or-drop, length-drop}
+use Rattle.std.proofs.lemmas.List.{get_or-set_same, get_or-set_other, get_or-drop, length-drop, get_or-replicate, get_or-map, length-map, ext_get_or, take_more, map-append}
 use Rattle.std.proofs.lemmas.Option.{get_or_from_slice_get, slice_get_within}
-use Rattle.milnor_basis.specs.Exponents.{degree_of, trimmed}
+use Rattle.milnor_basis.specs.Exponents.{entry, degree_of, trimmed}
 use Rattle.milnor_basis.specs.Basis.{basis_of}
-use Rattle.milnor_basis.specs.Inside.Walk.{plus}
-use Rattle.milnor_basis.specs.Inside.FreeRows.{element, IsTurnedOver, are_elements}
-use Rattle.milnor_basis.proofs.Bits.{same_exponents, other_exponents, trimmed_take, no_more_exponents}
+use Rattle.milnor_basis.specs.Inside.Walk.{plus, no_sums}
+use Rattle.milnor_basis.specs.Inside.FreeRows.{element, IsFree, IsTurnedOver, are_elements, leads_to}
+use Rattle.milnor_basis.proofs.Bits.{short, same_exponents, other_exponents, trimmed_take, no_more_exponents}
 use Rattle.milnor_basis.proofs.ExponentLemmas.{entry_past}
+use Rattle.milnor_basis.specs.Product.{coefficient, product_bits}
+use Rattle.milnor_basis.proofs.Parity.{plus-false}
+use Rattle.milnor_basis.proofs.FreeStart.{coefficient-padded}
 use Rattle.milnor_basis.proofs.Places.{basis_of-once, basis_of-member}
 
 -- a place in a table tells its row and its column
@@ -82,3 +85,44 @@ module _ (degree product : ℕ) (rows diagonals : List ℕ) (bits : List Bool) w
               ∙ sym (rw (row_same, column_same) refl)
         ]
       ]
+
+-- The table when all is filled: its rows are the products.
+pub all_free : (degree : ℕ) (s columns diagonals : List ℕ) → ((j : ℕ) → j < 8 → slice_index columns j ≡ entry s j) → ((k : ℕ) → slice_index diagonals k ≡ 0) → length s ≤ 8
+    → IsFree degree s 8 (length s) degree (replicate 8 0) columns diagonals no_sums
+all_free degree s columns diagonals es ed wide = record {
+  rows_so_far = λ i l. get_or-replicate 8 i 0 0 l;
+  room_left = omega arith;
+  room_done = λ z. absurd (omega arith);
+  columns_left = λ j l. let e = es j (omega arith) in omega arith;
+  columns_done = λ z j l m. absurd (omega arith);
+  diagonals_so_far = λ k l. ed k;
+  no_more_diagonals = λ k l. ed k;
+  is_apart = refl;
+}
+
+pub row_is : (degree product p : ℕ) (s : List ℕ) (before after bits : List Bool) → degree ≤ 255 → product ≡ degree + degree_of s → p < length (basis_of degree)
+    → ((i : ℕ) → slice_index_or before i false ≡ false) → length bits ≡ length (basis_of product) → ((k : ℕ) → k < length (basis_of product) → slice_index_or bits k false ≡ slice_index_or after (p * length (basis_of product) + k) false)
+    → IsTurnedOver degree product (leads_to degree product s 8 (length s) no_sums) before after → bits ≡ product_bits (element degree p) s
+row_is degree product p s before after bits small e l clear long same turns =
+    let r = element degree p in
+    let n = length (basis_of product) in
+    let is = basis_of-member degree p l in
+    let d : degree_of r ≡ degree = is.1 in
+    let few : length r ≤ 8 = short r is.0 (omega arith) in
+    let at : product ≡ degree_of r + degree_of s = omega arith in
+    ext_get_or false bits (map (coefficient r s) (basis_of product)) (long ∙ sym (length-map (basis_of product) (coefficient r s))) (λ k m.
+    let within : k < n = omega arith in
+    same k within
+    ∙ turns p k l within
+    ∙ ap (λ b. plus b (slice_index_or before (p * n + k) false)) (sym (coefficient-padded r s (element product k) few))
+    ∙ ap (plus (coefficient r s (element product k))) (clear (p * n + k))
+    ∙ plus-false (coefficient r s (element product k))
+    ∙ sym (get_or-map (coefficient r s) (basis_of product) k [] false within))
+    ∙ ap (λ j. map (coefficient r s) (basis_of j)) at
+
+-- one more row
+pub rows_more : (products : List ℕ → List Bool) (basis : List (List ℕ)) (p : ℕ) (rows : List (List Bool)) (bits : List Bool) → p < length basis → rows ≡ map products (take p basis) → bits ≡ products (slice_index_or basis p [])
+    → rows ++ bits ∷ [] ≡ map products (take (p + 1) basis)
+rows_more products basis p rows bits l e f =
+    ap (λ xs. xs ++ bits ∷ []) e ∙ ap (λ b. map products (take p basis) ++ b ∷ []) f
+    ∙ sym (ap (map products) (take_more basis p [] l) ∙ map-append products (take p basis) (slice_index_or basis p [] ∷ []))

@@ -1,5 +1,5 @@
 //! The products of all elements of a degree with one element: one walk fills the matrices of all of them.
-ghost use Rattle.std.specs.Prelude.{◌≡◌, ℕ, ◌≤◌, ◌<◌, ◌+◌, ◌-◌, ◌*◌, ◌^◌, ◌≢◌, IfOk, IfSome, IsNone, Some, length, map, slice_index, slice_set, slice_get, bit_or};
+ghost use Rattle.std.specs.Prelude.{◌≡◌, ℕ, ◌≤◌, ◌<◌, ◌+◌, ◌-◌, ◌*◌, ◌^◌, ◌≢◌, IfOk, IfSome, IsNone, Some, length, map, replicate, false, slice_index, slice_index_or, slice_set, slice_get, bit_or};
 ghost use Rattle.milnor_basis.specs.Exponents.{degree_of, entry, trimmed};
 ghost use Rattle.milnor_basis.specs.Basis.{basis_of};
 ghost use Rattle.milnor_basis.specs.Product.{product_bits};
@@ -8,7 +8,7 @@ ghost use Rattle.milnor_basis.specs.Inside.FreeRows.{least_free, greatest_free, 
 
 use crate::basis::Basis;
 use crate::exps::{Exps, MAX_EXPONENTS};
-use crate::product::{is_zero, next_apart, next_place};
+use crate::product::{is_zero, next_apart, next_place, numbers_of};
 use memory::Memory;
 use std::alloc::Global;
 
@@ -26,6 +26,21 @@ struct Open {
 }
 
 impl Open {
+    /// All the places to fill, for rows that make up an element of this degree, and the columns S.
+    fn of(degree: u16, s: &Exps) -> Self
+        ensures room { result.room ≡ degree }
+        ensures rows { result.rows ≡ replicate 8 0 }
+        ensures columns { (j : ℕ) → j < 8 → slice_index result.columns j ≡ entry s.now j }
+        ensures diagonals { (k : ℕ) → slice_index result.diagonals k ≡ 0 }
+    {
+        Open {
+            room: degree,
+            rows: [0; 8],
+            columns: numbers_of(s),
+            diagonals: [0; 16],
+        }
+    }
+
     /// The least and the greatest number that can stand at this place.
     fn range(&self, row: usize, column: usize) -> (u16, u16)
         requires row { row ≤ 8 }
@@ -164,5 +179,112 @@ fn fill_all(
         } else {
             number += 1;
         }
+    }
+}
+
+/// The degree of the products of elements of this degree with Sq(S), which is at most the basis's greatest.
+fn degree_of_products(basis: &Basis, degree: u16, s: &Exps) -> u16
+    requires { degree + degree_of s.now ≤ basis.now }
+    ensures sum { result ≡ degree + degree_of s.now }
+    ensures small { result ≤ 255 }
+{
+    let Some((right, _)) = basis.place(s) else {
+        unreachable!()
+    };
+    degree + right
+}
+
+/// A table of zeros with this many rows and columns.
+fn cleared(alloc: Global, rows: usize, columns: usize) -> Result<Vec<bool>, Memory>
+    ensures size { IfOk result (λ table. length table.items ≡ rows * columns) }
+    ensures clear { IfOk result (λ table. (i : ℕ) → slice_index_or table.items i false ≡ false) }
+{
+    let Some(count) = rows.checked_mul(columns) else {
+        return Err(Memory);
+    };
+    Ok(vec![in alloc; false; count]?)
+}
+
+/// The row of a table that begins at `start`.
+fn row_at(alloc: Global, table: &[bool], start: usize, width: usize) -> Result<Vec<bool>, Memory>
+    requires { start + width ≤ length table.now }
+    ensures width { IfOk result (λ row. length row.items ≡ width) }
+    ensures bits { IfOk result (λ row. (k : ℕ) → k < width → slice_index_or row.items k false ≡ slice_index_or table.now (start + k) false) }
+{
+    let row = &table[start..start + width];
+    Ok(row.to_vec(alloc)?)
+}
+
+/// For each R of this degree, in basis order, the coefficients mod 2 of the product of Sq(R) and Sq(S).
+///
+/// # Errors
+/// `Memory` if allocation fails.
+pub(crate) fn bits_of_multiples(
+    alloc: Global,
+    basis: &Basis,
+    degree: u16,
+    s: &Exps,
+) -> Result<Vec<Vec<bool>>, Memory>
+    requires { degree + degree_of s.now ≤ basis.now }
+    ensures { IfOk result (λ rows. map (λ bits. bits.items) rows.items ≡ map (λ r. product_bits r s.now) (basis_of degree)) }
+{
+    let product = degree_of_products(basis, degree, s);
+    let height = basis.of_degree(degree).len();
+    let width = basis.of_degree(product).len();
+    let mut table = cleared(alloc, height, width)?;
+    fill_all(
+        basis,
+        (degree, product),
+        s.len(),
+        MAX_EXPONENTS,
+        s.len(),
+        Open::of(degree, s),
+        &mut table,
+    );
+    let mut rows = Vec::new(alloc);
+    for p in 0..height {
+        rows.push(row_at(alloc, &table, p * width, width)?)?;
+    }
+    Ok(rows)
+}
+
+#[cfg(test)]
+mod tests {
+    use super::*;
+    use crate::product::coefficients;
+    use std::test::Fail;
+
+    // The products with Sq(2): Sq(3) Sq(2) is 0, and Sq(0,1) Sq(2) is Sq(2,1).
+    #[test]
+    fn multiplies_degree_three(rt: HostRuntime) -> Result<(), Fail> {
+        let basis = Basis::new(rt.alloc(), 5)?;
+        let two = Exps::of([2, 0, 0, 0, 0, 0, 0, 0]);
+        if two.degree() > 2 {
+            return Ok(());
+        }
+        let rows = bits_of_multiples(rt.alloc(), &basis, 3, &two)?;
+        assert_eq!(rt; rows.len(), 2);
+        assert_eq!(rt; rows[0].as_slice(), [false, false].as_slice());
+        assert_eq!(rt; rows[1].as_slice(), [false, true].as_slice());
+        Ok(())
+    }
+
+    #[test]
+    fn agrees_with_each_product(rt: HostRuntime) -> Result<(), Fail> {
+        let basis = Basis::new(rt.alloc(), 32)?;
+        for degree in 0..=16 {
+            for right in 0..=16 {
+                for s in basis.of_degree(right) {
+                    assert!(rt; s.degree() <= 16);
+                    let rows = bits_of_multiples(rt.alloc(), &basis, degree, s)?;
+                    for (i, r) in basis.of_degree(degree).iter().enumerate() {
+                        assert!(rt; r.degree() <= 16 && i < rows.len());
+                        let bits = coefficients(rt.alloc(), &basis, r, s)?;
+                        assert_eq!(rt; rows[i].as_slice(), bits.as_slice());
+                    }
+                }
+            }
+        }
+        Ok(())
     }
 }

@@ -1,5 +1,5 @@
 -- Each number has its turn.
-use Rattle.std.proofs.Common.{◌≡◌, ℕ, ◌<◌, ◌≤◌, ◌-◌, ◌≢◌, ◌⊎◌, inl, inr, ◌+◌, suc, List, Bool, sym, ap, subst, ◌∙◌, arith, add-one, rules}
+use Rattle.std.proofs.Common.{◌≡◌, ℕ, ◌<◌, ◌≤◌, ◌-◌, ◌≢◌, ◌⊎◌, inl, inr, ◌+◌, suc, sym, subst, ◌∙◌, arith, add-one, rules}
 use Rattle.milnor_basis.specs.Exponents.{degree_of}
 use Rattle.milnor_basis.specs.Inside.FreeRows.{least_free, greatest_free}
 use Rattle.milnor_basis.proofs.FreeRows.{put_degree}
@@ -19,7 +19,7 @@ pub loop-number-init : goal.loop-number-init
 loop-number-init t c =
     let from : c.from-number.result ≡ least_free c.args.row c.args.column c.args.open.room c.args.open.columns = c.from-number.ensures ∙ c.range-least.ensures.least in
     let base = free_start c.args.degrees.0 c.args.degrees.1 c.args.width c.args.row c.args.column c.args.open.room c.args.open.rows c.args.open.columns c.args.open.diagonals
-          (omega (arith, c.requires.small, c.requires.smaller)) c.requires.row (above c.args.row c.args.column c.else-row-eq0.either) c.requires.column (search rules) c.args.table.now
+    (omega (arith, c.requires.small, c.requires.smaller)) c.requires.row (above c.args.row c.args.column c.else-row-eq0.either) c.requires.column (search rules) c.args.table.now
     in
     record {
       from = omega arith;
@@ -43,14 +43,14 @@ loop-number-preserved-then-put-sum-eq0 t c =
     let from : least_free c.args.row c.args.column c.args.open.room c.args.open.columns ≤ n = c.loop-number.invariant.from in
     let to : n ≤ greatest_free c.args.row c.args.column c.args.open.room c.args.open.columns = omega (arith, c.loop-number-test.true, c.from.ensures, c.range-least.ensures.greatest) in
     let turned = free_turn c.args.degrees.0 c.args.degrees.1 c.args.width c.args.row c.args.column c.args.open.room c.args.open.rows c.args.open.columns c.args.open.diagonals
-          (omega (arith, c.requires.small, c.requires.smaller)) c.requires.row higher c.requires.column (search rules) c.args.table.now n
-          c.next_place-next_row.result.0 c.next_place-next_row.result.1 c.put.result.room c.loop-number.table c.fill_all.new.table c.put.result.rows c.put.result.columns c.put.result.diagonals
-          c.next_place-next_row.ensures.row c.next_place-next_row.ensures.column c.put.ensures.room c.put.ensures.rows c.put.ensures.columns c.put.ensures.diagonals
-          (search rules) (search rules) from to c.if-put-sum-eq0.true c.loop-number.invariant.turned c.fill_all.ensures
+    (omega (arith, c.requires.small, c.requires.smaller)) c.requires.row higher c.requires.column (search rules) c.args.table.now n
+    c.next_place-next_row.result.0 c.next_place-next_row.result.1 c.put.result.room c.loop-number.table c.fill_all.new.table c.put.result.rows c.put.result.columns c.put.result.diagonals
+    c.next_place-next_row.ensures.row c.next_place-next_row.ensures.column c.put.ensures.room c.put.ensures.rows c.put.ensures.columns c.put.ensures.diagonals
+    (search rules) (search rules) from to c.if-put-sum-eq0.true c.loop-number.invariant.turned c.fill_all.ensures
     in
     let skipped = free_skips c.args.degrees.0 c.args.degrees.1 c.args.width c.args.row c.args.column c.args.open.room c.args.open.rows c.args.open.columns c.args.open.diagonals
-          (omega (arith, c.requires.small, c.requires.smaller)) c.requires.row higher c.requires.column (search rules) c.args.table.now (next - suc n) (suc n) c.fill_all.new.table
-          (λ v l m. c.next_apart-number.ensures.least v (omega arith) (omega arith)) turned
+    (omega (arith, c.requires.small, c.requires.smaller)) c.requires.row higher c.requires.column (search rules) c.args.table.now (next - suc n) (suc n) c.fill_all.new.table
+    (λ v l m. c.next_apart-number.ensures.least v (omega arith) (omega arith)) turned
     in
     let whole : next - suc n + suc n ≡ next = omega arith in
     record {
@@ -62,7 +62,7 @@ pub loop-number-preserved : goal.loop-number-preserved
 loop-number-preserved t c =
     let higher = above c.args.row c.args.column c.else-row-eq0.either in
     let skipped = free_skip c.args.degrees.0 c.args.degrees.1 c.args.width c.args.row c.args.column c.args.open.room c.args.open.rows c.args.open.columns c.args.open.diagonals
-          (omega (arith, c.requires.small, c.requires.smaller)) c.requires.row higher c.requires.column (search rules) c.args.table.now c.loop-number.number c.loop-number.table c.if-put-sum-eq0.false c.loop-number.invariant.turned
+    (omega (arith, c.requires.small, c.requires.smaller)) c.requires.row higher c.requires.column (search rules) c.args.table.now c.loop-number.number c.loop-number.table c.if-put-sum-eq0.false c.loop-number.invariant.turned
     in
     let from = c.loop-number.invariant.from in
     record {

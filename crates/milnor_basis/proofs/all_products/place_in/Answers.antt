@@ -1,4 +1,4 @@
-use Rattle.std.proofs.Common.{◌≡◌, ◌<◌, ℕ, refl, sym, ◌∙◌, arith}
+use Rattle.std.proofs.Common.{◌<◌, refl, ◌∙◌, arith}
 use Rattle.milnor_basis.specs.Exponents.{degree_of}
 use Rattle.milnor_basis.proofs.FreeTable.{other_degree}
 use Rattle.milnor_basis.proofs.all_products.place_in.Goals as goal

@@ -1,8 +1,8 @@
-use Rattle.std.proofs.Common.{◌≡◌, ◌<◌, ◌≤◌, ◌+◌, ◌*◌, ℕ, List, Some, length, slice_get, sym, ap, subst, ◌∙◌, arith}
+use Rattle.std.proofs.Common.{◌≡◌, ◌<◌, ◌+◌, ◌*◌, ℕ, List, Some, length, slice_get, ap, ◌∙◌, arith}
 use Rattle.std.proofs.lemmas.Option.{slice_get_within}
 use Rattle.milnor_basis.specs.Exponents.{trimmed}
 use Rattle.milnor_basis.specs.Basis.{basis_of}
-use Rattle.milnor_basis.proofs.FreeTable.{within_table, one_turned, no_row, no_column}
+use Rattle.milnor_basis.proofs.FreeTable.{within_table, one_turned}
 use Rattle.milnor_basis.proofs.all_products.turn_over_both.Goals as goal
 
 -- the bit is in the table

@@ -1,8 +1,5 @@
-use Rattle.std.proofs.Common.{◌≡◌, ◌+◌, ◌-◌, ◌*◌, ◌^◌, ◌%◌, ◌<◌, ◌≤◌, sym, ap, ◌∙◌, arith}
+use Rattle.std.proofs.Common.{◌≡◌, ◌-◌, ◌*◌, ◌^◌, sym, ap, ◌∙◌, arith}
 use Rattle.milnor_basis.proofs.FreeRows.{put_row}
-use Rattle.milnor_basis.proofs.FreeFill.{free_start}
-use Rattle.milnor_basis.proofs.FreeTable.{one_turned}
-use Rattle.milnor_basis.proofs.FreeStart.{coefficient-padded}
 use Rattle.milnor_basis.proofs.all_products.Open.put.Goals as goal
 use Rattle.milnor_basis.proofs.all_products.Open.put.Goals.{then-row-gt0, else-row-gt0, then-column-gt0, else-column-gt0}
 
