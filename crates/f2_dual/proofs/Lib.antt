@@ -1,0 +1,9 @@
+mod Dots
+mod OnCandidates
+mod Relations
+mod Step
+mod Spread
+mod Clearing
+mod Tables
+mod Loops
+pub mod Units

@@ -1,0 +1,66 @@
+use Rattle.std.proofs.Common.{◌≡◌, ◌<◌, [], length, refl, ap, sym, ◌∙◌, arith}
+use Rattle.std.proofs.lemmas.Bool.{true≢false}
+use Rattle.std.proofs.lemmas.List.{get_or_read}
+use Rattle.f2_vec.specs.Vectors.{sum_of}
+use Rattle.f2_vec.specs.Spans.{row}
+use Rattle.f2_dual.specs.Inside.Tables.{entry_at}
+use Rattle.f2_dual.proofs.Clearing.{IsCleared-start, IsCleared-more, length-cleared, cleared-IsInSpan, cleared-at_pivots, left-outside, none_from_not_some}
+use Rattle.f2_dual.proofs.coordinates.coefficients.Goals as goal
+
+pub loop-place-init : goal.loop-place-init
+loop-place-init c = IsCleared-start c.args.candidates.now c.args.vector.now c.in_ok-rest.rest c.in_ok-sum.sum c.in_ok-rest.ensures c.in_ok-sum.ensures
+
+pub loop-place-smaller : goal.loop-place-smaller
+loop-place-smaller c =
+    let len = length-cleared c.loop-place.from c.args.candidates.now c.args.vector.now c.loop-place.rest c.loop-place.sum c.requires.widths c.loop-place.invariant in
+    let n = c.in-Some.ensures.next.reached in
+    omega (arith, c.in-Some.ensures.within)
+
+pub bounds : goal.bounds
+bounds c =
+    let len = length-cleared c.loop-place.from c.args.candidates.now c.args.vector.now c.loop-place.rest c.loop-place.sum c.requires.widths c.loop-place.invariant in
+    omega (arith, c.in-Some.ensures.within, c.requires.table.size)
+
+pub offset_bounds-table-place : goal.offset_bounds-table-place
+offset_bounds-table-place c =
+    let len = length-cleared c.loop-place.from c.args.candidates.now c.args.vector.now c.loop-place.rest c.loop-place.sum c.requires.widths c.loop-place.invariant in
+    let l : c.in-Some.place < length c.args.table.now = omega (arith, c.in-Some.ensures.within, c.requires.table.size) in
+    omega arith
+
+pub returns-in_default-table-clause-inside : goal.returns-in_default-table-clause-inside
+returns-in_default-table-clause-inside c = (
+  λ e. absurd (true≢false (sym e)),
+  λ s. absurd (left-outside c.loop-place.from c.in-Some.place c.args.candidates.now c.args.table.now c.args.vector.now c.loop-place.rest c.loop-place.sum c.requires.widths c.requires.reduced c.requires.nonzero c.requires.table c.loop-place.invariant c.in-Some.ensures.next (none_from_not_some (entry_at c.args.table.now c.in-Some.place) c.in_default-table.not-Some) s),
+)
+
+pub bounds-candidates-i : goal.bounds-candidates-i
+bounds-candidates-i c = (c.requires.table.found c.in-Some.place c.in-Some-table.i c.in-Some-table.is).0
+
+pub offset_bounds-candidates-i : goal.offset_bounds-candidates-i
+offset_bounds-candidates-i c = let l = (c.requires.table.found c.in-Some.place c.in-Some-table.i c.in-Some-table.is).0 in omega arith
+
+pub xor_with-requires : goal.xor_with-requires
+xor_with-requires c =
+    let i = c.in-Some-table.i in
+    let l = (c.requires.table.found c.in-Some.place i c.in-Some-table.is).0 in
+    let x : c.index-candidates-i.result ≡ row c.args.candidates.now i = get_or_read c.args.candidates.now i c.index-candidates-i.result l c.index-candidates-i.is [] in
+    length-cleared c.loop-place.from c.args.candidates.now c.args.vector.now c.loop-place.rest c.loop-place.sum c.requires.widths c.loop-place.invariant
+    ∙ sym (ap length x ∙ c.requires.widths i l)
+
+pub flip-requires : goal.flip-requires
+flip-requires c = omega (arith, c.loop-place.invariant.one_each, (c.requires.table.found c.in-Some.place c.in-Some-table.i c.in-Some-table.is).0)
+
+pub loop-place-preserved : goal.loop-place-preserved
+loop-place-preserved c =
+    let i = c.in-Some-table.i in
+    let l = (c.requires.table.found c.in-Some.place i c.in-Some-table.is).0 in
+    let x : c.index-candidates-i.result ≡ row c.args.candidates.now i = get_or_read c.args.candidates.now i c.index-candidates-i.result l c.index-candidates-i.is [] in
+    IsCleared-more c.loop-place.from c.in-Some.place i c.args.candidates.now c.args.table.now c.args.vector.now c.loop-place.rest c.loop-place.sum c.xor_with.new.self c.flip.new.self c.requires.widths c.requires.nonzero c.requires.table c.loop-place.invariant c.in-Some.ensures.next c.in-Some-table.is
+    (c.xor_with.ensures ∙ ap (λ z. sum_of c.loop-place.rest z) x) c.flip.ensures
+
+pub returns-clause-inside : goal.returns-clause-inside
+returns-clause-inside c =
+    (λ e. cleared-IsInSpan c.loop-place.from c.args.candidates.now c.args.vector.now c.loop-place.rest c.loop-place.sum c.requires.widths c.loop-place.invariant (c.in_default.ensures.none.0 refl), λ s. refl)
+
+pub returns-clause-at_pivots : goal.returns-clause-at_pivots
+returns-clause-at_pivots c = cleared-at_pivots c.loop-place.from c.args.candidates.now c.args.vector.now c.loop-place.rest c.loop-place.sum c.requires.widths c.requires.reduced c.requires.nonzero c.loop-place.invariant (c.in_default.ensures.none.0 refl)
