@@ -56,6 +56,13 @@ impl Matrix {
         self.rows.as_slice()
     }
 
+    /// The rows, in order, out of the matrix.
+    pub fn into_rows(self) -> Vec<BitVec>
+        ensures { result.items ≡ self.rows }
+    {
+        self.rows
+    }
+
     /// Puts one more row at the end.
     pub fn push_row(&mut self, row: BitVec) -> Result<(), Memory>
         requires { length row ≡ self.old.cols }
