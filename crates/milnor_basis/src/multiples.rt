@@ -4,9 +4,9 @@ ghost use Rattle.milnor_basis.specs.Exponents.{degree_of};
 ghost use Rattle.milnor_basis.specs.Basis.{basis_of};
 ghost use Rattle.milnor_basis.specs.Product.{product_bits, product_places, places_from, Factors};
 
+use crate::all_products::bits_of_multiples;
 use crate::basis::Basis;
 use crate::exps::Exps;
-use crate::product::coefficients;
 use memory::Memory;
 use once_cell::race::OnceBox;
 use std::alloc::Global;
@@ -91,23 +91,6 @@ fn with_places(mut numbers: Vec<u16>, bits: &[bool]) -> Result<Vec<u16>, Memory>
         }
     }
     Ok(numbers)
-}
-
-/// For each R of this degree, in basis order, the coefficients mod 2 of the product of Sq(R) and Sq(S).
-pub(crate) fn bits_of_multiples(
-    alloc: Global,
-    basis: &Basis,
-    degree: u16,
-    s: &Exps,
-) -> Result<Vec<Vec<bool>>, Memory>
-    requires { degree + degree_of s.now ≤ basis.now }
-    ensures { IfOk result (λ rows. map (λ bits. bits.items) rows.items ≡ map (λ r. product_bits r s.now) (basis_of degree)) }
-{
-    let mut rows = Vec::new(alloc);
-    for r in basis.of_degree(degree) {
-        rows.push(coefficients(alloc, basis, r, s)?)?;
-    }
-    Ok(rows)
 }
 
 /// The cells of the products of a degree with the elements of another, by the places of these.
