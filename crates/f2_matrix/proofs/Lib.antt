@@ -9,8 +9,14 @@ pub mod Kept
 pub mod Parts
 pub mod Pivots
 pub mod Preimages
+mod Pivots
+mod Preimages
+mod Inserted
+mod Extended
 pub mod Eliminate
 pub mod FromParts
+mod OneRowMore
+mod AddedBeside
 pub mod Spanning
 pub mod Crossing
 pub mod Choice

@@ -3,3 +3,4 @@ pub mod RowOperations
 pub mod Blocks
 pub mod Parts
 pub mod Columns
+pub mod Extend

@@ -3,6 +3,7 @@
 
 mod blocks;
 mod existence;
+mod extend;
 mod laws;
 mod matrix;
 mod rank;

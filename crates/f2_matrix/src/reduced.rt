@@ -1,7 +1,7 @@
 //! What is kept of the reduction of a matrix, and the questions that it answers.
-ghost use Rattle.std.specs.Prelude.{◌≡◌, ℕ, ◌<◌, map, slice_index_or, ◌↔◌, ◌+◌, ◌≤◌, [], ◌∷◌, ◌++◌, length, IsTrue, IsSome, IfSome, IfOk, OnOk};
-ghost use Rattle.f2_vec.specs.Vectors.{sum_of, bit, IsZero};
-ghost use Rattle.f2_vec.specs.Spans.{HaveWidth, combination, IsInSpan};
+ghost use Rattle.std.specs.Prelude.{◌≡◌, ℕ, ◌<◌, false, map, slice_index_or, ◌↔◌, ◌+◌, ◌≤◌, [], ◌∷◌, ◌++◌, length, IsTrue, IsSome, IfSome, IfOk, OnOk};
+ghost use Rattle.f2_vec.specs.Vectors.{sum_of, bit, IsZero, IsFirstOne};
+ghost use Rattle.f2_vec.specs.Spans.{row, HaveWidth, combination, IsInSpan};
 ghost use Rattle.f2_matrix.specs.Echelon.{IsReduced, HasNoZeroRow, IsEchelonForm, IsRowBasis, IsKernelBasis};
 ghost use Rattle.f2_matrix.specs.Reduction.{augmented, image_part, chosen_part, kernel_part, IsReductionOf};
 ghost use Rattle.f2_matrix.specs.Inside.Parts.{rest_of};
@@ -189,9 +189,11 @@ impl Reduced {
     }
 
     /// `v` with its ones at the pivots of the image rows cleared: something is left just where `v` is outside their span.
-    fn rest(&self, alloc: Global, v: &BitVec) -> Result<BitVec, Memory>
+    pub(crate) fn rest(&self, alloc: Global, v: &BitVec) -> Result<BitVec, Memory>
         requires { length v.now ≡ self.now.cols }
         ensures rest { IfOk result (λ rest. rest ≡ rest_of self.now.cols self.now.image v.now) }
+        ensures length { IfOk result (λ rest. length rest ≡ self.now.cols) }
+        ensures apart { IfOk result (λ rest. (i p : ℕ) → IsFirstOne (row self.now.image i) p → bit rest p ≡ false) }
         ensures zero { IfOk result (λ rest. IsZero rest ↔ IsInSpan self.now.cols self.now.image v.now) }
     {
         let mut rest = v.try_copy(alloc)?;

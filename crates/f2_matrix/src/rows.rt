@@ -1,6 +1,7 @@
 //! Rows that several owners hold at once, with their pivots.
 ghost use Rattle.std.specs.Prelude.{◌≡◌, map, length, IfOk};
 ghost use Rattle.f2_matrix.specs.Preimages.{pivot_of};
+ghost use Rattle.f2_matrix.specs.Inside.Extend.{IsPlaceFor};
 
 use f2_vec::BitVec;
 use memory::Memory;
@@ -54,6 +55,19 @@ impl Rows {
     {
         self.held.pivots.as_slice()
     }
+
+    /// How many of the rows, whose pivots rise, a row with its pivot at `pivot` stands behind.
+    pub(crate) fn place_for(&self, pivot: usize) -> usize
+        ensures { IsPlaceFor pivot self.now result }
+    {
+        let pivots = self.pivots();
+        for i in 0..pivots.len() {
+            if pivot < pivots[i] {
+                return i;
+            }
+        }
+        pivots.len()
+    }
 }
 
 /// Rows, seen as the list of them, and beside them the pivot of each.
@@ -86,7 +100,7 @@ fn pivots_of(alloc: Global, rows: &[BitVec]) -> Result<Vec<usize>, Memory>
 }
 
 /// The place of the first 1 of the row, its length where there is none.
-fn first_or_length(row: &BitVec) -> usize
+pub(crate) fn first_or_length(row: &BitVec) -> usize
     ensures { result ≡ pivot_of row.now }
 {
     match row.first_one() {

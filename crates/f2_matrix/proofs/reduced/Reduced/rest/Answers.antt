@@ -1,8 +1,9 @@
 use Rattle.std.proofs.Common.{◌≡◌, ◌<◌, length, get_or, ap, sym, subst, ◌∙◌}
-use Rattle.f2_vec.specs.Vectors.{IsZero}
+use Rattle.f2_vec.specs.Vectors.{bit, IsZero}
 use Rattle.f2_vec.specs.Spans.{HaveWidth}
 use Rattle.f2_matrix.specs.Echelon.{IsReduced, HasNoZeroRow}
 use Rattle.f2_matrix.specs.Inside.Parts.{rest_of}
+use Rattle.f2_matrix.proofs.Extended.{rest_apart, rest_length}
 use Rattle.f2_matrix.proofs.Pivots.{pivots_within, rest_is, zero_left, span_left}
 use Rattle.f2_matrix.proofs.reduced.Reduced.rest.Goals as goal
 
@@ -28,3 +29,17 @@ returns-clause-zero c =
       λ z. zero_left self.cols self.image v widths c.requires (subst IsZero is z),
       λ s. subst IsZero (sym is) (span_left self.cols self.image v widths reduced nonzero c.requires s),
     )
+
+pub returns-clause-length : goal.returns-clause-length
+returns-clause-length c =
+    let self = c.args.self.now in
+    let widths = subst (λ r. HaveWidth r.cols r.image) c.self.view_is c.self.invariant.image_widths in
+    ap length (returns-clause-rest c) ∙ rest_length self.cols self.image c.args.v.now widths c.requires
+
+pub returns-clause-apart : goal.returns-clause-apart
+returns-clause-apart c = λ i p f.
+    let self = c.args.self.now in
+    let widths = subst (λ r. HaveWidth r.cols r.image) c.self.view_is c.self.invariant.image_widths in
+    let reduced = subst (λ r. IsReduced r.image) c.self.view_is c.self.invariant.reduced in
+    let nonzero = subst (λ r. HasNoZeroRow r.image) c.self.view_is c.self.invariant.nonzero in
+    ap (λ u. bit u p) (returns-clause-rest c) ∙ rest_apart self.cols self.image c.args.v.now i p widths reduced nonzero c.requires f
