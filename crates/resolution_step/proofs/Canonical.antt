@@ -1,7 +1,6 @@
 -- A table through a range, over a canonical start, is the canonical table of the range.
-use Rattle.std.proofs.Common.{◌≡◌, inl, inr, ℕ, ◌+◌, ◌<◌, ◌≤◌, List, [], length, take, sym, ◌∙◌, ap, subst, arith}
-use Rattle.std.proofs.lemmas.Bool.{cases_lt}
-use Rattle.std.proofs.lemmas.List.{get_or-map, get_or-take, get_or_past, length-map, length-take-le}
+use Rattle.std.proofs.Common.{◌≡◌, ℕ, ◌+◌, ◌≤◌, List, [], length, take, sym, ◌∙◌, ap, subst, arith}
+use Rattle.std.proofs.lemmas.List.{get_or-map, get_or-take, length-map, length-take-le}
 use Rattle.f2_matrix.proofs.Unique.{kernel_basis_unique}
 use Rattle.resolution_laws.specs.Resolution.{Module, Content, no_content, square_in, row_of, IsCanonicalTable}
 use Rattle.resolution_laws.specs.Start.{Entry, IsOf, IsCanonicalStart}

@@ -4,7 +4,8 @@ use Rattle.std.proofs.lemmas.Int.{ints}
 use Rattle.std.proofs.lemmas.List.{take_all, take_more}
 use Rattle.f2_vec.specs.Spans.{HaveWidth, unit_vectors}
 use Rattle.f2_vec.proofs.Split.{HaveWidth-unit_vectors}
-use Rattle.f2_matrix.specs.Echelon.{IsKernelBasis}
+use Rattle.f2_dual.proofs.Units.{IsReduced-unit_vectors, HasNoZeroRow-unit_vectors}
+use Rattle.f2_matrix.specs.Echelon.{IsReduced, HasNoZeroRow, IsKernelBasis}
 use Rattle.f2_matrix.specs.Reduction.{Rows, Reduction, IsReductionOf}
 use Rattle.f2_matrix.proofs.Unique.{kernel_basis_unique}
 use Rattle.free_module.specs.FreeModule.{free_width}
@@ -96,6 +97,30 @@ HaveWidth-candidates_over f h = in_row f.s refl
         ap (λ (ds : List ℤ). free_width ds (b +ℤ pos (length squares))) degrees ∙ ap (λ (n : ℕ). free_width (degrees_from b p.0) (b +ℤ pos n)) (length-squares_below o.at i f.above) in
         let P : Option (List Content) → Type 0 = λ x. HaveWidth ((target_over m x).width (b +ℤ pos f.above)) (candidates_over m x f.above) in
         subst P (sym p.1) (subst (λ n. HaveWidth n c.kernel) width shaped.shape.kernel_widths)
+
+-- they are reduced, and none is zero
+candidates_are_reduced : (f : Footing) → IsFooting f → IsReduced (candidates_over (module_over f.resolved.plain) f.below f.above) × HasNoZeroRow (candidates_over (module_over f.resolved.plain) f.below f.above)
+candidates_are_reduced f h = in_row f.s refl
+  where
+    in_row : (s : ℕ) → s ≡ f.s → IsReduced (candidates_over (module_over f.resolved.plain) f.below f.above) × HasNoZeroRow (candidates_over (module_over f.resolved.plain) f.below f.above)
+    in_row zero e =
+        let m = module_over f.resolved.plain in
+        let P : Option (List Content) → Type 0 = λ x. IsReduced (candidates_over m x f.above) × HasNoZeroRow (candidates_over m x f.above) in
+        let n = m.graded.width (m.bottom +ℤ pos f.above) in
+        subst P (sym (h.has_none (sym e))) (IsReduced-unit_vectors n, HasNoZeroRow-unit_vectors n)
+    in_row (suc i) e =
+        let m = module_over f.resolved.plain in
+        let p = h.has_below i e in
+        let c = square_in p.0 f.above in
+        let shaped = content_shape kernel_basis_unique m f.start i f.above c (below_is_of f h i p.0 e p.1 f.above (omega arith)) in
+        let P : Option (List Content) → Type 0 = λ x. IsReduced (candidates_over m x f.above) × HasNoZeroRow (candidates_over m x f.above) in
+        subst P (sym p.1) (shaped.shape.reduced, shaped.shape.nonzero)
+
+pub IsReduced-given : (f : Footing) → IsFooting f → (candidates : List (List Bool)) → candidates ≡ candidates_over (module_over f.resolved.plain) f.below f.above → IsReduced candidates
+IsReduced-given f h candidates e = subst IsReduced (sym e) (candidates_are_reduced f h).0
+
+pub HasNoZeroRow-given : (f : Footing) → IsFooting f → (candidates : List (List Bool)) → candidates ≡ candidates_over (module_over f.resolved.plain) f.below f.above → HasNoZeroRow candidates
+HasNoZeroRow-given f h candidates e = subst HasNoZeroRow (sym e) (candidates_are_reduced f h).1
 
 -- ---- the step
 

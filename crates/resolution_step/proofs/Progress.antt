@@ -1,6 +1,5 @@
 -- What becomes of a table and its keeper, one square after the other.
-use Rattle.std.proofs.Common.{◌≡◌, ◌⊎◌, inl, inr, ℕ, ◌+◌, ◌<◌, ◌≤◌, List, [], ◌∷◌, ◌++◌, length, Option, Some, None, IfSome, refl, sym, ◌∙◌, ap, subst}
-use Rattle.std.specs.List.{All}
+use Rattle.std.proofs.Common.{◌≡◌, ◌⊎◌, ℕ, ◌<◌, List, [], ◌∷◌, ◌++◌, length, Option, Some, None, IfSome, refl, sym, ◌∙◌, ap, subst}
 use Rattle.std.specs.Option.{option_map}
 use Rattle.std.proofs.lemmas.List.Elements.{All-nil, All-cons, All-append, All-weaker}
 use Rattle.std.proofs.lemmas.Option.{IfSome_then}
@@ -10,7 +9,7 @@ use Rattle.square.specs.Squares.{Placed, module_over, entry_of}
 use Rattle.square.specs.Tables.{Staircase, with_square, IsNext}
 use Rattle.square.specs.Keeping.{Keeper, with_squares, HoldsTable, IsKeeperOf, HasKept}
 use Rattle.square.proofs.Kept.{IsSettled, HasKept-none, HasKept-then}
-use Rattle.resolution_step.specs.Alone.{HasGrown, AreOfStart, HasGiven}
+use Rattle.resolution_step.specs.Alone.{HasGiven}
 use Rattle.resolution_step.specs.Inside.Adding.{HasAdded}
 use Rattle.resolution_step.proofs.Orders.{in_order_none, in_order_one, in_order_both, new_none, new_weaker, new_both}
 use Rattle.resolution_step.proofs.Pushes.{HasGrown-then, HasGrown-same, AreOfStart-same, HoldsTable-push}

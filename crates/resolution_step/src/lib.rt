@@ -2,10 +2,10 @@
 #![tactic(auto)]
 
 mod alone;
-mod choice;
 mod step_on;
 #[cfg(test)]
 mod tests;
+mod units;
 
 pub use alone::resolve_alone;
 pub use step_on::step;

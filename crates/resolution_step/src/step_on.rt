@@ -1,6 +1,7 @@
 //! The step.
 ghost use Rattle.std.specs.Prelude.{◌≡◌, IfOk};
 ghost use Rattle.f2_vec.specs.Spans.{HaveWidth};
+ghost use Rattle.f2_matrix.specs.Echelon.{IsReduced, HasNoZeroRow};
 ghost use Rattle.free_module.specs.FreeModule.{IsWithinReach};
 ghost use Rattle.free_module.specs.LinearMap.{AreImages};
 ghost use Rattle.resolution_laws.specs.Resolution.{candidates_over};
@@ -8,8 +9,8 @@ ghost use Rattle.square.specs.Squares.{module_over, IsSquare};
 ghost use Rattle.square.specs.Tables.{IsFooting};
 ghost use Rattle.resolution_step.specs.Steps.{IsReducedStep, IsStepWith, IsStepOf};
 
-use crate::choice::{choose, unit_rows};
-use f2_matrix::Reduced;
+use crate::units::unit_rows;
+use f2_matrix::{Reduced, Rows};
 use f2_vec::BitVec;
 use free_hom::Hom;
 use free_module::{Gens, Target};
@@ -44,17 +45,18 @@ fn parts_on(alloc: Global, inputs: &Inputs) -> Result<Parts, Memory>
     ensures is_footing { IsFooting inputs.now }
     ensures step { IfOk result (λ parts. IsStepWith inputs.now (record { images = parts.images.items; kernel = parts.kernel.items }) parts.quasi) }
 {
-    match inputs.kernel_below() {
-        Some(kernel) => parts_over(alloc, inputs, kernel),
+    let t = inputs.t();
+    match inputs.kernel_rows_below(alloc)? {
+        Some(kernel) => parts_over(alloc, inputs, &kernel),
         None => {
-            let units = unit_rows(alloc, inputs.module().dim_in(inputs.t()))?;
-            parts_over(alloc, inputs, units.as_slice())
+            let units = unit_rows(alloc, inputs.module().dim_in(t))?;
+            parts_over(alloc, inputs, &units)
         }
     }
 }
 
 /// The same, where `candidates` are the vectors to cover.
-fn parts_over(alloc: Global, inputs: &Inputs, candidates: &[BitVec]) -> Result<Parts, Memory>
+fn parts_over(alloc: Global, inputs: &Inputs, candidates: &Rows) -> Result<Parts, Memory>
     requires { candidates.now ≡ candidates_over (module_over inputs.now.resolved.plain) inputs.now.below inputs.now.above }
     ensures is_footing { IsFooting inputs.now }
     ensures step { IfOk result (λ parts. IsStepWith inputs.now (record { images = parts.images.items; kernel = parts.kernel.items }) parts.quasi) }
@@ -80,19 +82,21 @@ fn reduced_step<T: Target>(
     alloc: Global,
     basis: &Basis,
     target: &T,
-    candidates: &[BitVec],
+    candidates: &Rows,
     source: &Gens,
     images: &[BitVec],
     t: i32,
 ) -> Result<Parts, Memory>
     requires images { AreImages (T.graded target.now) source.now images.now }
     requires widths { HaveWidth ((T.graded target.now).width t) candidates.now }
+    requires reduced { IsReduced candidates.now }
+    requires nonzero { HasNoZeroRow candidates.now }
     requires source_reach { IsWithinReach basis.now source.now t }
     requires target_reach { T.reaches target.now basis.now t }
     ensures { IfOk result (λ parts. IsReducedStep (T.graded target.now) source.now images.now candidates.now t (record { images = parts.images.items; kernel = parts.kernel.items }) parts.quasi) }
 {
     let matrix = Hom::new(basis, source, target, images).matrix(alloc, t)?;
-    let (chosen, quasi) = choose(alloc, matrix, candidates)?;
+    let (chosen, quasi) = f2_dual::choose(alloc, matrix, candidates)?;
     let kernel = Vec::from_clones(alloc, quasi.kernel())?;
     Ok(Parts {
         images: chosen,

@@ -4,7 +4,7 @@ use Rattle.std.proofs.lemmas.Result.{IfOk-weaker}
 use Rattle.module_check.specs.Module.{bottom}
 use Rattle.resolution_laws.proofs.Rows.{IsWithinReach-row}
 use Rattle.square.specs.Below.{graded_of, reaches_of}
-use Rattle.resolution_step.proofs.Footings.{AreImages-given, HaveWidth-given, IsStepWith_from_reduced}
+use Rattle.resolution_step.proofs.Footings.{AreImages-given, HaveWidth-given, IsReduced-given, HasNoZeroRow-given, IsStepWith_from_reduced}
 use Rattle.resolution_step.proofs.step_on.parts_over.Goals as goal
 use Rattle.resolution_step.proofs.step_on.parts_over.Goals.{After-as_slice}
 
@@ -20,6 +20,12 @@ reduced_step-requires-clause-images c =
 pub reduced_step-requires-clause-widths : goal.reduced_step-requires-clause-widths
 reduced_step-requires-clause-widths c =
     HaveWidth-given c.args.inputs.now c.t-t.ensures.is_footing (graded_of c.in_ok-target.target) c.args.candidates.now _ c.in_ok-target.ensures.graded c.requires (degree c)
+
+pub reduced_step-requires-clause-reduced : goal.reduced_step-requires-clause-reduced
+reduced_step-requires-clause-reduced c = IsReduced-given c.args.inputs.now c.t-t.ensures.is_footing c.args.candidates.now c.requires
+
+pub reduced_step-requires-clause-nonzero : goal.reduced_step-requires-clause-nonzero
+reduced_step-requires-clause-nonzero c = HasNoZeroRow-given c.args.inputs.now c.t-t.ensures.is_footing c.args.candidates.now c.requires
 
 pub reduced_step-requires-clause-source_reach : goal.reduced_step-requires-clause-source_reach
 reduced_step-requires-clause-source_reach c =
