@@ -120,6 +120,33 @@ module _ (degree product w row column room : ℕ) (rows columns diagonals : List
       let with_diagonals = subst (λ (xs : List ℕ). TurnsOverAll degree product w (next_row row column) (next_column w row column) (room - number * 2 ^ column * (2 ^ row - 1)) (added row (number * 2 ^ column) rows) (taken column number columns) xs middle after) ed with_columns in
       free_turned number middle after wide long low le apart inv with_diagonals
 
+-- In row 0 a place takes all that is left of its column, and leads to nothing if that shares a digit with its diagonal.
+module _ (degree product w c room : ℕ) (rows columns diagonals : List ℕ) (small : degree ≤ 255) (right : suc c ≤ w) (many : length rows ≡ 8) (before : List Bool) where
+  pub top_none : bit_and (slice_index columns c) (slice_index diagonals c) ≢ 0 → TurnsOverAll degree product w 0 (suc c) room rows columns diagonals before before
+  top_none shares =
+      let at : c ≡ 0 + suc c - 1 = omega arith in
+      let above : 0 < 0 + suc c = omega arith in
+      let low : 0 ≤ 8 = omega arith in
+      free_end degree product w 0 (suc c) room rows columns diagonals small low above right many before (suc (slice_index columns c)) before (omega arith)
+      (free_skip degree product w 0 (suc c) room rows columns diagonals small low above right many before (slice_index columns c) before (subst (λ k. bit_and (slice_index columns c) (slice_index diagonals k) ≢ 0) at shares)
+      (free_start degree product w 0 (suc c) room rows columns diagonals small low above right many before))
+
+  pub top_turn : (after : List Bool) → length columns ≡ 8 → length diagonals ≡ 16 → bit_and (slice_index columns c) (slice_index diagonals c) ≡ 0
+      → TurnsOverAll degree product w 0 c room rows (slice_set columns c 0) (slice_set diagonals c (bit_or (slice_index diagonals c) (slice_index columns c))) before after
+      → TurnsOverAll degree product w 0 (suc c) room rows columns diagonals before after
+  top_turn after wide long apart turns =
+      let number = slice_index columns c in
+      let at : c ≡ 0 + suc c - 1 = omega arith in
+      let above : 0 < 0 + suc c = omega arith in
+      let low : 0 ≤ 8 = omega arith in
+      let same_room : room ≡ room - number * 2 ^ suc c * (2 ^ 0 - 1) = omega arith in
+      let none : 0 ≡ number - number = omega arith in
+      free_end degree product w 0 (suc c) room rows columns diagonals small low above right many before (suc number) after (omega arith)
+      (free_turn degree product w 0 (suc c) room rows columns diagonals small low above right many before number 0 c room before after rows (slice_set columns c 0) (slice_set diagonals c (bit_or (slice_index diagonals c) number))
+      refl refl same_room refl (ap (slice_set columns c) none) (ap (λ k. slice_set diagonals k (bit_or (slice_index diagonals k) number)) at) wide long (omega arith) (omega arith)
+      (subst (λ k. bit_and number (slice_index diagonals k) ≡ 0) at apart)
+      (free_start degree product w 0 (suc c) room rows columns diagonals small low above right many before) turns)
+
 -- Where all is filled.
 rows_are : (rows : List ℕ) (f : ℕ → ℕ) → length rows ≡ 8 → ((i : ℕ) → i < 8 → slice_index rows i ≡ f (suc i)) → map f (range_with_len 1 8) ≡ rows
 rows_are rows f e h = ext_get_or 0 (map f (range_with_len 1 8)) rows (length-map-range_with_len f 1 8 ∙ sym e) (λ k l.
@@ -148,7 +175,7 @@ passed : (a d : Bool) → (a && true && true && d) ≡ (a && d)
 passed true d = refl
 passed false d = refl
 
-free_at_end : (degree product w room : ℕ) (rows columns diagonals : List ℕ) (before after : List Bool) → degree ≤ 255 → length rows ≡ 8
+pub free_at_end : (degree product w room : ℕ) (rows columns diagonals : List ℕ) (before after : List Bool) → degree ≤ 255 → length rows ≡ 8
     → IsTurnedOver degree product (are_elements degree product rows diagonals) before after → TurnsOverAll degree product w 0 0 room rows columns diagonals before after
 free_at_end degree product w room rows columns diagonals before after small many turns s sums e wide is p k l m =
     let r = padded 8 (element degree p) in
@@ -170,9 +197,3 @@ free_at_end degree product w room rows columns diagonals before after small many
     ∙ sym (rw (whole_columns, is.is_apart) (passed (list_all (λ i. nat_eq (sums.rows i) (entry r (i - 1))) (range_with_len 1 (length r))) (pointwise nat_eq (trimmed (map sums.diagonals (range_with_len 1 (length r + length s)))) t)))
     in
     turns p k l m ∙ ap (λ b. plus b (slice_index_or before (p * length (basis_of product) + k) false)) answer
-
-pub free_turns_at_end : (degree product w row column room : ℕ) (rows columns diagonals : List ℕ) (before after : List Bool) → degree ≤ 255 → length rows ≡ 8 → row ≡ 0 → column ≡ 0
-    → IsTurnedOver degree product (are_elements degree product rows diagonals) before after → TurnsOverAll degree product w row column room rows columns diagonals before after
-free_turns_at_end degree product w row column room rows columns diagonals before after small many er ec turns =
-    subst (λ (i : ℕ). TurnsOverAll degree product w i column room rows columns diagonals before after) (sym er)
-    (subst (λ (j : ℕ). TurnsOverAll degree product w 0 j room rows columns diagonals before after) (sym ec) (free_at_end degree product w room rows columns diagonals before after small many turns))

@@ -41,18 +41,14 @@ impl Open {
         }
     }
 
-    /// The least and the greatest number that can stand at this place.
+    /// The least and the greatest number that can stand at this place, which is not in row 0.
     fn range(&self, row: usize, column: usize) -> (u16, u16)
+        requires first { 0 < row }
         requires row { row ≤ 8 }
         requires column { column ≤ 8 }
-        requires place { 0 < row + column }
         ensures least { result.0 ≡ least_free row column self.now.room self.now.columns }
         ensures greatest { result.1 ≡ greatest_free row column self.now.room self.now.columns }
     {
-        if row == 0 {
-            let column_left = self.columns[column - 1];
-            return (column_left, column_left);
-        }
         let most = self.room / ((1 << row) - 1);
         if column > 0 {
             (0, (most >> column).min(self.columns[column - 1]))
@@ -63,11 +59,11 @@ impl Open {
         }
     }
 
-    /// What is left with `number` put at this place, which shares no binary digit with its diagonal.
+    /// What is left with `number` put at this place, which is not in row 0 and shares no binary digit with its diagonal.
     fn put(mut self, row: usize, column: usize, number: u16) -> Self
+        requires first { 0 < row }
         requires row { row ≤ 8 }
         requires column { column ≤ 8 }
-        requires place { 0 < row + column }
         requires greatest { number ≤ greatest_free row column self.room self.columns }
         requires degree { self.room + degree_of self.rows ≤ 255 }
         ensures room { result.room ≡ self.room - number * 2 ^ column * (2 ^ row - 1) }
@@ -75,11 +71,9 @@ impl Open {
         ensures columns { result.columns ≡ taken column number self.columns }
         ensures diagonals { result.diagonals ≡ slice_set self.diagonals (row + column - 1) (bit_or (slice_index self.diagonals (row + column - 1)) number) }
     {
-        if row > 0 {
-            let weighed = number << column;
-            self.rows[row - 1] += weighed;
-            self.room -= weighed * ((1 << row) - 1);
-        }
+        let weighed = number << column;
+        self.rows[row - 1] += weighed;
+        self.room -= weighed * ((1 << row) - 1);
         if column > 0 {
             self.columns[column - 1] -= number;
         }
@@ -116,21 +110,52 @@ fn place_of_diagonals(basis: &Basis, n: u16, diagonals: &[u16; 16]) -> Option<us
 }
 
 /// Turns over the bit of R, which the rows make up, and of T, which the diagonals make up, if they are of these degrees.
-fn turn_over_both(basis: &Basis, degree: u16, product: u16, open: &Open, table: &mut [bool])
-    requires degree { degree ≤ basis.now }
-    requires product { product ≤ basis.now }
-    requires small { product ≤ 255 }
-    requires table { length table.old ≡ length (basis_of degree) * length (basis_of product) }
-    ensures { IsTurnedOver degree product (are_elements degree product open.now.rows open.now.diagonals) table.old table.new }
+fn turn_over_both(
+    basis: &Basis,
+    degrees: (u16, u16),
+    rows: [u16; 8],
+    diagonals: &[u16; 16],
+    table: &mut [bool],
+)
+    requires degree { degrees.0 ≤ basis.now }
+    requires product { degrees.1 ≤ basis.now }
+    requires small { degrees.1 ≤ 255 }
+    requires table { length table.old ≡ length (basis_of degrees.0) * length (basis_of degrees.1) }
+    ensures { IsTurnedOver degrees.0 degrees.1 (are_elements degrees.0 degrees.1 rows diagonals.now) table.old table.new }
 {
-    let Some(row) = place_in(basis, degree, &Exps::of(open.rows)) else {
+    let Some(row) = place_in(basis, degrees.0, &Exps::of(rows)) else {
         return;
     };
-    let Some(column) = place_of_diagonals(basis, product, &open.diagonals) else {
+    let Some(column) = place_of_diagonals(basis, degrees.1, diagonals) else {
         return;
     };
-    let bit = row * basis.of_degree(product).len() + column;
+    let bit = row * basis.of_degree(degrees.1).len() + column;
     table[bit] = !table[bit];
+}
+
+/// Turns over the bit to which row 0 leads, where each place up to `column` takes all that is left of its column.
+fn fill_top(basis: &Basis, degrees: (u16, u16), column: usize, open: &Open, table: &mut [bool])
+    requires degree { degrees.0 ≤ basis.now }
+    requires product { degrees.1 ≤ basis.now }
+    requires small { degrees.0 ≤ degrees.1 }
+    requires smaller { degrees.1 ≤ 255 }
+    requires table { length table.old ≡ length (basis_of degrees.0) * length (basis_of degrees.1) }
+    requires column { column ≤ 8 }
+    ensures { (width : ℕ) → column ≤ width → TurnsOverAll degrees.0 degrees.1 width 0 column open.now.room open.now.rows open.now.columns open.now.diagonals table.old table.new }
+{
+    let mut columns = open.columns;
+    let mut diagonals = open.diagonals;
+    let mut left = column;
+    while left > 0 {
+        left -= 1;
+        let number = columns[left];
+        if number & diagonals[left] != 0 {
+            return;
+        }
+        columns[left] = 0;
+        diagonals[left] |= number;
+    }
+    turn_over_both(basis, degrees, open.rows, &diagonals, table);
 }
 
 /// Turns over, for each way to fill the places up to (row, column), the bit of R and T. `degrees` are those of R and of
@@ -155,8 +180,8 @@ fn fill_all(
     requires column { column ≤ width }
     ensures { TurnsOverAll degrees.0 degrees.1 width row column open.room open.rows open.columns open.diagonals table.old table.new }
 {
-    if row == 0 && column == 0 {
-        turn_over_both(basis, degrees.0, degrees.1, &open, table);
+    if row == 0 {
+        fill_top(basis, degrees, column, &open, table);
         return;
     }
     let (next_row, next_column) = next_place(width, row, column);

@@ -1,25 +1,21 @@
 -- Each number has its turn.
-use Rattle.std.proofs.Common.{◌≡◌, ℕ, ◌<◌, ◌≤◌, ◌-◌, ◌≢◌, ◌⊎◌, inl, inr, ◌+◌, suc, sym, subst, ◌∙◌, arith, add-one, rules}
+use Rattle.std.proofs.Common.{◌≡◌, ℕ, ◌<◌, ◌≤◌, ◌-◌, ◌≢◌, ◌+◌, suc, sym, subst, ◌∙◌, arith, add-one, rules}
 use Rattle.milnor_basis.specs.Exponents.{degree_of}
-use Rattle.milnor_basis.specs.Inside.FreeRows.{least_free, greatest_free}
+use Rattle.milnor_basis.specs.Inside.FreeRows.{least_free, greatest_free, TurnsOverAll}
 use Rattle.milnor_basis.proofs.FreeRows.{put_degree}
-use Rattle.milnor_basis.proofs.FreeFill.{TurnsOverAllBelow, free_start, free_end, free_skip, free_skips, free_turn, free_turns_at_end}
+use Rattle.milnor_basis.proofs.FreeFill.{TurnsOverAllBelow, free_start, free_end, free_skip, free_skips, free_turn}
 use Rattle.milnor_basis.proofs.all_products.+fill_all.Goals as goal
 
-above : (row column : ℕ) → ((row ≡ 0) × (column ≡ 0 → ⊥)) ⊎ (row ≡ 0 → ⊥) → 0 < row + column
-above row column (inl h) = let ne : column ≢ 0 = h.1 in omega arith
-above row column (inr h) = let ne : row ≢ 0 = h in omega arith
-
-pub returns-then-column-eq0 : goal.returns-then-column-eq0
-returns-then-column-eq0 t c =
-    free_turns_at_end c.args.degrees.0 c.args.degrees.1 c.args.width c.args.row c.args.column c.args.open.room c.args.open.rows c.args.open.columns c.args.open.diagonals c.args.table.now c.turn_over_both.new.table
-    (omega (arith, c.requires.small, c.requires.smaller)) (search rules) c.if-row-eq0.true c.if-column-eq0.true c.turn_over_both.ensures
+pub returns-then-row-eq0 : goal.returns-then-row-eq0
+returns-then-row-eq0 t c =
+    subst (λ (n : ℕ). TurnsOverAll c.args.degrees.0 c.args.degrees.1 c.args.width n c.args.column c.args.open.room c.args.open.rows c.args.open.columns c.args.open.diagonals c.args.table.now c.fill_top.new.table) (sym c.if-row-eq0.true)
+    (c.fill_top.ensures c.args.width c.requires.column)
 
 pub loop-number-init : goal.loop-number-init
 loop-number-init t c =
     let from : c.from-number.result ≡ least_free c.args.row c.args.column c.args.open.room c.args.open.columns = c.from-number.ensures ∙ c.range-least.ensures.least in
     let base = free_start c.args.degrees.0 c.args.degrees.1 c.args.width c.args.row c.args.column c.args.open.room c.args.open.rows c.args.open.columns c.args.open.diagonals
-    (omega (arith, c.requires.small, c.requires.smaller)) c.requires.row (above c.args.row c.args.column c.else-row-eq0.either) c.requires.column (search rules) c.args.table.now
+    (omega (arith, c.requires.small, c.requires.smaller)) c.requires.row (omega (arith, c.if-row-eq0.false)) c.requires.column (search rules) c.args.table.now
     in
     record {
       from = omega arith;
@@ -36,7 +32,7 @@ fill_all-requires t c =
 
 pub loop-number-preserved-then-put-sum-eq0 : goal.loop-number-preserved-then-put-sum-eq0
 loop-number-preserved-then-put-sum-eq0 t c =
-    let higher = above c.args.row c.args.column c.else-row-eq0.either in
+    let higher : 0 < c.args.row + c.args.column = omega (arith, c.if-row-eq0.false) in
     let n = c.loop-number.number in
     let next = c.next_apart-number.result in
     let past : n < next = c.next_apart-number.ensures.above in
@@ -60,7 +56,7 @@ loop-number-preserved-then-put-sum-eq0 t c =
 
 pub loop-number-preserved : goal.loop-number-preserved
 loop-number-preserved t c =
-    let higher = above c.args.row c.args.column c.else-row-eq0.either in
+    let higher : 0 < c.args.row + c.args.column = omega (arith, c.if-row-eq0.false) in
     let skipped = free_skip c.args.degrees.0 c.args.degrees.1 c.args.width c.args.row c.args.column c.args.open.room c.args.open.rows c.args.open.columns c.args.open.diagonals
     (omega (arith, c.requires.small, c.requires.smaller)) c.requires.row higher c.requires.column (search rules) c.args.table.now c.loop-number.number c.loop-number.table c.if-put-sum-eq0.false c.loop-number.invariant.turned
     in
@@ -73,5 +69,5 @@ loop-number-preserved t c =
 pub returns : goal.returns
 returns t c =
     free_end c.args.degrees.0 c.args.degrees.1 c.args.width c.args.row c.args.column c.args.open.room c.args.open.rows c.args.open.columns c.args.open.diagonals
-    (omega (arith, c.requires.small, c.requires.smaller)) c.requires.row (above c.args.row c.args.column c.else-row-eq0.either) c.requires.column (search rules) c.args.table.now c.loop-number.number c.loop-number.table
+    (omega (arith, c.requires.small, c.requires.smaller)) c.requires.row (omega (arith, c.if-row-eq0.false)) c.requires.column (search rules) c.args.table.now c.loop-number.number c.loop-number.table
     (omega (arith, c.loop-number-test.false, c.from.ensures, c.range-least.ensures.greatest)) c.loop-number.invariant.turned

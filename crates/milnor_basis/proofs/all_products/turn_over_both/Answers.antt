@@ -12,18 +12,18 @@ within degree product a b n long r t en el ra rb =
     omega (arith, within_table (length (basis_of degree)) (length (basis_of product)) a b (slice_get_within (basis_of degree) a r ra) (slice_get_within (basis_of product) b t rb))
 
 pub bounds-table-bit : goal.bounds-table-bit
-bounds-table-bit c = within c.args.degree c.args.product c.in-Some.row c.in-Some-place_of_diagonals.column (length c.of_degree.result.now) (length c.args.table.now) c.of.result (trimmed c.args.open.now.diagonals) (ap length c.of_degree.ensures) c.requires.table c.in-Some.ensures.found c.in-Some-place_of_diagonals.ensures.found
+bounds-table-bit c = within c.args.degrees.0 c.args.degrees.1 c.in-Some.row c.in-Some-place_of_diagonals.column (length c.of_degree.result.now) (length c.args.table.now) c.of.result (trimmed c.args.diagonals.now) (ap length c.of_degree.ensures) c.requires.table c.in-Some.ensures.found c.in-Some-place_of_diagonals.ensures.found
 
 pub bounds-table-bit-2 : goal.bounds-table-bit-2
-bounds-table-bit-2 c = within c.args.degree c.args.product c.in-Some.row c.in-Some-place_of_diagonals.column (length c.of_degree.result.now) (length c.args.table.now) c.of.result (trimmed c.args.open.now.diagonals) (ap length c.of_degree.ensures) c.requires.table c.in-Some.ensures.found c.in-Some-place_of_diagonals.ensures.found
+bounds-table-bit-2 c = within c.args.degrees.0 c.args.degrees.1 c.in-Some.row c.in-Some-place_of_diagonals.column (length c.of_degree.result.now) (length c.args.table.now) c.of.result (trimmed c.args.diagonals.now) (ap length c.of_degree.ensures) c.requires.table c.in-Some.ensures.found c.in-Some-place_of_diagonals.ensures.found
 
 pub overflow_add-bit : goal.overflow_add-bit
-overflow_add-bit c = let bit = within c.args.degree c.args.product c.in-Some.row c.in-Some-place_of_diagonals.column (length c.of_degree.result.now) (length c.args.table.now) c.of.result (trimmed c.args.open.now.diagonals) (ap length c.of_degree.ensures) c.requires.table c.in-Some.ensures.found c.in-Some-place_of_diagonals.ensures.found in omega arith
+overflow_add-bit c = let bit = within c.args.degrees.0 c.args.degrees.1 c.in-Some.row c.in-Some-place_of_diagonals.column (length c.of_degree.result.now) (length c.args.table.now) c.of.result (trimmed c.args.diagonals.now) (ap length c.of_degree.ensures) c.requires.table c.in-Some.ensures.found c.in-Some-place_of_diagonals.ensures.found in omega arith
 
 pub overflow_mul-bit : goal.overflow_mul-bit
-overflow_mul-bit c = let bit = within c.args.degree c.args.product c.in-Some.row c.in-Some-place_of_diagonals.column (length c.of_degree.result.now) (length c.args.table.now) c.of.result (trimmed c.args.open.now.diagonals) (ap length c.of_degree.ensures) c.requires.table c.in-Some.ensures.found c.in-Some-place_of_diagonals.ensures.found in omega arith
+overflow_mul-bit c = let bit = within c.args.degrees.0 c.args.degrees.1 c.in-Some.row c.in-Some-place_of_diagonals.column (length c.of_degree.result.now) (length c.args.table.now) c.of.result (trimmed c.args.diagonals.now) (ap length c.of_degree.ensures) c.requires.table c.in-Some.ensures.found c.in-Some-place_of_diagonals.ensures.found in omega arith
 
 pub returns : goal.returns
 returns c =
-    one_turned c.args.degree c.args.product c.args.open.now.rows c.args.open.now.diagonals c.args.table.now c.in-Some.row c.in-Some-place_of_diagonals.column (c.in-Some.row * length c.of_degree.result.now + c.in-Some-place_of_diagonals.column) c.requires.table
+    one_turned c.args.degrees.0 c.args.degrees.1 c.args.rows c.args.diagonals.now c.args.table.now c.in-Some.row c.in-Some-place_of_diagonals.column (c.in-Some.row * length c.of_degree.result.now + c.in-Some-place_of_diagonals.column) c.requires.table
     (c.in-Some.ensures.found ∙ ap Some c.of.ensures) c.in-Some-place_of_diagonals.ensures.found (ap (λ xs. c.in-Some.row * length xs + c.in-Some-place_of_diagonals.column) c.of_degree.ensures)

@@ -5,5 +5,5 @@ use Rattle.milnor_basis.proofs.all_products.Open.range.Goals as goal
 pub nonzero_div-most : goal.nonzero_div-most
 nonzero_div-most c =
     let weight : 1 * 2 ^ c.args.row % 2 ^ 16 ≡ 2 ^ c.args.row = one_shl c.args.row 16 (omega arith) in
-    let above : 2 ^ 0 < 2 ^ c.args.row = pow_below 0 c.args.row (omega (arith, c.if-row-eq0.false)) in
+    let above : 2 ^ 0 < 2 ^ c.args.row = pow_below 0 c.args.row c.requires.first in
     rw weight (omega arith)
