@@ -1,4 +1,4 @@
--- Zeros behind R change no coefficient, so that all R may be filled from row 8 on.
+-- Zeros behind R change no coefficient, so that all R may be filled from the last row of the longest on.
 use Rattle.std.proofs.Common.{◌≡◌, ℕ, zero, suc, ◌+◌, ◌-◌, ◌*◌, ◌<◌, ◌≤◌, ◌^◌, inl, inr, Bool, true, false, ◌&&◌, nat_eq, nat_lt, if◌then◌else◌, List, [], ◌∷◌, map, length, refl, sym, ◌∙◌, ap, arith}
 use Rattle.std.proofs.Math.Path.{fun_ext}
 use Rattle.std.specs.List.{sum, range_with_len, list_all}
@@ -134,15 +134,16 @@ module _ (r s t : List ℕ) (short : length r ≤ 8) (x : Sums) (ends : EndsAt (
       ap (λ b. b && list_all (λ j. nat_eq (x.columns j) (entry s (j - 1))) (range_with_len 1 (length s)) && x.apart && pointwise nat_eq (trimmed (map x.diagonals (range_with_len 1 (length (padded 8 r) + length s)))) t) rows_agree
       ∙ ap (λ xs. list_all (λ i. nat_eq (x.rows i) (entry r (i - 1))) (range_with_len 1 (length r)) && list_all (λ j. nat_eq (x.columns j) (entry s (j - 1))) (range_with_len 1 (length s)) && x.apart && pointwise nat_eq xs t) diagonals_agree
 
-pub coefficient-padded : (r s t : List ℕ) → length r ≤ 8 → coefficient r s t ≡ fillings add (suc (sum (padded 8 r) + sum s)) (places_to (length s) 8 (length s)) (are_sums_of (padded 8 r) s t) no_sums
-coefficient-padded r s t short =
+pub coefficient-padded : (r s t : List ℕ) (h : ℕ) → length r ≤ h → h ≤ 8 → coefficient r s t ≡ fillings add (suc (sum (padded 8 r) + sum s)) (places_to (length s) h (length s)) (are_sums_of (padded 8 r) s t) no_sums
+coefficient-padded r s t h low high =
     let m = length r in let w = length s in
     let b = sum (padded 8 r) + sum s in
+    let short : m ≤ 8 = omega arith in
     let long : length (padded 8 r) ≡ 8 = length-padded 8 r in
     let same : suc (sum r + sum s) ≡ suc b = ap (λ n. suc (n + sum s)) (sym (sum-padded 8 r short)) in
-    let whole : 8 - m + m ≡ 8 = omega arith in
+    let whole : h - m + m ≡ h = omega arith in
     coefficient-fillings r s t
     ∙ ap (λ n. fillings add n (places_to w m w) (are_sums_of r s t) no_sums) same
-    ∙ sym (fillings_agree (suc b) w m (are_sums_of (padded 8 r) s t) (are_sums_of r s t) (EndsAt m w) (λ i j v x p q h. ends_add m w i j v x p q h) (λ x h. tests_agree r s t short x h) m w (omega arith) (omega arith) no_sums (λ i l. refl, λ k l. refl))
-    ∙ sym (zero_rows (padded 8 r) s t b w m (8 - m) (omega arith) (λ i l. entry-padded 8 r i short ∙ entry_past r i l))
+    ∙ sym (fillings_agree (suc b) w m (are_sums_of (padded 8 r) s t) (are_sums_of r s t) (EndsAt m w) (λ i j v x p q e. ends_add m w i j v x p q e) (λ x e. tests_agree r s t short x e) m w (omega arith) (omega arith) no_sums (λ i l. refl, λ k l. refl))
+    ∙ sym (zero_rows (padded 8 r) s t b w m (h - m) (omega arith) (λ i l. entry-padded 8 r i short ∙ entry_past r i l))
     ∙ ap (λ i. fillings add (suc b) (places_to w i w) (are_sums_of (padded 8 r) s t) no_sums) whole

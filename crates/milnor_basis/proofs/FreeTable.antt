@@ -9,7 +9,7 @@ use Rattle.milnor_basis.specs.Exponents.{entry, degree_of, trimmed}
 use Rattle.milnor_basis.specs.Basis.{basis_of}
 use Rattle.milnor_basis.specs.Inside.Walk.{plus, no_sums}
 use Rattle.milnor_basis.specs.Inside.FreeRows.{element, IsFree, IsTurnedOver, are_elements, leads_to}
-use Rattle.milnor_basis.proofs.Bits.{short, same_exponents, other_exponents, trimmed_take, no_more_exponents}
+use Rattle.milnor_basis.proofs.Bits.{same_exponents, other_exponents, trimmed_take, no_more_exponents}
 use Rattle.milnor_basis.proofs.ExponentLemmas.{entry_past}
 use Rattle.milnor_basis.specs.Product.{coefficient, product_bits}
 use Rattle.milnor_basis.proofs.Parity.{plus-false}
@@ -87,9 +87,9 @@ module _ (degree product : ℕ) (rows diagonals : List ℕ) (bits : List Bool) w
       ]
 
 -- The table when all is filled: its rows are the products.
-pub all_free : (degree : ℕ) (s columns diagonals : List ℕ) → ((j : ℕ) → j < 8 → slice_index columns j ≡ entry s j) → ((k : ℕ) → slice_index diagonals k ≡ 0) → length s ≤ 8
-    → IsFree degree s 8 (length s) degree (replicate 8 0) columns diagonals no_sums
-all_free degree s columns diagonals es ed wide = record {
+pub all_free : (degree height : ℕ) (s columns diagonals : List ℕ) → ((j : ℕ) → j < 8 → slice_index columns j ≡ entry s j) → ((k : ℕ) → slice_index diagonals k ≡ 0) → 0 < height → length s ≤ 8
+    → IsFree degree s height (length s) degree (replicate 8 0) columns diagonals no_sums
+all_free degree height s columns diagonals es ed some wide = record {
   rows_so_far = λ i l. get_or-replicate 8 i 0 0 l;
   room_left = omega arith;
   room_done = λ z. absurd (omega arith);
@@ -100,21 +100,20 @@ all_free degree s columns diagonals es ed wide = record {
   is_apart = refl;
 }
 
-pub row_is : (degree product p : ℕ) (s : List ℕ) (before after bits : List Bool) → degree ≤ 255 → product ≡ degree + degree_of s → p < length (basis_of degree)
+pub row_is : (degree product p height : ℕ) (s : List ℕ) (before after bits : List Bool) → degree ≤ 255 → product ≡ degree + degree_of s → p < length (basis_of degree)
     → ((i : ℕ) → slice_index_or before i false ≡ false) → length bits ≡ length (basis_of product) → ((k : ℕ) → k < length (basis_of product) → slice_index_or bits k false ≡ slice_index_or after (p * length (basis_of product) + k) false)
-    → IsTurnedOver degree product (leads_to degree product s 8 (length s) no_sums) before after → bits ≡ product_bits (element degree p) s
-row_is degree product p s before after bits small e l clear long same turns =
+    → length (element degree p) ≤ height → height ≤ 8 → IsTurnedOver degree product (leads_to degree product s height (length s) no_sums) before after → bits ≡ product_bits (element degree p) s
+row_is degree product p height s before after bits small e l clear long same low high turns =
     let r = element degree p in
     let n = length (basis_of product) in
     let is = basis_of-member degree p l in
     let d : degree_of r ≡ degree = is.1 in
-    let few : length r ≤ 8 = short r is.0 (omega arith) in
     let at : product ≡ degree_of r + degree_of s = omega arith in
     ext_get_or false bits (map (coefficient r s) (basis_of product)) (long ∙ sym (length-map (basis_of product) (coefficient r s))) (λ k m.
     let within : k < n = omega arith in
     same k within
     ∙ turns p k l within
-    ∙ ap (λ b. plus b (slice_index_or before (p * n + k) false)) (sym (coefficient-padded r s (element product k) few))
+    ∙ ap (λ b. plus b (slice_index_or before (p * n + k) false)) (sym (coefficient-padded r s (element product k) height low high))
     ∙ ap (plus (coefficient r s (element product k))) (clear (p * n + k))
     ∙ plus-false (coefficient r s (element product k))
     ∙ sym (get_or-map (coefficient r s) (basis_of product) k [] false within))

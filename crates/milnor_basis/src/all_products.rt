@@ -1,5 +1,5 @@
 //! The products of all elements of a degree with one element: one walk fills the matrices of all of them.
-ghost use Rattle.std.specs.Prelude.{◌≡◌, ℕ, ◌≤◌, ◌<◌, ◌+◌, ◌-◌, ◌*◌, ◌^◌, ◌≢◌, IfOk, IfSome, IsNone, Some, length, map, replicate, false, slice_index, slice_index_or, slice_set, slice_get, bit_or};
+ghost use Rattle.std.specs.Prelude.{◌≡◌, ℕ, ◌≤◌, ◌<◌, ◌+◌, ◌-◌, ◌*◌, ◌/◌, ◌^◌, ◌≢◌, [], IfOk, IfSome, IsNone, Some, length, map, replicate, false, slice_index, slice_index_or, slice_set, slice_get, bit_or};
 ghost use Rattle.milnor_basis.specs.Exponents.{degree_of, entry, trimmed};
 ghost use Rattle.milnor_basis.specs.Basis.{basis_of};
 ghost use Rattle.milnor_basis.specs.Product.{product_bits};
@@ -41,6 +41,20 @@ impl Open {
         }
     }
 
+    /// The greatest sum of this row that the degree has room for.
+    fn most(&self, row: usize) -> u16
+        requires first { 0 < row }
+        requires row { row ≤ 8 }
+        ensures { result ≡ self.now.room / (2 ^ row - 1) }
+    {
+        // Most places are in row 1, where no division is needed.
+        if row == 1 {
+            self.room
+        } else {
+            self.room / ((1 << row) - 1)
+        }
+    }
+
     /// The least and the greatest number that can stand at this place, which is not in row 0.
     fn range(&self, row: usize, column: usize) -> (u16, u16)
         requires first { 0 < row }
@@ -49,11 +63,11 @@ impl Open {
         ensures least { result.0 ≡ least_free row column self.now.room self.now.columns }
         ensures greatest { result.1 ≡ greatest_free row column self.now.room self.now.columns }
     {
-        let most = self.room / ((1 << row) - 1);
+        let most = self.most(row);
         if column > 0 {
             (0, (most >> column).min(self.columns[column - 1]))
         } else if row == 1 {
-            (self.room, most)
+            (most, most)
         } else {
             (0, most)
         }
@@ -219,6 +233,21 @@ fn degree_of_products(basis: &Basis, degree: u16, s: &Exps) -> u16
     degree + right
 }
 
+/// The number of exponents of the longest of these elements, or 1 if none has one.
+fn greatest_len(elements: &[Exps]) -> usize
+    ensures some { 0 < result }
+    ensures few { result ≤ 8 }
+    ensures longest { (k : ℕ) → k < length elements.now → length (slice_index_or elements.now k []) ≤ result }
+{
+    let mut longest = 1;
+    for r in elements {
+        if r.len() > longest {
+            longest = r.len();
+        }
+    }
+    longest
+}
+
 /// A table of zeros with this many rows and columns.
 fn cleared(alloc: Global, rows: usize, columns: usize) -> Result<Vec<bool>, Memory>
     ensures size { IfOk result (λ table. length table.items ≡ rows * columns) }
@@ -254,14 +283,15 @@ pub(crate) fn bits_of_multiples(
     ensures { IfOk result (λ rows. map (λ bits. bits.items) rows.items ≡ map (λ r. product_bits r s.now) (basis_of degree)) }
 {
     let product = degree_of_products(basis, degree, s);
-    let height = basis.of_degree(degree).len();
+    let elements = basis.of_degree(degree);
+    let height = elements.len();
     let width = basis.of_degree(product).len();
     let mut table = cleared(alloc, height, width)?;
     fill_all(
         basis,
         (degree, product),
         s.len(),
-        MAX_EXPONENTS,
+        greatest_len(elements),
         s.len(),
         Open::of(degree, s),
         &mut table,

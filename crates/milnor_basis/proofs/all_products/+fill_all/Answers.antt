@@ -1,5 +1,5 @@
 -- Each number has its turn.
-use Rattle.std.proofs.Common.{◌≡◌, ℕ, ◌<◌, ◌≤◌, ◌-◌, ◌≢◌, ◌+◌, suc, sym, subst, ◌∙◌, arith, add-one, rules}
+use Rattle.std.proofs.Common.{◌≡◌, ℕ, ◌<◌, ◌≤◌, ◌-◌, ◌+◌, suc, sym, subst, ◌∙◌, arith, add-one, rules}
 use Rattle.milnor_basis.specs.Exponents.{degree_of}
 use Rattle.milnor_basis.specs.Inside.FreeRows.{least_free, greatest_free, TurnsOverAll}
 use Rattle.milnor_basis.proofs.FreeRows.{put_degree}

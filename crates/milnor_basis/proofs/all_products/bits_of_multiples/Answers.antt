@@ -1,5 +1,5 @@
 -- The table begins clear, so that its rows are the products at the end.
-use Rattle.std.proofs.Common.{◌≡◌, ◌<◌, ◌+◌, ◌*◌, ℕ, List, Bool, false, length, map, replicate, slice_index_or, sym, ap, subst, ◌∙◌, arith}
+use Rattle.std.proofs.Common.{◌≡◌, ◌≤◌, ◌<◌, ◌+◌, ◌*◌, ℕ, List, [], Bool, false, length, map, replicate, slice_index_or, sym, ap, subst, ◌∙◌, arith}
 use Rattle.std.proofs.lemmas.List.{map-append, take_at}
 use Rattle.milnor_basis.specs.Basis.{basis_of}
 use Rattle.milnor_basis.specs.Product.{product_bits}
@@ -14,21 +14,22 @@ loop-p-preserved c =
     let degree : ℕ = c.args.degree in
     let product : ℕ = c.degree_of_products-product.result in
     let p : ℕ = c.loop-p.p in
+    let h : ℕ = c.greatest_len.result in
     let before : List Bool = c.deref_mut.result.now in
     let after : List Bool = c.fill_all.new.table in
     let rows : List ℕ = c.of.result.rows in
     let columns : List ℕ = c.of.result.columns in
     let diagonals : List ℕ = c.of.result.diagonals in
-    let start : IsFree degree s 8 (length s) degree (replicate 8 0) columns diagonals no_sums = all_free degree s columns diagonals c.of.ensures.columns c.of.ensures.diagonals c.len.ensures.short in
-    let with_rows : IsFree degree s 8 (length s) degree rows columns diagonals no_sums = subst (λ (xs : List ℕ). IsFree degree s 8 (length s) degree xs columns diagonals no_sums) (sym c.of.ensures.rows) start in
-    let with_room : IsFree degree s 8 (length s) c.of.result.room rows columns diagonals no_sums = subst (λ (n : ℕ). IsFree degree s 8 (length s) n rows columns diagonals no_sums) (sym c.of.ensures.room) with_rows in
-    let free : IsFree degree s 8 c.len-2.result c.of.result.room rows columns diagonals no_sums = subst (λ (n : ℕ). IsFree degree s 8 n c.of.result.room rows columns diagonals no_sums) (sym c.len-2.ensures.length) with_room in
-    let turned : IsTurnedOver degree product (leads_to degree product s 8 (length s) no_sums) before after =
-    subst (λ (n : ℕ). IsTurnedOver degree product (leads_to degree product s 8 n no_sums) before after) c.len-2.ensures.length (c.fill_all.ensures s no_sums c.len.ensures.length c.len.ensures.short free)
+    let start : IsFree degree s h (length s) degree (replicate 8 0) columns diagonals no_sums = all_free degree h s columns diagonals c.of.ensures.columns c.of.ensures.diagonals c.greatest_len.ensures.some c.len.ensures.short in
+    let with_rows : IsFree degree s h (length s) degree rows columns diagonals no_sums = subst (λ (xs : List ℕ). IsFree degree s h (length s) degree xs columns diagonals no_sums) (sym c.of.ensures.rows) start in
+    let with_room : IsFree degree s h (length s) c.of.result.room rows columns diagonals no_sums = subst (λ (n : ℕ). IsFree degree s h (length s) n rows columns diagonals no_sums) (sym c.of.ensures.room) with_rows in
+    let free : IsFree degree s h c.len-2.result c.of.result.room rows columns diagonals no_sums = subst (λ (n : ℕ). IsFree degree s h n c.of.result.room rows columns diagonals no_sums) (sym c.len-2.ensures.length) with_room in
+    let turned : IsTurnedOver degree product (leads_to degree product s h (length s) no_sums) before after =
+    subst (λ (n : ℕ). IsTurnedOver degree product (leads_to degree product s h n no_sums) before after) c.len-2.ensures.length (c.fill_all.ensures s no_sums c.len.ensures.length c.len.ensures.short free)
     in
     let clear : (i : ℕ) → slice_index_or before i false ≡ false = λ i. ap (λ xs. slice_index_or xs i false) c.deref_mut.ensures.value ∙ c.in_ok-table.ensures.clear i in
     let width : length c.of_degree-width.result.now ≡ length (basis_of product) = ap length c.of_degree-width.ensures in
-    let height : length c.of_degree-height.result.now ≡ length (basis_of degree) = ap length c.of_degree-height.ensures in
+    let height : length c.of_degree-elements.result.now ≡ length (basis_of degree) = ap length c.of_degree-elements.ensures in
     let read : c.deref.result.now ≡ after = c.deref.ensures.value ∙ take_at after _ c.in_ok-table.table.len (omega arith) in
     let within : p < length (basis_of degree) = (let turn = c.loop-p-test.true in omega arith) in
     let row : List Bool = c.in_ok-row_at.field-0.items in
@@ -36,6 +37,7 @@ loop-p-preserved c =
     let bits : (k : ℕ) → k < length (basis_of product) → slice_index_or row k false ≡ slice_index_or after (p * length (basis_of product) + k) false =
     λ k l. c.in_ok-row_at.ensures.bits k (omega arith) ∙ ap (λ xs. slice_index_or xs (p * length c.of_degree-width.result.now + k) false) read ∙ ap (λ n. slice_index_or after (p * n + k) false) width
     in
-    let made : row ≡ product_bits (element degree p) s = row_is degree product p s before after row (omega (arith, c.degree_of_products-product.ensures.sum, c.degree_of_products-product.ensures.small)) c.degree_of_products-product.ensures.sum within clear long bits turned in
+    let low : length (element degree p) ≤ h = subst (λ (xs : List (List ℕ)). length (slice_index_or xs p []) ≤ h) c.of_degree-elements.ensures (c.greatest_len.ensures.longest p (omega arith)) in
+    let made : row ≡ product_bits (element degree p) s = row_is degree product p h s before after row (omega (arith, c.degree_of_products-product.ensures.sum, c.degree_of_products-product.ensures.small)) c.degree_of_products-product.ensures.sum within clear long bits low c.greatest_len.ensures.few turned in
     ap (map (λ v. v.items)) c.in_ok-push.ensures.items ∙ map-append (λ v. v.items) c.loop-p.rows.items _
     ∙ rows_more (λ r. product_bits r s) (basis_of degree) p (map (λ v. v.items) c.loop-p.rows.items) row within c.loop-p.invariant made

@@ -1,4 +1,4 @@
-use Rattle.std.proofs.Common.{◌≡◌, ℕ, suc, ◌+◌, ◌-◌, ◌<◌, ◌≤◌, ◌≢◌, List, Bool, length, refl, slice_index, slice_set, bit_and, bit_or, sym, ap, subst, ◌∙◌, arith, rules}
+use Rattle.std.proofs.Common.{◌≡◌, suc, ◌-◌, slice_index, bit_and, bit_or, sym, subst, ◌∙◌, arith, rules}
 use Rattle.std.proofs.lemmas.List.{length-set}
 use Rattle.milnor_basis.specs.Inside.FreeRows.{TurnsOverAll}
 use Rattle.milnor_basis.proofs.FreeFill.{top_none, top_turn, free_at_end}
@@ -26,8 +26,8 @@ loop-left-preserved c =
       long = length-set diagonals (left - 1) (bit_or (slice_index diagonals (left - 1)) (slice_index columns (left - 1))) ∙ inv.long;
       within = omega (arith, inv.within);
       leads = λ width fits after turns. inv.leads width fits after
-      (subst (λ n. TurnsOverAll c.args.degrees.0 c.args.degrees.1 width 0 n c.args.open.now.room c.args.open.now.rows columns diagonals c.args.table.now after) at
-      (top_turn c.args.degrees.0 c.args.degrees.1 width (left - 1) c.args.open.now.room c.args.open.now.rows columns diagonals (omega (arith, c.requires.small, c.requires.smaller)) (omega (arith, inv.within)) (search rules) c.args.table.now after inv.wide inv.long apart turns));
+          (subst (λ n. TurnsOverAll c.args.degrees.0 c.args.degrees.1 width 0 n c.args.open.now.room c.args.open.now.rows columns diagonals c.args.table.now after) at
+          (top_turn c.args.degrees.0 c.args.degrees.1 width (left - 1) c.args.open.now.room c.args.open.now.rows columns diagonals (omega (arith, c.requires.small, c.requires.smaller)) (omega (arith, inv.within)) (search rules) c.args.table.now after inv.wide inv.long apart turns));
     }
 
 pub returns : goal.returns

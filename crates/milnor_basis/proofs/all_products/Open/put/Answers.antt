@@ -1,4 +1,4 @@
-use Rattle.std.proofs.Common.{◌≡◌, ◌-◌, ◌*◌, ◌^◌, sym, ap, ◌∙◌, arith}
+use Rattle.std.proofs.Common.{◌-◌, ap, ◌∙◌, arith}
 use Rattle.milnor_basis.proofs.FreeRows.{put_row}
 use Rattle.milnor_basis.proofs.all_products.Open.put.Goals as goal
 use Rattle.milnor_basis.proofs.all_products.Open.put.Goals.{then-column-gt0, else-column-gt0}
