@@ -107,7 +107,7 @@ derived_operator_widths f operators r h t i l =
     let within : i < length f.generators = omega (arith, length-map-range_with_len (derived_value f operators r) 0 (length f.generators)) in
     ap length (get_or-map-range_with_len (derived_value f operators r) 0 (length f.generators) i i [] within (omega arith)) ∙ length-derived_value f operators r i h t
 
-All-elements : (n : ℕ) → All IsTrimmed (elements n)
+pub All-elements : (n : ℕ) → All IsTrimmed (elements n)
 All-elements zero = All-nil IsTrimmed
 All-elements (suc n) =
     All-same IsTrimmed (elements (suc n)) (elements n ++ basis_of n) (elements_more n)

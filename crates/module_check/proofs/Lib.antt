@@ -14,4 +14,7 @@ mod Entries
 mod Accepted
 mod OneGenerator
 mod GradedModules
+mod Plain
+mod PlainModule
+mod SampleFile
 pub mod Crossing

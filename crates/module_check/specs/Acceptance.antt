@@ -8,7 +8,7 @@ use Rattle.std.specs.Cmp.Lexicographic.{pointwise}
 use Rattle.milnor_basis.specs.Exponents.{degree_of, IsTrimmed}
 use Rattle.milnor_basis.specs.Basis.{basis_of}
 use Rattle.milnor_basis.specs.Product.{product_terms}
-use Rattle.module_json.specs.ModuleFile.{Generator, Entry, File, degree_at}
+use Rattle.module_json.specs.ModuleFile.{Entry, File, degree_at}
 use Rattle.module_json.specs.WellFormed.{NeverFall}
 use Rattle.module_check.specs.Module.{Module, width, unit, value, act_on, total}
 use Rattle.module_check.specs.DerivedAction.{sum_vector, span, derived_module}

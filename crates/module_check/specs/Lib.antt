@@ -3,6 +3,7 @@ pub mod DerivedAction
 pub mod Acceptance
 pub mod Graded
 pub mod Checked
+pub mod Sample
 pub mod Text
 pub mod ModuleLaws
 pub mod Inside

@@ -1,9 +1,10 @@
 //! The generators of a module, and those of one degree.
-ghost use Rattle.std.specs.Prelude.{◌≡◌, ℕ, ◌-◌, ◌<◌, ◌≤◌, pos, ◌+ℤ◌, neg_ℤ, ◌≤ℤ◌, int_lt, nat_eq, [], ◌∷◌, length, IfOk};
+ghost use Rattle.std.specs.Prelude.{◌≡◌, ℕ, ◌-◌, ◌<◌, ◌≤◌, pos, ◌+ℤ◌, neg_ℤ, ◌≤ℤ◌, int_lt, nat_eq, [], ◌∷◌, length, IfOk, string_bytes};
 ghost use Rattle.std.specs.List.{count_by, list_any, range_with_len};
 ghost use Rattle.std.specs.Ordering.{int_eq};
 ghost use Rattle.milnor_basis.specs.Exponents.{degree_of};
-ghost use Rattle.module_json.specs.ModuleFile.{degree_at};
+ghost use Rattle.module_json.specs.ModuleFile.{degree_at, by_degree, number_of};
+ghost use Rattle.module_json.specs.WellFormed.{AreByDegree};
 ghost use Rattle.module_json.specs.declared.limits.TheConstants.{MAX_GENERATORS, MAX_DEGREE, MAX_SPAN};
 ghost use Rattle.module_check.specs.Module.{generators_in, width, unit, bottom};
 ghost use Rattle.module_check.specs.DerivedAction.{sum_vector, top, span};
@@ -19,7 +20,7 @@ use std::ops::Range;
 
 /// A generator of a module.
 #[derive(Debug, Drop)]
-struct Generator {
+pub(crate) struct Generator {
     name: String,
     degree: i32,
 }
@@ -31,6 +32,15 @@ impl Model for Generator {
     ghost Value = { Named };
 
     ghost view = { λ g. record { name = string_bytes g.name; degree = g.degree } };
+}
+
+impl Generator {
+    /// The generator with this name and degree.
+    pub(crate) fn new(name: String, degree: i32) -> Self
+        ensures { result ≡ record { name = string_bytes name; degree = degree } }
+    {
+        Generator { name, degree }
+    }
 }
 
 /// The generators of a module, by degree and in one degree by name. Each degree is an internal degree.
@@ -77,6 +87,24 @@ impl Generators {
         let mut list = Vec::new(alloc);
         list.push(Generator { name, degree })?;
         Ok(Generators { list })
+    }
+
+    /// These generators by degree; those of one degree keep their order.
+    pub(crate) fn by_degree(mut list: Vec<Generator>) -> Result<Self, Memory>
+        requires { AreByDegree (by_degree list.items) }
+        ensures { IfOk result (λ generators. generators ≡ by_degree list.items) }
+    {
+        list.sort_by_key(|generator| generator.degree)?;
+        Ok(Generators { list })
+    }
+
+    /// The number of the generator with a name.
+    pub(crate) fn number_of(&self, name: &[u8]) -> Option<usize>
+        ensures { result ≡ number_of self.now name.now }
+    {
+        self.list
+            .iter()
+            .position(|generator| generator.name.as_bytes() == name)
     }
 
     /// How many generators there are.

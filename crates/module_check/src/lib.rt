@@ -10,6 +10,7 @@ mod generators;
 mod laws;
 mod operators;
 mod relations;
+mod sample;
 mod sq_n;
 mod target;
 #[cfg(test)]
