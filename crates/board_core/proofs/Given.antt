@@ -7,7 +7,8 @@ use Rattle.board_core.specs.declared.event.Event.{Event}
 use Rattle.board_core.specs.declared.event.Event.TheVariants.{Take, Give, Back, Fail}
 use Rattle.board_core.specs.Laws.{IsReached, AreDoneOnce, given}
 use Rattle.board_core.specs.Board.{IsSound}
-use Rattle.board_core.specs.Machine.{Squares, HasParents, State, IsStart, IsNextSquare, IsLegal, IsHistory, IsAbove, above_of, is_number, height, after, opening, squares_of, insert_square}
+use Rattle.degrees.specs.Above.{above_of}
+use Rattle.board_core.specs.Machine.{Squares, HasParents, State, IsStart, IsNextSquare, IsLegal, IsHistory, IsAbove, is_number, height, after, opening, squares_of, insert_square}
 use Rattle.board_core.specs.Machine.IsHistory.{nothing, then}
 use Rattle.board_core.proofs.Starts.{above_is}
 use Rattle.board_core.proofs.Histories.{height_is, held_at_height, opening_is_sound, stays_sound}

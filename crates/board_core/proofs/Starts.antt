@@ -5,7 +5,8 @@ use Rattle.std.proofs.lemmas.Int.{ints}
 use Rattle.std.proofs.lemmas.List.{take_all}
 use Rattle.std.proofs.lemmas.List.Folds.{list_any_more}
 use Rattle.std.proofs.lemmas.Option.{slice_get-get_or}
-use Rattle.board_core.specs.Machine.{Squares, HasParents, IsStaircase, insert_square, IsAbove, natural, above_of, is_number, squares_of, IsNextSquare, IsStart}
+use Rattle.degrees.specs.Above.{natural, above_of}
+use Rattle.board_core.specs.Machine.{Squares, HasParents, IsStaircase, insert_square, IsAbove, is_number, squares_of, IsNextSquare, IsStart}
 use Rattle.board_core.proofs.Sound.{staircase_more}
 
 pub above_is : (b t : ℤ) (k : ℕ) → IsAbove b t k → above_of b t ≡ Some k

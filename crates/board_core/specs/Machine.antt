@@ -1,7 +1,8 @@
 -- The board of squares: the squares of a range are taken, each once those that it stands on are done, and are given back
 -- done. The state of the board is a set of done squares and a list of those that are out; events change it.
-use Rattle.std.specs.Prelude.{◌≡◌, ℕ, zero, suc, ◌+◌, ◌≤◌, ℤ, pos, negsuc, ◌+ℤ◌, ◌-ℤ◌, Bool, true, false, not, ◌&&◌, ◌||◌, cond, nat_eq, List, [], ◌∷◌, ◌++◌, take, slice_get, Option, Some, None}
+use Rattle.std.specs.Prelude.{◌≡◌, ℕ, zero, suc, ◌+◌, ◌≤◌, ℤ, pos, ◌+ℤ◌, Bool, true, false, not, ◌&&◌, ◌||◌, cond, nat_eq, List, [], ◌∷◌, ◌++◌, take, slice_get, Option, Some, None}
 use Rattle.std.specs.List.{list_any, filter}
+use Rattle.degrees.specs.Above.{above_of}
 use Rattle.board_core.specs.declared.event.Out.{Out}
 use Rattle.board_core.specs.declared.event.Cause.{Cause}
 use Rattle.board_core.specs.declared.event.Cause.TheVariants.{Failed, Memory}
@@ -44,14 +45,6 @@ pub record IsNumber (test : ℕ → Bool) (n : ℕ) : Type 0 where
 -- the degree t is k above the bottom
 abbrev pub IsAbove : ℤ → ℤ → ℕ → Type 0
 IsAbove bottom t k = t ≡ bottom +ℤ pos k
-
--- how many degrees t is above the bottom, none where it is below
-abbrev pub natural : ℤ → Option ℕ
-natural (pos n) = Some n
-natural (negsuc n) = None
-
-abbrev pub above_of : ℤ → ℤ → Option ℕ
-above_of bottom t = natural (t -ℤ bottom)
 
 abbrev pub is_number : Option ℕ → ℕ → Bool
 is_number (Some n) k = nat_eq k n

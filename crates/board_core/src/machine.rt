@@ -1,9 +1,10 @@
 //! The board as the machine that its definition says.
 ghost use Rattle.std.specs.Prelude.{◌≡◌, ℕ, ◌<◌, ◌≤◌, ◌+◌, ◌-◌, ◌^◌, ◌↔◌, ◌+ℤ◌, ◌≤ℤ◌, pos, Some, None, Ok, Err, true, false, vec_capacity, vec_len, length, IfOk, IfSome, OnSome, OnOk, OnErr};
 ghost use Rattle.std.specs.Bool.{Decides};
+ghost use Rattle.degrees.specs.Above.{above_of};
 ghost use Rattle.board_core.specs.Board.{IsSound, below_fronts, state_of, IsTaken, IsReadyAt, is_done_at, is_out_at};
 ghost use Rattle.board_core.specs.Inside.{has_row, IsBounded, IsMarked};
-ghost use Rattle.board_core.specs.Machine.{AllInRows, IsStart, IsAbove, above_of, opening, squares_of, IsReady, IsRowNumber, IsRowNumberBelow, IsLegal, IsLegalTake, IsHeld, IsHeldWithoutCause, has_entry, is_out, after, without};
+ghost use Rattle.board_core.specs.Machine.{AllInRows, IsStart, IsAbove, opening, squares_of, IsReady, IsRowNumber, IsRowNumberBelow, IsLegal, IsLegalTake, IsHeld, IsHeldWithoutCause, has_entry, is_out, after, without};
 ghost use Rattle.board_core.specs.declared.event.Event.TheVariants.{Take, Give, Back, Fail};
 ghost use Rattle.board_core.specs.declared.event.CoreFault as CoreFault;
 ghost use Rattle.board_core.specs.declared.event.CoreFault.TheVariants.{NotLegal, Memory as NoMemory};
@@ -11,6 +12,7 @@ ghost use Rattle.board_core.specs.declared.event.CoreFault.TheVariants.{NotLegal
 use crate::event::{Cause, CoreFault, Event, Out};
 use crate::file::File;
 use crate::fronts::Fronts;
+use degrees::above_of;
 use memory::Memory;
 use std::alloc::Global;
 use std::marker::Model;
@@ -330,14 +332,6 @@ fn has_entry(out: &[Out], who: u64, s: u16, k: u64) -> bool
     ensures { result ≡ has_entry out.now who s k }
 {
     out.iter().any(|e| e.who == who && e.s == s && e.above == k)
-}
-
-/// How many degrees `t` is above `bottom`, none where it is below.
-fn above_of(bottom: i32, t: i32) -> Option<u64>
-    ensures above { result ≡ above_of bottom t }
-    ensures within { IfSome result (λ k. k < 2 ^ 32) }
-{
-    u64::try_from(i64::from(t) - i64::from(bottom)).ok()
 }
 
 /// The greatest of `s` and the rows of the start.

@@ -8,7 +8,8 @@ use Rattle.std.proofs.lemmas.List.{map-append}
 use Rattle.board_core.specs.declared.event.Out.{Out}
 use Rattle.board_core.specs.declared.event.Cause.TheVariants.{Failed, Memory}
 use Rattle.board_core.specs.declared.event.Event.TheVariants.{Take, Give, Back, Fail}
-use Rattle.board_core.specs.Machine.{State, Squares, IsAbove, after, opening, squares_of, insert_square, without, above_of, is_number, cause_or}
+use Rattle.degrees.specs.Above.{above_of}
+use Rattle.board_core.specs.Machine.{State, Squares, IsAbove, after, opening, squares_of, insert_square, without, is_number, cause_or}
 use Rattle.board_core.proofs.Starts.{above_is}
 use Rattle.resolution_laws.specs.Resolution.{Module, Content}
 use Rattle.resolution_laws.specs.Start.{Entry, entry_at}

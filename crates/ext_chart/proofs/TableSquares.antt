@@ -5,6 +5,7 @@ use Rattle.std.specs.List.{slice_get}
 use Rattle.std.proofs.lemmas.Bool.{cases_lt}
 use Rattle.std.proofs.lemmas.Int.{ints}
 use Rattle.std.proofs.lemmas.Option.{slice_get_past}
+use Rattle.degrees.specs.Above.{natural}
 use Rattle.f2_vec.specs.Spans.{HaveWidth}
 use Rattle.f2_matrix.proofs.Unique.{kernel_basis_unique}
 use Rattle.free_module.specs.FreeModule.{free_width}
@@ -16,7 +17,7 @@ use Rattle.resolution_laws.proofs.Shapes.{content_shape}
 use Rattle.resolution_laws.proofs.StartLaws.{content_is_unique, length-squares_below, squares_below-take}
 use Rattle.square.specs.declared.range.TheConstants.{MAX_T}
 use Rattle.square.specs.Squares.{Placed, module_over}
-use Rattle.square.specs.Tables.{Staircase, natural, row_in, plain_rows, content_at, square_at, IsTable}
+use Rattle.square.specs.Tables.{Staircase, row_in, plain_rows, content_at, square_at, IsTable}
 use Rattle.square.proofs.Places.{length-row_of, slice_get-there, content_at-is, table_content}
 use Rattle.ext_chart.specs.Dump.{image_width}
 

@@ -9,8 +9,6 @@ pub mod Kept
 pub mod Parts
 pub mod Pivots
 pub mod Preimages
-mod Pivots
-mod Preimages
 mod Inserted
 mod Extended
 pub mod Eliminate

@@ -11,7 +11,8 @@ use Rattle.resolution_laws.specs.Resolution.{Module, Content, row_of, below_of}
 use Rattle.resolution_laws.specs.Start.{Entry, entry_at, squares_below, row_below}
 use Rattle.resolution_laws.proofs.StartLaws.{content_is_unique, squares_below-same, row_below-same}
 use Rattle.square.specs.Squares.{Placed, module_over, AreUnder, IsQuasi, IsKeptOf, KeptWhereMade, IsSquare}
-use Rattle.square.specs.Tables.{Staircase, row_in, plain_rows, content_at, above_of, square_at, IsQuasiAt, IsTable}
+use Rattle.degrees.specs.Above.{above_of}
+use Rattle.square.specs.Tables.{Staircase, row_in, plain_rows, content_at, square_at, IsQuasiAt, IsTable}
 use Rattle.square.proofs.Looking.{natural-is}
 use Rattle.square.proofs.Places.{content_at-is, table_before, table_below, table_under}
 

@@ -9,7 +9,8 @@ use Rattle.module_check.specs.Module.{bottom}
 use Rattle.module_check.specs.Checked.{Checked}
 use Rattle.resolution_laws.specs.Resolution.{Content}
 use Rattle.square.specs.Squares.{Placed, content_of}
-use Rattle.square.specs.Tables.{Footing, contents, natural, above_of, IsPlacedAt, AreOfRow, content_in, footing_at, under_row}
+use Rattle.degrees.specs.Above.{natural, above_of}
+use Rattle.square.specs.Tables.{Footing, contents, IsPlacedAt, AreOfRow, content_in, footing_at, under_row}
 
 pub natural-is : (z : ℤ) (k : ℕ) → natural z ≡ Some k → z ≡ pos k
 natural-is (pos n) k e = let same : n ≡ k = cc in ap (λ i. pos i) same

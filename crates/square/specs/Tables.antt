@@ -1,5 +1,6 @@
 -- Tables of squares, and what a square is made from.
-use Rattle.std.specs.Prelude.{◌≡◌, ℕ, zero, suc, ◌+◌, ◌*◌, ◌^◌, ◌<◌, ◌≤◌, ◌⊎◌, ℤ, pos, negsuc, ◌+ℤ◌, ◌-ℤ◌, nat_eq, if◌then◌else◌, List, [], ◌∷◌, ◌++◌, length, map, take, slice_get, slice_index_or, Option, Some, None, option_and_then, IfSome}
+use Rattle.std.specs.Prelude.{◌≡◌, ℕ, zero, suc, ◌+◌, ◌*◌, ◌^◌, ◌<◌, ◌≤◌, ◌⊎◌, ℤ, pos, ◌+ℤ◌, nat_eq, if◌then◌else◌, List, [], ◌∷◌, ◌++◌, length, map, take, slice_get, slice_index_or, Option, Some, None, option_and_then, IfSome}
+use Rattle.degrees.specs.Above.{above_of}
 use Rattle.milnor_basis.specs.Basis.{basis_of}
 use Rattle.f2_matrix.specs.Reduction.{Reduction}
 use Rattle.module_check.specs.Module.{bottom}
@@ -9,14 +10,6 @@ use Rattle.resolution_laws.specs.Start.{Entry, entry_at, HasShape, IsOf}
 use Rattle.square.specs.declared.range.Range.{Range}
 use Rattle.square.specs.declared.range.TheConstants.{MAX_S, MAX_T}
 use Rattle.square.specs.Squares.{Placed, content_of, module_over, entry_of, target_width, width_with, source_width, WasRead, IsQuasi}
-
--- how many degrees t is above the bottom, none where it is below
-abbrev pub natural : ℤ → Option ℕ
-natural (pos n) = Some n
-natural (negsuc n) = None
-
-abbrev pub above_of : ℤ → ℤ → Option ℕ
-above_of b t = natural (t -ℤ b)
 
 -- ---- rows
 

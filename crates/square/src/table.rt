@@ -5,10 +5,11 @@ ghost use Rattle.f2_matrix.specs.Reduction.{IsReductionOf};
 ghost use Rattle.free_module.specs.FreeModule.{IsWithinReach};
 ghost use Rattle.free_module.specs.LinearMap.{AreImages, map_rows};
 ghost use Rattle.resolution_laws.specs.Resolution.{row_of, below_of, degrees_from, images_of, target_over};
+ghost use Rattle.degrees.specs.Above.{above_of};
 ghost use Rattle.square.specs.Below.{graded_of, reaches_of};
 ghost use Rattle.square.specs.declared.range.TheConstants.{MAX_S, MAX_T};
 ghost use Rattle.square.specs.Squares.{module_over, IsQuasi};
-ghost use Rattle.square.specs.Tables.{above_of, row_in, square_at, plain_rows, with_square, contents, under_row, content_at, next_target_width, next_width, next_widths, FitWords, IsNext, IsNextAt, IsContinued, IsQuasiAt, IsTable, HaveRoom};
+ghost use Rattle.square.specs.Tables.{row_in, square_at, plain_rows, with_square, contents, under_row, content_at, next_target_width, next_width, next_widths, FitWords, IsNext, IsNextAt, IsContinued, IsQuasiAt, IsTable, HaveRoom};
 
 use crate::below::Below;
 use crate::inputs::Inputs;
@@ -357,7 +358,8 @@ impl Table {
 pub(crate) fn above_of(bottom: i32, t: i32) -> Option<usize>
     ensures { result ≡ above_of bottom t }
 {
-    usize::try_from(i64::from(t) - i64::from(bottom)).ok()
+    let k = degrees::above_of(bottom, t)?;
+    Some(k as usize)
 }
 
 /// As many rows of no square as a table has.
