@@ -85,8 +85,8 @@ mask_l-zeros (suc m) = let ih : mask_l (zeros m) ≡ 0 = mask_l-zeros m in omega
 pub zero_sum : (n : ℕ) (b table : List (List Bool)) → HoldsSums n b table → row table 0 ≡ zeros n
 zero_sum n b table h = ap (row table) (sym (mask_l-zeros (length b))) ∙ h.sums (zeros (length b)) (length-zeros (length b)) ∙ combination-zeros n (length b) b
 
-pub HoldsSums-none : (n : ℕ) (table : List (List Bool)) → IsRoomForSums n table → HoldsSums n [] table
-HoldsSums-none n table h = record { widths = h.widths; sums = only_zero }
+pub HoldsSums-none : (n m : ℕ) (table : List (List Bool)) → IsRoomForSums n m table → HoldsSums n [] table
+HoldsSums-none n m table h = record { widths = h.widths; sums = only_zero }
   where
     only_zero : (c : List Bool) → length c ≡ 0 → row table (mask_l c) ≡ combination n c []
     only_zero [] e = h.first
@@ -113,13 +113,13 @@ HoldsSums-more n j b table new p w l is h widths kept sums = record {
     by_bit true t u low before = ap (row new) (omega arith) ∙ sums t low ∙ ap (λ v. sum_of v p) before ∙ ap (sum_of u) is
     by_bit false t u low before = ap (row new) (omega arith) ∙ kept t low ∙ before
 
-pub few_sums : (v : List Bool) (ps : List ℕ) → length ps ≤ 8 → mask_l (map (bit v) ps) < 256
-few_sums v ps h =
+pub few_sums : (m : ℕ) (v : List Bool) (ps : List ℕ) → length ps ≤ m → mask_l (map (bit v) ps) < 2 ^ m
+few_sums m v ps h =
     let e : length (map (bit v) ps) ≡ length ps = length-map ps (bit v) in
     let b : mask_l (map (bit v) ps) < 2 ^ length (map (bit v) ps) = mask_l-lt (map (bit v) ps) in
-    let q : length (map (bit v) ps) ≤ 8 = omega arith in
+    let q : length (map (bit v) ps) ≤ m = omega arith in
     let z : 0 < 2 = omega arith in
-    let p : 2 ^ length (map (bit v) ps) ≤ 2 ^ 8 = pow-le-pow_right z q in
+    let p : 2 ^ length (map (bit v) ps) ≤ 2 ^ m = pow-le-pow_right z q in
     omega arith
 
 -- ---- the rows outside the block, cleared one by one

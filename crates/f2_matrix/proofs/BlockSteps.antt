@@ -89,7 +89,7 @@ length-cleared_at n ps b v w e =
     length-sum_of v (combination n cs b) (e ∙ sym (length-combination n cs b w)) ∙ e
 
 -- a row of a list of rows of length n, or past the end
-row_or_past : (n : ℕ) (rows : List (List Bool)) (i : ℕ) → HaveWidth n rows → (length (row rows i) ≡ n) ⊎ (row rows i ≡ [])
+pub row_or_past : (n : ℕ) (rows : List (List Bool)) (i : ℕ) → HaveWidth n rows → (length (row rows i) ≡ n) ⊎ (row rows i ≡ [])
 row_or_past n rows i w = elim (cases_lt i (length rows)) [ inl l ↦ inl (w i l) | inr l ↦ inr (get_or_past rows i [] l) ]
 
 -- ---- the rows of a block
@@ -112,7 +112,7 @@ pub record IsBlock (n r col : ℕ) (ps : List ℕ) (xs rows : List (List Bool)) 
   pub carried : IsClearedByBlock n r ps rows seen
   pub eliminated : IsEliminated n (r + length ps) col xs seen
 
-cleared_at_none : (n : ℕ) (b rows : List (List Bool)) (i : ℕ) → HaveWidth n rows → row rows i ≡ cleared_at n [] b (row rows i)
+pub cleared_at_none : (n : ℕ) (b rows : List (List Bool)) (i : ℕ) → HaveWidth n rows → row rows i ≡ cleared_at n [] b (row rows i)
 cleared_at_none n b rows i w = elim (row_or_past n rows i w) [
   | inl e ↦ sym (sum_of-zeros_right n (row rows i) e)
   | inr z ↦ subst (λ x. x ≡ cleared_at n [] b x) (sym z) refl
@@ -141,75 +141,77 @@ IsBlock-skip n r col ps xs rows s z = record {
 }
 
 -- the rows are cleared by the block: it is carried out
-pub IsBlock-end : (n r col : ℕ) (ps : List ℕ) (xs rows new : List (List Bool)) → IsBlock n r col ps xs rows → IsClearedByBlock n r ps rows new → IsEliminated n (r + length ps) col xs new
-IsBlock-end n r col ps xs rows new s t =
-    let same : s.seen ≡ new = ext_get_or [] s.seen new (s.carried.as_many ∙ sym t.as_many) (λ i _.
+pub IsClearedByBlock-same : (n r : ℕ) (ps : List ℕ) (rows seen new : List (List Bool)) → IsClearedByBlock n r ps rows seen → IsClearedByBlock n r ps rows new → seen ≡ new
+IsClearedByBlock-same n r ps rows seen new s t =
+    ext_get_or [] seen new (s.as_many ∙ sym t.as_many) (λ i _.
     elim (cases_lt i r) [
-      | inl l ↦ s.carried.above i l ∙ sym (t.above i l)
+      | inl l ↦ s.above i l ∙ sym (t.above i l)
       | inr l ↦ elim (cases_lt i (r + length ps)) [
-        | inl m ↦ s.carried.block i l m ∙ sym (t.block i l m)
-        | inr m ↦ s.carried.below i m ∙ sym (t.below i m)
+        | inl m ↦ s.block i l m ∙ sym (t.block i l m)
+        | inr m ↦ s.below i m ∙ sym (t.below i m)
       ]
-    ]) in
-    subst (IsEliminated n (r + length ps) col xs) same s.eliminated
+    ])
+
+pub IsBlock-end : (n r col : ℕ) (ps : List ℕ) (xs rows new : List (List Bool)) → IsBlock n r col ps xs rows → IsClearedByBlock n r ps rows new → IsEliminated n (r + length ps) col xs new
+IsBlock-end n r col ps xs rows new s t = subst (IsEliminated n (r + length ps) col xs) (IsClearedByBlock-same n r ps rows s.seen new s.carried t) s.eliminated
 
 pub IsBlock-within : (n r col : ℕ) (ps : List ℕ) (xs rows : List (List Bool)) → IsBlock n r col ps xs rows → r + length ps ≤ length rows
 IsBlock-within n r col ps xs rows s = omega (arith, s.eliminated.within, s.carried.as_many)
 
 -- one pivot more
-module _ (n r col a : ℕ) (ps : List ℕ) (xs rows new : List (List Bool)) (s : IsBlock n r col ps xs rows) (low : r + length ps ≤ a) (high : a < length rows) (t : IsPivotTaken n r ps col a rows new) where
-  abbrev behind : ℕ
+module _ (n r col a : ℕ) (ps : List ℕ) (rows seen new : List (List Bool)) (widths : HaveWidth n rows) (carried : IsClearedByBlock n r ps rows seen) (low : r + length ps ≤ a) (high : a < length rows) (t : IsPivotTaken n r ps col a rows new) where
+  abbrev pub behind : ℕ
   behind = r + length ps
 
-  abbrev block : List (List Bool)
+  abbrev pub block : List (List Bool)
   block = block_rows r ps rows
 
-  abbrev pivot : List Bool
+  abbrev pub pivot : List Bool
   pivot = cleared_at n ps block (row rows a)
 
-  abbrev swapped : List (List Bool)
-  swapped = swap s.seen behind a
+  abbrev pub swapped : List (List Bool)
+  swapped = swap seen behind a
 
-  abbrev places : List ℕ
+  abbrev pub places : List ℕ
   places = ps ++ col ∷ []
 
-  more_places : length places ≡ length ps + 1
+  pub more_places : length places ≡ length ps + 1
   more_places = length_push ps col
 
-  high_seen : a < length s.seen
-  high_seen = omega (arith, s.carried.as_many)
+  high_seen : a < length seen
+  high_seen = omega (arith, carried.as_many)
 
-  behind_seen : behind < length s.seen
-  behind_seen = let l : r + length ps < length s.seen = omega (arith, s.carried.as_many) in l
+  behind_seen : behind < length seen
+  behind_seen = let l : r + length ps < length seen = omega (arith, carried.as_many) in l
 
   behind_rows : behind < length rows
   behind_rows = let l : r + length ps < length rows = omega arith in l
 
-  length-pivot : length pivot ≡ n
-  length-pivot = length-cleared_at n ps block (row rows a) (HaveWidth-block n r ps rows s.widths) (s.widths a high)
+  pub length-pivot : length pivot ≡ n
+  length-pivot = length-cleared_at n ps block (row rows a) (HaveWidth-block n r ps rows widths) (widths a high)
 
-  swapped_pivot : row swapped behind ≡ pivot
-  swapped_pivot = row-swap_left s.seen behind a behind_seen high_seen ∙ s.carried.below a low
+  pub swapped_pivot : row swapped behind ≡ pivot
+  swapped_pivot = row-swap_left seen behind a behind_seen high_seen ∙ carried.below a low
 
   swapped_block : (i : ℕ) → r ≤ i → i < r + length ps → row swapped i ≡ row rows i
-  swapped_block i l m = row-swap_other s.seen behind a i behind_seen high_seen (λ e. absurd (omega arith)) (λ e. absurd (omega arith)) ∙ s.carried.block i l m
+  swapped_block i l m = row-swap_other seen behind a i behind_seen high_seen (λ e. absurd (omega arith)) (λ e. absurd (omega arith)) ∙ carried.block i l m
 
   swapped_above : (i : ℕ) → i < r → row swapped i ≡ cleared_at n ps block (row new i)
   swapped_above i l =
-      row-swap_other s.seen behind a i behind_seen high_seen (λ e. absurd (omega arith)) (λ e. absurd (omega arith))
-      ∙ s.carried.above i l
+      row-swap_other seen behind a i behind_seen high_seen (λ e. absurd (omega arith)) (λ e. absurd (omega arith))
+      ∙ carried.above i l
       ∙ ap (cleared_at n ps block) (sym (t.above i l))
 
   swapped_below : (i : ℕ) → r + length ps < i → row swapped i ≡ cleared_at n ps block (row new i)
   swapped_below i l = elim (cases_eq i a) [
     | inl e ↦
         ap (row swapped) e
-        ∙ row-swap_right s.seen behind a behind_seen high_seen
-        ∙ s.carried.below behind (omega arith)
+        ∙ row-swap_right seen behind a behind_seen high_seen
+        ∙ carried.below behind (omega arith)
         ∙ ap (cleared_at n ps block) (sym (t.below i l ∙ ap (row (swap rows behind a)) e ∙ row-swap_right rows behind a behind_rows high))
     | inr d ↦
-        row-swap_other s.seen behind a i behind_seen high_seen (λ e. absurd (omega arith)) d
-        ∙ s.carried.below i (omega arith)
+        row-swap_other seen behind a i behind_seen high_seen (λ e. absurd (omega arith)) d
+        ∙ carried.below i (omega arith)
         ∙ ap (cleared_at n ps block) (sym (t.below i l ∙ row-swap_other rows behind a i behind_rows high (λ e. absurd (omega arith)) d))
   ]
 
@@ -233,24 +235,24 @@ module _ (n r col a : ℕ) (ps : List ℕ) (xs rows new : List (List Bool)) (s :
       ])
 
   -- the rows that are seen afterwards
-  abbrev seen_more : List (List Bool)
+  abbrev pub seen_more : List (List Bool)
   seen_more = map (cleared (row swapped behind) col) (take behind swapped) ++ row swapped behind ∷ map (cleared (row swapped behind) col) (drop (suc behind) swapped)
 
-  cleared_more : IsClearedBy behind col swapped seen_more
-  cleared_more = IsClearedBy_parts behind col swapped (omega (arith, length-swap s.seen behind a, behind_seen))
+  pub cleared_more : IsClearedBy behind col swapped seen_more
+  cleared_more = IsClearedBy_parts behind col swapped (omega (arith, length-swap seen behind a, behind_seen))
 
-  widths_more : HaveWidth n new
+  pub widths_more : HaveWidth n new
   widths_more i l =
       let m : i < length rows = omega (arith, t.as_many) in
       elim (cases_lt i r) [
-        | inl h ↦ ap length (t.above i h) ∙ s.widths i m
+        | inl h ↦ ap length (t.above i h) ∙ widths i m
         | inr h ↦ elim (cases_lt i (r + length ps)) [
-          | inl k ↦ ap length (t.block i h k) ∙ length-cleared n pivot (row rows i) col (s.widths i m) length-pivot
+          | inl k ↦ ap length (t.block i h k) ∙ length-cleared n pivot (row rows i) col (widths i m) length-pivot
           | inr k ↦ elim (cases_eq i (r + length ps)) [
             | inl e ↦ ap (λ j. length (row new j)) e ∙ ap length t.pivot ∙ length-pivot
             | inr e ↦
                 let u : IsRearranged behind rows (swap rows behind a) = IsRearranged-swap behind behind a rows (omega arith) low behind_rows high in
-                ap length (t.below i (omega arith)) ∙ HaveWidth-rearranged n behind rows (swap rows behind a) u s.widths i (omega (arith, length-swap rows behind a))
+                ap length (t.below i (omega arith)) ∙ HaveWidth-rearranged n behind rows (swap rows behind a) u widths i (omega (arith, length-swap rows behind a))
           ]
         ]
       ]
@@ -260,7 +262,7 @@ module _ (n r col a : ℕ) (ps : List ℕ) (xs rows new : List (List Bool)) (s :
       cleared_more.others i d
       ∙ ap (λ q. cleared q col (row swapped i)) swapped_pivot
       ∙ ap (cleared pivot col) e
-      ∙ sym (cleared_at_more_or_past n col ps block pivot (row new i) (HaveWidth-block n r ps rows s.widths) (length-block r ps rows (omega arith)) length-pivot (row_or_past n new i widths_more))
+      ∙ sym (cleared_at_more_or_past n col ps block pivot (row new i) (HaveWidth-block n r ps rows widths) (length-block r ps rows (omega arith)) length-pivot (row_or_past n new i widths_more))
       ∙ ap (λ b. cleared_at n places b (row new i)) (sym block_more)
 
   block_kept : (i : ℕ) → r ≤ i → i < r + length places → row seen_more i ≡ row new i
@@ -271,19 +273,24 @@ module _ (n r col a : ℕ) (ps : List ℕ) (xs rows new : List (List Bool)) (s :
         cleared_more.others i d ∙ ap (λ q. cleared q col (row swapped i)) swapped_pivot ∙ ap (cleared pivot col) (swapped_block i l h) ∙ sym (t.block i l h)
   ]
 
-  pub IsBlock-more : bit pivot col ≡ true → IsBlock n r (col + 1) places xs new
-  IsBlock-more one =
-      let at_seen : bit (row s.seen a) col ≡ true = ap (λ v. bit v col) (s.carried.below a low) ∙ one in
-      let settled : IsEliminated n (behind + 1) (col + 1) xs seen_more = IsEliminated-settle n behind col a xs s.seen swapped seen_more s.eliminated low high_seen at_seen refl cleared_more in
-      let size : behind + 1 ≡ r + length places = omega (arith, more_places) in
-      record {
-        seen = seen_more;
-        widths = widths_more;
-        carried = record {
-          as_many = cleared_more.as_many ∙ length-swap s.seen behind a ∙ s.carried.as_many ∙ sym t.as_many;
-          block = block_kept;
-          above = λ i l. other_more i (λ e. absurd (omega arith)) (swapped_above i l);
-          below = λ i l. other_more i (λ e. absurd (omega (arith, more_places))) (swapped_below i (omega (arith, more_places)));
-        };
-        eliminated = subst (λ k. IsEliminated n k (col + 1) xs seen_more) size settled;
-      }
+  pub carried_more : IsClearedByBlock n r places new seen_more
+  carried_more = record {
+    as_many = cleared_more.as_many ∙ length-swap seen behind a ∙ carried.as_many ∙ sym t.as_many;
+    block = block_kept;
+    above = λ i l. other_more i (λ e. absurd (omega arith)) (swapped_above i l);
+    below = λ i l. other_more i (λ e. absurd (omega (arith, more_places))) (swapped_below i (omega (arith, more_places)));
+  }
+
+pub IsBlock-more : (n r col a : ℕ) (ps : List ℕ) (xs rows new : List (List Bool)) → IsBlock n r col ps xs rows → r + length ps ≤ a → a < length rows → IsPivotTaken n r ps col a rows new → bit (cleared_at n ps (block_rows r ps rows) (row rows a)) col ≡ true → IsBlock n r (col + 1) (ps ++ col ∷ []) xs new
+IsBlock-more n r col a ps xs rows new s low high t one =
+    let seen = seen_more n r col a ps rows s.seen new s.widths s.carried low high t in
+    let at_seen : bit (row s.seen a) col ≡ true = ap (λ v. bit v col) (s.carried.below a low) ∙ one in
+    let high_seen : a < length s.seen = omega (arith, s.carried.as_many) in
+    let settled : IsEliminated n (r + length ps + 1) (col + 1) xs seen = IsEliminated-settle n (r + length ps) col a xs s.seen (swap s.seen (r + length ps) a) seen s.eliminated low high_seen at_seen refl (cleared_more n r col a ps rows s.seen new s.widths s.carried low high t) in
+    let size : r + length ps + 1 ≡ r + length (ps ++ col ∷ []) = omega (arith, length_push ps col) in
+    record {
+      seen = seen;
+      widths = widths_more n r col a ps rows s.seen new s.widths s.carried low high t;
+      carried = carried_more n r col a ps rows s.seen new s.widths s.carried low high t;
+      eliminated = subst (λ k. IsEliminated n k (col + 1) xs seen) size settled;
+    }

@@ -3,6 +3,10 @@ pub mod Elimination
 mod BlockSteps
 mod BlockSums
 mod BlockParts
+mod Quarters
+mod RowBlocks
+mod NextParts
+mod SortSteps
 pub mod Unique
 pub mod Split
 pub mod Kept

@@ -1,6 +1,7 @@
 -- Words of the proofs: row operations, blocks of rows, what is kept. No clause of a public call says any of them.
 pub mod RowOperations
 pub mod Blocks
+pub mod Rowwise
 pub mod Parts
 pub mod Columns
 pub mod Extend

@@ -14,9 +14,9 @@ use f2_vec::BitVec;
 /// sums of the rows of a block.
 pub fn reduce_blocks(cols: usize, rows: &mut [BitVec], table: &mut [BitVec])
     requires rows { HaveWidth cols rows.old }
-    requires table { IsRoomForSums cols table.old }
+    requires table { IsRoomForSums cols 8 table.old }
     ensures form { IsEchelonForm cols rows.old rows.new }
-    ensures table { IsRoomForSums cols table.new }
+    ensures table { IsRoomForSums cols 8 table.new }
 {
     let mut settled = 0;
     let mut col = 0;
@@ -32,7 +32,7 @@ pub fn reduce_blocks(cols: usize, rows: &mut [BitVec], table: &mut [BitVec])
             }
             col += 1;
         }
-        fill_table(cols, table, block_of(rows, settled, count));
+        fill_table(cols, 8, table, block_of(rows, settled, count));
         clear_outside(cols, rows, settled, &places[..count], table);
         settled += count;
         prove!(first < col);
@@ -93,10 +93,10 @@ fn row_to_take(
 }
 
 /// The coordinates of the row at these places, as the bits of a number.
-fn index_at(cols: usize, row: &BitVec, places: &[usize]) -> usize
+pub fn index_at(cols: usize, row: &BitVec, places: &[usize]) -> usize
     requires row { length row.now ≡ cols }
     requires places { All (λ p. p < cols) places.now }
-    requires few { length places.now ≤ 8 }
+    requires few { length places.now ≤ 32 }
     ensures { result ≡ mask_l (map (bit row.now) places.now) }
 {
     let mut index = 0;
@@ -109,12 +109,12 @@ fn index_at(cols: usize, row: &BitVec, places: &[usize]) -> usize
 }
 
 /// Clears the row by the block.
-fn clear_at(cols: usize, row: &mut BitVec, block: &[BitVec], places: &[usize])
+pub fn clear_at(cols: usize, row: &mut BitVec, block: &[BitVec], places: &[usize])
     requires row { length row.old ≡ cols }
     requires block { HaveWidth cols block.now }
     requires as_many { length block.now ≡ length places.now }
     requires places { All (λ p. p < cols) places.now }
-    requires few { length places.now ≤ 8 }
+    requires few { length places.now ≤ 32 }
     ensures { row.new ≡ cleared_at cols places.now block.now row.old }
 {
     let mut index = index_at(cols, row, places);
@@ -152,11 +152,12 @@ fn take_pivot(
 }
 
 /// Makes the table that of the sums of the rows of the block.
-fn fill_table(cols: usize, table: &mut [BitVec], block: &[BitVec])
-    requires room { IsRoomForSums cols table.old }
+pub fn fill_table(cols: usize, bits: usize, table: &mut [BitVec], block: &[BitVec])
+    requires room { IsRoomForSums cols bits table.old }
     requires block { HaveWidth cols block.now }
-    requires few { length block.now ≤ 8 }
-    ensures room { IsRoomForSums cols table.new }
+    requires few { length block.now ≤ bits }
+    requires most { bits ≤ 8 }
+    ensures room { IsRoomForSums cols bits table.new }
     ensures sums { HoldsSums cols block.now table.new }
 {
     let mut filled = 1;

@@ -9,6 +9,7 @@ mod matrix;
 mod rank;
 mod reduced;
 mod rows;
+mod rowwise;
 mod scratch;
 #[cfg(test)]
 mod tests;

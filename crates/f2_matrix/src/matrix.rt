@@ -7,6 +7,7 @@ ghost use Rattle.f2_matrix.specs.Reduction.{augmented};
 ghost use Rattle.f2_matrix.specs.Inside.RowOperations.{cleared, IsClearedBy};
 
 use crate::blocks::reduce_blocks;
+use crate::rowwise::eliminate;
 use crate::scratch::Scratch;
 use f2_vec::BitVec;
 use memory::Memory;
@@ -94,6 +95,15 @@ impl Matrix {
             self.rows.as_mut_slice(),
             scratch.table.as_mut_slice(),
         );
+    }
+
+    /// The same, row by row, with several tables of sums that are made for it.
+    pub(crate) fn reduce_rowwise(&mut self, alloc: Global) -> Result<(), Memory>
+        ensures cols { self.new.cols ≡ self.old.cols }
+        ensures ok { OnOk result (IsEchelonForm self.old.cols self.old.rows self.new.rows) }
+        ensures err { OnErr result (self.new ≡ self.old) }
+    {
+        eliminate(alloc, self.cols, self.rows.as_mut_slice())
     }
 
     /// The matrix with the unit matrix put to the right of it, `[D | I]`.

@@ -9,7 +9,6 @@ ghost use Rattle.f2_matrix.specs.Preimages.{IsPreimageUnder, ArePreimages, quasi
 
 use crate::matrix::Matrix;
 use crate::rows::Rows;
-use crate::scratch::Scratch;
 use f2_vec::BitVec;
 use memory::Memory;
 use std::alloc::Global;
@@ -48,8 +47,7 @@ impl Reduced {
         ensures chosen { IfOk result (λ r. ArePreimages matrix.now.cols matrix.now.rows r.kernel r.image r.chosen) }
     {
         let mut form = matrix.augment(alloc)?;
-        let mut scratch = Scratch::new(alloc, form.cols())?;
-        form.reduce_with(&mut scratch);
+        form.reduce_rowwise(alloc)?;
         parts_of(alloc, matrix, &form)
     }
 

@@ -1,5 +1,6 @@
 //! Room for the tables of an elimination by blocks.
-ghost use Rattle.std.specs.Prelude.{◌≡◌, IfOk};
+ghost use Rattle.std.specs.Prelude.{◌≡◌, ◌≤◌, IfOk};
+ghost use Rattle.f2_matrix.specs.Inside.Blocks.{IsRoomForSums};
 
 use f2_vec::BitVec;
 use memory::Memory;
@@ -24,7 +25,7 @@ impl Model for Scratch {
 
     ghost view = { λ s. s.cols };
 
-    ghost invariant = { λ s. IsRoomForSums s.cols s.table.items };
+    ghost invariant = { λ s. IsRoomForSums s.cols 8 s.table.items };
 }
 
 impl Scratch {
@@ -32,10 +33,20 @@ impl Scratch {
     pub fn new(alloc: Global, cols: usize) -> Result<Self, Memory>
         ensures { IfOk result (λ s. s ≡ cols) }
     {
-        let mut table = Vec::with_capacity(alloc, 256)?;
-        for _ in 0..256usize {
-            table.push(BitVec::zero(alloc, cols)?)?;
-        }
+        let table = room_for_sums(alloc, cols, 8)?;
         Ok(Scratch { cols, table })
     }
+}
+
+/// Room for the sums of up to `bits` rows of length `cols`.
+pub fn room_for_sums(alloc: Global, cols: usize, bits: usize) -> Result<Vec<BitVec>, Memory>
+    requires { bits ≤ 8 }
+    ensures { IfOk result (λ table. IsRoomForSums cols bits table.items) }
+{
+    let size = 1 << bits;
+    let mut table = Vec::with_capacity(alloc, size)?;
+    for _ in 0..size {
+        table.push(BitVec::zero(alloc, cols)?)?;
+    }
+    Ok(table)
 }

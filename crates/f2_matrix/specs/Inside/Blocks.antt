@@ -1,5 +1,5 @@
 -- What clearing by a whole block of rows does: each row of the block has a place, as a rule that of its pivot.
-use Rattle.std.specs.Prelude.{◌≡◌, ℕ, ◌+◌, ◌<◌, ◌≤◌, Bool, List, length, map, take, drop}
+use Rattle.std.specs.Prelude.{◌≡◌, ℕ, ◌+◌, ◌^◌, ◌<◌, ◌≤◌, Bool, List, length, map, take, drop}
 use Rattle.std.specs.List.{swap}
 use Rattle.std.specs.Simd.Lanes.{mask_l}
 use Rattle.f2_vec.specs.Vectors.{sum_of, bit, zeros}
@@ -34,8 +34,8 @@ pub record HoldsSums (n : ℕ) (b table : List (List Bool)) : Type 0 where
   pub widths : HaveWidth n table
   pub sums : (c : List Bool) → length c ≡ length b → row table (mask_l c) ≡ combination n c b
 
--- 256 rows of length n, the first of zeros
-pub record IsRoomForSums (n : ℕ) (table : List (List Bool)) : Type 0 where
+-- room for the sums of m rows of length n: the first of the rows is zero
+pub record IsRoomForSums (n m : ℕ) (table : List (List Bool)) : Type 0 where
   pub widths : HaveWidth n table
-  pub size : length table ≡ 256
+  pub size : length table ≡ 2 ^ m
   pub first : row table 0 ≡ zeros n

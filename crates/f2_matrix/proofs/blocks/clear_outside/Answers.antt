@@ -11,7 +11,7 @@ use Rattle.f2_matrix.proofs.blocks.clear_outside.Goals as goal
 
 -- the number of a vector's coordinates at the places is that of a sum of the table
 few : (v w : List Bool) (ps : List ℕ) (x : ℕ) → x ≡ mask_l (map (bit v) ps) → length ps ≤ 8 → x < 256
-few v w ps x e h = let f = few_sums v ps h in omega arith
+few v w ps x e h = let f = few_sums 8 v ps h in omega arith
 
 one_sum : (n r i x : ℕ) (ps : List ℕ) (xs cur table : List (List Bool)) (v d t : List Bool) → i < length cur → row cur i ≡ row xs i → r + length ps ≤ length xs → v ≡ sum_of (get_or cur i d) t → t ≡ row table x → HoldsSums n (block_rows r ps xs) table → x ≡ mask_l (map (bit (row cur i)) ps) → v ≡ cleared_at n ps (block_rows r ps xs) (row xs i)
 one_sum n r i x ps xs cur table v d t h same m e f s g =

@@ -1,6 +1,6 @@
-use Rattle.std.proofs.Common.{◌≡◌, ◌+◌, ◌*◌, ◌^◌, ◌<◌, ℕ, [], refl, ap, sym, ◌∙◌, arith, subst}
+use Rattle.std.proofs.Common.{◌≡◌, ◌+◌, ◌*◌, ◌^◌, ◌<◌, ◌≤◌, ℕ, [], refl, ap, sym, ◌∙◌, arith, subst}
 use Rattle.std.proofs.lemmas.List.{get_or_read}
-use Rattle.std.proofs.Math.Nat.{pow-suc}
+use Rattle.std.proofs.Math.Nat.{pow-suc, pow-le-pow_right}
 use Rattle.f2_vec.specs.Vectors.{sum_of}
 use Rattle.f2_vec.specs.Spans.{row}
 use Rattle.f2_matrix.proofs.BlockParts.{zero_sum, HoldsSums-none, HoldsSums-more}
@@ -10,8 +10,20 @@ pub loop-pivot-init : goal.loop-pivot-init
 loop-pivot-init c = record {
   filled = refl;
   room = c.requires.room.size;
-  sums = HoldsSums-none c.args.cols c.args.table.now c.requires.room;
+  sums = HoldsSums-none c.args.cols c.args.bits c.args.table.now c.requires.room;
 }
+
+doubled : (j m filled size : ℕ) → filled ≡ 2 ^ j → size ≡ 2 ^ m → j < m → filled + filled ≤ size
+doubled j m filled size f s h =
+    let z : 0 < 2 = omega arith in
+    let q : j + 1 ≤ m = omega arith in
+    let p : 2 ^ (j + 1) ≤ 2 ^ m = pow-le-pow_right z q in
+    let d : 2 ^ (j + 1) ≡ 2 ^ j * 2 = ap (λ k. 2 ^ k) (omega arith) ∙ pow-suc 2 j in
+    omega arith
+
+pub add_sums-requires-clause-room : goal.add_sums-requires-clause-room
+add_sums-requires-clause-room c =
+    doubled c.loop-pivot.pivot-index c.args.bits c.loop-pivot.filled _ c.loop-pivot.invariant.filled c.loop-pivot.invariant.room (omega arith)
 
 pub loop-pivot-preserved : goal.loop-pivot-preserved
 loop-pivot-preserved c =

@@ -7,12 +7,12 @@ use Rattle.f2_vec.specs.Vectors.{bit}
 use Rattle.f2_matrix.proofs.BlockSums.{mask_l-drop}
 use Rattle.f2_matrix.proofs.blocks.index_at.Goals as goal
 
-few_bits : (ms : List Bool) (j : ℕ) → length ms ≤ 8 → mask_l (drop j ms) < 256
+few_bits : (ms : List Bool) (j : ℕ) → length ms ≤ 32 → mask_l (drop j ms) < 2 ^ 32
 few_bits ms j h =
     let b : mask_l (drop j ms) < 2 ^ length (drop j ms) = mask_l-lt (drop j ms) in
-    let q : length (drop j ms) ≤ 8 = omega (arith, length-drop j ms) in
+    let q : length (drop j ms) ≤ 32 = omega (arith, length-drop j ms) in
     let z : 0 < 2 = omega arith in
-    let p : 2 ^ length (drop j ms) ≤ 2 ^ 8 = pow-le-pow_right z q in
+    let p : 2 ^ length (drop j ms) ≤ 2 ^ 32 = pow-le-pow_right z q in
     omega arith
 
 -- the number with the bit before it

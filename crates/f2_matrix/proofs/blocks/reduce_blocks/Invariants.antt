@@ -21,7 +21,7 @@ decreases-loop-col-2 l = l.cols - l.col
 abbrev pub invariant-loop-col : goal.invariant-loop-col
 invariant-loop-col l = record {
   within : l.col ≤ l.cols;
-  room : IsRoomForSums l.cols l.table;
+  room : IsRoomForSums l.cols 8 l.table;
   done : IsEliminated l.cols l.settled l.col l.fn.rows l.rows;
 }
 
