@@ -1,7 +1,7 @@
 pub mod Sums
 mod Packed
 mod Lanes
-mod Moved
+pub mod Moved
 mod Cut
 mod Appended
 mod Next
