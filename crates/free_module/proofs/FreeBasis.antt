@@ -124,7 +124,7 @@ once-from ds t i j h l e =
     omega arith
 
 -- the basis from the block of generator g on
-free_basis-at : (ds : List ℤ) (t : ℤ) (g : ℕ) → g < length ds → free_basis ds t ≡ free_basis (take g ds) t ++ free_basis_from g (degree_at ds g ∷ drop (g + 1) ds) t
+pub free_basis-at : (ds : List ℤ) (t : ℤ) (g : ℕ) → g < length ds → free_basis ds t ≡ free_basis (take g ds) t ++ free_basis_from g (degree_at ds g ∷ drop (g + 1) ds) t
 free_basis-at ds t g h =
     let at : drop g ds ≡ degree_at ds g ∷ drop (g + 1) ds = drop_more ds g (pos 0) h in
     let n : 0 + length (take g ds) ≡ g = omega (arith, length-take-le g ds (omega arith)) in

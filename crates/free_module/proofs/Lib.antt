@@ -2,3 +2,4 @@ pub mod BlockSteps
 pub mod FreeBasis
 pub mod Generators
 pub mod MapRows
+pub mod TermSums

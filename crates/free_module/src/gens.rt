@@ -1,16 +1,19 @@
 //! The generators of a free module, and the module on them.
 ghost use Rattle.std.specs.Prelude.{◌≡◌, ◌≤◌, ◌<◌, ◌+◌, ◌^◌, ℕ, ℤ, pos, ◌+ℤ◌, ◌-ℤ◌, ◌≤ℤ◌, List, [], ◌∷◌, ◌++◌, Bool, length, take, drop, replicate, IfOk, OnOk, OnErr, Some, slice_get};
 ghost use Rattle.milnor_basis.specs.Exponents.{degree_of};
-ghost use Rattle.milnor_product.specs.Times.{basis_at, times_at};
+ghost use Rattle.f2_vec.specs.Vectors.{zeros};
+ghost use Rattle.milnor_product.specs.Times.{basis_at};
+ghost use Rattle.free_module.specs.Inside.Terms.{AreTerms};
 ghost use Rattle.free_module.specs.Inside.FreeLaws.{free_HasUnit, free_KeepsWidths};
 ghost use Rattle.free_module.specs.FreeModule.{IsWithinReach, degree_at, free_basis, free_width};
 ghost use Rattle.free_module.specs.Graded.{free_graded};
 
 use crate::target::Target;
+use crate::terms::{Term, add_products, with_block};
 use f2_vec::BitVec;
 use memory::Memory;
 use milnor_basis::{Basis, Exps};
-use milnor_product::{elements_at, times};
+use milnor_product::{elements_at, product};
 use std::alloc::Global;
 use std::marker::Model;
 
@@ -134,6 +137,60 @@ impl Gens {
         }
         start
     }
+
+    /// The dimension in degree `t`.
+    fn dim_in(&self, basis: &Basis, t: i64) -> u128
+        requires reach { IsWithinReach basis.now self.now t }
+        requires small { t ≤ℤ pos (2 ^ 33) }
+        requires large { pos 0 ≤ℤ (t +ℤ pos (2 ^ 33)) }
+        ensures { result ≡ free_width self.now t }
+    {
+        let mut dim = 0;
+        for degree in self.degrees() {
+            dim += elements_at(basis, t - i64::from(*degree)).len() as u128;
+        }
+        dim
+    }
+
+    /// The dimension in the degree that is `above` degrees above `t`, where it fits `usize`.
+    fn width_above(&self, basis: &Basis, t: i32, above: u32) -> Result<usize, Memory>
+        requires { IsWithinReach basis.now self.now (t +ℤ pos above) }
+        ensures { IfOk result (λ width. width ≡ free_width self.now (t +ℤ pos above)) }
+    {
+        match usize::try_from(self.dim_in(basis, i64::from(t) + i64::from(above))) {
+            Ok(width) => Ok(width),
+            // No memory holds a vector of that length.
+            Err(_) => Err(Memory),
+        }
+    }
+
+    /// The terms of `v`, a vector of degree `t`, for products with elements of degree `above`.
+    fn terms(
+        &self,
+        alloc: Global,
+        basis: &Basis,
+        above: u32,
+        t: i32,
+        v: &BitVec,
+    ) -> Result<Vec<Term>, Memory>
+        requires width { length v.now ≡ free_width self.now t }
+        requires reach { IsWithinReach basis.now self.now (t +ℤ pos above) }
+        requires fits { free_width self.now (t +ℤ pos above) < 2 ^ 64 }
+        ensures { IfOk result (λ terms. AreTerms basis.now self.now above t v.now (length v.now) terms.items) }
+    {
+        let _len = v.len();
+        let mut terms = Vec::new(alloc);
+        let mut start = 0;
+        let mut offset = 0;
+        for degree in self.degrees() {
+            let n = i64::from(t) - i64::from(*degree);
+            let elements = elements_at(basis, n);
+            terms = with_block(terms, v, start, elements, offset)?;
+            start += elements.len();
+            offset += elements_at(basis, n + i64::from(above)).len();
+        }
+        Ok(terms)
+    }
 }
 
 impl Target for Gens {
@@ -142,11 +199,7 @@ impl Target for Gens {
     ghost reaches = { λ gens max t. IsWithinReach max gens t };
 
     fn dim(&self, basis: &Basis, t: i32) -> u128 {
-        let mut dim = 0;
-        for degree in self.degrees() {
-            dim += elements_at(basis, i64::from(t) - i64::from(*degree)).len() as u128;
-        }
-        dim
+        self.dim_in(basis, i64::from(t))
     }
 
     fn act(
@@ -157,16 +210,29 @@ impl Target for Gens {
         t: i32,
         v: &BitVec,
     ) -> Result<BitVec, Memory> {
-        let mut image = BitVec::zero(alloc, 0)?;
-        let mut start = 0;
-        for degree in self.degrees() {
-            let n = i64::from(t) - i64::from(*degree);
-            let len = elements_at(basis, n).len();
-            let block = part(alloc, v, start, len)?;
-            image = append(image, &times_at(alloc, basis, r, n, &block)?)?;
-            start += len;
+        let width = self.width_above(basis, t, r.degree())?;
+        let mut image = BitVec::zero(alloc, width)?;
+        for term in &self.terms(alloc, basis, r.degree(), t, v)? {
+            image.xor_at(term.offset, &product(alloc, basis, r, &term.right)?);
         }
         Ok(image)
+    }
+
+    fn act_all(
+        &self,
+        alloc: Global,
+        basis: &Basis,
+        degree: u16,
+        t: i32,
+        v: &BitVec,
+    ) -> Result<Vec<BitVec>, Memory> {
+        let width = self.width_above(basis, t, u32::from(degree))?;
+        let mut rows = zero_rows(alloc, basis.of_degree(degree).len(), width)?;
+        for term in &self.terms(alloc, basis, u32::from(degree), t, v)? {
+            let multiples = basis.multiples(alloc, degree, &term.right)?;
+            add_products(rows.as_mut_slice(), term.offset, multiples);
+        }
+        Ok(rows)
     }
 
     ghost has_unit = { λ gens. free_HasUnit gens };
@@ -174,41 +240,13 @@ impl Target for Gens {
     ghost keeps_widths = { λ gens. free_KeepsWidths gens };
 }
 
-/// Sq(R) times a sum `v` of basis elements of degree `n`, none where that is negative.
-fn times_at(alloc: Global, basis: &Basis, r: &Exps, n: i64, v: &BitVec) -> Result<BitVec, Memory>
-    requires reach { (n +ℤ pos (degree_of r.now)) ≤ℤ pos basis.now }
-    requires width { length v.now ≡ length (basis_at n) }
-    ensures { IfOk result (λ w. w ≡ times_at r.now n v.now) }
+/// So many zero vectors of length `width`.
+fn zero_rows(alloc: Global, count: usize, width: usize) -> Result<Vec<BitVec>, Memory>
+    ensures { IfOk result (λ rows. rows.items ≡ replicate count (zeros width)) }
 {
-    // A degree of the basis fits `u16`, so `n` does where it is not negative.
-    prove!(n <= i64::from(basis.max()));
-    match u16::try_from(n) {
-        Ok(n) => times(alloc, basis, r, n, v),
-        Err(_) => BitVec::zero(alloc, elements_at(basis, n + i64::from(r.degree())).len()),
+    let mut rows = Vec::new(alloc);
+    for _ in 0..count {
+        rows.push(BitVec::zero(alloc, width)?)?;
     }
-}
-
-/// The `len` coordinates of `v` from place `start` on.
-fn part(alloc: Global, v: &BitVec, start: usize, len: usize) -> Result<BitVec, Memory>
-    requires { start + len ≤ length v.now }
-    ensures part { IfOk result (λ w. w ≡ take len (drop start v.now)) }
-    ensures fits { start + len < 2 ^ 64 }
-{
-    // A length fits `usize`, so the end of the part does.
-    prove!(start <= v.len());
-    let mut part = BitVec::zero(alloc, 0)?;
-    for i in start..start + len {
-        part.push(v.get(i))?;
-    }
-    Ok(part)
-}
-
-/// `v` with the coordinates of `more` behind its own.
-fn append(mut v: BitVec, more: &BitVec) -> Result<BitVec, Memory>
-    ensures { IfOk result (λ w. w ≡ v ++ more.now) }
-{
-    for i in 0..more.len() {
-        v.push(more.get(i))?;
-    }
-    Ok(v)
+    Ok(rows)
 }

@@ -4,6 +4,7 @@
 mod gens;
 mod laws;
 mod target;
+mod terms;
 #[cfg(test)]
 mod tests;
 

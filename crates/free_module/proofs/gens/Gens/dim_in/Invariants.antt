@@ -1,6 +1,6 @@
 use Rattle.std.proofs.Common.{◌≡◌, ◌≤◌, ◌+◌, ◌*◌, ◌^◌, length, drop}
 use Rattle.free_module.specs.FreeModule.{free_basis_from, free_width}
-use Rattle.free_module.proofs.gens.GensTarget.dim.Given as goal
+use Rattle.free_module.proofs.gens.Gens.dim_in.Given as goal
 
 abbrev pub invariant-loop-degree : goal.invariant-loop-degree
 invariant-loop-degree l = record {

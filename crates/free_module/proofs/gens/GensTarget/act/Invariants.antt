@@ -1,10 +1,11 @@
-use Rattle.std.proofs.Common.{◌≡◌, ◌+◌, ◌++◌, length, drop}
-use Rattle.free_module.specs.FreeModule.{free_basis_from}
-use Rattle.free_module.specs.Inside.FreeLaws.{blocks}
+-- The terms from `term` on are left to add.
+use Rattle.std.proofs.Common.{◌≡◌, length, drop}
+use Rattle.f2_vec.specs.Vectors.{zeros}
+use Rattle.free_module.specs.Inside.Terms.{added_to}
 use Rattle.free_module.proofs.gens.GensTarget.act.Given as goal
 
-abbrev pub invariant-loop-degree : goal.invariant-loop-degree
-invariant-loop-degree l = record {
-  room : l.start + length (free_basis_from l.degree-index (drop l.degree-index l.self) l.t) ≡ length l.v;
-  rest : l.image ++ blocks l.r (drop l.degree-index l.self) l.t (drop l.start l.v) ≡ blocks l.r l.self l.t l.v;
+abbrev pub invariant-loop-term : goal.invariant-loop-term
+invariant-loop-term l = record {
+  length : length l.image ≡ l.width;
+  rest : added_to l.image l.r (drop l.term-index l.term-items) ≡ added_to (zeros l.width) l.r l.term-items;
 }

@@ -1,0 +1,81 @@
+//! The terms of vectors of a free module, and the sums of their products.
+ghost use Rattle.std.specs.Prelude.{◌≡◌, ◌≤◌, ◌<◌, ◌+◌, ◌++◌, ℕ, false, [], length, map, drop, slice_index, slice_index_or, EachIndex, IfOk, IfSome, IsNone};
+ghost use Rattle.std.specs.List.{items_where_true};
+ghost use Rattle.f2_vec.specs.Vectors.{bit, placed, sum_of, IsNextOne};
+ghost use Rattle.f2_vec.specs.Spans.{row};
+ghost use Rattle.milnor_basis.specs.Basis.{basis_of};
+ghost use Rattle.milnor_basis.specs.Exponents.{degree_of};
+ghost use Rattle.milnor_basis.specs.Product.{product_bits};
+ghost use Rattle.free_module.specs.Inside.Terms.{term_at, turned};
+
+use f2_vec::BitVec;
+use memory::Memory;
+use milnor_basis::{Exps, Multiples};
+
+/// A basis element Sq(S) on a generator, which has a 1 in a vector.
+#[derive(Drop)]
+pub(crate) struct Term {
+    /// S.
+    pub(crate) right: Exps,
+    /// How many elements stand before those of the generator in the degree of the products.
+    pub(crate) offset: usize,
+}
+
+/// `terms`, and behind them one with this offset for each 1 of `v` among the coordinates of these elements, which begin at
+/// place `start`.
+pub(crate) fn with_block(
+    mut terms: Vec<Term>,
+    v: &BitVec,
+    start: usize,
+    elements: &[Exps],
+    offset: usize,
+) -> Result<Vec<Term>, Memory>
+    requires { start + length elements.now ≤ length v.now }
+    ensures { IfOk result (λ all. all.items ≡ terms.items ++ map (term_at offset) (items_where_true (drop start v.now) elements.now)) }
+{
+    // A length fits `usize`, so the end of the block does.
+    prove!(start <= v.len());
+    let end = start + elements.len();
+    let mut from = start;
+    while let Some(i) = one_between(v, from, end) {
+        let right = elements[i - start];
+        terms.push(Term { right, offset })?;
+        from = i + 1;
+    }
+    Ok(terms)
+}
+
+/// The first place at or after `from` and before `end` that holds a 1.
+fn one_between(v: &BitVec, from: usize, end: usize) -> Option<usize>
+    ensures none { IsNone result → (k : ℕ) → from ≤ k → k < end → bit v.now k ≡ false }
+    ensures next { IfSome result (λ p. IsNextOne v.now from p) }
+    ensures within { IfSome result (λ p. p < end) }
+{
+    match v.next_one(from) {
+        Some(place) if place < end => Some(place),
+        _ => None,
+    }
+}
+
+/// Adds to each row the product with the element at its place, moved up to place `offset`.
+pub(crate) fn add_products(rows: &mut [BitVec], offset: usize, multiples: &Multiples)
+    requires count { length rows.old ≡ length (basis_of multiples.now.degree) }
+    requires room { EachIndex rows.old (λ k. offset + length (basis_of (multiples.now.degree + degree_of multiples.now.right)) ≤ length (row rows.old k)) }
+    ensures { EachIndex rows.old (λ k. row rows.new k ≡ sum_of (row rows.old k) (placed (length (row rows.old k)) offset (product_bits (slice_index_or (basis_of multiples.now.degree) k []) multiples.now.right))) }
+{
+    for k in 0..rows.len() {
+        turn_over(&mut rows[k], offset, multiples.of(k));
+    }
+}
+
+/// Turns over the coordinates of `v` at these places, counted from `offset` on.
+fn turn_over(v: &mut BitVec, offset: usize, places: &[u16])
+    requires { EachIndex places.now (λ k. offset + slice_index places.now k < length v.old) }
+    ensures { v.new ≡ turned v.old offset places.now }
+{
+    // The length fits `usize`, so each place does.
+    let _len = v.len();
+    for place in places {
+        v.flip(offset + usize::from(*place));
+    }
+}
