@@ -6,3 +6,4 @@ pub mod RowSteps
 pub mod SphereTable
 pub mod TableSquares
 pub mod Targets
+mod SummarySteps

@@ -2,3 +2,4 @@ pub mod Chart
 pub mod Check
 pub mod Dump
 pub mod Inside
+pub mod Summary

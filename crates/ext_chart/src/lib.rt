@@ -9,6 +9,7 @@ mod lines;
 mod named_target;
 mod place;
 mod row_gens;
+mod summary_text;
 mod terms;
 #[cfg(test)]
 mod tests;
@@ -17,3 +18,4 @@ pub use chart_text::chart;
 pub use check_text::check_line;
 pub use dump_text::dump;
 pub use place::Place;
+pub use summary_text::summary;

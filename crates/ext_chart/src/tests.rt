@@ -5,7 +5,7 @@ use crate::lines::square_lines;
 use crate::named_target::NamedTarget;
 use crate::place::with_square;
 use crate::row_gens::RowGens;
-use crate::{chart, check_line, dump};
+use crate::{chart, check_line, dump, summary};
 use f2_vec::BitVec;
 use free_module::Gens;
 use memory::Memory;
@@ -112,6 +112,9 @@ fn writes_tables(rt: HostRuntime) -> Result<(), Fail> {
     assert_eq!(rt; marks.as_slice(), b" 0 |1\nstems 0..0\n".as_slice());
     let lines = dump(alloc, &table, range)?;
     assert_eq!(rt; lines.as_slice(), b"d(0,0,0) = x0\n".as_slice());
+    let text = summary(alloc, &table, range)?;
+    let want = b"module gens 1 bottom 0\nsquares 1\ngens 1\nrow 0: 1\n".as_slice();
+    assert_eq!(rt; text.as_slice(), want);
     Ok(())
 }
 

