@@ -1,7 +1,7 @@
 -- The row behind a block, cleared by it, from the parts of the rows.
-use Rattle.std.proofs.Common.{◌≡◌, ◌≢◌, ℕ, suc, ◌+◌, ◌-◌, ◌<◌, ◌≤◌, Bool, List, [], ◌∷◌, ◌++◌, length, map, take, drop, set, refl, subst, ap, sym, ◌∙◌, arith, inl, inr}
+use Rattle.std.proofs.Common.{◌≡◌, ℕ, ◌+◌, ◌-◌, ◌<◌, ◌≤◌, Bool, List, [], ◌∷◌, ◌++◌, length, map, take, drop, set, subst, ap, sym, ◌∙◌, arith, inl, inr}
 use Rattle.std.proofs.lemmas.List.{length-append, get_or_past, get_or_append_left, get_or-append_right, take_at, drop_at, append_assoc, length-map, get_or-map}
-use Rattle.std.proofs.lemmas.Bool.{cases_eq, cases_lt}
+use Rattle.std.proofs.lemmas.Bool.{cases_lt}
 use Rattle.f2_vec.specs.Vectors.{bit, IsZero}
 use Rattle.f2_vec.specs.Spans.{row, HaveWidth}
 use Rattle.f2_vec.proofs.Spans.{HaveWidth-front, HaveWidth-back}
@@ -9,7 +9,7 @@ use Rattle.f2_matrix.specs.Inside.RowOperations.{cleared}
 use Rattle.f2_matrix.specs.Inside.Blocks.{cleared_at, block_rows, IsClearedByBlock, IsPivotTaken}
 use Rattle.f2_matrix.specs.Inside.Rowwise.{IsNextCleared}
 use Rattle.f2_matrix.proofs.BlockSteps.{length-cleared_at}
-use Rattle.f2_matrix.proofs.BlockParts.{taken_from_parts, row_front, row_middle, row_at, row_back, first_and_rest, set_first}
+use Rattle.f2_matrix.proofs.BlockParts.{taken_from_parts, row_at, row_back, first_and_rest, set_first}
 use Rattle.f2_matrix.proofs.RowBlocks.{swap_same}
 
 -- the rows above a block, the block and the rows behind it

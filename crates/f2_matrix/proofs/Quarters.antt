@@ -2,11 +2,11 @@
 use Rattle.std.specs.Simd.Lanes.{mask_l}
 use Rattle.std.specs.List.{All}
 use Rattle.std.proofs.lemmas.List.Elements.{All-take, All-drop}
-use Rattle.std.proofs.Common.{◌≡◌, ℕ, zero, suc, ◌+◌, ◌*◌, ◌^◌, ◌<◌, ◌≤◌, Bool, false, List, [], ◌∷◌, ◌++◌, length, map, take, drop, get_or, refl, ap, sym, ◌∙◌, arith, min}
+use Rattle.std.proofs.Common.{◌≡◌, ℕ, ◌*◌, ◌<◌, ◌≤◌, Bool, List, [], ◌++◌, length, map, take, drop, get_or, ap, sym, ◌∙◌, arith, min}
 use Rattle.std.proofs.lemmas.List.{take-append-drop, map-append, length-map, length-take, length-drop, get_or_read}
 use Rattle.f2_vec.specs.Vectors.{sum_of, zeros, bit}
 use Rattle.f2_vec.specs.Spans.{row, HaveWidth, combination}
-use Rattle.f2_vec.proofs.Sums.{length-sum_of, sum_of-assoc, sum_of-zeros_right}
+use Rattle.f2_vec.proofs.Sums.{sum_of-assoc, sum_of-zeros_right}
 use Rattle.f2_vec.proofs.Spans.{combination-append, HaveWidth-drop}
 use Rattle.f2_vec.proofs.Combinations.{HaveWidth-take}
 use Rattle.f2_matrix.specs.Inside.Blocks.{cleared_at, HoldsSums, IsRoomForSums}

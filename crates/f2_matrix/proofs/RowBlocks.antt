@@ -1,7 +1,7 @@
 -- Rows that find their pivots in order, by blocks: what is true of the rows so far, and the steps.
-use Rattle.std.proofs.Common.{◌≡◌, ◌≢◌, ◌⊎◌, ℕ, zero, suc, ◌+◌, ◌-◌, ◌<◌, ◌≤◌, Bool, true, false, if◌then◌else◌, List, [], ◌∷◌, ◌++◌, length, map, take, drop, refl, subst, ap, sym, ◌∙◌, arith, inl, inr}
+use Rattle.std.proofs.Common.{◌≡◌, ◌≢◌, ℕ, ◌+◌, ◌-◌, ◌<◌, ◌≤◌, Bool, true, false, if◌then◌else◌, List, [], ◌∷◌, ◌++◌, length, map, refl, subst, ap, sym, ◌∙◌, arith, inl, inr}
 use Rattle.std.specs.List.{swap}
-use Rattle.std.proofs.lemmas.List.{ext_get_or, get_or_past, length-map, length_push}
+use Rattle.std.proofs.lemmas.List.{ext_get_or, get_or_past, length_push}
 use Rattle.std.proofs.lemmas.List.Edits.{length-swap}
 use Rattle.std.proofs.lemmas.Bool.{cases_lt, cases_eq, cases_order, both_ways}
 use Rattle.f2_vec.specs.Vectors.{sum_of, zeros, bit, IsZero, IsFirstOne}
@@ -13,7 +13,7 @@ use Rattle.f2_matrix.specs.Inside.Blocks.{cleared_at, block_rows, IsClearedByBlo
 use Rattle.f2_matrix.specs.Inside.Rowwise.{IsNextCleared, HavePivots}
 use Rattle.f2_matrix.proofs.Elimination.{IsFirstOne-unique}
 use Rattle.f2_matrix.proofs.RowOperations.{row-swap_left, row-swap_right, row-swap_other, IsRearranged, IsRearranged-swap, HaveWidth-rearranged, HaveSameSpan-rearranged, HaveSameSpan-trans, HaveSameSpan-refl, HaveWidth-IsClearedBy, HaveSameSpan-IsClearedBy, length-row_with_one, bit-cleared_other, bit-cleared_same}
-use Rattle.f2_matrix.proofs.BlockSteps.{row-block, length-block, HaveWidth-block, length-cleared_at, row_or_past, cleared_at_none, IsClearedByBlock-same, behind, seen_more, cleared_more, widths_more, carried_more, swapped_pivot}
+use Rattle.f2_matrix.proofs.BlockSteps.{row-block, length-block, HaveWidth-block, length-cleared_at, cleared_at_none, IsClearedByBlock-same, seen_more, cleared_more, widths_more, carried_more}
 
 -- two equal places exchanged
 pub swap_same : (xs : List (List Bool)) (a : ℕ) → a < length xs → swap xs a a ≡ xs

@@ -1,16 +1,14 @@
 -- Rows that have their pivots in any order are sorted by them.
-use Rattle.std.proofs.Common.{◌≡◌, ◌≢◌, ◌⊎◌, ℕ, zero, suc, ◌+◌, ◌-◌, ◌<◌, ◌≤◌, Bool, true, false, if◌then◌else◌, List, [], ◌∷◌, length, get_or, set, refl, subst, ap, sym, ◌∙◌, arith, inl, inr}
+use Rattle.std.proofs.Common.{◌≡◌, ◌≢◌, ℕ, ◌+◌, ◌<◌, ◌≤◌, Bool, true, false, if◌then◌else◌, List, length, get_or, set, refl, subst, ap, sym, ◌∙◌, arith, inl, inr}
 use Rattle.std.specs.List.{swap}
-use Rattle.std.proofs.lemmas.List.{get_or-set_same, get_or-set_other, length-set}
-use Rattle.std.proofs.lemmas.List.Edits.{length-swap}
+use Rattle.std.proofs.lemmas.List.{get_or-set_same, get_or-set_other}
 use Rattle.std.proofs.lemmas.Bool.{cases_lt, cases_eq, cases_order, cases_Bool, both_ways}
 use Rattle.f2_vec.specs.Vectors.{sum_of, bit, IsZero, IsFirstOne}
-use Rattle.f2_vec.specs.Spans.{row, HaveWidth}
-use Rattle.f2_matrix.specs.Echelon.{IsEchelonForm}
-use Rattle.f2_matrix.specs.Inside.RowOperations.{cleared, IsClearedBy}
+use Rattle.f2_vec.specs.Spans.{row}
+use Rattle.f2_matrix.specs.Inside.RowOperations.{IsClearedBy}
 use Rattle.f2_matrix.specs.Inside.Rowwise.{HavePivots}
-use Rattle.f2_matrix.proofs.Elimination.{IsFirstOne-unique, IsEliminated, IsEliminated-start, IsEliminated-skip, IsEliminated-settle, IsEchelonForm-from_IsEliminated}
-use Rattle.f2_matrix.proofs.RowOperations.{row-swap_left, row-swap_right, row-swap_other, HaveSameSpan-trans, HaveSameSpan-refl}
+use Rattle.f2_matrix.proofs.Elimination.{IsFirstOne-unique, IsEliminated, IsEliminated-settle}
+use Rattle.f2_matrix.proofs.RowOperations.{row-swap_left, row-swap_right, row-swap_other}
 
 -- The rows from place k up to r have their pivots, each alone in its column, and those from place r on are zero.
 pub record AreUnsorted (r k : ℕ) (rows : List (List Bool)) : Type 0 where

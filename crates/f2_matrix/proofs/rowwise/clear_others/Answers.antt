@@ -1,5 +1,5 @@
 use Rattle.std.specs.List.{All}
-use Rattle.std.proofs.Common.{◌≡◌, ◌+◌, ◌*◌, ◌<◌, ◌≤◌, ℕ, List, Bool, ◌++◌, length, map, ap, sym, ◌∙◌, arith}
+use Rattle.std.proofs.Common.{◌≡◌, ◌*◌, ◌<◌, ◌≤◌, ℕ, List, length, arith}
 use Rattle.f2_matrix.specs.Inside.Rowwise.{first_part, second_part, third_part, fourth_part, AreQuarters, with_sums}
 use Rattle.f2_matrix.proofs.Quarters.{quarters_few, with_sums_is}
 use Rattle.f2_matrix.proofs.NextParts.{parts_of_halves, width_block, cleared_from_parts}

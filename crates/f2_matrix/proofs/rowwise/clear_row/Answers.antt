@@ -1,6 +1,4 @@
-use Rattle.std.proofs.Common.{◌≡◌, ◌+◌, ◌<◌, ◌≤◌, length, sym, ◌∙◌, arith}
-use Rattle.f2_vec.specs.Vectors.{sum_of}
-use Rattle.f2_matrix.specs.Inside.Rowwise.{sum_at}
+use Rattle.std.proofs.Common.{sym, ◌∙◌, arith}
 use Rattle.f2_matrix.proofs.Quarters.{place_of_sum, sum_read, length_read, zero_at, nothing_added}
 use Rattle.f2_matrix.proofs.rowwise.clear_row.Goals as goal
 

@@ -1,7 +1,6 @@
 use Rattle.std.proofs.Common.{◌≡◌, ◌<◌, ℕ, Bool, List, [], length, map, sym, ◌∙◌, arith}
 use Rattle.std.proofs.lemmas.List.{ext_get_or, length-map, get_or-map}
 use Rattle.f2_vec.specs.Spans.{row}
-use Rattle.f2_matrix.specs.Inside.Rowwise.{with_sums}
 use Rattle.f2_matrix.proofs.rowwise.clear_rows.Goals as goal
 
 -- the rows are those that a function gives, one after another

@@ -1,9 +1,9 @@
-use Rattle.std.specs.List.{swap, All}
-use Rattle.std.proofs.Common.{◌≡◌, ℕ, ◌+◌, ◌-◌, ◌*◌, ◌<◌, ◌≤◌, Bool, [], ◌∷◌, ◌++◌, List, length, take, set, refl, ap, sym, ◌∙◌, arith, subst}
+use Rattle.std.specs.List.{swap}
+use Rattle.std.proofs.Common.{◌≡◌, ℕ, ◌+◌, ◌-◌, ◌*◌, ◌<◌, ◌≤◌, [], ◌∷◌, ◌++◌, List, length, take, set, refl, ap, sym, ◌∙◌, arith, subst}
 use Rattle.std.proofs.lemmas.List.{length-take-le, length-set, take_more_set}
 use Rattle.std.proofs.lemmas.List.Elements.{All-same, All-push}
 use Rattle.f2_matrix.specs.Inside.Rowwise.{HavePivots}
-use Rattle.f2_matrix.proofs.RowBlocks.{IsRowBlock, HavePivots-start, IsRowBlock-start, IsRowBlock-more, IsRowBlock-last, IsRowBlock-end}
+use Rattle.f2_matrix.proofs.RowBlocks.{IsRowBlock, IsRowBlock-start, IsRowBlock-more, IsRowBlock-last, IsRowBlock-end}
 use Rattle.f2_matrix.proofs.rowwise.find_pivots.Goals as goal
 
 count_is : (count bits : ℕ) (places : List ℕ) → count ≤ 4 * bits → bits ≤ 8 → length places ≡ 32 → length (take count places) ≡ count

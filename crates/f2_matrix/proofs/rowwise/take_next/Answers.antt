@@ -1,10 +1,8 @@
-use Rattle.std.proofs.Common.{◌≡◌, ◌+◌, ◌<◌, ℕ, List, Bool, [], ◌∷◌, ◌++◌, length, drop, map, set, get_or, ap, sym, ◌∙◌, arith, subst}
+use Rattle.std.proofs.Common.{◌≡◌, ◌<◌, List, Bool, [], length, map, set, get_or, ap, sym, ◌∙◌, arith}
 use Rattle.std.proofs.lemmas.List.{get_or_default, get_or-set_same}
-use Rattle.f2_vec.specs.Vectors.{IsZero, IsFirstOne}
-use Rattle.f2_vec.specs.Spans.{row, HaveWidth}
 use Rattle.f2_matrix.specs.Inside.RowOperations.{cleared}
 use Rattle.f2_matrix.specs.Inside.Blocks.{cleared_at}
-use Rattle.f2_matrix.proofs.NextParts.{AreParts, parts_of_splits, behind_front, width_block, pivot_width, taken_from_same, next_from_parts}
+use Rattle.f2_matrix.proofs.NextParts.{parts_of_splits, behind_front, width_block, pivot_width, taken_from_same}
 use Rattle.f2_matrix.proofs.rowwise.take_next.Goals as goal
 
 read_back : (back : List (List Bool)) (q f : List Bool) → 0 < length back → get_or (set back 0 q) 0 f ≡ q
