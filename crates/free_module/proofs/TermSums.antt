@@ -104,13 +104,6 @@ turned-places (true ∷ bits) i v offset h =
     ∙ sum_of-assoc v unit (placed n ((offset + i) + 1) bits)
     ∙ ap (sum_of v) (sym (placed-cons n (offset + i) true bits (omega arith)))
 
--- each place is one of the bits
-pub places_within : (bits : List Bool) (i k : ℕ) → k < length (places_from i bits) → get_or (places_from i bits) k 0 < i + length bits
-places_within [] i k h = absurd (omega arith)
-places_within (false ∷ bits) i k h = omega (arith, places_within bits (suc i) k h)
-places_within (true ∷ bits) i zero h = omega arith
-places_within (true ∷ bits) i (suc k) h = omega (arith, places_within bits (suc i) k (omega arith))
-
 pub turned-more : (v : List Bool) (offset : ℕ) (places : List ℕ) (i : ℕ) → i < length places → turned v offset (drop i places) ≡ turned (sum_of v (unit_vector (length v) (offset + get_or places i 0))) offset (drop (i + 1) places)
 turned-more v offset places i l = ap (turned v offset) (drop_more places i 0 l)
 

@@ -1,11 +1,11 @@
 -- The places of products, one product behind the other.
-use Rattle.std.proofs.Common.{◌≡◌, ℕ, suc, ◌+◌, ◌-◌, ◌<◌, ◌≤◌, Bool, true, false, cond, List, [], ◌∷◌, ◌++◌, length, map, take, drop, get_or, refl, ap, sym, subst, ◌∙◌, arith, inl, inr, length-append}
+use Rattle.std.proofs.Common.{◌≡◌, ℕ, zero, suc, ◌+◌, ◌-◌, ◌<◌, ◌≤◌, Bool, true, false, cond, List, [], ◌∷◌, ◌++◌, length, map, replicate, set, take, drop, get_or, refl, ap, sym, subst, ◌∙◌, arith, inl, inr, length-append}
 use Rattle.std.proofs.lemmas.Bool.{cases_lt}
 use Rattle.std.proofs.lemmas.List.{drop_more, drop_all, append_assoc, append-nil, get_or_append_left, get_or_push, take-append-le, drop-append-le, length-drop, length-map, get_or-map}
 use Rattle.std.proofs.Math.Seq.{drop-append_seam, take-length}
 use Rattle.milnor_basis.specs.Basis.{basis_of}
 use Rattle.milnor_basis.specs.Product.{places_from, product_places}
-use Rattle.milnor_basis.specs.Inside.Kept.{HoldFirst}
+use Rattle.milnor_basis.specs.Inside.Kept.{HoldFirst, set_at}
 
 -- one bit more
 pub places_more : (bits : List Bool) (i : ℕ) (numbers : List ℕ) (b : Bool) → i < length bits → b ≡ get_or bits i false → numbers ++ places_from i (drop i bits) ≡ (numbers ++ cond b (i ∷ []) []) ++ places_from (i + 1) (drop (i + 1) bits)
@@ -91,3 +91,36 @@ pub same_bits : {V : Type 0} (f : V → List Bool) (g : List ℕ → List Bool) 
 same_bits f g rows elements i x e l is =
     let within : i < length elements = omega (arith, ap length e, length-map rows f, length-map elements g) in
     ap f is ∙ sym (get_or-map f rows i x (f x) l) ∙ ap (λ bits. get_or bits i (f x)) e ∙ get_or-map g elements i [] (f x) within
+
+-- each place is one of the bits
+pub places_within : (bits : List Bool) (i k : ℕ) → k < length (places_from i bits) → get_or (places_from i bits) k 0 < i + length bits
+places_within [] i k h = absurd (omega arith)
+places_within (false ∷ bits) i k h = omega (arith, places_within bits (suc i) k h)
+places_within (true ∷ bits) i zero h = omega arith
+places_within (true ∷ bits) i (suc k) h = omega (arith, places_within bits (suc i) k (omega arith))
+
+pub set_at-more : (bits : List Bool) (places : List ℕ) (i : ℕ) → i < length places → set_at bits (drop i places) ≡ set_at (set bits (get_or places i 0) true) (drop (i + 1) places)
+set_at-more bits places i l = ap (set_at bits) (drop_more places i 0 l)
+
+set_front : (front : List Bool) (b c : Bool) (rest : List Bool) → set (front ++ b ∷ rest) (length front) c ≡ front ++ c ∷ rest
+set_front [] b c rest = refl
+set_front (x ∷ front) b c rest = ap (λ xs. x ∷ xs) (set_front front b c rest)
+
+-- a bit more in front
+in_front : (front rest bits : List Bool) (c : Bool) (i : ℕ) → set_at ((front ++ c ∷ []) ++ rest) (places_from i bits) ≡ (front ++ c ∷ []) ++ bits → set_at (front ++ c ∷ rest) (places_from i bits) ≡ front ++ c ∷ bits
+in_front front rest bits c i h = ap (λ xs. set_at xs (places_from i bits)) (sym (append_assoc front (c ∷ []) rest)) ∙ h ∙ append_assoc front (c ∷ []) bits
+
+-- clear bits, set at the places of some bits, are these
+set_places-from : (front bits : List Bool) (i : ℕ) → i ≡ length front → set_at (front ++ replicate (length bits) false) (places_from i bits) ≡ front ++ bits
+set_places-from front [] i e = refl
+set_places-from front (false ∷ bits) i e =
+    in_front front (replicate (length bits) false) bits false (suc i) (set_places-from (front ++ false ∷ []) bits (suc i) (omega (arith, length-append front (false ∷ []))))
+set_places-from front (true ∷ bits) i e =
+    let rest = replicate (length bits) false in
+    ap (λ k. set_at (set (front ++ false ∷ rest) k true) (places_from (suc i) bits)) e
+    ∙ ap (λ xs. set_at xs (places_from (suc i) bits)) (set_front front false true rest)
+    ∙ in_front front rest bits true (suc i) (set_places-from (front ++ true ∷ []) bits (suc i) (omega (arith, length-append front (true ∷ []))))
+
+pub set_places : (bits clear : List Bool) (n : ℕ) → clear ≡ replicate n false → n ≡ length bits → set_at clear (places_from 0 bits) ≡ bits
+set_places bits clear n e l =
+    ap (λ xs. set_at xs (places_from 0 bits)) (e ∙ ap (λ m. replicate m false) l) ∙ set_places-from [] bits 0 refl

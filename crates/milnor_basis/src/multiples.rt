@@ -1,16 +1,21 @@
 //! The products of one element with all elements of a degree, which a basis keeps as they are made.
-ghost use Rattle.std.specs.Prelude.{◌≡◌, ◌≤◌, ◌<◌, ◌+◌, ◌++◌, [], length, map, slice_index_or, IfOk, IsTrue, ◌↔◌};
+ghost use Rattle.std.specs.Prelude.{◌≡◌, ◌≤◌, ◌<◌, ◌+◌, ◌++◌, [], length, slice_index, slice_index_or, EachIndex, IfOk, IsTrue, ◌↔◌};
 ghost use Rattle.milnor_basis.specs.Exponents.{degree_of};
 ghost use Rattle.milnor_basis.specs.Basis.{basis_of};
 ghost use Rattle.milnor_basis.specs.Product.{product_bits, product_places, places_from, Factors};
+ghost use Rattle.milnor_basis.specs.Inside.Kept.{set_at};
 
 use crate::all_products::bits_of_multiples;
 use crate::basis::Basis;
 use crate::exps::Exps;
+use crate::product::{coefficients, product_degree};
 use memory::Memory;
 use once_cell::race::OnceBox;
 use std::alloc::Global;
 use std::marker::Model;
+
+/// The greatest degree of single products that are answered from those that are kept.
+const MAX_KEPT: u16 = 32;
 
 /// The products Sq(R) Sq(S) of one S with each R of a degree, seen as that degree and S.
 #[derive(Drop)]
@@ -91,6 +96,16 @@ fn with_places(mut numbers: Vec<u16>, bits: &[bool]) -> Result<Vec<u16>, Memory>
         }
     }
     Ok(numbers)
+}
+
+/// Sets the bits at these places.
+fn set_places(bits: &mut [bool], places: &[u16])
+    requires { EachIndex places.now (λ k. slice_index places.now k < length bits.old) }
+    ensures { bits.new ≡ set_at bits.old places.now }
+{
+    for place in places {
+        bits[usize::from(*place)] = true;
+    }
 }
 
 /// The cells of the products of a degree with the elements of another, by the places of these.
@@ -180,6 +195,28 @@ impl Basis {
         } else {
             Err(Memory)
         }
+    }
+
+    /// The coefficients mod 2 of the product of Sq(R) and Sq(S), as `coefficients` gives them. Where the product is of
+    /// degree 32 at most, they come from the products that are kept.
+    ///
+    /// # Errors
+    /// `Memory` if allocation fails.
+    pub fn coefficients(&self, alloc: Global, r: &Exps, s: &Exps) -> Result<Vec<bool>, Memory>
+        requires { degree_of r.now + degree_of s.now ≤ self.now }
+        ensures { IfOk result (λ bits. bits.items ≡ product_bits r.now s.now) }
+    {
+        let degree = product_degree(self, r, s);
+        if degree > MAX_KEPT {
+            return coefficients(alloc, self, r, s);
+        }
+        let Some((left, place)) = self.place(r) else {
+            unreachable!()
+        };
+        let multiples = self.multiples(alloc, left, s)?;
+        let mut bits = vec![in alloc; false; self.of_degree(degree).len()]?;
+        set_places(&mut bits, multiples.of(place));
+        Ok(bits)
     }
 }
 

@@ -252,7 +252,7 @@ pub fn terms(alloc: Global, basis: &Basis, r: &Exps, s: &Exps) -> Result<Vec<Exp
     ensures { IfOk result (λ terms. terms.items ≡ product_terms r.now s.now) }
 {
     let elements = basis.of_degree(product_degree(basis, r, s));
-    let bits = coefficients(alloc, basis, r, s)?;
+    let bits = basis.coefficients(alloc, r, s)?;
     chosen(alloc, elements, &bits)
 }
 

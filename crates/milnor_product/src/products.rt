@@ -7,7 +7,7 @@ ghost use Rattle.milnor_product.specs.Times.{basis_at, times_at};
 
 use f2_vec::BitVec;
 use memory::Memory;
-use milnor_basis::{Basis, Exps, coefficients};
+use milnor_basis::{Basis, Exps};
 use std::alloc::Global;
 
 /// The Milnor basis of degree `n`, in right lexicographic order; none where that is negative.
@@ -43,7 +43,7 @@ pub fn product(alloc: Global, basis: &Basis, r: &Exps, s: &Exps) -> Result<BitVe
     requires { degree_of r.now + degree_of s.now ≤ basis.now }
     ensures { IfOk result (λ v. v ≡ product_bits r.now s.now) }
 {
-    let odd = coefficients(alloc, basis, r, s)?;
+    let odd = basis.coefficients(alloc, r, s)?;
     let mut bits = BitVec::zero(alloc, 0)?;
     for bit in &odd {
         bits.push(*bit)?;

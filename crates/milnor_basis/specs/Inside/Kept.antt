@@ -1,5 +1,5 @@
 -- Lists of places, one behind the other.
-use Rattle.std.specs.Prelude.{◌≡◌, ℕ, ◌+◌, ◌-◌, ◌<◌, ◌≤◌, List, [], length, take, drop, slice_index, slice_index_or}
+use Rattle.std.specs.Prelude.{◌≡◌, ℕ, ◌+◌, ◌-◌, ◌<◌, ◌≤◌, Bool, true, List, [], ◌∷◌, length, take, drop, slice_index, slice_index_or, slice_set}
 use Rattle.milnor_basis.specs.Basis.{basis_of}
 use Rattle.milnor_basis.specs.Product.{product_places}
 
@@ -14,3 +14,8 @@ pub record HoldFirst (degree : ℕ) (s : List ℕ) (n : ℕ) (offsets places : L
 -- the products with S of all elements of a degree
 abbrev pub HoldProducts : ℕ → List ℕ → List ℕ → List ℕ → Type 0
 HoldProducts degree s offsets places = HoldFirst degree s (length (basis_of degree)) offsets places
+
+-- the bits, with those at these places set
+abbrev pub set_at : List Bool → List ℕ → List Bool
+set_at bits [] = bits
+set_at bits (p ∷ ps) = set_at (slice_set bits p true) ps

@@ -6,7 +6,8 @@ use Rattle.milnor_basis.specs.Basis.{basis_of}
 use Rattle.milnor_basis.specs.Exponents.{degree_of}
 use Rattle.milnor_basis.specs.Product.{product_bits}
 use Rattle.milnor_basis.proofs.Places.{basis_of-member}
-use Rattle.free_module.proofs.TermSums.{places_within, product_added, length-product, rows_done, rows_left}
+use Rattle.milnor_basis.proofs.KeptProducts.{places_within}
+use Rattle.free_module.proofs.TermSums.{product_added, length-product, rows_done, rows_left}
 use Rattle.free_module.proofs.terms.add_products.Goals as goal
 
 pub turn_over-requires : goal.turn_over-requires

@@ -1,0 +1,53 @@
+use Rattle.std.proofs.Common.{◌≡◌, ◌<◌, ◌+◌, ℕ, List, Bool, false, Some, slice_get, [], length, replicate, get_or, arith, ap, sym, ◌∙◌}
+use Rattle.std.proofs.lemmas.List.{take_at, length-map, length-replicate}
+use Rattle.std.proofs.lemmas.Option.{slice_get_within, get_or_from_slice_get}
+use Rattle.milnor_basis.specs.Basis.{basis_of}
+use Rattle.milnor_basis.specs.Exponents.{degree_of}
+use Rattle.milnor_basis.specs.Product.{coefficient, product_bits, product_places, Factors}
+use Rattle.milnor_basis.specs.Inside.Kept.{set_at}
+use Rattle.milnor_basis.proofs.KeptProducts.{places_within, set_places}
+use Rattle.milnor_basis.proofs.basis.Basis.coefficients.Goals as goal
+
+pub of-requires : goal.of-requires
+of-requires c =
+    let r : List ℕ = c.args.r.now in
+    let m : Factors = c.in_ok-multiples.multiples.now in
+    let e : m ≡ record { degree = c.in-Some.left; right = c.args.s.now } = c.in_ok-multiples.ensures in
+    let at : slice_get (basis_of c.in-Some.left) c.in-Some.place ≡ Some r = c.in-Some.ensures.place in
+    omega (arith, slice_get_within (basis_of c.in-Some.left) c.in-Some.place r at, ap (λ (f : Factors). length (basis_of f.degree)) e)
+
+pub set_places-requires : goal.set_places-requires
+set_places-requires c =
+    let r : List ℕ = c.args.r.now in
+    let s : List ℕ = c.args.s.now in
+    let m : Factors = c.in_ok-multiples.multiples.now in
+    let e : m ≡ record { degree = c.in-Some.left; right = s } = c.in_ok-multiples.ensures in
+    let at : slice_get (basis_of c.in-Some.left) c.in-Some.place ≡ Some r = c.in-Some.ensures.place in
+    let places : c.of.result.now ≡ product_places r s =
+    c.of.ensures ∙ ap (λ (f : Factors). product_places (get_or (basis_of f.degree) c.in-Some.place []) f.right) e ∙ ap (λ x. product_places x s) (get_or_from_slice_get (basis_of c.in-Some.left) c.in-Some.place r [] at)
+    in
+    let n : ℕ = length c.of_degree.result.now in
+    let clear : c.deref_mut.result.now ≡ replicate n false = c.deref_mut.ensures.value ∙ c.in_ok-bits.ensures.items_if_clones_equal (λ y e. e) in
+    let count : length c.deref_mut.result.now ≡ n = ap length clear ∙ length-replicate n false in
+    let whole : n ≡ length (product_bits r s) = ap length c.of_degree.ensures ∙ ap (λ d. length (basis_of d)) c.product_degree-degree.ensures ∙ sym (length-map (basis_of (degree_of r + degree_of s)) (coefficient r s)) in
+    λ i l.
+    let inside = places_within (product_bits r s) 0 i (omega (arith, l, ap length places)) in
+    omega (arith, ap (λ ps. get_or ps i 0) places)
+
+pub returns : goal.returns
+returns c =
+    let r : List ℕ = c.args.r.now in
+    let s : List ℕ = c.args.s.now in
+    let m : Factors = c.in_ok-multiples.multiples.now in
+    let e : m ≡ record { degree = c.in-Some.left; right = s } = c.in_ok-multiples.ensures in
+    let at : slice_get (basis_of c.in-Some.left) c.in-Some.place ≡ Some r = c.in-Some.ensures.place in
+    let places : c.of.result.now ≡ product_places r s =
+    c.of.ensures ∙ ap (λ (f : Factors). product_places (get_or (basis_of f.degree) c.in-Some.place []) f.right) e ∙ ap (λ x. product_places x s) (get_or_from_slice_get (basis_of c.in-Some.left) c.in-Some.place r [] at)
+    in
+    let n : ℕ = length c.of_degree.result.now in
+    let before : List Bool = c.deref_mut.result.now in
+    let after : List Bool = c.set_places.new.bits in
+    let clear : before ≡ replicate n false = c.deref_mut.ensures.value ∙ c.in_ok-bits.ensures.items_if_clones_equal (λ y e. e) in
+    let count : length before ≡ n = ap length clear ∙ length-replicate n false in
+    let whole : n ≡ length (product_bits r s) = ap length c.of_degree.ensures ∙ ap (λ d. length (basis_of d)) c.product_degree-degree.ensures ∙ sym (length-map (basis_of (degree_of r + degree_of s)) (coefficient r s)) in
+    take_at after _ c.in_ok-bits.bits.len (omega arith) ∙ c.set_places.ensures ∙ ap (set_at before) places ∙ set_places (product_bits r s) before n clear whole
