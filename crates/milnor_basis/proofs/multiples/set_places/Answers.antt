@@ -1,4 +1,4 @@
-use Rattle.std.proofs.Common.{drop, set, true, ap, sym, ◌∙◌, ◌+◌, arith}
+use Rattle.std.proofs.Common.{drop, set, true, ap, sym, ◌∙◌, ◌+◌}
 use Rattle.milnor_basis.specs.Inside.Kept.{set_at}
 use Rattle.milnor_basis.proofs.KeptProducts.{set_at-more}
 use Rattle.milnor_basis.proofs.multiples.set_places.Goals as goal

@@ -1,5 +1,5 @@
 -- The places from `place` on are left to set.
-use Rattle.std.proofs.Common.{◌≡◌, length, drop}
+use Rattle.std.proofs.Common.{◌≡◌, drop}
 use Rattle.milnor_basis.specs.Inside.Kept.{set_at}
 use Rattle.milnor_basis.proofs.multiples.set_places.Given as goal
 

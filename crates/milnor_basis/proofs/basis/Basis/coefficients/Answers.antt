@@ -1,4 +1,4 @@
-use Rattle.std.proofs.Common.{◌≡◌, ◌<◌, ◌+◌, ℕ, List, Bool, false, Some, slice_get, [], length, replicate, get_or, arith, ap, sym, ◌∙◌}
+use Rattle.std.proofs.Common.{◌≡◌, ◌+◌, ℕ, List, Bool, false, Some, slice_get, [], length, replicate, get_or, arith, ap, sym, ◌∙◌}
 use Rattle.std.proofs.lemmas.List.{take_at, length-map, length-replicate}
 use Rattle.std.proofs.lemmas.Option.{slice_get_within, get_or_from_slice_get}
 use Rattle.milnor_basis.specs.Basis.{basis_of}
