@@ -1,5 +1,5 @@
 -- The value of an operator by its place.
-use Rattle.std.proofs.Common.{◌≡◌, ℕ, zero, suc, ◌+◌, ◌<◌, ◌≤◌, pos, ◌+ℤ◌, Bool, Option, Some, None, option_and_then, option_copied, List, [], ◌∷◌, ◌++◌, length, map, take, get_or, refl, sym, subst, ap, ◌∙◌, inl, inr, arith, cond, ℤ, true, false, slice_get, EachIndex, IfSome, IfNone, Bor}
+use Rattle.std.proofs.Common.{◌≡◌, ℕ, zero, suc, ◌+◌, ◌^◌, ◌<◌, ◌≤◌, pos, ◌+ℤ◌, Bool, Option, Some, None, option_and_then, option_copied, List, [], ◌∷◌, ◌++◌, length, map, take, get_or, refl, sym, subst, ap, ◌∙◌, inl, inr, arith, cond, ℤ, true, false, slice_get, EachIndex, IfSome, IfNone, Bor}
 use Rattle.std.specs.List.{range_with_len}
 use Rattle.std.specs.Ordering.{int_eq}
 use Rattle.std.proofs.lemmas.Bool.Decides.{Decides-int_eq}
@@ -121,6 +121,21 @@ operators_more basis below gs operators operators' r operator h next own pushed 
       fits = h.fits;
       within = omega arith;
       widths = rw pushed (widths_more gs operators (span gs + 1) r operator next own h.widths);
+    }
+
+-- an operator that is not there has the value zero, of its width
+none_there : (w i : ℕ) (place : Option ℕ) → length (or_zeros w (option_and_then (λ p. option_and_then (λ values. slice_get values i) (slice_get {X = List (List Bool)} [] p)) place)) ≡ w
+none_there w i None = length-zeros w
+none_there w i (Some p) = length-zeros w
+
+pub no_operators : (basis : ℕ) (below : List ℕ) (gs : List Generator) (operators : List (List (List Bool))) → basis ≡ span gs → below ≡ map elements_below (range_with_len 0 (basis + 1)) → elements_below (basis + 1) < 2 ^ 64 → operators ≡ [] → AreOperators basis below (record { generators = gs; operators = operators })
+no_operators basis below gs operators greatest counts fits none =
+    record {
+      greatest = greatest;
+      counts = counts;
+      fits = fits;
+      within = rw (ap length none) (omega arith);
+      widths = rw none (λ r i. none_there (width_of gs r i) i (place_of r));
     }
 
 -- ---- what a lookup tells
