@@ -15,6 +15,8 @@ use Rattle.module_check.specs.DerivedAction.{derived_module, top}
 use Rattle.module_check.specs.Acceptance.{IsModule, AcceptedIsModule, refusal_of}
 use Rattle.module_check.specs.Graded.{ModulesAreSteenrodModules}
 use Rattle.module_check.specs.Checked.{sphere_file}
+use Rattle.module_check.specs.Sample.{sample_generators, sample_file}
+use Rattle.module_check.proofs.SampleFile.{sample_is_module, sample_by_degree}
 use Rattle.module_check.specs.ModuleLaws.{numbers_from-none}
 use Rattle.module_check.specs.declared.fault.CheckFault.{CheckFault}
 use Rattle.resolution_laws.specs.Resolution.{Content, generator_count}
@@ -25,11 +27,12 @@ use Rattle.square.specs.declared.range.Range.{Range}
 use Rattle.ext_chart.specs.Chart.{chart_text}
 use Rattle.ext_chart.specs.Check.{check_line}
 use Rattle.ext_chart.specs.Dump.{dump_text}
+use Rattle.ext_chart.specs.Summary.{summary_text}
 use Rattle.ext_run.specs.declared.words.Command.{Command}
-use Rattle.ext_run.specs.declared.words.Command.TheVariants.{Sphere, Resolve, Dump, Check}
+use Rattle.ext_run.specs.declared.words.Command.TheVariants.{Sphere, Resolve, Dump, Check, Sample}
 use Rattle.ext_run.specs.declared.failure.Failure.{Failure}
 use Rattle.ext_run.specs.declared.failure.Failure.TheVariants.{Words, Malformed as NoModuleFile, NotModule}
-use Rattle.ext_run.specs.Answer.{IsResolved, IsChart, IsDump, IsLineOn, IsModuleAnswer, no_file, no_module, text_of, IsAnswerTo, Reads}
+use Rattle.ext_run.specs.Answer.{IsResolved, IsChart, IsDump, IsSummary, IsLineOn, IsModuleAnswer, no_file, no_module, text_of, IsAnswerTo, Reads}
 use Rattle.ext_run.specs.Words.{command_of}
 use Rattle.ext_run.specs.Existence.{IsDescribed, AnswerExists}
 
@@ -66,6 +69,11 @@ dump_exists : Laws → (range : Range) (m : SteenrodModule) → IsModule m → N
 dump_exists laws range m is order =
     let table = table_exists laws range m is order in
     (dump_text m.generators range.s range.t table.0, record { table = table.0; resolved = table.1; dump = refl })
+
+summary_exists : Laws → (range : Range) (m : SteenrodModule) → IsModule m → NeverFall m.generators → (text : List ℕ) × IsSummary range m text
+summary_exists laws range m is order =
+    let table = table_exists laws range m is order in
+    (summary_text (length m.generators) (bottom m.generators) range.s range.t (generator_count table.0), record { table = table.0; resolved = table.1; summary = refl })
 
 line_exists : (m : SteenrodModule) → IsModule m → NeverFall m.generators → (text : List ℕ) × IsLineOn m text
 line_exists m is order = (check_line (length m.generators) (bottom m.generators) (top m.generators), refl)
@@ -112,6 +120,10 @@ to_command laws (Sphere common) bytes file =
 to_command laws (Resolve common) bytes file = let d = file tt in of_bytes laws.accepted (IsChart common.range) (chart_exists laws common.range) bytes d.file d.is_file
 to_command laws (Dump common) bytes file = let d = file tt in of_bytes laws.accepted (IsDump common.range) (dump_exists laws common.range) bytes d.file d.is_file
 to_command laws Check bytes file = let d = file tt in of_bytes laws.accepted IsLineOn line_exists bytes d.file d.is_file
+to_command laws (Sample n common) bytes file =
+    let order : NeverFall (sample_generators n) = (sample_by_degree n).ordered in
+    let x = summary_exists laws common.range (derived_module (sample_file n)) (sample_is_module n) order in
+    (Ok x.0, x.1)
 
 to_words : Laws → (command : Option Command) (bytes : List ℕ) → (MatchOption command ⊥ Reads → IsDescribed bytes) → (answer : Result (List ℕ) Failure) × MatchOption command (answer ≡ Err Words) (λ c. IsAnswerTo c bytes answer)
 to_words laws None bytes file = (Err Words, refl)

@@ -1,5 +1,5 @@
 -- The words have one answer for the same input: bytes describe one thing, and a range has one canonical resolution.
-use Rattle.std.proofs.Common.{◌≡◌, ℕ, List, ap, sym, subst, ◌∙◌}
+use Rattle.std.proofs.Common.{◌≡◌, ℕ, List, length, ap, sym, subst, ◌∙◌}
 use Rattle.std.specs.Prelude.{Option, Some, None, MatchOption, Result, Ok, Err}
 use Rattle.module_json.specs.ModuleFile.{File, IsFileOf, FileIsUnique}
 use Rattle.module_json.specs.declared.malformed.Malformed.{Malformed}
@@ -7,9 +7,10 @@ use Rattle.module_check.specs.Module.{Module as SteenrodModule, bottom}
 use Rattle.module_check.specs.DerivedAction.{derived_module}
 use Rattle.module_check.specs.Acceptance.{refusal_of}
 use Rattle.module_check.specs.Checked.{sphere_file}
+use Rattle.module_check.specs.Sample.{sample_file}
 use Rattle.module_check.specs.declared.fault.CheckFault.{CheckFault}
 use Rattle.ext_run.specs.declared.words.Command.{Command}
-use Rattle.ext_run.specs.declared.words.Command.TheVariants.{Sphere, Resolve, Dump, Check}
+use Rattle.ext_run.specs.declared.words.Command.TheVariants.{Sphere, Resolve, Dump, Check, Sample}
 use Rattle.ext_run.specs.declared.failure.Failure.{Failure}
 use Rattle.ext_run.specs.declared.failure.Failure.TheVariants.{Words}
 use Rattle.resolution_laws.specs.Resolution.{Content, generator_count, CanonicalTableIsUnique}
@@ -17,8 +18,9 @@ use Rattle.square.specs.Squares.{module_over}
 use Rattle.square.specs.declared.range.Range.{Range}
 use Rattle.ext_chart.specs.Chart.{chart_text}
 use Rattle.ext_chart.specs.Dump.{dump_text}
+use Rattle.ext_chart.specs.Summary.{summary_text}
 use Rattle.ext_run.specs.Words.{command_of}
-use Rattle.ext_run.specs.Answer.{IsResolved, IsChart, IsDump, IsLineOn, IsModuleAnswer, no_file, no_module, text_of, IsAnswerTo, AnswerIsUnique}
+use Rattle.ext_run.specs.Answer.{IsResolved, IsChart, IsDump, IsSummary, IsLineOn, IsModuleAnswer, no_file, no_module, text_of, IsAnswerTo, AnswerIsUnique}
 
 -- two texts that a function makes of two tables of one module and range
 same-text : CanonicalTableIsUnique → (range : Range) (m : SteenrodModule) (text : List (List Content) → List ℕ) (a b : List (List Content)) (x y : List ℕ) → IsResolved range m a → IsResolved range m b → x ≡ text a → y ≡ text b → x ≡ y
@@ -30,6 +32,10 @@ chart-unique unique range m x y a b =
 
 dump-unique : CanonicalTableIsUnique → (range : Range) (m : SteenrodModule) (x y : List ℕ) → IsDump range m x → IsDump range m y → x ≡ y
 dump-unique unique range m x y a b = same-text unique range m (dump_text m.generators range.s range.t) a.table b.table x y a.resolved b.resolved a.dump b.dump
+
+summary-unique : CanonicalTableIsUnique → (range : Range) (m : SteenrodModule) (x y : List ℕ) → IsSummary range m x → IsSummary range m y → x ≡ y
+summary-unique unique range m x y a b =
+    same-text unique range m (λ table. summary_text (length m.generators) (bottom m.generators) range.s range.t (generator_count table)) a.table b.table x y a.resolved b.resolved a.summary b.summary
 
 -- the kinds of answers differ
 file_and_refusal : FileIsUnique → (bytes : List ℕ) (f : File) (e : Malformed) → IsFileOf bytes (Ok f) → IsFileOf bytes (Err e) → ⊥
@@ -79,6 +85,9 @@ answer-to-unique unique files (Sphere common) bytes (Err e) b p q = absurd p
 answer-to-unique unique files (Resolve common) bytes a b p q = module-answer-unique files (IsChart common.range) (chart-unique unique common.range) bytes a b p q
 answer-to-unique unique files (Dump common) bytes a b p q = module-answer-unique files (IsDump common.range) (dump-unique unique common.range) bytes a b p q
 answer-to-unique unique files Check bytes a b p q = module-answer-unique files IsLineOn (λ m x y s t. s ∙ sym t) bytes a b p q
+answer-to-unique unique files (Sample n common) bytes (Ok x) (Ok y) p q = let text = summary-unique unique common.range (derived_module (sample_file n)) x y p q in cc
+answer-to-unique unique files (Sample n common) bytes (Ok x) (Err e) p q = absurd q
+answer-to-unique unique files (Sample n common) bytes (Err e) b p q = absurd p
 
 answer-of-unique : CanonicalTableIsUnique → FileIsUnique → (command : Option Command) (bytes : List ℕ) (a b : Result (List ℕ) Failure) → MatchOption command (a ≡ Err Words) (λ c. IsAnswerTo c bytes a) → MatchOption command (b ≡ Err Words) (λ c. IsAnswerTo c bytes b) → a ≡ b
 answer-of-unique unique files None bytes a b p q = p ∙ sym q

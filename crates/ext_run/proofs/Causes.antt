@@ -16,7 +16,7 @@ use Rattle.module_check.specs.Acceptance.{refusal_of}
 use Rattle.module_check.specs.declared.fault.CheckFault.{CheckFault}
 use Rattle.module_check.specs.declared.fault.CheckFault.TheVariants.{Listed, Relation, Memory as NoMemory}
 use Rattle.ext_run.specs.declared.words.Command.{Command}
-use Rattle.ext_run.specs.declared.words.Command.TheVariants.{Sphere, Resolve, Dump, Check}
+use Rattle.ext_run.specs.declared.words.Command.TheVariants.{Sphere, Resolve, Dump, Check, Sample}
 use Rattle.ext_run.specs.declared.failure.Failure.{Failure}
 use Rattle.ext_run.specs.declared.failure.Failure.TheVariants.{Words, Malformed as NoModuleFile, NotModule, Reading, Writing, Memory}
 use Rattle.ext_run.specs.Words.{command_of}
@@ -54,6 +54,7 @@ words_refused (Some (Sphere common)) bytes a e p = absurd (subst (IsAnswerTo (Sp
 words_refused (Some (Resolve common)) bytes a e p = absurd (not_words (IsChart common.range) bytes a p e)
 words_refused (Some (Dump common)) bytes a e p = absurd (not_words (IsDump common.range) bytes a p e)
 words_refused (Some Check) bytes a e p = absurd (not_words IsLineOn bytes a p e)
+words_refused (Some (Sample n common)) bytes a e p = absurd (subst (IsAnswerTo (Sample n common) bytes) e p)
 
 -- ---- the size of a file
 
@@ -77,6 +78,7 @@ answer_fits (Some (Sphere common)) bytes text r p = absurd r
 answer_fits (Some (Resolve common)) bytes text r p = module_fits (IsChart common.range) bytes text (Ok text) p refl
 answer_fits (Some (Dump common)) bytes text r p = module_fits (IsDump common.range) bytes text (Ok text) p refl
 answer_fits (Some Check) bytes text r p = module_fits IsLineOn bytes text (Ok text) p refl
+answer_fits (Some (Sample n common)) bytes text r p = absurd r
 
 -- drop at a variable: numerals stay folded
 all_dropped : (n m : ℕ) (l : List ℕ) → length l ≤ n → n ≤ m → drop m l ≡ []
@@ -260,6 +262,7 @@ answerable_failure left (Some (Sphere common)) bytes a failure e all has p = sub
 answerable_failure left (Some (Resolve common)) bytes a failure e all has p = accepted_failure (IsChart common.range) left bytes a failure e all has p
 answerable_failure left (Some (Dump common)) bytes a failure e all has p = accepted_failure (IsDump common.range) left bytes a failure e all has p
 answerable_failure left (Some Check) bytes a failure e all has p = accepted_failure IsLineOn left bytes a failure e all has p
+answerable_failure left (Some (Sample n common)) bytes a failure e all has p = subst (IsAnswerTo (Sample n common) bytes) e p
 
 pub complete : (words : List (List ℕ)) (left : Option (List ℕ)) (failure : Failure) → IsCauseFrom words left failure → (failure ≡ Reading → ⊥) → (failure ≡ Writing → ⊥) → IsComplete words left (status_of failure)
 complete words left Words p r w has = absurd (answerable_failure left (command_of words) p.bytes (Err Words) Words refl p.all has p.holds)

@@ -29,12 +29,12 @@ abbrev pub rest_fault : Shape → Walk → List Text → Kinds
 rest_fault s w words = or_else (walk_fault s [] w words) (end_fault s (fold (walked s.rules []) w words).held)
 
 -- the walk goes on behind a word that goes to a positional
-record GoesOn (s : Shape) (w : Walk) (word : Text) (rest : List Text) : Type 0 where
-  fault : rest_fault s w (word ∷ rest) ≡ or_else (step_fault s w.position w.held value) (rest_fault s (to_positional s.rules (arg_by_index s.rules w.position) word w w.held) rest)
-  ends : fold (walked s.rules []) w (word ∷ rest) ≡ fold (walked s.rules []) (to_positional s.rules (arg_by_index s.rules w.position) word w w.held) rest
+pub record GoesOn (s : Shape) (w : Walk) (word : Text) (rest : List Text) : Type 0 where
+  pub fault : rest_fault s w (word ∷ rest) ≡ or_else (step_fault s w.position w.held value) (rest_fault s (to_positional s.rules (arg_by_index s.rules w.position) word w w.held) rest)
+  pub ends : fold (walked s.rules []) w (word ∷ rest) ≡ fold (walked s.rules []) (to_positional s.rules (arg_by_index s.rules w.position) word w w.held) rest
 
 -- one more word is refused, and is no number, or the walk goes on
-next-word : (s : Shape) → HasNoOption s.rules → (word : Text) (rest : List Text) (rows : List Row) (pending : Option (Text × List Text)) (position : ℕ) → bytes_eq word (45 ∷ 45 ∷ []) ≡ false →
+pub next-word : (s : Shape) → HasNoOption s.rules → (word : Text) (rest : List Text) (rows : List Row) (pending : Option (Text × List Text)) (position : ℕ) → bytes_eq word (45 ∷ 45 ∷ []) ≡ false →
     (Fails (rest_fault s (at rows pending position) (word ∷ rest)) × IsNoNumber word) ⊎ GoesOn s (at rows pending position) word rest
 unfolding walk_fault
 next-word s none word rest rows pending position no_dashes =

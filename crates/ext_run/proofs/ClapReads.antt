@@ -14,14 +14,15 @@ use Rattle.clap.proofs.FaultLemmas.{stopped_fault}
 use Rattle.ext_run.specs.declared.words.Common.{Common}
 use Rattle.ext_run.specs.declared.words.Command.{Command}
 use Rattle.ext_run.specs.declared.words.Command.TheVariants.{Sphere, Resolve, Dump, Check}
-use Rattle.ext_run.specs.Words.{common_of, command_of}
+use Rattle.ext_run.specs.Words.{common_of, sample_of, command_of}
 use Rattle.ext_run.specs.CommandLine.{command_line, command_in}
 use Rattle.ext_run.proofs.ClapWords.{Fails, fails-first, fails-as, word-turn}
+use Rattle.ext_run.proofs.ClapSample.{sample_leaf, sample_after, sample_walk, refuses_sample, reads_sample, reads-sample-words}
 use Rattle.ext_run.proofs.ClapLevels.{refuses, reads, reads-range, bare-none, bare-more, bare_leaf, range_leaf, top, start, rest_fault, has_dashes, first-plain, common_after, walk_over}
 
 -- the command line as it is built
 abbrev ready : App
-ready = record { top = top; subs = range_leaf (codes "sphere") ∷ range_leaf (codes "resolve") ∷ range_leaf (codes "dump") ∷ bare_leaf (codes "check") ∷ [] }
+ready = record { top = top; subs = range_leaf (codes "sphere") ∷ range_leaf (codes "resolve") ∷ range_leaf (codes "dump") ∷ bare_leaf (codes "check") ∷ sample_leaf ∷ [] }
 
 -- `clap` refuses the words, which give no command, or its matches give the command
 pub data Reads (words : List Text) : Type 0 where
@@ -93,6 +94,16 @@ check-matches : (words : List Text) → command_in (subcommand_of command_line (
 unfolding walked
 check-matches words = ap (λ (w : Walk). command_in (entered ready w.stopped)) (after-name (codes "check") words)
 
+-- ---- the command with the words N, S and T
+
+sample-fault : (words : List Text) → fault_of command_line (codes "sample" ∷ words) ≡ rest_fault sample_leaf start words
+unfolding walk_fault walked defaults_fault
+sample-fault words = named-fault (codes "sample") words ∙ or_else-nil (rest_fault sample_leaf start words)
+
+sample-matches : (words : List Text) → command_in (subcommand_of command_line (codes "sample" ∷ words)) ≡ sample_after (sample_walk words)
+unfolding walked
+sample-matches words = ap (λ (w : Walk). command_in (entered ready w.stopped)) (after-name (codes "sample") words)
+
 -- ---- the words, by the first of them
 
 reads-nothing : Reads []
@@ -109,12 +120,18 @@ reads-check : (words : List Text) → has_dashes words ≡ false → Reads (code
 reads-check [] plain = read_words (check-fault [] ∙ bare-none (codes "check")) (check-matches [])
 reads-check (word ∷ words) plain = refused_words (fails-as _ _ (check-fault (word ∷ words)) (bare-more (codes "check") word words plain)) refl
 
+reads-sample : (words : List Text) → has_dashes words ≡ false → Reads (codes "sample" ∷ words)
+reads-sample words plain = elim (reads-sample-words words plain) [
+  | refuses_sample fails none ↦ refused_words (fails-as _ _ (sample-fault words) fails) none
+  | reads_sample passes is ↦ read_words (sample-fault words ∙ passes) (sample-matches words ∙ is)
+]
+
 -- a first word that is no command
-reads-other : (word : Text) (words : List Text) → bytes_eq word (45 ∷ 45 ∷ []) ≡ false → bytes_eq (codes "sphere") word ≡ false → bytes_eq (codes "resolve") word ≡ false → bytes_eq (codes "dump") word ≡ false → bytes_eq (codes "check") word ≡ false → Reads (word ∷ words)
+reads-other : (word : Text) (words : List Text) → bytes_eq word (45 ∷ 45 ∷ []) ≡ false → bytes_eq (codes "sphere") word ≡ false → bytes_eq (codes "resolve") word ≡ false → bytes_eq (codes "dump") word ≡ false → bytes_eq (codes "check") word ≡ false → bytes_eq (codes "sample") word ≡ false → Reads (word ∷ words)
 unfolding walk_fault
-reads-other word words plain sphere resolve dump check =
-    let unnamed : subcommand_met (names_of ready) idle word ≡ None = rw (sphere, resolve, dump, check) refl in
-    let none : command_of (word ∷ words) ≡ None = rw (sphere, resolve, dump, check) refl in
+reads-other word words plain sphere resolve dump check sample =
+    let unnamed : subcommand_met (names_of ready) idle word ≡ None = rw (sphere, resolve, dump, check, sample) refl in
+    let none : command_of (word ∷ words) ≡ None = rw (sphere, resolve, dump, check, sample) refl in
     elim (word-turn top (record { no_long = λ _. refl; no_short = λ _. refl }) (names_of ready) word [] None 1 unnamed plain) [
       | inl fails ↦ refused_words (fails-first _ _ (fails-first _ _ fails.0)) none
       | inr passes ↦ refused_words (fails-first _ _ (fails-first _ _ (fails-as _ _ passes.0 (record { first = UnknownArgument; others = InvalidSubcommand ∷ []; is = refl })))) none
@@ -124,18 +141,19 @@ reads-other word words plain sphere resolve dump check =
 same-name : (name word : Text) (words : List Text) → bytes_eq name word ≡ true → Reads (name ∷ words) → Reads (word ∷ words)
 same-name name word words same = subst (λ (w : Text). Reads (w ∷ words)) ((bytes_eq-Decides name word).0 same)
 
-by-name : (word : Text) (words : List Text) (sphere resolve dump check : Bool) → bytes_eq (codes "sphere") word ≡ sphere → bytes_eq (codes "resolve") word ≡ resolve → bytes_eq (codes "dump") word ≡ dump → bytes_eq (codes "check") word ≡ check → bytes_eq word (45 ∷ 45 ∷ []) ≡ false → has_dashes words ≡ false → Reads (word ∷ words)
-by-name word words true resolve dump check s r d c plain more = same-name (codes "sphere") word words s (reads-numbers (codes "sphere") Sphere is_sphere words more)
-by-name word words false true dump check s r d c plain more = same-name (codes "resolve") word words r (reads-numbers (codes "resolve") Resolve is_resolve words more)
-by-name word words false false true check s r d c plain more = same-name (codes "dump") word words d (reads-numbers (codes "dump") Dump is_dump words more)
-by-name word words false false false true s r d c plain more = same-name (codes "check") word words c (reads-check words more)
-by-name word words false false false false s r d c plain more = reads-other word words plain s r d c
+by-name : (word : Text) (words : List Text) (sphere resolve dump check sample : Bool) → bytes_eq (codes "sphere") word ≡ sphere → bytes_eq (codes "resolve") word ≡ resolve → bytes_eq (codes "dump") word ≡ dump → bytes_eq (codes "check") word ≡ check → bytes_eq (codes "sample") word ≡ sample → bytes_eq word (45 ∷ 45 ∷ []) ≡ false → has_dashes words ≡ false → Reads (word ∷ words)
+by-name word words true resolve dump check sample s r d c x plain more = same-name (codes "sphere") word words s (reads-numbers (codes "sphere") Sphere is_sphere words more)
+by-name word words false true dump check sample s r d c x plain more = same-name (codes "resolve") word words r (reads-numbers (codes "resolve") Resolve is_resolve words more)
+by-name word words false false true check sample s r d c x plain more = same-name (codes "dump") word words d (reads-numbers (codes "dump") Dump is_dump words more)
+by-name word words false false false true sample s r d c x plain more = same-name (codes "check") word words c (reads-check words more)
+by-name word words false false false false true s r d c x plain more = same-name (codes "sample") word words x (reads-sample words more)
+by-name word words false false false false false s r d c x plain more = reads-other word words plain s r d c x
 
 pub clap-reads : (words : List Text) → has_dashes words ≡ false → Reads words
 clap-reads [] plain = reads-nothing
 clap-reads (word ∷ words) plain =
     let parts = first-plain word words plain in
-    by-name word words (bytes_eq (codes "sphere") word) (bytes_eq (codes "resolve") word) (bytes_eq (codes "dump") word) (bytes_eq (codes "check") word) refl refl refl refl parts.0 parts.1
+    by-name word words (bytes_eq (codes "sphere") word) (bytes_eq (codes "resolve") word) (bytes_eq (codes "dump") word) (bytes_eq (codes "check") word) (bytes_eq (codes "sample") word) refl refl refl refl refl parts.0 parts.1
 
 -- the matches of words that are taken give their command
 pub taken-reads : (words : List Text) → has_dashes words ≡ false → fault_of command_line words ≡ [] → command_in (subcommand_of command_line words) ≡ command_of words

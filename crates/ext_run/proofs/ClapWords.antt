@@ -11,7 +11,7 @@ use Rattle.clap.specs.Kinds.{Kinds, or_else}
 use Rattle.clap.specs.Faults.{flags_fault, bundle_step_fault, bundle_fault, short_fault, long_fault, flag_word_fault, word_fault, step_fault, turn_fault}
 use Rattle.clap.specs.declared.error.kind.ErrorKind.{ErrorKind}
 use Rattle.clap.specs.declared.error.kind.ErrorKind.TheVariants.{UnknownArgument}
-use Rattle.ext_run.specs.Words.{number_up_to, decimal_value}
+use Rattle.ext_run.specs.Words.{number_up_to, decimal_value, seed_of}
 
 -- there is an error
 pub record Fails (kinds : Kinds) : Type 0 where
@@ -28,6 +28,7 @@ fails-as a b e fails = record { first = fails.first; others = fails.others; is =
 -- no number begins with a hyphen
 pub record IsNoNumber (word : Text) : Type 0 where
   pub none : (limit : ℕ) → number_up_to limit word ≡ None
+  pub no_seed : seed_of word ≡ None
 
 never : (a b c : Bool) → ((a && (b && false)) && c) ≡ false
 never false b c = refl
@@ -35,7 +36,7 @@ never true false c = refl
 never true true c = refl
 
 pub no-number : (xs : Text) → IsNoNumber (45 ∷ xs)
-no-number xs = record { none = λ limit. rw (never (nat_lt 0 (length (45 ∷ xs))) (nat_le (length (45 ∷ xs)) 3) (nat_le (decimal_value (45 ∷ xs)) limit)) refl }
+no-number xs = record { none = λ limit. rw (never (nat_lt 0 (length (45 ∷ xs))) (nat_le (length (45 ∷ xs)) 3) (nat_le (decimal_value (45 ∷ xs)) limit)) refl; no_seed = rw (never (nat_lt 0 (length (45 ∷ xs))) (nat_le (length (45 ∷ xs)) 10) (nat_le (decimal_value (45 ∷ xs)) 4294967295)) refl }
 
 hyphen : (x : ℕ) (xs : Text) (b : Bool) → (x == 45) ≡ b → (strip_byte 45 (x ∷ xs) ≡ None) ⊎ IsNoNumber (x ∷ xs)
 hyphen x xs true e = inr (subst (λ (y : ℕ). IsNoNumber (y ∷ xs)) (sym (eqb-true x 45 e)) (no-number xs))

@@ -19,12 +19,12 @@ differs : (a b : Text) (same : Bool) → bytes_eq a b ≡ same → (b ≢ a) →
 differs a b true e distinct = absurd (distinct (sym ((bytes_eq-Decides a b).0 e)))
 differs a b false e distinct = e
 
-no-name : (found : Option (Text × List Row)) (name : Text) → Some name ≡ option_map (λ p. p.0) found → (name ≢ codes "sphere") → (name ≢ codes "resolve") → (name ≢ codes "dump") → (name ≢ codes "check") → command_in found ≡ None
-no-name None name is s r d c = absurd (cc)
-no-name (Some p) name is s r d c =
+no-name : (found : Option (Text × List Row)) (name : Text) → Some name ≡ option_map (λ p. p.0) found → (name ≢ codes "sphere") → (name ≢ codes "resolve") → (name ≢ codes "dump") → (name ≢ codes "check") → (name ≢ codes "sample") → command_in found ≡ None
+no-name None name is s r d c x = absurd (cc)
+no-name (Some p) name is s r d c x =
     let same : name ≡ p.0 = cc in
     let other = λ (t : Text) (distinct : name ≢ t). differs t p.0 (bytes_eq t p.0) refl (λ e. distinct (same ∙ e)) in
-    rw (other (codes "sphere") s, other (codes "resolve") r, other (codes "dump") d, other (codes "check") c) refl
+    rw (other (codes "sphere") s, other (codes "resolve") r, other (codes "dump") d, other (codes "check") c, other (codes "sample") x) refl
 
-pub other-name : (m : ArgMatches) (name : Text) → Some name ≡ subcommand_name_of m → (name ≢ codes "sphere") → (name ≢ codes "resolve") → (name ≢ codes "dump") → (name ≢ codes "check") → command_in (subcommand_rows_of m) ≡ None
+pub other-name : (m : ArgMatches) (name : Text) → Some name ≡ subcommand_name_of m → (name ≢ codes "sphere") → (name ≢ codes "resolve") → (name ≢ codes "dump") → (name ≢ codes "check") → (name ≢ codes "sample") → command_in (subcommand_rows_of m) ≡ None
 other-name m name is = no-name (subcommand_rows_of m) name (is ∙ sym (named-rows m))

@@ -4,8 +4,9 @@ use Rattle.std.specs.Prelude.{Option, Some, None, MatchOption, IfSome, Result, O
 use Rattle.module_check.specs.Module.{Module as SteenrodModule}
 use Rattle.module_check.specs.DerivedAction.{derived_module}
 use Rattle.module_check.specs.Checked.{sphere_file}
+use Rattle.module_check.specs.Sample.{sample_file}
 use Rattle.ext_run.specs.declared.words.Command.{Command}
-use Rattle.ext_run.specs.declared.words.Command.TheVariants.{Sphere, Resolve, Dump, Check}
+use Rattle.ext_run.specs.declared.words.Command.TheVariants.{Sphere, Resolve, Dump, Check, Sample}
 use Rattle.ext_run.specs.declared.words.Common.{Common}
 use Rattle.ext_run.specs.declared.failure.Failure.{Failure}
 use Rattle.ext_run.specs.declared.failure.Failure.TheVariants.{Words, Malformed as NoModuleFile, NotModule, Reading, Writing, Memory}
@@ -14,7 +15,7 @@ use Rattle.ext_run.specs.declared.words.WordsFault.TheVariants.{Words as Outside
 use Rattle.ext_run.specs.Failure.{words_failure}
 use Rattle.ext_run.specs.Words.{command_of}
 use Rattle.ext_run.specs.Input.{IsFileCauseFrom, IsModuleFrom}
-use Rattle.ext_run.specs.Answer.{IsAnswer, IsAnswerTo, IsAnswerFrom, IsCauseFrom, Reads, WordsRead, IsChart, IsDump, IsLineOn, IsModuleAnswer, no_file, no_module, text_of, IsCommandAnswerFrom, IsCommandCauseFrom}
+use Rattle.ext_run.specs.Answer.{IsAnswer, IsAnswerTo, IsAnswerFrom, IsCauseFrom, Reads, WordsRead, IsChart, IsDump, IsSummary, IsLineOn, IsModuleAnswer, no_file, no_module, text_of, IsCommandAnswerFrom, IsCommandCauseFrom}
 
 -- some bytes, and all that is left where that is told
 bytes_of : Option (List ℕ) → List ℕ
@@ -31,6 +32,13 @@ sphere_answer common left m text e p = record {
   bytes = bytes_of left;
   all = all_of left;
   holds = subst (λ (n : SteenrodModule). IsChart common.range n text) e p;
+}
+
+pub sample_answer : (n : ℕ) (common : Common) (left : Option (List ℕ)) (m : SteenrodModule) (text : List ℕ) → m ≡ derived_module (sample_file n) → IsSummary common.range m text → IsCommandAnswerFrom (Sample n common) left (Ok text)
+sample_answer n common left m text e p = record {
+  bytes = bytes_of left;
+  all = all_of left;
+  holds = subst (λ (x : SteenrodModule). IsSummary common.range x text) e p;
 }
 
 -- ---- the commands that read a module

@@ -3,6 +3,7 @@ mod AnswerUnique
 mod Joined
 mod ClapLevels
 mod ClapReads
+mod ClapSample
 mod ClapWords
 mod CommandNames
 mod Commands

@@ -1,5 +1,5 @@
 -- The table that is resolved, cut to its range, is the module's canonical resolution, and the texts are of that.
-use Rattle.std.proofs.Common.{◌≡◌, ℕ, ◌+◌, List, take, sym, ◌∙◌, ap, arith}
+use Rattle.std.proofs.Common.{◌≡◌, ℕ, ◌+◌, List, length, take, sym, ◌∙◌, ap, arith}
 use Rattle.std.proofs.lemmas.List.{take-take}
 use Rattle.module_check.specs.Module.{bottom}
 use Rattle.module_check.specs.Checked.{Checked}
@@ -14,8 +14,9 @@ use Rattle.resolution_step.specs.Alone.{cut}
 use Rattle.resolution_step.proofs.Canonical.{row_of-cut}
 use Rattle.ext_chart.specs.Chart.{chart_text}
 use Rattle.ext_chart.specs.Dump.{dump_text}
-use Rattle.ext_chart.proofs.Agreement.{AgreeThrough, chart_text-agree, dump_text-agree}
-use Rattle.ext_run.specs.Answer.{IsResolved, IsChart, IsDump}
+use Rattle.ext_chart.specs.Summary.{summary_text}
+use Rattle.ext_chart.proofs.Agreement.{AgreeThrough, chart_text-agree, dump_text-agree, summary_text-agree}
+use Rattle.ext_run.specs.Answer.{IsResolved, IsChart, IsDump, IsSummary}
 
 pub is_resolved : CanonicalTableIsMinimalResolution → ModulesAreSteenrodModules → (range : Range) (m : Checked) (table : List (List Content)) → IsCanonicalTable (module_over m.plain) range.s range.t table → IsResolved range m.plain table
 is_resolved minimal modules range m table canonical = record {
@@ -45,4 +46,13 @@ is_dump range m table text same resolved holds is = record {
   dump = is
       ∙ dump_text-agree range.s range.t (plain_rows table.rows) (cut range (plain_rows table.rows)) (cut-agrees range table holds) table.resolved.plain.generators
       ∙ ap (λ (c : Checked). dump_text c.plain.generators range.s range.t (cut range (plain_rows table.rows))) same;
+}
+
+pub is_summary : (range : Range) (m : Checked) (table : Staircase) (text : List ℕ) → table.resolved ≡ m → IsResolved range m.plain (cut range (plain_rows table.rows)) → IsThrough range table.rows → text ≡ summary_text (length table.resolved.plain.generators) (bottom table.resolved.plain.generators) range.s range.t (generator_count (plain_rows table.rows)) → IsSummary range m.plain text
+is_summary range m table text same resolved holds is = record {
+  table = cut range (plain_rows table.rows);
+  resolved = resolved;
+  summary = is
+      ∙ summary_text-agree range.s range.t (plain_rows table.rows) (cut range (plain_rows table.rows)) (cut-agrees range table holds) (length table.resolved.plain.generators) (bottom table.resolved.plain.generators)
+      ∙ ap (λ (c : Checked). summary_text (length c.plain.generators) (bottom c.plain.generators) range.s range.t (generator_count (cut range (plain_rows table.rows)))) same;
 }

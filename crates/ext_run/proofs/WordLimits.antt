@@ -9,8 +9,8 @@ use Rattle.square.specs.declared.range.TheConstants.{MAX_S, MAX_T}
 use Rattle.ext_run.specs.declared.words.WordsFault.{WordsFault}
 use Rattle.ext_run.specs.declared.words.Common.{Common}
 use Rattle.ext_run.specs.declared.words.Command.{Command}
-use Rattle.ext_run.specs.declared.words.Command.TheVariants.{Sphere, Resolve, Dump}
-use Rattle.ext_run.specs.Words.{number_up_to, decimal_value, is_short_number, range_of, common_of, check_of, command_of, IsWithinLimits}
+use Rattle.ext_run.specs.declared.words.Command.TheVariants.{Sphere, Resolve, Dump, Sample}
+use Rattle.ext_run.specs.Words.{number_up_to, decimal_value, is_short_number, range_of, common_of, check_of, sample_from, sample_of, seed_of, command_of, IsWithinLimits}
 
 up-to : (short within : Bool) (value limit : ℕ) → nat_le value limit ≡ within → IfSome (if short && within then Some value else None) (λ n. n ≤ limit)
 up-to true true value limit e = leb-true value limit e
@@ -38,21 +38,31 @@ check-within : (words : List (List ℕ)) → IfSome (check_of words) IsWithinLim
 check-within [] = tt
 check-within (word ∷ words) = tt
 
+from-within : (n : Option ℕ) (common : Option Common) → IfSome common IsWithin → IfSome (sample_from n common) IsWithinLimits
+from-within None common h = tt
+from-within (Some n) None h = tt
+from-within (Some n) (Some common) h = h
+
+sample-within : (words : List (List ℕ)) → IfSome (sample_of words) IsWithinLimits
+sample-within [] = tt
+sample-within (n ∷ words) = from-within (seed_of n) (common_of words) (common-within words)
+
 made-within : (make : Common → Command) (common : Option Common) → ((c : Common) → IsWithin c → IsWithinLimits (make c)) → IfSome common IsWithin → IfSome (option_map make common) IsWithinLimits
 made-within make None within h = tt
 made-within make (Some common) within h = within common h
 
-named-within : (sphere resolve dump check : Bool) (common : Option Common) (bare : Option Command) → IfSome common IsWithin → IfSome bare IsWithinLimits →
-    IfSome (if sphere then option_map Sphere common else if resolve then option_map Resolve common else if dump then option_map Dump common else if check then bare else None) IsWithinLimits
-named-within true resolve dump check common bare h b = made-within Sphere common (λ c within. within) h
-named-within false true dump check common bare h b = made-within Resolve common (λ c within. within) h
-named-within false false true check common bare h b = made-within Dump common (λ c within. within) h
-named-within false false false true common bare h b = b
-named-within false false false false common bare h b = tt
+named-within : (sphere resolve dump check sample : Bool) (common : Option Common) (bare drawn : Option Command) → IfSome common IsWithin → IfSome bare IsWithinLimits → IfSome drawn IsWithinLimits →
+    IfSome (if sphere then option_map Sphere common else if resolve then option_map Resolve common else if dump then option_map Dump common else if check then bare else if sample then drawn else None) IsWithinLimits
+named-within true resolve dump check sample common bare drawn h b d = made-within Sphere common (λ c within. within) h
+named-within false true dump check sample common bare drawn h b d = made-within Resolve common (λ c within. within) h
+named-within false false true check sample common bare drawn h b d = made-within Dump common (λ c within. within) h
+named-within false false false true sample common bare drawn h b d = b
+named-within false false false false true common bare drawn h b d = d
+named-within false false false false false common bare drawn h b d = tt
 
 pub command-within : (words : List (List ℕ)) → IfSome (command_of words) IsWithinLimits
 command-within [] = tt
-command-within (name ∷ words) = named-within (bytes_eq (codes "sphere") name) (bytes_eq (codes "resolve") name) (bytes_eq (codes "dump") name) (bytes_eq (codes "check") name) (common_of words) (check_of words) (common-within words) (check-within words)
+command-within (name ∷ words) = named-within (bytes_eq (codes "sphere") name) (bytes_eq (codes "resolve") name) (bytes_eq (codes "dump") name) (bytes_eq (codes "check") name) (bytes_eq (codes "sample") name) (common_of words) (check_of words) (sample_of words) (common-within words) (check-within words) (sample-within words)
 
 pub ok-within : (command : Option Command) (fault : WordsFault) → IfSome command IsWithinLimits → IfOk (ok_or command fault) IsWithinLimits
 ok-within None fault h = tt

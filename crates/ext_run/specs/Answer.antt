@@ -6,9 +6,10 @@ use Rattle.module_check.specs.Module.{Module as SteenrodModule, bottom}
 use Rattle.module_check.specs.DerivedAction.{derived_module, top}
 use Rattle.module_check.specs.Acceptance.{refusal_of}
 use Rattle.module_check.specs.Checked.{sphere_file}
+use Rattle.module_check.specs.Sample.{sample_file}
 use Rattle.module_check.specs.declared.fault.CheckFault.{CheckFault}
 use Rattle.ext_run.specs.declared.words.Command.{Command}
-use Rattle.ext_run.specs.declared.words.Command.TheVariants.{Sphere, Resolve, Dump, Check}
+use Rattle.ext_run.specs.declared.words.Command.TheVariants.{Sphere, Resolve, Dump, Check, Sample}
 use Rattle.ext_run.specs.declared.failure.Failure.{Failure}
 use Rattle.ext_run.specs.declared.failure.Failure.TheVariants.{Words, Malformed as NoModuleFile, NotModule}
 use Rattle.resolution_laws.specs.Resolution.{Content, IsCanonicalTable, generator_count}
@@ -18,6 +19,7 @@ use Rattle.square.specs.declared.range.Range.{Range}
 use Rattle.ext_chart.specs.Chart.{chart_text}
 use Rattle.ext_chart.specs.Check.{check_line}
 use Rattle.ext_chart.specs.Dump.{dump_text}
+use Rattle.ext_chart.specs.Summary.{summary_text}
 use Rattle.ext_run.specs.Words.{command_of}
 use Rattle.ext_run.specs.Failure.{status_of, line_of}
 use Rattle.ext_run.specs.Input.{IsOfInput, IsCauseOf, IsAccepted}
@@ -41,6 +43,12 @@ pub record IsDump (range : Range) (m : SteenrodModule) (text : List ℕ) : Type 
   pub resolved : IsResolved range m table
   pub dump : text ≡ dump_text m.generators range.s range.t table
 
+-- text is the summary of that table
+pub record IsSummary (range : Range) (m : SteenrodModule) (text : List ℕ) : Type 0 where
+  pub table : List (List Content)
+  pub resolved : IsResolved range m table
+  pub summary : text ≡ summary_text (length m.generators) (bottom m.generators) range.s range.t (generator_count table)
+
 -- text is the line on the module
 abbrev pub IsLineOn : SteenrodModule → List ℕ → Type 0
 IsLineOn m text = text ≡ check_line (length m.generators) (bottom m.generators) (top m.generators)
@@ -58,6 +66,7 @@ IsAnswerTo (Sphere common) bytes answer = IsOkAnd answer (IsChart common.range (
 IsAnswerTo (Resolve common) bytes answer = IsModuleAnswer (IsChart common.range) bytes answer
 IsAnswerTo (Dump common) bytes answer = IsModuleAnswer (IsDump common.range) bytes answer
 IsAnswerTo Check bytes answer = IsModuleAnswer IsLineOn bytes answer
+IsAnswerTo (Sample n common) bytes answer = IsOkAnd answer (IsSummary common.range (derived_module (sample_file n)))
 
 -- The answer to the words, where the input is these bytes: a text, or why there is none. (Devices that fail and want of
 -- memory are no part of it.)
@@ -83,6 +92,7 @@ Reads (Sphere common) = ⊥
 Reads (Resolve common) = ⊤
 Reads (Dump common) = ⊤
 Reads Check = ⊤
+Reads (Sample n common) = ⊥
 
 abbrev pub WordsRead : List (List ℕ) → Type 0
 WordsRead words = MatchOption (command_of words) ⊥ Reads
@@ -107,6 +117,7 @@ HasModule left (Sphere common) = ⊤
 HasModule left (Resolve common) = MatchOption left ⊥ IsAccepted
 HasModule left (Dump common) = MatchOption left ⊥ IsAccepted
 HasModule left Check = MatchOption left ⊥ IsAccepted
+HasModule left (Sample n common) = ⊤
 
 abbrev pub IsAnswerable : List (List ℕ) → Option (List ℕ) → Type 0
 IsAnswerable words left = MatchOption (command_of words) ⊥ (HasModule left)

@@ -7,7 +7,7 @@ use Rattle.std.specs.Char.{is_ascii_digit}
 use Rattle.square.specs.declared.range.Range.{Range}
 use Rattle.square.specs.declared.range.TheConstants.{MAX_S, MAX_T}
 use Rattle.ext_run.specs.declared.words.Command.{Command}
-use Rattle.ext_run.specs.declared.words.Command.TheVariants.{Sphere, Resolve, Dump, Check}
+use Rattle.ext_run.specs.declared.words.Command.TheVariants.{Sphere, Resolve, Dump, Check, Sample}
 use Rattle.ext_run.specs.declared.words.Common.{Common}
 
 -- the bytes of the words
@@ -35,19 +35,38 @@ abbrev pub common_of : List (List ℕ) → Option Common
 common_of (s ∷ t ∷ []) = option_map (λ range. record { range = range }) (range_of (number_up_to MAX_S s) (number_up_to MAX_T t))
 common_of _ = None
 
+-- one to ten decimal digits
+abbrev pub is_long_number : List ℕ → Bool
+is_long_number word = nat_lt 0 (length word) && (nat_le (length word) 10 && list_all is_ascii_digit word)
+
+-- the number that a sample is drawn from, of 32 bits
+abbrev pub seed_of : List ℕ → Option ℕ
+seed_of word = if is_long_number word && nat_le (decimal_value word) 4294967295 then Some (decimal_value word) else None
+
+abbrev pub sample_from : Option ℕ → Option Common → Option Command
+sample_from (Some n) (Some common) = Some (Sample n common)
+sample_from (Some n) None = None
+sample_from None common = None
+
+-- the words N, S and T
+abbrev pub sample_of : List (List ℕ) → Option Command
+sample_of [] = None
+sample_of (n ∷ words) = sample_from (seed_of n) (common_of words)
+
 -- no words
 abbrev pub check_of : List (List ℕ) → Option Command
 check_of [] = Some Check
 check_of _ = None
 
--- `sphere S T`, `resolve S T`, `dump S T` or `check`
+-- `sphere S T`, `resolve S T`, `dump S T`, `check` or `sample N S T`
 abbrev pub command_of : List (List ℕ) → Option Command
 command_of [] = None
 command_of (name ∷ words) =
     if bytes_eq (codes "sphere") name then option_map Sphere (common_of words)
     else if bytes_eq (codes "resolve") name then option_map Resolve (common_of words)
     else if bytes_eq (codes "dump") name then option_map Dump (common_of words)
-    else if bytes_eq (codes "check") name then check_of words else None
+    else if bytes_eq (codes "check") name then check_of words
+    else if bytes_eq (codes "sample") name then sample_of words else None
 
 -- the command asks for no more than the grammar allows
 abbrev pub IsWithinLimits : Command → Type 0
@@ -55,3 +74,4 @@ IsWithinLimits (Sphere common) = (common.range.s ≤ MAX_S) × (common.range.t �
 IsWithinLimits (Resolve common) = (common.range.s ≤ MAX_S) × (common.range.t ≤ MAX_T)
 IsWithinLimits (Dump common) = (common.range.s ≤ MAX_S) × (common.range.t ≤ MAX_T)
 IsWithinLimits Check = ⊤
+IsWithinLimits (Sample n common) = (common.range.s ≤ MAX_S) × (common.range.t ≤ MAX_T)

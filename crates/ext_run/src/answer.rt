@@ -11,7 +11,7 @@ ghost use Rattle.ext_run.specs.declared.failure.Failure as Failure;
 
 use crate::failure::{Failure, report};
 use crate::input::read_module;
-use crate::texts::{chart_of, dump_of, module_line};
+use crate::texts::{chart_of, dump_of, module_line, summary_of};
 use crate::words::{Command, parse};
 use crate::writing::write_all;
 use edge::{Failed, Sink, Source};
@@ -53,6 +53,10 @@ fn command_text<S: Source>(
         Command::Check => {
             let module = read_module(alloc, source)?;
             Ok(module_line(alloc, &module)?)
+        }
+        Command::Sample(n, common) => {
+            let sample = Module::sample(alloc, n)?;
+            Ok(summary_of(alloc, sample, common.range)?)
         }
     }
 }

@@ -149,6 +149,23 @@ fn dumps(rt: HostRuntime) -> Result<(), Fail> {
 }
 
 #[test]
+fn summaries(rt: HostRuntime) -> Result<(), Fail> {
+    for (words, text) in [
+        (
+            ["sample", "0", "4", "8"],
+            "module gens 1 bottom 0\nsquares 45\ngens 12\nrow 0: 1\nrow 1: 4\nrow 2: 4\nrow 3: 2\nrow 4: 1\n",
+        ),
+        (
+            ["sample", "12", "2", "6"],
+            "module gens 2 bottom 5\nsquares 21\ngens 6\nrow 0: 1\nrow 1: 3\nrow 2: 2\n",
+        ),
+    ] {
+        assert_answer(&rt, words.as_slice(), "", 0, text, "")?;
+    }
+    Ok(())
+}
+
+#[test]
 fn refuses_module_files(rt: HostRuntime) -> Result<(), Fail> {
     for (file, status, line) in [
         ("", 3, "ext: module file: not JSON\n"),
@@ -303,7 +320,7 @@ fn lines_of_refusals(rt: HostRuntime) -> Result<(), Fail> {
 
 #[test]
 fn refuses(rt: HostRuntime) -> Result<(), Fail> {
-    let outside: [&[&str]; 21] = [
+    let outside: [&[&str]; 28] = [
         &[],
         &["sphere", "4"],
         &["sphere", "64", "1"],
@@ -325,6 +342,13 @@ fn refuses(rt: HostRuntime) -> Result<(), Fail> {
         &["dump", "1", "128"],
         &["dump", "1", "2", "3"],
         &["--help"],
+        &["sample", "4294967296", "1", "1"],
+        &["sample", "00000000001", "1", "1"],
+        &["sample", "0"],
+        &["sample", "0", "1"],
+        &["sample", "-1", "1", "1"],
+        &["sample", "+1", "1", "1"],
+        &["sample", "0", "1", "1", "--workers", "2"],
     ];
     for words in outside {
         assert_answer(&rt, words, C2, 2, "", WORDS_LINE)?;
@@ -407,7 +431,7 @@ fn parses(rt: HostRuntime) {
     let first = Common {
         range: Range { s: 0, t: 7 },
     };
-    let inside: [(&[&str], Command); 7] = [
+    let inside: [(&[&str], Command); 9] = [
         (&["sphere", "63", "127"], Command::Sphere(last)),
         (&["sphere", "000", "07"], Command::Sphere(first)),
         (&["resolve", "63", "127"], Command::Resolve(last)),
@@ -415,6 +439,14 @@ fn parses(rt: HostRuntime) {
         (&["dump", "63", "127"], Command::Dump(last)),
         (&["dump", "0", "7"], Command::Dump(first)),
         (&["check"], Command::Check),
+        (
+            &["sample", "4294967295", "63", "127"],
+            Command::Sample(4294967295, last),
+        ),
+        (
+            &["sample", "0000000007", "0", "7"],
+            Command::Sample(7, first),
+        ),
     ];
     for (words, command) in inside {
         assert_eq!(rt; parse(alloc, words), Ok(command), "at {words:?}");

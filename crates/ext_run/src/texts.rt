@@ -3,9 +3,9 @@ ghost use Rattle.std.specs.Prelude.{◌≡◌, ◌≤◌, IfOk};
 ghost use Rattle.square.specs.declared.range.TheConstants.{MAX_S, MAX_T};
 ghost use Rattle.square.specs.Tables.{plain_rows, IsThrough};
 ghost use Rattle.resolution_step.specs.Alone.{cut};
-ghost use Rattle.ext_run.specs.Answer.{IsResolved, IsChart, IsDump, IsLineOn};
+ghost use Rattle.ext_run.specs.Answer.{IsResolved, IsChart, IsDump, IsSummary, IsLineOn};
 
-use ext_chart::{chart, check_line, dump};
+use ext_chart::{chart, check_line, dump, summary};
 use memory::Memory;
 use module_check::{Module, modules_are_graded_modules};
 use resolution_laws::canonical_table_is_minimal_resolution;
@@ -53,6 +53,17 @@ pub(crate) fn dump_of(alloc: Global, module: Module, range: Range) -> Result<Vec
 {
     let table = resolved(alloc, module, range)?;
     dump(alloc, &table, range)
+}
+
+/// The summary of a module's resolution through the range.
+#[tactic(auto, using(crate::proofs::Resolved::is_summary))]
+pub(crate) fn summary_of(alloc: Global, module: Module, range: Range) -> Result<Vec<u8>, Memory>
+    requires rows { range.s ≤ MAX_S }
+    requires degrees { range.t ≤ MAX_T }
+    ensures { IfOk result (λ text. IsSummary range «module».plain text.items) }
+{
+    let table = resolved(alloc, module, range)?;
+    summary(alloc, &table, range)
 }
 
 /// The line on a module.

@@ -1,13 +1,13 @@
 //! The command grammar.
-ghost use Rattle.std.specs.Prelude.{◌≡◌, ◌≢◌, ◌≤◌, ◌⊎◌, Some, None, [], Err, IfOk, IfSome, OnSome, IfNone, false, length};
+ghost use Rattle.std.specs.Prelude.{◌≡◌, ◌≢◌, ◌+◌, ◌-◌, ◌*◌, ◌≤◌, ◌⊎◌, min, Some, None, [], Err, IfOk, IfSome, OnSome, IfNone, false, length};
 ghost use Rattle.std.specs.List.{list_all};
 ghost use Rattle.std.specs.Char.{is_ascii_digit};
 ghost use Rattle.clap.specs.Words.{app_of, fault_of, found_of, rows_of, subcommand_of, subcommand_rows_of};
 ghost use Rattle.clap.specs.declared.builder.command.Command.TheViews.{out-Command};
-ghost use Rattle.ext_run.specs.CommandLine.{range_command, command_line, number_in, common_in, command_in};
+ghost use Rattle.ext_run.specs.CommandLine.{range_command, command_line, number_in, common_in, seed_in, sample_command, command_in};
 ghost use Rattle.ext_run.specs.declared.words.WordsFault as WordsFault;
 ghost use Rattle.ext_run.specs.declared.words.WordsFault.TheVariants.{Memory as WantOfMemory};
-ghost use Rattle.ext_run.specs.Words.{texts_of, command_of, number_up_to, is_short_number, decimal_value, IsWithinLimits};
+ghost use Rattle.ext_run.specs.Words.{texts_of, command_of, number_up_to, is_short_number, is_long_number, seed_of, decimal_value, IsWithinLimits};
 
 use clap::error::ErrorKind;
 use clap::{Arg, ArgMatches};
@@ -33,6 +33,8 @@ pub enum Command {
     Dump(Common),
     /// `check`: a line on the module on standard input.
     Check,
+    /// `sample N S T`: the summary of the resolution of the module that N draws.
+    Sample(u32, Common),
 }
 
 /// Why words gave no command.
@@ -89,12 +91,68 @@ fn number_up_to(limit: u16, word: &str) -> Option<u16>
     if value <= limit { Some(value) } else { None }
 }
 
+fn is_long_number(word: &str) -> bool
+    ensures { result ≡ is_long_number word.now }
+{
+    let digits = word.as_bytes();
+    !digits.is_empty() && digits.len() <= 10 && are_digits(digits)
+}
+
+/// The least number of more than 32 bits.
+const TOO_LONG: u64 = 4294967296;
+
+/// The number that digits say, where it has at most 32 bits, and `TOO_LONG` where it has more.
+fn long_value(digits: &[u8]) -> u64
+    ensures { result ≡ min (decimal_value digits.now) TOO_LONG }
+{
+    let mut value = 0;
+    for c in digits {
+        value = longer(value, *c);
+    }
+    value
+}
+
+/// The number with one digit more behind it.
+fn longer(value: u64, c: u8) -> u64
+    requires { value ≤ TOO_LONG }
+    ensures { result ≡ min (10 * value + (c - 48)) TOO_LONG }
+{
+    let more = 10 * value + u64::from(c.saturating_sub(b'0'));
+    more.min(TOO_LONG)
+}
+
+/// The number of 32 bits that a sample is drawn from.
+fn seed_of(word: &str) -> Option<u32>
+    ensures { result ≡ seed_of word.now }
+{
+    if !is_long_number(word) {
+        return None;
+    }
+    let value = long_value(word.as_bytes());
+    if value < TOO_LONG {
+        Some(value as u32)
+    } else {
+        None
+    }
+}
+
 /// A command with the words S and T.
 fn range_command<'a>(alloc: Global, name: &'a str) -> Result<clap::Command<'a>, AllocError>
     ensures app { IfOk result (λ command. app_of command ≡ range_command name.now) }
     ensures local { IfOk result (λ command. (out-Command command).has_globals ≡ false) }
 {
     clap::Command::new(alloc, name)
+        .arg(Arg::new(alloc, "S").required(true))?
+        .arg(Arg::new(alloc, "T").required(true))
+}
+
+/// The command with the words N, S and T.
+fn sample_command<'a>(alloc: Global) -> Result<clap::Command<'a>, AllocError>
+    ensures app { IfOk result (λ command. app_of command ≡ sample_command) }
+    ensures local { IfOk result (λ command. (out-Command command).has_globals ≡ false) }
+{
+    clap::Command::new(alloc, "sample")
+        .arg(Arg::new(alloc, "N").required(true))?
         .arg(Arg::new(alloc, "S").required(true))?
         .arg(Arg::new(alloc, "T").required(true))
 }
@@ -111,7 +169,8 @@ fn command_line<'a>(alloc: Global) -> Result<clap::Command<'a>, AllocError>
         .subcommand(range_command(alloc, "sphere")?)?
         .subcommand(range_command(alloc, "resolve")?)?
         .subcommand(range_command(alloc, "dump")?)?
-        .subcommand(clap::Command::new(alloc, "check"))
+        .subcommand(clap::Command::new(alloc, "check"))?
+        .subcommand(sample_command(alloc)?)
 }
 
 /// The matches of the words, none where `clap` refuses them.
@@ -145,6 +204,13 @@ fn common_in(matches: &ArgMatches) -> Option<Common>
     })
 }
 
+/// The number N of a command's matches.
+fn seed_in(matches: &ArgMatches) -> Option<u32>
+    ensures { result ≡ seed_in (rows_of (found_of matches.now)) }
+{
+    seed_of(matches.get_str("N")?)
+}
+
 /// The command that matches name.
 fn command_in(matches: &ArgMatches) -> Option<Command>
     ensures { result ≡ command_in (subcommand_rows_of matches.now) }
@@ -155,6 +221,7 @@ fn command_in(matches: &ArgMatches) -> Option<Command>
         "resolve" => Some(Command::Resolve(common_in(inner)?)),
         "dump" => Some(Command::Dump(common_in(inner)?)),
         "check" => Some(Command::Check),
+        "sample" => Some(Command::Sample(seed_in(inner)?, common_in(inner)?)),
         _ => None,
     }
 }

@@ -3,7 +3,7 @@ use Rattle.std.proofs.lemmas.Result.{err_from_is_err_and}
 use Rattle.std.specs.Prelude.{Ok}
 use Rattle.ext_run.specs.declared.words.Command.{Command}
 use Rattle.ext_run.specs.Answer.{IsChart, IsDump, IsLineOn, Reads, IsCommandAnswerFrom, IsCommandCauseFrom}
-use Rattle.ext_run.proofs.Commands.{sphere_answer, resolve_on, dump_on, check_on, module_answer, module_cause}
+use Rattle.ext_run.proofs.Commands.{sphere_answer, sample_answer, resolve_on, dump_on, check_on, module_answer, module_cause}
 use Rattle.ext_run.proofs.answer.command_text.Goals as goal
 
 pub returns-in_err-module-in-Resolve-clause-cause : goal.returns-in_err-module-in-Resolve-clause-cause
@@ -49,3 +49,11 @@ returns-in_ok-dump_of-in-Dump-clause-answer g c =
 pub returns-in_ok-module_line-in-Check-clause-answer : goal.returns-in_ok-module_line-in-Check-clause-answer
 returns-in_ok-module_line-in-Check-clause-answer g c =
     module_answer c.args.command IsLineOn (check_on c.args.command c.in-Check.is) _ c.in_ok-module-in-Check.module.plain c.in_ok-module_line-in-Check.field-0.items c.in_ok-module-in-Check.ensures.module c.in_ok-module_line-in-Check.ensures
+
+pub returns-in_ok-summary_of-in-Sample-clause-answer : goal.returns-in_ok-summary_of-in-Sample-clause-answer
+returns-in_ok-summary_of-in-Sample-clause-answer g c =
+    let answer = sample_answer c.in-Sample.n c.in-Sample.common (g.S.Source.left c.args.source.now) c.in_ok-sample-in-Sample.sample.plain c.in_ok-summary_of-in-Sample.field-0.items c.in_ok-sample-in-Sample.ensures c.in_ok-summary_of-in-Sample.ensures in
+    subst (λ (command : Command). IsCommandAnswerFrom command (g.S.Source.left c.args.source.now) (Ok c.in_ok-summary_of-in-Sample.field-0.items)) (sym c.in-Sample.is) answer
+
+pub returns-in_ok-summary_of-in-Sample-clause-read : goal.returns-in_ok-summary_of-in-Sample-clause-read
+returns-in_ok-summary_of-in-Sample-clause-read g c = λ r a b. absurd (subst Reads c.in-Sample.is r)

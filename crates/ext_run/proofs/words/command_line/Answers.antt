@@ -1,7 +1,7 @@
 use Rattle.std.proofs.Common.{rules, ap, ap₂, codes, ◌≡◌, ◌∙◌}
 use Rattle.std.proofs.lemmas.Result.{IfOk-weaker}
 use Rattle.clap.specs.Simple.{App, app_of, shape_of, new_app, with_subcommand}
-use Rattle.ext_run.specs.CommandLine.{range_command, no_command}
+use Rattle.ext_run.specs.CommandLine.{range_command, sample_command, no_command}
 use Rattle.ext_run.proofs.words.command_line.Goals as goal
 
 pub returns : goal.returns
@@ -15,4 +15,6 @@ returns c =
     let first = c.in_ok-subcommand.ensures.shape c.in_ok-range_command.ensures.local ∙ ap₂ with_subcommand none sphere in
     let second = c.in_ok-subcommand-2.ensures.shape c.in_ok-range_command-2.ensures.local ∙ ap₂ with_subcommand first resolve in
     let third = c.in_ok-subcommand-3.ensures.shape c.in_ok-range_command-3.ensures.local ∙ ap₂ with_subcommand second dump in
-    IfOk-weaker c.subcommand-4.result _ _ (λ command added. added.shape (search rules) ∙ ap₂ with_subcommand third check) c.subcommand-4.ensures
+    let fourth = c.in_ok-subcommand-4.ensures.shape (search rules) ∙ ap₂ with_subcommand third check in
+    let sample : shape_of c.in_ok-sample_command.field-0 ≡ sample_command.top = ap top c.in_ok-sample_command.ensures.app in
+    IfOk-weaker c.subcommand-5.result _ _ (λ command added. added.shape c.in_ok-sample_command.ensures.local ∙ ap₂ with_subcommand fourth sample) c.subcommand-5.ensures
