@@ -6,4 +6,5 @@ mod Spread
 mod Clearing
 mod Tables
 mod Loops
+mod Choosing
 pub mod Units

@@ -35,7 +35,7 @@ pub fn choose(
 {
     match coordinates(alloc, &matrix, candidates.as_slice())? {
         Some(coordinates) => choose_covered(alloc, &matrix, candidates, &coordinates),
-        None => choose_any(alloc, matrix, candidates.as_slice()),
+        None => choose_any(alloc, &matrix, candidates.as_slice()),
     }
 }
 
@@ -74,24 +74,24 @@ fn choose_covered(
 }
 
 /// The same of any rows, one candidate after the other.
-fn choose_any(
+pub(crate) fn choose_any(
     alloc: Global,
-    mut matrix: Matrix,
+    matrix: &Matrix,
     candidates: &[BitVec],
 ) -> Result<(Vec<BitVec>, Reduced), Memory>
-    requires rows { HaveWidth matrix.cols matrix.rows }
-    requires candidates { HaveWidth matrix.cols candidates.now }
-    ensures chosen { IfOk result (λ r. IsChosen matrix.cols matrix.rows candidates.now r.0.items) }
-    ensures kernel { IfOk result (λ r. IsKernelBasis matrix.cols (matrix.rows ++ r.0.items) r.1.kernel) }
-    ensures reduction { IfOk result (λ r. IsReductionOf matrix.cols (matrix.rows ++ r.0.items) r.1) }
+    requires rows { HaveWidth matrix.now.cols matrix.now.rows }
+    requires candidates { HaveWidth matrix.now.cols candidates.now }
+    ensures chosen { IfOk result (λ r. IsChosen matrix.now.cols matrix.now.rows candidates.now r.0.items) }
+    ensures kernel { IfOk result (λ r. IsKernelBasis matrix.now.cols (matrix.now.rows ++ r.0.items) r.1.kernel) }
+    ensures reduction { IfOk result (λ r. IsReductionOf matrix.now.cols (matrix.now.rows ++ r.0.items) r.1) }
 {
-    let mut reduced = Reduced::of(alloc, &matrix)?;
+    let mut reduced = Reduced::of(alloc, matrix)?;
     let mut chosen = Vec::new(alloc);
-    for candidate in candidates {
+    for i in 0..candidates.len() {
+        let candidate = &candidates[i];
         let inside = reduced.contains(alloc, candidate)?;
         if !inside {
-            matrix.push_row(candidate.try_copy(alloc)?)?;
-            reduced = Reduced::of(alloc, &matrix)?;
+            reduced.extend(alloc, &candidates[i..i + 1])?;
             chosen.push(candidate.try_copy(alloc)?)?;
         }
     }

@@ -6,5 +6,7 @@ mod choice;
 mod coordinates;
 mod parts;
 mod pivots;
+#[cfg(test)]
+mod tests;
 
 pub use choice::choose;

@@ -1,55 +1,35 @@
-use Rattle.std.proofs.Common.{◌≡◌, ℕ, subst, ◌<◌, ◌↔◌, ◌++◌, length, Bool, IsTrue, List, [], ◌∷◌, sym, ◌∙◌, ap, arith, rules}
+use Rattle.std.proofs.Common.{◌≡◌, ◌+◌, ◌-◌, ◌<◌, ◌↔◌, ◌++◌, Bool, IsTrue, List, [], ◌∷◌, length, take, drop, sym, ◌∙◌, ap, subst, arith}
 use Rattle.std.proofs.lemmas.List.{get_or_read}
 use Rattle.std.proofs.lemmas.Bool.{false≢true}
+use Rattle.std.specs.List.{slice_range}
 use Rattle.f2_vec.specs.Spans.{row, IsInSpan}
 use Rattle.f2_matrix.specs.Reduction.{IsReductionOf}
-use Rattle.f2_matrix.proofs.Choice.{IsChoosing-drop, IsChoosing-keep, IsChosen_from_IsChoosing, IsKernelBasis_from_IsChoosing}
+use Rattle.f2_dual.proofs.Choosing.{IsChosenTo-drop, IsChosenTo-keep, row_alone}
 use Rattle.f2_dual.proofs.choice.choose_any.Goals as goal
-use Rattle.f2_dual.proofs.choice.choose_any.Goals.{then-not-inside+in_ok-try_copy+in_ok-push_row+in_ok-reduced-2+in_ok-try_copy-2+in_ok-push, else-not-inside}
+use Rattle.f2_dual.proofs.choice.choose_any.Goals.{then-not-inside+in_ok-extend+in_ok-try_copy+in_ok-push, else-not-inside}
 
-pub loop-candidate-init : goal.loop-candidate-init
-loop-candidate-init c = record { choosing = search rules; reduction = c.in_ok-reduced.ensures.parts }
-
-pub push_row-requires : goal.push_row-requires
-push_row-requires c =
-    let i = c.loop-candidate.candidate-index in
-    let l : i < length c.args.candidates.now = omega arith in
-    let x = get_or_read c.args.candidates.now i c.candidate-item.result l c.candidate-item.is [] in
-    ap length (c.in_ok-try_copy.ensures ∙ x) ∙ (c.requires.candidates i l ∙ sym c.loop-candidate.invariant.choosing.cols)
-
-pub loop-candidate-preserved : goal.loop-candidate-preserved
-loop-candidate-preserved c =
-    let i = c.loop-candidate.candidate-index in
-    let l : i < length c.args.candidates.now = omega arith in
-    let x : c.candidate-item.result ≡ row c.args.candidates.now i = get_or_read c.args.candidates.now i c.candidate-item.result l c.candidate-item.is [] in
-    let decides : IsTrue c.in_ok-inside.inside ↔ IsInSpan c.loop-candidate.reduced.cols c.loop-candidate.reduced.image c.candidate-item.result = c.in_ok-inside.ensures in
+pub loop-i-preserved : goal.loop-i-preserved
+loop-i-preserved c =
+    let i = c.loop-i.i in
+    let n = c.args.matrix.now.cols in
+    let old = c.args.matrix.now.rows in
+    let candidates = c.args.candidates.now in
+    let r = c.loop-i.reduced in
+    let l : i < length candidates = c.loop-i-test.true in
+    let x : c.index-candidates-i.result ≡ row candidates i = get_or_read candidates i c.index-candidates-i.result l c.index-candidates-i.is [] in
+    let decides : IsTrue c.in_ok-inside.inside ↔ IsInSpan r.cols r.image c.index-candidates-i.result = c.in_ok-inside.ensures in
     elim c.if-not-inside.branch [
-      | then-not-inside+in_ok-try_copy+in_ok-push_row+in_ok-reduced-2+in_ok-try_copy-2+in_ok-push w ↦
-          let copied : w.in_ok-try_copy.field-0 ≡ c.candidate-item.result = w.in_ok-try_copy.ensures in
-          let copied_again : w.in_ok-try_copy-2.field-0 ≡ c.candidate-item.result = w.in_ok-try_copy-2.ensures in
-          let cols : w.push_row.new.self.cols ≡ c.loop-candidate.matrix.cols = w.in_ok-push_row.ensures.cols in
-          let rows : w.push_row.new.self.rows ≡ c.loop-candidate.matrix.rows ++ w.in_ok-try_copy.field-0 ∷ [] = w.in_ok-push_row.ensures.ok in
-          let chosen : w.push.new.self.items ≡ c.loop-candidate.chosen.items ++ w.in_ok-try_copy-2.field-0 ∷ [] = w.in_ok-push.ensures.items in
-          let outside : IsInSpan c.loop-candidate.reduced.cols c.loop-candidate.reduced.image c.candidate-item.result → ⊥ = λ s. false≢true (sym w.if-not-inside.true ∙ decides.1 s) in
-          rw (w.matrix-is, w.reduced-is, w.chosen-is)
-          (record {
-            choosing = IsChoosing-keep _ _ _ _ _ _ _ _ _ _ c.candidate-item.result c.loop-candidate.invariant.choosing c.requires.candidates l x outside cols
-                (rows ∙ ap (λ (v : List Bool). c.loop-candidate.matrix.rows ++ v ∷ []) copied)
-                w.in_ok-reduced-2.ensures.cols w.in_ok-reduced-2.ensures.image w.in_ok-reduced-2.ensures.kernel
-                (chosen ∙ ap (λ (v : List Bool). c.loop-candidate.chosen.items ++ v ∷ []) copied_again);
-            reduction = w.in_ok-reduced-2.ensures.parts;
-          })
+      | then-not-inside+in_ok-extend+in_ok-try_copy+in_ok-push w ↦
+          let next = w.extend.new.self in
+          let outside : IsInSpan r.cols r.image c.index-candidates-i.result → ⊥ = λ s. false≢true (sym w.if-not-inside.true ∙ decides.1 s) in
+          let one : i + 1 - i ≡ 1 = omega arith in
+          let alone : slice_range candidates i (i + 1) ≡ c.index-candidates-i.result ∷ [] = ap (λ k. take k (drop i candidates)) one ∙ row_alone candidates i l ∙ ap (λ (v : List Bool). v ∷ []) (sym x) in
+          let extended : (rows : List (List Bool)) → IsReductionOf r.cols rows r → IsReductionOf r.cols (rows ++ c.index-candidates-i.result ∷ []) next =
+          λ rows h. subst (λ (z : List (List Bool)). IsReductionOf r.cols (rows ++ z) next) alone (w.in_ok-extend.ensures.ok rows h) in
+          let chosen : w.push.new.self.items ≡ c.loop-i.chosen.items ++ c.index-candidates-i.result ∷ [] = w.in_ok-push.ensures.items ∙ ap (λ (v : List Bool). c.loop-i.chosen.items ++ v ∷ []) w.in_ok-try_copy.ensures in
+          rw (w.reduced-is, w.chosen-is)
+          (IsChosenTo-keep n old candidates i c.loop-i.chosen.items w.push.new.self.items r next c.index-candidates-i.result c.loop-i.invariant c.requires.candidates l x outside chosen extended)
       | else-not-inside w ↦
-          rw (w.matrix-is, w.reduced-is, w.chosen-is) (record { choosing = IsChoosing-drop _ _ _ _ _ _ _ _ c.loop-candidate.invariant.choosing c.requires.candidates l x (decides.0 w.if-not-inside.false); reduction = c.loop-candidate.invariant.reduction })
+          rw (w.reduced-is, w.chosen-is)
+          (IsChosenTo-drop n old candidates i c.loop-i.chosen.items r c.index-candidates-i.result c.loop-i.invariant c.requires.candidates l x (decides.0 w.if-not-inside.false))
     ]
-
-pub returns : goal.returns
-returns c =
-    let all = c.loop-candidate.invariant.choosing in
-    let P : ℕ → Type 0 = λ n. IsReductionOf n (c.args.matrix.rows ++ c.loop-candidate.chosen.items) c.loop-candidate.reduced in
-    let Q : List (List Bool) → Type 0 = λ z. IsReductionOf c.loop-candidate.matrix.cols z c.loop-candidate.reduced in
-    record {
-      chosen = IsChosen_from_IsChoosing _ _ _ _ _ _ _ all c.loop-candidate-test.false;
-      kernel = IsKernelBasis_from_IsChoosing _ _ _ _ _ _ _ all;
-      reduction = subst P all.cols (subst Q all.rows c.loop-candidate.invariant.reduction);
-    }

@@ -1,9 +1,5 @@
-use Rattle.f2_matrix.specs.Reduction.{IsReductionOf}
-use Rattle.f2_matrix.proofs.Choice.{IsChoosing}
+use Rattle.f2_dual.proofs.Choosing.{IsChosenTo}
 use Rattle.f2_dual.proofs.choice.choose_any.Given as goal
 
-abbrev pub invariant-loop-candidate : goal.invariant-loop-candidate
-invariant-loop-candidate l = record {
-  choosing : IsChoosing l.fn.matrix.cols l.fn.matrix.rows l.candidates l.candidate-index l.chosen.items l.matrix l.reduced;
-  reduction : IsReductionOf l.matrix.cols l.matrix.rows l.reduced;
-}
+abbrev pub invariant-loop-i : goal.invariant-loop-i
+invariant-loop-i l = IsChosenTo l.matrix.cols l.matrix.rows l.candidates l.i l.chosen.items l.reduced

@@ -1,0 +1,230 @@
+//! Small choices by hand, and both ways against each other.
+ghost use Rattle.std.specs.Prelude.{◌≡◌};
+ghost use Rattle.f2_vec.specs.Spans.{HaveWidth};
+ghost use Rattle.f2_matrix.specs.Echelon.{IsReduced, HasNoZeroRow};
+
+use crate::choice::{choose, choose_any};
+use f2_matrix::{Matrix, Reduced, Rows};
+use f2_vec::BitVec;
+use memory::Memory;
+use std::alloc::Global;
+use std::test::Fail;
+
+/// The rows of length `cols` that these texts are, written as 0 and 1.
+fn written(alloc: Global, cols: usize, texts: &[&str]) -> Result<Matrix, Memory> {
+    let mut matrix = Matrix::from_rows(cols, Vec::new(alloc));
+    for text in texts {
+        let mut row = BitVec::zero(alloc, 0)?;
+        for byte in text.as_bytes() {
+            row.push(*byte == b'1')?;
+        }
+        if row.len() == matrix.cols() {
+            matrix.push_row(row)?;
+        }
+    }
+    Ok(matrix)
+}
+
+/// Whether the vectors are these.
+fn are_same(left: &[BitVec], right: &[BitVec]) -> bool {
+    if left.len() != right.len() {
+        return false;
+    }
+    for i in 0..left.len() {
+        if !is_same(&left[i], &right[i]) {
+            return false;
+        }
+    }
+    true
+}
+
+/// Whether the vectors are one.
+fn is_same(left: &BitVec, right: &BitVec) -> bool {
+    if left.len() != right.len() {
+        return false;
+    }
+    for k in 0..left.len() {
+        if left.get(k) != right.get(k) {
+            return false;
+        }
+    }
+    true
+}
+
+/// What is chosen from the reduced rows that the texts `candidates` give, for these rows, and the reduction then.
+fn chosen_for(
+    alloc: Global,
+    cols: usize,
+    rows: &[&str],
+    candidates: &[&str],
+) -> Result<Option<(Vec<BitVec>, Reduced)>, Memory> {
+    let matrix = written(alloc, cols, rows)?;
+    let given = Reduced::of(alloc, &written(alloc, cols, candidates)?)?;
+    if given.cols() != matrix.cols() {
+        return Ok(None);
+    }
+    // So it is known that they are of the matrix's width.
+    let _rows = matrix.rows();
+    Ok(Some(choose(alloc, matrix, given.image_rows())?))
+}
+
+/// Whether from the candidates these new ones are chosen, and these are the chosen preimages and the kernel.
+fn is_chosen(
+    alloc: Global,
+    rows: &[&str],
+    candidates: &[&str],
+    new: &[&str],
+    preimages: &[&str],
+    kernel: &[&str],
+) -> Result<bool, Memory> {
+    let Some((chosen, reduced)) = chosen_for(alloc, 3, rows, candidates)? else {
+        return Ok(false);
+    };
+    let height = reduced.height();
+    Ok(
+        are_same(chosen.as_slice(), written(alloc, 3, new)?.rows())
+            && are_same(reduced.chosen(), written(alloc, height, preimages)?.rows())
+            && are_same(reduced.kernel(), written(alloc, height, kernel)?.rows()),
+    )
+}
+
+#[test]
+fn choices_by_hand(rt: HostRuntime) -> Result<(), Fail> {
+    let alloc = rt.alloc();
+    let units = ["100", "010", "001"];
+    // 100 is new; 010 and 001 are sums then.
+    assert!(rt;
+        is_chosen(
+            alloc,
+            &["110", "011"],
+            &units,
+            &["100"],
+            &["001", "101", "111"],
+            &[]
+        )?
+    );
+    // A row twice: the preimages have no row at the place where the relation begins.
+    assert!(rt;
+        is_chosen(
+            alloc,
+            &["110", "110"],
+            &units,
+            &["100", "001"],
+            &["0010", "0110", "0001"],
+            &["1100"]
+        )?
+    );
+    // No rows: all candidates are new.
+    assert!(rt; is_chosen(alloc, &[], &units, &units, &units, &[])?);
+    // No candidates, and a row of zeros.
+    assert!(rt; is_chosen(alloc, &["000"], &[], &[], &[], &["1"])?);
+    // A row that is no sum of candidates.
+    assert!(rt; is_chosen(alloc, &["001"], &["110"], &["110"], &["01", "10"], &[])?);
+    Ok(())
+}
+
+/// The next number of a sequence that looks random.
+fn next(seed: u64) -> u64 {
+    let mut x = seed;
+    x ^= x << 13;
+    x ^= x >> 7;
+    x ^= x << 17;
+    x
+}
+
+/// `height` rows of length `cols` that look random.
+fn seeded(alloc: Global, height: usize, cols: usize, start: u64) -> Result<Matrix, Memory> {
+    let mut matrix = Matrix::from_rows(cols, Vec::new(alloc));
+    let mut seed = start;
+    for _ in 0..height {
+        let mut row = BitVec::zero(alloc, 0)?;
+        for _ in 0..cols {
+            seed = next(seed);
+            row.push((seed >> 20) & 3 == 0)?;
+        }
+        if row.len() == matrix.cols() {
+            matrix.push_row(row)?;
+        }
+    }
+    Ok(matrix)
+}
+
+/// Sums of these rows, as many as there are coefficient vectors.
+fn sums(
+    alloc: Global,
+    cols: usize,
+    rows: &[BitVec],
+    coefficients: &[BitVec],
+) -> Result<Matrix, Memory> {
+    let mut matrix = Matrix::from_rows(cols, Vec::new(alloc));
+    for c in coefficients {
+        let mut sum = BitVec::zero(alloc, cols)?;
+        for i in 0..rows.len() {
+            if i < c.len() && c.get(i) && rows[i].len() == sum.len() {
+                sum.xor_with(&rows[i]);
+            }
+        }
+        if sum.len() == matrix.cols() {
+            matrix.push_row(sum)?;
+        }
+    }
+    Ok(matrix)
+}
+
+/// Whether both ways give the same new rows, preimages and kernel, and the same image.
+fn both_agree(alloc: Global, matrix: Matrix, candidates: &Rows) -> Result<bool, Memory>
+    requires rows { HaveWidth matrix.cols matrix.rows }
+    requires candidates { HaveWidth matrix.cols candidates.now }
+    requires reduced { IsReduced candidates.now }
+    requires nonzero { HasNoZeroRow candidates.now }
+{
+    let (plain_new, plain) = choose_any(alloc, &matrix, candidates.as_slice())?;
+    let (new, reduced) = choose(alloc, matrix, candidates)?;
+    Ok(
+        are_same(new.as_slice(), plain_new.as_slice())
+            && are_same(reduced.image(), plain.image())
+            && are_same(reduced.chosen(), plain.chosen())
+            && are_same(reduced.kernel(), plain.kernel()),
+    )
+}
+
+/// The same for sums of candidates, with one more row that need not be a sum if `other` is given.
+fn agree_at(
+    alloc: Global,
+    height: usize,
+    cols: usize,
+    count: usize,
+    seed: u64,
+    other: bool,
+) -> Result<bool, Memory> {
+    let given = Reduced::of(alloc, &seeded(alloc, count, cols, seed)?)?;
+    let coefficients = seeded(alloc, height, count, next(seed))?;
+    let mut matrix = sums(alloc, given.cols(), given.image(), coefficients.rows())?;
+    if other {
+        for row in seeded(alloc, 1, matrix.cols(), next(next(seed)))?.into_rows() {
+            if row.len() == matrix.cols() {
+                matrix.push_row(row)?;
+            }
+        }
+    }
+    if matrix.cols() != given.cols() {
+        return Ok(false);
+    }
+    // So it is known that they are of the matrix's width.
+    let _rows = matrix.rows();
+    both_agree(alloc, matrix, given.image_rows())
+}
+
+#[test]
+fn both_ways_agree(rt: HostRuntime) -> Result<(), Fail> {
+    let alloc = rt.alloc();
+    let mut seed = 88172645463325252;
+    for i in 0..60usize {
+        seed = next(seed);
+        assert!(rt; agree_at(alloc, i % 8, i % 7 + 1, i % 5, seed, false)?);
+        assert!(rt; agree_at(alloc, i % 6, i % 9 + 1, i % 7, seed, true)?);
+    }
+    assert!(rt; agree_at(alloc, 20, 70, 12, seed, false)?);
+    assert!(rt; agree_at(alloc, 70, 20, 15, seed, false)?);
+    Ok(())
+}
