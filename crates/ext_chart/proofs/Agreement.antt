@@ -1,6 +1,6 @@
 -- The texts of a table through a range speak of the squares of the range alone.
 use Rattle.std.proofs.Common.{◌≡◌, ℕ, zero, suc, ◌+◌, ◌-◌, ◌<◌, ◌≤◌, ℤ, pos, ◌+ℤ◌, ◌<ℤ◌, Bool, List, [], ◌∷◌, ◌++◌, length, map, take, drop, get_or, codes, refl, ap, sym, ◌∙◌, arith}
-use Rattle.std.specs.List.{flat_map, range_with_len, items_where_true}
+use Rattle.std.specs.List.{flat_map, sum, range_with_len, items_where_true}
 use Rattle.std.specs.Prelude.{slice_index_or}
 use Rattle.std.proofs.lemmas.Int.{ints}
 use Rattle.std.proofs.lemmas.List.{append_assoc, get_or-take, get_or_append_left}
@@ -18,6 +18,7 @@ use Rattle.resolution_laws.proofs.Rows.{free_basis-take}
 use Rattle.ext_chart.specs.declared.place.Place.{Place}
 use Rattle.ext_chart.specs.Chart.{mark, row_label, row_line, row_lines, stems_line, chart_text}
 use Rattle.ext_chart.specs.Dump.{no_place, square_places, places_from, term_text, free_sum_text, generator_line, square_lines, image_text, square_text, row_text, dump_text}
+use Rattle.ext_chart.specs.Summary.{row_total, row_totals, module_line, squares_line, gens_line, total_lines, summary_text}
 use Rattle.ext_chart.proofs.DumpSteps.{map-items_where_true}
 use Rattle.ext_chart.proofs.RowSteps.{length-places_from}
 
@@ -93,6 +94,14 @@ module _ (s t : ℕ) (a b : List (List Content)) (agree : AgreeThrough s t a b) 
 
   pub chart_text-agree : (bottom : ℤ) → chart_text bottom s t (generator_count a) ≡ chart_text bottom s t (generator_count b)
   chart_text-agree bottom = ap (λ (z : List ℕ). z ++ stems_line bottom t) (same_row_lines (s + 1) (omega arith))
+
+  same_row_total : (i : ℕ) → i ≤ s → row_total (generator_count a) t i ≡ row_total (generator_count b) t i
+  same_row_total i l = ap sum (map_range (generator_count a i) (generator_count b i) 0 (t + 1) (λ j m. same_count i (0 + j) l (omega arith)))
+
+  pub summary_text-agree : (gens : ℕ) (bottom : ℤ) → summary_text gens bottom s t (generator_count a) ≡ summary_text gens bottom s t (generator_count b)
+  summary_text-agree gens bottom =
+      ap (λ (totals : List ℕ). module_line gens bottom ++ (squares_line s t ++ (gens_line (sum totals) ++ total_lines 0 totals)))
+      (map_range (row_total (generator_count a) t) (row_total (generator_count b) t) 0 (s + 1) (λ j m. same_row_total (0 + j) (omega arith)))
 
   module _ (gs : List Generator) where
     same_image_text : (i k : ℕ) (v : List Bool) → i ≤ s → k ≤ t → image_text gs a i (bottom gs +ℤ pos k) v ≡ image_text gs b i (bottom gs +ℤ pos k) v

@@ -16,5 +16,5 @@ mod OneGenerator
 mod GradedModules
 mod Plain
 mod PlainModule
-mod SampleFile
+pub mod SampleFile
 pub mod Crossing

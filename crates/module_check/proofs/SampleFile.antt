@@ -240,3 +240,9 @@ generators_made n all e = ap by_degree e
 pub entries_made : (n k : ℕ) (items : List Entry) → items ≡ filter_map (entry_of n) (range_with_len 0 k) → k ≡ piece_count n → items ≡ sample_entries n
 unfolding sample_entries
 entries_made n k items e f = e ∙ ap (λ m. filter_map (entry_of n) (range_with_len 0 m)) f
+
+-- ---- the generators of a sample
+
+pub sample_by_degree : (n : ℕ) → AreByDegree (sample_generators n)
+unfolding sample_generators
+sample_by_degree n = named_by_degree n
