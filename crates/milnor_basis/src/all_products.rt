@@ -306,7 +306,6 @@ pub(crate) fn bits_of_multiples(
 #[cfg(test)]
 mod tests {
     use super::*;
-    use crate::product::coefficients;
     use std::test::Fail;
 
     // The products with Sq(2): Sq(3) Sq(2) is 0, and Sq(0,1) Sq(2) is Sq(2,1).
@@ -321,25 +320,6 @@ mod tests {
         assert_eq!(rt; rows.len(), 2);
         assert_eq!(rt; rows[0].as_slice(), [false, false].as_slice());
         assert_eq!(rt; rows[1].as_slice(), [false, true].as_slice());
-        Ok(())
-    }
-
-    #[test]
-    fn agrees_with_each_product(rt: HostRuntime) -> Result<(), Fail> {
-        let basis = Basis::new(rt.alloc(), 32)?;
-        for degree in 0..=16 {
-            for right in 0..=16 {
-                for s in basis.of_degree(right) {
-                    assert!(rt; s.degree() <= 16);
-                    let rows = bits_of_multiples(rt.alloc(), &basis, degree, s)?;
-                    for (i, r) in basis.of_degree(degree).iter().enumerate() {
-                        assert!(rt; r.degree() <= 16 && i < rows.len());
-                        let bits = coefficients(rt.alloc(), &basis, r, s)?;
-                        assert_eq!(rt; rows[i].as_slice(), bits.as_slice());
-                    }
-                }
-            }
-        }
         Ok(())
     }
 }
