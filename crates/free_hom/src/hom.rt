@@ -68,10 +68,12 @@ impl<'a, T: Target> Hom<'a, T> {
             return Err(Memory);
         };
         let mut sum = BitVec::zero(alloc, width)?;
-        for i in 0..v.len() {
-            if v.get(i) {
-                sum.xor_with(&self.image_of(alloc, t, i)?);
-            }
+        let mut from = 0;
+        while let Some(i) = v.next_one(from) {
+            sum.xor_with(&self.image_of(alloc, t, i)?);
+            // A length fits `usize`, so what follows a place of the vector does.
+            prove!(i < v.len());
+            from = i + 1;
         }
         Ok(sum)
     }

@@ -17,23 +17,6 @@ length-rest ds t k h =
     let f : suc k ≡ k + 1 = omega arith in
     ap (λ xs. length (free_basis_from k xs t)) e ∙ length-free_basis_from k (get_or ds k (pos 0)) (drop (k + 1) ds) t ∙ ap (λ j. length (basis_at (t -ℤ get_or ds k (pos 0))) + length (free_basis_from j (drop (k + 1) ds) t)) f
 
-pub blocks-more : (r : List ℕ) (ds : List ℤ) (t : ℤ) (k start : ℕ) (w v : List Bool) → k < length ds → w ++ blocks r (drop k ds) t (drop start v) ≡ (w ++ times_at r (t -ℤ get_or ds k (pos 0)) (take (length (basis_at (t -ℤ get_or ds k (pos 0)))) (drop start v))) ++ blocks r (drop (k + 1) ds) t (drop (start + length (basis_at (t -ℤ get_or ds k (pos 0)))) v)
-blocks-more r ds t k start w v h =
-    let d = get_or ds k (pos 0) in
-    let n = length (basis_at (t -ℤ d)) in
-    let e : drop k ds ≡ d ∷ drop (k + 1) ds = drop_more ds k (pos 0) h in
-    let f : drop n (drop start v) ≡ drop (start + n) v = drop-drop n start v in
-    ap (λ xs. w ++ blocks r xs t (drop start v)) e ∙ ap (λ x. w ++ (times_at r (t -ℤ d) (take n (drop start v)) ++ blocks r (drop (k + 1) ds) t x)) f ∙ sym (append_assoc w (times_at r (t -ℤ d) (take n (drop start v))) (blocks r (drop (k + 1) ds) t (drop (start + n) v)))
-
-pub times_at-negative : (r : List ℕ) (n : ℤ) (v : List Bool) → n <ℤ pos 0 → length v ≡ length (basis_at n) → times_at r n v ≡ zeros (length (basis_at (n +ℤ pos (degree_of r))))
-times_at-negative r (pos n) v h e = absurd (omega (arith, ints))
-times_at-negative r (negsuc n) [] h e = refl
-times_at-negative r (negsuc n) (x ∷ v) h e = cc
-
 -- the difference of two numbers of 32 bits, computed in 64 bits
 pub difference : (a b t d : ℤ) → SFits w32 t → SFits w32 d → a ≡ to_z w32 (of_z w32 t) → b ≡ to_z w32 (of_z w32 d) → to_z w64 (of_z w64 (to_z w64 (of_z w64 a) -ℤ to_z w64 (of_z w64 b))) ≡ t -ℤ d
 difference a b t d h k e f = omega (arith, ints)
-
--- after the last generator
-pub blocks-done : (r : List ℕ) (ds : List ℤ) (t : ℤ) (k : ℕ) (w v : List Bool) → length ds ≤ k → w ++ blocks r (drop k ds) t v ≡ w
-blocks-done r ds t k w v h = ap (λ xs. w ++ blocks r xs t v) (drop_all k ds h) ∙ append-nil w

@@ -1,8 +1,8 @@
 -- The rows of a linear map, generator by generator, and their widths.
-use Rattle.std.proofs.Common.{◌≡◌, ℕ, suc, ◌+◌, ◌<◌, ◌≤◌, Bool, true, false, cond, Some, slice_get, List, [], ◌∷◌, ◌++◌, length, map, take, drop, get_or, ℤ, pos, ◌-ℤ◌, ap, sym, ◌∙◌, arith}
+use Rattle.std.proofs.Common.{◌≡◌, ℕ, zero, suc, ◌+◌, ◌-◌, ◌<◌, ◌≤◌, Bool, true, false, cond, Some, slice_get, List, [], ◌∷◌, ◌++◌, length, map, take, drop, get_or, ℤ, pos, ◌-ℤ◌, refl, ap, sym, ◌∙◌, arith}
 use Rattle.std.proofs.lemmas.List.{append_assoc, append-nil, drop_more, drop_all, take_all, get_or-map, length-map, map-append}
 use Rattle.std.proofs.lemmas.Option.{slice_get_within, get_or_from_slice_get}
-use Rattle.f2_vec.specs.Vectors.{bit, sum_of}
+use Rattle.f2_vec.specs.Vectors.{bit, sum_of, IsZeroFrom, IsNextOne}
 use Rattle.f2_vec.specs.Spans.{row, HaveWidth, combination}
 use Rattle.f2_vec.proofs.Spans.{length-combination}
 use Rattle.f2_vec.proofs.Combinations.{map-map, HaveWidth-take, HaveWidth-map_where, combination_more}
@@ -88,3 +88,24 @@ mapped_through-all target degrees images t v i e l =
     let rows = map_rows target degrees images t in
     let m : length rows ≤ i = omega (arith, length-map (free_basis degrees t) (image_of target degrees images)) in
     ap (λ c. combination (target.width t) c (take i rows)) (take_all i v l) ∙ ap (combination (target.width t) v) (take_all i rows m)
+
+-- zeros add nothing
+mapped_through-zeros : (target : GradedModule) (degrees : List ℤ) (images : List (List Bool)) (t : ℤ) (v : List Bool) (i d : ℕ) → KeepsWidths target → AreImages target degrees images → length v ≡ free_width degrees t → i + d ≤ length v → ((k : ℕ) → i ≤ k → k < i + d → bit v k ≡ false) → mapped_through target degrees images t v i ≡ mapped_through target degrees images t v (i + d)
+mapped_through-zeros target degrees images t v i zero keeps are e l h = let z : i ≡ i + 0 = omega arith in ap (mapped_through target degrees images t v) z
+mapped_through-zeros target degrees images t v i (suc d) keeps are e l h =
+    let z : (i + d) + 1 ≡ i + suc d = omega arith in
+    mapped_through-zeros target degrees images t v i d keeps are e (omega arith) (λ k f g. h k f (omega arith))
+    ∙ mapped_through-zero target degrees images t v (i + d) (mapped_through target degrees images t v (i + d)) keeps are e (omega arith) (h (i + d) (omega arith) (omega arith)) refl
+    ∙ ap (mapped_through target degrees images t v) z
+
+-- the next 1 adds its row
+pub mapped_through-over : (target : GradedModule) (degrees : List ℤ) (images : List (List Bool)) (t : ℤ) (v : List Bool) (i p : ℕ) (sum : List Bool) → KeepsWidths target → AreImages target degrees images → length v ≡ free_width degrees t → p < length v → IsNextOne v i p → sum ≡ mapped_through target degrees images t v i → sum ≡ mapped_through target degrees images t v p
+mapped_through-over target degrees images t v i p sum keeps are e l next s =
+    let reached = next.reached in
+    let z : i + (p - i) ≡ p = omega arith in
+    s ∙ mapped_through-zeros target degrees images t v i (p - i) keeps are e (omega arith) (λ k f g. next.zeros_between k f (omega arith)) ∙ ap (mapped_through target degrees images t v) z
+
+pub mapped_through-end : (target : GradedModule) (degrees : List ℤ) (images : List (List Bool)) (t : ℤ) (v : List Bool) (i : ℕ) (sum : List Bool) → KeepsWidths target → AreImages target degrees images → length v ≡ free_width degrees t → i ≤ length v → IsZeroFrom v i → sum ≡ mapped_through target degrees images t v i → sum ≡ mapped target degrees images t v
+mapped_through-end target degrees images t v i sum keeps are e l none s =
+    let n = i + (length v - i) in
+    s ∙ mapped_through-zeros target degrees images t v i (length v - i) keeps are e (omega arith) (λ k f g. none k f) ∙ mapped_through-all target degrees images t v n e (omega arith)
