@@ -1,5 +1,6 @@
 //! Bases, places and actions of small free modules, computed by hand.
-ghost use Rattle.std.specs.Prelude.{◌≡◌, ◌+ℤ◌, pos, [], ◌∷◌, IfOk};
+ghost use Rattle.std.specs.Prelude.{◌≡◌, ◌≤◌, ◌+ℤ◌, pos, [], ◌∷◌, length, IfOk};
+ghost use Rattle.free_module.specs.FreeModule.{IsWithinReach};
 ghost use Rattle.milnor_basis.specs.Exponents.{degree_of};
 
 use crate::{Gens, Target, free_basis_is_pairs};
@@ -92,6 +93,65 @@ fn acts(rt: HostRuntime) -> Result<(), Fail> {
     assert!(rt; is_written(&act_on_all(alloc, &gens, &basis, &unit, 2)?, "11"));
     assert!(rt; is_written(&act_on_all(alloc, &gens, &basis, &one, 2)?, "101"));
     assert!(rt; is_written(&act_on_all(alloc, &gens, &basis, &two, 2)?, "011"));
+    Ok(())
+}
+
+// A vector with a 1 at about every third place.
+fn seeded(alloc: Global, width: usize, seed: usize) -> Result<BitVec, Memory>
+    ensures { IfOk result (λ v. length v ≡ width) }
+{
+    let mut vector = BitVec::zero(alloc, width)?;
+    for i in 0..width {
+        if (i ^ (i >> 2) ^ seed) % 3 == 0 {
+            vector.set(i, true);
+        }
+    }
+    Ok(vector)
+}
+
+// Whether each row is Sq(R) on a vector of degree 4, for the R of this degree in order.
+fn rows_agree(
+    alloc: Global,
+    gens: &Gens,
+    basis: &Basis,
+    degree: u16,
+    seed: usize,
+) -> Result<bool, Memory>
+    requires to { IsWithinReach basis.now gens.now (pos 4 +ℤ pos degree) }
+    requires degree { degree ≤ basis.now }
+{
+    let Ok(width) = usize::try_from(gens.dim(basis, 4)) else {
+        return Err(Memory);
+    };
+    let v = seeded(alloc, width, seed)?;
+    let rows = gens.act_all(alloc, basis, degree, 4, &v)?;
+    let elements = basis.of_degree(degree);
+    let mut agree = rows.len() == elements.len();
+    for (k, r) in elements.iter().enumerate() {
+        if r.degree() == u32::from(degree) && k < rows.len() {
+            let image = gens.act(alloc, basis, r, 4, &v)?;
+            agree = agree && rows[k].len() == image.len();
+            for i in 0..image.len() {
+                agree = agree && i < rows[k].len() && rows[k].get(i) == image.get(i);
+            }
+        } else {
+            agree = false;
+        }
+    }
+    Ok(agree)
+}
+
+#[test]
+fn acts_by_all_of_a_degree(rt: HostRuntime) -> Result<(), Fail> {
+    let alloc = rt.alloc();
+    let basis = Basis::new(alloc, 12)?;
+    let gens = two_gens(alloc)?;
+    for degree in [0, 1, 2, 3, 5, 8] {
+        assert!(rt; degree <= 8);
+        for seed in 0..3 {
+            assert!(rt; rows_agree(alloc, &gens, &basis, degree, seed)?);
+        }
+    }
     Ok(())
 }
 
