@@ -235,3 +235,11 @@ push_bits n m us ws v b g e f =
 -- the room of ceil(n / 64) words
 pub HasRoom-ceil : (n m : ℕ) (us : List ℕ) → us ≡ replicate {A = ℕ} m 0 → m ≡ div_ceil n 64 → HasRoom 64 n us
 HasRoom-ceil n m us e d = rw e (HasRoom-zeros n m (omega arith) (omega arith))
+
+-- ---- the length of the bits, and the word of a place within them
+
+pub length_of_bits : (n : ℕ) (us : List ℕ) (v : List Bool) → unit_bits 64 n us ≡ v → length v ≡ n
+length_of_bits n us v e = sym (ap length e) ∙ length-unit_bits 64 n us
+
+pub place_of_word : (n i : ℕ) (us : List ℕ) → HasRoom 64 n us → i < n → i / 64 < length us
+place_of_word n i us r h = omega (arith, r.enough)

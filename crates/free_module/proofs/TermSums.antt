@@ -9,7 +9,7 @@ use Rattle.std.proofs.lemmas.List.Elements.{All-push, All-nil, All-get_or}
 use Rattle.std.proofs.lemmas.Option.{slice_get_within, get_or_from_slice_get, slice_get-get_or}
 use Rattle.f2_vec.specs.Vectors.{plus, zeros, bit, sum_of, placed, IsNextOne}
 use Rattle.f2_vec.specs.Spans.{row, HaveWidth, combination, unit_vector}
-use Rattle.f2_vec.proofs.Sums.{length-sum_of, length-zeros, bit-zeros, bit-sum_of, sum_of-assoc, sum_of-zeros_left, sum_of-zeros_right}
+use Rattle.f2_vec.proofs.Sums.{length-sum_of, length-zeros, bit-zeros, bit-sum_of, sum_of-assoc, sum_of-zeros_left, sum_of-zeros_right, plus-false}
 use Rattle.f2_vec.proofs.Spans.{length-combination}
 use Rattle.f2_vec.proofs.Split.{zeros-append, length-unit_vector, bit-unit_vector}
 use Rattle.f2_vec.proofs.Moved.{length-placed, bit-placed_below, bit-placed_above}
@@ -46,10 +46,6 @@ unit_where-here false n o l = bit-zeros n o
 unit_where-other : (b : Bool) (n o k : ℕ) → o < n → k ≢ o → bit (unit_where b n o) k ≡ false
 unit_where-other true n o k l d = bit-unit_vector n o k l ∙ grind (arith, nat_tests)
 unit_where-other false n o k l d = bit-zeros n k
-
-plus-false : (b : Bool) → plus b false ≡ b
-plus-false true = refl
-plus-false false = refl
 
 placed-cons : (n o : ℕ) (b : Bool) (bits : List Bool) → o + suc (length bits) ≤ n → placed n o (b ∷ bits) ≡ sum_of (unit_where b n o) (placed n (o + 1) bits)
 placed-cons n o b bits h =

@@ -151,7 +151,7 @@ fits_by_quotient n w r p h =
     let below : r * w ≤ n / w * w = mul-le r w (n / w) w (omega arith) (omega arith) in
     omega arith
 
-weight_above : (k : ℕ) → 0 < 2 ^ suc k - 1
+pub weight_above : (k : ℕ) → 0 < 2 ^ suc k - 1
 weight_above k = let p : suc k < 2 ^ suc k = below_power (suc k) in omega arith
 
 pub All-lists_of : (k n : ℕ) → All (IsListOf k n) (lists_of k n)

@@ -11,7 +11,7 @@ use Rattle.milnor_basis.specs.Exponents.{entry, degree_from, degree_of, trimmed,
 use Rattle.milnor_basis.specs.Basis.{lists_of, basis_of}
 use Rattle.milnor_basis.specs.Inside.Counted.{IsCounted}
 use Rattle.milnor_basis.proofs.ExponentLemmas.{below_power, degree_of-push}
-use Rattle.milnor_basis.proofs.BasisLemmas.{placed, placed-suc, placed-zero, placed_basis, lists_of_one}
+use Rattle.milnor_basis.proofs.BasisLemmas.{placed, placed-suc, placed-zero, placed_basis, lists_of_one, weight_above}
 
 -- the lists of k + 1 exponents of degree n whose last is r
 abbrev ending : ℕ → ℕ → ℕ → List (List ℕ)
@@ -42,9 +42,6 @@ length-ending k n r i =
     length-map (lists_of k (n + r * w - (i + r) * w)) (λ front. front ++ (i + r) ∷ [])
     ∙ ap (λ m. length (lists_of k m)) left
     ∙ sym (length-map (lists_of k (n - i * w)) (λ front. front ++ i ∷ []))
-
-weight_above : (k : ℕ) → 0 < 2 ^ suc k - 1
-weight_above k = omega (arith, below_power (suc k))
 
 quotient_more : (n r w : ℕ) → 0 < w → (n + r * w) / w ≡ n / w + r
 quotient_more n r w p =

@@ -11,7 +11,8 @@ use Rattle.milnor_basis.specs.Inside.Walk.{fillings, places_to, Sums, add_at, ad
 use Rattle.milnor_basis.specs.Inside.FreeRows.{IsFree, least_free, greatest_free, added}
 use Rattle.milnor_basis.proofs.Prune.{dead_rows, list_all-fails, add_at-le, add_at-other, add_at-same, over_quotient, row_too_large, column_too_large, column_not_full}
 use Rattle.milnor_basis.proofs.Steps.{taken_sum, taken-same, taken-other, under_quotient, entry-sum}
-use Rattle.milnor_basis.proofs.ExponentLemmas.{below_power, entry_within}
+use Rattle.milnor_basis.proofs.BasisLemmas.{weight_above}
+use Rattle.milnor_basis.proofs.ExponentLemmas.{entry_within}
 use Rattle.milnor_basis.proofs.MatrixList.{map-range_same}
 
 -- Degrees of rows.
@@ -107,9 +108,6 @@ so_far_add rows x row column v e l h =
     so_far_is (added row (v * 2 ^ column) rows) (add_at row (2 ^ column * v) x.rows) (length-added row (v * 2 ^ column) rows ∙ e)
     (λ i m. added_is rows row (v * 2 ^ column) (2 ^ column * v) x.rows i (omega arith) (let turned : 2 ^ column * v ≡ v * 2 ^ column = grind arith in turned) (h i m))
     ∙ degree_added rows row (v * 2 ^ column) (omega arith)
-
-pub weight_above : (i : ℕ) → 0 < 2 ^ suc i - 1
-weight_above i = omega (arith, below_power (suc i))
 
 -- A number outside the bounds leads to nothing.
 module _ (r s t rows columns diagonals : List ℕ) (bound w degree room : ℕ) (sums : Sums) (eight : length r ≡ 8) (of : degree_of r ≡ degree) (many : length rows ≡ 8) (e : w ≡ length s) where

@@ -17,6 +17,7 @@ use Rattle.milnor_basis.specs.Exponents.{IsTrimmed}
 use Rattle.milnor_basis.proofs.Ranges.{range-more}
 use Rattle.module_json.specs.ModuleFile.{Generator, Entry, no_generator, placed, by_degree, number_of}
 use Rattle.module_json.specs.WellFormed.{AreByDegree}
+use Rattle.module_json.proofs.Basis.{length-by_degree}
 use Rattle.module_json.proofs.Order.{EachPair, Rises-by_degree, All-by_degree}
 use Rattle.module_check.specs.DerivedAction.{derived_operator, derived_module}
 use Rattle.module_check.specs.Text.{name_at}
@@ -163,18 +164,6 @@ next_operator n degree k r operators gs entries operator a b e tight is =
     is ∙ ap (λ xs. plain_operator xs entries r) a ∙ ap (λ es. plain_operator (sample_generators n) es r) b ∙ next_plain (sample_file n) (is_top (sample_generators n)) (sample_is_plain n) degree k r operators e tight
 
 -- ---- the generators stand by degree
-
-length-placed : (g : Generator) (hs : List Generator) → length (placed g hs) ≡ suc (length hs)
-length-placed g [] = refl
-length-placed g (h ∷ hs) = by (int_le g.degree h.degree) (length-placed g hs)
-  where
-    by : (b : Bool) → length (placed g hs) ≡ suc (length hs) → length (cond b (g ∷ h ∷ hs) (h ∷ placed g hs)) ≡ suc (length (h ∷ hs))
-    by true later = refl
-    by false later = ap suc later
-
-length-by_degree : (gs : List Generator) → length (by_degree gs) ≡ length gs
-length-by_degree [] = refl
-length-by_degree (g ∷ gs) = length-placed g (by_degree gs) ∙ ap suc (length-by_degree gs)
 
 pairs_by_place : (R : Generator → Generator → Type 0) (gs : List Generator) → EachPair R gs → AllPairs R gs
 pairs_by_place R [] h = λ i j d l m. absurd (omega (arith, m))

@@ -74,7 +74,7 @@ length-placed g (h ∷ hs) = by (int_le g.degree h.degree) (length-placed g hs)
     by true later = refl
     by false later = ap suc later
 
-length-by_degree : (gs : List Generator) → length (by_degree gs) ≡ length gs
+pub length-by_degree : (gs : List Generator) → length (by_degree gs) ≡ length gs
 length-by_degree [] = refl
 length-by_degree (g ∷ gs) = length-placed g (by_degree gs) ∙ ap suc (length-by_degree gs)
 

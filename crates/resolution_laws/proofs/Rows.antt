@@ -10,7 +10,6 @@ use Rattle.free_module.specs.Graded.{GradedModule}
 use Rattle.milnor_product.proofs.Multiples.{basis_at-negative}
 use Rattle.free_module.proofs.FreeBasis.{free_basis_from-append}
 use Rattle.free_module.specs.LinearMap.{map_rows, AreImages}
-use Rattle.free_module.proofs.Generators.{at_most-replicate}
 use Rattle.resolution_laws.specs.Resolution.{Module, Content, no_content, square_in, target_over, degrees_from, images_of, IsStepOver, IsStep, row_of, IsCanonicalTable, below_of}
 use Rattle.resolution_laws.proofs.NewGenerators.{HaveWidth-IsChosen}
 
@@ -57,12 +56,6 @@ degrees_from-between b (x ∷ squares) g h =
           let p = degrees_from-between (b +ℤ pos 1) squares (g - n) (omega arith) in
           subst (IsBetween b (suc (length squares))) (sym e) (record { from = omega (arith, ints, p.from); below = omega (arith, ints, p.below) })
     ]
-
-pub not_below-replicate : (degrees : List ℤ) (n : ℕ) (d : ℤ) (w : ℤ) (gens : List ℤ) → w ≡ d → gens ≡ degrees ++ replicate n d → ((g : ℕ) → g < length degrees → degree_at degrees g ≤ℤ d) → (g : ℕ) → g < length gens → degree_at gens g ≤ℤ w
-not_below-replicate degrees n d w gens e f h =
-    let P : List ℤ → Type 0 = λ z. (g : ℕ) → g < length z → degree_at z g ≤ℤ w in
-    let Q : ℤ → Type 0 = λ t. (g : ℕ) → g < length (degrees ++ replicate n d) → degree_at (degrees ++ replicate n d) g ≤ℤ t in
-    subst P (sym f) (subst Q (sym e) (at_most-replicate degrees n d h))
 
 -- an image for each generator, and of a generator of degree t more for each new image
 pub AreImages-more : (target : GradedModule) (degrees : List ℤ) (images new : List (List Bool)) (t : ℤ) → AreImages target degrees images → HaveWidth (target.width t) new → AreImages target (degrees ++ replicate (length new) t) (images ++ new)

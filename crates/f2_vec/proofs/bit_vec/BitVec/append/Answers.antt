@@ -1,8 +1,8 @@
 use Rattle.std.specs.Int.{div_ceil}
-use Rattle.std.proofs.Common.{◌≡◌, ℕ, ◌+◌, List, Bool, ◌++◌, length, replicate, take, ap, sym, ◌∙◌, arith}
+use Rattle.std.proofs.Common.{◌≡◌, ℕ, ◌+◌, List, ◌++◌, length, replicate, take, ap, sym, ◌∙◌, arith}
 use Rattle.f2_vec.specs.Vectors.{zeros}
 use Rattle.f2_vec.specs.Inside.Packed.{HasRoom, unit_bits}
-use Rattle.f2_vec.proofs.Packed.{length-unit_bits}
+use Rattle.f2_vec.proofs.Packed.{length-unit_bits, length_of_bits}
 use Rattle.f2_vec.proofs.Appended.{HasZerosBehind-resized, HasRoom-behind, unit_bits-behind, sum_behind}
 use Rattle.f2_vec.proofs.bit_vec.BitVec.append.Goals as goal
 
@@ -18,9 +18,6 @@ resized n m k z longer us ws r l e w f =
       room = HasRoom-behind n m us ws r (w ∙ e ∙ ap (λ j. div_ceil j 64) l) behind;
       bits = unit_bits-behind n m us ws r behind;
     }
-
-length_of_bits : (n : ℕ) (us : List ℕ) (u : List Bool) → unit_bits 64 n us ≡ u → length u ≡ n
-length_of_bits n us u e = sym (ap length e) ∙ length-unit_bits 64 n us
 
 pub invariant_of-self-2 : goal.invariant_of-self-2
 invariant_of-self-2 c =

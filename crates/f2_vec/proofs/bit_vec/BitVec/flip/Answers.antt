@@ -1,21 +1,14 @@
-use Rattle.std.proofs.Common.{◌≡◌, ◌<◌, ◌/◌, ℕ, List, Bool, true, length, set, ap, sym, ◌∙◌, arith}
+use Rattle.std.proofs.Common.{◌<◌, true, set, ap, sym, ◌∙◌, arith}
 use Rattle.f2_vec.specs.Vectors.{plus, sum_of, bit}
 use Rattle.f2_vec.specs.Spans.{unit_vector}
-use Rattle.f2_vec.specs.Inside.Packed.{HasRoom, unit_bit, unit_bits}
-use Rattle.f2_vec.proofs.Packed.{length-unit_bits, bit-unit_bits, HasRoom-set, unit_bits-set}
+use Rattle.f2_vec.specs.Inside.Packed.{unit_bit, unit_bits}
+use Rattle.f2_vec.proofs.Packed.{bit-unit_bits, HasRoom-set, unit_bits-set, length_of_bits, place_of_word}
 use Rattle.f2_vec.proofs.Turned.{one_turned, sum_with_unit}
 use Rattle.f2_vec.proofs.bit_vec.BitVec.flip.Goals as goal
 
--- the length of the bits, the place within them, and its word within the words
-length_is : (n : ℕ) (us : List ℕ) (v : List Bool) → unit_bits 64 n us ≡ v → length v ≡ n
-length_is n us v e = sym (ap length e) ∙ length-unit_bits 64 n us
-
-place_of_word : (n i : ℕ) (us : List ℕ) → HasRoom 64 n us → i < n → i / 64 < length us
-place_of_word n i us r h = omega (arith, r.enough)
-
 pub index_mut-requires : goal.index_mut-requires
 index_mut-requires c =
-    let l = length_is c.self.inside.len c.self.inside.words.items c.args.self.now c.self.view_is in
+    let l = length_of_bits c.self.inside.len c.self.inside.words.items c.args.self.now c.self.view_is in
     let w = place_of_word c.self.inside.len c.args.i c.self.inside.words.items c.self.invariant (omega arith) in
     omega (arith, c.self.inside.words.ok.0, w)
 
@@ -24,7 +17,7 @@ invariant_of-self c =
     let n = c.self.inside.len in
     let us = c.self.inside.words.items in
     let i = c.args.i in
-    let l = length_is n us c.args.self.now c.self.view_is in
+    let l = length_of_bits n us c.args.self.now c.self.view_is in
     let h : i < n = omega arith in
     let w = place_of_word n i us c.self.invariant h in
     HasRoom-set n us _ i (plus (unit_bit 64 us i) true) c.self.invariant h (one_turned us i c.index_mut.result.now w c.index_mut.ensures.value)
@@ -35,7 +28,7 @@ returns c =
     let us = c.self.inside.words.items in
     let i = c.args.i in
     let v = c.args.self.now in
-    let l = length_is n us v c.self.view_is in
+    let l = length_of_bits n us v c.self.view_is in
     let h : i < n = omega arith in
     let w = place_of_word n i us c.self.invariant h in
     unit_bits-set n us _ i (plus (unit_bit 64 us i) true) h (one_turned us i c.index_mut.result.now w c.index_mut.ensures.value)

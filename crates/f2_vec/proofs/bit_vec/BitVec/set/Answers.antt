@@ -4,16 +4,13 @@ use Rattle.std.specs.Int.{bit_not}
 use Rattle.std.specs.Prelude.{◌==◌}
 use Rattle.std.proofs.Common.{◌≡◌, ◌<◌, ◌*◌, ◌/◌, ◌%◌, ◌^◌, ℕ, List, Bool, true, false, length, get_or, set, ap, sym, ◌∙◌, arith}
 use Rattle.std.proofs.lemmas.Nat.Bits.{bit_at_set_same, bit_at_set_other, bit_at_clear_same, bit_at_clear_other}
-use Rattle.f2_vec.specs.Inside.Packed.{HasRoom, unit_bits}
-use Rattle.f2_vec.proofs.Packed.{length-unit_bits, HasBitSet, HasBitSet-word, HasRoom-set, unit_bits-set}
+use Rattle.f2_vec.specs.Inside.Packed.{unit_bits}
+use Rattle.f2_vec.proofs.Packed.{length-unit_bits, HasBitSet, HasBitSet-word, HasRoom-set, unit_bits-set, place_of_word}
 use Rattle.f2_vec.proofs.bit_vec.BitVec.set.Goals as goal
 
--- the place is within the bits, and its word within the words
+-- the place is within the bits
 place : (n i : ℕ) (us : List ℕ) (v : List Bool) → unit_bits 64 n us ≡ v → i < length v → i < n
 place n i us v e h = let l = ap length e in omega (arith, length-unit_bits 64 n us)
-
-place_of_word : (n i : ℕ) (us : List ℕ) → HasRoom 64 n us → i < n → i / 64 < length us
-place_of_word n i us r h = omega (arith, r.enough)
 
 one_set : (us : List ℕ) (i x : ℕ) → i / 64 < length us → x ≡ get_or us (i / 64) x → HasBitSet us (set us (i / 64) (bit_or x (1 * 2 ^ (i % 64) % 2 ^ 64))) i true
 one_set us i x w r =
