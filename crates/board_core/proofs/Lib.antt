@@ -7,6 +7,5 @@ pub mod Histories
 mod Progress
 mod Ready
 mod RowsOut
-mod Sent
 mod Sound
 pub mod Starts

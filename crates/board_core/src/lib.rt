@@ -2,7 +2,6 @@
 #![tactic(auto)]
 
 mod event;
-mod file;
 mod fronts;
 mod laws;
 mod machine;

@@ -10,9 +10,9 @@ ghost use Rattle.board_core.specs.declared.event.CoreFault as CoreFault;
 ghost use Rattle.board_core.specs.declared.event.CoreFault.TheVariants.{NotLegal, Memory as NoMemory};
 
 use crate::event::{Cause, CoreFault, Event, Out};
-use crate::file::File;
 use crate::fronts::Fronts;
 use degrees::above_of;
+use ghost_list::GhostList;
 use memory::Memory;
 use std::alloc::Global;
 use std::marker::Model;
@@ -29,7 +29,8 @@ pub struct Core {
     /// Which rows of the range have a square that is out.
     busy: Vec<bool>,
     failed: Option<Out>,
-    file: File,
+    /// The squares that the save file has, each by its row and its degree, in their order.
+    file: GhostList<(u16, i32)>,
     cause: Option<Cause>,
 }
 
@@ -66,7 +67,7 @@ impl Core {
             out: Vec::new(alloc),
             busy: vec![in alloc; false; usize::from(s) + 1]?,
             failed: None,
-            file: File::opened(start),
+            file: GhostList::of(start),
             cause: None,
         })
     }
@@ -197,7 +198,7 @@ impl Core {
         };
         take_from(&mut self.out, &mut self.busy, s, above);
         self.fronts.add(s, above);
-        self.file = self.file.then(s, t);
+        self.file = self.file.then(&(s, t));
         true
     }
 

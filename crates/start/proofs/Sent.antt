@@ -1,13 +1,11 @@
--- A start owns nothing, so it may go to any thread, and any thread may share it.
-use denote.Param.Send.{IsSend, IsSync, part_keyless}
+-- A start may go to any thread, and any thread may share it.
+use denote.Param.Send.{IsSend, IsSync, sendable}
+use Rattle.std.proofs.Crossing.{crosses}
+use Rattle.ghost_list.proofs.Sent.{GhostList-send, GhostList-sync}
 use Rattle.start.specs.contracts.Start.{the_row}
-use Rattle.start.specs.contracts.Start.TheInside as Inside
 
 pub Start-send : IsSend the_row
-Start-send = record { owned = λ s vs inside. (((λ _. (tt, tt)), tt), tt); leaving = λ k s _. tt }
-
-inside_send : IsSend Inside.the_row
-inside_send = record { owned = λ inside vs. ((λ _. (tt, tt)), tt); leaving = λ k inside _. tt }
+Start-send = search (crosses, sendable, GhostList-send) depth 20
 
 pub Start-sync : IsSync the_row
-Start-sync = record { shared = λ s b o κ inside. ((λ q. part_keyless Inside.the_row inside_send q inside.0 b o), tt) }
+Start-sync = search (crosses, sendable, GhostList-sync) depth 20

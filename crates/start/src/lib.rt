@@ -1,29 +1,43 @@
 //! A start: the squares that were read from a save file, as contracts alone see them.
 #![tactic(auto)]
 
-ghost use Rattle.std.specs.Prelude.{◌≡◌, List, [], ◌∷◌, ◌++◌};
-ghost use Rattle.resolution_laws.specs.Start.{Entry};
-ghost use base.Fml.{ftrue};
+ghost use Rattle.std.specs.Prelude.{◌≡◌, [], ◌∷◌, ◌++◌};
 
 use f2_vec::BitVec;
+use ghost_list::GhostList;
 use std::marker::Model;
+
+/// A square that was read: its place, the images of its generators and its kernel rows.
+#[derive(Drop)]
+struct Read {
+    s: u16,
+    above: u16,
+    images: Vec<BitVec>,
+    kernel: Vec<BitVec>,
+}
+
+impl Model for Read {
+    ghost use Rattle.resolution_laws.specs.Start.{Entry};
+
+    ghost Value = { Entry };
+
+    ghost view = { λ r. record { s = r.s; above = r.above; content = record { images = r.images.items; kernel = r.kernel.items } } };
+}
 
 /// A list of squares that were read: for each its place, the images of its generators and its kernel rows. It has no
 /// bytes, and is made without memory.
+#[derive(Drop)]
 pub struct Start {
-    ghost entries: { List Entry },
+    squares: GhostList<Read>,
 }
 
 impl Model for Start {
     ghost use Rattle.std.specs.Prelude.{List};
     ghost use Rattle.resolution_laws.specs.Start.{Entry};
-    ghost use base.Fml.{ftrue};
 
     ghost Value = { List Entry };
 
-    ghost view = { λ s. s.entries };
-
-    ghost also_owns = { λ _. ftrue };
+    ghost view = { λ s. s.squares };
 }
 
 impl Start {
@@ -31,39 +45,26 @@ impl Start {
     pub fn empty() -> Start
         ensures { result ≡ [] }
     {
-        Start::holding(&())
+        Start {
+            squares: GhostList::empty(),
+        }
     }
 
     /// The same start.
     pub fn again(&self) -> Start
         ensures { result ≡ self.now }
     {
-        Start::holding(self)
+        Start {
+            squares: GhostList::picked(self),
+        }
     }
 
     /// This start, and then the square in row `s` and `above` degrees above the bottom, with these images and kernel rows.
     pub fn then(&self, s: u16, above: u16, images: &[BitVec], kernel: &[BitVec]) -> Start
         ensures { result ≡ self.now ++ record { s = s; above = above; content = record { images = images.now; kernel = kernel.now } } ∷ [] }
     {
-        Start::holding(&(self, s, above, images, kernel))
-    }
-
-    /// A start that contracts see as any list that is picked.
-    fn holding<T>(of: &T) -> Start
-        ghost entries: { List Entry }
-        ensures { result ≡ entries }
-    {
-        let _ = of;
-        Start {}
-    }
-}
-
-unsafe impl Send for Start {}
-
-unsafe impl Sync for Start {}
-
-impl Drop for Start {
-    fn drop(self) {
-        let Self {} = self;
+        Start {
+            squares: GhostList::picked(&(self, s, above, images, kernel)),
+        }
     }
 }

@@ -1,4 +1,4 @@
 use Rattle.start.proofs.Start.again.Given as goal
 
-abbrev pub ghost-holding : goal.ghost-holding
-ghost-holding a = a.of.now
+abbrev pub ghost-picked : goal.ghost-picked
+ghost-picked a = a.of.now

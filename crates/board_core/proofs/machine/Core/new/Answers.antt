@@ -20,9 +20,9 @@ invariant_of-result c =
     let range = c.last_row-last.ensures.range in
     let listed : IsStart b c.args.start.now = subst (λ (b : ℤ). IsStart b c.args.start.now) (sym low) c.requires.start in
     let first = opening_is_sound b c.args.s c.args.t c.args.start.now listed in
-    let listed_so = subst (λ (f : List (ℕ × ℤ)). IsSound (record (opening b c.args.s c.args.t c.args.start.now) { file = f })) (sym c.opened.ensures) first in
-    let filled = subst (λ (d : Squares). IsSound (record (opening b c.args.s c.args.t c.args.start.now) { done = d; file = c.opened.result })) (sym c.in_ok-fronts_of.ensures.squares) listed_so in
-    let sound = subst (λ (l : List Out). IsSound (record { rows = c.args.s; degrees = c.args.t; bottom = b; done = below_fronts fronts; out = l; failed = None; file = c.opened.result; cause = None; running = true })) (sym c.new.ensures.items) filled in
+    let listed_so = subst (λ (f : List (ℕ × ℤ)). IsSound (record (opening b c.args.s c.args.t c.args.start.now) { file = f })) (sym c.of.ensures) first in
+    let filled = subst (λ (d : Squares). IsSound (record (opening b c.args.s c.args.t c.args.start.now) { done = d; file = c.of.result })) (sym c.in_ok-fronts_of.ensures.squares) listed_so in
+    let sound = subst (λ (l : List Out). IsSound (record { rows = c.args.s; degrees = c.args.t; bottom = b; done = below_fronts fronts; out = l; failed = None; file = c.of.result; cause = None; running = true })) (sym c.new.ensures.items) filled in
     let fits = subst (λ (b : ℤ). (b +ℤ pos c.args.t) ≤ℤ pos (2 ^ 31 - 1)) (sym low) c.requires.fits in
     let bounded : IsBounded c.args.s c.args.t b (length fronts) = record { rows = omega arith; degrees = omega (arith, c.ranges.t.fits); fits = fits } in
     let long : c.args.s < length c.in_ok-vec.field-0.items = omega (arith, c.in_ok-vec.ensures.len, c.from.ensures) in
