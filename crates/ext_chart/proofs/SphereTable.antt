@@ -4,13 +4,13 @@ use Rattle.std.specs.List.{slice_get}
 use Rattle.std.proofs.lemmas.Int.{ints}
 use Rattle.f2_vec.specs.Spans.{HaveWidth}
 use Rattle.f2_matrix.specs.Echelon.{IsReduced}
-use Rattle.module_check.specs.Module.{Module as SteenrodModule, bottom}
+use Rattle.module_check.specs.Module.{Module as SteenrodModule}
 use Rattle.module_check.specs.DerivedAction.{derived_module}
 use Rattle.module_check.specs.Checked.{sphere_file}
 use Rattle.resolution_laws.specs.Resolution.{Content}
 use Rattle.resolution_laws.specs.Start.{HasShape}
 use Rattle.square.specs.declared.range.TheConstants.{MAX_S}
-use Rattle.square.specs.Squares.{Placed, module_over, target_width, source_width}
+use Rattle.square.specs.Squares.{Placed, module_over, target_width, source_width, over, bottom_of}
 use Rattle.square.specs.Tables.{Staircase, row_in, AllRead, IsNext, IsReadable}
 use Rattle.square.proofs.Places.{row_in-none}
 
@@ -69,10 +69,10 @@ sphere_first =
     widths zero l = refl
     widths (suc i) l = absurd (omega arith)
 
-pub first_readable : (table : Staircase) (t : ℤ) (content : Content) → table.rows ≡ replicate (MAX_S + 1) [] → table.resolved.plain ≡ derived_module sphere_file → t ≡ bottom table.resolved.plain.generators → content ≡ first_content → IsReadable table 0 t content
+pub first_readable : (table : Staircase) (t : ℤ) (content : Content) → table.rows ≡ replicate (MAX_S + 1) [] → table.resolved.plain ≡ derived_module sphere_file → t ≡ bottom_of table.resolved → content ≡ first_content → IsReadable table 0 t content
 first_readable table t content none sphere e same =
     let known = subst IsFirst (sym sphere) sphere_first in
-    let m = module_over table.resolved.plain in
+    let m = over table.resolved in
     record {
       all_read = subst AllRead (sym none) (none_read (MAX_S + 1));
       place = record {

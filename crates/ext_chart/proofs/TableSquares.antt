@@ -16,18 +16,18 @@ use Rattle.resolution_laws.proofs.Rows.{free_basis-take}
 use Rattle.resolution_laws.proofs.Shapes.{content_shape}
 use Rattle.resolution_laws.proofs.StartLaws.{content_is_unique, length-squares_below, squares_below-take}
 use Rattle.square.specs.declared.range.TheConstants.{MAX_T}
-use Rattle.square.specs.Squares.{Placed, module_over}
+use Rattle.square.specs.Squares.{Placed, over, bottom_of}
 use Rattle.square.specs.Tables.{Staircase, row_in, plain_rows, content_at, square_at, IsTable}
 use Rattle.square.proofs.Places.{length-row_of, slice_get-there, content_at-is, table_content}
 use Rattle.ext_chart.specs.Dump.{image_width}
 
-square_at-above : (table : Staircase) (s k : ℕ) (t : ℤ) → t ≡ bottom table.resolved.plain.generators +ℤ pos k → square_at table s t ≡ slice_get (row_in table.rows s) k
+square_at-above : (table : Staircase) (s k : ℕ) (t : ℤ) → t ≡ bottom_of table.resolved +ℤ pos k → square_at table s t ≡ slice_get (row_in table.rows s) k
 square_at-above table s k t e =
-    let d : t -ℤ bottom table.resolved.plain.generators ≡ pos k = omega (arith, ints) in
+    let d : t -ℤ bottom_of table.resolved ≡ pos k = omega (arith, ints) in
     ap (λ (n : ℤ). option_and_then (λ j. slice_get (row_in table.rows s) j) (natural n)) d
 
 -- where there is no square, the row is no longer
-pub row-end : (table : Staircase) (s k : ℕ) (t : ℤ) → t ≡ bottom table.resolved.plain.generators +ℤ pos k → square_at table s t ≡ None → length (row_in table.rows s) ≤ k
+pub row-end : (table : Staircase) (s k : ℕ) (t : ℤ) → t ≡ bottom_of table.resolved +ℤ pos k → square_at table s t ≡ None → length (row_in table.rows s) ≤ k
 row-end table s k t e none =
     elim (cases_lt k (length (row_in table.rows s))) [
       | inl l ↦
@@ -48,13 +48,13 @@ row-longer table s k q there =
     ]
 
 -- the images of a square are vectors of what d_s goes to
-image_widths : (table : Staircase) → IsTable table → (s k : ℕ) → k < length (row_in table.rows s) → (c : Content) → IsOf (module_over table.resolved.plain) table.start s k c → HaveWidth (image_width table.resolved.plain.generators (plain_rows table.rows) s (bottom table.resolved.plain.generators +ℤ pos k)) c.images
+image_widths : (table : Staircase) → IsTable table → (s k : ℕ) → k < length (row_in table.rows s) → (c : Content) → IsOf (over table.resolved) table.start s k c → HaveWidth (image_width table.resolved.plain.generators (plain_rows table.rows) s (bottom_of table.resolved +ℤ pos k)) c.images
 image_widths table h zero k l c is =
     let gs = table.resolved.plain.generators in
-    let known = content_shape kernel_basis_unique (module_over table.resolved.plain) table.start zero k c is in
+    let known = content_shape kernel_basis_unique (over table.resolved) table.start zero k c is in
     subst (λ n. HaveWidth (width gs (bottom gs +ℤ pos n)) c.images) (length-squares_below known.over.at zero k) known.shape.image_widths
 image_widths table h (suc i) k l c is =
-    let m = module_over table.resolved.plain in
+    let m = over table.resolved in
     let b = m.bottom in
     let row = row_of (plain_rows table.rows) i in
     let known = content_shape kernel_basis_unique m table.start (suc i) k c is in
@@ -72,15 +72,15 @@ image_widths table h (suc i) k l c is =
 pub record AreImagesAt (table : Staircase) (s k : ℕ) (vectors : List (List Bool)) : Type 0 where
   pub there : k < length (row_in table.rows s)
   pub images : vectors ≡ (content_at table.rows s k).images
-  pub widths : HaveWidth (image_width table.resolved.plain.generators (plain_rows table.rows) s (bottom table.resolved.plain.generators +ℤ pos k)) vectors
+  pub widths : HaveWidth (image_width table.resolved.plain.generators (plain_rows table.rows) s (bottom_of table.resolved +ℤ pos k)) vectors
   pub degree : k ≤ MAX_T
 
-pub images_at : (table : Staircase) → IsTable table → (s k : ℕ) (t : ℤ) (q : Placed) (images : List (List Bool)) → t ≡ bottom table.resolved.plain.generators +ℤ pos k → Some q ≡ square_at table s t → images ≡ q.content.images → AreImagesAt table s k images
+pub images_at : (table : Staircase) → IsTable table → (s k : ℕ) (t : ℤ) (q : Placed) (images : List (List Bool)) → t ≡ bottom_of table.resolved +ℤ pos k → Some q ≡ square_at table s t → images ≡ q.content.images → AreImagesAt table s k images
 images_at table h s k t q images e found same =
     let there : slice_get (row_in table.rows s) k ≡ Some q = sym (found ∙ square_at-above table s k t e) in
     let known = h.placed s k q there in
     let l = row-longer table s k q there in
-    let width = image_width table.resolved.plain.generators (plain_rows table.rows) s (bottom table.resolved.plain.generators +ℤ pos k) in
+    let width = image_width table.resolved.plain.generators (plain_rows table.rows) s (bottom_of table.resolved +ℤ pos k) in
     record {
       there = l;
       images = same ∙ ap (λ (c : Content). c.images) (sym (content_at-is table.rows s k q there));

@@ -11,6 +11,7 @@ use itoa::Buffer;
 use memory::Memory;
 use square::{Range, Table};
 use std::alloc::Global;
+ghost use Rattle.square.specs.Squares.{bottom_of};
 
 /// The mark of a square with this number of generators.
 fn mark(count: usize) -> u8
@@ -95,7 +96,7 @@ fn stems_line(alloc: Global, bottom: i32, t: u16) -> Result<Vec<u8>, Memory>
 /// `Memory` where there is none for the text.
 pub fn chart(alloc: Global, table: &Table, range: Range) -> Result<Vec<u8>, Memory>
     requires { IsThrough range table.now.rows }
-    ensures { IfOk result (λ text. text.items ≡ chart_text (bottom table.now.resolved.plain.generators) range.s range.t (generator_count (plain_rows table.now.rows))) }
+    ensures { IfOk result (λ text. text.items ≡ chart_text (bottom_of table.now.resolved) range.s range.t (generator_count (plain_rows table.now.rows))) }
 {
     let mut text = row_lines(alloc, table, range)?;
     let stems = stems_line(alloc, table.module().bottom(), range.t)?;

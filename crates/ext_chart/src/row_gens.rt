@@ -1,6 +1,5 @@
 //! The generators of a row of a table.
 ghost use Rattle.std.specs.Prelude.{◌≡◌, IfOk};
-ghost use Rattle.module_check.specs.Module.{bottom};
 ghost use Rattle.resolution_laws.specs.Resolution.{row_of, degrees_from};
 ghost use Rattle.square.specs.Tables.{plain_rows};
 ghost use Rattle.ext_chart.specs.Dump.{places_from};
@@ -11,6 +10,7 @@ use free_module::Gens;
 use memory::Memory;
 use square::Table;
 use std::alloc::Global;
+ghost use Rattle.square.specs.Squares.{bottom_of};
 
 /// The generators of a row: their degrees, and their places.
 #[derive(Drop)]
@@ -21,8 +21,8 @@ pub(crate) struct RowGens {
 
 /// The generators of row `s`.
 pub(crate) fn row_gens(alloc: Global, table: &Table, s: u16) -> Result<RowGens, Memory>
-    ensures gens { IfOk result (λ row. row.gens ≡ degrees_from (bottom table.now.resolved.plain.generators) (row_of (plain_rows table.now.rows) s)) }
-    ensures places { IfOk result (λ row. row.places.items ≡ places_from s (bottom table.now.resolved.plain.generators) (row_of (plain_rows table.now.rows) s)) }
+    ensures gens { IfOk result (λ row. row.gens ≡ degrees_from (bottom_of table.now.resolved) (row_of (plain_rows table.now.rows) s)) }
+    ensures places { IfOk result (λ row. row.places.items ≡ places_from s (bottom_of table.now.resolved) (row_of (plain_rows table.now.rows) s)) }
 {
     let n = table.front(s) as u16;
     let gens = table.generators(alloc, s, n)?;

@@ -1,7 +1,6 @@
 //! The summary of a resolution as text.
 ghost use Rattle.std.specs.Prelude.{◌≡◌, ◌+◌, ◌<◌, length, IfOk};
 ghost use Rattle.std.specs.List.{sum};
-ghost use Rattle.module_check.specs.Module.{bottom};
 ghost use Rattle.resolution_laws.specs.Resolution.{generator_count};
 ghost use Rattle.square.specs.Tables.{row_in, plain_rows, IsThrough};
 ghost use Rattle.ext_chart.specs.Summary.{row_total, row_totals, module_line, squares_line, gens_line, total_line, total_lines, summary_text};
@@ -11,6 +10,7 @@ use itoa::Buffer;
 use memory::Memory;
 use square::{Range, Table};
 use std::alloc::Global;
+ghost use Rattle.square.specs.Squares.{bottom_of};
 
 /// How many generators row `s` has through `t` degrees above the bottom.
 fn row_total(table: &Table, s: u16, t: u16) -> Result<usize, Memory>
@@ -124,7 +124,7 @@ fn total_lines(alloc: Global, totals: &[usize]) -> Result<Vec<u8>, Memory>
 /// `Memory` where there is none for the text.
 pub fn summary(alloc: Global, table: &Table, range: Range) -> Result<Vec<u8>, Memory>
     requires { IsThrough range table.now.rows }
-    ensures { IfOk result (λ text. text.items ≡ summary_text (length table.now.resolved.plain.generators) (bottom table.now.resolved.plain.generators) range.s range.t (generator_count (plain_rows table.now.rows))) }
+    ensures { IfOk result (λ text. text.items ≡ summary_text (length table.now.resolved.plain.generators) (bottom_of table.now.resolved) range.s range.t (generator_count (plain_rows table.now.rows))) }
 {
     let totals = row_totals(alloc, table, range)?;
     let module = table.module();

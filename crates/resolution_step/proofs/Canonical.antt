@@ -6,7 +6,7 @@ use Rattle.resolution_laws.specs.Resolution.{Module, Content, no_content, square
 use Rattle.resolution_laws.specs.Start.{Entry, IsOf, IsCanonicalStart}
 use Rattle.resolution_laws.proofs.StartLaws.{canonical_content, canonical_from_contents}
 use Rattle.square.specs.declared.range.Range.{Range}
-use Rattle.square.specs.Squares.{Placed, module_over}
+use Rattle.square.specs.Squares.{Placed, over}
 use Rattle.square.specs.Tables.{Staircase, contents, row_in, plain_rows, content_at, IsThrough}
 use Rattle.square.proofs.Places.{length-row_of, slice_get-there, content_at-is}
 use Rattle.square.proofs.Found.{row_within}
@@ -38,20 +38,20 @@ module _ (range : Range) (rows : List (List Placed)) (through : IsThrough range 
   square_in-cut i k h l =
       ap (λ (x : List Content). square_in x k) (row_of-cut i h) ∙ get_or-take (range.t + 1) (row_of (plain_rows rows) i) k no_content (omega arith)
 
-canonical_contents : (range : Range) (table : Staircase) → IsThrough range table.rows → AreOfStart table → IsCanonicalStart (module_over table.resolved.plain) table.start → (i k : ℕ) → i ≤ range.s → k ≤ range.t → IsOf (module_over table.resolved.plain) [] i k (square_in (row_of (cut range (plain_rows table.rows)) i) k)
+canonical_contents : (range : Range) (table : Staircase) → IsThrough range table.rows → AreOfStart table → IsCanonicalStart (over table.resolved) table.start → (i k : ℕ) → i ≤ range.s → k ≤ range.t → IsOf (over table.resolved) [] i k (square_in (row_of (cut range (plain_rows table.rows)) i) k)
 canonical_contents range table through are reads i k h l =
-    let m = module_over table.resolved.plain in
+    let m = over table.resolved in
     let last = through i h in
     let there = slice_get-there (row_in table.rows i) k (omega arith) in
     let same : there.0.content ≡ square_in (row_of (cut range (plain_rows table.rows)) i) k = sym (square_in-cut range table.rows through i k h l ∙ content_at-is table.rows i k there.0 there.1) in
     subst (IsOf m [] i k) same (canonical_content m table.start reads i k there.0.content (are i k there.0 there.1))
 
-pub IsCanonicalTable-cut : (range : Range) (before after : Staircase) → HasGrown before after → IsThrough range after.rows → AreOfStart after → IsCanonicalStart (module_over before.resolved.plain) before.start → IsCanonicalTable (module_over before.resolved.plain) range.s range.t (cut range (plain_rows after.rows))
+pub IsCanonicalTable-cut : (range : Range) (before after : Staircase) → HasGrown before after → IsThrough range after.rows → AreOfStart after → IsCanonicalStart (over before.resolved) before.start → IsCanonicalTable (over before.resolved) range.s range.t (cut range (plain_rows after.rows))
 IsCanonicalTable-cut range before after grown through are reads =
-    let same = ap (λ x. module_over x.plain) grown.resolved in
+    let same = ap (λ x. over x) grown.resolved in
     let R : Module → Type 0 = λ m. IsCanonicalStart m before.start in
-    let S : List Entry → Type 0 = λ start. IsCanonicalStart (module_over after.resolved.plain) start in
+    let S : List Entry → Type 0 = λ start. IsCanonicalStart (over after.resolved) start in
     let there = subst S (sym grown.start) (subst R (sym same) reads) in
-    let table : IsCanonicalTable (module_over after.resolved.plain) range.s range.t (cut range (plain_rows after.rows)) =
-    canonical_from_contents kernel_basis_unique (module_over after.resolved.plain) range.s range.t (cut range (plain_rows after.rows)) (length-cut range after.rows through) (length-row_of-cut range after.rows through) (canonical_contents range after through are there) in
+    let table : IsCanonicalTable (over after.resolved) range.s range.t (cut range (plain_rows after.rows)) =
+    canonical_from_contents kernel_basis_unique (over after.resolved) range.s range.t (cut range (plain_rows after.rows)) (length-cut range after.rows through) (length-row_of-cut range after.rows through) (canonical_contents range after through are there) in
     subst (λ m. IsCanonicalTable m range.s range.t (cut range (plain_rows after.rows))) same table

@@ -11,7 +11,7 @@ use Rattle.f2_matrix.proofs.Unique.{kernel_basis_unique}
 use Rattle.free_module.specs.FreeModule.{free_width}
 use Rattle.free_module.specs.Graded.{GradedModule, HasUnit}
 use Rattle.free_module.specs.LinearMap.{AreImages, map_rows}
-use Rattle.module_check.specs.Module.{bottom, width}
+use Rattle.module_check.specs.Module.{width}
 use Rattle.module_check.specs.Checked.{Checked}
 use Rattle.resolution_laws.specs.Resolution.{Content, no_content, square_in, degrees_from, images_of, target_over, candidates_over, IsChosen, IsStepOver}
 use Rattle.resolution_laws.specs.Start.{squares_below, row_below, IsOf}
@@ -20,45 +20,45 @@ use Rattle.resolution_laws.proofs.NewGenerators.{HaveWidth-IsChosen, IsStepOver_
 use Rattle.resolution_laws.proofs.Rows.{degrees_from-push, free_basis-take}
 use Rattle.resolution_laws.proofs.Shapes.{content_shape}
 use Rattle.resolution_laws.proofs.StartLaws.{content_is_unique, length-squares_below, squares_below-take}
-use Rattle.square.specs.Squares.{module_over, IsSquare}
+use Rattle.square.specs.Squares.{IsSquare, over, bottom_of}
 use Rattle.square.specs.Tables.{Footing, IsFooting}
 use Rattle.square.proofs.Footings.{IsMeasured-made}
 use Rattle.resolution_step.specs.Steps.{IsReducedStep, IsStepWith}
 
 -- ---- the row below
 
-below_is_of : (f : Footing) → IsFooting f → (i : ℕ) (below : List Content) → suc i ≡ f.s → f.below ≡ Some below → (k : ℕ) → k ≤ f.above → IsOf (module_over f.resolved.plain) f.start i k (square_in below k)
+below_is_of : (f : Footing) → IsFooting f → (i : ℕ) (below : List Content) → suc i ≡ f.s → f.below ≡ Some below → (k : ℕ) → k ≤ f.above → IsOf (over f.resolved) f.start i k (square_in below k)
 below_is_of f h i below e is k l =
-    let P : Option (List Content) → Type 0 = λ x. IfSome x (λ b. IsOf (module_over f.resolved.plain) f.start i k (square_in b k)) in
+    let P : Option (List Content) → Type 0 = λ x. IfSome x (λ b. IsOf (over f.resolved) f.start i k (square_in b k)) in
     subst P is (h.below_are i k e l)
 
 -- squares of the start's table in the row below are those that are given
-below_take : (f : Footing) → IsFooting f → (at : ℕ → ℕ → Content) (i : ℕ) (below : List Content) (n : ℕ) → suc i ≡ f.s → f.below ≡ Some below → length below ≡ f.above + 1 → n ≤ f.above + 1 → ((k : ℕ) → k < n → IsOf (module_over f.resolved.plain) f.start i k (at i k)) → squares_below at i n ≡ take n below
+below_take : (f : Footing) → IsFooting f → (at : ℕ → ℕ → Content) (i : ℕ) (below : List Content) (n : ℕ) → suc i ≡ f.s → f.below ≡ Some below → length below ≡ f.above + 1 → n ≤ f.above + 1 → ((k : ℕ) → k < n → IsOf (over f.resolved) f.start i k (at i k)) → squares_below at i n ≡ take n below
 below_take f h at i below n e is len l given =
-    squares_below-take at i n below (omega arith) (λ k b. content_is_unique kernel_basis_unique (module_over f.resolved.plain) f.start i k _ _ (given k b) (below_is_of f h i below e is k (omega arith)))
+    squares_below-take at i n below (omega arith) (λ k b. content_is_unique kernel_basis_unique (over f.resolved) f.start i k _ _ (given k b) (below_is_of f h i below e is k (omega arith)))
 
 -- the width of the target over them
-width_below : (f : Footing) → IsFooting f → (at : ℕ → ℕ → Content) (j : ℕ) → j ≤ f.above → ((i k : ℕ) → suc i ≡ f.s → k ≤ j → IsOf (module_over f.resolved.plain) f.start i k (at i k))
-    → (target_over (module_over f.resolved.plain) (row_below at f.s j)).width (bottom f.resolved.plain.generators +ℤ pos j) ≡ (target_over (module_over f.resolved.plain) f.below).width (bottom f.resolved.plain.generators +ℤ pos j)
+width_below : (f : Footing) → IsFooting f → (at : ℕ → ℕ → Content) (j : ℕ) → j ≤ f.above → ((i k : ℕ) → suc i ≡ f.s → k ≤ j → IsOf (over f.resolved) f.start i k (at i k))
+    → (target_over (over f.resolved) (row_below at f.s j)).width (bottom_of f.resolved +ℤ pos j) ≡ (target_over (over f.resolved) f.below).width (bottom_of f.resolved +ℤ pos j)
 width_below f h at j l given = in_row f.s refl
   where
-    in_row : (s : ℕ) → s ≡ f.s → (target_over (module_over f.resolved.plain) (row_below at s j)).width (bottom f.resolved.plain.generators +ℤ pos j) ≡ (target_over (module_over f.resolved.plain) f.below).width (bottom f.resolved.plain.generators +ℤ pos j)
-    in_row zero e = ap (λ (x : Option (List Content)). (target_over (module_over f.resolved.plain) x).width (bottom f.resolved.plain.generators +ℤ pos j)) (sym (h.has_none (sym e)))
+    in_row : (s : ℕ) → s ≡ f.s → (target_over (over f.resolved) (row_below at s j)).width (bottom_of f.resolved +ℤ pos j) ≡ (target_over (over f.resolved) f.below).width (bottom_of f.resolved +ℤ pos j)
+    in_row zero e = ap (λ (x : Option (List Content)). (target_over (over f.resolved) x).width (bottom_of f.resolved +ℤ pos j)) (sym (h.has_none (sym e)))
     in_row (suc i) e =
         let p = h.has_below i e in
-        let b = bottom f.resolved.plain.generators in
+        let b = bottom_of f.resolved in
         let same : squares_below at i (suc j) ≡ take (suc j) p.0 = below_take f h at i p.0 (suc j) e p.1 p.2 (omega arith) (λ k m. given i k e (omega arith)) in
         ap (λ (x : List Content). free_width (degrees_from b x) (b +ℤ pos j)) same
         ∙ (ap length (sym (free_basis-take b p.0 (suc j) (b +ℤ pos j) (omega (arith, ints))))
-        ∙ ap (λ (x : Option (List Content)). (target_over (module_over f.resolved.plain) x).width (b +ℤ pos j)) (sym p.1))
+        ∙ ap (λ (x : Option (List Content)). (target_over (over f.resolved) x).width (b +ℤ pos j)) (sym p.1))
 
 -- ---- widths
 
 -- the images of each square of the row are of the dimension of the target in its degree
-images_fit : (f : Footing) → IsFooting f → (j : ℕ) → j < f.above → HaveWidth ((target_over (module_over f.resolved.plain) f.below).width (bottom f.resolved.plain.generators +ℤ pos j)) (square_in f.squares j).images
+images_fit : (f : Footing) → IsFooting f → (j : ℕ) → j < f.above → HaveWidth ((target_over (over f.resolved) f.below).width (bottom_of f.resolved +ℤ pos j)) (square_in f.squares j).images
 images_fit f h j l =
-    let m = module_over f.resolved.plain in
-    let b = bottom f.resolved.plain.generators in
+    let m = over f.resolved in
+    let b = bottom_of f.resolved in
     let c = square_in f.squares j in
     let shaped = content_shape kernel_basis_unique m f.start f.s j c (h.before_are j l) in
     let o = shaped.over in
@@ -66,22 +66,22 @@ images_fit f h j l =
     let Q : ℕ → Type 0 = λ n. HaveWidth n c.images in
     subst Q (width_below f h o.at j (omega arith) o.below) (subst P (length-squares_below o.at f.s j) shaped.shape.image_widths)
 
-pub AreImages-footing : (f : Footing) → IsFooting f → AreImages (target_over (module_over f.resolved.plain) f.below) (degrees_from (bottom f.resolved.plain.generators) f.squares) (images_of f.squares)
+pub AreImages-footing : (f : Footing) → IsFooting f → AreImages (target_over (over f.resolved) f.below) (degrees_from (bottom_of f.resolved) f.squares) (images_of f.squares)
 AreImages-footing f h =
     let len = h.length_is in
-    AreImages-row (target_over (module_over f.resolved.plain) f.below) (bottom f.resolved.plain.generators) f.squares (λ k l. images_fit f h k (omega arith))
+    AreImages-row (target_over (over f.resolved) f.below) (bottom_of f.resolved) f.squares (λ k l. images_fit f h k (omega arith))
 
 -- and so are the candidates, in the degree of the square
-pub HaveWidth-candidates_over : (f : Footing) → IsFooting f → HaveWidth ((target_over (module_over f.resolved.plain) f.below).width (bottom f.resolved.plain.generators +ℤ pos f.above)) (candidates_over (module_over f.resolved.plain) f.below f.above)
+pub HaveWidth-candidates_over : (f : Footing) → IsFooting f → HaveWidth ((target_over (over f.resolved) f.below).width (bottom_of f.resolved +ℤ pos f.above)) (candidates_over (over f.resolved) f.below f.above)
 HaveWidth-candidates_over f h = in_row f.s refl
   where
-    in_row : (s : ℕ) → s ≡ f.s → HaveWidth ((target_over (module_over f.resolved.plain) f.below).width (bottom f.resolved.plain.generators +ℤ pos f.above)) (candidates_over (module_over f.resolved.plain) f.below f.above)
+    in_row : (s : ℕ) → s ≡ f.s → HaveWidth ((target_over (over f.resolved) f.below).width (bottom_of f.resolved +ℤ pos f.above)) (candidates_over (over f.resolved) f.below f.above)
     in_row zero e =
-        let m = module_over f.resolved.plain in
+        let m = over f.resolved in
         let P : Option (List Content) → Type 0 = λ x. HaveWidth ((target_over m x).width (m.bottom +ℤ pos f.above)) (candidates_over m x f.above) in
         subst P (sym (h.has_none (sym e))) (HaveWidth-unit_vectors (m.graded.width (m.bottom +ℤ pos f.above)))
     in_row (suc i) e =
-        let m = module_over f.resolved.plain in
+        let m = over f.resolved in
         let b = m.bottom in
         let p = h.has_below i e in
         let len = p.2 in
@@ -99,27 +99,27 @@ HaveWidth-candidates_over f h = in_row f.s refl
         subst P (sym p.1) (subst (λ n. HaveWidth n c.kernel) width shaped.shape.kernel_widths)
 
 -- they are reduced, and none is zero
-candidates_are_reduced : (f : Footing) → IsFooting f → IsReduced (candidates_over (module_over f.resolved.plain) f.below f.above) × HasNoZeroRow (candidates_over (module_over f.resolved.plain) f.below f.above)
+candidates_are_reduced : (f : Footing) → IsFooting f → IsReduced (candidates_over (over f.resolved) f.below f.above) × HasNoZeroRow (candidates_over (over f.resolved) f.below f.above)
 candidates_are_reduced f h = in_row f.s refl
   where
-    in_row : (s : ℕ) → s ≡ f.s → IsReduced (candidates_over (module_over f.resolved.plain) f.below f.above) × HasNoZeroRow (candidates_over (module_over f.resolved.plain) f.below f.above)
+    in_row : (s : ℕ) → s ≡ f.s → IsReduced (candidates_over (over f.resolved) f.below f.above) × HasNoZeroRow (candidates_over (over f.resolved) f.below f.above)
     in_row zero e =
-        let m = module_over f.resolved.plain in
+        let m = over f.resolved in
         let P : Option (List Content) → Type 0 = λ x. IsReduced (candidates_over m x f.above) × HasNoZeroRow (candidates_over m x f.above) in
         let n = m.graded.width (m.bottom +ℤ pos f.above) in
         subst P (sym (h.has_none (sym e))) (IsReduced-unit_vectors n, HasNoZeroRow-unit_vectors n)
     in_row (suc i) e =
-        let m = module_over f.resolved.plain in
+        let m = over f.resolved in
         let p = h.has_below i e in
         let c = square_in p.0 f.above in
         let shaped = content_shape kernel_basis_unique m f.start i f.above c (below_is_of f h i p.0 e p.1 f.above (omega arith)) in
         let P : Option (List Content) → Type 0 = λ x. IsReduced (candidates_over m x f.above) × HasNoZeroRow (candidates_over m x f.above) in
         subst P (sym p.1) (shaped.shape.reduced, shaped.shape.nonzero)
 
-pub IsReduced-given : (f : Footing) → IsFooting f → (candidates : List (List Bool)) → candidates ≡ candidates_over (module_over f.resolved.plain) f.below f.above → IsReduced candidates
+pub IsReduced-given : (f : Footing) → IsFooting f → (candidates : List (List Bool)) → candidates ≡ candidates_over (over f.resolved) f.below f.above → IsReduced candidates
 IsReduced-given f h candidates e = subst IsReduced (sym e) (candidates_are_reduced f h).0
 
-pub HasNoZeroRow-given : (f : Footing) → IsFooting f → (candidates : List (List Bool)) → candidates ≡ candidates_over (module_over f.resolved.plain) f.below f.above → HasNoZeroRow candidates
+pub HasNoZeroRow-given : (f : Footing) → IsFooting f → (candidates : List (List Bool)) → candidates ≡ candidates_over (over f.resolved) f.below f.above → HasNoZeroRow candidates
 HasNoZeroRow-given f h candidates e = subst HasNoZeroRow (sym e) (candidates_are_reduced f h).1
 
 -- ---- the step
@@ -135,11 +135,11 @@ IsReducedStep_from_choice target degrees images candidates t matrix content redu
     let Q : ℕ → Type 0 = λ n. IsReductionOf n (matrix.rows ++ content.images) reduction in
     record { step = step; quasi = subst P all (subst Q cols reduced) }
 
-pub IsStepWith_from_reduced : (f : Footing) → IsFooting f → (target : GradedModule) (degrees : List ℤ) (images candidates : List (List Bool)) (t : ℤ) (content : Content) (reduction : Reduction) → target ≡ target_over (module_over f.resolved.plain) f.below → degrees ≡ degrees_from (bottom f.resolved.plain.generators) f.squares → images ≡ images_of f.squares → candidates ≡ candidates_over (module_over f.resolved.plain) f.below f.above → t ≡ bottom f.resolved.plain.generators +ℤ pos f.above
+pub IsStepWith_from_reduced : (f : Footing) → IsFooting f → (target : GradedModule) (degrees : List ℤ) (images candidates : List (List Bool)) (t : ℤ) (content : Content) (reduction : Reduction) → target ≡ target_over (over f.resolved) f.below → degrees ≡ degrees_from (bottom_of f.resolved) f.squares → images ≡ images_of f.squares → candidates ≡ candidates_over (over f.resolved) f.below f.above → t ≡ bottom_of f.resolved +ℤ pos f.above
     → IsReducedStep target degrees images candidates t content reduction → IsStepWith f content reduction
 IsStepWith_from_reduced f h target degrees images candidates t content reduction e1 e2 e3 e4 e5 p =
-    let m = module_over f.resolved.plain in
-    let b = bottom f.resolved.plain.generators in
+    let m = over f.resolved in
+    let b = bottom_of f.resolved in
     let A : GradedModule → Type 0 = λ x. IsReducedStep x degrees images candidates t content reduction in
     let B : List ℤ → Type 0 = λ x. IsReducedStep (target_over m f.below) x images candidates t content reduction in
     let C : List (List Bool) → Type 0 = λ x. IsReducedStep (target_over m f.below) (degrees_from b f.squares) x candidates t content reduction in
@@ -151,42 +151,42 @@ IsStepWith_from_reduced f h target degrees images candidates t content reduction
 
 -- ---- what is given to the step, as it is read
 
-pub AreImages-given : (f : Footing) → IsFooting f → (target : GradedModule) (degrees : List ℤ) (images : List (List Bool)) → target ≡ target_over (module_over f.resolved.plain) f.below → degrees ≡ degrees_from (bottom f.resolved.plain.generators) f.squares → images ≡ images_of f.squares → AreImages target degrees images
+pub AreImages-given : (f : Footing) → IsFooting f → (target : GradedModule) (degrees : List ℤ) (images : List (List Bool)) → target ≡ target_over (over f.resolved) f.below → degrees ≡ degrees_from (bottom_of f.resolved) f.squares → images ≡ images_of f.squares → AreImages target degrees images
 AreImages-given f h target degrees images e1 e2 e3 =
-    let b = bottom f.resolved.plain.generators in
+    let b = bottom_of f.resolved in
     let A : GradedModule → Type 0 = λ x. AreImages x (degrees_from b f.squares) (images_of f.squares) in
     let B : List ℤ → Type 0 = λ x. AreImages target x (images_of f.squares) in
     let C : List (List Bool) → Type 0 = λ x. AreImages target degrees x in
     subst C (sym e3) (subst B (sym e2) (subst A (sym e1) (AreImages-footing f h)))
 
-pub HaveWidth-given : (f : Footing) → IsFooting f → (target : GradedModule) (candidates : List (List Bool)) (t : ℤ) → target ≡ target_over (module_over f.resolved.plain) f.below → candidates ≡ candidates_over (module_over f.resolved.plain) f.below f.above → t ≡ bottom f.resolved.plain.generators +ℤ pos f.above → HaveWidth (target.width t) candidates
+pub HaveWidth-given : (f : Footing) → IsFooting f → (target : GradedModule) (candidates : List (List Bool)) (t : ℤ) → target ≡ target_over (over f.resolved) f.below → candidates ≡ candidates_over (over f.resolved) f.below f.above → t ≡ bottom_of f.resolved +ℤ pos f.above → HaveWidth (target.width t) candidates
 HaveWidth-given f h target candidates t e1 e2 e3 =
-    let m = module_over f.resolved.plain in
+    let m = over f.resolved in
     let A : GradedModule → Type 0 = λ x. HaveWidth (x.width (m.bottom +ℤ pos f.above)) (candidates_over m f.below f.above) in
     let B : List (List Bool) → Type 0 = λ x. HaveWidth (target.width (m.bottom +ℤ pos f.above)) x in
     let C : ℤ → Type 0 = λ x. HaveWidth (target.width x) candidates in
     subst C (sym e3) (subst B (sym e2) (subst A (sym e1) (HaveWidth-candidates_over f h)))
 
 -- the kernel of the square below
-pub candidates-row : (f : Footing) (kernel : List (List Bool)) → Some kernel ≡ option_map (λ below. (square_in below f.above).kernel) f.below → kernel ≡ candidates_over (module_over f.resolved.plain) f.below f.above
+pub candidates-row : (f : Footing) (kernel : List (List Bool)) → Some kernel ≡ option_map (λ below. (square_in below f.above).kernel) f.below → kernel ≡ candidates_over (over f.resolved) f.below f.above
 candidates-row f kernel e = from f.below e
   where
-    from : (o : Option (List Content)) → Some kernel ≡ option_map (λ below. (square_in below f.above).kernel) o → kernel ≡ candidates_over (module_over f.resolved.plain) o f.above
+    from : (o : Option (List Content)) → Some kernel ≡ option_map (λ below. (square_in below f.above).kernel) o → kernel ≡ candidates_over (over f.resolved) o f.above
     from None same = cc
     from (Some below) same = let is : kernel ≡ (square_in below f.above).kernel = cc in is
 
 -- and for row 0 the unit vectors
-pub candidates-module : (f : Footing) → None ≡ option_map (λ below. (square_in below f.above).kernel) f.below → (m : Checked) (t : ℤ) (n : ℕ) → m ≡ f.resolved → t ≡ bottom f.resolved.plain.generators +ℤ pos f.above → n ≡ width m.plain.generators t → unit_vectors n ≡ candidates_over (module_over f.resolved.plain) f.below f.above
+pub candidates-module : (f : Footing) → None ≡ option_map (λ below. (square_in below f.above).kernel) f.below → (m : Checked) (t : ℤ) (n : ℕ) → m ≡ f.resolved → t ≡ bottom_of f.resolved +ℤ pos f.above → n ≡ width m.plain.generators t → unit_vectors n ≡ candidates_over (over f.resolved) f.below f.above
 candidates-module f e m t n same at count = units ∙ from f.below e
   where
-    units : unit_vectors n ≡ unit_vectors (width f.resolved.plain.generators (bottom f.resolved.plain.generators +ℤ pos f.above))
+    units : unit_vectors n ≡ unit_vectors (width f.resolved.plain.generators (bottom_of f.resolved +ℤ pos f.above))
     units = ap unit_vectors (count ∙ (ap (λ (x : Checked). width x.plain.generators t) same ∙ ap (width f.resolved.plain.generators) at))
 
-    from : (o : Option (List Content)) → None ≡ option_map (λ below. (square_in below f.above).kernel) o → unit_vectors (width f.resolved.plain.generators (bottom f.resolved.plain.generators +ℤ pos f.above)) ≡ candidates_over (module_over f.resolved.plain) o f.above
+    from : (o : Option (List Content)) → None ≡ option_map (λ below. (square_in below f.above).kernel) o → unit_vectors (width f.resolved.plain.generators (bottom_of f.resolved +ℤ pos f.above)) ≡ candidates_over (over f.resolved) o f.above
     from None same = refl
     from (Some below) same = cc
 
 -- the square of the step
 pub IsSquare-step : (f : Footing) (content : Content) (reduction : Reduction) → IsFooting f → IsStepWith f content reduction → IsSquare (record { resolved = f.resolved; start = f.start; s = f.s; above = f.above; content = content; quasi = Some reduction })
 IsSquare-step f content reduction h p =
-    (IsMeasured-made f content reduction f.resolved f.start f.s f.above (bottom f.resolved.plain.generators +ℤ pos f.above) reduction.cols reduction.height h p.step p.quasi refl refl refl refl refl refl refl).square
+    (IsMeasured-made f content reduction f.resolved f.start f.s f.above (bottom_of f.resolved +ℤ pos f.above) reduction.cols reduction.height h p.step p.quasi refl refl refl refl refl refl refl).square

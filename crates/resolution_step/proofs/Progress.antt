@@ -5,7 +5,7 @@ use Rattle.std.proofs.lemmas.List.Elements.{All-nil, All-cons, All-append, All-w
 use Rattle.std.proofs.lemmas.Option.{IfSome_then}
 use Rattle.resolution_laws.specs.Resolution.{Module}
 use Rattle.resolution_laws.specs.Start.{Entry}
-use Rattle.square.specs.Squares.{Placed, module_over, entry_of}
+use Rattle.square.specs.Squares.{Placed, entry_of, over}
 use Rattle.square.specs.Tables.{Staircase, with_square, IsNext}
 use Rattle.square.specs.Keeping.{Keeper, with_squares, HoldsTable, IsKeeperOf, HasKept}
 use Rattle.square.proofs.Kept.{IsSettled, HasKept-none, HasKept-then}
@@ -28,18 +28,18 @@ given_one m start at old new e here kept = record { given = e ∷ []; places = A
 
 -- ---- a table that has the same squares
 
-pub HasAdded-none : (at : ℕ → ℕ → Type 0) (old new : Keeper) (before after : Staircase) → after.resolved ≡ before.resolved → after.start ≡ before.start → after.rows ≡ before.rows → HasKept (module_over before.resolved.plain) before.start old new [] → HasAdded at old new before after
+pub HasAdded-none : (at : ℕ → ℕ → Type 0) (old new : Keeper) (before after : Staircase) → after.resolved ≡ before.resolved → after.start ≡ before.start → after.rows ≡ before.rows → HasKept (over before.resolved) before.start old new [] → HasAdded at old new before after
 HasAdded-none at old new before after resolved start rows kept = record {
   grown = HasGrown-same before after resolved start rows;
   count = ap length rows;
   are_of_start = AreOfStart-same before after resolved start rows;
   places = new_none at before.rows after.rows rows;
-  given = given_none (module_over before.resolved.plain) before.start at old new kept;
+  given = given_none (over before.resolved) before.start at old new kept;
 }
 
 -- nothing was done
 pub HasAdded-start : (at : ℕ → ℕ → Type 0) (keeper : Keeper) (table : Staircase) → IsSettled keeper → HasAdded at keeper keeper table table
-HasAdded-start at keeper table settled = HasAdded-none at keeper keeper table table refl refl refl (HasKept-none (module_over table.resolved.plain) table.start keeper settled)
+HasAdded-start at keeper table settled = HasAdded-none at keeper keeper table table refl refl refl (HasKept-none (over table.resolved) table.start keeper settled)
 
 -- the keeper goes with the table that has one square more
 pub IsKeeperOf-more : (old new : Keeper) (a q : Placed) (before after : Staircase) → a ≡ q → IsKeeperOf old before → new.kept ≡ with_squares old.kept (entry_of a ∷ []) → new.resolved ≡ old.resolved → new.start ≡ old.start → after.resolved ≡ before.resolved → after.start ≡ before.start → after.rows ≡ with_square before.rows q.s q → q.s < length before.rows → IsNext before.rows q.s q.above → IsKeeperOf new after
@@ -72,11 +72,11 @@ HasAdded-weaker at more h old new before after p = record {
 pub HasAdded-then : (at then both : ℕ → ℕ → Type 0) → ((i k : ℕ) → at i k → both i k) → ((i k : ℕ) → then i k → both i k) → ((i j k l : ℕ) → at i j → then k l → (i < k) ⊎ ((i ≡ k) × (j < l)))
     → (old mid new : Keeper) (before middle after : Staircase) → HasAdded at old mid before middle → HasAdded then mid new middle after → HasAdded both old new before after
 HasAdded-then at then both first second apart old mid new before middle after p q =
-    let m = module_over before.resolved.plain in
+    let m = over before.resolved in
     let start = before.start in
     let A : List Entry → Type 0 = λ x. HasGiven m x then mid new in
     let B : Module → Type 0 = λ x. HasGiven x middle.start then mid new in
-    let last : HasGiven m start then mid new = subst A p.grown.start (subst B (ap (λ x. module_over x.plain) p.grown.resolved) q.given) in
+    let last : HasGiven m start then mid new = subst A p.grown.start (subst B (ap (λ x. over x) p.grown.resolved) q.given) in
     let a = p.given.given in
     let b = last.given in
     let P : Entry → Type 0 = λ e. both e.s e.above in

@@ -8,7 +8,7 @@ use Rattle.std.proofs.lemmas.List.{append-nil, append_assoc, length_push, length
 use Rattle.std.proofs.lemmas.Option.{slice_get_past}
 use Rattle.resolution_laws.specs.Start.{Entry, entry_at, IsOf}
 use Rattle.resolution_laws.proofs.StartLaws.{entry_at-other, entry_at-new}
-use Rattle.square.specs.Squares.{Placed, module_over, entry_of, content_of}
+use Rattle.square.specs.Squares.{Placed, module_over, entry_of, content_of, over}
 use Rattle.square.specs.Tables.{Staircase, row_in, with_square, IsNext, IsNextAt}
 use Rattle.square.specs.Keeping.{IsNextIn, HoldsTable}
 use Rattle.square.proofs.Places.{next_length, row_in-none}
@@ -107,13 +107,13 @@ pub AreOfStart-same : (before after : Staircase) → after.resolved ≡ before.r
 AreOfStart-same before after e f g are s k q there =
     let r = ap module_over (ap (λ x. x.plain) e) in
     let here : slice_get (row_in before.rows s) k ≡ Some q = ap (λ (x : List (List Placed)). slice_get (row_in x s) k) (sym g) ∙ there in
-    let P = λ (x : List Entry). IsOf (module_over before.resolved.plain) x s k q.content in
+    let P = λ (x : List Entry). IsOf (over before.resolved) x s k q.content in
     subst (λ m. IsOf m after.start s k q.content) (sym r) (subst P (sym f) (are s k q here))
 
-pub AreOfStart-push : (before after : Staircase) (q : Placed) → after.resolved ≡ before.resolved → after.start ≡ before.start → after.rows ≡ with_square before.rows q.s q → q.s < length before.rows → IsNext before.rows q.s q.above → IsOf (module_over before.resolved.plain) before.start q.s q.above q.content → AreOfStart before → AreOfStart after
+pub AreOfStart-push : (before after : Staircase) (q : Placed) → after.resolved ≡ before.resolved → after.start ≡ before.start → after.rows ≡ with_square before.rows q.s q → q.s < length before.rows → IsNext before.rows q.s q.above → IsOf (over before.resolved) before.start q.s q.above q.content → AreOfStart before → AreOfStart after
 AreOfStart-push before after q e f g l next new are s k p there =
     let r = ap module_over (ap (λ x. x.plain) e) in
-    let m = module_over before.resolved.plain in
+    let m = over before.resolved in
     let len = next_length before.rows q.s q.above next in
     let read : slice_get (row_in (with_square before.rows q.s q) s) k ≡ Some p = ap (λ (x : List (List Placed)). slice_get (row_in x s) k) (sym g) ∙ there in
     let P = λ (x : List Entry). IsOf m x s k p.content in

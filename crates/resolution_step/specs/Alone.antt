@@ -4,7 +4,7 @@ use Rattle.std.specs.List.{All, AllPairs}
 use Rattle.resolution_laws.specs.Resolution.{Module, Content}
 use Rattle.resolution_laws.specs.Start.{Entry, IsOf}
 use Rattle.square.specs.declared.range.Range.{Range}
-use Rattle.square.specs.Squares.{Placed, module_over}
+use Rattle.square.specs.Squares.{Placed, over}
 use Rattle.square.specs.Tables.{Staircase, row_in}
 use Rattle.square.specs.Keeping.{Keeper, HasKept}
 
@@ -27,7 +27,7 @@ pub record HasGrown (old new : Staircase) : Type 0 where
 
 -- each square of the table is that of its start's table
 abbrev pub AreOfStart : Staircase → Type 0
-AreOfStart table = (s k : ℕ) (q : Placed) → slice_get (row_in table.rows s) k ≡ Some q → IsOf (module_over table.resolved.plain) table.start s k q.content
+AreOfStart table = (s k : ℕ) (q : Placed) → slice_get (row_in table.rows s) k ≡ Some q → IsOf (over table.resolved) table.start s k q.content
 
 -- each square of the new rows that the old ones have not is at such a place
 abbrev pub AreNewAt : (ℕ → ℕ → Type 0) → List (List Placed) → List (List Placed) → Type 0

@@ -4,7 +4,7 @@ use Rattle.f2_matrix.specs.Reduction.{Reduction, IsReductionOf}
 use Rattle.free_module.specs.Graded.{GradedModule}
 use Rattle.free_module.specs.LinearMap.{map_rows}
 use Rattle.resolution_laws.specs.Resolution.{Content, IsStep, IsStepOver}
-use Rattle.square.specs.Squares.{Placed, module_over, IsQuasi}
+use Rattle.square.specs.Squares.{Placed, IsQuasi, over}
 use Rattle.square.specs.Tables.{Footing}
 
 -- the step to a target, and the reduction of the matrix in degree t with the new generators
@@ -14,8 +14,8 @@ pub record IsReducedStep (target : GradedModule) (degrees : List ℤ) (images ca
 
 -- the same over what a square is made from
 pub record IsStepWith (f : Footing) (content : Content) (reduction : Reduction) : Type 0 where
-  pub step : IsStep (module_over f.resolved.plain) f.below f.squares content
-  pub quasi : IsQuasi (module_over f.resolved.plain) f.below f.squares content reduction
+  pub step : IsStep (over f.resolved) f.below f.squares content
+  pub quasi : IsQuasi (over f.resolved) f.below f.squares content reduction
 
 -- the square is the step on what it is made from, and has kept its reduction
 pub record IsStepOf (f : Footing) (q : Placed) : Type 0 where

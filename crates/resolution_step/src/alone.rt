@@ -7,7 +7,7 @@ ghost use Rattle.resolution_laws.specs.Start.{IsCanonicalStart};
 ghost use Rattle.square.specs.declared.keep.KeepFault as KeepFault;
 ghost use Rattle.square.specs.declared.keep.KeepFault.TheVariants.{Failed, Memory as WantOfMemory};
 ghost use Rattle.square.specs.declared.range.TheConstants.{MAX_S, MAX_T};
-ghost use Rattle.square.specs.Squares.{module_over};
+ghost use Rattle.square.specs.Squares.{over};
 ghost use Rattle.square.specs.Tables.{row_in, plain_rows, IsThrough, IsNextAt};
 ghost use Rattle.square.specs.Keeping.{IsKeeperOf};
 ghost use Rattle.resolution_step.specs.Alone.{cut, HasGrown, AreOfStart, AreNewAt, IsInRange, HasGiven};
@@ -39,7 +39,7 @@ pub fn resolve_alone<K: Keep>(
     ensures only { IfOk result.0 (λ more. AreNewAt (IsInRange range) table.rows more.rows) }
     ensures grown { IfOk result.0 (HasGrown table) }
     ensures are_of_start { IfOk result.0 AreOfStart }
-    ensures canonical { IsCanonicalStart (module_over table.resolved.plain) table.start → IfOk result.0 (λ more. IsCanonicalTable (module_over table.resolved.plain) range.s range.t (cut range (plain_rows more.rows))) }
+    ensures canonical { IsCanonicalStart (over table.resolved) table.start → IfOk result.0 (λ more. IsCanonicalTable (over table.resolved) range.s range.t (cut range (plain_rows more.rows))) }
     ensures live { OnOk result.0 (K.telling result.1).live }
     ensures no_fault { OnOk result.0 ((K.telling result.1).faults ≡ (K.telling keeper).faults) }
     ensures of_table { IfOk result.0 (IsKeeperOf (K.telling result.1)) }
@@ -47,7 +47,7 @@ pub fn resolve_alone<K: Keep>(
     ensures dead { result.0 ≡ Err KeepFault.Failed → (K.telling result.1).live → ⊥ }
     ensures memory { result.0 ≡ Err KeepFault.Memory → (K.telling result.1).faults ≡ (K.telling keeper).faults }
     ensures lives { result.0 ≡ Err KeepFault.Memory → (K.telling result.1).live }
-    ensures given { HasGiven (module_over table.resolved.plain) table.start (IsInRange range) (K.telling keeper) (K.telling result.1) }
+    ensures given { HasGiven (over table.resolved) table.start (IsInRange range) (K.telling keeper) (K.telling result.1) }
 {
     match add_rows(alloc, &mut table, range, &mut keeper) {
         Ok(()) => (Ok(table), keeper),

@@ -5,7 +5,7 @@ ghost use Rattle.f2_matrix.specs.Echelon.{IsReduced, HasNoZeroRow};
 ghost use Rattle.free_module.specs.FreeModule.{IsWithinReach};
 ghost use Rattle.free_module.specs.LinearMap.{AreImages};
 ghost use Rattle.resolution_laws.specs.Resolution.{candidates_over};
-ghost use Rattle.square.specs.Squares.{module_over, IsSquare};
+ghost use Rattle.square.specs.Squares.{IsSquare, over};
 ghost use Rattle.square.specs.Tables.{IsFooting};
 ghost use Rattle.resolution_step.specs.Steps.{IsReducedStep, IsStepWith, IsStepOf};
 
@@ -57,7 +57,7 @@ fn parts_on(alloc: Global, inputs: &Inputs) -> Result<Parts, Memory>
 
 /// The same, where `candidates` are the vectors to cover.
 fn parts_over(alloc: Global, inputs: &Inputs, candidates: &Rows) -> Result<Parts, Memory>
-    requires { candidates.now ≡ candidates_over (module_over inputs.now.resolved.plain) inputs.now.below inputs.now.above }
+    requires { candidates.now ≡ candidates_over (over inputs.now.resolved) inputs.now.below inputs.now.above }
     ensures is_footing { IsFooting inputs.now }
     ensures step { IfOk result (λ parts. IsStepWith inputs.now (record { images = parts.images.items; kernel = parts.kernel.items }) parts.quasi) }
 {

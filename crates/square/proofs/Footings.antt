@@ -7,12 +7,11 @@ use Rattle.f2_matrix.specs.Reduction.{Reduction}
 use Rattle.f2_matrix.proofs.Parts.{kernel_is_kernel_basis}
 use Rattle.f2_matrix.proofs.Unique.{kernel_basis_unique}
 use Rattle.free_module.specs.FreeModule.{free_basis}
-use Rattle.module_check.specs.Module.{bottom}
 use Rattle.module_check.specs.Checked.{Checked}
 use Rattle.resolution_laws.specs.Resolution.{Module, Content, square_in, IsStep}
 use Rattle.resolution_laws.specs.Start.{Entry, entry_at, HasShape, squares_below, row_below, IsOf, is_of}
 use Rattle.resolution_laws.proofs.StartLaws.{squares_below-take}
-use Rattle.square.specs.Squares.{Placed, module_over, degrees_with, target_width, square_matrix, AreUnder, IsQuasi, IsMeasured}
+use Rattle.square.specs.Squares.{Placed, degrees_with, target_width, square_matrix, AreUnder, IsQuasi, IsMeasured, over, bottom_of}
 use Rattle.square.specs.Tables.{Footing, IsFooting}
 
 below_list : Option (List Content) → List Content
@@ -40,7 +39,7 @@ given_below f i j e =
 -- a footing as a function of places
 pub record IsFounded (f : Footing) : Type 0 where
   pub at : ℕ → ℕ → Content
-  pub under : AreUnder (module_over f.resolved.plain) f.start f.s f.above at
+  pub under : AreUnder (over f.resolved) f.start f.s f.above at
   pub before : squares_below at f.s f.above ≡ f.squares
   pub below : row_below at f.s f.above ≡ f.below
 
@@ -48,14 +47,14 @@ pub footing_founded : (f : Footing) → IsFooting f → IsFounded f
 unfolding below_list
 footing_founded f h = record {
   at = given f;
-  under = record { before = λ j l. subst (IsOf (module_over f.resolved.plain) f.start f.s j) (sym (given_before f j)) (h.before_are j l); below = below_of };
+  under = record { before = λ j l. subst (IsOf (over f.resolved) f.start f.s j) (sym (given_before f j)) (h.before_are j l); below = below_of };
   before = squares_below-take (given f) f.s f.above f.squares (let e = h.length_is in omega arith) (λ j l. given_before f j) ∙ take_all f.above f.squares (let e = h.length_is in omega arith);
   below = rows f.s refl;
 }
   where
-    below_of : (i j : ℕ) → suc i ≡ f.s → j ≤ f.above → IsOf (module_over f.resolved.plain) f.start i j (given f i j)
+    below_of : (i j : ℕ) → suc i ≡ f.s → j ≤ f.above → IsOf (over f.resolved) f.start i j (given f i j)
     below_of i j e l =
-        let m = module_over f.resolved.plain in
+        let m = over f.resolved in
         let b = h.has_below i e in
         let P : Option (List Content) → Type 0 = λ x. IfSome x (λ below. IsOf m f.start i j (square_in below j)) in
         let there = subst P b.1 (h.below_are i j e l) in
@@ -74,9 +73,9 @@ kept_unread : {X Y : Type 0} (o : Option X) (y : Y) → o ≡ None → (Some y �
 kept_unread None y e = (λ f. let same : Some y ≡ None = f in cc, λ some. let same : false ≡ true = some in cc)
 kept_unread (Some x) y e = cc
 
-made_square : (f : Footing) (c : Content) (r : Reduction) → IsFooting f → IsStep (module_over f.resolved.plain) f.below f.squares c → IsQuasi (module_over f.resolved.plain) f.below f.squares c r → (t : ℤ) → t ≡ bottom f.resolved.plain.generators +ℤ pos f.above → IsMeasured (record { resolved = f.resolved; start = f.start; s = f.s; above = f.above; content = c; quasi = Some r }) t r.cols r.height
+made_square : (f : Footing) (c : Content) (r : Reduction) → IsFooting f → IsStep (over f.resolved) f.below f.squares c → IsQuasi (over f.resolved) f.below f.squares c r → (t : ℤ) → t ≡ bottom_of f.resolved +ℤ pos f.above → IsMeasured (record { resolved = f.resolved; start = f.start; s = f.s; above = f.above; content = c; quasi = Some r }) t r.cols r.height
 made_square f c r h step quasi t degree =
-    let m = module_over f.resolved.plain in
+    let m = over f.resolved in
     let o = footing_founded f h in
     let P : Option (List Content) → Type 0 = λ x. IsStep m x f.squares c in
     let Q : List Content → Type 0 = λ x. IsStep m (row_below o.at f.s f.above) x c in
@@ -111,8 +110,8 @@ kernel_of_reduction m below squares c r step quasi =
     kernel_basis_unique n xs r.kernel c.kernel basis step.kernel
 
 -- the same for the parts of a square
-pub IsMeasured-made : (f : Footing) (c : Content) (r : Reduction) (resolved : Checked) (start : List Entry) (s above : ℕ) (t : ℤ) (w v : ℕ) → IsFooting f → IsStep (module_over f.resolved.plain) f.below f.squares c → IsQuasi (module_over f.resolved.plain) f.below f.squares c r
-    → resolved ≡ f.resolved → start ≡ f.start → s ≡ f.s → above ≡ f.above → t ≡ bottom f.resolved.plain.generators +ℤ pos f.above → w ≡ r.cols → v ≡ r.height → IsMeasured (record { resolved = resolved; start = start; s = s; above = above; content = c; quasi = Some r }) t w v
+pub IsMeasured-made : (f : Footing) (c : Content) (r : Reduction) (resolved : Checked) (start : List Entry) (s above : ℕ) (t : ℤ) (w v : ℕ) → IsFooting f → IsStep (over f.resolved) f.below f.squares c → IsQuasi (over f.resolved) f.below f.squares c r
+    → resolved ≡ f.resolved → start ≡ f.start → s ≡ f.s → above ≡ f.above → t ≡ bottom_of f.resolved +ℤ pos f.above → w ≡ r.cols → v ≡ r.height → IsMeasured (record { resolved = resolved; start = start; s = s; above = above; content = c; quasi = Some r }) t w v
 IsMeasured-made f c r resolved start s above t w v h step quasi e1 e2 e3 e4 degree e5 e6 =
     let q : Placed = record { resolved = f.resolved; start = f.start; s = f.s; above = f.above; content = c; quasi = Some r } in
     let p : Placed = record { resolved = resolved; start = start; s = s; above = above; content = c; quasi = Some r } in

@@ -5,12 +5,11 @@ use Rattle.std.proofs.lemmas.Int.{ints}
 use Rattle.std.proofs.lemmas.Option.{slice_get_within}
 use Rattle.f2_matrix.specs.Reduction.{Reduction}
 use Rattle.f2_matrix.proofs.Unique.{kernel_basis_unique}
-use Rattle.module_check.specs.Module.{bottom}
 use Rattle.module_check.specs.Checked.{Checked}
 use Rattle.resolution_laws.specs.Resolution.{Module, Content, row_of, below_of}
 use Rattle.resolution_laws.specs.Start.{Entry, entry_at, squares_below, row_below}
 use Rattle.resolution_laws.proofs.StartLaws.{content_is_unique, squares_below-same, row_below-same}
-use Rattle.square.specs.Squares.{Placed, module_over, AreUnder, IsQuasi, IsKeptOf, KeptWhereMade, IsSquare}
+use Rattle.square.specs.Squares.{Placed, AreUnder, IsQuasi, IsKeptOf, KeptWhereMade, IsSquare, over, bottom_of}
 use Rattle.degrees.specs.Above.{above_of}
 use Rattle.square.specs.Tables.{Staircase, row_in, plain_rows, content_at, square_at, IsQuasiAt, IsTable}
 use Rattle.square.proofs.Looking.{natural-is}
@@ -19,16 +18,16 @@ use Rattle.square.proofs.Places.{content_at-is, table_before, table_below, table
 -- a square found at a degree, and its place
 pub record IsFound (table : Staircase) (s : ℕ) (t : ℤ) (q : Placed) : Type 0 where
   pub above : ℕ
-  pub degree : t ≡ bottom table.resolved.plain.generators +ℤ pos above
+  pub degree : t ≡ bottom_of table.resolved +ℤ pos above
   pub there : slice_get (row_in table.rows s) above ≡ Some q
 
 pub square_found : (table : Staircase) (s : ℕ) (t : ℤ) (q : Placed) → square_at table s t ≡ Some q → IsFound table s t q
-square_found table s t q e = from (above_of (bottom table.resolved.plain.generators) t) refl e
+square_found table s t q e = from (above_of (bottom_of table.resolved) t) refl e
   where
-    from : (o : Option ℕ) → o ≡ above_of (bottom table.resolved.plain.generators) t → option_and_then (λ k. slice_get (row_in table.rows s) k) o ≡ Some q → IsFound table s t q
+    from : (o : Option ℕ) → o ≡ above_of (bottom_of table.resolved) t → option_and_then (λ k. slice_get (row_in table.rows s) k) o ≡ Some q → IsFound table s t q
     from None same e = cc
     from (Some k) same e =
-        let b = bottom table.resolved.plain.generators in
+        let b = bottom_of table.resolved in
         let d : t -ℤ b ≡ pos k = natural-is (t -ℤ b) k (sym same) in
         record { above = k; degree = omega (arith, ints); there = e }
 
@@ -50,9 +49,9 @@ unread q r where_made kept = none_unless (entry_at q.start q.s q.above) (λ read
 
 module _ (table : Staircase) (h : IsTable table) (s k : ℕ) (q : Placed) (r : Reduction) (there : slice_get (row_in table.rows s) k ≡ Some q) where
   m : Module
-  m = module_over table.resolved.plain
+  m = over table.resolved
 
-  pub kept_here : IsSquare q → KeptWhereMade q → q.quasi ≡ Some r → IsQuasi (module_over table.resolved.plain) (below_of (plain_rows table.rows) s k) (take k (row_of (plain_rows table.rows) s)) (content_at table.rows s k) r
+  pub kept_here : IsSquare q → KeptWhereMade q → q.quasi ≡ Some r → IsQuasi (over table.resolved) (below_of (plain_rows table.rows) s k) (take k (row_of (plain_rows table.rows) s)) (content_at table.rows s k) r
   unfolding m
   kept_here square where_made kept =
       let is = h.placed s k q there in
@@ -63,11 +62,11 @@ module _ (table : Staircase) (h : IsTable table) (s k : ℕ) (q : Placed) (r : R
       sym is.entry_is ∙ ap (λ n. entry_at q.start n k) (sym is.s_is) ∙ ap (entry_at q.start q.s) (sym is.above_is) ∙ unread q r where_made kept in
       let start : q.start ≡ table.start = is.start_is absent in
       let at = made.at in
-      let under1 = subst (λ (x : Checked). AreUnder (module_over x.plain) q.start q.s q.above at) is.resolved_is made.under in
+      let under1 = subst (λ (x : Checked). AreUnder (over x) q.start q.s q.above at) is.resolved_is made.under in
       let under2 = subst (λ (x : List Entry). AreUnder m x q.s q.above at) start under1 in
       let under3 = subst (λ x. AreUnder m table.start x q.above at) is.s_is under2 in
       let under : AreUnder m table.start s k at = subst (λ x. AreUnder m table.start s x at) is.above_is under3 in
-      let quasi1 = subst (λ (x : Checked). IsQuasi (module_over x.plain) (row_below at q.s q.above) (squares_below at q.s q.above) q.content r) is.resolved_is made.quasi in
+      let quasi1 = subst (λ (x : Checked). IsQuasi (over x) (row_below at q.s q.above) (squares_below at q.s q.above) q.content r) is.resolved_is made.quasi in
       let quasi2 = subst (λ x. IsQuasi m (row_below at x q.above) (squares_below at x q.above) q.content r) is.s_is quasi1 in
       let quasi3 = subst (λ x. IsQuasi m (row_below at s x) (squares_below at s x) q.content r) is.above_is quasi2 in
       let quasi4 = subst (λ (x : Content). IsQuasi m (row_below at s k) (squares_below at s k) x r) (sym (content_at-is table.rows s k q there)) quasi3 in

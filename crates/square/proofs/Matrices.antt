@@ -8,30 +8,29 @@ use Rattle.f2_matrix.proofs.Unique.{kernel_basis_unique}
 use Rattle.free_module.specs.FreeModule.{free_width, IsWithinReach}
 use Rattle.free_module.specs.Graded.{GradedModule, free_graded}
 use Rattle.free_module.specs.LinearMap.{map_rows, AreImages}
-use Rattle.module_check.specs.Module.{bottom}
 use Rattle.resolution_laws.specs.Resolution.{Content, no_content, square_in, row_of, below_of, degrees_from, images_of, target_over}
 use Rattle.resolution_laws.specs.Start.{squares_below}
 use Rattle.resolution_laws.proofs.Generators.{AreImages-row}
 use Rattle.resolution_laws.proofs.Rows.{degrees_from-push, images_of-push, free_basis-take, IsWithinReach-row}
 use Rattle.resolution_laws.proofs.Shapes.{content_shape}
 use Rattle.resolution_laws.proofs.StartLaws.{content_is_unique, length-squares_below, squares_below-same, squares_below-take}
-use Rattle.square.specs.Squares.{Placed, module_over, IsQuasi}
+use Rattle.square.specs.Squares.{Placed, IsQuasi, over, bottom_of}
 use Rattle.square.specs.Tables.{Staircase, contents, row_in, plain_rows, content_at, IsTable}
 use Rattle.square.proofs.Places.{row_of-plain, length-row_of, table_content}
 
 -- ---- widths of images
 
-first_widths : (table : Staircase) → IsTable table → (k : ℕ) → k < length (row_in table.rows zero) → HaveWidth ((module_over table.resolved.plain).graded.width ((module_over table.resolved.plain).bottom +ℤ pos k)) (content_at table.rows zero k).images
+first_widths : (table : Staircase) → IsTable table → (k : ℕ) → k < length (row_in table.rows zero) → HaveWidth ((over table.resolved).graded.width ((over table.resolved).bottom +ℤ pos k)) (content_at table.rows zero k).images
 first_widths table h k l =
-    let m = module_over table.resolved.plain in
+    let m = over table.resolved in
     let c = content_at table.rows zero k in
     let p = content_shape kernel_basis_unique m table.start zero k c (table_content table h zero k l) in
     subst (λ n. HaveWidth (m.graded.width (m.bottom +ℤ pos n)) c.images) (length-squares_below p.over.at zero k) p.shape.image_widths
 
 upper_widths : (table : Staircase) → IsTable table → (i k n : ℕ) → n ≤ k → n < length (row_in table.rows (suc i)) → k < length (row_in table.rows i)
-    → HaveWidth (free_width (degrees_from (module_over table.resolved.plain).bottom (take (suc k) (row_of (plain_rows table.rows) i))) ((module_over table.resolved.plain).bottom +ℤ pos n)) (content_at table.rows (suc i) n).images
+    → HaveWidth (free_width (degrees_from (over table.resolved).bottom (take (suc k) (row_of (plain_rows table.rows) i))) ((over table.resolved).bottom +ℤ pos n)) (content_at table.rows (suc i) n).images
 upper_widths table h i k n le there l =
-    let m = module_over table.resolved.plain in
+    let m = over table.resolved in
     let b = m.bottom in
     let row = row_of (plain_rows table.rows) i in
     let c = content_at table.rows (suc i) n in
@@ -54,17 +53,17 @@ row_images target b row count w l =
     subst (λ q. HaveWidth (target.width (b +ℤ pos n)) q.images) (sym (get_or-take count row n no_content m)) (w n m))
 
 -- what a table has of a row, as it was read
-pub gens_read : (table : Staircase) (s n : ℕ) (b : ℤ) (squares : List Placed) (gens : List ℤ) → gens ≡ degrees_from b (take n (contents squares)) → b ≡ bottom table.resolved.plain.generators → squares ≡ row_in table.rows s → gens ≡ degrees_from (module_over table.resolved.plain).bottom (take n (row_of (plain_rows table.rows) s))
+pub gens_read : (table : Staircase) (s n : ℕ) (b : ℤ) (squares : List Placed) (gens : List ℤ) → gens ≡ degrees_from b (take n (contents squares)) → b ≡ bottom_of table.resolved → squares ≡ row_in table.rows s → gens ≡ degrees_from (over table.resolved).bottom (take n (row_of (plain_rows table.rows) s))
 gens_read table s n b squares gens e low same =
-    e ∙ ap (λ x. degrees_from x (take n (contents squares))) low ∙ ap (λ (x : List Placed). degrees_from (bottom table.resolved.plain.generators) (take n (contents x))) same ∙ ap (λ (x : List Content). degrees_from (bottom table.resolved.plain.generators) (take n x)) (sym (row_of-plain table.rows s))
+    e ∙ ap (λ x. degrees_from x (take n (contents squares))) low ∙ ap (λ (x : List Placed). degrees_from (bottom_of table.resolved) (take n (contents x))) same ∙ ap (λ (x : List Content). degrees_from (bottom_of table.resolved) (take n x)) (sym (row_of-plain table.rows s))
 
 pub images_read : (table : Staircase) (s n : ℕ) (squares : List Placed) (images images' : List (List Bool)) → images' ≡ images → images ≡ images_of (take n (contents squares)) → squares ≡ row_in table.rows s → images' ≡ images_of (take n (row_of (plain_rows table.rows) s))
 images_read table s n squares images images' e0 e same = e0 ∙ e ∙ ap (λ (x : List Placed). images_of (take n (contents x))) same ∙ ap (λ (x : List Content). images_of (take n x)) (sym (row_of-plain table.rows s))
 
 -- the images of row 0, and of a row above it
-first_images : (table : Staircase) → IsTable table → (s k : ℕ) (target : GradedModule) (gens : List ℤ) (images : List (List Bool)) → s ≡ 0 → k < length (row_in table.rows s) → target ≡ (module_over table.resolved.plain).graded → gens ≡ degrees_from (module_over table.resolved.plain).bottom (take (k + 1) (row_of (plain_rows table.rows) s)) → images ≡ images_of (take (k + 1) (row_of (plain_rows table.rows) s)) → AreImages target gens images
+first_images : (table : Staircase) → IsTable table → (s k : ℕ) (target : GradedModule) (gens : List ℤ) (images : List (List Bool)) → s ≡ 0 → k < length (row_in table.rows s) → target ≡ (over table.resolved).graded → gens ≡ degrees_from (over table.resolved).bottom (take (k + 1) (row_of (plain_rows table.rows) s)) → images ≡ images_of (take (k + 1) (row_of (plain_rows table.rows) s)) → AreImages target gens images
 first_images table h s k target gens images zeroth l e1 e2 e3 =
-    let m = module_over table.resolved.plain in
+    let m = over table.resolved in
     let low = ap (λ n. length (row_in table.rows n)) zeroth in
     let whole = length-row_of table.rows zero in
     let are = row_images m.graded m.bottom (row_of (plain_rows table.rows) zero) (k + 1) (λ n b. first_widths table h n (omega arith)) (omega arith) in
@@ -74,9 +73,9 @@ first_images table h s k target gens images zeroth l e1 e2 e3 =
     let S : List (List Bool) → Type 0 = λ x. AreImages m.graded (degrees_from m.bottom (take (k + 1) (row_of (plain_rows table.rows) s))) x in
     subst Q (sym e1) (subst R (sym e2) (subst S (sym e3) (subst P (sym zeroth) are)))
 
-upper_images : (table : Staircase) → IsTable table → (s i k : ℕ) (below gens : List ℤ) (images : List (List Bool)) → suc i ≡ s → k < length (row_in table.rows s) → below ≡ degrees_from (module_over table.resolved.plain).bottom (take (k + 1) (row_of (plain_rows table.rows) i)) → gens ≡ degrees_from (module_over table.resolved.plain).bottom (take (k + 1) (row_of (plain_rows table.rows) s)) → images ≡ images_of (take (k + 1) (row_of (plain_rows table.rows) s)) → AreImages (free_graded below) gens images
+upper_images : (table : Staircase) → IsTable table → (s i k : ℕ) (below gens : List ℤ) (images : List (List Bool)) → suc i ≡ s → k < length (row_in table.rows s) → below ≡ degrees_from (over table.resolved).bottom (take (k + 1) (row_of (plain_rows table.rows) i)) → gens ≡ degrees_from (over table.resolved).bottom (take (k + 1) (row_of (plain_rows table.rows) s)) → images ≡ images_of (take (k + 1) (row_of (plain_rows table.rows) s)) → AreImages (free_graded below) gens images
 upper_images table h s i k below gens images above l e1 e2 e3 =
-    let m = module_over table.resolved.plain in
+    let m = over table.resolved in
     let b = m.bottom in
     let rows = plain_rows table.rows in
     let here = ap (λ n. length (row_in table.rows n)) above in
@@ -92,23 +91,23 @@ upper_images table h s i k below gens images above l e1 e2 e3 =
     subst Q lower (subst R (sym e2) (subst S (sym e3) (subst P above are)))
 
 -- the images of a row are vectors of the target over the row below
-pub images_fit : (table : Staircase) → IsTable table → (s k : ℕ) (target : GradedModule) (gens : List ℤ) (images : List (List Bool)) → k < length (row_in table.rows s) → target ≡ target_over (module_over table.resolved.plain) (below_of (plain_rows table.rows) s k) → gens ≡ degrees_from (module_over table.resolved.plain).bottom (take (k + 1) (row_of (plain_rows table.rows) s)) → images ≡ images_of (take (k + 1) (row_of (plain_rows table.rows) s)) → AreImages target gens images
+pub images_fit : (table : Staircase) → IsTable table → (s k : ℕ) (target : GradedModule) (gens : List ℤ) (images : List (List Bool)) → k < length (row_in table.rows s) → target ≡ target_over (over table.resolved) (below_of (plain_rows table.rows) s k) → gens ≡ degrees_from (over table.resolved).bottom (take (k + 1) (row_of (plain_rows table.rows) s)) → images ≡ images_of (take (k + 1) (row_of (plain_rows table.rows) s)) → AreImages target gens images
 images_fit table h zero k target gens images l e1 e2 e3 = first_images table h zero k target gens images refl l e1 e2 e3
 images_fit table h (suc i) k target gens images l e1 e2 e3 =
-    let b = bottom table.resolved.plain.generators in
+    let b = bottom_of table.resolved in
     let row = row_of (plain_rows table.rows) i in
     let P : GradedModule → Type 0 = λ x. AreImages x gens images in
     subst P (ap (λ n. free_graded (degrees_from b (take n row))) (add-one k) ∙ sym e1) (upper_images table h (suc i) i k (degrees_from b (take (k + 1) row)) gens images refl l refl e2 e3)
 
-pub within_reach : (table : Staircase) (s k max n : ℕ) (gens : List ℤ) (t : ℤ) → gens ≡ degrees_from (module_over table.resolved.plain).bottom (take n (row_of (plain_rows table.rows) s)) → t ≡ bottom table.resolved.plain.generators +ℤ pos k → k ≤ max → IsWithinReach max gens t
-within_reach table s k max n gens t e at l = IsWithinReach-row (bottom table.resolved.plain.generators) (take n (row_of (plain_rows table.rows) s)) k max gens t at e l
+pub within_reach : (table : Staircase) (s k max n : ℕ) (gens : List ℤ) (t : ℤ) → gens ≡ degrees_from (over table.resolved).bottom (take n (row_of (plain_rows table.rows) s)) → t ≡ bottom_of table.resolved +ℤ pos k → k ≤ max → IsWithinReach max gens t
+within_reach table s k max n gens t e at l = IsWithinReach-row (bottom_of table.resolved) (take n (row_of (plain_rows table.rows) s)) k max gens t at e l
 
 -- ---- the reduction
 
-pub quasi_made : (table : Staircase) (s k : ℕ) (target : GradedModule) (gens : List ℤ) (images : List (List Bool)) (t : ℤ) (r : Reduction) → k < length (row_in table.rows s) → target ≡ target_over (module_over table.resolved.plain) (below_of (plain_rows table.rows) s k) → gens ≡ degrees_from (module_over table.resolved.plain).bottom (take (k + 1) (row_of (plain_rows table.rows) s)) → images ≡ images_of (take (k + 1) (row_of (plain_rows table.rows) s)) → t ≡ bottom table.resolved.plain.generators +ℤ pos k
-    → IsReductionOf (target.width t) (map_rows target gens images t) r → IsQuasi (module_over table.resolved.plain) (below_of (plain_rows table.rows) s k) (take k (row_of (plain_rows table.rows) s)) (content_at table.rows s k) r
+pub quasi_made : (table : Staircase) (s k : ℕ) (target : GradedModule) (gens : List ℤ) (images : List (List Bool)) (t : ℤ) (r : Reduction) → k < length (row_in table.rows s) → target ≡ target_over (over table.resolved) (below_of (plain_rows table.rows) s k) → gens ≡ degrees_from (over table.resolved).bottom (take (k + 1) (row_of (plain_rows table.rows) s)) → images ≡ images_of (take (k + 1) (row_of (plain_rows table.rows) s)) → t ≡ bottom_of table.resolved +ℤ pos k
+    → IsReductionOf (target.width t) (map_rows target gens images t) r → IsQuasi (over table.resolved) (below_of (plain_rows table.rows) s k) (take k (row_of (plain_rows table.rows) s)) (content_at table.rows s k) r
 quasi_made table s k target gens images t r l e1 e2 e3 e4 is =
-    let m = module_over table.resolved.plain in
+    let m = over table.resolved in
     let row = row_of (plain_rows table.rows) s in
     let squares = take k row in
     let c = content_at table.rows s k in
@@ -126,10 +125,10 @@ quasi_made table s k target gens images t r l e1 e2 e3 e4 is =
     subst S images_are (subst R gens_are (subst Q at (subst P e1 is)))
 
 -- what d_s goes to over row 0, and over a row above it
-pub first_target : (table : Staircase) (s k : ℕ) → s ≡ 0 → (module_over table.resolved.plain).graded ≡ target_over (module_over table.resolved.plain) (below_of (plain_rows table.rows) s k)
-first_target table s k e = ap (λ n. target_over (module_over table.resolved.plain) (below_of (plain_rows table.rows) n k)) (sym e)
+pub first_target : (table : Staircase) (s k : ℕ) → s ≡ 0 → (over table.resolved).graded ≡ target_over (over table.resolved) (below_of (plain_rows table.rows) s k)
+first_target table s k e = ap (λ n. target_over (over table.resolved) (below_of (plain_rows table.rows) n k)) (sym e)
 
-pub upper_target : (table : Staircase) (s i k : ℕ) (below : List ℤ) → suc i ≡ s → below ≡ degrees_from (module_over table.resolved.plain).bottom (take (k + 1) (row_of (plain_rows table.rows) i)) → free_graded below ≡ target_over (module_over table.resolved.plain) (below_of (plain_rows table.rows) s k)
+pub upper_target : (table : Staircase) (s i k : ℕ) (below : List ℤ) → suc i ≡ s → below ≡ degrees_from (over table.resolved).bottom (take (k + 1) (row_of (plain_rows table.rows) i)) → free_graded below ≡ target_over (over table.resolved) (below_of (plain_rows table.rows) s k)
 upper_target table s i k below e same =
-    let m = module_over table.resolved.plain in
+    let m = over table.resolved in
     ap free_graded (same ∙ ap (λ n. degrees_from m.bottom (take n (row_of (plain_rows table.rows) i))) (add-one k)) ∙ ap (λ n. target_over m (below_of (plain_rows table.rows) n k)) e

@@ -3,13 +3,13 @@ use Rattle.std.proofs.Common.{◌≡◌, ℕ, zero, suc, ◌+◌, ◌<◌, ◌�
 use Rattle.std.specs.List.{slice_get}
 use Rattle.std.proofs.lemmas.Int.{ints}
 use Rattle.std.proofs.lemmas.List.{length-map, length-take-le, get_or-take, take-map}
-use Rattle.module_check.specs.Module.{bottom, width}
+use Rattle.module_check.specs.Module.{width}
 use Rattle.module_check.specs.Checked.{Checked}
 use Rattle.resolution_laws.specs.Resolution.{Content, square_in, row_of, below_of, degrees_from, IsStep}
 use Rattle.resolution_laws.specs.Start.{Entry, entry_at, HasShape, squares_below, row_below, IsOf, is_of}
 use Rattle.resolution_laws.proofs.StartLaws.{squares_below-take, grown_content, entry_at-new}
 use Rattle.square.specs.declared.range.TheConstants.{MAX_S, MAX_T}
-use Rattle.square.specs.Squares.{Placed, content_of, module_over, AreUnder, IsMeasured, target_width, source_width}
+use Rattle.square.specs.Squares.{Placed, content_of, AreUnder, IsMeasured, target_width, source_width, over, bottom_of}
 use Rattle.square.specs.Tables.{Staircase, Footing, contents, row_in, plain_rows, content_at, row_width, next_width, under_row, AreOfRow, IsNext, IsTable, IsFooting, IsReadable}
 use Rattle.square.proofs.RowWidths.{free_width-more, free_width-row}
 
@@ -38,10 +38,10 @@ content_at-is rows s k q e = ap (λ (xs : List Content). square_in xs k) (row_of
 
 -- ---- what a table has is of its start
 
-pub table_content : (table : Staircase) → IsTable table → (s k : ℕ) → k < length (row_in table.rows s) → IsOf (module_over table.resolved.plain) table.start s k (content_at table.rows s k)
+pub table_content : (table : Staircase) → IsTable table → (s k : ℕ) → k < length (row_in table.rows s) → IsOf (over table.resolved) table.start s k (content_at table.rows s k)
 table_content table h s k l =
     let there = slice_get-there (row_in table.rows s) k l in
-    subst (IsOf (module_over table.resolved.plain) table.start s k) (sym (content_at-is table.rows s k there.0 there.1)) (h.placed s k there.0 there.1).is_of
+    subst (IsOf (over table.resolved) table.start s k) (sym (content_at-is table.rows s k there.0 there.1)) (h.placed s k there.0 there.1).is_of
 
 pub table_before : (rows : List (List Placed)) (s k : ℕ) → k ≤ length (row_in rows s) → squares_below (content_at rows) s k ≡ take k (row_of (plain_rows rows) s)
 table_before rows s k l =
@@ -55,7 +55,7 @@ table_below rows (suc i) k l =
     let more = l i refl in
     ap (λ (x : List Content). Some x) (squares_below-take (content_at rows) i (suc k) (row_of (plain_rows rows) i) (omega arith) (λ j b. refl))
 
-pub table_under : (table : Staircase) → IsTable table → (s k : ℕ) → k ≤ length (row_in table.rows s) → ((i : ℕ) → suc i ≡ s → k < length (row_in table.rows i)) → AreUnder (module_over table.resolved.plain) table.start s k (content_at table.rows)
+pub table_under : (table : Staircase) → IsTable table → (s k : ℕ) → k ≤ length (row_in table.rows s) → ((i : ℕ) → suc i ≡ s → k < length (row_in table.rows i)) → AreUnder (over table.resolved) table.start s k (content_at table.rows)
 table_under table h s k l below = record {
   before = λ j b. table_content table h s j (omega arith);
   below = λ i j e b. let more = below i e in table_content table h i j (omega arith);
@@ -78,7 +78,7 @@ next_absent table h s k l = none_from (entry_at table.start s k) (λ c e. let th
 
 pub footing_in : (table : Staircase) → IsTable table → (s k : ℕ) → s ≤ MAX_S → k ≤ MAX_T → IsNext table.rows s k → IsFooting (record { resolved = table.resolved; start = table.start; s = s; above = k; squares = take k (row_of (plain_rows table.rows) s); below = below_of (plain_rows table.rows) s k })
 footing_in table h s k row degree next =
-    let m = module_over table.resolved.plain in
+    let m = over table.resolved in
     let rows = plain_rows table.rows in
     let len = length-row_of table.rows s in
     let at_end = next_length table.rows s k next in
@@ -102,11 +102,11 @@ footing_in table h s k row degree next =
 
 -- ---- one square read more
 
-read_square : (table : Staircase) (s k : ℕ) (c : Content) → IsTable table → s ≤ MAX_S → k ≤ MAX_T → IsNext table.rows s k → HasShape (module_over table.resolved.plain) (below_of (plain_rows table.rows) s k) (take k (row_of (plain_rows table.rows) s)) c
-    → (t : ℤ) → t ≡ bottom table.resolved.plain.generators +ℤ pos k
-    → IsMeasured (record { resolved = table.resolved; start = table.start ++ record { s = s; above = k; content = c } ∷ []; s = s; above = k; content = c; quasi = None }) t (target_width (module_over table.resolved.plain) (below_of (plain_rows table.rows) s k) (take k (row_of (plain_rows table.rows) s))) (source_width (module_over table.resolved.plain) (take k (row_of (plain_rows table.rows) s)) c)
+read_square : (table : Staircase) (s k : ℕ) (c : Content) → IsTable table → s ≤ MAX_S → k ≤ MAX_T → IsNext table.rows s k → HasShape (over table.resolved) (below_of (plain_rows table.rows) s k) (take k (row_of (plain_rows table.rows) s)) c
+    → (t : ℤ) → t ≡ bottom_of table.resolved +ℤ pos k
+    → IsMeasured (record { resolved = table.resolved; start = table.start ++ record { s = s; above = k; content = c } ∷ []; s = s; above = k; content = c; quasi = None }) t (target_width (over table.resolved) (below_of (plain_rows table.rows) s k) (take k (row_of (plain_rows table.rows) s))) (source_width (over table.resolved) (take k (row_of (plain_rows table.rows) s)) c)
 read_square table s k c h row degree next shape t at_t =
-    let m = module_over table.resolved.plain in
+    let m = over table.resolved in
     let rows = plain_rows table.rows in
     let e : Entry = record { s = s; above = k; content = c } in
     let at = content_at table.rows in
@@ -138,11 +138,11 @@ read_square table s k c h row degree next shape t at_t =
     }
 
 -- the same for the parts of a square
-pub IsMeasured-read : (table : Staircase) (s : ℕ) (t : ℤ) (c : Content) → IsTable table → IsReadable table s t c → (resolved : Checked) (start more : List Entry) (above : ℕ) (t' : ℤ) (w v : ℕ) → t ≡ bottom table.resolved.plain.generators +ℤ pos above → t' ≡ t → resolved ≡ table.resolved → start ≡ table.start → more ≡ start ++ record { s = s; above = above; content = c } ∷ []
-    → w ≡ target_width (module_over table.resolved.plain) (below_of (plain_rows table.rows) s above) (take above (row_of (plain_rows table.rows) s)) → v ≡ source_width (module_over table.resolved.plain) (take above (row_of (plain_rows table.rows) s)) c
+pub IsMeasured-read : (table : Staircase) (s : ℕ) (t : ℤ) (c : Content) → IsTable table → IsReadable table s t c → (resolved : Checked) (start more : List Entry) (above : ℕ) (t' : ℤ) (w v : ℕ) → t ≡ bottom_of table.resolved +ℤ pos above → t' ≡ t → resolved ≡ table.resolved → start ≡ table.start → more ≡ start ++ record { s = s; above = above; content = c } ∷ []
+    → w ≡ target_width (over table.resolved) (below_of (plain_rows table.rows) s above) (take above (row_of (plain_rows table.rows) s)) → v ≡ source_width (over table.resolved) (take above (row_of (plain_rows table.rows) s)) c
     → IsMeasured (record { resolved = resolved; start = more; s = s; above = above; content = c; quasi = None }) t' w v
 IsMeasured-read table s t c h readable resolved start more above t' w v at_t e1 e2 e3 e4 e5 e6 =
-    let m = module_over table.resolved.plain in
+    let m = over table.resolved in
     let rows = plain_rows table.rows in
     let k = readable.place.above in
     let d = readable.place.degree in
@@ -185,9 +185,9 @@ shared_below rows s i k squares e same =
     subst P e (ap (λ (x : List Content). Some x) all)
 
 -- the dimension of what d_s goes to, in the degree of the next square
-pub target_width-first : (table : Staircase) (s k : ℕ) (t : ℤ) → s ≡ 0 → IsNext table.rows s k → t ≡ bottom table.resolved.plain.generators +ℤ pos k → width table.resolved.plain.generators t ≡ target_width (module_over table.resolved.plain) (below_of (plain_rows table.rows) s k) (take k (row_of (plain_rows table.rows) s))
+pub target_width-first : (table : Staircase) (s k : ℕ) (t : ℤ) → s ≡ 0 → IsNext table.rows s k → t ≡ bottom_of table.resolved +ℤ pos k → width table.resolved.plain.generators t ≡ target_width (over table.resolved) (below_of (plain_rows table.rows) s k) (take k (row_of (plain_rows table.rows) s))
 target_width-first table s k t e next at =
-    let m = module_over table.resolved.plain in
+    let m = over table.resolved in
     let rows = plain_rows table.rows in
     let end = next_length table.rows s k next in
     let whole = length-row_of table.rows s in
@@ -196,9 +196,9 @@ target_width-first table s k t e next at =
     let P : ℕ → Type 0 = λ n. width table.resolved.plain.generators t ≡ target_width m (below_of rows n k) (take k (row_of rows s)) in
     subst P (sym e) (ap m.graded.width here)
 
-pub target_width-above : (table : Staircase) (s i k : ℕ) → suc i ≡ s → IsNext table.rows s k → target_width (module_over table.resolved.plain) (below_of (plain_rows table.rows) s k) (take k (row_of (plain_rows table.rows) s)) ≡ row_width (take (k + 1) (contents (row_in table.rows i))) k
+pub target_width-above : (table : Staircase) (s i k : ℕ) → suc i ≡ s → IsNext table.rows s k → target_width (over table.resolved) (below_of (plain_rows table.rows) s k) (take k (row_of (plain_rows table.rows) s)) ≡ row_width (take (k + 1) (contents (row_in table.rows i))) k
 target_width-above table s i k e next =
-    let m = module_over table.resolved.plain in
+    let m = over table.resolved in
     let rows = plain_rows table.rows in
     let end = next_length table.rows s k next in
     let whole = length-row_of table.rows s in
@@ -207,13 +207,13 @@ target_width-above table s i k e next =
     let lower : take (suc k) (row_of rows i) ≡ take (k + 1) (contents (row_in table.rows i)) = ap (λ n. take n (row_of rows i)) (sym (add-one k)) ∙ ap (take (k + 1)) (row_of-plain table.rows i) in
     subst P e (free_width-row m.bottom (take (suc k) (row_of rows i)) (length (take k (row_of rows s))) ∙ ap (λ x. row_width x (length (take k (row_of rows s)))) lower ∙ ap (row_width (take (k + 1) (contents (row_in table.rows i)))) len)
 
-pub target_width-read : (table : Staircase) (s k n : ℕ) (m : Checked) (t : ℤ) → n ≡ width m.plain.generators t → m ≡ table.resolved → t ≡ bottom table.resolved.plain.generators +ℤ pos k → s ≡ 0 → IsNext table.rows s k → n ≡ target_width (module_over table.resolved.plain) (below_of (plain_rows table.rows) s k) (take k (row_of (plain_rows table.rows) s))
+pub target_width-read : (table : Staircase) (s k n : ℕ) (m : Checked) (t : ℤ) → n ≡ width m.plain.generators t → m ≡ table.resolved → t ≡ bottom_of table.resolved +ℤ pos k → s ≡ 0 → IsNext table.rows s k → n ≡ target_width (over table.resolved) (below_of (plain_rows table.rows) s k) (take k (row_of (plain_rows table.rows) s))
 target_width-read table s k n m t e same at first next = e ∙ ap (λ (x : Checked). width x.plain.generators t) same ∙ target_width-first table s k t first next at
 
 -- the dimension of F_s in the same degree
 pub next_width-row : (table : Staircase) (s k count : ℕ) (row : List Placed) → row ≡ row_in table.rows s → IsNext table.rows s k → row_width (take k (contents row)) k + count ≡ next_width table s k count
 next_width-row table s k count row same next =
-    let m = module_over table.resolved.plain in
+    let m = over table.resolved in
     let end = next_length table.rows s k next in
     let whole = length-row_of table.rows s in
     let squares = take k (row_of (plain_rows table.rows) s) in

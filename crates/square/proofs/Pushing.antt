@@ -8,7 +8,7 @@ use Rattle.module_check.specs.Checked.{Checked}
 use Rattle.resolution_laws.specs.Resolution.{Content}
 use Rattle.resolution_laws.specs.Start.{Entry, entry_at, IsOf}
 use Rattle.resolution_laws.proofs.StartLaws.{grown_content, entry_at-other}
-use Rattle.square.specs.Squares.{Placed, entry_of, module_over, WasRead, IsSquare}
+use Rattle.square.specs.Squares.{Placed, entry_of, WasRead, IsSquare, over}
 use Rattle.square.specs.Tables.{Shelf, Staircase, row_in, with_square, IsNext, IsContinued, IsIn, IsTable, HaveRoom}
 use Rattle.square.proofs.Places.{next_length}
 
@@ -116,17 +116,17 @@ module _ (table : Staircase) (q : Placed) (spare : ℕ) (h : IsTable table) (squ
 
   -- what was there stays as it was
   abbrev Stands : ℕ → ℕ → Content → Type 0
-  Stands i j c = IsOf (module_over table.resolved.plain) q.start i j c × (entry_at q.start i j ≡ entry_at table.start i j)
+  Stands i j c = IsOf (over table.resolved) q.start i j c × (entry_at q.start i j ≡ entry_at table.start i j)
 
-  stands : IsContinued table q → (i j : ℕ) (c : Content) → j < length (row_in table.rows i) → IsOf (module_over table.resolved.plain) table.start i j c → Stands i j c
+  stands : IsContinued table q → (i j : ℕ) (c : Content) → j < length (row_in table.rows i) → IsOf (over table.resolved) table.start i j c → Stands i j c
   stands continued i j c there is =
       elim continued [
-        | inl e ↦ (subst (λ st. IsOf (module_over table.resolved.plain) st i j c) (sym e) is, ap (λ (st : List Entry). entry_at st i j) e)
+        | inl e ↦ (subst (λ st. IsOf (over table.resolved) st i j c) (sym e) is, ap (λ (st : List Entry). entry_at st i j) e)
         | inr e ↦
             let off = off_next table h q.s q.above i j row_end there in
-            let P : List Entry → Type 0 = λ st. IsOf (module_over table.resolved.plain) st i j c in
+            let P : List Entry → Type 0 = λ st. IsOf (over table.resolved) st i j c in
             let other = entry_at-other table.start (entry_of q) i j (λ a b. off (omega arith) (omega arith)) in
-            (subst P (sym e.1) (grown_content (module_over table.resolved.plain) table.start (entry_of q) i j c off is), ap (λ (st : List Entry). entry_at st i j) e.1 ∙ other)
+            (subst P (sym e.1) (grown_content (over table.resolved) table.start (entry_of q) i j c off is), ap (λ (st : List Entry). entry_at st i j) e.1 ∙ other)
       ]
 
   still : IsContinued table q → (i j : ℕ) (p : Placed) → slice_get (row_in table.rows i) j ≡ Some p → entry_at q.start i j ≡ entry_at table.start i j → entry_at q.start i j ≡ None → p.start ≡ q.start
@@ -149,7 +149,7 @@ module _ (table : Staircase) (q : Placed) (spare : ℕ) (h : IsTable table) (squ
     above_is = refl;
     within = square.degree;
     resolved_is = resolved;
-    is_of = subst (λ (m : Checked). IsOf (module_over m.plain) q.start q.s q.above q.content) resolved square.is_of;
+    is_of = subst (λ (m : Checked). IsOf (over m) q.start q.s q.above q.content) resolved square.is_of;
     entry_is = refl;
     start_is = λ none. refl;
   }

@@ -12,7 +12,7 @@ use Rattle.module_check.specs.Graded.{module_graded}
 use Rattle.module_check.specs.ModuleLaws.{module_HasUnit}
 use Rattle.resolution_laws.specs.Resolution.{Content, IsChosen, IsStep}
 use Rattle.resolution_laws.proofs.NewGenerators.{map_rows-new, IsStepOver_from_choice}
-use Rattle.square.specs.Squares.{module_over, square_matrix, IsQuasi}
+use Rattle.square.specs.Squares.{square_matrix, IsQuasi, over, bottom_of}
 
 abbrev one : List (List Bool)
 one = (true ∷ []) ∷ []
@@ -61,13 +61,13 @@ chosen_one = record { kept = true ∷ []; one_each = refl; dropped = dropped; ch
     dropped (suc i) l = absurd (omega arith)
 
 -- the dimension of the sphere in its bottom degree, and the matrix of the map that takes a generator there to its own
-bottom_width : (m : Checked) → m.plain ≡ sphere → width m.plain.generators (bottom m.plain.generators +ℤ pos 0) ≡ 1
+bottom_width : (m : Checked) → m.plain ≡ sphere → width m.plain.generators (bottom_of m +ℤ pos 0) ≡ 1
 bottom_width m e = ap (λ (p : SteenrodModule). width p.generators (bottom p.generators +ℤ pos 0)) e
 
-pub first_step : (m : Checked) (below : Option (List Content)) (squares : List Content) (images kernel : List (List Bool)) → m.plain ≡ sphere → below ≡ None → squares ≡ [] → images ≡ one → kernel ≡ [] → IsStep (module_over m.plain) below squares (record { images = images; kernel = kernel })
+pub first_step : (m : Checked) (below : Option (List Content)) (squares : List Content) (images kernel : List (List Bool)) → m.plain ≡ sphere → below ≡ None → squares ≡ [] → images ≡ one → kernel ≡ [] → IsStep (over m) below squares (record { images = images; kernel = kernel })
 first_step m below squares images kernel e1 e2 e3 e4 e5 =
     let c : Content = record { images = images; kernel = kernel } in
-    let t = bottom m.plain.generators +ℤ pos 0 in
+    let t = bottom_of m +ℤ pos 0 in
     let n = width m.plain.generators t in
     let wide : n ≡ 1 = bottom_width m e1 in
     let matrix : Rows = record { cols = 1; rows = [] } in
@@ -75,23 +75,23 @@ first_step m below squares images kernel e1 e2 e3 e4 e5 =
     let chosen : IsChosen 1 [] (unit_vectors n) images = subst (λ (x : List (List Bool)). IsChosen 1 [] (unit_vectors n) x) (sym e4) chosen1 in
     let kernel1 : IsKernelBasis 1 images [] = subst (λ (x : List (List Bool)). IsKernelBasis 1 x []) (sym e4) no_kernel in
     let kernels : IsKernelBasis 1 images kernel = subst (λ (x : List (List Bool)). IsKernelBasis 1 images x) (sym e5) kernel1 in
-    let step : IsStep (module_over m.plain) None [] c = IsStepOver_from_choice (module_graded m.plain) [] [] (unit_vectors n) t matrix c (module_HasUnit m.plain m.is_module) refl (HaveWidth-unit_vectors n) (sym wide) refl chosen kernels in
-    let P : Option (List Content) → Type 0 = λ x. IsStep (module_over m.plain) x [] c in
-    let Q : List Content → Type 0 = λ x. IsStep (module_over m.plain) below x c in
+    let step : IsStep (over m) None [] c = IsStepOver_from_choice (module_graded m.plain) [] [] (unit_vectors n) t matrix c (module_HasUnit m.plain m.is_module) refl (HaveWidth-unit_vectors n) (sym wide) refl chosen kernels in
+    let P : Option (List Content) → Type 0 = λ x. IsStep (over m) x [] c in
+    let Q : List Content → Type 0 = λ x. IsStep (over m) below x c in
     subst Q (sym e3) (subst P (sym e2) step)
 
-pub first_quasi : (m : Checked) (below : Option (List Content)) (squares : List Content) (images kernel : List (List Bool)) (r : Reduction) (cols : ℕ) (rows : List (List Bool)) → m.plain ≡ sphere → below ≡ None → squares ≡ [] → images ≡ one → cols ≡ 1 → rows ≡ one → IsReductionOf cols rows r → IsQuasi (module_over m.plain) below squares (record { images = images; kernel = kernel }) r
+pub first_quasi : (m : Checked) (below : Option (List Content)) (squares : List Content) (images kernel : List (List Bool)) (r : Reduction) (cols : ℕ) (rows : List (List Bool)) → m.plain ≡ sphere → below ≡ None → squares ≡ [] → images ≡ one → cols ≡ 1 → rows ≡ one → IsReductionOf cols rows r → IsQuasi (over m) below squares (record { images = images; kernel = kernel }) r
 first_quasi m below squares images kernel r cols rows e1 e2 e3 e4 e5 e6 is =
     let c : Content = record { images = images; kernel = kernel } in
-    let t = bottom m.plain.generators +ℤ pos 0 in
+    let t = bottom_of m +ℤ pos 0 in
     let wide : width m.plain.generators t ≡ 1 = bottom_width m e1 in
     let widths1 : HaveWidth 1 images = subst (HaveWidth 1) (sym e4) (λ i l. one_wide i l) in
     let widths : HaveWidth (width m.plain.generators t) images = subst (λ n. HaveWidth n images) (sym wide) widths1 in
-    let matrix : square_matrix (module_over m.plain) None [] c ≡ images = map_rows-new (module_graded m.plain) [] [] images t (module_HasUnit m.plain m.is_module) refl widths in
+    let matrix : square_matrix (over m) None [] c ≡ images = map_rows-new (module_graded m.plain) [] [] images t (module_HasUnit m.plain m.is_module) refl widths in
     let is1 : IsReductionOf (width m.plain.generators t) rows r = subst (λ n. IsReductionOf n rows r) (e5 ∙ sym wide) is in
-    let is2 : IsQuasi (module_over m.plain) None [] c r = subst (λ (x : List (List Bool)). IsReductionOf (width m.plain.generators t) x r) (e6 ∙ sym e4 ∙ sym matrix) is1 in
-    let P : Option (List Content) → Type 0 = λ x. IsQuasi (module_over m.plain) x [] c r in
-    let Q : List Content → Type 0 = λ x. IsQuasi (module_over m.plain) below x c r in
+    let is2 : IsQuasi (over m) None [] c r = subst (λ (x : List (List Bool)). IsReductionOf (width m.plain.generators t) x r) (e6 ∙ sym e4 ∙ sym matrix) is1 in
+    let P : Option (List Content) → Type 0 = λ x. IsQuasi (over m) x [] c r in
+    let Q : List Content → Type 0 = λ x. IsQuasi (over m) below x c r in
     subst Q (sym e3) (subst P (sym e2) is2)
   where
     one_wide : (i : ℕ) → i < 1 → length (row one i) ≡ 1

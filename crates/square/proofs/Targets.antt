@@ -4,12 +4,11 @@ use Rattle.std.specs.List.{slice_get}
 use Rattle.std.proofs.lemmas.Bool.{cases_lt}
 use Rattle.std.proofs.lemmas.List.{take_all, length-map}
 use Rattle.free_module.specs.Graded.{free_graded}
-use Rattle.module_check.specs.Module.{bottom}
 use Rattle.module_check.specs.Graded.{module_graded}
 use Rattle.module_check.specs.Checked.{Checked}
 use Rattle.resolution_laws.specs.Resolution.{Content, square_in, row_of, degrees_from, images_of, target_over}
 use Rattle.square.specs.declared.range.TheConstants.{MAX_S, MAX_T}
-use Rattle.square.specs.Squares.{Placed, content_of, module_over}
+use Rattle.square.specs.Squares.{Placed, content_of, over, bottom_of}
 use Rattle.square.specs.Tables.{Staircase, Footing, contents, row_in, plain_rows, under_row, IsTable, IsFooting}
 use Rattle.square.proofs.Places.{length-row_of, slice_get-there, square_in-contents}
 use Rattle.square.proofs.Found.{row_within}
@@ -44,10 +43,10 @@ no_row table h s n above =
 
 -- ---- rows of inputs
 
-pub gens_given : (f now : Footing) → IsFooting f → f ≡ now → (b : ℤ) (n : ℕ) (gens : List ℤ) → b ≡ bottom f.resolved.plain.generators → n ≡ f.above → gens ≡ degrees_from b (take n f.squares) → gens ≡ degrees_from (bottom now.resolved.plain.generators) now.squares
+pub gens_given : (f now : Footing) → IsFooting f → f ≡ now → (b : ℤ) (n : ℕ) (gens : List ℤ) → b ≡ bottom_of f.resolved → n ≡ f.above → gens ≡ degrees_from b (take n f.squares) → gens ≡ degrees_from (bottom_of now.resolved) now.squares
 gens_given f now h same b n gens low count e =
     let len = h.length_is in
-    e ∙ ap (λ x. degrees_from x (take n f.squares)) low ∙ ap (degrees_from (bottom f.resolved.plain.generators)) (take_all n f.squares (omega arith)) ∙ ap (λ (x : Footing). degrees_from (bottom x.resolved.plain.generators) x.squares) same
+    e ∙ ap (λ x. degrees_from x (take n f.squares)) low ∙ ap (degrees_from (bottom_of f.resolved)) (take_all n f.squares (omega arith)) ∙ ap (λ (x : Footing). degrees_from (bottom_of x.resolved) x.squares) same
 
 pub images_given : (f now : Footing) → IsFooting f → f ≡ now → (n : ℕ) (images : List (List Bool)) → n ≡ f.above → images ≡ images_of (take n f.squares) → images ≡ images_of now.squares
 images_given f now h same n images count e =
@@ -72,18 +71,18 @@ row_held_below f h squares e l = in_row f.s refl
         record { below = here; count = sym (length-map squares content_of) ∙ ap length (sym same) ∙ p.2 }
 
 -- the target over it, and over the module
-pub row_target : (f now : Footing) → IsFooting f → f ≡ now → (squares : List Placed) (b : ℤ) (n : ℕ) (gens : List ℤ) → under_row f.s (contents squares) ≡ f.below → 0 < f.s → b ≡ bottom f.resolved.plain.generators → n ≡ f.above + 1 → gens ≡ degrees_from b (take n (contents squares)) → free_graded gens ≡ target_over (module_over now.resolved.plain) now.below
+pub row_target : (f now : Footing) → IsFooting f → f ≡ now → (squares : List Placed) (b : ℤ) (n : ℕ) (gens : List ℤ) → under_row f.s (contents squares) ≡ f.below → 0 < f.s → b ≡ bottom_of f.resolved → n ≡ f.above + 1 → gens ≡ degrees_from b (take n (contents squares)) → free_graded gens ≡ target_over (over now.resolved) now.below
 row_target f now h same squares b n gens under l low count e =
     let r = row_held_below f h squares under l in
-    let m = module_over f.resolved.plain in
+    let m = over f.resolved in
     let len = length-map squares content_of in
     let all = r.count in
     let are : gens ≡ degrees_from m.bottom (contents squares) = e ∙ ap (λ x. degrees_from x (take n (contents squares))) low ∙ ap (degrees_from m.bottom) (take_all n (contents squares) (omega arith)) in
-    ap free_graded are ∙ ap (λ (x : Option (List Content)). target_over m x) (sym r.below) ∙ ap (λ (x : Footing). target_over (module_over x.resolved.plain) x.below) same
+    ap free_graded are ∙ ap (λ (x : Option (List Content)). target_over m x) (sym r.below) ∙ ap (λ (x : Footing). target_over (over x.resolved) x.below) same
 
-pub module_target : (f now : Footing) → IsFooting f → f ≡ now → f.s ≡ 0 → (m : Checked) → m ≡ f.resolved → module_graded m.plain ≡ target_over (module_over now.resolved.plain) now.below
+pub module_target : (f now : Footing) → IsFooting f → f ≡ now → f.s ≡ 0 → (m : Checked) → m ≡ f.resolved → module_graded m.plain ≡ target_over (over now.resolved) now.below
 module_target f now h same e m is =
-    ap (λ (x : Checked). module_graded x.plain) is ∙ ap (λ (x : Option (List Content)). target_over (module_over f.resolved.plain) x) (sym (h.has_none e)) ∙ ap (λ (x : Footing). target_over (module_over x.resolved.plain) x.below) same
+    ap (λ (x : Checked). module_graded x.plain) is ∙ ap (λ (x : Option (List Content)). target_over (over f.resolved) x) (sym (h.has_none e)) ∙ ap (λ (x : Footing). target_over (over x.resolved) x.below) same
 
 -- the square below, and its kernel
 abbrev pub content_below : Footing → Option Content

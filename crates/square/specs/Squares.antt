@@ -14,6 +14,13 @@ use Rattle.square.specs.declared.range.TheConstants.{MAX_S, MAX_T}
 abbrev pub module_over : SteenrodModule → Module
 module_over m = record { bottom = bottom m.generators; graded = module_graded m }
 
+-- the same of a module with the proof that it is one, and its least degree
+abbrev pub over : Checked → Module
+over m = module_over m.plain
+
+abbrev pub bottom_of : Checked → ℤ
+bottom_of m = bottom m.plain.generators
+
 -- ---- a square over the squares of its row before it and the row below it
 
 -- the degrees of the generators of the row with the new ones, which stand last
@@ -66,9 +73,9 @@ pub record AreUnder (m : Module) (start : List Entry) (s k : ℕ) (at : ℕ → 
 -- the dimensions, in the square's degree, of what d_s goes to and of F_s with its generators
 pub record AreWidths (q : Placed) (w v : ℕ) : Type 0 where
   pub at : ℕ → ℕ → Content
-  pub under : AreUnder (module_over q.resolved.plain) q.start q.s q.above at
-  pub target : w ≡ target_width (module_over q.resolved.plain) (row_below at q.s q.above) (squares_below at q.s q.above)
-  pub source : v ≡ source_width (module_over q.resolved.plain) (squares_below at q.s q.above) q.content
+  pub under : AreUnder (over q.resolved) q.start q.s q.above at
+  pub target : w ≡ target_width (over q.resolved) (row_below at q.s q.above) (squares_below at q.s q.above)
+  pub source : v ≡ source_width (over q.resolved) (squares_below at q.s q.above) q.content
 
 -- the square was read: the start has one at its place
 abbrev pub WasRead : Placed → Type 0
@@ -77,13 +84,13 @@ WasRead q = IsSome (entry_at q.start q.s q.above)
 -- reduction is that of the square's matrix
 pub record IsKeptOf (q : Placed) (reduction : Reduction) : Type 0 where
   pub at : ℕ → ℕ → Content
-  pub under : AreUnder (module_over q.resolved.plain) q.start q.s q.above at
-  pub quasi : IsQuasi (module_over q.resolved.plain) (row_below at q.s q.above) (squares_below at q.s q.above) q.content reduction
+  pub under : AreUnder (over q.resolved) q.start q.s q.above at
+  pub quasi : IsQuasi (over q.resolved) (row_below at q.s q.above) (squares_below at q.s q.above) q.content reduction
 
 -- What is known of each square: it holds what its start's table has there, which is what the start has where it was read; it is
 -- within the limits; and the reduction that it kept, if any, is that of its matrix.
 pub record IsSquare (q : Placed) : Type 0 where
-  pub is_of : IsOf (module_over q.resolved.plain) q.start q.s q.above q.content
+  pub is_of : IsOf (over q.resolved) q.start q.s q.above q.content
   pub row : q.s ≤ MAX_S
   pub degree : q.above ≤ MAX_T
   pub kept : IfSome q.quasi (IsKeptOf q)
@@ -95,6 +102,6 @@ KeptWhereMade q = (q.quasi ≡ None) ↔ WasRead q
 -- the same, with the square's degree and its widths, and where it has kept its reduction
 pub record IsMeasured (q : Placed) (t : ℤ) (w v : ℕ) : Type 0 where
   pub square : IsSquare q
-  pub degree : t ≡ bottom q.resolved.plain.generators +ℤ pos q.above
+  pub degree : t ≡ bottom_of q.resolved +ℤ pos q.above
   pub widths : AreWidths q w v
   pub where_made : KeptWhereMade q

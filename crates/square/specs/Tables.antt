@@ -3,13 +3,12 @@ use Rattle.std.specs.Prelude.{◌≡◌, ℕ, zero, suc, ◌+◌, ◌*◌, ◌^�
 use Rattle.degrees.specs.Above.{above_of}
 use Rattle.milnor_basis.specs.Basis.{basis_of}
 use Rattle.f2_matrix.specs.Reduction.{Reduction}
-use Rattle.module_check.specs.Module.{bottom}
 use Rattle.module_check.specs.Checked.{Checked}
 use Rattle.resolution_laws.specs.Resolution.{Content, square_in, row_of, below_of}
 use Rattle.resolution_laws.specs.Start.{Entry, entry_at, HasShape, IsOf}
 use Rattle.square.specs.declared.range.Range.{Range}
 use Rattle.square.specs.declared.range.TheConstants.{MAX_S, MAX_T}
-use Rattle.square.specs.Squares.{Placed, content_of, module_over, entry_of, target_width, width_with, source_width, WasRead, IsQuasi}
+use Rattle.square.specs.Squares.{Placed, content_of, entry_of, target_width, width_with, source_width, WasRead, IsQuasi, over, bottom_of}
 
 -- ---- rows
 
@@ -49,7 +48,7 @@ content_at rows s k = square_in (row_of (plain_rows rows) s) k
 
 -- the square in row s and of degree t
 abbrev pub square_at : Staircase → ℕ → ℤ → Option Placed
-square_at table s t = option_and_then (λ k. slice_get (row_in table.rows s) k) (above_of (bottom table.resolved.plain.generators) t)
+square_at table s t = option_and_then (λ k. slice_get (row_in table.rows s) k) (above_of (bottom_of table.resolved) t)
 
 -- the rows with one square more at the end of row s
 abbrev pub with_square : List (List Placed) → ℕ → Placed → List (List Placed)
@@ -73,7 +72,7 @@ pub record IsNext (rows : List (List Placed)) (s k : ℕ) : Type 0 where
 -- The same in degree t, and the place is within the limits of a range.
 pub record IsNextAt (table : Staircase) (s : ℕ) (t : ℤ) : Type 0 where
   pub above : ℕ
-  pub degree : t ≡ bottom table.resolved.plain.generators +ℤ pos above
+  pub degree : t ≡ bottom_of table.resolved +ℤ pos above
   pub row : s ≤ MAX_S
   pub within : above ≤ MAX_T
   pub next : IsNext table.rows s above
@@ -81,10 +80,10 @@ pub record IsNextAt (table : Staircase) (s : ℕ) (t : ℤ) : Type 0 where
 -- the dimensions, k degrees above the bottom, of what d_s goes to and of F_s with `count` new generators, where the next square
 -- of row s is
 abbrev pub next_target_width : Staircase → ℕ → ℕ → ℕ
-next_target_width table s k = target_width (module_over table.resolved.plain) (below_of (plain_rows table.rows) s k) (take k (row_of (plain_rows table.rows) s))
+next_target_width table s k = target_width (over table.resolved) (below_of (plain_rows table.rows) s k) (take k (row_of (plain_rows table.rows) s))
 
 abbrev pub next_width : Staircase → ℕ → ℕ → ℕ → ℕ
-next_width table s k count = width_with (module_over table.resolved.plain) (take k (row_of (plain_rows table.rows) s)) count
+next_width table s k count = width_with (over table.resolved) (take k (row_of (plain_rows table.rows) s)) count
 
 abbrev pub next_widths : Staircase → ℕ → ℕ → ℕ → ℕ × ℕ
 next_widths table s k count = (next_target_width table s k, next_width table s k count)
@@ -98,9 +97,9 @@ FitWords w = (w.0 < 2 ^ 64) × (w.1 < 2 ^ 64)
 pub record IsReadable (table : Staircase) (s : ℕ) (t : ℤ) (content : Content) : Type 0 where
   pub all_read : AllRead table.rows
   pub place : IsNextAt table s t
-  pub shape : HasShape (module_over table.resolved.plain) (below_of (plain_rows table.rows) s place.above) (take place.above (row_of (plain_rows table.rows) s)) content
-  pub target_fits : target_width (module_over table.resolved.plain) (below_of (plain_rows table.rows) s place.above) (take place.above (row_of (plain_rows table.rows) s)) < 2 ^ 64
-  pub source_fits : source_width (module_over table.resolved.plain) (take place.above (row_of (plain_rows table.rows) s)) content < 2 ^ 64
+  pub shape : HasShape (over table.resolved) (below_of (plain_rows table.rows) s place.above) (take place.above (row_of (plain_rows table.rows) s)) content
+  pub target_fits : target_width (over table.resolved) (below_of (plain_rows table.rows) s place.above) (take place.above (row_of (plain_rows table.rows) s)) < 2 ^ 64
+  pub source_fits : source_width (over table.resolved) (take place.above (row_of (plain_rows table.rows) s)) content < 2 ^ 64
 
 -- The square continues the table's start: it has that start, or every square so far was read, and so was it.
 abbrev pub IsContinued : Staircase → Placed → Type 0
@@ -109,8 +108,8 @@ IsContinued table q = (q.start ≡ table.start) ⊎ (AllRead table.rows × (q.st
 -- reduction is that of the matrix of d_s in degree t with the generators of the square there
 pub record IsQuasiAt (table : Staircase) (s : ℕ) (t : ℤ) (reduction : Reduction) : Type 0 where
   pub above : ℕ
-  pub degree : t ≡ bottom table.resolved.plain.generators +ℤ pos above
-  pub quasi : IsQuasi (module_over table.resolved.plain) (below_of (plain_rows table.rows) s above) (take above (row_of (plain_rows table.rows) s)) (content_at table.rows s above) reduction
+  pub degree : t ≡ bottom_of table.resolved +ℤ pos above
+  pub quasi : IsQuasi (over table.resolved) (below_of (plain_rows table.rows) s above) (take above (row_of (plain_rows table.rows) s)) (content_at table.rows s above) reduction
 
 -- what is known of the square at (s, k) of a table: its place and its module, what it holds, that the table's start has the same
 -- at its place as its own, and that its own is the whole start where it was made
@@ -119,7 +118,7 @@ pub record IsIn (table : Staircase) (s k : ℕ) (q : Placed) : Type 0 where
   pub above_is : q.above ≡ k
   pub within : k ≤ MAX_T
   pub resolved_is : q.resolved ≡ table.resolved
-  pub is_of : IsOf (module_over table.resolved.plain) table.start s k q.content
+  pub is_of : IsOf (over table.resolved) table.start s k q.content
   pub entry_is : entry_at q.start s k ≡ entry_at table.start s k
   pub start_is : entry_at table.start s k ≡ None → q.start ≡ table.start
 
@@ -140,7 +139,7 @@ pub record IsPlaced (resolved : Checked) (s k : ℕ) (q : Placed) : Type 0 where
 pub record IsPlacedAt (resolved : Checked) (s : ℕ) (t : ℤ) (q : Placed) : Type 0 where
   pub resolved_is : q.resolved ≡ resolved
   pub s_is : q.s ≡ s
-  pub degree : t ≡ bottom resolved.plain.generators +ℤ pos q.above
+  pub degree : t ≡ bottom_of resolved +ℤ pos q.above
 
 -- the squares are the first of row s
 abbrev pub AreOfRow : Checked → ℕ → List Placed → Type 0
@@ -165,7 +164,7 @@ content_in f i k =
     else (if nat_eq (suc i) f.s then option_and_then (λ below. slice_get below k) f.below else None)
 
 abbrev pub footing_at : Footing → ℕ → ℤ → Option Content
-footing_at f i t = option_and_then (λ k. content_in f i k) (above_of (bottom f.resolved.plain.generators) t)
+footing_at f i t = option_and_then (λ k. content_in f i k) (above_of (bottom_of f.resolved) t)
 
 -- a row below row s
 abbrev pub under_row : ℕ → List Content → Option (List Content)
@@ -181,8 +180,8 @@ pub record IsFooting (f : Footing) : Type 0 where
   pub length_is : length f.squares ≡ f.above
   pub has_below : (i : ℕ) → suc i ≡ f.s → (below : List Content) × (f.below ≡ Some below) × (length below ≡ f.above + 1)
   pub has_none : f.s ≡ 0 → f.below ≡ None
-  pub before_are : (j : ℕ) → j < f.above → IsOf (module_over f.resolved.plain) f.start f.s j (square_in f.squares j)
-  pub below_are : (i j : ℕ) → suc i ≡ f.s → j ≤ f.above → IfSome f.below (λ below. IsOf (module_over f.resolved.plain) f.start i j (square_in below j))
+  pub before_are : (j : ℕ) → j < f.above → IsOf (over f.resolved) f.start f.s j (square_in f.squares j)
+  pub below_are : (i j : ℕ) → suc i ≡ f.s → j ≤ f.above → IfSome f.below (λ below. IsOf (over f.resolved) f.start i j (square_in below j))
 
 -- each row has room for so many squares more
 abbrev pub HaveRoom : List Shelf → ℕ → Type 0

@@ -4,7 +4,7 @@ ghost use Rattle.module_check.specs.Module.{bottom};
 ghost use Rattle.resolution_laws.specs.Resolution.{degrees_from, images_of, square_in, target_over};
 ghost use Rattle.square.specs.Below.{graded_of, reaches_of};
 ghost use Rattle.square.specs.declared.range.TheConstants.{MAX_T};
-ghost use Rattle.square.specs.Squares.{content_of, module_over};
+ghost use Rattle.square.specs.Squares.{content_of, over, bottom_of};
 ghost use Rattle.square.specs.Tables.{IsFooting, IsPlacedAt, footing_at};
 
 use crate::below::Below;
@@ -64,7 +64,7 @@ impl Inputs {
 
     /// The square's internal degree.
     pub fn t(&self) -> i32
-        ensures t { result ≡ bottom self.now.resolved.plain.generators +ℤ pos self.now.above }
+        ensures t { result ≡ bottom_of self.now.resolved +ℤ pos self.now.above }
         ensures is_footing { IsFooting self.now }
     {
         self.t
@@ -102,7 +102,7 @@ impl Inputs {
     /// # Errors
     /// `Memory` if allocation fails.
     pub fn generators(&self, alloc: Global) -> Result<Gens, Memory>
-        ensures { IfOk result (λ gens. gens ≡ degrees_from (bottom self.now.resolved.plain.generators) self.now.squares) }
+        ensures { IfOk result (λ gens. gens ≡ degrees_from (bottom_of self.now.resolved) self.now.squares) }
     {
         self.row.generators(alloc, self.module.bottom(), self.above)
     }
@@ -123,8 +123,8 @@ impl Inputs {
     /// # Errors
     /// `Memory` if allocation fails.
     pub fn below(&self, alloc: Global) -> Result<Below<'_>, Memory>
-        ensures graded { IfOk result (λ below. graded_of below ≡ target_over (module_over self.now.resolved.plain) self.now.below) }
-        ensures reaches { IfOk result (λ below. (max k : ℕ) → k ≤ max → reaches_of below max (bottom self.now.resolved.plain.generators +ℤ pos k)) }
+        ensures graded { IfOk result (λ below. graded_of below ≡ target_over (over self.now.resolved) self.now.below) }
+        ensures reaches { IfOk result (λ below. (max k : ℕ) → k ≤ max → reaches_of below max (bottom_of self.now.resolved +ℤ pos k)) }
     {
         if self.s == 0 {
             return Ok(Below::Module(self.module()));

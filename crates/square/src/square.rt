@@ -1,7 +1,6 @@
 ghost use Rattle.std.specs.Prelude.{◌≡◌, ◌<◌, ◌≤◌, ◌^◌, ◌++◌, ◌+ℤ◌, pos, [], ◌∷◌, Some, None, option_map, IfOk};
-ghost use Rattle.module_check.specs.Module.{bottom};
 ghost use Rattle.resolution_laws.specs.Resolution.{IsStep};
-ghost use Rattle.square.specs.Squares.{module_over, entry_of, IsSquare, IsQuasi, AreWidths, KeptWhereMade};
+ghost use Rattle.square.specs.Squares.{entry_of, IsSquare, IsQuasi, AreWidths, KeptWhereMade, over, bottom_of};
 ghost use Rattle.square.specs.Tables.{IsReadable};
 
 use crate::inputs::Inputs;
@@ -48,8 +47,8 @@ impl Square {
     /// The square that is made from these inputs. `quasi` is the reduction of the matrix of d_s in its degree, with the new
     /// generators. The kernel is kept once, as a part of it.
     pub fn made(inputs: &Inputs, gens: Vec<BitVec>, kernel: Vec<BitVec>, quasi: Reduced) -> Square
-        requires step { IsStep (module_over inputs.now.resolved.plain) inputs.now.below inputs.now.squares (record { images = gens.items; kernel = kernel.items }) }
-        requires quasi { IsQuasi (module_over inputs.now.resolved.plain) inputs.now.below inputs.now.squares (record { images = gens.items; kernel = kernel.items }) quasi }
+        requires step { IsStep (over inputs.now.resolved) inputs.now.below inputs.now.squares (record { images = gens.items; kernel = kernel.items }) }
+        requires quasi { IsQuasi (over inputs.now.resolved) inputs.now.below inputs.now.squares (record { images = gens.items; kernel = kernel.items }) quasi }
         ensures { result ≡ record { resolved = inputs.now.resolved; start = inputs.now.start; s = inputs.now.s; above = inputs.now.above; content = record { images = gens.items; kernel = kernel.items }; quasi = Some quasi } }
     {
         let target_width = quasi.cols() as u64;
@@ -73,7 +72,7 @@ impl Square {
         ensures resolved { result.resolved ≡ table.now.resolved }
         ensures start { result.start ≡ table.now.start ++ entry_of result ∷ [] }
         ensures s { result.s ≡ s }
-        ensures t { t ≡ bottom table.now.resolved.plain.generators +ℤ pos result.above }
+        ensures t { t ≡ bottom_of table.now.resolved +ℤ pos result.above }
         ensures content { result.content ≡ record { images = gens.items; kernel = kernel.items } }
         ensures quasi { result.quasi ≡ None }
     {
@@ -107,7 +106,7 @@ impl Square {
 
     /// Its internal degree.
     pub fn t(&self) -> i32
-        ensures { result ≡ bottom self.now.resolved.plain.generators +ℤ pos self.now.above }
+        ensures { result ≡ bottom_of self.now.resolved +ℤ pos self.now.above }
     {
         self.t
     }

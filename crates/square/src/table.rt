@@ -8,7 +8,7 @@ ghost use Rattle.resolution_laws.specs.Resolution.{row_of, below_of, degrees_fro
 ghost use Rattle.degrees.specs.Above.{above_of};
 ghost use Rattle.square.specs.Below.{graded_of, reaches_of};
 ghost use Rattle.square.specs.declared.range.TheConstants.{MAX_S, MAX_T};
-ghost use Rattle.square.specs.Squares.{module_over, IsQuasi};
+ghost use Rattle.square.specs.Squares.{IsQuasi, over, bottom_of};
 ghost use Rattle.square.specs.Tables.{row_in, square_at, plain_rows, with_square, contents, under_row, content_at, next_target_width, next_width, next_widths, FitWords, IsNext, IsNextAt, IsContinued, IsQuasiAt, IsTable, HaveRoom};
 
 use crate::below::Below;
@@ -160,7 +160,7 @@ impl Table {
         ensures resolved { IfOk result (λ i. i.resolved ≡ self.now.resolved) }
         ensures start { IfOk result (λ i. i.start ≡ self.now.start) }
         ensures s { IfOk result (λ i. i.s ≡ s) }
-        ensures t { IfOk result (λ i. t ≡ bottom self.now.resolved.plain.generators +ℤ pos i.above) }
+        ensures t { IfOk result (λ i. t ≡ bottom_of self.now.resolved +ℤ pos i.above) }
         ensures squares { IfOk result (λ i. i.squares ≡ take i.above (row_of (plain_rows self.now.rows) s)) }
         ensures below { IfOk result (λ i. i.below ≡ below_of (plain_rows self.now.rows) s i.above) }
     {
@@ -191,7 +191,7 @@ impl Table {
     /// `Memory` if allocation fails.
     pub fn generators(&self, alloc: Global, s: u16, n: u16) -> Result<Gens, Memory>
         requires { n ≤ length (row_in self.now.rows s) }
-        ensures { IfOk result (λ gens. gens ≡ degrees_from (bottom self.now.resolved.plain.generators) (take n (row_of (plain_rows self.now.rows) s))) }
+        ensures { IfOk result (λ gens. gens ≡ degrees_from (bottom_of self.now.resolved) (take n (row_of (plain_rows self.now.rows) s))) }
     {
         if usize::from(s) >= self.rows.len() {
             return Ok(Gens::new(alloc));
@@ -220,8 +220,8 @@ impl Table {
     pub fn below(&self, alloc: Global, s: u16, above: u16) -> Result<Below<'_>, Memory>
         requires degree { above ≤ MAX_T }
         requires there { (i : ℕ) → suc i ≡ s → above < length (row_in self.now.rows i) }
-        ensures graded { IfOk result (λ below. graded_of below ≡ target_over (module_over self.now.resolved.plain) (below_of (plain_rows self.now.rows) s above)) }
-        ensures reaches { IfOk result (λ below. (max k : ℕ) → k ≤ max → reaches_of below max (bottom self.now.resolved.plain.generators +ℤ pos k)) }
+        ensures graded { IfOk result (λ below. graded_of below ≡ target_over (over self.now.resolved) (below_of (plain_rows self.now.rows) s above)) }
+        ensures reaches { IfOk result (λ below. (max k : ℕ) → k ≤ max → reaches_of below max (bottom_of self.now.resolved +ℤ pos k)) }
     {
         if s == 0 {
             return Ok(Below::Module(self.module()));
@@ -234,7 +234,7 @@ impl Table {
     /// `s` is. None where one of them does not fit 64 bits.
     pub fn next_widths(&self, s: u16, t: i32, count: usize) -> Option<(u64, u64)>
         requires { IsNextAt self.now s t }
-        ensures { (k : ℕ) → t ≡ bottom self.now.resolved.plain.generators +ℤ pos k → SomeIff result (FitWords (next_widths self.now s k count)) (next_widths self.now s k count) }
+        ensures { (k : ℕ) → t ≡ bottom_of self.now.resolved +ℤ pos k → SomeIff result (FitWords (next_widths self.now s k count)) (next_widths self.now s k count) }
     {
         let above = self.above(t);
         let target_width = self.target_width(s, above)?;
@@ -275,7 +275,7 @@ impl Table {
         requires row { s ≤ MAX_S }
         requires degree { above ≤ MAX_T }
         requires there { above < length (row_in self.now.rows s) }
-        ensures { IfOk result (λ reduced. IsQuasi (module_over self.now.resolved.plain) (below_of (plain_rows self.now.rows) s above) (take above (row_of (plain_rows self.now.rows) s)) (content_at self.now.rows s above) reduced) }
+        ensures { IfOk result (λ reduced. IsQuasi (over self.now.resolved) (below_of (plain_rows self.now.rows) s above) (take above (row_of (plain_rows self.now.rows) s)) (content_at self.now.rows s above) reduced) }
     {
         let t = self.module.bottom() + i32::from(above);
         let target = self.below(alloc, s, above)?;
@@ -303,9 +303,9 @@ impl Table {
 
     /// How many degrees `t` is above the bottom.
     pub(crate) fn above(&self, t: i32) -> u16
-        requires low { bottom self.now.resolved.plain.generators ≤ℤ t }
-        requires high { t ≤ℤ (bottom self.now.resolved.plain.generators +ℤ pos MAX_T) }
-        ensures { t ≡ bottom self.now.resolved.plain.generators +ℤ pos result }
+        requires low { bottom_of self.now.resolved ≤ℤ t }
+        requires high { t ≤ℤ (bottom_of self.now.resolved +ℤ pos MAX_T) }
+        ensures { t ≡ bottom_of self.now.resolved +ℤ pos result }
     {
         match above_of(self.module.bottom(), t) {
             Some(above) => above as u16,

@@ -1,8 +1,7 @@
 -- Squares that are added to a table and given to its keeper, one after another.
 use Rattle.std.specs.Prelude.{◌≡◌, ℕ, ◌≤◌, ℤ, pos, ◌+ℤ◌, length}
-use Rattle.module_check.specs.Module.{bottom}
 use Rattle.resolution_laws.specs.Start.{IsOf}
-use Rattle.square.specs.Squares.{Placed, module_over}
+use Rattle.square.specs.Squares.{Placed, over, bottom_of}
 use Rattle.square.specs.Tables.{Staircase, row_in}
 use Rattle.square.specs.Keeping.{Keeper}
 use Rattle.resolution_step.specs.Alone.{HasGrown, AreOfStart, AreNewAt, HasGiven}
@@ -12,8 +11,8 @@ pub record IsNewAt (table : Staircase) (s : ℕ) (t : ℤ) (q : Placed) : Type 0
   pub resolved : q.resolved ≡ table.resolved
   pub start : q.start ≡ table.start
   pub s_is : q.s ≡ s
-  pub degree : t ≡ bottom table.resolved.plain.generators +ℤ pos q.above
-  pub is_of : IsOf (module_over table.resolved.plain) table.start q.s q.above q.content
+  pub degree : t ≡ bottom_of table.resolved +ℤ pos q.above
+  pub is_of : IsOf (over table.resolved) table.start q.s q.above q.content
 
 -- (i, k) is the place of the next square of row s
 abbrev pub IsEndOf : Staircase → ℕ → ℕ → ℕ → Type 0
@@ -29,4 +28,4 @@ pub record HasAdded (at : ℕ → ℕ → Type 0) (old new : Keeper) (before aft
   pub count : length after.rows ≡ length before.rows
   pub are_of_start : AreOfStart before → AreOfStart after
   pub places : AreNewAt at before.rows after.rows
-  pub given : HasGiven (module_over before.resolved.plain) before.start at old new
+  pub given : HasGiven (over before.resolved) before.start at old new

@@ -7,10 +7,11 @@ use Rattle.square.specs.Tables.{plain_rows}
 use Rattle.ext_chart.specs.Dump.{square_lines, image_text}
 use Rattle.ext_chart.specs.Inside.Targets.{text_over, width_over}
 use Rattle.ext_chart.proofs.dump_text.square_text.Goals as goal
+use Rattle.square.specs.Squares.{bottom_of}
 
 pub square_lines-requires-clause-widths : goal.square_lines-requires-clause-widths
 square_lines-requires-clause-widths c =
-    let u = bottom c.args.table.now.resolved.plain.generators +ℤ pos c.args.k in
+    let u = bottom_of c.args.table.now.resolved +ℤ pos c.args.k in
     let t = to_z-of_z w32 c.degree.result (record { sfits = c.degree.type_inv }) ∙ c.degree.ensures in
     let wide = ap (width_over c.args.target.now) t ∙ ap (λ (f : ℤ → ℕ). f u) c.requires.target.width in
     subst (λ (n : ℕ). HaveWidth n c.images-images.result.now) (sym wide) c.images-images.ensures.widths

@@ -1,9 +1,9 @@
 use Rattle.std.proofs.Common.{◌≡◌, take}
-use Rattle.module_check.specs.Module.{bottom}
 use Rattle.resolution_laws.specs.Resolution.{row_of}
 use Rattle.square.specs.Tables.{plain_rows}
 use Rattle.ext_chart.specs.Dump.{places_from}
 use Rattle.ext_chart.proofs.row_gens.row_gens.Given as goal
+use Rattle.square.specs.Squares.{bottom_of}
 
 abbrev pub invariant-loop-k : goal.invariant-loop-k
-invariant-loop-k l = l.places.items ≡ places_from l.s (bottom l.table.resolved.plain.generators) (take l.k (row_of (plain_rows l.table.rows) l.s))
+invariant-loop-k l = l.places.items ≡ places_from l.s (bottom_of l.table.resolved) (take l.k (row_of (plain_rows l.table.rows) l.s))

@@ -7,6 +7,7 @@ use Rattle.resolution_step.specs.Inside.Adding.{IsEndOf, IsInRow}
 use Rattle.resolution_step.proofs.Pushes.{length-IsMore}
 use Rattle.resolution_step.proofs.Progress.{HasAdded-start, HasAdded-weaker, HasAdded-then}
 use Rattle.resolution_step.proofs.alone.add_row.Goals as goal
+use Rattle.square.specs.Squares.{bottom_of}
 
 -- the places of row s before k and through t
 abbrev IsSoFar : ℕ → ℕ → ℕ → ℕ → ℕ → Type 0
@@ -32,7 +33,7 @@ add_square-requires-clause-next g c =
     let k = c.loop-k.k in
     let through = c.requires.t in
     let last = c.from-k-end.ensures in
-    let same : c.bottom-bottom.result ≡ bottom c.loop-k.table.resolved.plain.generators = c.bottom-bottom.ensures.bottom ∙ ap (λ (m : Checked). bottom m.plain.generators) (c.module.ensures ∙ sym grown.resolved) in
+    let same : c.bottom-bottom.result ≡ bottom c.loop-k.table.resolved.plain.generators = c.bottom-bottom.ensures.bottom ∙ ap (λ (m : Checked). bottom_of m) (c.module.ensures ∙ sym grown.resolved) in
     record {
       above = k;
       degree = omega (arith, ints, same);

@@ -5,7 +5,7 @@ use Rattle.std.proofs.lemmas.Option.{IfSome_then}
 use Rattle.resolution_laws.specs.Start.{IsOf}
 use Rattle.square.specs.declared.keep.KeepFault.{KeepFault}
 use Rattle.square.specs.declared.keep.KeepFault.TheVariants.{Failed, Memory}
-use Rattle.square.specs.Squares.{Placed, module_over, entry_of}
+use Rattle.square.specs.Squares.{Placed, entry_of, over}
 use Rattle.square.specs.Tables.{Staircase, row_in, with_square, IsNext}
 use Rattle.square.specs.Keeping.{IsNextIn}
 use Rattle.square.proofs.Kept.{HasKept-none, HasKept-tried, HasKept-one}
@@ -46,7 +46,7 @@ returns-in_err-keep-clause-added g c =
     let before = c.args.table.now in
     let same = c.reserve.ensures.same in
     let tried = c.keep.ensures in
-    let P : Placed → Type 0 = λ q. IsOf (module_over before.resolved.plain) before.start q.s q.above q.content in
+    let P : Placed → Type 0 = λ q. IsOf (over before.resolved) before.start q.s q.above q.content in
     HasAdded-none _ _ _ before c.reserve.new.self (ap (λ (t : Staircase). t.resolved) same) (ap (λ (t : Staircase). t.start) same) (ap (λ (t : Staircase). t.rows) same)
     (HasKept-tried _ _ _ _ c.deref.result.now (subst P (sym c.deref.ensures) c.in_ok-square.ensures.is_of)
     (record { never_fall = tried.never_fall; same_module = tried.same_module; same_start = tried.same_start; later = tried.later; between = tried.between; earlier = tried.earlier })
@@ -95,7 +95,7 @@ returns-clause-added g c =
     let at : ℕ → ℕ → Type 0 = IsEndOf before c.args.s in
     let end : at q.s (length (row_in before.rows q.s)) = (new.s_is, ap (λ (s : ℕ). length (row_in before.rows s)) new.s_is) in
     let here : at q.s q.above = subst (at q.s) (next_length before.rows q.s q.above next) end in
-    let P : Placed → Type 0 = λ q. IsOf (module_over before.resolved.plain) before.start q.s q.above q.content in
+    let P : Placed → Type 0 = λ q. IsOf (over before.resolved) before.start q.s q.above q.content in
     let H : Placed → Type 0 = λ q. at q.s q.above in
     let tried = c.keep.ensures in
     record {

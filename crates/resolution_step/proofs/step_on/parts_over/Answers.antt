@@ -1,14 +1,14 @@
 use Rattle.std.proofs.Common.{◌≡◌, ℤ, pos, ◌+ℤ◌, w32, to_z, of_z, FitsSigned, ◌∙◌, sym, subst, rules, arith}
 use Rattle.std.proofs.lemmas.Int.{to_z-of_z}
 use Rattle.std.proofs.lemmas.Result.{IfOk-weaker}
-use Rattle.module_check.specs.Module.{bottom}
 use Rattle.resolution_laws.proofs.Rows.{IsWithinReach-row}
 use Rattle.square.specs.Below.{graded_of, reaches_of}
 use Rattle.resolution_step.proofs.Footings.{AreImages-given, HaveWidth-given, IsReduced-given, HasNoZeroRow-given, IsStepWith_from_reduced}
 use Rattle.resolution_step.proofs.step_on.parts_over.Goals as goal
 use Rattle.resolution_step.proofs.step_on.parts_over.Goals.{After-as_slice}
+use Rattle.square.specs.Squares.{bottom_of}
 
-degree : (c : After-as_slice) → to_z w32 (of_z w32 c.t-t.result) ≡ bottom c.args.inputs.now.resolved.plain.generators +ℤ pos c.args.inputs.now.above
+degree : (c : After-as_slice) → to_z w32 (of_z w32 c.t-t.result) ≡ bottom_of c.args.inputs.now.resolved +ℤ pos c.args.inputs.now.above
 degree c =
     let fits : FitsSigned w32 c.t-t.result = search rules in
     to_z-of_z w32 c.t-t.result fits ∙ c.t-t.ensures.t
@@ -31,7 +31,7 @@ pub reduced_step-requires-clause-source_reach : goal.reduced_step-requires-claus
 reduced_step-requires-clause-source_reach c =
     let f = c.args.inputs.now in
     let most = c.t-t.ensures.is_footing.degree in
-    IsWithinReach-row (bottom f.resolved.plain.generators) f.squares f.above c.basis.result.now c.in_ok-source.source _ (degree c) c.in_ok-source.ensures (omega (arith, c.basis.ensures))
+    IsWithinReach-row (bottom_of f.resolved) f.squares f.above c.basis.result.now c.in_ok-source.source _ (degree c) c.in_ok-source.ensures (omega (arith, c.basis.ensures))
 
 pub reduced_step-requires-clause-target_reach : goal.reduced_step-requires-clause-target_reach
 reduced_step-requires-clause-target_reach c =

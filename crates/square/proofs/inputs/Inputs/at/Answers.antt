@@ -1,15 +1,15 @@
 use Rattle.std.proofs.Common.{◌≡◌, suc, w32, refl, ap, sym, ◌∙◌, arith}
 use Rattle.std.proofs.lemmas.Int.{to_z-of_z}
 use Rattle.std.specs.Arc.{arc_value}
-use Rattle.module_check.specs.Module.{bottom}
 use Rattle.module_check.specs.Checked.{Checked}
 use Rattle.square.specs.Tables.{Footing}
 use Rattle.square.proofs.Looking.{seen_content, at_row, at_below, placed_there}
 use Rattle.square.proofs.inputs.Inputs.at.Goals as goal
+use Rattle.square.specs.Squares.{bottom_of}
 
 pub returns-in-Some-eq0-clause-content : goal.returns-in-Some-eq0-clause-content
 returns-in-Some-eq0-clause-content c =
-    let low = c.bottom.ensures.bottom ∙ ap (λ (m : Checked). bottom m.plain.generators) (c.deref.ensures ∙ ap (λ (f : Footing). f.resolved) c.self.view_is) in
+    let low = c.bottom.ensures.bottom ∙ ap (λ (m : Checked). bottom_of m) (c.deref.ensures ∙ ap (λ (f : Footing). f.resolved) c.self.view_is) in
     let same = ap (λ (f : Footing). f.s) c.self.view_is in
     let e = c.in-Some-eq0.ensures in
     let zero = c.in-Some-eq0.field-0-test in
@@ -18,7 +18,7 @@ returns-in-Some-eq0-clause-content c =
 
 pub returns-in-Some-eq1-clause-content : goal.returns-in-Some-eq1-clause-content
 returns-in-Some-eq1-clause-content c =
-    let low = c.bottom.ensures.bottom ∙ ap (λ (m : Checked). bottom m.plain.generators) (c.deref.ensures ∙ ap (λ (f : Footing). f.resolved) c.self.view_is) in
+    let low = c.bottom.ensures.bottom ∙ ap (λ (m : Checked). bottom_of m) (c.deref.ensures ∙ ap (λ (f : Footing). f.resolved) c.self.view_is) in
     let same = ap (λ (f : Footing). f.s) c.self.view_is in
     let e = c.in-Some-eq1.ensures in
     let one = c.in-Some-eq1.field-0-test in
@@ -27,7 +27,7 @@ returns-in-Some-eq1-clause-content c =
 
 pub returns-in-Some-eq0-clause-placed : goal.returns-in-Some-eq0-clause-placed
 returns-in-Some-eq0-clause-placed c =
-    let low = c.bottom.ensures.bottom ∙ ap (λ (m : Checked). bottom m.plain.generators) (c.deref.ensures ∙ ap (λ (f : Footing). f.resolved) c.self.view_is) in
+    let low = c.bottom.ensures.bottom ∙ ap (λ (m : Checked). bottom_of m) (c.deref.ensures ∙ ap (λ (f : Footing). f.resolved) c.self.view_is) in
     let e = c.in-Some-eq0.ensures in
     let value = c.in-Some-eq0.field-0-test in
     let above : c.self.inside.s ≡ c.args.s = omega (arith, e.0, e.1) in
@@ -35,7 +35,7 @@ returns-in-Some-eq0-clause-placed c =
 
 pub returns-in-Some-eq1-clause-placed : goal.returns-in-Some-eq1-clause-placed
 returns-in-Some-eq1-clause-placed c =
-    let low = c.bottom.ensures.bottom ∙ ap (λ (m : Checked). bottom m.plain.generators) (c.deref.ensures ∙ ap (λ (f : Footing). f.resolved) c.self.view_is) in
+    let low = c.bottom.ensures.bottom ∙ ap (λ (m : Checked). bottom_of m) (c.deref.ensures ∙ ap (λ (f : Footing). f.resolved) c.self.view_is) in
     let e = c.in-Some-eq1.ensures in
     let value = c.in-Some-eq1.field-0-test in
     let above : suc c.args.s ≡ c.self.inside.s = omega (arith, e.0, e.1) in

@@ -5,7 +5,7 @@ use Rattle.std.proofs.lemmas.Result.{IfOk-weaker}
 use Rattle.std.specs.Arc.{arc_value}
 use Rattle.module_check.specs.Module.{bottom}
 use Rattle.module_check.specs.Checked.{Checked}
-use Rattle.square.specs.Squares.{content_of}
+use Rattle.square.specs.Squares.{content_of, bottom_of}
 use Rattle.square.proofs.Targets.{gens_given}
 use Rattle.square.proofs.inputs.Inputs.generators.Goals as goal
 
@@ -20,5 +20,5 @@ generators-requires-clause-few c = let most = c.self.invariant.0.degree in omega
 
 pub returns : goal.returns
 returns c =
-    let low : c.bottom.result ≡ bottom (arc_value c.self.inside.module).plain.generators = c.bottom.ensures.bottom ∙ ap (λ (m : Checked). bottom m.plain.generators) c.deref.ensures in
+    let low : c.bottom.result ≡ bottom (arc_value c.self.inside.module).plain.generators = c.bottom.ensures.bottom ∙ ap (λ (m : Checked). bottom_of m) c.deref.ensures in
     IfOk-weaker c.generators.result _ _ (λ gens e. gens_given _ c.args.self.now c.self.invariant.0 c.self.view_is _ c.self.inside.above gens (omega (arith, ints, c.bottom.ensures.lowest, c.bottom.ensures.highest)) refl e) c.generators.ensures

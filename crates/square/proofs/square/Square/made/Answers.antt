@@ -1,13 +1,13 @@
 use Rattle.std.proofs.Common.{◌≡◌, Bool, List, Some, subst, sym, ◌∙◌, w32, to_z, of_z}
 use Rattle.std.proofs.lemmas.Int.{to_z-of_z}
-use Rattle.square.specs.Squares.{Placed, module_over, IsMeasured}
+use Rattle.square.specs.Squares.{Placed, IsMeasured, over}
 use Rattle.square.proofs.Footings.{kernel_of_reduction, IsMeasured-made}
 use Rattle.square.proofs.square.Square.made.Goals as goal
 
 pub invariant_of-result : goal.invariant_of-result
 invariant_of-result c =
     let f = c.args.inputs.now in
-    let kernel = kernel_of_reduction (module_over f.resolved.plain) f.below f.squares (record { images = c.args.gens.items; kernel = c.args.kernel.items }) c.args.quasi c.requires.step c.requires.quasi in
+    let kernel = kernel_of_reduction (over f.resolved) f.below f.squares (record { images = c.args.gens.items; kernel = c.args.kernel.items }) c.args.quasi c.requires.step c.requires.quasi in
     let P : List (List Bool) → Type 0 = λ rows. IsMeasured (record { resolved = c.of.result.value; start = c.again.result; s = c.s.result; above = c.above.result; content = record { images = c.args.gens.items; kernel = rows }; quasi = Some c.args.quasi }) (to_z w32 (of_z w32 c.t.result)) c.cols-target_width.result c.height-width.result in
     subst P (sym kernel)
     (IsMeasured-made f (record { images = c.args.gens.items; kernel = c.args.kernel.items }) c.args.quasi _ _ _ _ _ _ _ c.t.ensures.is_footing c.requires.step c.requires.quasi
@@ -16,7 +16,7 @@ invariant_of-result c =
 pub returns : goal.returns
 returns c =
     let f = c.args.inputs.now in
-    let kernel = kernel_of_reduction (module_over f.resolved.plain) f.below f.squares (record { images = c.args.gens.items; kernel = c.args.kernel.items }) c.args.quasi c.requires.step c.requires.quasi in
+    let kernel = kernel_of_reduction (over f.resolved) f.below f.squares (record { images = c.args.gens.items; kernel = c.args.kernel.items }) c.args.quasi c.requires.step c.requires.quasi in
     let resolved = c.of.ensures ∙ c.module.ensures in
     let start = c.again.ensures ∙ c.start.ensures in
     let p : Placed = record { resolved = c.of.result.value; start = c.again.result; s = c.s.result; above = c.above.result; content = record { images = c.args.gens.items; kernel = c.args.quasi.kernel }; quasi = Some c.args.quasi } in

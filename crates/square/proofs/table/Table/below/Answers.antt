@@ -1,11 +1,11 @@
 use Rattle.std.proofs.Common.{◌+◌, ◌-◌, ◌∙◌, ap, refl, arith}
 use Rattle.module_check.specs.Checked.{Checked}
-use Rattle.square.specs.Squares.{module_over}
+use Rattle.square.specs.Squares.{over}
 use Rattle.square.proofs.Matrices.{within_reach, first_target, upper_target}
 use Rattle.square.proofs.table.Table.below.Goals as goal
 
 pub returns-then-s-eq0-clause-graded : goal.returns-then-s-eq0-clause-graded
-returns-then-s-eq0-clause-graded c = ap (λ (m : Checked). (module_over m.plain).graded) c.module.ensures ∙ first_target c.args.self.now c.args.s c.args.above c.if-s-eq0.true
+returns-then-s-eq0-clause-graded c = ap (λ (m : Checked). (over m).graded) c.module.ensures ∙ first_target c.args.self.now c.args.s c.args.above c.if-s-eq0.true
 
 pub generators-requires : goal.generators-requires
 generators-requires c =

@@ -1,10 +1,10 @@
 use Rattle.std.proofs.Common.{◌≡◌, ◌+◌, pos, ◌+ℤ◌, length, take, ap, sym, subst, ◌∙◌, arith}
 use Rattle.std.proofs.lemmas.Int.{ints}
-use Rattle.module_check.specs.Module.{bottom}
 use Rattle.module_check.specs.Checked.{Checked}
 use Rattle.square.specs.Tables.{Staircase, IsNext, row_in}
 use Rattle.square.proofs.Places.{next_length, footing_in, IsFooting-same, contents-take, AreOfRow-first}
 use Rattle.square.proofs.table.Table.inputs.Goals as goal
+use Rattle.square.specs.Squares.{bottom_of}
 
 pub share-requires : goal.share-requires
 share-requires c =
@@ -32,7 +32,7 @@ invariant_of-result c =
     let resolved = c.in-Ok.ensures ∙ ap (λ (t : Staircase). t.resolved) c.self.view_is in
     let start = c.again.ensures ∙ ap (λ (t : Staircase). t.start) c.self.view_is in (
       IsFooting-same _ _ _ _ c.args.s c.above-above.result _ _ _ _ resolved start squares c.in_ok-below.ensures.below (footing_in now c.row.ensures.is_table c.args.s c.above-above.result c.requires.row (omega arith) next),
-      c.above-above.ensures ∙ ap (λ (m : Checked). bottom m.plain.generators +ℤ pos c.above-above.result) (sym resolved),
+      c.above-above.ensures ∙ ap (λ (m : Checked). bottom_of m +ℤ pos c.above-above.result) (sym resolved),
       c.in-Ok-try_clone.ensures ∙ c.self.invariant.1,
       AreOfRow-first now c.row.ensures.is_table _ c.args.s c.above-above.result _ resolved (c.in_ok-row.ensures ∙ ap (take c.from.result) c.row.ensures.row ∙ ap (λ n. take n (row_in now.rows c.args.s)) c.from.ensures),
       λ j e. AreOfRow-first now c.row.ensures.is_table _ j (c.above-above.result + 1) _ resolved (c.in_ok-below.ensures.squares j e),

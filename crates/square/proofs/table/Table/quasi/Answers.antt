@@ -4,9 +4,8 @@ use Rattle.std.proofs.lemmas.Option.{slice_get_within}
 use Rattle.std.proofs.lemmas.Result.{IfOk-weaker}
 use Rattle.std.specs.Arc.{arc_value}
 use Rattle.f2_matrix.specs.Reduction.{Reduction}
-use Rattle.module_check.specs.Module.{bottom}
 use Rattle.resolution_laws.specs.Resolution.{row_of, below_of}
-use Rattle.square.specs.Squares.{Placed, module_over, IsQuasi, IsSquare, KeptWhereMade}
+use Rattle.square.specs.Squares.{Placed, IsQuasi, IsSquare, KeptWhereMade, over, bottom_of}
 use Rattle.square.specs.Tables.{row_in, plain_rows, content_at, IsQuasiAt}
 use Rattle.square.proofs.Found.{IsFound, square_found, row_within, kept_found}
 use Rattle.square.proofs.table.Table.quasi.Goals as goal
@@ -44,6 +43,6 @@ returns-in-None c =
     let found : IsFound c.args.self.now c.args.s c.args.t q = subst (λ x. IsFound c.args.self.now c.args.s x q) (to_z-of_z w32 c.args.t c.ranges.t) (square_found c.args.self.now c.args.s _ q c.there-square.ensures.square) in
     let is = c.there-square.ensures.is_table.placed c.args.s found.above q found.there in
     let at : c.above.result ≡ found.above = c.above.ensures.above ∙ ap (λ (x : Placed). x.above) c.deref-in-None.ensures ∙ is.above_is in
-    let degree = found.degree ∙ ap (λ n. bottom c.args.self.now.resolved.plain.generators +ℤ pos n) (sym at) in
-    let P : Reduction → Type 0 = λ r. IsQuasi (module_over c.args.self.now.resolved.plain) (below_of (plain_rows c.args.self.now.rows) c.args.s c.above.result) (take c.above.result (row_of (plain_rows c.args.self.now.rows) c.args.s)) (content_at c.args.self.now.rows c.args.s c.above.result) r in
+    let degree = found.degree ∙ ap (λ n. bottom_of c.args.self.now.resolved +ℤ pos n) (sym at) in
+    let P : Reduction → Type 0 = λ r. IsQuasi (over c.args.self.now.resolved) (below_of (plain_rows c.args.self.now.rows) c.args.s c.above.result) (take c.above.result (row_of (plain_rows c.args.self.now.rows) c.args.s)) (content_at c.args.self.now.rows c.args.s c.above.result) r in
     IfOk-weaker c.quasi_again.result P (IsQuasiAt c.args.self.now c.args.s c.args.t) (λ r is. record { above = c.above.result; degree = degree; quasi = is }) c.quasi_again.ensures

@@ -3,19 +3,18 @@ use Rattle.std.proofs.lemmas.Int.{ints}
 use Rattle.std.proofs.lemmas.Result.{IfOk-weaker}
 use Rattle.f2_matrix.specs.Reduction.{Reduction, IsReductionOf}
 use Rattle.free_module.specs.LinearMap.{map_rows}
-use Rattle.module_check.specs.Module.{bottom}
 use Rattle.module_check.specs.Checked.{Checked}
 use Rattle.resolution_laws.specs.Resolution.{row_of, below_of}
 use Rattle.square.specs.Below.{graded_of, reaches_of}
-use Rattle.square.specs.Squares.{module_over, IsQuasi}
+use Rattle.square.specs.Squares.{IsQuasi, over, bottom_of}
 use Rattle.square.specs.Tables.{Staircase, IsTable, row_in, plain_rows, content_at}
 use Rattle.square.proofs.Matrices.{images_fit, within_reach, quasi_made}
 use Rattle.square.proofs.table.Table.quasi_again.Goals as goal
 use Rattle.square.proofs.table.Table.quasi_again.Goals.{After-as_slice}
 
-degree : (c : After-as_slice) → to_z w32 (of_z w32 (to_z w32 (of_z w32 c.bottom.result) +ℤ to_z w32 (of_z w32 c.from.result))) ≡ bottom c.args.self.now.resolved.plain.generators +ℤ pos c.args.above
+degree : (c : After-as_slice) → to_z w32 (of_z w32 (to_z w32 (of_z w32 c.bottom.result) +ℤ to_z w32 (of_z w32 c.from.result))) ≡ bottom_of c.args.self.now.resolved +ℤ pos c.args.above
 degree c =
-    let low : c.bottom.result ≡ bottom c.args.self.now.resolved.plain.generators = c.bottom.ensures.bottom ∙ ap (λ (m : Checked). bottom m.plain.generators) (c.deref.ensures ∙ ap (λ (t : Staircase). t.resolved) c.self.view_is) in
+    let low : c.bottom.result ≡ bottom_of c.args.self.now.resolved = c.bottom.ensures.bottom ∙ ap (λ (m : Checked). bottom_of m) (c.deref.ensures ∙ ap (λ (t : Staircase). t.resolved) c.self.view_is) in
     omega (arith, ints, c.bottom.ensures.lowest, c.bottom.ensures.highest)
 
 pub below-requires-clause-there : goal.below-requires-clause-there
@@ -45,5 +44,5 @@ returns c =
     let t = to_z w32 (of_z w32 (to_z w32 (of_z w32 c.bottom.result) +ℤ to_z w32 (of_z w32 c.from.result))) in
     let target = graded_of c.in_ok-target.target in
     let P : Reduction → Type 0 = λ r. IsReductionOf (target.width t) (map_rows target c.in_ok-gens.gens c.as_slice.result.now t) r in
-    let Q : Reduction → Type 0 = λ r. IsQuasi (module_over c.args.self.now.resolved.plain) (below_of (plain_rows c.args.self.now.rows) c.args.s c.args.above) (take c.args.above (row_of (plain_rows c.args.self.now.rows) c.args.s)) (content_at c.args.self.now.rows c.args.s c.args.above) r in
+    let Q : Reduction → Type 0 = λ r. IsQuasi (over c.args.self.now.resolved) (below_of (plain_rows c.args.self.now.rows) c.args.s c.args.above) (take c.args.above (row_of (plain_rows c.args.self.now.rows) c.args.s)) (content_at c.args.self.now.rows c.args.s c.args.above) r in
     IfOk-weaker c.reduction.result P Q (λ r is. quasi_made c.args.self.now c.args.s c.args.above target c.in_ok-gens.gens c.as_slice.result.now t r c.requires.there c.in_ok-target.ensures.graded c.in_ok-gens.ensures (c.as_slice.ensures.value ∙ c.in_ok-images.ensures) (degree before) is) c.reduction.ensures
