@@ -7,4 +7,4 @@ use Rattle.square.proofs.keep.MemKeepKeep.keep.Goals as goal
 pub returns-clause-earlier : goal.returns-clause-earlier
 returns-clause-earlier c =
     let list = ap (λ (k : Kept). k.list) c.self.view_is in
-    first_parts c.args.self.now.list c.then.result (entry_of c.args.square.now) (kept_more c.args.self.now.list _ c.args.square.now _ _ _ _ c.then.result list c.s.ensures c.above.ensures.above c.gens.ensures c.kernel.ensures c.then.ensures)
+    first_parts c.args.self.now.list c.then-self-inside.result (entry_of c.args.square.now) (kept_more c.args.self.now.list _ c.args.square.now _ _ _ _ c.then-self-inside.result list c.s.ensures c.above.ensures.above c.gens.ensures c.kernel.ensures c.then-self-inside.ensures)

@@ -21,8 +21,8 @@ invariant_of-self c =
       HaveRoom-set c.self.inside.rows.items c.from-s.result c.push.new.self c.self.inside.spare c.saturating_sub-self-inside.result c.self.invariant.2 (omega arith) (omega arith),
     )
 
-pub invariant_of-self-in-Err-1 : goal.invariant_of-self-in-Err-1
-invariant_of-self-in-Err-1 c =
+pub invariant_of-self-in-Err : goal.invariant_of-self-in-Err
+invariant_of-self-in-Err c =
     let q = arc_value c.args.square in
     let square : IsSquare q = subst IsSquare c.deref-2.ensures c.start.ensures.is_square in
     let at : c.from-s.result ≡ q.s = c.from-s.ensures ∙ c.s.ensures ∙ ap (λ (x : Placed). x.s) c.deref.ensures in
