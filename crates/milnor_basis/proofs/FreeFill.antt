@@ -1,18 +1,21 @@
 -- The loop over the numbers at one place, for all R of a degree.
 use Rattle.std.proofs.Common.{◌≡◌, ℕ, zero, suc, ◌+◌, ◌-◌, ◌*◌, ◌<◌, ◌≤◌, ◌^◌, ◌≢◌, ◌⊎◌, inl, inr, Bool, true, false, ◌&&◌, nat_eq, nat_lt, nat_le, List, map, length, refl, sym, ◌∙◌, ap, subst, arith, slice_index, slice_index_or, slice_set, bit_and, bit_or}
 use Rattle.std.specs.List.{sum, range_with_len, list_all}
-use Rattle.std.proofs.lemmas.Bool.{eq-eqb, ne_eqb, ltb-true, ltb-false, leb-true, leb-false, cases_Bool}
+use Rattle.std.specs.Int.Bits.{and_zero_l}
+use Rattle.std.proofs.lemmas.Bool.{eq-eqb, ne_eqb, eqb-true, ltb-true, ltb-false, leb-true, leb-false, cases_Bool, cases_eq}
 use Rattle.std.proofs.lemmas.List.{get_or_past}
+use Rattle.std.proofs.lemmas.Nat.{and_comm, or_disjoint}
 use Rattle.std.proofs.lemmas.List.FromFn.{length-map-range_with_len, get_or-map-range_with_len}
 use Rattle.std.specs.Cmp.Lexicographic.{pointwise}
 use Rattle.milnor_basis.specs.Exponents.{entry, degree_of, trimmed}
 use Rattle.milnor_basis.specs.Basis.{basis_of}
 use Rattle.milnor_basis.specs.Inside.Padding.{padded}
-use Rattle.milnor_basis.specs.Inside.Walk.{plus, is_odd_below, Sums, add, are_sums_of, taken, next_row, next_column}
-use Rattle.milnor_basis.specs.Inside.FreeRows.{IsFree, least_free, greatest_free, added, element, IsTurnedOver, are_elements, leads_to, TurnsOverAll}
+use Rattle.milnor_basis.specs.Inside.Walk.{plus, is_odd_below, Sums, add_at, add, are_sums_of, taken, next_row, next_column}
+use Rattle.milnor_basis.specs.Inside.FreeRows.{IsFree, least_free, greatest_free, number_above, added, element, IsTurnedOver, are_elements, leads_to, TurnsOverAll}
 use Rattle.milnor_basis.proofs.Parity.{plus-assoc, is_odd_below-none, is_odd_below-up_to}
 use Rattle.milnor_basis.proofs.Walk.{fillings_step}
-use Rattle.milnor_basis.proofs.Prune.{not_apart}
+use Rattle.milnor_basis.proofs.Prune.{add_at-other, add_at-same, not_apart}
+use Rattle.milnor_basis.proofs.RowZero.{IsCrowded, crowded_row, crowds}
 use Rattle.milnor_basis.proofs.Places.{basis_of-member}
 use Rattle.milnor_basis.specs.Inside.Padding.{padded-trimmed}
 use Rattle.milnor_basis.proofs.ExponentLemmas.{length-padded, trimmed-padded, degree_of-trimmed, trimmed-same, same_answers}
@@ -73,7 +76,7 @@ module _ (degree product w row column room : ℕ) (rows columns diagonals : List
       ∙ ap (λ b. plus b (slice_index_or before (p * length (basis_of product) + k) false))
       (same ∙ sym (fillings_step add bound (length s) row column (are_sums_of r s (element product k)) sums above))
 
-  pub free_skip : (number : ℕ) (after : List Bool) → bit_and number (slice_index diagonals (row + column - 1)) ≢ 0
+  free_skip : (number : ℕ) (after : List Bool) → bit_and number (slice_index diagonals (row + column - 1)) ≢ 0
       → TurnsOverAllBelow degree product w row column room rows columns diagonals number before after → TurnsOverAllBelow degree product w row column room rows columns diagonals (suc number) before after
   free_skip number after shares inv s sums e wide is p k l m =
       let at : suc (row + column - 1) ≡ row + column = omega arith in
@@ -84,13 +87,64 @@ module _ (degree product w row column room : ℕ) (rows columns diagonals : List
       let none = not_apart r s (element product k) (suc (sum r + sum s)) (length s) (next_row row column) (next_column (length s) row column) (add row column number sums) apart in
       inv s sums e wide is p k l m ∙ ap (λ b. plus (plus b (is_odd_below (goes_on_to degree product s row column sums p k) number)) (slice_index_or before (p * length (basis_of product) + k) false)) (sym none)
 
-  pub free_skips : (more number : ℕ) (after : List Bool) → ((v : ℕ) → number ≤ v → v < more + number → bit_and v (slice_index diagonals (row + column - 1)) ≢ 0)
+  -- a number that leaves no room for what row 0 has to put on the diagonal
+  free_crowd : (number : ℕ) (after : List Bool) → bit_and number (slice_index diagonals (row + column - 1)) ≡ 0
+      → bit_and (number_above w row column columns) (bit_or (slice_index diagonals (row + column - 1)) number) ≢ 0
+      → TurnsOverAllBelow degree product w row column room rows columns diagonals number before after → TurnsOverAllBelow degree product w row column room rows columns diagonals (suc number) before after
+  free_crowd number after apart crowded inv = elim (cases_Bool (nat_eq row 1)) [
+    | inr other ↦ let none : number_above w row column columns ≡ 0 = rw other refl in
+        absurd (crowded (ap (λ n. bit_and n (bit_or (slice_index diagonals (row + column - 1)) number)) none ∙ and_zero_l (bit_or (slice_index diagonals (row + column - 1)) number)))
+    | inl one ↦ elim (cases_Bool (nat_lt column w)) [
+      | inr past ↦ let none : number_above w row column columns ≡ 0 = rw (one, past) refl in
+          absurd (crowded (ap (λ n. bit_and n (bit_or (slice_index diagonals (row + column - 1)) number)) none ∙ and_zero_l (bit_or (slice_index diagonals (row + column - 1)) number)))
+      | inl inside ↦ λ s sums e wide is p k l m.
+          let first : row ≡ 1 = eqb-true row 1 one in
+          let within : column < w = ltb-true column w inside in
+          let d = slice_index diagonals (row + column - 1) in
+          let at : suc (row + column - 1) ≡ suc column = omega arith in
+          let so_far : d ≡ sums.diagonals (suc column) = is.diagonals_so_far (row + column - 1) (omega arith) ∙ ap sums.diagonals at in
+          let both : bit_or d number ≡ d + number = or_disjoint d number (and_comm d number ∙ apart) in
+          let here : number_above w row column columns ≡ slice_index columns column = rw (one, inside) refl in
+          let left = is.columns_left column (omega arith) in
+          let r = padded 8 (element degree p) in
+          let same_column : add_at column number sums.columns (suc column) ≡ sums.columns (suc column) = add_at-other column number sums.columns (suc column) (omega arith) in
+          let past_one : 1 + column ≡ suc column = omega arith in
+          let more : add_at (1 + column) number sums.diagonals (suc column) ≡ sums.diagonals (suc column) + number = ap (λ i. add_at i number sums.diagonals (suc column)) past_one ∙ add_at-same (suc column) number sums.diagonals in
+          let lacks : slice_index columns column ≡ entry s column - add_at column number sums.columns (suc column) = omega arith in
+          let shared : bit_or d number ≡ add_at (1 + column) number sums.diagonals (suc column) = omega arith in
+          let crowd : IsCrowded r s (element product k) (suc (sum r + sum s)) (length s) column (omega arith) (add 1 column number sums) =
+          (λ z. crowded (ap (λ n. bit_and n (bit_or d number)) (here ∙ lacks) ∙ ap (bit_and (entry s column - add_at column number sums.columns (suc column))) shared ∙ z))
+          in
+          let none : goes_on_to degree product s 1 column sums p k number ≡ false =
+          crowded_row r s (element product k) (suc (sum r + sum s)) (length s) column (omega arith) column (omega arith) (omega arith) (add 1 column number sums) crowd
+          in
+          let there : goes_on_to degree product s row column sums p k number ≡ false = ap (λ i. goes_on_to degree product s i column sums p k number) first ∙ none in
+          inv s sums e wide is p k l m ∙ ap (λ b. plus (plus b (is_odd_below (goes_on_to degree product s row column sums p k) number)) (slice_index_or before (p * length (basis_of product) + k) false)) (sym there)
+    ]
+  ]
+
+  -- a number that shares a digit with its diagonal or with what row 0 has to put there; none is left if these share one
+  pub free_shut : (number : ℕ) (after : List Bool)
+      → bit_and number (bit_or (slice_index diagonals (row + column - 1)) (number_above w row column columns)) ≢ 0 ⊎ bit_and (number_above w row column columns) (slice_index diagonals (row + column - 1)) ≢ 0
+      → TurnsOverAllBelow degree product w row column room rows columns diagonals number before after → TurnsOverAllBelow degree product w row column room rows columns diagonals (suc number) before after
+  free_shut number after shut inv = elim (cases_eq (bit_and number (slice_index diagonals (row + column - 1))) 0) [
+    | inr shares ↦ free_skip number after shares inv
+    | inl apart ↦ free_crowd number after apart (crowds number (slice_index diagonals (row + column - 1)) (number_above w row column columns) apart shut) inv
+  ]
+
+  pub free_shuts : (more number : ℕ) (after : List Bool)
+      → ((v : ℕ) → number ≤ v → v < more + number → bit_and v (bit_or (slice_index diagonals (row + column - 1)) (number_above w row column columns)) ≢ 0 ⊎ bit_and (number_above w row column columns) (slice_index diagonals (row + column - 1)) ≢ 0)
       → TurnsOverAllBelow degree product w row column room rows columns diagonals number before after → TurnsOverAllBelow degree product w row column room rows columns diagonals (more + number) before after
-  free_skips zero number after shares inv = let e : number ≡ 0 + number = omega arith in subst (λ n. TurnsOverAllBelow degree product w row column room rows columns diagonals n before after) e inv
-  free_skips (suc more) number after shares inv =
+  free_shuts zero number after shut inv = let e : number ≡ 0 + number = omega arith in subst (λ n. TurnsOverAllBelow degree product w row column room rows columns diagonals n before after) e inv
+  free_shuts (suc more) number after shut inv =
       let e : suc (more + number) ≡ suc more + number = omega arith in
       subst (λ n. TurnsOverAllBelow degree product w row column room rows columns diagonals n before after) e
-      (free_skip (more + number) after (shares (more + number) (omega arith) (omega arith)) (free_skips more number after (λ v a b. shares v a (omega arith)) inv))
+      (free_shut (more + number) after (shut (more + number) (omega arith) (omega arith)) (free_shuts more number after (λ v a b. shut v a (omega arith)) inv))
+
+  pub free_none : bit_and (number_above w row column columns) (slice_index diagonals (row + column - 1)) ≢ 0 → TurnsOverAll degree product w row column room rows columns diagonals before before
+  free_none shares =
+      free_end (suc (greatest_free row column room columns) + least_free row column room columns) before (omega arith)
+      (free_shuts (suc (greatest_free row column room columns)) (least_free row column room columns) before (λ v a b. inr shares) free_start)
 
   free_turned : (number : ℕ) (middle after : List Bool) → length columns ≡ 8 → length diagonals ≡ 16
       → least_free row column room columns ≤ number → number ≤ greatest_free row column room columns → bit_and number (slice_index diagonals (row + column - 1)) ≡ 0

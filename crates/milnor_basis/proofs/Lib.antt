@@ -13,6 +13,7 @@ mod Counting
 mod Digits
 mod Fill
 mod FreeRows
+mod RowZero
 mod FreeFill
 mod FreeTable
 mod FreeStart

@@ -4,7 +4,7 @@ ghost use Rattle.milnor_basis.specs.Exponents.{degree_of, entry, trimmed};
 ghost use Rattle.milnor_basis.specs.Basis.{basis_of};
 ghost use Rattle.milnor_basis.specs.Product.{product_bits};
 ghost use Rattle.milnor_basis.specs.Inside.Walk.{next_row, next_column, taken};
-ghost use Rattle.milnor_basis.specs.Inside.FreeRows.{least_free, greatest_free, added, element, are_elements, IsTurnedOver, TurnsOverAll};
+ghost use Rattle.milnor_basis.specs.Inside.FreeRows.{least_free, greatest_free, number_above, added, element, are_elements, IsTurnedOver, TurnsOverAll};
 
 use crate::basis::Basis;
 use crate::exps::{Exps, MAX_EXPONENTS};
@@ -70,6 +70,19 @@ impl Open {
             (most, most)
         } else {
             (0, most)
+        }
+    }
+
+    /// What row 0 has to put on the diagonal of this place: what is left of the next column, once only its place in row 0
+    /// is to fill. 0 where more of its places are, or none.
+    fn number_above(&self, width: usize, row: usize, column: usize) -> u16
+        requires width { width ≤ 8 }
+        ensures { result ≡ number_above width row column self.now.columns }
+    {
+        if row == 1 && column < width {
+            self.columns[column]
+        } else {
+            0
         }
     }
 
@@ -200,11 +213,16 @@ fn fill_all(
     }
     let (next_row, next_column) = next_place(width, row, column);
     let sum = open.diagonals[row + column - 1];
+    let above = open.number_above(width, row, column);
+    if above & sum != 0 {
+        return;
+    }
+    let digits = sum | above;
     let (least, greatest) = open.range(row, column);
     let mut number = u32::from(least);
     while number <= u32::from(greatest) {
         let put = number as u16;
-        if put & sum == 0 {
+        if put & digits == 0 {
             fill_all(
                 basis,
                 degrees,
@@ -214,7 +232,7 @@ fn fill_all(
                 open.put(row, column, put),
                 table,
             );
-            number = next_apart(put, sum);
+            number = next_apart(put, digits);
         } else {
             number += 1;
         }

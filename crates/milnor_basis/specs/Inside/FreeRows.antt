@@ -1,6 +1,6 @@
 -- The matrices of Milnor's product whose columns are S and whose rows make up any R of one degree, filled place by place
 -- from the last to the first.
-use Rattle.std.specs.Prelude.{◌≡◌, ℕ, zero, suc, ◌+◌, ◌-◌, ◌*◌, ◌<◌, ◌≤◌, ◌^◌, Bool, true, false, ◌&&◌, nat_eq, List, [], length, min, ◌/◌, slice_index, slice_index_or, slice_set}
+use Rattle.std.specs.Prelude.{◌≡◌, ℕ, zero, suc, ◌+◌, ◌-◌, ◌*◌, ◌<◌, ◌≤◌, ◌^◌, Bool, true, false, ◌&&◌, nat_eq, nat_lt, if◌then◌else◌, List, [], length, min, ◌/◌, slice_index, slice_index_or, slice_set}
 use Rattle.std.specs.List.{sum}
 use Rattle.std.specs.Cmp.Lexicographic.{pointwise}
 use Rattle.milnor_basis.specs.Exponents.{entry, degree_of, trimmed}
@@ -37,6 +37,11 @@ greatest_free zero zero room columns = 0
 greatest_free zero (suc j) room columns = slice_index columns j
 greatest_free (suc i) zero room columns = room / (2 ^ suc i - 1)
 greatest_free (suc i) (suc j) room columns = min (room / (2 ^ suc i - 1) / 2 ^ suc j) (slice_index columns j)
+
+-- What row 0 puts on the diagonal of (row, column), where that is known: while row 1 is filled, of the next column only the place
+-- in row 0 is left. Elsewhere 0.
+abbrev pub number_above : ℕ → ℕ → ℕ → List ℕ → ℕ
+number_above width row column columns = if nat_eq row 1 && nat_lt column width then slice_index columns column else 0
 
 -- the list with v added to its number at i, counted from 1
 abbrev pub added : ℕ → ℕ → List ℕ → List ℕ

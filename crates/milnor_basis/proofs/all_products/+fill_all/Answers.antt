@@ -1,15 +1,22 @@
 -- Each number has its turn.
-use Rattle.std.proofs.Common.{◌≡◌, ℕ, ◌<◌, ◌≤◌, ◌-◌, ◌+◌, suc, sym, subst, ◌∙◌, arith, add-one, rules}
+use Rattle.std.proofs.Common.{◌≡◌, ◌≢◌, ℕ, ◌<◌, ◌≤◌, ◌-◌, ◌+◌, suc, inl, sym, subst, ◌∙◌, arith, add-one, rules, slice_index, bit_and, bit_or}
 use Rattle.milnor_basis.specs.Exponents.{degree_of}
-use Rattle.milnor_basis.specs.Inside.FreeRows.{least_free, greatest_free, TurnsOverAll}
+use Rattle.milnor_basis.specs.Inside.FreeRows.{least_free, greatest_free, number_above, TurnsOverAll}
 use Rattle.milnor_basis.proofs.FreeRows.{put_degree}
-use Rattle.milnor_basis.proofs.FreeFill.{TurnsOverAllBelow, free_start, free_end, free_skip, free_skips, free_turn}
+use Rattle.milnor_basis.proofs.RowZero.{apart_both}
+use Rattle.milnor_basis.proofs.FreeFill.{TurnsOverAllBelow, free_start, free_end, free_none, free_shut, free_shuts, free_turn}
 use Rattle.milnor_basis.proofs.all_products.+fill_all.Goals as goal
 
 pub returns-then-row-eq0 : goal.returns-then-row-eq0
 returns-then-row-eq0 t c =
     subst (λ (n : ℕ). TurnsOverAll c.args.degrees.0 c.args.degrees.1 c.args.width n c.args.column c.args.open.room c.args.open.rows c.args.open.columns c.args.open.diagonals c.args.table.now c.fill_top.new.table) (sym c.if-row-eq0.true)
     (c.fill_top.ensures c.args.width c.requires.column)
+
+pub returns-then-above-sum-ne0 : goal.returns-then-above-sum-ne0
+returns-then-above-sum-ne0 t c =
+    free_none c.args.degrees.0 c.args.degrees.1 c.args.width c.args.row c.args.column c.args.open.room c.args.open.rows c.args.open.columns c.args.open.diagonals
+    (omega (arith, c.requires.small, c.requires.smaller)) c.requires.row (omega (arith, c.if-row-eq0.false)) c.requires.column (search rules) c.args.table.now
+    (subst (λ (n : ℕ). bit_and n (slice_index c.args.open.diagonals (c.args.row + c.args.column - 1)) ≢ 0) c.number_above-above.ensures c.if-above-sum-ne0.true)
 
 pub loop-number-init : goal.loop-number-init
 loop-number-init t c =
@@ -30,23 +37,26 @@ fill_all-requires t c =
     in
     search rules
 
-pub loop-number-preserved-then-put-sum-eq0 : goal.loop-number-preserved-then-put-sum-eq0
-loop-number-preserved-then-put-sum-eq0 t c =
+pub loop-number-preserved-then-put-digits-eq0 : goal.loop-number-preserved-then-put-digits-eq0
+loop-number-preserved-then-put-digits-eq0 t c =
     let higher : 0 < c.args.row + c.args.column = omega (arith, c.if-row-eq0.false) in
     let n = c.loop-number.number in
     let next = c.next_apart-number.result in
     let past : n < next = c.next_apart-number.ensures.above in
     let from : least_free c.args.row c.args.column c.args.open.room c.args.open.columns ≤ n = c.loop-number.invariant.from in
     let to : n ≤ greatest_free c.args.row c.args.column c.args.open.room c.args.open.columns = omega (arith, c.loop-number-test.true, c.from.ensures, c.range-least.ensures.greatest) in
+    let sum : ℕ = slice_index c.args.open.diagonals (c.args.row + c.args.column - 1) in
+    let above : ℕ = number_above c.args.width c.args.row c.args.column c.args.open.columns in
+    let apart : bit_and n (bit_or sum above) ≡ 0 = subst (λ (a : ℕ). bit_and n (bit_or sum a) ≡ 0) c.number_above-above.ensures c.if-put-digits-eq0.true in
     let turned = free_turn c.args.degrees.0 c.args.degrees.1 c.args.width c.args.row c.args.column c.args.open.room c.args.open.rows c.args.open.columns c.args.open.diagonals
     (omega (arith, c.requires.small, c.requires.smaller)) c.requires.row higher c.requires.column (search rules) c.args.table.now n
     c.next_place-next_row.result.0 c.next_place-next_row.result.1 c.put.result.room c.loop-number.table c.fill_all.new.table c.put.result.rows c.put.result.columns c.put.result.diagonals
     c.next_place-next_row.ensures.row c.next_place-next_row.ensures.column c.put.ensures.room c.put.ensures.rows c.put.ensures.columns c.put.ensures.diagonals
-    (search rules) (search rules) from to c.if-put-sum-eq0.true c.loop-number.invariant.turned c.fill_all.ensures
+    (search rules) (search rules) from to (apart_both n sum above apart) c.loop-number.invariant.turned c.fill_all.ensures
     in
-    let skipped = free_skips c.args.degrees.0 c.args.degrees.1 c.args.width c.args.row c.args.column c.args.open.room c.args.open.rows c.args.open.columns c.args.open.diagonals
+    let skipped = free_shuts c.args.degrees.0 c.args.degrees.1 c.args.width c.args.row c.args.column c.args.open.room c.args.open.rows c.args.open.columns c.args.open.diagonals
     (omega (arith, c.requires.small, c.requires.smaller)) c.requires.row higher c.requires.column (search rules) c.args.table.now (next - suc n) (suc n) c.fill_all.new.table
-    (λ v l m. c.next_apart-number.ensures.least v (omega arith) (omega arith)) turned
+    (λ v l m. inl (subst (λ (a : ℕ). bit_and v (bit_or sum a) ≢ 0) c.number_above-above.ensures (c.next_apart-number.ensures.least v (omega arith) (omega arith)))) turned
     in
     let whole : next - suc n + suc n ≡ next = omega arith in
     record {
@@ -56,9 +66,10 @@ loop-number-preserved-then-put-sum-eq0 t c =
 
 pub loop-number-preserved : goal.loop-number-preserved
 loop-number-preserved t c =
-    let higher : 0 < c.args.row + c.args.column = omega (arith, c.if-row-eq0.false) in
-    let skipped = free_skip c.args.degrees.0 c.args.degrees.1 c.args.width c.args.row c.args.column c.args.open.room c.args.open.rows c.args.open.columns c.args.open.diagonals
-    (omega (arith, c.requires.small, c.requires.smaller)) c.requires.row higher c.requires.column (search rules) c.args.table.now c.loop-number.number c.loop-number.table c.if-put-sum-eq0.false c.loop-number.invariant.turned
+    let sum : ℕ = slice_index c.args.open.diagonals (c.args.row + c.args.column - 1) in
+    let shut = subst (λ (a : ℕ). bit_and c.loop-number.number (bit_or sum a) ≢ 0) c.number_above-above.ensures c.if-put-digits-eq0.false in
+    let skipped = free_shut c.args.degrees.0 c.args.degrees.1 c.args.width c.args.row c.args.column c.args.open.room c.args.open.rows c.args.open.columns c.args.open.diagonals
+    (omega (arith, c.requires.small, c.requires.smaller)) c.requires.row (omega (arith, c.if-row-eq0.false)) c.requires.column (search rules) c.args.table.now c.loop-number.number c.loop-number.table (inl shut) c.loop-number.invariant.turned
     in
     let from = c.loop-number.invariant.from in
     record {
