@@ -6,10 +6,10 @@ use Rattle.std.proofs.lemmas.Bool.{cases_lt}
 use Rattle.std.proofs.lemmas.List.{append-nil, append_assoc, drop-set, flat_map_more, map-append, length_push, length-take-le, take_all, take_more, get_or_push, get_or_append_left, get_or-append_right}
 use Rattle.std.proofs.lemmas.List.Elements.{All-nil, All-cons, All-map, All-weaker, All-contains}
 use Rattle.std.proofs.lemmas.Nat.{mul-le, le-div, div-add-mod'}
+use Rattle.f2_vec.proofs.Ones.{range_more}
 use Rattle.milnor_basis.specs.Exponents.{entry, degree_of, put_before, trimmed, IsTrimmed, IsRightLexBelow}
 use Rattle.milnor_basis.specs.Basis.{lists_of, basis_of, BasisIsMilnors}
 use Rattle.milnor_basis.specs.Inside.Padding.{padded}
-use Rattle.milnor_basis.proofs.Ranges.{range-more}
 use Rattle.milnor_basis.proofs.Blocks.{All-blocks, Contains-blocks, Contains-map, AllPairs-blocks, AllPairs-map}
 use Rattle.milnor_basis.proofs.ExponentLemmas.{degree_of-trimmed, degree_of-push, entry-trimmed, entry_past, IsTrimmed-trimmed, length_above, length_within, length-padded, trimmed-padded, below_power}
 
@@ -50,7 +50,7 @@ placed_by_last (suc k) n rest h =
 -- one more exponent at the last place
 pub placed_more : (self level level' : List (List ℕ)) (k n r : ℕ) (rest : List ℕ) → level ≡ self ++ flat_map (placed_last k n rest) (range_with_len 0 r) → level' ≡ level ++ placed_last k n rest r → level' ≡ self ++ flat_map (placed_last k n rest) (range_with_len 0 (r + 1))
 placed_more self level level' k n r rest e e' =
-    e' ∙ ap (λ xs. xs ++ placed_last k n rest r) e ∙ flat_map_more (placed_last k n rest) self (range_with_len 0 r) r ∙ ap (λ xs. self ++ flat_map (placed_last k n rest) xs) (sym (range-more 0 r r (omega arith)))
+    e' ∙ ap (λ xs. xs ++ placed_last k n rest r) e ∙ flat_map_more (placed_last k n rest) self (range_with_len 0 r) r ∙ ap (λ xs. self ++ flat_map (placed_last k n rest) xs) (sym (range_more 0 r r (omega arith)))
 
 -- the exponents from place k - 1 on, once one is put there
 pub drop_set_back : (numbers : List ℕ) (k r : ℕ) → 0 < k → k ≤ length numbers → drop (k - 1) (set numbers (k - 1) r) ≡ r ∷ drop k numbers

@@ -7,10 +7,11 @@ use Rattle.std.proofs.lemmas.Option.{get_or_from_slice_get, slice_get_within}
 use Rattle.std.proofs.lemmas.Bool.{eqb-true, eqb-false, ltb-true, ltb-false, leb-true, leb-false, cases_Bool}
 use Rattle.std.proofs.Math.Nat.{mul-le-mul_right}
 use Rattle.std.proofs.Math.Pow.{pow_mono}
+use Rattle.f2_vec.specs.Vectors.{plus}
 use Rattle.milnor_basis.specs.Exponents.{entry, degree_of, put_before, trimmed, IsTrimmed}
 use Rattle.milnor_basis.specs.Basis.{basis_of}
 use Rattle.milnor_basis.proofs.BasisLemmas.{basis_is_milnors}
-use Rattle.milnor_basis.specs.Inside.Walk.{plus, TurnsOverEqual}
+use Rattle.milnor_basis.specs.Inside.Walk.{TurnsOverEqual}
 use Rattle.milnor_basis.proofs.ExponentLemmas.{trimmed-zeros, entry-trimmed, entry_last, entry_within, length_above}
 
 -- the element of a degree's basis at place k

@@ -5,10 +5,12 @@ use Rattle.std.proofs.lemmas.Bool.{eq-eqb, ne_eqb, ltb-true, ltb-false, cases_Bo
 use Rattle.std.proofs.lemmas.List.{get_or_past}
 use Rattle.std.proofs.lemmas.List.FromFn.{length-map-range_with_len, get_or-map-range_with_len}
 use Rattle.std.specs.Cmp.Lexicographic.{pointwise}
+use Rattle.f2_vec.specs.Vectors.{plus}
+use Rattle.f2_vec.proofs.Sums.{plus-assoc}
 use Rattle.milnor_basis.specs.Exponents.{entry, trimmed}
 use Rattle.milnor_basis.specs.Basis.{basis_of}
-use Rattle.milnor_basis.specs.Inside.Walk.{plus, is_odd_below, fillings, places_to, Sums, add, are_sums_of, IsLeft, least, greatest, taken, next_row, next_column, TurnsOver, TurnsOverEqual}
-use Rattle.milnor_basis.proofs.Parity.{plus-assoc, is_odd_below-none, is_odd_below-up_to}
+use Rattle.milnor_basis.specs.Inside.Walk.{is_odd_below, fillings, places_to, Sums, add, are_sums_of, IsLeft, least, greatest, taken, next_row, next_column, TurnsOver, TurnsOverEqual}
+use Rattle.milnor_basis.proofs.Parity.{is_odd_below-none, is_odd_below-up_to}
 use Rattle.milnor_basis.proofs.Walk.{fillings_step}
 use Rattle.milnor_basis.proofs.Prune.{outside, not_apart}
 use Rattle.milnor_basis.proofs.Ranges.{list_all-range}

@@ -7,12 +7,14 @@ use Rattle.std.proofs.lemmas.List.{get_or_past}
 use Rattle.std.proofs.lemmas.Nat.{and_comm, or_disjoint}
 use Rattle.std.proofs.lemmas.List.FromFn.{length-map-range_with_len, get_or-map-range_with_len}
 use Rattle.std.specs.Cmp.Lexicographic.{pointwise}
+use Rattle.f2_vec.specs.Vectors.{plus}
+use Rattle.f2_vec.proofs.Sums.{plus-assoc}
 use Rattle.milnor_basis.specs.Exponents.{entry, degree_of, trimmed}
 use Rattle.milnor_basis.specs.Basis.{basis_of}
 use Rattle.milnor_basis.specs.Inside.Padding.{padded}
-use Rattle.milnor_basis.specs.Inside.Walk.{plus, is_odd_below, Sums, add_at, add, are_sums_of, taken, next_row, next_column}
+use Rattle.milnor_basis.specs.Inside.Walk.{is_odd_below, Sums, add_at, add, are_sums_of, taken, next_row, next_column}
 use Rattle.milnor_basis.specs.Inside.FreeRows.{IsFree, least_free, greatest_free, number_above, added, element, IsTurnedOver, are_elements, leads_to, TurnsOverAll}
-use Rattle.milnor_basis.proofs.Parity.{plus-assoc, is_odd_below-none, is_odd_below-up_to}
+use Rattle.milnor_basis.proofs.Parity.{is_odd_below-none, is_odd_below-up_to}
 use Rattle.milnor_basis.proofs.Walk.{fillings_step}
 use Rattle.milnor_basis.proofs.Prune.{add_at-other, add_at-same, not_apart}
 use Rattle.milnor_basis.proofs.RowZero.{IsCrowded, crowded_row, crowds}

@@ -8,11 +8,12 @@ use Rattle.std.proofs.lemmas.List.{get_or_past}
 use Rattle.std.proofs.lemmas.List.Sums.{sum_by-cons}
 use Rattle.std.proofs.lemmas.List.FromFn.{length-map-range_with_len, get_or-map-range_with_len}
 use Rattle.std.specs.Cmp.Lexicographic.{pointwise}
+use Rattle.f2_vec.proofs.Sums.{plus-false}
 use Rattle.milnor_basis.specs.Exponents.{entry, trimmed}
 use Rattle.milnor_basis.specs.Product.{coefficient}
 use Rattle.milnor_basis.specs.Inside.Padding.{padded}
 use Rattle.milnor_basis.specs.Inside.Walk.{is_odd_below, fillings, places_to, Sums, no_sums, add_at, add, are_sums_of, next_row, next_column}
-use Rattle.milnor_basis.proofs.Parity.{plus-false, is_odd_below-same, is_odd_below-up_to}
+use Rattle.milnor_basis.proofs.Parity.{is_odd_below-same, is_odd_below-up_to}
 use Rattle.milnor_basis.proofs.Walk.{fillings_step, along}
 use Rattle.milnor_basis.proofs.Prune.{row_too_large, add_at-other, add_at-same}
 use Rattle.milnor_basis.proofs.Ranges.{list_all-range}

@@ -5,14 +5,15 @@ use Rattle.std.proofs.lemmas.Bool.{cases_eq, cases_lt}
 use Rattle.std.proofs.lemmas.Nat.{div-mul-add, mul-add-lt}
 use Rattle.std.proofs.lemmas.List.{get_or-set_same, get_or-set_other, get_or-drop, length-drop, get_or-replicate, get_or-map, length-map, ext_get_or, take_more, map-append}
 use Rattle.std.proofs.lemmas.Option.{get_or_from_slice_get, slice_get_within}
+use Rattle.f2_vec.specs.Vectors.{plus}
+use Rattle.f2_vec.proofs.Sums.{plus-false}
 use Rattle.milnor_basis.specs.Exponents.{entry, degree_of, trimmed}
 use Rattle.milnor_basis.specs.Basis.{basis_of}
-use Rattle.milnor_basis.specs.Inside.Walk.{plus, no_sums}
+use Rattle.milnor_basis.specs.Inside.Walk.{no_sums}
 use Rattle.milnor_basis.specs.Inside.FreeRows.{element, IsFree, IsTurnedOver, are_elements, leads_to}
 use Rattle.milnor_basis.proofs.Bits.{same_exponents, other_exponents, trimmed_take, no_more_exponents}
 use Rattle.milnor_basis.proofs.ExponentLemmas.{entry_past}
 use Rattle.milnor_basis.specs.Product.{coefficient, product_bits}
-use Rattle.milnor_basis.proofs.Parity.{plus-false}
 use Rattle.milnor_basis.proofs.FreeStart.{coefficient-padded}
 use Rattle.milnor_basis.proofs.Places.{basis_of-once, basis_of-member}
 

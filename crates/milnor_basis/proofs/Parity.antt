@@ -2,15 +2,11 @@
 use Rattle.std.proofs.Common.{◌≡◌, ℕ, zero, suc, ◌+◌, ◌<◌, ◌≤◌, ◌%◌, Bool, true, false, not, cond, ◌&&◌, List, [], ◌∷◌, ◌++◌, map, refl, sym, ◌∙◌, ap, arith, zero-add}
 use Rattle.std.specs.List.{count_by, filter, flat_map, range_with_len}
 use Rattle.std.proofs.lemmas.List.Sums.{sum_by-cons}
+use Rattle.f2_vec.specs.Vectors.{plus}
+use Rattle.f2_vec.proofs.Sums.{plus-assoc, plus-comm, plus-false}
 use Rattle.milnor_basis.specs.Product.{is_odd}
-use Rattle.milnor_basis.specs.Inside.Walk.{plus, is_odd_below}
+use Rattle.milnor_basis.specs.Inside.Walk.{is_odd_below}
 use Rattle.milnor_basis.proofs.Ranges.{range-suc}
-
-pub plus-assoc : (a b c : Bool) → plus (plus a b) c ≡ plus a (plus b c)
-plus-assoc true true true = refl
-plus-assoc true true false = refl
-plus-assoc true false c = refl
-plus-assoc false b c = refl
 
 -- whether p holds for an odd number of elements
 abbrev pub odd_by : {X : Type 0} → (X → Bool) → List X → Bool
@@ -53,16 +49,6 @@ odd_by-filter p q (x ∷ xs) = at (q x) (odd_by-filter p q xs) where
 pub odd_by-flat_map : {X Y : Type 0} → (p : Y → Bool) (f : X → List Y) (xs : List X) → odd_by p (flat_map f xs) ≡ odd_by (λ x. odd_by p (f x)) xs
 odd_by-flat_map p f [] = refl
 odd_by-flat_map p f (x ∷ xs) = odd_by-append p (f x) (flat_map f xs) ∙ ap (plus (odd_by p (f x))) (odd_by-flat_map p f xs)
-
-pub plus-comm : (a b : Bool) → plus a b ≡ plus b a
-plus-comm true true = refl
-plus-comm true false = refl
-plus-comm false true = refl
-plus-comm false false = refl
-
-pub plus-false : (a : Bool) → plus a false ≡ a
-plus-false true = refl
-plus-false false = refl
 
 -- a count over 0 to n - 1
 pub odd_by-range : (p : ℕ → Bool) (n : ℕ) → odd_by p (range_with_len 0 n) ≡ is_odd_below p n

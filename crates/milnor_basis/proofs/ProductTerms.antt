@@ -2,11 +2,12 @@
 use Rattle.std.proofs.Common.{◌≡◌, ℕ, ◌+◌, ◌<◌, ◌≤◌, Bool, true, false, List, [], ◌∷◌, ◌++◌, length, map, take, cond, refl, sym, ◌∙◌, ap, arith, slice_index, slice_index_or}
 use Rattle.std.specs.List.{filter}
 use Rattle.std.proofs.lemmas.List.{append-nil, ext_get_or, get_or-map, length-map, take_more, take_all}
+use Rattle.f2_vec.specs.Vectors.{plus}
+use Rattle.f2_vec.proofs.Sums.{plus-false}
 use Rattle.milnor_basis.specs.Exponents.{entry, degree_of}
 use Rattle.milnor_basis.specs.Basis.{basis_of}
 use Rattle.milnor_basis.specs.Product.{coefficient, product_bits, product_terms}
-use Rattle.milnor_basis.specs.Inside.Walk.{plus, IsLeft, no_sums, TurnsOver, AreChosen}
-use Rattle.milnor_basis.proofs.Parity.{plus-false}
+use Rattle.milnor_basis.specs.Inside.Walk.{IsLeft, no_sums, TurnsOver, AreChosen}
 use Rattle.milnor_basis.proofs.Matrices.{coefficient-fillings}
 
 -- at the beginning all is left

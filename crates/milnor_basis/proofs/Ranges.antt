@@ -7,9 +7,6 @@ pub range-suc : (a n j : ℕ) → a + n ≡ j → range_with_len a (suc n) ≡ r
 range-suc a zero j e = let f : a ≡ j = omega arith in ap (λ k. k ∷ []) f
 range-suc a (suc n) j e = ap (λ ks. a ∷ ks) (range-suc (a + 1) n j (omega arith))
 
-pub range-more : (a n j : ℕ) → a + n ≡ j → range_with_len a (n + 1) ≡ range_with_len a n ++ j ∷ []
-range-more a n j e = ap (range_with_len a) (let f : n + 1 ≡ suc n = omega arith in f) ∙ range-suc a n j e
-
 -- a test of all numbers of a range
 pub list_all-range : (p : ℕ → Bool) (a n : ℕ) → ((i : ℕ) → a ≤ i → i < a + n → p i ≡ true) → list_all p (range_with_len a n) ≡ true
 list_all-range p a zero h = refl

@@ -8,10 +8,11 @@ use Rattle.std.proofs.lemmas.Bool.{and_left, and_right, cases_Bool, false_from_n
 use Rattle.std.proofs.lemmas.List.{get_or_default}
 use Rattle.std.proofs.lemmas.List.Elements.{All-append, All-cons, All-head, All-map, All-nil, All-tail}
 use Rattle.std.proofs.lemmas.List.FromFn.{length-map-range_with_len}
+use Rattle.f2_vec.specs.Vectors.{plus}
 use Rattle.milnor_basis.specs.Exponents.{degree_of, trimmed, IsTrimmed}
 use Rattle.milnor_basis.specs.Basis.{basis_of}
 use Rattle.milnor_basis.specs.Product.{coefficient, product_terms}
-use Rattle.milnor_basis.specs.Inside.Walk.{plus, is_odd_below}
+use Rattle.milnor_basis.specs.Inside.Walk.{is_odd_below}
 use Rattle.milnor_basis.proofs.BasisLemmas.{All-basis_of, Contains-basis_of}
 use Rattle.milnor_basis.proofs.ExponentLemmas.{same_answers, IsTrimmed-trimmed, length-trimmed, length_within}
 use Rattle.milnor_basis.proofs.Homogeneous.{product_is_homogeneous}

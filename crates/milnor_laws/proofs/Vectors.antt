@@ -6,13 +6,12 @@ use Rattle.std.proofs.Math.Bool as Booleans
 use Rattle.std.proofs.lemmas.Int.{ints}
 use Rattle.std.proofs.lemmas.List.Elements.{All-cons, All-head, All-nil, All-tail}
 use Rattle.f2_vec.specs.Spans.{combination}
-use Rattle.f2_vec.specs.Vectors.{sum_of, zeros}
+use Rattle.f2_vec.specs.Vectors.{sum_of, zeros, plus}
 use Rattle.f2_vec.proofs.Combinations.{map_same_all, combination-zero_rows}
 use Rattle.f2_vec.proofs.Spans.{combination-zeros}
 use Rattle.milnor_basis.specs.Exponents.{degree_of, IsTrimmed}
 use Rattle.milnor_basis.specs.Basis.{basis_of}
 use Rattle.milnor_basis.specs.Product.{coefficient, product_bits}
-use Rattle.milnor_basis.specs.Inside.Walk.{plus}
 use Rattle.milnor_basis.proofs.BasisLemmas.{All-basis_of}
 use Rattle.milnor_basis.proofs.Parity.{odd_by, odd_by-filter, odd_by-same}
 use Rattle.milnor_product.specs.Times.{basis_at, times_at}

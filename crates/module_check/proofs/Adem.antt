@@ -7,9 +7,9 @@ use Rattle.std.proofs.lemmas.Bool.{lt-ltb, le-ltb, ne_eqb, eq-eqb}
 use Rattle.std.proofs.lemmas.List.{append-nil, map-append}
 use Rattle.std.proofs.lemmas.List.Elements.{filter-append}
 use Rattle.f2_vec.specs.Vectors.{sum_of}
+use Rattle.f2_vec.proofs.Ones.{range_more}
 use Rattle.milnor_basis.specs.Product.{choose, is_odd}
 use Rattle.milnor_basis.proofs.Kummer.{choose_odd, choose-past}
-use Rattle.milnor_basis.proofs.Ranges.{range-more}
 use Rattle.module_json.specs.ModuleFile.{Generator, Entry, degree_at}
 use Rattle.module_check.specs.Module.{width, total}
 use Rattle.module_check.specs.DerivedAction.{doubled_below, listed_sum, twice, by_adem}
@@ -72,13 +72,13 @@ module _ (w : ℕ) (x : List Bool) (f : ℕ → List Bool) (p : ℕ → Bool) (k
   pub chosen_yes : p (suc k) ≡ true → total w (x ∷ map f (filter p (range_with_len 1 (k + 1)))) ≡ sum_of (total w (x ∷ map f (filter p (range_with_len 1 k)))) (f (suc k))
   chosen_yes e =
       let longer : filter p (range_with_len 1 (k + 1)) ≡ filter p (range_with_len 1 k) ++ suc k ∷ [] =
-      ap (filter p) (range-more 1 k (suc k) (omega arith)) ∙ filter-append p (range_with_len 1 k) (suc k ∷ []) ∙ ap (λ t. filter p (range_with_len 1 k) ++ cond t (suc k ∷ []) []) e in
+      ap (filter p) (range_more 1 k (suc k) (omega arith)) ∙ filter-append p (range_with_len 1 k) (suc k ∷ []) ∙ ap (λ t. filter p (range_with_len 1 k) ++ cond t (suc k ∷ []) []) e in
       ap (λ xs. total w (x ∷ map f xs)) longer ∙ ap (λ ys. total w (x ∷ ys)) (map-append f (filter p (range_with_len 1 k)) (suc k ∷ [])) ∙ total_push w (x ∷ map f (filter p (range_with_len 1 k))) (f (suc k))
 
   pub chosen_no : p (suc k) ≡ false → total w (x ∷ map f (filter p (range_with_len 1 (k + 1)))) ≡ total w (x ∷ map f (filter p (range_with_len 1 k)))
   chosen_no e =
       let same : filter p (range_with_len 1 (k + 1)) ≡ filter p (range_with_len 1 k) =
-      ap (filter p) (range-more 1 k (suc k) (omega arith)) ∙ filter-append p (range_with_len 1 k) (suc k ∷ []) ∙ ap (λ t. filter p (range_with_len 1 k) ++ cond t (suc k ∷ []) []) e ∙ append-nil (filter p (range_with_len 1 k)) in
+      ap (filter p) (range_more 1 k (suc k) (omega arith)) ∙ filter-append p (range_with_len 1 k) (suc k ∷ []) ∙ ap (λ t. filter p (range_with_len 1 k) ++ cond t (suc k ∷ []) []) e ∙ append-nil (filter p (range_with_len 1 k)) in
       ap (λ xs. total w (x ∷ map f xs)) same
 
 -- the sum of the terms for numbers up to k

@@ -10,10 +10,10 @@ use Rattle.std.proofs.lemmas.List.Quantifiers.{position-Some}
 use Rattle.std.proofs.lemmas.List.Sums.{position_or_len_is}
 use Rattle.std.proofs.lemmas.Cmp.{nat_list_eq_equiv}
 use Rattle.std.proofs.lemmas.Option.{slice_get_within, slice_get-get_or, get_or_from_slice_get, same_Some, none-some}
+use Rattle.f2_vec.proofs.Ones.{range_more}
 use Rattle.milnor_basis.specs.Exponents.{degree_of, entry, IsRightLexBelow}
 use Rattle.milnor_basis.specs.Basis.{basis_of}
 use Rattle.milnor_basis.proofs.BasisLemmas.{basis_is_milnors}
-use Rattle.milnor_basis.proofs.Ranges.{range-more}
 use Rattle.module_check.specs.Module.{elements_below, place_of}
 use Rattle.module_check.specs.DerivedAction.{elements}
 
@@ -30,7 +30,7 @@ slice_get-append_right (x ∷ xs) ys (suc i) j e = slice_get-append_right xs ys 
 -- one degree more
 pub elements_more : (n : ℕ) → elements (suc n) ≡ elements n ++ basis_of n
 elements_more n =
-    ap (λ k. flat_map basis_of (range_with_len 0 k)) (sym (add-one n)) ∙ ap (flat_map basis_of) (range-more 0 n n (omega arith)) ∙ flat_map-append basis_of (range_with_len 0 n) (n ∷ []) ∙ ap (λ xs. elements n ++ xs) (append-nil (basis_of n))
+    ap (λ k. flat_map basis_of (range_with_len 0 k)) (sym (add-one n)) ∙ ap (flat_map basis_of) (range_more 0 n n (omega arith)) ∙ flat_map-append basis_of (range_with_len 0 n) (n ∷ []) ∙ ap (λ xs. elements n ++ xs) (append-nil (basis_of n))
 
 pub length-elements : (n : ℕ) → length (elements n) ≡ elements_below n
 length-elements zero = refl

@@ -5,7 +5,7 @@ use Rattle.std.specs.List.{range_with_len}
 use Rattle.std.proofs.Math.Seq.{drop-cons}
 use Rattle.std.proofs.lemmas.List.{take_more, take_all, take-append-drop}
 use Rattle.std.proofs.lemmas.List.Elements.{All-head, All-tail}
-use Rattle.milnor_basis.proofs.Ranges.{range-more}
+use Rattle.f2_vec.proofs.Ones.{range_more}
 use Rattle.module_check.specs.Acceptance.{first_in}
 
 pub option_or_none : {A : Type 0} (o p : Option A) → option_or o p ≡ None → (o ≡ None) × (p ≡ None)
@@ -53,7 +53,7 @@ first_in_nothing f (x ∷ xs) h =
 -- the same over a range
 pub first_in_range_more : {B : Type 0} (f : ℕ → Option B) (a k j : ℕ) → a + k ≡ j → first_in f (range_with_len a k) ≡ None → f j ≡ None → first_in f (range_with_len a (k + 1)) ≡ None
 first_in_range_more f a k j e before here =
-    ap (first_in f) (range-more a k j e) ∙ first_in-append f (range_with_len a k) (j ∷ []) ∙ ap (λ o. option_or o (option_or (f j) None)) before ∙ ap (λ o. option_or o None) here
+    ap (first_in f) (range_more a k j e) ∙ first_in-append f (range_with_len a k) (j ∷ []) ∙ ap (λ o. option_or o (option_or (f j) None)) before ∙ ap (λ o. option_or o None) here
 
 range_split : (a k m : ℕ) → range_with_len a (k + m) ≡ range_with_len a k ++ range_with_len (a + k) m
 range_split a zero m =

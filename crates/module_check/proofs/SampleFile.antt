@@ -13,8 +13,8 @@ use Rattle.std.proofs.lemmas.List.Quantifiers.{position-Some}
 use Rattle.std.proofs.Math.Nat.{mod-lt}
 use Rattle.std.specs.Prelude.{int_le}
 use Rattle.std.proofs.lemmas.Option.{same_Some}
+use Rattle.f2_vec.proofs.Ones.{range_more}
 use Rattle.milnor_basis.specs.Exponents.{IsTrimmed}
-use Rattle.milnor_basis.proofs.Ranges.{range-more}
 use Rattle.module_json.specs.ModuleFile.{Generator, Entry, no_generator, placed, by_degree, number_of}
 use Rattle.module_json.specs.WellFormed.{AreByDegree}
 use Rattle.module_json.proofs.Basis.{length-by_degree}
@@ -41,7 +41,7 @@ filter_map_take h xs i d l =
 
 pub filter_map_range : {Y : Type 0} (h : ℕ → Option Y) (k : ℕ) → filter_map h (range_with_len 0 (k + 1)) ≡ filter_map h (range_with_len 0 k) ++ option_to_list (h k)
 filter_map_range h k =
-    ap (filter_map h) (range-more 0 k k (omega arith)) ∙ filter_map-append h (range_with_len 0 k) (k ∷ []) ∙ ap (λ ys. filter_map h (range_with_len 0 k) ++ ys) (one (h k))
+    ap (filter_map h) (range_more 0 k k (omega arith)) ∙ filter_map-append h (range_with_len 0 k) (k ∷ []) ∙ ap (λ ys. filter_map h (range_with_len 0 k) ++ ys) (one (h k))
   where
     one : {Y : Type 0} (o : Option Y) → cons_option o [] ≡ option_to_list o
     one None = refl

@@ -15,11 +15,11 @@ use Rattle.f2_vec.specs.Vectors.{plus, sum_of, zeros, bit, IsZero}
 use Rattle.f2_vec.proofs.Sums.{length-zeros, bit-sum_of, bit-zeros, sum_of-self, sum_of-zeros_right, zeros_from_bits}
 use Rattle.f2_vec.proofs.Spans.{combination-zeros}
 use Rattle.f2_vec.proofs.Combinations.{HaveWidth-map_where}
+use Rattle.f2_vec.proofs.Ones.{range_more}
 use Rattle.milnor_basis.specs.Exponents.{degree_of, IsTrimmed}
 use Rattle.milnor_basis.specs.Basis.{basis_of}
 use Rattle.milnor_basis.specs.Product.{product_terms}
 use Rattle.milnor_basis.proofs.BasisLemmas.{All-basis_of}
-use Rattle.milnor_basis.proofs.Ranges.{range-more}
 use Rattle.module_json.specs.ModuleFile.{Generator, degree_at}
 use Rattle.module_check.specs.Module.{Module, generators_in, width, place_of, or_zeros, value, act_on, total}
 use Rattle.module_check.specs.Acceptance.{one_by_one, by_their_product, first_in, relation_on, relation_of, relation_in_degrees, relation_in_degree}
@@ -206,7 +206,7 @@ relation_unreached m r s i h e =
 pub reaching_more : (gs : List Generator) (n k : ℕ) (b : Bool) → b ≡ reaches gs n k → (xs ys : List ℕ) → xs ≡ filter (reaches gs n) (range_with_len 0 k) → ys ≡ xs ++ cond b (k ∷ []) [] → ys ≡ filter (reaches gs n) (range_with_len 0 (k + 1))
 reaching_more gs n k b e xs ys before now =
     now ∙ ap (λ zs. zs ++ cond b (k ∷ []) []) before ∙ ap (λ c. filter (reaches gs n) (range_with_len 0 k) ++ cond c (k ∷ []) []) e
-    ∙ sym (filter-append (reaches gs n) (range_with_len 0 k) (k ∷ [])) ∙ ap (filter (reaches gs n)) (sym (range-more 0 k k (omega arith)))
+    ∙ sym (filter-append (reaches gs n) (range_with_len 0 k) (k ∷ [])) ∙ ap (filter (reaches gs n)) (sym (range_more 0 k k (omega arith)))
 
 -- the terms of a product of a degree up to n
 pub terms_within : (r s : List ℕ) (n : ℕ) → degree_of r + degree_of s ≤ n → All (λ t. degree_of t ≤ n) (product_terms r s)

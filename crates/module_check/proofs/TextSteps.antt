@@ -5,8 +5,8 @@ use Rattle.std.proofs.lemmas.Grind.{flat_map-append}
 use Rattle.std.proofs.lemmas.List.{take_more, map-append, append-nil, length-take-le, take_all}
 use Rattle.std.proofs.lemmas.List.FromFn.{length-range_with_len}
 use Rattle.f2_vec.specs.Vectors.{IsZero}
+use Rattle.f2_vec.proofs.Ones.{range_more}
 use Rattle.milnor_basis.specs.Exponents.{degree_of, trimmed}
-use Rattle.milnor_basis.proofs.Ranges.{range-more}
 use Rattle.module_json.specs.ModuleFile.{degree_at}
 use Rattle.module_check.specs.Module.{Module, width, value}
 use Rattle.module_check.specs.Inside.Operators.{HaveWidths}
@@ -23,7 +23,7 @@ flat_map_take f xs i d text line h e l =
 
 pub flat_map_range : (f : ℕ → List ℕ) (i : ℕ) (text line : List ℕ) → text ≡ flat_map f (range_with_len 0 i) → line ≡ f i → text ++ line ≡ flat_map f (range_with_len 0 (i + 1))
 flat_map_range f i text line e l =
-    flat_map_push f (range_with_len 0 i) i text line e l ∙ ap (flat_map f) (sym (range-more 0 i i (omega arith)))
+    flat_map_push f (range_with_len 0 i) i text line e l ∙ ap (flat_map f) (sym (range_more 0 i i (omega arith)))
 
 -- a text more behind others
 joined_by_plus-push : (x : List ℕ) (xs : List (List ℕ)) (y : List ℕ) → joined_by_plus ((x ∷ xs) ++ y ∷ []) ≡ joined_by_plus (x ∷ xs) ++ (codes " + " ++ y)
@@ -59,7 +59,7 @@ items_where_true-more v start i numbers b l h e f =
     let k = i - start in
     let z : i + 1 - start ≡ k + 1 = omega arith in
     let more : take (k + 1) v ≡ take k v ++ get_or v k false ∷ [] = take_more v k false h in
-    let range : range_with_len start (k + 1) ≡ range_with_len start k ++ i ∷ [] = range-more start k i (omega arith) in
+    let range : range_with_len start (k + 1) ≡ range_with_len start k ++ i ∷ [] = range_more start k i (omega arith) in
     let len : length (take k v) ≡ length (range_with_len start k) = length-take-le k v (omega arith) ∙ sym (length-range_with_len start k) in
     let push = items_where_true-push (take k v) (get_or v k false) (range_with_len start k) i len in
     rw (z, more, range) (ap (λ t. t ++ cond b (i ∷ []) []) e ∙ ap (λ c. items_where_true (take k v) (range_with_len start k) ++ cond c (i ∷ []) []) f ∙ sym push)

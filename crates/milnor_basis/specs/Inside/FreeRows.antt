@@ -3,10 +3,11 @@
 use Rattle.std.specs.Prelude.{◌≡◌, ℕ, zero, suc, ◌+◌, ◌-◌, ◌*◌, ◌<◌, ◌≤◌, ◌^◌, Bool, true, false, ◌&&◌, nat_eq, nat_lt, if◌then◌else◌, List, [], length, min, ◌/◌, slice_index, slice_index_or, slice_set}
 use Rattle.std.specs.List.{sum}
 use Rattle.std.specs.Cmp.Lexicographic.{pointwise}
+use Rattle.f2_vec.specs.Vectors.{plus}
 use Rattle.milnor_basis.specs.Exponents.{entry, degree_of, trimmed}
 use Rattle.milnor_basis.specs.Basis.{basis_of}
 use Rattle.milnor_basis.specs.Inside.Padding.{padded}
-use Rattle.milnor_basis.specs.Inside.Walk.{plus, fillings, places_to, Sums, add, are_sums_of}
+use Rattle.milnor_basis.specs.Inside.Walk.{fillings, places_to, Sums, add, are_sums_of}
 
 -- What a filling that has come to (row, column) knows: the sums of rows 1 to 8 so far and the degree that is left for them,
 -- what is left of columns 1 to 8, and the sums of diagonals 1 to 16 so far.

@@ -1,15 +1,11 @@
 -- The matrices of Milnor's product, filled place by place from the last to the first, and the sums that the formula
 -- asks of them.
-use Rattle.std.specs.Prelude.{◌≡◌, ℕ, zero, suc, ◌+◌, ◌-◌, ◌*◌, ◌<◌, ◌≤◌, ◌^◌, Bool, true, false, not, ◌&&◌, nat_eq, if◌then◌else◌, List, [], ◌∷◌, ◌++◌, length, map, min, ◌/◌, slice_index, slice_index_or, slice_set, bit_and}
+use Rattle.std.specs.Prelude.{◌≡◌, ℕ, zero, suc, ◌+◌, ◌-◌, ◌*◌, ◌<◌, ◌≤◌, ◌^◌, Bool, true, false, ◌&&◌, nat_eq, if◌then◌else◌, List, [], ◌∷◌, ◌++◌, length, map, min, ◌/◌, slice_index, slice_index_or, slice_set, bit_and}
 use Rattle.std.specs.List.{filter, list_all, sum, range_with_len}
 use Rattle.std.specs.Cmp.Lexicographic.{pointwise}
+use Rattle.f2_vec.specs.Vectors.{plus}
 use Rattle.milnor_basis.specs.Exponents.{entry, trimmed}
 use Rattle.milnor_basis.specs.Basis.{basis_of}
-
--- b, turned over where a is true: the sum of two coefficients mod 2
-abbrev pub plus : Bool → Bool → Bool
-plus true b = not b
-plus false b = b
 
 -- whether p holds for an odd number of 0 to n - 1
 abbrev pub is_odd_below : (ℕ → Bool) → ℕ → Bool
