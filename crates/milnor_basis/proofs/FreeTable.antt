@@ -1,19 +1,22 @@
 -- The table of the products of all R of a degree: one bit of it, and its rows.
-use Rattle.std.proofs.Common.{◌≡◌, ℕ, ◌+◌, ◌-◌, ◌*◌, ◌/◌, ◌<◌, ◌≤◌, ◌≢◌, inl, inr, Bool, true, false, not, ◌&&◌, nat_eq, Some, List, [], ◌∷◌, ◌++◌, length, map, replicate, take, drop, set, refl, sym, ◌∙◌, ap, arith, slice_index, slice_index_or, slice_get}
+use Rattle.std.proofs.Common.{◌≡◌, ℕ, ◌+◌, ◌-◌, ◌*◌, ◌/◌, ◌<◌, ◌≤◌, ◌≢◌, inl, inr, Bool, true, false, ◌&&◌, nat_eq, Some, List, [], length, map, replicate, take, drop, refl, sym, ◌∙◌, ap, arith, slice_index, slice_index_or, slice_get}
 use Rattle.std.specs.Cmp.Lexicographic.{pointwise}
-use Rattle.std.proofs.lemmas.Bool.{cases_eq, cases_lt}
-use Rattle.std.proofs.lemmas.Nat.{div-mul-add, mul-add-lt}
-use Rattle.std.proofs.lemmas.List.{get_or-set_same, get_or-set_other, get_or-drop, length-drop, get_or-replicate, get_or-map, length-map, ext_get_or, take_more, map-append}
+use Rattle.std.proofs.lemmas.Bool.{cases_eq, cases_lt, eq-eqb, ne_eqb}
+use Rattle.std.proofs.lemmas.Nat.{div-mul-add, mul-add-lt, mul-le}
+use Rattle.std.proofs.lemmas.List.{get_or-take, get_or-drop, length-take-le, length-drop, get_or-replicate, get_or-map, length-map, ext_get_or}
 use Rattle.std.proofs.lemmas.Option.{get_or_from_slice_get, slice_get_within}
-use Rattle.f2_vec.specs.Vectors.{plus}
-use Rattle.f2_vec.proofs.Sums.{plus-false}
+use Rattle.f2_vec.specs.Vectors.{plus, sum_of, bit}
+use Rattle.f2_vec.specs.Spans.{unit_vector}
+use Rattle.f2_vec.proofs.Sums.{bit-sum_of, length-sum_of, plus-comm, plus-false}
+use Rattle.f2_vec.proofs.Split.{length-unit_vector, bit-unit_vector}
 use Rattle.milnor_basis.specs.Exponents.{entry, degree_of, trimmed}
 use Rattle.milnor_basis.specs.Basis.{basis_of}
+use Rattle.milnor_basis.specs.Product.{coefficient, product_bits}
 use Rattle.milnor_basis.specs.Inside.Walk.{no_sums}
 use Rattle.milnor_basis.specs.Inside.FreeRows.{element, IsFree, IsTurnedOver, are_elements, leads_to}
+use Rattle.milnor_basis.specs.Inside.Kept.{row_at, HaveProducts}
 use Rattle.milnor_basis.proofs.Bits.{same_exponents, other_exponents, trimmed_take, no_more_exponents}
 use Rattle.milnor_basis.proofs.ExponentLemmas.{entry_past}
-use Rattle.milnor_basis.specs.Product.{coefficient, product_bits}
 use Rattle.milnor_basis.proofs.FreeStart.{coefficient-padded}
 use Rattle.milnor_basis.proofs.Places.{basis_of-once, basis_of-member}
 
@@ -55,37 +58,45 @@ module _ (degree product : ℕ) (rows diagonals : List ℕ) (bits : List Bool) w
   pub no_column : ((k : ℕ) → k < length (basis_of product) → trimmed diagonals ≢ element product k) → IsTurnedOver degree product (are_elements degree product rows diagonals) bits bits
   no_column none = none_turned (λ p k l m. second_false (pointwise nat_eq (trimmed rows) (element degree p)) (pointwise nat_eq (trimmed diagonals) (element product k)) (other_exponents (trimmed diagonals) (element product k) (none k m)))
 
-  pub one_turned : (a b at : ℕ) → length bits ≡ length (basis_of degree) * length (basis_of product) → slice_get (basis_of degree) a ≡ Some (trimmed rows) → slice_get (basis_of product) b ≡ Some (trimmed diagonals)
-      → at ≡ a * length (basis_of product) + b → IsTurnedOver degree product (are_elements degree product rows diagonals) bits (set bits at (not (slice_index_or bits at false)))
-  one_turned a b at long ra rb e p k l m =
+  -- it is turned over where the bit is that of these elements
+  is_theirs : (a b at : ℕ) → slice_get (basis_of degree) a ≡ Some (trimmed rows) → slice_get (basis_of product) b ≡ Some (trimmed diagonals)
+      → at ≡ a * length (basis_of product) + b → (p k : ℕ) → p < length (basis_of degree) → k < length (basis_of product) → nat_eq (p * length (basis_of product) + k) at ≡ are_elements degree product rows diagonals p k
+  is_theirs a b at ra rb e p k l m =
       let n = length (basis_of product) in
       let la : a < length (basis_of degree) = slice_get_within (basis_of degree) a (trimmed rows) ra in
       let lb : b < n = slice_get_within (basis_of product) b (trimmed diagonals) rb in
       let ea : element degree a ≡ trimmed rows = get_or_from_slice_get (basis_of degree) a (trimmed rows) [] ra in
       let eb : element product b ≡ trimmed diagonals = get_or_from_slice_get (basis_of product) b (trimmed diagonals) [] rb in
-      let within : at < length bits = omega (arith, within_table (length (basis_of degree)) n a b la lb) in
       elim (cases_eq p a) [
         | inr dp ↦
             let other : p * n + k ≢ at = (λ q. dp (row_of n p k a b m lb (q ∙ e))) in
             let differs : trimmed rows ≢ element degree p = (λ q. dp (basis_of-once degree p a l la (sym q ∙ sym ea))) in
-            get_or-set_other bits at (p * n + k) (not (slice_index_or bits at false)) false other
-            ∙ sym (rw (other_exponents (trimmed rows) (element degree p) differs) refl)
+            let none : are_elements degree product rows diagonals p k ≡ false = rw (other_exponents (trimmed rows) (element degree p) differs) refl in
+            ne_eqb (p * n + k) at other ∙ sym none
         | inl ep ↦ elim (cases_eq k b) [
           | inr dk ↦
               let other : p * n + k ≢ at = (λ q. let again : p * n + k ≡ a * n + b = q ∙ e in let same : p * n ≡ a * n = ap (λ x. x * n) ep in dk (omega arith)) in
               let differs : trimmed diagonals ≢ element product k = (λ q. dk (basis_of-once product k b m lb (sym q ∙ sym eb))) in
-              get_or-set_other bits at (p * n + k) (not (slice_index_or bits at false)) false other
-              ∙ sym (ap (λ c. plus c (slice_index_or bits (p * n + k) false)) (second_false (pointwise nat_eq (trimmed rows) (element degree p)) (pointwise nat_eq (trimmed diagonals) (element product k)) (other_exponents (trimmed diagonals) (element product k) differs)))
+              ne_eqb (p * n + k) at other
+              ∙ sym (second_false (pointwise nat_eq (trimmed rows) (element degree p)) (pointwise nat_eq (trimmed diagonals) (element product k)) (other_exponents (trimmed diagonals) (element product k) differs))
           | inl ek ↦
               let here : p * n + k ≡ at = ap (λ x. x * n + k) ep ∙ ap (λ x. a * n + x) ek ∙ sym e in
               let row_same : pointwise nat_eq (trimmed rows) (element degree p) ≡ true = same_exponents (trimmed rows) (element degree p) (sym ea ∙ ap (element degree) (sym ep)) in
               let column_same : pointwise nat_eq (trimmed diagonals) (element product k) ≡ true = same_exponents (trimmed diagonals) (element product k) (sym eb ∙ ap (element product) (sym ek)) in
-              ap (λ i. slice_index_or (set bits at (not (slice_index_or bits at false))) i false) here
-              ∙ get_or-set_same bits at (not (slice_index_or bits at false)) false within
-              ∙ ap (λ i. not (slice_index_or bits i false)) (sym here)
-              ∙ sym (rw (row_same, column_same) refl)
+              let both : are_elements degree product rows diagonals p k ≡ true = rw (row_same, column_same) refl in
+              eq-eqb (p * n + k) at here ∙ sym both
         ]
       ]
+
+  pub one_turned : (a b at : ℕ) → at < length bits → slice_get (basis_of degree) a ≡ Some (trimmed rows) → slice_get (basis_of product) b ≡ Some (trimmed diagonals)
+      → at ≡ a * length (basis_of product) + b → IsTurnedOver degree product (are_elements degree product rows diagonals) bits (sum_of bits (unit_vector (length bits) at))
+  one_turned a b at within ra rb e p k l m =
+      bit-sum_of bits (unit_vector (length bits) at) (p * length (basis_of product) + k) (sym (length-unit_vector (length bits) at))
+      ∙ ap (plus (bit bits (p * length (basis_of product) + k))) (bit-unit_vector (length bits) at (p * length (basis_of product) + k) within ∙ is_theirs a b at ra rb e p k l m)
+      ∙ plus-comm (bit bits (p * length (basis_of product) + k)) (are_elements degree product rows diagonals p k)
+
+pub flip-length : (bits : List Bool) (at : ℕ) → length (sum_of bits (unit_vector (length bits) at)) ≡ length bits
+flip-length bits at = length-sum_of bits (unit_vector (length bits) at) (sym (length-unit_vector (length bits) at))
 
 -- The table when all is filled: its rows are the products.
 pub all_free : (degree height : ℕ) (s columns diagonals : List ℕ) → ((j : ℕ) → j < 8 → slice_index columns j ≡ entry s j) → ((k : ℕ) → slice_index diagonals k ≡ 0) → 0 < height → length s ≤ 8
@@ -120,9 +131,23 @@ row_is degree product p height s before after bits small e l clear long same low
     ∙ sym (get_or-map (coefficient r s) (basis_of product) k [] false within))
     ∙ ap (λ j. map (coefficient r s) (basis_of j)) at
 
--- one more row
-pub rows_more : (products : List ℕ → List Bool) (basis : List (List ℕ)) (p : ℕ) (rows : List (List Bool)) (bits : List Bool) → p < length basis → rows ≡ map products (take p basis) → bits ≡ products (slice_index_or basis p [])
-    → rows ++ bits ∷ [] ≡ map products (take (p + 1) basis)
-rows_more products basis p rows bits l e f =
-    ap (λ xs. xs ++ bits ∷ []) e ∙ ap (λ b. map products (take p basis) ++ b ∷ []) f
-    ∙ sym (ap (map products) (take_more basis p [] l) ∙ map-append products (take p basis) (slice_index_or basis p [] ∷ []))
+-- a row is in the table
+pub row_fits : (p d n : ℕ) → p < d → p * n + n ≤ d * n
+row_fits p d n l =
+    let most : (p + 1) * n ≤ d * n = mul-le (p + 1) n d n (omega arith) (omega arith) in
+    let ring : (p + 1) * n ≡ p * n + n = grind arith in
+    omega arith
+
+-- the rows of the table, one behind the other
+pub rows_are : (degree product height : ℕ) (s : List ℕ) (before after : List Bool) → degree ≤ 255 → product ≡ degree + degree_of s → ((i : ℕ) → slice_index_or before i false ≡ false)
+    → length after ≡ length (basis_of degree) * length (basis_of product) → ((p : ℕ) → p < length (basis_of degree) → length (element degree p) ≤ height) → height ≤ 8
+    → IsTurnedOver degree product (leads_to degree product s height (length s) no_sums) before after → HaveProducts degree s (length (basis_of product)) after
+rows_are degree product height s before after small e clear long low high turns = record {
+  size = long;
+  rows = λ p l.
+      let n = length (basis_of product) in
+      let fits : p * n + n ≤ length after = omega (arith, row_fits p (length (basis_of degree)) n l) in
+      row_is degree product p height s before after (row_at n p after) small e l clear
+      (length-take-le n (drop (p * n) after) (omega (arith, length-drop (p * n) after)))
+      (λ k m. get_or-take n (drop (p * n) after) k false m ∙ get_or-drop (p * n) after k false) (low p l) high turns;
+}

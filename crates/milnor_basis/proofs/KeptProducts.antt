@@ -1,14 +1,15 @@
 -- The places of products, one product behind the other.
-use Rattle.std.proofs.Common.{◌≡◌, ℕ, zero, suc, ◌+◌, ◌-◌, ◌<◌, ◌≤◌, Bool, true, false, cond, List, [], ◌∷◌, ◌++◌, length, map, replicate, set, take, drop, get_or, refl, ap, sym, subst, ◌∙◌, arith, inl, inr, length-append}
+use Rattle.std.proofs.Common.{◌≡◌, ℕ, zero, suc, ◌+◌, ◌-◌, ◌*◌, ◌<◌, ◌≤◌, Bool, true, false, cond, List, [], ◌∷◌, ◌++◌, length, replicate, set, take, drop, get_or, refl, ap, sym, subst, ◌∙◌, arith, inl, inr, length-append}
 use Rattle.std.proofs.lemmas.Bool.{cases_lt}
-use Rattle.std.proofs.lemmas.List.{drop_more, drop_all, append_assoc, append-nil, get_or_append_left, get_or_push, take-append-le, drop-append-le, length-drop, length-map, get_or-map}
+use Rattle.std.proofs.lemmas.List.{drop_more, drop_all, append_assoc, append-nil, get_or_append_left, get_or_push, take-append-le, drop-append-le, length-drop, length-take-le, get_or-take, get_or-drop}
 use Rattle.std.proofs.Math.Seq.{drop-append_seam, take-length}
+use Rattle.f2_vec.specs.Vectors.{IsNextOne}
 use Rattle.milnor_basis.specs.Basis.{basis_of}
 use Rattle.milnor_basis.specs.Product.{places_from, product_places}
-use Rattle.milnor_basis.specs.Inside.Kept.{HoldFirst, set_at}
+use Rattle.milnor_basis.specs.Inside.Kept.{row_at, HoldFirst, set_at}
 
 -- one bit more
-pub places_more : (bits : List Bool) (i : ℕ) (numbers : List ℕ) (b : Bool) → i < length bits → b ≡ get_or bits i false → numbers ++ places_from i (drop i bits) ≡ (numbers ++ cond b (i ∷ []) []) ++ places_from (i + 1) (drop (i + 1) bits)
+places_more : (bits : List Bool) (i : ℕ) (numbers : List ℕ) (b : Bool) → i < length bits → b ≡ get_or bits i false → numbers ++ places_from i (drop i bits) ≡ (numbers ++ cond b (i ∷ []) []) ++ places_from (i + 1) (drop (i + 1) bits)
 places_more bits i numbers b l e =
     let n : suc i ≡ i + 1 = omega arith in
     ap (λ xs. numbers ++ places_from i xs) (drop_more bits i false l)
@@ -19,8 +20,55 @@ places_more bits i numbers b l e =
     at true = sym (append_assoc numbers (i ∷ []) (places_from (suc i) (drop (i + 1) bits)))
     at false = ap (λ xs. xs ++ places_from (suc i) (drop (i + 1) bits)) (sym (append-nil numbers))
 
-pub places_done : (bits : List Bool) (i : ℕ) (numbers : List ℕ) → length bits ≤ i → numbers ++ places_from i (drop i bits) ≡ numbers
+places_done : (bits : List Bool) (i : ℕ) (numbers : List ℕ) → length bits ≤ i → numbers ++ places_from i (drop i bits) ≡ numbers
 places_done bits i numbers l = ap (λ xs. numbers ++ places_from i xs) (drop_all i bits l) ∙ append-nil numbers
+
+-- bits that are not set have no place
+places_over : (bits : List Bool) (i d : ℕ) (numbers : List ℕ) → i + d ≤ length bits → ((k : ℕ) → i ≤ k → k < i + d → get_or bits k false ≡ false) → numbers ++ places_from i (drop i bits) ≡ numbers ++ places_from (i + d) (drop (i + d) bits)
+places_over bits i zero numbers l h = let same : i ≡ i + 0 = omega arith in ap (λ j. numbers ++ places_from j (drop j bits)) same
+places_over bits i (suc d) numbers l h =
+    let same : i + 1 + d ≡ i + suc d = omega arith in
+    places_more bits i numbers false (omega arith) (sym (h i (omega arith) (omega arith)))
+    ∙ ap (λ xs. xs ++ places_from (i + 1) (drop (i + 1) bits)) (append-nil numbers)
+    ∙ places_over bits (i + 1) d numbers (omega arith) (λ k a b. h k (omega arith) (omega arith))
+    ∙ ap (λ j. numbers ++ places_from j (drop j bits)) same
+
+-- Row p of a table, n bits wide: its places from the bit `from` of the table on.
+module _ (n p : ℕ) (table : List Bool) (fits : p * n + n ≤ length table) where
+  row-length : length (row_at n p table) ≡ n
+  row-length = length-take-le n (drop (p * n) table) (omega (arith, length-drop (p * n) table))
+
+  row-bit : (k : ℕ) → k < n → get_or (row_at n p table) k false ≡ get_or table (p * n + k) false
+  row-bit k l = get_or-take n (drop (p * n) table) k false l ∙ get_or-drop (p * n) table k false
+
+  row_clear : (from at : ℕ) → p * n ≤ from → at ≤ p * n + n → ((k : ℕ) → from ≤ k → k < at → get_or table k false ≡ false) → (k : ℕ) → from - p * n ≤ k → k < at - p * n → get_or (row_at n p table) k false ≡ false
+  row_clear from at low high h k a b = row-bit k (omega arith) ∙ h (p * n + k) (omega arith) (omega arith)
+
+  -- the next one of the table, which is in the row
+  pub row_next : (from at : ℕ) (numbers : List ℕ) → p * n ≤ from → at < p * n + n → IsNextOne table from at
+      → numbers ++ places_from (from - p * n) (drop (from - p * n) (row_at n p table)) ≡ (numbers ++ (at - p * n) ∷ []) ++ places_from (at + 1 - p * n) (drop (at + 1 - p * n) (row_at n p table))
+  row_next from at numbers low high next =
+      let i = from - p * n in
+      let j = at - p * n in
+      let reached : from ≤ at = next.reached in
+      let gap : i + (j - i) ≡ j = omega arith in
+      let past : j + 1 ≡ at + 1 - p * n = omega arith in
+      let here : p * n + j ≡ at = omega arith in
+      let clear = row_clear from at low (omega arith) next.zeros_between in
+      places_over (row_at n p table) i (j - i) numbers (omega (arith, row-length)) (λ k a b. clear k a (omega arith))
+      ∙ ap (λ m. numbers ++ places_from m (drop m (row_at n p table))) gap
+      ∙ places_more (row_at n p table) j numbers true (omega (arith, row-length)) (sym (row-bit j (omega arith) ∙ ap (λ m. get_or table m false) here ∙ next.one))
+      ∙ ap (λ m. (numbers ++ j ∷ []) ++ places_from m (drop m (row_at n p table))) past
+
+  -- there is none before the end of the row
+  pub row_end : (from : ℕ) (numbers : List ℕ) → p * n ≤ from → from ≤ p * n + n → ((k : ℕ) → from ≤ k → k < p * n + n → get_or table k false ≡ false)
+      → numbers ++ places_from (from - p * n) (drop (from - p * n) (row_at n p table)) ≡ numbers
+  row_end from numbers low high h =
+      let i = from - p * n in
+      let all : i + (n - i) ≡ n = omega arith in
+      let clear = row_clear from (p * n + n) low (omega arith) h in
+      places_over (row_at n p table) i (n - i) numbers (omega (arith, row-length)) (λ k a b. clear k a (omega arith))
+      ∙ places_done (row_at n p table) (i + (n - i)) numbers (omega (arith, row-length))
 
 -- a part stays as it is, whatever is put behind the list
 part_kept : (xs ys : List ℕ) (o m : ℕ) → o + m ≤ length xs → take m (drop o (xs ++ ys)) ≡ take m (drop o xs)
@@ -85,12 +133,6 @@ hold_more degree s n offsets places offsets' places' end h grown to ends =
             ∙ part_new places more)
       ];
     }
-
--- two ways to list the same bits
-pub same_bits : {V : Type 0} (f : V → List Bool) (g : List ℕ → List Bool) (rows : List V) (elements : List (List ℕ)) (i : ℕ) (x : V) → map f rows ≡ map g elements → i < length rows → x ≡ get_or rows i x → f x ≡ g (get_or elements i [])
-same_bits f g rows elements i x e l is =
-    let within : i < length elements = omega (arith, ap length e, length-map rows f, length-map elements g) in
-    ap f is ∙ sym (get_or-map f rows i x (f x) l) ∙ ap (λ bits. get_or bits i (f x)) e ∙ get_or-map g elements i [] (f x) within
 
 -- each place is one of the bits
 pub places_within : (bits : List Bool) (i k : ℕ) → k < length (places_from i bits) → get_or (places_from i bits) k 0 < i + length bits

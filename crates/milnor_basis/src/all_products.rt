@@ -1,14 +1,17 @@
 //! The products of all elements of a degree with one element: one walk fills the matrices of all of them.
-ghost use Rattle.std.specs.Prelude.{◌≡◌, ℕ, ◌≤◌, ◌<◌, ◌+◌, ◌-◌, ◌*◌, ◌/◌, ◌^◌, ◌≢◌, [], IfOk, IfSome, IsNone, Some, length, map, replicate, false, slice_index, slice_index_or, slice_set, slice_get, bit_or};
+ghost use Rattle.std.specs.Prelude.{◌≡◌, ℕ, ◌≤◌, ◌<◌, ◌+◌, ◌-◌, ◌*◌, ◌/◌, ◌^◌, ◌≢◌, ◌++◌, [], IfOk, IfSome, IsNone, Some, length, replicate, slice_index, slice_index_or, slice_set, slice_get, bit_or};
+ghost use Rattle.f2_vec.specs.Vectors.{zeros};
 ghost use Rattle.milnor_basis.specs.Exponents.{degree_of, entry, trimmed};
 ghost use Rattle.milnor_basis.specs.Basis.{basis_of};
-ghost use Rattle.milnor_basis.specs.Product.{product_bits};
+ghost use Rattle.milnor_basis.specs.Product.{places_from};
+ghost use Rattle.milnor_basis.specs.Inside.Kept.{row_at, HaveProducts};
 ghost use Rattle.milnor_basis.specs.Inside.Walk.{next_row, next_column, taken};
 ghost use Rattle.milnor_basis.specs.Inside.FreeRows.{least_free, greatest_free, number_above, added, element, are_elements, IsTurnedOver, TurnsOverAll};
 
 use crate::basis::Basis;
 use crate::exps::{Exps, MAX_EXPONENTS};
 use crate::product::{is_zero, next_apart, next_place, numbers_of};
+use f2_vec::BitVec;
 use memory::Memory;
 use std::alloc::Global;
 
@@ -142,13 +145,14 @@ fn turn_over_both(
     degrees: (u16, u16),
     rows: [u16; 8],
     diagonals: &[u16; 16],
-    table: &mut [bool],
+    table: &mut BitVec,
 )
     requires degree { degrees.0 ≤ basis.now }
     requires product { degrees.1 ≤ basis.now }
     requires small { degrees.1 ≤ 255 }
     requires table { length table.old ≡ length (basis_of degrees.0) * length (basis_of degrees.1) }
-    ensures { IsTurnedOver degrees.0 degrees.1 (are_elements degrees.0 degrees.1 rows diagonals.now) table.old table.new }
+    ensures turned { IsTurnedOver degrees.0 degrees.1 (are_elements degrees.0 degrees.1 rows diagonals.now) table.old table.new }
+    ensures size { length table.new ≡ length table.old }
 {
     let Some(row) = place_in(basis, degrees.0, &Exps::of(rows)) else {
         return;
@@ -156,19 +160,21 @@ fn turn_over_both(
     let Some(column) = place_of_diagonals(basis, degrees.1, diagonals) else {
         return;
     };
-    let bit = row * basis.of_degree(degrees.1).len() + column;
-    table[bit] = !table[bit];
+    // The table's length fits `usize`, so each place in it does.
+    let _len = table.len();
+    table.flip(row * basis.of_degree(degrees.1).len() + column);
 }
 
 /// Turns over the bit to which row 0 leads, where each place up to `column` takes all that is left of its column.
-fn fill_top(basis: &Basis, degrees: (u16, u16), column: usize, open: &Open, table: &mut [bool])
+fn fill_top(basis: &Basis, degrees: (u16, u16), column: usize, open: &Open, table: &mut BitVec)
     requires degree { degrees.0 ≤ basis.now }
     requires product { degrees.1 ≤ basis.now }
     requires small { degrees.0 ≤ degrees.1 }
     requires smaller { degrees.1 ≤ 255 }
     requires table { length table.old ≡ length (basis_of degrees.0) * length (basis_of degrees.1) }
     requires column { column ≤ 8 }
-    ensures { (width : ℕ) → column ≤ width → TurnsOverAll degrees.0 degrees.1 width 0 column open.now.room open.now.rows open.now.columns open.now.diagonals table.old table.new }
+    ensures turned { (width : ℕ) → column ≤ width → TurnsOverAll degrees.0 degrees.1 width 0 column open.now.room open.now.rows open.now.columns open.now.diagonals table.old table.new }
+    ensures size { length table.new ≡ length table.old }
 {
     let mut columns = open.columns;
     let mut diagonals = open.diagonals;
@@ -194,7 +200,7 @@ fn fill_all(
     row: usize,
     column: usize,
     open: Open,
-    table: &mut [bool],
+    table: &mut BitVec,
 )
     requires degree { degrees.0 ≤ basis.now }
     requires product { degrees.1 ≤ basis.now }
@@ -205,7 +211,8 @@ fn fill_all(
     requires row { row ≤ 8 }
     requires width { width ≤ 8 }
     requires column { column ≤ width }
-    ensures { TurnsOverAll degrees.0 degrees.1 width row column open.room open.rows open.columns open.diagonals table.old table.new }
+    ensures turned { TurnsOverAll degrees.0 degrees.1 width row column open.room open.rows open.columns open.diagonals table.old table.new }
+    ensures size { length table.new ≡ length table.old }
 {
     if row == 0 {
         fill_top(basis, degrees, column, &open, table);
@@ -267,44 +274,66 @@ fn greatest_len(elements: &[Exps]) -> usize
 }
 
 /// A table of zeros with this many rows and columns.
-fn cleared(alloc: Global, rows: usize, columns: usize) -> Result<Vec<bool>, Memory>
-    ensures size { IfOk result (λ table. length table.items ≡ rows * columns) }
-    ensures clear { IfOk result (λ table. (i : ℕ) → slice_index_or table.items i false ≡ false) }
+fn cleared(alloc: Global, rows: usize, columns: usize) -> Result<BitVec, Memory>
+    ensures { IfOk result (λ table. table ≡ zeros (rows * columns)) }
 {
     let Some(count) = rows.checked_mul(columns) else {
         return Err(Memory);
     };
-    Ok(vec![in alloc; false; count]?)
+    BitVec::zero(alloc, count)
 }
 
-/// The row of a table that begins at `start`.
-fn row_at(alloc: Global, table: &[bool], start: usize, width: usize) -> Result<Vec<bool>, Memory>
-    requires { start + width ≤ length table.now }
-    ensures width { IfOk result (λ row. length row.items ≡ width) }
-    ensures bits { IfOk result (λ row. (k : ℕ) → k < width → slice_index_or row.items k false ≡ slice_index_or table.now (start + k) false) }
-{
-    let row = &table[start..start + width];
-    Ok(row.to_vec(alloc)?)
+/// The products of all elements of a degree, in basis order, with one element.
+#[derive(Drop)]
+pub(crate) struct Products {
+    /// How many elements the basis of the products' degree has.
+    width: usize,
+    /// The coefficients mod 2 of each product, one product behind the other.
+    bits: BitVec,
 }
 
-/// For each R of this degree, in basis order, the coefficients mod 2 of the product of Sq(R) and Sq(S).
+impl Products {
+    /// The numbers, and behind them the places of the terms of the product with the element at place `p`.
+    pub(crate) fn with_places(&self, p: usize, mut numbers: Vec<u16>) -> Result<Vec<u16>, Memory>
+        requires { (p + 1) * self.now.width ≤ length self.now.bits }
+        ensures { IfOk result (λ v. v.items ≡ numbers.items ++ places_from 0 (row_at self.now.width p self.now.bits)) }
+    {
+        // The length fits `usize`, so the end of each row does.
+        let _len = self.bits.len();
+        let start = p * self.width;
+        let end = start + self.width;
+        let mut from = start;
+        while let Some(bit) = self.bits.next_one(from) {
+            if bit >= end {
+                break;
+            }
+            let Ok(place) = u16::try_from(bit - start) else {
+                return Err(Memory);
+            };
+            numbers.push(place)?;
+            from = bit + 1;
+        }
+        Ok(numbers)
+    }
+}
+
+/// The products of the elements of this degree with Sq(S).
 ///
 /// # Errors
 /// `Memory` if allocation fails.
-pub(crate) fn bits_of_multiples(
+pub(crate) fn products_of(
     alloc: Global,
     basis: &Basis,
     degree: u16,
     s: &Exps,
-) -> Result<Vec<Vec<bool>>, Memory>
+) -> Result<Products, Memory>
     requires { degree + degree_of s.now ≤ basis.now }
-    ensures { IfOk result (λ rows. map (λ bits. bits.items) rows.items ≡ map (λ r. product_bits r s.now) (basis_of degree)) }
+    ensures { IfOk result (λ products. HaveProducts degree s.now products.width products.bits) }
 {
     let product = degree_of_products(basis, degree, s);
     let elements = basis.of_degree(degree);
-    let height = elements.len();
     let width = basis.of_degree(product).len();
-    let mut table = cleared(alloc, height, width)?;
+    let mut bits = cleared(alloc, elements.len(), width)?;
     fill_all(
         basis,
         (degree, product),
@@ -312,13 +341,9 @@ pub(crate) fn bits_of_multiples(
         greatest_len(elements),
         s.len(),
         Open::of(degree, s),
-        &mut table,
+        &mut bits,
     );
-    let mut rows = Vec::new(alloc);
-    for p in 0..height {
-        rows.push(row_at(alloc, &table, p * width, width)?)?;
-    }
-    Ok(rows)
+    Ok(Products { width, bits })
 }
 
 #[cfg(test)]
@@ -334,10 +359,9 @@ mod tests {
         if two.degree() > 2 {
             return Ok(());
         }
-        let rows = bits_of_multiples(rt.alloc(), &basis, 3, &two)?;
-        assert_eq!(rt; rows.len(), 2);
-        assert_eq!(rt; rows[0].as_slice(), [false, false].as_slice());
-        assert_eq!(rt; rows[1].as_slice(), [false, true].as_slice());
+        let products = products_of(rt.alloc(), &basis, 3, &two)?;
+        assert_eq!(rt; products.width, 2);
+        assert_eq!(rt; products.bits.ones(rt.alloc())?.as_slice(), [3].as_slice());
         Ok(())
     }
 }

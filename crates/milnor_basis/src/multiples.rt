@@ -1,11 +1,11 @@
 //! The products of one element with all elements of a degree, which a basis keeps as they are made.
-ghost use Rattle.std.specs.Prelude.{◌≡◌, ◌≤◌, ◌<◌, ◌+◌, ◌++◌, [], length, slice_index, slice_index_or, EachIndex, IfOk, IsTrue, ◌↔◌};
+ghost use Rattle.std.specs.Prelude.{◌≡◌, ◌≤◌, ◌<◌, ◌+◌, [], length, slice_index, slice_index_or, EachIndex, IfOk, IsTrue, ◌↔◌};
 ghost use Rattle.milnor_basis.specs.Exponents.{degree_of};
 ghost use Rattle.milnor_basis.specs.Basis.{basis_of};
-ghost use Rattle.milnor_basis.specs.Product.{product_bits, product_places, places_from, Factors};
+ghost use Rattle.milnor_basis.specs.Product.{product_bits, product_places, Factors};
 ghost use Rattle.milnor_basis.specs.Inside.Kept.{set_at};
 
-use crate::all_products::bits_of_multiples;
+use crate::all_products::products_of;
 use crate::basis::Basis;
 use crate::exps::Exps;
 use crate::product::{coefficients, product_degree};
@@ -48,8 +48,9 @@ impl Multiples {
         let mut offsets = Vec::new(alloc);
         let mut places = Vec::new(alloc);
         offsets.push(0)?;
-        for bits in &bits_of_multiples(alloc, basis, degree, s)? {
-            places = with_places(places, bits)?;
+        let products = products_of(alloc, basis, degree, s)?;
+        for p in 0..basis.of_degree(degree).len() {
+            places = products.with_places(p, places)?;
             let Ok(end) = u32::try_from(places.len()) else {
                 return Err(Memory);
             };
@@ -81,21 +82,6 @@ impl Multiples {
     {
         self.degree == degree && self.right == *s
     }
-}
-
-/// The numbers, and behind them the places of these bits that are set.
-fn with_places(mut numbers: Vec<u16>, bits: &[bool]) -> Result<Vec<u16>, Memory>
-    ensures { IfOk result (λ v. v.items ≡ numbers.items ++ places_from 0 bits.now) }
-{
-    for (place, bit) in bits.iter().enumerate() {
-        if *bit {
-            let Ok(place) = u16::try_from(place) else {
-                return Err(Memory);
-            };
-            numbers.push(place)?;
-        }
-    }
-    Ok(numbers)
 }
 
 /// Sets the bits at these places.

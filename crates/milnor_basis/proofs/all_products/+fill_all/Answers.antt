@@ -1,5 +1,5 @@
 -- Each number has its turn.
-use Rattle.std.proofs.Common.{◌≡◌, ◌≢◌, ℕ, ◌<◌, ◌≤◌, ◌-◌, ◌+◌, suc, inl, sym, subst, ◌∙◌, arith, add-one, rules, slice_index, bit_and, bit_or}
+use Rattle.std.proofs.Common.{◌≡◌, ◌≢◌, ℕ, ◌<◌, ◌≤◌, ◌-◌, ◌+◌, suc, inl, refl, sym, subst, ◌∙◌, arith, add-one, rules, slice_index, bit_and, bit_or}
 use Rattle.milnor_basis.specs.Exponents.{degree_of}
 use Rattle.milnor_basis.specs.Inside.FreeRows.{least_free, greatest_free, number_above, TurnsOverAll}
 use Rattle.milnor_basis.proofs.FreeRows.{put_degree}
@@ -9,14 +9,19 @@ use Rattle.milnor_basis.proofs.all_products.+fill_all.Goals as goal
 
 pub returns-then-row-eq0 : goal.returns-then-row-eq0
 returns-then-row-eq0 t c =
-    subst (λ (n : ℕ). TurnsOverAll c.args.degrees.0 c.args.degrees.1 c.args.width n c.args.column c.args.open.room c.args.open.rows c.args.open.columns c.args.open.diagonals c.args.table.now c.fill_top.new.table) (sym c.if-row-eq0.true)
-    (c.fill_top.ensures c.args.width c.requires.column)
+    record {
+      turned = subst (λ (n : ℕ). TurnsOverAll c.args.degrees.0 c.args.degrees.1 c.args.width n c.args.column c.args.open.room c.args.open.rows c.args.open.columns c.args.open.diagonals c.args.table.now c.fill_top.new.table) (sym c.if-row-eq0.true)
+          (c.fill_top.ensures.turned c.args.width c.requires.column);
+      size = c.fill_top.ensures.size;
+    }
 
 pub returns-then-above-sum-ne0 : goal.returns-then-above-sum-ne0
 returns-then-above-sum-ne0 t c =
-    free_none c.args.degrees.0 c.args.degrees.1 c.args.width c.args.row c.args.column c.args.open.room c.args.open.rows c.args.open.columns c.args.open.diagonals
+    let none = free_none c.args.degrees.0 c.args.degrees.1 c.args.width c.args.row c.args.column c.args.open.room c.args.open.rows c.args.open.columns c.args.open.diagonals
     (omega (arith, c.requires.small, c.requires.smaller)) c.requires.row (omega (arith, c.if-row-eq0.false)) c.requires.column (search rules) c.args.table.now
     (subst (λ (n : ℕ). bit_and n (slice_index c.args.open.diagonals (c.args.row + c.args.column - 1)) ≢ 0) c.number_above-above.ensures c.if-above-sum-ne0.true)
+    in
+    record { turned = none; size = refl }
 
 pub loop-number-init : goal.loop-number-init
 loop-number-init t c =
@@ -27,6 +32,7 @@ loop-number-init t c =
     record {
       from = omega arith;
       turned = subst (λ (n : ℕ). TurnsOverAllBelow c.args.degrees.0 c.args.degrees.1 c.args.width c.args.row c.args.column c.args.open.room c.args.open.rows c.args.open.columns c.args.open.diagonals n c.args.table.now c.args.table.now) (sym from) base;
+      size = refl;
     }
 
 pub fill_all-requires : goal.fill_all-requires
@@ -52,7 +58,7 @@ loop-number-preserved-then-put-digits-eq0 t c =
     (omega (arith, c.requires.small, c.requires.smaller)) c.requires.row higher c.requires.column (search rules) c.args.table.now n
     c.next_place-next_row.result.0 c.next_place-next_row.result.1 c.put.result.room c.loop-number.table c.fill_all.new.table c.put.result.rows c.put.result.columns c.put.result.diagonals
     c.next_place-next_row.ensures.row c.next_place-next_row.ensures.column c.put.ensures.room c.put.ensures.rows c.put.ensures.columns c.put.ensures.diagonals
-    (search rules) (search rules) from to (apart_both n sum above apart) c.loop-number.invariant.turned c.fill_all.ensures
+    (search rules) (search rules) from to (apart_both n sum above apart) c.loop-number.invariant.turned c.fill_all.ensures.turned
     in
     let skipped = free_shuts c.args.degrees.0 c.args.degrees.1 c.args.width c.args.row c.args.column c.args.open.room c.args.open.rows c.args.open.columns c.args.open.diagonals
     (omega (arith, c.requires.small, c.requires.smaller)) c.requires.row higher c.requires.column (search rules) c.args.table.now (next - suc n) (suc n) c.fill_all.new.table
@@ -62,6 +68,7 @@ loop-number-preserved-then-put-digits-eq0 t c =
     record {
       from = omega arith;
       turned = subst (λ (m : ℕ). TurnsOverAllBelow c.args.degrees.0 c.args.degrees.1 c.args.width c.args.row c.args.column c.args.open.room c.args.open.rows c.args.open.columns c.args.open.diagonals m c.args.table.now c.fill_all.new.table) whole skipped;
+      size = c.fill_all.ensures.size ∙ c.loop-number.invariant.size;
     }
 
 pub loop-number-preserved : goal.loop-number-preserved
@@ -75,10 +82,13 @@ loop-number-preserved t c =
     record {
       from = omega arith;
       turned = subst (λ (n : ℕ). TurnsOverAllBelow c.args.degrees.0 c.args.degrees.1 c.args.width c.args.row c.args.column c.args.open.room c.args.open.rows c.args.open.columns c.args.open.diagonals n c.args.table.now c.loop-number.table) (sym (add-one c.loop-number.number)) skipped;
+      size = c.loop-number.invariant.size;
     }
 
 pub returns : goal.returns
 returns t c =
-    free_end c.args.degrees.0 c.args.degrees.1 c.args.width c.args.row c.args.column c.args.open.room c.args.open.rows c.args.open.columns c.args.open.diagonals
+    let turned = free_end c.args.degrees.0 c.args.degrees.1 c.args.width c.args.row c.args.column c.args.open.room c.args.open.rows c.args.open.columns c.args.open.diagonals
     (omega (arith, c.requires.small, c.requires.smaller)) c.requires.row (omega (arith, c.if-row-eq0.false)) c.requires.column (search rules) c.args.table.now c.loop-number.number c.loop-number.table
     (omega (arith, c.loop-number-test.false, c.from.ensures, c.range-least.ensures.greatest)) c.loop-number.invariant.turned
+    in
+    record { turned = turned; size = c.loop-number.invariant.size }

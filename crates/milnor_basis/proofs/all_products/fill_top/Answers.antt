@@ -4,8 +4,8 @@ use Rattle.milnor_basis.specs.Inside.FreeRows.{TurnsOverAll}
 use Rattle.milnor_basis.proofs.FreeFill.{top_none, top_turn, free_at_end}
 use Rattle.milnor_basis.proofs.all_products.fill_top.Goals as goal
 
-pub returns-then-number-diagonals-ne0 : goal.returns-then-number-diagonals-ne0
-returns-then-number-diagonals-ne0 c width fits =
+pub returns-then-number-diagonals-ne0-clause-turned : goal.returns-then-number-diagonals-ne0-clause-turned
+returns-then-number-diagonals-ne0-clause-turned c width fits =
     let left = c.loop-left.left in
     let inv = c.loop-left.invariant in
     let at : suc (left - 1) ≡ left = omega (arith, c.loop-left-test.true) in
@@ -30,11 +30,11 @@ loop-left-preserved c =
           (top_turn c.args.degrees.0 c.args.degrees.1 width (left - 1) c.args.open.now.room c.args.open.now.rows columns diagonals (omega (arith, c.requires.small, c.requires.smaller)) (omega (arith, inv.within)) (search rules) c.args.table.now after inv.wide inv.long apart turns));
     }
 
-pub returns : goal.returns
-returns c width fits =
+pub returns-clause-turned : goal.returns-clause-turned
+returns-clause-turned c width fits =
     let left = c.loop-left.left in
     let inv = c.loop-left.invariant in
     let none : left ≡ 0 = omega (arith, c.loop-left-test.false) in
     inv.leads width fits c.turn_over_both.new.table
     (subst (λ n. TurnsOverAll c.args.degrees.0 c.args.degrees.1 width 0 n c.args.open.now.room c.args.open.now.rows c.loop-left.columns c.loop-left.diagonals c.args.table.now c.turn_over_both.new.table) (sym none)
-    (free_at_end c.args.degrees.0 c.args.degrees.1 width c.args.open.now.room c.args.open.now.rows c.loop-left.columns c.loop-left.diagonals c.args.table.now c.turn_over_both.new.table (omega (arith, c.requires.small, c.requires.smaller)) (search rules) c.turn_over_both.ensures))
+    (free_at_end c.args.degrees.0 c.args.degrees.1 width c.args.open.now.room c.args.open.now.rows c.loop-left.columns c.loop-left.diagonals c.args.table.now c.turn_over_both.new.table (omega (arith, c.requires.small, c.requires.smaller)) (search rules) c.turn_over_both.ensures.turned))

@@ -1,6 +1,6 @@
--- The products of the elements before `bits` are held.
+-- The products of the elements before p are held.
 use Rattle.milnor_basis.specs.Inside.Kept.{HoldFirst}
 use Rattle.milnor_basis.proofs.multiples.Multiples.make.Given as goal
 
-abbrev pub invariant-loop-bits : goal.invariant-loop-bits
-invariant-loop-bits l = HoldFirst l.degree l.s l.bits-index l.offsets.items l.places.items
+abbrev pub invariant-loop-p : goal.invariant-loop-p
+invariant-loop-p l = HoldFirst l.degree l.s l.p l.offsets.items l.places.items
