@@ -14,5 +14,5 @@ pub use basis::Basis;
 pub use exps::Exps;
 pub use laws::{basis_is_milnors, product_is_homogeneous};
 pub use multiples::Multiples;
-pub use product::{coefficients, terms};
+pub use product::terms;
 pub use text::sq_text;

@@ -183,8 +183,9 @@ impl Basis {
         }
     }
 
-    /// The coefficients mod 2 of the product of Sq(R) and Sq(S), as `coefficients` gives them. Where the product is of
-    /// degree 32 at most, they come from the products that are kept.
+    /// The coefficients mod 2 of the product of Sq(R) and Sq(S): for each element of the basis of the product's degree,
+    /// in basis order, whether its coefficient in Milnor's formula is odd. Where the product is of degree 32 at most,
+    /// they come from the products that are kept.
     ///
     /// # Errors
     /// `Memory` if allocation fails.

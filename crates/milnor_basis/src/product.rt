@@ -220,11 +220,16 @@ pub(crate) fn product_degree(basis: &Basis, r: &Exps, s: &Exps) -> u16
 }
 
 /// The coefficients mod 2 of the product of Sq(R) and Sq(S): for each element of the basis of the product's degree,
-/// in basis order, whether its coefficient in Milnor's formula is odd.
+/// in basis order, whether its coefficient in Milnor's formula is odd. They are made anew, and not kept.
 ///
 /// # Errors
 /// `Memory` if allocation fails.
-pub fn coefficients(alloc: Global, basis: &Basis, r: &Exps, s: &Exps) -> Result<Vec<bool>, Memory>
+pub(crate) fn coefficients(
+    alloc: Global,
+    basis: &Basis,
+    r: &Exps,
+    s: &Exps,
+) -> Result<Vec<bool>, Memory>
     requires { degree_of r.now + degree_of s.now ≤ basis.now }
     ensures { IfOk result (λ bits. bits.items ≡ product_bits r.now s.now) }
 {
