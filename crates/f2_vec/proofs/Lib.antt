@@ -2,7 +2,9 @@ pub mod Sums
 mod Packed
 mod Lanes
 pub mod Moved
+mod Blocks
 mod Cut
+mod WordSet
 mod Appended
 mod Next
 mod Turned

@@ -1,12 +1,14 @@
 //! The vector type: its coordinates are kept packed in words.
-ghost use Rattle.std.specs.Prelude.{◌≡◌, ◌+◌, ◌<◌, ◌≤◌, ◌↔◌, [], ◌∷◌, ◌++◌, length, take, drop, IsTrue, IsNone, IfOk, IfSome, if◌then◌else◌, OnOk, OnErr, EachIndex, slice_index, slice_set};
+ghost use Rattle.std.specs.Prelude.{◌≡◌, ◌≢◌, ℕ, ◌+◌, ◌*◌, ◌/◌, ◌<◌, ◌≤◌, ◌↔◌, ◌==◌, [], ◌∷◌, ◌++◌, length, take, drop, IsTrue, IsNone, IfOk, IfSome, if◌then◌else◌, OnOk, OnErr, EachIndex, slice_index, slice_set};
+ghost use Rattle.std.specs.Int.{bit_at};
 ghost use Rattle.std.specs.List.{range_with_len, items_where_true};
 ghost use Rattle.f2_vec.specs.Vectors.{sum_of, zeros, placed, bit, IsZero, IsZeroFrom, IsFirstOne, IsNextOne};
 ghost use Rattle.f2_vec.specs.Spans.{unit_vector};
 ghost use Rattle.f2_vec.specs.Inside.Packed.{unit_bits, HasRoom};
 
 use crate::words::{
-    low_bits, sum_words, word_from, word_without, xor_four_words, xor_moved, xor_words,
+    low_bits, sum_words, word_from, word_or_zero, word_without, xor_four_words, xor_moved,
+    xor_words,
 };
 use memory::Memory;
 use std::alloc::{AllocError, Global};
@@ -112,6 +114,24 @@ impl BitVec {
         ensures { self.new ≡ sum_of self.old (unit_vector (length self.old) i) }
     {
         self.words[i / 64] ^= 1 << (i % 64);
+    }
+
+    /// The 64 coordinates from place 64 `i` on as a word, lowest bit first, with zeros past the end.
+    pub fn word(&self, i: usize) -> u64
+        ensures { (b : ℕ) → b < 64 → (bit_at result b == 1) ≡ bit self.now (64 * i + b) }
+    {
+        word_or_zero(self.words.as_slice(), i)
+    }
+
+    /// Makes the bits of the word, lowest first, the coordinates from place 64 `i` on, as far as there are such.
+    pub fn set_word(&mut self, i: usize, word: u64)
+        requires { 64 * i < length self.old }
+        ensures length { length self.new ≡ length self.old }
+        ensures inside { (b : ℕ) → b < 64 → 64 * i + b < length self.old → bit self.new (64 * i + b) ≡ (bit_at word b == 1) }
+        ensures others { (k : ℕ) → k / 64 ≢ i → bit self.new k ≡ bit self.old k }
+    {
+        let len = self.len;
+        self.words[i] = low_bits(word, len - 64 * i);
     }
 
     /// Adds `other`, of the same length, to this vector.

@@ -2,8 +2,10 @@
 #![tactic(auto)]
 
 mod bit_vec;
+mod block;
 #[cfg(test)]
 mod tests;
 mod words;
 
 pub use bit_vec::BitVec;
+pub use block::transposed_block;

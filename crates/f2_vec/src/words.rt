@@ -86,7 +86,7 @@ pub fn word_from(words: &[u64], from: usize) -> u64
 }
 
 /// The word at place `at`, and 0 past the end.
-fn word_or_zero(words: &[u64], at: usize) -> u64
+pub fn word_or_zero(words: &[u64], at: usize) -> u64
     ensures { result ≡ slice_index_or words.now at 0 }
 {
     if at < words.len() { words[at] } else { 0 }
