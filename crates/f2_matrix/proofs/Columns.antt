@@ -1,112 +1,153 @@
--- Filling columns row by row.
-use Rattle.std.proofs.Common.{◌≡◌, ℕ, ◌+◌, ◌<◌, ◌≤◌, Bool, true, false, if◌then◌else◌, List, [], ◌++◌, length, take, drop, replicate, set, refl, ap, sym, ◌∙◌, arith, inl, inr}
+-- Filling columns in blocks of 64 rows.
+use Rattle.std.specs.Prelude.{◌==◌}
+use Rattle.std.proofs.Common.{◌≡◌, ◌≢◌, ℕ, ◌+◌, ◌*◌, ◌/◌, ◌%◌, ◌<◌, ◌≤◌, Bool, false, List, [], ◌++◌, length, get_or, take, drop, replicate, set, refl, ap, sym, ◌∙◌, arith, inl, inr}
+use Rattle.std.specs.Int.{bit_at}
 use Rattle.std.specs.List.{range_with_len}
 use Rattle.std.proofs.lemmas.Bool.{cases_lt, cases_eq}
-use Rattle.std.proofs.lemmas.List.{ext_get_or, get_or-map, get_or_past, take-append-le, take_all, length-map, length-set, get_or-set_same, get_or-set_other, length-replicate, get_or-replicate}
+use Rattle.std.proofs.lemmas.List.{get_or_read, ext_get_or, get_or-map, get_or_past, take-append-le, take_all, length-map, length-set, get_or-set_same, get_or-set_other, length-replicate, get_or-replicate}
 use Rattle.std.proofs.lemmas.List.FromFn.{length-map-range_with_len, get_or-map-range_with_len}
-use Rattle.f2_vec.specs.Vectors.{bit, zeros, IsZeroFrom, IsNextOne}
-use Rattle.f2_vec.proofs.Sums.{bit-zeros, length-zeros}
+use Rattle.std.proofs.lemmas.Nat.Bits.{bit_at-zero}
+use Rattle.f2_vec.specs.Vectors.{bit}
 use Rattle.f2_vec.specs.Spans.{row, HaveWidth}
 use Rattle.f2_vec.proofs.Combinations.{HaveWidth-map}
 use Rattle.f2_matrix.specs.Transpose.{column, columns}
-use Rattle.f2_matrix.specs.Inside.Columns.{HasOnesSet, AreFilledTo}
+use Rattle.f2_matrix.specs.Inside.Columns.{IsBlockOf, IsBlockUpTo, AreFilledAt, AreFilledTo}
 
--- ---- one row
+-- ---- a block
 
-if_false : (b : Bool) (x y : List Bool) → b ≡ false → (if b then x else y) ≡ y
-if_false b x y e = ap (λ c. if c then x else y) e
-
-if_true : (b : Bool) (x y : List Bool) → b ≡ true → (if b then x else y) ≡ x
-if_true b x y e = ap (λ c. if c then x else y) e
-
-pub HasOnesSet-start : (v : List Bool) (j : ℕ) (before : List (List Bool)) → HasOnesSet v j 0 before before
-HasOnesSet-start v j before = record { as_many = refl; done = λ k l. absurd (omega arith); rest = λ k l. refl }
-
--- up to the next 1, and it
-pub HasOnesSet-more : (v : List Bool) (j from p : ℕ) (before now : List (List Bool)) (x : List Bool) → HasOnesSet v j from before now → IsNextOne v from p → p < length before → x ≡ set (row now p) j true → HasOnesSet v j (p + 1) before (set now p x)
-HasOnesSet-more v j from p before now x h one l e = record {
-  as_many = length-set now p x ∙ h.as_many;
-  done = λ k m.
-      elim (cases_eq k p) [
-        | inl q ↦
-            ap (row (set now p x)) q ∙ get_or-set_same now p x [] (omega (arith, h.as_many)) ∙ e
-            ∙ ap (λ (z : List Bool). set z j true) (h.rest p one.reached)
-            ∙ sym (if_true (bit v p) (set (row before p) j true) (row before p) one.one)
-            ∙ ap (λ i. if bit v i then set (row before i) j true else row before i) (sym q)
-        | inr d ↦
-            get_or-set_other now p k x [] d
-            ∙ elim (cases_lt k from) [
-              | inl b ↦ h.done k b
-              | inr b ↦ h.rest k b ∙ sym (if_false (bit v k) (set (row before k) j true) (row before k) (one.zeros_between k b (omega arith)))
-            ]
-      ];
-  rest = λ k m. let d : k ≡ p → ⊥ = λ q. omega arith in get_or-set_other now p k x [] d ∙ h.rest k (omega (arith, one.reached));
+-- no word yet
+pub IsBlockUpTo-start : (i j : ℕ) (rows : List (List Bool)) → IsBlockUpTo 0 i j rows (replicate {A = ℕ} 64 0)
+IsBlockUpTo-start i j rows = record {
+  size = length-replicate {A = ℕ} 64 0;
+  holds = λ r b l k m. absurd (omega arith);
+  rest = λ r l m. get_or-replicate {A = ℕ} 64 r 0 0 m;
 }
 
-pub HasOnesSet-end : (v : List Bool) (j from : ℕ) (before now : List (List Bool)) → length before ≡ length v → HasOnesSet v j from before now → IsZeroFrom v from → HasOnesSet v j (length v) before now
-HasOnesSet-end v j from before now e h z = record {
-  as_many = h.as_many;
-  done = λ k m.
-      elim (cases_lt k from) [
-        | inl b ↦ h.done k b
-        | inr b ↦ h.rest k b ∙ sym (if_false (bit v k) (set (row before k) j true) (row before k) (z k b))
-      ];
-  rest = λ k m. get_or_past now k [] (omega (arith, h.as_many)) ∙ sym (get_or_past before k [] (omega arith));
+pub IsBlockUpTo-more : (n i j x : ℕ) (rows : List (List Bool)) (words : List ℕ) → n < 64 → ((b : ℕ) → b < 64 → (bit_at x b == 1) ≡ bit (row rows (64 * i + n)) (64 * j + b)) → IsBlockUpTo n i j rows words → IsBlockUpTo (n + 1) i j rows (set words n x)
+IsBlockUpTo-more n i j x rows words l here h = record {
+  size = length-set words n x ∙ h.size;
+  holds = λ r b m k q. elim (cases_eq r n) [
+    | inl e ↦
+        ap (λ z. bit_at (get_or (set words n x) z 0) b == 1) e
+        ∙ ap (λ z. bit_at z b == 1) (get_or-set_same words n x 0 (omega (arith, h.size)))
+        ∙ here b k
+        ∙ ap (λ z. bit (row rows (64 * i + z)) (64 * j + b)) (sym e)
+    | inr d ↦ ap (λ z. bit_at z b == 1) (get_or-set_other words n r x 0 d) ∙ h.holds r b m k (omega arith)
+  ];
+  rest = λ r m q. let d : r ≢ n = omega arith in get_or-set_other words n r x 0 d ∙ h.rest r (omega arith) q;
 }
 
--- ---- all rows
+pub IsBlockUpTo-end : (n i j : ℕ) (rows : List (List Bool)) (words : List ℕ) → ((r : ℕ) → n ≤ r → r < 64 → length rows ≤ 64 * i + r) → IsBlockUpTo n i j rows words → IsBlockOf i j rows words
+IsBlockUpTo-end n i j rows words past h = λ r b m k. elim (cases_lt r n) [
+  | inl l ↦ h.holds r b m k l
+  | inr g ↦
+      ap (λ z. bit_at z b == 1) (h.rest r g m)
+      ∙ ap (λ z. z == 1) (bit_at-zero b)
+      ∙ sym (ap (λ v. bit v (64 * j + b)) (get_or_past rows (64 * i + r) [] (past r g m)) ∙ get_or_past [] (64 * j + b) false (omega arith))
+]
 
-pub AreFilledTo-start : (cols n : ℕ) (rows filled : List (List Bool)) → n ≡ length rows → filled ≡ replicate cols (zeros n) → AreFilledTo cols 0 rows filled
-AreFilledTo-start cols n rows filled e f =
-    let at : (k : ℕ) → k < cols → row filled k ≡ zeros n = λ k l. ap (λ (z : List (List Bool)). row z k) f ∙ get_or-replicate cols k (zeros n) [] l in
-    let size : length filled ≡ cols = ap length f ∙ length-replicate cols (zeros n) in
-    record {
-      as_many = size;
-      widths = λ k l. ap length (at k (omega arith)) ∙ length-zeros n ∙ e;
-      done = λ k i l m. absurd (omega arith);
-      rest = λ k i l m. ap (λ v. bit v i) (at k l) ∙ bit-zeros n i;
-    }
+-- the words with rows and columns exchanged
+pub turned_block : (i j : ℕ) (rows : List (List Bool)) (block turned : List ℕ) → IsBlockOf i j rows block → ((r c : ℕ) → r < 64 → c < 64 → bit_at (get_or turned r 0) c ≡ bit_at (get_or block c 0) r) → (c : ℕ) → c < 64 → (b : ℕ) → b < 64 → (bit_at (get_or turned c 0) b == 1) ≡ bit (row rows (64 * i + b)) (64 * j + c)
+turned_block i j rows block turned h e c l b m = ap (λ z. z == 1) (e c b l m) ∙ h b c m l
 
-pub AreFilledTo-more : (cols j : ℕ) (rows old new : List (List Bool)) (v : List Bool) → AreFilledTo cols j rows old → j < length rows → v ≡ row rows j → length v ≡ cols → HasOnesSet v j (length v) old new → AreFilledTo cols (j + 1) rows new
-AreFilledTo-more cols j rows old new v h l e len p = record {
-  as_many = p.as_many ∙ h.as_many;
-  widths = λ k m. ap length (at k (omega (arith, p.as_many, h.as_many))) ∙ length_if (bit v k) (row old k) ∙ h.widths k (omega (arith, p.as_many));
-  done = λ k i m b.
-      ap (λ x. bit x i) (at k m)
-      ∙ elim (cases_eq i j) [
-        | inl q ↦
-            ap (bit (if bit v k then set (row old k) j true else row old k)) q
-            ∙ bit_same (bit v k) (row old k) (omega (arith, h.widths k (omega (arith, h.as_many)))) (h.rest k j m (omega arith))
-            ∙ ap (λ x. bit x k) e ∙ ap (λ z. bit (row rows z) k) (sym q)
-        | inr d ↦ bit_other (bit v k) (row old k) i d ∙ h.done k i m (omega arith)
-      ];
-  rest = λ k i m b. let d : i ≡ j → ⊥ = λ q. omega arith in ap (λ x. bit x i) (at k m) ∙ bit_other (bit v k) (row old k) i d ∙ h.rest k i m (omega arith);
+-- ---- one word of each column
+
+pub AreFilledAt-start : (i from to : ℕ) (rows columns : List (List Bool)) → to ≤ from → AreFilledAt i from to rows columns columns
+AreFilledAt-start i from to rows columns l = record {
+  as_many = refl;
+  lengths = λ k. refl;
+  filled = λ k t a b. absurd (omega arith);
+  others = λ k t d. refl;
+  kept = λ k a. refl;
+}
+
+-- one column more: v has become x by a word y, the bits of the rows
+pub AreFilledAt-more : (i from n to y : ℕ) (rows old cur : List (List Bool)) (v x : List Bool) → to ≡ n + 1 → from ≤ n → n < length cur → HaveWidth (length rows) old → AreFilledAt i from n rows old cur → v ≡ get_or cur n v → length x ≡ length (get_or cur n v) → ((b : ℕ) → b < 64 → 64 * i + b < length (get_or cur n v) → bit x (64 * i + b) ≡ (bit_at y b == 1)) → ((t : ℕ) → t / 64 ≢ i → bit x t ≡ bit (get_or cur n v) t) → ((b : ℕ) → b < 64 → (bit_at y b == 1) ≡ bit (row rows (64 * i + b)) n) → AreFilledAt i from to rows old (set cur n x)
+AreFilledAt-more i from n to y rows old cur v x f g l w h r size inside elsewhere word = record {
+  as_many = length-set cur n x ∙ h.as_many;
+  lengths = λ k. elim (cases_eq k n) [
+    | inl e ↦ ap (λ z. length (row (set cur n x) z)) e ∙ ap length here ∙ size ∙ ap length same ∙ h.lengths n ∙ ap (λ z. length (row old z)) (sym e)
+    | inr d ↦ ap length (there k d) ∙ h.lengths k
+  ];
+  filled = λ k t a b c m q. elim (cases_eq k n) [
+    | inl e ↦
+        let place : 64 * i + t % 64 ≡ t = omega arith in
+        let long : length (get_or cur n v) ≡ length rows = ap length same ∙ h.lengths n ∙ w n (omega (arith, h.as_many)) in
+        ap (λ z. bit (row (set cur n x) z) t) e
+        ∙ ap (λ u. bit u t) here
+        ∙ ap (bit x) (sym place)
+        ∙ inside (t % 64) (omega arith) (omega arith)
+        ∙ word (t % 64) (omega arith)
+        ∙ ap (λ z. bit (row rows z) n) place
+        ∙ ap (bit (row rows t)) (sym e)
+    | inr d ↦ ap (λ u. bit u t) (there k d) ∙ h.filled k t a (omega arith) c m q
+  ];
+  others = λ k t d. elim (cases_eq k n) [
+    | inl e ↦
+        ap (λ z. bit (row (set cur n x) z) t) e ∙ ap (λ u. bit u t) here ∙ elsewhere t d ∙ ap (λ u. bit u t) same ∙ h.others n t d ∙ ap (λ z. bit (row old z) t) (sym e)
+    | inr q ↦ ap (λ u. bit u t) (there k q) ∙ h.others k t d
+  ];
+  kept = λ k m. let d : k ≢ n = omega arith in there k d ∙ h.kept k m;
 }
   where
-    at : (k : ℕ) → k < cols → row new k ≡ (if bit v k then set (row old k) j true else row old k)
-    at k m = p.done k (omega arith)
+    here : row (set cur n x) n ≡ x
+    here = get_or-set_same cur n x [] l
 
-    length_if : (b : Bool) (x : List Bool) → length (if b then set x j true else x) ≡ length x
-    length_if true x = length-set x j true
-    length_if false x = refl
+    there : (k : ℕ) → k ≢ n → row (set cur n x) k ≡ row cur k
+    there k d = get_or-set_other cur n k x [] d
 
-    bit_same : (b : Bool) (x : List Bool) → j < length x → bit x j ≡ false → bit (if b then set x j true else x) j ≡ b
-    bit_same true x m f = get_or-set_same x j true false m
-    bit_same false x m f = f
+    same : get_or cur n v ≡ row cur n
+    same = sym r ∙ get_or_read cur n v l r []
 
-    bit_other : (b : Bool) (x : List Bool) (i : ℕ) → (i ≡ j → ⊥) → bit (if b then set x j true else x) i ≡ bit x i
-    bit_other true x i d = get_or-set_other x j i true false d
-    bit_other false x i d = refl
+-- up to a place further on where there is no column in between
+pub AreFilledAt-end : (i from n to : ℕ) (rows old new : List (List Bool)) → ((k : ℕ) → k < to → k < length old → k < n) → AreFilledAt i from n rows old new → AreFilledAt i from to rows old new
+AreFilledAt-end i from n to rows old new e h = record {
+  as_many = h.as_many;
+  lengths = h.lengths;
+  filled = λ k t a b c. h.filled k t a (e k b c) c;
+  others = h.others;
+  kept = h.kept;
+}
 
-pub AreFilledTo-end : (cols j : ℕ) (rows filled : List (List Bool)) → AreFilledTo cols j rows filled → length rows ≤ j → filled ≡ columns cols rows
-AreFilledTo-end cols j rows filled h l =
+pub AreFilledAt-join : (i from middle to : ℕ) (rows old cur new : List (List Bool)) → from ≤ middle → AreFilledAt i from middle rows old cur → AreFilledAt i middle to rows cur new → AreFilledAt i from to rows old new
+AreFilledAt-join i from middle to rows old cur new l h g = record {
+  as_many = g.as_many ∙ h.as_many;
+  lengths = λ k. g.lengths k ∙ h.lengths k;
+  filled = λ k t a b c m q. elim (cases_lt k middle) [
+    | inl e ↦ ap (λ v. bit v t) (g.kept k e) ∙ h.filled k t a e c m q
+    | inr e ↦ g.filled k t e b (omega (arith, h.as_many)) m q
+  ];
+  others = λ k t d. g.others k t d ∙ h.others k t d;
+  kept = λ k m. g.kept k (omega arith) ∙ h.kept k m;
+}
+
+pub HaveWidth-filled : (n i from to : ℕ) (rows old new : List (List Bool)) → HaveWidth n old → AreFilledAt i from to rows old new → HaveWidth n new
+HaveWidth-filled n i from to rows old new w h = λ k l. h.lengths k ∙ w k (omega (arith, h.as_many))
+
+-- ---- all words
+
+pub AreFilledTo-start : (rows columns : List (List Bool)) → HaveWidth (length rows) columns → AreFilledTo (length columns) 0 rows columns
+AreFilledTo-start rows columns w = record { as_many = refl; lengths = w; filled = λ k t l m n. absurd (omega arith) }
+
+pub AreFilledTo-more : (cols i : ℕ) (rows old new : List (List Bool)) → AreFilledTo cols (64 * i) rows old → AreFilledAt i 0 (length old) rows old new → AreFilledTo cols (64 * (i + 1)) rows new
+AreFilledTo-more cols i rows old new h g = record {
+  as_many = g.as_many ∙ h.as_many;
+  lengths = HaveWidth-filled (length rows) i 0 (length old) rows old new h.lengths g;
+  filled = λ k t l m n. elim (cases_eq (t / 64) i) [
+    | inl e ↦ g.filled k t (omega arith) (omega (arith, h.as_many)) (omega (arith, h.as_many)) m e
+    | inr d ↦ g.others k t d ∙ h.filled k t l m (omega arith)
+  ];
+}
+
+pub AreFilledTo-end : (cols n : ℕ) (rows filled : List (List Bool)) → AreFilledTo cols n rows filled → length rows ≤ n → filled ≡ columns cols rows
+AreFilledTo-end cols n rows filled h l =
     ext_get_or [] filled (columns cols rows) (h.as_many ∙ sym (length-map-range_with_len (λ k. column k rows) 0 cols))
     (λ k m.
     let b : k < cols = omega (arith, h.as_many) in
-    ext_get_or false (row filled k) (column k rows) (h.widths k m ∙ sym (length-map rows (λ v. bit v k)))
-    (λ i n.
-    let c : i < length rows = omega (arith, h.widths k m) in
-    h.done k i b (omega arith) ∙ sym (get_or-map (λ v. bit v k) rows i [] false c))
+    ext_get_or false (row filled k) (column k rows) (h.lengths k m ∙ sym (length-map rows (λ v. bit v k)))
+    (λ t q.
+    let c : t < length rows = omega (arith, h.lengths k m) in
+    h.filled k t b c (omega arith) ∙ sym (get_or-map (λ v. bit v k) rows t [] false c))
     ∙ sym (get_or-map-range_with_len (λ k. column k rows) 0 cols k k [] b (omega arith)))
 
 -- ---- the columns in a vector whose items were written

@@ -1,12 +1,12 @@
 //! Rows and columns exchanged.
-ghost use Rattle.std.specs.Prelude.{◌≡◌, ℕ, ◌<◌, length, replicate, IfOk};
+ghost use Rattle.std.specs.Prelude.{◌≡◌, ◌+◌, ◌*◌, ◌<◌, length, replicate, IfOk};
 ghost use Rattle.f2_vec.specs.Vectors.{zeros};
-ghost use Rattle.f2_vec.specs.Spans.{row, HaveWidth};
+ghost use Rattle.f2_vec.specs.Spans.{HaveWidth};
 ghost use Rattle.f2_matrix.specs.Transpose.{columns as columns_of};
-ghost use Rattle.f2_matrix.specs.Inside.Columns.{HasOnesSet};
+ghost use Rattle.f2_matrix.specs.Inside.Columns.{AreFilledAt, IsBlockOf};
 
 use crate::matrix::Matrix;
-use f2_vec::BitVec;
+use f2_vec::{BitVec, transposed_block};
 use memory::Memory;
 use std::alloc::Global;
 
@@ -37,26 +37,48 @@ fn zero_rows(alloc: Global, count: usize, n: usize) -> Result<Vec<BitVec>, Memor
     Ok(rows)
 }
 
-/// Makes zero vectors the columns of the rows.
+/// Makes the columns those of the rows, 64 rows at a time.
 fn fill(columns: &mut [BitVec], rows: &[BitVec])
-    requires widths { HaveWidth (length columns.old) rows.now }
-    requires zero { columns.old ≡ replicate (length columns.old) (zeros (length rows.now)) }
+    requires lengths { HaveWidth (length rows.now) columns.old }
     ensures { columns.new ≡ columns_of (length columns.old) rows.now }
 {
-    for j in 0..rows.len() {
-        set_ones(columns, &rows[j], j);
+    for i in 0..rows.len().div_ceil(64) {
+        fill_word(columns, rows, i);
     }
 }
 
-/// Makes coordinate `j` of each column 1 at whose place the vector has a 1.
-fn set_ones(columns: &mut [BitVec], vector: &BitVec, j: usize)
-    requires as_many { length columns.old ≡ length vector.now }
-    requires within { (k : ℕ) → k < length columns.old → j < length (row columns.old k) }
-    ensures { HasOnesSet vector.now j (length vector.now) columns.old columns.new }
+/// Fills word `i` of each column, 64 columns at a time.
+fn fill_word(columns: &mut [BitVec], rows: &[BitVec], i: usize)
+    requires within { 64 * i < length rows.now }
+    requires lengths { HaveWidth (length rows.now) columns.old }
+    ensures { AreFilledAt i 0 (length columns.old) rows.now columns.old columns.new }
 {
-    let mut from = 0;
-    while let Some(k) = vector.next_one(from) {
-        columns[k].set(j, true);
-        from = k + 1;
+    for j in 0..columns.len().div_ceil(64) {
+        fill_block(columns, rows, i, j);
     }
+}
+
+/// Fills word `i` of the 64 columns from column 64 `j` on, as far as there are such.
+fn fill_block(columns: &mut [BitVec], rows: &[BitVec], i: usize, j: usize)
+    requires row { 64 * i < length rows.now }
+    requires column { 64 * j < length columns.old }
+    requires lengths { HaveWidth (length rows.now) columns.old }
+    ensures { AreFilledAt i (64 * j) (64 * j + 64) rows.now columns.old columns.new }
+{
+    let block = transposed_block(&block_of(rows, i, j));
+    for c in 0..(columns.len() - 64 * j).min(64) {
+        columns[64 * j + c].set_word(i, block[c]);
+    }
+}
+
+/// Word `j` of each of the 64 rows from row 64 `i` on, and 0 past the last row.
+fn block_of(rows: &[BitVec], i: usize, j: usize) -> [u64; 64]
+    requires { 64 * i < length rows.now }
+    ensures { IsBlockOf i j rows.now result }
+{
+    let mut block = [0; 64];
+    for r in 0..(rows.len() - 64 * i).min(64) {
+        block[r] = rows[64 * i + r].word(j);
+    }
+    block
 }

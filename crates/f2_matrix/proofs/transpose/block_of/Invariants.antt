@@ -1,0 +1,5 @@
+use Rattle.f2_matrix.specs.Inside.Columns.{IsBlockUpTo}
+use Rattle.f2_matrix.proofs.transpose.block_of.Given as goal
+
+abbrev pub invariant-loop-r : goal.invariant-loop-r
+invariant-loop-r l = IsBlockUpTo l.r l.i l.j l.rows l.block
