@@ -1,0 +1,14 @@
+-- A pass may go to any thread where the state may.
+use denote.RattleType.{RattleType}
+use denote.Param.Send.{IsSend, sendable}
+use Rattle.std.proofs.Crossing.{crosses}
+use Rattle.atomic_table.proofs.Sent.{seat_keyless}
+use Rattle.atomic_table.specs.contracts.shared.Seat as Seat
+use Rattle.turn_lock.specs.declared.told.Told.{Ghosts}
+use Rattle.turn_lock.specs.contracts.pass.Pass as Pass
+
+Seat-send : (S V : RattleType) → IsSend S → IsSend (Seat.the_row S V)
+Seat-send S V s = record { owned = λ d vs. ((λ vss. (tt, ((λ uss. (tt, tt)), tt))), seat_keyless S s V.coded.code d.table_id d.id d.me); leaving = λ k f vs. tt }
+
+pub Pass-send : (T N E : RattleType) (g : Ghosts T.Denot N.Denot E.Denot) → IsSend T → IsSend (Pass.the_row T N E g)
+Pass-send T N E g s = search (crosses, sendable, Seat-send) depth 20

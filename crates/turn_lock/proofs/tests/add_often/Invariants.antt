@@ -1,0 +1,9 @@
+use Rattle.std.proofs.Common.{◌≡◌, false}
+use Rattle.turn_lock.proofs.tests.add_often.Given as goal
+
+abbrev pub invariant-loop : goal.invariant-loop
+invariant-loop g l = record {
+  turn : l.pass.turn ≡ l.turn;
+  idle : l.pass.holds ≡ false;
+  number : l.pass.number ≡ l.initial.pass.number;
+}
