@@ -1,15 +1,13 @@
--- The row behind a block, cleared by it, from the parts of the rows.
-use Rattle.std.proofs.Common.{◌≡◌, ℕ, ◌+◌, ◌-◌, ◌<◌, ◌≤◌, Bool, List, [], ◌∷◌, ◌++◌, length, map, take, drop, set, subst, ap, sym, ◌∙◌, arith, inl, inr}
+-- The rows about a block, and the row behind it, cleared by it, from the parts of the rows.
+use Rattle.std.proofs.Common.{◌≡◌, ℕ, ◌+◌, ◌-◌, ◌<◌, ◌≤◌, Bool, List, [], ◌++◌, length, map, take, drop, set, subst, ap, sym, ◌∙◌, arith, inl, inr}
 use Rattle.std.proofs.lemmas.List.{length-append, get_or_past, get_or_append_left, get_or-append_right, take_at, drop_at, append_assoc, length-map, get_or-map}
 use Rattle.std.proofs.lemmas.Bool.{cases_lt}
-use Rattle.f2_vec.specs.Vectors.{bit, IsZero}
 use Rattle.f2_vec.specs.Spans.{row, HaveWidth}
 use Rattle.f2_vec.proofs.Spans.{HaveWidth-front, HaveWidth-back}
 use Rattle.f2_matrix.specs.Inside.RowOperations.{cleared}
 use Rattle.f2_matrix.specs.Inside.Blocks.{cleared_at, block_rows, IsClearedByBlock, IsPivotTaken}
-use Rattle.f2_matrix.specs.Inside.Rowwise.{IsNextCleared}
 use Rattle.f2_matrix.proofs.BlockSteps.{length-cleared_at}
-use Rattle.f2_matrix.proofs.BlockParts.{taken_from_parts, row_at, row_back, first_and_rest, set_first}
+use Rattle.f2_matrix.proofs.BlockParts.{taken_from_parts, first_and_rest, set_first}
 use Rattle.f2_matrix.proofs.RowBlocks.{swap_same}
 
 -- the rows above a block, the block and the rows behind it
@@ -40,29 +38,6 @@ pub taken_from_same : (n r col : ℕ) (ps : List ℕ) (xs above block new back :
 taken_from_same n r col ps xs above block new back q p h e c =
     let high : r + length ps < length xs = omega (arith, behind_front n r ps xs above block back p) in
     rw (set_first back q h) (taken_from_parts n r col (r + length ps) ps xs xs above block new (drop 1 back) (row back 0) q (omega arith) high (sym (swap_same xs (r + length ps) high)) (p.whole ∙ ap (λ x. (above ++ block) ++ x) (first_and_rest back h)) p.front p.middle e c)
-
-pub next_from_parts : (n r : ℕ) (ps : List ℕ) (xs above block back : List (List Bool)) (q : List Bool) → AreParts n r ps xs above block back → 0 < length back → q ≡ cleared_at n ps block (row back 0) → IsZero q → IsNextCleared n r ps xs ((above ++ block) ++ set back 0 q)
-next_from_parts n r ps xs above block back q p h e z =
-    let k = length ps in
-    let below = drop 1 back in
-    let ys = (above ++ block) ++ q ∷ below in
-    let parts : xs ≡ (above ++ block) ++ row back 0 ∷ below = p.whole ∙ ap (λ x. (above ++ block) ++ x) (first_and_rest back h) in
-    let at : row ys (r + k) ≡ q = row_at r k above block below q p.front p.middle in
-    let before : row xs (r + k) ≡ row back 0 = ap (λ x. row x (r + k)) parts ∙ row_at r k above block below (row back 0) p.front p.middle in
-    let same = block_is n r ps xs above block back p in
-    rw (set_first back q h) (record {
-      as_many = length-append (above ++ block) (q ∷ below) ∙ sym (ap length parts ∙ length-append (above ++ block) (row back 0 ∷ below));
-      next = at ∙ e ∙ ap (λ b. cleared_at n ps b (row back 0)) same ∙ ap (cleared_at n ps (block_rows r ps xs)) (sym before);
-      zero = λ j. ap (λ v. bit v j) at ∙ z j;
-      others = λ i d. elim (cases_lt i (r + k)) [
-        | inl l ↦
-            let m : i < length (above ++ block) = omega (arith, length-append above block, p.front, p.middle) in
-            get_or_append_left (above ++ block) (q ∷ below) [] i m ∙ sym (ap (λ x. row x i) parts ∙ get_or_append_left (above ++ block) (row back 0 ∷ below) [] i m)
-        | inr l ↦
-            let m : r + k < i = omega arith in
-            row_back r k above block below q p.front p.middle i m ∙ sym (ap (λ x. row x i) parts ∙ row_back r k above block below (row back 0) p.front p.middle i m)
-      ];
-    })
 
 pub parts_of_halves : (n r : ℕ) (ps : List ℕ) (xs above rest block back : List (List Bool)) → HaveWidth n xs → xs ≡ above ++ rest → rest ≡ block ++ back → length above ≡ r → length block ≡ length ps → AreParts n r ps xs above block back
 parts_of_halves n r ps xs above rest block back w e f l m = record {
