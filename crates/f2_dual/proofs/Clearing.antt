@@ -6,6 +6,7 @@ use Rattle.f2_vec.specs.Vectors.{plus, sum_of, zeros, bit, IsZero, IsZeroFrom, I
 use Rattle.f2_vec.proofs.Sums.{bit-sum_of, length-sum_of, length-zeros, sum_of-assoc, sum_of-cancel, sum_of-zeros_right, zeros_from_bits}
 use Rattle.f2_vec.specs.Spans.{row, HaveWidth, combination, unit_vector, IsInSpan}
 use Rattle.f2_vec.proofs.Spans.{length-combination, combination-zeros, combination-sum_of, sum-IsInSpan}
+use Rattle.f2_vec.proofs.Combinations.{combination-unit_vector}
 use Rattle.f2_vec.proofs.Split.{length-unit_vector}
 use Rattle.f2_matrix.specs.Echelon.{IsReduced, HasNoZeroRow}
 use Rattle.f2_matrix.specs.Preimages.{pivot_of, at_pivots}
@@ -13,7 +14,7 @@ use Rattle.f2_matrix.specs.Transpose.{column}
 use Rattle.f2_matrix.proofs.Pivots.{length-at_pivots, bit-at_pivots, at_pivots-combination, sum_at_pivots}
 use Rattle.f2_dual.specs.Inside.Tables.{entry_at, IsTableOfPivots}
 use Rattle.f2_dual.proofs.Dots.{dot_none, bit-combination-dot}
-use Rattle.f2_dual.proofs.OnCandidates.{is_pivot, row-column, combination-unit}
+use Rattle.f2_dual.proofs.OnCandidates.{is_pivot, row-column}
 
 -- rest is v with the rows of the coefficients c added, and has zeros before a place
 pub record IsCleared (from : ℕ) (rows : List (List Bool)) (v rest c : List Bool) : Type 0 where
@@ -45,7 +46,7 @@ IsCleared-more from p i rows table v rest c rest_more c_more w nz t h next e f g
     let lu : length u ≡ length c = length-unit_vector (length c) i in
     let lx : length rest ≡ length x = length-cleared from rows v rest c w h ∙ sym (w i at.0) in
     let added : combination n (sum_of c u) rows ≡ sum_of (combination n c rows) x =
-    combination-sum_of n c u rows w (sym lu) ∙ ap (sum_of (combination n c rows)) (combination-unit n (length c) i rows w (sym h.one_each) (omega (arith, at.0, h.one_each))) in
+    combination-sum_of n c u rows w (sym lu) ∙ ap (sum_of (combination n c rows)) (combination-unit_vector n (length c) i rows w (sym h.one_each) (omega (arith, at.0, h.one_each))) in
     record {
       sum = f ∙ ap (λ (z : List Bool). sum_of z x) h.sum ∙ sum_of-assoc v (combination n c rows) x ∙ ap (sum_of v) (sym added) ∙ ap (λ (z : List Bool). sum_of v (combination n z rows)) (sym g);
       one_each = ap length g ∙ length-sum_of c u (sym lu) ∙ h.one_each;

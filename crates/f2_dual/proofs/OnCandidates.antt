@@ -8,7 +8,7 @@ use Rattle.f2_vec.proofs.Sums.{one_within, bit-zeros, bit-sum_of, length-sum_of,
 use Rattle.f2_vec.specs.Spans.{row, HaveWidth, combination, unit_vector, IsInSpan}
 use Rattle.f2_vec.proofs.Spans.{length-combination, length-IsInSpan, combination-sum_of, combination-append, row-IsInSpan, combination-IsInSpan, HaveWidth-append}
 use Rattle.f2_vec.proofs.Split.{bit-unit_vector, length-unit_vector}
-use Rattle.f2_vec.proofs.Combinations.{map-map, map_same, HaveWidth-map, combination-combination, combination_alone}
+use Rattle.f2_vec.proofs.Combinations.{map-map, map_same, HaveWidth-map, combination-combination, combination-unit_vector}
 use Rattle.f2_matrix.specs.Echelon.{IsReduced, HasNoZeroRow, IsRowBasis, IsKernelBasis}
 use Rattle.f2_matrix.specs.Preimages.{IsPreimage, ArePreimages, pivot_of, at_pivots, quasi_of}
 use Rattle.f2_matrix.proofs.Unique.{first_one}
@@ -47,11 +47,6 @@ same_at_pivots n rows u v w h nz s t same =
     let m : i < length rows = omega (arith, length-at_pivots rows u) in
     bit-at_pivots rows u i m ∙ same i m ∙ sym (bit-at_pivots rows v i m)) in
     sym (sum_at_pivots n rows u w h nz s) ∙ ap (λ c. combination n c rows) agree ∙ sum_at_pivots n rows v w h nz t
-
--- one row alone
-pub combination-unit : (n m e : ℕ) (rows : List (List Bool)) → HaveWidth n rows → length rows ≡ m → e < m → combination n (unit_vector m e) rows ≡ row rows e
-combination-unit n m e rows w l k =
-    combination_alone n (unit_vector m e) rows e w (omega arith) (bit-unit_vector m e e k ∙ eq-eqb e e refl) (λ j d. bit-unit_vector m e j k ∙ ne_eqb j e d)
 
 pub HaveWidth-units : (n : ℕ) (image : List (List Bool)) → HaveWidth n (pivot_units n image)
 HaveWidth-units n image = HaveWidth-map n (λ r. unit_vector n (element_of n r)) image (λ r. length-unit_vector n (element_of n r))
@@ -143,7 +138,7 @@ module _ (w : ℕ) (rows candidates image chosen kernel : List (List Bool)) (g :
       ∙ ap (combination w c)
       (map-map (λ x. combination w x rows) (λ r. unit_vector (length rows) (element_of (length rows) r)) image
       ∙ map_same [] (λ r. combination w (unit_vector (length rows) (element_of (length rows) r)) rows) (λ v. row rows (element_of (length rows) v)) image
-      (λ t k. combination-unit w (length rows) (element_of (length rows) (row image t)) rows wide_rows refl (element_within t k).0))
+      (λ t k. combination-unit_vector w (length rows) (element_of (length rows) (row image t)) rows wide_rows refl (element_within t k).0))
 
   -- ---- a unit vector is what is chosen for its coordinates, and kernel rows
 
@@ -166,7 +161,7 @@ module _ (w : ℕ) (rows candidates image chosen kernel : List (List Bool)) (g :
       let e = sum_of u q in
       let le : length e ≡ k = length-sum_of u q (lu ∙ sym p.one_each) ∙ lu in
       let gone : combination n e xs ≡ zeros n =
-      combination-sum_of n u q xs wide_coordinates (lu ∙ sym p.one_each) ∙ ap (λ v. sum_of v (combination n q xs)) (combination-unit n k l xs wide_coordinates refl a) ∙ ap (sum_of x) p.gives ∙ sum_of-self n x (wide_coordinates l a) in
+      combination-sum_of n u q xs wide_coordinates (lu ∙ sym p.one_each) ∙ ap (λ v. sum_of v (combination n q xs)) (combination-unit_vector n k l xs wide_coordinates refl a) ∙ ap (sum_of x) p.gives ∙ sum_of-self n x (wide_coordinates l a) in
       let t : IsInSpan k kernel e = (g.relations.spans_kernel e).0 (record { one_each = le; vanishes = gone }) in
       let there : at_pivots kernel e ≡ at_pivots kernel u =
       map_same [] (λ r. bit e (pivot_of r)) (λ r. bit u (pivot_of r)) kernel
@@ -291,7 +286,7 @@ module _ (w : ℕ) (rows candidates image chosen kernel : List (List Bool)) (g :
       let y = combination n c (pivot_units n image) in
       let ly : length (unit_vector n e) ≡ length y = length-unit_vector n e ∙ sym (length-combination n c (pivot_units n image) (HaveWidth-units n image)) in
       combination-sum_of w (unit_vector n e) y rows wide_rows ly
-      ∙ ap (λ v. sum_of v (combination w y rows)) (combination-unit w n e rows wide_rows refl m)
+      ∙ ap (λ v. sum_of v (combination w y rows)) (combination-unit_vector w n e rows wide_rows refl m)
       ∙ ap (sum_of (row rows e)) (combination-units c ∙ sym (row_by_pivots e m))
       ∙ sum_of-self w (row rows e) (wide_rows e m)
 

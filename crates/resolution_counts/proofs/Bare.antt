@@ -7,7 +7,7 @@ use Rattle.std.proofs.lemmas.Bool.Decides.{eqb_tells, nat_tests}
 use Rattle.std.proofs.lemmas.List.{nil_from_length, ext_get_or, get_or-map, get_or_default, length-map}
 use Rattle.f2_vec.specs.Vectors.{bit}
 use Rattle.f2_vec.specs.Spans.{row, HaveWidth, combination, unit_vector}
-use Rattle.f2_vec.proofs.Combinations.{combination_alone}
+use Rattle.f2_vec.proofs.Combinations.{combination-unit_vector}
 use Rattle.f2_vec.proofs.Split.{length-unit_vector, bit-unit_vector}
 use Rattle.milnor_basis.specs.Exponents.{degree_of, IsTrimmed}
 use Rattle.milnor_basis.proofs.ExponentLemmas.{length_within}
@@ -66,11 +66,6 @@ acted_on_generator ds t g i r l e =
     let left : bit (acted ds r t (g, [])) j ≡ (nat_eq f.0 g && pointwise nat_eq r f.1) = get_or-map (coefficient_at g r []) basis j (0, []) false b ∙ ap (λ x. nat_eq f.0 g && x) (product_has_unit r f.1 trimmed).1 in
     let right : bit (unit_vector n i) j ≡ nat_eq j i = bit-unit_vector n i j l in
     left ∙ (same_test ds t g i j r l b e ∙ sym right))
-
--- the combination of rows by a unit vector is a row
-pub combination-unit_vector : (n m p : ℕ) (rows : List (List Bool)) → HaveWidth n rows → length rows ≡ m → p < m → combination n (unit_vector m p) rows ≡ row rows p
-combination-unit_vector n m p rows w e l =
-    combination_alone n (unit_vector m p) rows p w (omega arith) (bit-unit_vector m p p l ∙ grind (arith, nat_tests)) (λ j off. bit-unit_vector m p j l ∙ grind (arith, nat_tests))
 
 -- a basis element, as the operation on its generator
 pub unit_is_acted : (ds : List ℤ) (t : ℤ) (g i p : ℕ) (r : List ℕ) → IsPlaceOf ds g p → degree_at ds g +ℤ pos (degree_of r) ≡ t → i < free_width ds t → element (free_basis ds t) i ≡ (g, r) → unit_vector (free_width ds t) i ≡ free_action ds r (degree_at ds g) (unit_vector (free_width ds (degree_at ds g)) p)

@@ -8,7 +8,7 @@ use Rattle.std.proofs.lemmas.Int.{ints}
 use Rattle.std.proofs.lemmas.List.{get_or-map, length-map}
 use Rattle.std.proofs.lemmas.List.FromFn.{length-map-range_with_len, get_or-map-range_with_len}
 use Rattle.f2_vec.specs.Spans.{row, combination, unit_vector, unit_vectors}
-use Rattle.f2_vec.proofs.Combinations.{map_same}
+use Rattle.f2_vec.proofs.Combinations.{map_same, combination-unit_vector}
 use Rattle.f2_vec.proofs.Split.{HaveWidth-unit_vectors, combination-unit_vectors, length-unit_vectors, row-unit_vectors}
 use Rattle.milnor_basis.specs.Exponents.{degree_of}
 use Rattle.free_module.specs.FreeBasis.{element}
@@ -18,7 +18,7 @@ use Rattle.free_module.specs.LinearMap.{AreImages, image_of, map_rows, mapped}
 use Rattle.free_module.proofs.MapRows.{HaveWidth-map_rows}
 use Rattle.resolution_laws.proofs.Generators.{element-IsOfDegree}
 use Rattle.resolution_counts.specs.Cochains.{IsModuleMap, field_width, field_in, generator_vector, CochainsAreGivenByValues}
-use Rattle.resolution_counts.proofs.Bare.{IsPlaceOf, place_of_generator, acted_on_generator, combination-unit_vector}
+use Rattle.resolution_counts.proofs.Bare.{IsPlaceOf, place_of_generator, acted_on_generator}
 use Rattle.resolution_counts.proofs.Cochains.{element_vanishes, elsewhere}
 use Rattle.resolution_counts.proofs.Maps.{field_is_module, mapped_is_map}
 
