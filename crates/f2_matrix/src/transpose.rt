@@ -1,6 +1,5 @@
 //! Rows and columns exchanged.
-ghost use Rattle.std.specs.Prelude.{◌≡◌, ◌+◌, ◌*◌, ◌<◌, length, replicate, IfOk};
-ghost use Rattle.f2_vec.specs.Vectors.{zeros};
+ghost use Rattle.std.specs.Prelude.{◌≡◌, ◌+◌, ◌*◌, ◌<◌, length, IfOk};
 ghost use Rattle.f2_vec.specs.Spans.{HaveWidth};
 ghost use Rattle.f2_matrix.specs.Transpose.{columns as columns_of};
 ghost use Rattle.f2_matrix.specs.Inside.Columns.{AreFilledAt, IsBlockOf};
@@ -20,21 +19,10 @@ impl Matrix {
         ensures rows { IfOk result (λ m. m.rows ≡ columns_of self.now.cols self.now.rows) }
     {
         let rows = self.rows();
-        let mut columns = zero_rows(alloc, self.cols(), rows.len())?;
+        let mut columns = BitVec::zero_rows(alloc, self.cols(), rows.len())?;
         fill(columns.as_mut_slice(), rows);
         Ok(Matrix::from_rows(rows.len(), columns))
     }
-}
-
-/// So many zero vectors of length `n`.
-fn zero_rows(alloc: Global, count: usize, n: usize) -> Result<Vec<BitVec>, Memory>
-    ensures { IfOk result (λ rows. rows.items ≡ replicate count (zeros n)) }
-{
-    let mut rows = Vec::with_capacity(alloc, count)?;
-    for _ in 0..count {
-        rows.push(BitVec::zero(alloc, n)?)?;
-    }
-    Ok(rows)
 }
 
 /// Makes the columns those of the rows, 64 rows at a time.

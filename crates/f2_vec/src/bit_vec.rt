@@ -1,5 +1,5 @@
 //! The vector type: its coordinates are kept packed in words.
-ghost use Rattle.std.specs.Prelude.{◌≡◌, ◌≢◌, ℕ, ◌+◌, ◌*◌, ◌/◌, ◌<◌, ◌≤◌, ◌↔◌, ◌==◌, [], ◌∷◌, ◌++◌, length, take, drop, IsTrue, IsNone, IfOk, IfSome, if◌then◌else◌, OnOk, OnErr, EachIndex, slice_index, slice_set};
+ghost use Rattle.std.specs.Prelude.{◌≡◌, ◌≢◌, ℕ, ◌+◌, ◌*◌, ◌/◌, ◌<◌, ◌≤◌, ◌↔◌, ◌==◌, [], ◌∷◌, ◌++◌, length, take, drop, replicate, IsTrue, IsNone, IfOk, IfSome, if◌then◌else◌, OnOk, OnErr, EachIndex, slice_index, slice_set};
 ghost use Rattle.std.specs.Int.{bit_at};
 ghost use Rattle.std.specs.List.{range_with_len, items_where_true};
 ghost use Rattle.f2_vec.specs.Vectors.{sum_of, zeros, placed, bit, IsZero, IsZeroFrom, IsFirstOne, IsNextOne};
@@ -53,6 +53,17 @@ impl BitVec {
             len: n,
             words: vec![in alloc; 0; n.div_ceil(64)]?,
         })
+    }
+
+    /// `count` zero vectors of length `n`.
+    pub fn zero_rows(alloc: Global, count: usize, n: usize) -> Result<Vec<Self>, Memory>
+        ensures { IfOk result (λ rows. rows.items ≡ replicate count (zeros n)) }
+    {
+        let mut rows = Vec::with_capacity(alloc, count)?;
+        for _ in 0..count {
+            rows.push(BitVec::zero(alloc, n)?)?;
+        }
+        Ok(rows)
     }
 
     /// The unit vector of length `n` with its 1 at place `i`.

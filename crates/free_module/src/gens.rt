@@ -1,7 +1,6 @@
 //! The generators of a free module, and the module on them.
 ghost use Rattle.std.specs.Prelude.{◌≡◌, ◌≤◌, ◌<◌, ◌+◌, ◌^◌, ℕ, ℤ, pos, ◌+ℤ◌, ◌-ℤ◌, ◌≤ℤ◌, List, [], ◌∷◌, ◌++◌, Bool, length, take, drop, replicate, IfOk, OnOk, OnErr, Some, slice_get};
 ghost use Rattle.milnor_basis.specs.Exponents.{degree_of};
-ghost use Rattle.f2_vec.specs.Vectors.{zeros};
 ghost use Rattle.milnor_product.specs.Times.{basis_at};
 ghost use Rattle.free_module.specs.Inside.Terms.{AreTerms};
 ghost use Rattle.free_module.specs.Inside.FreeLaws.{free_HasUnit, free_KeepsWidths};
@@ -227,7 +226,7 @@ impl Target for Gens {
         v: &BitVec,
     ) -> Result<Vec<BitVec>, Memory> {
         let width = self.width_above(basis, t, u32::from(degree))?;
-        let mut rows = zero_rows(alloc, basis.of_degree(degree).len(), width)?;
+        let mut rows = BitVec::zero_rows(alloc, basis.of_degree(degree).len(), width)?;
         for term in &self.terms(alloc, basis, u32::from(degree), t, v)? {
             let multiples = basis.multiples(alloc, degree, &term.right)?;
             add_products(rows.as_mut_slice(), term.offset, multiples);
@@ -238,15 +237,4 @@ impl Target for Gens {
     ghost has_unit = { λ gens. free_HasUnit gens };
 
     ghost keeps_widths = { λ gens. free_KeepsWidths gens };
-}
-
-/// So many zero vectors of length `width`.
-fn zero_rows(alloc: Global, count: usize, width: usize) -> Result<Vec<BitVec>, Memory>
-    ensures { IfOk result (λ rows. rows.items ≡ replicate count (zeros width)) }
-{
-    let mut rows = Vec::new(alloc);
-    for _ in 0..count {
-        rows.push(BitVec::zero(alloc, width)?)?;
-    }
-    Ok(rows)
 }

@@ -1,6 +1,6 @@
 use Rattle.std.proofs.Common.{◌≡◌, replicate}
 use Rattle.f2_vec.specs.Vectors.{zeros}
-use Rattle.free_module.proofs.gens.zero_rows.Given as goal
+use Rattle.f2_vec.proofs.bit_vec.BitVec.zero_rows.Given as goal
 
 abbrev pub invariant-loop : goal.invariant-loop
-invariant-loop l = l.rows.items ≡ replicate l.counter (zeros l.width)
+invariant-loop l = l.rows.items ≡ replicate l.counter (zeros l.n)

@@ -1,6 +1,0 @@
-use Rattle.std.proofs.Common.{◌≡◌, replicate}
-use Rattle.f2_vec.specs.Vectors.{zeros}
-use Rattle.f2_matrix.proofs.transpose.zero_rows.Given as goal
-
-abbrev pub invariant-loop : goal.invariant-loop
-invariant-loop l = l.rows.items ≡ replicate l.counter (zeros l.n)
