@@ -11,8 +11,8 @@ use Rattle.free_module.specs.FreeModule.{free_basis}
 use Rattle.free_module.specs.FreeBasis.{IsOfDegree}
 use Rattle.free_module.proofs.FreeBasis.{All-free_basis}
 use Rattle.module_json.specs.ModuleFile.{Generator}
-use Rattle.module_check.specs.Module.{bottom}
-use Rattle.module_check.specs.Text.{newline, joined_by_plus}
+use Rattle.finite_module.specs.Module.{bottom}
+use Rattle.finite_module.specs.Text.{newline, joined_by_plus}
 use Rattle.resolution_laws.specs.Resolution.{Content, no_content, square_in, row_of, degrees_from, generator_count}
 use Rattle.resolution_laws.proofs.Rows.{free_basis-take}
 use Rattle.ext_chart.specs.declared.place.Place.{Place}

@@ -7,8 +7,8 @@ use Rattle.f2_vec.specs.Spans.{row}
 use Rattle.f2_vec.proofs.Combinations.{map-map}
 use Rattle.free_module.specs.FreeBasis.{element}
 use Rattle.free_module.specs.FreeModule.{free_basis, free_width}
-use Rattle.module_check.specs.Text.{joined_by_plus}
-use Rattle.module_check.proofs.TextSteps.{flat_map_range}
+use Rattle.finite_module.specs.Text.{joined_by_plus}
+use Rattle.finite_module.proofs.TextSteps.{flat_map_range}
 use Rattle.ext_chart.specs.declared.place.Place.{Place}
 use Rattle.ext_chart.specs.Dump.{square_places, term_text, free_sum_text, generator_line}
 

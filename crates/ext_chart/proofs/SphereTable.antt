@@ -4,9 +4,9 @@ use Rattle.std.specs.List.{slice_get}
 use Rattle.std.proofs.lemmas.Int.{ints}
 use Rattle.f2_vec.specs.Spans.{HaveWidth}
 use Rattle.f2_matrix.specs.Echelon.{IsReduced}
-use Rattle.module_check.specs.Module.{Module as SteenrodModule}
-use Rattle.module_check.specs.DerivedAction.{derived_module}
-use Rattle.module_check.specs.Checked.{sphere_file}
+use Rattle.finite_module.specs.Module.{Module as SteenrodModule}
+use Rattle.finite_module.specs.DerivedAction.{derived_module}
+use Rattle.finite_module.specs.Checked.{sphere_file}
 use Rattle.resolution_laws.specs.Resolution.{Content}
 use Rattle.resolution_laws.specs.Start.{HasShape}
 use Rattle.square.specs.declared.range.TheConstants.{MAX_S}

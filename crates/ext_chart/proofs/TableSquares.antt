@@ -9,7 +9,7 @@ use Rattle.degrees.specs.Above.{natural}
 use Rattle.f2_vec.specs.Spans.{HaveWidth}
 use Rattle.f2_matrix.proofs.Unique.{kernel_basis_unique}
 use Rattle.free_module.specs.FreeModule.{free_width}
-use Rattle.module_check.specs.Module.{bottom, width}
+use Rattle.finite_module.specs.Module.{bottom, width}
 use Rattle.resolution_laws.specs.Resolution.{Content, row_of, degrees_from}
 use Rattle.resolution_laws.specs.Start.{squares_below, IsOf}
 use Rattle.resolution_laws.proofs.Rows.{free_basis-take}

@@ -3,7 +3,7 @@
 use Rattle.std.specs.Prelude.{ℕ, zero, suc, ◌+◌, ◌-◌, ℤ, pos, ◌+ℤ◌, nat_lt, if◌then◌else◌, List, [], ◌∷◌, ◌++◌, map, codes, decimal}
 use Rattle.std.specs.Fmt.{signed_decimal}
 use Rattle.std.specs.List.{range_with_len}
-use Rattle.module_check.specs.Text.{newline}
+use Rattle.finite_module.specs.Text.{newline}
 
 -- the mark for n generators: a dot for none, a digit up to nine, and a star above
 abbrev pub mark : ℕ → ℕ

@@ -1,7 +1,7 @@
 -- The line on a module file that is accepted.
 use Rattle.std.specs.Prelude.{ℕ, ℤ, nat_eq, if◌then◌else◌, List, ◌++◌, codes, decimal}
 use Rattle.std.specs.Fmt.{signed_decimal}
-use Rattle.module_check.specs.Text.{newline}
+use Rattle.finite_module.specs.Text.{newline}
 
 abbrev pub degrees_text : ℤ → ℤ → List ℕ
 degrees_text least greatest = signed_decimal least ++ (codes ".." ++ signed_decimal greatest)

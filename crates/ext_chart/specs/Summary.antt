@@ -3,7 +3,7 @@
 use Rattle.std.specs.Prelude.{ℕ, suc, ◌+◌, ◌*◌, ℤ, List, [], ◌∷◌, ◌++◌, map, codes, decimal}
 use Rattle.std.specs.Fmt.{signed_decimal}
 use Rattle.std.specs.List.{sum, range_with_len}
-use Rattle.module_check.specs.Text.{newline}
+use Rattle.finite_module.specs.Text.{newline}
 
 -- The generators of row s through degree bottom + t. count s k is the number of generators of the square (s, k).
 abbrev pub row_total : (ℕ → ℕ → ℕ) → ℕ → ℕ → ℕ

@@ -1,7 +1,7 @@
 //! The chart of a resolution as text.
 ghost use Rattle.std.specs.Prelude.{◌≡◌, ℕ, ◌+◌, ◌-◌, ◌<◌, ◌≤◌, pos, ◌+ℤ◌, ◌≤ℤ◌, IfOk, length, map};
 ghost use Rattle.std.specs.List.{range_with_len};
-ghost use Rattle.module_check.specs.Module.{bottom};
+ghost use Rattle.finite_module.specs.Module.{bottom};
 ghost use Rattle.resolution_laws.specs.Resolution.{generator_count};
 ghost use Rattle.square.specs.Tables.{row_in, plain_rows, IsThrough};
 ghost use Rattle.ext_chart.specs.Chart.{mark, row_label, row_line, row_lines, stems_line, chart_text};

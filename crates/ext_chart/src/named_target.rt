@@ -8,7 +8,7 @@ use crate::terms::free_sum_text;
 use f2_vec::BitVec;
 use memory::Memory;
 use milnor_basis::Basis;
-use module_check::Module;
+use finite_module::Module;
 use square::Table;
 use std::alloc::Global;
 

@@ -10,7 +10,7 @@ use f2_vec::BitVec;
 use free_module::Gens;
 use memory::Memory;
 use milnor_basis::Basis;
-use module_check::Module;
+use finite_module::Module;
 use square::{Range, Square, Table};
 use std::alloc::Global;
 use std::sync::Arc;

@@ -10,14 +10,15 @@ use Rattle.module_json.specs.ModuleFile.IsFileOf.{too_long, no_json, value}
 use Rattle.module_json.specs.WellFormed.{NeverFall}
 use Rattle.module_json.specs.declared.malformed.Malformed.{Malformed}
 use Rattle.module_json.proofs.Order.{EachPair, Rises-by_degree}
-use Rattle.module_check.specs.Module.{Module as SteenrodModule, bottom, width}
-use Rattle.module_check.specs.DerivedAction.{derived_module, top}
-use Rattle.module_check.specs.Acceptance.{IsModule, AcceptedIsModule, refusal_of}
-use Rattle.module_check.specs.Graded.{ModulesAreSteenrodModules}
-use Rattle.module_check.specs.Checked.{sphere_file}
-use Rattle.module_check.specs.Sample.{sample_generators, sample_file}
-use Rattle.module_check.proofs.SampleFile.{sample_is_module, sample_by_degree}
-use Rattle.module_check.specs.ModuleLaws.{numbers_from-none}
+use Rattle.finite_module.specs.Module.{Module as SteenrodModule, bottom, width}
+use Rattle.finite_module.specs.DerivedAction.{derived_module, top}
+use Rattle.finite_module.specs.Axioms.{IsModule}
+use Rattle.module_check.specs.Acceptance.{AcceptedIsModule, refusal_of}
+use Rattle.finite_module.specs.Graded.{ModulesAreSteenrodModules}
+use Rattle.finite_module.specs.Checked.{sphere_file}
+use Rattle.finite_module.specs.Sample.{sample_generators, sample_file}
+use Rattle.finite_module.proofs.SampleFile.{sample_is_module, sample_by_degree}
+use Rattle.finite_module.specs.ModuleLaws.{numbers_from-none}
 use Rattle.module_check.specs.declared.fault.CheckFault.{CheckFault}
 use Rattle.resolution_laws.specs.Resolution.{Content, generator_count}
 use Rattle.resolution_laws.specs.Exactness.{IsBoundedBelow, CanonicalTableIsMinimalResolution}

@@ -11,7 +11,7 @@ use Rattle.module_json.specs.declared.malformed.Malformed.{Malformed}
 use Rattle.module_json.specs.declared.malformed.Malformed.TheVariants.{Limit, Json, Shape, Kind, Prime, Name, Degree, Action, Memory as NoRoom}
 use Rattle.module_json.specs.declared.malformed.What.TheVariants.{Bytes}
 use Rattle.module_json.proofs.Reading.{file_unique}
-use Rattle.module_check.specs.Module.{Module as SteenrodModule}
+use Rattle.finite_module.specs.Module.{Module as SteenrodModule}
 use Rattle.module_check.specs.Acceptance.{refusal_of}
 use Rattle.module_check.specs.declared.fault.CheckFault.{CheckFault}
 use Rattle.module_check.specs.declared.fault.CheckFault.TheVariants.{Listed, Relation, Memory as NoMemory}

@@ -1,10 +1,10 @@
 -- The answer to a command, from the module that it reads.
 use Rattle.std.proofs.Common.{◌≡◌, ℕ, List, [], refl, sym, subst}
 use Rattle.std.specs.Prelude.{Option, Some, None, MatchOption, IfSome, Result, Ok, Err}
-use Rattle.module_check.specs.Module.{Module as SteenrodModule}
-use Rattle.module_check.specs.DerivedAction.{derived_module}
-use Rattle.module_check.specs.Checked.{sphere_file}
-use Rattle.module_check.specs.Sample.{sample_file}
+use Rattle.finite_module.specs.Module.{Module as SteenrodModule}
+use Rattle.finite_module.specs.DerivedAction.{derived_module}
+use Rattle.finite_module.specs.Checked.{sphere_file}
+use Rattle.finite_module.specs.Sample.{sample_file}
 use Rattle.ext_run.specs.declared.words.Command.{Command}
 use Rattle.ext_run.specs.declared.words.Command.TheVariants.{Sphere, Resolve, Dump, Check, Sample}
 use Rattle.ext_run.specs.declared.words.Common.{Common}

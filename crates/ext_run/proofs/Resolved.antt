@@ -1,9 +1,9 @@
 -- The table that is resolved, cut to its range, is the module's canonical resolution, and the texts are of that.
 use Rattle.std.proofs.Common.{◌≡◌, ℕ, ◌+◌, List, length, take, sym, ◌∙◌, ap, arith}
 use Rattle.std.proofs.lemmas.List.{take-take}
-use Rattle.module_check.specs.Checked.{Checked}
-use Rattle.module_check.specs.Graded.{ModulesAreSteenrodModules}
-use Rattle.module_check.specs.ModuleLaws.{width-below}
+use Rattle.finite_module.specs.Checked.{Checked}
+use Rattle.finite_module.specs.Graded.{ModulesAreSteenrodModules}
+use Rattle.finite_module.specs.ModuleLaws.{width-below}
 use Rattle.resolution_laws.specs.Resolution.{Content, row_of, IsCanonicalTable, generator_count}
 use Rattle.resolution_laws.specs.Exactness.{CanonicalTableIsMinimalResolution}
 use Rattle.square.specs.declared.range.Range.{Range}

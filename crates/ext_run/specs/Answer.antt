@@ -2,11 +2,11 @@
 use Rattle.std.specs.Prelude.{◌≡◌, ℕ, List, length, Option, Some, None, MatchOption, IsOkAnd, Result, Ok, Err, ⊤}
 use Rattle.module_json.specs.ModuleFile.{File, IsFileOf}
 use Rattle.module_json.specs.declared.malformed.Malformed.{Malformed}
-use Rattle.module_check.specs.Module.{Module as SteenrodModule, bottom}
-use Rattle.module_check.specs.DerivedAction.{derived_module, top}
+use Rattle.finite_module.specs.Module.{Module as SteenrodModule, bottom}
+use Rattle.finite_module.specs.DerivedAction.{derived_module, top}
 use Rattle.module_check.specs.Acceptance.{refusal_of}
-use Rattle.module_check.specs.Checked.{sphere_file}
-use Rattle.module_check.specs.Sample.{sample_file}
+use Rattle.finite_module.specs.Checked.{sphere_file}
+use Rattle.finite_module.specs.Sample.{sample_file}
 use Rattle.module_check.specs.declared.fault.CheckFault.{CheckFault}
 use Rattle.ext_run.specs.declared.words.Command.{Command}
 use Rattle.ext_run.specs.declared.words.Command.TheVariants.{Sphere, Resolve, Dump, Check, Sample}

@@ -12,10 +12,10 @@ use Rattle.module_json.specs.declared.malformed.Place.{Place}
 use Rattle.module_json.specs.declared.malformed.Place.TheVariants.{Whole, Kind as AtType, Cofiber, Shift, Prime as AtPrime, Gens as AtGens, Actions as AtActions}
 use Rattle.module_json.specs.declared.malformed.Why.{Why}
 use Rattle.module_json.specs.declared.malformed.Why.TheVariants.{Syntax, SquareZero, Unknown, WrongDegree, Repeated}
-use Rattle.module_check.specs.Text.{name_at}
+use Rattle.finite_module.specs.Text.{name_at}
 use Rattle.module_check.specs.declared.fault.CheckFault.{CheckFault}
 use Rattle.module_check.specs.declared.fault.CheckFault.TheVariants.{Listed, Relation, Memory as NoMemory}
-use Rattle.module_check.specs.Text.{newline}
+use Rattle.finite_module.specs.Text.{newline}
 use Rattle.ext_run.specs.declared.words.WordsFault.{WordsFault}
 use Rattle.ext_run.specs.declared.words.WordsFault.TheVariants.{Words as Outside, Memory as NoSpaceForWords}
 use Rattle.ext_run.specs.declared.failure.Failure.{Failure}

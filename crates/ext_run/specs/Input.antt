@@ -3,8 +3,8 @@ use Rattle.std.specs.Prelude.{◌≡◌, ℕ, ◌+◌, ◌^◌, List, Option, So
 use Rattle.module_json.specs.declared.limits.TheConstants.{MAX_FILE_BYTES}
 use Rattle.module_json.specs.ModuleFile.{File, IsFileOf}
 use Rattle.module_json.specs.declared.malformed.Malformed.{Malformed}
-use Rattle.module_check.specs.Module.{Module as SteenrodModule}
-use Rattle.module_check.specs.DerivedAction.{derived_module}
+use Rattle.finite_module.specs.Module.{Module as SteenrodModule}
+use Rattle.finite_module.specs.DerivedAction.{derived_module}
 use Rattle.module_check.specs.Acceptance.{refusal_of}
 use Rattle.ext_run.specs.declared.failure.Failure.{Failure}
 use Rattle.ext_run.specs.declared.failure.Failure.TheVariants.{Words, Malformed as NoModuleFile, NotModule, Reading, Writing, Memory}

@@ -2,8 +2,8 @@
 ghost use Rattle.std.specs.Prelude.{◌≡◌, ◌≤◌, ◌++◌, OnOk, OnErr};
 ghost use Rattle.edge.specs.Faults.{HasRisen};
 ghost use Rattle.edge.specs.Sink.{HasPrefixMore, with_more};
-ghost use Rattle.module_check.specs.Text.{name_at};
-ghost use Rattle.module_check.specs.Text.{newline};
+ghost use Rattle.finite_module.specs.Text.{name_at};
+ghost use Rattle.finite_module.specs.Text.{newline};
 ghost use Rattle.ext_run.specs.Parts.{part_text, parts_text};
 ghost use Rattle.ext_run.specs.declared.failure.Failure.TheVariants.{Memory as WantOfMemory};
 ghost use Rattle.ext_run.specs.Failure.{what_text, place_text, action_line, malformed_line, fault_line, line_of, status_of, malformed_status, fault_status, words_failure, read_failure, file_failure};

@@ -3,7 +3,7 @@ ghost use Rattle.std.specs.Prelude.{◌≡◌, ◌≢◌, ◌≤◌, None, Some,
 ghost use Rattle.edge.specs.Faults.{HasRisen};
 ghost use Rattle.edge.specs.Source.{without_first, HasGivenUpTo};
 ghost use Rattle.module_check.specs.declared.fault.CheckFault.{CheckFault as Fault};
-ghost use Rattle.module_check.specs.DerivedAction.{derived_module};
+ghost use Rattle.finite_module.specs.DerivedAction.{derived_module};
 ghost use Rattle.module_check.specs.Acceptance.{refusal_of};
 ghost use Rattle.ext_run.specs.Input.{IsFileFrom, IsFileCauseFrom, IsModuleFrom, most_read};
 ghost use Rattle.ext_run.specs.declared.failure.Failure as Failure;

@@ -10,13 +10,14 @@ use Rattle.milnor_basis.specs.Exponents.{degree_of, IsTrimmed}
 use Rattle.milnor_basis.specs.Basis.{basis_of}
 use Rattle.milnor_basis.proofs.BasisLemmas.{Contains-basis_of}
 use Rattle.module_json.specs.ModuleFile.{File, degree_at}
-use Rattle.module_check.specs.Module.{Module, width}
-use Rattle.module_check.specs.DerivedAction.{span, derived_module}
+use Rattle.finite_module.specs.Module.{Module, width}
+use Rattle.finite_module.specs.DerivedAction.{span, derived_module}
 use Rattle.module_json.specs.WellFormed.{NeverFall}
-use Rattle.module_check.specs.Acceptance.{IsModule, one_by_one, by_their_product, first_in, relation_on, relation_of, relation_in_degrees, relation_in_degree, first_relation, listed_from, refusal_of, AcceptedIsModule}
+use Rattle.finite_module.specs.Axioms.{IsModule, one_by_one, by_their_product}
+use Rattle.module_check.specs.Acceptance.{first_in, relation_on, relation_of, relation_in_degrees, relation_in_degree, first_relation, listed_from, refusal_of, AcceptedIsModule}
 use Rattle.module_check.specs.declared.fault.CheckFault.TheVariants.{Relation}
-use Rattle.module_check.proofs.AboveSpan.{width_above_span}
-use Rattle.module_check.proofs.Derived.{derived_widths, derived_identity}
+use Rattle.finite_module.proofs.AboveSpan.{width_above_span}
+use Rattle.finite_module.proofs.Derived.{derived_widths, derived_identity}
 use Rattle.module_check.proofs.FirstIn.{option_or_none}
 use Rattle.module_check.proofs.Sides.{same_vectors, length-one_by_one, length-by_their_product, both_empty}
 

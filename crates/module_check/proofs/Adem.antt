@@ -11,9 +11,9 @@ use Rattle.f2_vec.proofs.Ones.{range_more}
 use Rattle.milnor_basis.specs.Product.{choose, is_odd}
 use Rattle.milnor_basis.proofs.Kummer.{choose_odd, choose-past}
 use Rattle.module_json.specs.ModuleFile.{Generator, Entry, degree_at}
-use Rattle.module_check.specs.Module.{width, total}
-use Rattle.module_check.specs.DerivedAction.{doubled_below, listed_sum, twice, by_adem}
-use Rattle.module_check.proofs.Values.{total_push}
+use Rattle.finite_module.specs.Module.{width, total}
+use Rattle.finite_module.specs.DerivedAction.{doubled_below, listed_sum, twice, by_adem}
+use Rattle.finite_module.proofs.Values.{total_push}
 
 -- ---- binomials mod 2
 

@@ -10,13 +10,13 @@ use Rattle.std.proofs.lemmas.List.{drop_all}
 use Rattle.std.proofs.lemmas.Option.{get_or_from_slice_get, slice_get_within}
 use Rattle.f2_vec.specs.Vectors.{sum_of, IsZero}
 use Rattle.module_json.specs.ModuleFile.{Entry, degree_at}
-use Rattle.module_check.specs.Module.{Module, width, value}
-use Rattle.module_check.specs.DerivedAction.{sum_vector}
+use Rattle.finite_module.specs.Module.{Module, width, value}
+use Rattle.finite_module.specs.DerivedAction.{sum_vector}
 use Rattle.module_check.specs.Acceptance.{is_as_derived, listed_from}
-use Rattle.module_check.specs.Inside.Operators.{HaveWidths}
+use Rattle.finite_module.specs.Operators.{HaveWidths}
 use Rattle.module_check.specs.declared.fault.CheckFault.TheVariants.{Listed}
-use Rattle.module_check.proofs.Widths.{degree_of-single}
-use Rattle.module_check.proofs.Derived.{length-sum_vector}
+use Rattle.finite_module.proofs.Widths.{degree_of-single}
+use Rattle.finite_module.proofs.Derived.{length-sum_vector}
 use Rattle.module_check.proofs.Sides.{same_vectors, same_bits, IsZero-sum_of_same}
 
 -- the entries from k on

@@ -9,9 +9,9 @@ use Rattle.milnor_basis.specs.Exponents.{degree_of, entry, trimmed, IsTrimmed}
 use Rattle.milnor_basis.specs.Product.{product_terms}
 use Rattle.milnor_basis.proofs.ExponentLemmas.{IsTrimmed-tail, entry_past, entry_last, trimmed-same}
 use Rattle.module_json.specs.ModuleFile.{File}
-use Rattle.module_check.specs.Module.{unit}
-use Rattle.module_check.specs.DerivedAction.{front, other_terms, square_value, by_product, derived_operator}
-use Rattle.module_check.proofs.Widths.{degree_of-front, degree_of-single, terms_of_degree}
+use Rattle.finite_module.specs.Module.{unit}
+use Rattle.finite_module.specs.DerivedAction.{front, other_terms, square_value, by_product, derived_operator}
+use Rattle.finite_module.proofs.Widths.{degree_of-front, degree_of-single, terms_of_degree}
 
 -- ---- the front
 

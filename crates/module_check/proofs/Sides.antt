@@ -21,14 +21,16 @@ use Rattle.milnor_basis.specs.Basis.{basis_of}
 use Rattle.milnor_basis.specs.Product.{product_terms}
 use Rattle.milnor_basis.proofs.BasisLemmas.{All-basis_of}
 use Rattle.module_json.specs.ModuleFile.{Generator, degree_at}
-use Rattle.module_check.specs.Module.{Module, generators_in, width, place_of, or_zeros, value, act_on, total}
-use Rattle.module_check.specs.Acceptance.{one_by_one, by_their_product, first_in, relation_on, relation_of, relation_in_degrees, relation_in_degree}
-use Rattle.module_check.specs.Inside.Operators.{HaveWidths}
-use Rattle.module_check.specs.Inside.Relations.{reaches, reaching, value_at, added}
+use Rattle.finite_module.specs.Module.{Module, generators_in, width, place_of, or_zeros, value, act_on, total}
+use Rattle.finite_module.specs.Axioms.{one_by_one, by_their_product}
+use Rattle.module_check.specs.Acceptance.{first_in, relation_on, relation_of, relation_in_degrees, relation_in_degree}
+use Rattle.finite_module.specs.Operators.{HaveWidths}
+use Rattle.finite_module.specs.Operators.{value_at}
+use Rattle.module_check.specs.Inside.Relations.{reaches, reaching, added}
 use Rattle.module_check.specs.declared.fault.CheckFault.TheVariants.{Relation}
-use Rattle.module_check.proofs.Values.{total_push}
+use Rattle.finite_module.proofs.Values.{total_push}
 use Rattle.module_check.proofs.FirstIn.{first_in-filter, first_in_nothing}
-use Rattle.module_check.proofs.Widths.{length-total, length-act_on, terms_of_degree}
+use Rattle.finite_module.proofs.Widths.{length-total, length-act_on, terms_of_degree}
 
 pub same_vectors : (v w : List Bool) → pointwise beq v w ≡ true → v ≡ w
 same_vectors v w h = (pointwise_decides booleans_Decides v w).0 h

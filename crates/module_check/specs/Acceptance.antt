@@ -1,36 +1,18 @@
 -- Which module files describe a module over the Steenrod algebra, and why the others do not.
-use Rattle.std.specs.Prelude.{◌≡◌, ℕ, suc, ◌+◌, ◌-◌, ◌<◌, pos, ◌+ℤ◌, Bool, ◌||◌, if◌then◌else◌, List, [], ◌∷◌, length, map, Option, Some, None}
+use Rattle.std.specs.Prelude.{◌≡◌, ℕ, suc, ◌-◌, pos, ◌+ℤ◌, Bool, ◌||◌, if◌then◌else◌, List, [], ◌∷◌, length, Option, Some, None}
 use Rattle.std.specs.Bool.{beq}
 use Rattle.std.specs.Int.{is_power_of_two}
 use Rattle.std.specs.List.{range_with_len}
 use Rattle.std.specs.Option.{option_or}
 use Rattle.std.specs.Cmp.Lexicographic.{pointwise}
-use Rattle.milnor_basis.specs.Exponents.{degree_of, IsTrimmed}
 use Rattle.milnor_basis.specs.Basis.{basis_of}
-use Rattle.milnor_basis.specs.Product.{product_terms}
 use Rattle.module_json.specs.ModuleFile.{Entry, File, degree_at}
 use Rattle.module_json.specs.WellFormed.{NeverFall}
-use Rattle.module_check.specs.Module.{Module, width, unit, value, act_on, total}
-use Rattle.module_check.specs.DerivedAction.{sum_vector, span, derived_module}
+use Rattle.finite_module.specs.Module.{Module}
+use Rattle.finite_module.specs.Axioms.{IsModule, value_of, one_by_one, by_their_product}
+use Rattle.finite_module.specs.DerivedAction.{sum_vector, span, derived_module}
 use Rattle.module_check.specs.declared.fault.CheckFault.{CheckFault}
 use Rattle.module_check.specs.declared.fault.CheckFault.TheVariants.{Listed, Relation}
-
-abbrev pub value_of : Module → List ℕ → ℕ → List Bool
-value_of m r i = value m.generators m.operators r i
-
--- Sq(R) on Sq(S) on generator i, and the product of the two on it
-abbrev pub one_by_one : Module → List ℕ → List ℕ → ℕ → List Bool
-one_by_one m r s i = act_on m.generators m.operators r (degree_at m.generators i +ℤ pos (degree_of s)) (value_of m s i)
-
-abbrev pub by_their_product : Module → List ℕ → List ℕ → ℕ → List Bool
-by_their_product m r s i = total (width m.generators (degree_at m.generators i +ℤ pos (degree_of r + degree_of s))) (map (λ t. value_of m t i) (product_terms r s))
-
--- The operators make the generators a basis of a module: Sq() is the identity, Sq(R) raises degrees by its own, and
--- Sq(R) on Sq(S) is their product. (With Sq() for R or S the last is the first, since Sq() is the unit of the product.)
-pub record IsModule (m : Module) : Type 0 where
-  pub identity : (i : ℕ) → i < length m.generators → value_of m [] i ≡ unit m.generators i
-  pub widths : (r : List ℕ) (i : ℕ) → length (value_of m r i) ≡ width m.generators (degree_at m.generators i +ℤ pos (degree_of r))
-  pub relations : (r s : List ℕ) (i : ℕ) → IsTrimmed r → IsTrimmed s → 0 < degree_of r → 0 < degree_of s → i < length m.generators → one_by_one m r s i ≡ by_their_product m r s i
 
 -- the first answer that a function gives on a list
 abbrev pub first_in : {A B : Type 0} → (A → Option B) → List A → Option B

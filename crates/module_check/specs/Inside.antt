@@ -1,4 +1,2 @@
--- Words of the contracts of private types and functions.
-pub mod Operators
+-- Words of the contracts of private functions.
 pub mod Relations
-pub mod Plain

@@ -1,9 +1,2 @@
-pub mod Module
-pub mod DerivedAction
 pub mod Acceptance
-pub mod Graded
-pub mod Checked
-pub mod Sample
-pub mod Text
-pub mod ModuleLaws
 pub mod Inside

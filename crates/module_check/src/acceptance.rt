@@ -1,15 +1,13 @@
 //! The check that a module file describes a module over the Steenrod algebra.
 ghost use Rattle.std.specs.Prelude.{◌≡◌, ◌≢◌, ◌^◌, ◌<◌, Some, None, length, IfOk, IfErr, OnOk};
 ghost use Rattle.module_json.specs.WellFormed.{IsWellFormed};
-ghost use Rattle.module_check.specs.DerivedAction.{derived_module};
+ghost use Rattle.finite_module.specs.DerivedAction.{derived_module};
 ghost use Rattle.module_check.specs.Acceptance.{is_as_derived, listed_from, refusal_of};
 
 use crate::derive::derive;
-use crate::exponents::sq;
 use crate::fault::CheckFault;
-use crate::finite_module::Module;
-use crate::operators::Operators;
 use crate::relations::{check_relations, degree_above};
+use finite_module::{Module, Operators, sq};
 use memory::Memory;
 use module_json::Spec;
 use std::alloc::Global;

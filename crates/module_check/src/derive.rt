@@ -5,14 +5,13 @@ ghost use Rattle.milnor_basis.specs.Exponents.{degree_of, entry};
 ghost use Rattle.milnor_basis.specs.Basis.{basis_of};
 ghost use Rattle.module_json.specs.ModuleFile.{degree_at};
 ghost use Rattle.module_json.specs.declared.limits.TheConstants.{MAX_SPAN};
-ghost use Rattle.module_check.specs.Module.{width, unit};
-ghost use Rattle.module_check.specs.DerivedAction.{front, square_value, other_terms, by_product, derived_operator, derived_from, elements, span, derived_module};
+ghost use Rattle.finite_module.specs.Module.{width, unit};
+ghost use Rattle.finite_module.specs.DerivedAction.{front, square_value, other_terms, by_product, derived_operator, derived_from, elements, span, derived_module};
 
-use crate::exponents::{front, rest, sq};
-use crate::generators::Generators;
-use crate::operators::{Operator, Operators};
+use crate::exponents::{front, rest};
 use crate::sq_n::square_value;
 use f2_vec::BitVec;
+use finite_module::{Generators, Operator, Operators, sq};
 use memory::Memory;
 use milnor_basis::{Basis, Exps, terms};
 use module_json::Spec;

@@ -1,18 +1,9 @@
-//! Exponent lists: that of Sq^n, and the first number of a list and those behind it.
-ghost use Rattle.std.specs.Prelude.{◌≡◌, ◌<◌, ◌^◌, [], ◌∷◌, length, drop};
+//! The first number of an exponent list and those behind it.
+ghost use Rattle.std.specs.Prelude.{◌≡◌, ◌<◌, ◌^◌, length, drop};
 ghost use Rattle.milnor_basis.specs.Exponents.{degree_of};
-ghost use Rattle.module_check.specs.DerivedAction.{front};
+ghost use Rattle.finite_module.specs.DerivedAction.{front};
 
 use milnor_basis::Exps;
-
-/// Sq^n.
-#[tactic(auto, using(crate::proofs::TextSteps::trimmed_square))]
-pub(crate) fn sq(n: u16) -> Exps
-    requires { 0 < n }
-    ensures { result ≡ n ∷ [] }
-{
-    Exps::of([n, 0, 0, 0, 0, 0, 0, 0])
-}
 
 /// The n for which Sq(R) is a term of the product of Sq^n and Sq(r2, r3, ..): r1 + 2 r2 + 4 r3 + ..
 pub(crate) fn front(r: &Exps) -> u16

@@ -2,12 +2,11 @@
 ghost use Rattle.std.specs.Prelude.{◌≡◌, ◌<◌, ◌+◌, ◌^◌, pos, ◌+ℤ◌, length, IfOk};
 ghost use Rattle.milnor_basis.specs.Product.{choose, is_odd};
 ghost use Rattle.module_json.specs.ModuleFile.{degree_at};
-ghost use Rattle.module_check.specs.Module.{width};
-ghost use Rattle.module_check.specs.DerivedAction.{listed_sum, power_below, twice, by_adem, square_value};
+ghost use Rattle.finite_module.specs.Module.{width};
+ghost use Rattle.finite_module.specs.DerivedAction.{listed_sum, power_below, twice, by_adem, square_value};
 
-use crate::exponents::sq;
-use crate::operators::Operators;
 use f2_vec::BitVec;
+use finite_module::{Operators, sq};
 use memory::Memory;
 use module_json::Spec;
 use std::alloc::Global;

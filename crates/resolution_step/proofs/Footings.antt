@@ -11,8 +11,8 @@ use Rattle.f2_matrix.proofs.Unique.{kernel_basis_unique}
 use Rattle.free_module.specs.FreeModule.{free_width}
 use Rattle.free_module.specs.Graded.{GradedModule, HasUnit}
 use Rattle.free_module.specs.LinearMap.{AreImages, map_rows}
-use Rattle.module_check.specs.Module.{width}
-use Rattle.module_check.specs.Checked.{Checked}
+use Rattle.finite_module.specs.Module.{width}
+use Rattle.finite_module.specs.Checked.{Checked}
 use Rattle.resolution_laws.specs.Resolution.{Content, no_content, square_in, degrees_from, images_of, target_over, candidates_over, IsChosen, IsStepOver}
 use Rattle.resolution_laws.specs.Start.{squares_below, row_below, IsOf}
 use Rattle.resolution_laws.proofs.Generators.{AreImages-row}

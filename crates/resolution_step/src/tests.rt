@@ -5,7 +5,7 @@ ghost use Rattle.square.specs.declared.range.TheConstants.{MAX_S, MAX_T};
 use crate::{resolve_alone, step};
 use f2_vec::BitVec;
 use memory::Memory;
-use module_check::Module;
+use finite_module::Module;
 use square::{KeepFault, MemKeep, NoKeep, Range, Table};
 use std::alloc::Global;
 use std::test::Fail;

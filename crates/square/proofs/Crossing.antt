@@ -4,7 +4,7 @@ use Rattle.std.proofs.Crossing.{crosses}
 use Rattle.f2_vec.proofs.Crossing.{BitVec-send, BitVec-sync}
 use Rattle.f2_matrix.proofs.Crossing.{Reduced-send, Reduced-sync}
 use Rattle.milnor_basis.proofs.Crossing.{Basis-send, Basis-sync}
-use Rattle.module_check.proofs.Crossing.{Module-send, Module-sync}
+use Rattle.finite_module.proofs.Crossing.{Module-send, Module-sync}
 use Rattle.start.proofs.Sent.{Start-send, Start-sync}
 use Rattle.square.specs.contracts.kernel.Kernel as Kernel
 use Rattle.square.specs.contracts.square.Square as Square

@@ -7,7 +7,7 @@ use Rattle.f2_matrix.specs.Reduction.{Reduction}
 use Rattle.f2_matrix.proofs.Parts.{kernel_is_kernel_basis}
 use Rattle.f2_matrix.proofs.Unique.{kernel_basis_unique}
 use Rattle.free_module.specs.FreeModule.{free_basis}
-use Rattle.module_check.specs.Checked.{Checked}
+use Rattle.finite_module.specs.Checked.{Checked}
 use Rattle.resolution_laws.specs.Resolution.{Module, Content, square_in, IsStep}
 use Rattle.resolution_laws.specs.Start.{Entry, entry_at, HasShape, squares_below, row_below, IsOf, is_of}
 use Rattle.resolution_laws.proofs.StartLaws.{squares_below-take}

@@ -3,8 +3,8 @@ use Rattle.std.proofs.Common.{◌≡◌, ℕ, zero, suc, ◌+◌, ◌<◌, ◌�
 use Rattle.std.specs.List.{slice_get}
 use Rattle.std.proofs.lemmas.Int.{ints}
 use Rattle.std.proofs.lemmas.List.{length-map, length-take-le, get_or-take, take-map}
-use Rattle.module_check.specs.Module.{width}
-use Rattle.module_check.specs.Checked.{Checked}
+use Rattle.finite_module.specs.Module.{width}
+use Rattle.finite_module.specs.Checked.{Checked}
 use Rattle.resolution_laws.specs.Resolution.{Content, square_in, row_of, below_of, degrees_from, IsStep}
 use Rattle.resolution_laws.specs.Start.{Entry, entry_at, HasShape, squares_below, row_below, IsOf, is_of}
 use Rattle.resolution_laws.proofs.StartLaws.{squares_below-take, grown_content, entry_at-new}

@@ -5,11 +5,11 @@ use Rattle.f2_vec.specs.Spans.{row, HaveWidth, combination, unit_vectors, IsInSp
 use Rattle.f2_vec.proofs.Split.{HaveWidth-unit_vectors}
 use Rattle.f2_matrix.specs.Echelon.{IsKernelBasis}
 use Rattle.f2_matrix.specs.Reduction.{Rows, Reduction, IsReductionOf}
-use Rattle.module_check.specs.Checked.{Checked, sphere_file}
-use Rattle.module_check.specs.DerivedAction.{derived_module}
-use Rattle.module_check.specs.Module.{Module as SteenrodModule, bottom, width}
-use Rattle.module_check.specs.Graded.{module_graded}
-use Rattle.module_check.specs.ModuleLaws.{module_HasUnit}
+use Rattle.finite_module.specs.Checked.{Checked, sphere_file}
+use Rattle.finite_module.specs.DerivedAction.{derived_module}
+use Rattle.finite_module.specs.Module.{Module as SteenrodModule, bottom, width}
+use Rattle.finite_module.specs.Graded.{module_graded}
+use Rattle.finite_module.specs.ModuleLaws.{module_HasUnit}
 use Rattle.resolution_laws.specs.Resolution.{Content, IsChosen, IsStep}
 use Rattle.resolution_laws.proofs.NewGenerators.{map_rows-new, IsStepOver_from_choice}
 use Rattle.square.specs.Squares.{square_matrix, IsQuasi, over, bottom_of}

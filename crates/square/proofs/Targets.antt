@@ -4,8 +4,8 @@ use Rattle.std.specs.List.{slice_get}
 use Rattle.std.proofs.lemmas.Bool.{cases_lt}
 use Rattle.std.proofs.lemmas.List.{take_all, length-map}
 use Rattle.free_module.specs.Graded.{free_graded}
-use Rattle.module_check.specs.Graded.{module_graded}
-use Rattle.module_check.specs.Checked.{Checked}
+use Rattle.finite_module.specs.Graded.{module_graded}
+use Rattle.finite_module.specs.Checked.{Checked}
 use Rattle.resolution_laws.specs.Resolution.{Content, square_in, row_of, degrees_from, images_of, target_over}
 use Rattle.square.specs.declared.range.TheConstants.{MAX_S, MAX_T}
 use Rattle.square.specs.Squares.{Placed, content_of, over, bottom_of}

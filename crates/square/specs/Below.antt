@@ -3,8 +3,8 @@ use Rattle.std.specs.Prelude.{ℕ, ℤ}
 use Rattle.free_module.specs.Inside.FreeLaws.{free_HasUnit, free_KeepsWidths}
 use Rattle.free_module.specs.FreeModule.{IsWithinReach}
 use Rattle.free_module.specs.Graded.{GradedModule, HasUnit, KeepsWidths, free_graded}
-use Rattle.module_check.specs.Graded.{module_graded}
-use Rattle.module_check.specs.ModuleLaws.{module_HasUnit, module_KeepsWidths}
+use Rattle.finite_module.specs.Graded.{module_graded}
+use Rattle.finite_module.specs.ModuleLaws.{module_HasUnit, module_KeepsWidths}
 use Rattle.square.specs.declared.below.Below.{Below}
 use Rattle.square.specs.declared.below.Below.TheVariants.{Module, Row}
 

@@ -3,9 +3,9 @@ use Rattle.std.specs.Prelude.{◌≡◌, ℕ, suc, ◌<◌, ◌≤◌, ℤ, pos,
 use Rattle.f2_matrix.specs.Reduction.{Reduction, IsReductionOf}
 use Rattle.free_module.specs.FreeModule.{free_width}
 use Rattle.free_module.specs.LinearMap.{map_rows}
-use Rattle.module_check.specs.Module.{Module as SteenrodModule, bottom}
-use Rattle.module_check.specs.Graded.{module_graded}
-use Rattle.module_check.specs.Checked.{Checked}
+use Rattle.finite_module.specs.Module.{Module as SteenrodModule, bottom}
+use Rattle.finite_module.specs.Graded.{module_graded}
+use Rattle.finite_module.specs.Checked.{Checked}
 use Rattle.resolution_laws.specs.Resolution.{Module, Content, degrees_from, images_of, target_over}
 use Rattle.resolution_laws.specs.Start.{Entry, entry_at, squares_below, row_below, IsOf}
 use Rattle.square.specs.declared.range.TheConstants.{MAX_S, MAX_T}

@@ -3,7 +3,7 @@ use Rattle.std.specs.Prelude.{◌≡◌, ℕ, zero, suc, ◌+◌, ◌*◌, ◌^�
 use Rattle.degrees.specs.Above.{above_of}
 use Rattle.milnor_basis.specs.Basis.{basis_of}
 use Rattle.f2_matrix.specs.Reduction.{Reduction}
-use Rattle.module_check.specs.Checked.{Checked}
+use Rattle.finite_module.specs.Checked.{Checked}
 use Rattle.resolution_laws.specs.Resolution.{Content, square_in, row_of, below_of}
 use Rattle.resolution_laws.specs.Start.{Entry, entry_at, HasShape, IsOf}
 use Rattle.square.specs.declared.range.Range.{Range}

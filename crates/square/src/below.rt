@@ -5,7 +5,7 @@ use f2_vec::BitVec;
 use free_module::{Gens, Target};
 use memory::Memory;
 use milnor_basis::{Basis, Exps};
-use module_check::Module;
+use finite_module::Module;
 use std::alloc::Global;
 
 /// The target of d_s: the module for row 0, and for a row above it the free module on generators of the row below.

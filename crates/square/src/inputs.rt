@@ -1,6 +1,6 @@
 ghost use Rattle.std.specs.Prelude.{◌≡◌, ◌+ℤ◌, pos, option_map, ℕ, ◌≤◌, IfOk, IfSome};
 ghost use Rattle.std.specs.Arc.{arc_value};
-ghost use Rattle.module_check.specs.Module.{bottom};
+ghost use Rattle.finite_module.specs.Module.{bottom};
 ghost use Rattle.resolution_laws.specs.Resolution.{degrees_from, images_of, square_in, target_over};
 ghost use Rattle.square.specs.Below.{graded_of, reaches_of};
 ghost use Rattle.square.specs.declared.range.TheConstants.{MAX_T};
@@ -16,7 +16,7 @@ use f2_vec::BitVec;
 use free_module::Gens;
 use memory::Memory;
 use milnor_basis::Basis;
-use module_check::Module;
+use finite_module::Module;
 use start::Start;
 use std::alloc::Global;
 use std::marker::Model;
@@ -39,7 +39,7 @@ pub struct Inputs {
 impl Model for Inputs {
     ghost use Rattle.std.specs.Prelude.{◌≡◌, ◌+ℤ◌, ℕ, suc, pos};
     ghost use Rattle.std.specs.Arc.{arc_value};
-    ghost use Rattle.module_check.specs.Module.{bottom};
+    ghost use Rattle.finite_module.specs.Module.{bottom};
     ghost use Rattle.square.specs.Tables.{Footing};
 
     ghost Value = { Footing };

@@ -9,7 +9,7 @@ use crate::table::Table;
 use f2_matrix::{Reduced, Rows};
 use f2_vec::BitVec;
 use memory::Memory;
-use module_check::Module;
+use finite_module::Module;
 use start::Start;
 use std::alloc::Global;
 use std::marker::Model;

@@ -1,6 +1,6 @@
 ghost use Rattle.std.specs.Prelude.{◌≡◌, ℕ, suc, ◌≤◌, ◌<◌, ◌+◌, ◌^◌, ◌+ℤ◌, ◌≤ℤ◌, pos, [], map, take, length, replicate, Some, option_map, SomeIff, IsSome, IfOk, IfErr, OnOk, OnErr, IsOk};
 ghost use Rattle.std.specs.Arc.{arc_value};
-ghost use Rattle.module_check.specs.Module.{bottom};
+ghost use Rattle.finite_module.specs.Module.{bottom};
 ghost use Rattle.f2_matrix.specs.Reduction.{IsReductionOf};
 ghost use Rattle.free_module.specs.FreeModule.{IsWithinReach};
 ghost use Rattle.free_module.specs.LinearMap.{AreImages, map_rows};
@@ -22,7 +22,7 @@ use free_hom::Hom;
 use free_module::{Gens, Target};
 use memory::Memory;
 use milnor_basis::Basis;
-use module_check::Module;
+use finite_module::Module;
 use start::Start;
 use std::alloc::Global;
 use std::marker::Model;

@@ -1,13 +1,13 @@
 //! What no clause says: that there is memory for each call. The first square of the sphere, worked by hand, and keepers of it.
 ghost use Rattle.std.specs.Prelude.{◌≡◌, true, [], ◌∷◌, None, IfOk};
-ghost use Rattle.module_check.specs.DerivedAction.{derived_module};
-ghost use Rattle.module_check.specs.Checked.{sphere_file};
+ghost use Rattle.finite_module.specs.DerivedAction.{derived_module};
+ghost use Rattle.finite_module.specs.Checked.{sphere_file};
 
 use crate::{Inputs, Keep, KeepFault, MemKeep, NoKeep, Range, Square, Table};
 use f2_matrix::{Matrix, Reduced};
 use f2_vec::BitVec;
 use memory::Memory;
-use module_check::Module;
+use finite_module::Module;
 use std::alloc::Global;
 use std::sync::Arc;
 use std::test::Fail;

@@ -2,8 +2,8 @@
 use Rattle.std.specs.Prelude.{◌≡◌, ℕ, ◌≤◌, ℤ, pos, ◌+ℤ◌, Bool, List, length}
 use Rattle.free_module.specs.FreeModule.{IsWithinReach, free_width}
 use Rattle.module_json.specs.ModuleFile.{Generator}
-use Rattle.module_check.specs.Module.{bottom, width}
-use Rattle.module_check.specs.Text.{sum_text}
+use Rattle.finite_module.specs.Module.{bottom, width}
+use Rattle.finite_module.specs.Text.{sum_text}
 use Rattle.resolution_laws.specs.Resolution.{Content}
 use Rattle.square.specs.declared.range.TheConstants.{MAX_T}
 use Rattle.ext_chart.specs.declared.named_target.NamedTarget.{NamedTarget}

@@ -1,9 +1,9 @@
 -- How relations are looked at: only on generators that have others as far above them, and by the places of operators.
-use Rattle.std.specs.Prelude.{ℕ, pos, ◌+ℤ◌, Bool, nat_lt, List, length, filter, Option, Some, None, option_and_then, slice_get}
+use Rattle.std.specs.Prelude.{ℕ, pos, ◌+ℤ◌, Bool, nat_lt, List, length, filter, Option, Some, None}
 use Rattle.std.specs.List.{range_with_len}
 use Rattle.f2_vec.specs.Vectors.{sum_of}
 use Rattle.module_json.specs.ModuleFile.{Generator, degree_at}
-use Rattle.module_check.specs.Module.{width}
+use Rattle.finite_module.specs.Module.{width}
 
 -- whether there are generators n degrees above generator i
 abbrev pub reaches : List Generator → ℕ → ℕ → Bool
@@ -12,10 +12,6 @@ reaches gs n i = nat_lt 0 (width gs (degree_at gs i +ℤ pos n))
 -- the numbers of the generators that have others n degrees above them
 abbrev pub reaching : List Generator → ℕ → List ℕ
 reaching gs n = filter (reaches gs n) (range_with_len 0 (length gs))
-
--- what the operator at a place has on generator i
-abbrev pub value_at : List (List (List Bool)) → ℕ → ℕ → Option (List Bool)
-value_at operators i p = option_and_then (λ values. slice_get values i) (slice_get operators p)
 
 -- a vector with what is there added
 abbrev pub added : List Bool → Option (List Bool) → List Bool

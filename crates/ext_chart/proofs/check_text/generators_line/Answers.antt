@@ -2,7 +2,7 @@ use Rattle.std.proofs.Common.{◌≡◌, ℕ, ℤ, List, ◌++◌, w32, to_z, of
 use Rattle.std.proofs.lemmas.Int.{to_z-of_z}
 use Rattle.std.proofs.lemmas.List.{append_assoc}
 use Rattle.std.specs.Prelude.{codes, decimal}
-use Rattle.module_check.specs.Text.{newline}
+use Rattle.finite_module.specs.Text.{newline}
 use Rattle.ext_chart.specs.Check.{degrees_text}
 use Rattle.ext_chart.proofs.check_text.generators_line.Goals as goal
 

@@ -2,7 +2,7 @@ use Rattle.std.proofs.Common.{ℕ, ℤ, pos, ◌+ℤ◌, Bool, List, w32, ◌∙
 use Rattle.std.proofs.lemmas.Int.{to_z-of_z}
 use Rattle.std.proofs.lemmas.Result.{IfOk-weaker}
 use Rattle.f2_vec.specs.Spans.{HaveWidth}
-use Rattle.module_check.specs.Module.{bottom}
+use Rattle.finite_module.specs.Module.{bottom}
 use Rattle.square.specs.Tables.{plain_rows}
 use Rattle.ext_chart.specs.Dump.{square_lines, image_text}
 use Rattle.ext_chart.specs.Inside.Targets.{text_over, width_over}

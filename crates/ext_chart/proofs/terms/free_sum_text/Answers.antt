@@ -1,7 +1,7 @@
 use Rattle.std.proofs.Common.{◌≡◌, ◌<◌, length, map, take, get_or, to_z, of_z, w32, ◌∙◌, arith}
 use Rattle.std.proofs.lemmas.Int.{ints}
-use Rattle.module_check.specs.Text.{joined_by_plus}
-use Rattle.module_check.proofs.TextSteps.{joined_by_plus-first, joined_by_plus-next}
+use Rattle.finite_module.specs.Text.{joined_by_plus}
+use Rattle.finite_module.proofs.TextSteps.{joined_by_plus-first, joined_by_plus-next}
 use Rattle.ext_chart.proofs.DumpSteps.{text_at, joined-ones}
 use Rattle.ext_chart.proofs.terms.free_sum_text.Goals as goal
 use Rattle.ext_chart.proofs.terms.free_sum_text.Goals.{then-k-gt0+in_ok-extend_from_slice, else-k-gt0}

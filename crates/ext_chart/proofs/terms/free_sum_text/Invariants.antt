@@ -1,5 +1,5 @@
 use Rattle.std.proofs.Common.{◌≡◌, map, take}
-use Rattle.module_check.specs.Text.{joined_by_plus}
+use Rattle.finite_module.specs.Text.{joined_by_plus}
 use Rattle.ext_chart.proofs.DumpSteps.{text_at}
 use Rattle.ext_chart.proofs.terms.free_sum_text.Given as goal
 

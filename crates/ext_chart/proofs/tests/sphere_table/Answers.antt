@@ -1,6 +1,6 @@
 use Rattle.std.proofs.Common.{◌≡◌, w32, ◌∙◌, sym, ap, subst, inr}
 use Rattle.std.proofs.lemmas.Int.{to_z-of_z}
-use Rattle.module_check.specs.Checked.{Checked}
+use Rattle.finite_module.specs.Checked.{Checked}
 use Rattle.square.specs.Tables.{Staircase, IsContinued}
 use Rattle.ext_chart.proofs.SphereTable.{first_content, first_readable, first_read}
 use Rattle.ext_chart.proofs.tests.sphere_table.Goals as goal

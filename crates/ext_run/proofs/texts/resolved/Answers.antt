@@ -1,5 +1,5 @@
 use Rattle.std.proofs.Common.{◌≡◌, [], IfOk, ap, sym, subst}
-use Rattle.module_check.specs.Checked.{Checked}
+use Rattle.finite_module.specs.Checked.{Checked}
 use Rattle.resolution_laws.specs.Resolution.{IsCanonicalTable}
 use Rattle.square.specs.Squares.{over}
 use Rattle.square.specs.Tables.{plain_rows}

@@ -2,8 +2,8 @@ use Rattle.std.proofs.Common.{◌≡◌, [], ◌∷◌, pos, ◌+ℤ◌, to_z, o
 use Rattle.std.proofs.lemmas.Int.{to_z-of_z}
 use Rattle.f2_vec.specs.Vectors.{sum_of}
 use Rattle.module_json.specs.ModuleFile.{degree_at}
-use Rattle.module_check.specs.Module.{value}
-use Rattle.module_check.specs.DerivedAction.{sum_vector}
+use Rattle.finite_module.specs.Module.{value}
+use Rattle.finite_module.specs.DerivedAction.{sum_vector}
 use Rattle.module_check.proofs.Entries.{as_derived}
 use Rattle.module_check.proofs.acceptance.is_as_derived.Goals as goal
 

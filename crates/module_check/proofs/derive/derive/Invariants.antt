@@ -1,6 +1,6 @@
 -- The operators of the degrees below n.
 use Rattle.std.proofs.Common.{◌≡◌, []}
-use Rattle.module_check.specs.DerivedAction.{derived_from, elements}
+use Rattle.finite_module.specs.DerivedAction.{derived_from, elements}
 use Rattle.module_check.proofs.derive.derive.Given as goal
 
 abbrev pub invariant-loop-n : goal.invariant-loop-n

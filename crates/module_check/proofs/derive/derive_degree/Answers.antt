@@ -1,8 +1,8 @@
 use Rattle.std.proofs.Common.{◌≡◌, ◌+◌, ◌<◌, ◌∷◌, ◌++◌, [], length, get_or, slice_get, Some, EachIndex, ap, sym, subst, ◌∙◌, arith}
 use Rattle.milnor_basis.specs.Basis.{basis_of}
-use Rattle.module_check.specs.DerivedAction.{elements, span}
-use Rattle.module_check.proofs.Values.{width_of}
-use Rattle.module_check.proofs.Derivation.{derived_to_more, derived_to_all, next_element, element_own}
+use Rattle.finite_module.specs.DerivedAction.{elements, span}
+use Rattle.finite_module.proofs.Values.{width_of}
+use Rattle.finite_module.proofs.Derivation.{derived_to_more, derived_to_all, next_element, element_own}
 use Rattle.module_check.proofs.derive.derive_degree.Goals as goal
 
 pub derived_operator-requires-clause-degree : goal.derived_operator-requires-clause-degree

@@ -1,6 +1,6 @@
 -- The operators of the first elements of degree n stand behind those of lower degrees.
 use Rattle.std.proofs.Common.{◌≡◌}
-use Rattle.module_check.proofs.Derivation.{derived_to}
+use Rattle.finite_module.proofs.Derivation.{derived_to}
 use Rattle.module_check.proofs.derive.derive_degree.Given as goal
 
 abbrev pub invariant-loop-k : goal.invariant-loop-k

@@ -2,12 +2,12 @@ use Rattle.std.proofs.Common.{◌≡◌, [], map, length, get_or, drop, EachInde
 use Rattle.std.specs.List.{range_with_len}
 use Rattle.milnor_basis.specs.Exponents.{entry}
 use Rattle.milnor_basis.proofs.ExponentLemmas.{entry_last}
-use Rattle.module_check.specs.Module.{unit}
-use Rattle.module_check.specs.DerivedAction.{square_value, by_product, derived_operator}
-use Rattle.module_check.specs.Inside.Operators.{HaveWidths}
-use Rattle.module_check.proofs.Values.{width_of}
+use Rattle.finite_module.specs.Module.{unit}
+use Rattle.finite_module.specs.DerivedAction.{square_value, by_product, derived_operator}
+use Rattle.finite_module.specs.Operators.{HaveWidths}
+use Rattle.finite_module.proofs.Values.{width_of}
 use Rattle.module_check.proofs.Fronts.{operator_of_none, operator_of_one, operator_of_more}
-use Rattle.module_check.proofs.Derivation.{derived_widths_of, if_ok_is}
+use Rattle.finite_module.proofs.Derivation.{derived_widths_of, if_ok_is}
 use Rattle.module_check.proofs.derive.derived_operator.Goals as goal
 
 pub returns-in-0-clause-operator : goal.returns-in-0-clause-operator

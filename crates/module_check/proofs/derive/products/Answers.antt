@@ -1,7 +1,7 @@
 use Rattle.std.proofs.Common.{drop, ap, ◌∙◌}
 use Rattle.milnor_basis.specs.Exponents.{entry}
-use Rattle.module_check.specs.DerivedAction.{by_product}
-use Rattle.module_check.proofs.Values.{one_value_more}
+use Rattle.finite_module.specs.DerivedAction.{by_product}
+use Rattle.finite_module.proofs.Values.{one_value_more}
 use Rattle.module_check.proofs.derive.products.Goals as goal
 
 pub loop-i-preserved : goal.loop-i-preserved

@@ -2,7 +2,7 @@
 use Rattle.std.proofs.Common.{◌≡◌, map, drop}
 use Rattle.std.specs.List.{range_with_len}
 use Rattle.milnor_basis.specs.Exponents.{entry}
-use Rattle.module_check.specs.DerivedAction.{by_product}
+use Rattle.finite_module.specs.DerivedAction.{by_product}
 use Rattle.module_check.proofs.derive.products.Given as goal
 
 abbrev pub invariant-loop-i : goal.invariant-loop-i

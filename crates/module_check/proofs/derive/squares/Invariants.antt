@@ -1,7 +1,7 @@
 -- The values on the first generators.
 use Rattle.std.proofs.Common.{◌≡◌, map}
 use Rattle.std.specs.List.{range_with_len}
-use Rattle.module_check.specs.DerivedAction.{square_value}
+use Rattle.finite_module.specs.DerivedAction.{square_value}
 use Rattle.module_check.proofs.derive.squares.Given as goal
 
 abbrev pub invariant-loop-i : goal.invariant-loop-i

@@ -1,5 +1,5 @@
-use Rattle.module_check.specs.Module.{unit}
-use Rattle.module_check.proofs.Values.{one_value_more}
+use Rattle.finite_module.specs.Module.{unit}
+use Rattle.finite_module.proofs.Values.{one_value_more}
 use Rattle.module_check.proofs.derive.units.Goals as goal
 
 pub loop-i-preserved : goal.loop-i-preserved

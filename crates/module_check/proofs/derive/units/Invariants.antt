@@ -1,7 +1,7 @@
 -- The values on the first generators.
 use Rattle.std.proofs.Common.{◌≡◌, map}
 use Rattle.std.specs.List.{range_with_len}
-use Rattle.module_check.specs.Module.{unit}
+use Rattle.finite_module.specs.Module.{unit}
 use Rattle.module_check.proofs.derive.units.Given as goal
 
 abbrev pub invariant-loop-i : goal.invariant-loop-i

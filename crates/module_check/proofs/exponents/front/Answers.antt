@@ -1,5 +1,5 @@
 use Rattle.std.proofs.Common.{◌≡◌, suc, ◌-◌, drop, ap, ◌∙◌, arith}
-use Rattle.module_check.specs.DerivedAction.{front}
+use Rattle.finite_module.specs.DerivedAction.{front}
 use Rattle.module_check.proofs.Fronts.{front_at, front_small, positive_front}
 use Rattle.module_check.proofs.exponents.front.Goals as goal
 

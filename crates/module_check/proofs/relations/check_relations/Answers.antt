@@ -2,7 +2,7 @@ use Rattle.std.proofs.Common.{◌≡◌, ◌+◌, ◌-◌, inl, inr, ap, sym, �
 use Rattle.std.proofs.lemmas.Bool.{cases_lt}
 use Rattle.std.specs.List.{range_with_len}
 use Rattle.std.proofs.lemmas.Result.{err_from_is_err_and}
-use Rattle.module_check.specs.DerivedAction.{span}
+use Rattle.finite_module.specs.DerivedAction.{span}
 use Rattle.module_check.specs.Acceptance.{first_in, relation_in_degree}
 use Rattle.module_check.proofs.FirstIn.{first_in_range_more, first_in_range_found}
 use Rattle.module_check.proofs.relations.check_relations.Goals.{else-loop-n-test, then-loop-n-test+in_ok-check_degree+else-n-n-end}

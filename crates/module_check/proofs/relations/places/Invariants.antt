@@ -1,5 +1,5 @@
 use Rattle.std.proofs.Common.{◌≡◌, Some, map, take}
-use Rattle.module_check.specs.Module.{place_of}
+use Rattle.finite_module.specs.Module.{place_of}
 use Rattle.module_check.proofs.relations.places.Given as goal
 
 abbrev pub invariant-loop-r : goal.invariant-loop-r

@@ -2,7 +2,7 @@ use Rattle.std.proofs.Common.{◌≡◌, ◌+◌, ◌-◌, ◌*◌, pos, ◌+ℤ
 use Rattle.f2_vec.proofs.Sums.{length-sum_of, sum_of-zeros_right}
 use Rattle.milnor_basis.specs.Product.{choose, is_odd}
 use Rattle.module_json.specs.ModuleFile.{degree_at}
-use Rattle.module_check.specs.Module.{width}
+use Rattle.finite_module.specs.Module.{width}
 use Rattle.module_check.proofs.Adem.{adem_yes, adem_no, adem_all}
 use Rattle.module_check.proofs.sq_n.by_adem.Goals as goal
 use Rattle.module_check.proofs.sq_n.by_adem.Goals.{then-is_odd_choice+in_ok-term, else-is_odd_choice}

@@ -1,6 +1,6 @@
 -- No entry before the k-th is the one that is looked for.
 use Rattle.std.proofs.Common.{◌≡◌, drop}
-use Rattle.module_check.specs.DerivedAction.{listed_sum}
+use Rattle.finite_module.specs.DerivedAction.{listed_sum}
 use Rattle.module_check.proofs.sq_n.listed.Given as goal
 
 abbrev pub invariant-loop-k : goal.invariant-loop-k

@@ -1,5 +1,5 @@
 use Rattle.std.proofs.Common.{◌≡◌, ◌*◌, ap, ◌∙◌, arith}
-use Rattle.module_check.specs.DerivedAction.{doubled_below}
+use Rattle.finite_module.specs.DerivedAction.{doubled_below}
 use Rattle.module_check.proofs.Adem.{doubled_step}
 use Rattle.module_check.proofs.sq_n.power_below.Goals as goal
 

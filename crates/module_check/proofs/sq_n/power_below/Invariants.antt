@@ -1,6 +1,6 @@
 -- The power so far leads to the greatest one below n.
 use Rattle.std.proofs.Common.{◌≡◌, ◌-◌, ◌<◌}
-use Rattle.module_check.specs.DerivedAction.{doubled_below, power_below}
+use Rattle.finite_module.specs.DerivedAction.{doubled_below, power_below}
 use Rattle.module_check.proofs.sq_n.power_below.Given as goal
 
 abbrev pub invariant-loop-power : goal.invariant-loop-power

@@ -2,8 +2,8 @@ use Rattle.std.proofs.Common.{◌≡◌, ℕ, ◌+◌, pos, ◌+ℤ◌, Bool, Li
 use Rattle.std.proofs.lemmas.Int.{ints}
 use Rattle.milnor_basis.specs.Exponents.{degree_of}
 use Rattle.module_json.specs.ModuleFile.{degree_at}
-use Rattle.module_check.specs.Module.{width, act_on}
-use Rattle.module_check.proofs.Widths.{length-act_on, degree_of-single}
+use Rattle.finite_module.specs.Module.{width, act_on}
+use Rattle.finite_module.proofs.Widths.{length-act_on, degree_of-single}
 use Rattle.module_check.proofs.sq_n.twice.Goals as goal
 
 length_if : {E : Type 0} (result : Result (List Bool) E) (v : List Bool) (n : ℕ) → length v ≡ n → IfOk result (λ w. w ≡ v) → IfOk result (λ w. length w ≡ n)

@@ -1,7 +1,7 @@
 use Rattle.std.proofs.Common.{◌≡◌, ◌+◌, ◌<◌, ◌≤◌, ℕ, length, refl, sym, ◌∙◌, ap, arith, inr}
 use Rattle.std.proofs.lemmas.Int.{ints}
-use Rattle.module_check.specs.Module.{bottom}
-use Rattle.module_check.specs.Checked.{Checked}
+use Rattle.finite_module.specs.Module.{bottom}
+use Rattle.finite_module.specs.Checked.{Checked}
 use Rattle.square.specs.Tables.{row_in}
 use Rattle.resolution_step.specs.Inside.Adding.{IsEndOf, IsInRow}
 use Rattle.resolution_step.proofs.Pushes.{length-IsMore}

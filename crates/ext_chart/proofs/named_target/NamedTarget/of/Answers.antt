@@ -1,7 +1,7 @@
 use Rattle.std.proofs.Common.{ap, sym, ◌∙◌, arith, ◌-◌}
-use Rattle.module_check.specs.Checked.{Checked}
-use Rattle.module_check.specs.Module.{width}
-use Rattle.module_check.specs.Text.{sum_text}
+use Rattle.finite_module.specs.Checked.{Checked}
+use Rattle.finite_module.specs.Module.{width}
+use Rattle.finite_module.specs.Text.{sum_text}
 use Rattle.square.specs.Tables.{plain_rows}
 use Rattle.ext_chart.specs.Dump.{image_text, image_width}
 use Rattle.ext_chart.proofs.Targets.{row_target}

@@ -4,8 +4,8 @@ use mir.Val.{SFits}
 use Rattle.module_json.specs.ModuleFile.{Generator, degree_at}
 use Rattle.milnor_basis.specs.Exponents.{degree_of}
 use Rattle.f2_vec.specs.Vectors.{sum_of}
-use Rattle.module_check.specs.Module.{width, act_on}
-use Rattle.module_check.specs.Acceptance.{one_by_one}
+use Rattle.finite_module.specs.Module.{width, act_on}
+use Rattle.finite_module.specs.Axioms.{one_by_one}
 use Rattle.module_check.proofs.Sides.{one_by_one_width, one_by_one_none, one_by_one_zero, value_is_wide, one_by_one_is}
 use Rattle.module_check.proofs.relations.Pair.add_one_by_one.Goals.{In_ok-image}
 use Rattle.module_check.proofs.relations.Pair.add_one_by_one.Goals as goal

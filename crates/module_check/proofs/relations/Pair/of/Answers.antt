@@ -2,7 +2,7 @@ use Rattle.std.proofs.Common.{◌∙◌, ◌≤◌}
 use Rattle.std.proofs.lemmas.List.Elements.{All-same}
 use Rattle.milnor_basis.specs.Exponents.{degree_of}
 use Rattle.milnor_basis.specs.Product.{product_terms}
-use Rattle.module_check.specs.DerivedAction.{span}
+use Rattle.finite_module.specs.DerivedAction.{span}
 use Rattle.module_check.proofs.Sides.{terms_within}
 use Rattle.module_check.proofs.relations.Pair.of.Goals as goal
 

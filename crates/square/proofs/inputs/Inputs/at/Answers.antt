@@ -1,7 +1,7 @@
 use Rattle.std.proofs.Common.{◌≡◌, suc, w32, refl, ap, sym, ◌∙◌, arith}
 use Rattle.std.proofs.lemmas.Int.{to_z-of_z}
 use Rattle.std.specs.Arc.{arc_value}
-use Rattle.module_check.specs.Checked.{Checked}
+use Rattle.finite_module.specs.Checked.{Checked}
 use Rattle.square.specs.Tables.{Footing}
 use Rattle.square.proofs.Looking.{seen_content, at_row, at_below, placed_there}
 use Rattle.square.proofs.inputs.Inputs.at.Goals as goal

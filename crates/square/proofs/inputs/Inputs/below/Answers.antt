@@ -1,8 +1,8 @@
 use Rattle.std.proofs.Common.{◌≡◌, ◌+◌, take, ◌∙◌, ap, sym, refl, arith}
 use Rattle.std.proofs.lemmas.Int.{ints}
 use Rattle.std.specs.Arc.{arc_value}
-use Rattle.module_check.specs.Module.{bottom}
-use Rattle.module_check.specs.Checked.{Checked}
+use Rattle.finite_module.specs.Module.{bottom}
+use Rattle.finite_module.specs.Checked.{Checked}
 use Rattle.resolution_laws.proofs.Rows.{IsWithinReach-row}
 use Rattle.square.specs.Tables.{Footing, contents}
 use Rattle.square.proofs.Targets.{row_held_below, row_target, module_target}

@@ -3,8 +3,8 @@ use Rattle.std.proofs.lemmas.Int.{ints}
 use Rattle.std.proofs.lemmas.List.{length-map}
 use Rattle.std.proofs.lemmas.Result.{IfOk-weaker}
 use Rattle.std.specs.Arc.{arc_value}
-use Rattle.module_check.specs.Module.{bottom}
-use Rattle.module_check.specs.Checked.{Checked}
+use Rattle.finite_module.specs.Module.{bottom}
+use Rattle.finite_module.specs.Checked.{Checked}
 use Rattle.square.specs.Squares.{content_of, bottom_of}
 use Rattle.square.proofs.Targets.{gens_given}
 use Rattle.square.proofs.inputs.Inputs.generators.Goals as goal

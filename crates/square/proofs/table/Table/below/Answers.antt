@@ -1,5 +1,5 @@
 use Rattle.std.proofs.Common.{◌+◌, ◌-◌, ◌∙◌, ap, refl, arith}
-use Rattle.module_check.specs.Checked.{Checked}
+use Rattle.finite_module.specs.Checked.{Checked}
 use Rattle.square.specs.Squares.{over}
 use Rattle.square.proofs.Matrices.{within_reach, first_target, upper_target}
 use Rattle.square.proofs.table.Table.below.Goals as goal

@@ -1,6 +1,6 @@
 use Rattle.std.proofs.Common.{◌≡◌, ◌+◌, pos, ◌+ℤ◌, length, take, ap, sym, subst, ◌∙◌, arith}
 use Rattle.std.proofs.lemmas.Int.{ints}
-use Rattle.module_check.specs.Checked.{Checked}
+use Rattle.finite_module.specs.Checked.{Checked}
 use Rattle.square.specs.Tables.{Staircase, IsNext, row_in}
 use Rattle.square.proofs.Places.{next_length, footing_in, IsFooting-same, contents-take, AreOfRow-first}
 use Rattle.square.proofs.table.Table.inputs.Goals as goal

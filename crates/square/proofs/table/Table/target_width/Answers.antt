@@ -1,6 +1,6 @@
 use Rattle.std.proofs.Common.{◌≡◌, ◌+◌, ◌-◌, ◌<◌, ◌^◌, ℕ, List, SomeIff, take, ap, subst, sym, ◌∙◌, arith}
 use Rattle.std.proofs.lemmas.Int.{ints}
-use Rattle.module_check.specs.Checked.{Checked}
+use Rattle.finite_module.specs.Checked.{Checked}
 use Rattle.square.specs.Squares.{Placed, bottom_of}
 use Rattle.square.specs.Tables.{contents, row_width}
 use Rattle.square.proofs.Places.{target_width-read, target_width-above}

@@ -1,0 +1,7 @@
+use Rattle.std.proofs.Common.{◌≡◌, take}
+use Rattle.std.specs.List.{flat_map}
+use Rattle.finite_module.specs.Text.{square_line, powers}
+use Rattle.finite_module.proofs.text.square_lines.Given as goal
+
+abbrev pub invariant-loop-n : goal.invariant-loop-n
+invariant-loop-n l = l.text.items ≡ flat_map (square_line l.operators l.i) (take l.n-index powers)

@@ -1,0 +1,10 @@
+pub mod Module
+pub mod DerivedAction
+pub mod Axioms
+pub mod Graded
+pub mod Checked
+pub mod Sample
+pub mod Text
+pub mod Operators
+pub mod ModuleLaws
+pub mod Inside

@@ -1,0 +1,17 @@
+//! Finite modules over the mod 2 Steenrod algebra: a basis, and the value of each Sq(R) on it.
+#![tactic(auto)]
+
+mod exponents;
+mod finite_module;
+mod generators;
+mod laws;
+mod operators;
+mod sample;
+mod target;
+mod text;
+
+pub use exponents::sq;
+pub use finite_module::Module;
+pub use generators::Generators;
+pub use laws::modules_are_graded_modules;
+pub use operators::{Operator, Operators};

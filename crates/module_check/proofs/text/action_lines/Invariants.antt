@@ -1,7 +1,0 @@
-use Rattle.std.proofs.Common.{◌≡◌}
-use Rattle.std.specs.List.{flat_map, range_with_len}
-use Rattle.module_check.specs.Text.{square_line, powers}
-use Rattle.module_check.proofs.text.action_lines.Given as goal
-
-abbrev pub invariant-loop-i : goal.invariant-loop-i
-invariant-loop-i l = l.text.items ≡ flat_map (λ i. flat_map (square_line l.operators i) powers) (range_with_len 0 l.i)

@@ -1,6 +1,0 @@
-use Rattle.std.proofs.Common.{◌≡◌, map, take}
-use Rattle.module_check.specs.Text.{name_at, joined_by_plus}
-use Rattle.module_check.proofs.text.joined_names.Given as goal
-
-abbrev pub invariant-loop-k : goal.invariant-loop-k
-invariant-loop-k l = l.text.items ≡ joined_by_plus (map (name_at l.generators) (take l.k l.numbers))

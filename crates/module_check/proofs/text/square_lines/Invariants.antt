@@ -1,7 +1,0 @@
-use Rattle.std.proofs.Common.{◌≡◌, take}
-use Rattle.std.specs.List.{flat_map}
-use Rattle.module_check.specs.Text.{square_line, powers}
-use Rattle.module_check.proofs.text.square_lines.Given as goal
-
-abbrev pub invariant-loop-n : goal.invariant-loop-n
-invariant-loop-n l = l.text.items ≡ flat_map (square_line l.operators l.i) (take l.n-index powers)
