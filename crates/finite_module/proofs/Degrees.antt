@@ -1,5 +1,5 @@
 -- The generators of one degree, and how far apart the degrees are.
-use Rattle.std.proofs.Common.{◌≡◌, ℕ, suc, ◌+◌, ◌-◌, ◌<◌, ◌≤◌, ℤ, pos, ◌+ℤ◌, ◌≤ℤ◌, ◌<ℤ◌, Bool, true, false, cond, Some, option_map, List, [], ◌∷◌, ◌++◌, length, take, refl, sym, ap, ◌∙◌, arith, slice_get, slice_index_or}
+use Rattle.std.proofs.Common.{◌≡◌, ℕ, zero, suc, ◌+◌, ◌-◌, ◌<◌, ◌≤◌, ℤ, pos, ◌+ℤ◌, ◌≤ℤ◌, ◌<ℤ◌, Bool, true, false, cond, Some, option_map, List, [], ◌∷◌, ◌++◌, length, take, get_or, refl, sym, subst, ap, ◌∙◌, arith, slice_get, slice_index_or}
 use Rattle.std.specs.Prelude.{int_lt, neg_ℤ}
 use Rattle.std.specs.Ordering.{int_eq}
 use Rattle.std.specs.List.{count_by, range_with_len}
@@ -7,11 +7,13 @@ use Rattle.std.proofs.lemmas.Int.{ints, by_lt_z}
 use Rattle.module_json.specs.ModuleFile.{Generator, degree_at, no_generator}
 use Rattle.std.proofs.lemmas.Bool.Decides.{Decides-int_eq}
 use Rattle.std.proofs.lemmas.List.{take_more}
+use Rattle.std.proofs.lemmas.List.FromFn.{length-range_with_len, get_or-range_with_len}
+use Rattle.f2_vec.specs.Spans.{unit_vector}
 use Rattle.std.proofs.lemmas.Option.{slice_get-get_or}
 use Rattle.std.proofs.lemmas.List.Sums.{sum_by-cons}
 use Rattle.module_json.specs.WellFormed.{NeverFall, AreByDegree}
 use Rattle.module_json.specs.declared.limits.TheConstants.{MAX_DEGREE, MAX_SPAN}
-use Rattle.finite_module.specs.Module.{numbers_from, generators_in, width, bottom}
+use Rattle.finite_module.specs.Module.{numbers_from, generators_in, width, unit, bottom}
 use Rattle.finite_module.specs.DerivedAction.{top}
 
 -- ---- the last generator
@@ -151,6 +153,45 @@ generators_in_end gs t start len a b =
   where
     no : true ≡ false → ⊥
     no e = cc
+
+-- generator i is one of those of its degree, behind those before it
+module _ (t : ℤ) where
+  located : (j : ℕ) (gs : List Generator) (i : ℕ) → i < length gs → degree_at gs i ≡ t → (length (numbers_from j (take i gs) t) < length (numbers_from j gs t)) × (get_or (numbers_from j gs t) (length (numbers_from j (take i gs) t)) 0 ≡ j + i)
+  located j [] i l e = absurd (omega arith)
+  located j (g ∷ gs) zero l e =
+      let rest = numbers_from (suc j) gs t in
+      subst (λ b. (0 < length (cond b (j ∷ rest) rest)) × (get_or (cond b (j ∷ rest) rest) 0 0 ≡ j + 0)) (sym (eq_yes g.degree t e)) (omega arith, omega arith)
+  located j (g ∷ gs) (suc i) l e = by (int_eq g.degree t) (located (suc j) gs i (omega arith) e)
+    where
+      earlier : List ℕ
+      earlier = numbers_from (suc j) (take i gs) t
+
+      all : List ℕ
+      all = numbers_from (suc j) gs t
+
+      by : (b : Bool) → (length earlier < length all) × (get_or all (length earlier) 0 ≡ suc j + i) → (length (cond b (j ∷ earlier) earlier) < length (cond b (j ∷ all) all)) × (get_or (cond b (j ∷ all) all) (length (cond b (j ∷ earlier) earlier)) 0 ≡ j + suc i)
+      by true (within, at) = (omega arith, at ∙ omega arith)
+      by false (within, at) = (omega arith, at ∙ omega arith)
+
+-- its place among them, where they are a range
+pub record IsPlaced (gs : List Generator) (i start n : ℕ) : Type 0 where
+  pub behind : start ≤ i
+  pub within : i - start < n
+  pub vector : unit_vector n (i - start) ≡ unit gs i
+
+pub placed : (gs : List Generator) (i start n : ℕ) → i < length gs → generators_in gs (degree_at gs i) ≡ range_with_len start n → IsPlaced gs i start n
+placed gs i start n l numbers =
+    let t : ℤ = degree_at gs i in
+    let at : ℕ = width (take i gs) t in
+    let here = located t 0 gs i l refl in
+    let wide : width gs t ≡ n = ap length numbers ∙ length-range_with_len start n in
+    let number : start + at ≡ i = sym (get_or-range_with_len start n at 0 (omega (arith, here.0))) ∙ ap (λ ns. get_or ns at 0) (sym numbers) ∙ here.1 ∙ omega arith in
+    let place : i - start ≡ at = omega arith in
+    record {
+      behind = omega arith;
+      within = omega (arith, here.0);
+      vector = ap (unit_vector n) place ∙ ap (λ m. unit_vector m at) (sym wide);
+    }
 
 -- ---- what a module file gives
 

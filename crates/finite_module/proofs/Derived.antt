@@ -1,5 +1,5 @@
 -- The operators that a file gives: the values are of the widths of their degrees, and the first is the identity.
-use Rattle.std.proofs.Common.{◌≡◌, ℕ, zero, suc, ◌+◌, ◌-◌, ◌*◌, ◌/◌, ◌%◌, ◌<◌, ◌≤◌, ℤ, pos, ◌+ℤ◌, Bool, true, false, not, cond, List, [], ◌∷◌, ◌++◌, length, map, get_or, flat_map, All, EachIndex, slice_get, Some, option_map, option_and_then, nat_eq, nat_lt, refl, ap, sym, subst, ◌∙◌, zero-add, append_assoc, arith, length-append}
+use Rattle.std.proofs.Common.{◌≡◌, ℕ, zero, suc, ◌+◌, ◌-◌, ◌*◌, ◌/◌, ◌%◌, ◌<◌, ◌≤◌, ℤ, pos, ◌+ℤ◌, Bool, true, false, not, cond, List, [], ◌∷◌, ◌++◌, length, map, take, get_or, flat_map, All, EachIndex, slice_get, Some, option_map, option_and_then, nat_eq, nat_lt, refl, ap, sym, subst, ◌∙◌, zero-add, append_assoc, arith, length-append}
 use Rattle.std.specs.Int.{is_power_of_two}
 use Rattle.std.specs.List.{range_with_len, list_any}
 use Rattle.std.specs.Cmp.Lexicographic.{pointwise}
@@ -14,6 +14,7 @@ use Rattle.std.proofs.lemmas.Nat.{div-add-mod'}
 use Rattle.std.proofs.lemmas.Option.{slice_get-map, slice_get-get_or}
 use Rattle.f2_vec.specs.Spans.{HaveWidth}
 use Rattle.f2_vec.proofs.Spans.{HaveWidth-cons}
+use Rattle.f2_vec.proofs.Split.{length-unit_vector}
 use Rattle.f2_vec.proofs.Combinations.{HaveWidth-map_where}
 use Rattle.milnor_basis.specs.Exponents.{degree_of, IsTrimmed}
 use Rattle.milnor_basis.specs.Basis.{basis_of}
@@ -91,7 +92,7 @@ length-by_product gs operators r s i h =
     (HaveWidth-cons w (act_on gs operators u (degree_at gs i +ℤ pos (degree_of s)) (value gs operators s i)) (map (λ t. value gs operators t i) (other_terms r s)) first rest)
 
 length-unit : (gs : List Generator) (i : ℕ) → length (unit gs i) ≡ width gs (degree_at gs i +ℤ pos 0)
-length-unit gs i = let same : degree_at gs i ≡ degree_at gs i +ℤ pos 0 = omega (arith, ints) in length-map (generators_in gs (degree_at gs i)) (nat_eq i) ∙ ap (width gs) same
+length-unit gs i = let same : degree_at gs i ≡ degree_at gs i +ℤ pos 0 = omega (arith, ints) in length-unit_vector (width gs (degree_at gs i)) (width (take i gs) (degree_at gs i)) ∙ ap (width gs) same
 
 -- the value that is derived from operators of the right widths is of the right width
 pub length-derived_value : (f : File) (operators : List (List (List Bool))) (r : List ℕ) (i : ℕ) → HaveWidths f.generators operators → IsTrimmed r → length (derived_value f operators r i) ≡ width f.generators (degree_at f.generators i +ℤ pos (degree_of r))

@@ -11,11 +11,10 @@ use Rattle.std.proofs.lemmas.List.Elements.{All-cons, All-nil, All-append, filte
 use Rattle.std.proofs.lemmas.List.Kept.{AllPairs-cons}
 use Rattle.std.proofs.lemmas.List.Quantifiers.{position-Some}
 use Rattle.std.proofs.Math.Nat.{mod-lt}
-use Rattle.std.specs.Prelude.{int_le}
 use Rattle.std.proofs.lemmas.Option.{same_Some}
 use Rattle.f2_vec.proofs.Ones.{range_more}
 use Rattle.milnor_basis.specs.Exponents.{IsTrimmed}
-use Rattle.module_json.specs.ModuleFile.{Generator, Entry, no_generator, placed, by_degree, number_of}
+use Rattle.module_json.specs.ModuleFile.{Generator, Entry, no_generator, by_degree, number_of}
 use Rattle.module_json.specs.WellFormed.{AreByDegree}
 use Rattle.module_json.proofs.Basis.{length-by_degree}
 use Rattle.module_json.proofs.Order.{EachPair, Rises-by_degree, All-by_degree}

@@ -5,7 +5,7 @@ use Rattle.std.proofs.lemmas.Grind.{flat_map-append}
 use Rattle.std.proofs.lemmas.List.{take_more, map-append, append-nil, length-take-le, take_all}
 use Rattle.std.proofs.lemmas.List.FromFn.{length-range_with_len}
 use Rattle.f2_vec.specs.Vectors.{IsZero}
-use Rattle.f2_vec.proofs.Ones.{range_more}
+use Rattle.f2_vec.proofs.Ones.{range_more, items_where_true-push}
 use Rattle.milnor_basis.specs.Exponents.{degree_of, trimmed}
 use Rattle.module_json.specs.ModuleFile.{degree_at}
 use Rattle.finite_module.specs.Module.{Module, width, value}
@@ -46,14 +46,6 @@ joined_by_plus-next f (x ∷ xs) (suc k) text z h e =
     append_assoc text (codes " + ") (f y) ∙ ap (λ t. t ++ (codes " + " ++ f y)) e ∙ sym joined ∙ ap joined_by_plus (sym (map-append f (take (suc k) (x ∷ xs)) (y ∷ []))) ∙ ap (λ t. joined_by_plus (map f t)) (sym more)
 
 -- one place more
-pub items_where_true-push : (bs : List Bool) (b : Bool) (xs : List ℕ) (x : ℕ) → length bs ≡ length xs → items_where_true (bs ++ b ∷ []) (xs ++ x ∷ []) ≡ items_where_true bs xs ++ cond b (x ∷ []) []
-items_where_true-push [] true [] x e = refl
-items_where_true-push [] false [] x e = refl
-items_where_true-push [] b (y ∷ ys) x e = cc
-items_where_true-push (c ∷ cs) b [] x e = cc
-items_where_true-push (true ∷ cs) b (y ∷ ys) x e = ap (λ t. y ∷ t) (items_where_true-push cs b ys x (omega arith))
-items_where_true-push (false ∷ cs) b (y ∷ ys) x e = items_where_true-push cs b ys x (omega arith)
-
 pub items_where_true-more : (v : List Bool) (start i : ℕ) (numbers : List ℕ) (b : Bool) → start ≤ i → i - start < length v → numbers ≡ items_where_true (take (i - start) v) (range_with_len start (i - start)) → b ≡ get_or v (i - start) false → numbers ++ cond b (i ∷ []) [] ≡ items_where_true (take (i + 1 - start) v) (range_with_len start (i + 1 - start))
 items_where_true-more v start i numbers b l h e f =
     let k = i - start in
@@ -63,13 +55,6 @@ items_where_true-more v start i numbers b l h e f =
     let len : length (take k v) ≡ length (range_with_len start k) = length-take-le k v (omega arith) ∙ sym (length-range_with_len start k) in
     let push = items_where_true-push (take k v) (get_or v k false) (range_with_len start k) i len in
     rw (z, more, range) (ap (λ t. t ++ cond b (i ∷ []) []) e ∙ ap (λ c. items_where_true (take k v) (range_with_len start k) ++ cond c (i ∷ []) []) f ∙ sym push)
-
--- each number is below n
-pub below-push : (n : ℕ) (xs : List ℕ) (y : ℕ) → ((k : ℕ) → k < length xs → get_or xs k 0 < n) → y < n → (k : ℕ) → k < length (xs ++ y ∷ []) → get_or (xs ++ y ∷ []) k 0 < n
-below-push n [] y h l zero k = l
-below-push n [] y h l (suc j) k = absurd (omega arith)
-below-push n (x ∷ xs) y h l zero k = h zero (omega arith)
-below-push n (x ∷ xs) y h l (suc j) k = below-push n xs y (λ i m. h (suc i) (omega arith)) l j (omega arith)
 
 -- all places
 pub items_where_true-all : (v : List Bool) (start end i : ℕ) (numbers generators : List ℕ) → start ≤ end → i ≡ end → length v ≡ length generators → generators ≡ range_with_len start (end - start) → numbers ≡ items_where_true (take (i - start) v) (range_with_len start (i - start)) → numbers ≡ items_where_true v generators

@@ -1,8 +1,6 @@
 -- The value of an operator by its place.
-use Rattle.std.proofs.Common.{◌≡◌, ℕ, zero, suc, ◌+◌, ◌^◌, ◌<◌, ◌≤◌, pos, ◌+ℤ◌, Bool, Option, Some, None, option_and_then, option_copied, List, [], ◌∷◌, ◌++◌, length, map, take, get_or, refl, sym, subst, ap, ◌∙◌, inl, inr, arith, cond, ℤ, true, false, slice_get, EachIndex, IfSome, IfNone, Bor}
+use Rattle.std.proofs.Common.{◌≡◌, ℕ, ◌+◌, ◌^◌, ◌<◌, ◌≤◌, pos, ◌+ℤ◌, Bool, Option, Some, None, option_and_then, option_copied, List, [], ◌∷◌, ◌++◌, length, map, take, get_or, refl, sym, subst, ap, ◌∙◌, inl, inr, arith, cond, ℤ, false, slice_get, EachIndex, IfSome, IfNone, Bor}
 use Rattle.std.specs.List.{range_with_len}
-use Rattle.std.specs.Ordering.{int_eq}
-use Rattle.std.proofs.lemmas.Bool.Decides.{Decides-int_eq}
 use Rattle.std.proofs.lemmas.List.FromFn.{length-range_with_len, get_or-range_with_len, map-range_with_len_more}
 use Rattle.std.proofs.lemmas.Bool.{cases_lt, cases_eq}
 use Rattle.std.proofs.lemmas.List.{length_push, take_more, take_all, map-append, length-map, get_or-map}
@@ -13,8 +11,9 @@ use Rattle.f2_vec.specs.Vectors.{sum_of, zeros}
 use Rattle.f2_vec.proofs.Sums.{length-zeros, sum_of-comm, sum_of-assoc}
 use Rattle.milnor_basis.specs.Exponents.{degree_of}
 use Rattle.module_json.specs.ModuleFile.{Generator, degree_at}
-use Rattle.finite_module.specs.Module.{numbers_from, generators_in, width, or_zeros, value, act_on, total, place_of, elements_below}
+use Rattle.finite_module.specs.Module.{generators_in, width, or_zeros, value, act_on, total, place_of, elements_below}
 use Rattle.finite_module.specs.DerivedAction.{elements, span}
+use Rattle.finite_module.specs.ModuleLaws.{generators_in-member}
 use Rattle.finite_module.specs.Operators.{value_at}
 use Rattle.finite_module.specs.Operators.{HaveWidths, AreOperators}
 use Rattle.finite_module.proofs.Elements.{slice_get-append_left, slice_get-append_right, element_at_place, length-elements}
@@ -159,26 +158,8 @@ total_more n i f xs x l e =
 -- ---- the value on a vector
 
 -- a generator among those of degree t is of degree t
-numbered : (j : ℕ) (gs : List Generator) (t : ℤ) (k : ℕ) → k < length (numbers_from j gs t) → (m : ℕ) × ((get_or (numbers_from j gs t) k 0 ≡ j + m) × (degree_at gs m ≡ t))
-numbered j [] t k l = absurd (omega arith)
-numbered j (g ∷ gs) t k l = by (int_eq g.degree t) refl k l (λ i h. numbered (suc j) gs t i h) where
-  rest : List ℕ
-  rest = numbers_from (suc j) gs t
-
-  later : (k : ℕ) → (m : ℕ) × ((get_or rest k 0 ≡ suc j + m) × (degree_at gs m ≡ t)) → (m : ℕ) × ((get_or rest k 0 ≡ j + m) × (degree_at (g ∷ gs) m ≡ t))
-  later k h = (suc h.0, (h.1.0 ∙ omega arith, h.1.1))
-
-  by : (b : Bool) → int_eq g.degree t ≡ b → (k : ℕ) → k < length (cond b (j ∷ rest) rest) → ((i : ℕ) → i < length rest → (m : ℕ) × ((get_or rest i 0 ≡ suc j + m) × (degree_at gs m ≡ t)))
-      → (m : ℕ) × ((get_or (cond b (j ∷ rest) rest) k 0 ≡ j + m) × (degree_at (g ∷ gs) m ≡ t))
-  by true e zero l h = (0, (omega arith, (Decides-int_eq g.degree t).0 e))
-  by true e (suc k) l h = later k (h k (omega arith))
-  by false e k l h = later k (h k l)
-
 pub degree_in : (gs : List Generator) (t : ℤ) (k : ℕ) → k < width gs t → degree_at gs (get_or (generators_in gs t) k 0) ≡ t
-degree_in gs t k l =
-    let h = numbered 0 gs t k l in
-    let e : get_or (generators_in gs t) k 0 ≡ h.0 = h.1.0 ∙ omega arith in
-    ap (degree_at gs) e ∙ h.1.1
+degree_in gs t k l = (generators_in-member gs t k l).1
 
 module _ (gs : List Generator) (operators : List (List (List Bool))) (widths : HaveWidths gs operators) (r : List ℕ) (t : ℤ) (start n : ℕ) (numbers : generators_in gs t ≡ range_with_len start n) where
   count : width gs t ≡ n

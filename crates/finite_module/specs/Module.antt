@@ -1,9 +1,9 @@
 -- A finite module over the Steenrod algebra: a basis, and the value of each Sq(R) on it.
-use Rattle.std.specs.Prelude.{ℕ, zero, suc, ◌+◌, ℤ, pos, ◌+ℤ◌, Bool, true, nat_eq, if◌then◌else◌, List, [], ◌∷◌, length, map, Option, Some, None, option_map, option_and_then, position, slice_get}
+use Rattle.std.specs.Prelude.{ℕ, zero, suc, ◌+◌, ℤ, pos, ◌+ℤ◌, Bool, true, nat_eq, if◌then◌else◌, List, [], ◌∷◌, length, map, take, Option, Some, None, option_map, option_and_then, position, slice_get}
 use Rattle.std.specs.Cmp.Lexicographic.{pointwise}
 use Rattle.std.specs.Ordering.{int_eq}
 use Rattle.f2_vec.specs.Vectors.{zeros}
-use Rattle.f2_vec.specs.Spans.{combination}
+use Rattle.f2_vec.specs.Spans.{unit_vector, combination}
 use Rattle.milnor_basis.specs.Exponents.{degree_of}
 use Rattle.milnor_basis.specs.Basis.{basis_of}
 use Rattle.module_json.specs.ModuleFile.{Generator, degree_at}
@@ -26,9 +26,9 @@ generators_in gs t = numbers_from 0 gs t
 abbrev pub width : List Generator → ℤ → ℕ
 width gs t = length (generators_in gs t)
 
--- generator i as a vector of its degree
+-- generator i as a vector of its degree: a 1 at its place among the generators of that degree
 abbrev pub unit : List Generator → ℕ → List Bool
-unit gs i = map (nat_eq i) (generators_in gs (degree_at gs i))
+unit gs i = unit_vector (width gs (degree_at gs i)) (width (take i gs) (degree_at gs i))
 
 -- how many elements Milnor's bases of the degrees below n have
 abbrev pub elements_below : ℕ → ℕ

@@ -222,7 +222,8 @@ impl Generators {
         requires { i < length self.now }
         ensures { IfOk result (λ v. v ≡ unit self.now i) }
     {
-        self.sum(alloc, &[i], i64::from(self.degree(i)))
+        let here = self.within(i64::from(self.degree(i)));
+        BitVec::unit(alloc, here.end - here.start, i - here.start)
     }
 
     /// The sum of these generators as a vector of degree `t`.

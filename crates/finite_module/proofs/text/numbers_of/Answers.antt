@@ -2,8 +2,9 @@ use Rattle.std.proofs.Common.{◌≡◌, ◌-◌, ◌<◌, true, false, length, 
 use Rattle.std.specs.List.{range_with_len}
 use Rattle.std.proofs.lemmas.Int.{ints}
 use Rattle.std.proofs.lemmas.List.FromFn.{length-range_with_len}
+use Rattle.f2_vec.proofs.Ones.{below_push}
 use Rattle.finite_module.specs.Module.{generators_in}
-use Rattle.finite_module.proofs.TextSteps.{items_where_true-more, items_where_true-all, below-push}
+use Rattle.finite_module.proofs.TextSteps.{items_where_true-more, items_where_true-all}
 use Rattle.finite_module.proofs.text.numbers_of.Goals as goal
 use Rattle.finite_module.proofs.text.numbers_of.Goals.{then-get+in_ok-push, else-get}
 
@@ -30,7 +31,7 @@ loop-i-preserved c =
           let more = items_where_true-more v w.start i c.loop-i.numbers.items true c.loop-i.auto.i inside c.loop-i.invariant.numbers (sym u.if-get.true ∙ c.get.ensures) in
           record {
             numbers = cc (u.in_ok-push.ensures.items);
-            within = rw u.numbers-is (rw u.in_ok-push.ensures.items (below-push (length c.args.generators.now) c.loop-i.numbers.items i c.loop-i.invariant.within below));
+            within = rw u.numbers-is (rw u.in_ok-push.ensures.items (below_push (length c.args.generators.now) c.loop-i.numbers.items i c.loop-i.invariant.within below));
           }
       | else-get u ↦
           let more = items_where_true-more v w.start i c.loop-i.numbers.items false c.loop-i.auto.i inside c.loop-i.invariant.numbers (sym u.if-get.false ∙ c.get.ensures) in
