@@ -345,23 +345,3 @@ pub(crate) fn products_of(
     );
     Ok(Products { width, bits })
 }
-
-#[cfg(test)]
-mod tests {
-    use super::*;
-    use std::test::Fail;
-
-    // The products with Sq(2): Sq(3) Sq(2) is 0, and Sq(0,1) Sq(2) is Sq(2,1).
-    #[test]
-    fn multiplies_degree_three(rt: HostRuntime) -> Result<(), Fail> {
-        let basis = Basis::new(rt.alloc(), 5)?;
-        let two = Exps::of([2, 0, 0, 0, 0, 0, 0, 0]);
-        if two.degree() > 2 {
-            return Ok(());
-        }
-        let products = products_of(rt.alloc(), &basis, 3, &two)?;
-        assert_eq!(rt; products.width, 2);
-        assert_eq!(rt; products.bits.ones(rt.alloc())?.as_slice(), [3].as_slice());
-        Ok(())
-    }
-}

@@ -260,35 +260,3 @@ pub fn terms(alloc: Global, basis: &Basis, r: &Exps, s: &Exps) -> Result<Vec<Exp
     let bits = basis.coefficients(alloc, r, s)?;
     chosen(alloc, elements, &bits)
 }
-
-#[cfg(test)]
-mod tests {
-    use super::*;
-    use std::test::Fail;
-
-    fn sq(r1: u16, r2: u16) -> Exps
-        ensures { degree_of result ≡ r1 + 3 * r2 }
-    {
-        Exps::of([r1, r2, 0, 0, 0, 0, 0, 0])
-    }
-
-    #[test]
-    fn multiplies(rt: HostRuntime) -> Result<(), Fail> {
-        let basis = Basis::new(rt.alloc(), 8)?;
-        let product = terms(rt.alloc(), &basis, &sq(2, 0), &sq(1, 0))?;
-        assert_eq!(rt; product.as_slice(), [sq(3, 0), sq(0, 1)].as_slice());
-        let product = terms(rt.alloc(), &basis, &sq(1, 0), &sq(2, 0))?;
-        assert_eq!(rt; product.as_slice(), [sq(3, 0)].as_slice());
-        let product = terms(rt.alloc(), &basis, &sq(2, 0), &sq(2, 0))?;
-        assert_eq!(rt; product.as_slice(), [sq(1, 1)].as_slice());
-        let product = terms(rt.alloc(), &basis, &sq(4, 0), &sq(4, 0))?;
-        assert_eq!(rt; product.as_slice(), [sq(2, 2)].as_slice());
-        let product = terms(rt.alloc(), &basis, &sq(3, 0), &sq(1, 0))?;
-        assert_eq!(rt; product.as_slice(), [sq(1, 1)].as_slice());
-        let product = terms(rt.alloc(), &basis, &sq(0, 1), &sq(1, 0))?;
-        assert_eq!(rt; product.as_slice(), [sq(1, 1)].as_slice());
-        let product = terms(rt.alloc(), &basis, &sq(1, 0), &sq(1, 0))?;
-        assert!(rt; product.is_empty());
-        Ok(())
-    }
-}

@@ -26,23 +26,3 @@ pub fn sq_text(alloc: Global, r: &Exps) -> Result<String, Memory>
     text.push(')')?;
     Ok(text)
 }
-
-#[cfg(test)]
-mod tests {
-    use super::*;
-    use std::test::Fail;
-
-    #[test]
-    fn writes_exponents(rt: HostRuntime) -> Result<(), Fail> {
-        for (numbers, want) in [
-            ([0, 0, 0, 0, 0, 0, 0, 0], "Sq()"),
-            ([0, 0, 1, 0, 0, 0, 0, 0], "Sq(0,0,1)"),
-            ([12, 0, 305, 0, 0, 0, 0, 0], "Sq(12,0,305)"),
-            ([1, 2, 3, 4, 5, 6, 7, 65535], "Sq(1,2,3,4,5,6,7,65535)"),
-        ] {
-            let text = sq_text(rt.alloc(), &Exps::of(numbers))?;
-            assert_eq!(rt; text.as_str(), want);
-        }
-        Ok(())
-    }
-}
