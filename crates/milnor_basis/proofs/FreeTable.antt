@@ -5,17 +5,16 @@ use Rattle.std.proofs.lemmas.Bool.{cases_eq, cases_lt, eq-eqb, ne_eqb}
 use Rattle.std.proofs.lemmas.Nat.{div-mul-add, mul-add-lt, mul-le}
 use Rattle.std.proofs.lemmas.List.{get_or-take, get_or-drop, length-take-le, length-drop, get_or-replicate, get_or-map, length-map, ext_get_or}
 use Rattle.std.proofs.lemmas.Option.{get_or_from_slice_get, slice_get_within}
-use Rattle.f2_vec.specs.Vectors.{plus, sum_of, bit}
+use Rattle.f2_vec.specs.Vectors.{plus, sum_of}
 use Rattle.f2_vec.specs.Spans.{unit_vector}
-use Rattle.f2_vec.proofs.Sums.{bit-sum_of, length-sum_of, plus-comm, plus-false}
-use Rattle.f2_vec.proofs.Split.{length-unit_vector, bit-unit_vector}
+use Rattle.f2_vec.proofs.Sums.{plus-false}
 use Rattle.milnor_basis.specs.Exponents.{entry, degree_of, trimmed}
 use Rattle.milnor_basis.specs.Basis.{basis_of}
 use Rattle.milnor_basis.specs.Product.{coefficient, product_bits}
 use Rattle.milnor_basis.specs.Inside.Walk.{no_sums}
 use Rattle.milnor_basis.specs.Inside.FreeRows.{element, IsFree, IsTurnedOver, are_elements, leads_to}
 use Rattle.milnor_basis.specs.Inside.Kept.{row_at, HaveProducts}
-use Rattle.milnor_basis.proofs.Bits.{same_exponents, other_exponents, trimmed_take, no_more_exponents}
+use Rattle.milnor_basis.proofs.Bits.{same_exponents, other_exponents, trimmed_take, no_more_exponents, flipped}
 use Rattle.milnor_basis.proofs.ExponentLemmas.{entry_past}
 use Rattle.milnor_basis.proofs.FreeStart.{coefficient-padded}
 use Rattle.milnor_basis.proofs.Places.{basis_of-once, basis_of-member}
@@ -91,12 +90,7 @@ module _ (degree product : ℕ) (rows diagonals : List ℕ) (bits : List Bool) w
   pub one_turned : (a b at : ℕ) → at < length bits → slice_get (basis_of degree) a ≡ Some (trimmed rows) → slice_get (basis_of product) b ≡ Some (trimmed diagonals)
       → at ≡ a * length (basis_of product) + b → IsTurnedOver degree product (are_elements degree product rows diagonals) bits (sum_of bits (unit_vector (length bits) at))
   one_turned a b at within ra rb e p k l m =
-      bit-sum_of bits (unit_vector (length bits) at) (p * length (basis_of product) + k) (sym (length-unit_vector (length bits) at))
-      ∙ ap (plus (bit bits (p * length (basis_of product) + k))) (bit-unit_vector (length bits) at (p * length (basis_of product) + k) within ∙ is_theirs a b at ra rb e p k l m)
-      ∙ plus-comm (bit bits (p * length (basis_of product) + k)) (are_elements degree product rows diagonals p k)
-
-pub flip-length : (bits : List Bool) (at : ℕ) → length (sum_of bits (unit_vector (length bits) at)) ≡ length bits
-flip-length bits at = length-sum_of bits (unit_vector (length bits) at) (sym (length-unit_vector (length bits) at))
+      flipped bits at (p * length (basis_of product) + k) (are_elements degree product rows diagonals p k) within (is_theirs a b at ra rb e p k l m)
 
 -- The table when all is filled: its rows are the products.
 pub all_free : (degree height : ℕ) (s columns diagonals : List ℕ) → ((j : ℕ) → j < 8 → slice_index columns j ≡ entry s j) → ((k : ℕ) → slice_index diagonals k ≡ 0) → 0 < height → length s ≤ 8

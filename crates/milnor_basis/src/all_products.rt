@@ -9,8 +9,10 @@ ghost use Rattle.milnor_basis.specs.Inside.Walk.{next_row, next_column, taken};
 ghost use Rattle.milnor_basis.specs.Inside.FreeRows.{least_free, greatest_free, number_above, added, element, are_elements, IsTurnedOver, TurnsOverAll};
 
 use crate::basis::Basis;
-use crate::exps::{Exps, MAX_EXPONENTS};
-use crate::product::{is_zero, next_apart, next_place, numbers_of};
+use crate::exps::Exps;
+use crate::product::{
+    degree_of_products, next_apart, next_place, numbers_of, place_in, place_of_diagonals,
+};
 use f2_vec::BitVec;
 use memory::Memory;
 use std::alloc::Global;
@@ -111,32 +113,6 @@ impl Open {
         self.diagonals[row + column - 1] |= number;
         self
     }
-}
-
-/// The place of Sq(R) in the basis of degree `n`; none where R is of another degree.
-fn place_in(basis: &Basis, n: u16, r: &Exps) -> Option<usize>
-    requires { n ≤ basis.now }
-    ensures found { IfSome result (λ i. slice_get (basis_of n) i ≡ Some r.now) }
-    ensures none { IsNone result → (k : ℕ) → k < length (basis_of n) → r.now ≢ element n k }
-{
-    let (degree, place) = basis.place(r)?;
-    if degree == n { Some(place) } else { None }
-}
-
-/// The place in the basis of degree `n` of the element whose exponents these are; none where it is of another degree.
-fn place_of_diagonals(basis: &Basis, n: u16, diagonals: &[u16; 16]) -> Option<usize>
-    requires degree { n ≤ basis.now }
-    requires small { n ≤ 255 }
-    ensures found { IfSome result (λ i. slice_get (basis_of n) i ≡ Some (trimmed diagonals.now)) }
-    ensures none { IsNone result → (k : ℕ) → k < length (basis_of n) → trimmed diagonals.now ≢ element n k }
-{
-    let (first, rest) = diagonals.split_at(MAX_EXPONENTS);
-    if !is_zero(rest) {
-        return None;
-    }
-    let mut exponents = [0; MAX_EXPONENTS];
-    exponents.copy_from_slice(first);
-    place_in(basis, n, &Exps::of(exponents))
 }
 
 /// Turns over the bit of R, which the rows make up, and of T, which the diagonals make up, if they are of these degrees.
@@ -244,18 +220,6 @@ fn fill_all(
             number += 1;
         }
     }
-}
-
-/// The degree of the products of elements of this degree with Sq(S), which is at most the basis's greatest.
-fn degree_of_products(basis: &Basis, degree: u16, s: &Exps) -> u16
-    requires { degree + degree_of s.now ≤ basis.now }
-    ensures sum { result ≡ degree + degree_of s.now }
-    ensures small { result ≤ 255 }
-{
-    let Some((right, _)) = basis.place(s) else {
-        unreachable!()
-    };
-    degree + right
 }
 
 /// The number of exponents of the longest of these elements, or 1 if none has one.

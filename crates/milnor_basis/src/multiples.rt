@@ -9,6 +9,7 @@ use crate::all_products::products_of;
 use crate::basis::Basis;
 use crate::exps::Exps;
 use crate::product::{coefficients, product_degree};
+use f2_vec::BitVec;
 use memory::Memory;
 use once_cell::race::OnceBox;
 use std::alloc::Global;
@@ -85,12 +86,12 @@ impl Multiples {
 }
 
 /// Sets the bits at these places.
-fn set_places(bits: &mut [bool], places: &[u16])
+fn set_places(bits: &mut BitVec, places: &[u16])
     requires { EachIndex places.now (λ k. slice_index places.now k < length bits.old) }
     ensures { bits.new ≡ set_at bits.old places.now }
 {
     for place in places {
-        bits[usize::from(*place)] = true;
+        bits.set(usize::from(*place), true);
     }
 }
 
@@ -189,9 +190,9 @@ impl Basis {
     ///
     /// # Errors
     /// `Memory` if allocation fails.
-    pub fn coefficients(&self, alloc: Global, r: &Exps, s: &Exps) -> Result<Vec<bool>, Memory>
+    pub fn coefficients(&self, alloc: Global, r: &Exps, s: &Exps) -> Result<BitVec, Memory>
         requires { degree_of r.now + degree_of s.now ≤ self.now }
-        ensures { IfOk result (λ bits. bits.items ≡ product_bits r.now s.now) }
+        ensures { IfOk result (λ bits. bits ≡ product_bits r.now s.now) }
     {
         let degree = product_degree(self, r, s);
         if degree > MAX_KEPT {
@@ -201,7 +202,7 @@ impl Basis {
             unreachable!()
         };
         let multiples = self.multiples(alloc, left, s)?;
-        let mut bits = vec![in alloc; false; self.of_degree(degree).len()]?;
+        let mut bits = BitVec::zero(alloc, self.of_degree(degree).len())?;
         set_places(&mut bits, multiples.of(place));
         Ok(bits)
     }

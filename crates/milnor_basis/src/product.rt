@@ -1,12 +1,14 @@
 //! The product of two elements of the basis: the matrices of Milnor's formula are filled place by place.
-ghost use Rattle.std.specs.Prelude.{◌≡◌, ℕ, ◌≤◌, ◌<◌, ◌+◌, ◌-◌, ◌*◌, ◌^◌, ◌↔◌, IfOk, IsTrue, EachIndex, length, slice_index, slice_set, bit_and, bit_or, ◌≢◌};
-ghost use Rattle.milnor_basis.specs.Exponents.{degree_of, entry};
+ghost use Rattle.std.specs.Prelude.{◌≡◌, ℕ, ◌≤◌, ◌<◌, ◌+◌, ◌-◌, ◌*◌, ◌^◌, ◌↔◌, IfOk, IfSome, IsNone, IsTrue, Some, EachIndex, length, slice_index, slice_get, slice_set, bit_and, bit_or, ◌≢◌};
+ghost use Rattle.milnor_basis.specs.Exponents.{degree_of, entry, trimmed};
 ghost use Rattle.milnor_basis.specs.Basis.{basis_of};
 ghost use Rattle.milnor_basis.specs.Product.{product_bits, product_terms};
 ghost use Rattle.milnor_basis.specs.Inside.Walk.{least, greatest, next_row, next_column, taken, TurnsOver, TurnsOverEqual, AreChosen};
+ghost use Rattle.milnor_basis.specs.Inside.FreeRows.{element};
 
 use crate::basis::Basis;
 use crate::exps::{Exps, MAX_EXPONENTS};
+use f2_vec::BitVec;
 use memory::Memory;
 use std::alloc::Global;
 
@@ -122,19 +124,42 @@ pub(crate) fn is_zero(numbers: &[u16]) -> bool
     numbers.iter().all(|number| *number == 0)
 }
 
-/// Turns over the bit of the basis element of this degree whose exponents these are, if there is one.
-fn turn_over(basis: &Basis, degree: u16, diagonals: &[u16; 16], bits: &mut [bool])
-    requires degree { degree ≤ basis.now }
-    requires bits { length bits.old ≡ length (basis_of degree) }
-    ensures { TurnsOverEqual degree diagonals.now bits.old bits.new }
+/// The place of Sq(R) in the basis of degree `n`; none where R is of another degree.
+pub(crate) fn place_in(basis: &Basis, n: u16, r: &Exps) -> Option<usize>
+    requires { n ≤ basis.now }
+    ensures found { IfSome result (λ i. slice_get (basis_of n) i ≡ Some r.now) }
+    ensures none { IsNone result → (k : ℕ) → k < length (basis_of n) → r.now ≢ element n k }
+{
+    let (degree, place) = basis.place(r)?;
+    if degree == n { Some(place) } else { None }
+}
+
+/// The place in the basis of degree `n` of the element whose exponents these are; none where it is of another degree.
+pub(crate) fn place_of_diagonals(basis: &Basis, n: u16, diagonals: &[u16; 16]) -> Option<usize>
+    requires degree { n ≤ basis.now }
+    requires small { n ≤ 255 }
+    ensures found { IfSome result (λ i. slice_get (basis_of n) i ≡ Some (trimmed diagonals.now)) }
+    ensures none { IsNone result → (k : ℕ) → k < length (basis_of n) → trimmed diagonals.now ≢ element n k }
 {
     let (first, rest) = diagonals.split_at(MAX_EXPONENTS);
+    if !is_zero(rest) {
+        return None;
+    }
     let mut exponents = [0; MAX_EXPONENTS];
     exponents.copy_from_slice(first);
-    if let Some((found, place)) = basis.place(&Exps::of(exponents)) {
-        if found == degree && is_zero(rest) {
-            bits[place] = !bits[place];
-        }
+    place_in(basis, n, &Exps::of(exponents))
+}
+
+/// Turns over the bit of the basis element of this degree whose exponents these are, if there is one.
+fn turn_over(basis: &Basis, degree: u16, diagonals: &[u16; 16], bits: &mut BitVec)
+    requires degree { degree ≤ basis.now }
+    requires small { degree ≤ 255 }
+    requires bits { length bits.old ≡ length (basis_of degree) }
+    ensures turned { TurnsOverEqual degree diagonals.now bits.old bits.new }
+    ensures size { length bits.new ≡ length bits.old }
+{
+    if let Some(place) = place_of_diagonals(basis, degree, diagonals) {
+        bits.flip(place);
     }
 }
 
@@ -146,14 +171,16 @@ fn fill(
     row: usize,
     column: usize,
     left: Left,
-    bits: &mut [bool],
+    bits: &mut BitVec,
 )
     requires degree { degree ≤ basis.now }
+    requires small { degree ≤ 255 }
     requires bits { length bits.old ≡ length (basis_of degree) }
     requires row { row ≤ 8 }
     requires width { width ≤ 8 }
     requires column { column ≤ width }
-    ensures { TurnsOver degree width row column left.rows left.columns left.diagonals bits.old bits.new }
+    ensures turned { TurnsOver degree width row column left.rows left.columns left.diagonals bits.old bits.new }
+    ensures size { length bits.new ≡ length bits.old }
 {
     if row == 0 && column == 0 {
         turn_over(basis, degree, &left.diagonals, bits);
@@ -194,29 +221,41 @@ pub(crate) fn next_apart(number: u16, sum: u16) -> u32
 }
 
 /// The elements whose bit is set, in order.
-fn chosen(alloc: Global, elements: &[Exps], bits: &[bool]) -> Result<Vec<Exps>, Memory>
+fn chosen(alloc: Global, elements: &[Exps], bits: &BitVec) -> Result<Vec<Exps>, Memory>
     requires { length bits.now ≡ length elements.now }
     ensures { IfOk result (λ terms. AreChosen elements.now bits.now terms.items) }
 {
     let mut terms = Vec::new(alloc);
     for (i, element) in elements.iter().enumerate() {
-        if bits[i] {
+        if bits.get(i) {
             terms.push(*element)?;
         }
     }
     Ok(terms)
 }
 
+/// The degree of the products of elements of this degree with Sq(S), which is at most the basis's greatest.
+pub(crate) fn degree_of_products(basis: &Basis, degree: u16, s: &Exps) -> u16
+    requires { degree + degree_of s.now ≤ basis.now }
+    ensures sum { result ≡ degree + degree_of s.now }
+    ensures small { result ≤ 255 }
+{
+    let Some((right, _)) = basis.place(s) else {
+        unreachable!()
+    };
+    degree + right
+}
+
 /// The degree of the product of Sq(R) and Sq(S), which is at most the basis's greatest.
 pub(crate) fn product_degree(basis: &Basis, r: &Exps, s: &Exps) -> u16
     requires { degree_of r.now + degree_of s.now ≤ basis.now }
-    ensures { result ≡ degree_of r.now + degree_of s.now }
+    ensures sum { result ≡ degree_of r.now + degree_of s.now }
+    ensures small { result ≤ 255 }
 {
-    // A degree of the basis fits `u16`, so the sum does.
-    let greatest = u32::from(basis.max());
-    let degree = r.degree() + s.degree();
-    prove!(degree <= greatest);
-    degree as u16
+    let Some((left, _)) = basis.place(r) else {
+        unreachable!()
+    };
+    degree_of_products(basis, left, s)
 }
 
 /// The coefficients mod 2 of the product of Sq(R) and Sq(S): for each element of the basis of the product's degree,
@@ -229,12 +268,12 @@ pub(crate) fn coefficients(
     basis: &Basis,
     r: &Exps,
     s: &Exps,
-) -> Result<Vec<bool>, Memory>
+) -> Result<BitVec, Memory>
     requires { degree_of r.now + degree_of s.now ≤ basis.now }
-    ensures { IfOk result (λ bits. bits.items ≡ product_bits r.now s.now) }
+    ensures { IfOk result (λ bits. bits ≡ product_bits r.now s.now) }
 {
     let degree = product_degree(basis, r, s);
-    let mut bits = vec![in alloc; false; basis.of_degree(degree).len()]?;
+    let mut bits = BitVec::zero(alloc, basis.of_degree(degree).len())?;
     let (height, width) = (r.len(), s.len());
     fill(
         basis,

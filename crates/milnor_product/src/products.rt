@@ -43,12 +43,7 @@ pub fn product(alloc: Global, basis: &Basis, r: &Exps, s: &Exps) -> Result<BitVe
     requires { degree_of r.now + degree_of s.now ≤ basis.now }
     ensures { IfOk result (λ v. v ≡ product_bits r.now s.now) }
 {
-    let odd = basis.coefficients(alloc, r, s)?;
-    let mut bits = BitVec::zero(alloc, 0)?;
-    for bit in &odd {
-        bits.push(*bit)?;
-    }
-    Ok(bits)
+    basis.coefficients(alloc, r, s)
 }
 
 /// Sq(R) times `v`, a sum of basis elements of degree `deg`. Both vectors are coefficients on the bases of their

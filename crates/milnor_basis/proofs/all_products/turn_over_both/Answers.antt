@@ -3,7 +3,8 @@ use Rattle.std.proofs.lemmas.Option.{slice_get_within}
 use Rattle.milnor_basis.specs.Exponents.{trimmed}
 use Rattle.milnor_basis.specs.Basis.{basis_of}
 use Rattle.milnor_basis.specs.Inside.FreeRows.{IsTurnedOver, are_elements}
-use Rattle.milnor_basis.proofs.FreeTable.{within_table, one_turned, flip-length}
+use Rattle.milnor_basis.proofs.FreeTable.{within_table, one_turned}
+use Rattle.milnor_basis.proofs.Bits.{length-flipped}
 use Rattle.milnor_basis.proofs.all_products.turn_over_both.Goals as goal
 
 -- the bit is in the table
@@ -30,4 +31,4 @@ returns-clause-turned c =
     (c.in-Some.ensures.found ∙ ap Some c.of.ensures) c.in-Some-place_of_diagonals.ensures.found (ap (λ xs. c.in-Some.row * length xs + c.in-Some-place_of_diagonals.column) c.of_degree.ensures))
 
 pub returns-clause-size : goal.returns-clause-size
-returns-clause-size c = ap length c.flip.ensures ∙ flip-length c.args.table.now (c.in-Some.row * length c.of_degree.result.now + c.in-Some-place_of_diagonals.column)
+returns-clause-size c = ap length c.flip.ensures ∙ length-flipped c.args.table.now (c.in-Some.row * length c.of_degree.result.now + c.in-Some-place_of_diagonals.column)

@@ -1,6 +1,7 @@
-use Rattle.std.proofs.Common.{◌≡◌, ◌+◌, ℕ, List, Bool, false, Some, slice_get, [], length, replicate, get_or, arith, ap, sym, ◌∙◌}
-use Rattle.std.proofs.lemmas.List.{take_at, length-map, length-replicate}
+use Rattle.std.proofs.Common.{◌≡◌, ◌+◌, ℕ, List, Bool, Some, slice_get, [], length, get_or, arith, ap, sym, ◌∙◌}
+use Rattle.std.proofs.lemmas.List.{length-map}
 use Rattle.std.proofs.lemmas.Option.{slice_get_within, get_or_from_slice_get}
+use Rattle.f2_vec.proofs.Sums.{length-zeros}
 use Rattle.milnor_basis.specs.Basis.{basis_of}
 use Rattle.milnor_basis.specs.Exponents.{degree_of}
 use Rattle.milnor_basis.specs.Product.{coefficient, product_bits, product_places, Factors}
@@ -27,9 +28,8 @@ set_places-requires c =
     c.of.ensures ∙ ap (λ (f : Factors). product_places (get_or (basis_of f.degree) c.in-Some.place []) f.right) e ∙ ap (λ x. product_places x s) (get_or_from_slice_get (basis_of c.in-Some.left) c.in-Some.place r [] at)
     in
     let n : ℕ = length c.of_degree.result.now in
-    let clear : c.deref_mut.result.now ≡ replicate n false = c.deref_mut.ensures.value ∙ c.in_ok-bits.ensures.items_if_clones_equal (λ y e. e) in
-    let count : length c.deref_mut.result.now ≡ n = ap length clear ∙ length-replicate n false in
-    let whole : n ≡ length (product_bits r s) = ap length c.of_degree.ensures ∙ ap (λ d. length (basis_of d)) c.product_degree-degree.ensures ∙ sym (length-map (basis_of (degree_of r + degree_of s)) (coefficient r s)) in
+    let count : length c.in_ok-bits.bits ≡ n = ap length c.in_ok-bits.ensures ∙ length-zeros n in
+    let whole : n ≡ length (product_bits r s) = ap length c.of_degree.ensures ∙ ap (λ d. length (basis_of d)) c.product_degree-degree.ensures.sum ∙ sym (length-map (basis_of (degree_of r + degree_of s)) (coefficient r s)) in
     λ i l.
     let inside = places_within (product_bits r s) 0 i (omega (arith, l, ap length places)) in
     omega (arith, ap (λ ps. get_or ps i 0) places)
@@ -45,9 +45,6 @@ returns c =
     c.of.ensures ∙ ap (λ (f : Factors). product_places (get_or (basis_of f.degree) c.in-Some.place []) f.right) e ∙ ap (λ x. product_places x s) (get_or_from_slice_get (basis_of c.in-Some.left) c.in-Some.place r [] at)
     in
     let n : ℕ = length c.of_degree.result.now in
-    let before : List Bool = c.deref_mut.result.now in
-    let after : List Bool = c.set_places.new.bits in
-    let clear : before ≡ replicate n false = c.deref_mut.ensures.value ∙ c.in_ok-bits.ensures.items_if_clones_equal (λ y e. e) in
-    let count : length before ≡ n = ap length clear ∙ length-replicate n false in
-    let whole : n ≡ length (product_bits r s) = ap length c.of_degree.ensures ∙ ap (λ d. length (basis_of d)) c.product_degree-degree.ensures ∙ sym (length-map (basis_of (degree_of r + degree_of s)) (coefficient r s)) in
-    take_at after _ c.in_ok-bits.bits.len (omega arith) ∙ c.set_places.ensures ∙ ap (set_at before) places ∙ set_places (product_bits r s) before n clear whole
+    let before : List Bool = c.in_ok-bits.bits in
+    let whole : n ≡ length (product_bits r s) = ap length c.of_degree.ensures ∙ ap (λ d. length (basis_of d)) c.product_degree-degree.ensures.sum ∙ sym (length-map (basis_of (degree_of r + degree_of s)) (coefficient r s)) in
+    c.set_places.ensures ∙ ap (set_at before) places ∙ set_places (product_bits r s) before n c.in_ok-bits.ensures whole

@@ -1,7 +1,7 @@
 use Rattle.std.proofs.Common.{◌<◌, refl, ◌∙◌, arith}
 use Rattle.milnor_basis.specs.Exponents.{degree_of}
 use Rattle.milnor_basis.proofs.FreeTable.{other_degree}
-use Rattle.milnor_basis.proofs.all_products.place_in.Goals as goal
+use Rattle.milnor_basis.proofs.product.place_in.Goals as goal
 
 pub returns-in_err-degree-clause-none : goal.returns-in_err-degree-clause-none
 returns-in_err-degree-clause-none c _ =

@@ -3,7 +3,7 @@ use Rattle.milnor_basis.specs.Exponents.{trimmed}
 use Rattle.milnor_basis.specs.Basis.{basis_of}
 use Rattle.milnor_basis.specs.Inside.FreeRows.{element}
 use Rattle.milnor_basis.proofs.FreeTable.{too_long, front_tells}
-use Rattle.milnor_basis.proofs.all_products.place_of_diagonals.Goals as goal
+use Rattle.milnor_basis.proofs.product.place_of_diagonals.Goals as goal
 
 pub returns-then-not-is_zero-clause-none : goal.returns-then-not-is_zero-clause-none
 returns-then-not-is_zero-clause-none c _ =
