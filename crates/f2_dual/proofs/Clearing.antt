@@ -58,14 +58,19 @@ IsCleared-more from p i rows table v rest c rest_more c_more w nz t h next e f g
           ];
     }
 
--- where nothing is left the vector is the sum, and its values at the pivots are the coefficients
+-- where nothing is left
+pub cleared-zeros : (from : ℕ) (rows : List (List Bool)) (v rest c : List Bool) → HaveWidth (length v) rows → IsCleared from rows v rest c → IsZeroFrom rest from → rest ≡ zeros (length v)
+cleared-zeros from rows v rest c w h z =
+    let zero : IsZero rest = λ k. elim (cases_lt k from) [ inl b ↦ h.before k b | inr b ↦ z k b ] in
+    zeros_from_bits (length v) rest (length-cleared from rows v rest c w h) zero
+
+-- then the vector is the sum, and its values at the pivots are the coefficients
 sum_is : (from : ℕ) (rows : List (List Bool)) (v rest c : List Bool) → HaveWidth (length v) rows → IsCleared from rows v rest c → IsZeroFrom rest from → combination (length v) c rows ≡ v
 sum_is from rows v rest c w h z =
     let n = length v in
     let y = combination n c rows in
     let ly : length y ≡ n = length-combination n c rows w in
-    let zero : IsZero rest = λ k. elim (cases_lt k from) [ inl b ↦ h.before k b | inr b ↦ z k b ] in
-    let none : sum_of v y ≡ zeros n = sym h.sum ∙ zeros_from_bits n rest (length-cleared from rows v rest c w h) zero in
+    let none : sum_of v y ≡ zeros n = sym h.sum ∙ cleared-zeros from rows v rest c w h z in
     sym (sum_of-cancel n v y refl ly) ∙ ap (sum_of v) none ∙ sum_of-zeros_right n v refl
 
 pub cleared-IsInSpan : (from : ℕ) (rows : List (List Bool)) (v rest c : List Bool) → HaveWidth (length v) rows → IsCleared from rows v rest c → IsZeroFrom rest from → IsInSpan (length v) rows v

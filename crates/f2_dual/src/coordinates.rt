@@ -1,5 +1,6 @@
 //! Coordinates of rows on reduced candidates.
 ghost use Rattle.std.specs.Prelude.{◌≡◌, ◌↔◌, ℕ, ◌<◌, length, IsSome, IfSome, IfOk};
+ghost use Rattle.f2_vec.specs.Vectors.{zeros};
 ghost use Rattle.f2_vec.specs.Spans.{row, HaveWidth, IsInSpan};
 ghost use Rattle.f2_matrix.specs.Echelon.{IsReduced, HasNoZeroRow};
 ghost use Rattle.f2_matrix.specs.Preimages.{at_pivots};
@@ -29,7 +30,9 @@ pub fn coordinates(
     ensures cols { IfOk result (λ found. IfSome found (λ m. m.cols ≡ length matrix.now.rows)) }
     ensures rows { IfOk result (λ found. IfSome found (λ m. m.rows ≡ coordinates_of candidates.now matrix.now.rows)) }
 {
-    let table = table_of_pivots(alloc, matrix.cols(), candidates)?;
+    let n = matrix.cols();
+    let table = table_of_pivots(alloc, n, candidates)?;
+    let mut rest = BitVec::zero(alloc, n)?;
     let rows = matrix.rows();
     let mut found = Vec::with_capacity(alloc, rows.len())?;
     for i in 0..rows.len() {
@@ -38,6 +41,7 @@ pub fn coordinates(
             candidates,
             table.as_slice(),
             &rows[rows.len() - 1 - i],
+            &mut rest,
         )? {
             Some(coefficients) => found.push(coefficients)?,
             None => return Ok(None),
@@ -47,23 +51,27 @@ pub fn coordinates(
     Ok(Some(transposed))
 }
 
-/// The coefficients of the candidates in the vector, where it is a sum of them. The vector is cleared at their pivots one after
-/// the other: a 1 that is then the first and at no pivot says that it is none.
+/// The coefficients of the candidates in the vector, where it is a sum of them. The vector is added to `rest`, which is zero, and
+/// cleared there at the pivots one after the other: a 1 that is then the first and at no pivot says that it is none. Where there
+/// are coefficients `rest` is zero again.
 fn coefficients(
     alloc: Global,
     candidates: &[BitVec],
     table: &[Option<usize>],
     vector: &BitVec,
+    rest: &mut BitVec,
 ) -> Result<Option<BitVec>, Memory>
     requires widths { HaveWidth (length vector.now) candidates.now }
     requires reduced { IsReduced candidates.now }
     requires nonzero { HasNoZeroRow candidates.now }
     requires table { IsTableOfPivots (length vector.now) candidates.now table.now }
+    requires rest { rest.old ≡ zeros (length vector.now) }
     ensures inside { IfOk result (λ found. IsSome found ↔ IsInSpan (length vector.now) candidates.now vector.now) }
     ensures at_pivots { IfOk result (λ found. IfSome found (λ c. c ≡ at_pivots candidates.now vector.now)) }
+    ensures rest { IfOk result (λ found. IsSome found → rest.new ≡ zeros (length vector.now)) }
 {
-    let mut rest = vector.try_copy(alloc)?;
     let mut sum = BitVec::zero(alloc, candidates.len())?;
+    rest.xor_with(vector);
     let mut from = 0;
     while let Some(place) = rest.next_one(from) {
         let Some(i) = table[place] else {

@@ -3,12 +3,16 @@ use Rattle.std.proofs.lemmas.Bool.{true≢false}
 use Rattle.std.proofs.lemmas.List.{get_or_read}
 use Rattle.f2_vec.specs.Vectors.{sum_of}
 use Rattle.f2_vec.specs.Spans.{row}
+use Rattle.f2_vec.proofs.Sums.{length-zeros, sum_of-zeros_left}
 use Rattle.f2_dual.specs.Inside.Tables.{entry_at}
-use Rattle.f2_dual.proofs.Clearing.{IsCleared-start, IsCleared-more, length-cleared, cleared-IsInSpan, cleared-at_pivots, left-outside, none_from_not_some}
+use Rattle.f2_dual.proofs.Clearing.{IsCleared-start, IsCleared-more, length-cleared, cleared-zeros, cleared-IsInSpan, cleared-at_pivots, left-outside, none_from_not_some}
 use Rattle.f2_dual.proofs.coordinates.coefficients.Goals as goal
 
 pub loop-place-init : goal.loop-place-init
-loop-place-init c = IsCleared-start c.args.candidates.now c.args.vector.now c.in_ok-rest.rest c.in_ok-sum.sum c.in_ok-rest.ensures c.in_ok-sum.ensures
+loop-place-init c =
+    let v = c.args.vector.now in
+    let is : c.xor_with.new.self ≡ v = c.xor_with.ensures ∙ ap (λ z. sum_of z v) c.requires.rest ∙ sum_of-zeros_left (length v) v refl in
+    IsCleared-start c.args.candidates.now v c.xor_with.new.self c.in_ok-sum.sum is c.in_ok-sum.ensures
 
 pub loop-place-smaller : goal.loop-place-smaller
 loop-place-smaller c =
@@ -40,7 +44,10 @@ pub offset_bounds-candidates-i : goal.offset_bounds-candidates-i
 offset_bounds-candidates-i c = let l = (c.requires.table.found c.in-Some.place c.in-Some-table.i c.in-Some-table.is).0 in omega arith
 
 pub xor_with-requires : goal.xor_with-requires
-xor_with-requires c =
+xor_with-requires c = ap length c.requires.rest ∙ length-zeros (length c.args.vector.now)
+
+pub xor_with-requires-in-Some : goal.xor_with-requires-in-Some
+xor_with-requires-in-Some c =
     let i = c.in-Some-table.i in
     let l = (c.requires.table.found c.in-Some.place i c.in-Some-table.is).0 in
     let x : c.index-candidates-i.result ≡ row c.args.candidates.now i = get_or_read c.args.candidates.now i c.index-candidates-i.result l c.index-candidates-i.is [] in
@@ -55,8 +62,8 @@ loop-place-preserved c =
     let i = c.in-Some-table.i in
     let l = (c.requires.table.found c.in-Some.place i c.in-Some-table.is).0 in
     let x : c.index-candidates-i.result ≡ row c.args.candidates.now i = get_or_read c.args.candidates.now i c.index-candidates-i.result l c.index-candidates-i.is [] in
-    IsCleared-more c.loop-place.from c.in-Some.place i c.args.candidates.now c.args.table.now c.args.vector.now c.loop-place.rest c.loop-place.sum c.xor_with.new.self c.flip.new.self c.requires.widths c.requires.nonzero c.requires.table c.loop-place.invariant c.in-Some.ensures.next c.in-Some-table.is
-    (c.xor_with.ensures ∙ ap (λ z. sum_of c.loop-place.rest z) x) c.flip.ensures
+    IsCleared-more c.loop-place.from c.in-Some.place i c.args.candidates.now c.args.table.now c.args.vector.now c.loop-place.rest c.loop-place.sum c.xor_with-in-Some.new.self c.flip.new.self c.requires.widths c.requires.nonzero c.requires.table c.loop-place.invariant c.in-Some.ensures.next c.in-Some-table.is
+    (c.xor_with-in-Some.ensures ∙ ap (λ z. sum_of c.loop-place.rest z) x) c.flip.ensures
 
 pub returns-clause-inside : goal.returns-clause-inside
 returns-clause-inside c =
@@ -64,3 +71,6 @@ returns-clause-inside c =
 
 pub returns-clause-at_pivots : goal.returns-clause-at_pivots
 returns-clause-at_pivots c = cleared-at_pivots c.loop-place.from c.args.candidates.now c.args.vector.now c.loop-place.rest c.loop-place.sum c.requires.widths c.requires.reduced c.requires.nonzero c.loop-place.invariant (c.in_default.ensures.none.0 refl)
+
+pub returns-clause-rest : goal.returns-clause-rest
+returns-clause-rest c = λ s. cleared-zeros c.loop-place.from c.args.candidates.now c.args.vector.now c.loop-place.rest c.loop-place.sum c.requires.widths c.loop-place.invariant (c.in_default.ensures.none.0 refl)

@@ -2,6 +2,7 @@ use Rattle.std.proofs.Common.{◌≡◌, suc, Option, IfSome, ◌+◌, ◌-◌, 
 use Rattle.std.proofs.lemmas.Bool.{cases_lt, true≢false}
 use Rattle.std.proofs.lemmas.List.{get_or_read, length-map, get_or-reverse, length-reverse, take_all}
 use Rattle.std.specs.Option.{is_some}
+use Rattle.f2_vec.specs.Vectors.{zeros}
 use Rattle.f2_vec.specs.Spans.{row, HaveWidth, IsInSpan}
 use Rattle.f2_matrix.specs.Preimages.{at_pivots}
 use Rattle.f2_matrix.specs.Transpose.{columns}
@@ -27,8 +28,17 @@ coefficients-requires-clause-table c =
     let l : k < length rows = omega (arith, c.loop-i-test.true) in
     let v : c.index-rows-rows.result ≡ row rows k = get_or_read rows k c.index-rows-rows.result l c.index-rows-rows.is [] in
     let wide : length c.index-rows-rows.result ≡ c.args.matrix.now.cols = ap length v ∙ ap (λ z. length (row z k)) c.rows-rows.ensures.rows ∙ c.rows-rows.ensures.widths k (omega (arith, ap length c.rows-rows.ensures.rows)) in
-    let table : IsTableOfPivots c.args.matrix.now.cols c.args.candidates.now c.as_slice.result.now = rw (c.as_slice.ensures.value, ← c.cols.ensures) c.in_ok-table.ensures in
+    let table : IsTableOfPivots c.args.matrix.now.cols c.args.candidates.now c.as_slice.result.now = rw (c.as_slice.ensures.value, ← c.cols-n.ensures) c.in_ok-table.ensures in
     subst (λ n. IsTableOfPivots n c.args.candidates.now c.as_slice.result.now) (sym wide) table
+
+pub coefficients-requires-clause-rest : goal.coefficients-requires-clause-rest
+coefficients-requires-clause-rest c =
+    let rows = c.rows-rows.result.now in
+    let k = length rows - 1 - c.loop-i.i in
+    let l : k < length rows = omega (arith, c.loop-i-test.true) in
+    let v : c.index-rows-rows.result ≡ row rows k = get_or_read rows k c.index-rows-rows.result l c.index-rows-rows.is [] in
+    let wide : length c.index-rows-rows.result ≡ c.args.matrix.now.cols = ap length v ∙ ap (λ z. length (row z k)) c.rows-rows.ensures.rows ∙ c.rows-rows.ensures.widths k (omega (arith, ap length c.rows-rows.ensures.rows)) in
+    c.loop-i.invariant.rest ∙ ap zeros (sym wide)
 
 pub returns-in-None-clause-covered : goal.returns-in-None-clause-covered
 returns-in-None-clause-covered c =
@@ -68,6 +78,7 @@ loop-i-preserved c =
             | inl f ↦ c.loop-i.invariant.inside e b (omega arith)
             | inr f ↦ let same : k ≡ e = omega arith in subst (λ j. IsInSpan c.args.matrix.now.cols candidates (row rows j)) same here
           ];
+      rest = c.in_ok-coefficients.ensures.rest some ∙ ap zeros wide;
     }
 
 pub from_rows-requires : goal.from_rows-requires
