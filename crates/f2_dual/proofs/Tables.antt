@@ -3,12 +3,13 @@ use Rattle.std.proofs.Common.{◌≡◌, ◌≢◌, ◌⊎◌, inl, inr, ℕ, �
 use Rattle.std.specs.List.{range_with_len}
 use Rattle.std.specs.Option.{is_some}
 use Rattle.std.proofs.lemmas.Bool.{cases_lt, cases_eq, false_from_ne_true, true≢false}
-use Rattle.std.proofs.lemmas.List.{ext_get_or, get_or-map, get_or_past, length-map, map-append, length-set, get_or-set_same, get_or-set_other, length-replicate, get_or-replicate}
+use Rattle.std.proofs.lemmas.List.{ext_get_or, get_or-map, get_or_past, length-map, map-append, length-set, get_or-set_same, get_or-set_other, set-append_left, length-replicate, get_or-replicate}
 use Rattle.std.proofs.lemmas.List.FromFn.{length-map-range_with_len, get_or-map-range_with_len}
-use Rattle.f2_vec.specs.Vectors.{bit, sum_of, zeros, IsZero, IsFirstOne}
-use Rattle.f2_vec.proofs.Sums.{bit-zeros, length-zeros, sum_of-comm}
+use Rattle.f2_vec.specs.Vectors.{bit, sum_of, zeros, placed, IsZero, IsFirstOne}
+use Rattle.f2_vec.proofs.Sums.{bit-zeros, length-zeros, sum_of-zeros_left}
 use Rattle.f2_vec.specs.Spans.{row, HaveWidth, combination, unit_vector}
 use Rattle.f2_vec.proofs.Spans.{length-combination}
+use Rattle.f2_vec.proofs.Split.{sum_of-append, zeros-append, length-unit_vector}
 use Rattle.f2_vec.proofs.Combinations.{map-map, map_same, HaveWidth-map}
 use Rattle.f2_matrix.specs.Reduction.{Reduction}
 use Rattle.f2_matrix.specs.Preimages.{pivot_of, at_pivots}
@@ -181,8 +182,21 @@ not_free_where_taken n e image table t l f =
     let same : e ≡ element_of n (row image s.0) = omega (arith, at.1) in
     false_from_ne_true (is_free n image e) (λ h. free_no_pivot n image e s.0 h at.0 same)
 
-pub relation-made : (r : Reduction) (table : List (Option ℕ)) (e : ℕ) (x none v : List Bool) → IsTableOfPivots r.cols r.image table → IsReducedBasis r.cols r.image → e < r.cols → x ≡ row (columns r.cols (spread_by table r.cols r.image)) (r.cols - 1 - e) → none ≡ zeros (length r.kernel) → v ≡ sum_of x (unit_vector (length x) e) ++ none → v ≡ relation_of r.cols r.image e ++ zeros (length r.kernel)
-relation-made r table e x none v t basis l is empty f =
+-- a unit vector, with a shorter vector added to its beginning
+pub unit-beside : (x : List Bool) (h e : ℕ) → e < length x → length x ≤ h → sum_of (unit_vector h e) (placed (length (unit_vector h e)) 0 x) ≡ sum_of (unit_vector (length x) e) x ++ zeros (h - length x)
+unit-beside x h e l m =
+    let n = length x in
+    let k = h - n in
+    let whole : h ≡ n + k = omega arith in
+    let parts : unit_vector h e ≡ unit_vector n e ++ zeros k = ap (λ i. unit_vector i e) whole ∙ ap (λ z. set z e true) (zeros-append n k) ∙ set-append_left (zeros n) (zeros k) e true (omega (arith, length-zeros n)) in
+    ap (λ i. sum_of (unit_vector h e) (x ++ zeros (i - (0 + n)))) (length-unit_vector h e)
+    ∙ ap (λ i. sum_of (unit_vector h e) (x ++ zeros i)) (omega arith)
+    ∙ ap (λ z. sum_of z (x ++ zeros k)) parts
+    ∙ sum_of-append (unit_vector n e) (zeros k) x (zeros k) (length-unit_vector n e)
+    ∙ ap (λ z. sum_of (unit_vector n e) x ++ z) (sum_of-zeros_left k (zeros k) (length-zeros k))
+
+pub relation-made : (r : Reduction) (table : List (Option ℕ)) (h e : ℕ) (x v : List Bool) → IsTableOfPivots r.cols r.image table → IsReducedBasis r.cols r.image → h ≡ r.cols + length r.kernel → e < r.cols → x ≡ row (columns r.cols (spread_by table r.cols r.image)) (r.cols - 1 - e) → v ≡ sum_of (unit_vector (length x) e) x ++ zeros (h - length x) → v ≡ relation_of r.cols r.image e ++ zeros (length r.kernel)
+relation-made r table h e x v t basis whole l is f =
     let n = r.cols in
     let k = n - 1 - e in
     let m : k < n = omega arith in
@@ -190,5 +204,7 @@ relation-made r table e x none v t basis l is empty f =
     let y = combination n (column k r.image) (pivot_units n r.image) in
     let same : x ≡ y = is ∙ get_or-map-range_with_len (λ i. column i s) 0 n k k [] m (omega arith) ∙ column-spread n n k r.image r.image table t basis refl in
     let len : length x ≡ n = ap length same ∙ length-combination n (column k r.image) (pivot_units n r.image) (HaveWidth-units n r.image) in
-    f ∙ ap (λ z. sum_of x (unit_vector (length x) e) ++ z) empty
-    ∙ ap (λ z. z ++ zeros (length r.kernel)) (sum_of-comm x (unit_vector (length x) e) ∙ ap (λ i. sum_of (unit_vector i e) x) len ∙ ap (sum_of (unit_vector n e)) same)
+    let rest : h - n ≡ length r.kernel = omega arith in
+    f ∙ ap (λ i. sum_of (unit_vector i e) x ++ zeros (h - i)) len
+    ∙ ap (λ z. sum_of (unit_vector n e) z ++ zeros (h - n)) same
+    ∙ ap (λ i. relation_of n r.image e ++ zeros i) rest

@@ -1,6 +1,6 @@
 //! The parts of the reduction of rows, with the new ones behind them, from the reduction of their coordinates.
-ghost use Rattle.std.specs.Prelude.{◌≡◌, ℕ, ◌<◌, ◌++◌, length, Some, IfOk, IfSome, OnOk};
-ghost use Rattle.f2_vec.specs.Vectors.{sum_of};
+ghost use Rattle.std.specs.Prelude.{◌≡◌, ℕ, ◌+◌, ◌-◌, ◌<◌, ◌≤◌, ◌++◌, length, Some, IfOk, IfSome, OnOk};
+ghost use Rattle.f2_vec.specs.Vectors.{sum_of, zeros};
 ghost use Rattle.f2_vec.specs.Spans.{row, HaveWidth, unit_vector};
 ghost use Rattle.f2_matrix.specs.Echelon.{HasNoZeroRow};
 ghost use Rattle.f2_matrix.specs.Preimages.{pivot_of};
@@ -47,12 +47,15 @@ pub fn preimages(
     Ok(preimages.into_rows())
 }
 
-/// The reduced relations between the rows, which have zeros at the new ones. The table is of the image's pivots.
+/// The reduced relations between the rows, of length `height`, which have zeros at the new ones. The table is of the image's
+/// pivots.
 pub fn relations(
     alloc: Global,
+    height: usize,
     table: &[Option<usize>],
     reduced: &Reduced,
 ) -> Result<Vec<BitVec>, Memory>
+    requires height { height ≡ reduced.now.cols + length reduced.now.kernel }
     requires table { IsTableOfPivots reduced.now.cols reduced.now.image table.now }
     requires image { IsReducedBasis reduced.now.cols reduced.now.image }
     ensures { IfOk result (λ kernel. kernel.items ≡ relations_of reduced.now) }
@@ -60,24 +63,23 @@ pub fn relations(
     let n = reduced.cols();
     let rows = spread(alloc, table, n, reduced.image())?;
     let columns = Matrix::from_rows(n, rows).transposed(alloc)?;
-    let none = BitVec::zero(alloc, reduced.kernel().len())?;
     let mut kernel = Vec::new(alloc);
     for e in 0..n {
         if table[n - 1 - e].is_none() {
-            kernel.push(relation(alloc, &columns.rows()[n - 1 - e], e, &none)?)?;
+            kernel.push(relation(alloc, height, &columns.rows()[n - 1 - e], e)?)?;
         }
     }
     Ok(kernel)
 }
 
-/// The column with its coordinate `e` turned over, and `none` behind it.
-fn relation(alloc: Global, column: &BitVec, e: usize, none: &BitVec) -> Result<BitVec, Memory>
-    requires { e < length column.now }
-    ensures { IfOk result (λ v. v ≡ sum_of column.now (unit_vector (length column.now) e) ++ none.now) }
+/// The column with its coordinate `e` turned over, and zeros behind it up to length `height`.
+fn relation(alloc: Global, height: usize, column: &BitVec, e: usize) -> Result<BitVec, Memory>
+    requires within { e < length column.now }
+    requires room { length column.now ≤ height }
+    ensures { IfOk result (λ v. v ≡ sum_of (unit_vector (length column.now) e) column.now ++ zeros (height - length column.now)) }
 {
-    let mut relation = column.try_copy(alloc)?;
-    relation.flip(e);
-    relation.append(none)?;
+    let mut relation = BitVec::unit(alloc, height, e)?;
+    relation.xor_at(0, column);
     Ok(relation)
 }
 

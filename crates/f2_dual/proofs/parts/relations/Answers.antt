@@ -26,8 +26,8 @@ bounds-rows-n c =
     let len : length c.rows.result.now ≡ c.cols-n.result = ap length (c.rows.ensures.rows ∙ c.in_ok-columns.ensures.rows) ∙ length-map-range_with_len (λ k. column k c.from_rows.result.rows) 0 c.from_rows.result.cols ∙ c.from_rows.ensures.cols in
     omega (arith, c.loop-e-test.true)
 
-pub relation-requires : goal.relation-requires
-relation-requires c =
+pub relation-requires-clause-within : goal.relation-requires-clause-within
+relation-requires-clause-within c =
     let n = c.cols-n.result in
     let k = n - 1 - c.loop-e.e in
     let len : length c.rows.result.now ≡ n = ap length (c.rows.ensures.rows ∙ c.in_ok-columns.ensures.rows) ∙ length-map-range_with_len (λ k. column k c.from_rows.result.rows) 0 c.from_rows.result.cols ∙ c.from_rows.ensures.cols in
@@ -36,6 +36,17 @@ relation-requires c =
     let wide : length (row c.rows.result.now k) ≡ c.in_ok-columns.columns.cols = ap (λ z. length (row z k)) c.rows.ensures.rows ∙ c.rows.ensures.widths k (omega (arith, ap length c.rows.ensures.rows)) in
     let count : c.in_ok-columns.columns.cols ≡ n = c.in_ok-columns.ensures.cols ∙ ap length (c.from_rows.ensures.rows ∙ c.in_ok-rows.ensures) ∙ length-spread c.args.table.now n c.image.result.now ∙ c.requires.table.size ∙ sym c.cols-n.ensures in
     omega (arith, ap length x, wide, count, c.loop-e-test.true)
+
+pub relation-requires-clause-room : goal.relation-requires-clause-room
+relation-requires-clause-room c =
+    let n = c.cols-n.result in
+    let k = n - 1 - c.loop-e.e in
+    let len : length c.rows.result.now ≡ n = ap length (c.rows.ensures.rows ∙ c.in_ok-columns.ensures.rows) ∙ length-map-range_with_len (λ k. column k c.from_rows.result.rows) 0 c.from_rows.result.cols ∙ c.from_rows.ensures.cols in
+    let l : k < length c.rows.result.now = omega (arith, c.loop-e-test.true) in
+    let x : c.index-rows-n.result ≡ row c.rows.result.now k = get_or_read c.rows.result.now k c.index-rows-n.result l c.index-rows-n.is [] in
+    let wide : length (row c.rows.result.now k) ≡ c.in_ok-columns.columns.cols = ap (λ z. length (row z k)) c.rows.ensures.rows ∙ c.rows.ensures.widths k (omega (arith, ap length c.rows.ensures.rows)) in
+    let count : c.in_ok-columns.columns.cols ≡ n = c.in_ok-columns.ensures.cols ∙ ap length (c.from_rows.ensures.rows ∙ c.in_ok-rows.ensures) ∙ length-spread c.args.table.now n c.image.result.now ∙ c.requires.table.size ∙ sym c.cols-n.ensures in
+    omega (arith, ap length x, wide, count, c.cols-n.ensures, c.requires.height)
 
 pub loop-e-preserved : goal.loop-e-preserved
 loop-e-preserved c =
@@ -54,11 +65,10 @@ loop-e-preserved c =
           let all : w.rows.result.now ≡ columns r.cols (spread_by c.args.table.now r.cols r.image) = w.rows.ensures.rows ∙ c.in_ok-columns.ensures.rows ∙ ap (λ i. columns i c.from_rows.result.rows) (c.from_rows.ensures.cols ∙ cols) ∙ ap (columns r.cols) given in
           let x : w.index-rows-n.result ≡ row (columns r.cols (spread_by c.args.table.now r.cols r.image)) (r.cols - 1 - e) =
           get_or_read w.rows.result.now k w.index-rows-n.result m w.index-rows-n.is [] ∙ ap (λ z. row z k) all ∙ ap (λ i. row (columns r.cols (spread_by c.args.table.now r.cols r.image)) (i - 1 - e)) cols in
-          let none : c.in_ok-none.none ≡ zeros (length r.kernel) = c.in_ok-none.ensures ∙ ap (λ z. zeros (length z)) c.kernel.ensures.rows in
           let vacant : is_some (entry_at c.args.table.now (r.cols - 1 - e)) ≡ false = ap (λ i. is_some (entry_at c.args.table.now (i - 1 - e))) (sym cols) ∙ w.if-is_none.ensures in
           rw w.kernel-is
           (filter_more_true f (is_free r.cols r.image) e c.loop-e.kernel.items w.push.new.self.items w.in_ok-relation.field-0 c.loop-e.invariant (free_where_vacant r.cols e r.image c.args.table.now c.requires.table c.requires.image l vacant) w.in_ok-push.ensures.items
-          (relation-made r c.args.table.now e w.index-rows-n.result c.in_ok-none.none w.in_ok-relation.field-0 c.requires.table c.requires.image l x none w.in_ok-relation.ensures))
+          (relation-made r c.args.table.now c.args.height e w.index-rows-n.result w.in_ok-relation.field-0 c.requires.table c.requires.image c.requires.height l x w.in_ok-relation.ensures))
       | else-is_none w ↦
           let taken : is_some (entry_at c.args.table.now (r.cols - 1 - e)) ≡ true = ap (λ i. is_some (entry_at c.args.table.now (i - 1 - e))) (sym cols) ∙ w.if-is_none.ensures in
           rw w.kernel-is
