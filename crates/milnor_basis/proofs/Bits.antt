@@ -1,5 +1,5 @@
 -- The bits of a degree's basis.
-use Rattle.std.proofs.Common.{◌≡◌, ℕ, zero, suc, ◌+◌, ◌-◌, ◌*◌, ◌<◌, ◌≤◌, ◌^◌, ◌≢◌, inl, inr, Bool, true, false, nat_eq, nat_le, Some, List, [], ◌∷◌, take, length, refl, sym, ◌∙◌, ap, arith, slice_index_or, slice_get}
+use Rattle.std.proofs.Common.{◌≡◌, ℕ, zero, suc, ◌+◌, ◌-◌, ◌*◌, ◌<◌, ◌≤◌, ◌^◌, ◌≢◌, inl, inr, Bool, true, false, nat_eq, nat_le, Some, List, [], ◌∷◌, take, length, refl, sym, ◌∙◌, ap, arith, slice_get}
 use Rattle.std.specs.Cmp.Lexicographic.{pointwise, same_text, other_text}
 use Rattle.std.proofs.lemmas.Option.{get_or_from_slice_get, slice_get_within}
 use Rattle.std.proofs.lemmas.Bool.{eqb-true, eqb-false, eq-eqb, ne_eqb, leb-true, leb-false, cases_Bool, cases_eq}
@@ -7,7 +7,7 @@ use Rattle.std.proofs.Math.Nat.{mul-le-mul_right}
 use Rattle.std.proofs.Math.Pow.{pow_mono}
 use Rattle.f2_vec.specs.Vectors.{plus, sum_of, bit}
 use Rattle.f2_vec.specs.Spans.{unit_vector}
-use Rattle.f2_vec.proofs.Sums.{bit-sum_of, length-sum_of, plus-comm}
+use Rattle.f2_vec.proofs.Sums.{bit-sum_of, plus-comm}
 use Rattle.f2_vec.proofs.Split.{length-unit_vector, bit-unit_vector}
 use Rattle.milnor_basis.specs.Exponents.{entry, degree_of, put_before, trimmed, IsTrimmed}
 use Rattle.milnor_basis.specs.Basis.{basis_of}
@@ -59,9 +59,6 @@ flipped bits at k b l e =
     bit-sum_of bits (unit_vector (length bits) at) k (sym (length-unit_vector (length bits) at))
     ∙ ap (plus (bit bits k)) (bit-unit_vector (length bits) at k l ∙ e)
     ∙ plus-comm (bit bits k) b
-
-pub length-flipped : (bits : List Bool) (at : ℕ) → length (sum_of bits (unit_vector (length bits) at)) ≡ length bits
-length-flipped bits at = length-sum_of bits (unit_vector (length bits) at) (sym (length-unit_vector (length bits) at))
 
 -- no bit is turned over for a list that is no element
 pub turns_none : (degree : ℕ) (xs : List ℕ) (bits : List Bool) → length bits ≡ length (basis_of degree) → ((k : ℕ) → k < length (basis_of degree) → trimmed xs ≢ element degree k) → TurnsOverEqual degree xs bits bits

@@ -1,10 +1,12 @@
 use Rattle.std.proofs.Common.{◌≡◌, ◌<◌, ◌+◌, ◌*◌, ℕ, List, Bool, Some, length, slice_get, ap, sym, subst, ◌∙◌, arith}
 use Rattle.std.proofs.lemmas.Option.{slice_get_within}
+use Rattle.f2_vec.specs.Spans.{unit_vector}
+use Rattle.f2_vec.proofs.Sums.{length-sum_of}
+use Rattle.f2_vec.proofs.Split.{length-unit_vector}
 use Rattle.milnor_basis.specs.Exponents.{trimmed}
 use Rattle.milnor_basis.specs.Basis.{basis_of}
 use Rattle.milnor_basis.specs.Inside.FreeRows.{IsTurnedOver, are_elements}
 use Rattle.milnor_basis.proofs.FreeTable.{within_table, one_turned}
-use Rattle.milnor_basis.proofs.Bits.{length-flipped}
 use Rattle.milnor_basis.proofs.all_products.turn_over_both.Goals as goal
 
 -- the bit is in the table
@@ -31,4 +33,6 @@ returns-clause-turned c =
     (c.in-Some.ensures.found ∙ ap Some c.of.ensures) c.in-Some-place_of_diagonals.ensures.found (ap (λ xs. c.in-Some.row * length xs + c.in-Some-place_of_diagonals.column) c.of_degree.ensures))
 
 pub returns-clause-size : goal.returns-clause-size
-returns-clause-size c = ap length c.flip.ensures ∙ length-flipped c.args.table.now (c.in-Some.row * length c.of_degree.result.now + c.in-Some-place_of_diagonals.column)
+returns-clause-size c =
+    let bit : ℕ = c.in-Some.row * length c.of_degree.result.now + c.in-Some-place_of_diagonals.column in
+    ap length c.flip.ensures ∙ length-sum_of c.args.table.now (unit_vector (length c.args.table.now) bit) (sym (length-unit_vector (length c.args.table.now) bit))

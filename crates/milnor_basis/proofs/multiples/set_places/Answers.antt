@@ -1,4 +1,4 @@
-use Rattle.std.proofs.Common.{drop, set, true, ap, sym, ◌∙◌, ◌+◌, length, arith, slice_index}
+use Rattle.std.proofs.Common.{drop, set, true, ap, sym, ◌∙◌, ◌+◌, length, arith}
 use Rattle.std.proofs.lemmas.List.{length-set}
 use Rattle.milnor_basis.specs.Inside.Kept.{set_at}
 use Rattle.milnor_basis.proofs.KeptProducts.{set_at-more}

@@ -1,5 +1,5 @@
 -- The bits begin clear, so those that are set at the end are the odd coefficients.
-use Rattle.std.proofs.Common.{◌≡◌, ℕ, length, List, Bool, false, slice_index_or, ap, subst, ◌∙◌, arith}
+use Rattle.std.proofs.Common.{◌≡◌, ℕ, length, List, Bool, false, slice_index_or, ap, subst, ◌∙◌}
 use Rattle.f2_vec.proofs.Sums.{length-zeros, bit-zeros}
 use Rattle.milnor_basis.specs.Basis.{basis_of}
 use Rattle.milnor_basis.specs.Inside.Walk.{TurnsOver}

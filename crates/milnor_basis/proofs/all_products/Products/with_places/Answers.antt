@@ -1,4 +1,4 @@
-use Rattle.std.proofs.Common.{rules, ◌≡◌, ℕ, ◌<◌, ◌≤◌, ◌+◌, ◌-◌, ◌*◌, ◌++◌, ◌∷◌, [], List, length, drop, refl, ap, sym, ◌∙◌, arith}
+use Rattle.std.proofs.Common.{rules, ◌≡◌, ℕ, ◌≤◌, ◌+◌, ◌-◌, ◌*◌, ◌++◌, ◌∷◌, [], List, length, drop, refl, ap, sym, ◌∙◌, arith}
 use Rattle.milnor_basis.specs.Product.{places_from}
 use Rattle.milnor_basis.specs.Inside.Kept.{row_at}
 use Rattle.milnor_basis.proofs.KeptProducts.{row_next, row_end}
