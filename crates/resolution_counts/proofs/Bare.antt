@@ -1,12 +1,12 @@
 -- Basis elements of a free module are operations on generators: (g, R) is Sq(R) on the unit vector of (g, ()).
-use Rattle.std.proofs.Common.{◌≡◌, inl, inr, ℕ, ◌<◌, Bool, true, false, ◌&&◌, nat_eq, ℤ, pos, ◌+ℤ◌, List, [], length, map, refl, sym, ◌∙◌, ap, subst, arith}
+use Rattle.std.proofs.Common.{◌≡◌, inl, inr, ℕ, ◌<◌, true, false, ◌&&◌, nat_eq, ℤ, pos, ◌+ℤ◌, List, [], length, map, refl, sym, ◌∙◌, ap, subst, arith}
 use Rattle.std.specs.Cmp.Lexicographic.{bytes_decides, pointwise}
 use Rattle.std.proofs.lemmas.Int.{ints}
 use Rattle.std.proofs.lemmas.Bool.{cases_lt, false_from_ne_true, and_parts, true≢false}
-use Rattle.std.proofs.lemmas.Bool.Decides.{eqb_tells, nat_tests}
+use Rattle.std.proofs.lemmas.Bool.Decides.{eqb_tells}
 use Rattle.std.proofs.lemmas.List.{nil_from_length, ext_get_or, get_or-map, get_or_default, length-map}
 use Rattle.f2_vec.specs.Vectors.{bit}
-use Rattle.f2_vec.specs.Spans.{row, HaveWidth, combination, unit_vector}
+use Rattle.f2_vec.specs.Spans.{row, unit_vector}
 use Rattle.f2_vec.proofs.Combinations.{combination-unit_vector}
 use Rattle.f2_vec.proofs.Split.{length-unit_vector, bit-unit_vector}
 use Rattle.milnor_basis.specs.Exponents.{degree_of, IsTrimmed}
