@@ -16,7 +16,7 @@ stays_done first (Back who i t ∷ events) last (then state e es l legal rest) s
 stays_done first (Fail who i t ∷ events) last (then state e es l legal rest) s k here = stays_done (after first (Fail who i t)) events last rest s k here
 
 -- beyond the bound nothing is counted
-count_past : (test : ℕ → Bool) (n more : ℕ) → ((k : ℕ) → n ≤ k → test k ≡ false) → count_below test (n + more) ≡ count_below test n
+pub count_past : (test : ℕ → Bool) (n more : ℕ) → ((k : ℕ) → n ≤ k → test k ≡ false) → count_below test (n + more) ≡ count_below test n
 count_past test n zero beyond = ap (count_below test) (omega arith)
 count_past test n (suc more) beyond =
     let e : n + suc more ≡ suc (n + more) = omega arith in

@@ -4,8 +4,11 @@ mod Crossing
 pub mod Given
 mod Growth
 pub mod Histories
+mod Lengths
+mod OpenTakes
 mod Progress
 mod Ready
 mod RowsOut
+mod Short
 mod Sound
 pub mod Starts

@@ -80,15 +80,15 @@ none_missing done (suc rows) degrees s k e l m = elim (eqb_tells rows s) [
 -- ---- how far the board is from its end
 
 -- the squares that are done or out
-abbrev busy : State → Squares
+abbrev pub busy : State → Squares
 busy state = λ i j. state.done i j || is_out state.out i j
 
 -- two steps for each square that is neither, and one for each that is out
-abbrev steps : State → ℕ
+abbrev pub steps : State → ℕ
 steps state = 2 * count_missing (busy state) (suc state.rows) (suc state.degrees) + length state.out
 
 -- a list with one entry less
-shorter : (out : List Out) (s k : ℕ) → IsOnce out → is_out out s k ≡ true → length (without out s k) + 1 ≡ length out
+pub shorter : (out : List Out) (s k : ℕ) → IsOnce out → is_out out s k ≡ true → length (without out s k) + 1 ≡ length out
 shorter [] s k once e = cc
 shorter (x ∷ out) s k once e = elim (cases_Bool (nat_eq x.s s && nat_eq x.above k)) [
   | inl same ↦
@@ -155,7 +155,7 @@ busy_give state s k out = fun_ext (λ i. fun_ext (λ j. elim (cases_Bool (nat_eq
       grind arith
 ]))
 
-one_step : (state : State) (event : Event) → AllTakeOrGive (event ∷ []) → IsSound state → IsLegal state event → steps (after state event) + 1 ≡ steps state
+pub one_step : (state : State) (event : Event) → AllTakeOrGive (event ∷ []) → IsSound state → IsLegal state event → steps (after state event) + 1 ≡ steps state
 one_step state (Take who s t snapshot) kind sound legal =
     let k = height state t in
     let ready = subst (λ (n : ℕ). IsReady state s n) (sym (height_is state t legal.above legal.degree)) legal.ready in
@@ -194,7 +194,7 @@ plain_or : (b : Bool) → (b || false) ≡ b
 plain_or true = refl
 plain_or false = refl
 
-steps_at_opening : (bottom : ℤ) (s t : ℕ) (start : List (ℕ × ℤ)) → steps (opening bottom s t start) ≡ 2 * unfinished (opening bottom s t start)
+pub steps_at_opening : (bottom : ℤ) (s t : ℕ) (start : List (ℕ × ℤ)) → steps (opening bottom s t start) ≡ 2 * unfinished (opening bottom s t start)
 steps_at_opening bottom s t start =
     let same : busy (opening bottom s t start) ≡ squares_of bottom start = fun_ext (λ i. fun_ext (λ j. plain_or (squares_of bottom start i j))) in
     let count = ap (λ (f : Squares). count_missing f (suc s) (suc t)) same in

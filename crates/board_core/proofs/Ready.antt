@@ -42,7 +42,7 @@ fronts_stay state (Give who s t) sound legal fronts =
 fronts_stay state (Back who s t) sound legal fronts = fronts
 fronts_stay state (Fail who s t) sound legal fronts = fronts
 
-runs_on : (state : State) (event : Event) → IsSound state → IsLegal state event → state.running ≡ true → (after state event).running ≡ true
+pub runs_on : (state : State) (event : Event) → IsSound state → IsLegal state event → state.running ≡ true → (after state event).running ≡ true
 runs_on state (Take who s t snapshot) sound legal runs = runs
 runs_on state (Give who s t) sound legal runs = runs
 runs_on state (Back who s t) sound legal runs = runs

@@ -1,12 +1,14 @@
 -- What is so after every history of a board, from every start.
-use Rattle.std.specs.Prelude.{◌≡◌, ℕ, zero, suc, ◌+◌, ◌*◌, ◌≤◌, ℤ, true, false, not, List, [], ◌∷◌, ◌++◌, length, Option, Some, None, ⊤}
+use Rattle.std.specs.Prelude.{◌≡◌, ℕ, zero, suc, ◌+◌, ◌*◌, ◌≤◌, ℤ, true, false, not, nat_eq, List, [], ◌∷◌, ◌++◌, length, Option, Some, None, ⊤}
+use Rattle.std.specs.List.{count_by}
 use Rattle.board_core.specs.declared.event.Out.{Out}
 use Rattle.board_core.specs.declared.event.Cause.{Cause}
 use Rattle.board_core.specs.declared.event.Cause.TheVariants.{Failed, Memory}
 use Rattle.board_core.specs.declared.event.Event.{Event}
 use Rattle.board_core.specs.declared.event.Event.TheVariants.{Take, Give, Back, Fail}
 use Rattle.board_core.specs.Board.{IsOnce, IsTaken}
-use Rattle.board_core.specs.Machine.{Squares, State, IsStart, squares_of, opening, count_below, is_out, IsStaircase, IsRowNumber, IsInRange, IsLegal, IsHistory}
+use Rattle.board_core.specs.Entries.{events_by, HasOpenTake}
+use Rattle.board_core.specs.Machine.{Squares, State, IsStart, squares_of, opening, count_below, is_out, IsStaircase, IsRowNumber, IsInRange, IsHeld, IsLegal, IsHistory}
 
 -- the events are accepted one after another from the opening with this range and start, and lead to the state
 pub record IsReached (bottom : ℤ) (s t : ℕ) (start : List (ℕ × ℤ)) (events : List Event) (state : State) : Type 0 where
@@ -36,6 +38,14 @@ pub record AreDoneOnce (bottom : ℤ) (start : List (ℕ × ℤ)) (events : List
 abbrev pub SquaresAreGivenOnce : Type 0
 SquaresAreGivenOnce = (bottom : ℤ) (s t : ℕ) (start : List (ℕ × ℤ)) (events : List Event) (state : State) → IsReached bottom s t start events state → AreDoneOnce bottom start events state
 
+-- how many of the squares that the events give are in row i
+abbrev pub given_in : ℕ → List Event → ℕ
+given_in i events = count_by (λ q. nat_eq q.0 i) (given events)
+
+-- Each square that is given lengthens its row by one: a row has so many squares done more than at the opening.
+abbrev pub FrontsAreGiven : Type 0
+FrontsAreGiven = (bottom : ℤ) (s t : ℕ) (start : List (ℕ × ℤ)) (events : List Event) (state : State) → IsReached bottom s t start events state → (i n : ℕ) → IsRowNumber (opening bottom s t start).done i n → IsRowNumber state.done i (n + given_in i events)
+
 -- each square that is out stands there once; it and the one that failed are in the range, are not done, and have their
 -- parents done
 pub record AreOutOnce (state : State) : Type 0 where
@@ -45,6 +55,10 @@ pub record AreOutOnce (state : State) : Type 0 where
 
 abbrev pub SquaresAreOutOnce : Type 0
 SquaresAreOutOnce = (bottom : ℤ) (s t : ℕ) (start : List (ℕ × ℤ)) (events : List Event) (state : State) → IsReached bottom s t start events state → AreOutOnce state
+
+-- Who has taken a square, and has neither given it nor handed it back nor failed at it, has it still.
+abbrev pub OpenTakeIsHeld : Type 0
+OpenTakeIsHeld = (bottom : ℤ) (s t : ℕ) (start : List (ℕ × ℤ)) (events : List Event) (state : State) → IsReached bottom s t start events state → (who i : ℕ) (u : ℤ) → HasOpenTake (events_by who events) i u → IsHeld state who i u
 
 -- the cause that the first Back or Fail of the events brings, none where they have neither
 abbrev pub first_cause : List Event → Option Cause
@@ -105,3 +119,11 @@ AllTakeOrGive (Fail who s t ∷ events) = ⊥
 -- Two events for each square that the opening leaves unfinished finish the board.
 abbrev pub BoardIsFinished : Type 0
 BoardIsFinished = (bottom : ℤ) (s t : ℕ) (start : List (ℕ × ℤ)) (events : List Event) (state : State) → IsReached bottom s t start events state → AllTakeOrGive events → length events ≡ 2 * unfinished (opening bottom s t start) → (i k : ℕ) → IsInRange state i k → state.done i k ≡ true
+
+-- A history has at most two events for each square of the range that the opening leaves unfinished.
+abbrev pub HistoryIsShort : Type 0
+HistoryIsShort = (bottom : ℤ) (s t : ℕ) (start : List (ℕ × ℤ)) (events : List Event) (state : State) → IsReached bottom s t start events state → length events ≤ 2 * unfinished (opening bottom s t start)
+
+-- The unfinished squares are at most all squares of the range.
+abbrev pub RangeIsAll : Type 0
+RangeIsAll = (state : State) → unfinished state ≤ suc state.rows * suc state.degrees

@@ -1,5 +1,5 @@
 //! What is so after every history of a board, as contracts of functions that do nothing.
-ghost use Rattle.board_core.specs.Laws.{DoneIsStaircase, SquaresAreGivenOnce, SquaresAreOutOnce, CauseIsTheFirst, DoneSquaresGrow, SomeSquareIsReady, BoardIsFinished};
+ghost use Rattle.board_core.specs.Laws.{DoneIsStaircase, SquaresAreGivenOnce, FrontsAreGiven, SquaresAreOutOnce, OpenTakeIsHeld, CauseIsTheFirst, DoneSquaresGrow, SomeSquareIsReady, BoardIsFinished, HistoryIsShort, RangeIsAll};
 
 /// The done squares are a staircase: with each square, they have its parents.
 pub fn done_is_staircase()
@@ -12,10 +12,22 @@ pub fn squares_are_given_once()
     ensures { SquaresAreGivenOnce }
 {}
 
+/// Each square that is given makes its row longer by one: a row has as many squares done as at the opening, and one more for
+/// each Give in it.
+pub fn fronts_are_given()
+    ensures { FrontsAreGiven }
+{}
+
 /// A square that is out stands there once, is in the range, is not done, and has its parents done. The square that failed is
 /// in the range, is not done, and has its parents done.
 pub fn squares_are_out_once()
     ensures { SquaresAreOutOnce }
+{}
+
+/// Who has taken a square, and since then has neither given it nor handed it back nor failed at it, has it still, whatever
+/// the others have done.
+pub fn open_take_is_held()
+    ensures { OpenTakeIsHeld }
 {}
 
 /// The cause that stands is that of the first Back or Fail: `Failed` where it is a Fail, `Memory` where it is a Back, and none
@@ -37,4 +49,11 @@ pub fn some_square_is_ready()
 /// A history without Back and Fail that has twice as many events as there were unfinished squares leaves none unfinished.
 pub fn board_is_finished()
     ensures { BoardIsFinished }
+{}
+
+/// A history has at most two events for each square of the range that was not done at the opening, and these are at most all
+/// squares of the range.
+pub fn history_is_short()
+    ensures twice { HistoryIsShort }
+    ensures all { RangeIsAll }
 {}
