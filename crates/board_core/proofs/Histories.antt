@@ -41,3 +41,8 @@ through_history P keeps first (event ∷ events) last (then state e es l legal r
 
 pub reached_is_sound : (bottom : ℤ) (s t : ℕ) (start : List (ℕ × ℤ)) (events : List Event) (state : State) → IsReached bottom s t start events state → IsSound state
 reached_is_sound bottom s t start events state reached = (through_history (λ _. Unit {0}) (λ _ _ _ _ _. tt) (opening bottom s t start) events state reached.history (opening_is_sound bottom s t start reached.listed) tt).0
+
+-- one event more at the end
+pub history_then : (first : State) (events : List Event) (last : State) (event : Event) → IsHistory first events last → IsLegal last event → IsHistory first (events ++ event ∷ []) (after last event)
+history_then first [] last event (nothing state) legal = then first event [] (after first event) legal (nothing (after first event))
+history_then first (e ∷ events) last event (then state f es l here rest) legal = then first e (events ++ event ∷ []) (after last event) here (history_then (after first e) events last event rest legal)

@@ -1,14 +1,14 @@
 mod BelowFronts
-mod Causes
-mod Crossing
+pub mod Causes
+pub mod Crossing
 pub mod Given
 mod Growth
 pub mod Histories
-mod Lengths
-mod OpenTakes
+pub mod Lengths
+pub mod OpenTakes
 mod Progress
 mod Ready
 mod RowsOut
-mod Short
+pub mod Short
 mod Sound
 pub mod Starts

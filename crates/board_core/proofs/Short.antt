@@ -1,12 +1,13 @@
 -- No square of the range is taken twice, so that a history ends after two events for each.
 use Rattle.std.proofs.Common.{◌≡◌, ℕ, zero, suc, ◌+◌, ◌*◌, ◌≤◌, ℤ, Bool, not, List, [], ◌∷◌, length, Option, Some, None, sym, subst, arith, inl, inr}
 use Rattle.std.proofs.lemmas.Bool.{cases_Bool}
+use Rattle.std.proofs.lemmas.List.{length_push}
 use Rattle.board_core.specs.declared.event.Cause.{Cause}
 use Rattle.board_core.specs.declared.event.Event.{Event}
 use Rattle.board_core.specs.declared.event.Event.TheVariants.{Take, Give, Back, Fail}
 use Rattle.board_core.specs.Board.{IsSound}
 use Rattle.board_core.specs.Laws.{IsReached, count_missing, unfinished}
-use Rattle.board_core.specs.Machine.{Squares, State, IsLegal, IsHistory, count_below, height, after, opening}
+use Rattle.board_core.specs.Machine.{Squares, State, IsHeld, IsLegal, IsHistory, count_below, height, after, opening, without}
 use Rattle.board_core.specs.Machine.IsHistory.{nothing, then}
 use Rattle.board_core.proofs.Histories.{held_at_height, opening_is_sound, stays_sound}
 use Rattle.board_core.proofs.Progress.{busy, steps, one_step, shorter, steps_at_opening}
@@ -58,6 +59,16 @@ history_is_short bottom s t start events state reached =
     let all = all_less (opening bottom s t start) events state reached.history (opening_is_sound bottom s t start reached.listed) in
     let first = steps_at_opening bottom s t start in
     omega arith
+
+-- ---- how many squares are out
+
+pub more_out : (state : State) (who s : ℕ) (t : ℤ) (snapshot : ℕ × ℕ) → length (after state (Take who s t snapshot)).out ≡ length state.out + 1
+more_out state who s t snapshot = length_push state.out (record { who = who; s = s; above = height state t })
+
+pub fewer_out : (state : State) (who s : ℕ) (t : ℤ) → IsSound state → IsHeld state who s t → length (without state.out s (height state t)) + 1 ≡ length state.out
+fewer_out state who s t sound held = shorter state.out s (height state t) sound.once (held_at_height state who s t held)
+
+-- ---- the whole range
 
 count_within : (test : ℕ → Bool) (n : ℕ) → count_below test n ≤ n
 count_within test zero = omega arith
