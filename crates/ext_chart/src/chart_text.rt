@@ -5,13 +5,13 @@ ghost use Rattle.finite_module.specs.Module.{bottom};
 ghost use Rattle.resolution_laws.specs.Resolution.{generator_count};
 ghost use Rattle.square.specs.Tables.{row_in, plain_rows, IsThrough};
 ghost use Rattle.ext_chart.specs.Chart.{mark, row_label, row_line, row_lines, stems_line, chart_text};
+ghost use Rattle.square.specs.Squares.{bottom_of};
 
 use crate::images::images;
 use itoa::Buffer;
 use memory::Memory;
 use square::{Range, Table};
 use std::alloc::Global;
-ghost use Rattle.square.specs.Squares.{bottom_of};
 
 /// The mark of a square with this number of generators.
 fn mark(count: usize) -> u8

@@ -4,10 +4,10 @@ ghost use Rattle.f2_vec.specs.Spans.{HaveWidth};
 ghost use Rattle.square.specs.declared.range.TheConstants.{MAX_T};
 ghost use Rattle.square.specs.Tables.{row_in, plain_rows, content_at};
 ghost use Rattle.ext_chart.specs.Dump.{image_width};
+ghost use Rattle.square.specs.Squares.{bottom_of};
 
 use f2_vec::BitVec;
 use square::Table;
-ghost use Rattle.square.specs.Squares.{bottom_of};
 
 /// The internal degree that is `k` above the bottom.
 pub(crate) fn degree(table: &Table, k: u16) -> i32

@@ -6,9 +6,9 @@ ghost use Rattle.ext_chart.specs.Inside.Targets.{IsNamed, IsTargetOf, text_over,
 use crate::row_gens::{RowGens, row_gens};
 use crate::terms::free_sum_text;
 use f2_vec::BitVec;
+use finite_module::Module;
 use memory::Memory;
 use milnor_basis::Basis;
-use finite_module::Module;
 use square::Table;
 use std::alloc::Global;
 

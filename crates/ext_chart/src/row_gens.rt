@@ -3,6 +3,7 @@ ghost use Rattle.std.specs.Prelude.{◌≡◌, IfOk};
 ghost use Rattle.resolution_laws.specs.Resolution.{row_of, degrees_from};
 ghost use Rattle.square.specs.Tables.{plain_rows};
 ghost use Rattle.ext_chart.specs.Dump.{places_from};
+ghost use Rattle.square.specs.Squares.{bottom_of};
 
 use crate::images::{degree, images};
 use crate::place::{Place, with_square};
@@ -10,7 +11,6 @@ use free_module::Gens;
 use memory::Memory;
 use square::Table;
 use std::alloc::Global;
-ghost use Rattle.square.specs.Squares.{bottom_of};
 
 /// The generators of a row: their degrees, and their places.
 #[derive(Drop)]

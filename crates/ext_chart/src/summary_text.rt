@@ -4,13 +4,13 @@ ghost use Rattle.std.specs.List.{sum};
 ghost use Rattle.resolution_laws.specs.Resolution.{generator_count};
 ghost use Rattle.square.specs.Tables.{row_in, plain_rows, IsThrough};
 ghost use Rattle.ext_chart.specs.Summary.{row_total, row_totals, module_line, squares_line, gens_line, total_line, total_lines, summary_text};
+ghost use Rattle.square.specs.Squares.{bottom_of};
 
 use crate::images::images;
 use itoa::Buffer;
 use memory::Memory;
 use square::{Range, Table};
 use std::alloc::Global;
-ghost use Rattle.square.specs.Squares.{bottom_of};
 
 /// How many generators row `s` has through `t` degrees above the bottom.
 fn row_total(table: &Table, s: u16, t: u16) -> Result<usize, Memory>

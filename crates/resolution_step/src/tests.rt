@@ -4,8 +4,8 @@ ghost use Rattle.square.specs.declared.range.TheConstants.{MAX_S, MAX_T};
 
 use crate::{resolve_alone, step};
 use f2_vec::BitVec;
-use memory::Memory;
 use finite_module::Module;
+use memory::Memory;
 use square::{KeepFault, MemKeep, NoKeep, Range, Table};
 use std::alloc::Global;
 use std::test::Fail;

@@ -2,10 +2,10 @@
 ghost use Rattle.square.specs.Below.{graded_of, reaches_of, below_HasUnit, below_KeepsWidths};
 
 use f2_vec::BitVec;
+use finite_module::Module;
 use free_module::{Gens, Target};
 use memory::Memory;
 use milnor_basis::{Basis, Exps};
-use finite_module::Module;
 use std::alloc::Global;
 
 /// The target of d_s: the module for row 0, and for a row above it the free module on generators of the row below.
