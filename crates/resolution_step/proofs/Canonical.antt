@@ -10,7 +10,8 @@ use Rattle.square.specs.Squares.{Placed, over}
 use Rattle.square.specs.Tables.{Staircase, contents, row_in, plain_rows, content_at, IsThrough}
 use Rattle.square.proofs.Places.{length-row_of, slice_get-there, content_at-is}
 use Rattle.square.proofs.Found.{row_within}
-use Rattle.resolution_step.specs.Alone.{cut, HasGrown, AreOfStart}
+use Rattle.square.specs.Growing.{HasGrown}
+use Rattle.resolution_step.specs.Alone.{cut, AreOfStart}
 
 -- the rows of the range
 module _ (range : Range) (rows : List (List Placed)) (through : IsThrough range rows) where

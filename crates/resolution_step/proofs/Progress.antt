@@ -1,22 +1,17 @@
 -- What becomes of a table and its keeper, one square after the other.
-use Rattle.std.proofs.Common.{◌≡◌, ◌⊎◌, ℕ, ◌<◌, List, [], ◌∷◌, ◌++◌, length, Option, Some, None, IfSome, refl, sym, ◌∙◌, ap, subst}
-use Rattle.std.specs.Option.{option_map}
+use Rattle.std.proofs.Common.{◌≡◌, ◌⊎◌, ℕ, ◌<◌, List, [], ◌∷◌, ◌++◌, length, refl, ◌∙◌, ap, subst}
 use Rattle.std.proofs.lemmas.List.Elements.{All-nil, All-cons, All-append, All-weaker}
-use Rattle.std.proofs.lemmas.Option.{IfSome_then}
 use Rattle.resolution_laws.specs.Resolution.{Module}
 use Rattle.resolution_laws.specs.Start.{Entry}
-use Rattle.square.specs.Squares.{Placed, entry_of, over}
-use Rattle.square.specs.Tables.{Staircase, with_square, IsNext}
-use Rattle.square.specs.Keeping.{Keeper, with_squares, HoldsTable, IsKeeperOf, HasKept}
+use Rattle.square.specs.Squares.{over}
+use Rattle.square.specs.Tables.{Staircase}
+use Rattle.square.specs.Keeping.{Keeper, HasKept}
 use Rattle.square.proofs.Kept.{IsSettled, HasKept-none, HasKept-then}
 use Rattle.resolution_step.specs.Alone.{HasGiven}
 use Rattle.resolution_step.specs.Inside.Adding.{HasAdded}
 use Rattle.resolution_step.proofs.Orders.{in_order_none, in_order_one, in_order_both, new_none, new_weaker, new_both}
-use Rattle.resolution_step.proofs.Pushes.{HasGrown-then, HasGrown-same, AreOfStart-same, HoldsTable-push}
-
-onto : {X Y : Type 0} (o : Option X) (f : X → Y) (P : X → Type 0) (Q : Y → Type 0) → ((x : X) → P x → Q (f x)) → IfSome o P → IfSome (option_map f o) Q
-onto None f P Q h p = tt
-onto (Some x) f P Q h p = h x p
+use Rattle.square.proofs.Growing.{HasGrown-then, HasGrown-same}
+use Rattle.resolution_step.proofs.Pushes.{AreOfStart-same}
 
 -- ---- what is given
 
@@ -40,17 +35,6 @@ HasAdded-none at old new before after resolved start rows kept = record {
 -- nothing was done
 pub HasAdded-start : (at : ℕ → ℕ → Type 0) (keeper : Keeper) (table : Staircase) → IsSettled keeper → HasAdded at keeper keeper table table
 HasAdded-start at keeper table settled = HasAdded-none at keeper keeper table table refl refl refl (HasKept-none (over table.resolved) table.start keeper settled)
-
--- the keeper goes with the table that has one square more
-pub IsKeeperOf-more : (old new : Keeper) (a q : Placed) (before after : Staircase) → a ≡ q → IsKeeperOf old before → new.kept ≡ with_squares old.kept (entry_of a ∷ []) → new.resolved ≡ old.resolved → new.start ≡ old.start → after.resolved ≡ before.resolved → after.start ≡ before.start → after.rows ≡ with_square before.rows q.s q → q.s < length before.rows → IsNext before.rows q.s q.above → IsKeeperOf new after
-IsKeeperOf-more old new a q before after same goes put e f g h rows l next =
-    let Q : List Entry → Type 0 = λ list. HoldsTable list after.rows in
-    let step : (list : List Entry) → HoldsTable list before.rows → Q (list ++ entry_of a ∷ []) = λ list holds. subst (λ (x : Placed). Q (list ++ entry_of x ∷ [])) (sym same) (HoldsTable-push list before.rows after.rows q rows l next holds) in
-    record {
-      holds = subst (λ o. IfSome o Q) (sym put) (onto old.kept (λ list. list ++ entry_of a ∷ []) (λ list. HoldsTable list before.rows) Q step goes.holds);
-      resolved = subst (λ o. IfSome o (λ m. after.resolved ≡ m)) (sym e) (IfSome_then old.resolved goes.resolved (λ m r. g ∙ r));
-      start = subst (λ o. IfSome o (λ st. after.start ≡ st)) (sym f) (IfSome_then old.start goes.start (λ st r. h ∙ r));
-    }
 
 -- ---- one after the other
 

@@ -1,5 +1,5 @@
 -- A table that is continued through a range, and the keeper that its new squares are given to.
-use Rattle.std.specs.Prelude.{◌≡◌, ℕ, ◌+◌, ◌<◌, ◌≤◌, ◌⊎◌, List, ◌++◌, length, map, take, slice_get, Some}
+use Rattle.std.specs.Prelude.{◌≡◌, ℕ, ◌+◌, ◌<◌, ◌≤◌, ◌⊎◌, List, length, map, take, slice_get, Some}
 use Rattle.std.specs.List.{All, AllPairs}
 use Rattle.resolution_laws.specs.Resolution.{Module, Content}
 use Rattle.resolution_laws.specs.Start.{Entry, IsOf}
@@ -13,17 +13,6 @@ use Rattle.square.specs.Keeping.{Keeper, HasKept}
 -- the contents of the squares of the range
 abbrev pub cut : Range → List (List Content) → List (List Content)
 cut range rows = map (take (range.t + 1)) (take (range.s + 1) rows)
-
--- new is old, with more squares at the end
-pub record IsMore (old new : List Placed) : Type 0 where
-  pub more : List Placed
-  pub is : new ≡ old ++ more
-
--- the table continues another of its module and start: each row begins with the old one
-pub record HasGrown (old new : Staircase) : Type 0 where
-  pub resolved : new.resolved ≡ old.resolved
-  pub start : new.start ≡ old.start
-  pub rows : (s : ℕ) → IsMore (row_in old.rows s) (row_in new.rows s)
 
 -- each square of the table is that of its start's table
 abbrev pub AreOfStart : Staircase → Type 0

@@ -9,8 +9,9 @@ ghost use Rattle.square.specs.declared.keep.KeepFault.TheVariants.{Failed, Memor
 ghost use Rattle.square.specs.declared.range.TheConstants.{MAX_S, MAX_T};
 ghost use Rattle.square.specs.Squares.{over};
 ghost use Rattle.square.specs.Tables.{row_in, plain_rows, IsThrough, IsNextAt};
+ghost use Rattle.square.specs.Growing.{HasGrown};
 ghost use Rattle.square.specs.Keeping.{IsKeeperOf};
-ghost use Rattle.resolution_step.specs.Alone.{cut, HasGrown, AreOfStart, AreNewAt, IsInRange, HasGiven};
+ghost use Rattle.resolution_step.specs.Alone.{cut, AreOfStart, AreNewAt, IsInRange, HasGiven};
 ghost use Rattle.resolution_step.specs.Inside.Adding.{IsNewAt, IsEndOf, IsInRow, HasAdded};
 
 use crate::step_on::step;

@@ -2,6 +2,7 @@ mod RowWidths
 pub mod Footings
 pub mod Places
 pub mod Pushing
+pub mod Growing
 mod FirstParts
 pub mod Kept
 mod Rows

@@ -4,7 +4,8 @@ use Rattle.resolution_laws.specs.Start.{IsOf}
 use Rattle.square.specs.Squares.{Placed, over, bottom_of}
 use Rattle.square.specs.Tables.{Staircase, row_in}
 use Rattle.square.specs.Keeping.{Keeper}
-use Rattle.resolution_step.specs.Alone.{HasGrown, AreOfStart, AreNewAt, HasGiven}
+use Rattle.square.specs.Growing.{HasGrown}
+use Rattle.resolution_step.specs.Alone.{AreOfStart, AreNewAt, HasGiven}
 
 -- the square is new at (s, t), and continues the table's start without having been read
 pub record IsNewAt (table : Staircase) (s : ℕ) (t : ℤ) (q : Placed) : Type 0 where

@@ -4,7 +4,7 @@ use Rattle.finite_module.specs.Module.{bottom}
 use Rattle.finite_module.specs.Checked.{Checked}
 use Rattle.square.specs.Tables.{row_in}
 use Rattle.resolution_step.specs.Inside.Adding.{IsEndOf, IsInRow}
-use Rattle.resolution_step.proofs.Pushes.{length-IsMore}
+use Rattle.square.proofs.Growing.{length-IsMore}
 use Rattle.resolution_step.proofs.Progress.{HasAdded-start, HasAdded-weaker, HasAdded-then}
 use Rattle.resolution_step.proofs.alone.add_row.Goals as goal
 use Rattle.square.specs.Squares.{bottom_of}

@@ -4,7 +4,7 @@ use Rattle.square.specs.declared.range.Range.{Range}
 use Rattle.square.specs.Tables.{row_in}
 use Rattle.resolution_step.specs.Alone.{IsInRange}
 use Rattle.resolution_step.specs.Inside.Adding.{IsInRow}
-use Rattle.resolution_step.proofs.Pushes.{length-IsMore}
+use Rattle.square.proofs.Growing.{length-IsMore}
 use Rattle.resolution_step.proofs.Progress.{HasAdded-start, HasAdded-weaker, HasAdded-then}
 use Rattle.resolution_step.proofs.alone.add_rows.Goals as goal
 

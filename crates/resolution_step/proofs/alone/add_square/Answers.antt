@@ -12,8 +12,9 @@ use Rattle.square.proofs.Kept.{HasKept-none, HasKept-tried, HasKept-one}
 use Rattle.square.proofs.Places.{next_length}
 use Rattle.resolution_step.specs.Inside.Adding.{IsEndOf}
 use Rattle.resolution_step.proofs.Orders.{new_one}
-use Rattle.resolution_step.proofs.Pushes.{HasGrown-push, length-push, longer-push, AreOfStart-push, IsNextIn-table, IsNext-new}
-use Rattle.resolution_step.proofs.Progress.{given_one, HasAdded-start, HasAdded-none, IsKeeperOf-more}
+use Rattle.square.proofs.Growing.{HasGrown-push, length-push, longer-push, IsNextIn-table, IsKeeperOf-more}
+use Rattle.resolution_step.proofs.Pushes.{AreOfStart-push, IsNext-new}
+use Rattle.resolution_step.proofs.Progress.{given_one, HasAdded-start, HasAdded-none}
 use Rattle.resolution_step.proofs.alone.add_square.Given.{Over}
 use Rattle.resolution_step.proofs.alone.add_square.Goals as goal
 use Rattle.resolution_step.proofs.alone.add_square.Goals.{After-drop-square-in_err-keep}

@@ -4,7 +4,7 @@ use Rattle.square.specs.declared.range.TheConstants.{MAX_S}
 use Rattle.square.specs.Tables.{Staircase}
 use Rattle.square.specs.Keeping.{HoldsTable}
 use Rattle.square.specs.Inside.MemKeep.{Kept}
-use Rattle.resolution_step.proofs.Pushes.{HoldsTable-none}
+use Rattle.square.proofs.Growing.{HoldsTable-none}
 use Rattle.resolution_step.proofs.tests.a_keeper_that_fails.Goals as goal
 
 pub resolve_alone-resolved-requires-clause-of_table : goal.resolve_alone-resolved-requires-clause-of_table
