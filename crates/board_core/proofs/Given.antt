@@ -18,7 +18,7 @@ or_false true b = refl
 or_false false true = refl
 or_false false false = refl
 
-squares_with : (b : ℤ) (list : List (ℕ × ℤ)) (s k : ℕ) (t : ℤ) → IsAbove b t k → squares_of b (list ++ (s, t) ∷ []) ≡ insert_square (squares_of b list) s k
+pub squares_with : (b : ℤ) (list : List (ℕ × ℤ)) (s k : ℕ) (t : ℤ) → IsAbove b t k → squares_of b (list ++ (s, t) ∷ []) ≡ insert_square (squares_of b list) s k
 squares_with b list s k t at = fun_ext (λ i. fun_ext (λ j.
     list_any-append (λ (q : ℕ × ℤ). nat_eq i q.0 && is_number (above_of b q.1) j) list ((s, t) ∷ [])
     ∙ or_false (squares_of b list i j) (nat_eq i s && is_number (above_of b t) j)
@@ -42,7 +42,7 @@ place (y ∷ list) q (suc n) x e = elim (place list q n x e) [
   | inr p ↦ inr (record { same = p.same; rest = ap (λ l. y ∷ l) p.rest })
 ]
 
-start_with : (b : ℤ) (list : List (ℕ × ℤ)) (q : ℕ × ℤ) → IsStart b list → IsNextSquare b list q → IsStart b (list ++ q ∷ [])
+pub start_with : (b : ℤ) (list : List (ℕ × ℤ)) (q : ℕ × ℤ) → IsStart b list → IsNextSquare b list q → IsStart b (list ++ q ∷ [])
 start_with b list q start next n x e = elim (place list q n x e) [
   | inl p ↦ subst (λ (l : List (ℕ × ℤ)). IsNextSquare b l x) (sym p.rest) (start n x p.here)
   | inr p ↦ subst (λ (l : List (ℕ × ℤ)). IsNextSquare b l x) (sym p.rest) (subst (λ (y : ℕ × ℤ). IsNextSquare b list y) (sym p.same) next)

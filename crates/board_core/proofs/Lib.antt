@@ -1,4 +1,4 @@
-mod BelowFronts
+pub mod BelowFronts
 pub mod Causes
 pub mod Crossing
 pub mod Given
