@@ -1,0 +1,32 @@
+-- Courses with one event more.
+use Rattle.std.proofs.Common.{◌≡◌, ℕ, List, [], ◌∷◌, ◌++◌, refl, sym, ap, subst}
+use Rattle.board_core.specs.declared.event.Event.{Event}
+use Rattle.board_core.specs.Machine.{State, IsLegal, IsHistory, after, opening}
+use Rattle.board_core.proofs.Histories.{history_then}
+use Rattle.board_core.specs.Entries.{who_of}
+use Rattle.square_board.specs.Courses.{Course, after_all, state_of, with_event, IsLegalCourse, numbered, events_of}
+
+pub after_all-then : (state : State) (events : List Event) (event : Event) → after_all state (events ++ event ∷ []) ≡ after (after_all state events) event
+after_all-then state [] event = refl
+after_all-then state (e ∷ events) event = after_all-then (after state e) events event
+
+pub state_of-then : (course : Course) (event : Event) → state_of (with_event course event) ≡ after (state_of course) event
+state_of-then course event = after_all-then (opening course.bottom course.rows course.degrees course.start) course.history event
+
+pub legal-then : (course : Course) (event : Event) → IsLegalCourse course → IsLegal (state_of course) event → IsLegalCourse (with_event course event)
+legal-then course event legal accepted =
+    let first = opening course.bottom course.rows course.degrees course.start in
+    record {
+      listed = legal.listed;
+      history = subst (IsHistory first (course.history ++ event ∷ [])) (sym (state_of-then course event)) (history_then first course.history (state_of course) event legal.history accepted);
+    }
+
+-- ---- events with their numbers
+
+pub events_of-numbered : (events : List Event) → events_of (numbered events) ≡ events
+events_of-numbered [] = refl
+events_of-numbered (event ∷ events) = ap (λ (l : List Event). event ∷ l) (events_of-numbered events)
+
+pub numbered-then : (events : List Event) (event : Event) → numbered (events ++ event ∷ []) ≡ numbered events ++ (who_of event, event) ∷ []
+numbered-then [] event = refl
+numbered-then (e ∷ events) event = ap (λ (l : List (ℕ × Event)). (who_of e, e) ∷ l) (numbered-then events event)

@@ -1,0 +1,7 @@
+mod Courses
+mod Schedules
+mod Starts
+mod Desks
+mod Ranges
+mod Putting
+mod Held

@@ -1,0 +1,18 @@
+use Rattle.std.proofs.Common.{◌≡◌, ℤ, w32, to_z, of_z, refl, sym, subst, arith}
+use Rattle.std.proofs.lemmas.Int.{to_z-of_z}
+use Rattle.board_core.specs.declared.event.Event.TheVariants.{Give}
+use Rattle.board_core.specs.Board.{state_of as core_state}
+use Rattle.board_core.specs.Machine.{State, IsHeldWithoutCause}
+use Rattle.square_board.specs.Courses.{Course, state_of}
+use Rattle.square_board.proofs.Schedules.{ended}
+use Rattle.square_board.proofs.schedule.Schedule.give.Goals as goal
+
+pub invariant_of-self : goal.invariant_of-self
+invariant_of-self c =
+    let t : ℤ = to_z w32 (of_z w32 c.args.t) in
+    let same : t ≡ c.args.t = to_z-of_z w32 c.args.t c.ranges.t in
+    let in_view = subst (λ (d : Course). IsHeldWithoutCause (state_of d) c.args.who c.args.s c.args.t) (sym c.self.view_is) c.requires in
+    let his = subst (λ (u : ℤ). IsHeldWithoutCause (core_state c.self.inside.core) c.args.who c.args.s u) (sym same) (subst (λ (x : State). IsHeldWithoutCause x c.args.who c.args.s c.args.t) (sym c.self.invariant.state) in_view) in
+    ended c.self.inside.core c.enter.new.core c.self.inside.start c.self.inside.history.items c.enter.new.history.items (Give c.args.who c.args.s t) c.args.who c.args.s t c.self.inside.jobs _ _ c.self.invariant
+    (record { legal = his; state = c.enter.ensures.state; items = c.enter.ensures.items })
+    his.held refl (omega arith) (omega arith)

@@ -1,0 +1,4 @@
+-- What private contracts and the invariants cite.
+pub mod Schedules
+pub mod Starts
+pub mod Putting

@@ -1,0 +1,5 @@
+pub mod Courses
+pub mod Openings
+pub mod Jobs
+pub mod Desks
+pub mod Inside

@@ -1,0 +1,286 @@
+//! What lies behind the turn of a board: one plain value, in which every call of the board is a method.
+ghost use Rattle.std.specs.Prelude.{◌≡◌, ◌⊎◌, ℕ, suc, ◌+◌, ◌*◌, ◌<◌, ◌≤◌, ◌^◌, ◌↔◌, Ok, Err, None, Some, true, false, [], ◌∷◌, ◌++◌, length, option_map, IfOk, IfErr, IfSome, OnOk, OnErr};
+ghost use Rattle.std.specs.Arc.{arc_value};
+ghost use Rattle.edge.specs.Faults.{HasRisen};
+ghost use Rattle.board_core.specs.declared.event.Cause.{Cause};
+ghost use Rattle.board_core.specs.declared.event.Event.TheVariants.{Take, Give, Back, Fail};
+ghost use Rattle.board_core.specs.Entries.{events_by};
+ghost use Rattle.board_core.specs.Laws.{first_cause, HasUnfinished};
+ghost use Rattle.board_core.specs.Machine.{IsInRange, IsRowNumber, IsRowNumberBelow};
+ghost use Rattle.resolution_laws.specs.Start.{IsOf};
+ghost use Rattle.square.specs.declared.range.TheConstants.{MAX_S, MAX_T};
+ghost use Rattle.square.specs.Squares.{module_over};
+ghost use Rattle.square.specs.Tables.{IsTable, IsNext, square_at};
+ghost use Rattle.square.specs.declared.keep.KeepFault as KeepFault;
+ghost use Rattle.square.specs.Keeping.{IsKeeperOf};
+ghost use Rattle.square_board.specs.declared.job.GiveFault as GiveFault;
+ghost use Rattle.square_board.specs.declared.job.GiveFault.TheVariants.{Failed, Memory as WantOfMemory, Stopped as HasStopped};
+ghost use Rattle.square_board.specs.declared.job.Taken.TheVariants.{Job as AJob, Idle, Over, Stopped};
+ghost use Rattle.square_board.specs.Courses.{Course, state_of, with_event, numbered, events_of};
+ghost use Rattle.square_board.specs.Openings.{IsOpenedWith, front_after};
+ghost use Rattle.square_board.specs.Desks.{DeskState, IsDesk, IsOver, IsIdle, IsJobOf, IsMadeFrom, MatchTaken, HasTaken, IsDeskState, having_entered};
+ghost use Rattle.square_board.specs.Jobs.{degree_of};
+ghost use Rattle.square_board.specs.Inside.Putting.{HasPut, HasNotPut};
+
+use crate::job::{GiveFault, Job, Taken};
+use crate::opening::{Opening, squares_of};
+use crate::schedule::Schedule;
+use board_core::Event;
+use ghost_list::GhostList;
+use memory::Memory;
+use square::{Keep, KeepFault, Range, Square, Table};
+use std::alloc::Global;
+use std::marker::Model;
+use std::snapshot::Snapshot;
+use std::sync::Arc;
+use turn_lock::Told;
+
+/// The machine with its history, the table with the squares that are done, and their keeper.
+#[derive(Drop)]
+pub struct Desk<K: Keep> {
+    pub(crate) schedule: Schedule,
+    pub(crate) table: Table,
+    pub(crate) keeper: K,
+    pub(crate) opening: Opening<K>,
+}
+
+impl<K: Keep> Model for Desk<K> {
+    ghost use Rattle.square_board.specs.Desks.{DeskState, IsDesk};
+
+    ghost Value = { DeskState K };
+
+    ghost view = { λ d. record { opening = d.opening; course = d.schedule; table = d.table; keeper = d.keeper } };
+
+    ghost invariant = { λ d. IsDesk (K.telling d.opening.keeper.value) (K.telling d.keeper) d.opening d.schedule d.table };
+}
+
+impl<K: Keep> Desk<K> {
+    /// The desk before the first event, where the squares of the table are done.
+    ///
+    /// # Errors
+    /// `Memory` if allocation fails, with the keeper.
+    pub(crate) fn new(
+        alloc: Global,
+        table: Table,
+        range: Range,
+        keeper: K,
+    ) -> Result<Desk<K>, (Memory, K)>
+        requires rows { range.s ≤ MAX_S }
+        requires degrees { range.t ≤ MAX_T }
+        requires live { (K.telling keeper).live }
+        requires of_table { IsKeeperOf (K.telling keeper) table }
+        ensures opened { IfOk result (λ desk. IsOpenedWith desk.opening table range keeper) }
+        ensures empty { IfOk result (λ desk. desk.course.history ≡ []) }
+        ensures table { IfOk result (λ desk. desk.table ≡ table) }
+        ensures keeper { IfOk result (λ desk. desk.keeper ≡ keeper) }
+        ensures err { IfErr result (λ e. e.1 ≡ keeper) }
+    {
+        let Ok(start) = squares_of(alloc, &table) else {
+            return Err((Memory, keeper));
+        };
+        let bottom = table.module().bottom();
+        let Ok(schedule) = Schedule::new(alloc, range.s, range.t, bottom, start.as_slice()) else {
+            return Err((Memory, keeper));
+        };
+        let opening = Opening {
+            table: Snapshot::of(&table),
+            keeper: Snapshot::of(&keeper),
+            range,
+            start: GhostList::of(start.as_slice()),
+        };
+        Ok(Desk {
+            schedule,
+            table,
+            keeper,
+            opening,
+        })
+    }
+
+    /// Gives the ready square of the least row out to `who`, with what it is made from.
+    ///
+    /// # Errors
+    /// `Memory` if allocation fails; nothing is taken then.
+    pub(crate) fn take(&mut self, alloc: Global, who: u64) -> Result<Taken, Memory>
+        ensures job { MatchTaken result (λ job. HasTaken self.old self.new who job) (self.new ≡ self.old) }
+        ensures idle { (result ≡ Ok Idle) ↔ IsIdle (state_of self.old.course) }
+        ensures over { (result ≡ Ok Over) ↔ IsOver (state_of self.old.course) }
+        ensures stopped { (cause : Cause) → (result ≡ Ok (Stopped cause)) ↔ ((state_of self.old.course).cause ≡ Some cause) }
+        ensures is_desk { IsDeskState K.telling self.new }
+    {
+        if let Some(cause) = self.schedule.stopped() {
+            return Ok(Taken::Stopped(cause));
+        }
+        let Some((s, t)) = self.schedule.ready() else {
+            return Ok(self.without_ready());
+        };
+        let inputs = self.table.inputs(alloc, s, t)?;
+        let snapshot = self.snapshot(s);
+        self.schedule.take(who, s, t, snapshot)?;
+        Ok(Taken::Job(Job { who, inputs }))
+    }
+
+    /// What a take answers where no square is ready and no cause stands.
+    fn without_ready(&self) -> Taken
+        ensures idle { (result ≡ Idle) × HasUnfinished (state_of self.now.course) ⊎ (result ≡ Over) × ((s k : ℕ) → IsInRange (state_of self.now.course) s k → (state_of self.now.course).done s k ≡ true) }
+    {
+        if self.table.front(self.opening.range.s) > usize::from(self.opening.range.t) {
+            Taken::Over
+        } else {
+            Taken::Idle
+        }
+    }
+
+    /// How many squares are done of row `s`, and of the row below it, 0 for row 0.
+    fn snapshot(&self, s: u16) -> (u64, u64)
+        ensures row { IsRowNumber (state_of self.now.course).done s result.0 }
+        ensures below { IsRowNumberBelow (state_of self.now.course).done s result.1 }
+    {
+        let below = if s == 0 {
+            0
+        } else {
+            self.table.front(s - 1) as u64
+        };
+        (self.table.front(s) as u64, below)
+    }
+
+    /// Takes a square that was made: it is kept, and then it is done.
+    ///
+    /// # Errors
+    /// `Stopped` with the cause that stood before; then the keeper is not called. `Failed` if the keeper failed, and `Memory` if
+    /// there is no memory; nothing is kept then. The square is out no more, and it is not done.
+    pub(crate) fn give(&mut self, alloc: Global, job: Job, square: Square) -> Result<(), GiveFault>
+        requires job { IsJobOf self.old.opening job.who (events_by job.who self.old.course.history) job }
+        requires made { IsMadeFrom job.inputs square }
+        ensures opening { self.new.opening ≡ self.old.opening }
+        ensures ok { OnOk result (self.new.course ≡ with_event self.old.course (Give job.who job.inputs.s (degree_of job.inputs))) }
+        ensures stopped { (cause : Cause) → (result ≡ Err (HasStopped cause)) ↔ ((state_of self.old.course).cause ≡ Some cause) }
+        ensures uncalled { (cause : Cause) → result ≡ Err (HasStopped cause) → self.new ≡ having_entered self.old (Back job.who job.inputs.s (degree_of job.inputs)) }
+        ensures failed { result ≡ Err Failed → self.new.course ≡ with_event self.old.course (Fail job.who job.inputs.s (degree_of job.inputs)) }
+        ensures risen { result ≡ Err Failed → HasRisen (K.telling self.old.keeper).faults (K.telling self.new.keeper).faults }
+        ensures memory { result ≡ Err WantOfMemory → self.new.course ≡ with_event self.old.course (Back job.who job.inputs.s (degree_of job.inputs)) }
+        ensures unkept { result ≡ Err WantOfMemory → self.new.keeper ≡ self.old.keeper }
+        ensures is_desk { IsDeskState K.telling self.new }
+    {
+        let (s, t) = (job.s(), job.t());
+        let Job { who, inputs: _ } = job;
+        if let Some(cause) = self.schedule.stopped() {
+            self.schedule.back(who, s, t);
+            return Err(GiveFault::Stopped(cause));
+        }
+        match put(alloc, &mut self.table, &mut self.keeper, square) {
+            Ok(()) => {
+                self.schedule.give(who, s, t);
+                Ok(())
+            }
+            Err(KeepFault::Failed) => {
+                self.schedule.fail(who, s, t);
+                Err(GiveFault::Failed)
+            }
+            Err(KeepFault::Memory) => {
+                self.schedule.back(who, s, t);
+                Err(GiveFault::Memory)
+            }
+        }
+    }
+
+    /// Takes a square back that was not made.
+    pub(crate) fn back(&mut self, job: Job)
+        requires { IsJobOf self.old.opening job.who (events_by job.who self.old.course.history) job }
+        ensures entered { self.new ≡ having_entered self.old (Back job.who job.inputs.s (degree_of job.inputs)) }
+        ensures is_desk { IsDeskState K.telling self.new }
+    {
+        let (s, t) = (job.s(), job.t());
+        let Job { who, inputs: _ } = job;
+        self.schedule.back(who, s, t);
+    }
+
+    /// The square in row `s` and of degree `t`, none where it is not done.
+    ///
+    /// # Errors
+    /// `Memory` if it has too many owners to count.
+    pub(crate) fn look(&self, s: u16, t: i32) -> Result<Option<Arc<Square>>, Memory>
+        ensures square { IfOk result (λ found. option_map arc_value found ≡ square_at self.now.table s t) }
+        ensures is_desk { IsDeskState K.telling self.now }
+        ensures is_table { IsTable self.now.table }
+    {
+        let Some(square) = self.table.at(s, t) else {
+            return Ok(None);
+        };
+        match Arc::try_clone(square) {
+            Ok(shared) => Ok(Some(shared)),
+            Err(_) => Err(Memory),
+        }
+    }
+
+    /// The table, the keeper and the history.
+    pub(crate) fn into_parts(self) -> (Table, K, Vec<Event>)
+        ensures table { result.0 ≡ self.table }
+        ensures keeper { result.1 ≡ self.keeper }
+        ensures history { result.2.items ≡ self.course.history }
+        ensures is_desk { IsDeskState K.telling self }
+    {
+        let Desk {
+            schedule,
+            table,
+            keeper,
+            opening: _,
+        } = self;
+        (table, keeper, schedule.into_history())
+    }
+}
+
+impl<K: Keep> Told for Desk<K> {
+    type Name = Opening<K>;
+
+    type Entry = Event;
+
+    ghost name = { λ desk. desk.opening };
+
+    ghost entries = { λ desk. numbered desk.course.history };
+
+    ghost front_of = { λ opening entries i. front_after opening (events_of entries) i };
+
+    ghost width = { λ opening. opening.range.s + 1 };
+
+    fn length(&self) -> u64 {
+        self.schedule.len() as u64
+    }
+
+    fn front(&self, i: usize) -> u64 {
+        self.table.front(i as u16) as u64
+    }
+}
+
+/// Keeps a square that is the next of its row, and puts it into the table. What is kept also finds its place there.
+///
+/// # Errors
+/// `Failed` if the keeper failed, and `Memory` if there is no memory, before the keeper is called or in it.
+fn put<K: Keep>(
+    alloc: Global,
+    table: &mut Table,
+    keeper: &mut K,
+    square: Square,
+) -> Result<(), KeepFault>
+    requires row { square.s < length table.old.rows }
+    requires next { IsNext table.old.rows square.s square.above }
+    requires resolved { square.resolved ≡ table.old.resolved }
+    requires start { square.start ≡ table.old.start }
+    requires is_of { IsOf (module_over table.old.resolved.plain) table.old.start square.s square.above square.content }
+    requires live { (K.telling keeper.old).live }
+    requires of_table { IsKeeperOf (K.telling keeper.old) table.old }
+    ensures ok { OnOk result (HasPut (module_over table.old.resolved.plain) table.old.start (K.telling keeper.old) (K.telling keeper.new) table.old table.new square) }
+    ensures err { OnErr result (HasNotPut (module_over table.old.resolved.plain) table.old.start (K.telling keeper.old) (K.telling keeper.new) table.old table.new) }
+    ensures failed { result ≡ Err KeepFault.Failed → HasRisen (K.telling keeper.old).faults (K.telling keeper.new).faults }
+    ensures dead { result ≡ Err KeepFault.Failed → (K.telling keeper.new).live → ⊥ }
+    ensures memory { result ≡ Err KeepFault.Memory → keeper.new ≡ keeper.old }
+{
+    let Ok(square) = Arc::new(alloc, square) else {
+        return Err(KeepFault::Memory);
+    };
+    table.reserve(1)?;
+    keeper.keep(&square)?;
+    match table.push(square) {
+        Ok(()) => Ok(()),
+        Err(_) => unreachable!(),
+    }
+}

@@ -1,0 +1,176 @@
+//! The machine of the board, with the history that led to its state.
+ghost use Rattle.std.specs.Prelude.{◌≡◌, ℕ, ◌+◌, ◌-◌, ◌*◌, ◌<◌, ◌≤◌, ◌^◌, ◌+ℤ◌, ◌≤ℤ◌, pos, suc, Some, None, [], ◌∷◌, ◌++◌, length, vec_len, vec_capacity, IfOk, IfSome, OnOk, OnErr};
+ghost use Rattle.board_core.specs.Board.{Board, state_of as state_of_core, IsReadyAt};
+ghost use Rattle.board_core.specs.Machine.{IsStart, IsReady, IsLegal, IsLegalTake, IsHeld, IsHeldWithoutCause, after};
+ghost use Rattle.board_core.specs.declared.event.Event.TheVariants.{Take, Give, Back, Fail};
+ghost use Rattle.square_board.specs.Courses.{Course, state_of, with_event, IsLegalCourse};
+
+use board_core::{Cause, Core, Event};
+use ghost_list::GhostList;
+use memory::Memory;
+use std::alloc::Global;
+use std::marker::Model;
+
+/// The machine with its history: each event that it accepts is written down. Contracts see where it began, and the history.
+///
+/// There is room for the event that ends each square that is out, so that none of these events takes memory.
+#[derive(Drop)]
+pub(crate) struct Schedule {
+    core: Core,
+    /// The squares that were done at the opening, each by its row and its degree.
+    start: GhostList<(u16, i32)>,
+    history: Vec<Event>,
+    /// How many squares are out.
+    jobs: usize,
+}
+
+impl Model for Schedule {
+    ghost use Rattle.std.specs.Prelude.{◌-◌, vec_len, vec_capacity};
+    ghost use Rattle.square_board.specs.Courses.{Course};
+    ghost use Rattle.square_board.specs.Inside.Schedules.{IsScheduled};
+
+    ghost Value = { Course };
+
+    ghost view = { λ s. record { rows = s.core.rows; degrees = s.core.degrees; bottom = s.core.bottom; start = s.start; history = s.history.items } };
+
+    ghost invariant = { λ s. IsScheduled s.core s.start s.history.items s.jobs (vec_capacity s.history - vec_len s.history) };
+}
+
+impl Schedule {
+    /// The machine at its opening: its range is the rows through `s`, in the degrees from `m` through `m + t`, and the squares of
+    /// `start` are done.
+    ///
+    /// # Errors
+    /// `Memory` if allocation fails.
+    pub(crate) fn new(
+        alloc: Global,
+        s: u16,
+        t: u16,
+        m: i32,
+        start: &[(u16, i32)],
+    ) -> Result<Schedule, Memory>
+        requires fits { (m +ℤ pos t) ≤ℤ pos (2 ^ 31 - 1) }
+        requires start { IsStart m start.now }
+        ensures { IfOk result (λ schedule. schedule ≡ record { rows = s; degrees = t; bottom = m; start = start.now; history = [] }) }
+    {
+        Ok(Schedule {
+            core: Core::new(alloc, s, t, m, start)?,
+            start: GhostList::of(start),
+            history: Vec::new(alloc),
+            jobs: 0,
+        })
+    }
+
+    /// How many events there were.
+    pub(crate) fn len(&self) -> usize
+        ensures length { result ≡ length self.now.history }
+        ensures short { length self.now.history ≤ 2 * (suc self.now.rows * suc self.now.degrees) }
+        ensures is_legal { IsLegalCourse self.now }
+    {
+        self.history.len()
+    }
+
+    /// A square that may be taken, that in the lowest row which has one. None exactly where there is none.
+    pub(crate) fn ready(&self) -> Option<(u16, i32)>
+        ensures some { IfSome result (λ q. IsReadyAt (state_of self.now) q.0 q.1) }
+        ensures none { result ≡ None → (s k : ℕ) → IsReady (state_of self.now) s k → ⊥ }
+        ensures is_legal { IsLegalCourse self.now }
+    {
+        self.core.ready()
+    }
+
+    /// Why no more squares are given out, none where they are.
+    pub(crate) fn stopped(&self) -> Option<Cause>
+        ensures cause { result ≡ (state_of self.now).cause }
+        ensures is_legal { IsLegalCourse self.now }
+    {
+        self.core.stopped()
+    }
+
+    /// The square goes out to `who`, who may take it.
+    ///
+    /// # Errors
+    /// `Memory` if allocation fails; nothing is taken then.
+    pub(crate) fn take(
+        &mut self,
+        who: u64,
+        s: u16,
+        t: i32,
+        snapshot: (u64, u64),
+    ) -> Result<(), Memory>
+        requires { IsLegalTake (state_of self.old) s t snapshot }
+        ensures ok { OnOk result (self.new ≡ with_event self.old (Take who s t snapshot)) }
+        ensures err { OnErr result (self.new ≡ self.old) }
+    {
+        let room = self.jobs + 2;
+        self.core.reserve(room)?;
+        self.history.reserve(room)?;
+        let event = Event::Take {
+            who,
+            s,
+            t,
+            snapshot,
+        };
+        enter(&mut self.core, &mut self.history, event);
+        self.jobs += 1;
+        Ok(())
+    }
+
+    /// The square that `who` has is done.
+    pub(crate) fn give(&mut self, who: u64, s: u16, t: i32)
+        requires { IsHeldWithoutCause (state_of self.old) who s t }
+        ensures { self.new ≡ with_event self.old (Give who s t) }
+    {
+        enter(&mut self.core, &mut self.history, Event::Give { who, s, t });
+        self.jobs -= 1;
+    }
+
+    /// The square that `who` has is handed back.
+    pub(crate) fn back(&mut self, who: u64, s: u16, t: i32)
+        requires { IsHeld (state_of self.old) who s t }
+        ensures { self.new ≡ with_event self.old (Back who s t) }
+    {
+        enter(&mut self.core, &mut self.history, Event::Back { who, s, t });
+        self.jobs -= 1;
+    }
+
+    /// `who` has failed at the square.
+    pub(crate) fn fail(&mut self, who: u64, s: u16, t: i32)
+        requires { IsHeldWithoutCause (state_of self.old) who s t }
+        ensures { self.new ≡ with_event self.old (Fail who s t) }
+    {
+        enter(&mut self.core, &mut self.history, Event::Fail { who, s, t });
+        self.jobs -= 1;
+    }
+
+    /// The history alone.
+    pub(crate) fn into_history(self) -> Vec<Event>
+        ensures history { result.items ≡ self.history }
+        ensures is_legal { IsLegalCourse self }
+    {
+        let Schedule {
+            core: _,
+            start: _,
+            history,
+            jobs: _,
+        } = self;
+        history
+    }
+}
+
+/// An event that the machine accepts happens, and is written down. There is room for it.
+fn enter(core: &mut Core, history: &mut Vec<Event>, event: Event)
+    requires legal { IsLegal (state_of_core core.old) event }
+    requires spare { 0 < core.old.spare }
+    requires room { vec_len history.old < vec_capacity history.old }
+    ensures state { state_of_core core.new ≡ after (state_of_core core.old) event }
+    ensures spare { core.old.spare ≤ core.new.spare + 1 }
+    ensures items { history.new.items ≡ history.old.items ++ event ∷ [] }
+    ensures len { vec_len history.new ≡ vec_len history.old + 1 }
+    ensures capacity { vec_capacity history.new ≡ vec_capacity history.old }
+{
+    match core.apply(event) {
+        Ok(()) => history.push_reserved(event),
+        Err(_) => unreachable!(),
+    }
+}
