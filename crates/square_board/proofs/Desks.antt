@@ -55,7 +55,7 @@ desk_opened {K} before opening course table table_is course_is row degree lists 
 
 -- ---- one event more
 
-given-then : (events : List Event) (event : Event) → given (events ++ event ∷ []) ≡ given events ++ given (event ∷ [])
+pub given-then : (events : List Event) (event : Event) → given (events ++ event ∷ []) ≡ given events ++ given (event ∷ [])
 given-then [] event = refl
 given-then (Take who s t snapshot ∷ events) event = given-then events event
 given-then (Give who s t ∷ events) event = ap (λ (l : List (ℕ × ℤ)). (s, t) ∷ l) (given-then events event)

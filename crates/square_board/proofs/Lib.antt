@@ -5,3 +5,5 @@ mod Desks
 mod Ranges
 mod Putting
 mod Held
+mod Turning
+mod Answered

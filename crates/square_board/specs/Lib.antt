@@ -2,4 +2,5 @@ pub mod Courses
 pub mod Openings
 pub mod Jobs
 pub mod Desks
+pub mod Boards
 pub mod Inside

@@ -20,6 +20,7 @@ ghost use Rattle.square_board.specs.Courses.{Course, state_of, with_event, numbe
 ghost use Rattle.square_board.specs.Openings.{IsOpenedWith, front_after};
 ghost use Rattle.square_board.specs.Desks.{DeskState, IsDesk, IsOver, IsIdle, IsJobOf, IsMadeFrom, MatchTaken, HasTaken, IsDeskState, having_entered};
 ghost use Rattle.square_board.specs.Jobs.{degree_of};
+ghost use Rattle.square_board.specs.Boards.{entry_of_give};
 ghost use Rattle.square_board.specs.Inside.Putting.{HasPut, HasNotPut};
 
 use crate::job::{GiveFault, Job, Taken};
@@ -152,12 +153,10 @@ impl<K: Keep> Desk<K> {
         requires job { IsJobOf self.old.opening job.who (events_by job.who self.old.course.history) job }
         requires made { IsMadeFrom job.inputs square }
         ensures opening { self.new.opening ≡ self.old.opening }
-        ensures ok { OnOk result (self.new.course ≡ with_event self.old.course (Give job.who job.inputs.s (degree_of job.inputs))) }
+        ensures entered { self.new.course ≡ with_event self.old.course (entry_of_give result job) }
         ensures stopped { (cause : Cause) → (result ≡ Err (HasStopped cause)) ↔ ((state_of self.old.course).cause ≡ Some cause) }
-        ensures uncalled { (cause : Cause) → result ≡ Err (HasStopped cause) → self.new ≡ having_entered self.old (Back job.who job.inputs.s (degree_of job.inputs)) }
-        ensures failed { result ≡ Err Failed → self.new.course ≡ with_event self.old.course (Fail job.who job.inputs.s (degree_of job.inputs)) }
+        ensures uncalled { (cause : Cause) → result ≡ Err (HasStopped cause) → self.new.keeper ≡ self.old.keeper }
         ensures risen { result ≡ Err Failed → HasRisen (K.telling self.old.keeper).faults (K.telling self.new.keeper).faults }
-        ensures memory { result ≡ Err WantOfMemory → self.new.course ≡ with_event self.old.course (Back job.who job.inputs.s (degree_of job.inputs)) }
         ensures unkept { result ≡ Err WantOfMemory → self.new.keeper ≡ self.old.keeper }
         ensures is_desk { IsDeskState K.telling self.new }
     {

@@ -1,9 +1,12 @@
 //! The board of squares that several workers share.
 #![tactic(auto)]
 
+mod board;
 mod desk;
 mod job;
 mod opening;
 mod schedule;
 
+pub use board::{Board, BoardPass, Entry};
+pub use desk::Desk;
 pub use job::{GiveFault, Job, Taken};
