@@ -10,8 +10,8 @@ use Rattle.std.proofs.lemmas.Bool.Decides.{nat_tests}
 use Rattle.std.proofs.lemmas.List.{append-nil, length_push}
 use Rattle.std.proofs.lemmas.Option.{slice_get_within}
 use Rattle.degrees.specs.Above.{above_of}
-use Rattle.module_check.specs.Checked.{Checked}
-use Rattle.module_check.specs.Module.{bottom}
+use Rattle.finite_module.specs.Checked.{Checked}
+use Rattle.finite_module.specs.Module.{bottom}
 use Rattle.board_core.specs.declared.event.Cause.{Cause}
 use Rattle.board_core.specs.declared.event.Event.{Event}
 use Rattle.board_core.specs.declared.event.Event.TheVariants.{Take}

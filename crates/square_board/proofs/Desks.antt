@@ -5,8 +5,8 @@ use Rattle.std.proofs.lemmas.Bool.Decides.{nat_tests, eqb_tells}
 use Rattle.std.proofs.lemmas.List.{append-nil, length_push, map-append}
 use Rattle.std.proofs.lemmas.List.Sums.{sum_by_push}
 use Rattle.edge.specs.Faults.{HasRisen}
-use Rattle.module_check.specs.Checked.{Checked}
-use Rattle.module_check.specs.Module.{bottom}
+use Rattle.finite_module.specs.Checked.{Checked}
+use Rattle.finite_module.specs.Module.{bottom}
 use Rattle.board_core.specs.declared.event.Event.{Event}
 use Rattle.board_core.specs.declared.event.Event.TheVariants.{Take, Give, Back, Fail}
 use Rattle.board_core.specs.Board.{IsTaken}

@@ -1,7 +1,7 @@
 -- Who has the square of a job.
 use Rattle.std.proofs.Common.{◌≡◌, ℕ, ◌<◌, ℤ, pos, ◌+ℤ◌, List, [], length, Option, Some, None, refl, sym, ◌∙◌, ap, subst, arith}
-use Rattle.module_check.specs.Checked.{Checked}
-use Rattle.module_check.specs.Module.{bottom}
+use Rattle.finite_module.specs.Checked.{Checked}
+use Rattle.finite_module.specs.Module.{bottom}
 use Rattle.edge.specs.Faults.{HasRisen}
 use Rattle.resolution_laws.specs.Start.{Entry}
 use Rattle.board_core.specs.declared.event.Cause.{Cause}

@@ -1,6 +1,6 @@
 -- Squares that were taken.
 use Rattle.std.specs.Prelude.{ℕ, ℤ, pos, ◌+ℤ◌}
-use Rattle.module_check.specs.Module.{bottom}
+use Rattle.finite_module.specs.Module.{bottom}
 use Rattle.square.specs.Tables.{Footing}
 
 -- a square that was taken: by whom, and what it is made from

@@ -3,7 +3,7 @@ use Rattle.std.specs.Prelude.{◌≡◌, ℕ, ◌+◌, ℤ, nat_lt, List, length
 use Rattle.board_core.specs.declared.event.Event.{Event}
 use Rattle.board_core.specs.Laws.{given_in}
 use Rattle.board_core.specs.Machine.{IsStart, squares_of}
-use Rattle.module_check.specs.Module.{bottom}
+use Rattle.finite_module.specs.Module.{bottom}
 use Rattle.resolution_laws.specs.Resolution.{Module}
 use Rattle.square.specs.declared.range.Range.{Range}
 use Rattle.square.specs.Squares.{Placed, module_over}

@@ -1,7 +1,7 @@
 use Rattle.std.proofs.Common.{◌≡◌, ◌<◌, ℤ, w32, ◌+ℤ◌, to_z, of_z, ◌∙◌, ap, arith}
 use Rattle.std.proofs.lemmas.Int.{ints}
-use Rattle.module_check.specs.Module.{bottom}
-use Rattle.module_check.specs.Checked.{Checked}
+use Rattle.finite_module.specs.Module.{bottom}
+use Rattle.finite_module.specs.Checked.{Checked}
 use Rattle.square_board.specs.Openings.{low_of}
 use Rattle.square_board.proofs.Starts.{row_is_short, part_more}
 use Rattle.square_board.proofs.opening.push_row.Goals as goal

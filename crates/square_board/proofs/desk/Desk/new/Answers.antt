@@ -1,7 +1,7 @@
 use Rattle.std.proofs.Common.{◌≡◌, ℕ, ℤ, List, [], SFits, w32, sym, ◌∙◌, ap, subst}
 use Rattle.std.proofs.lemmas.Int.{to_z-of_z}
-use Rattle.module_check.specs.Checked.{Checked}
-use Rattle.module_check.specs.Module.{bottom}
+use Rattle.finite_module.specs.Checked.{Checked}
+use Rattle.finite_module.specs.Module.{bottom}
 use Rattle.square.proofs.Kept.{IsSettled}
 use Rattle.square_board.specs.declared.opening.Opening.{Opening}
 use Rattle.square_board.specs.Courses.{Course}
