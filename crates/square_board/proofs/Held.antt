@@ -65,12 +65,13 @@ pub none_of : (o : Option Cause) → ((cause : Cause) → o ≡ Some cause → �
 none_of None none = refl
 none_of (Some cause) none = absurd (none cause refl)
 
--- what a square's place is, where it was made from the inputs of a job
-pub record IsPlacedFor {K : Type 0} (opening : Opening K) (job : Taking) (table : Staircase) (q : Placed) (s : ℕ) (t : ℤ) : Type 0 where
+-- the square is in row s and of degree t
+pub record IsPlacedFor (table : Staircase) (q : Placed) (s : ℕ) (t : ℤ) : Type 0 where
   pub row : q.s ≡ s
   pub degree : t ≡ low_of table +ℤ pos q.above
 
-pub placed_for : {K : Type 0} (opening : Opening K) (job : Taking) (own : List Event) (table : Staircase) (q : Placed) (s : ℕ) (t : ℤ) → IsJobOf opening job.who own job → IsMadeFrom job.inputs q → table.resolved ≡ (first_table opening).resolved → s ≡ job.inputs.s → t ≡ degree_of job.inputs → IsPlacedFor opening job table q s t
+-- a square that is made from the inputs of a job is at the job's place
+pub placed_for : {K : Type 0} (opening : Opening K) (job : Taking) (own : List Event) (table : Staircase) (q : Placed) (s : ℕ) (t : ℤ) → IsJobOf opening job.who own job → IsMadeFrom job.inputs q → table.resolved ≡ (first_table opening).resolved → s ≡ job.inputs.s → t ≡ degree_of job.inputs → IsPlacedFor table q s t
 placed_for {K} opening job own table q s t mine made same row degree =
     let module_is : job.inputs.resolved ≡ table.resolved = mine.resolved ∙ sym same in
     let low : bottom job.inputs.resolved.plain.generators ≡ low_of table = ap (λ (m : Checked). bottom m.plain.generators) module_is in

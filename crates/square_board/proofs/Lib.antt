@@ -7,3 +7,4 @@ mod Putting
 mod Held
 mod Turning
 mod Answered
+pub mod Crossing

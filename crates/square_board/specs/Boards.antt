@@ -29,6 +29,11 @@ module _ {K : Type 0} where
     pub turn : pass.turn ≡ board
     pub idle : pass.holds ≡ false
 
+  -- it has its number still, and no other was joined into it
+  pub record IsSamePass (old new : PassState (Opening K) Event) : Type 0 where
+    pub number : new.number ≡ old.number
+    pub joined : new.joined ≡ old.joined
+
   -- the machine's state after what the pass has seen
   abbrev pub state_seen : PassState (Opening K) Event → State
   state_seen pass = state_of (course_of pass.turn.name (events_of pass.seen))

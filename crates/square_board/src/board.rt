@@ -15,7 +15,7 @@ ghost use Rattle.square_board.specs.Courses.{numbered, events_of};
 ghost use Rattle.square_board.specs.Jobs.{degree_of};
 ghost use Rattle.square_board.specs.Openings.{IsOpenedWith, course_of, front_after};
 ghost use Rattle.square_board.specs.Desks.{IsDesk, IsOver, IsIdle, IsMadeFrom, IsJobOf, MatchTaken};
-ghost use Rattle.square_board.specs.Boards.{IsPassOf, HasTurned, HasTakenJob, StoodBefore, IsSquareAt, entry_of_give, state_seen};
+ghost use Rattle.square_board.specs.Boards.{IsPassOf, IsSamePass, HasTurned, HasTakenJob, StoodBefore, IsSquareAt, entry_of_give, state_seen};
 
 use crate::desk::Desk;
 use crate::job::{GiveFault, Job, Taken};
@@ -101,6 +101,7 @@ impl<K: Keep> Board<K> {
     ) -> Result<Taken, Memory>
         requires { IsPassOf self.now pass.old }
         ensures pass { IsPassOf self.now pass.new }
+        ensures same { IsSamePass pass.old pass.new }
         ensures job { MatchTaken result (λ job. HasTakenJob pass.old pass.new job) (HasTurned pass.old pass.new []) }
         ensures idle { (result ≡ Ok Idle) ↔ ((pass.new.own ≡ pass.old.own) × IsIdle (state_seen pass.new)) }
         ensures over { (result ≡ Ok Over) ↔ IsOver (state_seen pass.new) }
@@ -131,6 +132,7 @@ impl<K: Keep> Board<K> {
         requires job { IsJobOf self.now.name pass.old.number pass.old.own job }
         requires made { IsMadeFrom job.inputs square }
         ensures pass { IsPassOf self.now pass.new }
+        ensures same { IsSamePass pass.old pass.new }
         ensures turned { HasTurned pass.old pass.new (entry_of_give result job ∷ []) }
         ensures stopped { (cause : Cause) → (result ≡ Err (HasStopped cause)) ↔ StoodBefore pass.new cause }
     {
@@ -145,6 +147,7 @@ impl<K: Keep> Board<K> {
         requires pass { IsPassOf self.now pass.old }
         requires job { IsJobOf self.now.name pass.old.number pass.old.own job }
         ensures pass { IsPassOf self.now pass.new }
+        ensures same { IsSamePass pass.old pass.new }
         ensures turned { HasTurned pass.old pass.new (Back job.who job.inputs.s (degree_of job.inputs) ∷ []) }
     {
         let mut held = self.turn.acquire(wait, pass);
@@ -165,6 +168,7 @@ impl<K: Keep> Board<K> {
     ) -> Result<Option<Arc<Square>>, Memory>
         requires { IsPassOf self.now pass.old }
         ensures pass { IsPassOf self.now pass.new }
+        ensures same { IsSamePass pass.old pass.new }
         ensures turned { HasTurned pass.old pass.new [] }
         ensures none { IfOk result (λ found. (found ≡ None) ↔ (is_done_at (state_seen pass.new) s t ≡ false)) }
         ensures square { IfOk result (λ found. IfSome found (λ a. IsSquareAt self.now.name s t (arc_value a))) }
@@ -179,6 +183,7 @@ impl<K: Keep> Board<K> {
     pub fn rest<R: Wait>(&self, wait: &R, pass: &mut BoardPass<K>)
         requires { IsPassOf self.now pass.old }
         ensures pass { IsPassOf self.now pass.new }
+        ensures same { IsSamePass pass.old pass.new }
         ensures rested { pass.new ≡ after_rest pass.old pass.new.seen }
         ensures continues { Continues pass.old pass.new.seen }
         ensures more { length pass.old.seen < length pass.new.seen }
@@ -193,6 +198,7 @@ impl<K: Keep> Board<K> {
         requires pass { IsPassOf self.now pass.old }
         requires row { s ≤ self.now.name.range.s }
         ensures pass { IsPassOf self.now pass.new }
+        ensures same { IsSamePass pass.old pass.new }
         ensures looked { pass.new ≡ after_front pass.old pass.new.latest s result }
         ensures continues { Continues pass.old pass.new.latest }
         ensures exact { (result ≡ front_after self.now.name (events_of pass.new.latest) s) ⊎ ((e : ℕ × Event) × (result ≡ front_after self.now.name (events_of (pass.new.latest ++ e ∷ [])) s)) }
@@ -207,6 +213,7 @@ impl<K: Keep> Board<K> {
     pub fn count(&self, pass: &mut BoardPass<K>) -> u64
         requires { IsPassOf self.now pass.old }
         ensures pass { IsPassOf self.now pass.new }
+        ensures same { IsSamePass pass.old pass.new }
         ensures counted { pass.new ≡ after_count pass.old pass.new.latest }
         ensures continues { Continues pass.old pass.new.latest }
         ensures count { result ≡ length pass.new.latest }
