@@ -1,0 +1,15 @@
+use Rattle.std.proofs.Common.{◌≡◌, ap, sym, subst, ◌∙◌}
+use Rattle.board_core.specs.declared.event.Event.{Event}
+use Rattle.turn_lock.specs.Turns.{PassState, TurnId, HasBetween}
+use Rattle.turn_lock.proofs.Numbers.{has_one, has_next, has_all}
+use Rattle.square_board.specs.declared.opening.Opening.{Opening}
+use Rattle.square_board.proofs.tests.closed.Goals as goal
+
+pub close-table-requires-clause-joined : goal.close-table-requires-clause-joined
+close-table-requires-clause-joined g c =
+    let O : Type 0 = Opening g.row.K.Denot in
+    let P : Type 0 = PassState O Event in
+    let join = c.join.ensures.joined in
+    let both = has_next c.args.first c.args.second c.join.new.pass.seen 0 1 (has_one c.args.first 0 c.requires.first_number) c.requires.second_number in
+    let passes = ap (λ (p : P). p.turn.passes) join ∙ (ap (λ (t : TurnId O). t.passes) c.requires.first.turn ∙ c.requires.two) in
+    has_all c.join.new.pass 2 (subst (λ (p : P). HasBetween p 0 2) (sym join) both) passes
