@@ -1,5 +1,6 @@
 -- The number of squares of a row that are done, by those that a history gives.
-use Rattle.std.proofs.Common.{◌≡◌, ℕ, zero, suc, ◌+◌, ◌<◌, ◌≤◌, ℤ, Bool, true, false, cond, ◌&&◌, ◌||◌, nat_eq, List, [], ◌∷◌, refl, sym, ◌∙◌, ap, subst, arith, inl, inr}
+use Rattle.std.proofs.Common.{◌≡◌, ℕ, zero, suc, ◌+◌, ◌<◌, ◌≤◌, ℤ, Bool, true, false, cond, ◌&&◌, ◌||◌, nat_eq, List, [], ◌∷◌, sym, ◌∙◌, ap, subst, arith, inl, inr}
+use Rattle.std.proofs.Math.Bool.{or-false}
 use Rattle.std.proofs.Math.Path.{fun_ext}
 use Rattle.std.proofs.lemmas.List.Sums.{sum_by-cons}
 use Rattle.std.proofs.lemmas.Bool.Decides.{nat_tests, eqb_tells}
@@ -61,12 +62,8 @@ row_with state s k i n absent is = elim (eqb_tells i s) [
       subst (λ (b : Bool). IsNumber (λ j. state.done i j || (b && nat_eq j k)) (cond (nat_eq s i) (suc n) n)) (sym p.0) counted
 ]
   where
-    or_false : (b : Bool) → (b || false) ≡ b
-    or_false true = refl
-    or_false false = refl
-
     plain : (test : ℕ → Bool) (n : ℕ) → IsNumber test n → IsNumber (λ j. test j || false) n
-    plain test n is = subst (λ (t : ℕ → Bool). IsNumber t n) (fun_ext (λ j. sym (or_false (test j)))) is
+    plain test n is = subst (λ (t : ℕ → Bool). IsNumber t n) (fun_ext (λ j. sym (or-false (test j)))) is
 
 one_more : (b : Bool) (n c : ℕ) → cond b (suc n) n + c ≡ n + (cond b 1 0 + c)
 one_more true n c = omega arith

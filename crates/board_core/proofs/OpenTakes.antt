@@ -2,6 +2,7 @@
 use Rattle.std.proofs.Common.{◌≡◌, ℕ, ℤ, pos, ◌+ℤ◌, Bool, true, false, not, cond, ◌&&◌, ◌||◌, nat_eq, List, [], ◌∷◌, ◌++◌, refl, sym, ◌∙◌, ap, subst, arith, inl, inr}
 use Rattle.std.specs.List.{list_any}
 use Rattle.std.specs.Ordering.{int_eq}
+use Rattle.std.proofs.Math.Bool.{or-true}
 use Rattle.std.proofs.lemmas.Bool.{cases_Bool}
 use Rattle.std.proofs.lemmas.Bool.Decides.{nat_tests, Decides-int_eq}
 use Rattle.std.proofs.lemmas.List.Folds.{list_any-append}
@@ -133,11 +134,7 @@ just_taken state who i u snapshot k at =
     let h : height state u ≡ k = height_is state u k at in
     let split = list_any-append (λ (e : Out). nat_eq e.who who && (nat_eq e.s i && nat_eq e.above k)) state.out (record { who = who; s = i; above = height state u } ∷ []) in
     let test : has_entry (record { who = who; s = i; above = height state u } ∷ []) who i k ≡ true = grind (arith, nat_tests) in
-    split ∙ (ap (λ b. has_entry state.out who i k || b) test ∙ or_true (has_entry state.out who i k))
-  where
-    or_true : (b : Bool) → (b || true) ≡ true
-    or_true true = refl
-    or_true false = refl
+    split ∙ (ap (λ b. has_entry state.out who i k || b) test ∙ or-true (has_entry state.out who i k))
 
 not_empty : (before behind : List Event) (e : Event) → [] ≡ before ++ e ∷ behind → ⊥
 not_empty [] behind e h = cc

@@ -1,6 +1,7 @@
 -- What is known of a desk, one event after the other.
 use Rattle.std.proofs.Common.{◌≡◌, ◌≢◌, ℕ, ◌+◌, ◌<◌, ◌≤◌, ℤ, pos, ◌+ℤ◌, Bool, true, false, cond, ◌&&◌, ◌||◌, nat_lt, nat_eq, List, [], ◌∷◌, ◌++◌, length, None, refl, sym, ◌∙◌, ap, subst, arith, inl, inr}
 use Rattle.std.specs.List.{count_by}
+use Rattle.std.proofs.Math.Bool.{or-false, or-true}
 use Rattle.std.proofs.lemmas.Bool.Decides.{nat_tests, eqb_tells}
 use Rattle.std.proofs.lemmas.List.{append-nil, length_push, map-append}
 use Rattle.std.proofs.lemmas.List.Sums.{sum_by_push}
@@ -79,14 +80,6 @@ no_fail (Give who s t ∷ events) none = no_fail events none
 no_fail (Back who s t ∷ events) none = cc
 no_fail (Fail who s t ∷ events) none = cc
 
-or_false : (b : Bool) → (b || false) ≡ b
-or_false true = refl
-or_false false = refl
-
-or_true : (b : Bool) → (b || true) ≡ true
-or_true true = refl
-or_true false = refl
-
 -- no event but a Give changes what is done
 done-other : (state : State) (event : Event) → given (event ∷ []) ≡ [] → (after state event).done ≡ state.done
 done-other state (Take who s t snapshot) none = refl
@@ -120,7 +113,7 @@ module _ {K : Type 0} (before now : Keeper) (opening : Opening K) (course : Cour
 
   well_still : (event : Event) → has_fail (event ∷ []) ≡ false → IsAsWell before now (course.history ++ event ∷ [])
   well_still event none =
-      let same : has_fail (course.history ++ event ∷ []) ≡ has_fail course.history = fail-then course.history event ∙ (ap (λ (b : Bool). has_fail course.history || b) none ∙ or_false (has_fail course.history)) in
+      let same : has_fail (course.history ++ event ∷ []) ≡ has_fail course.history = fail-then course.history event ∙ (ap (λ (b : Bool). has_fail course.history || b) none ∙ or-false (has_fail course.history)) in
       let well = desk.well in
       record {
         live = λ e. well.live (sym same ∙ e);
@@ -142,7 +135,7 @@ module _ {K : Type 0} (before now : Keeper) (opening : Opening K) (course : Cour
       let start = (first_table opening).start in
       let given = desk.given in
       let all : HasKept m start before later given.squares = subst (HasKept m start before later) (append-nil given.squares) (HasKept-then m start before now later given.squares [] given.kept kept) in
-      let failed : has_fail (course.history ++ Fail who s t ∷ []) ≡ true = fail-then course.history (Fail who s t) ∙ or_true (has_fail course.history) in
+      let failed : has_fail (course.history ++ Fail who s t ∷ []) ≡ true = fail-then course.history (Fail who s t) ∙ or-true (has_fail course.history) in
       let faults : HasRisen before.faults later.faults = subst (λ (n : ℕ). HasRisen n later.faults) (desk.well.no_fault (none_failed legal.no_cause)) risen in
       desk_other (Fail who s t) later legal refl goes (record { squares = given.squares; places_are = given.places_are; kept = all })
       (record { live = λ e. cc; no_fault = λ e. cc; risen = λ e. faults; dead = λ e. dead })
@@ -201,7 +194,7 @@ module _ {K : Type 0} (before now : Keeper) (opening : Opening K) (course : Cour
           kept = HasKept-then m start before now later given.squares (entry_of q ∷ []) given.kept put.kept;
         };
         well = let still = well_still event refl in
-            let none : has_fail (course.history ++ event ∷ []) ≡ false = fail-then course.history event ∙ (or_false (has_fail course.history) ∙ no_cause) in
+            let none : has_fail (course.history ++ event ∷ []) ≡ false = fail-then course.history event ∙ (or-false (has_fail course.history) ∙ no_cause) in
             record {
               live = λ e. put.live;
               no_fault = λ e. put.no_fault ∙ still.no_fault e;

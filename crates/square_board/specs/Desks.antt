@@ -1,11 +1,12 @@
 -- What lies behind the turn of a board: the machine's course, the table of the squares that are done, and the keeper.
-use Rattle.std.specs.Prelude.{◌≡◌, ℕ, ◌+◌, ◌≤◌, ℤ, pos, ◌+ℤ◌, nat_lt, Bool, true, false, List, [], ◌∷◌, length, map, take, None, Result, Ok, Err}
+use Rattle.std.specs.Prelude.{◌≡◌, ℕ, ◌+◌, ◌≤◌, ℤ, nat_lt, Bool, true, false, List, [], ◌∷◌, length, take, None, Result, Ok, Err}
 use Rattle.edge.specs.Faults.{HasRisen}
 use Rattle.board_core.specs.declared.event.Event.{Event}
 use Rattle.board_core.specs.declared.event.Event.TheVariants.{Take, Give, Back, Fail}
 use Rattle.board_core.specs.Entries.{HasOpenTake}
 use Rattle.board_core.specs.Laws.{given, HasUnfinished}
 use Rattle.board_core.specs.Machine.{State, IsInRange, IsReady, IsLegalTake}
+use Rattle.board_laws.specs.Filled.{places}
 use Rattle.resolution_laws.specs.Resolution.{Module, IsStep, row_of, below_of}
 use Rattle.resolution_laws.specs.Start.{Entry}
 use Rattle.square.specs.declared.range.TheConstants.{MAX_S, MAX_T}
@@ -70,10 +71,6 @@ has_fail (Take who s t snapshot ∷ events) = has_fail events
 has_fail (Give who s t ∷ events) = has_fail events
 has_fail (Back who s t ∷ events) = has_fail events
 has_fail (Fail who s t ∷ events) = true
-
--- where the squares of a list stand: each by its row and its degree
-abbrev pub places : ℤ → List Entry → List (ℕ × ℤ)
-places low list = map (λ e. (e.s, low +ℤ pos e.above)) list
 
 -- From the opening on the keeper was given the squares that the events give, in their order.
 pub record HasKeptGiven (m : Module) (start : List Entry) (low : ℤ) (before now : Keeper) (events : List Event) : Type 0 where
