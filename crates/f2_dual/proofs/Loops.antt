@@ -1,7 +1,7 @@
 -- One step of each loop that builds the parts.
-use Rattle.std.proofs.Common.{◌≡◌, ℕ, suc, zero, ◌+◌, ◌<◌, Bool, true, false, cond, List, [], ◌∷◌, ◌++◌, length, map, take, get_or, refl, ap, sym, ◌∙◌, arith}
+use Rattle.std.proofs.Common.{◌≡◌, ℕ, suc, zero, ◌+◌, ◌<◌, ◌≤◌, Bool, true, false, cond, List, [], ◌∷◌, ◌++◌, length, map, take, get_or, refl, ap, sym, ◌∙◌, arith}
 use Rattle.std.specs.List.{range_with_len, filter}
-use Rattle.std.proofs.lemmas.List.{map-append, append-nil, take_more}
+use Rattle.std.proofs.lemmas.List.{map-append, append-nil, take_more, take-take, take-append-le, take_all, get_or-take, get_or_push, length-append}
 
 -- one element more
 pub map_more : {A B : Type 0} (f : A → B) (xs : List A) (i : ℕ) (d x : A) (old new : List B) (y : B) → i < length xs → x ≡ get_or xs i d → old ≡ map f (take i xs) → new ≡ old ++ y ∷ [] → y ≡ f x → new ≡ map f (take (i + 1) xs)
@@ -36,3 +36,32 @@ filter_more_false f p k old o t =
     let whole : filter p (range_with_len 0 (k + 1)) ≡ filter p (range_with_len 0 k) =
     ap (filter p) (range_push 0 k ∙ ap (λ x. range_with_len 0 k ++ x ∷ []) e) ∙ filter-push p (range_with_len 0 k) k ∙ ap (λ b. filter p (range_with_len 0 k) ++ cond b (k ∷ []) []) t ∙ append-nil (filter p (range_with_len 0 k)) in
     o ∙ ap (map f) (sym whole)
+
+-- ---- items taken from the end
+
+pub record AreFirst {A : Type 0} (all left : List A) : Type 0 where
+  pub within : length left ≤ length all
+  pub are : left ≡ take (length left) all
+
+-- the last one of the first items is taken
+pub record IsTaken {A : Type 0} (all old new : List A) (x d : A) : Type 0 where
+  pub count : length old ≡ length new + 1
+  pub within : length new < length all
+  pub is : x ≡ get_or all (length new) d
+  pub left : AreFirst all new
+
+pub taken : {A : Type 0} (all old new : List A) (x d : A) → old ≡ new ++ x ∷ [] → AreFirst all old → IsTaken all old new x d
+taken all old new x d e f =
+    let m = length new in
+    let count : length old ≡ m + 1 = ap length e ∙ length-append new (x ∷ []) in
+    let both : new ++ x ∷ [] ≡ take (m + 1) all = sym e ∙ f.are ∙ ap (λ n. take n all) count in
+    let less : m < m + 1 = omega arith in
+    record {
+      count = count;
+      within = omega (arith, count, f.within);
+      is = sym (get_or_push new x d m refl) ∙ ap (λ z. get_or z m d) both ∙ get_or-take (m + 1) all m d less;
+      left = record {
+        within = omega (arith, f.within);
+        are = sym (take_all m new (omega arith)) ∙ sym (take-append-le m new (x ∷ []) (omega arith)) ∙ ap (take m) both ∙ take-take m (m + 1) all (omega arith);
+      };
+    }

@@ -3,13 +3,11 @@ use Rattle.std.proofs.Common.{◌≡◌, ◌≢◌, ◌⊎◌, inl, inr, ℕ, �
 use Rattle.std.specs.List.{range_with_len}
 use Rattle.std.specs.Option.{is_some}
 use Rattle.std.proofs.lemmas.Bool.{cases_lt, cases_eq, false_from_ne_true, true≢false}
-use Rattle.std.proofs.lemmas.List.{ext_get_or, get_or-map, get_or_past, length-map, map-append, length-set, get_or-set_same, get_or-set_other, set-append_left, length-replicate, get_or-replicate}
+use Rattle.std.proofs.lemmas.List.{ext_get_or, get_or-map, get_or_past, length-map, map-append, length-set, get_or-set_same, get_or-set_other, length-replicate, get_or-replicate}
 use Rattle.std.proofs.lemmas.List.FromFn.{length-map-range_with_len, get_or-map-range_with_len}
-use Rattle.f2_vec.specs.Vectors.{bit, sum_of, zeros, placed, IsZero, IsFirstOne}
-use Rattle.f2_vec.proofs.Sums.{bit-zeros, length-zeros, sum_of-zeros_left}
+use Rattle.f2_vec.specs.Vectors.{bit, sum_of, zeros, IsZero, IsFirstOne}
+use Rattle.f2_vec.proofs.Sums.{bit-zeros, sum_of-comm}
 use Rattle.f2_vec.specs.Spans.{row, HaveWidth, combination, unit_vector}
-use Rattle.f2_vec.proofs.Spans.{length-combination}
-use Rattle.f2_vec.proofs.Split.{sum_of-append, zeros-append, length-unit_vector}
 use Rattle.f2_vec.proofs.Combinations.{map-map, map_same, HaveWidth-map}
 use Rattle.f2_matrix.specs.Reduction.{Reduction}
 use Rattle.f2_matrix.specs.Preimages.{pivot_of, at_pivots}
@@ -17,7 +15,7 @@ use Rattle.f2_matrix.specs.Transpose.{column, columns}
 use Rattle.f2_matrix.proofs.Pivots.{pivot_first, length-at_pivots, bit-at_pivots}
 use Rattle.f2_dual.specs.Inside.Coordinates.{element_of, is_free, pivot_units, relation_of, preimage_at, preimages_of}
 use Rattle.f2_dual.specs.Inside.Tables.{entry_at, row_or_zero, spread_by, IsTableOfPivots, IsReducedBasis, IsSpread}
-use Rattle.f2_dual.proofs.OnCandidates.{pivot_within, is_pivot, HaveWidth-units}
+use Rattle.f2_dual.proofs.OnCandidates.{pivot_within, is_pivot}
 use Rattle.f2_dual.proofs.Relations.{free_or_pivot, free_no_pivot}
 use Rattle.f2_dual.proofs.Spread.{AreApart, AreWithin, combination-spread}
 
@@ -94,16 +92,6 @@ HaveWidth-at_pivots candidates vs = HaveWidth-map (length candidates) (at_pivots
 
 pub length-spread : (table : List (Option ℕ)) (w : ℕ) (rows : List (List Bool)) → length (spread_by table w rows) ≡ length table
 length-spread table w rows = length-map-range_with_len (λ e. row_or_zero w rows (entry_at table (length table - 1 - e))) 0 (length table)
-
-pub HaveWidth-spread : (n w : ℕ) (image rows : List (List Bool)) (table : List (Option ℕ)) → IsTableOfPivots n image table → length rows ≡ length image → HaveWidth w rows → HaveWidth w (spread_by table w rows)
-HaveWidth-spread n w image rows table t len wide = λ e l.
-    let entry = entry_at table (length table - 1 - e) in
-    let same : row (spread_by table w rows) e ≡ row_or_zero w rows entry = get_or-map-range_with_len (λ k. row_or_zero w rows (entry_at table (length table - 1 - k))) 0 (length table) e e [] (omega (arith, length-spread table w rows)) (omega arith) in
-    ap length same ∙ fits entry (λ i f. omega (arith, (t.found (length table - 1 - e) i f).0))
-  where
-    fits : (entry : Option ℕ) → ((i : ℕ) → entry ≡ Some i → i < length rows) → length (row_or_zero w rows entry) ≡ w
-    fits None h = length-zeros w
-    fits (Some i) h = wide i (h i refl)
 
 pub IsSpread-spread : (n w : ℕ) (image rows : List (List Bool)) (table : List (Option ℕ)) → IsTableOfPivots n image table → IsReducedBasis n image → IsSpread n image rows (spread_by table w rows)
 IsSpread-spread n w image rows table t basis = record {
@@ -182,29 +170,24 @@ not_free_where_taken n e image table t l f =
     let same : e ≡ element_of n (row image s.0) = omega (arith, at.1) in
     false_from_ne_true (is_free n image e) (λ h. free_no_pivot n image e s.0 h at.0 same)
 
--- a unit vector, with a shorter vector added to its beginning
-pub unit-beside : (x : List Bool) (h e : ℕ) → e < length x → length x ≤ h → sum_of (unit_vector h e) (placed (length (unit_vector h e)) 0 x) ≡ sum_of (unit_vector (length x) e) x ++ zeros (h - length x)
-unit-beside x h e l m =
-    let n = length x in
-    let k = h - n in
-    let whole : h ≡ n + k = omega arith in
-    let parts : unit_vector h e ≡ unit_vector n e ++ zeros k = ap (λ i. unit_vector i e) whole ∙ ap (λ z. set z e true) (zeros-append n k) ∙ set-append_left (zeros n) (zeros k) e true (omega (arith, length-zeros n)) in
-    ap (λ i. sum_of (unit_vector h e) (x ++ zeros (i - (0 + n)))) (length-unit_vector h e)
-    ∙ ap (λ i. sum_of (unit_vector h e) (x ++ zeros i)) (omega arith)
-    ∙ ap (λ z. sum_of z (x ++ zeros k)) parts
-    ∙ sum_of-append (unit_vector n e) (zeros k) x (zeros k) (length-unit_vector n e)
-    ∙ ap (λ z. sum_of (unit_vector n e) x ++ z) (sum_of-zeros_left k (zeros k) (length-zeros k))
+-- a column of the spread image rows ..
+spread_column : (r : Reduction) (table : List (Option ℕ)) (k : ℕ) (x : List Bool) → k < r.cols → x ≡ row (columns r.cols (spread_by table r.cols r.image)) k → x ≡ column k (spread_by table r.cols r.image)
+spread_column r table k x l is = is ∙ get_or-map-range_with_len (λ i. column i (spread_by table r.cols r.image)) 0 r.cols k k [] l (omega arith)
 
-pub relation-made : (r : Reduction) (table : List (Option ℕ)) (h e : ℕ) (x v : List Bool) → IsTableOfPivots r.cols r.image table → IsReducedBasis r.cols r.image → h ≡ r.cols + length r.kernel → e < r.cols → x ≡ row (columns r.cols (spread_by table r.cols r.image)) (r.cols - 1 - e) → v ≡ sum_of (unit_vector (length x) e) x ++ zeros (h - length x) → v ≡ relation_of r.cols r.image e ++ zeros (length r.kernel)
-relation-made r table h e x v t basis whole l is f =
+pub length-spread_column : (r : Reduction) (table : List (Option ℕ)) (k : ℕ) (x : List Bool) → length table ≡ r.cols → k < r.cols → x ≡ row (columns r.cols (spread_by table r.cols r.image)) k → length x ≡ r.cols
+length-spread_column r table k x size l is =
+    let s = spread_by table r.cols r.image in
+    ap length (spread_column r table k x l is) ∙ length-map s (λ v. bit v k) ∙ length-spread table r.cols r.image ∙ size
+
+-- .. with its own place turned over is a relation
+pub relation-made : (r : Reduction) (table : List (Option ℕ)) (e : ℕ) (x tail v : List Bool) → IsTableOfPivots r.cols r.image table → IsReducedBasis r.cols r.image → tail ≡ zeros (length r.kernel) → e < r.cols → x ≡ row (columns r.cols (spread_by table r.cols r.image)) (r.cols - 1 - e) → v ≡ sum_of x (unit_vector (length x) e) ++ tail → v ≡ relation_of r.cols r.image e ++ zeros (length r.kernel)
+relation-made r table e x tail v t basis z l is f =
     let n = r.cols in
     let k = n - 1 - e in
     let m : k < n = omega arith in
-    let s = spread_by table n r.image in
     let y = combination n (column k r.image) (pivot_units n r.image) in
-    let same : x ≡ y = is ∙ get_or-map-range_with_len (λ i. column i s) 0 n k k [] m (omega arith) ∙ column-spread n n k r.image r.image table t basis refl in
-    let len : length x ≡ n = ap length same ∙ length-combination n (column k r.image) (pivot_units n r.image) (HaveWidth-units n r.image) in
-    let rest : h - n ≡ length r.kernel = omega arith in
-    f ∙ ap (λ i. sum_of (unit_vector i e) x ++ zeros (h - i)) len
-    ∙ ap (λ z. sum_of (unit_vector n e) z ++ zeros (h - n)) same
-    ∙ ap (λ i. relation_of n r.image e ++ zeros i) rest
+    let same : x ≡ y = spread_column r table k x m is ∙ column-spread n n k r.image r.image table t basis refl in
+    f ∙ ap (λ i. sum_of x (unit_vector i e) ++ tail) (length-spread_column r table k x t.size m is)
+    ∙ ap (λ u. sum_of u (unit_vector n e) ++ tail) same
+    ∙ ap (λ u. u ++ tail) (sum_of-comm y (unit_vector n e))
+    ∙ ap (λ u. relation_of n r.image e ++ u) z

@@ -64,7 +64,7 @@ fn choose_covered(
     };
     let table = table_of_pivots(alloc, coordinates.cols(), reduced.image())?;
     let chosen = preimages(alloc, table.as_slice(), &reduced)?;
-    let kernel = relations(alloc, height, table.as_slice(), &reduced)?;
+    let kernel = relations(alloc, table.as_slice(), &reduced)?;
     let image = candidates.share()?;
     let kernel = Rows::of(alloc, kernel)?;
     Ok((

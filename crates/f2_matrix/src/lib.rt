@@ -26,3 +26,4 @@ pub use rank::spanning_rows_are_full;
 pub use reduced::Reduced;
 pub use rows::Rows;
 pub use scratch::Scratch;
+pub use transpose::transposed_rows;

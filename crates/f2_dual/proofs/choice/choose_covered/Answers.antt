@@ -15,9 +15,6 @@ new_rows-requires-clause-within c =
     subst (λ (z : List (List Bool)). (i : ℕ) → i < length c.kernel.result.now → pivot_of (row c.kernel.result.now i) < length z) (sym c.as_slice.ensures)
     (subst (λ (z : List (List Bool)). (i : ℕ) → i < length z → pivot_of (row z i) < length candidates) (sym c.kernel.ensures.rows) (kernel_pivot c.args.matrix.now.cols rows candidates r.image r.chosen r.kernel g))
 
-pub relations-requires-clause-height : goal.relations-requires-clause-height
-relations-requires-clause-height c = omega (arith, c.in-Some.ensures.1, c.cols.ensures, c.in_ok-reduced.ensures, ap length c.kernel-2.ensures.rows)
-
 pub from_parts-requires-clause-chosen : goal.from_parts-requires-clause-chosen
 from_parts-requires-clause-chosen c =
     let new : c.in_ok-new.new.items ≡ new_rows c.args.candidates.now c.in_ok-reduced.reduced.kernel = c.in_ok-new.ensures ∙ ap (λ z. new_rows z c.kernel.result.now) c.as_slice.ensures ∙ ap (new_rows c.args.candidates.now) c.kernel.ensures.rows in

@@ -1,33 +1,22 @@
-use Rattle.std.proofs.Common.{◌≡◌, ◌++◌, length, refl, ap, sym, ◌∙◌, arith, subst}
-use Rattle.f2_vec.specs.Spans.{HaveWidth}
-use Rattle.f2_vec.proofs.Spans.{HaveWidth-append}
+use Rattle.std.specs.Borrow.{Bor}
+use Rattle.std.proofs.Common.{◌≡◌, ◌++◌, Bool, List, length, map, ap, ◌∙◌, arith, subst, IfOk}
+use Rattle.f2_vec.proofs.Sums.{length-zeros}
 use Rattle.f2_matrix.specs.Transpose.{columns}
 use Rattle.f2_dual.specs.Inside.Tables.{spread_by}
-use Rattle.f2_dual.proofs.Tables.{HaveWidth-spread, columns-preimages}
+use Rattle.f2_dual.proofs.Tables.{columns-preimages}
 use Rattle.f2_dual.proofs.parts.preimages.Goals as goal
 
-pub spread-requires : goal.spread-requires
-spread-requires c = record { within = λ p t e. omega (arith, (c.requires.table.found p t e).0, ap length c.chosen.ensures.rows, c.chosen.ensures.as_many) }
-
-pub from_rows-requires : goal.from_rows-requires
-from_rows-requires c =
-    let r = c.args.reduced.now in
-    let s = spread_by c.args.table.now c.height.result c.chosen.result.now in
-    let wide : HaveWidth c.height.result c.chosen.result.now = rw (c.height.ensures, c.chosen.ensures.rows) c.chosen.ensures.widths in
-    let wide_kernel : HaveWidth c.height.result c.kernel.result.now = rw (c.height.ensures, c.kernel.ensures.rows) c.kernel.ensures.widths in
-    let first : HaveWidth c.height.result s = HaveWidth-spread r.cols c.height.result r.image c.chosen.result.now c.args.table.now c.requires.table (ap length c.chosen.ensures.rows ∙ c.chosen.ensures.as_many) wide in
-    let same : c.append_copies.new.rows.items ≡ s ++ c.kernel.result.now = c.in_ok-append_copies.ensures ∙ ap (λ z. z ++ c.kernel.result.now) c.in_ok-rows.ensures in
-    subst (λ k. HaveWidth k c.append_copies.new.rows.items) (c.height.ensures ∙ sym c.height-2.ensures) (subst (HaveWidth c.height.result) (sym same) (HaveWidth-append c.height.result s c.kernel.result.now first wide_kernel))
+pub spread-requires-clause-within : goal.spread-requires-clause-within
+spread-requires-clause-within c = λ p t e. omega (arith, (c.requires.table.found p t e).0, ap length c.chosen.ensures.rows, c.chosen.ensures.as_many)
 
 pub returns : goal.returns
 returns c =
     let r = c.args.reduced.now in
-    let s = spread_by c.args.table.now c.height.result c.chosen.result.now in
-    let same : c.append_copies.new.rows.items ≡ s ++ c.kernel.result.now = c.in_ok-append_copies.ensures ∙ ap (λ z. z ++ c.kernel.result.now) c.in_ok-rows.ensures in
-    let parts : s ++ c.kernel.result.now ≡ spread_by c.args.table.now r.height r.chosen ++ r.kernel = rw (c.height.ensures, c.chosen.ensures.rows, c.kernel.ensures.rows) refl in
-    let through : c.from_rows.result.rows ≡ spread_by c.args.table.now r.height r.chosen ++ r.kernel = c.from_rows.ensures.rows ∙ same ∙ parts in
-    c.into_rows.ensures
-    ∙ c.in_ok-preimages.ensures.rows
-    ∙ ap (λ k. columns k c.from_rows.result.rows) (c.from_rows.ensures.cols ∙ c.height-2.ensures)
-    ∙ ap (columns r.height) through
-    ∙ columns-preimages r c.args.table.now c.requires.table c.requires.image c.chosen.ensures.as_many
+    let table = c.args.table.now in
+    let now : Bor (List Bool) → List Bool = λ v. v.now in
+    let width : length c.in_ok-zero.zero ≡ r.height = ap length c.in_ok-zero.ensures ∙ length-zeros c.height.result ∙ c.height.ensures in
+    let above : map now c.in_ok-rows.rows.items ≡ spread_by table r.height r.chosen = c.in_ok-rows.ensures ∙ ap (λ i. spread_by table i c.chosen.result.now) width ∙ ap (spread_by table r.height) c.chosen.ensures.rows in
+    let all : map now c.as_slice.result.now ≡ spread_by table r.height r.chosen ++ r.kernel =
+    ap (map now) c.as_slice.ensures.value ∙ c.in_ok-append.ensures ∙ ap (λ z. z ++ c.kernel.result.now) above ∙ ap (λ z. spread_by table r.height r.chosen ++ z) c.kernel.ensures.rows in
+    let is = ap (λ k. columns k (map now c.as_slice.result.now)) c.height-2.ensures ∙ ap (columns r.height) all ∙ columns-preimages r table c.requires.table c.requires.image c.chosen.ensures.as_many in
+    subst (λ z. IfOk c.transposed_rows.result (λ chosen. chosen.items ≡ z)) is c.transposed_rows.ensures
