@@ -6,7 +6,5 @@ mod choice;
 mod coordinates;
 mod parts;
 mod pivots;
-#[cfg(test)]
-mod tests;
 
 pub use choice::choose;

@@ -11,8 +11,6 @@ mod reduced;
 mod rows;
 mod rowwise;
 mod scratch;
-#[cfg(test)]
-mod tests;
 mod transpose;
 
 pub use existence::{

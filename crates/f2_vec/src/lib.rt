@@ -3,8 +3,6 @@
 
 mod bit_vec;
 mod block;
-#[cfg(test)]
-mod tests;
 mod words;
 
 pub use bit_vec::BitVec;

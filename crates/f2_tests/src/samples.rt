@@ -1,0 +1,58 @@
+//! Rows that look random, and whether rows are the same.
+use f2_matrix::Matrix;
+use f2_vec::BitVec;
+use memory::Memory;
+use std::alloc::Global;
+
+/// Where the numbers that look random begin.
+pub(crate) const SEED: u64 = 88172645463325252;
+
+/// The next number of a sequence that looks random.
+pub(crate) fn next(seed: u64) -> u64 {
+    let mut x = seed;
+    x ^= x << 13;
+    x ^= x >> 7;
+    x ^= x << 17;
+    x
+}
+
+/// `height` rows of length `cols` that look random, in which about `ones` of 256 coordinates are 1.
+pub(crate) fn seeded(
+    alloc: Global,
+    height: usize,
+    cols: usize,
+    ones: u64,
+    seed: u64,
+) -> Result<Matrix, Memory> {
+    let mut matrix = Matrix::from_rows(cols, Vec::new(alloc));
+    let mut seed = seed;
+    for _ in 0..height {
+        let mut row = BitVec::zero(alloc, 0)?;
+        for _ in 0..cols {
+            seed = next(seed);
+            row.push((seed >> 20) & 255 < ones)?;
+        }
+        if row.len() == matrix.cols() {
+            matrix.push_row(row)?;
+        }
+    }
+    Ok(matrix)
+}
+
+/// Whether two vectors are the same.
+fn is_same(a: &BitVec, b: &BitVec) -> bool {
+    let mut same = a.len() == b.len();
+    for i in 0..a.len().div_ceil(64) {
+        same = same && a.word(i) == b.word(i);
+    }
+    same
+}
+
+/// Whether two lists of rows are the same.
+pub(crate) fn are_same(a: &[BitVec], b: &[BitVec]) -> bool {
+    let mut same = a.len() == b.len();
+    for i in 0..a.len() {
+        same = same && i < b.len() && is_same(&a[i], &b[i]);
+    }
+    same
+}
