@@ -2,7 +2,5 @@
 #![tactic(auto)]
 
 mod hom;
-#[cfg(test)]
-mod tests;
 
 pub use hom::Hom;

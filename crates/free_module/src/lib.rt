@@ -5,8 +5,6 @@ mod gens;
 mod laws;
 mod target;
 mod terms;
-#[cfg(test)]
-mod tests;
 
 pub use gens::Gens;
 pub use laws::free_basis_is_pairs;

@@ -8,8 +8,6 @@ mod exps;
 mod laws;
 mod multiples;
 mod product;
-#[cfg(test)]
-mod tests;
 mod text;
 
 pub use basis::Basis;

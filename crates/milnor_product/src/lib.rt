@@ -2,7 +2,5 @@
 #![tactic(auto)]
 
 mod products;
-#[cfg(test)]
-mod tests;
 
 pub use products::{elements_at, product, times};

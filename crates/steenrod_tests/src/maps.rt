@@ -1,33 +1,14 @@
 //! A map of free modules, computed by hand.
-ghost use Rattle.std.specs.Prelude.{◌≡◌, pos, Bool, true, List, [], ◌∷◌, length, IfOk};
+ghost use Rattle.std.specs.Prelude.{◌≡◌, pos, true, [], ◌∷◌, IfOk};
 
-use crate::Hom;
+use crate::written::{is_written, vector};
 use f2_vec::BitVec;
+use free_hom::Hom;
 use free_module::Gens;
 use memory::Memory;
 use milnor_basis::Basis;
 use std::alloc::Global;
 use std::test::Fail;
-
-// Whether the vector has these coordinates, written as 0 and 1.
-fn is_written(vector: &BitVec, want: &str) -> bool {
-    vector.len() == want.len()
-        && want.bytes().enumerate().all(|(i, digit)| i < vector.len()
-            && vector.get(i) == (digit == b'1'))
-}
-
-// The vector of length 3 with these first coordinates, written as 0 and 1.
-fn vector(alloc: Global, text: &str) -> Result<BitVec, Memory>
-    ensures { IfOk result (λ v. length v ≡ 3) }
-{
-    let mut vector = BitVec::zero(alloc, 3)?;
-    for (i, digit) in text.bytes().enumerate() {
-        if i < vector.len() {
-            vector.set(i, digit == b'1');
-        }
-    }
-    Ok(vector)
-}
 
 // Generators of degrees 1 and 2, and one of degree 0.
 fn source(alloc: Global) -> Result<Gens, Memory>
@@ -85,7 +66,7 @@ fn maps(rt: HostRuntime) -> Result<(), Fail> {
         ("111", "01"),
         ("000", "00"),
     ] {
-        let v = vector(alloc, v)?;
+        let v = vector(alloc, 3, v)?;
         assert!(rt; is_written(&hom.apply(alloc, 4, &v)?, want), "at {want}");
     }
     Ok(())

@@ -1,38 +1,8 @@
 //! Products and multiples, computed by hand.
-ghost use Rattle.std.specs.Prelude.{◌≡◌, ◌≤◌, length, IfOk};
-ghost use Rattle.milnor_basis.specs.Basis.{basis_of};
-
-use crate::{product, times};
-use f2_vec::BitVec;
-use memory::Memory;
-use milnor_basis::{Basis, Exps};
-use std::alloc::Global;
+use crate::written::{is_written, sq, vector};
+use milnor_basis::Basis;
+use milnor_product::{product, times};
 use std::test::Fail;
-
-fn sq(r1: u16, r2: u16) -> Exps {
-    Exps::of([r1, r2, 0, 0, 0, 0, 0, 0])
-}
-
-// The vector of degree `deg` with these first coordinates, written as 0 and 1.
-fn vector(alloc: Global, basis: &Basis, deg: u16, text: &str) -> Result<BitVec, Memory>
-    requires { deg ≤ basis.now }
-    ensures { IfOk result (λ v. length v ≡ length (basis_of deg)) }
-{
-    let mut vector = BitVec::zero(alloc, basis.of_degree(deg).len())?;
-    for (i, digit) in text.bytes().enumerate() {
-        if i < vector.len() {
-            vector.set(i, digit == b'1');
-        }
-    }
-    Ok(vector)
-}
-
-// Whether the vector has these coordinates, written as 0 and 1.
-fn is_written(vector: &BitVec, want: &str) -> bool {
-    vector.len() == want.len()
-        && want.bytes().enumerate().all(|(i, digit)| i < vector.len()
-            && vector.get(i) == (digit == b'1'))
-}
 
 // The bases in order: of degree 2 (2); of 3 (3), (0,1); of 4 (4), (1,1); of 5 (5), (2,1); of 8 (8), (5,1), (2,2),
 // (1,0,1).
@@ -72,7 +42,7 @@ fn multiplies_sums(rt: HostRuntime) -> Result<(), Fail> {
     ] {
         let r = sq(r, 0);
         assert!(rt; r.degree() <= 2 && deg <= 3);
-        let v = vector(alloc, &basis, deg, v)?;
+        let v = vector(alloc, basis.of_degree(deg).len(), v)?;
         let w = times(alloc, &basis, &r, deg, &v)?;
         assert!(rt; is_written(&w, want), "at {want}");
     }

@@ -3,16 +3,13 @@ ghost use Rattle.std.specs.Prelude.{◌≡◌, ◌≤◌, ◌+ℤ◌, pos, [], �
 ghost use Rattle.free_module.specs.FreeModule.{IsWithinReach};
 ghost use Rattle.milnor_basis.specs.Exponents.{degree_of};
 
-use crate::{Gens, Target, free_basis_is_pairs};
+use crate::written::{is_written, sq};
 use f2_vec::BitVec;
+use free_module::{Gens, Target, free_basis_is_pairs};
 use memory::Memory;
 use milnor_basis::{Basis, Exps};
 use std::alloc::Global;
 use std::test::Fail;
-
-fn sq(r1: u16, r2: u16) -> Exps {
-    Exps::of([r1, r2, 0, 0, 0, 0, 0, 0])
-}
 
 // Generators of degrees 0 and 2.
 fn two_gens(alloc: Global) -> Result<Gens, Memory>
@@ -51,13 +48,6 @@ fn places_and_elements(rt: HostRuntime) -> Result<(), Fail> {
     assert_eq!(rt; gens.place(&basis, 3, 0, &first), 1);
     assert_eq!(rt; gens.place(&basis, 3, 1, &second), 2);
     Ok(())
-}
-
-// Whether the vector has these coordinates, written as 0 and 1.
-fn is_written(vector: &BitVec, want: &str) -> bool {
-    vector.len() == want.len()
-        && want.bytes().enumerate().all(|(i, digit)| i < vector.len()
-            && vector.get(i) == (digit == b'1'))
 }
 
 // Sq(R) on the sum of all basis elements of degree `t`.

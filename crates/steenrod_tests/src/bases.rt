@@ -1,10 +1,7 @@
 //! Bases, places, products and texts, against lists made by hand.
-use crate::{Basis, Exps, sq_text, terms};
+use crate::written::sq;
+use milnor_basis::{Basis, Exps, sq_text, terms};
 use std::test::Fail;
-
-fn sq(r1: u16, r2: u16) -> Exps {
-    Exps::of([r1, r2, 0, 0, 0, 0, 0, 0])
-}
 
 #[test]
 fn reads_exponents(rt: HostRuntime) -> Result<(), Fail> {
