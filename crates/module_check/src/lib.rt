@@ -8,8 +8,6 @@ mod fault;
 mod laws;
 mod relations;
 mod sq_n;
-#[cfg(test)]
-mod tests;
 
 pub use acceptance::check;
 pub use fault::CheckFault;

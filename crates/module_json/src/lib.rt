@@ -10,8 +10,6 @@ mod laws;
 mod limits;
 mod malformed;
 mod spec;
-#[cfg(test)]
-mod tests;
 
 pub use laws::file_is_unique;
 pub use limits::{MAX_ACTIONS, MAX_DEGREE, MAX_FILE_BYTES, MAX_GENERATORS, MAX_SPAN};

@@ -1,6 +1,5 @@
 //! The answers to files, by hand: no clause says what a text of a file means beyond its definition.
-use crate::malformed::{Place, What, Why};
-use crate::{Malformed, Spec, file_is_unique, read};
+use module_json::{Malformed, Place, Spec, What, Why, file_is_unique, read};
 use std::alloc::Global;
 use std::test::Fail;
 

@@ -2,11 +2,11 @@
 ghost use Rattle.std.specs.Prelude.{◌≡◌, pos, ◌+ℤ◌, length};
 ghost use Rattle.milnor_basis.specs.Exponents.{degree_of};
 
-use crate::{CheckFault, Module, check};
 use f2_vec::BitVec;
 use free_module::Target;
 use memory::Memory;
 use milnor_basis::{Basis, Exps};
+use module_check::{CheckFault, Module, check};
 use module_json::read;
 use std::alloc::Global;
 use std::test::Fail;
