@@ -3,8 +3,6 @@
 
 mod alone;
 mod step_on;
-#[cfg(test)]
-mod tests;
 mod units;
 
 pub use alone::resolve_alone;

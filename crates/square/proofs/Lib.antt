@@ -11,4 +11,3 @@ mod Matrices
 pub mod Targets
 pub mod Found
 pub mod Crossing
-mod SphereSquare

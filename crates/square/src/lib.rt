@@ -9,8 +9,6 @@ mod range;
 mod row;
 mod square;
 mod table;
-#[cfg(test)]
-mod tests;
 
 pub use below::Below;
 pub use inputs::Inputs;

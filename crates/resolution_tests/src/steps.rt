@@ -2,21 +2,13 @@
 ghost use Rattle.std.specs.Prelude.{◌≤◌};
 ghost use Rattle.square.specs.declared.range.TheConstants.{MAX_S, MAX_T};
 
-use crate::{resolve_alone, step};
-use f2_vec::BitVec;
+use crate::squares::is_one_row;
 use finite_module::Module;
 use memory::Memory;
+use resolution_step::{resolve_alone, step};
 use square::{KeepFault, MemKeep, NoKeep, Range, Table};
 use std::alloc::Global;
 use std::test::Fail;
-
-// Whether the rows are the one vector with the one coordinate 1.
-fn is_one_row(rows: &[BitVec]) -> bool {
-    match rows {
-        [row] => row.len() == 1 && row.first_one() == Some(0),
-        _ => false,
-    }
-}
 
 // How many generators a square has, none where the square is not there.
 fn generators(table: &Table, s: u16, t: i32) -> Option<usize> {

@@ -3,11 +3,11 @@ ghost use Rattle.std.specs.Prelude.{◌≡◌, true, [], ◌∷◌, None, IfOk};
 ghost use Rattle.finite_module.specs.DerivedAction.{derived_module};
 ghost use Rattle.finite_module.specs.Checked.{sphere_file};
 
-use crate::{Inputs, Keep, KeepFault, MemKeep, NoKeep, Range, Square, Table};
 use f2_matrix::{Matrix, Reduced};
 use f2_vec::BitVec;
 use finite_module::Module;
 use memory::Memory;
+use square::{Inputs, Keep, KeepFault, MemKeep, NoKeep, Range, Square, Table};
 use std::alloc::Global;
 use std::sync::Arc;
 use std::test::Fail;
@@ -58,7 +58,7 @@ fn table_of_one(alloc: Global) -> Result<Table, Memory> {
 }
 
 // Whether the rows are the one vector with the one coordinate 1.
-fn is_one_row(rows: &[BitVec]) -> bool {
+pub(crate) fn is_one_row(rows: &[BitVec]) -> bool {
     match rows {
         [row] => row.len() == 1 && row.first_one() == Some(0),
         _ => false,

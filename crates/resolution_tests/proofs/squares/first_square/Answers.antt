@@ -1,6 +1,6 @@
 use Rattle.std.proofs.Common.{◌∙◌}
-use Rattle.square.proofs.SphereSquare.{first_step, first_quasi}
-use Rattle.square.proofs.tests.first_square.Goals as goal
+use Rattle.resolution_tests.proofs.SphereSquare.{first_step, first_quasi}
+use Rattle.resolution_tests.proofs.squares.first_square.Goals as goal
 
 pub made-requires-clause-step : goal.made-requires-clause-step
 made-requires-clause-step c =

@@ -1,7 +1,7 @@
 use denote.Param.Send.{sendable}
 use Rattle.std.proofs.Crossing.{crosses}
 use Rattle.square.proofs.Crossing.{Square-send, Square-sync, Inputs-send, Inputs-sync, Table-send, Table-sync}
-use Rattle.square.proofs.tests.threads_may_share_squares.Goals as goal
+use Rattle.resolution_tests.proofs.squares.threads_may_share_squares.Goals as goal
 
 pub crosses_threads-requires-2-send-T : goal.crosses_threads-requires-2-send-T
 crosses_threads-requires-2-send-T c κs = search (crosses, sendable, Table-send) depth 20

@@ -5,7 +5,7 @@ use Rattle.square.specs.Tables.{Staircase}
 use Rattle.square.specs.Keeping.{HoldsTable}
 use Rattle.square.specs.Inside.MemKeep.{Kept}
 use Rattle.square.proofs.Growing.{HoldsTable-none}
-use Rattle.resolution_step.proofs.tests.a_keeper_that_fails.Goals as goal
+use Rattle.resolution_tests.proofs.steps.a_keeper_that_fails.Goals as goal
 
 pub resolve_alone-resolved-requires-clause-of_table : goal.resolve_alone-resolved-requires-clause-of_table
 resolve_alone-resolved-requires-clause-of_table g c =
