@@ -5,8 +5,6 @@ mod event;
 mod fronts;
 mod laws;
 mod machine;
-#[cfg(test)]
-mod tests;
 
 pub use event::{Cause, CoreFault, Event, Out};
 pub use laws::{

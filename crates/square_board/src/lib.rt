@@ -6,8 +6,6 @@ mod desk;
 mod job;
 mod opening;
 mod schedule;
-#[cfg(test)]
-mod tests;
 
 pub use board::{Board, BoardPass, Entry};
 pub use desk::Desk;

@@ -12,8 +12,6 @@ mod pass;
 mod rule;
 mod start;
 mod steps;
-#[cfg(test)]
-mod tests;
 mod told;
 mod turn;
 mod view;

@@ -3,7 +3,7 @@ use Rattle.board_core.specs.declared.event.Event.{Event}
 use Rattle.turn_lock.specs.Turns.{PassState, TurnId, HasBetween}
 use Rattle.turn_lock.proofs.Numbers.{has_one, has_next, has_all}
 use Rattle.square_board.specs.declared.opening.Opening.{Opening}
-use Rattle.square_board.proofs.tests.closed.Goals as goal
+use Rattle.board_tests.proofs.boards.closed.Goals as goal
 
 pub close-table-requires-clause-joined : goal.close-table-requires-clause-joined
 close-table-requires-clause-joined g c =

@@ -1,5 +1,5 @@
 //! What no clause says: that there is memory for each call, and values worked by hand.
-use crate::{Cause, Core, CoreFault, Event};
+use board_core::{Cause, Core, CoreFault, Event};
 use std::alloc::Global;
 use std::test::Fail;
 

@@ -1,7 +1,7 @@
+//! What no clause says: that there is memory for each call, and that turns are had, in one thread and in two.
 ghost use Rattle.std.specs.Prelude.{◌≡◌, ℕ, ◌+◌, ◌<◌, false, true, [], ◌∷◌, ◌++◌, length, IfOk, All, slice_index_or};
 ghost use Rattle.turn_lock.specs.Turns.{new_pass};
 
-use crate::{Pass, Told, Turn};
 use memory::Memory;
 use std::alloc::Global;
 use std::marker::Model;
@@ -9,6 +9,7 @@ use std::sync::Wait;
 use std::test::*;
 use std::thread;
 use std::thread::Threads;
+use turn_lock::{Pass, Told, Turn};
 
 /// Bytes, each with the number of the pass that added it. Its one front is how many there are.
 #[derive(Drop)]

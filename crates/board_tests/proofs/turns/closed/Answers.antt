@@ -1,7 +1,7 @@
 use Rattle.std.proofs.Common.{ap, sym, subst, ◌∙◌}
 use Rattle.turn_lock.specs.Turns.{PassState, TurnId, HasBetween}
 use Rattle.turn_lock.proofs.Numbers.{has_one, has_next, has_all}
-use Rattle.turn_lock.proofs.tests.closed.Goals as goal
+use Rattle.board_tests.proofs.turns.closed.Goals as goal
 
 pub close-requires-clause-joined : goal.close-requires-clause-joined
 close-requires-clause-joined c =

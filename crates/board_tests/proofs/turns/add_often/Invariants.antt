@@ -1,5 +1,5 @@
 use Rattle.std.proofs.Common.{◌≡◌, false}
-use Rattle.turn_lock.proofs.tests.add_often.Given as goal
+use Rattle.board_tests.proofs.turns.add_often.Given as goal
 
 abbrev pub invariant-loop : goal.invariant-loop
 invariant-loop g l = record {

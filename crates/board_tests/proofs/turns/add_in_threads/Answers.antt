@@ -1,8 +1,8 @@
 use denote.Param.Send.{IsSend, sendable}
 use Rattle.std.proofs.Crossing.{crosses}
 use Rattle.turn_lock.proofs.Crossing.{Pass-send}
-use Rattle.turn_lock.specs.contracts.tests.Log as Log
-use Rattle.turn_lock.proofs.tests.add_in_threads.Goals as goal
+use Rattle.board_tests.specs.contracts.turns.Log as Log
+use Rattle.board_tests.proofs.turns.add_in_threads.Goals as goal
 
 Log-send : IsSend Log.the_row
 Log-send = search (crosses, sendable) depth 20

@@ -5,7 +5,7 @@ use Rattle.square.specs.Tables.{Staircase}
 use Rattle.square.specs.Keeping.{HoldsTable}
 use Rattle.square.specs.Inside.MemKeep.{Kept}
 use Rattle.square.proofs.Growing.{HoldsTable-none}
-use Rattle.square_board.proofs.tests.a_keeper_fails.Goals as goal
+use Rattle.board_tests.proofs.boards.a_keeper_fails.Goals as goal
 
 pub sphere_board-requires-clause-of_table : goal.sphere_board-requires-clause-of_table
 sphere_board-requires-clause-of_table g c =
