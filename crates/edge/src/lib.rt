@@ -6,8 +6,6 @@ mod reading;
 mod sink;
 mod source;
 mod standard;
-#[cfg(test)]
-mod tests;
 
 pub use faults::Failed;
 pub use reading::{ReadFault, read_through};

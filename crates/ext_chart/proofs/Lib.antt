@@ -3,7 +3,6 @@ pub mod ChartText
 pub mod DumpSteps
 pub mod Examples
 pub mod RowSteps
-pub mod SphereTable
 pub mod TableSquares
 pub mod Targets
 mod SummarySteps

@@ -11,8 +11,6 @@ mod place;
 mod row_gens;
 mod summary_text;
 mod terms;
-#[cfg(test)]
-mod tests;
 
 pub use chart_text::chart;
 pub use check_text::check_line;

@@ -1,16 +1,19 @@
 //! What no clause says: that there is memory for each call, what a stream gives, and rows worked by hand.
 ghost use Rattle.std.specs.Prelude.{◌<◌};
 
-use crate::{
-    Failed, MemSink, MemSource, ReadFault, Sink, Source, StdSink, StdSource, read_through,
-};
+use edge::{Failed, MemSink, MemSource, ReadFault, Sink, Source, StdSink, StdSource, read_through};
 use std::alloc::Global;
 use std::io;
 use std::io::{ErrorKind, Read, Write};
 use std::test::Fail;
 
 /// A source of so many bytes a call, in which one call fails, and none for 0.
-fn source(alloc: Global, bytes: &[u8], piece: usize, failing: u64) -> Result<MemSource, Fail>
+pub(crate) fn source(
+    alloc: Global,
+    bytes: &[u8],
+    piece: usize,
+    failing: u64,
+) -> Result<MemSource, Fail>
     requires { 0 < piece }
 {
     let mut calls = Vec::new(alloc);

@@ -1,0 +1,9 @@
+//! Tests of the edge, of texts and of whole runs.
+#![tactic(auto)]
+
+#[cfg(test)]
+mod runs;
+#[cfg(test)]
+mod streams;
+#[cfg(test)]
+mod texts;
