@@ -6,6 +6,7 @@ mod Growth
 pub mod Histories
 pub mod Lengths
 pub mod OpenTakes
+pub mod Places
 mod Progress
 mod Ready
 mod RowsOut

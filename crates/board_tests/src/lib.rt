@@ -1,4 +1,4 @@
-//! Tests of turns, of the machine of squares and of the board that several workers share.
+//! Tests of turns, of the machine of squares, of the board that several workers share, and of the workers.
 #![tactic(auto)]
 
 #[cfg(test)]
@@ -7,3 +7,5 @@ mod boards;
 mod machines;
 #[cfg(test)]
 mod turns;
+#[cfg(test)]
+mod workers;

@@ -8,8 +8,9 @@ use Rattle.finite_module.specs.Checked.{Checked}
 use Rattle.resolution_laws.specs.Resolution.{Content}
 use Rattle.resolution_laws.specs.Start.{Entry, entry_at, IsOf}
 use Rattle.resolution_laws.proofs.StartLaws.{grown_content, entry_at-other}
+use Rattle.square.specs.declared.range.Range.{Range}
 use Rattle.square.specs.Squares.{Placed, entry_of, WasRead, IsSquare, over}
-use Rattle.square.specs.Tables.{Shelf, Staircase, row_in, with_square, IsNext, IsContinued, IsIn, IsTable, HaveRoom}
+use Rattle.square.specs.Tables.{Shelf, Staircase, row_in, with_square, IsNext, IsContinued, IsIn, IsTable, IsThrough, HaveRoom}
 use Rattle.square.proofs.Places.{next_length}
 
 -- ---- rows
@@ -55,22 +56,29 @@ map-with_square (r ∷ rows) (suc s) old new q l e h = ap (λ (x : List (List Pl
 -- ---- the table
 
 -- rows do not rise
-never_rises : (table : Staircase) → IsTable table → (s d : ℕ) → length (row_in table.rows (s + d)) ≤ length (row_in table.rows s)
-never_rises table h s zero = let e : s + 0 ≡ s = omega arith in let same = ap (λ n. length (row_in table.rows n)) e in omega arith
-never_rises table h s (suc d) =
+never_rises_by : (table : Staircase) → IsTable table → (s d : ℕ) → length (row_in table.rows (s + d)) ≤ length (row_in table.rows s)
+never_rises_by table h s zero = let e : s + 0 ≡ s = omega arith in let same = ap (λ n. length (row_in table.rows n)) e in omega arith
+never_rises_by table h s (suc d) =
     let e : s + suc d ≡ suc (s + d) = omega arith in
     let same = ap (λ n. length (row_in table.rows n)) e in
     let here = h.never_rise (s + d) in
-    let rest = never_rises table h s d in
+    let rest = never_rises_by table h s d in
     omega arith
+
+pub never_rises : (table : Staircase) → IsTable table → (s i : ℕ) → s ≤ i → length (row_in table.rows i) ≤ length (row_in table.rows s)
+never_rises table h s i above =
+    let e : s + (i - s) ≡ i = omega arith in
+    let same = ap (λ n. length (row_in table.rows n)) e in
+    let less = never_rises_by table h s (i - s) in
+    omega arith
+
+-- a table whose last row has all squares of a range has them in each row
+pub through_last : (range : Range) (table : Staircase) → IsTable table → range.t < length (row_in table.rows range.s) → IsThrough range table.rows
+through_last range table h last s within = let falls = never_rises table h s range.s within in omega arith
 
 -- what is in a table does not stand over the next square of a row
 off_next : (table : Staircase) → IsTable table → (s k i j : ℕ) → length (row_in table.rows s) ≡ k → j < length (row_in table.rows i) → s ≤ i → k ≤ j → ⊥
-off_next table h s k i j end there p q =
-    let e : s + (i - s) ≡ i = omega arith in
-    let same = ap (λ n. length (row_in table.rows n)) e in
-    let less = never_rises table h s (i - s) in
-    omega arith
+off_next table h s k i j end there p q = let less = never_rises table h s i p in omega arith
 
 not_some : {X : Type 0} (o : Option X) → o ≡ None → IsSome o → ⊥
 not_some None e some = let same : false ≡ true = some in cc

@@ -7,4 +7,5 @@ mod Putting
 mod Held
 mod Turning
 mod Answered
+pub mod Failing
 pub mod Crossing

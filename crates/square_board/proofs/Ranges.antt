@@ -1,5 +1,5 @@
 -- What a desk knows of its machine's state: the range, and what of the table is done.
-use Rattle.std.proofs.Common.{◌≡◌, ℕ, zero, suc, ◌+◌, ◌-◌, ◌<◌, ◌≤◌, ℤ, pos, ◌+ℤ◌, true, false, List, [], ◌∷◌, length, refl, sym, ◌∙◌, ap, subst, arith}
+use Rattle.std.proofs.Common.{◌≡◌, ℕ, zero, suc, ◌+◌, ◌<◌, ◌≤◌, ℤ, pos, ◌+ℤ◌, true, false, List, [], ◌∷◌, length, refl, sym, ◌∙◌, ap, subst, arith}
 use Rattle.std.proofs.lemmas.Bool.Decides.{nat_tests}
 use Rattle.finite_module.specs.Checked.{Checked}
 use Rattle.finite_module.specs.Module.{bottom}
@@ -11,6 +11,7 @@ use Rattle.board_core.specs.Machine.{State, HasParents, IsInRange, IsRowNumber, 
 use Rattle.board_core.proofs.BelowFronts.{front_number}
 use Rattle.square.specs.Tables.{Staircase, IsTable, IsNext, IsNextAt, row_in}
 use Rattle.square.specs.Keeping.{Keeper}
+use Rattle.square.proofs.Pushing.{never_rises}
 use Rattle.square_board.specs.declared.opening.Opening.{Opening}
 use Rattle.square_board.specs.Courses.{Course, after_all, state_of}
 use Rattle.square_board.specs.Openings.{low_of}
@@ -85,17 +86,6 @@ module _ {K : Type 0} (before now : Keeper) (opening : Opening K) (course : Cour
   row_number_below zero n none some = none refl
   row_number_below (suc s) n none some = row_number s n (some s refl)
 
-  -- no row is longer than one below it
-  rows_fall : (n s : ℕ) → IsTable table → length (row_in table.rows (n + s)) ≤ length (row_in table.rows s)
-  rows_fall zero s is =
-      let e : 0 + s ≡ s = omega arith in
-      subst (λ (i : ℕ). length (row_in table.rows i) ≤ length (row_in table.rows s)) (sym e) (omega arith)
-  rows_fall (suc n) s is =
-      let e : suc n + s ≡ suc (n + s) = omega arith in
-      let rest = rows_fall n s is in
-      let one = is.never_rise (n + s) in
-      subst (λ (i : ℕ). length (row_in table.rows i) ≤ length (row_in table.rows s)) (sym e) (omega arith)
-
   -- where the last row is done, all of the range is
   pub all_done : IsTable table → opening.range.t < length (row_in table.rows opening.range.s) → (s k : ℕ) → IsInRange (state_of course) s k → (state_of course).done s k ≡ true
   all_done is through s k within =
@@ -104,9 +94,7 @@ module _ {K : Type 0} (before now : Keeper) (opening : Opening K) (course : Cour
       let degree = within.degree in
       let rows = range.rows_are in
       let degrees = range.degrees_are in
-      let rest : ℕ = opening.range.s - s in
-      let e : rest + s ≡ opening.range.s = omega arith in
-      let falls = subst (λ (i : ℕ). length (row_in table.rows i) ≤ length (row_in table.rows s)) e (rows_fall rest s is) in
+      let falls = never_rises table is s opening.range.s (omega arith) in
       let here = desk.done s k in
       grind (arith, nat_tests)
 

@@ -1,0 +1,4 @@
+mod Crossing
+mod Ended
+mod Passes
+mod Made

@@ -1,0 +1,12 @@
+//! The workers that resolve a range at a board.
+#![tactic(auto)]
+
+mod gate;
+mod joining;
+mod outcome;
+mod resolve;
+mod worker;
+
+pub use gate::{Gate, OpenGate};
+pub use resolve::resolve_with;
+pub use worker::{WorkEnd, work};

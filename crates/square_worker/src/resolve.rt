@@ -1,0 +1,99 @@
+//! A range resolved by several workers.
+ghost use Rattle.std.specs.Prelude.{◌≡◌, ℕ, ◌<◌, ◌≤◌, length, Err, IfOk, OnOk};
+ghost use Rattle.edge.specs.Faults.{HasRisen};
+ghost use Rattle.board_core.specs.declared.event.Cause as Cause;
+ghost use Rattle.resolution_laws.specs.Resolution.{IsCanonicalTable};
+ghost use Rattle.resolution_laws.specs.Start.{IsCanonicalStart};
+ghost use Rattle.resolution_step.specs.Alone.{cut, AreOfStart, AreNewAt, IsInRange};
+ghost use Rattle.square.specs.declared.range.TheConstants.{MAX_S, MAX_T};
+ghost use Rattle.square.specs.Squares.{over};
+ghost use Rattle.square.specs.Tables.{plain_rows, IsThrough};
+ghost use Rattle.square.specs.Growing.{HasGrown};
+ghost use Rattle.square.specs.Keeping.{IsKeeperOf};
+ghost use Rattle.square_board.specs.Boards.{IsPassOf};
+ghost use Rattle.square_worker.specs.Workers.{HasGivenOnce};
+ghost use Rattle.square_worker.specs.Inside.Passes.{AreItsPasses};
+
+use crate::gate::Gate;
+use crate::joining::joined;
+use crate::outcome::outcome;
+use crate::worker::work;
+use board_core::Cause;
+use square::{Keep, Range, Table};
+use square_board::{Board, BoardPass};
+use std::alloc::Global;
+use std::sync::Wait;
+use std::thread;
+use std::thread::Threads;
+
+/// The table with each square of the range. Those that are not there yet are made, and no others, by so many workers, and each is
+/// given to the keeper. Each worker has a thread of its own where one can be made; a single worker runs on the caller's.
+///
+/// # Errors
+/// `Failed` if the keeper failed; it is then no longer live. `Memory` if there is no memory for the board or a square; the keeper is
+/// then live. The squares that were given are kept.
+pub fn resolve_with<R: Threads + Wait + Sync, K: Keep + Send, G: Gate + Sync>(
+    wait: &R,
+    alloc: Global,
+    workers: usize,
+    table: Table,
+    range: Range,
+    keeper: K,
+    gate: &G,
+) -> (Result<Table, Cause>, K)
+    requires some { 0 < workers }
+    requires rows { range.s ≤ MAX_S }
+    requires degrees { range.t ≤ MAX_T }
+    requires live { (K.telling keeper).live }
+    requires of_table { IsKeeperOf (K.telling keeper) table }
+    ensures through { IfOk result.0 (λ more. IsThrough range more.rows) }
+    ensures only { IfOk result.0 (λ more. AreNewAt (IsInRange range) table.rows more.rows) }
+    ensures grown { IfOk result.0 (HasGrown table) }
+    ensures are_of_start { IfOk result.0 AreOfStart }
+    ensures canonical { IsCanonicalStart (over table.resolved) table.start → IfOk result.0 (λ more. IsCanonicalTable (over table.resolved) range.s range.t (cut range (plain_rows more.rows))) }
+    ensures live { OnOk result.0 (K.telling result.1).live }
+    ensures no_fault { OnOk result.0 ((K.telling result.1).faults ≡ (K.telling keeper).faults) }
+    ensures of_table { IfOk result.0 (IsKeeperOf (K.telling result.1)) }
+    ensures failed { result.0 ≡ Err Cause.Failed → HasRisen (K.telling keeper).faults (K.telling result.1).faults }
+    ensures dead { result.0 ≡ Err Cause.Failed → (K.telling result.1).live → ⊥ }
+    ensures memory { result.0 ≡ Err Cause.Memory → (K.telling result.1).faults ≡ (K.telling keeper).faults }
+    ensures lives { result.0 ≡ Err Cause.Memory → (K.telling result.1).live }
+    ensures given { HasGivenOnce (over table.resolved) table.start (IsInRange range) (K.telling keeper) (K.telling result.1) }
+{
+    let (board, mut passes) = match Board::new(alloc, table, range, keeper, workers) {
+        Ok(made) => made,
+        Err((_, keeper)) => return (Err(Cause::Memory), keeper),
+    };
+    work_in_threads(wait, alloc, &board, passes.as_mut_slice(), gate);
+    let pass = joined(&board, passes);
+    let (table, keeper, history) = board.close(pass);
+    (outcome(table, range, history.as_slice()), keeper)
+}
+
+/// Each of these passes, which are all those of the board, works in a thread of its own.
+fn work_in_threads<R: Threads + Wait + Sync, K: Keep + Send, G: Gate + Sync>(
+    wait: &R,
+    alloc: Global,
+    board: &Board<K>,
+    passes: &mut [BoardPass<K>],
+    gate: &G,
+)
+    requires some { 0 < length passes.old }
+    requires passes { AreItsPasses board.now passes.old }
+    ensures count { length passes.new ≡ length passes.old }
+    ensures passes { AreItsPasses board.now passes.new }
+{
+    let workers = passes.len();
+    thread::for_each_mut(
+        wait,
+        passes,
+        workers,
+        &|_, pass: &mut BoardPass<K>|
+            requires { IsPassOf board.now pass.now }
+            ensures pass { IsPassOf board.entry.now pass.exit.now }
+            ensures number { pass.exit.now.number ≡ pass.entry.now.number }
+        {
+            let _end = work(wait, alloc, board, pass, gate);
+        },
+    );
+}
