@@ -17,6 +17,7 @@ use std::alloc::Global;
 use std::process::Abort;
 use std::sync::Wait;
 use std::test::*;
+use std::time::Clock;
 
 const RANGE: Range = Range { s: 1, t: 1 };
 
@@ -31,7 +32,12 @@ enum Answer {
 }
 
 // What a take answers. A job is handed back.
-fn ask<R: Wait, K: Keep>(rt: &R, alloc: Global, board: &Board<K>, pass: &mut BoardPass<K>) -> Answer
+fn ask<R: Wait + Clock, K: Keep>(
+    rt: &R,
+    alloc: Global,
+    board: &Board<K>,
+    pass: &mut BoardPass<K>,
+) -> Answer
     requires { IsPassOf board.now pass.old }
     ensures pass { IsPassOf board.now pass.new }
     ensures same { IsSamePass pass.old pass.new }
@@ -49,7 +55,12 @@ fn ask<R: Wait, K: Keep>(rt: &R, alloc: Global, board: &Board<K>, pass: &mut Boa
 }
 
 // A take that finds no square. The pass has its jobs still.
-fn idle<R: Wait + Abort, K: Keep>(rt: &R, alloc: Global, board: &Board<K>, pass: &mut BoardPass<K>)
+fn idle<R: Wait + Clock + Abort, K: Keep>(
+    rt: &R,
+    alloc: Global,
+    board: &Board<K>,
+    pass: &mut BoardPass<K>,
+)
     requires { IsPassOf board.now pass.old }
     ensures pass { IsPassOf board.now pass.new }
     ensures same { IsSamePass pass.old pass.new }
@@ -66,7 +77,7 @@ fn idle<R: Wait + Abort, K: Keep>(rt: &R, alloc: Global, board: &Board<K>, pass:
 }
 
 // The job that a take gives.
-fn taken<R: Wait + Abort, K: Keep>(
+fn taken<R: Wait + Clock + Abort, K: Keep>(
     rt: &R,
     alloc: Global,
     board: &Board<K>,
@@ -84,7 +95,7 @@ fn taken<R: Wait + Abort, K: Keep>(
 }
 
 // Makes the square of a job, and gives it.
-fn give<R: Wait, K: Keep>(
+fn give<R: Wait + Clock, K: Keep>(
     rt: &R,
     alloc: Global,
     board: &Board<K>,

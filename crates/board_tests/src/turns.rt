@@ -9,6 +9,7 @@ use std::sync::Wait;
 use std::test::*;
 use std::thread;
 use std::thread::Threads;
+use std::time::Clock;
 use turn_lock::{Pass, Told, Turn};
 
 /// Bytes, each with the number of the pass that added it. Its one front is how many there are.
@@ -94,7 +95,7 @@ fn opened(alloc: Global) -> Result<(Turn<Log>, Pass<Log>, Pass<Log>), Memory>
 }
 
 /// One turn, which adds a byte where there is room.
-fn add<R: Wait>(wait: &R, turn: &Turn<Log>, pass: &mut Pass<Log>, byte: u8) -> bool
+fn add<R: Wait + Clock>(wait: &R, turn: &Turn<Log>, pass: &mut Pass<Log>, byte: u8) -> bool
     requires { (pass.old.turn ≡ turn.now) × (pass.old.holds ≡ false) }
     ensures same { (pass.new.turn ≡ turn.now) × (pass.new.holds ≡ false) × (pass.new.number ≡ pass.old.number) }
     ensures added { result ≡ true → pass.new.own ≡ pass.old.own ++ byte ∷ [] }
@@ -106,7 +107,7 @@ fn add<R: Wait>(wait: &R, turn: &Turn<Log>, pass: &mut Pass<Log>, byte: u8) -> b
 }
 
 /// One turn, which adds nothing.
-fn look<R: Wait>(wait: &R, turn: &Turn<Log>, pass: &mut Pass<Log>)
+fn look<R: Wait + Clock>(wait: &R, turn: &Turn<Log>, pass: &mut Pass<Log>)
     requires { (pass.old.turn ≡ turn.now) × (pass.old.holds ≡ false) }
     ensures { (pass.new.turn ≡ turn.now) × (pass.new.holds ≡ false) × (pass.new.number ≡ pass.old.number) }
 {
@@ -125,7 +126,7 @@ fn closed(turn: Turn<Log>, mut first: Pass<Log>, second: Pass<Log>) -> Log
 }
 
 /// Each pass adds bytes in a thread of its own, and looks at the count and the front after each.
-fn add_in_threads<R: Threads + Wait + Sync>(
+fn add_in_threads<R: Threads + Wait + Clock + Sync>(
     rt: &R,
     turn: &Turn<Log>,
     row: &mut [Pass<Log>],
@@ -146,7 +147,7 @@ fn add_in_threads<R: Threads + Wait + Sync>(
 }
 
 /// Takes turns that add a byte each.
-fn add_often<R: Wait>(wait: &R, turn: &Turn<Log>, pass: &mut Pass<Log>, times: u64)
+fn add_often<R: Wait + Clock>(wait: &R, turn: &Turn<Log>, pass: &mut Pass<Log>, times: u64)
     requires { (pass.old.turn ≡ turn.now) × (pass.old.holds ≡ false) }
     ensures { (pass.new.turn ≡ turn.now) × (pass.new.holds ≡ false) × (pass.new.number ≡ pass.old.number) }
 {
@@ -158,7 +159,11 @@ fn add_often<R: Wait>(wait: &R, turn: &Turn<Log>, pass: &mut Pass<Log>, times: u
 }
 
 /// A log to which two threads added so many bytes each.
-fn filled<R: Threads + Wait + Sync>(rt: &R, alloc: Global, times: u64) -> Result<Log, Memory> {
+fn filled<R: Threads + Wait + Clock + Sync>(
+    rt: &R,
+    alloc: Global,
+    times: u64,
+) -> Result<Log, Memory> {
     let (turn, first, second) = opened(alloc)?;
     let mut pair = [first, second];
     add_in_threads(rt, &turn, &mut pair, times);

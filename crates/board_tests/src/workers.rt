@@ -43,8 +43,15 @@ fn so_many_workers_make_the_sphere(rt: HostRuntime) -> Result<(), Fail> {
     let alloc = rt.alloc();
     for workers in [1, 2, 7] {
         let table = Table::new(alloc, Module::sphere(alloc)?)?;
-        let (resolved, keeper) =
-            resolve_with(&rt, alloc, workers, table, RANGE, keeper(alloc, &[])?, &OpenGate);
+        let (resolved, keeper) = resolve_with(
+            &rt,
+            alloc,
+            workers,
+            table,
+            RANGE,
+            keeper(alloc, &[])?,
+            &OpenGate,
+        );
         match resolved {
             Ok(table) => assert!(rt; is_sphere(&table), "{workers} workers"),
             Err(_) => assert!(rt; false, "{workers} workers"),
@@ -59,8 +66,15 @@ fn a_keeper_fails_among_workers(rt: HostRuntime) -> Result<(), Fail> {
     let alloc = rt.alloc();
     for workers in [1, 2] {
         let table = Table::new(alloc, Module::sphere(alloc)?)?;
-        let (resolved, keeper) =
-            resolve_with(&rt, alloc, workers, table, RANGE, keeper(alloc, &[3])?, &OpenGate);
+        let (resolved, keeper) = resolve_with(
+            &rt,
+            alloc,
+            workers,
+            table,
+            RANGE,
+            keeper(alloc, &[3])?,
+            &OpenGate,
+        );
         assert!(rt; matches!(resolved, Err(Cause::Failed)), "{workers} workers");
         assert!(rt; !keeper.is_live());
     }
@@ -77,8 +91,14 @@ fn a_worker_finds_all_squares_done(rt: HostRuntime) -> Result<(), Fail> {
     let (Some(mut second), Some(mut first)) = (passes.pop(), passes.pop()) else {
         unreachable!()
     };
-    assert_eq!(rt; work(&rt, alloc, &board, &mut first, &OpenGate), WorkEnd::Over);
+    assert_eq!(rt;
+        work(&rt, alloc, &board, &mut first, &OpenGate),
+        WorkEnd::Over
+    );
     assert_eq!(rt; board.count(&mut first), 30);
-    assert_eq!(rt; work(&rt, alloc, &board, &mut second, &OpenGate), WorkEnd::Over);
+    assert_eq!(rt;
+        work(&rt, alloc, &board, &mut second, &OpenGate),
+        WorkEnd::Over
+    );
     Ok(())
 }

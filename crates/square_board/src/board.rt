@@ -25,6 +25,7 @@ use square::{Keep, Range, Square, Table};
 use std::alloc::Global;
 use std::marker::Model;
 use std::sync::{Arc, Wait};
+use std::time::Clock;
 use turn_lock::{Pass, Turn};
 
 /// What happens to a square of a board: it is taken, given, handed back, or the keeper fails at it.
@@ -93,7 +94,7 @@ impl<K: Keep> Board<K> {
     ///
     /// # Errors
     /// `Memory` if allocation fails; nothing is taken then.
-    pub fn take<R: Wait>(
+    pub fn take<R: Wait + Clock>(
         &self,
         wait: &R,
         alloc: Global,
@@ -120,7 +121,7 @@ impl<K: Keep> Board<K> {
     /// `Stopped` exactly if a square was handed back or failed before, with the cause of the first of these; then the keeper
     /// is not called, and the square is handed back. `Failed` if the keeper failed. `Memory` if there is no memory; then the square is
     /// handed back. In each case the job is spent, and the square is not done.
-    pub fn give<R: Wait>(
+    pub fn give<R: Wait + Clock>(
         &self,
         wait: &R,
         alloc: Global,
@@ -143,7 +144,7 @@ impl<K: Keep> Board<K> {
     }
 
     /// Hands back the square of a job for which there was no memory. From then on no square is given out.
-    pub fn back<R: Wait>(&self, wait: &R, pass: &mut BoardPass<K>, job: Job)
+    pub fn back<R: Wait + Clock>(&self, wait: &R, pass: &mut BoardPass<K>, job: Job)
         requires pass { IsPassOf self.now pass.old }
         requires job { IsJobOf self.now.name pass.old.number pass.old.own job }
         ensures pass { IsPassOf self.now pass.new }
@@ -159,7 +160,7 @@ impl<K: Keep> Board<K> {
     ///
     /// # Errors
     /// `Memory` if the square has too many owners to count.
-    pub fn look<R: Wait>(
+    pub fn look<R: Wait + Clock>(
         &self,
         wait: &R,
         pass: &mut BoardPass<K>,
@@ -180,7 +181,7 @@ impl<K: Keep> Board<K> {
     }
 
     /// Waits until more has happened than the pass saw when it last took, gave, handed back, looked, joined or rested.
-    pub fn rest<R: Wait>(&self, wait: &R, pass: &mut BoardPass<K>)
+    pub fn rest<R: Wait + Clock>(&self, wait: &R, pass: &mut BoardPass<K>)
         requires { IsPassOf self.now pass.old }
         ensures pass { IsPassOf self.now pass.new }
         ensures same { IsSamePass pass.old pass.new }

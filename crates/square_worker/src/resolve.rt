@@ -25,6 +25,7 @@ use std::alloc::Global;
 use std::sync::Wait;
 use std::thread;
 use std::thread::Threads;
+use std::time::Clock;
 
 /// The table with each square of the range. Those that are not there yet are made, and no others, by so many workers, and each is
 /// given to the keeper. Each worker has a thread of its own where one can be made; a single worker runs on the caller's.
@@ -32,7 +33,7 @@ use std::thread::Threads;
 /// # Errors
 /// `Failed` if the keeper failed; it is then no longer live. `Memory` if there is no memory for the board or a square; the keeper is
 /// then live. The squares that were given are kept.
-pub fn resolve_with<R: Threads + Wait + Sync, K: Keep + Send, G: Gate + Sync>(
+pub fn resolve_with<R: Threads + Wait + Clock + Sync, K: Keep + Send, G: Gate + Sync>(
     wait: &R,
     alloc: Global,
     workers: usize,
@@ -71,7 +72,7 @@ pub fn resolve_with<R: Threads + Wait + Sync, K: Keep + Send, G: Gate + Sync>(
 }
 
 /// Each of these passes, which are all those of the board, works in a thread of its own.
-fn work_in_threads<R: Threads + Wait + Sync, K: Keep + Send, G: Gate + Sync>(
+fn work_in_threads<R: Threads + Wait + Clock + Sync, K: Keep + Send, G: Gate + Sync>(
     wait: &R,
     alloc: Global,
     board: &Board<K>,

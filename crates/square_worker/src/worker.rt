@@ -15,6 +15,7 @@ use square::Keep;
 use square_board::{Board, BoardPass, Job, Taken};
 use std::alloc::Global;
 use std::sync::Wait;
+use std::time::Clock;
 
 /// Why a worker stopped.
 #[derive(Clone, Copy, Debug, PartialEq, Eq, Drop)]
@@ -29,7 +30,7 @@ pub enum WorkEnd {
 
 /// Takes squares, makes each and gives it, until no more are given out. Where none may be taken it rests until something has
 /// happened at the board. A square for which there is no memory is handed back, and that stops the board.
-pub fn work<R: Wait, K: Keep, G: Gate>(
+pub fn work<R: Wait + Clock, K: Keep, G: Gate>(
     wait: &R,
     alloc: Global,
     board: &Board<K>,
@@ -59,7 +60,7 @@ pub fn work<R: Wait, K: Keep, G: Gate>(
 
 /// Makes the square of a job and gives it, or hands it back if there is no memory for it. If it is not done then, the board has
 /// stopped, and its next take says why.
-fn make<R: Wait, K: Keep>(
+fn make<R: Wait + Clock, K: Keep>(
     wait: &R,
     alloc: Global,
     board: &Board<K>,

@@ -9,6 +9,7 @@
 
 mod held;
 mod pass;
+mod pause;
 mod rule;
 mod start;
 mod steps;

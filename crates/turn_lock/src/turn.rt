@@ -6,6 +6,7 @@ ghost use Rattle.turn_lock.specs.Turns.{with_turn, after_turn, after_count, afte
 
 use crate::held::{Held, Taken};
 use crate::pass::Pass;
+use crate::pause::pause;
 use crate::rule::{OneHistory, Opening};
 use crate::steps::{Acquire, Count, Read, Release, See, Store, TakeIn};
 use crate::told::Told;
@@ -14,7 +15,7 @@ use atomic_table::{Seat, Table};
 use std::alloc::Global;
 use std::marker::Model;
 use std::sync::Wait;
-use std::thread;
+use std::time::Clock;
 
 /// The seat of a pass at the turn's table.
 pub(crate) type PassSeat<T> = Seat<Option<T>, View<<T as Told>::Name, <T as Told>::Entry>>;
@@ -51,18 +52,19 @@ impl<T: Told> Turn<T> {
     ///
     /// The pass then has seen the whole history, and the fronts are at least what it was told of them before. It waits for the pass that holds the
     /// turn, and for ever where that is the pass itself.
-    pub fn acquire<R: Wait>(&self, wait: &R, pass: &mut Pass<T>) -> Held<T>
+    pub fn acquire<R: Wait + Clock>(&self, wait: &R, pass: &mut Pass<T>) -> Held<T>
         requires { pass.old.turn ≡ self.now }
         ensures pass { pass.new ≡ with_turn pass.old (T.entries result.value) }
         ensures name { T.name result.value ≡ self.now.name }
         ensures continues { Continues pass.old (T.entries result.value) }
         ensures fronts { All (λ t. t.1 ≤ T.front_of self.now.name (T.entries result.value) t.0) pass.old.told }
     {
+        let mut pauses = 0;
         for _ in wait.forever() {
             if let Some(held) = self.try_acquire(pass) {
                 return held;
             }
-            thread::yield_now();
+            pauses = pause(wait, pauses);
         }
         unreachable!()
     }
@@ -193,7 +195,7 @@ impl<T: Told> Turn<T> {
     /// Waits until the history has more entries than the pass saw in its last turn, rest or join. Then it has seen these.
     ///
     /// What `count` told it since does not matter here.
-    pub fn rest<R: Wait>(&self, wait: &R, pass: &mut Pass<T>)
+    pub fn rest<R: Wait + Clock>(&self, wait: &R, pass: &mut Pass<T>)
         requires pass { pass.old.turn ≡ self.now }
         requires idle { pass.old.holds ≡ false }
         ensures pass { pass.new ≡ after_rest pass.old pass.new.seen }
@@ -201,11 +203,12 @@ impl<T: Told> Turn<T> {
         ensures more { length pass.old.seen < length pass.new.seen }
     {
         let seen = pass.count;
+        let mut pauses = 0;
         for _ in wait.forever() {
             if self.see(pass) > seen {
                 return;
             }
-            thread::yield_now();
+            pauses = pause(wait, pauses);
         }
         unreachable!()
     }
