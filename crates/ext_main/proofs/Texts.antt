@@ -2,7 +2,7 @@
 use Rattle.std.proofs.Common.{◌≡◌, ◌∙◌, ℕ, ◌+◌, ◌<◌, List, [], ◌∷◌, ◌++◌, length, map, take, get_or, ap, sym}
 use Rattle.std.proofs.lemmas.List.{map-append, map_more}
 use Rattle.std.specs.Borrow.{Bor}
-use Rattle.ext_run.specs.Words.{texts_of}
+use Rattle.ext_words.specs.Words.{texts_of}
 
 pub texts-more : {X : Type 0} (f : X → List ℕ) (xs : List X) (words new : List (Bor (List ℕ))) (i : ℕ) (d : X) (w : Bor (List ℕ)) → i < length xs → texts_of words ≡ map f (take i xs) → w.now ≡ f (get_or xs i d) → new ≡ words ++ w ∷ [] → texts_of new ≡ map f (take (i + 1) xs)
 texts-more f xs words new i d w inside so_far text pushed =

@@ -7,7 +7,7 @@ ghost use Rattle.edge.specs.Sink.{HasPrefixMore, with_more};
 ghost use Rattle.ext_run.specs.declared.failure.Failure.TheVariants.{Words as OutsideGrammar, Memory as OutOfMemory};
 ghost use Rattle.ext_run.specs.Failure.{status_of, line_of};
 ghost use Rattle.ext_run.specs.Run.{IsStatusOf, HasRead, HasAnswered, HasReported, IsComplete};
-ghost use Rattle.ext_run.specs.Words.{texts_of};
+ghost use Rattle.ext_words.specs.Words.{texts_of};
 
 use edge::{Sink, Source, StdSink, StdSource};
 use ext_run::{Failure, report, run};

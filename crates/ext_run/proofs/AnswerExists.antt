@@ -29,12 +29,12 @@ use Rattle.ext_chart.specs.Chart.{chart_text}
 use Rattle.ext_chart.specs.Check.{check_line}
 use Rattle.ext_chart.specs.Dump.{dump_text}
 use Rattle.ext_chart.specs.Summary.{summary_text}
-use Rattle.ext_run.specs.declared.words.Command.{Command}
-use Rattle.ext_run.specs.declared.words.Command.TheVariants.{Sphere, Resolve, Dump, Check, Sample}
+use Rattle.ext_words.specs.declared.command.Command.{Command}
+use Rattle.ext_words.specs.declared.command.Command.TheVariants.{Sphere, Resolve, Dump, Check, Sample}
 use Rattle.ext_run.specs.declared.failure.Failure.{Failure}
 use Rattle.ext_run.specs.declared.failure.Failure.TheVariants.{Words, Malformed as NoModuleFile, NotModule}
 use Rattle.ext_run.specs.Answer.{IsResolved, IsChart, IsDump, IsSummary, IsLineOn, IsModuleAnswer, no_file, no_module, text_of, IsAnswerTo, Reads}
-use Rattle.ext_run.specs.Words.{command_of}
+use Rattle.ext_words.specs.Words.{command_of}
 use Rattle.ext_run.specs.Existence.{IsDescribed, AnswerExists}
 
 -- the laws that it stands on

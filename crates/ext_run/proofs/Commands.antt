@@ -5,15 +5,15 @@ use Rattle.finite_module.specs.Module.{Module as SteenrodModule}
 use Rattle.finite_module.specs.DerivedAction.{derived_module}
 use Rattle.finite_module.specs.Checked.{sphere_file}
 use Rattle.finite_module.specs.Sample.{sample_file}
-use Rattle.ext_run.specs.declared.words.Command.{Command}
-use Rattle.ext_run.specs.declared.words.Command.TheVariants.{Sphere, Resolve, Dump, Check, Sample}
-use Rattle.ext_run.specs.declared.words.Common.{Common}
+use Rattle.ext_words.specs.declared.command.Command.{Command}
+use Rattle.ext_words.specs.declared.command.Command.TheVariants.{Sphere, Resolve, Dump, Check, Sample}
+use Rattle.ext_words.specs.declared.command.Common.{Common}
 use Rattle.ext_run.specs.declared.failure.Failure.{Failure}
 use Rattle.ext_run.specs.declared.failure.Failure.TheVariants.{Words, Malformed as NoModuleFile, NotModule, Reading, Writing, Memory}
-use Rattle.ext_run.specs.declared.words.WordsFault.{WordsFault}
-use Rattle.ext_run.specs.declared.words.WordsFault.TheVariants.{Words as Outside, Memory as NoSpace}
+use Rattle.ext_words.specs.declared.command.WordsFault.{WordsFault}
+use Rattle.ext_words.specs.declared.command.WordsFault.TheVariants.{Words as Outside, Memory as NoSpace}
 use Rattle.ext_run.specs.Failure.{words_failure}
-use Rattle.ext_run.specs.Words.{command_of}
+use Rattle.ext_words.specs.Words.{command_of}
 use Rattle.ext_run.specs.Input.{IsFileCauseFrom, IsModuleFrom}
 use Rattle.ext_run.specs.Answer.{IsAnswer, IsAnswerTo, IsAnswerFrom, IsCauseFrom, Reads, WordsRead, IsChart, IsDump, IsSummary, IsLineOn, IsModuleAnswer, no_file, no_module, text_of, IsCommandAnswerFrom, IsCommandCauseFrom}
 

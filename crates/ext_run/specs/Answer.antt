@@ -8,8 +8,8 @@ use Rattle.module_check.specs.Acceptance.{refusal_of}
 use Rattle.finite_module.specs.Checked.{sphere_file}
 use Rattle.finite_module.specs.Sample.{sample_file}
 use Rattle.module_check.specs.declared.fault.CheckFault.{CheckFault}
-use Rattle.ext_run.specs.declared.words.Command.{Command}
-use Rattle.ext_run.specs.declared.words.Command.TheVariants.{Sphere, Resolve, Dump, Check, Sample}
+use Rattle.ext_words.specs.declared.command.Command.{Command}
+use Rattle.ext_words.specs.declared.command.Command.TheVariants.{Sphere, Resolve, Dump, Check, Sample}
 use Rattle.ext_run.specs.declared.failure.Failure.{Failure}
 use Rattle.ext_run.specs.declared.failure.Failure.TheVariants.{Words, Malformed as NoModuleFile, NotModule}
 use Rattle.resolution_laws.specs.Resolution.{Content, IsCanonicalTable, generator_count}
@@ -20,7 +20,7 @@ use Rattle.ext_chart.specs.Chart.{chart_text}
 use Rattle.ext_chart.specs.Check.{check_line}
 use Rattle.ext_chart.specs.Dump.{dump_text}
 use Rattle.ext_chart.specs.Summary.{summary_text}
-use Rattle.ext_run.specs.Words.{command_of}
+use Rattle.ext_words.specs.Words.{command_of}
 use Rattle.ext_run.specs.Failure.{status_of, line_of}
 use Rattle.ext_run.specs.Input.{IsOfInput, IsCauseOf, IsAccepted}
 

@@ -16,8 +16,8 @@ use Rattle.finite_module.specs.Text.{name_at}
 use Rattle.module_check.specs.declared.fault.CheckFault.{CheckFault}
 use Rattle.module_check.specs.declared.fault.CheckFault.TheVariants.{Listed, Relation, Memory as NoMemory}
 use Rattle.finite_module.specs.Text.{newline}
-use Rattle.ext_run.specs.declared.words.WordsFault.{WordsFault}
-use Rattle.ext_run.specs.declared.words.WordsFault.TheVariants.{Words as Outside, Memory as NoSpaceForWords}
+use Rattle.ext_words.specs.declared.command.WordsFault.{WordsFault}
+use Rattle.ext_words.specs.declared.command.WordsFault.TheVariants.{Words as Outside, Memory as NoSpaceForWords}
 use Rattle.ext_run.specs.declared.failure.Failure.{Failure}
 use Rattle.ext_run.specs.declared.failure.Failure.TheVariants.{Words, Malformed as NoModuleFile, NotModule, Reading, Writing, Memory}
 

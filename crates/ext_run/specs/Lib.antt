@@ -1,5 +1,3 @@
-pub mod Words
-pub mod CommandLine
 pub mod Input
 pub mod Answer
 pub mod Existence

@@ -8,7 +8,7 @@ use Rattle.module_json.specs.ModuleFile.{File}
 use Rattle.module_json.specs.declared.malformed.Malformed.{Malformed}
 use Rattle.module_check.specs.declared.fault.CheckFault.{CheckFault}
 use Rattle.ext_run.specs.declared.failure.Failure.TheVariants.{Malformed as NoModuleFile, NotModule}
-use Rattle.ext_run.specs.Words.{command_of}
+use Rattle.ext_words.specs.Words.{command_of}
 use Rattle.ext_run.specs.Input.{most_read}
 use Rattle.ext_run.specs.Answer.{IsAnswer, IsAnswerFrom, IsLineFrom, IsAnswerable, WordsRead}
 

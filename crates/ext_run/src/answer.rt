@@ -3,7 +3,7 @@ ghost use Rattle.std.specs.Prelude.{◌≡◌, ◌≢◌, ℕ, List, ◌≤◌, 
 ghost use Rattle.edge.specs.Faults.{HasRisen};
 ghost use Rattle.edge.specs.Sink.{HasPrefixMore, with_more};
 ghost use Rattle.edge.specs.Source.{without_first, HasGivenUpTo};
-ghost use Rattle.ext_run.specs.Words.{texts_of, IsWithinLimits};
+ghost use Rattle.ext_words.specs.Words.{texts_of, IsWithinLimits};
 ghost use Rattle.ext_run.specs.Input.{most_read};
 ghost use Rattle.ext_run.specs.Answer.{IsAnswerFrom, IsCauseFrom, IsCommandAnswerFrom, IsCommandCauseFrom, Reads, WordsRead};
 ghost use Rattle.ext_run.specs.Run.{IsStatusOf, HasRead, HasAnswered, HasReported, IsComplete};
@@ -12,9 +12,9 @@ ghost use Rattle.ext_run.specs.declared.failure.Failure as Failure;
 use crate::failure::{Failure, report};
 use crate::input::read_module;
 use crate::texts::{chart_of, dump_of, module_line, summary_of};
-use crate::words::{Command, parse};
 use crate::writing::write_all;
 use edge::{Failed, Sink, Source};
+use ext_words::{Command, parse};
 use module_check::Module;
 use std::alloc::Global;
 

@@ -8,10 +8,10 @@ ghost use Rattle.ext_run.specs.Parts.{part_text, parts_text};
 ghost use Rattle.ext_run.specs.declared.failure.Failure.TheVariants.{Memory as WantOfMemory};
 ghost use Rattle.ext_run.specs.Failure.{what_text, place_text, action_line, malformed_line, fault_line, line_of, status_of, malformed_status, fault_status, words_failure, read_failure, file_failure};
 
-use crate::words::WordsFault;
 use crate::writing::Part::{self, Nothing, Number, Square, Text};
 use crate::writing::{write_all, write_parts};
 use edge::{Failed, ReadFault, Sink};
+use ext_words::WordsFault;
 use memory::Memory;
 use module_check::CheckFault;
 use module_json::{Malformed, Place, Spec, What, Why};

@@ -5,14 +5,11 @@ mod answer;
 mod failure;
 mod input;
 mod laws;
-#[cfg(test)]
-mod tests;
 mod texts;
-mod words;
 mod writing;
 
 pub use answer::run;
+pub use ext_words::{Command, Common, WordsFault, parse};
 pub use failure::{Failure, report};
 pub use laws::{answer_exists, answer_is_unique};
 pub use square::Range;
-pub use words::{Command, Common, WordsFault, parse};

@@ -1,4 +1,4 @@
-//! Tests of the edge, of texts and of whole runs.
+//! Tests of the edge, of words, of texts and of whole runs.
 #![tactic(auto)]
 
 #[cfg(test)]
@@ -7,3 +7,5 @@ mod runs;
 mod streams;
 #[cfg(test)]
 mod texts;
+#[cfg(test)]
+mod words;

@@ -338,7 +338,7 @@ fn refuses(rt: HostRuntime) -> Result<(), Fail> {
         &["sample", "0", "1"],
         &["sample", "-1", "1", "1"],
         &["sample", "+1", "1", "1"],
-        &["sample", "0", "1", "1", "--workers", "2"],
+        &["sample", "0", "1", "1", "--workers", "65"],
     ];
     for words in outside {
         assert_answer(&rt, words, C2, 2, "", WORDS_LINE)?;

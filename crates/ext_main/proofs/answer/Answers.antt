@@ -1,7 +1,7 @@
 use Rattle.std.proofs.Common.{◌≡◌, ◌∙◌, ℕ, List, map, ap, sym, subst, refl, arith, inr}
 use Rattle.std.specs.Prelude.{string_bytes}
 use Rattle.ext_run.specs.declared.failure.Failure.TheVariants.{Memory}
-use Rattle.ext_run.specs.Words.{texts_of}
+use Rattle.ext_words.specs.Words.{texts_of}
 use Rattle.ext_run.specs.Run.{IsStatusOf, HasRead, HasAnswered, HasReported, IsComplete}
 use Rattle.ext_run.proofs.Causes.{status_of_failure}
 use Rattle.ext_main.proofs.Unread.{given-none}

@@ -1,6 +1,6 @@
 use Rattle.std.proofs.Common.{◌≡◌, map, take}
 use Rattle.std.specs.Prelude.{string_bytes}
-use Rattle.ext_run.specs.Words.{texts_of}
+use Rattle.ext_words.specs.Words.{texts_of}
 use Rattle.ext_main.proofs.words.Given as goal
 
 abbrev pub invariant-loop-argument : goal.invariant-loop-argument

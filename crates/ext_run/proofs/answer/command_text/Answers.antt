@@ -1,7 +1,7 @@
 use Rattle.std.proofs.Common.{sym, subst}
 use Rattle.std.proofs.lemmas.Result.{err_from_is_err_and}
 use Rattle.std.specs.Prelude.{Ok}
-use Rattle.ext_run.specs.declared.words.Command.{Command}
+use Rattle.ext_words.specs.declared.command.Command.{Command}
 use Rattle.ext_run.specs.Answer.{IsChart, IsDump, IsLineOn, Reads, IsCommandAnswerFrom, IsCommandCauseFrom}
 use Rattle.ext_run.proofs.Commands.{sphere_answer, sample_answer, resolve_on, dump_on, check_on, module_answer, module_cause}
 use Rattle.ext_run.proofs.answer.command_text.Goals as goal

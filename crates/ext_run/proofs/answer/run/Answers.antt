@@ -3,7 +3,7 @@ use Rattle.ext_run.specs.Failure.{status_of}
 use Rattle.ext_run.specs.declared.failure.Failure.TheVariants.{Reading, Writing, Memory}
 use Rattle.ext_run.specs.Answer.{IsAnswerFrom}
 use Rattle.ext_run.specs.Run.{IsStatusOf, IsComplete}
-use Rattle.ext_run.specs.Words.{texts_of}
+use Rattle.ext_words.specs.Words.{texts_of}
 use Rattle.ext_run.proofs.Causes.{read_whole, never_0, only_reading, only_writing, status_of_text, status_of_failure, complete}
 use Rattle.ext_run.proofs.answer.run.Given.{Over}
 use Rattle.ext_run.proofs.answer.run.Goals as goal

@@ -1,6 +1,6 @@
 use Rattle.std.proofs.Common.{ap, Err}
 use Rattle.std.proofs.lemmas.Result.{err_from_is_err_and}
-use Rattle.ext_run.specs.Words.{texts_of}
+use Rattle.ext_words.specs.Words.{texts_of}
 use Rattle.ext_run.specs.Failure.{words_failure}
 use Rattle.ext_run.specs.Answer.{IsCauseFrom}
 use Rattle.ext_run.proofs.Commands.{words_fault_cause}

@@ -1,0 +1,167 @@
+//! Words and what they ask for.
+use ext_words::{Command, Common, WordsFault, parse};
+use square::Range;
+use std::test::Fail;
+
+/// What the words `0 7` ask for, with so many workers.
+fn least(workers: u32) -> Common {
+    Common {
+        range: Range { s: 0, t: 7 },
+        workers,
+    }
+}
+
+/// What the words `63 127` ask for, with so many workers.
+fn greatest(workers: u32) -> Common {
+    Common {
+        range: Range { s: 63, t: 127 },
+        workers,
+    }
+}
+
+#[test]
+fn parses(rt: HostRuntime) -> Result<(), Fail> {
+    for (line, command) in [
+        ("sphere 63 127", Command::Sphere(greatest(1))),
+        ("sphere 000 07", Command::Sphere(least(1))),
+        ("resolve 63 127", Command::Resolve(greatest(1))),
+        ("resolve 0 7", Command::Resolve(least(1))),
+        ("dump 63 127", Command::Dump(greatest(1))),
+        ("dump 0 7", Command::Dump(least(1))),
+        ("check", Command::Check),
+        (
+            "sample 4294967295 63 127",
+            Command::Sample(4294967295, greatest(1)),
+        ),
+        ("sample 0000000007 0 7", Command::Sample(7, least(1))),
+        ("sphere 0 7 --workers 1", Command::Sphere(least(1))),
+        ("sphere 63 127 --workers 64", Command::Sphere(greatest(64))),
+        ("sphere 0 --workers 3 7", Command::Sphere(least(3))),
+        ("sphere --workers 3 0 7", Command::Sphere(least(3))),
+        ("resolve 0 7 --workers=4", Command::Resolve(least(4))),
+        ("resolve 0 --workers=004 7", Command::Resolve(least(4))),
+        ("resolve --workers=64 0 7", Command::Resolve(least(64))),
+        ("dump 0 7 --workers 004", Command::Dump(least(4))),
+        ("dump --workers=9 63 127", Command::Dump(greatest(9))),
+        ("sample 7 0 7 --workers 2", Command::Sample(7, least(2))),
+        ("sample 7 0 --workers=2 7", Command::Sample(7, least(2))),
+        ("sample 7 --workers 2 0 7", Command::Sample(7, least(2))),
+        ("sample --workers 2 7 0 7", Command::Sample(7, least(2))),
+    ] {
+        let words: Vec<&str> = line.split(' ').collect(rt.alloc())?;
+        assert_eq!(rt;
+            parse(rt.alloc(), words.as_slice()),
+            Ok(command),
+            "at {line}"
+        );
+    }
+    Ok(())
+}
+
+#[test]
+fn parses_nothing_else(rt: HostRuntime) -> Result<(), Fail> {
+    assert_eq!(rt; parse(rt.alloc(), &[]), Err(WordsFault::Words));
+    for line in [
+        "",
+        "sphere",
+        "sphere 4",
+        "sphere 64 1",
+        "sphere 1 128",
+        "sphere 4 8 9",
+        "sphere 4 8 ",
+        "sphere  8",
+        "sphere 4 0008",
+        "sphere +4 8",
+        "sphere -4 8",
+        "sphere - 8",
+        "sphere 4 8 --save",
+        "sphere 4 8 -h",
+        "sphere 4 8 --help",
+        "sphere -- 4 8",
+        "sphere 4 -- 8",
+        "sphere 4 8 --",
+        "-- sphere 4 8",
+        "--",
+        "sph 4 8",
+        "Sphere 4 8",
+        "sphère 4 8",
+        "sphere ４ 8",
+        "sphere -é 8",
+        "4 8 sphere",
+        "resolve 1",
+        "resolve 64 1",
+        "dump",
+        "dump 4",
+        "dump 64 1",
+        "dump 1 128",
+        "dump 1 2 3",
+        "dump -- 1 2",
+        "check x",
+        "check check",
+        "sample 4294967296 1 1",
+        "sample 00000000001 1 1",
+        "sample 0",
+        "sample 0 1",
+        "sample 0 1 1 1",
+        "sample -1 1 1",
+        "sample +1 1 1",
+        "help",
+        "help sphere",
+        "--help",
+        "-h",
+        "--version",
+        "sphere 4 8 --workers 0",
+        "sphere 4 8 --workers 65",
+        "sphere 4 8 --workers 256",
+        "sphere 4 8 --workers +4",
+        "sphere 4 8 --workers 4x",
+        "sphere 4 8 --workers 0004",
+        "sphere 4 8 --workers ",
+        "sphere 4 8 --workers -",
+        "sphere 4 8 --workers -4",
+        "sphere 4 8 --workers --",
+        "sphere 4 8 --workers",
+        "sphere 4 8 --workers=",
+        "sphere 4 8 --workers=0",
+        "sphere 4 8 --workers=65",
+        "sphere 4 8 --workers=-4",
+        "sphere 4 8 --workers==4",
+        "sphere 4 8 --workers=4=4",
+        "sphere 4 8 --workers= 4",
+        "sphere 4 8 --workers 4 --workers 4",
+        "sphere 4 8 --workers=4 --workers=5",
+        "sphere 4 8 --workers=4 --workers 5",
+        "sphere --workers 4 4 --workers=4 8",
+        "sphere 4 8 --workers --workers 4",
+        "sphere 4 8 --workers --workers=4",
+        "sphere 4 8 --workers 4 8",
+        "sphere 4 --workers 8",
+        "sphere --workers 4 8",
+        "sphere 4 8 --work 4",
+        "sphere 4 8 --worker=4",
+        "sphere 4 8 --workerss 4",
+        "sphere 4 8 --Workers 4",
+        "sphere 4 8 -workers 4",
+        "sphere 4 8 -w 4",
+        "sphere 4 8 -w4",
+        "sphere 4 8 --=4",
+        "--workers 4 sphere 4 8",
+        "--workers=4 sphere 4 8",
+        "resolve 4 8 --workers 65",
+        "dump 4 8 --workers",
+        "sample 0 1 1 --workers 0",
+        "sample 0 1 1 --workers 2 --workers 2",
+        "sample 0 1 --workers 2",
+        "check --workers 4",
+        "check --workers=4",
+        "help --workers 4",
+    ] {
+        let words: Vec<&str> = line.split(' ').collect(rt.alloc())?;
+        assert_eq!(rt;
+            parse(rt.alloc(), words.as_slice()),
+            Err(WordsFault::Words),
+            "at {line}"
+        );
+    }
+    Ok(())
+}

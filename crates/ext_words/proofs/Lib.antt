@@ -1,0 +1,10 @@
+mod ClapCommands
+mod ClapLevels
+mod ClapParts
+mod ClapRange
+mod ClapReads
+mod ClapRows
+mod ClapWords
+mod CommandNames
+mod Dashes
+mod WordLimits

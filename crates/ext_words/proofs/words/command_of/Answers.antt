@@ -1,0 +1,33 @@
+use Rattle.std.proofs.Common.{sym, subst, ap, ◌≡◌, ◌∙◌, true, false, Option, Some, None}
+use Rattle.std.specs.Prelude.{IfSome, IfNone}
+use Rattle.clap.proofs.WalkLemmas.{list_any-map}
+use Rattle.ext_words.specs.Words.{texts_of}
+use Rattle.ext_words.specs.CommandLine.{command_in}
+use Rattle.ext_words.proofs.ClapLevels.{has_dashes}
+use Rattle.ext_words.proofs.ClapReads.{taken-reads, refused-none}
+use Rattle.ext_words.proofs.Dashes.{dashes-none}
+use Rattle.ext_words.proofs.words.command_of.Goals as goal
+
+at-some : {X : Type 0} (o : Option X) (x : X) (P : X → Type 0) → o ≡ Some x → IfSome o P → P x
+at-some {X = X} o x P e h = subst (λ (v : Option X). IfSome v P) e h
+
+at-none : {X : Type 0} (o : Option X) (P : Type 0) → o ≡ None → IfNone o P → P
+at-none {X = X} o P e h = subst (λ (v : Option X). IfNone v P) e h
+
+pub returns-then-contains : goal.returns-then-contains
+returns-then-contains c =
+    let dashes : has_dashes (texts_of c.args.words.now) ≡ true = sym (list_any-map _ _ c.args.words.now) ∙ (sym c.contains.ensures.value ∙ c.if-contains.true) in
+    sym (dashes-none (texts_of c.args.words.now) dashes)
+
+pub returns-in-Some : goal.returns-in-Some
+returns-in-Some c =
+    let plain : has_dashes (texts_of c.args.words.now) ≡ false = sym (list_any-map _ _ c.args.words.now) ∙ (sym c.contains.ensures.value ∙ c.if-contains.false) in
+    let taken = at-some c.in_ok-matches.field-0 c.in-Some.matches _ c.in-Some.is c.in_ok-matches.ensures.taken in
+    let rows = at-some c.in_ok-matches.field-0 c.in-Some.matches _ c.in-Some.is c.in_ok-matches.ensures.rows in
+    c.command_in.ensures ∙ (ap command_in rows ∙ taken-reads (texts_of c.args.words.now) plain taken)
+
+pub returns-in-None : goal.returns-in-None
+returns-in-None c =
+    let plain : has_dashes (texts_of c.args.words.now) ≡ false = sym (list_any-map _ _ c.args.words.now) ∙ (sym c.contains.ensures.value ∙ c.if-contains.false) in
+    let refused = at-none c.in_ok-matches.field-0 _ c.in-None.is c.in_ok-matches.ensures.refused in
+    sym (refused-none (texts_of c.args.words.now) plain refused)

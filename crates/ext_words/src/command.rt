@@ -1,0 +1,52 @@
+//! What a command line asks for.
+ghost use Rattle.std.specs.Prelude.{◌≡◌};
+ghost use Rattle.ext_words.specs.declared.command.WordsFault.TheVariants.{Memory as WantOfMemory};
+
+use memory::Memory;
+use square::Range;
+use thiserror::Error;
+
+/// The greatest number of workers.
+pub const MAX_WORKERS: u16 = 64;
+
+/// What every command but `check` has.
+#[derive(Clone, Copy, Debug, PartialEq, Eq)]
+pub struct Common {
+    pub range: Range,
+    /// How many workers make squares: from 1 to `MAX_WORKERS`, and 1 where the words do not say.
+    pub workers: u32,
+}
+
+/// What the words of a command line ask for.
+#[derive(Clone, Copy, Debug, PartialEq, Eq)]
+pub enum Command {
+    /// `sphere S T`: the chart of the sphere.
+    Sphere(Common),
+    /// `resolve S T`: the chart of the module on standard input.
+    Resolve(Common),
+    /// `dump S T`: the differentials of the resolution of the module on standard input.
+    Dump(Common),
+    /// `check`: a line on the module on standard input.
+    Check,
+    /// `sample N S T`: the summary of the resolution of the module that N draws.
+    Sample(u32, Common),
+}
+
+/// Why words gave no command.
+#[derive(Clone, Copy, Debug, PartialEq, Eq, Error)]
+pub enum WordsFault {
+    /// The words are outside the grammar.
+    #[error("words outside the command grammar")]
+    Words,
+    /// There was no memory to read them.
+    #[error("out of memory")]
+    Memory,
+}
+
+impl From<Memory> for WordsFault {
+    ghost from_gives = { λ _ fault. fault ≡ WantOfMemory };
+
+    fn from(_: Memory) -> Self {
+        WordsFault::Memory
+    }
+}

@@ -1,0 +1,9 @@
+//! The words of a command line, and the command that they give.
+#![tactic(auto)]
+
+mod command;
+mod numbers;
+mod words;
+
+pub use command::{Command, Common, MAX_WORKERS, WordsFault};
+pub use words::parse;
