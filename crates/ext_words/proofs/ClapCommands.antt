@@ -10,7 +10,7 @@ use Rattle.ext_words.specs.declared.command.TheConstants.{MAX_WORKERS}
 use Rattle.ext_words.specs.declared.command.Common.{Common}
 use Rattle.ext_words.specs.declared.command.Command.{Command}
 use Rattle.ext_words.specs.Words.{Part, plain, workers, parts_of, plain_words, worker_values, number_up_to, range_from, range_of, workers_of, common_from, common_of, seed_of, sample_from, sample_of}
-use Rattle.ext_words.specs.CommandLine.{common_in, seed_in}
+use Rattle.ext_words.specs.Inside.CommandLine.{common_in, seed_in}
 use Rattle.ext_words.proofs.ClapWords.{Fails, IsNoNumber}
 use Rattle.ext_words.proofs.ClapParts.{leaf, word_rule, workers_rule, after_parts, IsWordOf, TakesWorkers, Agrees, HasNoNumber}
 use Rattle.ext_words.proofs.ClapLevels.{start, rest_fault, Ends, has_dashes, follows}

@@ -24,10 +24,6 @@ end_fault s h = or_else (settle_fault s.rules s.args_override_self h) (or_else (
 abbrev pub rest_fault : Shape → Walk → List Text → Kinds
 rest_fault s w words = or_else (walk_fault s [] w words) (end_fault s (fold (walked s.rules []) w words).held)
 
-or_else-or_else : (a b c : Kinds) → or_else (or_else a b) c ≡ or_else a (or_else b c)
-or_else-or_else [] b c = refl
-or_else-or_else (k ∷ ks) b c = refl
-
 -- `clap` refuses the words, where there are no rows, or its matches are these rows
 abbrev pub Ends : Shape → Walk → List Text → Option (List Row) → Type 0
 Ends s w words rows = MatchOption rows (Fails (rest_fault s w words)) (λ r. (rest_fault s w words ≡ []) × (finished s.rules (fold (walked s.rules []) w words).held ≡ r))

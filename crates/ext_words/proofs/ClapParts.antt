@@ -11,7 +11,7 @@ use Rattle.clap.specs.Faults.{given_default_fault, use_fault, defaults_fault}
 use Rattle.clap.specs.declared.error.kind.ErrorKind.TheVariants.{ArgumentConflict}
 use Rattle.clap.specs.declared.builder.value_parser.Reading.{Reading}
 use Rattle.ext_words.specs.Words.{Part, plain, workers, with_next, with_word}
-use Rattle.ext_words.specs.CommandLine.{positional, option}
+use Rattle.ext_words.specs.Inside.CommandLine.{positional, option}
 use Rattle.ext_words.proofs.ClapWords.{Fails, IsNoNumber, HasNoOther}
 
 -- ---- the commands, as they are built

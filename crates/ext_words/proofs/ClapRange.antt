@@ -7,7 +7,7 @@ use Rattle.square.specs.declared.range.Range.{Range}
 use Rattle.square.specs.declared.range.TheConstants.{MAX_S, MAX_T}
 use Rattle.ext_words.specs.declared.command.Common.{Common}
 use Rattle.ext_words.specs.Words.{Part, plain, workers, plain_words, worker_values, number_up_to, range_from, range_of, workers_of, common_from}
-use Rattle.ext_words.specs.CommandLine.{common_in, workers_from}
+use Rattle.ext_words.specs.Inside.CommandLine.{common_in, workers_from}
 use Rattle.ext_words.proofs.ClapParts.{word_rule, with_use, lacks, after_parts}
 use Rattle.ext_words.proofs.ClapRows.{Tells, row_with, told-first, told-given, told-used, told-others, word-new, workers-new, workers-again}
 

@@ -16,7 +16,7 @@ use Rattle.ext_words.specs.declared.command.Common.{Common}
 use Rattle.ext_words.specs.declared.command.Command.{Command}
 use Rattle.ext_words.specs.declared.command.Command.TheVariants.{Sphere, Resolve, Dump, Check}
 use Rattle.ext_words.specs.Words.{Part, plain, workers, with_next, with_word, begins_with, parts_of, check_of, command_from, command_of}
-use Rattle.ext_words.specs.CommandLine.{command_line, common_in, command_in}
+use Rattle.ext_words.specs.Inside.CommandLine.{command_line, common_in, command_in}
 use Rattle.ext_words.proofs.ClapWords.{Fails, fails-first, fails-as, held, Passes, meets, is_plain, is_stray, is_refused, is_alone, is_joined}
 use Rattle.ext_words.proofs.ClapParts.{settings, leaf}
 use Rattle.ext_words.proofs.ClapLevels.{start, rest_fault, has_dashes, first-plain}

@@ -2,7 +2,7 @@
 ghost use Rattle.std.specs.Prelude.{◌≡◌, ◌≢◌, ◌⊎◌, Some, None, [], Err, IfOk, IfSome, OnSome, IfNone, false};
 ghost use Rattle.clap.specs.Words.{app_of, fault_of, found_of, rows_of, subcommand_of, subcommand_rows_of};
 ghost use Rattle.clap.specs.declared.builder.command.Command.TheViews.{out-Command};
-ghost use Rattle.ext_words.specs.CommandLine.{with_options, range_command, command_line, number_in, workers_in, common_in, seed_in, sample_command, command_in};
+ghost use Rattle.ext_words.specs.Inside.CommandLine.{with_options, range_command, command_line, number_in, workers_in, common_in, seed_in, sample_command, command_in};
 ghost use Rattle.ext_words.specs.declared.command.WordsFault as WordsFault;
 ghost use Rattle.ext_words.specs.Words.{texts_of, command_of, IsWithinLimits};
 

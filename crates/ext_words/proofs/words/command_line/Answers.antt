@@ -1,7 +1,7 @@
 use Rattle.std.proofs.Common.{rules, ap, ap₂, codes, ◌≡◌, ◌∙◌}
 use Rattle.std.proofs.lemmas.Result.{IfOk-weaker}
 use Rattle.clap.specs.Simple.{App, app_of, shape_of, new_app, with_subcommand}
-use Rattle.ext_words.specs.CommandLine.{range_command, sample_command, no_command}
+use Rattle.ext_words.specs.Inside.CommandLine.{range_command, sample_command, no_command}
 use Rattle.ext_words.proofs.words.command_line.Goals as goal
 
 pub returns : goal.returns

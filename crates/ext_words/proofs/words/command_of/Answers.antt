@@ -2,7 +2,7 @@ use Rattle.std.proofs.Common.{sym, subst, ap, ◌≡◌, ◌∙◌, true, false,
 use Rattle.std.specs.Prelude.{IfSome, IfNone}
 use Rattle.clap.proofs.WalkLemmas.{list_any-map}
 use Rattle.ext_words.specs.Words.{texts_of}
-use Rattle.ext_words.specs.CommandLine.{command_in}
+use Rattle.ext_words.specs.Inside.CommandLine.{command_in}
 use Rattle.ext_words.proofs.ClapLevels.{has_dashes}
 use Rattle.ext_words.proofs.ClapReads.{taken-reads, refused-none}
 use Rattle.ext_words.proofs.Dashes.{dashes-none}

@@ -4,7 +4,7 @@ use Rattle.std.specs.Borrow.{Bor}
 use Rattle.clap.specs.Walk.{Text, first_of}
 use Rattle.clap.specs.Words.{found_of, rows_of}
 use Rattle.clap.proofs.WalkLemmas.{first_value-rows}
-use Rattle.ext_words.specs.CommandLine.{workers_from}
+use Rattle.ext_words.specs.Inside.CommandLine.{workers_from}
 use Rattle.ext_words.proofs.words.workers_in.Goals as goal
 
 pub returns-in-Some : goal.returns-in-Some
