@@ -1,4 +1,6 @@
 //! What no clause says: that there is memory for each call. The sphere's chart is known.
+ghost use Rattle.std.specs.Prelude.{◌<◌};
+
 use board_core::Cause;
 use finite_module::Module;
 use memory::Memory;
@@ -6,7 +8,10 @@ use square::{MemKeep, NoKeep, Range, Table};
 use square_board::Board;
 use square_worker::{OpenGate, WorkEnd, resolve_with, work};
 use std::alloc::Global;
+use std::sync::Wait;
 use std::test::Fail;
+use std::thread::Threads;
+use std::time::Clock;
 
 const RANGE: Range = Range { s: 2, t: 4 };
 
@@ -31,53 +36,61 @@ fn is_sphere(table: &Table) -> bool {
     table.front(2) == 5 && table.front(3) == 0
 }
 
-// A keeper that fails at these calls.
-fn keeper(alloc: Global, failing: &[u64]) -> Result<MemKeep, Memory> {
-    let mut calls = Vec::new(alloc);
-    calls.extend_from_slice(failing)?;
-    MemKeep::new(alloc, calls)
+// What so many workers make of the sphere, with a keeper that fails at these calls.
+fn made_by<R: Threads + Wait + Clock + Sync>(
+    rt: &R,
+    alloc: Global,
+    workers: usize,
+    failing: Vec<u64>,
+) -> Result<(Result<Table, Cause>, MemKeep), Memory>
+    requires { 0 < workers }
+{
+    let table = Table::new(alloc, Module::sphere(alloc)?)?;
+    let keeper = MemKeep::new(alloc, failing)?;
+    Ok(resolve_with(rt, alloc, workers, table, RANGE, keeper, &OpenGate))
+}
+
+// Whether so many workers make the sphere.
+fn make_sphere<R: Threads + Wait + Clock + Sync>(
+    rt: &R,
+    alloc: Global,
+    workers: usize,
+) -> Result<bool, Memory>
+    requires { 0 < workers }
+{
+    let (made, keeper) = made_by(rt, alloc, workers, Vec::new(alloc))?;
+    match made {
+        Ok(table) => Ok(is_sphere(&table) && keeper.is_live()),
+        Err(_) => Ok(false),
+    }
+}
+
+// Whether so many workers stop where the keeper fails.
+fn stop_at_a_failure<R: Threads + Wait + Clock + Sync>(
+    rt: &R,
+    alloc: Global,
+    workers: usize,
+) -> Result<bool, Memory>
+    requires { 0 < workers }
+{
+    let (made, keeper) = made_by(rt, alloc, workers, vec![in alloc; 3; 1]?)?;
+    Ok(matches!(made, Err(Cause::Failed)) && !keeper.is_live())
 }
 
 #[test]
 fn so_many_workers_make_the_sphere(rt: HostRuntime) -> Result<(), Fail> {
     let alloc = rt.alloc();
-    for workers in [1, 2, 7] {
-        let table = Table::new(alloc, Module::sphere(alloc)?)?;
-        let (resolved, keeper) = resolve_with(
-            &rt,
-            alloc,
-            workers,
-            table,
-            RANGE,
-            keeper(alloc, &[])?,
-            &OpenGate,
-        );
-        match resolved {
-            Ok(table) => assert!(rt; is_sphere(&table), "{workers} workers"),
-            Err(_) => assert!(rt; false, "{workers} workers"),
-        }
-        assert!(rt; keeper.is_live());
-    }
+    assert!(rt; make_sphere(&rt, alloc, 1)?);
+    assert!(rt; make_sphere(&rt, alloc, 2)?);
+    assert!(rt; make_sphere(&rt, alloc, 7)?);
     Ok(())
 }
 
 #[test]
 fn a_keeper_fails_among_workers(rt: HostRuntime) -> Result<(), Fail> {
     let alloc = rt.alloc();
-    for workers in [1, 2] {
-        let table = Table::new(alloc, Module::sphere(alloc)?)?;
-        let (resolved, keeper) = resolve_with(
-            &rt,
-            alloc,
-            workers,
-            table,
-            RANGE,
-            keeper(alloc, &[3])?,
-            &OpenGate,
-        );
-        assert!(rt; matches!(resolved, Err(Cause::Failed)), "{workers} workers");
-        assert!(rt; !keeper.is_live());
-    }
+    assert!(rt; stop_at_a_failure(&rt, alloc, 1)?);
+    assert!(rt; stop_at_a_failure(&rt, alloc, 2)?);
     Ok(())
 }
 
