@@ -1,18 +1,12 @@
-use Rattle.std.proofs.Common.{List, [], ◌+◌, sym, ap, subst}
-use Rattle.resolution_laws.specs.Start.{Entry}
-use Rattle.square.specs.declared.range.TheConstants.{MAX_S}
+use Rattle.std.proofs.Common.{ap}
 use Rattle.square.specs.Tables.{Staircase}
-use Rattle.square.specs.Keeping.{HoldsTable}
 use Rattle.square.specs.Inside.MemKeep.{Kept}
-use Rattle.square.proofs.Growing.{HoldsTable-none}
+use Rattle.board_tests.proofs.NoSquares.{holds_none}
 use Rattle.board_tests.proofs.boards.a_keeper_fails.Goals as goal
 
 pub sphere_board-requires-clause-of_table : goal.sphere_board-requires-clause-of_table
-sphere_board-requires-clause-of_table g c =
-    let table = c.in_ok-table.table in
-    let P : List Entry → Type 0 = λ list. HoldsTable list table.rows in
-    record {
-      holds = subst P (sym (ap (λ (k : Kept). k.list) c.in_ok-keeper.ensures)) (subst (HoldsTable []) (sym (ap (λ (t : Staircase). t.rows) c.in_ok-table.ensures)) (HoldsTable-none (MAX_S + 1)));
-      resolved = tt;
-      start = tt;
-    }
+sphere_board-requires-clause-of_table g c = record {
+  holds = holds_none c.in_ok-keeper.keeper.list c.in_ok-table.table.rows (ap (λ (k : Kept). k.list) c.in_ok-keeper.ensures) (ap (λ (t : Staircase). t.rows) c.in_ok-table.ensures);
+  resolved = tt;
+  start = tt;
+}

@@ -1,0 +1,12 @@
+use Rattle.std.proofs.Common.{ap}
+use Rattle.square.specs.Tables.{Staircase}
+use Rattle.square.specs.Inside.MemKeep.{Kept}
+use Rattle.board_tests.proofs.NoSquares.{holds_none}
+use Rattle.board_tests.proofs.workers.made_by.Goals as goal
+
+pub resolve_with-requires-clause-of_table : goal.resolve_with-requires-clause-of_table
+resolve_with-requires-clause-of_table g c κs within = record {
+  holds = holds_none c.in_ok-keeper.keeper.list c.in_ok-table.table.rows (ap (λ (k : Kept). k.list) c.in_ok-keeper.ensures) (ap (λ (t : Staircase). t.rows) c.in_ok-table.ensures);
+  resolved = tt;
+  start = tt;
+}
