@@ -1,5 +1,5 @@
 -- What a board that was closed came to, in the words of the table, the range and the keeper that it was made with.
-use Rattle.std.proofs.Common.{◌≡◌, ◌≢◌, ℕ, ◌<◌, ◌≤◌, ℤ, pos, ◌+ℤ◌, Bool, true, false, ◌&&◌, ◌||◌, nat_eq, nat_lt, List, ◌++◌, length, map, get_or, Option, Some, None, sym, ◌∙◌, ap, ap₂, subst, refl, arith, inl, inr}
+use Rattle.std.proofs.Common.{◌≡◌, ◌≢◌, ℕ, ℤ, pos, ◌+ℤ◌, true, ◌&&◌, nat_eq, nat_lt, List, ◌++◌, length, get_or, Option, Some, None, sym, ◌∙◌, ap, ap₂, subst, refl, arith, inl, inr}
 use Rattle.std.specs.List.{All, AllPairs, list_any}
 use Rattle.std.proofs.Math.ListN.{get_or-map}
 use Rattle.std.proofs.lemmas.Bool.Decides.{nat_tests}
@@ -7,7 +7,6 @@ use Rattle.std.proofs.lemmas.List.{length-map}
 use Rattle.std.proofs.lemmas.List.Folds.{list_any-append, Any-from_list_any}
 use Rattle.edge.specs.Faults.{HasRisen}
 use Rattle.degrees.specs.Above.{above_of}
-use Rattle.board_core.specs.declared.event.Cause.{Cause}
 use Rattle.board_core.specs.declared.event.Cause.TheVariants.{Failed, Memory}
 use Rattle.board_core.specs.declared.event.Event.{Event}
 use Rattle.board_core.specs.Laws.{IsReached, given, first_cause}
@@ -22,7 +21,7 @@ use Rattle.square.specs.declared.range.Range.{Range}
 use Rattle.square.specs.Squares.{over}
 use Rattle.square.specs.Tables.{Staircase, IsTable, IsThrough, row_in, plain_rows}
 use Rattle.square.specs.Growing.{HasGrown}
-use Rattle.square.specs.Keeping.{Keeper, HasKept}
+use Rattle.square.specs.Keeping.{Keeper}
 use Rattle.resolution_step.specs.Alone.{cut, AreNewAt, IsInRange}
 use Rattle.resolution_step.proofs.Canonical.{IsCanonicalTable-cut}
 use Rattle.square_board.specs.declared.opening.Opening.{Opening}

@@ -1,9 +1,9 @@
 -- The passes of a board, of which the last is taken off.
-use Rattle.std.proofs.Common.{◌≡◌, ℕ, suc, List, [], ◌∷◌, ◌++◌, length, subst, sym, ◌∙◌, ap, arith, length-append}
+use Rattle.std.proofs.Common.{◌≡◌, suc, List, [], ◌∷◌, ◌++◌, length, subst, ap, arith, length-append}
 use Rattle.std.proofs.Math.ListN.{get_or-append}
 use Rattle.std.proofs.Math.Seq.{get_or-append_seam}
 use Rattle.board_core.specs.declared.event.Event.{Event}
-use Rattle.turn_lock.specs.Turns.{TurnId, PassState, HasBetween}
+use Rattle.turn_lock.specs.Turns.{TurnId, PassState}
 use Rattle.square_board.specs.declared.opening.Opening.{Opening}
 use Rattle.square_worker.specs.Inside.Passes.{IsPassAt, AreItsPasses}
 

@@ -1,4 +1,4 @@
-use Rattle.std.proofs.Common.{◌≡◌, length}
+use Rattle.std.proofs.Common.{length}
 use Rattle.turn_lock.specs.Turns.{HasBetween}
 use Rattle.square_board.specs.Boards.{IsPassOf}
 use Rattle.square_worker.specs.Inside.Passes.{AreItsPasses}

@@ -1,4 +1,4 @@
-use Rattle.std.proofs.Common.{◌≡◌, ◌∙◌, ℕ, ◌<◌, List, [], ◌++◌, length, take, drop, Result, Ok, Err, IfOk, OnOk, ap, sym, subst, arith}
+use Rattle.std.proofs.Common.{◌≡◌, List, [], length, drop, Result, Ok, Err, IfOk, OnOk, sym, subst, arith}
 use Rattle.std.proofs.lemmas.List.Elements.{All-nil}
 use Rattle.std.proofs.lemmas.Result.{on_ok_weaker, IfErr-at_err}
 use Rattle.board_core.specs.declared.event.Cause.{Cause}

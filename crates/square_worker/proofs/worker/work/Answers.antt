@@ -1,4 +1,3 @@
-use Rattle.std.proofs.Common.{◌≡◌}
 use Rattle.square_worker.proofs.worker.work.Goals as goal
 
 pub returns-in-Ok-Over-clause-stopped : goal.returns-in-Ok-Over-clause-stopped
