@@ -12,23 +12,29 @@ ghost use Rattle.ext_words.specs.Words.{texts_of};
 use edge::{Sink, Source, StdSink, StdSource};
 use ext_run::{Failure, report, run};
 use memory::Memory;
+use square_worker::OpenGate;
 use std::alloc::Global;
 use std::io::{ErrorKind, Stderr, Stdin, Stdout};
 use std::process::ExitCode;
+use std::sync::Wait;
+use std::thread::Threads;
+use std::time::Clock;
 use std::{env, io};
 
 fn main(rt: HostRuntime) -> ExitCode {
-    ExitCode::from(status(&rt))
+    ExitCode::from(status(&rt, &rt))
 }
 
-/// Answers the program's arguments on the standard streams.
-fn status(rt: &HostRuntime) -> u8 {
+/// Answers the program's arguments on the standard streams. What starts threads and waits is passed beside the runtime, since
+/// only `main` has the runtime as such.
+fn status<W: Threads + Wait + Clock + Sync>(rt: &HostRuntime, wait: &W) -> u8 {
     let mut source = StdSource::new(rt.stdin());
     let mut out = StdSink::new(rt.stdout());
     let mut err = StdSink::new(rt.stderr());
     match arguments(rt) {
-        Ok(arguments) => answer::<StdSource<Stdin>, StdSink<Stdout>, StdSink<Stderr>>(
+        Ok(arguments) => answer::<W, StdSource<Stdin>, StdSink<Stdout>, StdSink<Stderr>>(
             rt,
+            wait,
             arguments.as_slice(),
             &mut source,
             &mut out,
@@ -39,8 +45,9 @@ fn status(rt: &HostRuntime) -> u8 {
 }
 
 /// Answers the arguments after the program's name: what `run` answers to their texts.
-fn answer<S: Source, O: Sink, E: Sink>(
+fn answer<W: Threads + Wait + Clock + Sync, S: Source, O: Sink, E: Sink>(
     rt: &HostRuntime,
+    wait: &W,
     arguments: &[String],
     source: &mut S,
     out: &mut O,
@@ -53,7 +60,16 @@ fn answer<S: Source, O: Sink, E: Sink>(
     ensures complete { ¬ HasRisen (S.faults source.old) (S.faults source.new) → ¬ HasRisen (O.faults out.old) (O.faults out.new) → IsComplete (map string_bytes arguments.now) (S.left source.old) result }
 {
     match words(rt.alloc(), arguments) {
-        Ok(words) => run(rt, rt.alloc(), words.as_slice(), source, out, err),
+        Ok(words) => run(
+            rt,
+            wait,
+            rt.alloc(),
+            words.as_slice(),
+            source,
+            out,
+            err,
+            &OpenGate,
+        ),
         Err(Memory) => refused(&Failure::Memory, err),
     }
 }

@@ -23,7 +23,7 @@ use Rattle.ext_words.specs.Words.{command_of}
 use Rattle.ext_run.specs.Run.{IsStatusOf, IsComplete}
 use Rattle.ext_run.specs.Failure.{status_of, malformed_status, fault_status}
 use Rattle.ext_run.specs.Input.{most_read, IsAccepted}
-use Rattle.ext_run.specs.Answer.{IsChart, IsDump, IsLineOn, IsModuleAnswer, no_file, no_module, text_of, IsAnswerTo, IsAnswer, AnswerIsUnique, IsAnswerFrom, IsCauseFrom, Reads, WordsRead, HasModule, IsAnswerable}
+use Rattle.ext_run.specs.Answer.{IsChart, IsDump, IsLineOn, IsModuleAnswer, no_file, no_module, text_of, IsAnswerTo, IsAnswer, AnswerIsUnique, IsAnswerFrom, IsCauseFrom, Reads, WordsRead, HasModule}
 use Rattle.ext_run.proofs.AnswerUnique.{answer-unique}
 use Rattle.ext_run.proofs.Reading.{most_read-is}
 use Rattle.resolution_laws.proofs.TableIsUnique.{table_is_unique}

@@ -1,5 +1,5 @@
 -- Exponents in decimal with a comma between each two, and the parts of a line, one more at a time.
-use Rattle.std.proofs.Common.{◌≡◌, ℕ, zero, suc, ◌+◌, ◌-◌, ◌<◌, ◌≤◌, List, [], ◌∷◌, ◌++◌, length, map, take, drop, get_or, refl, ap, sym, ◌∙◌, arith, append_assoc}
+use Rattle.std.proofs.Common.{◌≡◌, ℕ, zero, suc, ◌+◌, ◌-◌, ◌<◌, ◌≤◌, List, [], ◌++◌, length, map, take, drop, get_or, ap, sym, ◌∙◌, arith, append_assoc}
 use Rattle.std.specs.Prelude.{decimal}
 use Rattle.std.specs.List.{join_with_byte, flat_map}
 use Rattle.std.proofs.lemmas.List.{map_more, flat_map_more, take_more, take-append-drop, length-map, length-take-le, take_all, append-nil}

@@ -1,5 +1,5 @@
 -- What a source has left, as the input of a command, and the module file that it is.
-use Rattle.std.specs.Prelude.{◌≡◌, ℕ, ◌+◌, ◌^◌, List, Option, Some, None, IfSome, Result, Ok, Err, ⊤}
+use Rattle.std.specs.Prelude.{◌≡◌, ℕ, ◌+◌, List, Option, Some, None, IfSome, Result, Ok, Err, ⊤}
 use Rattle.module_json.specs.declared.limits.TheConstants.{MAX_FILE_BYTES}
 use Rattle.module_json.specs.ModuleFile.{File, IsFileOf}
 use Rattle.module_json.specs.declared.malformed.Malformed.{Malformed}
@@ -7,7 +7,7 @@ use Rattle.finite_module.specs.Module.{Module as SteenrodModule}
 use Rattle.finite_module.specs.DerivedAction.{derived_module}
 use Rattle.module_check.specs.Acceptance.{refusal_of}
 use Rattle.ext_run.specs.declared.failure.Failure.{Failure}
-use Rattle.ext_run.specs.declared.failure.Failure.TheVariants.{Words, Malformed as NoModuleFile, NotModule, Reading, Writing, Memory}
+use Rattle.ext_run.specs.declared.failure.Failure.TheVariants.{Malformed as NoModuleFile, NotModule, Reading, Writing, Memory}
 
 -- P holds of all that a source has left; where it does not tell that, of some bytes.
 pub record IsOfInput (P : List ℕ → Type 0) (left : Option (List ℕ)) : Type 0 where

@@ -5,10 +5,11 @@ mod answer;
 mod failure;
 mod input;
 mod laws;
+mod task;
 mod texts;
 mod writing;
 
-pub use answer::run;
+pub use answer::{run, run_one};
 pub use ext_words::{Command, Common, WordsFault, parse};
 pub use failure::{Failure, report};
 pub use laws::{answer_exists, answer_is_unique};

@@ -9,3 +9,5 @@ mod streams;
 mod texts;
 #[cfg(test)]
 mod words;
+#[cfg(test)]
+mod workers;

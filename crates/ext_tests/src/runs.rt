@@ -3,7 +3,7 @@ ghost use Rattle.std.specs.Prelude.{◌<◌};
 
 use crate::streams::source;
 use edge::MemSink;
-use ext_run::{Failure, answer_is_unique, report, run};
+use ext_run::{Failure, answer_is_unique, report, run_one};
 use module_json::{Malformed, Place, What, Why};
 use resolution_laws::canonical_table_is_unique;
 use std::alloc::Global;
@@ -11,7 +11,7 @@ use std::process::Abort;
 use std::str::from_utf8;
 use std::test::Fail;
 
-const STEMS_8: &str =
+pub(crate) const STEMS_8: &str =
     " 4 |1....\n 3 |1..1..\n 2 |1.11..1\n 1 |11.1...1\n 0 |1........\nstems 0..8\n";
 
 const STEMS_12: &str =
@@ -20,7 +20,7 @@ const STEMS_12: &str =
 const WORDS_LINE: &str = "ext: words outside the command grammar\n";
 
 /// A sink of so many bytes a call, in which one call fails, and none for 0.
-fn sink(alloc: Global, piece: usize, failing: u64) -> Result<MemSink, Fail>
+pub(crate) fn sink(alloc: Global, piece: usize, failing: u64) -> Result<MemSink, Fail>
     requires { 0 < piece }
 {
     let mut calls = Vec::new(alloc);
@@ -56,7 +56,7 @@ fn assert_answer<R: Abort + AllocGlobal>(
     let mut source = source(alloc, file.as_bytes(), 7, 0)?;
     let mut out = sink(alloc, 1000, 0)?;
     let mut err = sink(alloc, 1000, 0)?;
-    let got = run(rt, alloc, words, &mut source, &mut out, &mut err);
+    let got = run_one(rt, alloc, words, &mut source, &mut out, &mut err);
     assert_eq!(rt;
         (got, from_utf8(out.written())?, from_utf8(err.written())?),
         (status, text, line),
@@ -199,7 +199,7 @@ fn reports_failed_reads(rt: HostRuntime) -> Result<(), Fail> {
     let mut source = source(alloc, C2.as_bytes(), 7, 1)?;
     let mut out = sink(alloc, 1000, 0)?;
     let mut err = sink(alloc, 1000, 0)?;
-    let status = run(&rt, alloc, &["check"], &mut source, &mut out, &mut err);
+    let status = run_one(&rt, alloc, &["check"], &mut source, &mut out, &mut err);
     assert_eq!(rt; status, 6);
     assert_eq!(rt; out.written().len(), 0);
     assert_eq!(rt;
@@ -352,7 +352,7 @@ fn reports_failed_writes(rt: HostRuntime) -> Result<(), Fail> {
     let mut source = source(alloc, C2.as_bytes(), 7, 0)?;
     let mut out = sink(alloc, 5, 3)?;
     let mut err = sink(alloc, 1000, 0)?;
-    let status = run(
+    let status = run_one(
         &rt,
         alloc,
         &["sphere", "4", "8"],
@@ -373,7 +373,7 @@ fn keeps_the_status(rt: HostRuntime) -> Result<(), Fail> {
     let mut source = source(alloc, C2.as_bytes(), 7, 0)?;
     let mut out = sink(alloc, 1000, 0)?;
     let mut err = sink(alloc, 1000, 1)?;
-    let status = run(
+    let status = run_one(
         &rt,
         alloc,
         &["sphere", "4"],
@@ -394,7 +394,7 @@ fn answers_without_memory(rt: HostRuntime) -> Result<(), Fail> {
     let mut source = source(alloc, C2.as_bytes(), 7, 0)?;
     let mut out = sink(alloc, 1000, 0)?;
     let mut err = sink(alloc, 1000, 0)?;
-    let status = run(
+    let status = run_one(
         &rt,
         alloc,
         &["resolve", "1", "2"],

@@ -4,7 +4,7 @@ use Rattle.ext_words.specs.Words.{texts_of}
 use Rattle.ext_run.specs.Failure.{words_failure}
 use Rattle.ext_run.specs.Answer.{IsCauseFrom}
 use Rattle.ext_run.proofs.Commands.{words_fault_cause}
-use Rattle.ext_run.proofs.answer.text_of.Goals as goal
+use Rattle.ext_run.proofs.task.task_from.Goals as goal
 
 pub returns-in_err-command-clause-cause : goal.returns-in_err-command-clause-cause
 returns-in_err-command-clause-cause g c =

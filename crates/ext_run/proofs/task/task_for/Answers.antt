@@ -1,0 +1,51 @@
+use Rattle.std.proofs.Common.{◌∙◌}
+use Rattle.std.proofs.lemmas.Result.{err_from_is_err_and}
+use Rattle.ext_run.specs.declared.task.Form.TheVariants.{Chart, Differentials}
+use Rattle.ext_run.specs.Answer.{IsChart, IsDump, IsLineOn, IsCommandCauseFrom}
+use Rattle.ext_run.proofs.Commands.{resolve_on, dump_on, check_on, module_answer, module_cause}
+use Rattle.ext_run.proofs.Tasks.{sphere_task, sample_task, module_task}
+use Rattle.ext_run.proofs.task.task_for.Goals as goal
+
+pub returns-in_err-module-in-Resolve-clause-cause : goal.returns-in_err-module-in-Resolve-clause-cause
+returns-in_err-module-in-Resolve-clause-cause g c =
+    let p = err_from_is_err_and c.from_residual-in_err-module-in-Resolve.result c.from_residual-in_err-module-in-Resolve.ensures.1 in
+    let failure = c.in_err-module-in-Resolve.field-0.0 in
+    let cause : IsCommandCauseFrom c.args.command (g.S.Source.left c.args.source.now) failure =
+    module_cause c.args.command (IsChart c.in-Resolve.common.range) (resolve_on c.args.command c.in-Resolve.common c.in-Resolve.is) _ failure c.in_err-module-in-Resolve.ensures.cause in
+    rw (p.1, p.2) cause
+
+pub returns-in_err-module-in-Dump-clause-cause : goal.returns-in_err-module-in-Dump-clause-cause
+returns-in_err-module-in-Dump-clause-cause g c =
+    let p = err_from_is_err_and c.from_residual-in_err-module-in-Dump.result c.from_residual-in_err-module-in-Dump.ensures.1 in
+    let failure = c.in_err-module-in-Dump.field-0.0 in
+    let cause : IsCommandCauseFrom c.args.command (g.S.Source.left c.args.source.now) failure =
+    module_cause c.args.command (IsDump c.in-Dump.common.range) (dump_on c.args.command c.in-Dump.common c.in-Dump.is) _ failure c.in_err-module-in-Dump.ensures.cause in
+    rw (p.1, p.2) cause
+
+pub returns-in_err-module-in-Check-clause-cause : goal.returns-in_err-module-in-Check-clause-cause
+returns-in_err-module-in-Check-clause-cause g c =
+    let p = err_from_is_err_and c.from_residual-in_err-module-in-Check.result c.from_residual-in_err-module-in-Check.ensures.1 in
+    let failure = c.in_err-module-in-Check.field-0.0 in
+    let cause : IsCommandCauseFrom c.args.command (g.S.Source.left c.args.source.now) failure =
+    module_cause c.args.command IsLineOn (check_on c.args.command c.in-Check.is) _ failure c.in_err-module-in-Check.ensures.cause in
+    rw (p.1, p.2) cause
+
+pub returns-in_ok-sphere-in-Sphere-clause-task : goal.returns-in_ok-sphere-in-Sphere-clause-task
+returns-in_ok-sphere-in-Sphere-clause-task g c =
+    sphere_task c.args.command c.in-Sphere.common _ c.in_ok-sphere-in-Sphere.sphere _ c.in-Sphere.is c.in_ok-sphere-in-Sphere.ensures c.to_resolve.ensures
+
+pub returns-in_ok-module-in-Resolve-clause-task : goal.returns-in_ok-module-in-Resolve-clause-task
+returns-in_ok-module-in-Resolve-clause-task g c =
+    module_task c.args.command c.in-Resolve.common Chart _ c.in_ok-module-in-Resolve.module _ (resolve_on c.args.command c.in-Resolve.common c.in-Resolve.is) c.in_ok-module-in-Resolve.ensures.module c.to_resolve-in-Resolve.ensures
+
+pub returns-in_ok-module-in-Dump-clause-task : goal.returns-in_ok-module-in-Dump-clause-task
+returns-in_ok-module-in-Dump-clause-task g c =
+    module_task c.args.command c.in-Dump.common Differentials _ c.in_ok-module-in-Dump.module _ (dump_on c.args.command c.in-Dump.common c.in-Dump.is) c.in_ok-module-in-Dump.ensures.module c.to_resolve-in-Dump.ensures
+
+pub returns-in_ok-module_line-in-Check-clause-task : goal.returns-in_ok-module_line-in-Check-clause-task
+returns-in_ok-module_line-in-Check-clause-task g c = λ text is.
+    module_answer c.args.command IsLineOn (check_on c.args.command c.in-Check.is) _ c.in_ok-module-in-Check.module.plain text c.in_ok-module-in-Check.ensures.module (is ∙ c.in_ok-module_line-in-Check.ensures)
+
+pub returns-in_ok-sample-in-Sample-clause-task : goal.returns-in_ok-sample-in-Sample-clause-task
+returns-in_ok-sample-in-Sample-clause-task g c =
+    sample_task c.in-Sample.n c.args.command c.in-Sample.common _ c.in_ok-sample-in-Sample.sample _ c.in-Sample.is c.in_ok-sample-in-Sample.ensures c.to_resolve-in-Sample.ensures
