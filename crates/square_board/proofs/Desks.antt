@@ -11,7 +11,7 @@ use Rattle.finite_module.specs.Module.{bottom}
 use Rattle.board_core.specs.declared.event.Event.{Event}
 use Rattle.board_core.specs.declared.event.Event.TheVariants.{Take, Give, Back, Fail}
 use Rattle.board_core.specs.Board.{IsTaken}
-use Rattle.board_core.specs.Laws.{IsReached, given, given_in, first_cause}
+use Rattle.board_core.specs.Laws.{IsReached, given, given_in}
 use Rattle.board_core.specs.Machine.{State, Squares, IsAbove, IsLegal, IsLegalTake, IsHeld, IsHeldWithoutCause, height, after, opening}
 use Rattle.board_core.specs.Machine.IsHistory.{nothing}
 use Rattle.board_core.proofs.Causes.{first_of_all}
@@ -31,6 +31,7 @@ use Rattle.square_board.specs.Openings.{first_table, bottom_of, module_of, low_o
 use Rattle.square_board.specs.Desks.{has_fail, HasKeptGiven, IsAsWell, IsDesk}
 use Rattle.square_board.specs.Inside.Putting.{HaveSameSquares, HasPut}
 use Rattle.square_board.proofs.Courses.{state_of-then, legal-then}
+use Rattle.square_board.proofs.Failing.{none_fails}
 use Rattle.square_board.proofs.Ranges.{desk_range, next_of}
 
 -- before the first event
@@ -73,13 +74,6 @@ fail-then (Give who s t ∷ events) event = fail-then events event
 fail-then (Back who s t ∷ events) event = fail-then events event
 fail-then (Fail who s t ∷ events) event = refl
 
-no_fail : (events : List Event) → first_cause events ≡ None → has_fail events ≡ false
-no_fail [] none = refl
-no_fail (Take who s t snapshot ∷ events) none = no_fail events none
-no_fail (Give who s t ∷ events) none = no_fail events none
-no_fail (Back who s t ∷ events) none = cc
-no_fail (Fail who s t ∷ events) none = cc
-
 -- no event but a Give changes what is done
 done-other : (state : State) (event : Event) → given (event ∷ []) ≡ [] → (after state event).done ≡ state.done
 done-other state (Take who s t snapshot) none = refl
@@ -90,7 +84,7 @@ done-other state (Fail who s t) none = refl
 module _ {K : Type 0} (before now : Keeper) (opening : Opening K) (course : Course) (table : Staircase) (desk : IsDesk before now opening course table) where
   -- while no cause stands there was no Fail
   pub none_failed : (state_of course).cause ≡ None → has_fail course.history ≡ false
-  none_failed none = no_fail course.history (sym (first_of_all course.bottom course.rows course.degrees course.start course.history (state_of course) desk.legal) ∙ none)
+  none_failed none = none_fails course.history (sym (first_of_all course.bottom course.rows course.degrees course.start course.history (state_of course) desk.legal) ∙ none)
 
   -- an event that gives nothing, and what becomes of the keeper
   desk_other : (event : Event) (later : Keeper) → IsLegal (state_of course) event → given (event ∷ []) ≡ [] → IsKeeperOf later table → HasKeptGiven (module_of opening) (first_table opening).start (bottom_of opening) before later course.history → IsAsWell before later (course.history ++ event ∷ []) → IsDesk before later opening (with_event course event) table
