@@ -68,6 +68,7 @@ fn one_worker_is_asked_for_seven(rt: HostRuntime) -> Result<(), Fail> {
 const MOST_TURNS: u64 = 200_000_000;
 
 /// A gate that holds each of the squares (0, 1) and (1, 0) until the other was entered, and counts who came for nothing.
+#[derive(Drop)]
 struct Meeting {
     left: AtomicU64,
     right: AtomicU64,
