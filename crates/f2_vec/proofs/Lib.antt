@@ -13,4 +13,7 @@ pub mod Ones
 pub mod Spans
 pub mod Split
 pub mod Combinations
+pub mod Bytes
+mod ByteWords
+mod Spare
 pub mod Crossing

@@ -1,3 +1,4 @@
 pub mod Vectors
+pub mod Bytes
 pub mod Spans
 pub mod Inside

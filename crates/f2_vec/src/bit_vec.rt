@@ -1,11 +1,15 @@
 //! The vector type: its coordinates are kept packed in words.
-ghost use Rattle.std.specs.Prelude.{◌≡◌, ◌≢◌, ℕ, ◌+◌, ◌*◌, ◌/◌, ◌<◌, ◌≤◌, ◌↔◌, ◌==◌, [], ◌∷◌, ◌++◌, length, take, drop, replicate, IsTrue, IsNone, IfOk, IfSome, if◌then◌else◌, OnOk, OnErr, EachIndex, slice_index, slice_set};
-ghost use Rattle.std.specs.Int.{bit_at};
+ghost use Rattle.std.specs.Prelude.{◌≡◌, ◌≢◌, ℕ, ◌+◌, ◌*◌, ◌/◌, ◌<◌, ◌≤◌, ◌↔◌, ◌==◌, [], ◌∷◌, ◌++◌, length, take, drop, replicate, IsTrue, IsNone, IfOk, IfSome, MatchResult, if◌then◌else◌, Bool, List, OnOk, OnErr, EachIndex, slice_index, slice_set};
+ghost use Rattle.std.specs.Int.{bit_at, div_ceil};
 ghost use Rattle.std.specs.List.{range_with_len, items_where_true};
 ghost use Rattle.f2_vec.specs.Vectors.{sum_of, zeros, placed, bit, IsZero, IsZeroFrom, IsFirstOne, IsNextOne};
 ghost use Rattle.f2_vec.specs.Spans.{unit_vector};
+ghost use Rattle.f2_vec.specs.Bytes.{packed, ArePacked};
 ghost use Rattle.f2_vec.specs.Inside.Packed.{unit_bits, HasRoom};
+ghost use Rattle.f2_vec.specs.declared.fault.BitsFault.TheVariants.{Length, SpareBits};
 
+use crate::fault::BitsFault;
+use crate::packing::{has_spare_one, read_bytes, write_bytes};
 use crate::words::{
     low_bits, sum_words, word_from, word_or_zero, word_without, xor_four_words, xor_moved,
     xor_words,
@@ -287,6 +291,54 @@ impl BitVec {
         self.words.resize(longer.div_ceil(64), 0)?;
         self.len = longer;
         self.xor_at(at, other);
+        Ok(())
+    }
+
+    /// The vector of length `n` with these bytes, eight coordinates to a byte, lowest bit first. There have to be as many bytes as
+    /// `n` coordinates take, and the bits of the last byte that are no coordinate have to be 0.
+    pub fn from_bytes(alloc: Global, n: usize, bytes: &[u8]) -> Result<Self, BitsFault>
+        ensures len { IfOk result (λ v. length v ≡ n) }
+        ensures bytes { IfOk result (λ v. packed v ≡ bytes.now) }
+        ensures back { (v : List Bool) → length v ≡ n → packed v ≡ bytes.now → MatchResult result (λ w. w ≡ v) (λ e. e ≡ BitsFault.Memory) }
+        ensures wrong_length { (want given : ℕ) → (result ≡ Err (Length want given)) ↔ ((want ≡ div_ceil n 8) × (given ≡ length bytes.now) × (given ≢ want)) }
+        ensures spare_bits { (result ≡ Err SpareBits) ↔ ((length bytes.now ≡ div_ceil n 8) × (ArePacked n bytes.now → ⊥)) }
+    {
+        let want = n.div_ceil(8);
+        if bytes.len() != want {
+            return Err(BitsFault::Length {
+                want,
+                given: bytes.len(),
+            });
+        }
+        if has_spare_one(bytes, n) {
+            return Err(BitsFault::SpareBits);
+        }
+        let mut vector = BitVec::zero(alloc, n)?;
+        read_bytes(vector.words.as_mut_slice(), bytes);
+        Ok(vector)
+    }
+
+    /// The bytes of the vector, eight coordinates to a byte, lowest bit first. The bits of the last byte that are no coordinate are 0.
+    pub fn to_bytes(&self, alloc: Global) -> Result<Vec<u8>, Memory>
+        ensures { IfOk result (λ bytes. bytes.items ≡ packed self.now) }
+    {
+        let mut bytes = Vec::with_capacity(alloc, self.len.div_ceil(8))?;
+        self.append_bytes(&mut bytes)?;
+        Ok(bytes)
+    }
+
+    /// Puts the bytes of the vector at the end of `bytes`.
+    pub fn append_bytes(&self, bytes: &mut Vec<u8>) -> Result<(), Memory>
+        ensures ok { OnOk result (bytes.new.items ≡ bytes.old.items ++ packed self.now) }
+        ensures err { OnErr result (bytes.new.items ≡ bytes.old.items) }
+    {
+        let at = bytes.len();
+        let Some(end) = at.checked_add(self.len.div_ceil(8)) else {
+            // No memory holds that many bytes.
+            return Err(Memory);
+        };
+        bytes.resize(end, 0)?;
+        write_bytes(&mut bytes[at..], self.words.as_slice());
         Ok(())
     }
 

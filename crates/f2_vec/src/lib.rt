@@ -3,7 +3,10 @@
 
 mod bit_vec;
 mod block;
+mod fault;
+mod packing;
 mod words;
 
 pub use bit_vec::BitVec;
 pub use block::transposed_block;
+pub use fault::BitsFault;
