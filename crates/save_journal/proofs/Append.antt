@@ -11,7 +11,7 @@ use Rattle.save_journal.proofs.Frames.{length-framed}
 use Rattle.save_journal.proofs.Walk.{at_rest_records}
 use Rattle.save_journal.proofs.Torn.{length-at_rest, torn_behind, staged, with_gate, length-with_gate, open_gate, torn_gate, written_gate}
 
-same_some : (x y : List ℕ) → Some x ≡ Some y → x ≡ y
+pub same_some : (x y : List ℕ) → Some x ≡ Some y → x ≡ y
 same_some x y e = cc
 
 module _ {D : Type 0} {now : D → Option (List ℕ)} {moment : D → ℕ} {images : D → List ℕ → Type 0} {since : D → ℕ → List ℕ → Type 0} (laws : Lawful now moment images since) (digest : List ℕ) (end : ℕ) (body bytes : List ℕ) (is : bytes ≡ framed body) (says : IsSayable body) (d0 : D) where

@@ -10,10 +10,8 @@ use Rattle.edge.proofs.Moments.{where_some, at_told, told_before, started, goes_
 use Rattle.save_journal.specs.Records.{Records, records_of, header, fresh, opened}
 use Rattle.save_journal.specs.Journals.{IsSayable, IsAtRest, HasRecordsOf}
 use Rattle.save_journal.specs.Inside.Held.{IsHeld}
+use Rattle.save_journal.proofs.Append.{same_some}
 use Rattle.save_journal.proofs.Walk.{records_few, le_true}
-
-same_some : (x y : List ℕ) → Some x ≡ Some y → x ≡ y
-same_some x y e = cc
 
 -- our header and a closed gate
 pub fresh_at_rest : (digest file : List ℕ) → length digest ≡ 32 → file ≡ fresh digest → IsAtRest digest 40 [] file

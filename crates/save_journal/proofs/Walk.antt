@@ -38,11 +38,8 @@ records_skip number place zero file = refl
 records_skip number place (suc skip) [] = refl
 records_skip number place (suc skip) (byte ∷ file) = records_skip number place skip file
 
-eq_true : (m n : ℕ) → m ≡ n → nat_eq m n ≡ true
-eq_true m n e = grind (arith, nat_tests)
-
-eq_false : (m n : ℕ) → m ≢ n → nat_eq m n ≡ false
-eq_false m n e = grind (arith, nat_tests)
+not_open : (gate : ℕ) → gate ≢ 0xA5 → nat_eq gate 0xA5 ≡ false
+not_open gate shut = grind (arith, nat_tests)
 
 pub le_true : (m n : ℕ) → m ≤ n → nat_le m n ≡ true
 le_true m n e = grind (arith, nat_tests)
@@ -53,7 +50,7 @@ le_false m n e = grind (arith, nat_tests)
 -- a gate that isn't open ends them
 pub at_closed : (number place gate : ℕ) (behind : List ℕ) → gate ≢ 0xA5 → records_from number place 0 (gate ∷ behind) ≡ Ok []
 at_closed number place gate behind shut =
-    ap (λ (b : Bool). at_gate b (is_whole behind) (bytes_eq (sha256 (body_of behind)) (kept_of behind)) number place behind (records_from (number + 1) (place + 41 + body_length behind) (40 + body_length behind) behind)) (eq_false gate 0xA5 shut)
+    ap (λ (b : Bool). at_gate b (is_whole behind) (bytes_eq (sha256 (body_of behind)) (kept_of behind)) number place behind (records_from (number + 1) (place + 41 + body_length behind) (40 + body_length behind) behind)) (not_open gate shut)
 
 pub at_short : (number place : ℕ) (behind : List ℕ) → length behind < 41 + body_length behind → records_from number place 0 (0xA5 ∷ behind) ≡ Err (Short place)
 at_short number place behind less =

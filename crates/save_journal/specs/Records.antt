@@ -24,13 +24,15 @@ fresh digest = header digest ++ 0 ∷ []
 
 -- ---- a record
 
--- Behind an open gate stand the length of the body in eight bytes, the body, and its digest.
+-- What stands behind an open gate: the length of the body, in eight bytes,
 abbrev pub body_length : List ℕ → ℕ
 body_length behind = from_be_bytes w64 (take 8 behind)
 
+-- the body,
 abbrev pub body_of : List ℕ → List ℕ
 body_of behind = take (body_length behind) (drop 8 behind)
 
+-- and the digest that is kept of it
 abbrev pub kept_of : List ℕ → List ℕ
 kept_of behind = take 32 (drop (8 + body_length behind) behind)
 

@@ -50,7 +50,7 @@ pub fn frame(alloc: Global, body: Vec<u8>) -> Result<Framed, (Memory, Vec<u8>)>
 fn bytes_of(alloc: Global, body: &[u8]) -> Result<Vec<u8>, Memory>
     ensures { IfOk result (λ v. v.items ≡ framed body.now) }
 {
-    let mut bytes = Vec::with_capacity(alloc, body.len())?;
+    let mut bytes = Vec::with_capacity(alloc, body.len() + 41)?;
     bytes.extend_from_slice(&(body.len() as u64).to_be_bytes())?;
     bytes.extend_from_slice(body)?;
     bytes.extend_from_slice(&Sha256::digest(body))?;
