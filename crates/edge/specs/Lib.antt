@@ -1,3 +1,5 @@
+pub mod Disk
 pub mod Faults
+pub mod Inside
 pub mod Sink
 pub mod Source

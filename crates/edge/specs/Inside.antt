@@ -1,0 +1,2 @@
+-- What only contracts of the disk of tests speak of.
+pub mod MemDisk

@@ -1,0 +1,89 @@
+//! What keeps bytes over a crash.
+ghost use Rattle.std.specs.Prelude.{◌≡◌, ℕ, ◌+◌, ◌^◌, ◌<◌, ◌≤◌, ◌↔◌, Option, List, length, take, drop, IfSome, IfOk, OnOk, OnErr};
+ghost use Rattle.std.specs.Option.{option_map};
+ghost use Rattle.edge.specs.Disk.{written, Torn, Follows, Only, AreTold, Elapses};
+ghost use Rattle.edge.specs.Faults.{HasRisen};
+
+use crate::faults::Failed;
+
+/// A file of bytes, at most 2^63 - 1 of them. An image is what a crash may leave of it.
+///
+/// Between two syncs each range that was written, and the part past the old end, may hold any bytes in an image, and the
+/// image may be of any length between the old and the new; the bytes elsewhere stay. After a sync that succeeds a crash
+/// leaves what a read gives. What a read gives is always an image.
+///
+/// A disk that tells nothing of its bytes has contracts on faults, lengths and moments alone; whether it tells them never
+/// changes.
+pub trait Disk {
+    /// What a read gives, none where it does not tell.
+    ghost now: { Self → Option (List ℕ) };
+
+    /// The moment, a number that does not fall.
+    ghost moment: { Self → ℕ };
+
+    /// What a crash now may leave.
+    ghost images: { Self → List ℕ → Type 0 };
+
+    /// What a crash at some moment from that one on might have left.
+    ghost since: { Self → ℕ → List ℕ → Type 0 };
+
+    /// How often it has failed.
+    ghost faults: { Self → ℕ };
+
+    /// How many bytes there are.
+    fn len(&mut self) -> Result<u64, Failed>
+        ensures len { IfOk result (λ n. IfSome (now self.old) (λ file. n ≡ length file)) }
+        ensures limit { IfOk result (λ n. n < 2 ^ 63) }
+        ensures same { now self.new ≡ now self.old }
+        ensures images { (c : List ℕ) → images self.new c ↔ images self.old c }
+        ensures time { Elapses (moment self.old) (moment self.new) (since self.old) (since self.new) (images self.new) }
+        ensures never_fall { faults self.old ≤ faults self.new }
+        ensures no_fault { OnOk result (faults self.new ≡ faults self.old) }
+        ensures cause { OnErr result (HasRisen (faults self.old) (faults self.new)) };
+
+    /// Fills `into` with the bytes from `at` on. What it holds after an error is open.
+    fn read(&mut self, at: u64, into: &mut [u8]) -> Result<(), Failed>
+        requires within { IfSome (now self.old) (λ file. at + length into.old ≤ length file) }
+        ensures read { OnOk result (IfSome (now self.old) (λ file. into.new ≡ take (length into.old) (drop at file))) }
+        ensures same { now self.new ≡ now self.old }
+        ensures images { (c : List ℕ) → images self.new c ↔ images self.old c }
+        ensures time { Elapses (moment self.old) (moment self.new) (since self.old) (since self.new) (images self.new) }
+        ensures never_fall { faults self.old ≤ faults self.new }
+        ensures no_fault { OnOk result (faults self.new ≡ faults self.old) }
+        ensures cause { OnErr result (HasRisen (faults self.old) (faults self.new)) };
+
+    /// Writes the bytes from `at` on, over what is there and past the end. A write that would pass the greatest length fails.
+    /// One that fails may have written any part of its range.
+    fn write_at(&mut self, at: u64, bytes: &[u8]) -> Result<(), Failed>
+        requires within { IfSome (now self.old) (λ file. at ≤ length file) }
+        ensures written { OnOk result (now self.new ≡ option_map (written at bytes.now) (now self.old)) }
+        ensures limit { OnOk result (at + length bytes.now < 2 ^ 63) }
+        ensures torn { OnErr result (AreTold (Torn at (length bytes.now)) (now self.old) (now self.new)) }
+        ensures images { Follows (Torn at (length bytes.now)) (images self.old) (images self.new) }
+        ensures time { Elapses (moment self.old) (moment self.new) (since self.old) (since self.new) (images self.new) }
+        ensures never_fall { faults self.old ≤ faults self.new }
+        ensures no_fault { OnOk result (faults self.new ≡ faults self.old) }
+        ensures cause { OnErr result (HasRisen (faults self.old) (faults self.new)) };
+
+    /// Waits until what was written is kept: after it, a crash leaves what a read gives. One that fails adds no image.
+    fn sync(&mut self) -> Result<(), Failed>
+        ensures durable { OnOk result (IfSome (now self.old) (λ file. Only file (images self.new))) }
+        ensures same { now self.new ≡ now self.old }
+        ensures images { (c : List ℕ) → images self.new c → images self.old c }
+        ensures time { Elapses (moment self.old) (moment self.new) (since self.old) (since self.new) (images self.new) }
+        ensures never_fall { faults self.old ≤ faults self.new }
+        ensures no_fault { OnOk result (faults self.new ≡ faults self.old) }
+        ensures cause { OnErr result (HasRisen (faults self.old) (faults self.new)) };
+
+    /// What a read gives is an image now.
+    ghost now_is_image: { (disk : Self) → IfSome (now disk) (λ file. images disk file) };
+
+    /// An image now is one since now.
+    ghost counts_now: { (disk : Self) (c : List ℕ) → images disk c → since disk (moment disk) c };
+
+    /// Since now there is no other.
+    ghost only_now: { (disk : Self) (c : List ℕ) → since disk (moment disk) c → images disk c };
+
+    /// An image since a moment is one since each earlier moment.
+    ghost since_earlier: { (disk : Self) (t u : ℕ) (c : List ℕ) → t ≤ u → since disk u c → since disk t c };
+}

@@ -1,0 +1,67 @@
+//! How a disk is opened.
+ghost use Rattle.std.specs.Prelude.{◌≡◌, ◌≢◌, ◌⊎◌, ℕ, ◌^◌, ◌<◌, ◌≤◌, List, Err, length, IfSome, IfOk, IfErr, OnOk, OnErr};
+ghost use Rattle.std.specs.Option.{option_map};
+ghost use Rattle.edge.specs.Disk.{LeavesOnly};
+ghost use Rattle.edge.specs.Faults.{HasRisen};
+ghost use Rattle.save_journal.specs.Records.{records_of, opened};
+ghost use Rattle.save_journal.specs.Journals.{HasRecordsOf, contents};
+ghost use Rattle.save_journal.specs.Inside.Held.{IsHeld};
+ghost use Rattle.save_journal.specs.declared.fault.OpenFault.TheVariants.{Failed as DiskFailed, Memory as WantOfMemory};
+
+use crate::fault::OpenFault;
+use crate::reading::{fresh_file, read_records};
+use edge::Disk;
+use std::alloc::Global;
+
+/// What `Journal::open` does, on a disk that stays with the caller: the place of the gate that ends the records, and their
+/// bodies.
+pub fn open_on<D: Disk>(
+    alloc: Global,
+    disk: &mut D,
+    digest: &[u8; 32],
+) -> Result<(u64, Vec<Vec<u8>>), OpenFault>
+    ensures held { IfOk result (λ r. IfSome (D.now disk.new) (λ file. IsHeld digest.now r.0 (contents r.1.items) file (D.images disk.new))) }
+    ensures limit { IfOk result (λ r. r.0 < 2 ^ 63) }
+    ensures count { IfOk result (λ r. length r.1.items ≤ r.0) }
+    ensures file { OnOk result (D.now disk.new ≡ option_map (opened digest.now) (D.now disk.old)) }
+    ensures refused { IfErr result (λ e. (e ≡ DiskFailed) ⊎ (e ≡ WantOfMemory) ⊎ IfSome (D.now disk.old) (λ file. records_of digest.now file ≡ Err e)) }
+    ensures same { IfErr result (λ e. e ≢ DiskFailed → D.now disk.new ≡ D.now disk.old) }
+    ensures unwritten { IfErr result (λ e. e ≢ DiskFailed → (c : List ℕ) → D.images disk.new c → D.images disk.old c) }
+    ensures time { LeavesOnly D.moment D.since disk.old disk.new (λ _. Unit {0}) }
+    ensures any_moment { IfSome (D.now disk.old) (λ _. LeavesOnly D.moment D.since disk.old disk.new (HasRecordsOf digest.now (D.images disk.old))) }
+    ensures never_fall { D.faults disk.old ≤ D.faults disk.new }
+    ensures no_fault { OnOk result (D.faults disk.new ≡ D.faults disk.old) }
+    ensures cause { result ≡ Err DiskFailed → HasRisen (D.faults disk.old) (D.faults disk.new) }
+{
+    disk.sync()?; // What is read is then what a crash leaves.
+    let bytes = read_all(alloc, disk)?;
+    if bytes.len() > 41 {
+        return read_records(alloc, &bytes, digest);
+    }
+    let fresh = fresh_file(digest);
+    if bytes.as_slice() == fresh.as_slice() {
+        return Ok((40, Vec::new(alloc)));
+    }
+    disk.write_at(0, &fresh)?;
+    disk.sync()?;
+    Ok((40, Vec::new(alloc)))
+}
+
+/// All the bytes of a disk.
+fn read_all<D: Disk>(alloc: Global, disk: &mut D) -> Result<Vec<u8>, OpenFault>
+    ensures read { IfOk result (λ v. IfSome (D.now disk.old) (λ file. v.items ≡ file)) }
+    ensures limit { IfOk result (λ v. length v.items < 2 ^ 63) }
+    ensures same { D.now disk.new ≡ D.now disk.old }
+    ensures images { (c : List ℕ) → D.images disk.new c → D.images disk.old c }
+    ensures any_moment { LeavesOnly D.moment D.since disk.old disk.new (D.images disk.old) }
+    ensures never_fall { D.faults disk.old ≤ D.faults disk.new }
+    ensures no_fault { OnOk result (D.faults disk.new ≡ D.faults disk.old) }
+    ensures cause { IfErr result (λ e. (e ≡ WantOfMemory) ⊎ (e ≡ DiskFailed) × HasRisen (D.faults disk.old) (D.faults disk.new)) }
+{
+    let len = disk.len()?;
+    let mut bytes = vec![in alloc; 0u8; len as usize]?;
+    if len > 0 {
+        disk.read(0, bytes.as_mut_slice())?;
+    }
+    Ok(bytes)
+}
