@@ -4,7 +4,7 @@ use edge::{Disk, Failed, FileDisk};
 use std::test::Fail;
 use std::{env, fs, process};
 
-/// A path for a test in the folder for files that are let go, by the process and a name.
+/// A path of its own for a test, by the process and a name, in the system's folder for such files.
 fn test_path(rt: &HostRuntime, name: &str) -> Result<String, Fail> {
     let name = format!(in rt.alloc(); "disk-tests-{}-{name}", process::id(rt.process()))?;
     Ok(
@@ -17,6 +17,7 @@ fn test_path(rt: &HostRuntime, name: &str) -> Result<String, Fail> {
 #[test]
 fn a_file(rt: HostRuntime) -> Result<(), Fail> {
     let path = test_path(&rt, "file")?;
+    let _ = fs::remove_file(&rt, path.as_str());
     let mut disk = FileDisk::new(&rt, path.as_str());
     is_send(&disk);
     assert!(rt; !fs::exists(&rt, path.as_str())?);
@@ -46,6 +47,7 @@ fn a_file(rt: HostRuntime) -> Result<(), Fail> {
 fn a_file_that_comes_late(rt: HostRuntime) -> Result<(), Fail> {
     let folder = test_path(&rt, "folder")?;
     let path = format!(in rt.alloc(); "{folder}/file")?;
+    let _ = fs::remove_dir_all(&rt, folder.as_str());
     let mut disk = FileDisk::new(&rt, path.as_str());
     assert_eq!(rt; four_calls(&mut disk), [false; 4]);
     fs::create_dir(&rt, folder.as_str())?;
