@@ -104,7 +104,7 @@ shifted_torn p at bytes file marks le same =
       no_longer = omega (arith, len, len_old);
     }
 
-pub shifted_image : (p : ℕ) (f : List ℕ) (steps : List (Option Write)) → IsSound f steps → IsImage f steps (shifted p (content f steps) (marked f steps))
+shifted_image : (p : ℕ) (f : List ℕ) (steps : List (Option Write)) → IsSound f steps → IsImage f steps (shifted p (content f steps) (marked f steps))
 shifted_image p f [] sound = shifted-none p (length f) f
 shifted_image p f (Some w ∷ steps) sound = inr (shifted p (content f steps) (marked f steps), shifted_image p f steps sound.1, shifted_torn p w.at w.bytes (content f steps) (marked f steps) sound.0 (length-marked f steps sound.1))
 shifted_image p f (None ∷ steps) sound = shifted-none p (length (content f steps)) (content f steps)

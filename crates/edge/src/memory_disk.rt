@@ -81,26 +81,15 @@ fn mark(v: &mut Vec<bool>, at: usize, n: usize)
     }
 }
 
-/// Makes one vector what the other is.
-fn copy_over(from: &Vec<u8>, into: &mut Vec<u8>)
-    requires room { vec_len from.now ≤ vec_capacity into.old }
-    ensures items { into.new.items ≡ from.now.items }
+/// Makes the vector hold these bytes, and no others.
+fn copy_over(from: &[u8], into: &mut Vec<u8>)
+    requires room { length from.now ≤ vec_capacity into.old }
+    ensures items { into.new.items ≡ from.now }
     ensures capacity { vec_capacity into.old ≤ vec_capacity into.new }
 {
     into.clear();
     // There is room.
     let _ = into.extend_from_slice(from);
-}
-
-/// Takes the marks away.
-fn clear_marks(v: &mut Vec<bool>)
-    ensures items { v.new.items ≡ replicate (vec_len v.old) false }
-    ensures capacity { vec_capacity v.old ≤ vec_capacity v.new }
-{
-    let n = v.len();
-    v.clear();
-    // There is room.
-    let _ = v.resize(n, false);
 }
 
 /// Adds the number to each byte at a marked place.
@@ -163,6 +152,22 @@ impl MemDisk {
         self.failing.contains(&call) || self.stop_after < call || room < need
     }
 
+    /// The image that a number picks.
+    fn picked(&self, alloc: Global, pick: u64) -> Result<Vec<u8>, AllocError>
+        ensures picked { IfOk result (λ v. v.items ≡ image_of pick self.now.history) }
+        ensures sound { IsSound self.now.history.first self.now.history.steps }
+    {
+        match pick {
+            0 => self.synced.to_vec(alloc),
+            1 => self.bytes.to_vec(alloc),
+            _ => {
+                let mut image = self.bytes.to_vec(alloc)?;
+                shift(&mut image, &self.touched, (pick % 256) as u8);
+                Ok(image)
+            }
+        }
+    }
+
     /// One of the images now: 0 picks the bytes of the last sync, 1 all as written, and another number those with it added,
     /// mod 256, to each byte at a place that was written since that sync.
     ///
@@ -172,15 +177,7 @@ impl MemDisk {
         ensures picked { IfOk result (λ v. v.items ≡ image_of pick self.now.history) }
         ensures image { IfOk result (λ v. IsImage self.now.history.first self.now.history.steps v.items) }
     {
-        match pick {
-            0 => Ok(self.synced.to_vec(alloc)?),
-            1 => Ok(self.bytes.to_vec(alloc)?),
-            _ => {
-                let mut image = self.bytes.to_vec(alloc)?;
-                shift(&mut image, &self.touched, (pick % 256) as u8);
-                Ok(image)
-            }
-        }
+        Ok(self.picked(alloc, pick)?)
     }
 
     /// What a read gives.
@@ -285,7 +282,7 @@ impl Disk for MemDisk {
             return Err(Failed);
         }
         copy_over(&self.bytes, &mut self.synced);
-        clear_marks(&mut self.touched);
+        self.touched.fill(false);
         self.past.synced();
         Ok(())
     }
