@@ -4,6 +4,7 @@ mod Relations
 mod Step
 mod Spread
 mod Clearing
+mod Filling
 mod Tables
 mod Loops
 mod Choosing

@@ -1,11 +1,13 @@
 //! Coordinates of rows on reduced candidates.
-ghost use Rattle.std.specs.Prelude.{◌≡◌, ◌↔◌, ℕ, ◌<◌, length, IsSome, IfSome, IfOk};
+ghost use Rattle.std.specs.Prelude.{◌≡◌, ◌↔◌, ℕ, ◌<◌, length, IsTrue, IsSome, IfSome, IfOk};
 ghost use Rattle.f2_vec.specs.Vectors.{zeros};
 ghost use Rattle.f2_vec.specs.Spans.{row, HaveWidth, IsInSpan};
 ghost use Rattle.f2_matrix.specs.Echelon.{IsReduced, HasNoZeroRow};
 ghost use Rattle.f2_matrix.specs.Preimages.{at_pivots};
 ghost use Rattle.f2_dual.specs.Inside.Coordinates.{coordinates as coordinates_of};
+ghost use Rattle.f2_matrix.specs.Transpose.{column};
 ghost use Rattle.f2_dual.specs.Inside.Tables.{IsTableOfPivots};
+ghost use Rattle.f2_dual.specs.Inside.Columns.{ChangesOnlyColumn};
 
 use crate::pivots::table_of_pivots;
 use f2_matrix::Matrix;
@@ -34,52 +36,57 @@ pub fn coordinates(
     let table = table_of_pivots(alloc, n, candidates)?;
     let mut rest = BitVec::zero(alloc, n)?;
     let rows = matrix.rows();
-    let mut found = Vec::with_capacity(alloc, rows.len())?;
+    let mut columns = BitVec::zero_rows(alloc, candidates.len(), rows.len())?;
     for i in 0..rows.len() {
-        match coefficients(
-            alloc,
+        let inside = add_coefficients(
             candidates,
             table.as_slice(),
             &rows[rows.len() - 1 - i],
             &mut rest,
-        )? {
-            Some(coefficients) => found.push(coefficients)?,
-            None => return Ok(None),
+            columns.as_mut_slice(),
+            i,
+        );
+        if !inside {
+            return Ok(None);
         }
     }
-    let transposed = Matrix::from_rows(candidates.len(), found).transposed(alloc)?;
-    Ok(Some(transposed))
+    Ok(Some(Matrix::from_rows(rows.len(), columns)))
 }
 
-/// The coefficients of the candidates in the vector, where it is a sum of them. The vector is added to `rest`, which is zero, and
-/// cleared there at the pivots one after the other: a 1 that is then the first and at no pivot says that it is none. Where there
-/// are coefficients `rest` is zero again.
-fn coefficients(
-    alloc: Global,
+/// Adds the coefficients of the candidates in the vector to column `at` of the columns, a row for each candidate, where the
+/// vector is a sum of candidates, and says whether it is. The vector is added to `rest`, which is zero, and cleared there at the
+/// pivots one after the other: a 1 that is then the first and at no pivot says that it is none. Where it is a sum `rest` is zero
+/// again.
+fn add_coefficients(
     candidates: &[BitVec],
     table: &[Option<usize>],
     vector: &BitVec,
     rest: &mut BitVec,
-) -> Result<Option<BitVec>, Memory>
+    columns: &mut [BitVec],
+    at: usize,
+) -> bool
     requires widths { HaveWidth (length vector.now) candidates.now }
     requires reduced { IsReduced candidates.now }
     requires nonzero { HasNoZeroRow candidates.now }
     requires table { IsTableOfPivots (length vector.now) candidates.now table.now }
     requires rest { rest.old ≡ zeros (length vector.now) }
-    ensures inside { IfOk result (λ found. IsSome found ↔ IsInSpan (length vector.now) candidates.now vector.now) }
-    ensures at_pivots { IfOk result (λ found. IfSome found (λ c. c ≡ at_pivots candidates.now vector.now)) }
-    ensures rest { IfOk result (λ found. IsSome found → rest.new ≡ zeros (length vector.now)) }
+    requires as_many { length columns.old ≡ length candidates.now }
+    requires within { (k : ℕ) → k < length columns.old → at < length (row columns.old k) }
+    requires blank { column at columns.old ≡ zeros (length candidates.now) }
+    ensures inside { IsTrue result ↔ IsInSpan (length vector.now) candidates.now vector.now }
+    ensures at_pivots { IsTrue result → column at columns.new ≡ at_pivots candidates.now vector.now }
+    ensures others { ChangesOnlyColumn at columns.old columns.new }
+    ensures rest { IsTrue result → rest.new ≡ zeros (length vector.now) }
 {
-    let mut sum = BitVec::zero(alloc, candidates.len())?;
     rest.xor_with(vector);
     let mut from = 0;
     while let Some(place) = rest.next_one(from) {
         let Some(i) = table[place] else {
-            return Ok(None);
+            return false;
         };
         rest.xor_with(&candidates[i]);
-        sum.flip(i);
+        columns[i].flip(at);
         from = place + 1;
     }
-    Ok(Some(sum))
+    true
 }

@@ -28,14 +28,13 @@ pub fn step(alloc: Global, inputs: &Inputs) -> Result<Square, Memory>
     ensures is_square { IfOk result IsSquare }
 {
     let parts = parts_on(alloc, inputs)?;
-    Ok(Square::made(inputs, parts.images, parts.kernel, parts.quasi))
+    Ok(Square::reduced(inputs, parts.images, parts.quasi))
 }
 
-/// What a square holds: the images of its new generators, its kernel rows, and the reduction of its matrix.
+/// What a square holds: the images of its new generators, and the reduction of its matrix, which has its kernel rows.
 #[derive(Drop)]
 struct Parts {
     images: Vec<BitVec>,
-    kernel: Vec<BitVec>,
     quasi: Reduced,
 }
 
@@ -43,7 +42,7 @@ struct Parts {
 /// or for row 0 all of the module.
 fn parts_on(alloc: Global, inputs: &Inputs) -> Result<Parts, Memory>
     ensures is_footing { IsFooting inputs.now }
-    ensures step { IfOk result (λ parts. IsStepWith inputs.now (record { images = parts.images.items; kernel = parts.kernel.items }) parts.quasi) }
+    ensures step { IfOk result (λ parts. IsStepWith inputs.now (record { images = parts.images.items; kernel = parts.quasi.kernel }) parts.quasi) }
 {
     let t = inputs.t();
     match inputs.kernel_rows_below(alloc)? {
@@ -59,7 +58,7 @@ fn parts_on(alloc: Global, inputs: &Inputs) -> Result<Parts, Memory>
 fn parts_over(alloc: Global, inputs: &Inputs, candidates: &Rows) -> Result<Parts, Memory>
     requires { candidates.now ≡ candidates_over (over inputs.now.resolved) inputs.now.below inputs.now.above }
     ensures is_footing { IsFooting inputs.now }
-    ensures step { IfOk result (λ parts. IsStepWith inputs.now (record { images = parts.images.items; kernel = parts.kernel.items }) parts.quasi) }
+    ensures step { IfOk result (λ parts. IsStepWith inputs.now (record { images = parts.images.items; kernel = parts.quasi.kernel }) parts.quasi) }
 {
     let t = inputs.t();
     let target = inputs.below(alloc)?;
@@ -93,14 +92,9 @@ fn reduced_step<T: Target>(
     requires nonzero { HasNoZeroRow candidates.now }
     requires source_reach { IsWithinReach basis.now source.now t }
     requires target_reach { T.reaches target.now basis.now t }
-    ensures { IfOk result (λ parts. IsReducedStep (T.graded target.now) source.now images.now candidates.now t (record { images = parts.images.items; kernel = parts.kernel.items }) parts.quasi) }
+    ensures { IfOk result (λ parts. IsReducedStep (T.graded target.now) source.now images.now candidates.now t (record { images = parts.images.items; kernel = parts.quasi.kernel }) parts.quasi) }
 {
     let matrix = Hom::new(basis, source, target, images).matrix(alloc, t)?;
-    let (chosen, quasi) = f2_dual::choose(alloc, matrix, candidates)?;
-    let kernel = Vec::from_clones(alloc, quasi.kernel())?;
-    Ok(Parts {
-        images: chosen,
-        kernel,
-        quasi,
-    })
+    let (images, quasi) = f2_dual::choose(alloc, matrix, candidates)?;
+    Ok(Parts { images, quasi })
 }

@@ -51,6 +51,16 @@ impl Square {
         requires quasi { IsQuasi (over inputs.now.resolved) inputs.now.below inputs.now.squares (record { images = gens.items; kernel = kernel.items }) quasi }
         ensures { result ≡ record { resolved = inputs.now.resolved; start = inputs.now.start; s = inputs.now.s; above = inputs.now.above; content = record { images = gens.items; kernel = kernel.items }; quasi = Some quasi } }
     {
+        drop(kernel);
+        Square::reduced(inputs, gens, quasi)
+    }
+
+    /// The same square, where nobody holds its kernel rows beside the reduction that has them.
+    pub fn reduced(inputs: &Inputs, gens: Vec<BitVec>, quasi: Reduced) -> Square
+        requires step { IsStep (over inputs.now.resolved) inputs.now.below inputs.now.squares (record { images = gens.items; kernel = quasi.kernel }) }
+        requires quasi { IsQuasi (over inputs.now.resolved) inputs.now.below inputs.now.squares (record { images = gens.items; kernel = quasi.kernel }) quasi }
+        ensures { result ≡ record { resolved = inputs.now.resolved; start = inputs.now.start; s = inputs.now.s; above = inputs.now.above; content = record { images = gens.items; kernel = quasi.kernel }; quasi = Some quasi } }
+    {
         let target_width = quasi.cols() as u64;
         let width = quasi.height() as u64;
         Square {

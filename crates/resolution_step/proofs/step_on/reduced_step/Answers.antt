@@ -22,7 +22,5 @@ returns g c =
     let same_t = to_z-of_z w32 c.args.t c.ranges.t in
     let cols : matrix.cols ≡ target.width c.args.t = rw (← c.new.ensures.target) (subst (λ (t : ℤ). matrix.cols ≡ (g.T.Target.graded c.new.result.target.now).width t) same_t c.in_ok-matrix.ensures.cols) in
     let rows : matrix.rows ≡ map_rows target c.args.source.now c.args.images.now c.args.t = rw (← c.new.ensures.target, ← c.new.ensures.source, ← c.new.ensures.images) (subst (λ (t : ℤ). matrix.rows ≡ map_rows (g.T.Target.graded c.new.result.target.now) c.new.result.source.now c.new.result.images.now t) same_t c.in_ok-matrix.ensures.rows) in
-    let copied : c.in_ok-kernel.kernel.items ≡ c.kernel.result.now = c.in_ok-kernel.ensures.items_if_clones_equal (λ x y h. h) in
-    let kernel : c.in_ok-kernel.kernel.items ≡ c.in_ok-chosen.quasi.kernel = copied ∙ c.kernel.ensures.rows in
-    IsReducedStep_from_choice target c.args.source.now c.args.images.now c.args.candidates.now c.args.t matrix (record { images = c.in_ok-chosen.chosen.items; kernel = c.in_ok-kernel.kernel.items }) c.in_ok-chosen.quasi (g.met.T.Target.has_unit c.args.target.now) c.requires.images.one_each c.requires.widths cols rows
-    c.in_ok-chosen.ensures.chosen (rw kernel c.in_ok-chosen.ensures.kernel) c.in_ok-chosen.ensures.reduction
+    IsReducedStep_from_choice target c.args.source.now c.args.images.now c.args.candidates.now c.args.t matrix (record { images = c.in_ok-images.images.items; kernel = c.in_ok-images.quasi.kernel }) c.in_ok-images.quasi (g.met.T.Target.has_unit c.args.target.now) c.requires.images.one_each c.requires.widths cols rows
+    c.in_ok-images.ensures.chosen c.in_ok-images.ensures.kernel c.in_ok-images.ensures.reduction
