@@ -17,10 +17,11 @@ use Rattle.save_file.specs.Bodies.{Body, body_bytes, entry_in, target_dim, sourc
 abbrev pub number_at : Width → ℕ → List ℕ → ℕ
 number_at w place bytes = from_be_bytes w (take (byte_len w) (drop place bytes))
 
--- the first n bits, eight to a byte, lowest first; how many bytes a vector of length n takes
+-- the vector of the first n bits, eight to a byte, lowest first
 unfoldable pub unpacked : ℕ → List ℕ → List Bool
 unpacked n bytes = map (λ k. bit_at (slice_index_or bytes (k / 8) 0) (k % 8) == 1) (range_with_len 0 n)
 
+-- how many bytes a vector of length n takes
 abbrev pub packed_len : ℕ → ℕ
 packed_len n = div_ceil n 8
 
