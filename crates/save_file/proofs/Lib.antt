@@ -1,0 +1,11 @@
+mod Unpacking
+mod RowByRow
+mod Outlines
+mod Bodies
+mod Basis
+mod Rules
+pub mod Entries
+mod Decoding
+mod Encoding
+mod Appending
+pub mod Pushing

@@ -1,0 +1,5 @@
+pub mod Bodies
+pub mod Reading
+pub mod Saved
+pub mod Laws
+pub mod Inside

@@ -1,0 +1,49 @@
+//! The rows of a matrix in a body.
+ghost use Rattle.std.specs.Prelude.{◌≡◌, ◌++◌, ◌*◌, ◌<◌, List, Bool, length, IfOk, OnOk, MatchOption};
+ghost use Rattle.std.specs.List.{flat_map};
+ghost use Rattle.f2_vec.specs.Bytes.{packed};
+ghost use Rattle.save_file.specs.Reading.{packed_len};
+ghost use Rattle.save_file.specs.Inside.Outline.{packed_of, AreUnpacked};
+
+use crate::outline::PackedRows;
+use f2_vec::{BitVec, BitsFault};
+use memory::Memory;
+use std::alloc::Global;
+
+/// The rows, none where a spare bit of one is 1.
+///
+/// # Errors
+/// `Memory` if allocation fails.
+pub(crate) fn unpack(alloc: Global, packed: &PackedRows<'_>) -> Result<Option<Vec<BitVec>>, Memory>
+    requires { length packed.now.bytes.now ≡ packed.now.height * packed_len packed.now.cols }
+    ensures { IfOk result (λ found. MatchOption found ((rows : List (List Bool)) → AreUnpacked (packed_of packed.now) rows → ⊥) (λ rows. AreUnpacked (packed_of packed.now) rows.items)) }
+{
+    let cols = packed.cols as usize;
+    let len = cols.div_ceil(8);
+    let mut rows = Vec::new(alloc);
+    let mut rest = packed.bytes;
+    for _ in 0..packed.height {
+        let (row, after) = rest.split_at(len);
+        match BitVec::from_bytes(alloc, cols, row) {
+            Ok(row) => rows.push(row)?,
+            Err(BitsFault::SpareBits) => return Ok(None),
+            Err(BitsFault::Length { .. }) => unreachable!(),
+            Err(BitsFault::Memory) => return Err(Memory),
+        }
+        rest = after;
+    }
+    Ok(Some(rows))
+}
+
+/// Puts the rows at the end of the bytes, one after the other.
+///
+/// # Errors
+/// `Memory` if allocation fails.
+pub(crate) fn append_rows(rows: &[BitVec], bytes: &mut Vec<u8>) -> Result<(), Memory>
+    ensures { OnOk result (bytes.new.items ≡ bytes.old.items ++ flat_map packed rows.now) }
+{
+    for row in rows {
+        row.append_bytes(bytes)?;
+    }
+    Ok(())
+}
