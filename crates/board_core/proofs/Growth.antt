@@ -1,19 +1,20 @@
 -- The squares that are done grow along each history.
 use Rattle.std.proofs.Common.{◌≡◌, ℕ, zero, suc, ◌+◌, ◌≤◌, Bool, true, false, ◌&&◌, ◌||◌, nat_eq, List, [], ◌∷◌, ap, arith, inl, inr}
 use Rattle.std.proofs.lemmas.Bool.{cases_Bool}
-use Rattle.board_core.specs.declared.event.Event.{Event}
-use Rattle.board_core.specs.declared.event.Event.TheVariants.{Take, Give, Back, Fail}
+use Rattle.board_core.specs.declared.event.Entry.{Entry}
+use Rattle.board_core.specs.declared.event.Entry.TheVariants.{Take, Give, Back, Fail}
 use Rattle.board_core.specs.Laws.{HasGrown}
-use Rattle.board_core.specs.Machine.{State, IsHistory, IsNumber, count_below, height, after}
+use Rattle.board_core.specs.Entries.{IsEntryHistory, after_entry}
+use Rattle.board_core.specs.Machine.{State, IsNumber, count_below, height}
 use Rattle.board_core.specs.Machine.IsHistory.{nothing, then}
 
-stays_done : (first : State) (events : List Event) (last : State) → IsHistory first events last → (s k : ℕ) → first.done s k ≡ true → last.done s k ≡ true
+stays_done : (first : State) (events : List Entry) (last : State) → IsEntryHistory first events last → (s k : ℕ) → first.done s k ≡ true → last.done s k ≡ true
 stays_done first [] last (nothing state) s k here = here
-stays_done first (Take who i t snapshot ∷ events) last (then state e es l legal rest) s k here = stays_done (after first (Take who i t snapshot)) events last rest s k here
+stays_done first (Take who i t snapshot ∷ events) last (then state e es l legal rest) s k here = stays_done (after_entry first (Take who i t snapshot)) events last rest s k here
 stays_done first (Give who i t ∷ events) last (then state e es l legal rest) s k here =
-    stays_done (after first (Give who i t)) events last rest s k (ap (λ x. x || (nat_eq s i && nat_eq k (height first t))) here)
-stays_done first (Back who i t ∷ events) last (then state e es l legal rest) s k here = stays_done (after first (Back who i t)) events last rest s k here
-stays_done first (Fail who i t ∷ events) last (then state e es l legal rest) s k here = stays_done (after first (Fail who i t)) events last rest s k here
+    stays_done (after_entry first (Give who i t)) events last rest s k (ap (λ x. x || (nat_eq s i && nat_eq k (height first t))) here)
+stays_done first (Back who i t ∷ events) last (then state e es l legal rest) s k here = stays_done (after_entry first (Back who i t)) events last rest s k here
+stays_done first (Fail who i t ∷ events) last (then state e es l legal rest) s k here = stays_done (after_entry first (Fail who i t)) events last rest s k here
 
 -- beyond the bound nothing is counted
 pub count_past : (test : ℕ → Bool) (n more : ℕ) → ((k : ℕ) → n ≤ k → test k ≡ false) → count_below test (n + more) ≡ count_below test n
@@ -44,7 +45,7 @@ number_grows p q m n h at more =
     let count_more = more.count in
     omega arith
 
-pub grown : (first : State) (events : List Event) (last : State) → IsHistory first events last → HasGrown first last
+pub grown : (first : State) (events : List Entry) (last : State) → IsEntryHistory first events last → HasGrown first last
 grown first events last history =
     let stays = stays_done first events last history in
     record { stays = stays; rows = λ s m n at more. number_grows (first.done s) (last.done s) m n (stays s) at more }

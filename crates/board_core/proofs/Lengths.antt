@@ -4,11 +4,12 @@ use Rattle.std.proofs.Math.Bool.{or-false}
 use Rattle.std.proofs.Math.Path.{fun_ext}
 use Rattle.std.proofs.lemmas.List.Sums.{sum_by-cons}
 use Rattle.std.proofs.lemmas.Bool.Decides.{nat_tests, eqb_tells}
-use Rattle.board_core.specs.declared.event.Event.{Event}
-use Rattle.board_core.specs.declared.event.Event.TheVariants.{Take, Give, Back, Fail}
+use Rattle.board_core.specs.declared.event.Entry.{Entry}
+use Rattle.board_core.specs.declared.event.Entry.TheVariants.{Take, Give, Back, Fail}
 use Rattle.board_core.specs.Board.{IsSound}
-use Rattle.board_core.specs.Laws.{IsReached, given, given_in}
-use Rattle.board_core.specs.Machine.{State, IsNumber, IsRowNumber, IsHistory, count_below, height, after, opening, insert_square}
+use Rattle.board_core.specs.Laws.{IsReachedByEntries, given, given_in}
+use Rattle.board_core.specs.Entries.{IsEntryHistory, after_entry}
+use Rattle.board_core.specs.Machine.{State, IsNumber, IsRowNumber, count_below, height, opening, insert_square}
 use Rattle.board_core.specs.Machine.IsHistory.{nothing, then}
 use Rattle.board_core.proofs.Growth.{count_past}
 use Rattle.board_core.proofs.Histories.{held_at_height, opening_is_sound, stays_sound}
@@ -69,21 +70,21 @@ one_more : (b : Bool) (n c : ℕ) → cond b (suc n) n + c ≡ n + (cond b 1 0 +
 one_more true n c = omega arith
 one_more false n c = omega arith
 
-along : (first : State) (events : List Event) (last : State) → IsHistory first events last → IsSound first → (i n : ℕ) → IsRowNumber first.done i n → IsRowNumber last.done i (n + given_in i events)
+along : (first : State) (events : List Entry) (last : State) → IsEntryHistory first events last → IsSound first → (i n : ℕ) → IsRowNumber first.done i n → IsRowNumber last.done i (n + given_in i events)
 along first [] last (nothing state) sound i n is = subst (IsRowNumber first.done i) (omega arith) is
 along first (Take who s t snapshot ∷ events) last (then state e es l legal rest) sound i n is =
-    along (after first (Take who s t snapshot)) events last rest (stays_sound first (Take who s t snapshot) sound legal) i n is
+    along (after_entry first (Take who s t snapshot)) events last rest (stays_sound first (Take who s t snapshot) sound legal) i n is
 along first (Give who s t ∷ events) last (then state e es l legal rest) sound i n is =
     let k = height first t in
     let taken = sound.taken s k (held_at_height first who s t legal.held) in
     let more = row_with first s k i n taken.not_done is in
-    let all = along (after first (Give who s t)) events last rest (stays_sound first (Give who s t) sound legal) i (cond (nat_eq s i) (suc n) n) more in
+    let all = along (after_entry first (Give who s t)) events last rest (stays_sound first (Give who s t) sound legal) i (cond (nat_eq s i) (suc n) n) more in
     let count : cond (nat_eq s i) (suc n) n + given_in i events ≡ n + given_in i (Give who s t ∷ events) = one_more (nat_eq s i) n (given_in i events) ∙ ap (λ (c : ℕ). n + c) (sym (sum_by-cons (λ (q : ℕ × ℤ). cond (nat_eq q.0 i) 1 0) (s, t) (given events))) in
     subst (IsRowNumber last.done i) count all
 along first (Back who s t ∷ events) last (then state e es l legal rest) sound i n is =
-    along (after first (Back who s t)) events last rest (stays_sound first (Back who s t) sound legal) i n is
+    along (after_entry first (Back who s t)) events last rest (stays_sound first (Back who s t) sound legal) i n is
 along first (Fail who s t ∷ events) last (then state e es l legal rest) sound i n is =
-    along (after first (Fail who s t)) events last rest (stays_sound first (Fail who s t) sound legal) i n is
+    along (after_entry first (Fail who s t)) events last rest (stays_sound first (Fail who s t) sound legal) i n is
 
-pub fronts_are_given : (bottom : ℤ) (s t : ℕ) (start : List (ℕ × ℤ)) (events : List Event) (state : State) → IsReached bottom s t start events state → (i n : ℕ) → IsRowNumber (opening bottom s t start).done i n → IsRowNumber state.done i (n + given_in i events)
+pub fronts_are_given : (bottom : ℤ) (s t : ℕ) (start : List (ℕ × ℤ)) (events : List Entry) (state : State) → IsReachedByEntries bottom s t start events state → (i n : ℕ) → IsRowNumber (opening bottom s t start).done i n → IsRowNumber state.done i (n + given_in i events)
 fronts_are_given bottom s t start events state reached = along (opening bottom s t start) events state reached.history (opening_is_sound bottom s t start reached.listed)

@@ -1,6 +1,7 @@
 pub mod BelowFronts
 pub mod Causes
 pub mod Crossing
+pub mod Filed
 pub mod Given
 mod Growth
 pub mod Histories

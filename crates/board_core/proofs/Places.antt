@@ -1,5 +1,5 @@
 -- Where the squares stand that a history gives: each in the range, and no two at one place.
-use Rattle.std.proofs.Common.{◌≡◌, ◌≢◌, ℕ, ◌+◌, ◌<◌, ◌≤◌, ℤ, true, ◌&&◌, nat_eq, List, [], ◌∷◌, ◌++◌, length, take, get_or, Option, Some, refl, sym, ◌∙◌, ap, subst, arith, length-append}
+use Rattle.std.proofs.Common.{◌≡◌, ◌≢◌, ℕ, ◌+◌, ◌<◌, ◌≤◌, ℤ, true, ◌&&◌, nat_eq, List, [], ◌∷◌, ◌++◌, length, take, get_or, Option, Some, sym, ◌∙◌, ap, subst, arith, length-append}
 use Rattle.std.specs.List.{All, AllPairs}
 use Rattle.std.proofs.lemmas.Bool.Decides.{nat_tests}
 use Rattle.std.proofs.lemmas.List.{get_or-take, get_or-append-add, length-take-le}
@@ -7,11 +7,12 @@ use Rattle.std.proofs.lemmas.List.Elements.{All-nil, All-cons}
 use Rattle.std.proofs.lemmas.List.Folds.{list_any-from_Any}
 use Rattle.std.proofs.lemmas.Option.{slice_get-get_or, get_or_from_slice_get}
 use Rattle.degrees.specs.Above.{above_of}
-use Rattle.board_core.specs.declared.event.Event.{Event}
-use Rattle.board_core.specs.declared.event.Event.TheVariants.{Take, Give, Back, Fail}
+use Rattle.board_core.specs.declared.event.Entry.{Entry}
+use Rattle.board_core.specs.declared.event.Entry.TheVariants.{Take, Give, Back, Fail}
 use Rattle.board_core.specs.Board.{IsSound}
-use Rattle.board_core.specs.Laws.{IsReached, given}
-use Rattle.board_core.specs.Machine.{State, IsStart, IsAbove, IsHistory, is_number, height, after, opening}
+use Rattle.board_core.specs.Laws.{IsReachedByEntries, given}
+use Rattle.board_core.specs.Entries.{IsEntryHistory, after_entry}
+use Rattle.board_core.specs.Machine.{State, IsStart, IsAbove, is_number, height, opening}
 use Rattle.board_core.specs.Machine.IsHistory.{nothing, then}
 use Rattle.board_core.proofs.Given.{given_once}
 use Rattle.board_core.proofs.Histories.{height_is, held_at_height, opening_is_sound, stays_sound}
@@ -26,19 +27,19 @@ pub record IsWithin (bottom : ℤ) (s t : ℕ) (q : ℕ × ℤ) : Type 0 where
   pub row : q.0 ≤ s
   pub column : above ≤ t
 
-within_along : (first : State) (events : List Event) (last : State) → IsHistory first events last → IsSound first → All (IsWithin first.bottom first.rows first.degrees) (given events)
+within_along : (first : State) (events : List Entry) (last : State) → IsEntryHistory first events last → IsSound first → All (IsWithin first.bottom first.rows first.degrees) (given events)
 within_along first [] last (nothing state) sound = All-nil (IsWithin first.bottom first.rows first.degrees)
-within_along first (Take who s t snapshot ∷ events) last (then state e es l legal rest) sound = within_along (after first (Take who s t snapshot)) events last rest (stays_sound first (Take who s t snapshot) sound legal)
+within_along first (Take who s t snapshot ∷ events) last (then state e es l legal rest) sound = within_along (after_entry first (Take who s t snapshot)) events last rest (stays_sound first (Take who s t snapshot) sound legal)
 within_along first (Give who s t ∷ events) last (then state e es l legal rest) sound =
     let taken = sound.taken s (height first t) (held_at_height first who s t legal.held) in
     let at : height first t ≡ legal.held.above = height_is first t legal.held.above legal.held.degree in
     All-cons (IsWithin first.bottom first.rows first.degrees) (s, t) (given events)
     (record { above = height first t; degree = subst (λ (k : ℕ). IsAbove first.bottom t k) (sym at) legal.held.degree; row = taken.in_range.row; column = taken.in_range.degree })
-    (within_along (after first (Give who s t)) events last rest (stays_sound first (Give who s t) sound legal))
-within_along first (Back who s t ∷ events) last (then state e es l legal rest) sound = within_along (after first (Back who s t)) events last rest (stays_sound first (Back who s t) sound legal)
-within_along first (Fail who s t ∷ events) last (then state e es l legal rest) sound = within_along (after first (Fail who s t)) events last rest (stays_sound first (Fail who s t) sound legal)
+    (within_along (after_entry first (Give who s t)) events last rest (stays_sound first (Give who s t) sound legal))
+within_along first (Back who s t ∷ events) last (then state e es l legal rest) sound = within_along (after_entry first (Back who s t)) events last rest (stays_sound first (Back who s t) sound legal)
+within_along first (Fail who s t ∷ events) last (then state e es l legal rest) sound = within_along (after_entry first (Fail who s t)) events last rest (stays_sound first (Fail who s t) sound legal)
 
-pub given_within : (bottom : ℤ) (s t : ℕ) (start : List (ℕ × ℤ)) (events : List Event) (state : State) → IsReached bottom s t start events state → All (IsWithin bottom s t) (given events)
+pub given_within : (bottom : ℤ) (s t : ℕ) (start : List (ℕ × ℤ)) (events : List Entry) (state : State) → IsReachedByEntries bottom s t start events state → All (IsWithin bottom s t) (given events)
 given_within bottom s t start events state reached = within_along (opening bottom s t start) events state reached.history (opening_is_sound bottom s t start reached.listed)
 
 -- ---- each once
@@ -57,7 +58,7 @@ start_apart b list start i j d before within same =
     let any = list_any-from_Any test (take j list) (i, q, i_there, there, passes) in
     absurd (let absent = next.absent in cc)
 
-pub given_apart : (bottom : ℤ) (s t : ℕ) (start : List (ℕ × ℤ)) (events : List Event) (state : State) → IsReached bottom s t start events state → AllPairs (λ q r. q ≢ r) (given events)
+pub given_apart : (bottom : ℤ) (s t : ℕ) (start : List (ℕ × ℤ)) (events : List Entry) (state : State) → IsReachedByEntries bottom s t start events state → AllPairs (λ q r. q ≢ r) (given events)
 given_apart bottom s t start events state reached i j d before within same =
     let done = given_once bottom s t start events state reached in
     let all = start_apart bottom (start ++ given events) (subst (IsStart bottom) done.file done.once) in

@@ -1,16 +1,21 @@
 -- Each Take and each Give of a history brings the board one step nearer to its end.
-use Rattle.std.proofs.Common.{◌≡◌, ℕ, zero, suc, ◌+◌, ◌*◌, ◌<◌, ℤ, true, false, Bool, not, cond, ◌&&◌, ◌||◌, nat_eq, List, [], ◌∷◌, ◌++◌, length, refl, sym, ◌∙◌, ap, subst, arith, inl, inr, length-append}
+use Rattle.std.proofs.Common.{◌≡◌, ℕ, zero, suc, ◌+◌, ◌*◌, ◌<◌, ℤ, true, false, Bool, not, cond, ◌&&◌, ◌||◌, nat_eq, List, [], ◌∷◌, ◌++◌, map, length, refl, sym, ◌∙◌, ap, subst, arith, inl, inr, length-append}
+use Rattle.std.specs.Bool.{⊤}
 use Rattle.std.proofs.Math.Path.{fun_ext}
 use Rattle.std.proofs.lemmas.Bool.{cases_Bool}
 use Rattle.std.proofs.lemmas.Bool.Decides.{nat_tests, eqb_tells}
 use Rattle.std.proofs.lemmas.List.Folds.{list_any-append}
+use Rattle.std.proofs.lemmas.List.{length-map}
 use Rattle.std.proofs.lemmas.Map.Views.{any-filter_same}
 use Rattle.board_core.specs.declared.event.Out.{Out}
+use Rattle.board_core.specs.declared.event.Entry.{Entry}
+use Rattle.board_core.specs.declared.event.Entry.TheVariants.{Take, Give, Back, Fail}
 use Rattle.board_core.specs.declared.event.Event.{Event}
-use Rattle.board_core.specs.declared.event.Event.TheVariants.{Take, Give, Back, Fail}
-use Rattle.board_core.specs.Laws.{IsReached, AllTakeOrGive, count_missing, unfinished}
+use Rattle.board_core.specs.declared.event.Event.TheVariants.{Take as TakeEvent, Give as GiveEvent, Back as BackEvent, Fail as FailEvent, Stop, Open}
+use Rattle.board_core.specs.Laws.{IsReached, IsReachedByEntries, NothingStops, count_missing, unfinished}
 use Rattle.board_core.specs.Board.{IsOnce, IsSound}
-use Rattle.board_core.specs.Machine.{Squares, State, IsInRange, IsReady, IsLegal, IsHistory, count_below, height, after, opening, squares_of, is_out, without, insert_square}
+use Rattle.board_core.specs.Entries.{event_of, IsLegalEntry, IsEntryHistory, after_entry}
+use Rattle.board_core.specs.Machine.{Squares, State, IsHistory, after, IsInRange, IsReady, count_below, height, opening, squares_of, is_out, without, insert_square}
 use Rattle.board_core.specs.Machine.IsHistory.{nothing, then}
 use Rattle.board_core.proofs.Histories.{height_is, held_at_height, opening_is_sound, stays_sound}
 
@@ -155,7 +160,15 @@ busy_give state s k out = fun_ext (λ i. fun_ext (λ j. elim (cases_Bool (nat_eq
       grind arith
 ]))
 
-pub one_step : (state : State) (event : Event) → AllTakeOrGive (event ∷ []) → IsSound state → IsLegal state event → steps (after state event) + 1 ≡ steps state
+-- there is neither a Back nor a Fail
+abbrev pub AllTakeOrGive : List Entry → Type 0
+AllTakeOrGive [] = ⊤
+AllTakeOrGive (Take who s t snapshot ∷ events) = AllTakeOrGive events
+AllTakeOrGive (Give who s t ∷ events) = AllTakeOrGive events
+AllTakeOrGive (Back who s t ∷ events) = ⊥
+AllTakeOrGive (Fail who s t ∷ events) = ⊥
+
+pub one_step : (state : State) (event : Entry) → AllTakeOrGive (event ∷ []) → IsSound state → IsLegalEntry state event → steps (after_entry state event) + 1 ≡ steps state
 one_step state (Take who s t snapshot) kind sound legal =
     let k = height state t in
     let ready = subst (λ (n : ℕ). IsReady state s n) (sym (height_is state t legal.above legal.degree)) legal.ready in
@@ -175,15 +188,15 @@ one_step state (Give who s t) kind sound legal =
 one_step state (Back who s t) kind sound legal = absurd kind
 one_step state (Fail who s t) kind sound legal = absurd kind
 
-all_steps : (first : State) (events : List Event) (last : State) → IsHistory first events last → AllTakeOrGive events → IsSound first → steps last + length events ≡ steps first
+all_steps : (first : State) (events : List Entry) (last : State) → IsEntryHistory first events last → AllTakeOrGive events → IsSound first → steps last + length events ≡ steps first
 all_steps first [] last (nothing state) kind sound = omega arith
 all_steps first (Take who s t snapshot ∷ events) last (then state e es l legal rest) kind sound =
     let one = one_step first (Take who s t snapshot) tt sound legal in
-    let more = all_steps (after first (Take who s t snapshot)) events last rest kind (stays_sound first (Take who s t snapshot) sound legal) in
+    let more = all_steps (after_entry first (Take who s t snapshot)) events last rest kind (stays_sound first (Take who s t snapshot) sound legal) in
     omega arith
 all_steps first (Give who s t ∷ events) last (then state e es l legal rest) kind sound =
     let one = one_step first (Give who s t) tt sound legal in
-    let more = all_steps (after first (Give who s t)) events last rest kind (stays_sound first (Give who s t) sound legal) in
+    let more = all_steps (after_entry first (Give who s t)) events last rest kind (stays_sound first (Give who s t) sound legal) in
     omega arith
 all_steps first (Back who s t ∷ events) last history kind sound = absurd kind
 all_steps first (Fail who s t ∷ events) last history kind sound = absurd kind
@@ -214,8 +227,34 @@ no_steps state e i k within =
     no_out [] e = refl
     no_out (x ∷ out) e = absurd (omega arith)
 
-pub finished : (bottom : ℤ) (s t : ℕ) (start : List (ℕ × ℤ)) (events : List Event) (state : State) → IsReached bottom s t start events state → AllTakeOrGive events → length events ≡ 2 * unfinished (opening bottom s t start) → (i k : ℕ) → IsInRange state i k → state.done i k ≡ true
-finished bottom s t start events state reached kind long =
+-- from a board that runs, a history without Back, Fail and Stop is one of entries
+record AreEntries (events : List Event) : Type 0 where
+  entries : List Entry
+  are : events ≡ map event_of entries
+  kind : AllTakeOrGive entries
+
+of_entries : (first : State) (events : List Event) (last : State) → IsHistory first events last → NothingStops events → first.running ≡ true → AreEntries events
+of_entries first [] last (nothing state) kind runs = record { entries = []; are = refl; kind = tt }
+of_entries first (TakeEvent who s t snapshot ∷ events) last (then state e es l legal rest) kind runs =
+    let more = of_entries (after first (TakeEvent who s t snapshot)) events last rest kind runs in
+    record { entries = Take who s t snapshot ∷ more.entries; are = ap (λ (l : List Event). TakeEvent who s t snapshot ∷ l) more.are; kind = more.kind }
+of_entries first (GiveEvent who s t ∷ events) last (then state e es l legal rest) kind runs =
+    let more = of_entries (after first (GiveEvent who s t)) events last rest kind runs in
+    record { entries = Give who s t ∷ more.entries; are = ap (λ (l : List Event). GiveEvent who s t ∷ l) more.are; kind = more.kind }
+of_entries first (BackEvent who s t ∷ events) last history kind runs = absurd kind
+of_entries first (FailEvent who s t ∷ events) last history kind runs = absurd kind
+of_entries first (Stop in_file ∷ events) last history kind runs = absurd kind
+of_entries first (Open ∷ events) last (then state e es l legal rest) kind runs = absurd (cc)
+
+finished_by : (bottom : ℤ) (s t : ℕ) (start : List (ℕ × ℤ)) (events : List Entry) (state : State) → IsReachedByEntries bottom s t start events state → AllTakeOrGive events → length events ≡ 2 * unfinished (opening bottom s t start) → (i k : ℕ) → IsInRange state i k → state.done i k ≡ true
+finished_by bottom s t start events state reached kind long =
     let all = all_steps (opening bottom s t start) events state reached.history kind (opening_is_sound bottom s t start reached.listed) in
     let first = steps_at_opening bottom s t start in
     no_steps state (omega arith)
+
+pub finished : (bottom : ℤ) (s t : ℕ) (start : List (ℕ × ℤ)) (events : List Event) (state : State) → IsReached bottom s t start events state → NothingStops events → length events ≡ 2 * unfinished (opening bottom s t start) → (i k : ℕ) → IsInRange state i k → state.done i k ≡ true
+finished bottom s t start events state reached kind long =
+    let one = of_entries (opening bottom s t start) events state reached.history kind refl in
+    let by : IsReachedByEntries bottom s t start one.entries state = subst (λ (l : List Event). IsReached bottom s t start l state) one.are reached in
+    let count : length one.entries ≡ length events = sym (length-map one.entries event_of) ∙ ap (λ (l : List Event). length l) (sym one.are) in
+    finished_by bottom s t start one.entries state by one.kind (count ∙ long)

@@ -4,13 +4,11 @@ use Rattle.std.proofs.lemmas.Bool.{cases_Bool}
 use Rattle.std.proofs.lemmas.Bool.Decides.{nat_tests, eqb_tells}
 use Rattle.board_core.specs.declared.event.Out.{Out}
 use Rattle.board_core.specs.declared.event.Event.{Event}
-use Rattle.board_core.specs.declared.event.Event.TheVariants.{Take, Give, Back, Fail}
 use Rattle.board_core.specs.Laws.{IsReached, HasReady, HasUnfinished}
-use Rattle.board_core.specs.Board.{IsSound}
-use Rattle.board_core.specs.Machine.{Squares, HasParents, State, IsRowNumberBelow, IsLegal, height, after, opening, is_out, insert_square}
+use Rattle.board_core.specs.Machine.{Squares, HasParents, State, IsRowNumberBelow, is_out, insert_square}
 use Rattle.board_core.proofs.BelowFronts.{stands_first, front_number}
 use Rattle.board_core.proofs.Starts.{over_start}
-use Rattle.board_core.proofs.Histories.{held_at_height, opening_is_sound, through_history}
+use Rattle.board_core.proofs.Filed.{reached_is_whole}
 
 -- ---- the number of squares of a row
 
@@ -33,20 +31,6 @@ fronts_more done s k parents absent fronts i = elim (eqb_tells i s) [
       let at = fronts i in
       record { front = at.front; below = λ j. let here = at.below j in grind (arith, nat_tests) }
 ]
-
-fronts_stay : (state : State) (event : Event) → IsSound state → IsLegal state event → HaveFronts state.done → HaveFronts (after state event).done
-fronts_stay state (Take who s t snapshot) sound legal fronts = fronts
-fronts_stay state (Give who s t) sound legal fronts =
-    let taken = sound.taken s (height state t) (held_at_height state who s t legal.held) in
-    fronts_more state.done s (height state t) taken.parents taken.not_done fronts
-fronts_stay state (Back who s t) sound legal fronts = fronts
-fronts_stay state (Fail who s t) sound legal fronts = fronts
-
-pub runs_on : (state : State) (event : Event) → IsSound state → IsLegal state event → state.running ≡ true → (after state event).running ≡ true
-runs_on state (Take who s t snapshot) sound legal runs = runs
-runs_on state (Give who s t) sound legal runs = runs
-runs_on state (Back who s t) sound legal runs = runs
-runs_on state (Fail who s t) sound legal runs = runs
 
 record HasNumberBelow (done : Squares) (s : ℕ) : Type 0 where
   number : ℕ
@@ -107,16 +91,14 @@ first_missing done (suc n) s k within absent = elim (before (done s) k) [
 
 -- ---- the law
 
-pub some_ready : (bottom : ℤ) (s t : ℕ) (start : List (ℕ × ℤ)) (events : List Event) (state : State) → IsReached bottom s t start events state → state.cause ≡ None → state.out ≡ [] → HasUnfinished state → HasReady state
-some_ready bottom s t start events state reached no_cause none_out missing =
+pub some_ready : (bottom : ℤ) (s t : ℕ) (start : List (ℕ × ℤ)) (events : List Event) (state : State) → IsReached bottom s t start events state → state.running ≡ true → state.cause ≡ None → state.out ≡ [] → HasUnfinished state → HasReady state
+some_ready bottom s t start events state reached running no_cause none_out missing =
     let no_fronts : HaveFronts (λ i j. false) = λ i. record { front = 0; below = λ k. grind (arith, nat_tests) } in
-    let first_fronts = over_start HaveFronts no_fronts fronts_more bottom start reached.listed in
-    let opened = opening_is_sound bottom s t start reached.listed in
-    let kept = through_history (λ st. HaveFronts st.done) fronts_stay (opening bottom s t start) events state reached.history opened first_fronts in
-    let running : state.running ≡ true = (through_history (λ st. st.running ≡ true) runs_on (opening bottom s t start) events state reached.history opened refl).1 in
+    let filed = (reached_is_whole bottom s t start events state reached).filed in
+    let fronts : HaveFronts state.done = subst HaveFronts (sym (filed.done running)) (over_start HaveFronts no_fronts fronts_more state.bottom state.file filed.listed) in
     let first = first_missing state.done (missing.s + missing.above) missing.s missing.above (omega arith) missing.not_done in
-    let number = kept.1 first.row in
-    let below = number_below state.done first.row kept.1 in
+    let number = fronts first.row in
+    let below = number_below state.done first.row fronts in
     let r = first.row_within in
     let d = first.degree_within in
     let row = missing.in_range.row in

@@ -3,7 +3,7 @@ use Rattle.std.specs.Prelude.{◌≡◌, ℕ, ℤ, Bool, true, false, nat_lt, sl
 use Rattle.degrees.specs.Above.{above_of}
 use Rattle.board_core.specs.declared.event.Out.{Out}
 use Rattle.board_core.specs.declared.event.Cause.{Cause}
-use Rattle.board_core.specs.Machine.{Squares, HasParents, IsStaircase, IsAbove, State, is_out, IsInRange, IsReady}
+use Rattle.board_core.specs.Machine.{Squares, no_squares, squares_of, HasParents, IsStart, IsStaircase, IsAbove, State, is_out, IsInRange, IsReady}
 
 -- the squares of each row below its front
 abbrev pub below_fronts : List ℕ → Squares
@@ -48,6 +48,15 @@ pub record IsSound (state : State) : Type 0 where
   pub taken : (s k : ℕ) → is_out state.out s k ≡ true → IsTaken state s k
   pub failed_taken : (e : Out) → state.failed ≡ Some e → IsTaken state e.s e.above
   pub none_failed : state.cause ≡ None → state.failed ≡ None
+
+-- The file has each square once and after its parents. While the board runs these are the squares that are done; while it does
+-- not, none is done or out, and none failed.
+pub record IsFiled (state : State) : Type 0 where
+  pub listed : IsStart state.bottom state.file
+  pub done : state.running ≡ true → state.done ≡ squares_of state.bottom state.file
+  pub none_done : state.running ≡ false → state.done ≡ no_squares
+  pub none_out : state.running ≡ false → state.out ≡ []
+  pub none_failed : state.running ≡ false → state.failed ≡ None
 
 -- a test at a place that may not be there
 abbrev pub holds_at : (ℕ → Bool) → Option ℕ → Bool

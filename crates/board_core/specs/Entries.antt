@@ -1,33 +1,58 @@
--- Lists of events: who made them, and which squares they leave taken.
-use Rattle.std.specs.Prelude.{◌≡◌, ℕ, ℤ, Bool, false, ◌&&◌, nat_eq, List, ◌∷◌, ◌++◌}
+-- The entries of a board that runs: what they are as events of the machine, who made them, and which squares they leave taken.
+use Rattle.std.specs.Prelude.{◌≡◌, ℕ, ℤ, Bool, false, ◌&&◌, nat_eq, List, ◌∷◌, ◌++◌, map}
 use Rattle.std.specs.List.{filter, list_any}
 use Rattle.std.specs.Ordering.{int_eq}
+use Rattle.board_core.specs.declared.event.Entry.{Entry}
+use Rattle.board_core.specs.declared.event.Entry.TheVariants.{Take, Give, Back, Fail}
 use Rattle.board_core.specs.declared.event.Event.{Event}
-use Rattle.board_core.specs.declared.event.Event.TheVariants.{Take, Give, Back, Fail}
+use Rattle.board_core.specs.declared.event.Event.TheVariants.{Take as TakeEvent, Give as GiveEvent, Back as BackEvent, Fail as FailEvent}
+use Rattle.board_core.specs.Machine.{State, IsLegal, IsHistory, after}
 
--- who makes the event
-abbrev pub who_of : Event → ℕ
+-- ---- entries as events
+
+abbrev pub event_of : Entry → Event
+event_of (Take who s t snapshot) = TakeEvent who s t snapshot
+event_of (Give who s t) = GiveEvent who s t
+event_of (Back who s t) = BackEvent who s t
+event_of (Fail who s t) = FailEvent who s t
+
+-- the machine accepts the entry
+abbrev pub IsLegalEntry : State → Entry → Type 0
+IsLegalEntry state entry = IsLegal state (event_of entry)
+
+-- what an entry that is accepted does
+abbrev pub after_entry : State → Entry → State
+after_entry state entry = after state (event_of entry)
+
+-- the entries are accepted one after another, and lead from one state to the other
+abbrev pub IsEntryHistory : State → List Entry → State → Type 0
+IsEntryHistory first entries last = IsHistory first (map event_of entries) last
+
+-- ---- who made them
+
+-- who makes the entry
+abbrev pub who_of : Entry → ℕ
 who_of (Take who s t snapshot) = who
 who_of (Give who s t) = who
 who_of (Back who s t) = who
 who_of (Fail who s t) = who
 
--- the events that who makes, in their order
-abbrev pub events_by : ℕ → List Event → List Event
+-- the entries that who makes, in their order
+abbrev pub events_by : ℕ → List Entry → List Entry
 events_by who events = filter (λ e. nat_eq (who_of e) who) events
 
--- the event is a Give, a Back or a Fail of the square
-abbrev pub ends_square : ℕ → ℤ → Event → Bool
+-- the entry is a Give, a Back or a Fail of the square
+abbrev pub ends_square : ℕ → ℤ → Entry → Bool
 ends_square i u (Take who s t snapshot) = false
 ends_square i u (Give who s t) = nat_eq s i && int_eq t u
 ends_square i u (Back who s t) = nat_eq s i && int_eq t u
 ends_square i u (Fail who s t) = nat_eq s i && int_eq t u
 
--- Among the events is a Take of the square, and behind it there is neither a Give nor a Back nor a Fail of it.
-pub record HasOpenTake (events : List Event) (s : ℕ) (t : ℤ) : Type 0 where
-  pub before : List Event
+-- Among the entries is a Take of the square, and behind it there is neither a Give nor a Back nor a Fail of it.
+pub record HasOpenTake (events : List Entry) (s : ℕ) (t : ℤ) : Type 0 where
+  pub before : List Entry
   pub who : ℕ
   pub snapshot : ℕ × ℕ
-  pub behind : List Event
+  pub behind : List Entry
   pub is : events ≡ before ++ Take who s t snapshot ∷ behind
   pub open_still : list_any (ends_square s t) behind ≡ false

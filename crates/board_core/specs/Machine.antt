@@ -1,5 +1,6 @@
 -- The board of squares: the squares of a range are taken, each once those that it stands on are done, and are given back
--- done. The state of the board is a set of done squares and a list of those that are out; events change it.
+-- done. The state of the board is a set of done squares and a list of those that are out; events change it. A run of the board
+-- may end at any moment, and another begins with the squares that the file has then.
 use Rattle.std.specs.Prelude.{◌≡◌, ℕ, zero, suc, ◌+◌, ◌≤◌, ℤ, pos, ◌+ℤ◌, Bool, true, false, not, ◌&&◌, ◌||◌, cond, nat_eq, List, [], ◌∷◌, ◌++◌, take, slice_get, Option, Some, None}
 use Rattle.std.specs.List.{list_any, filter}
 use Rattle.degrees.specs.Above.{above_of}
@@ -7,13 +8,17 @@ use Rattle.board_core.specs.declared.event.Out.{Out}
 use Rattle.board_core.specs.declared.event.Cause.{Cause}
 use Rattle.board_core.specs.declared.event.Cause.TheVariants.{Failed, Memory}
 use Rattle.board_core.specs.declared.event.Event.{Event}
-use Rattle.board_core.specs.declared.event.Event.TheVariants.{Take, Give, Back, Fail}
+use Rattle.board_core.specs.declared.event.Event.TheVariants.{Take, Give, Back, Fail, Stop, Open}
 
 -- ---- sets of squares
 
 -- A set of squares (s, k): s is the row, and k how many degrees the square is above the bottom.
 abbrev pub Squares : Type 0
 Squares = ℕ → ℕ → Bool
+
+-- none
+abbrev pub no_squares : Squares
+no_squares = λ s k. false
 
 -- with one square more
 abbrev pub insert_square : Squares → ℕ → ℕ → Squares
@@ -145,12 +150,30 @@ pub record IsHeldWithoutCause (state : State) (who s : ℕ) (t : ℤ) : Type 0 w
   pub no_cause : state.cause ≡ None
   pub held : IsHeld state who s t
 
+-- it is the square that failed
+abbrev pub has_failed : Option Out → ℕ → ℕ → Bool
+has_failed None s k = false
+has_failed (Some e) s k = nat_eq e.s s && nat_eq e.above k
+
+-- the square was taken and not given: it is out, or it is the one that failed
+pub record IsBegun (state : State) (s : ℕ) (t : ℤ) : Type 0 where
+  pub above : ℕ
+  pub degree : IsAbove state.bottom t above
+  pub begun : (is_out state.out s above || has_failed state.failed s above) ≡ true
+
+-- the board runs, and the square that the file has got, if it has, was taken and not given
+pub record IsLegalStop (state : State) (in_file : Option (ℕ × ℤ)) : Type 0 where
+  pub running : state.running ≡ true
+  pub begun : (q : ℕ × ℤ) → in_file ≡ Some q → IsBegun state q.0 q.1
+
 -- the machine accepts the event
 abbrev pub IsLegal : State → Event → Type 0
 IsLegal state (Take who s t snapshot) = IsLegalTake state s t snapshot
 IsLegal state (Give who s t) = IsHeldWithoutCause state who s t
 IsLegal state (Back who s t) = IsHeld state who s t
 IsLegal state (Fail who s t) = IsHeldWithoutCause state who s t
+IsLegal state (Stop in_file) = IsLegalStop state in_file
+IsLegal state Open = state.running ≡ false
 
 abbrev pub number_or_zero : Option ℕ → ℕ
 number_or_zero (Some n) = n
@@ -165,12 +188,19 @@ abbrev pub cause_or : Option Cause → Cause → Cause
 cause_or (Some cause) other = cause
 cause_or None other = other
 
+-- the squares of a file that may have got one more
+abbrev pub file_with : List (ℕ × ℤ) → Option (ℕ × ℤ) → List (ℕ × ℤ)
+file_with file None = file
+file_with file (Some q) = file ++ q ∷ []
+
 -- what an event that is accepted does
 abbrev pub after : State → Event → State
 after state (Take who s t snapshot) = record state { out = state.out ++ record { who = who; s = s; above = height state t } ∷ [] }
 after state (Give who s t) = record state { done = insert_square state.done s (height state t); out = without state.out s (height state t); file = state.file ++ (s, t) ∷ [] }
 after state (Back who s t) = record state { out = without state.out s (height state t); cause = Some (cause_or state.cause Memory) }
 after state (Fail who s t) = record state { out = without state.out s (height state t); failed = Some (record { who = who; s = s; above = height state t }); cause = Some Failed }
+after state (Stop in_file) = record state { done = no_squares; out = []; failed = None; file = file_with state.file in_file; running = false }
+after state Open = record state { done = squares_of state.bottom state.file; cause = None; running = true }
 
 -- ---- histories
 

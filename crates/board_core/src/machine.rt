@@ -1,11 +1,11 @@
 //! The board as the machine that its definition says.
-ghost use Rattle.std.specs.Prelude.{◌≡◌, ℕ, ◌<◌, ◌≤◌, ◌+◌, ◌-◌, ◌^◌, ◌↔◌, ◌+ℤ◌, ◌≤ℤ◌, pos, Some, None, Ok, Err, true, false, vec_capacity, vec_len, length, IfOk, IfSome, OnSome, OnOk, OnErr};
+ghost use Rattle.std.specs.Prelude.{◌≡◌, ℕ, ◌<◌, ◌≤◌, ◌+◌, ◌-◌, ◌^◌, ◌↔◌, ◌+ℤ◌, ◌≤ℤ◌, pos, Some, None, Ok, Err, true, false, ◌||◌, [], vec_capacity, vec_len, length, IfOk, IfSome, OnSome, OnOk, OnErr};
 ghost use Rattle.std.specs.Bool.{Decides};
 ghost use Rattle.degrees.specs.Above.{above_of};
 ghost use Rattle.board_core.specs.Board.{IsSound, below_fronts, state_of, IsTaken, IsReadyAt, is_done_at, is_out_at};
 ghost use Rattle.board_core.specs.Inside.{has_row, IsBounded, IsMarked};
-ghost use Rattle.board_core.specs.Machine.{AllInRows, IsStart, IsAbove, opening, squares_of, IsReady, IsRowNumber, IsRowNumberBelow, IsLegal, IsLegalTake, IsHeld, IsHeldWithoutCause, has_entry, is_out, after, without};
-ghost use Rattle.board_core.specs.declared.event.Event.TheVariants.{Take, Give, Back, Fail};
+ghost use Rattle.board_core.specs.Machine.{AllInRows, IsStart, IsAbove, opening, squares_of, IsReady, IsRowNumber, IsRowNumberBelow, IsLegal, IsLegalTake, IsHeld, IsHeldWithoutCause, IsBegun, IsLegalStop, has_entry, has_failed, is_out, after, without};
+ghost use Rattle.board_core.specs.declared.event.Event.TheVariants.{Take, Give, Back, Fail, Stop, Open};
 ghost use Rattle.board_core.specs.declared.event.CoreFault as CoreFault;
 ghost use Rattle.board_core.specs.declared.event.CoreFault.TheVariants.{NotLegal, Memory as NoMemory};
 
@@ -16,6 +16,7 @@ use ghost_list::GhostList;
 use memory::Memory;
 use std::alloc::Global;
 use std::marker::Model;
+use std::mem::swap;
 
 /// The board of the squares of a range: which are done, which are out and who has them, and why no more are given out.
 /// Each event changes it as the machine's definition says.
@@ -32,6 +33,9 @@ pub struct Core {
     /// The squares that the save file has, each by its row and its degree, in their order.
     file: GhostList<(u16, i32)>,
     cause: Option<Cause>,
+    running: bool,
+    /// The squares of the file while the board does not run, and none while it does.
+    aside: Fronts,
 }
 
 impl Model for Core {
@@ -41,9 +45,9 @@ impl Model for Core {
 
     ghost Value = { Board };
 
-    ghost view = { λ c. record { rows = c.rows; degrees = c.degrees; bottom = c.bottom; fronts = c.fronts; out = c.out.items; failed = c.failed; file = c.file; cause = c.cause; running = true; spare = vec_capacity c.out - vec_len c.out } };
+    ghost view = { λ c. record { rows = c.rows; degrees = c.degrees; bottom = c.bottom; fronts = c.fronts; out = c.out.items; failed = c.failed; file = c.file; cause = c.cause; running = c.running; spare = vec_capacity c.out - vec_len c.out } };
 
-    ghost invariant = { λ c. IsWellKept (record { rows = c.rows; degrees = c.degrees; bottom = c.bottom; done = below_fronts c.fronts; out = c.out.items; failed = c.failed; file = c.file; cause = c.cause; running = true }) (length c.fronts) c.busy.items };
+    ghost invariant = { λ c. IsWellKept (record { rows = c.rows; degrees = c.degrees; bottom = c.bottom; done = below_fronts c.fronts; out = c.out.items; failed = c.failed; file = c.file; cause = c.cause; running = c.running }) (length c.fronts) c.busy.items c.aside };
 }
 
 impl Core {
@@ -51,8 +55,8 @@ impl Core {
     /// squares of `start`, each given by its row and its degree, are done; they need not lie in the range.
     ///
     /// # Errors
-    /// `Memory` if allocation fails: there is a front for each row through the last of the range and of `start`, and a mark
-    /// for each row of the range.
+    /// `Memory` if allocation fails: there are two fronts for each row through the last of the range and of `start`, that of
+    /// the done squares and that of the file's, and a mark for each row of the range.
     pub fn new(alloc: Global, s: u16, t: u16, m: i32, start: &[(u16, i32)]) -> Result<Core, Memory>
         requires fits { (m +ℤ pos t) ≤ℤ pos (2 ^ 31 - 1) }
         requires start { IsStart m start.now }
@@ -69,6 +73,8 @@ impl Core {
             failed: None,
             file: GhostList::of(start),
             cause: None,
+            running: true,
+            aside: Fronts::none(alloc, usize::from(last) + 1)?,
         })
     }
 
@@ -110,6 +116,8 @@ impl Core {
             Event::Give { who, s, t } => self.give(who, s, t),
             Event::Back { who, s, t } => self.back(who, s, t),
             Event::Fail { who, s, t } => self.fail(who, s, t),
+            Event::Stop { in_file } => self.stop(in_file),
+            Event::Open => self.open(),
         };
         if !accepted {
             return Err(CoreFault::NotLegal { event });
@@ -123,7 +131,7 @@ impl Core {
         ensures lowest { IfSome result (λ q. (s k : ℕ) → s < q.0 → IsReady (state_of self.now) s k → ⊥) }
         ensures none { result ≡ None → (s k : ℕ) → IsReady (state_of self.now) s k → ⊥ }
     {
-        if self.cause.is_some() {
+        if !self.running || self.cause.is_some() {
             return None;
         }
         for s in 0..=self.rows {
@@ -235,14 +243,84 @@ impl Core {
         true
     }
 
-    /// How many degrees above the bottom the square is, where `who` has it.
+    /// The run ends. The file gets the square, if one is named. Answers whether it ended, which it does not where the board does
+    /// not run, nor where the square is neither out nor the one that failed.
+    fn stop(&mut self, in_file: Option<(u16, i32)>) -> bool
+        ensures accepts { result ≡ true → IsLegalStop (state_of self.old) in_file }
+        ensures effect { result ≡ true → state_of self.new ≡ after (state_of self.old) (Stop in_file) }
+        ensures refuses { result ≡ false → IsLegalStop (state_of self.old) in_file → ⊥ }
+        ensures same { result ≡ false → state_of self.new ≡ state_of self.old }
+        ensures spare { self.old.spare ≤ self.new.spare }
+    {
+        if !self.running {
+            return false;
+        }
+        if let Some(last) = in_file {
+            let Some(above) = self.begun(last.0, last.1) else {
+                return false;
+            };
+            self.fronts.add(last.0, above);
+            self.file = self.file.then(&last);
+        }
+        swap(&mut self.fronts, &mut self.aside);
+        self.out.clear();
+        unmark(&mut self.busy);
+        self.failed = None;
+        self.running = false;
+        true
+    }
+
+    /// Another run begins, with the squares of the file. Answers whether it does, which it does not while the board runs.
+    fn open(&mut self) -> bool
+        ensures accepts { result ≡ true → self.old.running ≡ false }
+        ensures effect { result ≡ true → state_of self.new ≡ after (state_of self.old) Open }
+        ensures refuses { result ≡ false → self.old.running ≡ false → ⊥ }
+        ensures same { result ≡ false → state_of self.new ≡ state_of self.old }
+        ensures spare { self.old.spare ≤ self.new.spare }
+    {
+        if self.running {
+            return false;
+        }
+        swap(&mut self.fronts, &mut self.aside);
+        self.cause = None;
+        self.running = true;
+        true
+    }
+
+    /// How many degrees above the bottom the square is, where it is out or is the one that failed.
+    fn begun(&self, s: u16, t: i32) -> Option<u64>
+        ensures above { IfSome result (λ k. IsAbove self.now.bottom t k) }
+        ensures begun { IfSome result (λ k. (is_out self.now.out s k || has_failed self.now.failed s k) ≡ true) }
+        ensures taken { IfSome result (λ k. IsTaken (state_of self.now) s k) }
+        ensures none { result ≡ None → IsBegun (state_of self.now) s t → ⊥ }
+        ensures is_bounded { IsBounded self.now.rows self.now.degrees self.now.bottom (length self.now.fronts) }
+    {
+        let above = above_of(self.bottom, t)?;
+        if !self.is_begun(s, above) {
+            return None;
+        }
+        Some(above)
+    }
+
+    /// Whether the square is out, or is the one that failed.
+    fn is_begun(&self, s: u16, k: u64) -> bool
+        ensures { result ≡ (is_out self.now.out s k || has_failed self.now.failed s k) }
+    {
+        self.is_out(s, k) || has_failed(self.failed, s, k)
+    }
+
+    /// How many degrees above the bottom the square is, where the board runs and `who` has it.
     fn held(&self, who: u64, s: u16, t: i32) -> Option<u64>
+        ensures running { OnSome result (self.now.running ≡ true) }
         ensures above { IfSome result (λ k. IsAbove self.now.bottom t k) }
         ensures held { IfSome result (λ k. has_entry self.now.out who s k ≡ true) }
         ensures taken { IfSome result (λ k. IsTaken (state_of self.now) s k) }
         ensures none { result ≡ None → IsHeld (state_of self.now) who s t → ⊥ }
         ensures is_bounded { IsBounded self.now.rows self.now.degrees self.now.bottom (length self.now.fronts) }
     {
+        if !self.running {
+            return None;
+        }
         let above = above_of(self.bottom, t)?;
         if !has_entry(&self.out, who, s, above) {
             return None;
@@ -252,6 +330,7 @@ impl Core {
 
     /// The same, and none where a cause stands.
     fn held_without_cause(&self, who: u64, s: u16, t: i32) -> Option<u64>
+        ensures running { OnSome result (self.now.running ≡ true) }
         ensures no_cause { OnSome result (self.now.cause ≡ None) }
         ensures above { IfSome result (λ k. IsAbove self.now.bottom t k) }
         ensures held { IfSome result (λ k. has_entry self.now.out who s k ≡ true) }
@@ -270,16 +349,16 @@ impl Core {
         ensures decides { Decides result (IsReady (state_of self.now) s k) }
         ensures is_bounded { IsBounded self.now.rows self.now.degrees self.now.bottom (length self.now.fronts) }
     {
-        if self.cause.is_some() || s > self.rows {
+        if !self.running || self.cause.is_some() || s > self.rows {
             return false;
         }
         k == self.fronts.front(s) && self.has_next(s) && !self.is_out(s, k)
     }
 
-    /// Whether a square of row `s` may be taken while no cause stands.
+    /// Whether a square of row `s` may be taken while the board runs and no cause stands.
     fn is_open(&self, s: u16) -> bool
         requires { s ≤ self.now.rows }
-        ensures yes { result ≡ true → self.now.cause ≡ None → (k : ℕ) × IsReady (state_of self.now) s k }
+        ensures yes { result ≡ true → self.now.running ≡ true → self.now.cause ≡ None → (k : ℕ) × IsReady (state_of self.now) s k }
         ensures no { result ≡ false → (k : ℕ) → IsReady (state_of self.now) s k → ⊥ }
     {
         !self.busy[usize::from(s)] && self.has_next(s)
@@ -326,6 +405,23 @@ fn take_from(out: &mut Vec<Out>, busy: &mut Vec<bool>, s: u16, k: u64)
 {
     out.retain(|e| !(e.s == s && e.above == k));
     busy[usize::from(s)] = false;
+}
+
+/// Marks no row.
+fn unmark(busy: &mut Vec<bool>)
+    ensures { (rows : ℕ) → rows < length busy.old.items → IsMarked busy.new.items rows [] }
+{
+    busy.fill(false);
+}
+
+/// Whether the square is the one that failed.
+fn has_failed(failed: Option<Out>, s: u16, k: u64) -> bool
+    ensures { result ≡ has_failed failed s k }
+{
+    match failed {
+        Some(e) => e.s == s && e.above == k,
+        None => false,
+    }
 }
 
 /// Whether `who` has the square.

@@ -1,5 +1,5 @@
 -- Without contents the board does what the machine does.
-use Rattle.std.proofs.Common.{◌≡◌, ℕ, ℤ, pos, ◌+ℤ◌, Bool, true, false, not, cond, ◌&&◌, ◌||◌, nat_eq, if◌then◌else◌, List, [], ◌∷◌, ◌++◌, map, Option, Some, is_some, refl, sym, ◌∙◌, ap, arith}
+use Rattle.std.proofs.Common.{◌≡◌, ℕ, ℤ, pos, ◌+ℤ◌, Bool, true, false, not, cond, ◌&&◌, ◌||◌, nat_eq, if◌then◌else◌, List, [], ◌∷◌, ◌++◌, map, Option, Some, None, is_some, refl, sym, ◌∙◌, ap, arith}
 use Rattle.std.specs.List.{filter}
 use Rattle.std.proofs.Math.Path.{fun_ext}
 use Rattle.std.proofs.Math.Bool.{or_comm}
@@ -7,13 +7,13 @@ use Rattle.std.proofs.lemmas.Bool.Decides.{nat_tests}
 use Rattle.std.proofs.lemmas.List.{map-append}
 use Rattle.board_core.specs.declared.event.Out.{Out}
 use Rattle.board_core.specs.declared.event.Cause.TheVariants.{Failed, Memory}
-use Rattle.board_core.specs.declared.event.Event.TheVariants.{Take, Give, Back, Fail}
+use Rattle.board_core.specs.declared.event.Event.TheVariants.{Take, Give, Back, Fail, Stop, Open}
 use Rattle.degrees.specs.Above.{above_of}
-use Rattle.board_core.specs.Machine.{State, Squares, IsAbove, after, opening, squares_of, insert_square, without, is_number, cause_or}
+use Rattle.board_core.specs.Machine.{State, Squares, no_squares, IsAbove, after, opening, squares_of, insert_square, without, is_number, cause_or}
 use Rattle.board_core.proofs.Starts.{above_is}
 use Rattle.resolution_laws.specs.Resolution.{Module, Content}
 use Rattle.resolution_laws.specs.Start.{Entry, entry_at}
-use Rattle.board_laws.specs.Filled.{Contents, with_content, Copy, Filled, without_contents, filled_opening, filled_height, places, without_copy, IsCopyFor, after_take, after_give, after_back, after_fail}
+use Rattle.board_laws.specs.Filled.{Contents, with_content, Copy, Filled, without_contents, filled_opening, filled_height, places, without_copy, IsCopyFor, after_take, after_give, after_back, after_fail, after_stop, after_open, file_and}
 
 -- the squares that hold something
 abbrev pub held_squares : Contents → Squares
@@ -89,3 +89,18 @@ pub opening_agrees : (m : Module) (s t : ℕ) (start : List Entry) → without_c
 opening_agrees m s t start =
     let first = opening m.bottom s t (places m.bottom start) in
     ap (λ (done : Squares). let new : State = record first { done = done } in new) (fun_ext (λ i. fun_ext (λ k. start_held m.bottom start i k)))
+
+-- ---- when a run ends, and another begins
+
+pub stop_agrees : (board : Filled) → without_contents (after_stop board board.file) ≡ after (without_contents board) (Stop None)
+stop_agrees board = refl
+
+pub stop_with_agrees : (board : Filled) (q : ℕ × ℤ) (content : Content) → IsAbove board.bottom q.1 (filled_height board q.1) → without_contents (after_stop board (file_and board q.0 (filled_height board q.1) content)) ≡ after (without_contents board) (Stop (Some q))
+stop_with_agrees board q content at =
+    let state = without_contents board in
+    ap (λ (file : List (ℕ × ℤ)). let new : State = record state { done = no_squares; out = []; failed = None; file = file; running = false } in new) (file_with board q.0 q.1 content at)
+
+pub open_agrees : (board : Filled) → without_contents (after_open board) ≡ after (without_contents board) Open
+open_agrees board =
+    let state = without_contents board in
+    ap (λ (done : Squares). let new : State = record state { done = done; cause = None; running = true } in new) (fun_ext (λ i. fun_ext (λ k. start_held board.bottom board.file i k)))

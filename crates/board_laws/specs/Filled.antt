@@ -1,14 +1,15 @@
 -- The board of squares with what they hold. Whoever takes a square copies the rows that it stands on, as they are at that
--- moment, and gives the step over this copy, however the rows have grown since. Which events are accepted is said by the
--- machine without contents.
-use Rattle.std.specs.Prelude.{◌≡◌, ℕ, zero, suc, ℤ, pos, ◌+ℤ◌, Bool, true, not, ◌&&◌, nat_eq, if◌then◌else◌, List, [], ◌∷◌, ◌++◌, map, Option, Some, None, is_some}
+-- moment, and gives the step over this copy, however the rows have grown since. When a run ends, the file may have got the step
+-- over a copy that was not given; the next run begins with what the file holds. Which events are accepted is said by the machine
+-- without contents.
+use Rattle.std.specs.Prelude.{◌≡◌, ℕ, zero, suc, ℤ, pos, ◌+ℤ◌, Bool, true, false, not, ◌&&◌, nat_eq, if◌then◌else◌, List, [], ◌∷◌, ◌++◌, ◌⊎◌, map, Option, Some, None, is_some}
 use Rattle.std.specs.List.{filter, filter_map, range_with_len, Contains}
 use Rattle.std.specs.Option.{option_map}
 use Rattle.board_core.specs.declared.event.Out.{Out}
 use Rattle.board_core.specs.declared.event.Cause.{Cause}
 use Rattle.board_core.specs.declared.event.Cause.TheVariants.{Failed, Memory}
 use Rattle.board_core.specs.declared.event.Event.{Event}
-use Rattle.board_core.specs.declared.event.Event.TheVariants.{Take, Give, Back, Fail}
+use Rattle.board_core.specs.declared.event.Event.TheVariants.{Take, Give, Back, Fail, Stop, Open}
 use Rattle.board_core.specs.Machine.{State, height, cause_or}
 use Rattle.resolution_laws.specs.Resolution.{Module, Content, IsStep}
 use Rattle.resolution_laws.specs.Start.{Entry, entry_at}
@@ -16,6 +17,10 @@ use Rattle.resolution_laws.specs.Start.{Entry, entry_at}
 -- what the done squares hold, by their places, and none elsewhere
 abbrev pub Contents : Type 0
 Contents = ℕ → ℕ → Option Content
+
+-- nothing
+abbrev pub no_contents : Contents
+no_contents = λ s k. None
 
 -- with one square more
 abbrev pub with_content : Contents → ℕ → ℕ → Content → Contents
@@ -96,6 +101,31 @@ pub record IsMadeFromCopy (m : Module) (board : Filled) (who s k : ℕ) (content
   pub is_copy : IsCopyFor board.out who s k copy
   pub step : IsStep m copy.below copy.row content
 
+-- ---- when a run ends, and another begins
+
+-- the file is this one then
+abbrev pub after_stop : Filled → List Entry → Filled
+after_stop board file = record board { done = no_contents; out = []; failed = None; file = file; running = false }
+
+-- the file with the square (s, k)
+abbrev pub file_and : Filled → ℕ → ℕ → Content → List Entry
+file_and board s k content = board.file ++ record { s = s; above = k; content = content } ∷ []
+
+abbrev pub after_open : Filled → Filled
+after_open board = record board { done = entry_at board.file; cause = None; running = true }
+
+-- the rows that were copied for the square (s, k), which is out, or is the one that failed
+pub record IsCopyAt (board : Filled) (s k : ℕ) (copy : Copy) : Type 0 where
+  pub begun : Contains board.out copy ⊎ (board.failed ≡ Some copy)
+  pub row : copy.out.s ≡ s
+  pub column : copy.out.above ≡ k
+
+-- content is the step over these rows
+pub record IsMadeAtStop (m : Module) (board : Filled) (s k : ℕ) (content : Content) : Type 0 where
+  pub copy : Copy
+  pub is_copy : IsCopyAt board s k copy
+  pub step : IsStep m copy.below copy.row content
+
 -- ---- runs
 
 -- the events, one after another, lead from one board to the other
@@ -105,3 +135,6 @@ pub data IsRun (m : Module) : Filled → List Event → Filled → Type 0 where
   give_first : (board : Filled) (who s : ℕ) (t : ℤ) (content : Content) (events : List Event) (last : Filled) → IsMadeFromCopy m board who s (filled_height board t) content → IsRun m (after_give board s (filled_height board t) content) events last → IsRun m board (Give who s t ∷ events) last
   back_first : (board : Filled) (who s : ℕ) (t : ℤ) (events : List Event) (last : Filled) → IsRun m (after_back board s (filled_height board t)) events last → IsRun m board (Back who s t ∷ events) last
   fail_first : (board : Filled) (who s : ℕ) (t : ℤ) (copy : Copy) (events : List Event) (last : Filled) → IsCopyFor board.out who s (filled_height board t) copy → IsRun m (after_fail board copy s (filled_height board t)) events last → IsRun m board (Fail who s t ∷ events) last
+  stop_first : (board : Filled) (events : List Event) (last : Filled) → IsRun m (after_stop board board.file) events last → IsRun m board (Stop None ∷ events) last
+  stop_with_first : (board : Filled) (q : ℕ × ℤ) (content : Content) (events : List Event) (last : Filled) → IsMadeAtStop m board q.0 (filled_height board q.1) content → IsRun m (after_stop board (file_and board q.0 (filled_height board q.1) content)) events last → IsRun m board (Stop (Some q) ∷ events) last
+  open_first : (board : Filled) (events : List Event) (last : Filled) → IsRun m (after_open board) events last → IsRun m board (Open ∷ events) last

@@ -1,9 +1,10 @@
--- What is so after every run of the board with contents, whatever the order in which squares are taken and given.
-use Rattle.std.specs.Prelude.{◌≡◌, ℕ, ℤ, List, [], ◌++◌, Some}
+-- What is so after every run of the board with contents, whatever the order in which squares are taken and given, and wherever
+-- the board stops and opens.
+use Rattle.std.specs.Prelude.{◌≡◌, ℕ, ℤ, true, List, [], ◌++◌, Some}
 use Rattle.std.specs.List.{All}
 use Rattle.board_core.specs.declared.event.Event.{Event}
 use Rattle.free_module.specs.Graded.{KeepsWidths}
-use Rattle.board_core.specs.Laws.{IsReached, given}
+use Rattle.board_core.specs.Laws.{IsReached, filed as squares_filed}
 use Rattle.board_core.specs.Machine.{State, IsStart}
 use Rattle.resolution_laws.specs.Resolution.{Module, Content, IsStep}
 use Rattle.resolution_laws.specs.Start.{Entry, entry_at, IsOf, AreOf}
@@ -27,16 +28,16 @@ pub record IsSchedule (m : Module) (s t : ℕ) (start : List Entry) (events : Li
 
 -- The board is the machine's state with contents, and these are those of the table of `first`, on the board and in the file;
 -- so is the step over each copy, of a square that is out or that failed. The file is the start and the squares that the events
--- give; it has each square once and after its parents, and at each place what the board has there.
+-- put there; it has each square once and after its parents, and while the board runs, at each place what the board has there.
 pub record IsFilledRight (m : Module) (first start : List Entry) (events : List Event) (state : State) (board : Filled) : Type 0 where
   pub agrees : without_contents board ≡ state
   pub done : (s k : ℕ) (content : Content) → board.done s k ≡ Some content → IsOf m first s k content
   pub filed : AreOf m first board.file
   pub copies : All (GivesOf m first) board.out
   pub failed : (copy : Copy) → board.failed ≡ Some copy → GivesOf m first copy
-  pub file : IsExtension m.bottom start (given events) board.file
+  pub file : IsExtension m.bottom start (squares_filed events) board.file
   pub once : IsStart m.bottom (places m.bottom board.file)
-  pub same : (s k : ℕ) → entry_at board.file s k ≡ board.done s k
+  pub same : board.running ≡ true → (s k : ℕ) → entry_at board.file s k ≡ board.done s k
 
 -- From canonical squares every schedule gives canonical squares.
 abbrev pub EveryScheduleIsCanonical : Type 0

@@ -3,9 +3,9 @@
 
 ghost use Rattle.board_laws.specs.Schedules.{EveryScheduleIsCanonical, EveryScheduleContinuesItsStart, EveryHistoryHasARun, EveryHistoryFromItsStartHasARun};
 
-/// From a start of canonical squares, whatever the order in which squares are taken and given, each done square and each
-/// square of the file is canonical, although its rows were copied when it was taken. The file is the start and then the
-/// squares that were given, in this order, each once.
+/// From a start of canonical squares, whatever the order in which squares are taken and given, and wherever the board stops and
+/// opens again, each done square and each square of the file is canonical, although its rows were copied when it was taken. The
+/// file is the start and then the squares that were given, or that a Stop found there, in this order, each once.
 pub fn every_schedule_is_canonical()
     ensures { EveryScheduleIsCanonical }
 {}

@@ -1,5 +1,5 @@
 -- What a give, a take and a look answer, and what the pass has then seen.
-use Rattle.std.proofs.Common.{◌≡◌, ◌⊎◌, ◌↔◌, ℕ, ℤ, pos, ◌+ℤ◌, Bool, false, nat_lt, List, [], ◌∷◌, ◌++◌, length, Option, Some, None, IfSome, Result, Ok, Err, refl, sym, ◌∙◌, ap, subst, arith, inl, inr}
+use Rattle.std.proofs.Common.{◌≡◌, ◌⊎◌, ◌↔◌, ℕ, ℤ, pos, ◌+ℤ◌, Bool, false, nat_lt, List, [], map, ◌∷◌, ◌++◌, length, Option, Some, None, IfSome, Result, Ok, Err, refl, sym, ◌∙◌, ap, subst, arith, inl, inr}
 use Rattle.std.specs.List.{slice_get}
 use Rattle.std.proofs.Math.Path.{fun_ext}
 use Rattle.std.proofs.Math.Path.{fun_ext}
@@ -13,12 +13,12 @@ use Rattle.degrees.specs.Above.{above_of}
 use Rattle.finite_module.specs.Checked.{Checked}
 use Rattle.finite_module.specs.Module.{bottom}
 use Rattle.board_core.specs.declared.event.Cause.{Cause}
-use Rattle.board_core.specs.declared.event.Event.{Event}
-use Rattle.board_core.specs.declared.event.Event.TheVariants.{Take}
+use Rattle.board_core.specs.declared.event.Entry.{Entry as Event}
+use Rattle.board_core.specs.declared.event.Entry.TheVariants.{Take}
 use Rattle.board_core.specs.Board.{holds_at, is_done_at}
-use Rattle.board_core.specs.Entries.{who_of}
+use Rattle.board_core.specs.Entries.{event_of, IsEntryHistory as IsHistory, after_entry as after, who_of}
 use Rattle.board_core.specs.Laws.{first_cause}
-use Rattle.board_core.specs.Machine.{State, IsHistory, after, opening as opening_state}
+use Rattle.board_core.specs.Machine.{State, opening as opening_state}
 use Rattle.board_core.specs.Machine.IsHistory.{nothing, then}
 use Rattle.board_core.proofs.Causes.{first_of_all}
 use Rattle.resolution_laws.specs.Start.{Entry, IsOf}
@@ -68,7 +68,7 @@ same_before (a ∷ xs) (b ∷ ys) x y e =
 -- a history without its last event is one
 first_legal : (first : State) (events : List Event) (event : Event) (last : State) → IsHistory first (events ++ event ∷ []) last → IsHistory first events (after_all first events)
 first_legal first [] event last history = nothing first
-first_legal first (e ∷ events) event last (then state f es l legal rest) = then first e events (after_all (after first e) events) legal (first_legal (after first e) events event last rest)
+first_legal first (e ∷ events) event last (then state f es l legal rest) = then first (event_of e) (map event_of events) (after_all (after first e) events) legal (first_legal (after first e) events event last rest)
 
 pub legal_before : {K : Type 0} (before now : Keeper) (opening : Opening K) (course next : Course) (event : Event) (table : Staircase) → IsDesk before now opening next table → next ≡ with_event course event → IsLegalCourse course
 legal_before {K} before now opening course next event table desk is =

@@ -1,9 +1,9 @@
 -- Courses with one event more.
 use Rattle.std.proofs.Common.{◌≡◌, ℕ, List, [], ◌∷◌, ◌++◌, refl, sym, ap, subst}
-use Rattle.board_core.specs.declared.event.Event.{Event}
-use Rattle.board_core.specs.Machine.{State, IsLegal, IsHistory, after, opening}
+use Rattle.board_core.specs.declared.event.Entry.{Entry as Event}
+use Rattle.board_core.specs.Machine.{State, opening}
 use Rattle.board_core.proofs.Histories.{history_then}
-use Rattle.board_core.specs.Entries.{who_of}
+use Rattle.board_core.specs.Entries.{IsLegalEntry as IsLegal, IsEntryHistory as IsHistory, after_entry as after, who_of}
 use Rattle.square_board.specs.Courses.{Course, after_all, state_of, with_event, IsLegalCourse, numbered, events_of}
 
 pub after_all-then : (state : State) (events : List Event) (event : Event) → after_all state (events ++ event ∷ []) ≡ after (after_all state events) event

@@ -8,11 +8,12 @@ use Rattle.std.proofs.lemmas.List.Sums.{sum_by_push}
 use Rattle.edge.specs.Faults.{HasRisen}
 use Rattle.finite_module.specs.Checked.{Checked}
 use Rattle.finite_module.specs.Module.{bottom}
-use Rattle.board_core.specs.declared.event.Event.{Event}
-use Rattle.board_core.specs.declared.event.Event.TheVariants.{Take, Give, Back, Fail}
+use Rattle.board_core.specs.declared.event.Entry.{Entry as Event}
+use Rattle.board_core.specs.declared.event.Entry.TheVariants.{Take, Give, Back, Fail}
 use Rattle.board_core.specs.Board.{IsTaken}
-use Rattle.board_core.specs.Laws.{IsReached, given, given_in}
-use Rattle.board_core.specs.Machine.{State, Squares, IsAbove, IsLegal, IsLegalTake, IsHeld, IsHeldWithoutCause, height, after, opening}
+use Rattle.board_core.specs.Laws.{IsReachedByEntries as IsReached, given, given_in}
+use Rattle.board_core.specs.Entries.{IsLegalEntry as IsLegal, after_entry as after}
+use Rattle.board_core.specs.Machine.{State, Squares, IsAbove, IsLegalTake, IsHeld, IsHeldWithoutCause, height, opening}
 use Rattle.board_core.specs.Machine.IsHistory.{nothing}
 use Rattle.board_core.proofs.Causes.{first_of_all}
 use Rattle.board_core.proofs.Histories.{height_is, held_at_height, reached_is_sound}

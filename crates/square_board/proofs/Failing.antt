@@ -2,10 +2,11 @@
 use Rattle.std.proofs.Common.{◌≡◌, List, [], ◌∷◌, true, false, Some, None, refl}
 use Rattle.board_core.specs.declared.event.Cause.{Cause}
 use Rattle.board_core.specs.declared.event.Cause.TheVariants.{Failed, Memory}
-use Rattle.board_core.specs.declared.event.Event.{Event}
-use Rattle.board_core.specs.declared.event.Event.TheVariants.{Take, Give, Back, Fail}
+use Rattle.board_core.specs.declared.event.Entry.{Entry as Event}
+use Rattle.board_core.specs.declared.event.Entry.TheVariants.{Take, Give, Back, Fail}
 use Rattle.board_core.specs.Laws.{first_cause}
-use Rattle.board_core.specs.Machine.{State, IsHistory, after, cause_or}
+use Rattle.board_core.specs.Entries.{IsEntryHistory as IsHistory, after_entry as after}
+use Rattle.board_core.specs.Machine.{State, cause_or}
 use Rattle.board_core.specs.Machine.IsHistory.{nothing, then}
 use Rattle.square_board.specs.Desks.{has_fail}
 

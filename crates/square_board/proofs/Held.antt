@@ -5,8 +5,8 @@ use Rattle.finite_module.specs.Module.{bottom}
 use Rattle.edge.specs.Faults.{HasRisen}
 use Rattle.resolution_laws.specs.Start.{Entry}
 use Rattle.board_core.specs.declared.event.Cause.{Cause}
-use Rattle.board_core.specs.declared.event.Event.{Event}
-use Rattle.board_core.specs.declared.event.Event.TheVariants.{Give, Fail}
+use Rattle.board_core.specs.declared.event.Entry.{Entry as Event}
+use Rattle.board_core.specs.declared.event.Entry.TheVariants.{Give, Fail}
 use Rattle.board_core.specs.Board.{IsTaken}
 use Rattle.board_core.specs.Entries.{events_by}
 use Rattle.board_core.specs.Machine.{State, IsAbove, IsHeld, IsHeldWithoutCause, height}

@@ -3,11 +3,12 @@ use Rattle.std.proofs.Common.{◌≡◌, ℕ, zero, suc, ◌+◌, ◌<◌, ◌�
 use Rattle.std.proofs.lemmas.Bool.Decides.{nat_tests}
 use Rattle.finite_module.specs.Checked.{Checked}
 use Rattle.finite_module.specs.Module.{bottom}
-use Rattle.board_core.specs.declared.event.Event.{Event}
-use Rattle.board_core.specs.declared.event.Event.TheVariants.{Take, Give, Back, Fail}
+use Rattle.board_core.specs.declared.event.Entry.{Entry as Event}
+use Rattle.board_core.specs.declared.event.Entry.TheVariants.{Take, Give, Back, Fail}
 use Rattle.board_core.specs.Board.{IsReadyAt}
 use Rattle.board_core.specs.Laws.{HasUnfinished}
-use Rattle.board_core.specs.Machine.{State, HasParents, IsInRange, IsRowNumber, IsRowNumberBelow, opening, after}
+use Rattle.board_core.specs.Entries.{after_entry as after}
+use Rattle.board_core.specs.Machine.{State, HasParents, IsInRange, IsRowNumber, IsRowNumberBelow, opening}
 use Rattle.board_core.proofs.BelowFronts.{front_number}
 use Rattle.square.specs.Tables.{Staircase, IsTable, IsNext, IsNextAt, row_in}
 use Rattle.square.specs.Keeping.{Keeper}

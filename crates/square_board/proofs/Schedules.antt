@@ -1,10 +1,11 @@
 -- What is kept of the machine with its history, one event after the other.
 use Rattle.std.proofs.Common.{◌≡◌, ℕ, ◌+◌, ◌-◌, ◌≤◌, ℤ, List, [], ◌∷◌, ◌++◌, length, refl, sym, ◌∙◌, ap, subst, arith}
 use Rattle.std.proofs.lemmas.List.{length_push}
-use Rattle.board_core.specs.declared.event.Event.{Event}
-use Rattle.board_core.specs.declared.event.Event.TheVariants.{Take, Give, Back, Fail}
+use Rattle.board_core.specs.declared.event.Entry.{Entry as Event}
+use Rattle.board_core.specs.declared.event.Entry.TheVariants.{Take, Give, Back, Fail}
 use Rattle.board_core.specs.Board.{Board, IsSound, state_of}
-use Rattle.board_core.specs.Machine.{State, IsStart, IsLegal, IsHeld, after, opening}
+use Rattle.board_core.specs.Entries.{IsLegalEntry as IsLegal, after_entry as after}
+use Rattle.board_core.specs.Machine.{State, IsStart, IsHeld, opening}
 use Rattle.board_core.specs.Machine.IsHistory.{nothing}
 use Rattle.board_core.proofs.Histories.{reached_is_sound}
 use Rattle.board_core.proofs.Short.{more_out, fewer_out}

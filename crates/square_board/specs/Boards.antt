@@ -1,8 +1,8 @@
 -- A board and its passes: what each call does to a pass, and what is so of the history that it has then seen.
 use Rattle.std.specs.Prelude.{◌≡◌, ℕ, ◌≤◌, ℤ, pos, ◌+ℤ◌, false, List, [], ◌∷◌, ◌++◌, All, Some, Result, Ok, Err}
 use Rattle.board_core.specs.declared.event.Cause.{Cause}
-use Rattle.board_core.specs.declared.event.Event.{Event}
-use Rattle.board_core.specs.declared.event.Event.TheVariants.{Take, Give, Back, Fail}
+use Rattle.board_core.specs.declared.event.Entry.{Entry as Event}
+use Rattle.board_core.specs.declared.event.Entry.TheVariants.{Take, Give, Back, Fail}
 use Rattle.board_core.specs.Laws.{first_cause}
 use Rattle.board_core.specs.Machine.{State}
 use Rattle.resolution_laws.specs.Start.{IsOf}

@@ -1,9 +1,10 @@
--- The course of a board: with what it opened, and the events since then.
+-- The course of a board: with what it opened, and the events since then. These are entries, since the board runs all the while; the name
+-- `Entry` is that of a square which was read.
 use Rattle.std.specs.Prelude.{ℕ, ℤ, List, [], ◌∷◌, ◌++◌, map}
-use Rattle.board_core.specs.declared.event.Event.{Event}
-use Rattle.board_core.specs.Entries.{who_of}
-use Rattle.board_core.specs.Laws.{IsReached}
-use Rattle.board_core.specs.Machine.{State, opening, after}
+use Rattle.board_core.specs.declared.event.Entry.{Entry as Event}
+use Rattle.board_core.specs.Entries.{after_entry, who_of}
+use Rattle.board_core.specs.Laws.{IsReachedByEntries}
+use Rattle.board_core.specs.Machine.{State, opening}
 
 -- the range of a board and its bottom, the squares of its start, each by its row and its degree, and the events since then
 pub record Course : Type 0 where
@@ -20,7 +21,7 @@ with_event course event = record course { history = course.history ++ event ∷ 
 -- what the events make of a state, one after another
 abbrev pub after_all : State → List Event → State
 after_all state [] = state
-after_all state (event ∷ events) = after_all (after state event) events
+after_all state (event ∷ events) = after_all (after_entry state event) events
 
 -- the machine's state at the end of the course
 abbrev pub state_of : Course → State
@@ -28,7 +29,7 @@ state_of course = after_all (opening course.bottom course.rows course.degrees co
 
 -- The start is one, and the machine accepts the events one after another.
 abbrev pub IsLegalCourse : Course → Type 0
-IsLegalCourse course = IsReached course.bottom course.rows course.degrees course.start course.history (state_of course)
+IsLegalCourse course = IsReachedByEntries course.bottom course.rows course.degrees course.start course.history (state_of course)
 
 -- ---- events with the number of who made them
 

@@ -1,8 +1,8 @@
 -- What lies behind the turn of a board: the machine's course, the table of the squares that are done, and the keeper.
 use Rattle.std.specs.Prelude.{◌≡◌, ℕ, ◌+◌, ◌≤◌, ℤ, nat_lt, Bool, true, false, List, [], ◌∷◌, length, take, None, Result, Ok, Err}
 use Rattle.edge.specs.Faults.{HasRisen}
-use Rattle.board_core.specs.declared.event.Event.{Event}
-use Rattle.board_core.specs.declared.event.Event.TheVariants.{Take, Give, Back, Fail}
+use Rattle.board_core.specs.declared.event.Entry.{Entry as Event}
+use Rattle.board_core.specs.declared.event.Entry.TheVariants.{Take, Give, Back, Fail}
 use Rattle.board_core.specs.Entries.{HasOpenTake}
 use Rattle.board_core.specs.Laws.{given, HasUnfinished}
 use Rattle.board_core.specs.Machine.{State, IsInRange, IsReady, IsLegalTake}

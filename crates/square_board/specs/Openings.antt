@@ -1,6 +1,6 @@
 -- What a board was made with.
 use Rattle.std.specs.Prelude.{◌≡◌, ℕ, ◌+◌, ℤ, nat_lt, List, length}
-use Rattle.board_core.specs.declared.event.Event.{Event}
+use Rattle.board_core.specs.declared.event.Entry.{Entry as Event}
 use Rattle.board_core.specs.Laws.{given_in}
 use Rattle.board_core.specs.Machine.{IsStart, squares_of}
 use Rattle.finite_module.specs.Module.{bottom}

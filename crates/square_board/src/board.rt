@@ -2,8 +2,8 @@
 ghost use Rattle.std.specs.Prelude.{◌≡◌, ◌⊎◌, ℕ, ◌+◌, ◌<◌, ◌≤◌, ◌↔◌, Ok, Err, None, Some, false, [], ◌∷◌, ◌++◌, length, slice_get, All, IfOk, IfErr, IfSome};
 ghost use Rattle.std.specs.Arc.{arc_value};
 ghost use Rattle.board_core.specs.declared.event.Cause.{Cause};
-ghost use Rattle.board_core.specs.declared.event.Event.{Event};
-ghost use Rattle.board_core.specs.declared.event.Event.TheVariants.{Back};
+ghost use Rattle.board_core.specs.declared.event.Entry.{Entry};
+ghost use Rattle.board_core.specs.declared.event.Entry.TheVariants.{Back};
 ghost use Rattle.board_core.specs.Board.{is_done_at};
 ghost use Rattle.board_core.specs.Laws.{first_cause};
 ghost use Rattle.square.specs.declared.range.TheConstants.{MAX_S, MAX_T};
@@ -19,7 +19,7 @@ ghost use Rattle.square_board.specs.Boards.{IsPassOf, IsSamePass, HasTurned, Has
 
 use crate::desk::Desk;
 use crate::job::{GiveFault, Job, Taken};
-use board_core::Event;
+use board_core::Entry;
 use memory::Memory;
 use square::{Keep, Range, Square, Table};
 use std::alloc::Global;
@@ -27,9 +27,6 @@ use std::marker::Model;
 use std::sync::{Arc, Wait};
 use std::time::Clock;
 use turn_lock::{Pass, Turn};
-
-/// What happens to a square of a board: it is taken, given, handed back, or the keeper fails at it.
-pub type Entry = Event;
 
 /// What a worker comes to a board with.
 pub type BoardPass<K> = Pass<Desk<K>>;
@@ -202,7 +199,7 @@ impl<K: Keep> Board<K> {
         ensures same { IsSamePass pass.old pass.new }
         ensures looked { pass.new ≡ after_front pass.old pass.new.latest s result }
         ensures continues { Continues pass.old pass.new.latest }
-        ensures exact { (result ≡ front_after self.now.name (events_of pass.new.latest) s) ⊎ ((e : ℕ × Event) × (result ≡ front_after self.now.name (events_of (pass.new.latest ++ e ∷ [])) s)) }
+        ensures exact { (result ≡ front_after self.now.name (events_of pass.new.latest) s) ⊎ ((e : ℕ × Entry) × (result ≡ front_after self.now.name (events_of (pass.new.latest ++ e ∷ [])) s)) }
         ensures seen { front_after self.now.name (events_of pass.old.seen) s ≤ result }
         ensures latest { front_after self.now.name (events_of pass.old.latest) s ≤ result }
         ensures told { All (λ t. t.0 ≡ s → t.1 ≤ result) pass.old.told }

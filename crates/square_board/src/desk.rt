@@ -3,7 +3,7 @@ ghost use Rattle.std.specs.Prelude.{◌≡◌, ◌⊎◌, ℕ, suc, ◌+◌, ◌
 ghost use Rattle.std.specs.Arc.{arc_value};
 ghost use Rattle.edge.specs.Faults.{HasRisen};
 ghost use Rattle.board_core.specs.declared.event.Cause.{Cause};
-ghost use Rattle.board_core.specs.declared.event.Event.TheVariants.{Take, Give, Back, Fail};
+ghost use Rattle.board_core.specs.declared.event.Entry.TheVariants.{Take, Give, Back, Fail};
 ghost use Rattle.board_core.specs.Entries.{events_by};
 ghost use Rattle.board_core.specs.Laws.{first_cause, HasUnfinished};
 ghost use Rattle.board_core.specs.Machine.{IsInRange, IsRowNumber, IsRowNumberBelow};
@@ -26,7 +26,7 @@ ghost use Rattle.square_board.specs.Inside.Putting.{HasPut, HasNotPut};
 use crate::job::{GiveFault, Job, Taken};
 use crate::opening::{Opening, squares_of};
 use crate::schedule::Schedule;
-use board_core::Event;
+use board_core::Entry;
 use ghost_list::GhostList;
 use memory::Memory;
 use square::{Keep, KeepFault, Range, Square, Table};
@@ -212,7 +212,7 @@ impl<K: Keep> Desk<K> {
     }
 
     /// The table, the keeper and the history.
-    pub(crate) fn into_parts(self) -> (Table, K, Vec<Event>)
+    pub(crate) fn into_parts(self) -> (Table, K, Vec<Entry>)
         ensures table { result.0 ≡ self.table }
         ensures keeper { result.1 ≡ self.keeper }
         ensures history { result.2.items ≡ self.course.history }
@@ -231,7 +231,7 @@ impl<K: Keep> Desk<K> {
 impl<K: Keep> Told for Desk<K> {
     type Name = Opening<K>;
 
-    type Entry = Event;
+    type Entry = Entry;
 
     ghost name = { λ desk. desk.opening };
 

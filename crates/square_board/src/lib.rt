@@ -7,6 +7,7 @@ mod job;
 mod opening;
 mod schedule;
 
-pub use board::{Board, BoardPass, Entry};
+pub use board::{Board, BoardPass};
+pub use board_core::Entry;
 pub use desk::Desk;
 pub use job::{GiveFault, Job, Taken};

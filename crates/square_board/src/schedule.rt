@@ -1,11 +1,12 @@
 //! The machine of the board, with the history that led to its state.
 ghost use Rattle.std.specs.Prelude.{◌≡◌, ℕ, ◌+◌, ◌-◌, ◌*◌, ◌<◌, ◌≤◌, ◌^◌, ◌+ℤ◌, ◌≤ℤ◌, pos, suc, Some, None, [], ◌∷◌, ◌++◌, length, vec_len, vec_capacity, IfOk, IfSome, OnOk, OnErr};
 ghost use Rattle.board_core.specs.Board.{Board, state_of as state_of_core, IsReadyAt};
-ghost use Rattle.board_core.specs.Machine.{IsStart, IsReady, IsLegal, IsLegalTake, IsHeld, IsHeldWithoutCause, after};
-ghost use Rattle.board_core.specs.declared.event.Event.TheVariants.{Take, Give, Back, Fail};
+ghost use Rattle.board_core.specs.Entries.{IsLegalEntry, after_entry};
+ghost use Rattle.board_core.specs.Machine.{IsStart, IsReady, IsLegalTake, IsHeld, IsHeldWithoutCause};
+ghost use Rattle.board_core.specs.declared.event.Entry.TheVariants.{Take, Give, Back, Fail};
 ghost use Rattle.square_board.specs.Courses.{Course, state_of, with_event, IsLegalCourse};
 
-use board_core::{Cause, Core, Event};
+use board_core::{Cause, Core, Entry, Event};
 use ghost_list::GhostList;
 use memory::Memory;
 use std::alloc::Global;
@@ -19,7 +20,7 @@ pub(crate) struct Schedule {
     core: Core,
     /// The squares that were done at the opening, each by its row and its degree.
     start: GhostList<(u16, i32)>,
-    history: Vec<Event>,
+    history: Vec<Entry>,
     /// How many squares are out.
     jobs: usize,
 }
@@ -105,7 +106,7 @@ impl Schedule {
         let room = self.jobs + 2;
         self.core.reserve(room)?;
         self.history.reserve(room)?;
-        let event = Event::Take {
+        let event = Entry::Take {
             who,
             s,
             t,
@@ -121,7 +122,7 @@ impl Schedule {
         requires { IsHeldWithoutCause (state_of self.old) who s t }
         ensures { self.new ≡ with_event self.old (Give who s t) }
     {
-        enter(&mut self.core, &mut self.history, Event::Give { who, s, t });
+        enter(&mut self.core, &mut self.history, Entry::Give { who, s, t });
         self.jobs -= 1;
     }
 
@@ -130,7 +131,7 @@ impl Schedule {
         requires { IsHeld (state_of self.old) who s t }
         ensures { self.new ≡ with_event self.old (Back who s t) }
     {
-        enter(&mut self.core, &mut self.history, Event::Back { who, s, t });
+        enter(&mut self.core, &mut self.history, Entry::Back { who, s, t });
         self.jobs -= 1;
     }
 
@@ -139,12 +140,12 @@ impl Schedule {
         requires { IsHeldWithoutCause (state_of self.old) who s t }
         ensures { self.new ≡ with_event self.old (Fail who s t) }
     {
-        enter(&mut self.core, &mut self.history, Event::Fail { who, s, t });
+        enter(&mut self.core, &mut self.history, Entry::Fail { who, s, t });
         self.jobs -= 1;
     }
 
     /// The history alone.
-    pub(crate) fn into_history(self) -> Vec<Event>
+    pub(crate) fn into_history(self) -> Vec<Entry>
         ensures history { result.items ≡ self.history }
         ensures is_legal { IsLegalCourse self }
     {
@@ -159,17 +160,17 @@ impl Schedule {
 }
 
 /// An event that the machine accepts happens, and is written down. There is room for it.
-fn enter(core: &mut Core, history: &mut Vec<Event>, event: Event)
-    requires legal { IsLegal (state_of_core core.old) event }
+fn enter(core: &mut Core, history: &mut Vec<Entry>, event: Entry)
+    requires legal { IsLegalEntry (state_of_core core.old) event }
     requires spare { 0 < core.old.spare }
     requires room { vec_len history.old < vec_capacity history.old }
-    ensures state { state_of_core core.new ≡ after (state_of_core core.old) event }
+    ensures state { state_of_core core.new ≡ after_entry (state_of_core core.old) event }
     ensures spare { core.old.spare ≤ core.new.spare + 1 }
     ensures items { history.new.items ≡ history.old.items ++ event ∷ [] }
     ensures len { vec_len history.new ≡ vec_len history.old + 1 }
     ensures capacity { vec_capacity history.new ≡ vec_capacity history.old }
 {
-    match core.apply(event) {
+    match core.apply(Event::from(event)) {
         Ok(()) => history.push_reserved(event),
         Err(_) => unreachable!(),
     }

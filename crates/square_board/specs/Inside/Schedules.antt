@@ -1,6 +1,6 @@
 -- The machine with its history, as it is kept.
 use Rattle.std.specs.Prelude.{◌≡◌, ℕ, ℤ, ◌≤◌, List, length}
-use Rattle.board_core.specs.declared.event.Event.{Event}
+use Rattle.board_core.specs.declared.event.Entry.{Entry as Event}
 use Rattle.board_core.specs.Board.{Board, state_of}
 use Rattle.square_board.specs.Courses.{Course, state_of as state_of_course, IsLegalCourse}
 

@@ -9,10 +9,11 @@ use Rattle.board_core.proofs.machine.Core.ready.Goals as goal
 pub returns-then-is_open-clause-some : goal.returns-then-is_open-clause-some
 returns-then-is_open-clause-some c =
     let inside = c.self.inside in
-    let state : State = record { rows = inside.rows; degrees = inside.degrees; bottom = inside.bottom; done = below_fronts inside.fronts; out = inside.out.items; failed = inside.failed; file = inside.file; cause = inside.cause; running = true } in
+    let state : State = record { rows = inside.rows; degrees = inside.degrees; bottom = inside.bottom; done = below_fronts inside.fronts; out = inside.out.items; failed = inside.failed; file = inside.file; cause = inside.cause; running = inside.running } in
     let s = c.loop-s.s in
     let no_cause : c.args.self.now.cause ≡ None = grind (arith, common_steps) in
-    let opens = c.is_open.ensures.yes c.if-is_open.true no_cause in
+    let running : c.args.self.now.running ≡ true = grind (arith, common_steps) in
+    let opens = c.is_open.ensures.yes c.if-is_open.true running no_cause in
     let there : IsReady state s opens.0 = subst (λ (b : Board). IsReady (state_of b) s opens.0) (sym c.self.view_is) opens.1 in
     let first : opens.0 ≡ c.front.result = stands_first state.done s opens.0 c.front.result c.front.ensures.done there.parents there.not_done in
     let ready : IsReady state s c.front.result = subst (λ (n : ℕ). IsReady state s n) first there in

@@ -1,6 +1,6 @@
 use Rattle.std.proofs.Common.{◌≡◌, ◌≤◌, List, All, ap, sym, subst}
 use Rattle.turn_lock.specs.Turns.{TurnId}
-use Rattle.board_core.specs.declared.event.Event.{Event}
+use Rattle.board_core.specs.declared.event.Entry.{Entry as Event}
 use Rattle.square_board.specs.declared.opening.Opening.{Opening}
 use Rattle.square_board.specs.Openings.{front_after}
 use Rattle.square_board.proofs.Turning.{told_fronts}

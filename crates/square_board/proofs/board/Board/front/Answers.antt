@@ -1,6 +1,6 @@
 use Rattle.std.proofs.Common.{◌≡◌, ◌⊎◌, ◌++◌, ◌∷◌, [], ℕ, ap, subst}
 use Rattle.turn_lock.specs.Turns.{TurnId}
-use Rattle.board_core.specs.declared.event.Event.{Event}
+use Rattle.board_core.specs.declared.event.Entry.{Entry as Event}
 use Rattle.square_board.specs.declared.opening.Opening.{Opening}
 use Rattle.square_board.specs.Courses.{events_of}
 use Rattle.square_board.specs.Openings.{front_after}

@@ -7,7 +7,7 @@ use Rattle.board_core.specs.Board.{is_done_at}
 use Rattle.board_core.specs.Machine.{State}
 use Rattle.square.specs.Tables.{square_at}
 use Rattle.square_board.specs.Boards.{IsSquareAt, state_seen}
-use Rattle.board_core.specs.declared.event.Event.{Event}
+use Rattle.board_core.specs.declared.event.Entry.{Entry as Event}
 use Rattle.turn_lock.specs.Turns.{TurnId, PassState}
 use Rattle.square_board.specs.declared.opening.Opening.{Opening}
 use Rattle.square_board.specs.Courses.{numbered}

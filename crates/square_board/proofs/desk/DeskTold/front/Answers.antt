@@ -1,5 +1,5 @@
 use Rattle.std.proofs.Common.{◌≡◌, List, sym, ◌∙◌, ap, subst}
-use Rattle.board_core.specs.declared.event.Event.{Event}
+use Rattle.board_core.specs.declared.event.Entry.{Entry as Event}
 use Rattle.square_board.specs.Openings.{front_after}
 use Rattle.square_board.specs.Desks.{DeskState}
 use Rattle.square_board.proofs.Courses.{events_of-numbered}

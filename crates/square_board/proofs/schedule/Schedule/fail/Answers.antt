@@ -1,6 +1,6 @@
 use Rattle.std.proofs.Common.{◌≡◌, ℤ, w32, to_z, of_z, refl, sym, subst, arith}
 use Rattle.std.proofs.lemmas.Int.{to_z-of_z}
-use Rattle.board_core.specs.declared.event.Event.TheVariants.{Fail}
+use Rattle.board_core.specs.declared.event.Entry.TheVariants.{Fail}
 use Rattle.board_core.specs.Board.{state_of as core_state}
 use Rattle.board_core.specs.Machine.{State, IsHeldWithoutCause}
 use Rattle.square_board.specs.Courses.{Course, state_of}

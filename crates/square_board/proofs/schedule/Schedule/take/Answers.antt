@@ -1,9 +1,10 @@
 use Rattle.std.proofs.Common.{◌≡◌, ℤ, List, [], ◌∷◌, ◌++◌, w32, to_z, of_z, ap, sym, ◌∙◌, subst, arith}
 use Rattle.std.proofs.lemmas.Int.{to_z-of_z}
-use Rattle.board_core.specs.declared.event.Event.{Event}
-use Rattle.board_core.specs.declared.event.Event.TheVariants.{Take}
+use Rattle.board_core.specs.declared.event.Entry.{Entry as Event}
+use Rattle.board_core.specs.declared.event.Entry.TheVariants.{Take}
 use Rattle.board_core.specs.Board.{state_of as core_state}
-use Rattle.board_core.specs.Machine.{State, IsLegalTake, after}
+use Rattle.board_core.specs.Entries.{after_entry as after}
+use Rattle.board_core.specs.Machine.{State, IsLegalTake}
 use Rattle.square_board.specs.Courses.{Course, state_of}
 use Rattle.square_board.proofs.Schedules.{taken}
 use Rattle.square_board.proofs.schedule.Schedule.take.Goals as goal
