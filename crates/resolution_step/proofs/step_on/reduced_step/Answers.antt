@@ -1,4 +1,4 @@
-use Rattle.std.proofs.Common.{◌≡◌, ℤ, w32, ◌∙◌, subst}
+use Rattle.std.proofs.Common.{◌≡◌, ℤ, w32, subst}
 use Rattle.std.proofs.lemmas.Int.{to_z-of_z}
 use Rattle.free_module.specs.LinearMap.{map_rows}
 use Rattle.free_module.proofs.MapRows.{HaveWidth-map_rows}
