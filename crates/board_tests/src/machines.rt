@@ -73,6 +73,81 @@ fn take_and_give(core: &mut Core, s: u16, t: i32) -> Result<(), CoreFault> {
     core.apply(Event::Give { who: 0, s, t })
 }
 
+/// Takes the first square of a board with one row and bottom 0.
+const FIRST: Event = Event::Take {
+    who: 1,
+    s: 0,
+    t: 0,
+    snapshot: (0, 0),
+};
+
+const STOP: Event = Event::Stop { in_file: None };
+
+#[test]
+fn stops_and_opens(rt: HostRuntime) -> Result<(), Fail> {
+    let mut core = Core::new(rt.alloc(), 0, 1, 0, &[])?;
+    let open = Event::Open;
+    assert_eq!(rt; core.apply(open), Err(CoreFault::NotLegal { event: open }));
+    assert_eq!(rt; take_and_give(&mut core, 0, 0), Ok(()));
+    assert_eq!(rt; core.apply(STOP), Ok(()));
+    assert!(rt; !core.done(0, 0));
+    assert_eq!(rt; core.ready(), None);
+    assert_eq!(rt; core.apply(STOP), Err(CoreFault::NotLegal { event: STOP }));
+    assert_eq!(rt;
+        core.apply(FIRST),
+        Err(CoreFault::NotLegal { event: FIRST })
+    );
+    assert_eq!(rt; core.apply(open), Ok(()));
+    assert!(rt; core.done(0, 0));
+    assert_eq!(rt; core.ready(), Some((0, 1)));
+    assert_eq!(rt; core.apply(open), Err(CoreFault::NotLegal { event: open }));
+    Ok(())
+}
+
+#[test]
+fn a_stop_finds_a_square_in_the_file(rt: HostRuntime) -> Result<(), Fail> {
+    let fail = Event::Fail { who: 1, s: 0, t: 0 };
+    let back = Event::Back { who: 1, s: 0, t: 0 };
+    let give = Event::Give { who: 1, s: 0, t: 0 };
+    let second = Some((0, 1));
+    // what happens to the first square, how the run ends, whether that is accepted, and the square that is then ready
+    let cases = [
+        (None, None, true, Some((0, 0))),
+        (None, Some((0, 0)), true, second),
+        (None, Some((0, 1)), false, None),
+        (None, Some((1, 0)), false, None),
+        (None, Some((0, -1)), false, None),
+        (Some(fail), None, true, Some((0, 0))),
+        (Some(fail), Some((0, 0)), true, second),
+        (Some(fail), Some((0, 1)), false, None),
+        (Some(back), None, true, Some((0, 0))),
+        (Some(back), Some((0, 0)), false, None),
+        (Some(give), None, true, second),
+        (Some(give), Some((0, 0)), false, second),
+    ];
+    for (event, in_file, accepted, ready) in cases.iter() {
+        let mut core = Core::new(rt.alloc(), 0, 1, 0, &[])?;
+        assert_eq!(rt; core.apply(FIRST), Ok(()));
+        if let Some(event) = event {
+            assert_eq!(rt; core.apply(*event), Ok(()));
+        }
+        let stop = Event::Stop { in_file: *in_file };
+        if *accepted {
+            assert_eq!(rt; core.apply(stop), Ok(()), "at {in_file:?}");
+            assert_eq!(rt; core.apply(Event::Open), Ok(()), "at {in_file:?}");
+            assert_eq!(rt; core.stopped(), None);
+        } else {
+            assert_eq!(rt;
+                core.apply(stop),
+                Err(CoreFault::NotLegal { event: stop }),
+                "at {in_file:?}"
+            );
+        }
+        assert_eq!(rt; core.ready(), *ready, "at {in_file:?}");
+    }
+    Ok(())
+}
+
 #[test]
 fn whole_board(rt: HostRuntime) -> Result<(), Fail> {
     let mut core = Core::new(rt.alloc(), 63, 127, 0, &[])?;

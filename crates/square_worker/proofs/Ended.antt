@@ -8,8 +8,8 @@ use Rattle.std.proofs.lemmas.List.Folds.{list_any-append, Any-from_list_any}
 use Rattle.edge.specs.Faults.{HasRisen}
 use Rattle.degrees.specs.Above.{above_of}
 use Rattle.board_core.specs.declared.event.Cause.TheVariants.{Failed, Memory}
-use Rattle.board_core.specs.declared.event.Event.{Event}
-use Rattle.board_core.specs.Laws.{IsReached, given, first_cause}
+use Rattle.board_core.specs.declared.event.Entry.{Entry as Event}
+use Rattle.board_core.specs.Laws.{IsReachedByEntries as IsReached, given, first_cause}
 use Rattle.board_core.specs.Machine.{Squares, is_number, squares_of}
 use Rattle.board_core.proofs.Given.{given_once}
 use Rattle.board_core.proofs.Places.{IsWithin, given_within, given_apart}

@@ -3,7 +3,7 @@ use Rattle.std.proofs.Common.{◌≡◌, ℕ, ◌<◌, List, ◌++◌, length, t
 use Rattle.std.specs.List.{slice_get}
 use Rattle.std.proofs.Math.Seq.{take-append_seam}
 use Rattle.std.proofs.lemmas.Option.{get_or_from_slice_get}
-use Rattle.board_core.specs.declared.event.Event.{Event}
+use Rattle.board_core.specs.declared.event.Entry.{Entry as Event}
 use Rattle.turn_lock.specs.Turns.{TurnId, PassState, new_pass}
 use Rattle.square_board.specs.declared.opening.Opening.{Opening}
 use Rattle.square_worker.specs.Inside.Passes.{IsPassAt, AreItsPasses}

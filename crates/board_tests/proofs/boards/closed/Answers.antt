@@ -1,5 +1,5 @@
 use Rattle.std.proofs.Common.{◌≡◌, ap, sym, subst, ◌∙◌}
-use Rattle.board_core.specs.declared.event.Event.{Event}
+use Rattle.board_core.specs.declared.event.Entry.{Entry as Event}
 use Rattle.turn_lock.specs.Turns.{PassState, TurnId, HasBetween}
 use Rattle.turn_lock.proofs.Numbers.{has_one, has_next, has_all}
 use Rattle.square_board.specs.declared.opening.Opening.{Opening}

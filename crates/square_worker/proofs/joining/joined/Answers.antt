@@ -1,6 +1,6 @@
 use Rattle.std.proofs.Common.{◌≡◌, ℕ, suc, [], ◌∷◌, ◌++◌, length, Option, sym, ap, subst, ◌∙◌, arith}
 use Rattle.std.specs.Option.{option_to_list}
-use Rattle.board_core.specs.declared.event.Event.{Event}
+use Rattle.board_core.specs.declared.event.Entry.{Entry as Event}
 use Rattle.turn_lock.specs.Turns.{PassState, TurnId, HasBetween}
 use Rattle.turn_lock.proofs.Numbers.{has_previous, has_all}
 use Rattle.square_board.specs.declared.opening.Opening.{Opening}

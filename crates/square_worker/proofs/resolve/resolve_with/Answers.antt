@@ -3,7 +3,7 @@ use Rattle.std.proofs.lemmas.List.Elements.{All-nil}
 use Rattle.std.proofs.lemmas.Result.{on_ok_weaker, IfErr-at_err}
 use Rattle.board_core.specs.declared.event.Cause.{Cause}
 use Rattle.board_core.specs.declared.event.Cause.TheVariants.{Failed, Memory}
-use Rattle.board_core.specs.declared.event.Event.{Event}
+use Rattle.board_core.specs.declared.event.Entry.{Entry as Event}
 use Rattle.resolution_laws.specs.Resolution.{IsCanonicalTable}
 use Rattle.resolution_step.specs.Alone.{cut, AreNewAt, IsInRange}
 use Rattle.square.specs.Squares.{over}
