@@ -11,7 +11,7 @@ use Rattle.board_core.specs.declared.event.Cause.TheVariants.{Failed, Memory}
 use Rattle.board_core.specs.Machine.{HasParents, IsStaircase, cause_or}
 use Rattle.resolution_laws.specs.Resolution.{Module, Content}
 use Rattle.resolution_laws.specs.Start.{Entry, entry_at, IsOf, AreOf}
-use Rattle.resolution_laws.proofs.StartLaws.{entry_at-other, entry_at-new}
+use Rattle.resolution_laws.proofs.StartLaws.{entry_at-other, entry_at-new, listed_is_of}
 use Rattle.board_laws.specs.Filled.{Contents, with_content, Copy, Filled, without_copy, filled_opening, after_take, after_give, after_back, after_fail, after_stop, after_open, file_and, IsCopyFor, IsMadeFromCopy, IsMadeAtStop}
 use Rattle.board_laws.specs.Schedules.{GivesOf}
 use Rattle.board_laws.proofs.Agreement.{held_squares}
@@ -30,26 +30,9 @@ pub record IsKept (m : Module) (first : List Entry) (board : Filled) : Type 0 wh
 
 -- ---- the opening
 
-entry_of : (m : Module) (first start : List Entry) → AreOf m first start → (s k : ℕ) (content : Content) → entry_at start s k ≡ Some content → IsOf m first s k content
-entry_of m first [] are s k content e = cc
-entry_of m first (x ∷ start) are s k content e =
-    let P : Entry → Type 0 = λ y. IsOf m first y.s y.above y.content in
-    elim (cases_Bool (nat_eq x.s s && nat_eq x.above k)) [
-      | inl here ↦
-          let row : x.s ≡ s = grind (arith, nat_tests) in
-          let degree : x.above ≡ k = grind (arith, nat_tests) in
-          let read : Some x.content ≡ Some content = sym (ap (λ b. if b then Some x.content else entry_at start s k) here) ∙ e in
-          let one : IsOf m first s x.above x.content = subst (λ (n : ℕ). IsOf m first n x.above x.content) row (All-head P x start are) in
-          let two : IsOf m first s k x.content = subst (λ (n : ℕ). IsOf m first s n x.content) degree one in
-          subst (λ (c : Content). IsOf m first s k c) (same_Some _ _ read) two
-      | inr other ↦
-          let rest : entry_at start s k ≡ Some content = sym (ap (λ b. if b then Some x.content else entry_at start s k) other) ∙ e in
-          entry_of m first start (All-tail P x start are) s k content rest
-    ]
-
 pub opening_is_kept : (m : Module) (first : List Entry) (s t : ℕ) (start : List Entry) → AreOf m first start → ((i k : ℕ) → entry_at start i k ≡ None → entry_at first i k ≡ None) → IsKept m first (filled_opening m s t start)
 opening_is_kept m first s t start are unread = record {
-  stands = entry_of m first start are;
+  stands = listed_is_of m first start are;
   unread = unread;
   copies = All-nil (GivesOf m first);
   failed = λ copy e. cc;
@@ -177,7 +160,7 @@ stop_with_keeps m first board s k content kept made =
 
 pub open_keeps : (m : Module) (first : List Entry) (board : Filled) → IsKept m first board → IsKept m first (after_open board)
 open_keeps m first board kept = record {
-  stands = entry_of m first board.file kept.filed;
+  stands = listed_is_of m first board.file kept.filed;
   unread = kept.unread;
   copies = kept.copies;
   failed = kept.failed;

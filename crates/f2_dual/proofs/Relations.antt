@@ -16,7 +16,7 @@ use Rattle.f2_matrix.specs.Preimages.{pivot_of, at_pivots}
 use Rattle.f2_matrix.proofs.Elimination.{IsFirstOne-unique}
 use Rattle.f2_matrix.proofs.Unique.{zero_without_first}
 use Rattle.f2_matrix.proofs.Kept.{place_of, kept_at, place_of-rises, kept_somewhere}
-use Rattle.f2_matrix.proofs.Pivots.{pivot_first, length-at_pivots, bit-at_pivots, zero_left}
+use Rattle.f2_matrix.proofs.Pivots.{first_within, pivot_first, length-at_pivots, bit-at_pivots, zero_left}
 use Rattle.f2_matrix.specs.Transpose.{column}
 use Rattle.f2_dual.specs.Inside.Coordinates.{element_of, pivot_units, is_free, free_elements, new_rows, relation_of}
 use Rattle.f2_dual.proofs.Dots.{dot, dot_at, dot_none, bit-combination-dot, pairing, pairing-zeros, pairing-combination}
@@ -29,10 +29,6 @@ pub record HaveFirsts (rows : List (List Bool)) (place : ℕ → ℕ) : Type 0 w
   pub first : (i : ℕ) → i < length rows → IsFirstOne (row rows i) (place i)
   pub rise : (i j : ℕ) → i < j → j < length rows → place i < place j
   pub alone : (i j : ℕ) → i ≢ j → i < length rows → j < length rows → bit (row rows j) (place i) ≡ false
-
-first_within : (rows : List (List Bool)) (i p : ℕ) → IsFirstOne (row rows i) p → i < length rows
-first_within rows i p f =
-    elim (cases_lt i (length rows)) [ inl l ↦ l | inr l ↦ absurd (both_ways (bit (row rows i) p) (ap (λ v. bit v p) (get_or_past rows i [] l)) f.one) ]
 
 pub HasNoZeroRow-from_firsts : (rows : List (List Bool)) (place : ℕ → ℕ) → HaveFirsts rows place → HasNoZeroRow rows
 HasNoZeroRow-from_firsts rows place h i l z = both_ways (bit (row rows i) (place i)) (z (place i)) (h.first i l).one

@@ -1,12 +1,14 @@
 -- The table of a start: it has at most one content at a place, it is canonical where what was read is, and one square read
 -- more changes nothing that stands.
 use Rattle.std.proofs.Common.{◌≡◌, inl, inr, ℕ, zero, suc, ◌+◌, ◌<◌, ◌≤◌, Bool, true, false, ◌&&◌, nat_eq, if◌then◌else◌, List, [], ◌∷◌, ◌++◌, length, take, Option, Some, None, MatchOption, refl, sym, ◌∙◌, ap, subst, arith}
+use Rattle.std.proofs.lemmas.Bool.{and_parts, eqb-true}
 use Rattle.std.proofs.lemmas.Bool.Decides.{eqb_tells}
 use Rattle.std.proofs.lemmas.List.{ext_get_or, get_or-take, length-take-le}
+use Rattle.std.proofs.lemmas.List.Elements.{All-head, All-tail}
 use Rattle.std.proofs.lemmas.List.FromFn.{length-map-range_with_len, get_or-map-range_with_len}
 use Rattle.f2_matrix.specs.Echelon.{KernelBasisIsUnique}
 use Rattle.resolution_laws.specs.Resolution.{Module, Content, no_content, square_in, IsStep, row_of, below_of, IsCanonicalTable}
-use Rattle.resolution_laws.specs.Start.{Entry, entry_at, HasShape, squares_below, row_below, IsReadOrStep, IsOf, is_of, IsCanonicalStart}
+use Rattle.resolution_laws.specs.Start.{Entry, entry_at, HasShape, squares_below, row_below, IsReadOrStep, IsOf, is_of, AreOf, IsCanonicalStart}
 use Rattle.resolution_laws.proofs.TableIsUnique.{step_is_unique}
 
 -- ---- squares given by a function of their places
@@ -144,3 +146,19 @@ grown_content m start e s k c off (is_of _ _ at _ before below here) =
     (λ j l. grown_content m start e s j (at s j) (λ p q. off p (omega arith)) (before j l))
     (λ i j h l. grown_content m start e i j (at i j) (λ p q. off (omega arith) (omega arith)) (below i j h l))
     (subst P (sym (entry_at-other start e s k (λ p q. off (omega arith) (omega arith)))) here)
+
+-- ---- a list of squares of a start's table has no others
+
+first_is_of : (m : Module) (start : List Entry) (here : Bool) (x : Entry) (s k : ℕ) (rest : Option Content) (c : Content) → (nat_eq x.s s && nat_eq x.above k) ≡ here → IsOf m start x.s x.above x.content → (rest ≡ Some c → IsOf m start s k c) → (if here then Some x.content else rest) ≡ Some c → IsOf m start s k c
+first_is_of m start true x s k rest c e is others found =
+    let both = and_parts (nat_eq x.s s) (nat_eq x.above k) e in
+    let same : x.content ≡ c = cc in
+    let row = subst (λ n. IsOf m start n x.above x.content) (eqb-true x.s s both.0) is in
+    subst (IsOf m start s k) same (subst (λ n. IsOf m start s n x.content) (eqb-true x.above k both.1) row)
+first_is_of m start false x s k rest c e is others found = others found
+
+pub listed_is_of : (m : Module) (start list : List Entry) → AreOf m start list → (s k : ℕ) (c : Content) → entry_at list s k ≡ Some c → IsOf m start s k c
+listed_is_of m start [] are s k c e = absurd cc
+listed_is_of m start (x ∷ list) are s k c e =
+    let P : Entry → Type 0 = λ y. IsOf m start y.s y.above y.content in
+    first_is_of m start (nat_eq x.s s && nat_eq x.above k) x s k (entry_at list s k) c refl (All-head P x list are) (λ f. listed_is_of m start list (All-tail P x list are) s k c f) e

@@ -12,7 +12,7 @@ use Rattle.f2_matrix.specs.Preimages.{pivot_of}
 use Rattle.f2_matrix.specs.Reduction.{has_one}
 use Rattle.f2_matrix.proofs.Elimination.{IsFirstOne-unique}
 use Rattle.f2_matrix.proofs.Parts.{has_one-zero, has_one-nonzero}
-use Rattle.f2_matrix.proofs.Pivots.{pivot_first}
+use Rattle.f2_matrix.proofs.Pivots.{first_within, pivot_first}
 use Rattle.f2_matrix.proofs.Unique.{zero_or_first, first_one, IsReduced-tail, HasNoZeroRow-tail}
 use Rattle.save_file.specs.Reading.{is_row_basis}
 
@@ -67,12 +67,6 @@ all_from : (r : List Bool) (rows : List (List Bool)) → ((j : ℕ) → j < leng
 all_from r [] h = refl
 all_from r (x ∷ rows) h = and_from (behind r x) (list_all (behind r) rows) (h zero (omega arith)) (all_from r rows (λ j l. h (suc j) (omega arith)))
 
--- a row that has a pivot is there
-one_there : (rows : List (List Bool)) (j q : ℕ) → IsFirstOne (row rows j) q → j < length rows
-one_there [] j q f = absurd (no_first q f)
-one_there (x ∷ rows) zero q f = omega arith
-one_there (x ∷ rows) (suc j) q f = let l = one_there rows j q f in omega arith
-
 pub basis_tested : (rows : List (List Bool)) → is_row_basis rows ≡ true → IsReduced rows × HasNoZeroRow rows
 unfolding behind
 basis_tested [] e = (
@@ -88,7 +82,7 @@ basis_tested (r ∷ rows) e =
     let b = and_parts (has_one r) (list_all (behind r) rows) a.0 in
     let rest = basis_tested rows a.1 in
     let nonzero : IsZero r → ⊥ = has_one-nonzero r b.0 in
-    let tests = λ (j q : ℕ) (g : IsFirstOne (row rows j) q). and_parts (nat_lt (pivot_of r) (pivot_of (row rows j))) (not (bit r (pivot_of (row rows j)))) (all_at r rows b.1 j (one_there rows j q g)) in
+    let tests = λ (j q : ℕ) (g : IsFirstOne (row rows j) q). and_parts (nat_lt (pivot_of r) (pivot_of (row rows j))) (not (bit r (pivot_of (row rows j)))) (all_at r rows b.1 j (first_within rows j q g)) in
     let first : IsFirstOf r rows = record {
       nonzero = nonzero;
       rise = λ j p q f g.
@@ -185,7 +179,7 @@ all_in_form i least rows len h = (
       | inl b ↦ absurd (h.nonzero j b z)
       | inr b ↦ subst IsZero (sym (past_end rows k (omega arith))) (λ n. refl)
     ];
-    pivots_rise = λ j k p q l f g. let m = one_there rows k q g in h.rise j k p q l (omega arith) f g;
+    pivots_rise = λ j k p q l f g. let m = first_within rows k q g in h.rise j k p q l (omega arith) f g;
     pivots_alone = alone;
   },
   λ j l z. h.nonzero j (omega arith) z,
@@ -193,12 +187,12 @@ all_in_form i least rows len h = (
   where
     alone : (j k p : ℕ) → j ≢ k → IsFirstOne (row rows j) p → bit (row rows k) p ≡ false
     alone j k p d f =
-        let m = one_there rows j p f in
+        let m = first_within rows j p f in
         elim (cases_lt k j) [
           | inl b ↦ h.clear k j p b (omega arith) f
           | inr b ↦ elim (zero_or_first (row rows k)) [
             | inl z ↦ z p
-            | inr g ↦ let n = one_there rows k g.0 g.1 in let l = h.rise j k p g.0 (omega arith) (omega arith) f g.1 in g.1.zeros_before p l
+            | inr g ↦ let n = first_within rows k g.0 g.1 in let l = h.rise j k p g.0 (omega arith) (omega arith) f g.1 in g.1.zeros_before p l
           ]
         ]
 

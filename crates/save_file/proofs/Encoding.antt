@@ -8,7 +8,7 @@ use Rattle.f2_vec.specs.Spans.{HaveWidth}
 use Rattle.f2_matrix.proofs.Unique.{kernel_basis_unique}
 use Rattle.resolution_laws.specs.Resolution.{Module, Content, no_content}
 use Rattle.resolution_laws.specs.Start.{Entry, entry_at, HasShape, squares_below, row_below, IsOf, AreOf, AreBefore}
-use Rattle.resolution_laws.proofs.StartLaws.{content_is_unique, squares_below-same, row_below-same}
+use Rattle.resolution_laws.proofs.StartLaws.{content_is_unique, squares_below-same, row_below-same, listed_is_of}
 use Rattle.resolution_laws.proofs.StartTables.{start_table_shape}
 use Rattle.square.specs.Squares.{Placed, entry_of, target_width, width_with, over, AreWidths, IsSquare}
 use Rattle.square.specs.Keeping.{IsNextIn}
@@ -21,24 +21,10 @@ use Rattle.save_file.proofs.Rules.{each_is_read}
 
 -- ---- what a list of squares of a start's table has
 
-first_of_list : (m : Module) (start : List Entry) (b : Bool) (x : Entry) (s k : ℕ) (rest : Option Content) (c : Content) → (nat_eq x.s s && nat_eq x.above k) ≡ b → IsOf m start x.s x.above x.content → (rest ≡ Some c → IsOf m start s k c) → (if b then Some x.content else rest) ≡ Some c → IsOf m start s k c
-first_of_list m start true x s k rest c e p q found =
-    let both = and_parts (nat_eq x.s s) (nat_eq x.above k) e in
-    let same : x.content ≡ c = cc in
-    let here = subst (λ n. IsOf m start n x.above x.content) (eqb-true x.s s both.0) p in
-    subst (IsOf m start s k) same (subst (λ n. IsOf m start s n x.content) (eqb-true x.above k both.1) here)
-first_of_list m start false x s k rest c e p q found = q found
-
-of_list : (m : Module) (start list : List Entry) → AreOf m start list → (s k : ℕ) (c : Content) → entry_at list s k ≡ Some c → IsOf m start s k c
-of_list m start [] are s k c e = absurd cc
-of_list m start (x ∷ list) are s k c e =
-    let P : Entry → Type 0 = λ y. IsOf m start y.s y.above y.content in
-    first_of_list m start (nat_eq x.s s && nat_eq x.above k) x s k (entry_at list s k) c refl (All-head P x list are) (λ f. of_list m start list (All-tail P x list are) s k c f) e
-
 there_of : (m : Module) (start list : List Entry) → AreOf m start list → (s k : ℕ) → IsSome (entry_at list s k) → IsOf m start s k (content_in list s k)
 there_of m start list are s k there =
     let x = some_is (entry_at list s k) there in
-    subst (IsOf m start s k) (sym (ap (λ o. unwrap_or o no_content) x.1)) (of_list m start list are s k x.0 x.1)
+    subst (IsOf m start s k) (sym (ap (λ o. unwrap_or o no_content) x.1)) (listed_is_of m start list are s k x.0 x.1)
 
 -- ---- those that a square stands on
 
