@@ -4,7 +4,7 @@ use Rattle.std.proofs.lemmas.List.{map-append}
 use Rattle.board_core.specs.declared.event.Event.{Event}
 use Rattle.board_core.specs.declared.event.Event.TheVariants.{Take, Give, Back, Fail, Stop, Open}
 use Rattle.board_core.specs.Laws.{filed}
-use Rattle.board_core.specs.Machine.{State, IsStart, IsReady, IsHeld, IsLegal, IsHistory, IsAbove, after}
+use Rattle.board_core.specs.Machine.{State, IsStart, IsReady, IsLegal, IsHistory, IsAbove, after}
 use Rattle.board_core.specs.Machine.IsHistory.{nothing, then}
 use Rattle.board_core.proofs.Filed.{IsWhole, filed_once, opening_is_whole, stays_whole}
 use Rattle.board_core.proofs.Histories.{height_is, held_at_height}

@@ -1,12 +1,9 @@
 -- The body of a square is read as the square, behind squares of the same table.
-use Rattle.std.proofs.Common.{◌≡◌, ℕ, zero, suc, ◌+◌, ◌-◌, ◌^◌, ◌<◌, ◌≤◌, Bool, true, false, List, [], ◌∷◌, length, Option, Some, IsSome, refl, sym, ◌∙◌, ap, subst, arith}
-use Rattle.std.specs.Prelude.{nat_eq, ◌&&◌, if◌then◌else◌}
+use Rattle.std.proofs.Common.{◌≡◌, ℕ, zero, suc, ◌+◌, ◌-◌, ◌^◌, ◌<◌, ◌≤◌, List, length, Some, IsSome, sym, ◌∙◌, ap, subst, arith}
 use Rattle.std.specs.Option.{unwrap_or}
-use Rattle.std.proofs.lemmas.Bool.{and_parts, eqb-true}
-use Rattle.std.proofs.lemmas.List.Elements.{All-head, All-tail}
 use Rattle.f2_vec.specs.Spans.{HaveWidth}
 use Rattle.f2_matrix.proofs.Unique.{kernel_basis_unique}
-use Rattle.resolution_laws.specs.Resolution.{Module, Content, no_content}
+use Rattle.resolution_laws.specs.Resolution.{Module, no_content}
 use Rattle.resolution_laws.specs.Start.{Entry, entry_at, HasShape, squares_below, row_below, IsOf, AreOf, AreBefore}
 use Rattle.resolution_laws.proofs.StartLaws.{content_is_unique, squares_below-same, row_below-same, listed_is_of}
 use Rattle.resolution_laws.proofs.StartTables.{start_table_shape}
