@@ -3,6 +3,7 @@ mod OnCandidates
 mod Relations
 mod Step
 mod Spread
+mod Form
 mod Clearing
 mod Filling
 mod Tables

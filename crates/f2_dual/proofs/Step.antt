@@ -277,9 +277,6 @@ covered_choice w rows candidates r wc hc nz inside h =
 
 -- ---- what the functions that build the parts ask
 
-pub is_coordinates : (n : ℕ) (rows candidates xs : List (List Bool)) (r : Reduction) → n ≡ length rows → xs ≡ coordinates candidates rows → IsReductionOf n xs r → IsReductionOf (length rows) (coordinates candidates rows) r
-is_coordinates n rows candidates xs r e f h = subst (λ (z : List (List Bool)). IsReductionOf (length rows) z r) f (subst (λ (k : ℕ). IsReductionOf k xs r) e h)
-
 pub reduction_kernel : (n : ℕ) (rows : List (List Bool)) (r : Reduction) → IsReductionOf n rows r → IsKernelBasis n rows r.kernel
 reduction_kernel n rows r h = subst (λ (z : List (List Bool)). IsKernelBasis n rows z) (sym h.kernel) (kernel_is_kernel_basis n rows h.form h.widths h.is_form)
 
@@ -296,9 +293,9 @@ pub record IsBuilt (w whole : ℕ) (rows candidates new chosen kernel : List (Li
   pub reduction : IsReductionOf w (rows ++ new) (record { cols = w; height = whole; image = candidates; chosen = chosen; kernel = kernel })
 
 -- the parts of the step, by the names that they have there
-module _ (w n whole : ℕ) (rows candidates xs new chosen kernel : List (List Bool)) (r : Reduction) (e : n ≡ length rows) (f : xs ≡ coordinates candidates rows) (h : IsReductionOf n xs r) (wc : HaveWidth w candidates) (hc : IsReduced candidates) (nz : HasNoZeroRow candidates) (inside : (i : ℕ) → i < length rows → IsInSpan w candidates (row rows i)) (is_new : new ≡ new_rows candidates r.kernel) (is_whole : whole ≡ length rows + length r.kernel) (is_chosen : chosen ≡ preimages_of r) (is_kernel : kernel ≡ relations_of r) where
+module _ (w whole : ℕ) (rows candidates new chosen kernel : List (List Bool)) (r : Reduction) (h : IsReductionOf (length rows) (coordinates candidates rows) r) (wc : HaveWidth w candidates) (hc : IsReduced candidates) (nz : HasNoZeroRow candidates) (inside : (i : ℕ) → i < length rows → IsInSpan w candidates (row rows i)) (is_new : new ≡ new_rows candidates r.kernel) (is_whole : whole ≡ length rows + length r.kernel) (is_chosen : chosen ≡ preimages_of r) (is_kernel : kernel ≡ relations_of r) where
   step_here : IsChoiceBy w rows candidates r
-  step_here = covered_choice w rows candidates r wc hc nz inside (is_coordinates n rows candidates xs r e f h)
+  step_here = covered_choice w rows candidates r wc hc nz inside h
 
   length-all : length (rows ++ new_rows candidates r.kernel) ≡ whole
   length-all = length-append rows (new_rows candidates r.kernel) ∙ omega (arith, length-map r.kernel (λ v. row candidates (pivot_of v)))
@@ -321,7 +318,7 @@ module _ (w n whole : ℕ) (rows candidates xs new chosen kernel : List (List Bo
 
   built_reduction : IsReductionOf w (rows ++ new) (record { cols = w; height = whole; image = candidates; chosen = chosen; kernel = kernel })
   built_reduction =
-      let cols : r.cols ≡ length rows = (is_coordinates n rows candidates xs r e f h).cols in
+      let cols : r.cols ≡ length rows = h.cols in
       let height : r.cols + length r.kernel ≡ whole = omega arith in
       rw (is_new, is_chosen, is_kernel, ← height) step_here.reduction
 

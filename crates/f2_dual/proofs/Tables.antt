@@ -1,19 +1,17 @@
 -- Tables of pivots, and what they spread.
-use Rattle.std.proofs.Common.{◌≡◌, ◌≢◌, ◌⊎◌, inl, inr, ℕ, ◌+◌, ◌-◌, ◌<◌, ◌≤◌, Bool, true, false, Option, Some, None, List, [], ◌++◌, length, map, set, replicate, get_or, refl, ap, sym, ◌∙◌, arith, subst}
-use Rattle.std.specs.List.{range_with_len}
+use Rattle.std.proofs.Common.{◌≡◌, ◌≢◌, ◌⊎◌, inl, inr, ℕ, ◌+◌, ◌-◌, ◌<◌, ◌≤◌, Bool, true, false, Option, Some, None, List, [], length, map, set, replicate, refl, ap, sym, ◌∙◌, arith, subst}
 use Rattle.std.specs.Option.{is_some}
 use Rattle.std.proofs.lemmas.Bool.{cases_lt, cases_eq, false_from_ne_true, true≢false}
-use Rattle.std.proofs.lemmas.List.{ext_get_or, get_or-map, get_or_past, length-map, map-append, length-set, get_or-set_same, get_or-set_other, length-replicate, get_or-replicate}
+use Rattle.std.proofs.lemmas.List.{ext_get_or, get_or-map, get_or_past, length-map, length-set, get_or-set_same, get_or-set_other, length-replicate, get_or-replicate}
 use Rattle.std.proofs.lemmas.List.FromFn.{length-map-range_with_len, get_or-map-range_with_len}
-use Rattle.f2_vec.specs.Vectors.{bit, sum_of, zeros, IsZero, IsFirstOne}
-use Rattle.f2_vec.proofs.Sums.{bit-zeros, sum_of-comm}
-use Rattle.f2_vec.specs.Spans.{row, HaveWidth, combination, unit_vector}
+use Rattle.f2_vec.specs.Vectors.{bit, zeros, IsZero, IsFirstOne}
+use Rattle.f2_vec.proofs.Sums.{bit-zeros}
+use Rattle.f2_vec.specs.Spans.{row, HaveWidth, combination}
 use Rattle.f2_vec.proofs.Combinations.{map-map, map_same, HaveWidth-map}
-use Rattle.f2_matrix.specs.Reduction.{Reduction}
 use Rattle.f2_matrix.specs.Preimages.{pivot_of, at_pivots}
 use Rattle.f2_matrix.specs.Transpose.{column, columns}
 use Rattle.f2_matrix.proofs.Pivots.{pivot_first, length-at_pivots, bit-at_pivots}
-use Rattle.f2_dual.specs.Inside.Coordinates.{element_of, is_free, pivot_units, relation_of, preimage_at, preimages_of}
+use Rattle.f2_dual.specs.Inside.Coordinates.{element_of, is_free, pivot_units}
 use Rattle.f2_dual.specs.Inside.Tables.{entry_at, row_or_zero, spread_by, IsTableOfPivots, IsReducedBasis, IsSpread}
 use Rattle.f2_dual.proofs.OnCandidates.{pivot_within, is_pivot}
 use Rattle.f2_dual.proofs.Relations.{free_or_pivot, free_no_pivot}
@@ -133,15 +131,6 @@ pub column-spread : (n w i : ℕ) (image rows : List (List Bool)) (table : List 
 column-spread n w i image rows table t basis len =
     sym (combination-spread n i image rows (spread_by table w rows) len (elements_within n image basis) (elements_apart n image basis) (IsSpread-spread n w image rows table t basis))
 
--- so the preimages are columns
-pub columns-preimages : (r : Reduction) (table : List (Option ℕ)) → IsTableOfPivots r.cols r.image table → IsReducedBasis r.cols r.image → length r.chosen ≡ length r.image → columns r.height (spread_by table r.height r.chosen ++ r.kernel) ≡ preimages_of r
-columns-preimages r table t basis len =
-    let s = spread_by table r.height r.chosen in
-    map_same 0 (λ i. column i (s ++ r.kernel)) (preimage_at r) (range_with_len 0 r.height)
-    (λ j l.
-    let i = get_or (range_with_len 0 r.height) j 0 in
-    map-append (λ v. bit v i) s r.kernel ∙ ap (λ (z : List Bool). z ++ column i r.kernel) (column-spread r.cols r.height i r.image r.chosen table t basis len))
-
 -- ---- relations
 
 some_from_taken : (entry : Option ℕ) → is_some entry ≡ true → (i : ℕ) × (entry ≡ Some i)
@@ -169,25 +158,3 @@ not_free_where_taken n e image table t l f =
     let at = t.found (n - 1 - e) s.0 s.1 in
     let same : e ≡ element_of n (row image s.0) = omega (arith, at.1) in
     false_from_ne_true (is_free n image e) (λ h. free_no_pivot n image e s.0 h at.0 same)
-
--- a column of the spread image rows ..
-spread_column : (r : Reduction) (table : List (Option ℕ)) (k : ℕ) (x : List Bool) → k < r.cols → x ≡ row (columns r.cols (spread_by table r.cols r.image)) k → x ≡ column k (spread_by table r.cols r.image)
-spread_column r table k x l is = is ∙ get_or-map-range_with_len (λ i. column i (spread_by table r.cols r.image)) 0 r.cols k k [] l (omega arith)
-
-pub length-spread_column : (r : Reduction) (table : List (Option ℕ)) (k : ℕ) (x : List Bool) → length table ≡ r.cols → k < r.cols → x ≡ row (columns r.cols (spread_by table r.cols r.image)) k → length x ≡ r.cols
-length-spread_column r table k x size l is =
-    let s = spread_by table r.cols r.image in
-    ap length (spread_column r table k x l is) ∙ length-map s (λ v. bit v k) ∙ length-spread table r.cols r.image ∙ size
-
--- .. with its own place turned over is a relation
-pub relation-made : (r : Reduction) (table : List (Option ℕ)) (e : ℕ) (x tail v : List Bool) → IsTableOfPivots r.cols r.image table → IsReducedBasis r.cols r.image → tail ≡ zeros (length r.kernel) → e < r.cols → x ≡ row (columns r.cols (spread_by table r.cols r.image)) (r.cols - 1 - e) → v ≡ sum_of x (unit_vector (length x) e) ++ tail → v ≡ relation_of r.cols r.image e ++ zeros (length r.kernel)
-relation-made r table e x tail v t basis z l is f =
-    let n = r.cols in
-    let k = n - 1 - e in
-    let m : k < n = omega arith in
-    let y = combination n (column k r.image) (pivot_units n r.image) in
-    let same : x ≡ y = spread_column r table k x m is ∙ column-spread n n k r.image r.image table t basis refl in
-    f ∙ ap (λ i. sum_of x (unit_vector i e) ++ tail) (length-spread_column r table k x t.size m is)
-    ∙ ap (λ u. sum_of u (unit_vector n e) ++ tail) same
-    ∙ ap (λ u. u ++ tail) (sum_of-comm y (unit_vector n e))
-    ∙ ap (λ u. relation_of n r.image e ++ u) z

@@ -1,14 +1,13 @@
 //! The choice of new rows.
-ghost use Rattle.std.specs.Prelude.{◌≡◌, ℕ, ◌<◌, length, ◌++◌, IfOk};
+ghost use Rattle.std.specs.Prelude.{◌≡◌, ℕ, ◌+◌, ◌<◌, length, ◌++◌, IfOk};
 ghost use Rattle.f2_vec.specs.Spans.{row, HaveWidth, IsInSpan};
 ghost use Rattle.f2_matrix.specs.Echelon.{IsReduced, HasNoZeroRow, IsKernelBasis};
-ghost use Rattle.f2_matrix.specs.Reduction.{IsReductionOf};
+ghost use Rattle.f2_matrix.specs.Reduction.{augmented, IsReductionOf};
 ghost use Rattle.f2_matrix.specs.Choice.{IsChosen};
 ghost use Rattle.f2_dual.specs.Inside.Coordinates.{coordinates as coordinates_of};
 
 use crate::coordinates::coordinates;
-use crate::parts::{new_rows, preimages, relations};
-use crate::pivots::table_of_pivots;
+use crate::parts::{new_rows, preimages_and_relations, rows_of};
 use f2_matrix::{Matrix, Reduced, Rows};
 use f2_vec::BitVec;
 use memory::Memory;
@@ -34,42 +33,45 @@ pub fn choose(
     ensures reduction { IfOk result (λ r. IsReductionOf matrix.cols (matrix.rows ++ r.0.items) r.1) }
 {
     match coordinates(alloc, &matrix, candidates.as_slice())? {
-        Some(coordinates) => choose_covered(alloc, &matrix, candidates, &coordinates),
+        Some(form) => choose_covered(alloc, matrix, candidates, form),
         None => choose_any(alloc, &matrix, candidates.as_slice()),
     }
 }
 
-/// The same where each row is a sum of candidates, from the rows' coordinates.
+/// The same where each row is a sum of candidates, from the rows' coordinates with the unit matrix to the right of them.
 fn choose_covered(
     alloc: Global,
-    matrix: &Matrix,
+    matrix: Matrix,
     candidates: &Rows,
-    coordinates: &Matrix,
+    mut form: Matrix,
 ) -> Result<(Vec<BitVec>, Reduced), Memory>
-    requires widths { HaveWidth matrix.now.cols candidates.now }
+    requires widths { HaveWidth matrix.cols candidates.now }
     requires reduced { IsReduced candidates.now }
     requires nonzero { HasNoZeroRow candidates.now }
-    requires covered { (i : ℕ) → i < length matrix.now.rows → IsInSpan matrix.now.cols candidates.now (row matrix.now.rows i) }
-    requires cols { coordinates.now.cols ≡ length matrix.now.rows }
-    requires coordinates { coordinates.now.rows ≡ coordinates_of candidates.now matrix.now.rows }
-    ensures chosen { IfOk result (λ r. IsChosen matrix.now.cols matrix.now.rows candidates.now r.0.items) }
-    ensures kernel { IfOk result (λ r. IsKernelBasis matrix.now.cols (matrix.now.rows ++ r.0.items) r.1.kernel) }
-    ensures reduction { IfOk result (λ r. IsReductionOf matrix.now.cols (matrix.now.rows ++ r.0.items) r.1) }
+    requires covered { (i : ℕ) → i < length matrix.rows → IsInSpan matrix.cols candidates.now (row matrix.rows i) }
+    requires cols { form.cols ≡ length matrix.rows + length candidates.now }
+    requires form { form.rows ≡ augmented (coordinates_of candidates.now matrix.rows) }
+    ensures chosen { IfOk result (λ r. IsChosen matrix.cols matrix.rows candidates.now r.0.items) }
+    ensures kernel { IfOk result (λ r. IsKernelBasis matrix.cols (matrix.rows ++ r.0.items) r.1.kernel) }
+    ensures reduction { IfOk result (λ r. IsReductionOf matrix.cols (matrix.rows ++ r.0.items) r.1) }
 {
-    let reduced = Reduced::of(alloc, coordinates)?;
-    let new = new_rows(alloc, candidates.as_slice(), reduced.kernel())?;
-    let Some(height) = coordinates.cols().checked_add(reduced.kernel().len()) else {
+    let cols = matrix.cols();
+    let n = matrix.rows().len();
+    // What follows may have the memory of the rows.
+    drop(matrix);
+    form.reduce_rowwise(alloc)?;
+    let (image, kernel) = rows_of(&form, n);
+    let new = new_rows(alloc, n, candidates.as_slice(), kernel)?;
+    let Some(height) = n.checked_add(kernel.len()) else {
         // No memory holds a row of that length.
         return Err(Memory);
     };
-    let table = table_of_pivots(alloc, coordinates.cols(), reduced.image())?;
-    let chosen = preimages(alloc, table.as_slice(), &reduced)?;
-    let kernel = relations(alloc, table.as_slice(), &reduced)?;
+    let (chosen, kernel) = preimages_and_relations(alloc, n, form.cols(), image, kernel)?;
     let image = candidates.share()?;
     let kernel = Rows::of(alloc, kernel)?;
     Ok((
         new,
-        Reduced::from_parts(matrix.cols(), height, image, chosen, kernel),
+        Reduced::from_parts(cols, height, image, chosen, kernel),
     ))
 }
 

@@ -1,9 +1,11 @@
 //! Coordinates of rows on reduced candidates.
-ghost use Rattle.std.specs.Prelude.{◌≡◌, ◌↔◌, ℕ, ◌<◌, length, IsTrue, IsSome, IfSome, IfOk};
+ghost use Rattle.std.specs.Prelude.{◌≡◌, ◌↔◌, ℕ, ◌+◌, ◌<◌, ◌++◌, length, map, IsTrue, IsSome, IfSome, IfOk};
+ghost use Rattle.std.specs.List.{range_with_len};
 ghost use Rattle.f2_vec.specs.Vectors.{zeros};
-ghost use Rattle.f2_vec.specs.Spans.{row, HaveWidth, IsInSpan};
+ghost use Rattle.f2_vec.specs.Spans.{row, unit_vector, HaveWidth, IsInSpan};
 ghost use Rattle.f2_matrix.specs.Echelon.{IsReduced, HasNoZeroRow};
 ghost use Rattle.f2_matrix.specs.Preimages.{at_pivots};
+ghost use Rattle.f2_matrix.specs.Reduction.{augmented};
 ghost use Rattle.f2_dual.specs.Inside.Coordinates.{coordinates as coordinates_of};
 ghost use Rattle.f2_matrix.specs.Transpose.{column};
 ghost use Rattle.f2_dual.specs.Inside.Tables.{IsTableOfPivots};
@@ -15,8 +17,8 @@ use f2_vec::BitVec;
 use memory::Memory;
 use std::alloc::Global;
 
-/// The coordinates of the rows on the candidates, transposed, with the last row first. There are none where a row is no sum of
-/// candidates.
+/// The coordinates of the rows on the candidates, transposed, with the last row first, and the unit matrix to the right of them. There
+/// are none where a row is no sum of candidates.
 ///
 /// # Errors
 /// `Memory` where there is none for these.
@@ -29,14 +31,18 @@ pub fn coordinates(
     requires reduced { IsReduced candidates.now }
     requires nonzero { HasNoZeroRow candidates.now }
     ensures covered { IfOk result (λ found. IsSome found ↔ ((i : ℕ) → i < length matrix.now.rows → IsInSpan matrix.now.cols candidates.now (row matrix.now.rows i))) }
-    ensures cols { IfOk result (λ found. IfSome found (λ m. m.cols ≡ length matrix.now.rows)) }
-    ensures rows { IfOk result (λ found. IfSome found (λ m. m.rows ≡ coordinates_of candidates.now matrix.now.rows)) }
+    ensures cols { IfOk result (λ found. IfSome found (λ m. m.cols ≡ length matrix.now.rows + length candidates.now)) }
+    ensures rows { IfOk result (λ found. IfSome found (λ m. m.rows ≡ augmented (coordinates_of candidates.now matrix.now.rows))) }
 {
     let n = matrix.cols();
     let table = table_of_pivots(alloc, n, candidates)?;
     let mut rest = BitVec::zero(alloc, n)?;
     let rows = matrix.rows();
-    let mut columns = BitVec::zero_rows(alloc, candidates.len(), rows.len())?;
+    let Some(width) = rows.len().checked_add(candidates.len()) else {
+        // No memory holds a row of that length.
+        return Err(Memory);
+    };
+    let mut columns = units_behind(alloc, rows.len(), candidates.len(), width)?;
     for i in 0..rows.len() {
         let inside = add_coefficients(
             candidates,
@@ -50,7 +56,19 @@ pub fn coordinates(
             return Ok(None);
         }
     }
-    Ok(Some(Matrix::from_rows(rows.len(), columns)))
+    Ok(Some(Matrix::from_rows(width, columns)))
+}
+
+/// The rows of `[0 | I]`, of length `width`, with `n` columns of zeros and `count` rows.
+fn units_behind(alloc: Global, n: usize, count: usize, width: usize) -> Result<Vec<BitVec>, Memory>
+    requires { width ≡ n + count }
+    ensures { IfOk result (λ rows. rows.items ≡ map (λ i. zeros n ++ unit_vector count i) (range_with_len 0 count)) }
+{
+    let mut rows = Vec::with_capacity(alloc, count)?;
+    for i in 0..count {
+        rows.push(BitVec::unit(alloc, width, n + i)?)?;
+    }
+    Ok(rows)
 }
 
 /// Adds the coefficients of the candidates in the vector to column `at` of the columns, a row for each candidate, where the

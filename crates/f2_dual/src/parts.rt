@@ -1,85 +1,121 @@
-//! The parts of the reduction of rows, with the new ones behind them, from the reduction of their coordinates.
-ghost use Rattle.std.specs.Prelude.{◌≡◌, ℕ, ◌<◌, ◌++◌, map, length, Some, IfOk, IfSome, OnOk};
-ghost use Rattle.f2_vec.specs.Vectors.{sum_of, zeros};
-ghost use Rattle.f2_vec.specs.Spans.{row, HaveWidth, unit_vector};
-ghost use Rattle.f2_matrix.specs.Echelon.{HasNoZeroRow};
+//! The parts of the reduction of rows, with the new ones behind them, from the echelon form of `[X | I]`, X the rows' coordinates. The
+//! form is not cut at the bar: its columns on both sides are the parts.
+ghost use Rattle.std.specs.Prelude.{◌≡◌, ℕ, ◌+◌, ◌-◌, ◌<◌, ◌≤◌, ◌++◌, true, false, map, length, take, drop, Some, IfOk, IfSome, OnOk};
+ghost use Rattle.std.specs.List.{filter};
+ghost use Rattle.f2_vec.specs.Vectors.{zeros};
+ghost use Rattle.f2_vec.specs.Spans.{row, HaveWidth};
+ghost use Rattle.f2_matrix.specs.Echelon.{IsReduced, HasNoZeroRow};
 ghost use Rattle.f2_matrix.specs.Preimages.{pivot_of};
+ghost use Rattle.f2_matrix.specs.Reduction.{has_one};
+ghost use Rattle.f2_matrix.specs.Transpose.{columns as columns_of};
 ghost use Rattle.f2_dual.specs.Inside.Coordinates.{new_rows as new_rows_of, preimages_of, relations_of};
-ghost use Rattle.f2_dual.specs.Inside.Tables.{entry_at, row_or_zero as row_or_zero_of, spread_by, IsTableOfPivots, IsReducedBasis};
+ghost use Rattle.f2_dual.specs.Inside.Form.{is_left, is_right, parts_of as reduction_of};
+ghost use Rattle.f2_dual.specs.Inside.Tables.{entry_at, row_or_zero as row_or_zero_of, spread_by, IsReducedBasis};
 
-use f2_matrix::{Reduced, transposed_rows};
+use crate::pivots::table_of_pivots;
+use f2_matrix::{Matrix, transposed_rows};
 use f2_vec::BitVec;
 use memory::Memory;
 use std::alloc::Global;
 
-/// A copy of the candidate at the pivot of each kernel row.
+/// The rows of the form with a 1 left of the bar, which stands at place `n`, and the others that are not zero.
+pub fn rows_of(form: &Matrix, n: usize) -> (&[BitVec], &[BitVec])
+    requires reduced { IsReduced form.now.rows }
+    requires bar { n ≤ form.now.cols }
+    ensures image { result.0.now ≡ filter (is_left n) form.now.rows }
+    ensures kernel { result.1.now ≡ filter (is_right n) form.now.rows }
+{
+    let rows = form.rows();
+    let bar = rows_before(rows, n);
+    let end = rows_before(rows, form.cols());
+    let (image, others) = rows.split_at(bar);
+    let (kernel, _) = others.split_at(end - bar);
+    (image, kernel)
+}
+
+/// How many of the rows have a 1 before place `end`. They are the first ones.
+fn rows_before(rows: &[BitVec], end: usize) -> usize
+    requires { IsReduced rows.now }
+    ensures within { result ≤ length rows.now }
+    ensures before { (i : ℕ) → i < result → has_one (take end (row rows.now i)) ≡ true }
+    ensures others { (i : ℕ) → result ≤ i → has_one (take end (row rows.now i)) ≡ false }
+{
+    for i in 0..rows.len() {
+        match rows[i].first_one() {
+            Some(pivot) if pivot < end => {}
+            _ => return i,
+        }
+    }
+    rows.len()
+}
+
+/// A copy of the candidate at the pivot of each kernel row, whose part right of the bar begins at place `n`.
 pub fn new_rows(
     alloc: Global,
+    n: usize,
     candidates: &[BitVec],
     kernel: &[BitVec],
 ) -> Result<Vec<BitVec>, Memory>
-    requires nonzero { HasNoZeroRow kernel.now }
-    requires within { (i : ℕ) → i < length kernel.now → pivot_of (row kernel.now i) < length candidates.now }
-    ensures { IfOk result (λ new. new.items ≡ new_rows_of candidates.now kernel.now) }
+    requires nonzero { HasNoZeroRow (map (drop n) kernel.now) }
+    requires within { (i : ℕ) → i < length kernel.now → pivot_of (drop n (row kernel.now i)) < length candidates.now }
+    ensures { IfOk result (λ new. new.items ≡ new_rows_of candidates.now (map (drop n) kernel.now)) }
 {
     let mut new = Vec::with_capacity(alloc, kernel.len())?;
     for v in kernel {
-        if let Some(i) = v.first_one() {
-            new.push(candidates[i].try_copy(alloc)?)?;
+        if let Some(place) = v.next_one(n) {
+            new.push(candidates[place - n].try_copy(alloc)?)?;
         }
     }
     Ok(new)
 }
 
-/// The preimages of the candidates: coefficients of the rows, and of the new ones. The table is of the image's pivots.
-pub fn preimages(
+/// The preimages of the candidates, coefficients of the rows and of the new ones, and the reduced relations between the rows, which
+/// have zeros at the new ones. `image` and `kernel` are the rows of the form, of length `width`, that go to its image and its kernel;
+/// the bar stands at place `n`.
+pub fn preimages_and_relations(
     alloc: Global,
-    table: &[Option<usize>],
-    reduced: &Reduced,
-) -> Result<Vec<BitVec>, Memory>
-    requires table { IsTableOfPivots reduced.now.cols reduced.now.image table.now }
-    requires image { IsReducedBasis reduced.now.cols reduced.now.image }
-    ensures { IfOk result (λ chosen. chosen.items ≡ preimages_of reduced.now) }
+    n: usize,
+    width: usize,
+    image: &[BitVec],
+    kernel: &[BitVec],
+) -> Result<(Vec<BitVec>, Vec<BitVec>), Memory>
+    requires bar { n ≤ width }
+    requires image { IsReducedBasis n (map (take n) image.now) }
+    requires widths { HaveWidth width image.now }
+    requires kernel { (i : ℕ) → has_one (take n (row kernel.now i)) ≡ false }
+    ensures preimages { IfOk result (λ parts. parts.0.items ≡ preimages_of (reduction_of n (width - n) image.now kernel.now)) }
+    ensures relations { IfOk result (λ parts. parts.1.items ≡ relations_of (reduction_of n (width - n) image.now kernel.now)) }
 {
-    let zero = BitVec::zero(alloc, reduced.height())?;
-    let mut rows = spread(alloc, table, &zero, reduced.chosen())?;
-    append(&mut rows, reduced.kernel())?;
-    transposed_rows(alloc, reduced.height(), rows.as_slice())
-}
-
-/// The reduced relations between the rows, which have zeros at the new ones. The table is of the image's pivots.
-pub fn relations(
-    alloc: Global,
-    table: &[Option<usize>],
-    reduced: &Reduced,
-) -> Result<Vec<BitVec>, Memory>
-    requires table { IsTableOfPivots reduced.now.cols reduced.now.image table.now }
-    requires image { IsReducedBasis reduced.now.cols reduced.now.image }
-    ensures { IfOk result (λ kernel. kernel.items ≡ relations_of reduced.now) }
-{
-    let n = reduced.cols();
-    let zero = BitVec::zero(alloc, n)?;
-    let rows = spread(alloc, table, &zero, reduced.image())?;
-    let mut columns = transposed_rows(alloc, n, rows.as_slice())?;
-    let tail = BitVec::zero(alloc, reduced.kernel().len())?;
-    let mut kernel = Vec::new(alloc);
-    while let Some(column) = columns.pop() {
+    let table = table_of_pivots(alloc, n, image)?;
+    let places = table.as_slice();
+    let mut columns = spread_columns(alloc, width, places, image, kernel)?;
+    let preimages = columns.split_off(n)?;
+    let mut relations = Vec::new(alloc);
+    while let Some(mut column) = columns.pop() {
         let place = columns.len();
-        if table[place].is_none() {
-            kernel.push(relation(column, n - 1 - place, &tail)?)?;
+        if places[place].is_none() {
+            column.flip(n - 1 - place);
+            relations.push(column)?;
         }
     }
-    Ok(kernel)
+    Ok((preimages, relations))
 }
 
-/// The column with its coordinate `e` turned over, and the tail behind it.
-fn relation(mut column: BitVec, e: usize, tail: &BitVec) -> Result<BitVec, Memory>
-    requires { e < length column }
-    ensures { IfOk result (λ v. v ≡ sum_of column (unit_vector (length column) e) ++ tail.now) }
+/// The columns of the image rows that are spread by the table, with the kernel rows behind them.
+fn spread_columns(
+    alloc: Global,
+    width: usize,
+    table: &[Option<usize>],
+    image: &[BitVec],
+    kernel: &[BitVec],
+) -> Result<Vec<BitVec>, Memory>
+    requires { (p t : ℕ) → entry_at table.now p ≡ Some t → t < length image.now }
+    ensures { IfOk result (λ columns. columns.items ≡ columns_of width (spread_by table.now width image.now ++ kernel.now)) }
 {
-    column.flip(e);
-    column.append(tail)?;
-    Ok(column)
+    let zero = BitVec::zero(alloc, width)?;
+    let mut rows = spread(alloc, table, &zero, image)?;
+    append(&mut rows, kernel)?;
+    transposed_rows(alloc, width, rows.as_slice())
 }
 
 /// For each place of the table, the last place first, the row that it names, and the zero row where it names none.

@@ -1,7 +1,8 @@
 //! Where the pivots of rows stand.
-ghost use Rattle.std.specs.Prelude.{IfOk};
-ghost use Rattle.f2_vec.specs.Spans.{HaveWidth};
+ghost use Rattle.std.specs.Prelude.{ℕ, ◌<◌, length, IfOk};
+ghost use Rattle.f2_vec.specs.Spans.{row};
 ghost use Rattle.f2_matrix.specs.Echelon.{HasNoZeroRow};
+ghost use Rattle.f2_matrix.specs.Preimages.{pivot_of};
 ghost use Rattle.f2_dual.specs.Inside.Tables.{IsTableOfPivots};
 
 use f2_vec::BitVec;
@@ -14,8 +15,8 @@ pub fn table_of_pivots(
     n: usize,
     rows: &[BitVec],
 ) -> Result<Vec<Option<usize>>, Memory>
-    requires widths { HaveWidth n rows.now }
     requires nonzero { HasNoZeroRow rows.now }
+    requires within { (i : ℕ) → i < length rows.now → pivot_of (row rows.now i) < n }
     ensures { IfOk result (λ table. IsTableOfPivots n rows.now table.items) }
 {
     let mut table = vec![in alloc; None; n]?;

@@ -41,7 +41,7 @@ no_left : (n m : ℕ) (v : List Bool) → length v ≡ n + m → has_one (take n
 no_left n m v e z = zeros_from_bits n (take n v) (length-take-le n v (omega arith)) (has_one-zero (take n v) z)
 
 -- the first one of a part is the first one of the whole
-left_first : (n : ℕ) (v : List Bool) (p : ℕ) → IsFirstOne (take n v) p → (p < n) × IsFirstOne v p
+pub left_first : (n : ℕ) (v : List Bool) (p : ℕ) → IsFirstOne (take n v) p → (p < n) × IsFirstOne v p
 left_first n v p f =
     let inside : p < n = elim (cases_lt p n) [
       | inl l ↦ l
@@ -195,7 +195,7 @@ kernel_reduced n form h =
     (λ p q l. omega arith)
 
 -- the rows that pass a test are rows of the list
-HaveWidth-filter : (n : ℕ) (test : List Bool → Bool) (rows : List (List Bool)) → HaveWidth n rows → HaveWidth n (filter test rows)
+pub HaveWidth-filter : (n : ℕ) (test : List Bool → Bool) (rows : List (List Bool)) → HaveWidth n rows → HaveWidth n (filter test rows)
 HaveWidth-filter n test rows w i l = let k = kept_at test [] rows i l in ap length k.1 ∙ w (place_of test rows i) k.0
 
 filter-IsInSpan : (n : ℕ) (test : List Bool → Bool) (rows : List (List Bool)) → HaveWidth n rows → (i : ℕ) → i < length (filter test rows) → IsInSpan n rows (row (filter test rows) i)
@@ -391,14 +391,14 @@ chosen_are_preimages n xs form w h =
     }
 
 -- a row with its pivot right of the bar, and a zero row
-has_no_left : (n : ℕ) (r : List Bool) (p : ℕ) → IsFirstOne r p → n ≤ p → has_one (take n r) ≡ false
+pub has_no_left : (n : ℕ) (r : List Bool) (p : ℕ) → IsFirstOne r p → n ≤ p → has_one (take n r) ≡ false
 has_no_left n r p f l =
     false_from_ne_true (has_one (take n r)) (λ t. elim (zero_or_first (take n r)) [
       | inl z ↦ has_one-nonzero (take n r) t z
       | inr g ↦ let at = left_first n r g.0 g.1 in both_ways (bit r g.0) (f.zeros_before g.0 (omega (arith, at.0))) at.1.one
     ])
 
-has_left : (n : ℕ) (r : List Bool) (p : ℕ) → IsFirstOne r p → p < n → has_one (take n r) ≡ true
+pub has_left : (n : ℕ) (r : List Bool) (p : ℕ) → IsFirstOne r p → p < n → has_one (take n r) ≡ true
 has_left n r p f l = has_one_at (take n r) p (get_or-take n r p false l ∙ f.one)
 
 pub image_part-left : (n : ℕ) (r : List Bool) (p : ℕ) → IsFirstOne r p → p < n → image_part n (r ∷ []) ≡ take n r ∷ []
@@ -410,7 +410,7 @@ chosen_part-left n r p f l = rw (has_left n r p f l) refl
 pub kernel_part-left : (n : ℕ) (r : List Bool) (p : ℕ) → IsFirstOne r p → p < n → kernel_part n (r ∷ []) ≡ []
 kernel_part-left n r p f l = rw (has_left n r p f l) refl
 
-zero_has_none : (r : List Bool) → IsZero r → has_one r ≡ false
+pub zero_has_none : (r : List Bool) → IsZero r → has_one r ≡ false
 zero_has_none r z = false_from_ne_true (has_one r) (λ t. has_one-nonzero r t z)
 
 pub image_part-right : (n : ℕ) (r : List Bool) (p : ℕ) → IsFirstOne r p → n ≤ p → image_part n (r ∷ []) ≡ []
@@ -422,7 +422,7 @@ chosen_part-right n r p f l = rw (has_no_left n r p f l) refl
 pub kernel_part-right : (n : ℕ) (r : List Bool) (p : ℕ) → IsFirstOne r p → n ≤ p → kernel_part n (r ∷ []) ≡ drop n r ∷ []
 kernel_part-right n r p f l = rw (has_no_left n r p f l, has_one_at r p f.one) refl
 
-zero_below : (n : ℕ) (r : List Bool) → IsZero r → (k : ℕ) → bit (take n r) k ≡ false
+pub zero_below : (n : ℕ) (r : List Bool) → IsZero r → (k : ℕ) → bit (take n r) k ≡ false
 zero_below zero r z k = refl
 zero_below (suc n) [] z k = refl
 zero_below (suc n) (x ∷ r) z zero = z zero

@@ -98,7 +98,10 @@ impl Matrix {
     }
 
     /// The same, row by row, with several tables of sums that are made for it.
-    pub(crate) fn reduce_rowwise(&mut self, alloc: Global) -> Result<(), Memory>
+    ///
+    /// # Errors
+    /// `Memory` where there is none for these; the matrix is then as before.
+    pub fn reduce_rowwise(&mut self, alloc: Global) -> Result<(), Memory>
         ensures cols { self.new.cols ≡ self.old.cols }
         ensures ok { OnOk result (IsEchelonForm self.old.cols self.old.rows self.new.rows) }
         ensures err { OnErr result (self.new ≡ self.old) }

@@ -4,11 +4,13 @@ use Rattle.std.proofs.lemmas.List.{get_or_read, get_or-reverse, take-append-le, 
 use Rattle.f2_vec.specs.Vectors.{zeros}
 use Rattle.f2_vec.specs.Spans.{row, HaveWidth, IsInSpan}
 use Rattle.f2_matrix.specs.Preimages.{at_pivots}
+use Rattle.f2_matrix.specs.Reduction.{augmented}
 use Rattle.f2_matrix.specs.Transpose.{column}
 use Rattle.f2_dual.specs.Inside.Columns.{ChangesOnlyColumn}
 use Rattle.f2_dual.specs.Inside.Coordinates.{coordinates}
 use Rattle.f2_dual.specs.Inside.Tables.{IsTableOfPivots}
 use Rattle.f2_dual.proofs.Filling.{AreCoordinatesTo, AreCoordinatesTo-start, AreCoordinatesTo-more, AreCoordinatesTo-end}
+use Rattle.f2_dual.proofs.OnCandidates.{pivot_within}
 use Rattle.f2_dual.proofs.coordinates.coordinates.Goals as goal
 
 pub loop-i-init : goal.loop-i-init
@@ -17,6 +19,9 @@ loop-i-init c = record {
   inside = λ e l m. absurd (omega arith);
   rest = c.in_ok-rest.ensures ∙ ap zeros c.cols-n.ensures;
 }
+
+pub table_of_pivots-requires-clause-within : goal.table_of_pivots-requires-clause-within
+table_of_pivots-requires-clause-within c = λ i l. omega (arith, pivot_within c.args.matrix.now.cols c.args.candidates.now i c.requires.widths c.requires.nonzero l, c.cols-n.ensures)
 
 pub add_coefficients-inside-requires-clause-widths : goal.add_coefficients-inside-requires-clause-widths
 add_coefficients-inside-requires-clause-widths c =
@@ -51,12 +56,12 @@ add_coefficients-inside-requires-clause-as_many c = ap length c.as_mut_slice.ens
 
 pub add_coefficients-inside-requires-clause-within : goal.add_coefficients-inside-requires-clause-within
 add_coefficients-inside-requires-clause-within c = λ k l.
-    let long : length (row c.as_mut_slice.result.now k) ≡ length c.rows-rows.result.now =
+    let long : length (row c.as_mut_slice.result.now k) ≡ length c.rows-rows.result.now + length c.args.candidates.now =
     ap (λ z. length (row z k)) c.as_mut_slice.ensures.value ∙ c.loop-i.invariant.columns.lengths k (omega (arith, ap length c.as_mut_slice.ensures.value)) in
     omega (arith, c.loop-i-test.true)
 
 pub add_coefficients-inside-requires-clause-blank : goal.add_coefficients-inside-requires-clause-blank
-add_coefficients-inside-requires-clause-blank c = ap (column c.loop-i.i) c.as_mut_slice.ensures.value ∙ c.loop-i.invariant.columns.blank c.loop-i.i (omega arith)
+add_coefficients-inside-requires-clause-blank c = ap (column c.loop-i.i) c.as_mut_slice.ensures.value ∙ c.loop-i.invariant.columns.blank c.loop-i.i (omega arith) c.loop-i-test.true
 
 pub returns-then-not-inside-clause-covered : goal.returns-then-not-inside-clause-covered
 returns-then-not-inside-clause-covered c =
@@ -91,7 +96,7 @@ loop-i-preserved c =
     let back : take c.loop-i.columns.len (columns ++ drop (length columns) c.loop-i.columns.items) ≡ columns =
     take-append-le c.loop-i.columns.len columns (drop (length columns) c.loop-i.columns.items) (omega arith) ∙ take_all c.loop-i.columns.len columns (omega arith) in
     let more : AreCoordinatesTo (i + 1) candidates rows columns =
-    AreCoordinatesTo-more i (i + 1) candidates rows c.loop-i.columns.items columns refl (subst (λ z. ChangesOnlyColumn i z columns) old told.others) (told.at_pivots refl ∙ ap (at_pivots candidates) (v ∙ sym at)) c.loop-i.invariant.columns in
+    AreCoordinatesTo-more i (i + 1) candidates rows c.loop-i.columns.items columns refl c.loop-i-test.true (subst (λ z. ChangesOnlyColumn i z columns) old told.others) (told.at_pivots refl ∙ ap (at_pivots candidates) (v ∙ sym at)) c.loop-i.invariant.columns in
     record {
       columns = subst (AreCoordinatesTo (i + 1) candidates rows) (sym back) more;
       inside = λ e b h.
@@ -103,7 +108,9 @@ loop-i-preserved c =
     }
 
 pub from_rows-requires : goal.from_rows-requires
-from_rows-requires c = c.loop-i.invariant.columns.lengths
+from_rows-requires c =
+    let width : length c.rows-rows.result.now + length c.args.candidates.now ≡ c.in-Some.width = omega (arith, c.in-Some.ensures.1) in
+    subst (λ w. HaveWidth w c.loop-i.columns.items) width c.loop-i.invariant.columns.lengths
 
 pub returns-clause-covered : goal.returns-clause-covered
 returns-clause-covered c = (
@@ -112,7 +119,7 @@ returns-clause-covered c = (
 )
 
 pub returns-clause-cols : goal.returns-clause-cols
-returns-clause-cols c = c.from_rows.ensures.cols ∙ ap length c.rows-rows.ensures.rows
+returns-clause-cols c = omega (arith, c.from_rows.ensures.cols, c.in-Some.ensures.1, ap length c.rows-rows.ensures.rows)
 
 pub returns-clause-rows : goal.returns-clause-rows
-returns-clause-rows c = c.from_rows.ensures.rows ∙ AreCoordinatesTo-end c.loop-i.i c.args.candidates.now c.rows-rows.result.now c.loop-i.columns.items (omega (arith, c.loop-i-test.false)) c.loop-i.invariant.columns ∙ ap (coordinates c.args.candidates.now) c.rows-rows.ensures.rows
+returns-clause-rows c = c.from_rows.ensures.rows ∙ AreCoordinatesTo-end c.loop-i.i c.args.candidates.now c.rows-rows.result.now c.loop-i.columns.items (omega (arith, c.loop-i-test.false)) c.loop-i.invariant.columns ∙ ap (λ z. augmented (coordinates c.args.candidates.now z)) c.rows-rows.ensures.rows
