@@ -2,6 +2,7 @@ mod Unpacking
 mod RowByRow
 mod Outlines
 mod Bodies
+mod Examples
 mod Basis
 mod Rules
 pub mod Entries
