@@ -23,4 +23,4 @@ returns c =
     let kernel : Packed = packed_of k in
     let end = end_found c.args.body.now images c.in_ok-images.ensures.0 c.in_ok-images.ensures.1 kernel c.in_ok-kernel.ensures.0 c.in_ok-kernel.ensures.1 in
     let found = kernel_found c.args.body.now images c.in_ok-images.ensures.0 c.in_ok-images.ensures.1 kernel c.in_ok-kernel.ensures.1 in
-    (record { kind = c.if-body-ne-SQUARE.false; length_is = omega arith }, outline_found c.args.body.now c.u16_at.result c.u16_at-2.result images kernel c.u16_at.ensures c.u16_at-2.ensures c.in_ok-images.ensures.1 found)
+    (record { kind = omega arith; length_is = omega arith }, outline_found c.args.body.now c.u16_at.result c.u16_at-2.result images kernel c.u16_at.ensures c.u16_at-2.ensures c.in_ok-images.ensures.1 found)
