@@ -14,7 +14,7 @@ pub some_is : {A : Type 0} (o : Option A) → IsSome o → (x : A) × (o ≡ Som
 some_is None e = absurd (false≢true e)
 some_is (Some x) e = (x, refl)
 
-none_or_some : {A : Type 0} (o : Option A) → ((x : A) → o ≡ Some x → ⊥) → o ≡ None
+pub none_or_some : {A : Type 0} (o : Option A) → ((x : A) → o ≡ Some x → ⊥) → o ≡ None
 none_or_some None h = refl
 none_or_some (Some x) h = absurd (h x refl)
 

@@ -10,3 +10,7 @@ mod Decoding
 mod Encoding
 mod Appending
 pub mod Pushing
+mod Adding
+mod Keeping
+mod TakingUp
+mod TakenUp

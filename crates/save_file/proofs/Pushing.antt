@@ -46,3 +46,7 @@ AllRead-decoded table bytes q h read d =
     let s = ap (λ (e : Entry). e.s) r.square in
     let rows = h.rows in
     AllRead-push table.rows q.s q (omega arith) read (WasRead-decoded table bytes q h read d)
+
+pub AllRead-pushed : (table : Staircase) (bytes : List ℕ) (q p : Placed) (rows : List (List Placed)) → IsTable table → AllRead table.rows → IsDecoded table bytes q → p ≡ q → rows ≡ with_square table.rows p.s p → AllRead rows
+AllRead-pushed table bytes q p rows h read d same e =
+    subst AllRead (sym (e ∙ ap (λ (x : Placed). with_square table.rows x.s x) same)) (AllRead-decoded table bytes q h read d)

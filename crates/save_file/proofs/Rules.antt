@@ -171,16 +171,16 @@ one_body m list xs ys e p q =
     let bodies : a ≡ b = ap (body_of a.images.cols a.kernel.cols) same ∙ ap (λ n. body_of n a.kernel.cols (entry_in b)) w ∙ ap (λ n. body_of b.images.cols n (entry_in b)) v in
     r.is_body ∙ ap body_bytes bodies ∙ sym t.is_body
 
-abbrev ok : List Entry → Result (List Entry) ℕ
+abbrev pub ok : List Entry → Result (List Entry) ℕ
 ok list = Ok list
 
 abbrev err : ℕ → Result (List Entry) ℕ
 err number = Err number
 
-same_Ok : (xs ys : List Entry) → ok xs ≡ ok ys → xs ≡ ys
+pub same_Ok : (xs ys : List Entry) → ok xs ≡ ok ys → xs ≡ ys
 same_Ok xs ys e = cc
 
-not_Ok : (number : ℕ) (list : List Entry) → err number ≡ ok list → ⊥
+pub not_Ok : (number : ℕ) (list : List Entry) → err number ≡ ok list → ⊥
 not_Ok number list e = cc
 
 -- ---- lists of squares that stand behind those that they stand on

@@ -1,2 +1,3 @@
--- What the proofs speak of behind the definitions: where the numbers of a body say that its parts are.
+-- What the proofs speak of behind the definitions: where the numbers of a body say that its parts are, and the laws of the keeper.
 pub mod Outline
+pub mod SavingLaws

@@ -2,4 +2,6 @@ pub mod Bodies
 pub mod Reading
 pub mod Saved
 pub mod Laws
+pub mod Files
+pub mod Saving
 pub mod Inside

@@ -1,8 +1,10 @@
-//! Why bytes are no square.
+//! Why bytes are no square, and why a file was not taken up.
 ghost use Rattle.std.specs.Prelude.{◌≡◌};
+ghost use Rattle.save_file.specs.Files.{opening_refusal, body_refusal};
 ghost use Rattle.save_file.specs.declared.fault.DecodeFault.TheVariants.{Memory as OutOfMemory};
 
 use memory::Memory;
+use save_journal::OpenFault;
 use thiserror::Error;
 
 /// Why a body was not read.
@@ -21,5 +23,41 @@ impl From<Memory> for DecodeFault {
 
     fn from(_: Memory) -> Self {
         DecodeFault::Memory
+    }
+}
+
+/// Why a save file was not taken up.
+#[derive(Clone, Copy, Debug, PartialEq, Eq, Error)]
+pub enum ResumeFault {
+    /// The file was not opened. Where that was for want of memory the answer is `Memory`.
+    #[error("{0}")]
+    Open(OpenFault),
+    /// The body of the record of this number, counted from 0, is no square that may stand behind those before it.
+    #[error("record {number} is strange")]
+    Strange { number: u64 },
+    /// Memory allocation failed.
+    #[error("out of memory")]
+    Memory,
+}
+
+impl From<OpenFault> for ResumeFault {
+    ghost from_gives = { λ fault e. e ≡ opening_refusal fault };
+
+    fn from(fault: OpenFault) -> Self {
+        match fault {
+            OpenFault::Memory => ResumeFault::Memory,
+            fault => ResumeFault::Open(fault),
+        }
+    }
+}
+
+impl From<DecodeFault> for ResumeFault {
+    ghost from_gives = { λ fault e. e ≡ body_refusal fault };
+
+    fn from(fault: DecodeFault) -> Self {
+        match fault {
+            DecodeFault::Strange { number } => ResumeFault::Strange { number },
+            DecodeFault::Memory => ResumeFault::Memory,
+        }
     }
 }

@@ -1,5 +1,6 @@
 //! Squares as bytes.
 ghost use Rattle.std.specs.Prelude.{◌≡◌, ◌++◌, length, IfOk, OnOk};
+ghost use Rattle.square.specs.Squares.{IsSquare};
 ghost use Rattle.save_file.specs.Bodies.{matrix_bytes};
 ghost use Rattle.save_file.specs.Saved.{IsBodyOf, IsReadAs};
 
@@ -17,6 +18,7 @@ use std::alloc::Global;
 pub fn encode(alloc: Global, square: &Square) -> Result<Vec<u8>, Memory>
     ensures body { IfOk result (λ bytes. IsBodyOf square.now bytes.items) }
     ensures read { IfOk result (λ bytes. IsReadAs square.now bytes.items) }
+    ensures is_square { IfOk result (λ _. IsSquare square.now) }
 {
     let (target, source) = square.widths();
     let len = body_len(square, target, source);

@@ -34,7 +34,7 @@ written_fresh digest file width few =
     ap (λ (l : List ℕ). fresh digest ++ l) none ∙ append-nil (fresh digest)
 
 -- what is written into a file without room for a record
-opened_few : (digest file : List ℕ) → length file ≤ 41 → opened digest file ≡ fresh digest
+pub opened_few : (digest file : List ℕ) → length file ≤ 41 → opened digest file ≡ fresh digest
 opened_few digest file few = ap (λ b. cond b (fresh digest) file) (le_true (length file) 41 few)
 
 written_told : (o : Option (List ℕ)) (digest bytes : List ℕ) → length digest ≡ 32 → length bytes ≤ 41 → IfSome o (λ f. bytes ≡ f) → option_map (written 0 (fresh digest)) o ≡ option_map (opened digest) o

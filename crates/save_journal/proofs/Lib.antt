@@ -2,6 +2,7 @@ mod Append
 mod Entry
 mod Examples
 mod Frames
+pub mod Opened
 mod ReadTo
 mod Torn
 mod Walk

@@ -44,7 +44,7 @@ not_open gate shut = grind (arith, nat_tests)
 pub le_true : (m n : ℕ) → m ≤ n → nat_le m n ≡ true
 le_true m n e = grind (arith, nat_tests)
 
-le_false : (m n : ℕ) → n < m → nat_le m n ≡ false
+pub le_false : (m n : ℕ) → n < m → nat_le m n ≡ false
 le_false m n e = grind (arith, nat_tests)
 
 -- a gate that isn't open ends them

@@ -1,0 +1,112 @@
+use Rattle.std.proofs.Common.{rules, ◌≡◌, ◌≤◌, List, length, Result, Ok, Err, sym, ◌∙◌, ap, subst, arith}
+use Rattle.std.specs.Prelude.{ℕ, IfSome}
+use Rattle.std.proofs.lemmas.Bool.{false≢true}
+use Rattle.std.proofs.lemmas.List.{length-map}
+use Rattle.sha2.specs.Sha256.{sha256}
+use Rattle.edge.specs.Disk.{LeavesOnly}
+use Rattle.edge.proofs.Moments.{Lawful}
+use Rattle.resolution_laws.specs.Start.{Entry}
+use Rattle.square.specs.Squares.{over}
+use Rattle.save_journal.specs.Journals.{HasRecordsOf, contents}
+use Rattle.save_file.specs.Reading.{squares_from, squares_of}
+use Rattle.save_file.specs.Files.{opening_refusal, digest_of}
+use Rattle.save_file.specs.declared.fault.DecodeFault.{DecodeFault}
+use Rattle.save_file.proofs.Adding.{anyway}
+use Rattle.save_file.proofs.TakenUp.{IsOpened, is_opened, stands, as_was, no_new, takes, kept, keeper, from_none, refused, failed, not_open, strange, not_called}
+use Rattle.save_file.proofs.resuming.resume.Given.{Over}
+use Rattle.save_file.proofs.resuming.resume.Goals.{After-open, After-read_bodies}
+use Rattle.save_file.proofs.resuming.resume.Goals as goal
+
+laws : (g : Over) → Lawful g.D.Disk.now g.D.Disk.moment g.D.Disk.images g.D.Disk.since
+laws g = record {
+  now_is_image = g.met.D.Disk.now_is_image;
+  counts_now = g.met.D.Disk.counts_now;
+  only_now = g.met.D.Disk.only_now;
+  since_earlier = g.met.D.Disk.since_earlier;
+}
+
+named : (g : Over) (c : After-open g) → c.digest-digest.result ≡ digest_of c.args.module
+named g c = c.digest-digest.ensures ∙ ap sha256 (c.as_slice.ensures.value ∙ c.in-Ok.ensures.text)
+
+opened_here : (g : Over) (c : After-read_bodies g) → IsOpened g.D.Disk.now g.D.Disk.images c.args.module c.args.disk c.in-Ok-open.opened.0 (contents c.in-Ok-open.opened.1.items)
+opened_here g c =
+    let width : length c.digest-digest.result ≡ 32 = search rules in
+    let few : length (contents c.in-Ok-open.opened.1.items) ≤ c.in-Ok-open.opened.0.end = omega (arith, length-map c.in-Ok-open.opened.1.items (λ v. v.items), c.in-Ok-open.ensures.count) in
+    is_opened g.D.Disk.now g.D.Disk.images c.args.module c.args.disk c.in-Ok-open.opened.0 c.digest-digest.result (contents c.in-Ok-open.opened.1.items) (c.digest-digest.ensures ∙ ap sha256 (c.as_slice.ensures.value ∙ c.in-Ok.ensures.text)) width
+    c.in-Ok-open.ensures.live c.in-Ok-open.ensures.digest few c.in-Ok-open.ensures.file c.in-Ok-open.ensures.bodies
+
+-- what was read behind the empty table
+squares_here : (g : Over) (c : After-read_bodies g) (s : Result (List Entry) ℕ) → squares_from (over c.in-Ok.table.resolved) c.in-Ok.table.start 0 (contents c.as_slice-2.result.now) ≡ s → squares_of (over c.args.module) (contents c.in-Ok-open.opened.1.items) ≡ s
+squares_here g c s e =
+    from_none c.args.module (contents c.in-Ok-open.opened.1.items) s c.in-Ok.table c.in-Ok.ensures.resolved c.in-Ok.ensures.start
+    (ap (λ l. squares_from (over c.in-Ok.table.resolved) c.in-Ok.table.start 0 (contents l)) (sym c.as_slice-2.ensures.value) ∙ e)
+
+-- ---- before the disk got a call
+
+pub returns-in_default-clause-any_moment : goal.returns-in_default-clause-any_moment
+returns-in_default-clause-any_moment g c = not_called g.D.Disk.now g.D.Disk.moment g.D.Disk.images g.D.Disk.since (laws g) (digest_of c.args.module) c.args.disk
+
+-- ---- a file that was not opened
+
+pub returns-in-Err-clause-refused : goal.returns-in-Err-clause-refused
+returns-in-Err-clause-refused g c = refused c.args.module c.digest-digest.result c.in-Err.fault c.from.result (g.D.Disk.now c.args.disk) c.from.ensures (named g (goal.at.returns-in-Err-clause-refused g c).After-open) c.in-Err.ensures.refused
+
+pub returns-in-Err-clause-memory : goal.returns-in-Err-clause-memory
+returns-in-Err-clause-memory g c = λ e. not_open c.in-Err.fault (sym c.from.ensures ∙ e)
+
+pub returns-in-Err-clause-same : goal.returns-in-Err-clause-same
+returns-in-Err-clause-same g c = λ other. c.in-Err.ensures.same (λ e. other (c.from.ensures ∙ ap opening_refusal e))
+
+pub returns-in-Err-clause-unwritten : goal.returns-in-Err-clause-unwritten
+returns-in-Err-clause-unwritten g c = λ other. anyway (g.D.Disk.now c.args.disk) _ (c.in-Err.ensures.unwritten (λ e. other (c.from.ensures ∙ ap opening_refusal e)))
+
+pub returns-in-Err-clause-any_moment : goal.returns-in-Err-clause-any_moment
+returns-in-Err-clause-any_moment g c =
+    subst (λ d. IfSome (g.D.Disk.now c.args.disk) (λ _. LeavesOnly g.D.Disk.moment g.D.Disk.since c.args.disk c.in-Err.disk (HasRecordsOf d (g.D.Disk.images c.args.disk)))) (named g (goal.at.returns-in-Err-clause-any_moment g c).After-open) c.in-Err.ensures.any_moment
+
+pub returns-in-Err-clause-cause : goal.returns-in-Err-clause-cause
+returns-in-Err-clause-cause g c = λ e. c.in-Err.ensures.cause (failed c.in-Err.fault (sym c.from.ensures ∙ e))
+
+-- ---- a file with a strange body
+
+pub returns-in-Err-read_bodies-clause-refused : goal.returns-in-Err-read_bodies-clause-refused
+returns-in-Err-read_bodies-clause-refused g c =
+    let at = (goal.at.returns-in-Err-read_bodies-clause-refused g c).After-read_bodies in
+    strange c.args.module c.in-Err-read_bodies.fault c.from-in-Err-read_bodies.result (g.D.Disk.now c.args.disk) c.from-in-Err-read_bodies.ensures (λ n e.
+    stands g.D.Disk.now g.D.Disk.images c.args.module c.args.disk c.in-Ok-open.opened.0 (contents c.in-Ok-open.opened.1.items) (opened_here g at) (Err n) (squares_here g at (Err n) (c.in-Err-read_bodies.ensures.strange n (ap (λ (f : DecodeFault). Err f) e))))
+
+pub returns-in-Err-read_bodies-clause-same : goal.returns-in-Err-read_bodies-clause-same
+returns-in-Err-read_bodies-clause-same g c = λ _.
+    ap g.D.Disk.now c.into_disk.ensures
+    ∙ as_was g.D.Disk.now g.D.Disk.images c.args.module c.args.disk c.in-Ok-open.opened.0 (contents c.in-Ok-open.opened.1.items) (opened_here g (goal.at.returns-in-Err-read_bodies-clause-same g c).After-read_bodies) (λ none. absurd (false≢true (c.in-Err-read_bodies.ensures.none (ap contents c.as_slice-2.ensures.value ∙ none))))
+
+pub returns-in-Err-read_bodies-clause-unwritten : goal.returns-in-Err-read_bodies-clause-unwritten
+returns-in-Err-read_bodies-clause-unwritten g c = λ _.
+    subst (λ d. IfSome (g.D.Disk.now c.args.disk) (λ _. (x : List ℕ) → g.D.Disk.images d x → g.D.Disk.images c.args.disk x)) (sym c.into_disk.ensures)
+    (no_new g.D.Disk.now g.D.Disk.images c.args.module c.args.disk c.in-Ok-open.opened.0 (contents c.in-Ok-open.opened.1.items) (opened_here g (goal.at.returns-in-Err-read_bodies-clause-unwritten g c).After-read_bodies) (λ none. absurd (false≢true (c.in-Err-read_bodies.ensures.none (ap contents c.as_slice-2.ensures.value ∙ none)))) (g.met.D.Disk.now_is_image c.args.disk))
+
+-- ---- a file that was taken up
+
+pub returns-in-Ok-read_bodies-clause-squares : goal.returns-in-Ok-read_bodies-clause-squares
+returns-in-Ok-read_bodies-clause-squares g c =
+    let at = (goal.at.returns-in-Ok-read_bodies-clause-squares g c).After-read_bodies in
+    stands g.D.Disk.now g.D.Disk.images c.args.module c.args.disk c.in-Ok-open.opened.0 (contents c.in-Ok-open.opened.1.items) (opened_here g at) (Ok c.read_bodies.new.table.start) (squares_here g at (Ok c.read_bodies.new.table.start) c.in-Ok-read_bodies.ensures.read)
+
+pub returns-in-Ok-read_bodies-clause-live : goal.returns-in-Ok-read_bodies-clause-live
+returns-in-Ok-read_bodies-clause-live g c =
+    let at = (goal.at.returns-in-Ok-read_bodies-clause-live g c).After-read_bodies in
+    takes g.D.Disk.now g.D.Disk.images c.args.module c.args.disk c.in-Ok-open.opened.0 (contents c.in-Ok-open.opened.1.items) (opened_here g at) c.read_bodies.new.table c.of-opened.result.value c.len-count.result c.of-opened.ensures
+    (omega (arith, length-map c.in-Ok-open.opened.1.items (λ v. v.items), c.len-count.ensures, c.in-Ok-open.opened.1.ok)) (c.read_bodies.ensures.resolved ∙ c.in-Ok.ensures.resolved) (squares_here g at (Ok c.read_bodies.new.table.start) c.in-Ok-read_bodies.ensures.read) c.in-Ok-read_bodies.ensures.is_table c.read_bodies.ensures.all_read
+
+pub returns-in-Ok-read_bodies-clause-keeper : goal.returns-in-Ok-read_bodies-clause-keeper
+returns-in-Ok-read_bodies-clause-keeper g c =
+    let at = (goal.at.returns-in-Ok-read_bodies-clause-keeper g c).After-read_bodies in
+    keeper g.D.Disk.now g.D.Disk.images c.args.module c.args.disk c.in-Ok-open.opened.0 (contents c.in-Ok-open.opened.1.items) (opened_here g at) c.read_bodies.new.table c.of-opened.result.value c.len-count.result c.of-opened.ensures
+    (omega (arith, length-map c.in-Ok-open.opened.1.items (λ v. v.items), c.len-count.ensures, c.in-Ok-open.opened.1.ok)) (c.read_bodies.ensures.resolved ∙ c.in-Ok.ensures.resolved) (squares_here g at (Ok c.read_bodies.new.table.start) c.in-Ok-read_bodies.ensures.read) c.in-Ok-read_bodies.ensures.is_table c.read_bodies.ensures.all_read
+    g.D.Disk.moment g.D.Disk.since g.D.Disk.faults
+
+pub returns-in-Ok-read_bodies-clause-kept : goal.returns-in-Ok-read_bodies-clause-kept
+returns-in-Ok-read_bodies-clause-kept g c =
+    let at = (goal.at.returns-in-Ok-read_bodies-clause-kept g c).After-read_bodies in
+    kept g.D.Disk.now g.D.Disk.images c.args.module c.args.disk c.in-Ok-open.opened.0 (contents c.in-Ok-open.opened.1.items) (opened_here g at) c.read_bodies.new.table c.of-opened.result.value c.len-count.result c.of-opened.ensures
+    (omega (arith, length-map c.in-Ok-open.opened.1.items (λ v. v.items), c.len-count.ensures, c.in-Ok-open.opened.1.ok)) (c.read_bodies.ensures.resolved ∙ c.in-Ok.ensures.resolved) (squares_here g at (Ok c.read_bodies.new.table.start) c.in-Ok-read_bodies.ensures.read) c.in-Ok-read_bodies.ensures.is_table c.read_bodies.ensures.all_read

@@ -1,0 +1,47 @@
+use Rattle.std.proofs.Common.{◌+◌, arith}
+use Rattle.save_file.proofs.Keeping.{put, unput, takes, between, earlier, unchanged}
+use Rattle.save_file.proofs.saving.SaveFileKeep.keep.Goals as goal
+
+pub returns-in_default-clause-earlier : goal.returns-in_default-clause-earlier
+returns-in_default-clause-earlier g c =
+    unchanged g.D.Disk.now g.D.Disk.moment g.D.Disk.since c.args.self.now (λ t u x le s. g.met.D.Disk.since_earlier c.args.self.now.journal.disk t u x le s)
+
+pub returns-in-Ok-append-clause-live : goal.returns-in-Ok-append-clause-live
+returns-in-Ok-append-clause-live g c =
+    takes g.D.Disk.now g.D.Disk.moment g.D.Disk.images g.D.Disk.since c.args.square.now c.in-Ok.body (record { journal = c.self.inside.journal; count = c.self.inside.count; resolved = c.self.inside.opened.value.resolved; start = c.self.inside.opened.value.start }) c.args.self.now c.self.view_is
+    (record { takes = c.requires.live; next = c.requires.next; resolved = c.requires.resolved; start = c.requires.start; reads = c.in-Ok.ensures.read; square = c.in-Ok.ensures.is_square })
+    c.append.new.self _ (omega arith) c.in-Ok-append.ensures.live c.append.ensures.same c.in-Ok-append.ensures.grown c.append.ensures.told c.in-Ok-append.ensures.appended
+
+pub returns-in-Ok-append-clause-put : goal.returns-in-Ok-append-clause-put
+returns-in-Ok-append-clause-put g c =
+    put g.D.Disk.now g.D.Disk.moment g.D.Disk.images g.D.Disk.since c.args.square.now c.in-Ok.body (record { journal = c.self.inside.journal; count = c.self.inside.count; resolved = c.self.inside.opened.value.resolved; start = c.self.inside.opened.value.start }) c.args.self.now c.self.view_is
+    (record { takes = c.requires.live; next = c.requires.next; resolved = c.requires.resolved; start = c.requires.start; reads = c.in-Ok.ensures.read; square = c.in-Ok.ensures.is_square })
+    c.append.new.self _ (omega arith) c.append.ensures.told c.in-Ok-append.ensures.appended
+
+pub returns-in-Ok-append-clause-between : goal.returns-in-Ok-append-clause-between
+returns-in-Ok-append-clause-between g c =
+    between g.D.Disk.now g.D.Disk.moment g.D.Disk.images g.D.Disk.since c.args.square.now c.in-Ok.body (record { journal = c.self.inside.journal; count = c.self.inside.count; resolved = c.self.inside.opened.value.resolved; start = c.self.inside.opened.value.start }) c.args.self.now c.self.view_is
+    (record { takes = c.requires.live; next = c.requires.next; resolved = c.requires.resolved; start = c.requires.start; reads = c.in-Ok.ensures.read; square = c.in-Ok.ensures.is_square })
+    c.append.new.self (c.self.inside.count + 1) c.append.ensures.any_moment
+
+pub returns-in-Ok-append-clause-earlier : goal.returns-in-Ok-append-clause-earlier
+returns-in-Ok-append-clause-earlier g c =
+    earlier g.D.Disk.now g.D.Disk.moment g.D.Disk.since (record { journal = c.self.inside.journal; count = c.self.inside.count; resolved = c.self.inside.opened.value.resolved; start = c.self.inside.opened.value.start }) c.args.self.now c.self.view_is
+    c.append.new.self (c.self.inside.count + 1) (λ t u x le s. g.met.D.Disk.since_earlier c.append.new.self.disk t u x le s) c.append.ensures.time
+
+pub returns-clause-unput : goal.returns-clause-unput
+returns-clause-unput g c = λ _.
+    unput g.D.Disk.now g.D.Disk.moment g.D.Disk.images g.D.Disk.since c.args.square.now c.in-Ok.body (record { journal = c.self.inside.journal; count = c.self.inside.count; resolved = c.self.inside.opened.value.resolved; start = c.self.inside.opened.value.start }) c.args.self.now c.self.view_is
+    (record { takes = c.requires.live; next = c.requires.next; resolved = c.requires.resolved; start = c.requires.start; reads = c.in-Ok.ensures.read; square = c.in-Ok.ensures.is_square })
+    c.append.new.self c.append.ensures.told
+
+pub returns-clause-between : goal.returns-clause-between
+returns-clause-between g c =
+    between g.D.Disk.now g.D.Disk.moment g.D.Disk.images g.D.Disk.since c.args.square.now c.in-Ok.body (record { journal = c.self.inside.journal; count = c.self.inside.count; resolved = c.self.inside.opened.value.resolved; start = c.self.inside.opened.value.start }) c.args.self.now c.self.view_is
+    (record { takes = c.requires.live; next = c.requires.next; resolved = c.requires.resolved; start = c.requires.start; reads = c.in-Ok.ensures.read; square = c.in-Ok.ensures.is_square })
+    c.append.new.self c.self.inside.count c.append.ensures.any_moment
+
+pub returns-clause-earlier : goal.returns-clause-earlier
+returns-clause-earlier g c =
+    earlier g.D.Disk.now g.D.Disk.moment g.D.Disk.since (record { journal = c.self.inside.journal; count = c.self.inside.count; resolved = c.self.inside.opened.value.resolved; start = c.self.inside.opened.value.start }) c.args.self.now c.self.view_is
+    c.append.new.self c.self.inside.count (λ t u x le s. g.met.D.Disk.since_earlier c.append.new.self.disk t u x le s) c.append.ensures.time

@@ -1,0 +1,65 @@
+-- What a save file stands for.
+use Rattle.std.specs.Prelude.{ℕ, List, [], take, Option, Result, Ok, Err}
+use Rattle.std.specs.Result.{result_ok}
+use Rattle.sha2.specs.Sha256.{sha256}
+use Rattle.finite_module.specs.Checked.{Checked}
+use Rattle.finite_module.specs.Text.{canonical_text}
+use Rattle.resolution_laws.specs.Resolution.{Module}
+use Rattle.resolution_laws.specs.Start.{Entry}
+use Rattle.square.specs.Squares.{over}
+use Rattle.save_journal.specs.Records.{Records, records_of}
+use Rattle.save_file.specs.Reading.{squares_of}
+use Rattle.save_journal.specs.declared.fault.OpenFault.{OpenFault}
+use Rattle.save_journal.specs.declared.fault.OpenFault.TheVariants.{Memory as OpenMemory}
+use Rattle.save_file.specs.declared.fault.DecodeFault.{DecodeFault}
+use Rattle.save_file.specs.declared.fault.DecodeFault.TheVariants.{Strange as StrangeBody, Memory as BodyMemory}
+use Rattle.save_file.specs.declared.fault.ResumeFault.{ResumeFault}
+use Rattle.save_file.specs.declared.fault.ResumeFault.TheVariants.{Open, Strange, Memory}
+
+-- what the records of a module's save file belong to: SHA-256 of its canonical text
+abbrev pub digest_of : Checked → List ℕ
+digest_of m = sha256 (canonical_text m.plain)
+
+-- the squares of a save file, in the order of their records, or why it is refused
+abbrev pub Standing : Type 0
+Standing = Result (List Entry) ResumeFault
+
+abbrev pub of_squares : Result (List Entry) ℕ → Standing
+of_squares (Ok list) = Ok list
+of_squares (Err number) = Err (Strange number)
+
+abbrev pub of_records : Module → Records → Standing
+of_records m (Ok bodies) = of_squares (squares_of m bodies)
+of_records m (Err fault) = Err (Open fault)
+
+-- What a file stands for as a save file of a module: its records, each read behind those before it. A file that is refused stands
+-- for nothing.
+abbrev pub standing_of : Checked → List ℕ → Standing
+standing_of m file = of_records (over m) (records_of (digest_of m) file)
+
+-- the squares that it stands for, none where it is refused
+abbrev pub squares_in : Checked → List ℕ → Option (List Entry)
+squares_in m file = result_ok (standing_of m file)
+
+-- the same of its first records alone, and no squares where those are refused
+abbrev pub first_records : ℕ → Records → Records
+first_records n (Ok bodies) = Ok (take n bodies)
+first_records n (Err fault) = Err fault
+
+abbrev pub list_in : Standing → List Entry
+list_in (Ok list) = list
+list_in (Err fault) = []
+
+abbrev pub first_squares : Checked → ℕ → List ℕ → List Entry
+first_squares m n file = list_in (of_records (over m) (first_records n (records_of (digest_of m) file)))
+
+-- ---- how faults are told
+
+-- want of memory is told as itself, wherever it was
+abbrev pub opening_refusal : OpenFault → ResumeFault
+opening_refusal OpenMemory = Memory
+opening_refusal fault = Open fault
+
+abbrev pub body_refusal : DecodeFault → ResumeFault
+body_refusal (StrangeBody number) = Strange number
+body_refusal BodyMemory = Memory

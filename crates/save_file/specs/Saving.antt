@@ -1,0 +1,56 @@
+-- The keeper of a save file.
+use Rattle.std.specs.Prelude.{◌≡◌, ℕ, ◌≤◌, List, length, Option, Some, Ok, IfSome}
+use Rattle.std.specs.Option.{option_map}
+use Rattle.finite_module.specs.Checked.{Checked}
+use Rattle.resolution_laws.specs.Start.{Entry, AreOf}
+use Rattle.square.specs.Squares.{over}
+use Rattle.square.specs.Keeping.{Keeper}
+use Rattle.save_journal.specs.Records.{records_of}
+use Rattle.save_journal.specs.Journals.{JournalState, IsLive}
+use Rattle.save_file.specs.Reading.{squares_of}
+use Rattle.save_file.specs.Files.{digest_of, squares_in, first_squares}
+
+-- What contracts see of a save file: its journal, how many records were read or appended, and the module and the start that it
+-- was taken up with.
+pub record SaveState (D : Type 0) : Type 0 where
+  pub journal : JournalState D
+  pub count : ℕ
+  pub resolved : Checked
+  pub start : List Entry
+
+-- the file has so many records, and they are read as squares of the start's table
+pub record HasSquares (m : Checked) (start : List Entry) (count : ℕ) (file : List ℕ) : Type 0 where
+  pub bodies : List (List ℕ)
+  pub list : List Entry
+  pub records : records_of (digest_of m) file ≡ Ok bodies
+  pub counted : length bodies ≡ count
+  pub squares : squares_of (over m) bodies ≡ Ok list
+  pub are_of : AreOf (over m) start list
+
+-- The save file takes squares: its journal takes records, which belong to its module, and where the disk tells, all records are
+-- counted and are squares. No more are counted than there are bytes.
+pub record TakesSquares {D : Type 0} (now : D → Option (List ℕ)) (images : D → List ℕ → Type 0) (k : SaveState D) : Type 0 where
+  pub live : IsLive now images k.journal
+  pub digest : k.journal.digest ≡ digest_of k.resolved
+  pub few : k.count ≤ k.journal.end
+  pub has : IfSome (now k.journal.disk) (HasSquares k.resolved k.start k.count)
+
+-- the squares of the records that are counted, told where the disk tells
+abbrev pub kept_in : {D : Type 0} → (D → Option (List ℕ)) → SaveState D → Option (List Entry)
+kept_in now k = option_map (first_squares k.resolved k.count) (now k.journal.disk)
+
+-- the image is what a file stands for that a crash may have left since then
+abbrev pub WasLeft : {D : Type 0} → (D → ℕ → List ℕ → Type 0) → SaveState D → ℕ → Option (List Entry) → Type 0
+WasLeft since k t image = (c : List ℕ) × since k.journal.disk t c × (image ≡ squares_in k.resolved c)
+
+-- What contracts see of it as a keeper. Its faults and moments are its disk's.
+abbrev pub telling_of : {D : Type 0} → (D → Option (List ℕ)) → (D → ℕ) → (D → List ℕ → Type 0) → (D → ℕ → List ℕ → Type 0) → (D → ℕ) → SaveState D → Keeper
+telling_of now moment images since faults k = record {
+  live = TakesSquares now images k;
+  faults = faults k.journal.disk;
+  kept = kept_in now k;
+  resolved = Some k.resolved;
+  start = Some k.start;
+  moment = moment k.journal.disk;
+  since = WasLeft since k;
+}

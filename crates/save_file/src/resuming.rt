@@ -1,0 +1,148 @@
+//! How a save file is taken up.
+ghost use Rattle.std.specs.Prelude.{◌≡◌, ◌≢◌, ◌⊎◌, ℕ, ◌≤◌, [], ◌++◌, ◌∷◌, List, Some, None, Ok, Err, IfOk, IfErr, IfSome, OnOk, OnErr, IsOk, MatchResult};
+ghost use Rattle.std.specs.Option.{option_map};
+ghost use Rattle.edge.specs.Disk.{LeavesOnly};
+ghost use Rattle.edge.specs.Faults.{HasRisen};
+ghost use Rattle.finite_module.specs.Text.{canonical_text};
+ghost use Rattle.resolution_laws.specs.Start.{Entry};
+ghost use Rattle.square.specs.Squares.{over};
+ghost use Rattle.square.specs.Tables.{AllRead, IsTable};
+ghost use Rattle.square.specs.Keeping.{IsKeeperOf};
+ghost use Rattle.save_journal.specs.Records.{opened};
+ghost use Rattle.save_journal.specs.Journals.{HasRecordsOf, contents};
+ghost use Rattle.save_journal.specs.declared.fault.OpenFault.TheVariants.{Failed as DiskFailed, Memory as OpenMemory};
+ghost use Rattle.save_file.specs.Reading.{square_in, squares_from};
+ghost use Rattle.save_file.specs.Files.{digest_of, standing_of};
+ghost use Rattle.save_file.specs.Saving.{TakesSquares, kept_in, telling_of};
+ghost use Rattle.save_file.specs.declared.fault.DecodeFault.TheVariants.{Strange as StrangeBody, Memory as WantOfMemory};
+ghost use Rattle.save_file.specs.declared.fault.ResumeFault.TheVariants.{Open, Memory as OutOfMemory};
+
+use crate::fault::{DecodeFault, ResumeFault};
+use crate::reading::decode;
+use crate::saving::SaveFile;
+use edge::Disk;
+use finite_module::Module;
+use memory::Memory;
+use save_journal::Journal;
+use sha2::{Digest, Sha256};
+use square::Table;
+use std::alloc::Global;
+use std::snapshot::Snapshot;
+use std::sync::Arc;
+
+/// Takes up the save file of a module that the disk holds: the table of its squares, all of them read, and the keeper that puts more
+/// squares behind them.
+///
+/// The file's records belong to SHA-256 of the module's canonical text. A file of at most 41 bytes has no room for a record, and is
+/// written anew, unless it is what it would be then; a longer one is left as it is.
+///
+/// # Errors
+/// Each comes with the disk, on which a refusal writes nothing. `Open` with `Failed` if the disk failed, `Memory` if allocation fails,
+/// and otherwise the refusal of the file: `Open` with that of its records, or `Strange` with the number of the first record whose body
+/// is no square that may stand behind those before it.
+pub fn resume<D: Disk>(
+    alloc: Global,
+    module: Module,
+    disk: D,
+) -> Result<(Table, SaveFile<D>), (ResumeFault, D)>
+    ensures squares { IfOk result (λ r. IfSome (D.now disk) (λ file. standing_of «module» file ≡ Ok r.0.start)) }
+    ensures resolved { IfOk result (λ r. r.0.resolved ≡ «module») }
+    ensures all_read { IfOk result (λ r. AllRead r.0.rows) }
+    ensures live { IfOk result (λ r. TakesSquares D.now D.images r.1) }
+    ensures keeper { IfOk result (λ r. IsKeeperOf (telling_of D.now D.moment D.images D.since D.faults r.1) r.0) }
+    ensures kept { IfOk result (λ r. kept_in D.now r.1 ≡ option_map (λ _. r.0.start) (D.now disk)) }
+    ensures file { IfOk result (λ r. D.now r.1.journal.disk ≡ option_map (opened (digest_of «module»)) (D.now disk)) }
+    ensures refused { IfErr result (λ e. (e.0 ≡ Open DiskFailed) ⊎ (e.0 ≡ OutOfMemory) ⊎ IfSome (D.now disk) (λ file. standing_of «module» file ≡ Err e.0)) }
+    ensures memory { IfErr result (λ e. e.0 ≢ Open OpenMemory) }
+    ensures same { IfErr result (λ e. e.0 ≢ Open DiskFailed → D.now e.1 ≡ D.now disk) }
+    ensures unwritten { IfErr result (λ e. e.0 ≢ Open DiskFailed → IfSome (D.now disk) (λ _. (c : List ℕ) → D.images e.1 c → D.images disk c)) }
+    ensures time { MatchResult result (λ r. LeavesOnly D.moment D.since disk r.1.journal.disk (λ _. Unit {0})) (λ e. LeavesOnly D.moment D.since disk e.1 (λ _. Unit {0})) }
+    ensures any_moment { IfSome (D.now disk) (λ _. MatchResult result (λ r. LeavesOnly D.moment D.since disk r.1.journal.disk (HasRecordsOf (digest_of «module») (D.images disk))) (λ e. LeavesOnly D.moment D.since disk e.1 (HasRecordsOf (digest_of «module») (D.images disk)))) }
+    ensures no_fault { IfOk result (λ r. D.faults r.1.journal.disk ≡ D.faults disk) }
+    ensures never_fall { IfErr result (λ e. D.faults disk ≤ D.faults e.1) }
+    ensures cause { IfErr result (λ e. e.0 ≡ Open DiskFailed → HasRisen (D.faults disk) (D.faults e.1)) }
+{
+    let Ok((mut table, text)) = prepared(alloc, module) else {
+        return Err((ResumeFault::Memory, disk));
+    };
+    let digest = Sha256::digest(text.as_slice());
+    let (journal, bodies) = match Journal::open(alloc, disk, digest) {
+        Ok(opened) => opened,
+        Err((fault, disk)) => return Err((ResumeFault::from(fault), disk)),
+    };
+    match read_bodies(alloc, &mut table, bodies.as_slice()) {
+        Ok(()) => {
+            let opened = Snapshot::of(&table);
+            let count = bodies.len() as u64;
+            let keeper = SaveFile {
+                alloc,
+                journal,
+                count,
+                opened,
+            };
+            Ok((table, keeper))
+        }
+        Err(fault) => Err((ResumeFault::from(fault), journal.into_disk())),
+    }
+}
+
+/// The table of no square, and its module's canonical text.
+///
+/// # Errors
+/// `Memory` if allocation fails.
+fn prepared(alloc: Global, module: Module) -> Result<(Table, Vec<u8>), Memory>
+    ensures resolved { IfOk result (λ r. r.0.resolved ≡ «module») }
+    ensures start { IfOk result (λ r. r.0.start ≡ []) }
+    ensures all_read { IfOk result (λ r. AllRead r.0.rows) }
+    ensures text { IfOk result (λ r. r.1.items ≡ canonical_text «module».plain) }
+{
+    let table = Table::new(alloc, module)?;
+    let text = table.module().canonical_text(alloc)?;
+    Ok((table, text))
+}
+
+/// Puts the squares of these bodies behind those of the table, in order.
+///
+/// # Errors
+/// `Strange` exactly where one of them is no such square, with the number of the first, and `Memory` if allocation fails.
+fn read_bodies(alloc: Global, table: &mut Table, bodies: &[Vec<u8>]) -> Result<(), DecodeFault>
+    requires { AllRead table.old.rows }
+    ensures read { OnOk result (squares_from (over table.old.resolved) table.old.start 0 (contents bodies.now) ≡ Ok table.new.start) }
+    ensures resolved { table.new.resolved ≡ table.old.resolved }
+    ensures all_read { AllRead table.new.rows }
+    ensures is_table { OnOk result (IsTable table.new) }
+    ensures strange { (n : ℕ) → result ≡ Err (StrangeBody n) → squares_from (over table.old.resolved) table.old.start 0 (contents bodies.now) ≡ Err n }
+    ensures none { contents bodies.now ≡ [] → IsOk result }
+{
+    for i in 0..bodies.len() {
+        match read_body(alloc, table, i as u64, bodies[i].as_slice()) {
+            Ok(()) => {}
+            Err(fault) => return Err(fault),
+        }
+    }
+    table.front(0); // It is a table, which proofs learn here.
+    Ok(())
+}
+
+/// Puts the square of a body behind those of the table. `number` is that of its record.
+///
+/// # Errors
+/// `Strange` exactly where it is no such square, and `Memory` if allocation fails; the table is then as before.
+fn read_body(alloc: Global, table: &mut Table, number: u64, body: &[u8]) -> Result<(), DecodeFault>
+    requires { AllRead table.old.rows }
+    ensures read { OnOk result ((e : Entry) × (square_in (over table.old.resolved) table.old.start body.now ≡ Some e) × (table.new.start ≡ table.old.start ++ e ∷ [])) }
+    ensures resolved { table.new.resolved ≡ table.old.resolved }
+    ensures all_read { AllRead table.new.rows }
+    ensures strange { (n : ℕ) → result ≡ Err (StrangeBody n) → (n ≡ number) × (square_in (over table.old.resolved) table.old.start body.now ≡ None) }
+    ensures err { OnErr result (table.new ≡ table.old) }
+{
+    let square = decode(alloc, table, number, body)?;
+    table.front(square.s()); // It is a table, which proofs learn here.
+    let Ok(square) = Arc::new(alloc, square) else {
+        return Err(DecodeFault::Memory);
+    };
+    let Ok(()) = table.push(square) else {
+        return Err(DecodeFault::Memory);
+    };
+    Ok(())
+}
