@@ -22,11 +22,13 @@ use Rattle.milnor_basis.proofs.BasisLemmas.{All-basis_of}
 use Rattle.milnor_basis.specs.Product.{choose, is_odd, product_terms}
 use Rattle.module_json.specs.ModuleFile.{Generator, File, degree_at}
 use Rattle.finite_module.specs.Module.{generators_in, width, unit, or_zeros, value, act_on}
-use Rattle.finite_module.specs.DerivedAction.{listed_sum, sum_vector, doubled_below, power_below, twice, adem_terms, by_adem, square_value, front, other_terms, by_product, derived_value, derived_operator, derived_from, elements, span, derived_module}
+use Rattle.milnor_basis.specs.Front.{front}
+use Rattle.finite_module.specs.DerivedAction.{listed_sum, sum_vector, doubled_below, power_below, twice, adem_terms, by_adem, square_value, other_terms, by_product, derived_value, derived_operator, derived_from, elements, span, derived_module}
 use Rattle.finite_module.specs.Operators.{HaveWidths}
 use Rattle.finite_module.proofs.Elements.{slice_get-append_left, elements_more}
 use Rattle.finite_module.proofs.Values.{widths_nil, widths_more}
-use Rattle.finite_module.proofs.Widths.{length-total, length-act_on, degree_of-single, degree_of-front, terms_of_degree}
+use Rattle.milnor_basis.proofs.Fronts.{degree_of-front}
+use Rattle.finite_module.proofs.Widths.{length-total, length-act_on, degree_of-single, terms_of_degree}
 
 Operators : Type 0
 Operators = List (List (List Bool))

@@ -21,10 +21,12 @@ use Rattle.milnor_basis.specs.Product.{choose, is_odd, coefficient, product_term
 use Rattle.milnor_laws.proofs.Indecomposables.{indecomposable}
 use Rattle.module_json.specs.ModuleFile.{Generator, Entry, File, degree_at}
 use Rattle.finite_module.specs.Module.{generators_in, width, value, act_on, total}
-use Rattle.finite_module.specs.DerivedAction.{listed_sum, sum_vector, twice, by_adem, adem_terms, power_below, doubled_below, square_value, front, other_terms, by_product, derived_value}
+use Rattle.milnor_basis.specs.Front.{front}
+use Rattle.finite_module.specs.DerivedAction.{listed_sum, sum_vector, twice, by_adem, adem_terms, power_below, doubled_below, square_value, other_terms, by_product, derived_value}
 use Rattle.finite_module.specs.Inside.Plain.{plain_value}
 use Rattle.finite_module.proofs.Values.{width_of, degree_in}
-use Rattle.finite_module.proofs.Widths.{degree_of-single, degree_of-front, terms_of_degree}
+use Rattle.milnor_basis.proofs.Fronts.{degree_of-front}
+use Rattle.finite_module.proofs.Widths.{degree_of-single, terms_of_degree}
 
 -- Each action is a square Sq(2^v), starts at a generator that is no end, and gives ends alone.
 pub record ArePlain (is_end : ℕ → Bool) (entries : List Entry) : Type 0 where

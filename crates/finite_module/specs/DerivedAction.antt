@@ -6,6 +6,7 @@ use Rattle.std.specs.List.{filter, list_any, flat_map, range_with_len}
 use Rattle.std.specs.Cmp.Lexicographic.{pointwise}
 use Rattle.milnor_basis.specs.Exponents.{degree_of}
 use Rattle.milnor_basis.specs.Basis.{basis_of}
+use Rattle.milnor_basis.specs.Front.{front}
 use Rattle.milnor_basis.specs.Product.{choose, is_odd, product_terms}
 use Rattle.module_json.specs.ModuleFile.{Generator, Entry, File, degree_at}
 use Rattle.finite_module.specs.Module.{Module, generators_in, width, unit, value, act_on, total, bottom}
@@ -46,11 +47,6 @@ square_value f operators n i =
     if is_power_of_two n
     then sum_vector f.generators (listed_sum f.entries n i) (degree_at f.generators i +ℤ pos n)
     else by_adem f.generators operators (n - power_below n) (power_below n) i
-
--- r1 + 2 r2 + 4 r3 + ..
-abbrev pub front : List ℕ → ℕ
-front [] = 0
-front (r ∷ rs) = r + 2 * front rs
 
 -- For R = (r1, r2, ..) with S = (r2, ..) not empty, Sq(R) is one term of Sq(front R) Sq(S), and the others stand before it in
 -- Milnor's basis: the others

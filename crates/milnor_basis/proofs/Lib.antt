@@ -1,6 +1,7 @@
 mod Examples
 pub mod Ranges
 pub mod ExponentLemmas
+pub mod Fronts
 mod Blocks
 pub mod BasisLemmas
 mod FiniteSums

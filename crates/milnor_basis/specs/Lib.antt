@@ -1,4 +1,5 @@
 pub mod Exponents
+pub mod Front
 pub mod Basis
 pub mod Product
 pub mod Text

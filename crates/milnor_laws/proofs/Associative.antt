@@ -60,11 +60,11 @@ odd_by-same_all P p q (x ∷ xs) all h =
 
 -- One element of a basis is the one with given exponents.
 
-odd_by-places : {X : Type 0} → (p : X → Bool) (xs : List X) (d : X) → odd_by p xs ≡ is_odd_below (λ i. p (get_or xs i d)) (length xs)
+pub odd_by-places : {X : Type 0} → (p : X → Bool) (xs : List X) (d : X) → odd_by p xs ≡ is_odd_below (λ i. p (get_or xs i d)) (length xs)
 odd_by-places p [] d = refl
 odd_by-places p (x ∷ xs) d = ap (plus (p x)) (odd_by-places p xs d) ∙ sym (is_odd_below-first (λ i. p (get_or (x ∷ xs) i d)) (length xs))
 
-once_in_basis : (n : ℕ) (r : List ℕ) → IsTrimmed r → degree_of r ≡ n → odd_by (pointwise nat_eq r) (basis_of n) ≡ true
+pub once_in_basis : (n : ℕ) (r : List ℕ) → IsTrimmed r → degree_of r ≡ n → odd_by (pointwise nat_eq r) (basis_of n) ≡ true
 once_in_basis n r tight degree =
     let found = Contains-basis_of n r tight degree in
     odd_by-places (pointwise nat_eq r) (basis_of n) r

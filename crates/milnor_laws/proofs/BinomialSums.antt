@@ -47,7 +47,7 @@ is_odd-suc n = elim-mod n (n % 2) refl where
   elim-mod n (suc zero) e = let a : suc n % 2 ≡ 0 = omega arith in rw (a, e) refl
   elim-mod n (suc (suc k)) e = absurd (omega arith)
 
-is_odd-add : (m n : ℕ) → is_odd (m + n) ≡ plus (is_odd m) (is_odd n)
+pub is_odd-add : (m n : ℕ) → is_odd (m + n) ≡ plus (is_odd m) (is_odd n)
 is_odd-add zero n = ap is_odd (zero-add n)
 is_odd-add (suc m) n =
     let e : suc m + n ≡ suc (m + n) = omega arith in

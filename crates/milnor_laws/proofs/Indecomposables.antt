@@ -41,7 +41,7 @@ no_power p q x e =
 no_power_once : (p x : ℕ) → x ≡ 0 → p * x + 0 ≡ 0
 no_power_once p x e = let g : p * x ≡ p * 0 = ap (λ z. p * z) e in omega arith
 
-single_trimmed : (n : ℕ) → 0 < n → IsTrimmed (n ∷ [])
+pub single_trimmed : (n : ℕ) → 0 < n → IsTrimmed (n ∷ [])
 single_trimmed zero l = absurd (omega arith)
 single_trimmed (suc n) l = refl
 

@@ -1,12 +1,12 @@
-mod SumsModTwo
-mod BinomialSums
-mod Powers
-mod Coproduct
+pub mod SumsModTwo
+pub mod BinomialSums
+pub mod Powers
+pub mod Coproduct
 mod Fillings
-mod Coefficients
-mod Associative
+pub mod Coefficients
+pub mod Associative
 pub mod RightUnit
-mod Vectors
+pub mod Vectors
 pub mod FreeModules
 pub mod LinearMaps
 pub mod UnitActs

@@ -29,6 +29,13 @@ plus-twice false true true = refl
 plus-twice false true false = refl
 plus-twice false false c = refl
 
+pub plus-cancel : (a b c : Bool) → plus a b ≡ plus a c → b ≡ c
+plus-cancel true true true e = refl
+plus-cancel true true false e = sym e
+plus-cancel true false true e = sym e
+plus-cancel true false false e = refl
+plus-cancel false b c e = e
+
 pub and-plus : (c a b : Bool) → (c && plus a b) ≡ plus (c && a) (c && b)
 and-plus true a b = refl
 and-plus false a b = refl

@@ -19,16 +19,16 @@ use Rattle.milnor_laws.specs.Laws.{ProductActs, ProductIsAssociativeInVectors}
 use Rattle.milnor_laws.proofs.Associative.{associative, odd_by-same_all}
 use Rattle.milnor_laws.proofs.SumsModTwo.{odd_by-and, odd_by-swap}
 
-zeros-map : {Y : Type 0} → (ys : List Y) → zeros (length ys) ≡ map (λ y. false) ys
+pub zeros-map : {Y : Type 0} → (ys : List Y) → zeros (length ys) ≡ map (λ y. false) ys
 zeros-map [] = refl
 zeros-map (y ∷ ys) = ap (λ v. false ∷ v) (zeros-map ys)
 
-sum_of-map : {Y : Type 0} → (g h : Y → Bool) (ys : List Y) → sum_of (map g ys) (map h ys) ≡ map (λ y. plus (g y) (h y)) ys
+pub sum_of-map : {Y : Type 0} → (g h : Y → Bool) (ys : List Y) → sum_of (map g ys) (map h ys) ≡ map (λ y. plus (g y) (h y)) ys
 sum_of-map g h [] = refl
 sum_of-map g h (y ∷ ys) = ap (λ v. plus (g y) (h y) ∷ v) (sum_of-map g h ys)
 
 -- a sum of rows that are given by a function of two places
-combination-map : {X Y : Type 0} → (n : ℕ) (c : X → Bool) (f : X → Y → Bool) (xs : List X) (ys : List Y) → length ys ≡ n → combination n (map c xs) (map (λ x. map (f x) ys) xs) ≡ map (λ y. odd_by (λ x. c x && f x y) xs) ys
+pub combination-map : {X Y : Type 0} → (n : ℕ) (c : X → Bool) (f : X → Y → Bool) (xs : List X) (ys : List Y) → length ys ≡ n → combination n (map c xs) (map (λ x. map (f x) ys) xs) ≡ map (λ y. odd_by (λ x. c x && f x y) xs) ys
 combination-map n c f [] ys e = ap zeros (sym e) ∙ zeros-map ys
 combination-map n c f (x ∷ xs) ys e = at (c x) (combination-map n c f xs ys e)
   where

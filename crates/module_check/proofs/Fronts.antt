@@ -1,4 +1,4 @@
--- The front of an exponent list, and the list behind its first number.
+-- The list behind the first number of an exponent list, and the terms other than the list itself.
 use Rattle.std.proofs.Common.{◌≡◌, ◌≢◌, ℕ, zero, suc, ◌+◌, ◌-◌, ◌*◌, ◌<◌, ◌≤◌, List, [], ◌∷◌, length, map, drop, Bool, refl, sym, ap, subst, ◌∙◌, inl, inr, arith}
 use Rattle.std.specs.Prelude.{not, nat_eq, All}
 use Rattle.std.specs.List.{range_with_len}
@@ -7,37 +7,13 @@ use Rattle.std.proofs.lemmas.Bool.{cases_lt}
 use Rattle.std.proofs.lemmas.List.Elements.{All-filter, All-weaker}
 use Rattle.milnor_basis.specs.Exponents.{degree_of, entry, trimmed, IsTrimmed}
 use Rattle.milnor_basis.specs.Product.{product_terms}
-use Rattle.milnor_basis.proofs.ExponentLemmas.{IsTrimmed-tail, entry_past, entry_last, trimmed-same}
+use Rattle.milnor_basis.proofs.ExponentLemmas.{IsTrimmed-tail, entry_past, trimmed-same}
 use Rattle.module_json.specs.ModuleFile.{File}
 use Rattle.finite_module.specs.Module.{unit}
-use Rattle.finite_module.specs.DerivedAction.{front, other_terms, square_value, by_product, derived_operator}
-use Rattle.finite_module.proofs.Widths.{degree_of-front, degree_of-single, terms_of_degree}
-
--- ---- the front
-
-pub front_at : (r : List ℕ) (i : ℕ) → front (drop i r) ≡ entry r i + 2 * front (drop (suc i) r)
-front_at [] zero = refl
-front_at [] (suc i) = refl
-front_at (x ∷ r) zero = refl
-front_at (x ∷ r) (suc i) = front_at r i
-
-front_within : (r : List ℕ) (i : ℕ) → front (drop i r) ≤ front r
-front_within r zero = omega arith
-front_within [] (suc i) = omega arith
-front_within (x ∷ r) (suc i) = omega (arith, front_within r i)
-
-pub front_of_degree : (r : List ℕ) → front r ≤ degree_of r
-front_of_degree [] = omega arith
-front_of_degree (x ∷ r) = omega (arith, degree_of-front x r)
-
-pub front_small : (r : List ℕ) (i : ℕ) → front (drop i r) ≤ degree_of r
-front_small r i = omega (arith, front_within r i, front_of_degree r)
-
-pub front_end : (r : List ℕ) (i : ℕ) → length r ≤ i → front (drop i r) ≡ 0
-front_end [] zero l = refl
-front_end [] (suc i) l = refl
-front_end (x ∷ r) zero l = absurd (omega arith)
-front_end (x ∷ r) (suc i) l = front_end r i (omega arith)
+use Rattle.milnor_basis.specs.Front.{front}
+use Rattle.finite_module.specs.DerivedAction.{other_terms, square_value, by_product, derived_operator}
+use Rattle.milnor_basis.proofs.Fronts.{degree_of-front}
+use Rattle.finite_module.proofs.Widths.{degree_of-single, terms_of_degree}
 
 -- ---- behind the first number
 
@@ -63,15 +39,6 @@ behind_first r numbers i t l same rest =
 pub first_and_behind : (r : List ℕ) → 0 < length r → entry r 0 ∷ drop 1 r ≡ r
 first_and_behind [] l = absurd (omega arith)
 first_and_behind (x ∷ r) l = refl
-
--- the last number of a list without zeros at its end is not 0, so its front is not
-front_positive : (n : ℕ) (r : List ℕ) → length r ≡ suc n → IsTrimmed r → 0 < front r
-front_positive n r e t =
-    let last : entry r n ≢ 0 = entry_last r n t e in
-    omega (arith, front_at r n, front_within r n)
-
-pub positive_front : (r : List ℕ) → 0 < length r → IsTrimmed r → 0 < front r
-positive_front r l t = front_positive (length r - 1) r (omega arith) t
 
 -- the degrees of the two factors
 pub front_and_behind : (r : List ℕ) → 0 < length r → front r + degree_of (drop 1 r) ≡ degree_of r

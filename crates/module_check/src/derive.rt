@@ -6,7 +6,8 @@ ghost use Rattle.milnor_basis.specs.Basis.{basis_of};
 ghost use Rattle.module_json.specs.ModuleFile.{degree_at};
 ghost use Rattle.module_json.specs.declared.limits.TheConstants.{MAX_SPAN};
 ghost use Rattle.finite_module.specs.Module.{width, unit};
-ghost use Rattle.finite_module.specs.DerivedAction.{front, square_value, other_terms, by_product, derived_operator, derived_from, elements, span, derived_module};
+ghost use Rattle.milnor_basis.specs.Front.{front};
+ghost use Rattle.finite_module.specs.DerivedAction.{square_value, other_terms, by_product, derived_operator, derived_from, elements, span, derived_module};
 
 use crate::exponents::{front, rest};
 use crate::sq_n::square_value;

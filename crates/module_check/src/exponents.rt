@@ -1,7 +1,7 @@
 //! The first number of an exponent list and those behind it.
 ghost use Rattle.std.specs.Prelude.{◌≡◌, ◌<◌, ◌^◌, length, drop};
 ghost use Rattle.milnor_basis.specs.Exponents.{degree_of};
-ghost use Rattle.finite_module.specs.DerivedAction.{front};
+ghost use Rattle.milnor_basis.specs.Front.{front};
 
 use milnor_basis::Exps;
 

@@ -1,6 +1,6 @@
 use Rattle.std.proofs.Common.{◌≡◌, suc, ◌-◌, drop, ap, ◌∙◌, arith}
-use Rattle.finite_module.specs.DerivedAction.{front}
-use Rattle.module_check.proofs.Fronts.{front_at, front_small, positive_front}
+use Rattle.milnor_basis.specs.Front.{front}
+use Rattle.milnor_basis.proofs.Fronts.{front_at, front_small, positive_front}
 use Rattle.module_check.proofs.exponents.front.Goals as goal
 
 pub overflow_mul-front : goal.overflow_mul-front

@@ -1,6 +1,6 @@
 -- The front of the exponents from the i-th on.
 use Rattle.std.proofs.Common.{◌≡◌, drop}
-use Rattle.finite_module.specs.DerivedAction.{front}
+use Rattle.milnor_basis.specs.Front.{front}
 use Rattle.module_check.proofs.exponents.front.Given as goal
 
 abbrev pub invariant-loop-i : goal.invariant-loop-i

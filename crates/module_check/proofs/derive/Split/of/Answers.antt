@@ -4,7 +4,7 @@ use Rattle.std.specs.Cmp.Lexicographic.{pointwise}
 use Rattle.std.proofs.lemmas.Fn.{filter_same}
 use Rattle.milnor_basis.specs.Exponents.{degree_of, entry}
 use Rattle.milnor_basis.specs.Product.{product_terms}
-use Rattle.finite_module.specs.DerivedAction.{front}
+use Rattle.milnor_basis.specs.Front.{front}
 use Rattle.finite_module.proofs.Widths.{degree_of-single}
 use Rattle.module_check.proofs.Fronts.{first_and_behind, front_and_behind}
 use Rattle.module_check.proofs.derive.Split.of.Goals as goal

@@ -6,8 +6,10 @@ use Rattle.f2_vec.proofs.Combinations.{HaveWidth-map_where}
 use Rattle.milnor_basis.specs.Exponents.{degree_of}
 use Rattle.module_json.specs.ModuleFile.{degree_at}
 use Rattle.finite_module.specs.Module.{width, value, act_on, total}
-use Rattle.finite_module.specs.DerivedAction.{front, other_terms}
-use Rattle.finite_module.proofs.Widths.{length-total, length-act_on, degree_of-front, degree_of-single}
+use Rattle.milnor_basis.specs.Front.{front}
+use Rattle.finite_module.specs.DerivedAction.{other_terms}
+use Rattle.milnor_basis.proofs.Fronts.{degree_of-front}
+use Rattle.finite_module.proofs.Widths.{length-total, length-act_on, degree_of-single}
 use Rattle.module_check.proofs.Fronts.{others_in_degree}
 use Rattle.module_check.proofs.derive.Split.value.Goals as goal
 

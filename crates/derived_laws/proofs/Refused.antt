@@ -1,0 +1,110 @@
+-- A file that a module agrees with is not refused.
+use Rattle.std.specs.Bool.{beq}
+use Rattle.std.specs.Cmp.Lexicographic.{pointwise}
+use Rattle.std.specs.Int.{is_power_of_two}
+use Rattle.std.specs.List.{range_with_len}
+use Rattle.std.specs.Option.{option_or}
+use Rattle.std.proofs.Common.{◌≡◌, ℕ, suc, ◌+◌, ◌-◌, ◌<◌, ◌≤◌, ℤ, pos, ◌+ℤ◌, Bool, true, false, ◌||◌, Option, Some, None, List, [], ◌∷◌, All, length, get_or, if◌then◌else◌, refl, sym, ◌∙◌, ap, arith}
+use Rattle.std.proofs.lemmas.List.Elements.{All-head, All-tail, All-from_get_or}
+use Rattle.std.proofs.lemmas.List.FromFn.{length-range_with_len, get_or-range_with_len}
+use Rattle.f2_vec.specs.Spans.{combination}
+use Rattle.f2_vec.proofs.Combinations.{map_same, map_same_all}
+use Rattle.milnor_laws.proofs.Indecomposables.{single_trimmed}
+use Rattle.milnor_basis.specs.Exponents.{degree_of, IsTrimmed}
+use Rattle.milnor_basis.specs.Basis.{basis_of}
+use Rattle.milnor_basis.specs.Product.{product_terms}
+use Rattle.milnor_basis.proofs.BasisLemmas.{All-basis_of}
+use Rattle.module_json.specs.ModuleFile.{Generator, Entry, File, degree_at}
+use Rattle.module_json.specs.WellFormed.{IsEntryOf, NeverFall}
+use Rattle.finite_module.specs.Module.{generators_in, width, value, act_on, total}
+use Rattle.finite_module.specs.ModuleLaws.{generators_in-member}
+use Rattle.finite_module.specs.DerivedAction.{sum_vector, span, derived_module}
+use Rattle.finite_module.specs.Axioms.{IsModule, one_by_one, by_their_product}
+use Rattle.module_check.specs.Acceptance.{first_in, is_as_derived, listed_from, relation_on, relation_of, relation_in_degrees, relation_in_degree, first_relation, refusal_of}
+use Rattle.module_check.specs.declared.fault.CheckFault.TheVariants.{Listed, Relation}
+use Rattle.finite_module.proofs.Widths.{terms_of_degree}
+use Rattle.derived_laws.specs.Unique.{with_operators, ActsAsListed, RefusedHasNoModule}
+use Rattle.derived_laws.proofs.UniqueDerived.{derived_is_unique}
+
+first_in_all : {A B : Type 0} → (P : A → Type 0) (f : A → Option B) (xs : List A) → All P xs → ((x : A) → P x → f x ≡ None) → first_in f xs ≡ None
+first_in_all P f [] all h = refl
+first_in_all P f (x ∷ xs) all h = ap (λ o. option_or o (first_in f xs)) (h x (All-head P x xs all)) ∙ first_in_all P f xs (All-tail P x xs all) h
+
+All-range : (a n : ℕ) → All (λ k. (a ≤ k) × (k < a + n)) (range_with_len a n)
+All-range a n =
+    All-from_get_or (λ k. (a ≤ k) × (k < a + n)) (range_with_len a n) 0 (λ i l.
+    let h : i < n = omega (arith, length-range_with_len a n) in
+    let e : get_or (range_with_len a n) i 0 ≡ a + i = get_or-range_with_len a n i 0 h in
+    (omega arith, omega arith))
+
+same_bits : (v : List Bool) → pointwise beq v v ≡ true
+same_bits [] = refl
+same_bits (true ∷ v) = same_bits v
+same_bits (false ∷ v) = same_bits v
+
+equal_bits : (v w : List Bool) → v ≡ w → pointwise beq v w ≡ true
+equal_bits v w e = ap (pointwise beq v) (sym e) ∙ same_bits v
+
+module _ (f : File) (order : NeverFall f.generators) (operators : List (List (List Bool))) (is : IsModule (with_operators f operators)) (listed : ActsAsListed f operators) where
+  abbrev derived : List (List (List Bool))
+  derived = (derived_module f).operators
+
+  abbrev gs : List Generator
+  gs = f.generators
+
+  same : (r : List ℕ) (i : ℕ) → IsTrimmed r → i < length gs → value gs derived r i ≡ value gs operators r i
+  same r i h l = sym (derived_is_unique f operators order is listed r i h l)
+
+  act-same : (r : List ℕ) (t : ℤ) (v : List Bool) → IsTrimmed r → act_on gs derived r t v ≡ act_on gs operators r t v
+  act-same r t v h =
+      ap (combination (width gs (t +ℤ pos (degree_of r))) v) (map_same 0 (value gs derived r) (value gs operators r) (generators_in gs t) (λ k l. same r (get_or (generators_in gs t) k 0) h (generators_in-member gs t k l).0))
+
+  -- so the derived operators are those of a module
+  derived_relations : (r s : List ℕ) (i : ℕ) → IsTrimmed r → IsTrimmed s → 0 < degree_of r → 0 < degree_of s → i < length gs → one_by_one (derived_module f) r s i ≡ by_their_product (derived_module f) r s i
+  derived_relations r s i hr hs pr ps l =
+      ap (act_on gs derived r (degree_at gs i +ℤ pos (degree_of s))) (same s i hs l)
+      ∙ act-same r (degree_at gs i +ℤ pos (degree_of s)) (value gs operators s i) hr
+      ∙ is.relations r s i hr hs pr ps l
+      ∙ ap (total (width gs (degree_at gs i +ℤ pos (degree_of r + degree_of s)))) (map_same_all (λ t. IsTrimmed t × (degree_of t ≡ degree_of r + degree_of s)) (λ t. value gs operators t i) (λ t. value gs derived t i) (product_terms r s) (terms_of_degree r s) (λ t own. sym (same t i own.0 l)))
+
+  relation_on-none : (r s : List ℕ) (i : ℕ) → IsTrimmed r → IsTrimmed s → 0 < degree_of r → 0 < degree_of s → i < length gs → relation_on (derived_module f) r s i ≡ None
+  relation_on-none r s i hr hs pr ps l =
+      ap (λ b. if b then None else Some (Relation r s i)) (equal_bits (one_by_one (derived_module f) r s i) (by_their_product (derived_module f) r s i) (derived_relations r s i hr hs pr ps l))
+
+  pub first_relation-none : first_relation (derived_module f) ≡ None
+  first_relation-none =
+      let m = derived_module f in
+      first_in_all (λ n. (2 ≤ n) × (n < 2 + (span gs - 1))) (relation_in_degree m) (range_with_len 2 (span gs - 1)) (All-range 2 (span gs - 1)) (λ n hn.
+      first_in_all (λ d. (1 ≤ d) × (d < 1 + (n - 1))) (relation_in_degrees m n) (range_with_len 1 (n - 1)) (All-range 1 (n - 1)) (λ d hd.
+      let low = hd.0 in let high = hd.1 in
+      first_in_all (λ r. IsTrimmed r × (degree_of r ≡ d)) (λ r. first_in (relation_of m r) (basis_of (n - d))) (basis_of d) (All-basis_of d) (λ r hr.
+      first_in_all (λ s. IsTrimmed s × (degree_of s ≡ n - d)) (relation_of m r) (basis_of (n - d)) (All-basis_of (n - d)) (λ s hs.
+      let dr = hr.1 in let ds = hs.1 in
+      first_in_all (λ i. (0 ≤ i) × (i < 0 + length gs)) (relation_on m r s) (range_with_len 0 (length gs)) (All-range 0 (length gs)) (λ i hi.
+      let inside = hi.1 in
+      relation_on-none r s i hr.0 hs.0 (omega arith) (omega arith) (omega arith))))))
+
+  is_as_derived-true : (e : Entry) → IsEntryOf gs e → value gs operators (e.n ∷ []) e.generator ≡ sum_vector gs e.sum (degree_at gs e.generator +ℤ pos e.n) → is_as_derived (derived_module f) e ≡ true
+  is_as_derived-true e own agrees =
+      ap (λ b. is_power_of_two e.n || b) (equal_bits (value gs derived (e.n ∷ []) e.generator) (sum_vector gs e.sum (degree_at gs e.generator +ℤ pos e.n)) (same (e.n ∷ []) e.generator (single_trimmed e.n own.square) own.generator ∙ agrees))
+      ∙ or-true (is_power_of_two e.n)
+    where
+      or-true : (b : Bool) → (b || true) ≡ true
+      or-true true = refl
+      or-true false = refl
+
+  listed_from-none : (i : ℕ) (es : List Entry) → All (IsEntryOf gs) es → All (λ e. value gs operators (e.n ∷ []) e.generator ≡ sum_vector gs e.sum (degree_at gs e.generator +ℤ pos e.n)) es → listed_from (derived_module f) i es ≡ None
+  listed_from-none i [] own agrees = refl
+  listed_from-none i (e ∷ es) own agrees =
+      let P : Entry → Type 0 = λ x. value gs operators (x.n ∷ []) x.generator ≡ sum_vector gs x.sum (degree_at gs x.generator +ℤ pos x.n) in
+      ap (λ b. if b then listed_from (derived_module f) (suc i) es else Some (Listed i)) (is_as_derived-true e (All-head (IsEntryOf gs) e es own) (All-head P e es agrees))
+      ∙ listed_from-none (suc i) es (All-tail (IsEntryOf gs) e es own) (All-tail P e es agrees)
+
+pub refused_has_no_module : RefusedHasNoModule
+refused_has_no_module f good fault refused operators is listed agrees =
+    let none : refusal_of f ≡ None =
+    ap (λ o. option_or o (first_relation (derived_module f))) (listed_from-none f good.by_degree.ordered operators is listed 0 f.entries good.actions agrees) ∙ first_relation-none f good.by_degree.ordered operators is listed in
+    no (sym none ∙ refused)
+  where
+    no : None ≡ Some fault → ⊥
+    no e = cc

@@ -1,0 +1,12 @@
+//! What a module file says of an action determines it, as the contract of a function that does nothing.
+#![tactic(auto)]
+
+ghost use Rattle.derived_laws.specs.Unique.{DerivedActionIsUnique, RefusedHasNoModule};
+
+/// A module on the generators of a file whose squares Sq^n act as the file lists, where n is a power of two, has the action that is
+/// derived from the file. So if the file is refused, by an entry or by a relation, there is no module that agrees with all its
+/// entries.
+pub fn derived_action_is_unique()
+    ensures unique { DerivedActionIsUnique }
+    ensures refused { RefusedHasNoModule }
+{}

@@ -1,0 +1,5 @@
+mod Products
+mod Fronts
+mod Counts
+mod Walk
+mod Order
