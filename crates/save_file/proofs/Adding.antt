@@ -41,7 +41,7 @@ pub record Adds (m : Checked) (start : List Entry) (n : ℕ) (file body : List �
   pub read : square_in (over m) has.list body ≡ Some e
   pub is_of : IsOf (over m) start e.s e.above e.content
 
-pub adds : (q : Placed) (m : Checked) (start : List Entry) (n : ℕ) (file body : List ℕ) → HasSquares m start n file → IsReadAs q body → IsSquare q → q.resolved ≡ m → q.start ≡ start → IsNextIn (first_squares m n file) q → Adds m start n file body (entry_of q)
+adds : (q : Placed) (m : Checked) (start : List Entry) (n : ℕ) (file body : List ℕ) → HasSquares m start n file → IsReadAs q body → IsSquare q → q.resolved ≡ m → q.start ≡ start → IsNextIn (first_squares m n file) q → Adds m start n file body (entry_of q)
 adds q m start n file body h reads square resolved same next =
     let all = first_are_all m start n file h in
     let are : AreOf (over q.resolved) q.start h.list = subst (λ (x : Checked). AreOf (over x) q.start h.list) (sym resolved) (subst (λ (x : List Entry). AreOf (over m) x h.list) (sym same) h.are_of) in
@@ -61,7 +61,7 @@ module _ (m : Checked) (start : List Entry) (n : ℕ) (file body : List ℕ) (e 
   more_squares : squares_of (over m) (a.has.bodies ++ body ∷ []) ≡ ok (a.has.list ++ e ∷ [])
   more_squares = last_from (over m) a.has.bodies [] 0 a.has.list body e a.has.squares a.read
 
-  pub has_more : (c : List ℕ) → records_of (digest_of m) c ≡ and_last (records_of (digest_of m) file) body → HasSquares m start (n + 1) c
+  has_more : (c : List ℕ) → records_of (digest_of m) c ≡ and_last (records_of (digest_of m) file) body → HasSquares m start (n + 1) c
   has_more c is = record {
     bodies = a.has.bodies ++ body ∷ [];
     list = a.has.list ++ e ∷ [];
@@ -71,7 +71,7 @@ module _ (m : Checked) (start : List Entry) (n : ℕ) (file body : List ℕ) (e 
     are_of = All-append (λ (x : Entry). IsOf (over m) start x.s x.above x.content) a.has.list (e ∷ []) a.has.are_of (All-cons (λ (x : Entry). IsOf (over m) start x.s x.above x.content) e [] a.is_of (All-nil (λ (x : Entry). IsOf (over m) start x.s x.above x.content)));
   }
 
-  pub first_more : (c : List ℕ) → records_of (digest_of m) c ≡ and_last (records_of (digest_of m) file) body → first_squares m (n + 1) c ≡ first_squares m n file ++ e ∷ []
+  first_more : (c : List ℕ) → records_of (digest_of m) c ≡ and_last (records_of (digest_of m) file) body → first_squares m (n + 1) c ≡ first_squares m n file ++ e ∷ []
   unfolding has_more
   first_more c is = first_are_all m start (n + 1) c (has_more c is) ∙ ap (λ (l : List Entry). l ++ e ∷ []) (sym (first_are_all m start n file a.has))
 
@@ -79,7 +79,7 @@ module _ (m : Checked) (start : List Entry) (n : ℕ) (file body : List ℕ) (e 
   has_same c is = record { bodies = a.has.bodies; list = a.has.list; records = is ∙ a.has.records; counted = a.has.counted; squares = a.has.squares; are_of = a.has.are_of }
 
   -- the first so many stay
-  pub first_stay : (c : List ℕ) → IsBeforeOrAfter (digest_of m) (records_of (digest_of m) file) body c → first_squares m n c ≡ first_squares m n file
+  first_stay : (c : List ℕ) → IsBeforeOrAfter (digest_of m) (records_of (digest_of m) file) body c → first_squares m n c ≡ first_squares m n file
   first_stay c (inl is) = ap (λ (r : Records). list_in (of_records (over m) (first_records n r))) is
   first_stay c (inr is) =
       let few = a.has.counted in
@@ -89,7 +89,7 @@ module _ (m : Checked) (start : List Entry) (n : ℕ) (file body : List ℕ) (e 
       ∙ sym (first_are_all m start n file a.has)
 
   -- the squares that an image stands for
-  pub image_between : (c : List ℕ) → IsBeforeOrAfter (digest_of m) (records_of (digest_of m) file) body c → (squares_in m c ≡ Some (first_squares m n file)) ⊎ (squares_in m c ≡ Some (first_squares m n file ++ e ∷ []))
+  image_between : (c : List ℕ) → IsBeforeOrAfter (digest_of m) (records_of (digest_of m) file) body c → (squares_in m c ≡ Some (first_squares m n file)) ⊎ (squares_in m c ≡ Some (first_squares m n file ++ e ∷ []))
   image_between c (inl is) = inl (all_in m start n c (has_same c is) ∙ ap (λ (l : List Entry). Some l) (first_stay c (inl is)))
   image_between c (inr is) = inr (all_in m start (n + 1) c (has_more c is) ∙ ap (λ (l : List Entry). Some l) (first_more c is))
 

@@ -37,13 +37,13 @@ pub record Fits {D : Type 0} (now : D → Option (List ℕ)) (images : D → Lis
   pub square : IsSquare q
 
 module _ {D : Type 0} (now : D → Option (List ℕ)) (moment : D → ℕ) (images : D → List ℕ → Type 0) (since : D → ℕ → List ℕ → Type 0) (q : Placed) (body : List ℕ) (old : SaveState D) (f : Fits now images old q body) (journal : JournalState D) where
-  pub put_here : AreTold (Ends old body) (now old.journal.disk) (now journal.disk) → IfSome (now old.journal.disk) (λ file. IsTold (now journal.disk) (HasLast old body file)) → kept_in now (with_journal old journal (old.count + 1)) ≡ with_squares (kept_in now old) (entry_of q ∷ [])
+  put_here : AreTold (Ends old body) (now old.journal.disk) (now journal.disk) → IfSome (now old.journal.disk) (λ file. IsTold (now journal.disk) (HasLast old body file)) → kept_in now (with_journal old journal (old.count + 1)) ≡ with_squares (kept_in now old) (entry_of q ∷ [])
   put_here told last = adding.put q old.resolved old.start old.count old.journal.digest body f.takes.digest f.reads f.square f.resolved f.start (now old.journal.disk) (now journal.disk) f.takes.has f.next told last
 
-  pub unput_here : AreTold (Ends old body) (now old.journal.disk) (now journal.disk) → kept_in now (with_journal old journal old.count) ≡ kept_in now old
+  unput_here : AreTold (Ends old body) (now old.journal.disk) (now journal.disk) → kept_in now (with_journal old journal old.count) ≡ kept_in now old
   unput_here told = adding.unput q old.resolved old.start old.count old.journal.digest body f.takes.digest f.reads f.square f.resolved f.start (now old.journal.disk) (now journal.disk) f.takes.has f.next told
 
-  pub takes_more : IsLive now images journal → journal.digest ≡ old.journal.digest → old.journal.end < journal.end → AreTold (Ends old body) (now old.journal.disk) (now journal.disk) → IfSome (now old.journal.disk) (λ file. IsTold (now journal.disk) (HasLast old body file)) → TakesSquares now images (with_journal old journal (old.count + 1))
+  takes_more : IsLive now images journal → journal.digest ≡ old.journal.digest → old.journal.end < journal.end → AreTold (Ends old body) (now old.journal.disk) (now journal.disk) → IfSome (now old.journal.disk) (λ file. IsTold (now journal.disk) (HasLast old body file)) → TakesSquares now images (with_journal old journal (old.count + 1))
   takes_more live same grown told last = record {
     live = live;
     digest = same ∙ f.takes.digest;
@@ -51,7 +51,7 @@ module _ {D : Type 0} (now : D → Option (List ℕ)) (moment : D → ℕ) (imag
     has = adding.counted q old.resolved old.start old.count old.journal.digest body f.takes.digest f.reads f.square f.resolved f.start (now old.journal.disk) (now journal.disk) f.takes.has f.next told last;
   }
 
-  pub between_here : (n : ℕ) → IfSome (now old.journal.disk) (λ file. LeavesOnly moment since old.journal.disk journal.disk (Ends old body file)) → IfSome (kept_in now old) (λ list. (image : Option (List Entry)) → WasLeft since (with_journal old journal n) (moment old.journal.disk) image → IsImageBetween list q image)
+  between_here : (n : ℕ) → IfSome (now old.journal.disk) (λ file. LeavesOnly moment since old.journal.disk journal.disk (Ends old body file)) → IfSome (kept_in now old) (λ list. (image : Option (List Entry)) → WasLeft since (with_journal old journal n) (moment old.journal.disk) image → IsImageBetween list q image)
   between_here n leaves = adding.between q old.resolved old.start old.count old.journal.digest body f.takes.digest f.reads f.square f.resolved f.start moment since old.journal.disk journal.disk (now old.journal.disk) f.takes.has f.next leaves
 
 -- ---- the same of the value that contracts see
@@ -77,7 +77,7 @@ module _ {D : Type 0} (now : D → Option (List ℕ)) (moment : D → ℕ) (imag
 -- ---- moments
 
 -- where a disk gets no call
-pub no_call : {D : Type 0} (moment : D → ℕ) (since : D → ℕ → List ℕ → Type 0) (d : D) → LeavesOnly moment since d d (λ _. Unit {0})
+no_call : {D : Type 0} (moment : D → ℕ) (since : D → ℕ → List ℕ → Type 0) (d : D) → LeavesOnly moment since d d (λ _. Unit {0})
 no_call moment since d = record { later = omega arith; each = λ c left. tt; earlier = λ t c le left. inl left; keeps = λ t c le left. left }
 
 abbrev pub HasEarlier : {D : Type 0} → (D → Option (List ℕ)) → (D → ℕ) → (D → ℕ → List ℕ → Type 0) → SaveState D → SaveState D → Type 0

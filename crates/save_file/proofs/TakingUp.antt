@@ -70,13 +70,13 @@ start_are_of table h read plain = All-from_recursion (λ (e : Entry). IsOf (over
 -- ---- bodies, one after the other
 
 -- what is still to be read of the bodies gives what all of them give
-pub one_read : (m : Module) (all : Result (List Entry) ℕ) (before : List Entry) (number : ℕ) (body : List ℕ) (rest : List (List ℕ)) (e : Entry) (after : List Entry) → squares_from m before number (body ∷ rest) ≡ all → square_in m before body ≡ Some e → after ≡ before ++ e ∷ [] → squares_from m after (suc number) rest ≡ all
+one_read : (m : Module) (all : Result (List Entry) ℕ) (before : List Entry) (number : ℕ) (body : List ℕ) (rest : List (List ℕ)) (e : Entry) (after : List Entry) → squares_from m before number (body ∷ rest) ≡ all → square_in m before body ≡ Some e → after ≡ before ++ e ∷ [] → squares_from m after (suc number) rest ≡ all
 one_read m all before number body rest e after h here is =
     ap (λ (l : List Entry). squares_from m l (suc number) rest) is
     ∙ sym (ap (λ o. and_then_squares o number (λ x. squares_from m (before ++ x ∷ []) (suc number) rest)) here)
     ∙ h
 
-pub one_strange : (m : Module) (all : Result (List Entry) ℕ) (before : List Entry) (number : ℕ) (body : List ℕ) (rest : List (List ℕ)) → squares_from m before number (body ∷ rest) ≡ all → square_in m before body ≡ None → all ≡ Err number
+one_strange : (m : Module) (all : Result (List Entry) ℕ) (before : List Entry) (number : ℕ) (body : List ℕ) (rest : List (List ℕ)) → squares_from m before number (body ∷ rest) ≡ all → square_in m before body ≡ None → all ≡ Err number
 one_strange m all before number body rest h none =
     sym h ∙ ap (λ o. and_then_squares o number (λ x. squares_from m (before ++ x ∷ []) (suc number) rest)) none
 
@@ -137,6 +137,3 @@ pub ends_with : (m : Checked) (all : Result (List Entry) ℕ) (before : List Ent
 ends_with m all before i bodies l h =
     let len = length-map bodies (λ (v : Vec ℕ Global). v.items) in
     sym h ∙ ap (squares_from (over m) before i) (drop_all i (contents bodies) (omega arith))
-
-pub some_body : (bodies : List (Vec ℕ Global)) (i : ℕ) → i < length bodies → contents bodies ≡ [] → ⊥
-some_body bodies i l e = let len = length-map bodies (λ (v : Vec ℕ Global). v.items) in let none = ap length e in omega arith
