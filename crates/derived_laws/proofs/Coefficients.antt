@@ -22,6 +22,7 @@ use Rattle.milnor_laws.proofs.RightUnit.{product_has_unit}
 use Rattle.adem_laws.specs.Adem.{square, is_term}
 use Rattle.adem_laws.proofs.Products.{adem_relations}
 use Rattle.finite_module.specs.DerivedAction.{doubled_below, power_below, adem_terms}
+use Rattle.finite_module.proofs.Derived.{above_one}
 
 -- the greatest power of two below n
 
@@ -53,12 +54,6 @@ doubled (suc k) b n j other e l enough = at (nat_lt (2 * b) n) refl
         let differ : n ≢ 2 * b = λ x. false≢true (sym other ∙ ap is_power_of_two (x ∙ twice) ∙ power_is_power (suc j)) in
         let last : n ≤ 2 * b = ltb-false (2 * b) n h in
         record { exponent = j; is = e; below = l; near = omega arith }
-
-above_one : (n : ℕ) → 0 < n → is_power_of_two n ≡ false → 1 < n
-unfolding lib.Count.ones
-above_one zero p h = absurd (omega arith)
-above_one (suc zero) p h = let one : is_power_of_two 1 ≡ true = refl in absurd (false≢true (sym h ∙ one))
-above_one (suc (suc n)) p h = omega arith
 
 pub power_below_is : (n : ℕ) → 0 < n → is_power_of_two n ≡ false → IsPowerBelow n (power_below n)
 power_below_is n l other = doubled n 1 n 0 other refl (above_one n l other) (omega arith)

@@ -2,7 +2,7 @@
 use Rattle.std.proofs.Common.{◌≡◌, ℕ, zero, suc, ◌+◌, ◌-◌, ◌<◌, ◌≤◌, Bool, true, false, ◌&&◌, not, Option, List, [], ◌∷◌, ◌++◌, length, map, take, drop, set, reverse, refl, ap, sym, ◌∙◌, arith, subst, inl, inr}
 use Rattle.std.specs.List.{range_with_len, filter}
 use Rattle.std.proofs.lemmas.Bool.{cases_lt, both_ways}
-use Rattle.std.proofs.lemmas.List.{ext_get_or, get_or-map, get_or-take, get_or-drop, get_or_past, length-map, length-append, map-append, get_or_append_left, get_or-append_right, set-append_left, set-append_right, take_all, length-reverse}
+use Rattle.std.proofs.lemmas.List.{ext_get_or, get_or-take, get_or-drop, get_or_past, length-map, length-append, map-append, get_or_append_left, get_or-append_right, set-append_left, set-append_right, take_all, length-reverse}
 use Rattle.std.proofs.lemmas.List.FromFn.{length-map-range_with_len, get_or-map-range_with_len}
 use Rattle.f2_vec.specs.Vectors.{bit, sum_of, zeros, IsZero, IsFirstOne, IsNextOne}
 use Rattle.f2_vec.specs.Spans.{row, HaveWidth, combination, unit_vector}
@@ -15,7 +15,7 @@ use Rattle.f2_matrix.specs.Preimages.{pivot_of}
 use Rattle.f2_matrix.specs.Reduction.{Reduction, augmented, has_one, image_part, chosen_part, kernel_part, IsReductionOf}
 use Rattle.f2_matrix.specs.Transpose.{column, columns}
 use Rattle.f2_matrix.proofs.Kept.{place_of, kept_at}
-use Rattle.f2_matrix.proofs.Parts.{has_one-zero, has_one-nonzero, left_first, has_left, has_no_left, zero_has_none, zero_below}
+use Rattle.f2_matrix.proofs.Parts.{has_one-zero, has_one-nonzero, left_first, has_left, has_no_left, zero_has_none, zero_below, row-map_take}
 use Rattle.f2_matrix.proofs.Pivots.{pivot_first}
 use Rattle.f2_matrix.proofs.Unique.{zero_or_first}
 use Rattle.f2_dual.specs.Inside.Coordinates.{coordinates, pivot_units, relation_of, preimage_at, preimages_of}
@@ -139,11 +139,8 @@ form_reduction n w rows candidates form image kernel e f h i k =
 pivot_left : (n : ℕ) (v : List Bool) → (IsZero (take n v) → ⊥) → pivot_of v ≡ pivot_of (take n v)
 pivot_left n v nonzero = pivot_first v (pivot_of (take n v)) (left_first n v (pivot_of (take n v)) (is_pivot (take n v) nonzero)).1
 
-row-left : (n : ℕ) (rows : List (List Bool)) (i : ℕ) → i < length rows → row (map (take n) rows) i ≡ take n (row rows i)
-row-left n rows i l = get_or-map (take n) rows i [] [] l
-
 nonzero_left : (n : ℕ) (rows : List (List Bool)) → HasNoZeroRow (map (take n) rows) → (i : ℕ) → i < length rows → IsZero (take n (row rows i)) → ⊥
-nonzero_left n rows h i l z = h i (omega (arith, length-map rows (take n))) (subst IsZero (sym (row-left n rows i l)) z)
+nonzero_left n rows h i l z = h i (omega (arith, length-map rows (take n))) (subst IsZero (sym (row-map_take n rows i l)) z)
 
 pub HasNoZeroRow-left : (n : ℕ) (rows : List (List Bool)) → HasNoZeroRow (map (take n) rows) → HasNoZeroRow rows
 HasNoZeroRow-left n rows h i l z = nonzero_left n rows h i l (zero_below n (row rows i) z)
@@ -162,10 +159,7 @@ IsTableOfPivots-left n rows table h t = record {
 }
   where
     same : (i : ℕ) → i < length rows → pivot_of (row rows i) ≡ pivot_of (row (map (take n) rows) i)
-    same i l = pivot_left n (row rows i) (nonzero_left n rows h i l) ∙ ap pivot_of (sym (row-left n rows i l))
-
-pub row-right : (n : ℕ) (rows : List (List Bool)) (i : ℕ) → i < length rows → row (map (drop n) rows) i ≡ drop n (row rows i)
-row-right n rows i l = get_or-map (drop n) rows i [] [] l
+    same i l = pivot_left n (row rows i) (nonzero_left n rows h i l) ∙ ap pivot_of (sym (row-map_take n rows i l))
 
 -- the first 1 right of the bar is the pivot of what stands there
 pub pivot_right : (n p : ℕ) (v : List Bool) → IsNextOne v n p → pivot_of (drop n v) ≡ p - n

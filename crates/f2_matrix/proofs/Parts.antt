@@ -201,10 +201,10 @@ HaveWidth-filter n test rows w i l = let k = kept_at test [] rows i l in ap leng
 filter-IsInSpan : (n : ℕ) (test : List Bool → Bool) (rows : List (List Bool)) → HaveWidth n rows → (i : ℕ) → i < length (filter test rows) → IsInSpan n rows (row (filter test rows) i)
 filter-IsInSpan n test rows w i l = let k = kept_at test [] rows i l in subst (IsInSpan n rows) (sym k.1) (row-IsInSpan n rows (place_of test rows i) w k.0)
 
-row-map_take : (n : ℕ) (rows : List (List Bool)) (i : ℕ) → i < length rows → row (map (take n) rows) i ≡ take n (row rows i)
+pub row-map_take : (n : ℕ) (rows : List (List Bool)) (i : ℕ) → i < length rows → row (map (take n) rows) i ≡ take n (row rows i)
 row-map_take n rows i l = get_or-map (take n) rows i [] [] l
 
-row-map_drop : (n : ℕ) (rows : List (List Bool)) (i : ℕ) → i < length rows → row (map (drop n) rows) i ≡ drop n (row rows i)
+pub row-map_drop : (n : ℕ) (rows : List (List Bool)) (i : ℕ) → i < length rows → row (map (drop n) rows) i ≡ drop n (row rows i)
 row-map_drop n rows i l = get_or-map (drop n) rows i [] [] l
 
 -- two vectors of two parts

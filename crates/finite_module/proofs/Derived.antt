@@ -5,6 +5,7 @@ use Rattle.std.specs.List.{range_with_len, list_any}
 use Rattle.std.specs.Cmp.Lexicographic.{pointwise}
 use Rattle.std.proofs.Math.Numerals.{add-one}
 use borrow.Author.Tests.{ltb-true}
+use Rattle.std.proofs.lemmas.Bool.{false≢true}
 use Rattle.std.proofs.lemmas.List.{length-map, length_push}
 use Rattle.std.proofs.lemmas.List.Elements.{All-nil, All-append, All-same, All-filter, All-weaker, All-from_get_or}
 use Rattle.std.proofs.Math.Seq.{get_or-append_seam}
@@ -145,3 +146,10 @@ derived_identity f i h =
     let within : i < length (range_with_len 0 (length f.generators)) = omega (arith, length-range_with_len 0 (length f.generators)) in
     let at : slice_get (derived_operator f [] []) i ≡ Some (unit f.generators i) = slice_get-map (derived_value f [] []) (range_with_len 0 (length f.generators)) i ∙ ap (option_map (derived_value f [] [])) (slice_get-get_or (range_with_len 0 (length f.generators)) i 0 within ∙ ap Some (get_or-range_with_len 0 (length f.generators) i 0 h ∙ zero-add i)) in
     ap (λ o. or_zeros (width f.generators (degree_at f.generators i +ℤ pos 0)) (option_and_then (λ values. slice_get values i) o)) first ∙ ap (or_zeros (width f.generators (degree_at f.generators i +ℤ pos 0))) at
+
+-- 1 is a power of two
+pub above_one : (n : ℕ) → 0 < n → is_power_of_two n ≡ false → 1 < n
+unfolding lib.Count.ones
+above_one zero p h = absurd (omega arith)
+above_one (suc zero) p h = let one : is_power_of_two 1 ≡ true = refl in absurd (false≢true (sym h ∙ one))
+above_one (suc (suc n)) p h = omega arith

@@ -4,10 +4,10 @@ use Rattle.f2_vec.specs.Spans.{row, HaveWidth}
 use Rattle.f2_matrix.specs.Echelon.{IsEchelonForm}
 use Rattle.f2_matrix.specs.Preimages.{pivot_of}
 use Rattle.f2_matrix.specs.Reduction.{augmented, IsReductionOf}
-use Rattle.f2_matrix.proofs.Parts.{HaveWidth-filter}
+use Rattle.f2_matrix.proofs.Parts.{HaveWidth-filter, row-map_drop}
 use Rattle.f2_dual.specs.Inside.Coordinates.{coordinates, new_rows, preimages_of, relations_of}
 use Rattle.f2_dual.specs.Inside.Form.{is_left, parts_of}
-use Rattle.f2_dual.proofs.Form.{form_reduction, row-right, none_left}
+use Rattle.f2_dual.proofs.Form.{form_reduction, none_left}
 use Rattle.f2_dual.proofs.OnCandidates.{kernel_pivot}
 use Rattle.f2_dual.proofs.Step.{parts_of as parts_of_choice, reduction_kernel, built}
 use Rattle.f2_dual.proofs.choice.choose_covered.Goals as goal
@@ -61,7 +61,7 @@ new_rows-requires-clause-within c =
     let g = parts_of_choice c.args.matrix.cols rows candidates r c.requires.widths c.requires.reduced c.requires.nonzero c.requires.covered h in
     λ i l.
     let m : i < length r.kernel = omega (arith, length-map kernel (drop n)) in
-    let at : pivot_of (row r.kernel i) ≡ pivot_of (drop n (row kernel i)) = ap pivot_of (row-right n kernel i l) in
+    let at : pivot_of (row r.kernel i) ≡ pivot_of (drop n (row kernel i)) = ap pivot_of (row-map_drop n kernel i l) in
     omega (arith, ap length c.as_slice.ensures, kernel_pivot c.args.matrix.cols rows candidates r.image r.chosen r.kernel g i m)
 
 pub preimages_and_relations-requires-clause-bar : goal.preimages_and_relations-requires-clause-bar

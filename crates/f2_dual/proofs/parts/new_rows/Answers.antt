@@ -4,7 +4,8 @@ use Rattle.f2_vec.specs.Vectors.{IsZero, bit}
 use Rattle.f2_vec.specs.Spans.{row}
 use Rattle.f2_vec.proofs.Combinations.{map-map}
 use Rattle.f2_matrix.specs.Preimages.{pivot_of}
-use Rattle.f2_dual.proofs.Form.{pivot_right, row-right}
+use Rattle.f2_matrix.proofs.Parts.{row-map_drop}
+use Rattle.f2_dual.proofs.Form.{pivot_right}
 use Rattle.f2_dual.proofs.Loops.{map_more}
 use Rattle.f2_dual.proofs.parts.new_rows.Goals as goal
 use Rattle.f2_dual.proofs.parts.new_rows.Goals.{in-Some+in_ok-try_copy+in_ok-push, in_default}
@@ -44,5 +45,5 @@ loop-v-preserved c =
           (w.in_ok-try_copy.ensures ∙ x ∙ ap (row candidates) (sym is)))))
       | in_default w ↦
           let m : j < length (map (drop n) kernel) = omega (arith, length-map kernel (drop n), c.loop-v-test.true) in
-          absurd (c.requires.nonzero j m (subst IsZero (sym (row-right n kernel j c.loop-v-test.true)) (λ k. get_or-drop n (row kernel j) k false ∙ ap (λ r. bit r (n + k)) (sym v) ∙ w.in_default.ensures.none.0 refl (n + k) (omega arith))))
+          absurd (c.requires.nonzero j m (subst IsZero (sym (row-map_drop n kernel j c.loop-v-test.true)) (λ k. get_or-drop n (row kernel j) k false ∙ ap (λ r. bit r (n + k)) (sym v) ∙ w.in_default.ensures.none.0 refl (n + k) (omega arith))))
     ]
