@@ -1,4 +1,4 @@
--- The echelon form of [D | I], whose bar stands at place n, with its rows as they are.
+-- The echelon form of a matrix D with the unit matrix to the right of it, behind a bar at place n, with its rows as they are.
 use Rattle.std.specs.Prelude.{ℕ, Bool, ◌&&◌, not, List, map, take, drop}
 use Rattle.f2_matrix.specs.Reduction.{Reduction, has_one}
 
