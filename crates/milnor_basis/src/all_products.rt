@@ -175,23 +175,23 @@ fn fill_all(
     width: usize,
     row: usize,
     column: usize,
-    open: Open,
+    open: &Open,
     table: &mut BitVec,
 )
     requires degree { degrees.0 ≤ basis.now }
     requires product { degrees.1 ≤ basis.now }
     requires small { degrees.0 ≤ degrees.1 }
     requires smaller { degrees.1 ≤ 255 }
-    requires room { open.room + degree_of open.rows ≤ 255 }
+    requires room { open.now.room + degree_of open.now.rows ≤ 255 }
     requires table { length table.old ≡ length (basis_of degrees.0) * length (basis_of degrees.1) }
     requires row { row ≤ 8 }
     requires width { width ≤ 8 }
     requires column { column ≤ width }
-    ensures turned { TurnsOverAll degrees.0 degrees.1 width row column open.room open.rows open.columns open.diagonals table.old table.new }
+    ensures turned { TurnsOverAll degrees.0 degrees.1 width row column open.now.room open.now.rows open.now.columns open.now.diagonals table.old table.new }
     ensures size { length table.new ≡ length table.old }
 {
     if row == 0 {
-        fill_top(basis, degrees, column, &open, table);
+        fill_top(basis, degrees, column, open, table);
         return;
     }
     let (next_row, next_column) = next_place(width, row, column);
@@ -212,7 +212,7 @@ fn fill_all(
                 width,
                 next_row,
                 next_column,
-                open.put(row, column, put),
+                &open.put(row, column, put),
                 table,
             );
             number = next_apart(put, digits);
@@ -304,7 +304,7 @@ pub(crate) fn products_of(
         s.len(),
         greatest_len(elements),
         s.len(),
-        Open::of(degree, s),
+        &Open::of(degree, s),
         &mut bits,
     );
     Ok(Products { width, bits })
