@@ -53,13 +53,14 @@ list_in (Err fault) = []
 abbrev pub first_squares : Checked → ℕ → List ℕ → List Entry
 first_squares m n file = list_in (of_records (over m) (first_records n (records_of (digest_of m) file)))
 
--- ---- how faults are told
+-- ---- why a file was not taken up
 
--- want of memory is told as itself, wherever it was
+-- a fault of opening it, where want of memory has an answer of its own
 abbrev pub opening_refusal : OpenFault → ResumeFault
 opening_refusal OpenMemory = Memory
 opening_refusal fault = Open fault
 
+-- a body that was not read
 abbrev pub body_refusal : DecodeFault → ResumeFault
 body_refusal (StrangeBody number) = Strange number
 body_refusal BodyMemory = Memory
