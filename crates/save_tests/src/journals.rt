@@ -1,33 +1,21 @@
-//! Journals on disks in memory, file by file. Files are written in hexadecimal digits; digests are those of another program.
+//! Journals on disks in memory, file by file.
+use crate::files::{
+    DAMAGED, EIGHT_DIGEST, MAGIC, OURS, SEVEN_DIGEST, SQUARE, ZEROS, bytes, digest, disk,
+    sound_disk,
+};
 use edge::MemDisk;
 use save_journal::{Journal, OpenFault, frame};
 use std::alloc::Global;
 use std::test::Fail;
 
-/// What the records of these files belong to: the digest of `gen x0 0` and a newline.
-const OURS: &str = "498fadf13dde22e6898175cb947cb18f477cda6d5603c7a14c475e229eaaa943";
-
-/// That of something else.
+/// A digest of something else.
 const THEIRS: &str = "0101010101010101010101010101010101010101010101010101010101010101";
-
-/// What a save file begins with.
-const MAGIC: &str = "4558545341564531";
 
 /// The record of the body 07 behind its gate.
 const SEVEN: &str =
     "000000000000000107ca358758f6d27e6cf45272937977a748fd88391db679ceda7dc7bf1f005ee879";
 
-/// The digest of the body 07.
-const SEVEN_DIGEST: &str = "ca358758f6d27e6cf45272937977a748fd88391db679ceda7dc7bf1f005ee879";
-
-/// The digest of the body 08.
-const EIGHT_DIGEST: &str = "beead77994cf573341ec17b58bbf7eb34d2711c993c1d976b128b3188dc1829a";
-
-/// The record of the first square of the sphere behind its gate.
-const SQUARE: &str =
-    "0000000000000026010000000000000000000000010000000000000001010000000000000000000000000000000169b7c844de9a6419754dc7e857dbba1a6f8b2f2ddeaefedb344ea3bea60d3953";
-
-/// The body of that square, and a comma.
+/// The body of the first square of the sphere, and a comma.
 const SQUARE_TOLD: &str =
     "0100000000000000000000000100000000000000010100000000000000000000000000000001,";
 
@@ -38,34 +26,6 @@ const SQUARE_BODY: &str =
 /// The record of the empty body behind its gate, and the next gate.
 const NOTHING: &str =
     "0000000000000000e3b0c44298fc1c149afbf4c8996fb92427ae41e4649b934ca495991b7852b85500";
-
-/// The body 08 with the digest of 07 behind its gate, and the next gate.
-const DAMAGED: &str =
-    "000000000000000108ca358758f6d27e6cf45272937977a748fd88391db679ceda7dc7bf1f005ee87900";
-
-/// Fifty zeros.
-const ZEROS: &str =
-    "0000000000000000000000000000000000000000000000000000000000000000000000000000000000000000000000000000";
-
-/// The bytes of a text of these parts.
-fn bytes(alloc: Global, parts: &[&str]) -> Result<Vec<u8>, Fail> {
-    let mut text = String::new(alloc);
-    for part in parts {
-        text.push_str(part)?;
-    }
-    Ok(hex::decode(alloc, text.as_str())?)
-}
-
-fn digest(text: &str) -> Result<[u8; 32], Fail> {
-    let mut bytes = [0; 32];
-    hex::decode_to_slice(text, &mut bytes)?;
-    Ok(bytes)
-}
-
-/// A disk that holds these bytes and fails after so many calls.
-fn disk(alloc: Global, bytes: Vec<u8>, stop_after: u64) -> Result<MemDisk, Fail> {
-    Ok(MemDisk::new(alloc, bytes, 10000, Vec::new(alloc), stop_after)?)
-}
 
 /// The bodies of the records in hexadecimal digits, each with a comma behind it, or the refusal; and the disk.
 fn opened(alloc: Global, disk: MemDisk) -> Result<(Result<String, OpenFault>, MemDisk), Fail> {
@@ -90,7 +50,7 @@ fn answer(alloc: Global, parts: [&str; 6]) -> Result<Result<String, OpenFault>, 
     } else {
         bytes(alloc, &[MAGIC, OURS, "00"])?
     };
-    let (answer, disk) = opened(alloc, disk(alloc, file, u64::MAX)?)?;
+    let (answer, disk) = opened(alloc, sound_disk(alloc, file)?)?;
     if disk.bytes() != kept.as_slice() {
         return Err("the file is another".into());
     }
@@ -179,7 +139,7 @@ fn refusals(rt: HostRuntime) -> Result<(), Fail> {
 /// A disk that was empty and stops after so many calls, once it was opened and the body 07 was appended; and whether that was
 /// answered with Ok.
 fn with_seven(alloc: Global, stop_after: u64) -> Result<(bool, MemDisk), Fail> {
-    let empty = disk(alloc, Vec::new(alloc), stop_after)?;
+    let empty = disk(alloc, Vec::new(alloc), &[], stop_after)?;
     match Journal::open(alloc, empty, digest(OURS)?) {
         Ok((mut journal, _)) => {
             let Ok(framed) = frame(alloc, [7u8].to_vec(alloc)?) else {
@@ -208,7 +168,7 @@ fn stops(rt: HostRuntime) -> Result<(), Fail> {
             (2, stop_after == 8),
         ] {
             let image = stopped.image(alloc, pick)?;
-            let (found, _) = opened(alloc, disk(alloc, image, u64::MAX)?)?;
+            let (found, _) = opened(alloc, sound_disk(alloc, image)?)?;
             let want = if has { "07," } else { "" };
             assert_eq!(rt;
                 found.ok().as_deref(),
@@ -228,7 +188,8 @@ fn appends(rt: HostRuntime) -> Result<(), Fail> {
         alloc,
         &[MAGIC, OURS, "a5", SEVEN, "a7", SQUARE, "a5", SQUARE],
     )?;
-    let Ok((mut journal, _)) = Journal::open(alloc, disk(alloc, file, 7)?, digest(OURS)?) else {
+    let Ok((mut journal, _)) = Journal::open(alloc, disk(alloc, file, &[], 7)?, digest(OURS)?)
+    else {
         return Err("not opened".into());
     };
     let Ok(framed) = frame(alloc, Vec::new(alloc)) else {
@@ -243,7 +204,7 @@ fn appends(rt: HostRuntime) -> Result<(), Fail> {
         &[MAGIC, OURS, "a5", SEVEN, "a5", NOTHING, rest, "a5", SQUARE],
     )?;
     assert_eq!(rt; appended.bytes(), want.as_slice());
-    let again = disk(alloc, appended.image(alloc, 0)?, u64::MAX)?;
+    let again = sound_disk(alloc, appended.image(alloc, 0)?)?;
     let (found, _) = opened(alloc, again)?;
     assert_eq!(rt; found.ok().as_deref(), Some("07,,"));
     Ok(())
@@ -255,7 +216,7 @@ fn a_file(rt: HostRuntime) -> Result<(), Fail> {
     let alloc = rt.alloc();
     let Ok((mut journal, _)) = Journal::open(
         alloc,
-        disk(alloc, Vec::new(alloc), u64::MAX)?,
+        sound_disk(alloc, Vec::new(alloc))?,
         digest(OURS)?,
     ) else {
         return Err("not opened".into());

@@ -1,5 +1,9 @@
-//! Tests of the journal.
+//! Tests of save files.
 #![tactic(auto)]
 
+#[cfg(test)]
+mod bodies;
+#[cfg(test)]
+mod files;
 #[cfg(test)]
 mod journals;

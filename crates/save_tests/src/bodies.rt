@@ -1,0 +1,249 @@
+//! The body of the sphere's first square, byte by byte; those of a small resolution, written and read again; and bodies that break
+//! one rule each.
+ghost use Rattle.std.specs.Prelude.{◌≤◌, IfOk};
+ghost use Rattle.square.specs.declared.range.TheConstants.{MAX_S, MAX_T};
+ghost use Rattle.square.specs.Tables.{AllRead};
+
+use crate::files::bytes;
+use f2_vec::BitVec;
+use finite_module::Module;
+use memory::Memory;
+use resolution_step::resolve_alone;
+use save_file::{DecodeFault, decode, encode};
+use square::{KeepFault, NoKeep, Range, Square, Table};
+use std::alloc::Global;
+use std::sync::Arc;
+use std::test::Fail;
+
+// The body of the sphere's square (0, 0), in hexadecimal digits: its kind, row and degrees above the bottom; one image in the
+// module's one dimension; and no kernel row in the one dimension of F_0.
+const PLACE: &str = "0100000000";
+
+const IMAGES: &str = "0000000000000001000000000000000101";
+
+const KERNEL: &str = "00000000000000000000000000000001";
+
+// The sphere's table of no square.
+fn nothing_read(alloc: Global) -> Result<Table, Memory>
+    ensures { IfOk result (λ table. AllRead table.rows) }
+{
+    Table::new(alloc, Module::sphere(alloc)?)
+}
+
+// The table with the square of one more body.
+fn with_body(
+    alloc: Global,
+    mut table: Table,
+    number: u64,
+    body: &[u8],
+) -> Result<Table, DecodeFault>
+    requires { AllRead table.rows }
+    ensures { IfOk result (λ table. AllRead table.rows) }
+{
+    let square = decode(alloc, &table, number, body)?;
+    // What is asked of a table stands in the contract of a look at it.
+    let _front = table.front(0);
+    let Ok(square) = Arc::new(alloc, square) else {
+        return Err(DecodeFault::Memory);
+    };
+    match table.push(square) {
+        Ok(()) => Ok(table),
+        Err(_) => Err(DecodeFault::Memory),
+    }
+}
+
+// The sphere's table of the squares of these bodies.
+fn read_all(alloc: Global, bodies: &[Vec<u8>]) -> Result<Table, DecodeFault>
+    ensures { IfOk result (λ table. AllRead table.rows) }
+{
+    let mut table = nothing_read(alloc)?;
+    for i in 0..bodies.len() {
+        table = with_body(alloc, table, i as u64, bodies[i].as_slice())?;
+    }
+    Ok(table)
+}
+
+// The table through the range; nothing is kept.
+fn resolved(alloc: Global, table: Table, range: Range) -> Result<Table, Memory>
+    requires rows { range.s ≤ MAX_S }
+    requires degrees { range.t ≤ MAX_T }
+{
+    match resolve_alone(alloc, table, range, NoKeep).0 {
+        Ok(table) => Ok(table),
+        Err(KeepFault::Memory) => Err(Memory),
+        // A keeper that keeps nothing does not fail.
+        Err(KeepFault::Failed) => unreachable!(),
+    }
+}
+
+// The bodies of the table's squares through the range, row by row.
+fn bodies_of(alloc: Global, table: &Table, range: Range) -> Result<Vec<Vec<u8>>, Fail> {
+    let mut bodies = Vec::new(alloc);
+    for s in 0..=range.s {
+        for t in 0..=range.t {
+            let square = table.at(s, i32::from(t)).ok_or("the square is there")?;
+            bodies.push(encode(alloc, square)?)?;
+        }
+    }
+    Ok(bodies)
+}
+
+// Whether the rows have the same coordinates.
+fn are_same(alloc: Global, a: &[BitVec], b: &[BitVec]) -> Result<bool, Memory> {
+    if a.len() != b.len() {
+        return Ok(false);
+    }
+    for (x, y) in a.iter().zip(b) {
+        if x.len() != y.len() || x.to_bytes(alloc)?.as_slice() != y.to_bytes(alloc)?.as_slice() {
+            return Ok(false);
+        }
+    }
+    Ok(true)
+}
+
+// Whether two squares have the same content and dimensions.
+fn is_same(alloc: Global, a: &Square, b: &Square) -> Result<bool, Memory> {
+    Ok(
+        are_same(alloc, a.gens(), b.gens())?
+            && are_same(alloc, a.kernel(), b.kernel())?
+            && a.widths() == b.widths(),
+    )
+}
+
+// Whether two tables of the sphere have the same squares through the range.
+fn are_same_through(alloc: Global, a: &Table, b: &Table, range: Range) -> Result<bool, Memory> {
+    for s in 0..=range.s {
+        for t in 0..=range.t {
+            let t = i32::from(t);
+            let (Some(x), Some(y)) = (a.at(s, t), b.at(s, t)) else {
+                return Ok(false);
+            };
+            if !is_same(alloc, x, y)? {
+                return Ok(false);
+            }
+        }
+    }
+    Ok(true)
+}
+
+// Whether a body is strange behind the squares of the table, with its number.
+fn is_strange(alloc: Global, table: &Table, number: u64, body: &[u8]) -> bool
+    requires { AllRead table.now.rows }
+{
+    match decode(alloc, table, number, body) {
+        Err(DecodeFault::Strange { number: told }) => told == number,
+        _ => false,
+    }
+}
+
+#[test]
+fn the_first_body(rt: HostRuntime) -> Result<(), Fail> {
+    let alloc = rt.alloc();
+    let first = bytes(alloc, &[PLACE, IMAGES, KERNEL])?;
+    let table = nothing_read(alloc)?;
+    let whole = resolved(alloc, nothing_read(alloc)?, Range { s: 0, t: 0 })?;
+    let made = whole.at(0, 0).ok_or("the square was made")?;
+    assert_eq!(rt; encode(alloc, made)?, first);
+    let read = decode(alloc, &table, 0, first.as_slice())?;
+    assert!(rt; read.s() == 0 && read.t() == 0);
+    assert!(rt; is_same(alloc, made, &read)?);
+    assert!(rt; read.kept_quasi().is_none());
+    Ok(())
+}
+
+#[test]
+fn there_and_back(rt: HostRuntime) -> Result<(), Fail> {
+    let alloc = rt.alloc();
+    let range = Range { s: 3, t: 9 };
+    let table = resolved(alloc, nothing_read(alloc)?, range)?;
+    let again = read_all(alloc, bodies_of(alloc, &table, range)?.as_slice())?;
+    assert!(rt; are_same_through(alloc, &table, &again, range)?);
+    Ok(())
+}
+
+// Bodies behind no square: each breaks one rule, and the last none, since its kernel row, which the canonical square does not
+// have, is of the right shape.
+#[test]
+fn rules(rt: HostRuntime) -> Result<(), Fail> {
+    let alloc = rt.alloc();
+    let table = nothing_read(alloc)?;
+    let cases: [([&str; 3], bool); 17] = [
+        (["", "", ""], false),
+        (["0200000000", IMAGES, KERNEL], false),
+        // Past the last row, and no square below.
+        (["0100400000", IMAGES, KERNEL], false),
+        (["0100010000", IMAGES, KERNEL], false),
+        // Past the greatest degree, and no square before.
+        (["0100000080", IMAGES, KERNEL], false),
+        (["0100000001", IMAGES, KERNEL], false),
+        // So many images that their bytes cannot be counted, and two without the bytes of the second.
+        ([PLACE, "ff00000000000001000000000000000101", KERNEL], false),
+        ([PLACE, "0000000000000002000000000000000101", KERNEL], false),
+        // Two images, and one of two coordinates, where the module has one dimension.
+        (
+            [
+                PLACE,
+                "000000000000000200000000000000010101",
+                "00000000000000000000000000000002",
+            ],
+            false,
+        ),
+        ([PLACE, "0000000000000001000000000000000201", KERNEL], false),
+        // A spare bit.
+        ([PLACE, "0000000000000001000000000000000103", KERNEL], false),
+        // F_0 has one dimension.
+        ([PLACE, IMAGES, "00000000000000000000000000000002"], false),
+        // A byte too few, and one too many.
+        ([PLACE, IMAGES, "000000000000000000000000000000"], false),
+        ([PLACE, IMAGES, "0000000000000000000000000000000100"], false),
+        // More kernel rows than dimensions, and one that is zero.
+        (
+            [PLACE, IMAGES, "000000000000000200000000000000010101"],
+            false,
+        ),
+        ([PLACE, IMAGES, "0000000000000001000000000000000100"], false),
+        ([PLACE, IMAGES, "0000000000000001000000000000000101"], true),
+    ];
+    for (i, (parts, fits)) in cases.iter().enumerate() {
+        let body = bytes(alloc, parts)?;
+        let strange = is_strange(alloc, &table, i as u64, body.as_slice());
+        assert_eq!(rt; strange, !*fits, "case {i}");
+    }
+    Ok(())
+}
+
+#[test]
+fn a_square_that_is_there(rt: HostRuntime) -> Result<(), Fail> {
+    let alloc = rt.alloc();
+    let first = bytes(alloc, &[PLACE, IMAGES, KERNEL])?;
+    let table = with_body(alloc, nothing_read(alloc)?, 0, first.as_slice())?;
+    assert!(rt; is_strange(alloc, &table, 1, first.as_slice()));
+    Ok(())
+}
+
+// In degree 3 the sphere's F_0 has the basis Sq(3), Sq(0,1), and the module has no dimension: the kernel may have two rows of two
+// coordinates, each in a byte.
+#[test]
+fn forms_of_two_rows(rt: HostRuntime) -> Result<(), Fail> {
+    let alloc = rt.alloc();
+    let range = Range { s: 0, t: 2 };
+    let made = resolved(alloc, nothing_read(alloc)?, range)?;
+    let table = read_all(alloc, bodies_of(alloc, &made, range)?.as_slice())?;
+    let no_images = "010000000300000000000000000000000000000000";
+    let two = "00000000000000020000000000000002";
+    let cases: [([&str; 2], bool); 7] = [
+        ([two, "0102"], true), // 10, 01
+        ([two, "0302"], false), // 11, 01
+        ([two, "0201"], false), // 01, 10
+        ([two, "0101"], false), // 10, 10
+        ([two, "0100"], false), // 10, 00
+        ([two, "0502"], false), // a spare bit
+        (["00000000000000030000000000000002", "010200"], false),
+    ];
+    for (i, ([kernel, rows], fits)) in cases.iter().enumerate() {
+        let body = bytes(alloc, &[no_images, kernel, rows])?;
+        let strange = is_strange(alloc, &table, i as u64, body.as_slice());
+        assert_eq!(rt; strange, !*fits, "case {i}");
+    }
+    Ok(())
+}

@@ -1,0 +1,62 @@
+//! Files of tests, part by part in hexadecimal digits, and the disks that hold them. Digests are those of another program.
+use edge::MemDisk;
+use std::alloc::Global;
+use std::test::Fail;
+
+/// What a save file begins with: `EXTSAVE1`.
+pub(crate) const MAGIC: &str = "4558545341564531";
+
+/// What the records of the sphere's save file belong to: the digest of `gen x0 0` and a newline.
+pub(crate) const OURS: &str = "498fadf13dde22e6898175cb947cb18f477cda6d5603c7a14c475e229eaaa943";
+
+/// The record of the first square of the sphere behind its gate.
+pub(crate) const SQUARE: &str =
+    "0000000000000026010000000000000000000000010000000000000001010000000000000000000000000000000169b7c844de9a6419754dc7e857dbba1a6f8b2f2ddeaefedb344ea3bea60d3953";
+
+/// The body 08 with the digest of 07 behind its gate, and the next gate.
+pub(crate) const DAMAGED: &str =
+    "000000000000000108ca358758f6d27e6cf45272937977a748fd88391db679ceda7dc7bf1f005ee87900";
+
+/// The digest of the body 07.
+pub(crate) const SEVEN_DIGEST: &str =
+    "ca358758f6d27e6cf45272937977a748fd88391db679ceda7dc7bf1f005ee879";
+
+/// The digest of the body 08.
+pub(crate) const EIGHT_DIGEST: &str =
+    "beead77994cf573341ec17b58bbf7eb34d2711c993c1d976b128b3188dc1829a";
+
+/// Fifty zeros.
+pub(crate) const ZEROS: &str =
+    "0000000000000000000000000000000000000000000000000000000000000000000000000000000000000000000000000000";
+
+/// The bytes of a text of these parts.
+pub(crate) fn bytes(alloc: Global, parts: &[&str]) -> Result<Vec<u8>, Fail> {
+    let mut text = String::new(alloc);
+    for part in parts {
+        text.push_str(part)?;
+    }
+    Ok(hex::decode(alloc, text.as_str())?)
+}
+
+/// The digest of these digits.
+pub(crate) fn digest(text: &str) -> Result<[u8; 32], Fail> {
+    let mut bytes = [0; 32];
+    hex::decode_to_slice(text, &mut bytes)?;
+    Ok(bytes)
+}
+
+/// A disk that holds these bytes. It fails in the calls that are listed, counted from 1, and after so many calls.
+pub(crate) fn disk(
+    alloc: Global,
+    bytes: Vec<u8>,
+    failing: &[u64],
+    stop_after: u64,
+) -> Result<MemDisk, Fail> {
+    let failing = failing.to_vec(alloc)?;
+    Ok(MemDisk::new(alloc, bytes, 10000, failing, stop_after)?)
+}
+
+/// A disk that holds these bytes, and does not fail.
+pub(crate) fn sound_disk(alloc: Global, bytes: Vec<u8>) -> Result<MemDisk, Fail> {
+    disk(alloc, bytes, &[], u64::MAX)
+}
