@@ -7,10 +7,11 @@ ghost use Rattle.edge.specs.Sink.{HasPrefixMore, with_more};
 ghost use Rattle.ext_run.specs.declared.failure.Failure.TheVariants.{Words as OutsideGrammar, Memory as OutOfMemory};
 ghost use Rattle.ext_run.specs.Failure.{status_of, line_of};
 ghost use Rattle.ext_run.specs.Run.{IsStatusOf, HasRead, HasAnswered, HasReported, IsComplete};
+ghost use Rattle.ext_run.specs.Saving.{HasSaved, IsUsable};
 ghost use Rattle.ext_words.specs.Words.{texts_of};
 
-use edge::{Sink, Source, StdSink, StdSource};
-use ext_run::{Failure, report, run};
+use edge::{Disk, FileDisk, Sink, Source, StdSink, StdSource};
+use ext_run::{Ended, Failure, report, run};
 use memory::Memory;
 use square_worker::OpenGate;
 use std::alloc::Global;
@@ -20,6 +21,9 @@ use std::sync::Wait;
 use std::thread::Threads;
 use std::time::Clock;
 use std::{env, io};
+
+/// The save file, in the folder that the program runs in.
+const SAVE_FILE: &str = "ext.save";
 
 fn main(rt: HostRuntime) -> ExitCode {
     ExitCode::from(status(&rt, &rt))
@@ -31,33 +35,46 @@ fn status<W: Threads + Wait + Clock + Sync>(rt: &HostRuntime, wait: &W) -> u8 {
     let mut source = StdSource::new(rt.stdin());
     let mut out = StdSink::new(rt.stdout());
     let mut err = StdSink::new(rt.stderr());
+    let disk = FileDisk::new(rt, SAVE_FILE);
     match arguments(rt) {
-        Ok(arguments) => answer::<W, StdSource<Stdin>, StdSink<Stdout>, StdSink<Stderr>>(
-            rt,
-            wait,
-            arguments.as_slice(),
-            &mut source,
-            &mut out,
-            &mut err,
-        ),
+        Ok(arguments) => {
+            let ended = answer::<
+                W,
+                StdSource<Stdin>,
+                StdSink<Stdout>,
+                StdSink<Stderr>,
+                FileDisk<HostRuntime>,
+            >(
+                rt,
+                wait,
+                arguments.as_slice(),
+                &mut source,
+                &mut out,
+                &mut err,
+                disk,
+            );
+            ended.status
+        }
         Err(e) => refused(&failure_of(e.kind()), &mut err),
     }
 }
 
 /// Answers the arguments after the program's name: what `run` answers to their texts.
-fn answer<W: Threads + Wait + Clock + Sync, S: Source, O: Sink, E: Sink>(
+fn answer<W: Threads + Wait + Clock + Sync, S: Source, O: Sink, E: Sink, D: Disk + Send>(
     rt: &HostRuntime,
     wait: &W,
     arguments: &[String],
     source: &mut S,
     out: &mut O,
     err: &mut E,
-) -> u8
-    ensures status { IsStatusOf (map string_bytes arguments.now) (S.left source.old) result }
-    ensures read { HasRead S.left S.faults (map string_bytes arguments.now) result source.old source.new }
-    ensures answered { HasAnswered O.written O.faults (map string_bytes arguments.now) (S.left source.old) result out.old out.new }
-    ensures reported { HasReported E.written E.faults (map string_bytes arguments.now) (S.left source.old) result err.old err.new }
-    ensures complete { ¬ HasRisen (S.faults source.old) (S.faults source.new) → ¬ HasRisen (O.faults out.old) (O.faults out.new) → IsComplete (map string_bytes arguments.now) (S.left source.old) result }
+    disk: D,
+) -> Ended<D>
+    ensures status { IsStatusOf (map string_bytes arguments.now) (S.left source.old) result.status }
+    ensures read { HasRead S.left S.faults (map string_bytes arguments.now) result.status source.old source.new }
+    ensures answered { HasAnswered O.written O.faults (map string_bytes arguments.now) (S.left source.old) (IsUsable (map string_bytes arguments.now) (S.left source.old) (D.now disk) (D.images disk)) result.status out.old out.new }
+    ensures reported { HasReported E.written E.faults (map string_bytes arguments.now) (S.left source.old) (D.now disk) result.status err.old err.new }
+    ensures saved { HasSaved D.now D.moment D.images D.since D.faults (map string_bytes arguments.now) (S.left source.old) result.status disk result.disk }
+    ensures complete { IsUsable (map string_bytes arguments.now) (S.left source.old) (D.now disk) (D.images disk) → ¬ HasRisen (S.faults source.old) (S.faults source.new) → ¬ HasRisen (O.faults out.old) (O.faults out.new) → ¬ HasRisen (D.faults disk) (D.faults result.disk) → IsComplete (map string_bytes arguments.now) (S.left source.old) result.status }
 {
     match words(rt.alloc(), arguments) {
         Ok(words) => run(
@@ -68,9 +85,13 @@ fn answer<W: Threads + Wait + Clock + Sync, S: Source, O: Sink, E: Sink>(
             source,
             out,
             err,
+            disk,
             &OpenGate,
         ),
-        Err(Memory) => refused(&Failure::Memory, err),
+        Err(Memory) => Ended {
+            status: refused(&Failure::Memory, err),
+            disk,
+        },
     }
 }
 

@@ -1,6 +1,6 @@
 -- The answer: for a module that a file describes there is a canonical table through each range, and the texts are made of it.
 use Rattle.std.proofs.Common.{◌≡◌, ℕ, ℤ, pos, ◌<ℤ◌, ◌≤ℤ◌, List, [], ◌∷◌, length, Option, Some, None, refl, sym, ◌∙◌, ap, subst, arith, inl, inr}
-use Rattle.std.specs.Prelude.{Result, Ok, Err, MatchOption, AllPairs}
+use Rattle.std.specs.Prelude.{Result, Ok, Err, IfOk, MatchOption, AllPairs}
 use Rattle.std.proofs.lemmas.List.Elements.{All-from_recursion}
 use Rattle.std.proofs.lemmas.List.Kept.{AllPairs-cons}
 use Rattle.std.proofs.lemmas.Bool.{cases_eq}
@@ -15,7 +15,7 @@ use Rattle.finite_module.specs.DerivedAction.{derived_module, top}
 use Rattle.finite_module.specs.Axioms.{IsModule}
 use Rattle.module_check.specs.Acceptance.{AcceptedIsModule, refusal_of}
 use Rattle.finite_module.specs.Graded.{ModulesAreSteenrodModules}
-use Rattle.finite_module.specs.Checked.{sphere_file}
+use Rattle.finite_module.specs.Checked.{Checked, sphere_file}
 use Rattle.finite_module.specs.Sample.{sample_generators, sample_file}
 use Rattle.finite_module.proofs.SampleFile.{sample_is_module, sample_by_degree}
 use Rattle.finite_module.specs.ModuleLaws.{numbers_from-none}
@@ -36,6 +36,11 @@ use Rattle.ext_run.specs.declared.failure.Failure.TheVariants.{Words, Malformed 
 use Rattle.ext_run.specs.Answer.{IsResolved, IsChart, IsDump, IsSummary, IsLineOn, IsModuleAnswer, no_file, no_module, text_of, IsAnswerTo, Reads}
 use Rattle.ext_words.specs.Words.{command_of}
 use Rattle.ext_run.specs.Existence.{IsDescribed, AnswerExists}
+use Rattle.ext_run.specs.declared.task.Form.{Form}
+use Rattle.ext_run.specs.declared.task.Form.TheVariants.{Chart, Differentials, Summary}
+use Rattle.ext_run.specs.declared.task.Task.{Task}
+use Rattle.ext_run.specs.declared.task.Task.TheVariants.{Text, Resolution}
+use Rattle.ext_run.specs.Task.{IsInForm, HasItsText}
 
 -- the laws that it stands on
 pub record Laws : Type 0 where
@@ -132,3 +137,18 @@ to_words laws (Some command) bytes file = to_command laws command bytes file
 
 pub answer_is_there : Laws → AnswerExists
 answer_is_there laws words bytes file = to_words laws (command_of words) bytes file
+
+-- ---- the text of a task
+
+form_exists : Laws → (form : Form) (range : Range) (m : Checked) → (text : List ℕ) × IsInForm form range m.plain text
+form_exists laws Chart range m = chart_exists laws range m.plain m.is_module m.by_degree.ordered
+form_exists laws Differentials range m = dump_exists laws range m.plain m.is_module m.by_degree.ordered
+form_exists laws Summary range m = summary_exists laws range m.plain m.is_module m.by_degree.ordered
+
+pub text_is_there : Laws → (task : Task) → HasItsText task
+text_is_there laws (Text made) = (made.items, refl)
+text_is_there laws (Resolution r) = form_exists laws r.form r.common.range r.resolved
+
+pub all_ok : {X E : Type 0} (r : Result X E) (P : X → Type 0) → ((x : X) → P x) → IfOk r P
+all_ok (Ok x) P p = p x
+all_ok (Err e) P p = tt

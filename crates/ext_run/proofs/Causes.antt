@@ -1,6 +1,6 @@
 -- What a failure's status says of its cause, and what the answer to words and input excludes.
 use Rattle.std.proofs.Common.{◌≡◌, ℕ, ◌^◌, ◌≤◌, ◌⊎◌, inl, inr, List, [], length, drop, Bool, true, false, Option, Some, None, IfSome, refl, sym, subst, ◌∙◌, ap, arith}
-use Rattle.std.specs.Prelude.{MatchOption, Result, Ok, Err, nat_le}
+use Rattle.std.specs.Prelude.{MatchOption, Result, Ok, Err, nat_le, ⊤}
 use Rattle.std.proofs.lemmas.Bool.{leb-true}
 use Rattle.std.proofs.lemmas.List.{drop_all}
 use Rattle.f2_matrix.proofs.Unique.{kernel_basis_unique}
@@ -18,12 +18,14 @@ use Rattle.module_check.specs.declared.fault.CheckFault.TheVariants.{Listed, Rel
 use Rattle.ext_words.specs.declared.command.Command.{Command}
 use Rattle.ext_words.specs.declared.command.Command.TheVariants.{Sphere, Resolve, Dump, Check, Sample}
 use Rattle.ext_run.specs.declared.failure.Failure.{Failure}
-use Rattle.ext_run.specs.declared.failure.Failure.TheVariants.{Words, Malformed as NoModuleFile, NotModule, Reading, Writing, Memory}
+use Rattle.ext_run.specs.declared.failure.Failure.TheVariants.{Words, Malformed as NoModuleFile, NotModule, Reading, Writing, Saving, SaveFile, Memory}
 use Rattle.ext_words.specs.Words.{command_of}
 use Rattle.ext_run.specs.Run.{IsStatusOf, IsComplete}
 use Rattle.ext_run.specs.Failure.{status_of, malformed_status, fault_status}
 use Rattle.ext_run.specs.Input.{most_read, IsAccepted}
-use Rattle.ext_run.specs.Answer.{IsChart, IsDump, IsLineOn, IsModuleAnswer, no_file, no_module, text_of, IsAnswerTo, IsAnswer, AnswerIsUnique, IsAnswerFrom, IsCauseFrom, Reads, WordsRead, HasModule}
+use Rattle.ext_run.specs.Answer.{IsChart, IsDump, IsLineOn, IsModuleAnswer, no_file, no_module, text_of, IsAnswerTo, IsAnswer, AnswerIsUnique, IsAnswerFrom, Reads, WordsRead, HasModule}
+use Rattle.ext_run.specs.Saving.{IsRunCauseFrom}
+use Rattle.save_file.specs.declared.fault.ResumeFault.{ResumeFault}
 use Rattle.ext_run.proofs.AnswerUnique.{answer-unique}
 use Rattle.ext_run.proofs.Reading.{most_read-is}
 use Rattle.resolution_laws.proofs.TableIsUnique.{table_is_unique}
@@ -134,6 +136,8 @@ never_0 (NoModuleFile e) h = neither (malformed_status e) 3 12 0 (malformed_stat
 never_0 (NotModule f e) h = neither (fault_status e) 4 12 0 (fault_statuses e) (λ p. omega arith) (λ p. omega arith) h
 never_0 Reading h = omega arith
 never_0 Writing h = omega arith
+never_0 Saving h = omega arith
+never_0 (SaveFile e) h = omega arith
 never_0 Memory h = omega arith
 
 pub only_reading : (failure : Failure) → status_of failure ≡ 6 → failure ≡ Reading
@@ -142,6 +146,8 @@ only_reading (NoModuleFile e) h = absurd (neither (malformed_status e) 3 12 6 (m
 only_reading (NotModule f e) h = absurd (neither (fault_status e) 4 12 6 (fault_statuses e) (λ p. omega arith) (λ p. omega arith) h)
 only_reading Reading h = refl
 only_reading Writing h = absurd (omega arith)
+only_reading Saving h = absurd (omega arith)
+only_reading (SaveFile e) h = absurd (omega arith)
 only_reading Memory h = absurd (omega arith)
 
 pub only_writing : (failure : Failure) → status_of failure ≡ 7 → failure ≡ Writing
@@ -150,19 +156,44 @@ only_writing (NoModuleFile e) h = absurd (neither (malformed_status e) 3 12 7 (m
 only_writing (NotModule f e) h = absurd (neither (fault_status e) 4 12 7 (fault_statuses e) (λ p. omega arith) (λ p. omega arith) h)
 only_writing Reading h = absurd (omega arith)
 only_writing Writing h = refl
+only_writing Saving h = absurd (omega arith)
+only_writing (SaveFile e) h = absurd (omega arith)
 only_writing Memory h = absurd (omega arith)
+
+pub only_saving : (failure : Failure) → status_of failure ≡ 8 → failure ≡ Saving
+only_saving Words h = absurd (omega arith)
+only_saving (NoModuleFile e) h = absurd (neither (malformed_status e) 3 12 8 (malformed_statuses e) (λ p. omega arith) (λ p. omega arith) h)
+only_saving (NotModule f e) h = absurd (neither (fault_status e) 4 12 8 (fault_statuses e) (λ p. omega arith) (λ p. omega arith) h)
+only_saving Reading h = absurd (omega arith)
+only_saving Writing h = absurd (omega arith)
+only_saving Saving h = refl
+only_saving (SaveFile e) h = absurd (omega arith)
+only_saving Memory h = absurd (omega arith)
+
+pub only_refused : (failure : Failure) → status_of failure ≡ 9 → (e : ResumeFault) × (failure ≡ SaveFile e)
+only_refused Words h = absurd (omega arith)
+only_refused (NoModuleFile e) h = absurd (neither (malformed_status e) 3 12 9 (malformed_statuses e) (λ p. omega arith) (λ p. omega arith) h)
+only_refused (NotModule f e) h = absurd (neither (fault_status e) 4 12 9 (fault_statuses e) (λ p. omega arith) (λ p. omega arith) h)
+only_refused Reading h = absurd (omega arith)
+only_refused Writing h = absurd (omega arith)
+only_refused Saving h = absurd (omega arith)
+only_refused (SaveFile e) h = (e, refl)
+only_refused Memory h = absurd (omega arith)
 
 -- the statuses that there are
 abbrev IsKnown : ℕ → Type 0
-IsKnown n = (n ≡ 0) ⊎ (n ≡ 2) ⊎ (n ≡ 3) ⊎ (n ≡ 4) ⊎ (n ≡ 6) ⊎ (n ≡ 7) ⊎ (n ≡ 12)
+IsKnown n = (n ≡ 0) ⊎ (n ≡ 2) ⊎ (n ≡ 3) ⊎ (n ≡ 4) ⊎ (n ≡ 6) ⊎ (n ≡ 7) ⊎ (n ≡ 8) ⊎ (n ≡ 9) ⊎ (n ≡ 12)
+
+known_memory : (n : ℕ) → n ≡ 12 → IsKnown n
+known_memory n h = inr (inr (inr (inr (inr (inr (inr (inr h)))))))
 
 known_malformed : (n : ℕ) → (n ≡ 3) ⊎ (n ≡ 12) → IsKnown n
 known_malformed n (inl h) = inr (inr (inl h))
-known_malformed n (inr h) = inr (inr (inr (inr (inr (inr h)))))
+known_malformed n (inr h) = known_memory n h
 
 known_fault : (n : ℕ) → (n ≡ 4) ⊎ (n ≡ 12) → IsKnown n
 known_fault n (inl h) = inr (inr (inr (inl h)))
-known_fault n (inr h) = inr (inr (inr (inr (inr (inr h)))))
+known_fault n (inr h) = known_memory n h
 
 known_status : (failure : Failure) → IsKnown (status_of failure)
 known_status Words = inr (inl refl)
@@ -170,78 +201,89 @@ known_status (NoModuleFile e) = known_malformed (malformed_status e) (malformed_
 known_status (NotModule f e) = known_fault (fault_status e) (fault_statuses e)
 known_status Reading = inr (inr (inr (inr (inl refl))))
 known_status Writing = inr (inr (inr (inr (inr (inl refl)))))
-known_status Memory = inr (inr (inr (inr (inr (inr refl)))))
+known_status Saving = inr (inr (inr (inr (inr (inr (inl refl))))))
+known_status (SaveFile e) = inr (inr (inr (inr (inr (inr (inr (inl refl)))))))
+known_status Memory = known_memory 12 refl
 
-module _ (words : List (List ℕ)) (left : Option (List ℕ)) where
-  pub refused : (failure : Failure) → IsCauseFrom words left failure → status_of failure ≡ 2 → command_of words ≡ None
+module _ (words : List (List ℕ)) (left now : Option (List ℕ)) where
+  pub refused : (failure : Failure) → IsRunCauseFrom words left now failure → status_of failure ≡ 2 → command_of words ≡ None
   refused Words p h = words_refused (command_of words) p.bytes (Err Words) refl p.holds
   refused (NoModuleFile e) p h = absurd (no_2 e h)
   refused (NotModule f e) p h = absurd (fault_no_2 e h)
   refused Reading p h = absurd (omega arith)
   refused Writing p h = absurd (omega arith)
+  refused Saving p h = absurd (omega arith)
+  refused (SaveFile e) p h = absurd (omega arith)
   refused Memory p h = absurd (omega arith)
 
-  pub malformed : (failure : Failure) → IsCauseFrom words left failure → status_of failure ≡ 3 → (e : Malformed) × IsAnswerFrom words left (Err (NoModuleFile e))
+  pub malformed : (failure : Failure) → IsRunCauseFrom words left now failure → status_of failure ≡ 3 → (e : Malformed) × IsAnswerFrom words left (Err (NoModuleFile e))
   malformed (NoModuleFile e) p h = (e, p)
   malformed Words p h = absurd (omega arith)
   malformed (NotModule f e) p h = absurd (fault_no_3 e h)
   malformed Reading p h = absurd (omega arith)
   malformed Writing p h = absurd (omega arith)
+  malformed Saving p h = absurd (omega arith)
+  malformed (SaveFile e) p h = absurd (omega arith)
   malformed Memory p h = absurd (omega arith)
 
-  pub not_a_module : (failure : Failure) → IsCauseFrom words left failure → status_of failure ≡ 4 → (f : File) × (e : CheckFault) × IsAnswerFrom words left (Err (NotModule f e))
+  pub not_a_module : (failure : Failure) → IsRunCauseFrom words left now failure → status_of failure ≡ 4 → (f : File) × (e : CheckFault) × IsAnswerFrom words left (Err (NotModule f e))
   not_a_module (NotModule f e) p h = (f, e, p)
   not_a_module Words p h = absurd (omega arith)
   not_a_module (NoModuleFile e) p h = absurd (no_4 e h)
   not_a_module Reading p h = absurd (omega arith)
   not_a_module Writing p h = absurd (omega arith)
+  not_a_module Saving p h = absurd (omega arith)
+  not_a_module (SaveFile e) p h = absurd (omega arith)
   not_a_module Memory p h = absurd (omega arith)
 
-  -- writing fails only with an answer
+  -- words and input have a text where writing or the save file fails
   abbrev pub HasText : Failure → Type 0
-  HasText failure = failure ≡ Writing → (text : List ℕ) × IsAnswerFrom words left (Ok text)
+  HasText Writing = (text : List ℕ) × IsAnswerFrom words left (Ok text)
+  HasText Saving = (text : List ℕ) × IsAnswerFrom words left (Ok text)
+  HasText (SaveFile e) = (text : List ℕ) × IsAnswerFrom words left (Ok text)
+  HasText failure = ⊤
 
-  pub refuses : (failure : Failure) → IsCauseFrom words left failure → HasText failure → command_of words ≡ None → (status_of failure ≡ 2) ⊎ (status_of failure ≡ 12)
+  no_text : (text : List ℕ) → IsAnswerFrom words left (Ok text) → command_of words ≡ None → ⊥
+  no_text text p h = let same = only_words words p.bytes (Ok text) h p.holds in cc
+
+  pub refuses : (failure : Failure) → IsRunCauseFrom words left now failure → HasText failure → command_of words ≡ None → (status_of failure ≡ 2) ⊎ (status_of failure ≡ 12)
   refuses Words p w h = inl refl
   refuses (NoModuleFile e) p w h = let same = only_words words p.bytes (Err (NoModuleFile e)) h p.holds in absurd cc
   refuses (NotModule f e) p w h = let same = only_words words p.bytes (Err (NotModule f e)) h p.holds in absurd cc
   refuses Reading p w h = absurd (subst (λ (c : Option Command). MatchOption c ⊥ Reads) h p)
-  refuses Writing p w h =
-      let given = w refl in
-      let same = only_words words given.1.bytes (Ok given.0) h given.1.holds in
-      absurd cc
+  refuses Writing p w h = absurd (no_text w.0 w.1 h)
+  refuses Saving p w h = absurd (no_text w.0 w.1 h)
+  refuses (SaveFile e) p w h = absurd (no_text w.0 w.1 h)
   refuses Memory p w h = inr refl
 
   module _ (l : List ℕ) (tells : left ≡ Some l) where
-    pub malformed_comes : (failure : Failure) (e : Malformed) → IsCauseFrom words left failure → HasText failure → IsAnswer words l (Err (NoModuleFile e)) → (status_of failure ≡ 3) ⊎ (status_of failure ≡ 6) ⊎ (status_of failure ≡ 12)
-    malformed_comes Words e p w a = let same = told words left l (Err Words) (Err (NoModuleFile e)) tells p a in absurd cc
-    malformed_comes (NoModuleFile d) e p w a = either3 (malformed_statuses d)
-    malformed_comes (NotModule f d) e p w a = let same = told words left l (Err (NotModule f d)) (Err (NoModuleFile e)) tells p a in absurd cc
-    malformed_comes Reading e p w a = inr (inl refl)
-    malformed_comes Writing e p w a =
-        let given = w refl in
-        let same = told words left l (Ok given.0) (Err (NoModuleFile e)) tells given.1 a in
-        absurd cc
-    malformed_comes Memory e p w a = inr (inr refl)
-
-    pub no_module_comes : (failure : Failure) (g : File) (e : CheckFault) → IsCauseFrom words left failure → HasText failure → IsAnswer words l (Err (NotModule g e)) → (status_of failure ≡ 4) ⊎ (status_of failure ≡ 6) ⊎ (status_of failure ≡ 12)
-    no_module_comes Words g e p w a = let same = told words left l (Err Words) (Err (NotModule g e)) tells p a in absurd cc
-    no_module_comes (NoModuleFile d) g e p w a = let same = told words left l (Err (NoModuleFile d)) (Err (NotModule g e)) tells p a in absurd cc
-    no_module_comes (NotModule f d) g e p w a = either3 (fault_statuses d)
-    no_module_comes Reading g e p w a = inr (inl refl)
-    no_module_comes Writing g e p w a =
-        let given = w refl in
-        let same = told words left l (Ok given.0) (Err (NotModule g e)) tells given.1 a in
-        absurd cc
-    no_module_comes Memory g e p w a = inr (inr refl)
-
     -- a text leaves no failure
     pub no_failure : (text : List ℕ) (failure : Failure) → IsAnswerFrom words left (Ok text) → IsAnswer words l (Err failure) → ⊥
     no_failure text failure p a = let same = told words left l (Ok text) (Err failure) tells p a in cc
 
+    pub malformed_comes : (failure : Failure) (e : Malformed) → IsRunCauseFrom words left now failure → HasText failure → IsAnswer words l (Err (NoModuleFile e)) → (status_of failure ≡ 3) ⊎ (status_of failure ≡ 6) ⊎ (status_of failure ≡ 12)
+    malformed_comes Words e p w a = let same = told words left l (Err Words) (Err (NoModuleFile e)) tells p a in absurd cc
+    malformed_comes (NoModuleFile d) e p w a = either3 (malformed_statuses d)
+    malformed_comes (NotModule f d) e p w a = let same = told words left l (Err (NotModule f d)) (Err (NoModuleFile e)) tells p a in absurd cc
+    malformed_comes Reading e p w a = inr (inl refl)
+    malformed_comes Writing e p w a = absurd (no_failure w.0 (NoModuleFile e) w.1 a)
+    malformed_comes Saving e p w a = absurd (no_failure w.0 (NoModuleFile e) w.1 a)
+    malformed_comes (SaveFile d) e p w a = absurd (no_failure w.0 (NoModuleFile e) w.1 a)
+    malformed_comes Memory e p w a = inr (inr refl)
+
+    pub no_module_comes : (failure : Failure) (g : File) (e : CheckFault) → IsRunCauseFrom words left now failure → HasText failure → IsAnswer words l (Err (NotModule g e)) → (status_of failure ≡ 4) ⊎ (status_of failure ≡ 6) ⊎ (status_of failure ≡ 12)
+    no_module_comes Words g e p w a = let same = told words left l (Err Words) (Err (NotModule g e)) tells p a in absurd cc
+    no_module_comes (NoModuleFile d) g e p w a = let same = told words left l (Err (NoModuleFile d)) (Err (NotModule g e)) tells p a in absurd cc
+    no_module_comes (NotModule f d) g e p w a = either3 (fault_statuses d)
+    no_module_comes Reading g e p w a = inr (inl refl)
+    no_module_comes Writing g e p w a = absurd (no_failure w.0 (NotModule g e) w.1 a)
+    no_module_comes Saving g e p w a = absurd (no_failure w.0 (NotModule g e) w.1 a)
+    no_module_comes (SaveFile d) g e p w a = absurd (no_failure w.0 (NotModule g e) w.1 a)
+    no_module_comes Memory g e p w a = inr (inr refl)
+
 -- ---- a file that describes a module leaves no failure of its own
 
-accepted_text : (P : SteenrodModule → List ℕ → Type 0) (bytes : List ℕ) (a : Result (List ℕ) Failure) (failure : Failure) → IsAccepted bytes → IsModuleAnswer P bytes a → a ≡ Err failure → ⊥
+pub accepted_text : (P : SteenrodModule → List ℕ → Type 0) (bytes : List ℕ) (a : Result (List ℕ) Failure) (failure : Failure) → IsAccepted bytes → IsModuleAnswer P bytes a → a ≡ Err failure → ⊥
 accepted_text P bytes a failure accepted (no_file e p) h =
     let same = file_unique bytes (Ok accepted.file) (Err e) accepted.is_file p in
     cc
@@ -264,25 +306,28 @@ answerable_failure left (Some (Dump common)) bytes a failure e all has p = accep
 answerable_failure left (Some Check) bytes a failure e all has p = accepted_failure IsLineOn left bytes a failure e all has p
 answerable_failure left (Some (Sample n common)) bytes a failure e all has p = subst (IsAnswerTo (Sample n common) bytes) e p
 
-pub complete : (words : List (List ℕ)) (left : Option (List ℕ)) (failure : Failure) → IsCauseFrom words left failure → (failure ≡ Reading → ⊥) → (failure ≡ Writing → ⊥) → IsComplete words left (status_of failure)
-complete words left Words p r w has = absurd (answerable_failure left (command_of words) p.bytes (Err Words) Words refl p.all has p.holds)
-complete words left (NoModuleFile e) p r w has = absurd (answerable_failure left (command_of words) p.bytes (Err (NoModuleFile e)) (NoModuleFile e) refl p.all has p.holds)
-complete words left (NotModule f e) p r w has = absurd (answerable_failure left (command_of words) p.bytes (Err (NotModule f e)) (NotModule f e) refl p.all has p.holds)
-complete words left Reading p r w has = absurd (r refl)
-complete words left Writing p r w has = absurd (w refl)
-complete words left Memory p r w has = inr refl
+pub complete : (words : List (List ℕ)) (left now : Option (List ℕ)) (failure : Failure) → IsRunCauseFrom words left now failure → (failure ≡ Reading → ⊥) → (failure ≡ Writing → ⊥) → (failure ≡ Saving → ⊥) → ((e : ResumeFault) → failure ≡ SaveFile e → ⊥) →
+    IsComplete words left (status_of failure)
+complete words left now Words p r w s f has = absurd (answerable_failure left (command_of words) p.bytes (Err Words) Words refl p.all has p.holds)
+complete words left now (NoModuleFile e) p r w s f has = absurd (answerable_failure left (command_of words) p.bytes (Err (NoModuleFile e)) (NoModuleFile e) refl p.all has p.holds)
+complete words left now (NotModule g e) p r w s f has = absurd (answerable_failure left (command_of words) p.bytes (Err (NotModule g e)) (NotModule g e) refl p.all has p.holds)
+complete words left now Reading p r w s f has = absurd (r refl)
+complete words left now Writing p r w s f has = absurd (w refl)
+complete words left now Saving p r w s f has = absurd (s refl)
+complete words left now (SaveFile e) p r w s f has = absurd (f e refl)
+complete words left now Memory p r w s f has = inr refl
 
 -- ---- the status of a run
 
-pub status_of_failure : (words : List (List ℕ)) (left : Option (List ℕ)) (failure : Failure) → IsCauseFrom words left failure → HasText words left failure → IsStatusOf words left (status_of failure)
-status_of_failure words left failure p w = record {
+pub status_of_failure : (words : List (List ℕ)) (left now : Option (List ℕ)) (failure : Failure) → IsRunCauseFrom words left now failure → HasText words left now failure → IsStatusOf words left (status_of failure)
+status_of_failure words left now failure p w = record {
   known = known_status failure;
-  refused = refused words left failure p;
-  refuses = refuses words left failure p w;
-  malformed = malformed words left failure p;
-  malformed_comes = λ l e tells a. malformed_comes words left l tells failure e p w a;
-  no_module = not_a_module words left failure p;
-  no_module_comes = λ l f e tells a. no_module_comes words left l tells failure f e p w a;
+  refused = refused words left now failure p;
+  refuses = refuses words left now failure p w;
+  malformed = malformed words left now failure p;
+  malformed_comes = λ l e tells a. malformed_comes words left now l tells failure e p w a;
+  no_module = not_a_module words left now failure p;
+  no_module_comes = λ l f e tells a. no_module_comes words left now l tells failure f e p w a;
 }
 
 pub status_of_text : (words : List (List ℕ)) (left : Option (List ℕ)) (text : List ℕ) → IsAnswerFrom words left (Ok text) → IsStatusOf words left 0
@@ -291,7 +336,7 @@ status_of_text words left text p = record {
   refused = λ h. absurd (omega arith);
   refuses = λ h. let same = only_words words p.bytes (Ok text) h p.holds in absurd cc;
   malformed = λ h. absurd (omega arith);
-  malformed_comes = λ l e tells a. absurd (no_failure words left l tells text (NoModuleFile e) p a);
+  malformed_comes = λ l e tells a. absurd (no_failure words left None l tells text (NoModuleFile e) p a);
   no_module = λ h. absurd (omega arith);
-  no_module_comes = λ l f e tells a. absurd (no_failure words left l tells text (NotModule f e) p a);
+  no_module_comes = λ l f e tells a. absurd (no_failure words left None l tells text (NotModule f e) p a);
 }

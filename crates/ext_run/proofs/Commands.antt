@@ -9,7 +9,7 @@ use Rattle.ext_words.specs.declared.command.Command.{Command}
 use Rattle.ext_words.specs.declared.command.Command.TheVariants.{Sphere, Resolve, Dump, Check, Sample}
 use Rattle.ext_words.specs.declared.command.Common.{Common}
 use Rattle.ext_run.specs.declared.failure.Failure.{Failure}
-use Rattle.ext_run.specs.declared.failure.Failure.TheVariants.{Words, Malformed as NoModuleFile, NotModule, Reading, Writing, Memory}
+use Rattle.ext_run.specs.declared.failure.Failure.TheVariants.{Words, Malformed as NoModuleFile, NotModule, Reading, Writing, Saving, SaveFile, Memory}
 use Rattle.ext_words.specs.declared.command.WordsFault.{WordsFault}
 use Rattle.ext_words.specs.declared.command.WordsFault.TheVariants.{Words as Outside, Memory as NoSpace}
 use Rattle.ext_run.specs.Failure.{words_failure}
@@ -18,11 +18,11 @@ use Rattle.ext_run.specs.Input.{IsFileCauseFrom, IsModuleFrom}
 use Rattle.ext_run.specs.Answer.{IsAnswer, IsAnswerTo, IsAnswerFrom, IsCauseFrom, Reads, WordsRead, IsChart, IsDump, IsSummary, IsLineOn, IsModuleAnswer, no_file, no_module, text_of, IsCommandAnswerFrom, IsCommandCauseFrom}
 
 -- some bytes, and all that is left where that is told
-bytes_of : Option (List ℕ) → List ℕ
+pub bytes_of : Option (List ℕ) → List ℕ
 bytes_of None = []
 bytes_of (Some l) = l
 
-all_of : (left : Option (List ℕ)) → IfSome left (λ l. bytes_of left ≡ l)
+pub all_of : (left : Option (List ℕ)) → IfSome left (λ l. bytes_of left ≡ l)
 unfolding bytes_of
 all_of None = tt
 all_of (Some l) = refl
@@ -78,6 +78,8 @@ module _ (command : Command) (IsTextOf : SteenrodModule → List ℕ → Type 0)
   module_cause (NotModule f e) p = record { bytes = p.0.bytes; all = p.0.all; holds = on.answers p.0.bytes (Err (NotModule f e)) (no_module f e p.0.holds p.1) }
   module_cause Reading p = on.reads
   module_cause Writing p = absurd p
+  module_cause Saving p = absurd p
+  module_cause (SaveFile e) p = absurd p
   module_cause Memory p = tt
 
 -- ---- from a command to the words that give it
@@ -101,6 +103,8 @@ words_cause words left command (NoModuleFile d) e p = words_answer words left co
 words_cause words left command (NotModule f d) e p = words_answer words left command (Err (NotModule f d)) e p
 words_cause words left command Reading e p = words_read words command e p
 words_cause words left command Writing e p = absurd p
+words_cause words left command Saving e p = absurd p
+words_cause words left command (SaveFile d) e p = absurd p
 words_cause words left command Memory e p = tt
 
 -- words outside the grammar are the cause of their refusal

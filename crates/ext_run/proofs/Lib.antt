@@ -1,10 +1,15 @@
 mod AnswerExists
 mod AnswerUnique
-mod Joined
 mod Commands
-mod Ending
+mod Continuing
+mod Joined
+mod KeptOn
+mod Lasting
 mod Reading
 mod Resolved
 mod Tasks
+mod Working
 mod Written
 pub mod Causes
+pub mod Ending
+pub mod Saved

@@ -21,7 +21,6 @@ use Rattle.ext_chart.specs.Check.{check_line}
 use Rattle.ext_chart.specs.Dump.{dump_text}
 use Rattle.ext_chart.specs.Summary.{summary_text}
 use Rattle.ext_words.specs.Words.{command_of}
-use Rattle.ext_run.specs.Failure.{status_of, line_of}
 use Rattle.ext_run.specs.Input.{IsOfInput, IsCauseOf, IsAccepted}
 
 -- ---- the texts of a module
@@ -103,13 +102,6 @@ IsCauseFrom words left failure = IsCauseOf (WordsRead words) ⊤ (λ f. IsAnswer
 
 abbrev pub IsCommandCauseFrom : Command → Option (List ℕ) → Failure → Type 0
 IsCommandCauseFrom command left failure = IsCauseOf (Reads command) ⊥ (λ f. IsCommandAnswerFrom command left (Err f)) failure
-
--- the line on standard error for a status other than 0
-pub record IsLineFrom (words : List (List ℕ)) (left : Option (List ℕ)) (status : ℕ) (line : List ℕ) : Type 0 where
-  pub failure : Failure
-  pub cause : IsCauseFrom words left failure
-  pub status_is : status ≡ status_of failure
-  pub line_is : line ≡ line_of failure
 
 -- The command has its module: where it reads its input, that is told, and describes one.
 abbrev pub HasModule : Option (List ℕ) → Command → Type 0

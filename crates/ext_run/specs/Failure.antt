@@ -1,5 +1,6 @@
 -- Why a run has no answer: its status, and its line on standard error.
 use Rattle.std.specs.Prelude.{ℕ, List, ◌++◌, codes, decimal}
+use Rattle.hex.specs.Hex.{encode_lower}
 use Rattle.milnor_basis.specs.Text.{sq_text}
 use Rattle.edge.specs.declared.reading.ReadFault.{ReadFault}
 use Rattle.edge.specs.declared.reading.ReadFault.TheVariants.{Failed, Memory as NoSpace}
@@ -16,10 +17,14 @@ use Rattle.finite_module.specs.Text.{name_at}
 use Rattle.module_check.specs.declared.fault.CheckFault.{CheckFault}
 use Rattle.module_check.specs.declared.fault.CheckFault.TheVariants.{Listed, Relation, Memory as NoMemory}
 use Rattle.finite_module.specs.Text.{newline}
+use Rattle.save_journal.specs.declared.fault.OpenFault.{OpenFault}
+use Rattle.save_journal.specs.declared.fault.OpenFault.TheVariants.{Failed as OpenFailed, NotSave, Other, Damaged, Short, Memory as OpenMemory}
+use Rattle.save_file.specs.declared.fault.ResumeFault.{ResumeFault}
+use Rattle.save_file.specs.declared.fault.ResumeFault.TheVariants.{Open, Strange, Memory as ResumeMemory}
 use Rattle.ext_words.specs.declared.command.WordsFault.{WordsFault}
 use Rattle.ext_words.specs.declared.command.WordsFault.TheVariants.{Words as Outside, Memory as NoSpaceForWords}
 use Rattle.ext_run.specs.declared.failure.Failure.{Failure}
-use Rattle.ext_run.specs.declared.failure.Failure.TheVariants.{Words, Malformed as NoModuleFile, NotModule, Reading, Writing, Memory}
+use Rattle.ext_run.specs.declared.failure.Failure.TheVariants.{Words, Malformed as NoModuleFile, NotModule, Reading, Writing, Saving, SaveFile, Memory}
 
 abbrev pub what_text : What → List ℕ
 what_text Bytes = codes "bytes"
@@ -39,6 +44,9 @@ place_text AtActions = codes "actions"
 
 abbrev pub memory_line : List ℕ
 memory_line = codes "ext: out of memory\n"
+
+abbrev pub saving_line : List ℕ
+saving_line = codes "ext: the save file failed\n"
 
 -- what is wrong with action `index`
 abbrev pub action_line : ℕ → Why → List ℕ
@@ -65,7 +73,24 @@ fault_line generators (Relation r s generator) =
     codes "ext: not a module: " ++ (sq_text r ++ (codes " " ++ (sq_text s ++ (codes " on " ++ (name_at generators generator ++ newline)))))
 fault_line generators NoMemory = memory_line
 
+-- why a save file was not opened, and why it was not taken up
+abbrev pub open_line : OpenFault → List ℕ
+open_line OpenFailed = saving_line
+open_line NotSave = codes "ext: save file: not a save file\n"
+open_line (Other kept ours) = codes "ext: save file: of another module, kept " ++ (encode_lower kept ++ (codes ", ours " ++ (encode_lower ours ++ newline)))
+open_line (Damaged number kept found) =
+    codes "ext: save file: record " ++ (decimal number ++ (codes " damaged, kept " ++ (encode_lower kept ++ (codes ", found " ++ (encode_lower found ++ newline)))))
+open_line (Short place) = codes "ext: save file: short at place " ++ (decimal place ++ newline)
+open_line OpenMemory = memory_line
+
+abbrev pub refusal_line : ResumeFault → List ℕ
+refusal_line (Open fault) = open_line fault
+refusal_line (Strange number) = codes "ext: save file: record " ++ (decimal number ++ codes " strange\n")
+refusal_line ResumeMemory = memory_line
+
 abbrev pub line_of : Failure → List ℕ
+line_of Saving = saving_line
+line_of (SaveFile fault) = refusal_line fault
 line_of Words = codes "ext: words outside the command grammar\n"
 line_of (NoModuleFile malformed) = malformed_line malformed
 line_of (NotModule file fault) = fault_line file.generators fault
@@ -86,6 +111,12 @@ abbrev pub file_failure : Malformed → Failure
 file_failure NoRoom = Memory
 file_failure malformed = NoModuleFile malformed
 
+abbrev pub resume_failure : ResumeFault → Failure
+resume_failure (Open OpenFailed) = Saving
+resume_failure (Open OpenMemory) = Memory
+resume_failure ResumeMemory = Memory
+resume_failure fault = SaveFile fault
+
 abbrev pub malformed_status : Malformed → ℕ
 malformed_status NoRoom = 12
 malformed_status malformed = 3
@@ -95,6 +126,8 @@ fault_status NoMemory = 12
 fault_status fault = 4
 
 abbrev pub status_of : Failure → ℕ
+status_of Saving = 8
+status_of (SaveFile fault) = 9
 status_of Words = 2
 status_of (NoModuleFile malformed) = malformed_status malformed
 status_of (NotModule file fault) = fault_status fault

@@ -1,6 +1,8 @@
 pub mod Input
 pub mod Answer
 pub mod Task
+pub mod Saving
+pub mod Work
 pub mod Ending
 pub mod Existence
 pub mod Run

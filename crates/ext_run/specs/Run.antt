@@ -1,4 +1,5 @@
--- What a run promises: its status, and what it did with its source, its sink and standard error. The words are those after
+-- What a run promises: its status, and what it did with its source, its sink and standard error. What it did with its disk is in
+-- Saving. The words are those after
 -- the program's name, and left is what the source had left, where it tells.
 use Rattle.std.specs.Prelude.{◌≡◌, ◌≢◌, ℕ, ◌≤◌, ◌⊎◌, List, [], Option, Some, None, IfSome, Ok, Err}
 use Rattle.edge.specs.Faults.{HasRisen}
@@ -10,12 +11,13 @@ use Rattle.module_check.specs.declared.fault.CheckFault.{CheckFault}
 use Rattle.ext_run.specs.declared.failure.Failure.TheVariants.{Malformed as NoModuleFile, NotModule}
 use Rattle.ext_words.specs.Words.{command_of}
 use Rattle.ext_run.specs.Input.{most_read}
-use Rattle.ext_run.specs.Answer.{IsAnswer, IsAnswerFrom, IsLineFrom, IsAnswerable, WordsRead}
+use Rattle.ext_run.specs.Answer.{IsAnswer, IsAnswerFrom, IsAnswerable, WordsRead}
+use Rattle.ext_run.specs.Saving.{IsLineFrom}
 
 -- The status says what the words and the input are. Failed reads and want of memory may come before a refusal of the input.
 pub record IsStatusOf (words : List (List ℕ)) (left : Option (List ℕ)) (status : ℕ) : Type 0 where
   -- the statuses that there are
-  pub known : (status ≡ 0) ⊎ (status ≡ 2) ⊎ (status ≡ 3) ⊎ (status ≡ 4) ⊎ (status ≡ 6) ⊎ (status ≡ 7) ⊎ (status ≡ 12)
+  pub known : (status ≡ 0) ⊎ (status ≡ 2) ⊎ (status ≡ 3) ⊎ (status ≡ 4) ⊎ (status ≡ 6) ⊎ (status ≡ 7) ⊎ (status ≡ 8) ⊎ (status ≡ 9) ⊎ (status ≡ 12)
   -- 2: the words are outside the grammar
   pub refused : status ≡ 2 → command_of words ≡ None
   pub refuses : command_of words ≡ None → (status ≡ 2) ⊎ (status ≡ 12)
@@ -41,26 +43,26 @@ pub record HasRead {S : Type 0} (left : S → Option (List ℕ)) (faults : S →
   pub no_fault : status ≢ 6 → faults new ≡ faults old
   pub failed : status ≡ 6 → HasRisen (faults old) (faults new)
 
--- What becomes of the sink of the answer, by its trait's written and faults.
-pub record HasAnswered {O : Type 0} (written : O → Option (List ℕ)) (faults : O → ℕ) (words : List (List ℕ)) (left : Option (List ℕ)) (status : ℕ) (old new : O) : Type 0 where
+-- What becomes of the sink of the answer, by its trait's written and faults, if what the save file has may be used.
+pub record HasAnswered {O : Type 0} (written : O → Option (List ℕ)) (faults : O → ℕ) (words : List (List ℕ)) (left : Option (List ℕ)) (usable : Type 0) (status : ℕ) (old new : O) : Type 0 where
   -- on 0 it got exactly one text more, the answer
-  pub answered : status ≡ 0 → (text : List ℕ) × IsAnswerFrom words left (Ok text) × (written new ≡ with_more (written old) text)
+  pub answered : status ≡ 0 → (text : List ℕ) × (usable → IsAnswerFrom words left (Ok text)) × (written new ≡ with_more (written old) text)
   -- where writing failed, a first part of it
-  pub prefix : status ≡ 7 → (text : List ℕ) × IsAnswerFrom words left (Ok text) × HasPrefixMore text (written old) (written new)
+  pub prefix : status ≡ 7 → (text : List ℕ) × (usable → IsAnswerFrom words left (Ok text)) × HasPrefixMore text (written old) (written new)
   -- and else it got no call
   pub untouched : status ≢ 0 → status ≢ 7 → new ≡ old
   pub never_falls : faults old ≤ faults new
   pub no_fault : status ≡ 0 → faults new ≡ faults old
   pub failed : status ≡ 7 → HasRisen (faults old) (faults new)
 
--- What becomes of standard error, by its trait's written and faults.
-pub record HasReported {E : Type 0} (written : E → Option (List ℕ)) (faults : E → ℕ) (words : List (List ℕ)) (left : Option (List ℕ)) (status : ℕ) (old new : E) : Type 0 where
+-- What becomes of standard error, by its trait's written and faults. now is what the disk held, where it tells.
+pub record HasReported {E : Type 0} (written : E → Option (List ℕ)) (faults : E → ℕ) (words : List (List ℕ)) (left now : Option (List ℕ)) (status : ℕ) (old new : E) : Type 0 where
   -- an answer is silent: no call is made
   pub silent : status ≡ 0 → new ≡ old
   -- else it got the line of the failure, or a first part of that
-  pub line : status ≢ 0 → (line : List ℕ) × IsLineFrom words left status line × HasPrefixMore line (written old) (written new)
+  pub line : status ≢ 0 → (line : List ℕ) × IsLineFrom words left now status line × HasPrefixMore line (written old) (written new)
   -- all of it where no write failed
-  pub whole_line : status ≢ 0 → (HasRisen (faults old) (faults new) → ⊥) → (line : List ℕ) × IsLineFrom words left status line × (written new ≡ with_more (written old) line)
+  pub whole_line : status ≢ 0 → (HasRisen (faults old) (faults new) → ⊥) → (line : List ℕ) × IsLineFrom words left now status line × (written new ≡ with_more (written old) line)
   pub never_falls : faults old ≤ faults new
 
 -- Words in the grammar, with a file that describes a module where one is read, have their answer, unless memory ends.

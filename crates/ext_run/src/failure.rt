@@ -6,15 +6,17 @@ ghost use Rattle.finite_module.specs.Text.{name_at};
 ghost use Rattle.finite_module.specs.Text.{newline};
 ghost use Rattle.ext_run.specs.Parts.{part_text, parts_text};
 ghost use Rattle.ext_run.specs.declared.failure.Failure.TheVariants.{Memory as WantOfMemory};
-ghost use Rattle.ext_run.specs.Failure.{what_text, place_text, action_line, malformed_line, fault_line, line_of, status_of, malformed_status, fault_status, words_failure, read_failure, file_failure};
+ghost use Rattle.ext_run.specs.Failure.{what_text, place_text, action_line, malformed_line, fault_line, open_line, refusal_line, line_of, status_of, malformed_status, fault_status, words_failure, read_failure, file_failure, resume_failure};
 
-use crate::writing::Part::{self, Nothing, Number, Square, Text};
+use crate::writing::Part::{self, Digest, Nothing, Number, Square, Text};
 use crate::writing::{write_all, write_parts};
 use edge::{Failed, ReadFault, Sink};
 use ext_words::WordsFault;
 use memory::Memory;
 use module_check::CheckFault;
 use module_json::{Malformed, Place, Spec, What, Why};
+use save_file::ResumeFault;
+use save_journal::OpenFault;
 
 /// Why a run has no answer.
 #[derive(Drop)]
@@ -29,6 +31,10 @@ pub enum Failure {
     Reading,
     /// The answer could not be written.
     Writing,
+    /// The save file could not be read or written.
+    Saving,
+    /// What is in the save file's place is none of the module.
+    SaveFile(ResumeFault),
     /// There was no memory.
     Memory,
 }
@@ -74,7 +80,21 @@ impl From<Malformed> for Failure {
     }
 }
 
+impl From<ResumeFault> for Failure {
+    ghost from_gives = { λ fault failure. failure ≡ resume_failure fault };
+
+    fn from(fault: ResumeFault) -> Self {
+        match fault {
+            ResumeFault::Open(OpenFault::Failed) => Failure::Saving,
+            ResumeFault::Open(OpenFault::Memory) | ResumeFault::Memory => Failure::Memory,
+            _ => Failure::SaveFile(fault),
+        }
+    }
+}
+
 const MEMORY_LINE: &[u8] = b"ext: out of memory\n";
+
+const SAVING_LINE: &[u8] = b"ext: the save file failed\n";
 
 impl Failure {
     /// The status that a program ends with.
@@ -89,6 +109,8 @@ impl Failure {
             Failure::NotModule(_, _) => 4,
             Failure::Reading => 6,
             Failure::Writing => 7,
+            Failure::Saving => 8,
+            Failure::SaveFile(_) => 9,
             Failure::Memory => 12,
         }
     }
@@ -238,6 +260,55 @@ fn fault_line<'a>(spec: &'a Spec, fault: &'a CheckFault) -> Line<'a>
     }
 }
 
+/// Why a save file was not opened.
+fn open_line(fault: &OpenFault) -> Line<'_>
+    ensures { parts_text result ≡ open_line fault.now }
+{
+    match fault {
+        OpenFault::Failed => plain(SAVING_LINE),
+        OpenFault::NotSave => plain(b"ext: save file: not a save file\n"),
+        OpenFault::Other { kept, ours } => [
+            Text(b"ext: save file: of another module, kept "),
+            Digest(kept),
+            Text(b", ours "),
+            Digest(ours),
+            Text(b"\n"),
+            Nothing,
+            Nothing,
+        ],
+        OpenFault::Damaged {
+            number,
+            kept,
+            found,
+        } => [
+            Text(b"ext: save file: record "),
+            Number(*number),
+            Text(b" damaged, kept "),
+            Digest(kept),
+            Text(b", found "),
+            Digest(found),
+            Text(b"\n"),
+        ],
+        OpenFault::Short { place } => ended(b"ext: save file: short at place ", Number(*place)),
+        OpenFault::Memory => plain(MEMORY_LINE),
+    }
+}
+
+/// Why a save file was not taken up.
+fn refusal_line(fault: &ResumeFault) -> Line<'_>
+    ensures { parts_text result ≡ refusal_line fault.now }
+{
+    match fault {
+        ResumeFault::Open(fault) => open_line(fault),
+        ResumeFault::Strange { number } => padded(
+            Text(b"ext: save file: record "),
+            Number(*number),
+            Text(b" strange\n"),
+        ),
+        ResumeFault::Memory => plain(MEMORY_LINE),
+    }
+}
+
 /// Writes the line of a failure. After an error some first bytes are written.
 fn write_line<E: Sink>(failure: &Failure, err: &mut E) -> Result<(), Failed>
     ensures whole { OnOk result (E.written err.new ≡ with_more (E.written err.old) (line_of failure.now)) }
@@ -251,6 +322,8 @@ fn write_line<E: Sink>(failure: &Failure, err: &mut E) -> Result<(), Failed>
         Failure::NotModule(spec, fault) => write_parts(err, &fault_line(spec, fault)),
         Failure::Reading => write_all(err, b"ext: reading the module failed\n"),
         Failure::Writing => write_all(err, b"ext: writing failed\n"),
+        Failure::Saving => write_all(err, SAVING_LINE),
+        Failure::SaveFile(fault) => write_parts(err, &refusal_line(fault)),
         Failure::Memory => write_all(err, MEMORY_LINE),
     }
 }

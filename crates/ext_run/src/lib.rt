@@ -9,7 +9,7 @@ mod task;
 mod texts;
 mod writing;
 
-pub use answer::{run, run_one};
+pub use answer::{Ended, run, run_one};
 pub use ext_words::{Command, Common, WordsFault, parse};
 pub use failure::{Failure, report};
 pub use laws::{answer_exists, answer_is_unique};

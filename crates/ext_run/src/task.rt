@@ -5,7 +5,7 @@ ghost use Rattle.edge.specs.Source.{without_first, HasGivenUpTo};
 ghost use Rattle.ext_words.specs.Words.{texts_of, IsWithinLimits};
 ghost use Rattle.ext_run.specs.Input.{most_read};
 ghost use Rattle.ext_run.specs.Answer.{IsLineOn, IsCauseFrom, IsCommandCauseFrom, Reads, WordsRead};
-ghost use Rattle.ext_run.specs.Task.{IsTaskFor, IsTaskFrom, IsTaskWithin};
+ghost use Rattle.ext_run.specs.Task.{IsTaskFor, IsTaskFrom, IsTaskWithin, IsSavedFor, IsSavedAs, HasItsText};
 ghost use Rattle.ext_run.specs.declared.failure.Failure as Failure;
 ghost use Rattle.ext_run.specs.declared.task.Task.TheVariants.{Resolution as ToResolve};
 
@@ -15,7 +15,9 @@ use edge::Source;
 use ext_chart::check_line;
 use ext_words::{Command, Common, parse};
 use memory::Memory;
-use module_check::Module;
+use module_check::{Module, accepted_is_module, modules_are_graded_modules};
+use resolution_existence::canonical_table_exists;
+use resolution_laws::canonical_table_is_minimal_resolution;
 use std::alloc::Global;
 
 /// What is still to be done for a command.
@@ -50,6 +52,8 @@ pub(crate) fn task_from<S: Source>(
     source: &mut S,
 ) -> Result<Task, Failure>
     ensures task { IfOk result (IsTaskFrom (texts_of words.now) (S.left source.old)) }
+    ensures saved { IfOk result (IsSavedAs (texts_of words.now) (S.left source.old)) }
+    ensures text { IfOk result HasItsText }
     ensures limits { IfOk result IsTaskWithin }
     ensures cause { IfErr result (IsCauseFrom (texts_of words.now) (S.left source.old)) }
     ensures not_writing { result ≢ Err Failure.Writing }
@@ -60,6 +64,10 @@ pub(crate) fn task_from<S: Source>(
     ensures never_fall { S.faults source.old ≤ S.faults source.new }
     ensures no_fault { result ≢ Err Failure.Reading → S.faults source.new ≡ S.faults source.old }
 {
+    canonical_table_exists();
+    canonical_table_is_minimal_resolution();
+    modules_are_graded_modules();
+    accepted_is_module();
     let command = parse(alloc, words)?;
     task_for(alloc, command, source)
 }
@@ -68,6 +76,7 @@ pub(crate) fn task_from<S: Source>(
 fn task_for<S: Source>(alloc: Global, command: Command, source: &mut S) -> Result<Task, Failure>
     requires { IsWithinLimits command }
     ensures task { IfOk result (IsTaskFor command (S.left source.old)) }
+    ensures saved { IfOk result (IsSavedFor command (S.left source.old)) }
     ensures limits { IfOk result IsTaskWithin }
     ensures cause { IfErr result (IsCommandCauseFrom command (S.left source.old)) }
     ensures reading { result ≡ Err Failure.Reading → HasRisen (S.faults source.old) (S.faults source.new) }

@@ -1,124 +1,228 @@
-//! The text of a task: a module is resolved, by the caller alone or by workers, and its table is told.
-ghost use Rattle.std.specs.Prelude.{◌≡◌, ◌≤◌, ◌<◌, IfOk};
+//! The text of a task: a module is resolved, by the caller alone or by workers, over its save file if the words say so, and its table is told.
+ghost use Rattle.std.specs.Prelude.{◌≡◌, ◌≤◌, ◌<◌, Ok, IfOk, IfErr};
 ghost use Rattle.square.specs.declared.range.TheConstants.{MAX_S, MAX_T};
+ghost use Rattle.square.specs.Keeping.{IsKeeperOf};
 ghost use Rattle.square.specs.Tables.{plain_rows, IsThrough};
 ghost use Rattle.resolution_step.specs.Alone.{cut};
 ghost use Rattle.ext_run.specs.Answer.{IsResolved};
-ghost use Rattle.ext_run.specs.Task.{IsInForm, IsTextOf, IsTaskWithin};
+ghost use Rattle.ext_words.specs.Words.{IsWithin};
+ghost use Rattle.ext_run.specs.Task.{IsInForm, IsTaskWithin};
+ghost use Rattle.ext_run.specs.Work.{HasContinued, HasKeptOn, HasWorked};
+ghost use Rattle.ext_run.specs.declared.failure.Failure.TheVariants.{Memory as WantOfMemory};
 
+use crate::failure::Failure;
 use crate::task::{Form, Resolution, Task};
 use board_core::Cause;
+use edge::Disk;
 use ext_chart::{chart, dump, summary};
+use ext_words::Common;
 use memory::Memory;
-use module_check::{Module, modules_are_graded_modules};
+use module_check::modules_are_graded_modules;
 use resolution_laws::canonical_table_is_minimal_resolution;
 use resolution_step::resolve_alone;
-use square::{KeepFault, NoKeep, Range, Table};
+use save_file::resume;
+use square::{Keep, KeepFault, NoKeep, Range, Table};
 use square_worker::{Gate, resolve_with};
 use std::alloc::Global;
 use std::sync::Wait;
 use std::thread::Threads;
 use std::time::Clock;
 
-/// The text of a task, made by one worker, whatever the task says.
-pub(crate) fn text_alone(alloc: Global, task: Task) -> Result<Vec<u8>, Memory>
+/// The text of a task, made by one worker, whatever the task says. The disk is handed back.
+pub(crate) fn text_alone<D: Disk>(
+    alloc: Global,
+    task: Task,
+    disk: D,
+) -> (Result<Vec<u8>, Failure>, D)
     requires { IsTaskWithin task }
-    ensures { IfOk result (λ text. IsTextOf task text.items) }
+    ensures { HasWorked D.now D.moment D.images D.since D.faults task result.0 disk result.1 }
 {
     match task {
-        Task::Text(text) => Ok(text),
-        Task::Resolution(
-            Resolution {
-                resolved,
-                common,
-                form,
-            },
-        ) => {
-            let table = resolved_alone(alloc, resolved, common.range)?;
-            told(alloc, form, &table, common.range)
+        Task::Text(text) => (Ok(text), disk),
+        Task::Resolution(resolution) if resolution.common.save => {
+            saved_alone(alloc, resolution, disk)
         }
+        Task::Resolution(resolution) => (unsaved_alone(alloc, resolution), disk),
     }
 }
 
 /// The text of a task, made by as many workers as it says. Where that is one, or none is needed, nothing waits.
-pub(crate) fn text_by_workers<W: Threads + Wait + Clock + Sync, G: Gate + Sync>(
+pub(crate) fn text_by_workers<W: Threads + Wait + Clock + Sync, D: Disk + Send, G: Gate + Sync>(
     wait: &W,
     alloc: Global,
     task: Task,
+    disk: D,
     gate: &G,
-) -> Result<Vec<u8>, Memory>
+) -> (Result<Vec<u8>, Failure>, D)
     requires { IsTaskWithin task }
-    ensures { IfOk result (λ text. IsTextOf task text.items) }
+    ensures { HasWorked D.now D.moment D.images D.since D.faults task result.0 disk result.1 }
 {
     match task {
-        Task::Resolution(
-            Resolution {
-                resolved,
-                common,
-                form,
-            },
-        ) if common.workers > 1 => {
-            let workers = common.workers as usize;
-            let table = resolved_by_workers(wait, alloc, workers, resolved, common.range, gate)?;
-            told(alloc, form, &table, common.range)
+        Task::Resolution(resolution) if resolution.common.workers > 1 => {
+            if resolution.common.save {
+                saved_by_workers(wait, alloc, resolution, disk, gate)
+            } else {
+                (unsaved_by_workers(wait, alloc, resolution, gate), disk)
+            }
         }
-        task => text_alone(alloc, task),
+        task => text_alone(alloc, task, disk),
     }
 }
 
-/// The canonical resolution of a module through the range, made on the caller's thread.
-fn resolved_alone(alloc: Global, module: Module, range: Range) -> Result<Table, Memory>
+/// The text of a resolution, made on the caller's thread. Nothing is kept.
+fn unsaved_alone(alloc: Global, resolution: Resolution) -> Result<Vec<u8>, Failure>
+    requires { IsWithin resolution.common }
+    ensures told { IfOk result (λ text. IsInForm resolution.form resolution.common.range resolution.resolved.plain text.items) }
+    ensures why { IfErr result (λ e. e ≡ WantOfMemory) }
+{
+    let range = resolution.common.range;
+    let table = Table::new(alloc, resolution.resolved)?;
+    told_alone(alloc, table, range, resolution.form, NoKeep).0
+}
+
+/// The same, made by as many workers as the resolution says.
+fn unsaved_by_workers<W: Threads + Wait + Clock + Sync, G: Gate + Sync>(
+    wait: &W,
+    alloc: Global,
+    resolution: Resolution,
+    gate: &G,
+) -> Result<Vec<u8>, Failure>
+    requires { IsWithin resolution.common }
+    ensures told { IfOk result (λ text. IsInForm resolution.form resolution.common.range resolution.resolved.plain text.items) }
+    ensures why { IfErr result (λ e. e ≡ WantOfMemory) }
+{
+    let Common { range, workers, .. } = resolution.common;
+    let table = Table::new(alloc, resolution.resolved)?;
+    told_by_workers(
+        wait,
+        alloc,
+        workers,
+        table,
+        range,
+        resolution.form,
+        NoKeep,
+        gate,
+    )
+    .0
+}
+
+/// The text of a resolution over the save file of its module, made on the caller's thread.
+fn saved_alone<D: Disk>(
+    alloc: Global,
+    resolution: Resolution,
+    disk: D,
+) -> (Result<Vec<u8>, Failure>, D)
+    requires { IsWithin resolution.common }
+    ensures { HasKeptOn D.now D.moment D.images D.since D.faults resolution result.0 disk result.1 }
+{
+    let range = resolution.common.range;
+    match resume(alloc, resolution.resolved, disk) {
+        Ok((table, keeper)) => {
+            let (text, keeper) = told_alone(alloc, table, range, resolution.form, keeper);
+            (text, keeper.into_disk())
+        }
+        Err((fault, disk)) => (Err(Failure::from(fault)), disk),
+    }
+}
+
+/// The same, made by as many workers as the resolution says.
+fn saved_by_workers<W: Threads + Wait + Clock + Sync, D: Disk + Send, G: Gate + Sync>(
+    wait: &W,
+    alloc: Global,
+    resolution: Resolution,
+    disk: D,
+    gate: &G,
+) -> (Result<Vec<u8>, Failure>, D)
+    requires { IsWithin resolution.common }
+    ensures { HasKeptOn D.now D.moment D.images D.since D.faults resolution result.0 disk result.1 }
+{
+    let Common { range, workers, .. } = resolution.common;
+    match resume(alloc, resolution.resolved, disk) {
+        Ok((table, keeper)) => {
+            let form = resolution.form;
+            let (text, keeper) = told_by_workers(
+                wait, alloc, workers, table, range, form, keeper, gate,
+            );
+            (text, keeper.into_disk())
+        }
+        Err((fault, disk)) => (Err(Failure::from(fault)), disk),
+    }
+}
+
+/// What is told of a table that is continued through the range on the caller's thread; the keeper gets its new squares.
+fn told_alone<K: Keep>(
+    alloc: Global,
+    table: Table,
+    range: Range,
+    form: Form,
+    keeper: K,
+) -> (Result<Vec<u8>, Failure>, K)
     requires rows { range.s ≤ MAX_S }
     requires degrees { range.t ≤ MAX_T }
-    ensures module { IfOk result (λ table. table.resolved ≡ «module») }
-    ensures resolved { IfOk result (λ table. IsResolved range «module».plain (cut range (plain_rows table.rows))) }
-    ensures through { IfOk result (λ table. IsThrough range table.rows) }
+    requires live { (K.telling keeper).live }
+    requires of_table { IsKeeperOf (K.telling keeper) table }
+    ensures { HasContinued range form table result.0 (K.telling keeper) (K.telling result.1) }
 {
     canonical_table_is_minimal_resolution();
     modules_are_graded_modules();
-    let table = Table::new(alloc, module)?;
-    let (resolved, _) = resolve_alone(alloc, table, range, NoKeep);
+    let (resolved, keeper) = resolve_alone(alloc, table, range, keeper);
     match resolved {
-        Ok(table) => Ok(table),
-        Err(KeepFault::Memory) => Err(Memory),
-        // A keeper that keeps nothing does not fail.
-        Err(KeepFault::Failed) => unreachable!(),
+        Ok(table) => {
+            let text = text_or_failure(told(alloc, form, &table, range));
+            (text, keeper)
+        }
+        Err(KeepFault::Memory) => (Err(Failure::Memory), keeper),
+        Err(KeepFault::Failed) => (Err(Failure::Saving), keeper),
     }
 }
 
-/// The same, made by so many workers.
-fn resolved_by_workers<W: Threads + Wait + Clock + Sync, G: Gate + Sync>(
+/// The same, by so many workers.
+fn told_by_workers<W: Threads + Wait + Clock + Sync, K: Keep + Send, G: Gate + Sync>(
     wait: &W,
     alloc: Global,
-    workers: usize,
-    module: Module,
+    workers: u32,
+    table: Table,
     range: Range,
+    form: Form,
+    keeper: K,
     gate: &G,
-) -> Result<Table, Memory>
+) -> (Result<Vec<u8>, Failure>, K)
     requires some { 0 < workers }
     requires rows { range.s ≤ MAX_S }
     requires degrees { range.t ≤ MAX_T }
-    ensures module { IfOk result (λ table. table.resolved ≡ «module») }
-    ensures resolved { IfOk result (λ table. IsResolved range «module».plain (cut range (plain_rows table.rows))) }
-    ensures through { IfOk result (λ table. IsThrough range table.rows) }
+    requires live { (K.telling keeper).live }
+    requires of_table { IsKeeperOf (K.telling keeper) table }
+    ensures { HasContinued range form table result.0 (K.telling keeper) (K.telling result.1) }
 {
     canonical_table_is_minimal_resolution();
     modules_are_graded_modules();
-    let table = Table::new(alloc, module)?;
-    let (resolved, _) = resolve_with(wait, alloc, workers, table, range, NoKeep, gate);
+    let workers = workers as usize;
+    let (resolved, keeper) = resolve_with(wait, alloc, workers, table, range, keeper, gate);
     match resolved {
-        Ok(table) => Ok(table),
-        Err(Cause::Memory) => Err(Memory),
-        // A keeper that keeps nothing does not fail.
-        Err(Cause::Failed) => unreachable!(),
+        Ok(table) => {
+            let text = text_or_failure(told(alloc, form, &table, range));
+            (text, keeper)
+        }
+        Err(Cause::Memory) => (Err(Failure::Memory), keeper),
+        Err(Cause::Failed) => (Err(Failure::Saving), keeper),
+    }
+}
+
+/// A text, or want of memory as a run's failure.
+fn text_or_failure(text: Result<Vec<u8>, Memory>) -> Result<Vec<u8>, Failure>
+    ensures text { IfOk result (λ made. text ≡ Ok made) }
+    ensures memory { IfErr result (λ e. e ≡ WantOfMemory) }
+{
+    match text {
+        Ok(text) => Ok(text),
+        Err(Memory) => Err(Failure::Memory),
     }
 }
 
 /// What is told of a table that is resolved through the range.
 fn told(alloc: Global, form: Form, table: &Table, range: Range) -> Result<Vec<u8>, Memory>
-    requires resolved { IsResolved range table.now.resolved.plain (cut range (plain_rows table.now.rows)) }
-    requires through { IsThrough range table.now.rows }
-    ensures { IfOk result (λ text. IsInForm form range table.now.resolved.plain text.items) }
+    requires { IsThrough range table.now.rows }
+    ensures { IfOk result (λ text. IsResolved range table.now.resolved.plain (cut range (plain_rows table.now.rows)) → IsInForm form range table.now.resolved.plain text.items) }
 {
     match form {
         Form::Chart => chart(alloc, table, range),

@@ -3,6 +3,7 @@ ghost use Rattle.std.specs.Prelude.{◌≡◌, ◌≤◌, ◌++◌, map, decimal
 ghost use Rattle.std.specs.List.{join_with_byte};
 ghost use Rattle.milnor_basis.specs.Text.{comma, sq_text};
 ghost use Rattle.edge.specs.Faults.{HasRisen};
+ghost use Rattle.hex.specs.Hex.{encode_lower};
 ghost use Rattle.edge.specs.Sink.{HasPrefixMore, with_more};
 ghost use Rattle.ext_run.specs.Parts.{part_text, parts_text, separator};
 
@@ -19,6 +20,8 @@ pub enum Part<'a> {
     Number(u64),
     /// Sq(R), as `Sq(0,0,1)`.
     Square(&'a Exps),
+    /// A digest, in hexadecimal digits.
+    Digest(&'a [u8; 32]),
     Nothing,
 }
 
@@ -85,6 +88,20 @@ fn write_square<S: Sink>(sink: &mut S, r: &Exps) -> Result<(), Failed>
     write_all(sink, b")")
 }
 
+/// Writes a digest in hexadecimal digits. After an error some first bytes are written.
+fn write_digest<S: Sink>(sink: &mut S, digest: &[u8; 32]) -> Result<(), Failed>
+    ensures whole { OnOk result (S.written sink.new ≡ with_more (S.written sink.old) (encode_lower digest.now)) }
+    ensures never_fall { S.faults sink.old ≤ S.faults sink.new }
+    ensures cause { OnErr result (HasRisen (S.faults sink.old) (S.faults sink.new)) }
+    ensures prefix { HasPrefixMore (encode_lower digest.now) (S.written sink.old) (S.written sink.new) }
+{
+    let mut digits = [0; 64];
+    match hex::encode_to_slice(digest.as_slice(), &mut digits) {
+        Ok(()) => write_all(sink, &digits),
+        Err(_) => unreachable!(),
+    }
+}
+
 /// Writes a part. After an error some first bytes are written.
 fn write_part<S: Sink>(sink: &mut S, part: &Part) -> Result<(), Failed>
     ensures whole { OnOk result (S.written sink.new ≡ with_more (S.written sink.old) (part_text part.now)) }
@@ -96,6 +113,7 @@ fn write_part<S: Sink>(sink: &mut S, part: &Part) -> Result<(), Failed>
         Part::Text(bytes) => write_all(sink, bytes),
         Part::Number(number) => write_number(sink, b"", *number),
         Part::Square(r) => write_square(sink, r),
+        Part::Digest(digest) => write_digest(sink, digest),
         Part::Nothing => Ok(()),
     }
 }

@@ -4,6 +4,8 @@
 #[cfg(test)]
 mod runs;
 #[cfg(test)]
+mod saves;
+#[cfg(test)]
 mod streams;
 #[cfg(test)]
 mod texts;

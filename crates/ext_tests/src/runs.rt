@@ -2,8 +2,8 @@
 ghost use Rattle.std.specs.Prelude.{◌<◌};
 
 use crate::streams::source;
-use edge::MemSink;
-use ext_run::{Failure, answer_is_unique, report, run_one};
+use edge::{MemDisk, MemSink};
+use ext_run::{Ended, Failure, answer_is_unique, report, run_one};
 use module_json::{Malformed, Place, What, Why};
 use resolution_laws::canonical_table_is_unique;
 use std::alloc::Global;
@@ -28,10 +28,23 @@ pub(crate) fn sink(alloc: Global, piece: usize, failing: u64) -> Result<MemSink,
     Ok(MemSink::new(alloc, piece, 1000, calls)?)
 }
 
+/// A disk that holds these bytes, in which one call fails, none for 0, and each after so many calls.
+pub(crate) fn disk(
+    alloc: Global,
+    bytes: &[u8],
+    failing: u64,
+    stop_after: u64,
+) -> Result<MemDisk, Fail> {
+    let mut calls = Vec::new(alloc);
+    calls.push(failing)?;
+    let bytes = bytes.to_vec(alloc)?;
+    Ok(MemDisk::new(alloc, bytes, 100_000, calls, stop_after)?)
+}
+
 /// The module of one generator.
 const F2: &str = r#"{"type":"finite dimensional module","p":2,"gens":{"x0":0},"actions":[]}"#;
 
-const C2: &str =
+pub(crate) const C2: &str =
     r#"{"type":"finite dimensional module","p":2,"gens":{"x0":0,"x1":1},"actions":["Sq1 x0 = x1"]}"#;
 
 /// The module of no generator.
@@ -56,12 +69,18 @@ fn assert_answer<R: Abort + AllocGlobal>(
     let mut source = source(alloc, file.as_bytes(), 7, 0)?;
     let mut out = sink(alloc, 1000, 0)?;
     let mut err = sink(alloc, 1000, 0)?;
-    let got = run_one(rt, alloc, words, &mut source, &mut out, &mut err);
+    let disk = disk(alloc, b"", 0, u64::MAX)?;
+    let got = run_one(rt, alloc, words, &mut source, &mut out, &mut err, disk);
     assert_eq!(rt;
-        (got, from_utf8(out.written())?, from_utf8(err.written())?),
+        (
+            got.status,
+            from_utf8(out.written())?,
+            from_utf8(err.written())?
+        ),
         (status, text, line),
         "at {words:?}"
     );
+    assert_eq!(rt; got.disk.calls(), 0, "at {words:?}");
     Ok(())
 }
 
@@ -199,8 +218,17 @@ fn reports_failed_reads(rt: HostRuntime) -> Result<(), Fail> {
     let mut source = source(alloc, C2.as_bytes(), 7, 1)?;
     let mut out = sink(alloc, 1000, 0)?;
     let mut err = sink(alloc, 1000, 0)?;
-    let status = run_one(&rt, alloc, &["check"], &mut source, &mut out, &mut err);
-    assert_eq!(rt; status, 6);
+    let disk = disk(alloc, b"", 0, u64::MAX)?;
+    let got = run_one(
+        &rt,
+        alloc,
+        &["check"],
+        &mut source,
+        &mut out,
+        &mut err,
+        disk,
+    );
+    assert_eq!(rt; got.status, 6);
     assert_eq!(rt; out.written().len(), 0);
     assert_eq!(rt;
         err.written(),
@@ -352,13 +380,15 @@ fn reports_failed_writes(rt: HostRuntime) -> Result<(), Fail> {
     let mut source = source(alloc, C2.as_bytes(), 7, 0)?;
     let mut out = sink(alloc, 5, 3)?;
     let mut err = sink(alloc, 1000, 0)?;
-    let status = run_one(
+    let disk = disk(alloc, b"", 0, u64::MAX)?;
+    let Ended { status, .. } = run_one(
         &rt,
         alloc,
         &["sphere", "4", "8"],
         &mut source,
         &mut out,
         &mut err,
+        disk,
     );
     assert_eq!(rt; status, 7);
     assert_eq!(rt; out.written(), b" 4 |1....\n".as_slice());
@@ -373,13 +403,15 @@ fn keeps_the_status(rt: HostRuntime) -> Result<(), Fail> {
     let mut source = source(alloc, C2.as_bytes(), 7, 0)?;
     let mut out = sink(alloc, 1000, 0)?;
     let mut err = sink(alloc, 1000, 1)?;
-    let status = run_one(
+    let disk = disk(alloc, b"", 0, u64::MAX)?;
+    let Ended { status, .. } = run_one(
         &rt,
         alloc,
         &["sphere", "4"],
         &mut source,
         &mut out,
         &mut err,
+        disk,
     );
     assert_eq!(rt; status, 2);
     assert_eq!(rt; err.written().len(), 0);
@@ -394,13 +426,15 @@ fn answers_without_memory(rt: HostRuntime) -> Result<(), Fail> {
     let mut source = source(alloc, C2.as_bytes(), 7, 0)?;
     let mut out = sink(alloc, 1000, 0)?;
     let mut err = sink(alloc, 1000, 0)?;
-    let status = run_one(
+    let disk = disk(alloc, b"", 0, u64::MAX)?;
+    let Ended { status, .. } = run_one(
         &rt,
         alloc,
         &["resolve", "1", "2"],
         &mut source,
         &mut out,
         &mut err,
+        disk,
     );
     if status == 12 {
         assert_eq!(rt; out.written().len(), 0);

@@ -8,6 +8,7 @@ fn least(workers: u32) -> Common {
     Common {
         range: Range { s: 0, t: 7 },
         workers,
+        save: false,
     }
 }
 
@@ -16,6 +17,15 @@ fn greatest(workers: u32) -> Common {
     Common {
         range: Range { s: 63, t: 127 },
         workers,
+        save: false,
+    }
+}
+
+/// The same with `--save`.
+fn saved(common: Common) -> Common {
+    Common {
+        save: true,
+        ..common
     }
 }
 
@@ -47,6 +57,21 @@ fn parses(rt: HostRuntime) -> Result<(), Fail> {
         ("sample 7 0 --workers=2 7", Command::Sample(7, least(2))),
         ("sample 7 --workers 2 0 7", Command::Sample(7, least(2))),
         ("sample --workers 2 7 0 7", Command::Sample(7, least(2))),
+        ("sphere 0 7 --save", Command::Sphere(saved(least(1)))),
+        ("sphere --save 63 127", Command::Sphere(saved(greatest(1)))),
+        (
+            "resolve 0 --save 7 --workers 3",
+            Command::Resolve(saved(least(3))),
+        ),
+        (
+            "dump --workers=3 --save 0 7",
+            Command::Dump(saved(least(3))),
+        ),
+        ("sample 7 --save 0 7", Command::Sample(7, saved(least(1)))),
+        (
+            "sample --save 7 0 7 --workers 2",
+            Command::Sample(7, saved(least(2))),
+        ),
     ] {
         let words: Vec<&str> = line.split(' ').collect(rt.alloc())?;
         assert_eq!(rt;
@@ -74,7 +99,18 @@ fn parses_nothing_else(rt: HostRuntime) -> Result<(), Fail> {
         "sphere +4 8",
         "sphere -4 8",
         "sphere - 8",
-        "sphere 4 8 --save",
+        "sphere 4 8 --save --save",
+        "sphere --save 4 8 --workers 2 --save",
+        "sphere 4 8 --save=",
+        "sphere 4 8 --save=1",
+        "sphere 4 8 --workers --save",
+        "sphere 4 --save",
+        "sphere 4 8 --sav",
+        "sphere 4 8 --saved",
+        "sphere 4 8 -save",
+        "check --save",
+        "--save",
+        "--save sphere 4 8",
         "sphere 4 8 -h",
         "sphere 4 8 --help",
         "sphere -- 4 8",

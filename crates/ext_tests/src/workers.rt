@@ -1,5 +1,5 @@
 //! What no clause says: that the program has memory for several workers, and that two of them work at once.
-use crate::runs::{STEMS_8, sink};
+use crate::runs::{STEMS_8, disk, sink};
 use crate::streams::source;
 use ext_run::{run, run_one};
 use square_worker::{Gate, OpenGate};
@@ -25,7 +25,8 @@ fn answer<W: Threads + Wait + Clock + Sync, G: Gate + Sync>(
     let mut source = source(alloc, &[], 7, 0)?;
     let mut out = sink(alloc, 1000, 0)?;
     let mut err = sink(alloc, 1000, 0)?;
-    let status = run(
+    let disk = disk(alloc, b"", 0, u64::MAX)?;
+    let got = run(
         wait,
         wait,
         alloc,
@@ -33,9 +34,10 @@ fn answer<W: Threads + Wait + Clock + Sync, G: Gate + Sync>(
         &mut source,
         &mut out,
         &mut err,
+        disk,
         gate,
     );
-    Ok(status == 0 && from_utf8(out.written())? == text && err.written().is_empty())
+    Ok(got.status == 0 && from_utf8(out.written())? == text && err.written().is_empty())
 }
 
 #[test]
@@ -58,8 +60,9 @@ fn one_worker_is_asked_for_seven(rt: HostRuntime) -> Result<(), Fail> {
     let mut out = sink(alloc, 1000, 0)?;
     let mut err = sink(alloc, 1000, 0)?;
     let words = ["sphere", "4", "8", "--workers=7"];
-    let status = run_one(&rt, alloc, &words, &mut source, &mut out, &mut err);
-    assert_eq!(rt; status, 0);
+    let disk = disk(alloc, b"", 0, u64::MAX)?;
+    let got = run_one(&rt, alloc, &words, &mut source, &mut out, &mut err, disk);
+    assert_eq!(rt; got.status, 0);
     assert_eq!(rt; from_utf8(out.written())?, STEMS_8);
     Ok(())
 }

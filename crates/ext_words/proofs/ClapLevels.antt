@@ -11,9 +11,9 @@ use Rattle.clap.specs.Simple.{Shape}
 use Rattle.clap.specs.Kinds.{Kinds, or_else}
 use Rattle.clap.specs.Faults.{flag_word_fault, long_fault, positional_fault, react_fault, step_fault, turn_fault, use_fault, walk_fault, word_fault, settle_fault, defaults_fault, check_fault}
 use Rattle.clap.specs.declared.error.kind.ErrorKind.TheVariants.{UnknownArgument, MissingRequiredArgument, InvalidValue}
-use Rattle.ext_words.specs.Words.{Part, plain, workers, with_next, with_word, parts_of}
-use Rattle.ext_words.proofs.ClapWords.{Fails, fails-first, fails-as, held, Passes, Meets, is_plain, is_stray, is_refused, is_alone, is_joined, meets}
-use Rattle.ext_words.proofs.ClapParts.{leaf, word_rule, workers_rule, lacks, after_parts, IsWordOf, TakesWorkers, no-defaults, word-free, word-taken, workers-free, workers-taken, Agrees, same-steps, agree-by, agree-stray, next-spoiled, next-of-next, next-of-workers, nothing, swap-word, swap-stray, swap-workers, swap-next}
+use Rattle.ext_words.specs.Words.{Part, plain, workers, save, with_next, with_word, parts_of}
+use Rattle.ext_words.proofs.ClapWords.{Fails, fails-first, fails-as, held, Passes, Meets, is_plain, is_stray, is_refused, is_alone, is_joined, is_flag, meets}
+use Rattle.ext_words.proofs.ClapParts.{leaf, word_rule, workers_rule, save_rule, lacks, after_parts, IsWordOf, TakesOptions, no-defaults, word-free, word-taken, workers-free, workers-taken, save-free, save-taken, Agrees, same-steps, agree-by, agree-stray, next-spoiled, next-of-next, next-of-workers, next-of-save, nothing, swap-word, swap-stray, swap-workers, swap-save, swap-next}
 
 -- ---- the errors and the end of a level, from where its walk stands
 
@@ -81,7 +81,7 @@ pub record Follows (name : Text) (rules : List Rule) (words : List Text) : Type 
 
 -- ---- the turn of a word
 
-module _ (name : Text) (rules : List Rule) (takes : TakesWorkers rules) where
+module _ (name : Text) (rules : List Rule) (takes : TakesOptions rules) where
   turn-of : (waiting : Waiting) (rows : List Row) (pending : Option (Text × List Text)) (position : ℕ) (word : Text) → subcommand_met [] waiting word ≡ None → bytes_eq word (45 ∷ 45 ∷ []) ≡ false →
       (m : Held × Step) → long_or_other rules waiting word (long_of word) (held rows pending) ≡ m →
       (turn_fault (leaf name rules) [] (stand waiting rows pending position) word ≡ or_else (flag_word_fault rules false (long_of word) word (held rows pending)) (step_fault (leaf name rules) position m.0 m.1))
@@ -121,6 +121,17 @@ module _ (name : Text) (rules : List Rule) (takes : TakesWorkers rules) where
   joined-met word text rows pending is =
       ap (λ (t : Text). long_or_other rules idle t (long_of t) (held rows pending)) is
       ∙ ap (λ (found : Option Rule). after_flag rules idle (codes "--workers=" ++ text) (long_met rules found (Some text) (held rows pending)).0 (long_met rules found (Some text) (held rows pending)).1) takes.long
+
+  -- `--save`
+  flag-fault : (word : Text) (rows : List Row) (pending : Option (Text × List Text)) → word ≡ codes "--save" → flag_word_fault rules false (long_of word) word (held rows pending) ≡ react_fault rules false save_rule [] (held rows pending)
+  flag-fault word rows pending is =
+      ap (λ (t : Text). flag_word_fault rules false (long_of t) t (held rows pending)) is ∙ ap (λ (found : Option Rule). long_fault rules false found None (held rows pending)) takes.long_save
+
+  flag-met : (word : Text) (rows : List Row) (pending : Option (Text × List Text)) → word ≡ codes "--save" →
+      long_or_other rules idle word (long_of word) (held rows pending) ≡ (held (used save_rule [] (settled_rows rules pending rows)) None, next idle)
+  flag-met word rows pending is =
+      ap (λ (t : Text). long_or_other rules idle t (long_of t) (held rows pending)) is
+      ∙ ap (λ (found : Option Rule). after_flag rules idle (codes "--save") (long_met rules found None (held rows pending)).0 (long_met rules found None (held rows pending)).1) takes.long_save
 
   -- a word that is no flag
   plain-turn : (rows : List Row) (pending : Option (Text × List Text)) (position : ℕ) (word : Text) → bytes_eq word (45 ∷ 45 ∷ []) ≡ false → Passes rules word →
@@ -170,6 +181,7 @@ module _ (name : Text) (rules : List Rule) (takes : TakesWorkers rules) where
         | is_refused refuses given ↦ flag-fails idle rows pending position word words refl no_dashes (refuses rows pending)
         | is_alone is ↦ flag-fails idle rows pending position word words refl no_dashes (fails-as _ _ (alone-fault word rows pending is) fails)
         | is_joined text is ↦ flag-fails idle rows pending position word words refl no_dashes (fails-as _ _ (joined-fault word text rows pending is) (fails-first _ _ fails))
+        | is_flag is ↦ flag-fails idle rows pending position word words refl no_dashes (fails-as _ _ (flag-fault word rows pending is) (fails-first _ _ fails))
       ]
 
   -- ---- the walk, in front of one more word
@@ -209,19 +221,24 @@ module _ (name : Text) (rules : List Rule) (takes : TakesWorkers rules) where
       let turn = turn-of idle rows pending position word refl no_dashes (held r (Some (codes "workers", [])), next (waits_for (codes "workers"))) (alone-met word rows pending is) in
       turn-passes (leaf name rules) (at rows pending position) (waits r position) word words _ (turn.0 ∙ ap (λ (k : Kinds). or_else k []) (alone-fault word rows pending is ∙ settles)) turn.1 (rest.waits_on r position)
 
-  go-joined : (word text : Text) (words : List Text) → bytes_eq word (45 ∷ 45 ∷ []) ≡ false → word ≡ codes "--workers=" ++ text → (rest : Follows name rules words) →
+  -- a word that is an option with all its values
+  go-used : (a : Rule) (given : List Text) (word : Text) (words : List Text) → bytes_eq word (45 ∷ 45 ∷ []) ≡ false → (rest : Follows name rules words) →
       (rows : List Row) (pending : Option (Text × List Text)) (position : ℕ) → settle_fault rules false (held rows pending) ≡ [] →
-      (has : Bool) → has_row (codes "workers") (settled_rows rules pending rows) ≡ has →
-      Ends (leaf name rules) (at rows pending position) (word ∷ words) (option_and_then (λ more. option_and_then (after_parts rules more position) rest.taken) (if has then None else Some (used workers_rule (text ∷ []) (settled_rows rules pending rows))))
-  go-joined word text words no_dashes is rest rows pending position settles true has =
+      flag_word_fault rules false (long_of word) word (held rows pending) ≡ react_fault rules false a given (held rows pending) →
+      long_or_other rules idle word (long_of word) (held rows pending) ≡ (held (used a given (settled_rows rules pending rows)) None, next idle) →
+      (has_row a.id (settled_rows rules pending rows) ≡ false → use_fault false a given (settled_rows rules pending rows) ≡ []) →
+      (has_row a.id (settled_rows rules pending rows) ≡ true → Fails (use_fault false a given (settled_rows rules pending rows))) →
+      (has : Bool) → has_row a.id (settled_rows rules pending rows) ≡ has →
+      Ends (leaf name rules) (at rows pending position) (word ∷ words) (option_and_then (λ more. option_and_then (after_parts rules more position) rest.taken) (if has then None else Some (used a given (settled_rows rules pending rows))))
+  go-used a given word words no_dashes rest rows pending position settles reacts met free taken true has =
       let r = settled_rows rules pending rows in
-      let fault = joined-fault word text rows pending is ∙ ap (λ (k : Kinds). or_else k (use_fault false workers_rule (text ∷ []) r)) settles in
-      flag-fails idle rows pending position word words refl no_dashes (fails-as _ _ fault (workers-taken text r has))
-  go-joined word text words no_dashes is rest rows pending position settles false has =
+      let fault = reacts ∙ ap (λ (k : Kinds). or_else k (use_fault false a given r)) settles in
+      flag-fails idle rows pending position word words refl no_dashes (fails-as _ _ fault (taken has))
+  go-used a given word words no_dashes rest rows pending position settles reacts met free taken false has =
       let r = settled_rows rules pending rows in
-      let fault = joined-fault word text rows pending is ∙ (ap (λ (k : Kinds). or_else k (use_fault false workers_rule (text ∷ []) r)) settles ∙ workers-free text r has) in
-      let after = used workers_rule (text ∷ []) r in
-      let turn = turn-of idle rows pending position word refl no_dashes (held after None, next idle) (joined-met word text rows pending is) in
+      let fault = reacts ∙ (ap (λ (k : Kinds). or_else k (use_fault false a given r)) settles ∙ free has) in
+      let after = used a given r in
+      let turn = turn-of idle rows pending position word refl no_dashes (held after None, next idle) met in
       turn-passes (leaf name rules) (at rows pending position) (at after None position) word words _ (turn.0 ∙ ap (λ (k : Kinds). or_else k []) fault) turn.1 (rest.goes after None position refl)
 
   -- ---- the walk that waits for a value
@@ -253,6 +270,12 @@ module _ (name : Text) (rules : List Rule) (takes : TakesWorkers rules) where
   wait-joined word text words no_dashes is rest rows position =
       subst (λ (o : Option (List Part)). Ends (leaf name rules) (waits rows position) (word ∷ words) (option_and_then (after_parts rules rows position) o)) (sym (next-of-workers text rest.taken))
       (flag-fails (waits_for (codes "workers")) rows (Some (codes "workers", [])) position word words refl no_dashes (fails-as _ _ (joined-fault word text rows (Some (codes "workers", [])) is) (fails-first _ _ (unsettled rows))))
+
+  wait-flag : (word : Text) (words : List Text) → bytes_eq word (45 ∷ 45 ∷ []) ≡ false → word ≡ codes "--save" → (rest : Follows name rules words) → (rows : List Row) (position : ℕ) →
+      Ends (leaf name rules) (waits rows position) (word ∷ words) (option_and_then (after_parts rules rows position) (option_and_then (with_next workers) (option_and_then (λ parts. Some (save ∷ parts)) rest.taken)))
+  wait-flag word words no_dashes is rest rows position =
+      subst (λ (o : Option (List Part)). Ends (leaf name rules) (waits rows position) (word ∷ words) (option_and_then (after_parts rules rows position) o)) (sym (next-of-save rest.taken))
+      (flag-fails (waits_for (codes "workers")) rows (Some (codes "workers", [])) position word words refl no_dashes (fails-as _ _ (flag-fault word rows (Some (codes "workers", [])) is) (fails-first _ _ (unsettled rows))))
 
   -- ---- the words, one after another
 
@@ -306,9 +329,19 @@ module _ (name : Text) (rules : List Rule) (takes : TakesWorkers rules) where
     taken = option_and_then (λ parts. Some (workers text ∷ parts)) rest.taken;
     agrees = agree-by word (λ parts. Some (workers text ∷ parts)) (λ parts. sym (ap (λ (t : Text). with_word t parts) is)) (λ parts h. inr h) rest.taken (parts_of words) rest.agrees;
     goes = λ rows pending position settles.
-        subst (λ (o : Option (List Row)). Ends (leaf name rules) (at rows pending position) (word ∷ words) o) (swap-workers rules (settled_rows rules pending rows) position text rest.taken)
-        (go-joined word text words no_dashes is rest rows pending position settles (has_row (codes "workers") (settled_rows rules pending rows)) refl);
+        let r = settled_rows rules pending rows in
+        subst (λ (o : Option (List Row)). Ends (leaf name rules) (at rows pending position) (word ∷ words) o) (swap-workers rules r position text rest.taken)
+        (go-used workers_rule (text ∷ []) word words no_dashes rest rows pending position settles (joined-fault word text rows pending is) (joined-met word text rows pending is) (workers-free text r) (workers-taken text r) (has_row (codes "workers") r) refl);
     waits_on = λ rows position. wait-joined word text words no_dashes is rest rows position;
+  }
+  one-more word words no_dashes dashes (is_flag is) rest = record {
+    taken = option_and_then (λ parts. Some (save ∷ parts)) rest.taken;
+    agrees = agree-by word (λ parts. Some (save ∷ parts)) (λ parts. sym (ap (λ (t : Text). with_word t parts) is)) (λ parts h. h) rest.taken (parts_of words) rest.agrees;
+    goes = λ rows pending position settles.
+        let r = settled_rows rules pending rows in
+        subst (λ (o : Option (List Row)). Ends (leaf name rules) (at rows pending position) (word ∷ words) o) (swap-save rules r position rest.taken)
+        (go-used save_rule [] word words no_dashes rest rows pending position settles (flag-fault word rows pending is) (flag-met word rows pending is) (save-free r) (save-taken r) (has_row (codes "save") r) refl);
+    waits_on = λ rows position. wait-flag word words no_dashes is rest rows position;
   }
 
   pub follows : (words : List Text) → has_dashes words ≡ false → Follows name rules words

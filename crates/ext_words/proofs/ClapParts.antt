@@ -1,4 +1,4 @@
--- The arguments of a command with the option `--workers`, and its parts as they are used one after another.
+-- The arguments of a command with the options `--workers` and `--save`, and its parts as they are used one after another.
 use Rattle.std.proofs.Common.{◌≡◌, ℕ, refl, List, [], ◌∷◌, Bool, true, false, Option, Some, None, ◌⊎◌, inl, inr, arith, ap, sym, ◌∙◌}
 use Rattle.std.specs.Prelude.{codes, length, ◌&&◌, ◌||◌, not, option_and_then, IfSome, if◌then◌else◌}
 use Rattle.std.specs.List.{fold, list_all, list_any}
@@ -10,8 +10,8 @@ use Rattle.clap.specs.Takes.{is_given}
 use Rattle.clap.specs.Faults.{given_default_fault, use_fault, defaults_fault}
 use Rattle.clap.specs.declared.error.kind.ErrorKind.TheVariants.{ArgumentConflict}
 use Rattle.clap.specs.declared.builder.value_parser.Reading.{Reading}
-use Rattle.ext_words.specs.Words.{Part, plain, workers, with_next, with_word}
-use Rattle.ext_words.specs.Inside.CommandLine.{positional, option}
+use Rattle.ext_words.specs.Words.{Part, plain, workers, save, with_next, with_word}
+use Rattle.ext_words.specs.Inside.CommandLine.{positional, option, flag}
 use Rattle.ext_words.proofs.ClapWords.{Fails, IsNoNumber, HasNoOther}
 
 -- ---- the commands, as they are built
@@ -31,11 +31,17 @@ word_rule position id = with_index position (filled (positional id))
 abbrev pub workers_rule : Rule
 workers_rule = with_index 1 (filled (option (codes "workers")))
 
+abbrev pub save_rule : Rule
+save_rule = with_index 1 (filled (flag (codes "save")))
+
 -- ---- the parts, used one after another
 
--- the rows with one more use of an argument, none where it has been used
+-- the rows with one more use of an argument, with these values, none where it has been used
+abbrev pub used_once : Rule → List Text → List Row → Option (List Row)
+used_once a values rows = if has_row a.id rows then None else Some (used a values rows)
+
 abbrev pub with_use : Rule → Text → List Row → Option (List Row)
-with_use a word rows = if has_row a.id rows then None else Some (used a (word ∷ []) rows)
+with_use a word rows = used_once a (word ∷ []) rows
 
 -- an argument that is required is not there
 abbrev pub lacks : List Rule → List Row → Bool
@@ -46,6 +52,7 @@ abbrev pub after_parts : List Rule → List Row → ℕ → List Part → Option
 after_parts rules rows position [] = if lacks rules rows then None else Some rows
 after_parts rules rows position (plain word ∷ parts) = option_and_then (λ a. option_and_then (λ more. after_parts rules more (next_position a position) parts) (with_use a word rows)) (arg_by_index rules position)
 after_parts rules rows position (workers word ∷ parts) = option_and_then (λ more. after_parts rules more position parts) (with_use workers_rule word rows)
+after_parts rules rows position (save ∷ parts) = option_and_then (λ more. after_parts rules more position parts) (used_once save_rule [] rows)
 
 -- ---- the command's arguments
 
@@ -56,11 +63,12 @@ pub record IsWordOf (rules : List Rule) (a : Rule) : Type 0 where
   pub is : a ≡ word_rule position id
   pub own : arg_by_id rules id ≡ Some a
 
--- the command has words and the option `--workers`
-pub record TakesWorkers (rules : List Rule) : Type 0 where
+-- the command has words and the options `--workers` and `--save`
+pub record TakesOptions (rules : List Rule) : Type 0 where
   pub others : HasNoOther rules
   pub long : arg_by_long rules (codes "workers") ≡ Some workers_rule
   pub own : arg_by_id rules (codes "workers") ≡ Some workers_rule
+  pub long_save : arg_by_long rules (codes "save") ≡ Some save_rule
   pub words : (position : ℕ) → IfSome (arg_by_index rules position) (IsWordOf rules)
   pub no_defaults : list_all (λ a. is_empty a.defaults) rules ≡ true
 
@@ -99,6 +107,12 @@ workers-free word rows e = rw e refl
 pub workers-taken : (word : Text) (rows : List Row) → has_row (codes "workers") rows ≡ true → Fails (use_fault false workers_rule (word ∷ []) rows)
 workers-taken word rows e = record { first = ArgumentConflict; others = []; is = rw e refl }
 
+pub save-free : (rows : List Row) → has_row (codes "save") rows ≡ false → use_fault false save_rule [] rows ≡ []
+save-free rows e = rw e refl
+
+pub save-taken : (rows : List Row) → has_row (codes "save") rows ≡ true → Fails (use_fault false save_rule [] rows)
+save-taken rows e = record { first = ArgumentConflict; others = []; is = rw e refl }
+
 -- ---- the parts that `clap` takes, and those that the grammar finds
 
 -- a part is no number
@@ -106,6 +120,7 @@ abbrev pub HasNoNumber : List Part → Type 0
 HasNoNumber [] = ⊥
 HasNoNumber (plain word ∷ parts) = IsNoNumber word ⊎ HasNoNumber parts
 HasNoNumber (workers word ∷ parts) = IsNoNumber word ⊎ HasNoNumber parts
+HasNoNumber (save ∷ parts) = HasNoNumber parts
 
 -- they are the same, or the grammar finds none, and one that is taken is no number
 abbrev pub Agrees : Option (List Part) → Option (List Part) → Type 0
@@ -139,6 +154,7 @@ pub next-spoiled : (parts : List Part) → HasNoNumber parts → IfSome (with_ne
 next-spoiled [] h = absurd h
 next-spoiled (plain word ∷ parts) h = h
 next-spoiled (workers word ∷ parts) h = tt
+next-spoiled (save ∷ parts) h = tt
 
 -- an option takes no option as its value
 pub next-of-next : (taken : Option (List Part)) → option_and_then (with_next workers) (option_and_then (with_next workers) taken) ≡ None
@@ -146,10 +162,15 @@ next-of-next None = refl
 next-of-next (Some []) = refl
 next-of-next (Some (plain word ∷ parts)) = refl
 next-of-next (Some (workers word ∷ parts)) = refl
+next-of-next (Some (save ∷ parts)) = refl
 
 pub next-of-workers : (text : Text) (taken : Option (List Part)) → option_and_then (with_next workers) (option_and_then (λ parts. Some (workers text ∷ parts)) taken) ≡ None
 next-of-workers text None = refl
 next-of-workers text (Some parts) = refl
+
+pub next-of-save : (taken : Option (List Part)) → option_and_then (with_next workers) (option_and_then (λ parts. Some (save ∷ parts)) taken) ≡ None
+next-of-save None = refl
+next-of-save (Some parts) = refl
 
 -- ---- the rows after a part, and after those behind it
 
@@ -174,6 +195,11 @@ pub swap-workers : (rules : List Rule) (rows : List Row) (position : ℕ) (word 
     option_and_then (λ more. option_and_then (after_parts rules more position) taken) (with_use workers_rule word rows) ≡ option_and_then (after_parts rules rows position) (option_and_then (λ parts. Some (workers word ∷ parts)) taken)
 swap-workers rules rows position word None = nothing (with_use workers_rule word rows)
 swap-workers rules rows position word (Some parts) = refl
+
+pub swap-save : (rules : List Rule) (rows : List Row) (position : ℕ) (taken : Option (List Part)) →
+    option_and_then (λ more. option_and_then (after_parts rules more position) taken) (used_once save_rule [] rows) ≡ option_and_then (after_parts rules rows position) (option_and_then (λ parts. Some (save ∷ parts)) taken)
+swap-save rules rows position None = nothing (used_once save_rule [] rows)
+swap-save rules rows position (Some parts) = refl
 
 pub swap-next : (rules : List Rule) (rows : List Row) (position : ℕ) (word : Text) (taken : Option (List Part)) →
     option_and_then (λ more. option_and_then (after_parts rules more position) taken) (with_use workers_rule word rows) ≡ option_and_then (after_parts rules rows position) (option_and_then (with_next workers) (option_and_then (λ parts. Some (plain word ∷ parts)) taken))

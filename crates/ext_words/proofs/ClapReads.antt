@@ -15,9 +15,9 @@ use Rattle.clap.proofs.FaultLemmas.{stopped_fault}
 use Rattle.ext_words.specs.declared.command.Common.{Common}
 use Rattle.ext_words.specs.declared.command.Command.{Command}
 use Rattle.ext_words.specs.declared.command.Command.TheVariants.{Sphere, Resolve, Dump, Check}
-use Rattle.ext_words.specs.Words.{Part, plain, workers, with_next, with_word, begins_with, parts_of, check_of, command_from, command_of}
+use Rattle.ext_words.specs.Words.{Part, plain, workers, save, with_next, with_word, begins_with, parts_of, check_of, command_from, command_of}
 use Rattle.ext_words.specs.Inside.CommandLine.{command_line, common_in, command_in}
-use Rattle.ext_words.proofs.ClapWords.{Fails, fails-first, fails-as, held, Passes, meets, is_plain, is_stray, is_refused, is_alone, is_joined}
+use Rattle.ext_words.proofs.ClapWords.{Fails, fails-first, fails-as, held, Passes, meets, is_plain, is_stray, is_refused, is_alone, is_joined, is_flag}
 use Rattle.ext_words.proofs.ClapParts.{settings, leaf}
 use Rattle.ext_words.proofs.ClapLevels.{start, rest_fault, has_dashes, first-plain}
 use Rattle.ext_words.proofs.ClapCommands.{range_rules, range_given, sample_rules, sample_read, matches_after, refuses, reads, reads-range, reads-sample}
@@ -42,12 +42,13 @@ pub data Reads (words : List Text) : Type 0 where
 -- ---- words where there are no arguments
 
 flag-or-word : (word : Text) → bytes_eq word (45 ∷ 45 ∷ []) ≡ false → Fails (flag_word_fault [] false (long_of word) word (held [] None)) ⊎ Passes [] word
-flag-or-word word no_dashes = elim (meets [] (record { no_long = λ name e. refl; no_short = λ x. refl }) word no_dashes) [
+flag-or-word word no_dashes = elim (meets [] (record { no_long = λ name e f. refl; no_value = λ text h. record { first = UnknownArgument; others = []; is = refl }; no_short = λ x. refl }) word no_dashes) [
   | is_plain passes given ↦ inr passes
   | is_stray passes none stray ↦ inr passes
   | is_refused refused none ↦ inl (refused [] None)
   | is_alone is ↦ inl (record { first = UnknownArgument; others = []; is = ap (λ (t : Text). flag_word_fault [] false (long_of t) t (held [] None)) is })
   | is_joined text is ↦ inl (record { first = UnknownArgument; others = []; is = ap (λ (t : Text). flag_word_fault [] false (long_of t) t (held [] None)) is })
+  | is_flag is ↦ inl (record { first = UnknownArgument; others = []; is = ap (λ (t : Text). flag_word_fault [] false (long_of t) t (held [] None)) is })
 ]
 
 stray : (is_leaf : Bool) → Fails (if is_leaf then UnknownArgument ∷ [] else UnknownArgument ∷ InvalidSubcommand ∷ [])
@@ -147,17 +148,19 @@ next-no-check : (parts : List Part) → option_and_then check_of (with_next work
 next-no-check [] = refl
 next-no-check (plain word ∷ parts) = refl
 next-no-check (workers word ∷ parts) = refl
+next-no-check (save ∷ parts) = refl
 
-part-no-check : (word : Text) (parts : List Part) (alone joined hyphen : Bool) →
-    option_and_then check_of (if alone then with_next workers parts else if joined then Some (workers (drop (length (codes "--workers=")) word) ∷ parts) else if hyphen then None else Some (plain word ∷ parts)) ≡ None
-part-no-check word parts true joined hyphen = next-no-check parts
-part-no-check word parts false true hyphen = refl
-part-no-check word parts false false true = refl
-part-no-check word parts false false false = refl
+part-no-check : (word : Text) (parts : List Part) (alone joined flag hyphen : Bool) →
+    option_and_then check_of (if alone then with_next workers parts else if joined then Some (workers (drop (length (codes "--workers=")) word) ∷ parts) else if flag then Some (save ∷ parts) else if hyphen then None else Some (plain word ∷ parts)) ≡ None
+part-no-check word parts true joined flag hyphen = next-no-check parts
+part-no-check word parts false true flag hyphen = refl
+part-no-check word parts false false true hyphen = refl
+part-no-check word parts false false false true = refl
+part-no-check word parts false false false false = refl
 
 word-no-check : (word : Text) (parts : Option (List Part)) → option_and_then check_of (option_and_then (with_word word) parts) ≡ None
 word-no-check word None = refl
-word-no-check word (Some parts) = part-no-check word parts (bytes_eq (codes "--workers") word) (begins_with (codes "--workers=") word) (begins_with (codes "-") word)
+word-no-check word (Some parts) = part-no-check word parts (bytes_eq (codes "--workers") word) (begins_with (codes "--workers=") word) (bytes_eq (codes "--save") word) (begins_with (codes "-") word)
 
 -- ---- the command with the words N, S and T
 

@@ -1,4 +1,4 @@
--- What `clap` makes of one word, at a command that has no option but `--workers`.
+-- What `clap` makes of one word, at a command that has no options but `--workers` and `--save`.
 use Rattle.std.proofs.Common.{◌≡◌, ℕ, ◌+◌, refl, List, [], ◌∷◌, ◌++◌, Bool, true, false, Option, Some, None, ap, ap₂, sym, subst, ◌∙◌, take, drop, take-append-drop, arith}
 use Rattle.std.specs.Prelude.{◌==◌, ◌&&◌, ◌||◌, nat_le, nat_lt, option_and_then, zero, suc, slice_get, length, encode_utf8, codes}
 use Rattle.std.specs.List.{before_first, after_first, position_or_len}
@@ -43,9 +43,10 @@ no-number xs = record { none = λ limit. rw (never (nat_lt 0 (length (45 ∷ xs)
 abbrev pub held : List Row → Option (Text × List Text) → Held
 held rows pending = record { rows = rows; pending = pending; skip = 0 }
 
--- a command without other options than `--workers`
+-- a command without other options than `--workers` and `--save`, the second of which has no value
 pub record HasNoOther (c : List Rule) : Type 0 where
-  pub no_long : (name : Text) → bytes_eq (codes "workers") name ≡ false → arg_by_long c name ≡ None
+  pub no_long : (name : Text) → bytes_eq (codes "workers") name ≡ false → bytes_eq (codes "save") name ≡ false → arg_by_long c name ≡ None
+  pub no_value : (text : Text) (h : Held) → Fails (long_fault c false (arg_by_long c (codes "save")) (Some text) h)
   pub no_short : (x : ℕ) → arg_by_short c x ≡ None
 
 -- the word is taken as one that is no flag
@@ -64,6 +65,7 @@ pub data Meets (c : List Rule) (word : Text) : Type 0 where
   is_refused : Refuses c word → ((parts : List Part) → with_word word parts ≡ None) → Meets c word
   is_alone : word ≡ codes "--workers" → Meets c word
   is_joined : (value : Text) → word ≡ codes "--workers=" ++ value → Meets c word
+  is_flag : word ≡ codes "--save" → Meets c word
 
 -- ---- words that are no flags
 
@@ -163,21 +165,38 @@ split-once : (xs : Text) → has_byte 61 xs ≡ true → xs ≡ name_of xs ++ 61
 split-once [] e = absurd (true≢false (sym e))
 split-once (x ∷ xs) e = split-at x xs (x == 61) refl e (split-once xs)
 
--- another name is another option, also for the grammar
-other-name : (rest : Text) → bytes_eq (codes "workers") (name_of rest) ≡ false → (parts : List Part) → with_word (45 ∷ 45 ∷ rest) parts ≡ None
-other-name rest other parts =
+-- another name, or `--save` with something behind it, is no option for the grammar
+other-name : (rest : Text) → bytes_eq (codes "workers") (name_of rest) ≡ false → bytes_eq (codes "save") rest ≡ false → (parts : List Part) → with_word (45 ∷ 45 ∷ rest) parts ≡ None
+other-name rest other unflagged parts =
     let not_alone : bytes_eq (codes "workers") rest ≡ false = false_from_ne_true _ (λ e.
     true≢false (sym (subst (λ (t : Text). bytes_eq (codes "workers") (name_of t) ≡ true) ((bytes_eq-Decides (codes "workers") rest).0 e) refl) ∙ other)) in
     let not_joined : bytes_eq (codes "workers=") (take 8 rest) ≡ false = false_from_ne_true _ (λ e.
     true≢false (sym (subst (λ (t : Text). bytes_eq (codes "workers") (name_of t) ≡ true) (begins rest e) refl) ∙ other)) in
-    rw (not_alone, not_joined) refl
+    rw (not_alone, not_joined, unflagged) refl
   where
     begins : (t : Text) → bytes_eq (codes "workers=") (take 8 t) ≡ true → codes "workers=" ++ drop 8 t ≡ t
     begins t e = ap (λ (front : Text). front ++ drop 8 t) ((bytes_eq-Decides (codes "workers=") (take 8 t)).0 e) ∙ take-append-drop 8 t
 
+-- a text without `=` is its name
+no-flag-name : (rest : Text) → bytes_eq (codes "save") (name_of rest) ≡ false → bytes_eq (codes "save") rest ≡ false
+no-flag-name rest other = false_from_ne_true _ (λ e. true≢false (sym (subst (λ (t : Text). bytes_eq (codes "save") (name_of t) ≡ true) ((bytes_eq-Decides (codes "save") rest).0 e) refl) ∙ other))
+
+no-flag-value : (rest : Text) → has_byte 61 rest ≡ true → bytes_eq (codes "save") rest ≡ false
+no-flag-value rest has = false_from_ne_true _ (λ e. true≢false (sym has ∙ sym (ap (has_byte 61) ((bytes_eq-Decides (codes "save") rest).0 e))))
+
+-- a name that is not `workers`
+other-word : (c : List Rule) → HasNoOther c → (z : ℕ) (zs : Text) (flag valued : Bool) → bytes_eq (codes "workers") (name_of (z ∷ zs)) ≡ false → bytes_eq (codes "save") (name_of (z ∷ zs)) ≡ flag → has_byte 61 (z ∷ zs) ≡ valued → Meets c (45 ∷ 45 ∷ z ∷ zs)
+other-word c none z zs false valued name flag value =
+    is_refused (λ rows pending. record { first = UnknownArgument; others = []; is = ap (λ (found : Option Rule). long_fault c false found (name_and_value (z ∷ zs)).1 (held rows pending)) (none.no_long (name_of (z ∷ zs)) name flag) }) (other-name (z ∷ zs) name (no-flag-name (z ∷ zs) flag))
+other-word c none z zs true false name flag value =
+    is_flag (ap (λ (t : Text). 45 ∷ 45 ∷ t) (sym (before-all (z ∷ zs) value) ∙ sym ((bytes_eq-Decides (codes "save") (name_of (z ∷ zs))).0 flag)))
+other-word c none z zs true true name flag value =
+    let is : name_of (z ∷ zs) ≡ codes "save" = sym ((bytes_eq-Decides (codes "save") (name_of (z ∷ zs))).0 flag) in
+    let valued : (name_and_value (z ∷ zs)).1 ≡ Some (value_of (z ∷ zs)) = rw value refl in
+    is_refused (λ rows pending. fails-as _ _ (ap₂ (λ (name : Text) (v : Option Text). long_fault c false (arg_by_long c name) v (held rows pending)) is valued) (none.no_value (value_of (z ∷ zs)) (held rows pending))) (other-name (z ∷ zs) name (no-flag-value (z ∷ zs) value))
+
 long-word : (c : List Rule) → HasNoOther c → (z : ℕ) (zs : Text) (known valued : Bool) → bytes_eq (codes "workers") (name_of (z ∷ zs)) ≡ known → has_byte 61 (z ∷ zs) ≡ valued → Meets c (45 ∷ 45 ∷ z ∷ zs)
-long-word c none z zs false valued name value =
-    is_refused (λ rows pending. record { first = UnknownArgument; others = []; is = ap (λ (found : Option Rule). long_fault c false found (name_and_value (z ∷ zs)).1 (held rows pending)) (none.no_long (name_of (z ∷ zs)) name) }) (other-name (z ∷ zs) name)
+long-word c none z zs false valued name value = other-word c none z zs (bytes_eq (codes "save") (name_of (z ∷ zs))) valued name refl value
 long-word c none z zs true false name value =
     is_alone (ap (λ (t : Text). 45 ∷ 45 ∷ t) (sym (before-all (z ∷ zs) value) ∙ sym ((bytes_eq-Decides (codes "workers") (name_of (z ∷ zs))).0 name)))
 long-word c none z zs true true name value =

@@ -10,7 +10,7 @@ use Rattle.ext_words.specs.declared.command.WordsFault.{WordsFault}
 use Rattle.ext_words.specs.declared.command.Common.{Common}
 use Rattle.ext_words.specs.declared.command.Command.{Command}
 use Rattle.ext_words.specs.declared.command.Command.TheVariants.{Sphere, Resolve, Dump}
-use Rattle.ext_words.specs.Words.{Part, parts_of, plain_words, worker_values, number_up_to, decimal_value, is_short_number, range_from, range_of, workers_of, common_from, common_of, check_of, sample_from, sample_of, seed_of, command_from, command_of, IsWithin, IsWithinLimits}
+use Rattle.ext_words.specs.Words.{Part, parts_of, plain_words, worker_values, save_count, number_up_to, decimal_value, is_short_number, range_from, range_of, workers_of, save_of, common_from, common_of, check_of, sample_from, sample_of, seed_of, command_from, command_of, IsWithin, IsWithinLimits}
 use Rattle.ext_words.specs.declared.command.TheConstants.{MAX_WORKERS}
 
 up-to : (short within : Bool) (value limit : ℕ) → nat_le value limit ≡ within → IfSome (if short && within then Some value else None) (λ n. n ≤ limit)
@@ -48,13 +48,14 @@ range-within (s ∷ []) = tt
 range-within (s ∷ t ∷ []) = range-from (number_up_to MAX_S s) (number_up_to MAX_T t) (number-within MAX_S s) (number-within MAX_T t)
 range-within (s ∷ t ∷ u ∷ more) = tt
 
-both-within : (range : Option Range) (count : Option ℕ) → IfSome range IsRangeWithin → IfSome count (λ m. (1 ≤ m) × (m ≤ MAX_WORKERS)) → IfSome (common_from range count) IsWithin
-both-within None count h w = tt
-both-within (Some range) None h w = tt
-both-within (Some range) (Some count) h w = (h.0, h.1, w.0, w.1)
+both-within : (range : Option Range) (count : Option ℕ) (saves : Option Bool) → IfSome range IsRangeWithin → IfSome count (λ m. (1 ≤ m) × (m ≤ MAX_WORKERS)) → IfSome (common_from range count saves) IsWithin
+both-within None count saves h w = tt
+both-within (Some range) None saves h w = tt
+both-within (Some range) (Some count) None h w = tt
+both-within (Some range) (Some count) (Some saves) h w = (h.0, h.1, w.0, w.1)
 
 common-within : (words : List (List ℕ)) (parts : List Part) → IfSome (common_of words parts) IsWithin
-common-within words parts = both-within (range_of words) (workers_of (worker_values parts)) (range-within words) (workers-within (worker_values parts))
+common-within words parts = both-within (range_of words) (workers_of (worker_values parts)) (save_of (save_count parts)) (range-within words) (workers-within (worker_values parts))
 
 check-within : (parts : List Part) → IfSome (check_of parts) IsWithinLimits
 check-within [] = tt

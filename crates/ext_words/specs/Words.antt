@@ -1,5 +1,5 @@
 -- The command that the words of a command line give, none where they are outside the grammar.
-use Rattle.std.specs.Prelude.{ℕ, ◌≤◌, ◌+◌, ◌-◌, ◌*◌, ◌==◌, Bool, ◌&&◌, nat_lt, nat_le, if◌then◌else◌, List, [], ◌∷◌, length, take, drop, Option, Some, None, option_map, option_and_then, map, codes, ⊤}
+use Rattle.std.specs.Prelude.{ℕ, zero, suc, ◌≤◌, ◌+◌, ◌-◌, ◌*◌, ◌==◌, Bool, true, false, ◌&&◌, nat_lt, nat_le, if◌then◌else◌, List, [], ◌∷◌, length, take, drop, Option, Some, None, option_map, option_and_then, map, codes, ⊤}
 use Rattle.std.specs.Borrow.{Bor}
 use Rattle.std.specs.List.{fold, list_all}
 use Rattle.std.specs.Str.{bytes_eq}
@@ -17,10 +17,11 @@ texts_of words = map (λ w. w.now) words
 
 -- ---- the words behind a command's name, and its options among them
 
--- a word that is no option, or `--workers` with its value
+-- a word that is no option, `--workers` with its value, or `--save`, which has none
 pub data Part : Type 0 where
   plain : List ℕ → Part
   workers : List ℕ → Part
+  save : Part
 
 -- an option takes the plain word behind it as its value
 abbrev pub with_next : (List ℕ → Part) → List Part → Option (List Part)
@@ -36,6 +37,7 @@ abbrev pub with_word : List ℕ → List Part → Option (List Part)
 with_word word parts =
     if bytes_eq (codes "--workers") word then with_next workers parts
     else if begins_with (codes "--workers=") word then Some (workers (drop (length (codes "--workers=")) word) ∷ parts)
+    else if bytes_eq (codes "--save") word then Some (save ∷ parts)
     else if begins_with (codes "-") word then None else Some (plain word ∷ parts)
 
 -- the parts that words have, none where an option is unknown or has no value
@@ -48,12 +50,21 @@ abbrev pub plain_words : List Part → List (List ℕ)
 plain_words [] = []
 plain_words (plain word ∷ parts) = word ∷ plain_words parts
 plain_words (workers value ∷ parts) = plain_words parts
+plain_words (save ∷ parts) = plain_words parts
 
 -- what `--workers` is given, each time
 abbrev pub worker_values : List Part → List (List ℕ)
 worker_values [] = []
 worker_values (plain word ∷ parts) = worker_values parts
 worker_values (workers value ∷ parts) = value ∷ worker_values parts
+worker_values (save ∷ parts) = worker_values parts
+
+-- how often `--save` is among them
+abbrev pub save_count : List Part → ℕ
+save_count [] = 0
+save_count (plain word ∷ parts) = save_count parts
+save_count (workers value ∷ parts) = save_count parts
+save_count (save ∷ parts) = suc (save_count parts)
 
 -- ---- numbers
 
@@ -98,14 +109,21 @@ workers_of [] = Some 1
 workers_of (value ∷ []) = positive_up_to MAX_WORKERS value
 workers_of _ = None
 
-abbrev pub common_from : Option Range → Option ℕ → Option Common
-common_from (Some range) (Some count) = Some (record { range = range; workers = count })
-common_from (Some range) None = None
-common_from None count = None
+-- whether the squares are kept, by how often `--save` is given: it may be given once
+abbrev pub save_of : ℕ → Option Bool
+save_of zero = Some false
+save_of (suc zero) = Some true
+save_of (suc (suc n)) = None
+
+abbrev pub common_from : Option Range → Option ℕ → Option Bool → Option Common
+common_from (Some range) (Some count) (Some saves) = Some (record { range = range; workers = count; save = saves })
+common_from (Some range) (Some count) None = None
+common_from (Some range) None saves = None
+common_from None count saves = None
 
 -- the plain words S and T, and the options
 abbrev pub common_of : List (List ℕ) → List Part → Option Common
-common_of words parts = common_from (range_of words) (workers_of (worker_values parts))
+common_of words parts = common_from (range_of words) (workers_of (worker_values parts)) (save_of (save_count parts))
 
 abbrev pub sample_from : Option ℕ → Option Common → Option Command
 sample_from (Some n) (Some common) = Some (Sample n common)

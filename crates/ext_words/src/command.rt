@@ -15,6 +15,8 @@ pub struct Common {
     pub range: Range,
     /// How many workers make squares: from 1 to `MAX_WORKERS`, and 1 where the words do not say.
     pub workers: u32,
+    /// Whether the squares are kept in the save file, and those that it has are taken up.
+    pub save: bool,
 }
 
 /// What the words of a command line ask for.

@@ -2,14 +2,14 @@
 ghost use Rattle.std.specs.Prelude.{◌≡◌, ◌≢◌, ◌⊎◌, Some, None, [], Err, IfOk, IfSome, OnSome, IfNone, false};
 ghost use Rattle.clap.specs.Words.{app_of, fault_of, found_of, rows_of, subcommand_of, subcommand_rows_of};
 ghost use Rattle.clap.specs.declared.builder.command.Command.TheViews.{out-Command};
-ghost use Rattle.ext_words.specs.Inside.CommandLine.{with_options, range_command, command_line, number_in, workers_in, common_in, seed_in, sample_command, command_in};
+ghost use Rattle.ext_words.specs.Inside.CommandLine.{with_options, range_command, command_line, number_in, workers_in, saves_in, common_in, seed_in, sample_command, command_in};
 ghost use Rattle.ext_words.specs.declared.command.WordsFault as WordsFault;
 ghost use Rattle.ext_words.specs.Words.{texts_of, command_of, IsWithinLimits};
 
 use crate::command::{Command, Common, MAX_WORKERS, WordsFault};
 use crate::numbers::{number_up_to, positive_up_to, seed_of};
 use clap::error::ErrorKind;
-use clap::{Arg, ArgMatches};
+use clap::{Arg, ArgAction, ArgMatches};
 use memory::Memory;
 use square::{MAX_S, MAX_T, Range};
 use std::alloc::{AllocError, Global};
@@ -22,7 +22,13 @@ fn with_options<'a>(
     ensures app { IfOk result (λ made. app_of made ≡ with_options (app_of command.entry)) }
     ensures local { (out-Command command.entry).has_globals ≡ false → IfOk result (λ made. (out-Command made).has_globals ≡ false) }
 {
-    command.arg(Arg::new(alloc, "workers").long("workers"))
+    let save = Arg::new(alloc, "save")
+        .long("save")
+        .action(ArgAction::Set)
+        .num_args(0);
+    command
+        .arg(Arg::new(alloc, "workers").long("workers"))?
+        .arg(save)
 }
 
 /// A command with the words S and T, and with the options.
@@ -94,6 +100,13 @@ fn workers_in(matches: &ArgMatches) -> Option<u32>
     }
 }
 
+/// Whether a command's matches have the option `--save`.
+fn saves_in(matches: &ArgMatches) -> bool
+    ensures { result ≡ saves_in (rows_of (found_of matches.now)) }
+{
+    matches.contains_id("save")
+}
+
 /// The numbers S and T of a command's matches, and its options.
 fn common_in(matches: &ArgMatches) -> Option<Common>
     ensures { result ≡ common_in (rows_of (found_of matches.now)) }
@@ -104,6 +117,7 @@ fn common_in(matches: &ArgMatches) -> Option<Common>
     Some(Common {
         range: Range { s, t },
         workers,
+        save: saves_in(matches),
     })
 }
 

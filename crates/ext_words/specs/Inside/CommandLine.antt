@@ -1,8 +1,9 @@
 -- What `clap` is told of the command line, and what is read from its matches.
-use Rattle.std.specs.Prelude.{ℕ, List, Option, Some, None, option_map, option_and_then, if◌then◌else◌, true, codes}
+use Rattle.std.specs.Prelude.{ℕ, Bool, List, Option, Some, None, option_map, option_and_then, if◌then◌else◌, true, codes}
 use Rattle.std.specs.Str.{bytes_eq}
-use Rattle.clap.specs.Walk.{Row, Rule, Text, first_of}
+use Rattle.clap.specs.Walk.{Row, Rule, Text, first_of, has_row}
 use Rattle.clap.specs.Simple.{App, new_app, new_rule, on_top, with_rule, with_subcommand}
+use Rattle.clap.specs.declared.builder.action.ArgAction.TheVariants.{Set}
 use Rattle.square.specs.declared.range.TheConstants.{MAX_S, MAX_T}
 use Rattle.ext_words.specs.declared.command.TheConstants.{MAX_WORKERS}
 use Rattle.ext_words.specs.declared.command.Command.{Command}
@@ -18,9 +19,13 @@ positional id = record (new_rule id) { required = true }
 abbrev pub option : Text → Rule
 option name = record (new_rule name) { long = Some name }
 
+-- an option without a value
+abbrev pub flag : Text → Rule
+flag name = record (new_rule name) { long = Some name; action = Some Set; range = Some (record { start_inclusive = 0; end_inclusive = 0 }) }
+
 -- the command with the options that all commands but `check` have
 abbrev pub with_options : App → App
-with_options app = with_rule app (option (codes "workers"))
+with_options app = with_rule (with_rule app (option (codes "workers"))) (flag (codes "save"))
 
 -- a command with the words S and T, and with the options
 abbrev pub range_command : Text → App
@@ -50,9 +55,13 @@ workers_from (Some value) = positive_up_to MAX_WORKERS value
 abbrev pub workers_in : List Row → Option ℕ
 workers_in rows = workers_from (first_of (codes "workers") rows)
 
+-- whether a command's matches have `--save`
+abbrev pub saves_in : List Row → Bool
+saves_in rows = has_row (codes "save") rows
+
 -- the numbers S and T of a command's matches, and its options
 abbrev pub common_in : List Row → Option Common
-common_in rows = common_from (range_from (number_in rows (codes "S") MAX_S) (number_in rows (codes "T") MAX_T)) (workers_in rows)
+common_in rows = common_from (range_from (number_in rows (codes "S") MAX_S) (number_in rows (codes "T") MAX_T)) (workers_in rows) (Some (saves_in rows))
 
 -- the number N of a command's matches
 abbrev pub seed_in : List Row → Option ℕ

@@ -1,8 +1,9 @@
-use Rattle.std.proofs.Common.{Ok, Err, IfOk, refl, ap, arith}
-use Rattle.std.proofs.lemmas.Result.{IfOk-weaker}
+use Rattle.std.proofs.Common.{Err, refl, ap, arith}
+use Rattle.std.proofs.lemmas.Result.{IfOk-weaker, IfErr-weaker}
+use Rattle.edge.proofs.Moments.{Lawful}
 use Rattle.ext_words.specs.Words.{texts_of}
-use Rattle.ext_run.specs.Answer.{IsAnswerFrom}
 use Rattle.ext_run.proofs.Ending.{Device, IsRun, IsRead, IsFailed, run_of_failure, run_of_task}
+use Rattle.ext_run.proofs.Saved.{Store, worked, kept_early, early_cause}
 use Rattle.ext_run.proofs.answer.run_one.Given.{Over}
 use Rattle.ext_run.proofs.answer.run_one.Goals as goal
 
@@ -15,17 +16,27 @@ out g = record { State = g.row.O.Denot; shows = g.O.Sink.written; faults = g.O.S
 abbrev err : Over → Device
 err g = record { State = g.row.E.Denot; shows = g.E.Sink.written; faults = g.E.Sink.faults }
 
+abbrev store : Over → Store
+store g = record { State = g.row.D.Denot; now = g.D.Disk.now; moment = g.D.Disk.moment; images = g.D.Disk.images; since = g.D.Disk.since; faults = g.D.Disk.faults }
+
+laws : (g : Over) → Lawful g.D.Disk.now g.D.Disk.moment g.D.Disk.images g.D.Disk.since
+laws g = record { now_is_image = g.met.D.Disk.now_is_image; counts_now = g.met.D.Disk.counts_now; only_now = g.met.D.Disk.only_now; since_earlier = g.met.D.Disk.since_earlier }
+
 -- ---- the words have a task
 
-of_task : (g : Over) (c : goal.After-ended g) → IsRun (source g) (out g) (err g) (texts_of c.args.words.now) c.ended.result c.args.source.now c.task_from.new.source c.args.out.now c.ended.new.out c.args.err.now c.ended.new.err
+of_task : (g : Over) (c : goal.After-outcome-status g) → IsRun (source g) (out g) (err g) (store g) (texts_of c.args.words.now) c.outcome-status.result c.args.source.now c.task_from.new.source c.args.out.now c.outcome-status.new.out c.args.err.now c.outcome-status.new.err c.args.disk c.text_alone-text.result.1
 of_task g c =
     let words = texts_of c.args.words.now in
+    let left = g.S.Source.left c.args.source.now in
     let given = c.in-Ok.ensures in
     let read : IsRead (source g) words c.args.source.now c.task_from.new.source =
     record { unread = given.unread; given = given.given; read = λ reads. given.read reads (λ h. cc) (λ h. cc); never_falls = given.never_fall; no_fault = given.no_fault (λ h. cc) } in
-    let answers : IfOk c.text_alone.result (λ t. IsAnswerFrom words (g.S.Source.left c.args.source.now) (Ok t.items)) =
-    IfOk-weaker c.text_alone.result _ _ (λ t is. given.task t.items is) c.text_alone.ensures in
-    run_of_task (source g) (out g) (err g) words c.args.source.now c.task_from.new.source c.args.out.now c.ended.new.out c.args.err.now c.ended.new.err (λ t. t.items) c.text_alone.result c.ended.result read answers c.ended.ensures.text c.ended.ensures.no_memory
+    let did = worked (store g) (laws g) words left c.in-Ok.task c.text_alone-text.result.0 c.args.disk c.text_alone-text.result.1 given.saved c.text_alone-text.ensures in
+    run_of_task (source g) (out g) (err g) (store g) words c.args.source.now c.task_from.new.source c.args.out.now c.outcome-status.new.out c.args.err.now c.outcome-status.new.err c.args.disk c.text_alone-text.result.1 (λ t. t.items) c.text_alone-text.result.0 c.outcome-status.result given.text.0 read
+    (given.task given.text.0 given.text.1)
+    (IfOk-weaker c.text_alone-text.result.0 _ _ (λ t made. (λ usable. given.task t.items (made.0 usable), made.1, made.2)) did.made)
+    (IfErr-weaker c.text_alone-text.result.0 _ _ (λ e failed. record { cause = failed.0; not_reading = failed.1; not_writing = failed.2; saved = failed.3; accepted = failed.4 }) did.failed)
+    c.outcome-status.ensures.text c.outcome-status.ensures.failed
 
 pub returns-in-Ok-clause-status : goal.returns-in-Ok-clause-status
 returns-in-Ok-clause-status g c = (of_task g c).status
@@ -39,18 +50,25 @@ returns-in-Ok-clause-answered g c = (of_task g c).answered
 pub returns-in-Ok-clause-reported : goal.returns-in-Ok-clause-reported
 returns-in-Ok-clause-reported g c = (of_task g c).reported
 
+pub returns-in-Ok-clause-saved : goal.returns-in-Ok-clause-saved
+returns-in-Ok-clause-saved g c = (of_task g c).saved
+
 pub returns-in-Ok-clause-complete : goal.returns-in-Ok-clause-complete
 returns-in-Ok-clause-complete g c = (of_task g c).complete
 
 -- ---- the words have none
 
-of_failure : (g : Over) (c : goal.Joined-failure g) → IsRun (source g) (out g) (err g) (texts_of c.args.words.now) c.failed.result c.args.source.now c.task_from.new.source c.args.out.now c.args.out.now c.args.err.now c.failed.new.err
+of_failure : (g : Over) (c : goal.Joined-failure g) → IsRun (source g) (out g) (err g) (store g) (texts_of c.args.words.now) c.failed-status.result c.args.source.now c.task_from.new.source c.args.out.now c.args.out.now c.args.err.now c.failed-status.new.err c.args.disk c.args.disk
 of_failure g c =
     let words = texts_of c.args.words.now in
+    let left = g.S.Source.left c.args.source.now in
     let given = c.in-Err.ensures in
-    let failed : IsFailed (source g) (out g) words c.in-Err.failure c.args.source.now c.task_from.new.source c.args.out.now c.args.out.now =
+    let failure = c.in-Err.failure in
+    let early = early_cause (store g) (laws g) words left failure c.args.disk given.cause (λ h. given.not_writing (ap Err h)) in
+    let failed : IsFailed (source g) (out g) (store g) words failure c.args.source.now c.task_from.new.source c.args.out.now c.args.out.now c.args.disk c.args.disk =
     record {
-      cause = given.cause;
+      cause = early.cause;
+      has_text = early.has_text;
       unread = given.unread;
       given = given.given;
       read = λ reads no_6 no_12. given.read reads (λ h. no_6 cc) (λ h. no_12 cc);
@@ -60,8 +78,10 @@ of_failure g c =
       untouched = λ h. refl;
       part = λ h. absurd (given.not_writing (ap Err h));
       never_falls = omega arith;
+      saved = kept_early (store g) (laws g) words left failure c.args.disk given.cause (λ h. given.not_writing (ap Err h));
+      accepted = early.accepted;
     } in
-    run_of_failure (source g) (out g) (err g) words c.args.source.now c.task_from.new.source c.args.out.now c.args.out.now c.args.err.now c.failed.new.err c.in-Err.failure c.failed.result failed c.failed.ensures
+    run_of_failure (source g) (out g) (err g) (store g) words c.args.source.now c.task_from.new.source c.args.out.now c.args.out.now c.args.err.now c.failed-status.new.err c.args.disk c.args.disk failure c.failed-status.result failed c.failed-status.ensures
 
 pub returns-in-Err-clause-status : goal.returns-in-Err-clause-status
 returns-in-Err-clause-status g c = (of_failure g c).status
@@ -74,6 +94,9 @@ returns-in-Err-clause-answered g c = (of_failure g c).answered
 
 pub returns-in-Err-clause-reported : goal.returns-in-Err-clause-reported
 returns-in-Err-clause-reported g c = (of_failure g c).reported
+
+pub returns-in-Err-clause-saved : goal.returns-in-Err-clause-saved
+returns-in-Err-clause-saved g c = (of_failure g c).saved
 
 pub returns-in-Err-clause-complete : goal.returns-in-Err-clause-complete
 returns-in-Err-clause-complete g c = (of_failure g c).complete

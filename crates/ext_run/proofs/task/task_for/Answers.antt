@@ -3,7 +3,7 @@ use Rattle.std.proofs.lemmas.Result.{err_from_is_err_and}
 use Rattle.ext_run.specs.declared.task.Form.TheVariants.{Chart, Differentials}
 use Rattle.ext_run.specs.Answer.{IsChart, IsDump, IsLineOn, IsCommandCauseFrom}
 use Rattle.ext_run.proofs.Commands.{resolve_on, dump_on, check_on, module_answer, module_cause}
-use Rattle.ext_run.proofs.Tasks.{sphere_task, sample_task, module_task}
+use Rattle.ext_run.proofs.Tasks.{sphere_task, sample_task, module_task, sphere_saved, sample_saved, resolve_saved, dump_saved}
 use Rattle.ext_run.proofs.task.task_for.Goals as goal
 
 pub returns-in_err-module-in-Resolve-clause-cause : goal.returns-in_err-module-in-Resolve-clause-cause
@@ -49,3 +49,19 @@ returns-in_ok-module_line-in-Check-clause-task g c = λ text is.
 pub returns-in_ok-sample-in-Sample-clause-task : goal.returns-in_ok-sample-in-Sample-clause-task
 returns-in_ok-sample-in-Sample-clause-task g c =
     sample_task c.in-Sample.n c.args.command c.in-Sample.common _ c.in_ok-sample-in-Sample.sample _ c.in-Sample.is c.in_ok-sample-in-Sample.ensures c.to_resolve-in-Sample.ensures
+
+pub returns-in_ok-sphere-in-Sphere-clause-saved : goal.returns-in_ok-sphere-in-Sphere-clause-saved
+returns-in_ok-sphere-in-Sphere-clause-saved g c =
+    sphere_saved c.args.command c.in-Sphere.common _ c.in_ok-sphere-in-Sphere.sphere _ c.in-Sphere.is c.in_ok-sphere-in-Sphere.ensures c.to_resolve.ensures
+
+pub returns-in_ok-module-in-Resolve-clause-saved : goal.returns-in_ok-module-in-Resolve-clause-saved
+returns-in_ok-module-in-Resolve-clause-saved g c =
+    resolve_saved c.args.command c.in-Resolve.common _ c.in_ok-module-in-Resolve.module _ c.in-Resolve.is c.in_ok-module-in-Resolve.ensures.module c.to_resolve-in-Resolve.ensures
+
+pub returns-in_ok-module-in-Dump-clause-saved : goal.returns-in_ok-module-in-Dump-clause-saved
+returns-in_ok-module-in-Dump-clause-saved g c =
+    dump_saved c.args.command c.in-Dump.common _ c.in_ok-module-in-Dump.module _ c.in-Dump.is c.in_ok-module-in-Dump.ensures.module c.to_resolve-in-Dump.ensures
+
+pub returns-in_ok-sample-in-Sample-clause-saved : goal.returns-in_ok-sample-in-Sample-clause-saved
+returns-in_ok-sample-in-Sample-clause-saved g c =
+    sample_saved c.in-Sample.n c.args.command c.in-Sample.common _ c.in_ok-sample-in-Sample.sample _ c.in-Sample.is c.in_ok-sample-in-Sample.ensures c.to_resolve-in-Sample.ensures

@@ -1,0 +1,115 @@
+-- A table that was continued through a range, and what is told of it.
+use Rattle.std.proofs.Common.{◌≡◌, ℕ, ◌<◌, ◌⊎◌, inl, inr, List, length, Option, Some, None, sym, subst, refl, arith}
+use Rattle.std.proofs.lemmas.Option.{slice_get_cases}
+use Rattle.std.specs.Prelude.{Result, Ok, Err, IfOk, IfErr, OnOk, IfSome, IsSome, slice_get}
+use Rattle.std.specs.Option.{option_map}
+use Rattle.edge.specs.Faults.{HasRisen}
+use Rattle.finite_module.specs.Checked.{Checked}
+use Rattle.finite_module.specs.Graded.{ModulesAreSteenrodModules}
+use Rattle.finite_module.specs.ModuleLaws.{width-below}
+use Rattle.resolution_laws.specs.Resolution.{Content, IsCanonicalTable}
+use Rattle.resolution_laws.specs.Exactness.{CanonicalTableIsMinimalResolution}
+use Rattle.resolution_laws.specs.Start.{Entry, entry_at, IsCanonicalStart}
+use Rattle.square.specs.declared.range.Range.{Range}
+use Rattle.square.specs.Squares.{Placed, over}
+use Rattle.square.specs.Tables.{Staircase, row_in, plain_rows, IsThrough}
+use Rattle.square.specs.Growing.{HasGrown}
+use Rattle.square.specs.Keeping.{Keeper, HoldsTable, IsKeeperOf, HasKept}
+use Rattle.resolution_step.specs.Alone.{cut}
+use Rattle.ext_run.specs.declared.failure.Failure.{Failure}
+use Rattle.ext_run.specs.declared.failure.Failure.TheVariants.{Saving, Memory}
+use Rattle.ext_run.specs.declared.task.Form.{Form}
+use Rattle.ext_run.specs.Answer.{IsResolved}
+use Rattle.ext_run.specs.Task.{IsInForm}
+use Rattle.ext_run.specs.Saving.{HasRange}
+use Rattle.ext_run.specs.Work.{Told, HasContinued}
+
+-- a table with each square of the range, in a list
+some_content : (o : Option Placed) → ((q : Placed) × (o ≡ Some q)) → IsSome (option_map (λ q. q.content) o)
+some_content None h = let bad = h.1 in absurd (cc)
+some_content (Some q) h = refl
+
+held_at : (list : List Entry) (rows : List (List Placed)) (s k : ℕ) → HoldsTable list rows → k < length (row_in rows s) → IsSome (entry_at list s k)
+held_at list rows s k holds within =
+    let there : (q : Placed) × (slice_get (row_in rows s) k ≡ Some q) = elim (slice_get_cases (row_in rows s) k).1 [
+      | inl found ↦ (found.0, found.2)
+      | inr past ↦ absurd (omega (arith, past.0, within))
+    ] in
+    subst IsSome (sym (holds s k)) (some_content (slice_get (row_in rows s) k) there)
+
+range_held : (range : Range) (rows : List (List Placed)) (list : List Entry) → IsThrough range rows → HoldsTable list rows → HasRange range list
+range_held range rows list through holds s k low near = let wide = through s low in held_at list rows s k holds (omega arith)
+
+range_kept : (range : Range) (rows : List (List Placed)) (kept : Option (List Entry)) → IsThrough range rows → IfSome kept (λ list. HoldsTable list rows) → IfSome kept (HasRange range)
+range_kept range rows None through holds = tt
+range_kept range rows (Some list) through holds = range_held range rows list through holds
+
+-- the canonical table is exact and minimal
+resolved_by : CanonicalTableIsMinimalResolution → ModulesAreSteenrodModules → (range : Range) (m : Checked) (table : List (List Content)) → IsCanonicalTable (over m) range.s range.t table → IsResolved range m.plain table
+resolved_by minimal modules range m table canonical = record {
+  canonical = canonical;
+  minimal = minimal (over m) range.s range.t table (modules m.plain m.is_module) (width-below m.plain.generators m.by_degree) canonical;
+}
+
+-- what is told of the continued table
+abbrev pub IsToldOf : Range → Form → Staircase → Told → Type 0
+IsToldOf range form more text = IfOk text (λ t. IsResolved range more.resolved.plain (cut range (plain_rows more.rows)) → IsInForm form range more.resolved.plain t.items)
+
+told_with : (minimal : CanonicalTableIsMinimalResolution) (modules : ModulesAreSteenrodModules) (range : Range) (form : Form) (table more : Staircase) (text : Told) → HasGrown table more → (IsCanonicalStart (over table.resolved) table.start → IsCanonicalTable (over table.resolved) range.s range.t (cut range (plain_rows more.rows))) → IsToldOf range form more text →
+    IfOk text (λ t. IsCanonicalStart (over table.resolved) table.start → IsInForm form range table.resolved.plain t.items)
+told_with minimal modules range form table more (Err e) grown canonical told = tt
+told_with minimal modules range form table more (Ok t) grown canonical told = λ start.
+    let rows = cut range (plain_rows more.rows) in
+    let here : IsResolved range table.resolved.plain rows = resolved_by minimal modules range table.resolved rows (canonical start) in
+    let P : Checked → Type 0 = λ m. IsResolved range m.plain rows → IsInForm form range m.plain t.items in
+    subst P grown.resolved told here
+
+only_memory : (text : Told) → IfErr text (λ e. e ≡ Memory) → IfErr text (λ e. (e ≡ Saving) ⊎ (e ≡ Memory))
+only_memory (Ok t) h = tt
+only_memory (Err e) h = inr h
+
+not_failed : (text : Told) (X : Type 0) → IfErr text (λ e. e ≡ Memory) → text ≡ Err Saving → X
+not_failed (Ok t) X h is = absurd (cc)
+not_failed (Err e) X h is = absurd (cc)
+
+always : (text : Told) (P : Type 0) → P → OnOk text P
+always (Ok t) P p = p
+always (Err e) P p = tt
+
+pub continued : (minimal : CanonicalTableIsMinimalResolution) (modules : ModulesAreSteenrodModules) (range : Range) (form : Form) (table more : Staircase) (text : Told) (old new : Keeper) (given : List Entry) → HasGrown table more → IsThrough range more.rows → (IsCanonicalStart (over table.resolved) table.start → IsCanonicalTable (over table.resolved) range.s range.t (cut range (plain_rows more.rows)))
+    → IsKeeperOf new more → new.live → new.faults ≡ old.faults → HasKept (over table.resolved) table.start old new given → IsToldOf range form more text → IfErr text (λ e. e ≡ Memory) → HasContinued range form table text old new
+continued minimal modules range form table more text old new given grown through canonical keeper live no_fault kept told why = record {
+  told = told_with minimal modules range form table more text grown canonical told;
+  why = only_memory text why;
+  failed = not_failed text _ why;
+  no_fault = always text _ no_fault;
+  live = always text _ live;
+  whole = always text _ (range_kept range more.rows new.kept through keeper.holds);
+  given = given;
+  kept = kept;
+}
+
+pub not_continued : (range : Range) (form : Form) (table : Staircase) (e : Failure) (old new : Keeper) (given : List Entry) → (e ≡ Saving) ⊎ (e ≡ Memory) → (e ≡ Saving → HasRisen old.faults new.faults) → HasKept (over table.resolved) table.start old new given → HasContinued range form table (Err e) old new
+not_continued range form table e old new given why failed kept = record {
+  told = tt;
+  why = why;
+  failed = λ is. failed (cc);
+  no_fault = tt;
+  live = tt;
+  whole = tt;
+  given = given;
+  kept = kept;
+}
+
+-- ---- what a call's Ok says
+
+pub at_ok : {X E : Type 0} (r : Result X E) (x : X) (P : X → Type 0) → r ≡ Ok x → IfOk r P → P x
+at_ok {X = X} {E = E} r x P is h = subst (λ (q : Result X E). IfOk q P) is h
+
+pub when_ok : {X E : Type 0} (r : Result X E) (x : X) (P : Type 0) → r ≡ Ok x → OnOk r P → P
+when_ok {X = X} {E = E} r x P is h = subst (λ (q : Result X E). OnOk q P) is h
+
+-- a text that was handed on
+pub handed_on : {X E F : Type 0} (text : Result X F) (made : Result X E) (P : X → Type 0) → IfOk text (λ t. made ≡ Ok t) → IfOk made P → IfOk text P
+handed_on (Ok t) made P is h = at_ok made t P is h
+handed_on (Err e) made P is h = tt

@@ -1,0 +1,181 @@
+-- What is left of the disk of a run that kept its squares, at each moment and in the end.
+use Rattle.std.proofs.Common.{◌≡◌, ℕ, ◌≤◌, ◌⊎◌, inl, inr, List, [], ◌∷◌, ◌++◌, length, Bool, true, false, ap, sym, subst, ◌∙◌, refl}
+use Rattle.std.proofs.lemmas.Bool.{and_parts, eqb-true}
+use Rattle.std.proofs.lemmas.List.Elements.{All-nil, All-cons, All-head, All-tail, All-append, All-weaker}
+use Rattle.std.specs.Prelude.{Option, Some, None, IfSome, IsSome, Ok, Err, nat_eq, ◌&&◌, ◌↔◌, if◌then◌else◌}
+use Rattle.std.specs.List.{All}
+use Rattle.std.specs.Result.{result_ok}
+use Rattle.edge.specs.Disk.{LeavesOnly}
+use Rattle.edge.proofs.Moments.{Lawful}
+use Rattle.finite_module.specs.Checked.{Checked}
+use Rattle.resolution_laws.specs.Resolution.{Module, Content}
+use Rattle.resolution_laws.specs.Start.{Entry, entry_at, IsOf, AreOf, IsCanonicalStart}
+use Rattle.resolution_laws.proofs.StartLaws.{canonical_content}
+use Rattle.square.specs.Squares.{over}
+use Rattle.square.specs.Keeping.{Keeper, HasKept, IsImageWith, IsImageAmid, with_squares}
+use Rattle.square.specs.declared.range.Range.{Range}
+use Rattle.save_journal.specs.Records.{Records, records_of}
+use Rattle.save_journal.specs.Journals.{HasRecordsOf}
+use Rattle.save_file.specs.Files.{Standing, digest_of, of_records, standing_of, squares_in}
+use Rattle.save_file.specs.Saving.{SaveState, TakesSquares, kept_in, telling_of}
+use Rattle.save_file.specs.Inside.SavingLaws.{left_is_kept}
+use Rattle.ext_run.specs.Saving.{AreCanonical, StandsWith, StandsAmid, IsOurs, HasLasted, HasRange}
+
+-- ---- what is told
+
+pub some_of : {X : Type 0} (o : Option X) → IsSome o → (x : X) × (o ≡ Some x)
+some_of None h = absurd (cc)
+some_of (Some x) h = (x, refl)
+
+pub at_some : {X : Type 0} (o : Option X) (P : X → Type 0) (x : X) → o ≡ Some x → IfSome o P → P x
+at_some {X = X} o P x is h = subst (λ (p : Option X). IfSome p P) is h
+
+-- ---- canonical squares
+
+pub all_first : {X : Type 0} (P : X → Type 0) (xs ys : List X) → All P (xs ++ ys) → All P xs
+all_first P [] ys h = All-nil P
+all_first P (x ∷ xs) ys h = All-cons P x xs (All-head P x (xs ++ ys) h) (all_first P xs ys (All-tail P x (xs ++ ys) h))
+
+found_here : (m : Module) (e : Entry) (s k : ℕ) (content : Content) (rest : Option Content) (here : Bool) → (nat_eq e.s s && nat_eq e.above k) ≡ here → IsOf m [] e.s e.above e.content → (rest ≡ Some content → IsOf m [] s k content) →
+    (if here then Some e.content else rest) ≡ Some content → IsOf m [] s k content
+found_here m e s k content rest true at own others is =
+    let parts = and_parts (nat_eq e.s s) (nat_eq e.above k) at in
+    let same : e.content ≡ content = cc in
+    let row = subst (λ (x : ℕ). IsOf m [] x e.above e.content) (eqb-true e.s s parts.0) own in
+    let place = subst (λ (x : ℕ). IsOf m [] s x e.content) (eqb-true e.above k parts.1) row in
+    subst (IsOf m [] s k) same place
+found_here m e s k content rest false at own others is = others is
+
+-- a list of canonical squares is a canonical start
+pub canonical_start : (m : Module) (list : List Entry) → AreOf m [] list → IsCanonicalStart m list
+canonical_start m [] h s k content is = absurd (cc)
+canonical_start m (e ∷ es) h s k content is =
+    found_here m e s k content (entry_at es s k) (nat_eq e.s s && nat_eq e.above k) refl (All-head (λ e. IsOf m [] e.s e.above e.content) e es h)
+    (canonical_start m es (All-tail (λ e. IsOf m [] e.s e.above e.content) e es h) s k content) is
+
+-- the squares of a canonical start's table are canonical
+canonical_squares : (m : Module) (start list : List Entry) → IsCanonicalStart m start → AreOf m start list → AreOf m [] list
+canonical_squares m start list reads h =
+    All-weaker (λ e. IsOf m start e.s e.above e.content) (λ e. IsOf m [] e.s e.above e.content) (λ e is. canonical_content m start reads e.s e.above e.content is) list h
+
+-- ---- what files stand for
+
+standing_ok : (standing : Standing) (list : List Entry) → result_ok standing ≡ Some list → standing ≡ Ok list
+standing_ok (Ok l) list e = let same : l ≡ list = cc in ap (λ (x : List Entry). Ok x) same
+standing_ok (Err f) list e = absurd (cc)
+
+stands_with : (m : Checked) (start list : List Entry) (c : List ℕ) → IsCanonicalStart (over m) start → AreCanonical m.plain list → IsImageWith (over m) start list (squares_in m c) → StandsWith m.plain list c
+stands_with m start list c reads canonical image = record {
+  more = image.more;
+  at_most_one = image.at_most_one;
+  canonical = All-append (λ e. IsOf (over m) [] e.s e.above e.content) list image.more canonical (canonical_squares (over m) start image.more reads image.are_of);
+  stands = standing_ok (standing_of m c) (list ++ image.more) image.is;
+}
+
+stands_amid : (m : Checked) (start list given : List Entry) (c : List ℕ) → IsCanonicalStart (over m) start → AreCanonical m.plain list → AreCanonical m.plain given → IsImageAmid (over m) start list given (squares_in m c) → StandsAmid m.plain list given c
+stands_amid m start list given c reads canonical more image =
+    let P : Entry → Type 0 = λ e. IsOf (over m) [] e.s e.above e.content in
+    let front = all_first P image.first image.rest (subst (All P) image.parts more) in
+    record {
+      first = image.first;
+      rest = image.rest;
+      parts = image.parts;
+      with_more = stands_with m start (list ++ image.first) c reads (All-append P list image.first canonical front) image.with_more;
+    }
+
+-- a file with the records of one that stands for a list stands for it
+pub as_another : (m : Checked) (list : List Entry) (c d : List ℕ) → records_of (digest_of m) c ≡ records_of (digest_of m) d → StandsWith m.plain list d → StandsWith m.plain list c
+as_another m list c d same with = record {
+  more = with.more;
+  at_most_one = with.at_most_one;
+  canonical = with.canonical;
+  stands = ap (λ (r : Records). of_records (over m) r) same ∙ with.stands;
+}
+
+-- and so does one of which the same squares are read
+as_read : (m : Checked) (list : List Entry) (c d : List ℕ) → squares_in m c ≡ squares_in m d → StandsWith m.plain list d → StandsWith m.plain list c
+as_read m list c d same with = record {
+  more = with.more;
+  at_most_one = with.at_most_one;
+  canonical = with.canonical;
+  stands = standing_ok (standing_of m c) (list ++ with.more) (same ∙ ap (λ (s : Standing). result_ok s) with.stands);
+}
+
+-- ---- a run
+
+module _ {D : Type 0} (now : D → Option (List ℕ)) (moment : D → ℕ) (images : D → List ℕ → Type 0) (since : D → ℕ → List ℕ → Type 0) (faults : D → ℕ) (laws : Lawful now moment images since) where
+  -- what contracts see of a save file as a keeper
+  abbrev telling : SaveState D → Keeper
+  telling k = telling_of now moment images since faults k
+
+  module _ (m : Checked) (range : Range) (list more given : List Entry) (had_text : Type 0) (disk : D) (k after : SaveState D)
+      (at_most_one : length more ≤ 1) (canonical : AreCanonical m.plain (list ++ more)) (ours : IsOurs m.plain list (images disk)) (resolved : k.resolved ≡ m) (kept_is : kept_in now k ≡ Some (list ++ more))
+      (opening : LeavesOnly moment since disk k.journal.disk (HasRecordsOf (digest_of m) (images disk))) (kept : HasKept (over m) (list ++ more) (telling k) (telling after) given)
+      (live : had_text → TakesSquares now images after) (whole : had_text → IfSome (kept_in now after) (HasRange range)) where
+    abbrev start : List Entry
+    start = list ++ more
+
+    reads : IsCanonicalStart (over m) start
+    reads = canonical_start (over m) start canonical
+
+    given_canonical : AreCanonical m.plain given
+    given_canonical = canonical_squares (over m) start given reads kept.are_of
+
+    all_canonical : AreCanonical m.plain (start ++ given)
+    all_canonical = All-append (λ e. IsOf (over m) [] e.s e.above e.content) start given canonical given_canonical
+
+    after_resolved : after.resolved ≡ m
+    after_resolved = let same : Some after.resolved ≡ Some k.resolved = kept.same_module in let one : after.resolved ≡ k.resolved = cc in one ∙ resolved
+
+    read_after : (c : List ℕ) → squares_in after.resolved c ≡ squares_in m c
+    read_after c = ap (λ (q : Checked). squares_in q c) after_resolved
+
+    -- what is told of the list that was kept before
+    at_start : (P : List Entry → Type 0) → IfSome (kept_in now k) P → P start
+    at_start P h = subst (λ (o : Option (List Entry)). IfSome o P) kept_is h
+
+    after_kept : kept_in now after ≡ Some (start ++ given)
+    after_kept = kept.kept ∙ ap (λ (o : Option (List Entry)). with_squares o given) kept_is
+
+    moments : (c : List ℕ) → since after.journal.disk (moment disk) c → StandsWith m.plain list c ⊎ StandsAmid m.plain start given c
+    moments c left =
+        let image = squares_in after.resolved c in
+        let T = telling k in
+        let U = telling after in
+        let earlier = at_start (λ (l : List Entry). (t : ℕ) (i : Option (List Entry)) → t ≤ T.moment → U.since t i ↔ (T.since t i ⊎ U.since T.moment i)) kept.earlier in
+        let between = at_start (λ (l : List Entry). (i : Option (List Entry)) → U.since T.moment i → IsImageAmid (over m) start l given i) kept.since in
+        elim ((earlier (moment disk) image opening.later).0 (c, left, refl)) [
+          | inl before ↦
+              let d = before.0 in
+              let found = opening.each d before.1 in
+              let read : squares_in m c ≡ squares_in m d = sym (read_after c) ∙ before.2 ∙ ap (λ (q : Checked). squares_in q d) resolved in
+              inl (as_read m list c d read (as_another m list d found.0 found.2 (ours found.0 found.1)))
+          | inr now_left ↦
+              inr (stands_amid m start start given c reads canonical given_canonical (subst (IsImageAmid (over m) start start given) (read_after c) (between image now_left)))
+        ]
+
+    in_the_end : IsOurs m.plain (start ++ given) (images after.journal.disk)
+    in_the_end c image =
+        let U = telling after in
+        let ending = at_start (λ (l : List Entry). (i : Option (List Entry)) → U.since U.moment i → IsImageWith (over m) start (l ++ given) i) kept.now in
+        stands_with m start (start ++ given) c reads all_canonical
+        (subst (IsImageWith (over m) start (start ++ given)) (read_after c) (ending (squares_in after.resolved c) (c, laws.counts_now after.journal.disk c image, refl)))
+
+    only : had_text → (c : List ℕ) → images after.journal.disk c → standing_of m c ≡ Ok (start ++ given)
+    only has c image =
+        let is_kept = left_is_kept now moment images since laws.only_now after (live has) in
+        let U = telling after in
+        let exact = subst (λ (o : Option (List Entry)). IfSome o (λ (l : List Entry). (i : Option (List Entry)) → U.since U.moment i → i ≡ Some l)) after_kept is_kept in
+        standing_ok (standing_of m c) (start ++ given) (sym (read_after c) ∙ exact (squares_in after.resolved c) (c, laws.counts_now after.journal.disk c image, refl))
+
+    pub lasting : HasLasted moment images since m.plain range list had_text disk after.journal.disk
+    lasting = record {
+      more = more;
+      given = given;
+      at_most_one = at_most_one;
+      canonical = all_canonical;
+      moments = moments;
+      ours = in_the_end;
+      exact = only;
+      whole = λ has. subst (λ (o : Option (List Entry)). IfSome o (HasRange range)) after_kept (whole has);
+    }

@@ -1,0 +1,403 @@
+-- What becomes of the disk of a run, by how the run ends.
+use Rattle.std.proofs.Common.{◌≡◌, ◌≢◌, ◌∙◌, ℕ, ◌<◌, ◌≤◌, ◌⊎◌, inl, inr, List, [], ◌++◌, Bool, true, false, Option, Some, None, refl, sym, subst, ap, arith, append-nil}
+use Rattle.std.specs.declared.alloc.Global.{Global}
+use Rattle.std.specs.Prelude.{Vec, Result, Ok, Err, IfOk, IfErr, OnOk, IsOk, IfSome, IsSome, MatchOption}
+use Rattle.edge.specs.Faults.{HasRisen}
+use Rattle.module_json.specs.ModuleFile.{IsFileOf}
+use Rattle.module_json.proofs.Reading.{file_unique}
+use Rattle.finite_module.specs.Module.{Module as SteenrodModule}
+use Rattle.finite_module.specs.DerivedAction.{derived_module}
+use Rattle.resolution_laws.specs.Start.{Entry, IsOf}
+use Rattle.square.specs.Squares.{module_over}
+use Rattle.square.specs.declared.range.Range.{Range}
+use Rattle.save_file.specs.declared.fault.ResumeFault.{ResumeFault}
+use Rattle.ext_words.specs.declared.command.Common.{Common}
+use Rattle.ext_words.specs.declared.command.Command.{Command}
+use Rattle.ext_words.specs.declared.command.Command.TheVariants.{Sphere, Resolve, Dump, Check, Sample}
+use Rattle.ext_words.specs.Words.{command_of}
+use Rattle.ext_run.specs.declared.failure.Failure.{Failure}
+use Rattle.ext_run.specs.declared.failure.Failure.TheVariants.{Words, Malformed as NoModuleFile, NotModule, Reading, Writing, Saving, SaveFile, Memory}
+use Rattle.ext_run.specs.declared.task.Task.{Task}
+use Rattle.ext_run.specs.declared.task.Task.TheVariants.{Text, Resolution}
+use Rattle.ext_run.specs.declared.task.Resolution.{Resolution as ToResolve}
+use Rattle.ext_run.specs.Input.{IsOfInput}
+use Rattle.ext_run.specs.Failure.{status_of}
+use Rattle.ext_run.specs.Answer.{IsChart, IsDump, IsLineOn, IsAnswerTo, IsAnswerFrom, IsCauseFrom, Reads, WordsRead}
+use Rattle.ext_run.specs.Saving.{options_of, Saves, WordsSave, IsModuleIn, IsModuleOf, IsSavedBy, standing_for, AreCanonical, IsOurs, HasLasted, HasSaved, IsUsable, IsRunCauseFrom, IsRefusedFrom, IsEarly}
+use Rattle.ext_run.specs.Task.{IsTextOf, IsSavedFor, IsSavedAs}
+use Rattle.ext_run.specs.Work.{Told, IsUnsaved, IsRefusedFor, HasKeptOn, HasWorked}
+use Rattle.ext_run.proofs.Causes.{accepted_text, HasText, never_0, only_writing, only_saving, only_refused}
+use Rattle.edge.proofs.Moments.{Lawful}
+use Rattle.ext_run.proofs.Lasting.{some_of, at_some, all_first}
+
+-- ---- the module and the range that words ask to be saved
+
+same_module : (b d : List ℕ) (m n : SteenrodModule) → b ≡ d → IsModuleIn b m → IsModuleIn d n → m ≡ n
+same_module b d m n same p q =
+    let files = file_unique d (Ok p.file) (Ok q.file) (subst (λ (x : List ℕ). IsFileOf x (Ok p.file)) same p.is_file) q.is_file in
+    let file : p.file ≡ q.file = cc in
+    p.is_derived ∙ (ap derived_module file ∙ sym q.is_derived)
+
+same_of : (command : Command) (b d : List ℕ) (m n : SteenrodModule) → (Reads command → b ≡ d) → IsModuleOf command b m → IsModuleOf command d n → m ≡ n
+same_of (Sphere common) b d m n same p q = p ∙ sym q
+same_of (Resolve common) b d m n same p q = same_module b d m n (same tt) p q
+same_of (Dump common) b d m n same p q = same_module b d m n (same tt) p q
+same_of Check b d m n same p q = same_module b d m n (same tt) p q
+same_of (Sample k common) b d m n same p q = p ∙ sym q
+
+pub saved_unique : (words : List (List ℕ)) (b d : List ℕ) (m n : SteenrodModule) (range other : Range) → (WordsRead words → b ≡ d) → IsSavedBy words b m range → IsSavedBy words d n other → (m ≡ n) × (range ≡ other)
+saved_unique words b d m n range other same p q =
+    let both : Some p.command ≡ Some q.command = sym p.is ∙ q.is in
+    let command : p.command ≡ q.command = cc in
+    let options : Some p.common ≡ Some q.common = sym p.options ∙ (ap options_of command ∙ q.options) in
+    let common : p.common ≡ q.common = cc in
+    let reads : Reads q.command → b ≡ d = λ r. same (subst (λ (o : Option Command). MatchOption o ⊥ Reads) (sym q.is) r) in
+    let module_ : IsModuleOf q.command b m = subst (λ (c : Command). IsModuleOf c b m) command p.resolves in
+    (same_of q.command b d m n reads module_ q.resolves, p.range_is ∙ (ap (λ (c : Common). c.range) common ∙ sym q.range_is))
+
+pub saved_words : (words : List (List ℕ)) (bytes : List ℕ) (m : SteenrodModule) (range : Range) → IsSavedBy words bytes m range → WordsSave words
+saved_words words bytes m range p =
+    let saves : Saves p.command = subst (λ (o : Option Common). MatchOption o ⊥ (λ common. common.save ≡ true)) (sym p.options) p.saves in
+    subst (λ (o : Option Command). MatchOption o ⊥ Saves) (sym p.is) saves
+
+-- ---- words that ask for a save file are answered by no failure of the input
+
+answered_failure : (command : Command) (b d : List ℕ) (m : SteenrodModule) (failure : Failure) → (Reads command → b ≡ d) → IsModuleOf command d m → IsAnswerTo command b (Err failure) → ⊥
+answered_failure (Sphere common) b d m failure same p a = a
+answered_failure (Resolve common) b d m failure same p a = accepted_text (IsChart common.range) b (Err failure) failure (record { file = p.file; is_file = subst (λ (x : List ℕ). IsFileOf x (Ok p.file)) (sym (same tt)) p.is_file; no_refusal = p.no_refusal }) a refl
+answered_failure (Dump common) b d m failure same p a = accepted_text (IsDump common.range) b (Err failure) failure (record { file = p.file; is_file = subst (λ (x : List ℕ). IsFileOf x (Ok p.file)) (sym (same tt)) p.is_file; no_refusal = p.no_refusal }) a refl
+answered_failure Check b d m failure same p a = accepted_text IsLineOn b (Err failure) failure (record { file = p.file; is_file = subst (λ (x : List ℕ). IsFileOf x (Ok p.file)) (sym (same tt)) p.is_file; no_refusal = p.no_refusal }) a refl
+answered_failure (Sample k common) b d m failure same p a = a
+
+-- where the input is told, its bytes are those
+told_bytes : (left : Option (List ℕ)) (b d : List ℕ) → IfSome left (λ l. b ≡ l) → left ≡ Some d → b ≡ d
+told_bytes left b d all is = subst (λ (o : Option (List ℕ)). IfSome o (λ l. b ≡ l)) is all
+
+saved_no_failure : (words : List (List ℕ)) (left : Option (List ℕ)) (bytes : List ℕ) (m : SteenrodModule) (range : Range) (failure : Failure) → (WordsRead words → left ≡ Some bytes) → IsSavedBy words bytes m range → IsAnswerFrom words left (Err failure) → ⊥
+saved_no_failure words left bytes m range failure tells p a =
+    let reads : Reads p.command → a.bytes ≡ bytes = λ r. told_bytes left a.bytes bytes a.all (tells (subst (λ (o : Option Command). MatchOption o ⊥ Reads) (sym p.is) r)) in
+    let none : Result (List ℕ) Failure = Err failure in
+    let answer : IsAnswerTo p.command a.bytes none = subst (λ (o : Option Command). MatchOption o (none ≡ Err Words) (λ c. IsAnswerTo c a.bytes none)) p.is a.holds in
+    answered_failure p.command a.bytes bytes m failure reads p.resolves answer
+
+-- ---- a disk
+
+-- how a disk is seen
+pub record Store : Type 1 where
+  pub State : Type 0
+  pub now : State → Option (List ℕ)
+  pub moment : State → ℕ
+  pub images : State → List ℕ → Type 0
+  pub since : State → ℕ → List ℕ → Type 0
+  pub faults : State → ℕ
+
+abbrev pub IsKept : (store : Store) → List (List ℕ) → Option (List ℕ) → ℕ → store.State → store.State → Type 0
+IsKept store words left status d g = HasSaved store.now store.moment store.images store.since store.faults words left status d g
+
+abbrev pub IsUsableAt : (store : Store) → List (List ℕ) → Option (List ℕ) → store.State → Type 0
+IsUsableAt store words left d = IsUsable words left (store.now d) (store.images d)
+
+-- what lasts with a text lasts without
+lasted_by : {D : Type 0} (moment : D → ℕ) (images : D → List ℕ → Type 0) (since : D → ℕ → List ℕ → Type 0) (m : SteenrodModule) (range : Range) (list : List Entry) (A B : Type 0) (old new : D) → (B → A) → HasLasted moment images since m range list A old new → HasLasted moment images since m range list B old new
+lasted_by moment images since m range list A B old new f h = record {
+  more = h.more;
+  given = h.given;
+  at_most_one = h.at_most_one;
+  canonical = h.canonical;
+  moments = h.moments;
+  ours = h.ours;
+  exact = λ b. h.exact (f b);
+  whole = λ b. h.whole (f b);
+}
+
+-- the file of a disk is one of its images
+file_of : {D : Type 0} (now : D → Option (List ℕ)) (images : D → List ℕ → Type 0) (law : (d : D) → IfSome (now d) (λ file. images d file)) (d : D) (file : List ℕ) → now d ≡ Some file → images d file
+file_of now images law d file is = at_some (now d) (λ f. images d f) file is (law d)
+
+module _ (store : Store) (laws : Lawful store.now store.moment store.images store.since) (words : List (List ℕ)) (left : Option (List ℕ)) where
+  -- ---- a disk that got no call
+
+  -- nothing was kept and nothing is lost
+  as_it_was : (m : SteenrodModule) (range : Range) (list : List Entry) (had_text : Type 0) (d : store.State) → (had_text → ⊥) → IsSome (store.now d) → IsOurs m list (store.images d) → HasLasted store.moment store.images store.since m range list had_text d d
+  as_it_was m range list had_text d never told ours =
+      let found = some_of (store.now d) told in
+      let here = ours found.0 (file_of store.now store.images laws.now_is_image d found.0 found.1) in
+      let same : (list ++ []) ++ [] ≡ list = append-nil (list ++ []) ∙ append-nil list in
+      record {
+        more = [];
+        given = [];
+        at_most_one = omega arith;
+        canonical = subst (AreCanonical m) (sym same) (all_first (λ e. IsOf (module_over m) [] e.s e.above e.content) list here.more here.canonical);
+        moments = λ c was. inl (ours c (laws.only_now d c was));
+        ours = subst (λ (l : List Entry). IsOurs m l (store.images d)) (sym same) ours;
+        exact = λ h. absurd (never h);
+        whole = λ h. absurd (never h);
+      }
+
+  -- words that ask for no save file
+  pub kept_unsaved : (status : ℕ) (d g : store.State) → g ≡ d → (WordsSave words → ⊥) → (status ≡ 8 → ⊥) → (status ≡ 9 → ⊥) → IsKept store words left status d g
+  kept_unsaved status d g same unasked no_8 no_9 = record {
+    unsaved = λ h. same;
+    early = λ h. same;
+    failed = λ h. absurd (no_8 h);
+    no_fault = λ h. ap store.faults same;
+    never_falls = let e = ap store.faults same in omega (arith, e);
+    refused = λ h. absurd (no_9 h);
+    refuses = λ bytes file m range e tells is p h. absurd (unasked (saved_words words bytes m range p));
+    unwritten = λ h. absurd (no_9 h);
+    lasts = λ bytes m range list tells told p ours. absurd (unasked (saved_words words bytes m range p));
+  }
+
+  early_refusal : (failure : Failure) (bytes : List ℕ) (m : SteenrodModule) (range : Range) → IsCauseFrom words left failure → failure ≢ Writing → (WordsRead words → left ≡ Some bytes) → IsSavedBy words bytes m range →
+      (status_of failure ≡ 9) ⊎ (status_of failure ≡ 6) ⊎ (status_of failure ≡ 8) ⊎ (status_of failure ≡ 12)
+  early_refusal Words bytes m range cause unwritten tells p = absurd (saved_no_failure words left bytes m range Words tells p cause)
+  early_refusal (NoModuleFile e) bytes m range cause unwritten tells p = absurd (saved_no_failure words left bytes m range (NoModuleFile e) tells p cause)
+  early_refusal (NotModule f e) bytes m range cause unwritten tells p = absurd (saved_no_failure words left bytes m range (NotModule f e) tells p cause)
+  early_refusal Reading bytes m range cause unwritten tells p = inr (inl refl)
+  early_refusal Writing bytes m range cause unwritten tells p = absurd (unwritten refl)
+  early_refusal Saving bytes m range cause unwritten tells p = absurd cause
+  early_refusal (SaveFile e) bytes m range cause unwritten tells p = absurd cause
+  early_refusal Memory bytes m range cause unwritten tells p = inr (inr (inr refl))
+
+  no_saving : (failure : Failure) → IsCauseFrom words left failure → failure ≡ Saving → ⊥
+  no_saving failure cause is = subst (IsCauseFrom words left) is cause
+
+  no_refusal : (failure : Failure) → IsCauseFrom words left failure → ((e : ResumeFault) × (failure ≡ SaveFile e)) → ⊥
+  no_refusal failure cause is = subst (IsCauseFrom words left) is.1 cause
+
+  no_text_status : (failure : Failure) → failure ≢ Writing → (status_of failure ≡ 0) ⊎ (status_of failure ≡ 7) → ⊥
+  no_text_status failure unwritten (inl h) = never_0 failure h
+  no_text_status failure unwritten (inr h) = unwritten (only_writing failure h)
+
+  -- a failure before the disk's turn
+  pub kept_early : (failure : Failure) (d : store.State) → IsCauseFrom words left failure → failure ≢ Writing → IsKept store words left (status_of failure) d d
+  kept_early failure d cause unwritten = record {
+    unsaved = λ h. refl;
+    early = λ h. refl;
+    failed = λ h. absurd (no_saving failure cause (only_saving failure h));
+    no_fault = λ h. refl;
+    never_falls = omega arith;
+    refused = λ h. absurd (no_refusal failure cause (only_refused failure h));
+    refuses = λ bytes file m range e tells is p h. early_refusal failure bytes m range cause unwritten tells p;
+    unwritten = λ h. absurd (no_refusal failure cause (only_refused failure h));
+    lasts = λ bytes m range list tells told p ours. as_it_was m range list _ d (no_text_status failure unwritten) told ours;
+  }
+
+  -- ---- a disk with the save file
+
+  module _ (r : ToResolve) (d g : store.State) (text : Told) (on : HasKeptOn store.now store.moment store.images store.since store.faults r text d g) (by : IsOfInput (λ bytes. IsSavedBy words bytes r.resolved.plain r.common.range) left) where
+    -- the words ask for no other module and range
+    the_same : (bytes : List ℕ) (m : SteenrodModule) (range : Range) → (WordsRead words → left ≡ Some bytes) → IsSavedBy words bytes m range → (r.resolved.plain ≡ m) × (r.common.range ≡ range)
+    the_same bytes m range tells p = saved_unique words by.bytes bytes r.resolved.plain m r.common.range range (λ reads. told_bytes left by.bytes bytes by.all (tells reads)) by.holds p
+
+    save : WordsSave words
+    save = saved_words words by.bytes r.resolved.plain r.common.range by.holds
+
+    on_lasts : (had_text : Type 0) → (had_text → IsOk text) → (bytes : List ℕ) (m : SteenrodModule) (range : Range) (list : List Entry) → (WordsRead words → left ≡ Some bytes) → IsSome (store.now d) → IsSavedBy words bytes m range → IsOurs m list (store.images d) →
+        HasLasted store.moment store.images store.since m range list had_text d g
+    on_lasts had_text has bytes m range list tells told p ours =
+        let same = the_same bytes m range tells p in
+        let here : IsOurs r.resolved.plain list (store.images d) = subst (λ (x : SteenrodModule). IsOurs x list (store.images d)) (sym same.0) ours in
+        let lasted = lasted_by store.moment store.images store.since r.resolved.plain r.common.range list (IsOk text) had_text d g has (on.lasts told list here) in
+        subst (λ (x : Range). HasLasted store.moment store.images store.since m x list had_text d g) same.1
+        (subst (λ (x : SteenrodModule). HasLasted store.moment store.images store.since x r.common.range list had_text d g) same.0 lasted)
+
+    -- a run that has a text
+    pub kept_with_text : (status : ℕ) → (status ≡ 0) ⊎ (status ≡ 7) → IsOk text → IsKept store words left status d g
+    kept_with_text status is ok = record {
+      unsaved = λ unasked. absurd (unasked save);
+      early = λ h. absurd (not_early is h);
+      failed = λ h. absurd (not_one 8 is h (omega arith) (omega arith));
+      no_fault = λ h. at_ok text _ ok on.no_fault;
+      never_falls = on.never_falls;
+      refused = λ h. absurd (not_one 9 is h (omega arith) (omega arith));
+      refuses = λ bytes file m range e tells told p refusal. absurd (accepted_is_not_refused bytes file m range e tells told p refusal);
+      unwritten = λ h. absurd (not_one 9 is h (omega arith) (omega arith));
+      lasts = on_lasts _ (λ _. ok);
+    }
+      where
+        at_ok : (t : Told) (P : Type 0) → IsOk t → OnOk t P → P
+        at_ok (Ok x) P ok p = p
+        at_ok (Err x) P ok p = absurd (cc)
+
+        not_one : (n : ℕ) → (status ≡ 0) ⊎ (status ≡ 7) → status ≡ n → 0 < n → n ≢ 7 → ⊥
+        not_one n (inl a) b low other = omega (arith, a, b, low)
+        not_one n (inr a) b low other = other (sym b ∙ a)
+
+        not_early : (status ≡ 0) ⊎ (status ≡ 7) → IsEarly status → ⊥
+        not_early one (inl h) = not_one 2 one h (omega arith) (λ e. omega (arith, e))
+        not_early one (inr (inl h)) = not_one 3 one h (omega arith) (λ e. omega (arith, e))
+        not_early one (inr (inr (inl h))) = not_one 4 one h (omega arith) (λ e. omega (arith, e))
+        not_early one (inr (inr (inr h))) = not_one 6 one h (omega arith) (λ e. omega (arith, e))
+
+        accepted_is_not_refused : (bytes file : List ℕ) (m : SteenrodModule) (range : Range) (e : ResumeFault) → (WordsRead words → left ≡ Some bytes) → store.now d ≡ Some file → IsSavedBy words bytes m range → standing_for m file ≡ Err e → ⊥
+        accepted_is_not_refused bytes file m range e tells told p refusal =
+            let same = the_same bytes m range tells p in
+            let list = at_ok text _ ok on.accepted file told in
+            let both : Ok list.0 ≡ Err e = sym list.1 ∙ ap (λ (x : SteenrodModule). standing_for x file) same.0 ∙ refusal in
+            cc
+
+    -- a run that has none
+    kept_late : (status : ℕ) → (status ≡ 8) ⊎ (status ≡ 9) ⊎ (status ≡ 12) → (status ≡ 8 → HasRisen (store.faults d) (store.faults g)) → (status ≡ 9 → IfSome (store.now d) (λ file. (e : ResumeFault) × IsRefusedFrom words left file e)) →
+        (status ≡ 9 → (store.now g ≡ store.now d) × IfSome (store.now d) (λ _. (c : List ℕ) → store.images g c → store.images d c)) → IsKept store words left status d g
+    kept_late status is failed refused unwritten = record {
+      unsaved = λ unasked. absurd (unasked save);
+      early = λ h. absurd (not_early is h);
+      failed = failed;
+      no_fault = λ h. absurd (no_text is h);
+      never_falls = on.never_falls;
+      refused = refused;
+      refuses = λ bytes file m range e tells told p refusal. late is;
+      unwritten = unwritten;
+      lasts = on_lasts _ (λ h. absurd (no_text is h));
+    }
+      where
+        not_one : (status ≡ 8) ⊎ (status ≡ 9) ⊎ (status ≡ 12) → status ≤ 7 → ⊥
+        not_one (inl a) low = omega (arith, a, low)
+        not_one (inr (inl a)) low = omega (arith, a, low)
+        not_one (inr (inr a)) low = omega (arith, a, low)
+
+        not_early : (status ≡ 8) ⊎ (status ≡ 9) ⊎ (status ≡ 12) → IsEarly status → ⊥
+        not_early one (inl h) = not_one one (omega (arith, h))
+        not_early one (inr (inl h)) = not_one one (omega (arith, h))
+        not_early one (inr (inr (inl h))) = not_one one (omega (arith, h))
+        not_early one (inr (inr (inr h))) = not_one one (omega (arith, h))
+
+        no_text : (status ≡ 8) ⊎ (status ≡ 9) ⊎ (status ≡ 12) → (status ≡ 0) ⊎ (status ≡ 7) → ⊥
+        no_text one (inl h) = not_one one (omega (arith, h))
+        no_text one (inr h) = not_one one (omega (arith, h))
+
+        late : (status ≡ 8) ⊎ (status ≡ 9) ⊎ (status ≡ 12) → (status ≡ 9) ⊎ (status ≡ 6) ⊎ (status ≡ 8) ⊎ (status ≡ 12)
+        late (inl h) = inr (inr (inl h))
+        late (inr (inl h)) = inl h
+        late (inr (inr h)) = inr (inr (inr h))
+
+    refused_here : (o : Option (List ℕ)) (fault : ResumeFault) → IsRefusedFor r.resolved.plain o fault → IfSome o (λ file. (e : ResumeFault) × IsRefusedFrom words left file e)
+    refused_here None fault h = tt
+    refused_here (Some file) fault h = (fault, record { bytes = by.bytes; all = by.all; holds = (r.resolved.plain, r.common.range, by.holds, h) })
+
+    pub kept_with_failure : (failure : Failure) → text ≡ Err failure → ((failure ≡ Saving) ⊎ (failure ≡ Memory) ⊎ ((fault : ResumeFault) × (failure ≡ SaveFile fault) × IsRefusedFor r.resolved.plain (store.now d) fault)) →
+        IsKept store words left (status_of failure) d g
+    kept_with_failure failure is (inl h) =
+        let status : status_of failure ≡ 8 = ap status_of h in
+        kept_late (status_of failure) (inl status) (λ e. on.failed (is ∙ ap Err h)) (λ e. absurd (omega (arith, status, e))) (λ e. absurd (omega (arith, status, e)))
+    kept_with_failure failure is (inr (inl h)) =
+        let status : status_of failure ≡ 12 = ap status_of h in
+        kept_late (status_of failure) (inr (inr status)) (λ e. absurd (omega (arith, status, e))) (λ e. absurd (omega (arith, status, e))) (λ e. absurd (omega (arith, status, e)))
+    kept_with_failure failure is (inr (inr h)) =
+        let status : status_of failure ≡ 9 = ap status_of h.1 in
+        kept_late (status_of failure) (inr (inl status)) (λ e. absurd (omega (arith, status, e))) (λ e. refused_here (store.now d) h.0 h.2) (λ e. on.unwritten h.0 (is ∙ ap Err h.1))
+
+    refusal_cause : (o : Option (List ℕ)) (fault : ResumeFault) → IsRefusedFor r.resolved.plain o fault → IfSome o (λ file. IsRefusedFrom words left file fault)
+    refusal_cause None fault h = tt
+    refusal_cause (Some file) fault h = record { bytes = by.bytes; all = by.all; holds = (r.resolved.plain, r.common.range, by.holds, h) }
+
+    pub saving_cause : (failure : Failure) → ((failure ≡ Saving) ⊎ (failure ≡ Memory) ⊎ ((fault : ResumeFault) × (failure ≡ SaveFile fault) × IsRefusedFor r.resolved.plain (store.now d) fault)) → IsRunCauseFrom words left (store.now d) failure
+    saving_cause failure (inl h) = subst (IsRunCauseFrom words left (store.now d)) (sym h) save
+    saving_cause failure (inr (inl h)) = subst (IsRunCauseFrom words left (store.now d)) (sym h) tt
+    saving_cause failure (inr (inr h)) = subst (IsRunCauseFrom words left (store.now d)) (sym h.1) (refusal_cause (store.now d) h.0 h.2)
+
+  -- ---- a task
+
+  saved_by : (r : ToResolve) (o : Option Command) → command_of words ≡ o → MatchOption o ⊥ (λ c. IsSavedFor c left (Resolution r)) → r.common.save ≡ true → IsOfInput (λ bytes. IsSavedBy words bytes r.resolved.plain r.common.range) left
+  saved_by r None e h s = absurd h
+  saved_by r (Some c) e h s = record {
+    bytes = h.1.bytes;
+    all = h.1.all;
+    holds = record { command = c; common = r.common; is = e; options = h.0; saves = s; range_is = refl; resolves = h.1.holds };
+  }
+
+  not_saved : (r : ToResolve) (o : Option Command) → command_of words ≡ o → MatchOption o ⊥ (λ c. IsSavedFor c left (Resolution r)) → r.common.save ≡ false → WordsSave words → ⊥
+  not_saved r None e h s w = h
+  not_saved r (Some c) e h s w =
+      let saves : Saves c = subst (λ (o : Option Command). MatchOption o ⊥ Saves) e w in
+      let yes : r.common.save ≡ true = subst (λ (o : Option Common). MatchOption o ⊥ (λ common. common.save ≡ true)) h.0 saves in
+      cc
+
+  text_unsaved : (made : Vec ℕ Global) (o : Option Command) → command_of words ≡ o → MatchOption o ⊥ (λ c. IsSavedFor c left (Text made)) → WordsSave words → ⊥
+  text_unsaved made None e h w = h
+  text_unsaved made (Some c) e h w = h (subst (λ (o : Option Command). MatchOption o ⊥ Saves) e w)
+
+  -- what a run is told of its text and its disk
+  pub record IsWorked (text : Told) (task : Task) (d g : store.State) : Type 0 where
+    pub made : IfOk text (λ x. (IsUsableAt store words left d → IsTextOf task x.items) × IsKept store words left 0 d g × IsKept store words left 7 d g)
+    pub failed : IfErr text (λ failure. IsRunCauseFrom words left (store.now d) failure × (failure ≢ Reading) × (failure ≢ Writing) × IsKept store words left (status_of failure) d g
+        × (IsUsableAt store words left d → (fault : ResumeFault) → failure ≡ SaveFile fault → ⊥))
+
+  worked_unsaved : (task : Task) (text : Told) (d g : store.State) → (WordsSave words → ⊥) → IsUnsaved task text d g → IsWorked text task d g
+  worked_unsaved task (Ok x) d g unasked u = record {
+    made = (λ usable. u.told, kept_unsaved 0 d g u.same unasked (λ h. omega (arith, h)) (λ h. omega (arith, h)), kept_unsaved 7 d g u.same unasked (λ h. omega (arith, h)) (λ h. omega (arith, h)));
+    failed = tt;
+  }
+  worked_unsaved task (Err failure) d g unasked u =
+      let memory : failure ≡ Memory = u.why in
+      let status : status_of failure ≡ 12 = ap status_of memory in
+      record {
+        made = tt;
+        failed = (subst (IsRunCauseFrom words left (store.now d)) (sym memory) tt, λ h. cc, λ h. cc, kept_unsaved (status_of failure) d g u.same unasked (λ h. omega (arith, status, h)) (λ h. omega (arith, status, h)), λ usable fault h. cc);
+      }
+
+  -- a usable file is not refused
+  usable_file : (r : ToResolve) (d : store.State) (fault : ResumeFault) → IsOfInput (λ bytes. IsSavedBy words bytes r.resolved.plain r.common.range) left → IsUsableAt store words left d → IsRefusedFor r.resolved.plain (store.now d) fault → ⊥
+  usable_file r d fault by usable refusal =
+      let ours = usable by.bytes r.resolved.plain r.common.range by.all by.holds in
+      let found = some_of (store.now d) ours.0 in
+      let here = ours.1.1 found.0 (file_of store.now store.images laws.now_is_image d found.0 found.1) in
+      let err = subst (λ (o : Option (List ℕ)). IfSome o (λ file. standing_for r.resolved.plain file ≡ Err fault)) found.1 refusal in
+      let both : Ok (_) ≡ Err fault = sym here.stands ∙ err in
+      cc
+
+  worked_saved : (r : ToResolve) (text : Told) (d g : store.State) → IsOfInput (λ bytes. IsSavedBy words bytes r.resolved.plain r.common.range) left → HasKeptOn store.now store.moment store.images store.since store.faults r text d g → IsWorked text (Resolution r) d g
+  worked_saved r (Ok x) d g by on = record {
+    made = (
+      λ usable. let ours = usable by.bytes r.resolved.plain r.common.range by.all by.holds in on.told ours.0 ours.1.0 ours.1.1,
+      kept_with_text r d g (Ok x) on by 0 (inl refl) refl,
+      kept_with_text r d g (Ok x) on by 7 (inr refl) refl,
+    );
+    failed = tt;
+  }
+  worked_saved r (Err failure) d g by on = record {
+    made = tt;
+    failed = (saving_cause r d g (Err failure) on by failure on.why, no_device failure on.why, no_sink failure on.why, kept_with_failure r d g (Err failure) on by failure refl on.why, λ usable fault h. refused failure on.why usable fault h);
+  }
+    where
+      no_device : (e : Failure) → ((e ≡ Saving) ⊎ (e ≡ Memory) ⊎ ((fault : ResumeFault) × (e ≡ SaveFile fault) × IsRefusedFor r.resolved.plain (store.now d) fault)) → e ≢ Reading
+      no_device e (inl w) h = cc
+      no_device e (inr (inl w)) h = cc
+      no_device e (inr (inr w)) h = let is = w.1 in cc
+
+      no_sink : (e : Failure) → ((e ≡ Saving) ⊎ (e ≡ Memory) ⊎ ((fault : ResumeFault) × (e ≡ SaveFile fault) × IsRefusedFor r.resolved.plain (store.now d) fault)) → e ≢ Writing
+      no_sink e (inl w) h = cc
+      no_sink e (inr (inl w)) h = cc
+      no_sink e (inr (inr w)) h = let is = w.1 in cc
+
+      refused : (e : Failure) → ((e ≡ Saving) ⊎ (e ≡ Memory) ⊎ ((fault : ResumeFault) × (e ≡ SaveFile fault) × IsRefusedFor r.resolved.plain (store.now d) fault)) → IsUsableAt store words left d → (fault : ResumeFault) → e ≡ SaveFile fault → ⊥
+      refused e (inl w) usable fault h = cc
+      refused e (inr (inl w)) usable fault h = cc
+      refused e (inr (inr w)) usable fault h = usable_file r d w.0 by usable w.2
+
+  by_option : (r : ToResolve) (text : Told) (d g : store.State) (saves : Bool) → r.common.save ≡ saves → IsSavedAs words left (Resolution r) → HasWorked store.now store.moment store.images store.since store.faults (Resolution r) text d g → IsWorked text (Resolution r) d g
+  by_option r text d g true is saved did = worked_saved r text d g (saved_by r (command_of words) refl saved is) (did.1 is)
+  by_option r text d g false is saved did = worked_unsaved (Resolution r) text d g (not_saved r (command_of words) refl saved is) (did.0 is)
+
+  pub worked : (task : Task) (text : Told) (d g : store.State) → IsSavedAs words left task → HasWorked store.now store.moment store.images store.since store.faults task text d g → IsWorked text task d g
+  worked (Text made) text d g saved did = worked_unsaved (Text made) text d g (text_unsaved made (command_of words) refl saved) did
+  worked (Resolution r) text d g saved did = by_option r text d g r.common.save refl saved did
+
+  -- ---- a failure before there is a task
+
+  -- what is asked of it besides
+  pub record IsEarlyCause (failure : Failure) (d : store.State) : Type 0 where
+    pub cause : IsRunCauseFrom words left (store.now d) failure
+    pub has_text : HasText words left (store.now d) failure
+    pub accepted : IsUsableAt store words left d → (fault : ResumeFault) → failure ≡ SaveFile fault → ⊥
+
+  pub early_cause : (failure : Failure) (d : store.State) → IsCauseFrom words left failure → failure ≢ Writing → IsEarlyCause failure d
+  early_cause Words d cause unwritten = record { cause = cause; has_text = tt; accepted = λ usable fault h. cc }
+  early_cause (NoModuleFile e) d cause unwritten = record { cause = cause; has_text = tt; accepted = λ usable fault h. cc }
+  early_cause (NotModule f e) d cause unwritten = record { cause = cause; has_text = tt; accepted = λ usable fault h. cc }
+  early_cause Reading d cause unwritten = record { cause = cause; has_text = tt; accepted = λ usable fault h. cc }
+  early_cause Writing d cause unwritten = absurd (unwritten refl)
+  early_cause Saving d cause unwritten = absurd cause
+  early_cause (SaveFile e) d cause unwritten = absurd cause
+  early_cause Memory d cause unwritten = record { cause = cause; has_text = tt; accepted = λ usable fault h. cc }

@@ -1,0 +1,22 @@
+use Rattle.std.proofs.Common.{sym, subst, Err}
+use Rattle.edge.proofs.Moments.{Lawful}
+use Rattle.ext_run.specs.declared.failure.Failure.{Failure}
+use Rattle.ext_run.specs.Work.{HasKeptOn}
+use Rattle.ext_run.proofs.KeptOn.{kept_on, not_taken_up}
+use Rattle.ext_run.proofs.texts.saved_alone.Given.{Over}
+use Rattle.ext_run.proofs.texts.saved_alone.Goals as goal
+
+laws : (g : Over) → Lawful g.D.Disk.now g.D.Disk.moment g.D.Disk.images g.D.Disk.since
+laws g = record { now_is_image = g.met.D.Disk.now_is_image; counts_now = g.met.D.Disk.counts_now; only_now = g.met.D.Disk.only_now; since_earlier = g.met.D.Disk.since_earlier }
+
+pub returns-in-Ok : goal.returns-in-Ok
+returns-in-Ok g c =
+    let o = c.in-Ok.ensures in
+    subst (HasKeptOn g.D.Disk.now g.D.Disk.moment g.D.Disk.images g.D.Disk.since g.D.Disk.faults c.args.resolution c.told_alone-text.result.0 c.args.disk) (sym c.into_disk.ensures)
+    (kept_on g.D.Disk.now g.D.Disk.moment g.D.Disk.images g.D.Disk.since g.D.Disk.faults (laws g) c.args.resolution c.args.disk c.told_alone-text.result.0 c.in-Ok.table c.in-Ok.keeper c.told_alone-text.result.1 o.squares o.resolved o.keeper o.kept o.any_moment o.no_fault c.told_alone-text.ensures)
+
+pub returns-in-Err : goal.returns-in-Err
+returns-in-Err g c =
+    let e = c.in-Err.ensures in
+    subst (λ (failure : Failure). HasKeptOn g.D.Disk.now g.D.Disk.moment g.D.Disk.images g.D.Disk.since g.D.Disk.faults c.args.resolution (Err failure) c.args.disk c.in-Err.disk) (sym c.from.ensures)
+    (not_taken_up g.D.Disk.now g.D.Disk.moment g.D.Disk.images g.D.Disk.since g.D.Disk.faults (laws g) c.args.resolution c.args.disk c.in-Err.fault c.in-Err.disk e.refused e.same e.unwritten e.any_moment e.never_fall e.cause)

@@ -1,0 +1,24 @@
+use Rattle.std.proofs.Common.{sym, subst, Err}
+use Rattle.edge.proofs.Moments.{Lawful}
+use Rattle.ext_run.specs.declared.failure.Failure.{Failure}
+use Rattle.ext_run.specs.Work.{HasKeptOn}
+use Rattle.ext_run.proofs.KeptOn.{kept_on, not_taken_up}
+use Rattle.ext_run.proofs.texts.saved_by_workers.Given.{Over}
+use Rattle.ext_run.proofs.texts.saved_by_workers.Goals as goal
+
+laws : (g : Over) → Lawful g.D.Disk.now g.D.Disk.moment g.D.Disk.images g.D.Disk.since
+laws g =
+    let law = g.met.D.Disk g.world.𝓛 g.world.𝓜 g.world.𝓡 ((λ s x. x), (λ x. x), (λ x. x), λ x. x) in
+    record { now_is_image = law.now_is_image; counts_now = law.counts_now; only_now = law.only_now; since_earlier = law.since_earlier }
+
+pub returns-in-Ok : goal.returns-in-Ok
+returns-in-Ok g c =
+    let o = c.in-Ok.ensures in
+    subst (HasKeptOn g.D.Disk.now g.D.Disk.moment g.D.Disk.images g.D.Disk.since g.D.Disk.faults c.args.resolution c.told_by_workers-text.result.0 c.args.disk) (sym c.into_disk.ensures)
+    (kept_on g.D.Disk.now g.D.Disk.moment g.D.Disk.images g.D.Disk.since g.D.Disk.faults (laws g) c.args.resolution c.args.disk c.told_by_workers-text.result.0 c.in-Ok.table c.in-Ok.keeper c.told_by_workers-text.result.1 o.squares o.resolved o.keeper o.kept o.any_moment o.no_fault c.told_by_workers-text.ensures)
+
+pub returns-in-Err : goal.returns-in-Err
+returns-in-Err g c =
+    let e = c.in-Err.ensures in
+    subst (λ (failure : Failure). HasKeptOn g.D.Disk.now g.D.Disk.moment g.D.Disk.images g.D.Disk.since g.D.Disk.faults c.args.resolution (Err failure) c.args.disk c.in-Err.disk) (sym c.from.ensures)
+    (not_taken_up g.D.Disk.now g.D.Disk.moment g.D.Disk.images g.D.Disk.since g.D.Disk.faults (laws g) c.args.resolution c.args.disk c.in-Err.fault c.in-Err.disk e.refused e.same e.unwritten e.any_moment e.never_fall e.cause)
