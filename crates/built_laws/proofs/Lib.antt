@@ -1,0 +1,5 @@
+pub mod Values
+pub mod Coordinates
+pub mod Sorted
+pub mod Making
+pub mod Renamed
