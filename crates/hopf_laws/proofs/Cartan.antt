@@ -72,7 +72,7 @@ module _ (n : ℕ) (r s : List ℕ) (fits : length r + length s ≤ n) where
 
 -- The sum of two lists.
 
-entry-added : (t u : List ℕ) (j : ℕ) → entry (added t u) j ≡ entry t j + entry u j
+pub entry-added : (t u : List ℕ) (j : ℕ) → entry (added t u) j ≡ entry t j + entry u j
 entry-added [] u j = omega arith
 entry-added (x ∷ xs) [] j = omega arith
 entry-added (x ∷ xs) (y ∷ ys) zero = refl
@@ -82,6 +82,11 @@ length-added : (t u : List ℕ) → length (added t u) ≤ length t + length u
 length-added [] u = omega arith
 length-added (x ∷ xs) [] = omega arith
 length-added (x ∷ xs) (y ∷ ys) = omega (arith, length-added xs ys)
+
+pub length-left : (t u : List ℕ) → length t ≤ length (added t u)
+length-left [] u = omega arith
+length-left (x ∷ xs) [] = omega arith
+length-left (x ∷ xs) (y ∷ ys) = omega (arith, length-left xs ys)
 
 put_before_some : (x : ℕ) (xs : List ℕ) → 0 < x + length xs → put_before x xs ≡ x ∷ xs
 put_before_some zero [] l = absurd (omega arith)
@@ -99,12 +104,7 @@ IsTrimmed-added [] u ht hu = hu
 IsTrimmed-added (x ∷ xs) [] ht hu = ht
 IsTrimmed-added (x ∷ xs) (y ∷ ys) ht hu =
     ap (put_before (x + y)) (IsTrimmed-added xs ys (IsTrimmed-tail x xs ht) (IsTrimmed-tail y ys hu))
-    ∙ put_before_some (x + y) (added xs ys) (omega (arith, some_trimmed x xs ht, longer xs ys))
-  where
-    longer : (xs ys : List ℕ) → length xs ≤ length (added xs ys)
-    longer [] ys = omega arith
-    longer (x ∷ xs) [] = omega arith
-    longer (x ∷ xs) (y ∷ ys) = omega (arith, longer xs ys)
+    ∙ put_before_some (x + y) (added xs ys) (omega (arith, some_trimmed x xs ht, length-left xs ys))
 
 diagonal_is : (r s t u : List ℕ) → diagonal_coefficient r s t u ≡ diagonal_sum r s t u
 diagonal_is r s t u =

@@ -106,6 +106,20 @@ All-splittings k (r ∷ rs) =
     (All-of_all (IsSplit (suc k) rs) (λ p. IsSplit k (r ∷ rs) (before i (r - i) p)) (splittings rs) (All-splittings (suc k) rs)
     (λ p h. let few = l.1 in IsSplit-before k r rs i p (omega arith) h)))
 
+-- and their sum, place by place
+pub All-whole : (r : List ℕ) → All (λ p. (j : ℕ) → entry p.0 j + entry p.1 j ≡ entry r j) (splittings r)
+All-whole [] = All-cons (λ p. (j : ℕ) → entry p.0 j + entry p.1 j ≡ entry [] j) ([], []) [] (λ j. omega arith) (All-nil (λ p. (j : ℕ) → entry p.0 j + entry p.1 j ≡ entry [] j))
+All-whole (r ∷ rs) =
+    All-flat_map (Whole (r ∷ rs)) (λ i. map (before i (r - i)) (splittings rs)) (λ i. 0 ≤ i × (i < 0 + suc r)) (range_with_len 0 (suc r)) (All-below 0 (suc r))
+    (λ i l. All-map (Whole (r ∷ rs)) (before i (r - i)) (splittings rs) (All-of_all (Whole rs) (λ p. Whole (r ∷ rs) (before i (r - i) p)) (splittings rs) (All-whole rs) (λ p h. let few = l.1 in at i p (omega arith) h)))
+  where
+    Whole : List ℕ → Pair → Type 0
+    Whole s p = (j : ℕ) → entry p.0 j + entry p.1 j ≡ entry s j
+
+    at : (i : ℕ) (p : Pair) → i ≤ r → Whole rs p → Whole (r ∷ rs) (before i (r - i) p)
+    at i p few h zero = ap (λ n. n + entry (put_before (r - i) p.1) 0) (entry-put_before i p.0) ∙ ap (λ n. i + n) (entry-put_before (r - i) p.1) ∙ omega arith
+    at i p few h (suc j) = ap (λ n. n + entry (put_before (r - i) p.1) (suc j)) (entry-put_before_suc i p.0 j) ∙ ap (λ n. entry p.0 j + n) (entry-put_before_suc (r - i) p.1 j) ∙ h j
+
 -- Agreement, place by place from the first.
 
 agree_same : (n : ℕ) (a b c d : Monomial) → ((k : ℕ) → 0 < k → k ≤ n → a k ≡ c k) → ((k : ℕ) → 0 < k → k ≤ n → b k ≡ d k) → agree n a b ≡ agree n c d
