@@ -1,0 +1,18 @@
+//! Massey products of three classes, over every choice of lifts and null homotopies, as contracts of functions that do nothing.
+#![tactic(auto)]
+
+ghost use Rattle.bracket_laws.specs.Brackets.{BracketHasMember, BracketIsCoset};
+
+/// A bracket whose bc is zero has members, for each lift of c and of b.
+pub fn bracket_has_member()
+    ensures { BracketHasMember }
+{
+    resolution_laws::canonical_table_is_minimal_resolution();
+}
+
+/// The members of a bracket are one of them and the span of the indeterminacy.
+pub fn bracket_is_coset()
+    ensures { BracketIsCoset }
+{
+    resolution_laws::canonical_table_is_minimal_resolution();
+}
