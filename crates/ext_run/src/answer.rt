@@ -36,6 +36,8 @@ pub struct Ended<D> {
 /// Where the words say `--save`, the squares of the module's save file on `disk` are taken up, and each new one is kept there. Else
 /// the disk gets no call.
 ///
+/// The squares stay in memory until the process ends.
+///
 /// The status is 0 where the answer is written whole, 2 for words outside the grammar, 3 where what was read is no module
 /// file, 4 where it describes no module, 6 where reading failed, 7 where writing failed, 8 where the disk failed, 9 where what it
 /// holds is no save file of the module, and 12 where memory ended.

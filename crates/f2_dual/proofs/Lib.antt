@@ -6,6 +6,8 @@ mod Spread
 mod Form
 mod Clearing
 mod Filling
+mod AtPlaces
+mod WantedColumns
 mod Tables
 mod Loops
 mod Choosing

@@ -9,7 +9,7 @@ map_more f xs i d x old new y l e o n v =
     n ∙ ap (λ z. z ++ y ∷ []) o ∙ ap (λ z. map f (take i xs) ++ z ∷ []) (v ∙ ap f e) ∙ sym (map-append f (take i xs) (get_or xs i d ∷ [])) ∙ ap (map f) (sym (take_more xs i d l))
 
 -- a place more, where it passes or not
-range_push : (a n : ℕ) → range_with_len a (n + 1) ≡ range_with_len a n ++ (a + n) ∷ []
+pub range_push : (a n : ℕ) → range_with_len a (n + 1) ≡ range_with_len a n ++ (a + n) ∷ []
 range_push a zero = let e : a ≡ a + 0 = omega arith in let f : 0 + 1 ≡ 1 = omega arith in ap (range_with_len a) f ∙ ap (λ x. x ∷ []) e
 range_push a (suc n) =
     let e : (a + 1) + n ≡ a + suc n = omega arith in
@@ -36,32 +36,3 @@ filter_more_false f p k old o t =
     let whole : filter p (range_with_len 0 (k + 1)) ≡ filter p (range_with_len 0 k) =
     ap (filter p) (range_push 0 k ∙ ap (λ x. range_with_len 0 k ++ x ∷ []) e) ∙ filter-push p (range_with_len 0 k) k ∙ ap (λ b. filter p (range_with_len 0 k) ++ cond b (k ∷ []) []) t ∙ append-nil (filter p (range_with_len 0 k)) in
     o ∙ ap (map f) (sym whole)
-
--- ---- items taken from the end
-
-pub record AreFirst {A : Type 0} (all left : List A) : Type 0 where
-  pub within : length left ≤ length all
-  pub are : left ≡ take (length left) all
-
--- the last one of the first items is taken
-pub record IsTaken {A : Type 0} (all old new : List A) (x d : A) : Type 0 where
-  pub count : length old ≡ length new + 1
-  pub within : length new < length all
-  pub is : x ≡ get_or all (length new) d
-  pub left : AreFirst all new
-
-pub taken : {A : Type 0} (all old new : List A) (x d : A) → old ≡ new ++ x ∷ [] → AreFirst all old → IsTaken all old new x d
-taken all old new x d e f =
-    let m = length new in
-    let count : length old ≡ m + 1 = ap length e ∙ length-append new (x ∷ []) in
-    let both : new ++ x ∷ [] ≡ take (m + 1) all = sym e ∙ f.are ∙ ap (λ n. take n all) count in
-    let less : m < m + 1 = omega arith in
-    record {
-      count = count;
-      within = omega (arith, count, f.within);
-      is = sym (get_or_push new x d m refl) ∙ ap (λ z. get_or z m d) both ∙ get_or-take (m + 1) all m d less;
-      left = record {
-        within = omega (arith, f.within);
-        are = sym (take_all m new (omega arith)) ∙ sym (take-append-le m new (x ∷ []) (omega arith)) ∙ ap (take m) both ∙ take-take m (m + 1) all (omega arith);
-      };
-    }

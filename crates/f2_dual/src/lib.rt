@@ -3,6 +3,7 @@
 #![tactic(auto)]
 
 mod choice;
+mod columns;
 mod coordinates;
 mod parts;
 mod pivots;

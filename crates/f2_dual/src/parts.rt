@@ -1,19 +1,20 @@
 //! The parts of the reduction of rows, with the new ones behind them, from the echelon form of `[X | I]`, X the rows' coordinates. The
 //! form is not cut at the bar: its columns on both sides are the parts.
-ghost use Rattle.std.specs.Prelude.{◌≡◌, ℕ, ◌+◌, ◌-◌, ◌<◌, ◌≤◌, ◌++◌, true, false, map, length, take, drop, Some, IfOk, IfSome, OnOk};
+ghost use Rattle.std.specs.Prelude.{◌≡◌, ℕ, ◌+◌, ◌-◌, ◌<◌, ◌≤◌, ◌++◌, true, false, map, length, take, drop, slice_index, Some, IfOk, IfSome, OnOk};
 ghost use Rattle.std.specs.List.{filter};
 ghost use Rattle.f2_vec.specs.Vectors.{zeros};
 ghost use Rattle.f2_vec.specs.Spans.{row, HaveWidth};
 ghost use Rattle.f2_matrix.specs.Echelon.{IsReduced, HasNoZeroRow};
 ghost use Rattle.f2_matrix.specs.Preimages.{pivot_of};
 ghost use Rattle.f2_matrix.specs.Reduction.{has_one};
-ghost use Rattle.f2_matrix.specs.Transpose.{columns as columns_of};
+ghost use Rattle.f2_dual.specs.Inside.Columns.{columns_at as columns_at_of, with_element};
 ghost use Rattle.f2_dual.specs.Inside.Coordinates.{new_rows as new_rows_of, preimages_of, relations_of};
 ghost use Rattle.f2_dual.specs.Inside.Form.{is_left, is_right, parts_of as reduction_of};
-ghost use Rattle.f2_dual.specs.Inside.Tables.{entry_at, row_or_zero as row_or_zero_of, spread_by, IsReducedBasis};
+ghost use Rattle.f2_dual.specs.Inside.Tables.{entry_at, vacant_places as vacant_places_of, wanted_places as wanted_places_of, row_or_zero as row_or_zero_of, spread_by, IsReducedBasis};
 
+use crate::columns::columns_at;
 use crate::pivots::table_of_pivots;
-use f2_matrix::{Matrix, transposed_rows};
+use f2_matrix::Matrix;
 use f2_vec::BitVec;
 use memory::Memory;
 use std::alloc::Global;
@@ -71,7 +72,7 @@ pub fn new_rows(
 
 /// The preimages of the candidates, coefficients of the rows and of the new ones, and the reduced relations between the rows, which
 /// have zeros at the new ones. `image` and `kernel` are the rows of the form, of length `width`, that go to its image and its kernel;
-/// the bar stands at place `n`.
+/// the bar stands at place `n`. The columns at the pivots of the image are not made.
 pub fn preimages_and_relations(
     alloc: Global,
     n: usize,
@@ -87,35 +88,76 @@ pub fn preimages_and_relations(
     ensures relations { IfOk result (λ parts. parts.1.items ≡ relations_of (reduction_of n (width - n) image.now kernel.now)) }
 {
     let table = table_of_pivots(alloc, n, image)?;
-    let places = table.as_slice();
-    let mut columns = spread_columns(alloc, width, places, image, kernel)?;
-    let preimages = columns.split_off(n)?;
-    let mut relations = Vec::new(alloc);
-    while let Some(mut column) = columns.pop() {
-        let place = columns.len();
-        if places[place].is_none() {
-            column.flip(n - 1 - place);
-            relations.push(column)?;
-        }
-    }
+    let places = wanted_places(alloc, table.as_slice(), width)?;
+    let mut relations = columns_of_form(
+        alloc,
+        table.as_slice(),
+        places.as_slice(),
+        width,
+        image,
+        kernel,
+    )?;
+    let preimages = relations.split_off(places.len() - (width - n))?;
+    add_elements(relations.as_mut_slice(), n, places.as_slice());
     Ok((preimages, relations))
 }
 
-/// The columns of the image rows that are spread by the table, with the kernel rows behind them.
-fn spread_columns(
+/// The places of the columns that are parts, of rows of length `width`: those where the table has no number, the last one first, and all
+/// behind the table.
+fn wanted_places(alloc: Global, table: &[Option<usize>], width: usize) -> Result<Vec<usize>, Memory>
+    requires { length table.now ≤ width }
+    ensures { IfOk result (λ places. places.items ≡ wanted_places_of table.now width) }
+{
+    let mut places = vacant_places(alloc, table)?;
+    for place in table.len()..width {
+        places.push(place)?;
+    }
+    Ok(places)
+}
+
+/// The places of the table where there is no number, the last one first.
+fn vacant_places(alloc: Global, table: &[Option<usize>]) -> Result<Vec<usize>, Memory>
+    ensures { IfOk result (λ places. places.items ≡ vacant_places_of table.now) }
+{
+    let mut places = Vec::new(alloc);
+    for e in 0..table.len() {
+        let place = table.len() - 1 - e;
+        if table[place].is_none() {
+            places.push(place)?;
+        }
+    }
+    Ok(places)
+}
+
+/// The columns, at these places, of the image rows that are spread by the table, with the kernel rows behind them.
+fn columns_of_form(
     alloc: Global,
-    width: usize,
     table: &[Option<usize>],
+    places: &[usize],
+    width: usize,
     image: &[BitVec],
     kernel: &[BitVec],
 ) -> Result<Vec<BitVec>, Memory>
     requires { (p t : ℕ) → entry_at table.now p ≡ Some t → t < length image.now }
-    ensures { IfOk result (λ columns. columns.items ≡ columns_of width (spread_by table.now width image.now ++ kernel.now)) }
+    ensures { IfOk result (λ columns. columns.items ≡ columns_at_of places.now (spread_by table.now width image.now ++ kernel.now)) }
 {
     let zero = BitVec::zero(alloc, width)?;
     let mut rows = spread(alloc, table, &zero, image)?;
     append(&mut rows, kernel)?;
-    transposed_rows(alloc, width, rows.as_slice())
+    columns_at(alloc, places, rows.as_slice())
+}
+
+/// Turns over, in each column, the coordinate of the row that goes with its place: of `n` rows the last one goes with place 0.
+fn add_elements(columns: &mut [BitVec], n: usize, places: &[usize])
+    requires there { length columns.old ≤ length places.now }
+    requires within { (k : ℕ) → k < length columns.old → slice_index places.now k < n }
+    requires lengths { (k : ℕ) → k < length columns.old → n ≤ length (row columns.old k) }
+    ensures as_many { length columns.new ≡ length columns.old }
+    ensures turned { (k : ℕ) → k < length columns.old → row columns.new k ≡ with_element n (slice_index places.now k) (row columns.old k) }
+{
+    for k in 0..columns.len() {
+        columns[k].flip(n - 1 - places[k]);
+    }
 }
 
 /// For each place of the table, the last place first, the row that it names, and the zero row where it names none.

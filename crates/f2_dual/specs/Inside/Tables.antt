@@ -1,6 +1,7 @@
 -- Tables of the pivots of rows, and rows that stand at the places of such.
-use Rattle.std.specs.Prelude.{◌≡◌, ◌≢◌, ◌⊎◌, ℕ, ◌-◌, ◌<◌, Bool, Option, Some, None, List, length, map, slice_index_or}
-use Rattle.std.specs.List.{range_with_len}
+use Rattle.std.specs.Prelude.{◌≡◌, ◌≢◌, ◌⊎◌, ℕ, ◌-◌, ◌<◌, Bool, not, Option, Some, None, List, ◌++◌, length, map, slice_index_or}
+use Rattle.std.specs.List.{range_with_len, filter}
+use Rattle.std.specs.Option.{is_some}
 use Rattle.f2_vec.specs.Vectors.{IsZero, zeros}
 use Rattle.f2_vec.specs.Spans.{row, HaveWidth}
 use Rattle.f2_matrix.specs.Echelon.{IsReduced, HasNoZeroRow}
@@ -16,6 +17,22 @@ pub record IsTableOfPivots (n : ℕ) (rows : List (List Bool)) (table : List (Op
   pub size : length table ≡ n
   pub found : (p i : ℕ) → entry_at table p ≡ Some i → (i < length rows) × (pivot_of (row rows i) ≡ p)
   pub none : (i : ℕ) → i < length rows → entry_at table (pivot_of (row rows i)) ≢ None
+
+-- the place of element e in a table: the last element has the first place
+abbrev pub place_in : List (Option ℕ) → ℕ → ℕ
+place_in table e = length table - 1 - e
+
+-- whether there is nothing at the place of element e
+abbrev pub is_vacant : List (Option ℕ) → ℕ → Bool
+is_vacant table e = not (is_some (entry_at table (place_in table e)))
+
+-- the places with nothing, the last one first
+abbrev pub vacant_places : List (Option ℕ) → List ℕ
+vacant_places table = map (place_in table) (filter (is_vacant table) (range_with_len 0 (length table)))
+
+-- these, and all places behind the table up to w
+abbrev pub wanted_places : List (Option ℕ) → ℕ → List ℕ
+wanted_places table w = vacant_places table ++ range_with_len (length table) (w - length table)
 
 -- the row that an entry names, and w zeros where it names none
 abbrev pub row_or_zero : ℕ → List (List Bool) → Option ℕ → List Bool

@@ -1,17 +1,10 @@
-use Rattle.std.proofs.Common.{◌≡◌, ℕ, ◌+◌, ◌<◌, ◌-◌, ◌++◌, Bool, true, false, List, [], length, map, take, drop, ap, sym, subst, ◌∙◌, arith}
-use Rattle.std.specs.List.{range_with_len, filter}
-use Rattle.std.specs.Option.{is_some}
-use Rattle.std.proofs.lemmas.List.{take_all, take_at, drop_at, length-append}
-use Rattle.std.proofs.lemmas.List.FromFn.{length-map-range_with_len, get_or-map-range_with_len}
-use Rattle.f2_vec.specs.Vectors.{sum_of, zeros}
-use Rattle.f2_vec.specs.Spans.{unit_vector}
-use Rattle.f2_matrix.specs.Transpose.{columns}
-use Rattle.f2_dual.specs.Inside.Coordinates.{is_free, relation_of, preimages_of}
-use Rattle.f2_dual.specs.Inside.Form.{parts_of}
-use Rattle.f2_dual.specs.Inside.Tables.{entry_at, spread_by, IsTableOfPivots}
-use Rattle.f2_dual.proofs.Form.{HasNoZeroRow-left, pivots_left, IsTableOfPivots-left, elements_at, columns-form, relation-turned, length-elements_at}
-use Rattle.f2_dual.proofs.Tables.{free_where_vacant, not_free_where_taken}
-use Rattle.f2_dual.proofs.Loops.{taken, filter_more_true, filter_more_false}
+use Rattle.std.proofs.Common.{◌≡◌, ℕ, ◌-◌, ◌<◌, ◌++◌, List, Bool, length, get_or, take, drop, ap, sym, ◌∙◌, arith}
+use Rattle.f2_vec.specs.Spans.{row}
+use Rattle.f2_dual.specs.Inside.Columns.{columns_at, with_element}
+use Rattle.f2_dual.specs.Inside.Tables.{entry_at, vacant_places, wanted_places, spread_by}
+use Rattle.f2_dual.proofs.AtPlaces.{as_written}
+use Rattle.f2_dual.proofs.Form.{HasNoZeroRow-left, pivots_left, IsTableOfPivots-left}
+use Rattle.f2_dual.proofs.WantedColumns.{count_vacant, enough_places, last_are_preimages, length-first, place_within, first_wide, turned_are_relations}
 use Rattle.f2_dual.proofs.parts.preimages_and_relations.Goals as goal
 
 pub table_of_pivots-requires-clause-nonzero : goal.table_of_pivots-requires-clause-nonzero
@@ -20,179 +13,55 @@ table_of_pivots-requires-clause-nonzero c = HasNoZeroRow-left c.args.n c.args.im
 pub table_of_pivots-requires-clause-within : goal.table_of_pivots-requires-clause-within
 table_of_pivots-requires-clause-within c = pivots_left c.args.n c.args.image.now c.requires.image.nonzero
 
-pub spread_columns-requires : goal.spread_columns-requires
-spread_columns-requires c = λ p t e. (c.in_ok-table.ensures.found p t (ap (λ z. entry_at z p) (sym c.as_slice-places.ensures.value) ∙ e)).0
+pub columns_of_form-requires : goal.columns_of_form-requires
+columns_of_form-requires c = λ p t e. (c.in_ok-table.ensures.found p t (ap (λ z. entry_at z p) (sym c.as_slice-2.ensures.value) ∙ e)).0
 
-pub split_off-requires : goal.split_off-requires
-split_off-requires c =
+pub overflow_sub-len : goal.overflow_sub-len
+overflow_sub-len c =
     let n = c.args.n in
     let w = c.args.width in
     let image = c.args.image.now in
     let kernel = c.args.kernel.now in
-    let r = parts_of n (w - n) image kernel in
-    let places = c.as_slice-places.result.now in
-    let given : IsTableOfPivots n image places = subst (IsTableOfPivots n image) (sym c.as_slice-places.ensures.value) c.in_ok-table.ensures in
-    let table = IsTableOfPivots-left n image places c.requires.image.nonzero given in
-    let at : w ≡ n + (w - n) = omega (arith, c.requires.bar) in
-    let all = map (elements_at r) (range_with_len 0 n) in
-    let columns_are : c.in_ok-columns.columns.items ≡ all ++ preimages_of r =
-    c.in_ok-columns.ensures ∙ ap (λ k. columns k (spread_by places k image ++ kernel)) at
-    ∙ columns-form n (w - n) image kernel places table c.requires.image c.requires.kernel in
-    let wide : length all ≡ n = length-map-range_with_len (elements_at r) 0 n in
-    let many : length (all ++ preimages_of r) ≡ n + length (preimages_of r) = length-append all (preimages_of r) ∙ omega arith in
-    omega (arith, ap length columns_are)
+    let table = c.in_ok-table.table.items in
+    let t = IsTableOfPivots-left n image table c.requires.image.nonzero c.in_ok-table.ensures in
+    let places_are : c.in_ok-places.places.items ≡ wanted_places table w = c.in_ok-places.ensures ∙ ap (λ z. wanted_places z w) c.as_slice.ensures.value in
+    omega (arith, enough_places n w c.requires.bar image kernel table t c.requires.image c.requires.kernel, c.len.ensures, c.in_ok-places.places.ok, ap length places_are)
 
-pub loop-column-init : goal.loop-column-init
-loop-column-init c =
+pub add_elements-requires-clause-within : goal.add_elements-requires-clause-within
+add_elements-requires-clause-within c = λ k l.
     let n = c.args.n in
     let w = c.args.width in
     let image = c.args.image.now in
     let kernel = c.args.kernel.now in
-    let r = parts_of n (w - n) image kernel in
-    let places = c.as_slice-places.result.now in
-    let given : IsTableOfPivots n image places = subst (IsTableOfPivots n image) (sym c.as_slice-places.ensures.value) c.in_ok-table.ensures in
-    let table = IsTableOfPivots-left n image places c.requires.image.nonzero given in
-    let at : w ≡ n + (w - n) = omega (arith, c.requires.bar) in
-    let all = map (elements_at r) (range_with_len 0 n) in
-    let columns_are : c.in_ok-columns.columns.items ≡ all ++ preimages_of r =
-    c.in_ok-columns.ensures ∙ ap (λ k. columns k (spread_by places k image ++ kernel)) at
-    ∙ columns-form n (w - n) image kernel places table c.requires.image c.requires.kernel in
-    let wide : length all ≡ n = length-map-range_with_len (elements_at r) 0 n in
-    let first : c.split_off.new.self.items ≡ all = c.in_ok-preimages.ensures.items ∙ ap (take n) columns_are ∙ take_at all (preimages_of r) n wide in
-    let none : 0 ≡ n - length c.split_off.new.self.items = omega (arith, ap length first) in (
-      record { within = omega (arith, ap length first); are = first ∙ sym (take_all (length c.split_off.new.self.items) all (omega (arith, ap length first))) },
-      c.new-relations.ensures.items ∙ ap (λ i. map (λ e. relation_of n r.image e ++ zeros (length r.kernel)) (filter (is_free n r.image) (range_with_len 0 i))) none,
-    )
+    let table = c.in_ok-table.table.items in
+    let t = IsTableOfPivots-left n image table c.requires.image.nonzero c.in_ok-table.ensures in
+    let places_are : c.in_ok-places.places.items ≡ wanted_places table w = c.in_ok-places.ensures ∙ ap (λ z. wanted_places z w) c.as_slice.ensures.value in
+    let rows = spread_by table w image ++ kernel in
+    let columns_are : c.in_ok-relations.relations.items ≡ columns_at (wanted_places table w) rows =
+    c.in_ok-relations.ensures ∙ ap (λ z. columns_at z (spread_by c.as_slice-2.result.now w image ++ kernel)) (c.as_slice-3.ensures.value ∙ places_are) ∙ ap (λ z. columns_at (wanted_places table w) (spread_by z w image ++ kernel)) c.as_slice-2.ensures.value in
+    let count = c.len.result - (w - n) in
+    let count_is : count ≡ length (vacant_places table) = omega (arith, count_vacant n w c.requires.bar image kernel table t c.requires.image c.requires.kernel, c.len.ensures, c.in_ok-places.places.ok, ap length places_are) in
+    let first : c.as_mut_slice.result.now ≡ take count (columns_at (wanted_places table w) rows) = c.as_mut_slice.ensures.value ∙ c.in_ok-preimages.ensures.items ∙ ap (take count) columns_are in
+    let many : length c.as_mut_slice.result.now ≡ length (vacant_places table) = ap length first ∙ length-first n w c.requires.bar image kernel table t c.requires.image c.requires.kernel count count_is in
+    omega (arith, place_within n w c.requires.bar image kernel table t c.requires.image c.requires.kernel k (omega (arith, many, l)), ap (λ z. get_or z k 0) (c.as_slice-4.ensures.value ∙ places_are))
 
-pub bounds-places-place : goal.bounds-places-place
-bounds-places-place c =
+pub add_elements-requires-clause-lengths : goal.add_elements-requires-clause-lengths
+add_elements-requires-clause-lengths c = λ k l.
     let n = c.args.n in
     let w = c.args.width in
     let image = c.args.image.now in
     let kernel = c.args.kernel.now in
-    let r = parts_of n (w - n) image kernel in
-    let all = map (elements_at r) (range_with_len 0 n) in
-    let place = length c.pop.new.self.items in
-    let t = taken all c.loop-column.columns.items c.pop.new.self.items c.in-Some.column [] c.in-Some.ensures.items c.loop-column.invariant.0 in
-    let within : place < n = omega (arith, t.within, length-map-range_with_len (elements_at r) 0 n) in
-    let at : c.len-place.result ≡ place = omega (arith, c.len-place.ensures, c.pop.new.self.ok) in
-    omega (arith, within, at, c.in_ok-table.ensures.size, ap length c.as_slice-places.ensures.value)
-
-pub overflow_sub-n : goal.overflow_sub-n
-overflow_sub-n c =
-    let n = c.args.n in
-    let w = c.args.width in
-    let image = c.args.image.now in
-    let kernel = c.args.kernel.now in
-    let r = parts_of n (w - n) image kernel in
-    let all = map (elements_at r) (range_with_len 0 n) in
-    let place = length c.pop.new.self.items in
-    let t = taken all c.loop-column.columns.items c.pop.new.self.items c.in-Some.column [] c.in-Some.ensures.items c.loop-column.invariant.0 in
-    let within : place < n = omega (arith, t.within, length-map-range_with_len (elements_at r) 0 n) in
-    let at : c.len-place.result ≡ place = omega (arith, c.len-place.ensures, c.pop.new.self.ok) in
-    omega (arith, within, at)
-
-pub overflow_sub-n-then-is_none : goal.overflow_sub-n-then-is_none
-overflow_sub-n-then-is_none c =
-    let n = c.args.n in
-    let w = c.args.width in
-    let image = c.args.image.now in
-    let kernel = c.args.kernel.now in
-    let r = parts_of n (w - n) image kernel in
-    let all = map (elements_at r) (range_with_len 0 n) in
-    let place = length c.pop.new.self.items in
-    let t = taken all c.loop-column.columns.items c.pop.new.self.items c.in-Some.column [] c.in-Some.ensures.items c.loop-column.invariant.0 in
-    let within : place < n = omega (arith, t.within, length-map-range_with_len (elements_at r) 0 n) in
-    let at : c.len-place.result ≡ place = omega (arith, c.len-place.ensures, c.pop.new.self.ok) in
-    omega (arith, within, at)
-
-pub offset_bounds-places-place : goal.offset_bounds-places-place
-offset_bounds-places-place c =
-    let n = c.args.n in
-    let w = c.args.width in
-    let image = c.args.image.now in
-    let kernel = c.args.kernel.now in
-    let r = parts_of n (w - n) image kernel in
-    let all = map (elements_at r) (range_with_len 0 n) in
-    let place = length c.pop.new.self.items in
-    let t = taken all c.loop-column.columns.items c.pop.new.self.items c.in-Some.column [] c.in-Some.ensures.items c.loop-column.invariant.0 in
-    let within : place < n = omega (arith, t.within, length-map-range_with_len (elements_at r) 0 n) in
-    let at : c.len-place.result ≡ place = omega (arith, c.len-place.ensures, c.pop.new.self.ok) in
-    let l : c.len-place.result < length c.as_slice-places.result.now = omega (arith, within, at, c.in_ok-table.ensures.size, ap length c.as_slice-places.ensures.value) in
-    omega (arith, l, c.as_slice-places.type_inv)
-
-pub flip-requires : goal.flip-requires
-flip-requires c =
-    let n = c.args.n in
-    let w = c.args.width in
-    let image = c.args.image.now in
-    let kernel = c.args.kernel.now in
-    let r = parts_of n (w - n) image kernel in
-    let all = map (elements_at r) (range_with_len 0 n) in
-    let place = length c.pop.new.self.items in
-    let t = taken all c.loop-column.columns.items c.pop.new.self.items c.in-Some.column [] c.in-Some.ensures.items c.loop-column.invariant.0 in
-    let within : place < n = omega (arith, t.within, length-map-range_with_len (elements_at r) 0 n) in
-    let at : c.len-place.result ≡ place = omega (arith, c.len-place.ensures, c.pop.new.self.ok) in
-    let is : c.in-Some.column ≡ elements_at r place = t.is ∙ get_or-map-range_with_len (elements_at r) 0 n place place [] within (omega arith) in
-    omega (arith, ap length is, length-elements_at r place, within, at)
-
-pub loop-column-preserved-in-Continue-branch-4 : goal.loop-column-preserved-in-Continue-branch-4
-loop-column-preserved-in-Continue-branch-4 c =
-    let n = c.args.n in
-    let w = c.args.width in
-    let image = c.args.image.now in
-    let kernel = c.args.kernel.now in
-    let r = parts_of n (w - n) image kernel in
-    let places = c.as_slice-places.result.now in
-    let given : IsTableOfPivots n image places = subst (IsTableOfPivots n image) (sym c.as_slice-places.ensures.value) c.in_ok-table.ensures in
-    let table = IsTableOfPivots-left n image places c.requires.image.nonzero given in
-    let all = map (elements_at r) (range_with_len 0 n) in
-    let place = length c.pop.new.self.items in
-    let t = taken all c.loop-column.columns.items c.pop.new.self.items c.in-Some.column [] c.in-Some.ensures.items c.loop-column.invariant.0 in
-    let within : place < n = omega (arith, t.within, length-map-range_with_len (elements_at r) 0 n) in
-    let at : c.len-place.result ≡ place = omega (arith, c.len-place.ensures, c.pop.new.self.ok) in
-    let f : ℕ → List Bool = λ e. relation_of n r.image e ++ zeros (length r.kernel) in
-    let e = n - 1 - place in
-    let so_far : c.loop-column.relations.items ≡ map f (filter (is_free n r.image) (range_with_len 0 e)) = c.loop-column.invariant.1 ∙ ap (λ i. map f (filter (is_free n r.image) (range_with_len 0 i))) (omega (arith, t.count, within)) in
-    let more : e + 1 ≡ n - place = omega (arith, within) in
-    let l : e < n = omega (arith, within) in
-    let back : n - 1 - e ≡ place = omega (arith, within) in
-    let entry : is_some (entry_at places (n - 1 - e)) ≡ false = ap (λ i. is_some (entry_at places i)) (back ∙ sym at) ∙ c.if-is_none.ensures in
-    let x = c.in-Some.column in
-    let is : x ≡ elements_at r (n - 1 - e) = t.is ∙ get_or-map-range_with_len (elements_at r) 0 n place place [] within (omega arith) ∙ ap (elements_at r) (sym back) in
-    let number : n - 1 - c.len-place.result ≡ e = omega (arith, at) in
-    let made = relation-turned r e x c.flip.new.self l is (c.flip.ensures ∙ ap (λ i. sum_of x (unit_vector (length x) i)) number) in (
-      t.left,
-      filter_more_true f (is_free n r.image) e c.loop-column.relations.items c.push.new.self.items c.flip.new.self so_far (free_where_vacant n e r.image places table c.requires.image l entry) c.in_ok-push.ensures.items made
-          ∙ ap (λ i. map f (filter (is_free n r.image) (range_with_len 0 i))) more,
-    )
-
-pub loop-column-preserved : goal.loop-column-preserved
-loop-column-preserved c =
-    let n = c.args.n in
-    let w = c.args.width in
-    let image = c.args.image.now in
-    let kernel = c.args.kernel.now in
-    let r = parts_of n (w - n) image kernel in
-    let places = c.as_slice-places.result.now in
-    let given : IsTableOfPivots n image places = subst (IsTableOfPivots n image) (sym c.as_slice-places.ensures.value) c.in_ok-table.ensures in
-    let table = IsTableOfPivots-left n image places c.requires.image.nonzero given in
-    let all = map (elements_at r) (range_with_len 0 n) in
-    let place = length c.pop.new.self.items in
-    let t = taken all c.loop-column.columns.items c.pop.new.self.items c.in-Some.column [] c.in-Some.ensures.items c.loop-column.invariant.0 in
-    let within : place < n = omega (arith, t.within, length-map-range_with_len (elements_at r) 0 n) in
-    let at : c.len-place.result ≡ place = omega (arith, c.len-place.ensures, c.pop.new.self.ok) in
-    let f : ℕ → List Bool = λ e. relation_of n r.image e ++ zeros (length r.kernel) in
-    let e = n - 1 - place in
-    let so_far : c.loop-column.relations.items ≡ map f (filter (is_free n r.image) (range_with_len 0 e)) = c.loop-column.invariant.1 ∙ ap (λ i. map f (filter (is_free n r.image) (range_with_len 0 i))) (omega (arith, t.count, within)) in
-    let more : e + 1 ≡ n - place = omega (arith, within) in
-    let l : e < n = omega (arith, within) in
-    let back : n - 1 - e ≡ place = omega (arith, within) in
-    let entry : is_some (entry_at places (n - 1 - e)) ≡ true = ap (λ i. is_some (entry_at places i)) (back ∙ sym at) ∙ c.if-is_none.ensures in (
-      t.left,
-      filter_more_false f (is_free n r.image) e c.loop-column.relations.items so_far (not_free_where_taken n e r.image places table l entry)
-          ∙ ap (λ i. map f (filter (is_free n r.image) (range_with_len 0 i))) more,
-    )
+    let table = c.in_ok-table.table.items in
+    let t = IsTableOfPivots-left n image table c.requires.image.nonzero c.in_ok-table.ensures in
+    let places_are : c.in_ok-places.places.items ≡ wanted_places table w = c.in_ok-places.ensures ∙ ap (λ z. wanted_places z w) c.as_slice.ensures.value in
+    let rows = spread_by table w image ++ kernel in
+    let columns_are : c.in_ok-relations.relations.items ≡ columns_at (wanted_places table w) rows =
+    c.in_ok-relations.ensures ∙ ap (λ z. columns_at z (spread_by c.as_slice-2.result.now w image ++ kernel)) (c.as_slice-3.ensures.value ∙ places_are) ∙ ap (λ z. columns_at (wanted_places table w) (spread_by z w image ++ kernel)) c.as_slice-2.ensures.value in
+    let count = c.len.result - (w - n) in
+    let count_is : count ≡ length (vacant_places table) = omega (arith, count_vacant n w c.requires.bar image kernel table t c.requires.image c.requires.kernel, c.len.ensures, c.in_ok-places.places.ok, ap length places_are) in
+    let first : c.as_mut_slice.result.now ≡ take count (columns_at (wanted_places table w) rows) = c.as_mut_slice.ensures.value ∙ c.in_ok-preimages.ensures.items ∙ ap (take count) columns_are in
+    let many : length c.as_mut_slice.result.now ≡ length (vacant_places table) = ap length first ∙ length-first n w c.requires.bar image kernel table t c.requires.image c.requires.kernel count count_is in
+    omega (arith, first_wide n w c.requires.bar image kernel table t c.requires.image c.requires.kernel count k count_is (omega (arith, many, l)), ap (λ z. length (row z k)) first)
 
 pub returns-clause-preimages : goal.returns-clause-preimages
 returns-clause-preimages c =
@@ -200,14 +69,38 @@ returns-clause-preimages c =
     let w = c.args.width in
     let image = c.args.image.now in
     let kernel = c.args.kernel.now in
-    let r = parts_of n (w - n) image kernel in
-    let places = c.as_slice-places.result.now in
-    let given : IsTableOfPivots n image places = subst (IsTableOfPivots n image) (sym c.as_slice-places.ensures.value) c.in_ok-table.ensures in
-    let table = IsTableOfPivots-left n image places c.requires.image.nonzero given in
-    let at : w ≡ n + (w - n) = omega (arith, c.requires.bar) in
-    let all = map (elements_at r) (range_with_len 0 n) in
-    let columns_are : c.in_ok-columns.columns.items ≡ all ++ preimages_of r =
-    c.in_ok-columns.ensures ∙ ap (λ k. columns k (spread_by places k image ++ kernel)) at
-    ∙ columns-form n (w - n) image kernel places table c.requires.image c.requires.kernel in
-    let wide : length all ≡ n = length-map-range_with_len (elements_at r) 0 n in
-    c.in_ok-preimages.ensures.tail ∙ ap (drop n) columns_are ∙ drop_at all (preimages_of r) n wide
+    let table = c.in_ok-table.table.items in
+    let t = IsTableOfPivots-left n image table c.requires.image.nonzero c.in_ok-table.ensures in
+    let places_are : c.in_ok-places.places.items ≡ wanted_places table w = c.in_ok-places.ensures ∙ ap (λ z. wanted_places z w) c.as_slice.ensures.value in
+    let rows = spread_by table w image ++ kernel in
+    let columns_are : c.in_ok-relations.relations.items ≡ columns_at (wanted_places table w) rows =
+    c.in_ok-relations.ensures ∙ ap (λ z. columns_at z (spread_by c.as_slice-2.result.now w image ++ kernel)) (c.as_slice-3.ensures.value ∙ places_are) ∙ ap (λ z. columns_at (wanted_places table w) (spread_by z w image ++ kernel)) c.as_slice-2.ensures.value in
+    let count = c.len.result - (w - n) in
+    let count_is : count ≡ length (vacant_places table) = omega (arith, count_vacant n w c.requires.bar image kernel table t c.requires.image c.requires.kernel, c.len.ensures, c.in_ok-places.places.ok, ap length places_are) in
+    c.in_ok-preimages.ensures.tail ∙ ap (drop count) columns_are ∙ last_are_preimages n w c.requires.bar image kernel table t c.requires.image c.requires.kernel count count_is
+
+pub returns-clause-relations : goal.returns-clause-relations
+returns-clause-relations c =
+    let n = c.args.n in
+    let w = c.args.width in
+    let image = c.args.image.now in
+    let kernel = c.args.kernel.now in
+    let table = c.in_ok-table.table.items in
+    let t = IsTableOfPivots-left n image table c.requires.image.nonzero c.in_ok-table.ensures in
+    let places_are : c.in_ok-places.places.items ≡ wanted_places table w = c.in_ok-places.ensures ∙ ap (λ z. wanted_places z w) c.as_slice.ensures.value in
+    let rows = spread_by table w image ++ kernel in
+    let columns_are : c.in_ok-relations.relations.items ≡ columns_at (wanted_places table w) rows =
+    c.in_ok-relations.ensures ∙ ap (λ z. columns_at z (spread_by c.as_slice-2.result.now w image ++ kernel)) (c.as_slice-3.ensures.value ∙ places_are) ∙ ap (λ z. columns_at (wanted_places table w) (spread_by z w image ++ kernel)) c.as_slice-2.ensures.value in
+    let count = c.len.result - (w - n) in
+    let count_is : count ≡ length (vacant_places table) = omega (arith, count_vacant n w c.requires.bar image kernel table t c.requires.image c.requires.kernel, c.len.ensures, c.in_ok-places.places.ok, ap length places_are) in
+    let first : c.as_mut_slice.result.now ≡ take count (columns_at (wanted_places table w) rows) = c.as_mut_slice.ensures.value ∙ c.in_ok-preimages.ensures.items ∙ ap (take count) columns_are in
+    let many : length c.as_mut_slice.result.now ≡ length (vacant_places table) = ap length first ∙ length-first n w c.requires.bar image kernel table t c.requires.image c.requires.kernel count count_is in
+    let new = c.add_elements.new.columns in
+    let old = c.as_mut_slice.result.now in
+    let len : c.split_off.new.self.len ≡ length new = omega (arith, c.add_elements.ensures.as_many, c.split_off.new.self.ok, ap length c.as_mut_slice.ensures.value) in
+    let each : (i : ℕ) → i < length (vacant_places table) → row new i ≡ with_element n (get_or (wanted_places table w) i 0) (row (take count (columns_at (wanted_places table w) rows)) i) = λ i l.
+    c.add_elements.ensures.turned i (omega (arith, many, l))
+    ∙ ap (λ z. with_element n (get_or z i 0) (row old i)) (c.as_slice-4.ensures.value ∙ places_are)
+    ∙ ap (λ z. with_element n (get_or (wanted_places table w) i 0) (row z i)) first in
+    as_written c.split_off.new.self.len new c.split_off.new.self.items len
+    ∙ turned_are_relations n w c.requires.bar image kernel table t c.requires.image c.requires.kernel count new count_is (c.add_elements.ensures.as_many ∙ many) each

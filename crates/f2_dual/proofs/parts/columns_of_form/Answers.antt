@@ -1,9 +1,9 @@
 use Rattle.std.specs.Borrow.{Bor}
 use Rattle.std.proofs.Common.{◌≡◌, ◌++◌, Bool, List, length, map, ap, ◌∙◌, subst, IfOk}
 use Rattle.f2_vec.proofs.Sums.{length-zeros}
-use Rattle.f2_matrix.specs.Transpose.{columns}
+use Rattle.f2_dual.specs.Inside.Columns.{columns_at}
 use Rattle.f2_dual.specs.Inside.Tables.{spread_by}
-use Rattle.f2_dual.proofs.parts.spread_columns.Goals as goal
+use Rattle.f2_dual.proofs.parts.columns_of_form.Goals as goal
 
 pub returns : goal.returns
 returns c =
@@ -13,4 +13,4 @@ returns c =
     let width : length c.in_ok-zero.zero ≡ c.args.width = ap length c.in_ok-zero.ensures ∙ length-zeros c.args.width in
     let above : map now c.in_ok-rows.rows.items ≡ spread_by table c.args.width image = c.in_ok-rows.ensures ∙ ap (λ w. spread_by table w image) width in
     let all : map now c.as_slice.result.now ≡ spread_by table c.args.width image ++ c.args.kernel.now = ap (map now) c.as_slice.ensures.value ∙ c.in_ok-append.ensures ∙ ap (λ z. z ++ c.args.kernel.now) above in
-    subst (λ z. IfOk c.transposed_rows.result (λ columns. columns.items ≡ z)) (ap (columns c.args.width) all) c.transposed_rows.ensures
+    subst (λ z. IfOk c.columns_at.result (λ columns. columns.items ≡ z)) (ap (columns_at c.args.places.now) all) c.columns_at.ensures

@@ -1,0 +1,6 @@
+use Rattle.f2_matrix.specs.Inside.Columns.{IsBlockUpTo}
+use Rattle.f2_dual.proofs.AtPlaces.{read}
+use Rattle.f2_dual.proofs.columns.block_of.Given as goal
+
+abbrev pub invariant-loop-r : goal.invariant-loop-r
+invariant-loop-r l = IsBlockUpTo l.r l.i l.j (read l.rows) l.block
