@@ -44,7 +44,7 @@ impl Module {
     }
 
     /// The operators.
-    pub(crate) fn operators(&self) -> &Operators
+    pub fn operators(&self) -> &Operators
         ensures { result.now ≡ self.now.plain }
     {
         &self.operators

@@ -20,7 +20,7 @@ use std::ops::Range;
 
 /// A generator of a module.
 #[derive(Debug, Drop)]
-pub(crate) struct Generator {
+pub struct Generator {
     name: String,
     degree: i32,
 }
@@ -36,7 +36,7 @@ impl Model for Generator {
 
 impl Generator {
     /// The generator with this name and degree.
-    pub(crate) fn new(name: String, degree: i32) -> Self
+    pub fn new(name: String, degree: i32) -> Self
         ensures { result ≡ record { name = string_bytes name; degree = degree } }
     {
         Generator { name, degree }
@@ -90,7 +90,7 @@ impl Generators {
     }
 
     /// These generators by degree; those of one degree keep their order.
-    pub(crate) fn by_degree(mut list: Vec<Generator>) -> Result<Self, Memory>
+    pub fn by_degree(mut list: Vec<Generator>) -> Result<Self, Memory>
         requires { AreByDegree (by_degree list.items) }
         ensures { IfOk result (λ generators. generators ≡ by_degree list.items) }
     {
@@ -194,7 +194,7 @@ impl Generators {
     }
 
     /// The numbers of the generators of degree `t`.
-    pub(crate) fn within(&self, t: i64) -> Range<usize>
+    pub fn within(&self, t: i64) -> Range<usize>
         ensures generators { generators_in self.now t ≡ range_with_len result.start (result.end - result.start) }
         ensures start { result.start ≤ result.end }
         ensures end { result.end ≤ length self.now }

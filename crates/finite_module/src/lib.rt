@@ -12,6 +12,6 @@ mod text;
 
 pub use exponents::sq;
 pub use finite_module::Module;
-pub use generators::Generators;
+pub use generators::{Generator, Generators};
 pub use laws::modules_are_graded_modules;
 pub use operators::{Operator, Operators};

@@ -127,7 +127,7 @@ impl Operators {
     }
 
     /// The value of Sq(R) on generator `i`, none where it is zero because the operators have none.
-    pub(crate) fn value_ref(&self, r: &Exps, i: usize) -> Option<&BitVec>
+    pub fn value_ref(&self, r: &Exps, i: usize) -> Option<&BitVec>
         ensures some { IfSome result (λ v. v.now ≡ value self.now.generators self.now.operators r.now i) }
         ensures none { IfNone result (value self.now.generators self.now.operators r.now i ≡ zeros (width self.now.generators (degree_at self.now.generators i +ℤ pos (degree_of r.now)))) }
         ensures width { length (value self.now.generators self.now.operators r.now i) ≡ width self.now.generators (degree_at self.now.generators i +ℤ pos (degree_of r.now)) }
