@@ -74,6 +74,13 @@ among_from (g ∷ gs) i (suc p) j t l d e = at (int_eq g.degree t) (among_from g
     at true h = either (nat_eq j i) (among j (numbers_from (suc i) gs t)) h
     at false h = h
 
+-- no coefficient but in the degree of the value
+pub coefficient_elsewhere : (m : Module) (r : List ℕ) (i j : ℕ) → degree_at m.generators j ≢ degree_at m.generators i +ℤ pos (degree_of r) → (action_of m).coefficient r i j ≡ false
+coefficient_elsewhere m r i j d =
+    let ns : List ℕ = generators_in m.generators (degree_at m.generators i +ℤ pos (degree_of r)) in
+    and_right (nat_lt i (length m.generators)) (coordinate ns (value_of m r i) j)
+    (coordinate-out ns (value_of m r i) j (among_out ns j (λ p l e. d (ap (degree_at m.generators) (sym e) ∙ (generators_in-member m.generators (degree_at m.generators i +ℤ pos (degree_of r)) p l).1))))
+
 module _ (m : Module) (is : IsModule m) where
   abbrev gs : List Generator
   gs = m.generators
@@ -83,9 +90,6 @@ module _ (m : Module) (is : IsModule m) where
 
   abbrev coefficient : List ℕ → ℕ → ℕ → Bool
   coefficient = (action_of m).coefficient
-
-  outside : (t : ℤ) (j : ℕ) → degree_at gs j ≢ t → among j (generators_in gs t) ≡ false
-  outside t j d = among_out (generators_in gs t) j (λ p l e. d (ap (degree_at gs) (sym e) ∙ (generators_in-member gs t p l).1))
 
   past : (t : ℤ) (j : ℕ) → size ≤ j → among j (generators_in gs t) ≡ false
   past t j l = among_out (generators_in gs t) j (λ p k e. let h = (generators_in-member gs t p k).0 in omega arith)
@@ -122,9 +126,6 @@ module _ (m : Module) (is : IsModule m) where
         ∙ sym (ap (λ b. nat_eq i j && b) (lt-ltb i size l) ∙ Booleans.and-true (nat_eq i j))
     | inr l ↦ none_from [] i j l ∙ sym (and_right (nat_eq i j) (nat_lt i size) (le-ltb i size l))
   ]
-
-  homogeneous_is : (r : List ℕ) (i j : ℕ) → degree_at gs j ≢ degree_at gs i +ℤ pos (degree_of r) → coefficient r i j ≡ false
-  homogeneous_is r i j d = none_to r i j (outside (degree_at gs i +ℤ pos (degree_of r)) j d)
 
   abbrev ProductsAt : List ℕ → List ℕ → ℕ → ℕ → Type 0
   ProductsAt r s i k = odd_by (λ j. coefficient s i j && coefficient r j k) (range_with_len 0 size) ≡ odd_by (λ t. coefficient t i k) (product_terms r s)
@@ -170,7 +171,7 @@ module _ (m : Module) (is : IsModule m) where
       where
         at : (p : ℕ) (b : Bool) → int_eq (degree_at gs p) middle ≡ b → (b && (coefficient s i (0 + p) && coefficient r (0 + p) k)) ≡ (coefficient s i p && coefficient r p k)
         at p true e = ap (λ j. coefficient s i j && coefficient r j k) (omega arith)
-        at p false e = sym (ap (λ b. b && coefficient r p k) (homogeneous_is s i p (λ g. false≢true (sym e ∙ (Decides-int_eq (degree_at gs p) middle).1 g))))
+        at p false e = sym (ap (λ b. b && coefficient r p k) (coefficient_elsewhere m s i p (λ g. false≢true (sym e ∙ (Decides-int_eq (degree_at gs p) middle).1 g))))
 
     by_bits : (b : Bool) → among k (generators_in gs above) ≡ b → odd_by (λ j. coefficient s i j && coefficient r j k) (generators_in gs middle) ≡ odd_by (λ t. coefficient t i k) (product_terms r s)
     by_bits true e =
@@ -207,7 +208,7 @@ module _ (m : Module) (is : IsModule m) where
 pub modules_are_actions : ModulesAreActions
 modules_are_actions m is = record {
   unit = unit_is m is;
-  homogeneous = λ r i j h d. homogeneous_is m is r i j d;
+  homogeneous = λ r i j h d. coefficient_elsewhere m r i j d;
   products = products_are m is;
 }
 

@@ -3,3 +3,4 @@ pub mod Coordinates
 pub mod Sorted
 pub mod Making
 pub mod Renamed
+pub mod Stable

@@ -347,23 +347,11 @@ and-split true c = refl
 and-split false true = refl
 and-split false false = refl
 
-cancels : (r : List ℕ) (f : Value) → IsTrimmed r → 0 < degree_of r → odd_by (λ p. odd_by (λ t. over p.0 t f) (conjugate p.1)) (splittings r) ≡ false
-cancels [] f h l = absurd (omega arith)
-cancels (x ∷ xs) f h l =
-    let r : List ℕ = x ∷ xs in
-    let g : Pair → Bool = λ p. odd_by (λ t. over p.0 t f) (conjugate p.1) in
-    odd_by-same g (λ p. plus (not (proper p) && g p) (proper p && g p)) (splittings r) (λ p. and-split (proper p) (g p))
-    ∙ odd_by-plus (λ p. not (proper p) && g p) (λ p. proper p && g p) (splittings r)
-    ∙ ap (λ b. plus b (odd_by (λ p. proper p && g p) (splittings r)))
-    (first_alone (λ p. not (proper p) && g p) r h (λ p k m. not_proper p (g p) m)
-    ∙ same_over (degree_of r) (λ t. over [] t f) f (conjugate r) (HasDegree-within (degree_of r) r h) (λ t k. over-unit_left t f k)
-    ∙ unfolded (degree_of r) refl)
-    ∙ plus_self (odd_by (λ p. proper p && g p) (splittings r))
+-- the conjugate of Sq(R), of positive degree, by the splittings but the first
+pub conjugate-unfolded : (r : List ℕ) (f : Value) → IsTrimmed r → 0 < degree_of r → odd_by f (conjugate r) ≡ odd_by (λ p. not (is_nothing p.0) && odd_by (λ t. over p.0 t f) (conjugate p.1)) (splittings r)
+conjugate-unfolded [] f h l = absurd (omega arith)
+conjugate-unfolded (x ∷ xs) f h l = unfolded (degree_of (x ∷ xs)) refl
   where
-    not_proper : (p : Pair) (b : Bool) → 0 < degree_of p.0 → (not (proper p) && b) ≡ false
-    not_proper ([], s) b m = absurd (omega arith)
-    not_proper (y ∷ ys, s) b m = refl
-
     unfolded : (n : ℕ) → degree_of (x ∷ xs) ≡ n → odd_by f (conjugate_within n (x ∷ xs)) ≡ odd_by (λ p. proper p && odd_by (λ t. over p.0 t f) (conjugate p.1)) (splittings (x ∷ xs))
     unfolded zero e = absurd (omega arith)
     unfolded (suc n) e =
@@ -374,6 +362,21 @@ cancels (x ∷ xs) f h l =
         at : (p : Pair) → IsSplit 1 (x ∷ xs) p → (b : Bool) → proper p ≡ b → (b && odd_by (λ t. over p.0 t f) (conjugate_within n p.1)) ≡ (b && odd_by (λ t. over p.0 t f) (conjugate p.1))
         at p j true w = let d = j.degree in let g : 0 < degree_of p.0 = proper-positive p.0 j.left true w refl in enough n (degree_of p.1) p.1 (λ t. over p.0 t f) j.right (omega arith) (omega arith)
         at p j false w = refl
+
+cancels : (r : List ℕ) (f : Value) → IsTrimmed r → 0 < degree_of r → odd_by (λ p. odd_by (λ t. over p.0 t f) (conjugate p.1)) (splittings r) ≡ false
+cancels r f h l =
+    let g : Pair → Bool = λ p. odd_by (λ t. over p.0 t f) (conjugate p.1) in
+    odd_by-same g (λ p. plus (not (proper p) && g p) (proper p && g p)) (splittings r) (λ p. and-split (proper p) (g p))
+    ∙ odd_by-plus (λ p. not (proper p) && g p) (λ p. proper p && g p) (splittings r)
+    ∙ ap (λ b. plus b (odd_by (λ p. proper p && g p) (splittings r)))
+    (first_alone (λ p. not (proper p) && g p) r h (λ p k m. not_proper p (g p) m)
+    ∙ same_over (degree_of r) (λ t. over [] t f) f (conjugate r) (HasDegree-within (degree_of r) r h) (λ t k. over-unit_left t f k)
+    ∙ conjugate-unfolded r f h l)
+    ∙ plus_self (odd_by (λ p. proper p && g p) (splittings r))
+  where
+    not_proper : (p : Pair) (b : Bool) → 0 < degree_of p.0 → (not (proper p) && b) ≡ false
+    not_proper ([], s) b m = absurd (omega arith)
+    not_proper (y ∷ ys, s) b m = refl
 
 -- The laws as they are stated.
 
