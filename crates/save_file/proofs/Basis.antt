@@ -1,12 +1,13 @@
 -- Rows in reduced echelon form without a zero row: the test of it, and the rows one after the other.
-use Rattle.std.proofs.Common.{◌≡◌, ◌≢◌, ℕ, zero, suc, ◌+◌, ◌<◌, ◌≤◌, Bool, true, false, not, ◌&&◌, List, [], ◌∷◌, length, refl, sym, ◌∙◌, ap, subst, arith, inl, inr}
-use Rattle.std.specs.Prelude.{nat_lt, take}
+use Rattle.std.proofs.Common.{◌≡◌, ◌≢◌, ◌⊎◌, ℕ, zero, suc, ◌<◌, ◌≤◌, Bool, true, false, not, ◌&&◌, List, [], ◌∷◌, length, slice_set, refl, sym, ◌∙◌, ap, subst, arith, inl, inr}
+use Rattle.std.specs.Prelude.{nat_lt}
 use Rattle.std.specs.List.{list_all}
 use Rattle.std.proofs.lemmas.Bool.{cases_lt, both_ways, ltb-true, lt-ltb, and_parts, and_from, not-true, not_from_false, true_from_ne_false, false_from_ne_true}
-use Rattle.std.proofs.lemmas.List.{length-take-le, get_or-take}
-use Rattle.f2_vec.specs.Vectors.{bit, IsZero, IsFirstOne}
+use Rattle.std.proofs.lemmas.List.{length-set, get_or-set_other}
+use Rattle.std.proofs.lemmas.Grind.{get_or-set_at}
+use Rattle.f2_vec.specs.Vectors.{bit, zeros, IsZero, IsFirstOne}
 use Rattle.f2_vec.specs.Spans.{row, HaveWidth}
-use Rattle.f2_vec.proofs.Sums.{one_within}
+use Rattle.f2_vec.proofs.Sums.{one_within, bit-zeros, length-zeros}
 use Rattle.f2_matrix.specs.Echelon.{IsReduced, HasNoZeroRow}
 use Rattle.f2_matrix.specs.Preimages.{pivot_of}
 use Rattle.f2_matrix.specs.Reduction.{has_one}
@@ -111,102 +112,141 @@ basis_passes (r ∷ rows) h nonzero =
     (and_from (has_one r) (list_all (behind r) rows) has (all_from r rows each))
     (basis_passes rows (IsReduced-tail r rows h) (HasNoZeroRow-tail r rows nonzero))
 
--- ---- one row after the other
+-- ---- one row after the other, from the last to the first
 
--- the first i rows are in the form, and all their pivots are left of `least`, the last one just left of it
-pub record AreInForm (i least : ℕ) (rows : List (List Bool)) : Type 0 where
-  pub nonzero : (j : ℕ) → j < i → IsZero (row rows j) → ⊥
-  pub rise : (j k p q : ℕ) → j < k → k < i → IsFirstOne (row rows j) p → IsFirstOne (row rows k) q → p < q
-  pub clear : (j k q : ℕ) → j < k → k < i → IsFirstOne (row rows k) q → bit (row rows j) q ≡ false
-  pub left : (j p : ℕ) → j < i → IsFirstOne (row rows j) p → p < least
-  pub last : (j p : ℕ) → suc j ≡ i → IsFirstOne (row rows j) p → least ≡ suc p
-  pub none : i ≡ 0 → least ≡ 0
+-- The rows from this place on are in the form. `next` is the first of their pivots, `n` where there is none, and `marks` has a 1 at
+-- just their pivots.
+pub record AreInForm (n from next : ℕ) (marks : List Bool) (rows : List (List Bool)) : Type 0 where
+  pub nonzero : (j : ℕ) → from ≤ j → j < length rows → IsZero (row rows j) → ⊥
+  pub rise : (j k p q : ℕ) → from ≤ j → j < k → IsFirstOne (row rows j) p → IsFirstOne (row rows k) q → p < q
+  pub clear : (j k q : ℕ) → from ≤ j → j < k → IsFirstOne (row rows k) q → bit (row rows j) q ≡ false
+  pub right : (j p : ℕ) → from ≤ j → IsFirstOne (row rows j) p → next ≤ p
+  pub first : (p : ℕ) → IsFirstOne (row rows from) p → next ≡ p
+  pub none : length rows ≤ from → next ≡ n
+  pub marked : (q : ℕ) → bit marks q ≡ true → (k : ℕ) × (from ≤ k) × IsFirstOne (row rows k) q
+  pub marks_all : (k q : ℕ) → from ≤ k → IsFirstOne (row rows k) q → bit marks q ≡ true
+  pub width : length marks ≡ n
 
-pub none_in_form : (rows : List (List Bool)) → AreInForm 0 0 rows
-none_in_form rows = record {
-  nonzero = λ j l z. omega arith;
-  rise = λ j k p q l m f g. absurd (omega arith);
-  clear = λ j k q l m g. absurd (omega arith);
-  left = λ j p l f. absurd (omega arith);
-  last = λ j p e f. absurd (omega arith);
-  none = λ e. refl;
-}
+at_or_behind : (i j : ℕ) → i ≤ j → (i ≡ j) ⊎ (suc i ≤ j)
+at_or_behind i j l = elim (cases_lt i j) [
+  | inl b ↦ inr (omega arith)
+  | inr b ↦ inl (omega arith)
+]
 
-pub one_more_in_form : (i least pivot : ℕ) (rows : List (List Bool)) → AreInForm i least rows → IsFirstOne (row rows i) pivot → least ≤ pivot → ((j : ℕ) → j < i → bit (row rows j) pivot ≡ false) → AreInForm (i + 1) (pivot + 1) rows
-one_more_in_form i least pivot rows h first l zeros = record {
-  nonzero = λ j m z. elim (cases_lt j i) [
-    | inl b ↦ h.nonzero j b z
-    | inr b ↦ let e : j ≡ i = omega arith in let one = first.one in let none : bit (row rows i) pivot ≡ false = ap (λ n. bit (row rows n) pivot) (sym e) ∙ z pivot in both_ways (bit (row rows i) pivot) none one
-  ];
-  rise = λ j k p q m n f g. elim (cases_lt k i) [
-    | inl b ↦ h.rise j k p q m b f g
-    | inr b ↦
-        let e : k ≡ i = omega arith in
-        let at = IsFirstOne-unique (row rows i) q pivot (subst (λ x. IsFirstOne (row rows x) q) e g) first in
-        let before = h.left j p (omega arith) f in
-        omega arith
-  ];
-  clear = λ j k q m n g. elim (cases_lt k i) [
-    | inl b ↦ h.clear j k q m b g
-    | inr b ↦
-        let e : k ≡ i = omega arith in
-        let at = IsFirstOne-unique (row rows i) q pivot (subst (λ x. IsFirstOne (row rows x) q) e g) first in
-        ap (bit (row rows j)) at ∙ zeros j (omega arith)
-  ];
-  left = λ j p m f. elim (cases_lt j i) [
-    | inl b ↦ let before = h.left j p b f in omega arith
-    | inr b ↦
-        let e : j ≡ i = omega arith in
-        let at = IsFirstOne-unique (row rows i) p pivot (subst (λ x. IsFirstOne (row rows x) p) e f) first in
-        omega arith
-  ];
-  last = λ j p e f.
-      let same : j ≡ i = omega arith in
-      let at = IsFirstOne-unique (row rows i) p pivot (subst (λ x. IsFirstOne (row rows x) p) same f) first in
-      omega arith;
-  none = λ e. absurd (omega arith);
-}
+same_or_not : (p q : ℕ) → (p ≡ q) ⊎ (p ≢ q)
+same_or_not p q = elim (cases_lt p q) [
+  | inl b ↦ inr (λ e. omega arith)
+  | inr b ↦ elim (cases_lt q p) [
+    | inl c ↦ inr (λ e. omega arith)
+    | inr c ↦ inl (omega arith)
+  ]
+]
 
 past_end : (rows : List (List Bool)) (j : ℕ) → length rows ≤ j → row rows j ≡ []
 past_end [] j l = refl
 past_end (r ∷ rows) zero l = absurd (omega arith)
 past_end (r ∷ rows) (suc j) l = past_end rows j (omega arith)
 
-pub all_in_form : (i least : ℕ) (rows : List (List Bool)) → length rows ≤ i → AreInForm i least rows → IsReduced rows × HasNoZeroRow rows
-all_in_form i least rows len h = (
+no_first_past : (rows : List (List Bool)) (j p : ℕ) → length rows ≤ j → IsFirstOne (row rows j) p → ⊥
+no_first_past rows j p l f = let within = first_within rows j p f in omega arith
+
+pub none_in_form : (n : ℕ) (rows : List (List Bool)) → AreInForm n (length rows) n (zeros n) rows
+none_in_form n rows = record {
+  nonzero = λ j l m z. omega arith;
+  rise = λ j k p q l m f g. absurd (no_first_past rows j p l f);
+  clear = λ j k q l m g. absurd (no_first_past rows k q (omega arith) g);
+  right = λ j p l f. absurd (no_first_past rows j p l f);
+  first = λ p f. absurd (no_first_past rows (length rows) p (omega arith) f);
+  none = λ l. refl;
+  marked = λ q e. absurd (both_ways (bit (zeros n) q) (bit-zeros n q) e);
+  marks_all = λ k q l g. absurd (no_first_past rows k q l g);
+  width = length-zeros n;
+}
+
+-- a 1 is set
+set_same : (marks : List Bool) (p q : ℕ) → p < length marks → q ≡ p → bit (slice_set marks p true) q ≡ true
+set_same marks p q l e = get_or-set_at marks p q true false e l
+
+set_other : (marks : List Bool) (p q : ℕ) → q ≢ p → bit (slice_set marks p true) q ≡ bit marks q
+set_other marks p q d = get_or-set_other marks p q true false d
+
+pub one_more_in_form : (n i next pivot : ℕ) (marks : List Bool) (rows : List (List Bool)) → AreInForm n (suc i) next marks rows → IsFirstOne (row rows i) pivot → pivot < n → pivot < next →
+    ((p : ℕ) × (bit (row rows i) p ≡ true) × (bit marks p ≡ true) → ⊥) → AreInForm n i pivot (slice_set marks pivot true) rows
+one_more_in_form n i next pivot marks rows h first within less apart = record {
+  nonzero = λ j l m z. elim (at_or_behind i j l) [
+    | inl e ↦ let none : bit (row rows i) pivot ≡ false = ap (λ k. bit (row rows k) pivot) e ∙ z pivot in both_ways (bit (row rows i) pivot) none first.one
+    | inr b ↦ h.nonzero j b m z
+  ];
+  rise = λ j k p q l m f g. elim (at_or_behind i j l) [
+    | inl e ↦ let at = same j p e f in let right = h.right k q (omega arith) g in omega arith
+    | inr b ↦ h.rise j k p q b m f g
+  ];
+  clear = λ j k q l m g. elim (at_or_behind i j l) [
+    | inl e ↦ false_from_ne_true (bit (row rows j) q) (λ one. apart (q, ap (λ k. bit (row rows k) q) e ∙ one, h.marks_all k q (omega arith) g))
+    | inr b ↦ h.clear j k q b m g
+  ];
+  right = λ j p l f. elim (at_or_behind i j l) [
+    | inl e ↦ let at = same j p e f in omega arith
+    | inr b ↦ let right = h.right j p b f in omega arith
+  ];
+  first = λ p f. sym (same i p refl f);
+  none = λ l. absurd (no_first_past rows i pivot l first);
+  marked = λ q e. elim (same_or_not q pivot) [
+    | inl at ↦ (i, omega arith, subst (IsFirstOne (row rows i)) (sym at) first)
+    | inr off ↦ let found = h.marked q (sym (set_other marks pivot q off) ∙ e) in (found.0, omega (arith, found.1), found.2)
+  ];
+  marks_all = λ k q l g. elim (same_or_not q pivot) [
+    | inl at ↦ set_same marks pivot q (omega (arith, h.width)) at
+    | inr off ↦ elim (at_or_behind i k l) [
+      | inl e ↦ absurd (off (same k q e g))
+      | inr b ↦ set_other marks pivot q off ∙ h.marks_all k q b g
+    ]
+  ];
+  width = length-set marks pivot true ∙ h.width;
+}
+  where
+    same : (j p : ℕ) → i ≡ j → IsFirstOne (row rows j) p → p ≡ pivot
+    same j p e f = IsFirstOne-unique (row rows i) p pivot (subst (λ k. IsFirstOne (row rows k) p) (sym e) f) first
+
+pub all_in_form : (n next : ℕ) (marks : List Bool) (rows : List (List Bool)) → AreInForm n 0 next marks rows → IsReduced rows × HasNoZeroRow rows
+all_in_form n next marks rows h = (
   record {
-    zero_rows_last = λ j k l z. elim (cases_lt j i) [
-      | inl b ↦ absurd (h.nonzero j b z)
+    zero_rows_last = λ j k l z. elim (cases_lt j (length rows)) [
+      | inl b ↦ absurd (h.nonzero j (omega arith) b z)
       | inr b ↦ subst IsZero (sym (past_end rows k (omega arith))) (λ n. refl)
     ];
-    pivots_rise = λ j k p q l f g. let m = first_within rows k q g in h.rise j k p q l (omega arith) f g;
+    pivots_rise = λ j k p q l f g. h.rise j k p q (omega arith) l f g;
     pivots_alone = alone;
   },
-  λ j l z. h.nonzero j (omega arith) z,
+  λ j l z. h.nonzero j (omega arith) l z,
 )
   where
     alone : (j k p : ℕ) → j ≢ k → IsFirstOne (row rows j) p → bit (row rows k) p ≡ false
     alone j k p d f =
-        let m = first_within rows j p f in
         elim (cases_lt k j) [
-          | inl b ↦ h.clear k j p b (omega arith) f
+          | inl b ↦ h.clear k j p (omega arith) b f
           | inr b ↦ elim (zero_or_first (row rows k)) [
             | inl z ↦ z p
-            | inr g ↦ let n = first_within rows k g.0 g.1 in let l = h.rise j k p g.0 (omega arith) (omega arith) f g.1 in g.1.zeros_before p l
+            | inr g ↦ let l = h.rise j k p g.0 (omega arith) (omega arith) f g.1 in g.1.zeros_before p l
           ]
         ]
 
--- where the next row has its pivot too far left, or another row has a 1 there, the rows are not in the form
-pub pivot_too_low : (i least pivot : ℕ) (rows : List (List Bool)) → AreInForm i least rows → IsFirstOne (row rows i) pivot → pivot < least → IsReduced rows → ⊥
-pivot_too_low zero least pivot rows h first l reduced = let e = h.none refl in omega arith
-pivot_too_low (suc j) least pivot rows h first l reduced =
-    let before = first_one (row rows j) (h.nonzero j (omega arith)) in
-    let at = h.last j before.0 refl before.1 in
-    let rise = reduced.pivots_rise j (suc j) before.0 pivot (omega arith) before.1 first in
-    omega arith
+-- where the row before has its pivot too far right, or a 1 at a pivot behind it, the rows are not in the form
+pub pivot_too_high : (n i next pivot : ℕ) (marks : List Bool) (rows : List (List Bool)) → AreInForm n (suc i) next marks rows → IsFirstOne (row rows i) pivot → pivot < n → next ≤ pivot → IsReduced rows → HasNoZeroRow rows → ⊥
+pivot_too_high n i next pivot marks rows h first within high reduced nonzero = elim (cases_lt (suc i) (length rows)) [
+  | inl b ↦
+      let behind = first_one (row rows (suc i)) (nonzero (suc i) b) in
+      let at = h.first behind.0 behind.1 in
+      let rise = reduced.pivots_rise i (suc i) pivot behind.0 (omega arith) first behind.1 in
+      omega arith
+  | inr b ↦ let at = h.none b in omega arith
+]
 
-pub pivot_not_alone : (i j pivot : ℕ) (rows : List (List Bool)) → IsFirstOne (row rows i) pivot → j < i → bit (row rows j) pivot ≡ true → IsReduced rows → ⊥
-pivot_not_alone i j pivot rows first l one reduced = both_ways (bit (row rows j) pivot) (reduced.pivots_alone i j pivot (omega arith) first) one
+pub pivot_not_alone : (n i next : ℕ) (marks : List Bool) (rows : List (List Bool)) → AreInForm n (suc i) next marks rows → (p : ℕ) × (bit (row rows i) p ≡ true) × (bit marks p ≡ true) → IsReduced rows → ⊥
+pivot_not_alone n i next marks rows h found reduced =
+    let behind = h.marked found.0 found.2 in
+    let apart : behind.0 ≢ i = λ e. omega (arith, behind.1, e) in
+    both_ways (bit (row rows i) found.0) (reduced.pivots_alone behind.0 i found.0 apart behind.2) found.1
 
 -- ---- there are no more such rows than coordinates
 
@@ -227,16 +267,3 @@ basis_few n (r ∷ rows) wide h nonzero =
     let within = one_within (row (r ∷ rows) i) last.0 last.1.one in
     let width = wide i (omega arith) in
     omega arith
-
--- ---- a 1 among the first rows
-
-pub one_in_part : (i pivot : ℕ) (rows : List (List Bool)) → i ≤ length rows → (j : ℕ) × (j < length (take i rows)) × (bit (row (take i rows) j) pivot ≡ true) → IsFirstOne (row rows i) pivot → IsReduced rows → ⊥
-one_in_part i pivot rows l found first reduced =
-    let len = length-take-le i rows l in
-    let before : found.0 < i = omega (arith, found.1) in
-    pivot_not_alone i found.0 pivot rows first before (ap (λ (r : List Bool). bit r pivot) (sym (get_or-take i rows found.0 [] before)) ∙ found.2) reduced
-
-pub none_in_part : (i pivot : ℕ) (rows : List (List Bool)) → i ≤ length rows → ((j : ℕ) × (j < length (take i rows)) × (bit (row (take i rows) j) pivot ≡ true) → ⊥) → (j : ℕ) → j < i → bit (row rows j) pivot ≡ false
-none_in_part i pivot rows l none j before =
-    let len = length-take-le i rows l in
-    false_from_ne_true (bit (row rows j) pivot) (λ e. none (j, omega arith, ap (λ (r : List Bool). bit r pivot) (get_or-take i rows j [] before) ∙ e))

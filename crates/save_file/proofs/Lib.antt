@@ -4,6 +4,7 @@ mod Outlines
 mod Bodies
 mod Examples
 mod Basis
+mod CommonOnes
 mod Rules
 pub mod Entries
 mod Decoding

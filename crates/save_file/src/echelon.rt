@@ -1,38 +1,43 @@
 //! The test of the reduced echelon form.
-ghost use Rattle.std.specs.Prelude.{◌≡◌, ◌↔◌, ℕ, ◌<◌, true, length, IsTrue};
+ghost use Rattle.std.specs.Prelude.{◌≡◌, ◌↔◌, ℕ, true, IsTrue, IfOk};
 ghost use Rattle.f2_vec.specs.Vectors.{bit};
-ghost use Rattle.f2_vec.specs.Spans.{row, HaveWidth};
+ghost use Rattle.f2_vec.specs.Spans.{HaveWidth};
 ghost use Rattle.f2_matrix.specs.Echelon.{IsReduced, HasNoZeroRow};
 
 use f2_vec::BitVec;
+use memory::Memory;
+use std::alloc::Global;
 
 /// Whether the rows, of length `n`, are in reduced echelon form, and none of them is zero.
-pub(crate) fn is_row_basis(n: u64, rows: &[BitVec]) -> bool
+///
+/// # Errors
+/// `Memory` if allocation fails.
+pub(crate) fn is_row_basis(alloc: Global, n: usize, rows: &[BitVec]) -> Result<bool, Memory>
     requires { HaveWidth n rows.now }
-    ensures { IsTrue result ↔ (IsReduced rows.now × HasNoZeroRow rows.now) }
+    ensures { IfOk result (λ is. IsTrue is ↔ (IsReduced rows.now × HasNoZeroRow rows.now)) }
 {
-    // The first place that the next pivot may have.
-    let mut least = 0;
-    for i in 0..rows.len() {
+    // A 1 at the pivots of the rows behind, and the first of these.
+    let mut pivots = BitVec::zero(alloc, n)?;
+    let mut next = n;
+    for i in (0..rows.len()).rev() {
         let Some(pivot) = rows[i].first_one() else {
-            return false;
+            return Ok(false);
         };
-        if pivot < least || has_one_at(n, &rows[..i], pivot) {
-            return false;
+        if pivot >= next || have_common_one(&rows[i], &pivots) {
+            return Ok(false);
         }
-        least = pivot + 1;
+        pivots.set(pivot, true);
+        next = pivot;
     }
-    true
+    Ok(true)
 }
 
-/// Whether one of the rows has a 1 at this place.
-fn has_one_at(n: u64, rows: &[BitVec], place: usize) -> bool
-    requires width { HaveWidth n rows.now }
-    requires place { place < n }
-    ensures { IsTrue result ↔ ((i : ℕ) × (i < length rows.now) × (bit (row rows.now i) place ≡ true)) }
+/// Whether two vectors have a 1 at one place.
+fn have_common_one(a: &BitVec, b: &BitVec) -> bool
+    ensures { IsTrue result ↔ ((p : ℕ) × (bit a.now p ≡ true) × (bit b.now p ≡ true)) }
 {
-    for row in rows {
-        if row.get(place) {
+    for i in 0..a.len().div_ceil(64) {
+        if a.word(i) & b.word(i) != 0 {
             return true;
         }
     }

@@ -57,7 +57,8 @@ fn read_square(alloc: Global, table: &Table, body: &[u8]) -> Result<Option<Squar
     let Some(kernel) = unpack(alloc, &parts.kernel)? else {
         return Ok(None);
     };
-    if !is_row_basis(parts.kernel.cols, kernel.as_slice()) {
+    let is_basis = is_row_basis(alloc, parts.kernel.cols as usize, kernel.as_slice())?;
+    if !is_basis {
         return Ok(None);
     }
     Ok(Some(Square::read(table, parts.s, t, images, kernel)))

@@ -9,6 +9,10 @@ pub(crate) const MAGIC: &str = "4558545341564531";
 /// What the records of the sphere's save file belong to: the digest of `gen x0 0` and a newline.
 pub(crate) const OURS: &str = "498fadf13dde22e6898175cb947cb18f477cda6d5603c7a14c475e229eaaa943";
 
+/// What the records of another module's save file belong to, that of two generators `x0` and `y0` in degrees 5 and 6 with Sq1 x0 = y0:
+/// the digest of its three lines.
+pub(crate) const THEIRS: &str = "5b01a2fd981bf610268cc97171b55385829b01d2e57240ebdbdd089f0f084e62";
+
 /// The record of the first square of the sphere behind its gate.
 pub(crate) const SQUARE: &str =
     "0000000000000026010000000000000000000000010000000000000001010000000000000000000000000000000169b7c844de9a6419754dc7e857dbba1a6f8b2f2ddeaefedb344ea3bea60d3953";

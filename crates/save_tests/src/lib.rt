@@ -7,3 +7,7 @@ mod bodies;
 mod files;
 #[cfg(test)]
 mod journals;
+#[cfg(test)]
+mod stopping;
+#[cfg(test)]
+mod taking_up;

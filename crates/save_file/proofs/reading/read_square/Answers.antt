@@ -35,8 +35,8 @@ is_row_basis-requires c =
     let kernel : AreUnpacked o.kernel c.in-Some-3.kernel.items = MatchOption-at_some _ _ c.in-Some-3.kernel c.in-Some-3.is c.in_ok-kernel.ensures in
     subst (HaveWidth o.kernel.cols) (sym c.as_slice.ensures.value) kernel.widths
 
-pub returns-then-not-is_row_basis : goal.returns-then-not-is_row_basis
-returns-then-not-is_row_basis c =
+pub returns-then-not-is_basis : goal.returns-then-not-is_basis
+returns-then-not-is_basis c =
     let o = outline_of c.in-Some.parts in
     let images : AreUnpacked o.images c.in-Some-2.images.items = MatchOption-at_some _ _ c.in-Some-2.images c.in-Some-2.is c.in_ok-images.ensures in
     let kernel : AreUnpacked o.kernel c.in-Some-3.kernel.items = MatchOption-at_some _ _ c.in-Some-3.kernel c.in-Some-3.is c.in_ok-kernel.ensures in
@@ -50,7 +50,7 @@ returns-then-not-is_row_basis c =
       kernel_is = kernel;
     } in
     let P : List (List Bool) → Type 0 = λ rows. IsReduced rows × HasNoZeroRow rows → ⊥ in
-    not_basis c.args.table.now c.args.body.now o c.in-Some-next_degree.t c.in-Some-2.images.items c.in-Some-3.kernel.items c.in-Some.ensures.1 found (subst P c.as_slice.ensures.value (iff_false c.is_row_basis.ensures c.if-not-is_row_basis.true))
+    not_basis c.args.table.now c.args.body.now o c.in-Some-next_degree.t c.in-Some-2.images.items c.in-Some-3.kernel.items c.in-Some.ensures.1 found (subst P c.as_slice.ensures.value (iff_false c.in_ok-is_basis.ensures c.if-not-is_basis.true))
 
 pub read-requires : goal.read-requires
 read-requires c =
@@ -69,7 +69,7 @@ read-requires c =
       kernel_is = kernel;
     } in
     let P : List (List Bool) → Type 0 = λ rows. IsReduced rows × HasNoZeroRow rows in
-    let form : IsReduced c.in-Some-3.kernel.items × HasNoZeroRow c.in-Some-3.kernel.items = subst P c.as_slice.ensures.value (c.is_row_basis.ensures.0 c.if-not-is_row_basis.false) in
+    let form : IsReduced c.in-Some-3.kernel.items × HasNoZeroRow c.in-Some-3.kernel.items = subst P c.as_slice.ensures.value (c.in_ok-is_basis.ensures.0 c.if-not-is_basis.false) in
     is_readable c.args.table.now c.requires c.args.body.now o t c.in-Some-2.images.items c.in-Some-3.kernel.items c.in-Some.ensures.1 found form.0 form.1
 
 pub returns : goal.returns
@@ -89,6 +89,6 @@ returns c =
       kernel_is = kernel;
     } in
     let P : List (List Bool) → Type 0 = λ rows. IsReduced rows × HasNoZeroRow rows in
-    let form : IsReduced c.in-Some-3.kernel.items × HasNoZeroRow c.in-Some-3.kernel.items = subst P c.as_slice.ensures.value (c.is_row_basis.ensures.0 c.if-not-is_row_basis.false) in
+    let form : IsReduced c.in-Some-3.kernel.items × HasNoZeroRow c.in-Some-3.kernel.items = subst P c.as_slice.ensures.value (c.in_ok-is_basis.ensures.0 c.if-not-is_basis.false) in
     decoded c.args.table.now c.next_degree.ensures.is_table c.requires c.args.body.now o t c.in-Some-2.images.items c.in-Some-3.kernel.items c.in-Some.ensures.1 found form.0 form.1
     c.read.result c.read.ensures.resolved c.read.ensures.start c.read.ensures.s c.read.ensures.t c.read.ensures.content c.read.ensures.quasi
