@@ -98,6 +98,8 @@ pub fn preimages_and_relations(
         kernel,
     )?;
     let preimages = relations.split_off(places.len() - (width - n))?;
+    // A square keeps these, and not the room of the others behind them.
+    relations.shrink_to_fit();
     add_elements(relations.as_mut_slice(), n, places.as_slice());
     Ok((preimages, relations))
 }

@@ -41,7 +41,7 @@ add_elements-requires-clause-within c = λ k l.
     c.in_ok-relations.ensures ∙ ap (λ z. columns_at z (spread_by c.as_slice-2.result.now w image ++ kernel)) (c.as_slice-3.ensures.value ∙ places_are) ∙ ap (λ z. columns_at (wanted_places table w) (spread_by z w image ++ kernel)) c.as_slice-2.ensures.value in
     let count = c.len.result - (w - n) in
     let count_is : count ≡ length (vacant_places table) = omega (arith, count_vacant n w c.requires.bar image kernel table t c.requires.image c.requires.kernel, c.len.ensures, c.in_ok-places.places.ok, ap length places_are) in
-    let first : c.as_mut_slice.result.now ≡ take count (columns_at (wanted_places table w) rows) = c.as_mut_slice.ensures.value ∙ c.in_ok-preimages.ensures.items ∙ ap (take count) columns_are in
+    let first : c.as_mut_slice.result.now ≡ take count (columns_at (wanted_places table w) rows) = c.as_mut_slice.ensures.value ∙ c.shrink_to_fit.ensures.items ∙ c.in_ok-preimages.ensures.items ∙ ap (take count) columns_are in
     let many : length c.as_mut_slice.result.now ≡ length (vacant_places table) = ap length first ∙ length-first n w c.requires.bar image kernel table t c.requires.image c.requires.kernel count count_is in
     omega (arith, place_within n w c.requires.bar image kernel table t c.requires.image c.requires.kernel k (omega (arith, many, l)), ap (λ z. get_or z k 0) (c.as_slice-4.ensures.value ∙ places_are))
 
@@ -59,7 +59,7 @@ add_elements-requires-clause-lengths c = λ k l.
     c.in_ok-relations.ensures ∙ ap (λ z. columns_at z (spread_by c.as_slice-2.result.now w image ++ kernel)) (c.as_slice-3.ensures.value ∙ places_are) ∙ ap (λ z. columns_at (wanted_places table w) (spread_by z w image ++ kernel)) c.as_slice-2.ensures.value in
     let count = c.len.result - (w - n) in
     let count_is : count ≡ length (vacant_places table) = omega (arith, count_vacant n w c.requires.bar image kernel table t c.requires.image c.requires.kernel, c.len.ensures, c.in_ok-places.places.ok, ap length places_are) in
-    let first : c.as_mut_slice.result.now ≡ take count (columns_at (wanted_places table w) rows) = c.as_mut_slice.ensures.value ∙ c.in_ok-preimages.ensures.items ∙ ap (take count) columns_are in
+    let first : c.as_mut_slice.result.now ≡ take count (columns_at (wanted_places table w) rows) = c.as_mut_slice.ensures.value ∙ c.shrink_to_fit.ensures.items ∙ c.in_ok-preimages.ensures.items ∙ ap (take count) columns_are in
     let many : length c.as_mut_slice.result.now ≡ length (vacant_places table) = ap length first ∙ length-first n w c.requires.bar image kernel table t c.requires.image c.requires.kernel count count_is in
     omega (arith, first_wide n w c.requires.bar image kernel table t c.requires.image c.requires.kernel count k count_is (omega (arith, many, l)), ap (λ z. length (row z k)) first)
 
@@ -93,14 +93,14 @@ returns-clause-relations c =
     c.in_ok-relations.ensures ∙ ap (λ z. columns_at z (spread_by c.as_slice-2.result.now w image ++ kernel)) (c.as_slice-3.ensures.value ∙ places_are) ∙ ap (λ z. columns_at (wanted_places table w) (spread_by z w image ++ kernel)) c.as_slice-2.ensures.value in
     let count = c.len.result - (w - n) in
     let count_is : count ≡ length (vacant_places table) = omega (arith, count_vacant n w c.requires.bar image kernel table t c.requires.image c.requires.kernel, c.len.ensures, c.in_ok-places.places.ok, ap length places_are) in
-    let first : c.as_mut_slice.result.now ≡ take count (columns_at (wanted_places table w) rows) = c.as_mut_slice.ensures.value ∙ c.in_ok-preimages.ensures.items ∙ ap (take count) columns_are in
+    let first : c.as_mut_slice.result.now ≡ take count (columns_at (wanted_places table w) rows) = c.as_mut_slice.ensures.value ∙ c.shrink_to_fit.ensures.items ∙ c.in_ok-preimages.ensures.items ∙ ap (take count) columns_are in
     let many : length c.as_mut_slice.result.now ≡ length (vacant_places table) = ap length first ∙ length-first n w c.requires.bar image kernel table t c.requires.image c.requires.kernel count count_is in
     let new = c.add_elements.new.columns in
     let old = c.as_mut_slice.result.now in
-    let len : c.split_off.new.self.len ≡ length new = omega (arith, c.add_elements.ensures.as_many, c.split_off.new.self.ok, ap length c.as_mut_slice.ensures.value) in
+    let len : c.shrink_to_fit.new.self.len ≡ length new = omega (arith, c.add_elements.ensures.as_many, c.shrink_to_fit.new.self.ok, ap length c.as_mut_slice.ensures.value) in
     let each : (i : ℕ) → i < length (vacant_places table) → row new i ≡ with_element n (get_or (wanted_places table w) i 0) (row (take count (columns_at (wanted_places table w) rows)) i) = λ i l.
     c.add_elements.ensures.turned i (omega (arith, many, l))
     ∙ ap (λ z. with_element n (get_or z i 0) (row old i)) (c.as_slice-4.ensures.value ∙ places_are)
     ∙ ap (λ z. with_element n (get_or (wanted_places table w) i 0) (row z i)) first in
-    as_written c.split_off.new.self.len new c.split_off.new.self.items len
+    as_written c.shrink_to_fit.new.self.len new c.shrink_to_fit.new.self.items len
     ∙ turned_are_relations n w c.requires.bar image kernel table t c.requires.image c.requires.kernel count new count_is (c.add_elements.ensures.as_many ∙ many) each
