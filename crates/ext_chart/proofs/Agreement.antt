@@ -18,7 +18,7 @@ use Rattle.resolution_laws.proofs.Rows.{free_basis-take}
 use Rattle.ext_chart.specs.declared.place.Place.{Place}
 use Rattle.ext_chart.specs.Chart.{mark, row_label, row_line, row_lines, stems_line, chart_text}
 use Rattle.ext_chart.specs.Dump.{no_place, square_places, places_from, term_text, free_sum_text, generator_line, square_lines, image_text, square_text, row_text, dump_text}
-use Rattle.ext_chart.specs.Summary.{row_total, row_totals, module_line, squares_line, gens_line, total_lines, summary_text}
+use Rattle.ext_chart.specs.Summary.{row_total, module_line, squares_line, gens_line, total_lines, summary_text}
 use Rattle.ext_chart.proofs.DumpSteps.{map-items_where_true}
 use Rattle.ext_chart.proofs.RowSteps.{length-places_from}
 

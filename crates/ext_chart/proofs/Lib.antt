@@ -2,6 +2,7 @@ pub mod Agreement
 pub mod ChartText
 pub mod DumpSteps
 pub mod Examples
+mod ProductSteps
 pub mod RowSteps
 pub mod TableSquares
 pub mod Targets

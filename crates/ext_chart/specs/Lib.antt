@@ -2,4 +2,5 @@ pub mod Chart
 pub mod Check
 pub mod Dump
 pub mod Inside
+pub mod Product
 pub mod Summary

@@ -1,10 +1,13 @@
 -- The answer: for a module that a file describes there is a canonical table through each range, and the texts are made of it.
 use Rattle.std.proofs.Common.{◌≡◌, ℕ, ℤ, pos, ◌<ℤ◌, ◌≤ℤ◌, List, [], ◌∷◌, length, Option, Some, None, refl, sym, ◌∙◌, ap, subst, arith, inl, inr}
 use Rattle.std.specs.Prelude.{Result, Ok, Err, IfOk, MatchOption, AllPairs}
+use Rattle.std.specs.List.{sum}
 use Rattle.std.proofs.lemmas.List.Elements.{All-from_recursion}
 use Rattle.std.proofs.lemmas.List.Kept.{AllPairs-cons}
 use Rattle.std.proofs.lemmas.Bool.{cases_eq}
 use Rattle.std.proofs.lemmas.Int.{ints}
+use Rattle.adem_laws.specs.Admissible.{value as value_of, AdmissibleFormIsUnique}
+use Rattle.adem_laws.proofs.Values.{length-value}
 use Rattle.module_json.specs.ModuleFile.{Generator, Entry, File, IsFileOf, basis, degree_at, listed, unless_refused, with_entries, first_refusal, gens_of, entries_from, actions_of}
 use Rattle.module_json.specs.ModuleFile.IsFileOf.{too_long, no_json, value}
 use Rattle.module_json.specs.WellFormed.{NeverFall}
@@ -28,12 +31,13 @@ use Rattle.square.specs.declared.range.Range.{Range}
 use Rattle.ext_chart.specs.Chart.{chart_text}
 use Rattle.ext_chart.specs.Check.{check_line}
 use Rattle.ext_chart.specs.Dump.{dump_text}
+use Rattle.ext_chart.specs.Product.{product_text}
 use Rattle.ext_chart.specs.Summary.{summary_text}
 use Rattle.ext_words.specs.declared.command.Command.{Command}
-use Rattle.ext_words.specs.declared.command.Command.TheVariants.{Sphere, Resolve, Dump, Check, Sample}
+use Rattle.ext_words.specs.declared.command.Command.TheVariants.{Sphere, Resolve, Dump, Check, Sample, Sq}
 use Rattle.ext_run.specs.declared.failure.Failure.{Failure}
 use Rattle.ext_run.specs.declared.failure.Failure.TheVariants.{Words, Malformed as NoModuleFile, NotModule}
-use Rattle.ext_run.specs.Answer.{IsResolved, IsChart, IsDump, IsSummary, IsLineOn, IsModuleAnswer, no_file, no_module, text_of, IsAnswerTo, Reads}
+use Rattle.ext_run.specs.Answer.{IsResolved, IsChart, IsDump, IsSummary, IsLineOn, IsProduct, IsModuleAnswer, no_file, no_module, text_of, IsAnswerTo, Reads}
 use Rattle.ext_words.specs.Words.{command_of}
 use Rattle.ext_run.specs.Existence.{IsDescribed, AnswerExists}
 use Rattle.ext_run.specs.declared.task.Form.{Form}
@@ -84,6 +88,11 @@ summary_exists laws range m is order =
 line_exists : (m : SteenrodModule) → IsModule m → NeverFall m.generators → (text : List ℕ) × IsLineOn m text
 line_exists m is order = (check_line (length m.generators) (bottom m.generators) (top m.generators), refl)
 
+product_exists : AdmissibleFormIsUnique → (numbers : List ℕ) → (text : List ℕ) × IsProduct numbers text
+product_exists forms numbers =
+    let form = forms (sum numbers) (value_of numbers) (length-value numbers) in
+    (product_text (sum numbers) (value_of numbers) form.0, record { monomials = form.0; admissible = form.1; product = refl })
+
 -- ---- the generators of a file stand by degree
 
 accepted_generators : (refusal : Option Malformed) (gs : List Generator) (es : Result (List Entry) Malformed) (f : File) → unless_refused refusal (with_entries gs es) ≡ Ok f → gs ≡ f.generators
@@ -119,24 +128,25 @@ module _ (accepted : AcceptedIsModule) (IsTextOf : SteenrodModule → List ℕ �
 one_alone : NeverFall sphere_file.generators
 one_alone i j d l k = absurd (omega arith)
 
-to_command : Laws → (command : Command) (bytes : List ℕ) → (Reads command → IsDescribed bytes) → (answer : Result (List ℕ) Failure) × IsAnswerTo command bytes answer
-to_command laws (Sphere common) bytes file =
+to_command : Laws → AdmissibleFormIsUnique → (command : Command) (bytes : List ℕ) → (Reads command → IsDescribed bytes) → (answer : Result (List ℕ) Failure) × IsAnswerTo command bytes answer
+to_command laws forms (Sphere common) bytes file =
     let x = chart_exists laws common.range (derived_module sphere_file) (laws.accepted sphere_file one_alone refl) one_alone in
     (Ok x.0, x.1)
-to_command laws (Resolve common) bytes file = let d = file tt in of_bytes laws.accepted (IsChart common.range) (chart_exists laws common.range) bytes d.file d.is_file
-to_command laws (Dump common) bytes file = let d = file tt in of_bytes laws.accepted (IsDump common.range) (dump_exists laws common.range) bytes d.file d.is_file
-to_command laws Check bytes file = let d = file tt in of_bytes laws.accepted IsLineOn line_exists bytes d.file d.is_file
-to_command laws (Sample n common) bytes file =
+to_command laws forms (Resolve common) bytes file = let d = file tt in of_bytes laws.accepted (IsChart common.range) (chart_exists laws common.range) bytes d.file d.is_file
+to_command laws forms (Dump common) bytes file = let d = file tt in of_bytes laws.accepted (IsDump common.range) (dump_exists laws common.range) bytes d.file d.is_file
+to_command laws forms Check bytes file = let d = file tt in of_bytes laws.accepted IsLineOn line_exists bytes d.file d.is_file
+to_command laws forms (Sample n common) bytes file =
     let order : NeverFall (sample_generators n) = (sample_by_degree n).ordered in
     let x = summary_exists laws common.range (derived_module (sample_file n)) (sample_is_module n) order in
     (Ok x.0, x.1)
+to_command laws forms (Sq numbers) bytes file = let x = product_exists forms numbers in (Ok x.0, x.1)
 
-to_words : Laws → (command : Option Command) (bytes : List ℕ) → (MatchOption command ⊥ Reads → IsDescribed bytes) → (answer : Result (List ℕ) Failure) × MatchOption command (answer ≡ Err Words) (λ c. IsAnswerTo c bytes answer)
-to_words laws None bytes file = (Err Words, refl)
-to_words laws (Some command) bytes file = to_command laws command bytes file
+to_words : Laws → AdmissibleFormIsUnique → (command : Option Command) (bytes : List ℕ) → (MatchOption command ⊥ Reads → IsDescribed bytes) → (answer : Result (List ℕ) Failure) × MatchOption command (answer ≡ Err Words) (λ c. IsAnswerTo c bytes answer)
+to_words laws forms None bytes file = (Err Words, refl)
+to_words laws forms (Some command) bytes file = to_command laws forms command bytes file
 
-pub answer_is_there : Laws → AnswerExists
-answer_is_there laws words bytes file = to_words laws (command_of words) bytes file
+pub answer_is_there : Laws → AdmissibleFormIsUnique → AnswerExists
+answer_is_there laws forms words bytes file = to_words laws forms (command_of words) bytes file
 
 -- ---- the text of a task
 

@@ -1,6 +1,9 @@
 -- The words have one answer for the same input: bytes describe one thing, and a range has one canonical resolution.
 use Rattle.std.proofs.Common.{◌≡◌, ℕ, List, length, ap, sym, subst, ◌∙◌}
 use Rattle.std.specs.Prelude.{Option, Some, None, MatchOption, Result, Ok, Err}
+use Rattle.std.specs.List.{sum}
+use Rattle.adem_laws.specs.Admissible.{value, AdmissibleFormIsUnique}
+use Rattle.adem_laws.proofs.Values.{length-value}
 use Rattle.module_json.specs.ModuleFile.{File, IsFileOf, FileIsUnique}
 use Rattle.module_json.specs.declared.malformed.Malformed.{Malformed}
 use Rattle.finite_module.specs.Module.{Module as SteenrodModule, bottom}
@@ -10,7 +13,7 @@ use Rattle.finite_module.specs.Checked.{sphere_file}
 use Rattle.finite_module.specs.Sample.{sample_file}
 use Rattle.module_check.specs.declared.fault.CheckFault.{CheckFault}
 use Rattle.ext_words.specs.declared.command.Command.{Command}
-use Rattle.ext_words.specs.declared.command.Command.TheVariants.{Sphere, Resolve, Dump, Check, Sample}
+use Rattle.ext_words.specs.declared.command.Command.TheVariants.{Sphere, Resolve, Dump, Check, Sample, Sq}
 use Rattle.ext_run.specs.declared.failure.Failure.{Failure}
 use Rattle.ext_run.specs.declared.failure.Failure.TheVariants.{Words}
 use Rattle.resolution_laws.specs.Resolution.{Content, generator_count, CanonicalTableIsUnique}
@@ -18,9 +21,10 @@ use Rattle.square.specs.Squares.{module_over}
 use Rattle.square.specs.declared.range.Range.{Range}
 use Rattle.ext_chart.specs.Chart.{chart_text}
 use Rattle.ext_chart.specs.Dump.{dump_text}
+use Rattle.ext_chart.specs.Product.{product_text}
 use Rattle.ext_chart.specs.Summary.{summary_text}
 use Rattle.ext_words.specs.Words.{command_of}
-use Rattle.ext_run.specs.Answer.{IsResolved, IsChart, IsDump, IsSummary, IsLineOn, IsModuleAnswer, no_file, no_module, text_of, IsAnswerTo, AnswerIsUnique}
+use Rattle.ext_run.specs.Answer.{IsResolved, IsChart, IsDump, IsSummary, IsLineOn, IsProduct, IsModuleAnswer, no_file, no_module, text_of, IsAnswerTo, AnswerIsUnique}
 
 -- two texts that a function makes of two tables of one module and range
 same-text : CanonicalTableIsUnique → (range : Range) (m : SteenrodModule) (text : List (List Content) → List ℕ) (a b : List (List Content)) (x y : List ℕ) → IsResolved range m a → IsResolved range m b → x ≡ text a → y ≡ text b → x ≡ y
@@ -36,6 +40,12 @@ dump-unique unique range m x y a b = same-text unique range m (dump_text m.gener
 summary-unique : CanonicalTableIsUnique → (range : Range) (m : SteenrodModule) (x y : List ℕ) → IsSummary range m x → IsSummary range m y → x ≡ y
 summary-unique unique range m x y a b =
     same-text unique range m (λ table. summary_text (length m.generators) (bottom m.generators) range.s range.t (generator_count table)) a.table b.table x y a.resolved b.resolved a.summary b.summary
+
+product-unique : AdmissibleFormIsUnique → (numbers x y : List ℕ) → IsProduct numbers x → IsProduct numbers y → x ≡ y
+product-unique forms numbers x y a b =
+    let form = forms (sum numbers) (value numbers) (length-value numbers) in
+    let same : a.monomials ≡ b.monomials = form.2 a.monomials a.admissible ∙ sym (form.2 b.monomials b.admissible) in
+    a.product ∙ (ap (product_text (sum numbers) (value numbers)) same ∙ sym b.product)
 
 -- the kinds of answers differ
 file_and_refusal : FileIsUnique → (bytes : List ℕ) (f : File) (e : Malformed) → IsFileOf bytes (Ok f) → IsFileOf bytes (Err e) → ⊥
@@ -78,20 +88,23 @@ module _ (files : FileIsUnique) (IsTextOf : SteenrodModule → List ℕ → Type
       let text = texts (derived_module h) x y (subst (λ (g : File). IsTextOf (derived_module g) x) file t) u in
       cc
 
-answer-to-unique : CanonicalTableIsUnique → FileIsUnique → (command : Command) (bytes : List ℕ) (a b : Result (List ℕ) Failure) → IsAnswerTo command bytes a → IsAnswerTo command bytes b → a ≡ b
-answer-to-unique unique files (Sphere common) bytes (Ok x) (Ok y) p q = let text = chart-unique unique common.range (derived_module sphere_file) x y p q in cc
-answer-to-unique unique files (Sphere common) bytes (Ok x) (Err e) p q = absurd q
-answer-to-unique unique files (Sphere common) bytes (Err e) b p q = absurd p
-answer-to-unique unique files (Resolve common) bytes a b p q = module-answer-unique files (IsChart common.range) (chart-unique unique common.range) bytes a b p q
-answer-to-unique unique files (Dump common) bytes a b p q = module-answer-unique files (IsDump common.range) (dump-unique unique common.range) bytes a b p q
-answer-to-unique unique files Check bytes a b p q = module-answer-unique files IsLineOn (λ m x y s t. s ∙ sym t) bytes a b p q
-answer-to-unique unique files (Sample n common) bytes (Ok x) (Ok y) p q = let text = summary-unique unique common.range (derived_module (sample_file n)) x y p q in cc
-answer-to-unique unique files (Sample n common) bytes (Ok x) (Err e) p q = absurd q
-answer-to-unique unique files (Sample n common) bytes (Err e) b p q = absurd p
+answer-to-unique : CanonicalTableIsUnique → FileIsUnique → AdmissibleFormIsUnique → (command : Command) (bytes : List ℕ) (a b : Result (List ℕ) Failure) → IsAnswerTo command bytes a → IsAnswerTo command bytes b → a ≡ b
+answer-to-unique unique files forms (Sphere common) bytes (Ok x) (Ok y) p q = let text = chart-unique unique common.range (derived_module sphere_file) x y p q in cc
+answer-to-unique unique files forms (Sphere common) bytes (Ok x) (Err e) p q = absurd q
+answer-to-unique unique files forms (Sphere common) bytes (Err e) b p q = absurd p
+answer-to-unique unique files forms (Resolve common) bytes a b p q = module-answer-unique files (IsChart common.range) (chart-unique unique common.range) bytes a b p q
+answer-to-unique unique files forms (Dump common) bytes a b p q = module-answer-unique files (IsDump common.range) (dump-unique unique common.range) bytes a b p q
+answer-to-unique unique files forms Check bytes a b p q = module-answer-unique files IsLineOn (λ m x y s t. s ∙ sym t) bytes a b p q
+answer-to-unique unique files forms (Sample n common) bytes (Ok x) (Ok y) p q = let text = summary-unique unique common.range (derived_module (sample_file n)) x y p q in cc
+answer-to-unique unique files forms (Sample n common) bytes (Ok x) (Err e) p q = absurd q
+answer-to-unique unique files forms (Sample n common) bytes (Err e) b p q = absurd p
+answer-to-unique unique files forms (Sq numbers) bytes (Ok x) (Ok y) p q = let text = product-unique forms numbers x y p q in cc
+answer-to-unique unique files forms (Sq numbers) bytes (Ok x) (Err e) p q = absurd q
+answer-to-unique unique files forms (Sq numbers) bytes (Err e) b p q = absurd p
 
-answer-of-unique : CanonicalTableIsUnique → FileIsUnique → (command : Option Command) (bytes : List ℕ) (a b : Result (List ℕ) Failure) → MatchOption command (a ≡ Err Words) (λ c. IsAnswerTo c bytes a) → MatchOption command (b ≡ Err Words) (λ c. IsAnswerTo c bytes b) → a ≡ b
-answer-of-unique unique files None bytes a b p q = p ∙ sym q
-answer-of-unique unique files (Some command) bytes a b p q = answer-to-unique unique files command bytes a b p q
+answer-of-unique : CanonicalTableIsUnique → FileIsUnique → AdmissibleFormIsUnique → (command : Option Command) (bytes : List ℕ) (a b : Result (List ℕ) Failure) → MatchOption command (a ≡ Err Words) (λ c. IsAnswerTo c bytes a) → MatchOption command (b ≡ Err Words) (λ c. IsAnswerTo c bytes b) → a ≡ b
+answer-of-unique unique files forms None bytes a b p q = p ∙ sym q
+answer-of-unique unique files forms (Some command) bytes a b p q = answer-to-unique unique files forms command bytes a b p q
 
-pub answer-unique : CanonicalTableIsUnique → FileIsUnique → AnswerIsUnique
-answer-unique unique files words bytes a b p q = answer-of-unique unique files (command_of words) bytes a b p q
+pub answer-unique : CanonicalTableIsUnique → FileIsUnique → AdmissibleFormIsUnique → AnswerIsUnique
+answer-unique unique files forms words bytes a b p q = answer-of-unique unique files forms (command_of words) bytes a b p q

@@ -16,7 +16,7 @@ use Rattle.module_check.specs.Acceptance.{refusal_of}
 use Rattle.module_check.specs.declared.fault.CheckFault.{CheckFault}
 use Rattle.module_check.specs.declared.fault.CheckFault.TheVariants.{Listed, Relation, Memory as NoMemory}
 use Rattle.ext_words.specs.declared.command.Command.{Command}
-use Rattle.ext_words.specs.declared.command.Command.TheVariants.{Sphere, Resolve, Dump, Check, Sample}
+use Rattle.ext_words.specs.declared.command.Command.TheVariants.{Sphere, Resolve, Dump, Check, Sample, Sq}
 use Rattle.ext_run.specs.declared.failure.Failure.{Failure}
 use Rattle.ext_run.specs.declared.failure.Failure.TheVariants.{Words, Malformed as NoModuleFile, NotModule, Reading, Writing, Saving, SaveFile, Memory}
 use Rattle.ext_words.specs.Words.{command_of}
@@ -29,11 +29,12 @@ use Rattle.save_file.specs.declared.fault.ResumeFault.{ResumeFault}
 use Rattle.ext_run.proofs.AnswerUnique.{answer-unique}
 use Rattle.ext_run.proofs.Reading.{most_read-is}
 use Rattle.resolution_laws.proofs.TableIsUnique.{table_is_unique}
+use Rattle.adem_laws.proofs.Forms.{admissible_form_is_unique}
 
 -- ---- one answer
 
 one_answer : AnswerIsUnique
-one_answer = answer-unique (table_is_unique kernel_basis_unique) file_unique
+one_answer = answer-unique (table_is_unique kernel_basis_unique) file_unique admissible_form_is_unique
 
 -- the answer from a source that tells what it has left is the answer to that
 told : (words : List (List ℕ)) (left : Option (List ℕ)) (l : List ℕ) (a b : Result (List ℕ) Failure) → left ≡ Some l → IsAnswerFrom words left a → IsAnswer words l b → a ≡ b
@@ -57,6 +58,7 @@ words_refused (Some (Resolve common)) bytes a e p = absurd (not_words (IsChart c
 words_refused (Some (Dump common)) bytes a e p = absurd (not_words (IsDump common.range) bytes a p e)
 words_refused (Some Check) bytes a e p = absurd (not_words IsLineOn bytes a p e)
 words_refused (Some (Sample n common)) bytes a e p = absurd (subst (IsAnswerTo (Sample n common) bytes) e p)
+words_refused (Some (Sq numbers)) bytes a e p = absurd (subst (IsAnswerTo (Sq numbers) bytes) e p)
 
 -- ---- the size of a file
 
@@ -81,6 +83,7 @@ answer_fits (Some (Resolve common)) bytes text r p = module_fits (IsChart common
 answer_fits (Some (Dump common)) bytes text r p = module_fits (IsDump common.range) bytes text (Ok text) p refl
 answer_fits (Some Check) bytes text r p = module_fits IsLineOn bytes text (Ok text) p refl
 answer_fits (Some (Sample n common)) bytes text r p = absurd r
+answer_fits (Some (Sq numbers)) bytes text r p = absurd r
 
 -- drop at a variable: numerals stay folded
 all_dropped : (n m : ℕ) (l : List ℕ) → length l ≤ n → n ≤ m → drop m l ≡ []
@@ -305,6 +308,7 @@ answerable_failure left (Some (Resolve common)) bytes a failure e all has p = ac
 answerable_failure left (Some (Dump common)) bytes a failure e all has p = accepted_failure (IsDump common.range) left bytes a failure e all has p
 answerable_failure left (Some Check) bytes a failure e all has p = accepted_failure IsLineOn left bytes a failure e all has p
 answerable_failure left (Some (Sample n common)) bytes a failure e all has p = subst (IsAnswerTo (Sample n common) bytes) e p
+answerable_failure left (Some (Sq numbers)) bytes a failure e all has p = subst (IsAnswerTo (Sq numbers) bytes) e p
 
 pub complete : (words : List (List ℕ)) (left now : Option (List ℕ)) (failure : Failure) → IsRunCauseFrom words left now failure → (failure ≡ Reading → ⊥) → (failure ≡ Writing → ⊥) → (failure ≡ Saving → ⊥) → ((e : ResumeFault) → failure ≡ SaveFile e → ⊥) →
     IsComplete words left (status_of failure)

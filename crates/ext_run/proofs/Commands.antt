@@ -6,7 +6,7 @@ use Rattle.finite_module.specs.DerivedAction.{derived_module}
 use Rattle.finite_module.specs.Checked.{sphere_file}
 use Rattle.finite_module.specs.Sample.{sample_file}
 use Rattle.ext_words.specs.declared.command.Command.{Command}
-use Rattle.ext_words.specs.declared.command.Command.TheVariants.{Sphere, Resolve, Dump, Check, Sample}
+use Rattle.ext_words.specs.declared.command.Command.TheVariants.{Sphere, Resolve, Dump, Check, Sample, Sq}
 use Rattle.ext_words.specs.declared.command.Common.{Common}
 use Rattle.ext_run.specs.declared.failure.Failure.{Failure}
 use Rattle.ext_run.specs.declared.failure.Failure.TheVariants.{Words, Malformed as NoModuleFile, NotModule, Reading, Writing, Saving, SaveFile, Memory}
@@ -15,7 +15,7 @@ use Rattle.ext_words.specs.declared.command.WordsFault.TheVariants.{Words as Out
 use Rattle.ext_run.specs.Failure.{words_failure}
 use Rattle.ext_words.specs.Words.{command_of}
 use Rattle.ext_run.specs.Input.{IsFileCauseFrom, IsModuleFrom}
-use Rattle.ext_run.specs.Answer.{IsAnswer, IsAnswerTo, IsAnswerFrom, IsCauseFrom, Reads, WordsRead, IsChart, IsDump, IsSummary, IsLineOn, IsModuleAnswer, no_file, no_module, text_of, IsCommandAnswerFrom, IsCommandCauseFrom}
+use Rattle.ext_run.specs.Answer.{IsAnswer, IsAnswerTo, IsAnswerFrom, IsCauseFrom, Reads, WordsRead, IsChart, IsDump, IsSummary, IsLineOn, IsProduct, IsModuleAnswer, no_file, no_module, text_of, IsCommandAnswerFrom, IsCommandCauseFrom}
 
 -- some bytes, and all that is left where that is told
 pub bytes_of : Option (List ℕ) → List ℕ
@@ -40,6 +40,11 @@ sample_answer n common left m text e p = record {
   all = all_of left;
   holds = subst (λ (x : SteenrodModule). IsSummary common.range x text) e p;
 }
+
+pub product_answer : (numbers : List ℕ) (command : Command) (left : Option (List ℕ)) (text : List ℕ) → command ≡ Sq numbers → IsProduct numbers text → IsCommandAnswerFrom command left (Ok text)
+product_answer numbers command left text is p =
+    let answer : IsCommandAnswerFrom (Sq numbers) left (Ok text) = record { bytes = bytes_of left; all = all_of left; holds = p } in
+    subst (λ (c : Command). IsCommandAnswerFrom c left (Ok text)) (sym is) answer
 
 -- ---- the commands that read a module
 

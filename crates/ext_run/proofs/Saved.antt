@@ -13,7 +13,7 @@ use Rattle.square.specs.declared.range.Range.{Range}
 use Rattle.save_file.specs.declared.fault.ResumeFault.{ResumeFault}
 use Rattle.ext_words.specs.declared.command.Common.{Common}
 use Rattle.ext_words.specs.declared.command.Command.{Command}
-use Rattle.ext_words.specs.declared.command.Command.TheVariants.{Sphere, Resolve, Dump, Check, Sample}
+use Rattle.ext_words.specs.declared.command.Command.TheVariants.{Sphere, Resolve, Dump, Check, Sample, Sq}
 use Rattle.ext_words.specs.Words.{command_of}
 use Rattle.ext_run.specs.declared.failure.Failure.{Failure}
 use Rattle.ext_run.specs.declared.failure.Failure.TheVariants.{Words, Malformed as NoModuleFile, NotModule, Reading, Writing, Saving, SaveFile, Memory}
@@ -44,6 +44,7 @@ same_of (Resolve common) b d m n same p q = same_module b d m n (same tt) p q
 same_of (Dump common) b d m n same p q = same_module b d m n (same tt) p q
 same_of Check b d m n same p q = same_module b d m n (same tt) p q
 same_of (Sample k common) b d m n same p q = p ∙ sym q
+same_of (Sq numbers) b d m n same p q = absurd p
 
 pub saved_unique : (words : List (List ℕ)) (b d : List ℕ) (m n : SteenrodModule) (range other : Range) → (WordsRead words → b ≡ d) → IsSavedBy words b m range → IsSavedBy words d n other → (m ≡ n) × (range ≡ other)
 saved_unique words b d m n range other same p q =
@@ -68,6 +69,7 @@ answered_failure (Resolve common) b d m failure same p a = accepted_text (IsChar
 answered_failure (Dump common) b d m failure same p a = accepted_text (IsDump common.range) b (Err failure) failure (record { file = p.file; is_file = subst (λ (x : List ℕ). IsFileOf x (Ok p.file)) (sym (same tt)) p.is_file; no_refusal = p.no_refusal }) a refl
 answered_failure Check b d m failure same p a = accepted_text IsLineOn b (Err failure) failure (record { file = p.file; is_file = subst (λ (x : List ℕ). IsFileOf x (Ok p.file)) (sym (same tt)) p.is_file; no_refusal = p.no_refusal }) a refl
 answered_failure (Sample k common) b d m failure same p a = a
+answered_failure (Sq numbers) b d m failure same p a = a
 
 -- where the input is told, its bytes are those
 told_bytes : (left : Option (List ℕ)) (b d : List ℕ) → IfSome left (λ l. b ≡ l) → left ≡ Some d → b ≡ d

@@ -1,5 +1,6 @@
 -- What the program answers to its words, and to the module file that it reads.
 use Rattle.std.specs.Prelude.{◌≡◌, ℕ, List, length, Option, Some, None, MatchOption, IsOkAnd, Result, Ok, Err, ⊤}
+use Rattle.std.specs.List.{sum}
 use Rattle.module_json.specs.ModuleFile.{File, IsFileOf}
 use Rattle.module_json.specs.declared.malformed.Malformed.{Malformed}
 use Rattle.finite_module.specs.Module.{Module as SteenrodModule, bottom}
@@ -8,8 +9,9 @@ use Rattle.module_check.specs.Acceptance.{refusal_of}
 use Rattle.finite_module.specs.Checked.{sphere_file}
 use Rattle.finite_module.specs.Sample.{sample_file}
 use Rattle.module_check.specs.declared.fault.CheckFault.{CheckFault}
+use Rattle.adem_laws.specs.Admissible.{value, IsAdmissibleForm}
 use Rattle.ext_words.specs.declared.command.Command.{Command}
-use Rattle.ext_words.specs.declared.command.Command.TheVariants.{Sphere, Resolve, Dump, Check, Sample}
+use Rattle.ext_words.specs.declared.command.Command.TheVariants.{Sphere, Resolve, Dump, Check, Sample, Sq}
 use Rattle.ext_run.specs.declared.failure.Failure.{Failure}
 use Rattle.ext_run.specs.declared.failure.Failure.TheVariants.{Words, Malformed as NoModuleFile, NotModule}
 use Rattle.resolution_laws.specs.Resolution.{Content, IsCanonicalTable, generator_count}
@@ -19,6 +21,7 @@ use Rattle.square.specs.declared.range.Range.{Range}
 use Rattle.ext_chart.specs.Chart.{chart_text}
 use Rattle.ext_chart.specs.Check.{check_line}
 use Rattle.ext_chart.specs.Dump.{dump_text}
+use Rattle.ext_chart.specs.Product.{product_text}
 use Rattle.ext_chart.specs.Summary.{summary_text}
 use Rattle.ext_words.specs.Words.{command_of}
 use Rattle.ext_run.specs.Input.{IsOfInput, IsCauseOf, IsAccepted}
@@ -52,6 +55,14 @@ pub record IsSummary (range : Range) (m : SteenrodModule) (text : List ℕ) : Ty
 abbrev pub IsLineOn : SteenrodModule → List ℕ → Type 0
 IsLineOn m text = text ≡ check_line (length m.generators) (bottom m.generators) (top m.generators)
 
+-- ---- the text of a product
+
+-- text is the value of the product of these squares in Milnor's basis, and that value as a sum of admissible monomials
+pub record IsProduct (numbers : List ℕ) (text : List ℕ) : Type 0 where
+  pub monomials : List (List ℕ)
+  pub admissible : IsAdmissibleForm (sum numbers) (value numbers) monomials
+  pub product : text ≡ product_text (sum numbers) (value numbers) monomials
+
 -- ---- the answer
 
 -- What a command answers that reads a module file: why there is no module, or a text that is right for the module.
@@ -66,6 +77,7 @@ IsAnswerTo (Resolve common) bytes answer = IsModuleAnswer (IsChart common.range)
 IsAnswerTo (Dump common) bytes answer = IsModuleAnswer (IsDump common.range) bytes answer
 IsAnswerTo Check bytes answer = IsModuleAnswer IsLineOn bytes answer
 IsAnswerTo (Sample n common) bytes answer = IsOkAnd answer (IsSummary common.range (derived_module (sample_file n)))
+IsAnswerTo (Sq numbers) bytes answer = IsOkAnd answer (IsProduct numbers)
 
 -- The answer to the words, where the input is these bytes: a text, or why there is none. (Devices that fail and want of
 -- memory are no part of it.)
@@ -92,6 +104,7 @@ Reads (Resolve common) = ⊤
 Reads (Dump common) = ⊤
 Reads Check = ⊤
 Reads (Sample n common) = ⊥
+Reads (Sq numbers) = ⊥
 
 abbrev pub WordsRead : List (List ℕ) → Type 0
 WordsRead words = MatchOption (command_of words) ⊥ Reads
@@ -103,13 +116,14 @@ IsCauseFrom words left failure = IsCauseOf (WordsRead words) ⊤ (λ f. IsAnswer
 abbrev pub IsCommandCauseFrom : Command → Option (List ℕ) → Failure → Type 0
 IsCommandCauseFrom command left failure = IsCauseOf (Reads command) ⊥ (λ f. IsCommandAnswerFrom command left (Err f)) failure
 
--- The command has its module: where it reads its input, that is told, and describes one.
+-- The command has the module that it needs: where it reads its input, that is told, and describes one.
 abbrev pub HasModule : Option (List ℕ) → Command → Type 0
 HasModule left (Sphere common) = ⊤
 HasModule left (Resolve common) = MatchOption left ⊥ IsAccepted
 HasModule left (Dump common) = MatchOption left ⊥ IsAccepted
 HasModule left Check = MatchOption left ⊥ IsAccepted
 HasModule left (Sample n common) = ⊤
+HasModule left (Sq numbers) = ⊤
 
 abbrev pub IsAnswerable : List (List ℕ) → Option (List ℕ) → Type 0
 IsAnswerable words left = MatchOption (command_of words) ⊥ (HasModule left)

@@ -17,7 +17,7 @@ use Rattle.save_file.specs.Files.{Standing, of_records}
 use Rattle.save_file.specs.declared.fault.ResumeFault.{ResumeFault}
 use Rattle.ext_words.specs.declared.command.Common.{Common}
 use Rattle.ext_words.specs.declared.command.Command.{Command}
-use Rattle.ext_words.specs.declared.command.Command.TheVariants.{Sphere, Resolve, Dump, Check, Sample}
+use Rattle.ext_words.specs.declared.command.Command.TheVariants.{Sphere, Resolve, Dump, Check, Sample, Sq}
 use Rattle.ext_words.specs.Words.{command_of}
 use Rattle.ext_run.specs.Input.{IsOfInput}
 use Rattle.ext_run.specs.Answer.{WordsRead, IsCauseFrom}
@@ -34,6 +34,7 @@ options_of (Resolve common) = Some common
 options_of (Dump common) = Some common
 options_of Check = None
 options_of (Sample n common) = Some common
+options_of (Sq numbers) = None
 
 abbrev pub Saves : Command → Type 0
 Saves command = MatchOption (options_of command) ⊥ (λ common. common.save ≡ true)
@@ -48,13 +49,14 @@ pub record IsModuleIn (bytes : List ℕ) (m : SteenrodModule) : Type 0 where
   pub no_refusal : refusal_of file ≡ None
   pub is_derived : m ≡ derived_module file
 
--- the module that a command resolves or tells of, where its input is these bytes
+-- the module that a command resolves or tells of, where its input is these bytes; none where it needs none
 abbrev pub IsModuleOf : Command → List ℕ → SteenrodModule → Type 0
 IsModuleOf (Sphere common) bytes m = m ≡ derived_module sphere_file
 IsModuleOf (Resolve common) bytes m = IsModuleIn bytes m
 IsModuleOf (Dump common) bytes m = IsModuleIn bytes m
 IsModuleOf Check bytes m = IsModuleIn bytes m
 IsModuleOf (Sample n common) bytes m = m ≡ derived_module (sample_file n)
+IsModuleOf (Sq numbers) bytes m = ⊥
 
 -- the words ask for a save file, to resolve this module through this range, where the input is these bytes
 pub record IsSavedBy (words : List (List ℕ)) (bytes : List ℕ) (m : SteenrodModule) (range : Range) : Type 0 where

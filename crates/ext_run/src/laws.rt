@@ -8,6 +8,7 @@ pub fn answer_is_unique()
 {
     resolution_laws::canonical_table_is_unique();
     module_json::file_is_unique();
+    adem_laws::admissible_basis();
 }
 
 /// All words have an answer to each input. If they read it, it is asked that the input is described: as a module file, or by
@@ -19,4 +20,5 @@ pub fn answer_exists()
     resolution_laws::canonical_table_is_minimal_resolution();
     module_check::modules_are_graded_modules();
     module_check::accepted_is_module();
+    adem_laws::admissible_basis();
 }

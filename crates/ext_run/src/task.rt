@@ -1,10 +1,12 @@
 //! What a command asks for, once its words and its module file are read: a text that is there, or a resolution to make.
 ghost use Rattle.std.specs.Prelude.{◌≡◌, ◌≢◌, ◌≤◌, Err, IfOk, IfErr};
+ghost use Rattle.std.specs.List.{sum};
 ghost use Rattle.edge.specs.Faults.{HasRisen};
 ghost use Rattle.edge.specs.Source.{without_first, HasGivenUpTo};
+ghost use Rattle.ext_words.specs.declared.command.TheConstants.{MAX_DEGREE};
 ghost use Rattle.ext_words.specs.Words.{texts_of, IsWithinLimits};
 ghost use Rattle.ext_run.specs.Input.{most_read};
-ghost use Rattle.ext_run.specs.Answer.{IsLineOn, IsCauseFrom, IsCommandCauseFrom, Reads, WordsRead};
+ghost use Rattle.ext_run.specs.Answer.{IsLineOn, IsProduct, IsCauseFrom, IsCommandCauseFrom, Reads, WordsRead};
 ghost use Rattle.ext_run.specs.Task.{IsTaskFor, IsTaskFrom, IsTaskWithin, IsSavedFor, IsSavedAs, HasItsText};
 ghost use Rattle.ext_run.specs.declared.failure.Failure as Failure;
 ghost use Rattle.ext_run.specs.declared.task.Task.TheVariants.{Resolution as ToResolve};
@@ -12,12 +14,14 @@ ghost use Rattle.ext_run.specs.declared.task.Task.TheVariants.{Resolution as ToR
 use crate::failure::Failure;
 use crate::input::read_module;
 use edge::Source;
-use ext_chart::check_line;
+use ext_chart::{check_line, product};
 use ext_words::{Command, Common, parse};
 use memory::Memory;
+use milnor_basis::Basis;
 use module_check::{Module, accepted_is_module, modules_are_graded_modules};
 use resolution_existence::canonical_table_exists;
 use resolution_laws::canonical_table_is_minimal_resolution;
+use sq_calc::{Mono, to_admissible, to_milnor};
 use std::alloc::Global;
 
 /// What is still to be done for a command.
@@ -107,6 +111,7 @@ fn task_for<S: Source>(alloc: Global, command: Command, source: &mut S) -> Resul
             let sample = Module::sample(alloc, n)?;
             Ok(to_resolve(sample, common, Form::Summary))
         }
+        Command::Sq(squares) => Ok(Task::Text(product_lines(alloc, &squares)?)),
     }
 }
 
@@ -126,4 +131,18 @@ fn module_line(alloc: Global, module: &Module) -> Result<Vec<u8>, Memory>
     ensures { IfOk result (λ text. IsLineOn «module».now.plain text.items) }
 {
     check_line(alloc, module.count(), module.bottom(), module.top())
+}
+
+/// The lines on a product of squares.
+fn product_lines(alloc: Global, squares: &Mono) -> Result<Vec<u8>, Memory>
+    requires { sum squares.now ≤ MAX_DEGREE }
+    ensures { IfOk result (λ text. IsProduct squares.now text.items) }
+{
+    let Some(degree) = squares.degree() else {
+        unreachable!()
+    };
+    let basis = Basis::new(alloc, degree)?;
+    let value = to_milnor(alloc, &basis, squares)?;
+    let admissible = to_admissible(alloc, &basis, degree, &value)?;
+    product(alloc, &basis, degree, &value, &admissible)
 }

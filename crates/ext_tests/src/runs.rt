@@ -175,6 +175,24 @@ fn summaries(rt: HostRuntime) -> Result<(), Fail> {
 }
 
 #[test]
+fn products(rt: HostRuntime) -> Result<(), Fail> {
+    for (product, text) in [
+        ("2,2", "milnor: Sq(1,1)\nadmissible: Sq3 Sq1\n"),
+        (
+            "2,4",
+            "milnor: Sq(6) + Sq(3,1)\nadmissible: Sq6 + Sq5 Sq1\n",
+        ),
+        ("1,1", "milnor: 0\nadmissible: 0\n"),
+        ("2,1", "milnor: Sq(3) + Sq(0,1)\nadmissible: Sq2 Sq1\n"),
+        ("001,2", "milnor: Sq(3)\nadmissible: Sq3\n"),
+    ] {
+        assert_answer(&rt, &["sq", product], "", 0, text, "")?;
+    }
+    assert_answer(&rt, &["sq", "100,28"], "", 2, "", WORDS_LINE)?;
+    assert_answer(&rt, &["sq", "0"], "", 2, "", WORDS_LINE)
+}
+
+#[test]
 fn refuses_module_files(rt: HostRuntime) -> Result<(), Fail> {
     for (file, status, line) in [
         ("", 3, "ext: module file: not JSON\n"),

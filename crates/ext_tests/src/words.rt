@@ -1,5 +1,6 @@
 //! Words and what they ask for.
 use ext_words::{Command, Common, WordsFault, parse};
+use sq_calc::Mono;
 use square::Range;
 use std::test::Fail;
 
@@ -84,6 +85,28 @@ fn parses(rt: HostRuntime) -> Result<(), Fail> {
 }
 
 #[test]
+fn parses_products(rt: HostRuntime) -> Result<(), Fail> {
+    let alloc = rt.alloc();
+    let cases: [(&str, &[u16]); 6] = [
+        ("1", &[1]),
+        ("001", &[1]),
+        ("127", &[127]),
+        ("2,4", &[2, 4]),
+        ("64,063", &[64, 63]),
+        ("1,1,1,1,1,1,1,1,1,1,1,1,1,1,1,112", &[1, 1, 1, 1, 1, 1, 1, 1, 1, 1, 1, 1, 1, 1, 1, 112]),
+    ];
+    for (product, numbers) in cases {
+        let mono = Mono::of(Vec::from_slice(alloc, numbers)?);
+        assert_eq!(rt;
+            parse(alloc, &["sq", product]),
+            Ok(Command::Sq(mono)),
+            "at {product}"
+        );
+    }
+    Ok(())
+}
+
+#[test]
 fn parses_nothing_else(rt: HostRuntime) -> Result<(), Fail> {
     assert_eq!(rt; parse(rt.alloc(), &[]), Err(WordsFault::Words));
     for line in [
@@ -141,6 +164,43 @@ fn parses_nothing_else(rt: HostRuntime) -> Result<(), Fail> {
         "sample 0 1 1 1",
         "sample -1 1 1",
         "sample +1 1 1",
+        "sq",
+        "sq ",
+        "sq 0",
+        "sq 000",
+        "sq 1,0",
+        "sq 128",
+        "sq 256",
+        "sq 0001",
+        "sq 1,0001",
+        "sq 100,28",
+        "sq 64,64",
+        "sq 1,",
+        "sq ,1",
+        "sq ,",
+        "sq 1,,1",
+        "sq 1,1,1,1,1,1,1,1,1,1,1,1,1,1,1,1,1",
+        "sq 1 1",
+        "sq 2, 4",
+        "sq 2 ,4",
+        "sq 2;4",
+        "sq +1",
+        "sq -1",
+        "sq 1,-1",
+        "sq 1x",
+        "sq １",
+        "sq 1 --workers 2",
+        "sq --workers=2 1",
+        "sq --workers 1",
+        "sq 1 --save",
+        "sq --save 1",
+        "sq --save",
+        "sq -- 1",
+        "sq 1 --",
+        "sq -",
+        "sq 1 -é",
+        "Sq 1",
+        "sq1",
         "help",
         "help sphere",
         "--help",

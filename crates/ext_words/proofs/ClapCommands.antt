@@ -208,6 +208,10 @@ pub data ReadsLevel {X : Type 0} (name : Text) (rules : List Rule) (read : List 
   refuses : Fails (rest_fault (leaf name rules) start words) → given ≡ None → ReadsLevel name rules read given words
   reads : rest_fault (leaf name rules) start words ≡ [] → read (matches_after rules words) ≡ given → ReadsLevel name rules read given words
 
+pub ended : {X : Type 0} (name : Text) (rules : List Rule) (read : List Row → Option X) (given : Option X) (words : List Text) (rows : Option (List Row)) → Ends (leaf name rules) start words rows → option_and_then read rows ≡ given → ReadsLevel name rules read given words
+ended name rules read given words None fails is = refuses fails (sym is)
+ended name rules read given words (Some rows) ends is = reads ends.0 (ap read ends.1 ∙ is)
+
 module _ {X : Type 0} (name : Text) (rules : List Rule) (read : List Row → Option X) (given : List Part → Option X) (level : (parts : List Part) → option_and_then read (after_parts rules [] 1 parts) ≡ given parts) (stray : (parts : List Part) → HasNoNumber parts → given parts ≡ None) where
   by-parts : (taken : Option (List Part)) → option_and_then read (option_and_then (after_parts rules [] 1) taken) ≡ option_and_then given taken
   by-parts None = refl
@@ -221,14 +225,10 @@ module _ {X : Type 0} (name : Text) (rules : List Rule) (read : List Row → Opt
   agreed taken found (inl same) = ap (option_and_then given) same
   agreed taken found (inr h) = no-parts taken h.1 ∙ sym (ap (option_and_then given) h.0)
 
-  ended : (words : List Text) (rows : Option (List Row)) → Ends (leaf name rules) start words rows → option_and_then read rows ≡ option_and_then given (parts_of words) → ReadsLevel name rules read (option_and_then given (parts_of words)) words
-  ended words None fails is = refuses fails (sym is)
-  ended words (Some rows) ends is = reads ends.0 (ap read ends.1 ∙ is)
-
   pub reads-level : TakesOptions rules → (words : List Text) → has_dashes words ≡ false → ReadsLevel name rules read (option_and_then given (parts_of words)) words
   reads-level takes words dashes =
       let all = follows name rules takes words dashes in
-      ended words (option_and_then (after_parts rules [] 1) all.taken) (all.goes [] None 1 refl) (by-parts all.taken ∙ agreed all.taken (parts_of words) all.agrees)
+      ended name rules read (option_and_then given (parts_of words)) words (option_and_then (after_parts rules [] 1) all.taken) (all.goes [] None 1 refl) (by-parts all.taken ∙ agreed all.taken (parts_of words) all.agrees)
 
 pub reads-range : (name : Text) (words : List Text) → has_dashes words ≡ false → ReadsLevel name range_rules common_in (option_and_then range_given (parts_of words)) words
 reads-range name words dashes = reads-level name range_rules common_in range_given range-level (λ parts h. range-stray (plain_words parts) (worker_values parts) (save_count parts) (sorted parts h)) range_takes words dashes

@@ -34,7 +34,7 @@ unfolding walk_fault
 turn-fails s w word words fails = fails-first _ _ (fails-first _ _ fails)
 
 -- a word behind which the walk goes on
-turn-passes : (s : Shape) (w after : Walk) (word : Text) (words : List Text) (rows : Option (List Row)) → turn_fault s [] w word ≡ [] → walked s.rules [] w word ≡ after → Ends s after words rows → Ends s w (word ∷ words) rows
+pub turn-passes : (s : Shape) (w after : Walk) (word : Text) (words : List Text) (rows : Option (List Row)) → turn_fault s [] w word ≡ [] → walked s.rules [] w word ≡ after → Ends s after words rows → Ends s w (word ∷ words) rows
 unfolding walk_fault
 turn-passes s w after word words rows passes goes ends = go rows ends
   where
@@ -81,7 +81,7 @@ pub record Follows (name : Text) (rules : List Rule) (words : List Text) : Type 
 
 -- ---- the turn of a word
 
-module _ (name : Text) (rules : List Rule) (takes : TakesOptions rules) where
+module _ (name : Text) (rules : List Rule) where
   turn-of : (waiting : Waiting) (rows : List Row) (pending : Option (Text × List Text)) (position : ℕ) (word : Text) → subcommand_met [] waiting word ≡ None → bytes_eq word (45 ∷ 45 ∷ []) ≡ false →
       (m : Held × Step) → long_or_other rules waiting word (long_of word) (held rows pending) ≡ m →
       (turn_fault (leaf name rules) [] (stand waiting rows pending position) word ≡ or_else (flag_word_fault rules false (long_of word) word (held rows pending)) (step_fault (leaf name rules) position m.0 m.1))
@@ -95,11 +95,43 @@ module _ (name : Text) (rules : List Rule) (takes : TakesOptions rules) where
         ap (λ (n : Held × Step). after_step rules word (stand waiting rows pending position) n.0 n.1) met,
       )
 
-  flag-fails : (waiting : Waiting) (rows : List Row) (pending : Option (Text × List Text)) (position : ℕ) (word : Text) (words : List Text) → subcommand_met [] waiting word ≡ None → bytes_eq word (45 ∷ 45 ∷ []) ≡ false →
+  pub flag-fails : (waiting : Waiting) (rows : List Row) (pending : Option (Text × List Text)) (position : ℕ) (word : Text) (words : List Text) → subcommand_met [] waiting word ≡ None → bytes_eq word (45 ∷ 45 ∷ []) ≡ false →
       Fails (flag_word_fault rules false (long_of word) word (held rows pending)) → Fails (rest_fault (leaf name rules) (stand waiting rows pending position) (word ∷ words))
   flag-fails waiting rows pending position word words unnamed no_dashes fails =
       turn-fails (leaf name rules) _ word words (fails-as _ _ (turn-of waiting rows pending position word unnamed no_dashes _ refl).0 (fails-first _ _ fails))
 
+  -- a word that is no flag
+  plain-turn : (rows : List Row) (pending : Option (Text × List Text)) (position : ℕ) (word : Text) → bytes_eq word (45 ∷ 45 ∷ []) ≡ false → Passes rules word →
+      (turn_fault (leaf name rules) [] (at rows pending position) word ≡ step_fault (leaf name rules) position (held rows pending) value)
+      × (walked rules [] (at rows pending position) word ≡ to_positional rules (arg_by_index rules position) word (at rows pending position) (held rows pending))
+  plain-turn rows pending position word no_dashes passes =
+      let turn = turn-of idle rows pending position word refl no_dashes (held rows pending, value) (passes.met idle rows pending) in
+      (turn.0 ∙ ap (λ (k : Kinds). or_else k (step_fault (leaf name rules) position (held rows pending) value)) (passes.fault rows pending), turn.1)
+
+  -- where no word stands at this position
+  pub stray-fails : (rows : List Row) (pending : Option (Text × List Text)) (position : ℕ) (word : Text) (words : List Text) → bytes_eq word (45 ∷ 45 ∷ []) ≡ false → Passes rules word → arg_by_index rules position ≡ None →
+      Fails (rest_fault (leaf name rules) (at rows pending position) (word ∷ words))
+  stray-fails rows pending position word words no_dashes passes none =
+      let is = (plain-turn rows pending position word no_dashes passes).0
+      ∙ ap (λ (found : Option Rule). option_map_or (λ a. positional_fault rules false a (held rows pending)) found (UnknownArgument ∷ [])) none in
+      turn-fails (leaf name rules) _ word words (record { first = UnknownArgument; others = []; is = is })
+
+  pub word-turn : (rows : List Row) (pending : Option (Text × List Text)) (position : ℕ) (word : Text) → bytes_eq word (45 ∷ 45 ∷ []) ≡ false → Passes rules word → (a : Rule) → IsWordOf rules a → arg_by_index rules position ≡ Some a →
+      (turn_fault (leaf name rules) [] (at rows pending position) word ≡ settle_fault rules false (held rows pending))
+      × (walked rules [] (at rows pending position) word ≡ at (settled_rows rules pending rows) (Some (a.id, word ∷ [])) (next_position a position))
+  word-turn rows pending position word no_dashes passes a word_of found =
+      let turn = plain-turn rows pending position word no_dashes passes in
+      let here : arg_by_index rules position ≡ Some (word_rule word_of.position word_of.id) = found ∙ ap Some word_of.is in
+      let single : (is_pending (word_rule word_of.position word_of.id) pending && false) ≡ false = and_right _ false refl in (
+        turn.0 ∙ (ap (λ (o : Option Rule). option_map_or (λ b. positional_fault rules false b (held rows pending)) o (UnknownArgument ∷ [])) here
+            ∙ ap (λ (b : Bool). if b then [] else settle_fault rules false (held rows pending)) single),
+        turn.1 ∙ (ap (λ (o : Option Rule). to_positional rules o word (at rows pending position) (held rows pending)) here
+            ∙ (rw single refl ∙ ap (λ (b : Rule). at (settled_rows rules pending rows) (Some (b.id, word ∷ [])) (next_position b position)) (sym word_of.is))),
+      )
+
+-- ---- a command with the options `--workers` and `--save`
+
+module _ (name : Text) (rules : List Rule) (takes : TakesOptions rules) where
   -- `--workers`
   alone-fault : (word : Text) (rows : List Row) (pending : Option (Text × List Text)) → word ≡ codes "--workers" → flag_word_fault rules false (long_of word) word (held rows pending) ≡ settle_fault rules false (held rows pending)
   alone-fault word rows pending is =
@@ -133,42 +165,13 @@ module _ (name : Text) (rules : List Rule) (takes : TakesOptions rules) where
       ap (λ (t : Text). long_or_other rules idle t (long_of t) (held rows pending)) is
       ∙ ap (λ (found : Option Rule). after_flag rules idle (codes "--save") (long_met rules found None (held rows pending)).0 (long_met rules found None (held rows pending)).1) takes.long_save
 
-  -- a word that is no flag
-  plain-turn : (rows : List Row) (pending : Option (Text × List Text)) (position : ℕ) (word : Text) → bytes_eq word (45 ∷ 45 ∷ []) ≡ false → Passes rules word →
-      (turn_fault (leaf name rules) [] (at rows pending position) word ≡ step_fault (leaf name rules) position (held rows pending) value)
-      × (walked rules [] (at rows pending position) word ≡ to_positional rules (arg_by_index rules position) word (at rows pending position) (held rows pending))
-  plain-turn rows pending position word no_dashes passes =
-      let turn = turn-of idle rows pending position word refl no_dashes (held rows pending, value) (passes.met idle rows pending) in
-      (turn.0 ∙ ap (λ (k : Kinds). or_else k (step_fault (leaf name rules) position (held rows pending) value)) (passes.fault rows pending), turn.1)
-
-  -- where no word stands at this position
-  stray-fails : (rows : List Row) (pending : Option (Text × List Text)) (position : ℕ) (word : Text) (words : List Text) → bytes_eq word (45 ∷ 45 ∷ []) ≡ false → Passes rules word → arg_by_index rules position ≡ None →
-      Fails (rest_fault (leaf name rules) (at rows pending position) (word ∷ words))
-  stray-fails rows pending position word words no_dashes passes none =
-      let is = (plain-turn rows pending position word no_dashes passes).0
-      ∙ ap (λ (found : Option Rule). option_map_or (λ a. positional_fault rules false a (held rows pending)) found (UnknownArgument ∷ [])) none in
-      turn-fails (leaf name rules) _ word words (record { first = UnknownArgument; others = []; is = is })
-
-  word-turn : (rows : List Row) (pending : Option (Text × List Text)) (position : ℕ) (word : Text) → bytes_eq word (45 ∷ 45 ∷ []) ≡ false → Passes rules word → (a : Rule) → IsWordOf rules a → arg_by_index rules position ≡ Some a →
-      (turn_fault (leaf name rules) [] (at rows pending position) word ≡ settle_fault rules false (held rows pending))
-      × (walked rules [] (at rows pending position) word ≡ at (settled_rows rules pending rows) (Some (a.id, word ∷ [])) (next_position a position))
-  word-turn rows pending position word no_dashes passes a word_of found =
-      let turn = plain-turn rows pending position word no_dashes passes in
-      let here : arg_by_index rules position ≡ Some (word_rule word_of.position word_of.id) = found ∙ ap Some word_of.is in
-      let single : (is_pending (word_rule word_of.position word_of.id) pending && false) ≡ false = and_right _ false refl in (
-        turn.0 ∙ (ap (λ (o : Option Rule). option_map_or (λ b. positional_fault rules false b (held rows pending)) o (UnknownArgument ∷ [])) here
-            ∙ ap (λ (b : Bool). if b then [] else settle_fault rules false (held rows pending)) single),
-        turn.1 ∙ (ap (λ (o : Option Rule). to_positional rules o word (at rows pending position) (held rows pending)) here
-            ∙ (rw single refl ∙ ap (λ (b : Rule). at (settled_rows rules pending rows) (Some (b.id, word ∷ [])) (next_position b position)) (sym word_of.is))),
-      )
-
   -- ---- a use that waits, and fails, fails with the next word
 
   doomed-plain : (rows : List Row) (pending : Option (Text × List Text)) (position : ℕ) (word : Text) (words : List Text) → bytes_eq word (45 ∷ 45 ∷ []) ≡ false → Passes rules word → Fails (settle_fault rules false (held rows pending)) →
       (found : Option Rule) → arg_by_index rules position ≡ found → IfSome found (IsWordOf rules) → Fails (rest_fault (leaf name rules) (at rows pending position) (word ∷ words))
-  doomed-plain rows pending position word words no_dashes passes fails None none h = stray-fails rows pending position word words no_dashes passes none
+  doomed-plain rows pending position word words no_dashes passes fails None none h = stray-fails name rules rows pending position word words no_dashes passes none
   doomed-plain rows pending position word words no_dashes passes fails (Some a) found word_of =
-      turn-fails (leaf name rules) _ word words (fails-as _ _ (word-turn rows pending position word no_dashes passes a word_of found).0 fails)
+      turn-fails (leaf name rules) _ word words (fails-as _ _ (word-turn name rules rows pending position word no_dashes passes a word_of found).0 fails)
 
   doomed : (rows : List Row) (pending : Option (Text × List Text)) (position : ℕ) (words : List Text) → has_dashes words ≡ false → Fails (settle_fault rules false (held rows pending)) → Fails (rest_fault (leaf name rules) (at rows pending position) words)
   unfolding walk_fault
@@ -178,10 +181,10 @@ module _ (name : Text) (rules : List Rule) (takes : TakesOptions rules) where
       elim (meets rules takes.others word no_dashes) [
         | is_plain passes given ↦ doomed-plain rows pending position word words no_dashes passes fails (arg_by_index rules position) refl (takes.words position)
         | is_stray passes given none ↦ doomed-plain rows pending position word words no_dashes passes fails (arg_by_index rules position) refl (takes.words position)
-        | is_refused refuses given ↦ flag-fails idle rows pending position word words refl no_dashes (refuses rows pending)
-        | is_alone is ↦ flag-fails idle rows pending position word words refl no_dashes (fails-as _ _ (alone-fault word rows pending is) fails)
-        | is_joined text is ↦ flag-fails idle rows pending position word words refl no_dashes (fails-as _ _ (joined-fault word text rows pending is) (fails-first _ _ fails))
-        | is_flag is ↦ flag-fails idle rows pending position word words refl no_dashes (fails-as _ _ (flag-fault word rows pending is) (fails-first _ _ fails))
+        | is_refused refuses given ↦ flag-fails name rules idle rows pending position word words refl no_dashes (refuses rows pending)
+        | is_alone is ↦ flag-fails name rules idle rows pending position word words refl no_dashes (fails-as _ _ (alone-fault word rows pending is) fails)
+        | is_joined text is ↦ flag-fails name rules idle rows pending position word words refl no_dashes (fails-as _ _ (joined-fault word text rows pending is) (fails-first _ _ fails))
+        | is_flag is ↦ flag-fails name rules idle rows pending position word words refl no_dashes (fails-as _ _ (flag-fault word rows pending is) (fails-first _ _ fails))
       ]
 
   -- ---- the walk, in front of one more word
@@ -202,10 +205,10 @@ module _ (name : Text) (rules : List Rule) (takes : TakesOptions rules) where
       (rows : List Row) (pending : Option (Text × List Text)) (position : ℕ) → settle_fault rules false (held rows pending) ≡ [] → (found : Option Rule) → arg_by_index rules position ≡ found → IfSome found (IsWordOf rules) →
       Ends (leaf name rules) (at rows pending position) (word ∷ words) (option_and_then (after_parts rules (settled_rows rules pending rows) position) (option_and_then (λ parts. Some (plain word ∷ parts)) rest.taken))
   go-plain word words no_dashes dashes passes rest rows pending position settles None none h =
-      subst (λ (o : Option (List Row)). Ends (leaf name rules) (at rows pending position) (word ∷ words) o) (swap-stray rules (settled_rows rules pending rows) position word none rest.taken) (stray-fails rows pending position word words no_dashes passes none)
+      subst (λ (o : Option (List Row)). Ends (leaf name rules) (at rows pending position) (word ∷ words) o) (swap-stray rules (settled_rows rules pending rows) position word none rest.taken) (stray-fails name rules rows pending position word words no_dashes passes none)
   go-plain word words no_dashes dashes passes rest rows pending position settles (Some a) found word_of =
       let r = settled_rows rules pending rows in
-      let turn = word-turn rows pending position word no_dashes passes a word_of found in
+      let turn = word-turn name rules rows pending position word no_dashes passes a word_of found in
       let own : arg_by_id rules a.id ≡ Some a = ap (λ (b : Rule). arg_by_id rules b.id) word_of.is ∙ word_of.own in
       let free = subst (λ (b : Rule). has_row b.id r ≡ false → use_fault false b (word ∷ []) r ≡ []) (sym word_of.is) (word-free word_of.position word_of.id word r) in
       let again = subst (λ (b : Rule). has_row b.id r ≡ true → Fails (use_fault false b (word ∷ []) r)) (sym word_of.is) (word-taken word_of.position word_of.id word r) in
@@ -218,7 +221,7 @@ module _ (name : Text) (rules : List Rule) (takes : TakesOptions rules) where
       Ends (leaf name rules) (at rows pending position) (word ∷ words) (option_and_then (after_parts rules (settled_rows rules pending rows) position) (option_and_then (with_next workers) rest.taken))
   go-alone word words no_dashes is rest rows pending position settles =
       let r = settled_rows rules pending rows in
-      let turn = turn-of idle rows pending position word refl no_dashes (held r (Some (codes "workers", [])), next (waits_for (codes "workers"))) (alone-met word rows pending is) in
+      let turn = turn-of name rules idle rows pending position word refl no_dashes (held r (Some (codes "workers", [])), next (waits_for (codes "workers"))) (alone-met word rows pending is) in
       turn-passes (leaf name rules) (at rows pending position) (waits r position) word words _ (turn.0 ∙ ap (λ (k : Kinds). or_else k []) (alone-fault word rows pending is ∙ settles)) turn.1 (rest.waits_on r position)
 
   -- a word that is an option with all its values
@@ -233,12 +236,12 @@ module _ (name : Text) (rules : List Rule) (takes : TakesOptions rules) where
   go-used a given word words no_dashes rest rows pending position settles reacts met free taken true has =
       let r = settled_rows rules pending rows in
       let fault = reacts ∙ ap (λ (k : Kinds). or_else k (use_fault false a given r)) settles in
-      flag-fails idle rows pending position word words refl no_dashes (fails-as _ _ fault (taken has))
+      flag-fails name rules idle rows pending position word words refl no_dashes (fails-as _ _ fault (taken has))
   go-used a given word words no_dashes rest rows pending position settles reacts met free taken false has =
       let r = settled_rows rules pending rows in
       let fault = reacts ∙ (ap (λ (k : Kinds). or_else k (use_fault false a given r)) settles ∙ free has) in
       let after = used a given r in
-      let turn = turn-of idle rows pending position word refl no_dashes (held after None, next idle) met in
+      let turn = turn-of name rules idle rows pending position word refl no_dashes (held after None, next idle) met in
       turn-passes (leaf name rules) (at rows pending position) (at after None position) word words _ (turn.0 ∙ ap (λ (k : Kinds). or_else k []) fault) turn.1 (rest.goes after None position refl)
 
   -- ---- the walk that waits for a value
@@ -254,7 +257,7 @@ module _ (name : Text) (rules : List Rule) (takes : TakesOptions rules) where
       let after = at rows (Some (codes "workers", word ∷ [])) position in
       let is : long_or_other rules waiting word (long_of word) before ≡ (held rows (Some (codes "workers", word ∷ [])), next idle) =
       passes.met waiting rows (Some (codes "workers", [])) ∙ ap (λ (found : Option Rule). ((option_word found (codes "workers") word before).0, next (option_word found (codes "workers") word before).1)) takes.own in
-      let turn = turn-of waiting rows (Some (codes "workers", [])) position word refl no_dashes (held rows (Some (codes "workers", word ∷ [])), next idle) is in
+      let turn = turn-of name rules waiting rows (Some (codes "workers", [])) position word refl no_dashes (held rows (Some (codes "workers", word ∷ [])), next idle) is in
       turn-passes (leaf name rules) (waits rows position) after word words _ (turn.0 ∙ ap (λ (k : Kinds). or_else k []) (passes.fault rows (Some (codes "workers", [])))) turn.1
       (subst (λ (o : Option (List Row)). Ends (leaf name rules) after words o) (swap-next rules rows position word rest.taken)
       (after-use workers_rule rows word position words rest.taken dashes takes.own (workers-free word rows) (workers-taken word rows) (λ more p h. rest.goes more p position h) (has_row (codes "workers") rows) refl))
@@ -263,19 +266,19 @@ module _ (name : Text) (rules : List Rule) (takes : TakesOptions rules) where
       Ends (leaf name rules) (waits rows position) (word ∷ words) (option_and_then (after_parts rules rows position) (option_and_then (with_next workers) (option_and_then (with_next workers) rest.taken)))
   wait-alone word words no_dashes is rest rows position =
       subst (λ (o : Option (List Part)). Ends (leaf name rules) (waits rows position) (word ∷ words) (option_and_then (after_parts rules rows position) o)) (sym (next-of-next rest.taken))
-      (flag-fails (waits_for (codes "workers")) rows (Some (codes "workers", [])) position word words refl no_dashes (fails-as _ _ (alone-fault word rows (Some (codes "workers", [])) is) (unsettled rows)))
+      (flag-fails name rules (waits_for (codes "workers")) rows (Some (codes "workers", [])) position word words refl no_dashes (fails-as _ _ (alone-fault word rows (Some (codes "workers", [])) is) (unsettled rows)))
 
   wait-joined : (word text : Text) (words : List Text) → bytes_eq word (45 ∷ 45 ∷ []) ≡ false → word ≡ codes "--workers=" ++ text → (rest : Follows name rules words) → (rows : List Row) (position : ℕ) →
       Ends (leaf name rules) (waits rows position) (word ∷ words) (option_and_then (after_parts rules rows position) (option_and_then (with_next workers) (option_and_then (λ parts. Some (workers text ∷ parts)) rest.taken)))
   wait-joined word text words no_dashes is rest rows position =
       subst (λ (o : Option (List Part)). Ends (leaf name rules) (waits rows position) (word ∷ words) (option_and_then (after_parts rules rows position) o)) (sym (next-of-workers text rest.taken))
-      (flag-fails (waits_for (codes "workers")) rows (Some (codes "workers", [])) position word words refl no_dashes (fails-as _ _ (joined-fault word text rows (Some (codes "workers", [])) is) (fails-first _ _ (unsettled rows))))
+      (flag-fails name rules (waits_for (codes "workers")) rows (Some (codes "workers", [])) position word words refl no_dashes (fails-as _ _ (joined-fault word text rows (Some (codes "workers", [])) is) (fails-first _ _ (unsettled rows))))
 
   wait-flag : (word : Text) (words : List Text) → bytes_eq word (45 ∷ 45 ∷ []) ≡ false → word ≡ codes "--save" → (rest : Follows name rules words) → (rows : List Row) (position : ℕ) →
       Ends (leaf name rules) (waits rows position) (word ∷ words) (option_and_then (after_parts rules rows position) (option_and_then (with_next workers) (option_and_then (λ parts. Some (save ∷ parts)) rest.taken)))
   wait-flag word words no_dashes is rest rows position =
       subst (λ (o : Option (List Part)). Ends (leaf name rules) (waits rows position) (word ∷ words) (option_and_then (after_parts rules rows position) o)) (sym (next-of-save rest.taken))
-      (flag-fails (waits_for (codes "workers")) rows (Some (codes "workers", [])) position word words refl no_dashes (fails-as _ _ (flag-fault word rows (Some (codes "workers", [])) is) (fails-first _ _ (unsettled rows))))
+      (flag-fails name rules (waits_for (codes "workers")) rows (Some (codes "workers", [])) position word words refl no_dashes (fails-as _ _ (flag-fault word rows (Some (codes "workers", [])) is) (fails-first _ _ (unsettled rows))))
 
   -- ---- the words, one after another
 
@@ -316,8 +319,8 @@ module _ (name : Text) (rules : List Rule) (takes : TakesOptions rules) where
   one-more word words no_dashes dashes (is_refused refuses none) rest = record {
     taken = None;
     agrees = inl (sym (nothing (parts_of words)) ∙ same-steps word (λ parts. None) (λ parts. sym (none parts)) (parts_of words));
-    goes = λ rows pending position settles. flag-fails idle rows pending position word words refl no_dashes (refuses rows pending);
-    waits_on = λ rows position. flag-fails (waits_for (codes "workers")) rows (Some (codes "workers", [])) position word words refl no_dashes (refuses rows (Some (codes "workers", [])));
+    goes = λ rows pending position settles. flag-fails name rules idle rows pending position word words refl no_dashes (refuses rows pending);
+    waits_on = λ rows position. flag-fails name rules (waits_for (codes "workers")) rows (Some (codes "workers", [])) position word words refl no_dashes (refuses rows (Some (codes "workers", [])));
   }
   one-more word words no_dashes dashes (is_alone is) rest = record {
     taken = option_and_then (with_next workers) rest.taken;

@@ -21,6 +21,7 @@ use Rattle.ext_words.proofs.ClapWords.{Fails, fails-first, fails-as, held, Passe
 use Rattle.ext_words.proofs.ClapParts.{settings, leaf}
 use Rattle.ext_words.proofs.ClapLevels.{start, rest_fault, has_dashes, first-plain}
 use Rattle.ext_words.proofs.ClapCommands.{range_rules, range_given, sample_rules, sample_read, matches_after, refuses, reads, reads-range, reads-sample}
+use Rattle.ext_words.proofs.ClapProduct.{sq_rules, sq_read, reads-product}
 
 -- ---- the command line as it is built
 
@@ -32,7 +33,7 @@ abbrev top : Shape
 top = bare (codes "ext") false true
 
 abbrev ready : App
-ready = record { top = top; subs = leaf (codes "sphere") range_rules ∷ leaf (codes "resolve") range_rules ∷ leaf (codes "dump") range_rules ∷ leaf (codes "check") [] ∷ leaf (codes "sample") sample_rules ∷ [] }
+ready = record { top = top; subs = leaf (codes "sphere") range_rules ∷ leaf (codes "resolve") range_rules ∷ leaf (codes "dump") range_rules ∷ leaf (codes "check") [] ∷ leaf (codes "sample") sample_rules ∷ leaf (codes "sq") sq_rules ∷ [] }
 
 -- `clap` refuses the words, which give no command, or its matches give the command
 pub data Reads (words : List Text) : Type 0 where
@@ -172,6 +173,16 @@ sample-matches : (words : List Text) → command_in (subcommand_of command_line 
 unfolding walked
 sample-matches words = ap (λ (w : Walk). command_in (entered ready w.stopped)) (after-name (codes "sample") words)
 
+-- ---- the command with the word W
+
+sq-fault : (words : List Text) → fault_of command_line (codes "sq" ∷ words) ≡ rest_fault (leaf (codes "sq") sq_rules) start words
+unfolding walk_fault walked defaults_fault
+sq-fault words = named-fault (codes "sq") words ∙ or_else-nil (rest_fault (leaf (codes "sq") sq_rules) start words)
+
+sq-matches : (words : List Text) → command_in (subcommand_of command_line (codes "sq" ∷ words)) ≡ sq_read (matches_after sq_rules words)
+unfolding walked
+sq-matches words = ap (λ (w : Walk). command_in (entered ready w.stopped)) (after-name (codes "sq") words)
+
 -- ---- the words, by the first of them
 
 reads-nothing : Reads []
@@ -194,35 +205,42 @@ reads-drawn words dashes = elim (reads-sample words dashes) [
   | reads passes is ↦ read_words (sample-fault words ∙ passes) (sample-matches words ∙ is)
 ]
 
--- a first word that is no command
-other-command : (word : Text) → bytes_eq (codes "sphere") word ≡ false → bytes_eq (codes "resolve") word ≡ false → bytes_eq (codes "dump") word ≡ false → bytes_eq (codes "check") word ≡ false → bytes_eq (codes "sample") word ≡ false →
-    (parts : Option (List Part)) → option_and_then (command_from word) parts ≡ None
-other-command word sphere resolve dump check sample None = refl
-other-command word sphere resolve dump check sample (Some parts) = rw (sphere, resolve, dump, check, sample) refl
+reads-squares : (words : List Text) → has_dashes words ≡ false → Reads (codes "sq" ∷ words)
+reads-squares words dashes = elim (reads-product words dashes) [
+  | refuses fails none ↦ refused_words (fails-as _ _ (sq-fault words) fails) none
+  | reads passes is ↦ read_words (sq-fault words ∙ passes) (sq-matches words ∙ is)
+]
 
-reads-other : (word : Text) (words : List Text) → bytes_eq word (45 ∷ 45 ∷ []) ≡ false → bytes_eq (codes "sphere") word ≡ false → bytes_eq (codes "resolve") word ≡ false → bytes_eq (codes "dump") word ≡ false → bytes_eq (codes "check") word ≡ false → bytes_eq (codes "sample") word ≡ false → Reads (word ∷ words)
+-- a first word that is no command
+other-command : (word : Text) → bytes_eq (codes "sphere") word ≡ false → bytes_eq (codes "resolve") word ≡ false → bytes_eq (codes "dump") word ≡ false → bytes_eq (codes "check") word ≡ false → bytes_eq (codes "sample") word ≡ false → bytes_eq (codes "sq") word ≡ false →
+    (parts : Option (List Part)) → option_and_then (command_from word) parts ≡ None
+other-command word sphere resolve dump check sample sq None = refl
+other-command word sphere resolve dump check sample sq (Some parts) = rw (sphere, resolve, dump, check, sample, sq) refl
+
+reads-other : (word : Text) (words : List Text) → bytes_eq word (45 ∷ 45 ∷ []) ≡ false → bytes_eq (codes "sphere") word ≡ false → bytes_eq (codes "resolve") word ≡ false → bytes_eq (codes "dump") word ≡ false → bytes_eq (codes "check") word ≡ false → bytes_eq (codes "sample") word ≡ false → bytes_eq (codes "sq") word ≡ false → Reads (word ∷ words)
 unfolding walk_fault
-reads-other word words no_dashes sphere resolve dump check sample =
-    let unnamed : subcommand_met (names_of ready) idle word ≡ None = rw (sphere, resolve, dump, check, sample) refl in
-    refused_words (fails-first _ _ (fails-first _ _ (bare-fails (codes "ext") false true (names_of ready) word unnamed no_dashes))) (other-command word sphere resolve dump check sample (parts_of words))
+reads-other word words no_dashes sphere resolve dump check sample sq =
+    let unnamed : subcommand_met (names_of ready) idle word ≡ None = rw (sphere, resolve, dump, check, sample, sq) refl in
+    refused_words (fails-first _ _ (fails-first _ _ (bare-fails (codes "ext") false true (names_of ready) word unnamed no_dashes))) (other-command word sphere resolve dump check sample sq (parts_of words))
 
 -- a first word that is a command's name
 same-name : (name word : Text) (words : List Text) → bytes_eq name word ≡ true → Reads (name ∷ words) → Reads (word ∷ words)
 same-name name word words same = subst (λ (w : Text). Reads (w ∷ words)) ((bytes_eq-Decides name word).0 same)
 
-by-name : (word : Text) (words : List Text) (sphere resolve dump check sample : Bool) → bytes_eq (codes "sphere") word ≡ sphere → bytes_eq (codes "resolve") word ≡ resolve → bytes_eq (codes "dump") word ≡ dump → bytes_eq (codes "check") word ≡ check → bytes_eq (codes "sample") word ≡ sample → bytes_eq word (45 ∷ 45 ∷ []) ≡ false → has_dashes words ≡ false → Reads (word ∷ words)
-by-name word words true resolve dump check sample s r d c x no_dashes more = same-name (codes "sphere") word words s (reads-numbers (codes "sphere") Sphere is_sphere words more)
-by-name word words false true dump check sample s r d c x no_dashes more = same-name (codes "resolve") word words r (reads-numbers (codes "resolve") Resolve is_resolve words more)
-by-name word words false false true check sample s r d c x no_dashes more = same-name (codes "dump") word words d (reads-numbers (codes "dump") Dump is_dump words more)
-by-name word words false false false true sample s r d c x no_dashes more = same-name (codes "check") word words c (reads-check words more)
-by-name word words false false false false true s r d c x no_dashes more = same-name (codes "sample") word words x (reads-drawn words more)
-by-name word words false false false false false s r d c x no_dashes more = reads-other word words no_dashes s r d c x
+by-name : (word : Text) (words : List Text) (sphere resolve dump check sample sq : Bool) → bytes_eq (codes "sphere") word ≡ sphere → bytes_eq (codes "resolve") word ≡ resolve → bytes_eq (codes "dump") word ≡ dump → bytes_eq (codes "check") word ≡ check → bytes_eq (codes "sample") word ≡ sample → bytes_eq (codes "sq") word ≡ sq → bytes_eq word (45 ∷ 45 ∷ []) ≡ false → has_dashes words ≡ false → Reads (word ∷ words)
+by-name word words true resolve dump check sample sq s r d c x q no_dashes more = same-name (codes "sphere") word words s (reads-numbers (codes "sphere") Sphere is_sphere words more)
+by-name word words false true dump check sample sq s r d c x q no_dashes more = same-name (codes "resolve") word words r (reads-numbers (codes "resolve") Resolve is_resolve words more)
+by-name word words false false true check sample sq s r d c x q no_dashes more = same-name (codes "dump") word words d (reads-numbers (codes "dump") Dump is_dump words more)
+by-name word words false false false true sample sq s r d c x q no_dashes more = same-name (codes "check") word words c (reads-check words more)
+by-name word words false false false false true sq s r d c x q no_dashes more = same-name (codes "sample") word words x (reads-drawn words more)
+by-name word words false false false false false true s r d c x q no_dashes more = same-name (codes "sq") word words q (reads-squares words more)
+by-name word words false false false false false false s r d c x q no_dashes more = reads-other word words no_dashes s r d c x q
 
 pub clap-reads : (words : List Text) → has_dashes words ≡ false → Reads words
 clap-reads [] dashes = reads-nothing
 clap-reads (word ∷ words) dashes =
     let parts = first-plain word words dashes in
-    by-name word words (bytes_eq (codes "sphere") word) (bytes_eq (codes "resolve") word) (bytes_eq (codes "dump") word) (bytes_eq (codes "check") word) (bytes_eq (codes "sample") word) refl refl refl refl refl parts.0 parts.1
+    by-name word words (bytes_eq (codes "sphere") word) (bytes_eq (codes "resolve") word) (bytes_eq (codes "dump") word) (bytes_eq (codes "check") word) (bytes_eq (codes "sample") word) (bytes_eq (codes "sq") word) refl refl refl refl refl refl parts.0 parts.1
 
 -- the matches of words that are taken give their command
 pub taken-reads : (words : List Text) → has_dashes words ≡ false → fault_of command_line words ≡ [] → command_in (subcommand_of command_line words) ≡ command_of words

@@ -1,7 +1,7 @@
 -- What `clap` makes of one word, at a command that has no options but `--workers` and `--save`.
 use Rattle.std.proofs.Common.{◌≡◌, ℕ, ◌+◌, refl, List, [], ◌∷◌, ◌++◌, Bool, true, false, Option, Some, None, ap, ap₂, sym, subst, ◌∙◌, take, drop, take-append-drop, arith}
-use Rattle.std.specs.Prelude.{◌==◌, ◌&&◌, ◌||◌, nat_le, nat_lt, option_and_then, zero, suc, slice_get, length, encode_utf8, codes}
-use Rattle.std.specs.List.{before_first, after_first, position_or_len}
+use Rattle.std.specs.Prelude.{◌==◌, ◌&&◌, ◌||◌, nat_le, nat_lt, option_and_then, option_map, if◌then◌else◌, zero, suc, slice_get, length, encode_utf8, codes}
+use Rattle.std.specs.List.{before_first, after_first, position_or_len, onto_first, slice_split}
 use Rattle.std.specs.Str.{bytes_eq, chars}
 use Rattle.std.proofs.lemmas.Bool.{eqb-true, eqb-false, ne_eqb, or_parts, true≢false, false_from_ne_true}
 use Rattle.std.proofs.lemmas.Slice.Eq.{bytes_eq-Decides}
@@ -12,7 +12,8 @@ use Rattle.clap.specs.Faults.{flags_fault, bundle_step_fault, short_fault, long_
 use Rattle.std.specs.Option.{option_map_or}
 use Rattle.clap.specs.declared.error.kind.ErrorKind.{ErrorKind}
 use Rattle.clap.specs.declared.error.kind.ErrorKind.TheVariants.{UnknownArgument}
-use Rattle.ext_words.specs.Words.{Part, plain, with_word, number_up_to, decimal_value, seed_of}
+use Rattle.ext_words.specs.declared.command.TheConstants.{MAX_DEGREE}
+use Rattle.ext_words.specs.Words.{Part, plain, with_word, number_up_to, positive_numbers, within_degree, product_of, decimal_value, seed_of}
 
 -- there is an error
 pub record Fails (kinds : Kinds) : Type 0 where
@@ -26,18 +27,34 @@ fails-first a b fails = record { first = fails.first; others = fails.others; is 
 pub fails-as : (a b : Kinds) → a ≡ b → Fails b → Fails a
 fails-as a b e fails = record { first = fails.first; others = fails.others; is = e ∙ fails.is }
 
--- no number begins with a hyphen
+-- neither a number nor a product begins with a hyphen
 pub record IsNoNumber (word : Text) : Type 0 where
   pub none : (limit : ℕ) → number_up_to limit word ≡ None
   pub no_seed : seed_of word ≡ None
+  pub no_product : product_of word ≡ None
 
 never : (a b c : Bool) → ((a && (b && false)) && c) ≡ false
 never false b c = refl
 never true false c = refl
 never true true c = refl
 
+no-short-number : (xs : Text) (limit : ℕ) → number_up_to limit (45 ∷ xs) ≡ None
+no-short-number xs limit = rw (never (nat_lt 0 (length (45 ∷ xs))) (nat_le (length (45 ∷ xs)) 3) (nat_le (decimal_value (45 ∷ xs)) limit)) refl
+
+no-first-factor : (xs : Text) (words : List Text) → positive_numbers MAX_DEGREE ((45 ∷ xs) ∷ words) ≡ None
+no-first-factor xs words =
+    ap (λ (number : Option ℕ). option_and_then (λ n. option_map (λ ns. n ∷ ns) (positive_numbers MAX_DEGREE words)) (option_and_then (λ n. if n == 0 then None else Some n) number)) (no-short-number xs MAX_DEGREE)
+
+no-factors : (parts : List Text) → positive_numbers MAX_DEGREE (onto_first 45 parts) ≡ None
+no-factors [] = no-first-factor [] []
+no-factors (part ∷ parts) = no-first-factor part parts
+
 no-number : (xs : Text) → IsNoNumber (45 ∷ xs)
-no-number xs = record { none = λ limit. rw (never (nat_lt 0 (length (45 ∷ xs))) (nat_le (length (45 ∷ xs)) 3) (nat_le (decimal_value (45 ∷ xs)) limit)) refl; no_seed = rw (never (nat_lt 0 (length (45 ∷ xs))) (nat_le (length (45 ∷ xs)) 10) (nat_le (decimal_value (45 ∷ xs)) 4294967295)) refl }
+no-number xs = record {
+  none = no-short-number xs;
+  no_seed = rw (never (nat_lt 0 (length (45 ∷ xs))) (nat_le (length (45 ∷ xs)) 10) (nat_le (decimal_value (45 ∷ xs)) 4294967295)) refl;
+  no_product = ap (λ (numbers : Option (List ℕ)). option_and_then within_degree numbers) (no-factors (slice_split (λ c. c == 44) xs));
+}
 
 -- what is held between two words
 abbrev pub held : List Row → Option (Text × List Text) → Held

@@ -1,10 +1,12 @@
 mod ClapCommands
 mod ClapLevels
 mod ClapParts
+mod ClapProduct
 mod ClapRange
 mod ClapReads
 mod ClapRows
 mod ClapWords
 mod CommandNames
 mod Dashes
+mod Factors
 mod WordLimits

@@ -1,17 +1,19 @@
 -- A command asks for no more than the grammar allows.
 use Rattle.std.proofs.Common.{◌≡◌, ℕ, ◌≤◌, refl, arith, List, [], ◌∷◌, Bool, true, false, Option, Some, None}
-use Rattle.std.specs.Prelude.{codes, option_map, option_and_then, ◌&&◌, ◌==◌, nat_le, if◌then◌else◌, IfSome, IfOk}
+use Rattle.std.specs.Prelude.{codes, option_map, option_and_then, ◌&&◌, ◌==◌, nat_le, length, if◌then◌else◌, IfSome, IfOk}
+use Rattle.std.specs.List.{All, slice_split, sum}
 use Rattle.std.specs.Option.{ok_or}
 use Rattle.std.specs.Str.{bytes_eq}
 use Rattle.std.proofs.lemmas.Bool.{leb-true, eqb-false}
+use Rattle.std.proofs.lemmas.List.Elements.{All-nil, All-cons}
 use Rattle.square.specs.declared.range.Range.{Range}
 use Rattle.square.specs.declared.range.TheConstants.{MAX_S, MAX_T}
 use Rattle.ext_words.specs.declared.command.WordsFault.{WordsFault}
 use Rattle.ext_words.specs.declared.command.Common.{Common}
 use Rattle.ext_words.specs.declared.command.Command.{Command}
-use Rattle.ext_words.specs.declared.command.Command.TheVariants.{Sphere, Resolve, Dump}
-use Rattle.ext_words.specs.Words.{Part, parts_of, plain_words, worker_values, save_count, number_up_to, decimal_value, is_short_number, range_from, range_of, workers_of, save_of, common_from, common_of, check_of, sample_from, sample_of, seed_of, command_from, command_of, IsWithin, IsWithinLimits}
-use Rattle.ext_words.specs.declared.command.TheConstants.{MAX_WORKERS}
+use Rattle.ext_words.specs.declared.command.Command.TheVariants.{Sphere, Resolve, Dump, Sq}
+use Rattle.ext_words.specs.Words.{Part, plain, workers, save, parts_of, plain_words, worker_values, save_count, number_up_to, decimal_value, is_short_number, range_from, range_of, workers_of, save_of, common_from, common_of, check_of, sample_from, sample_of, seed_of, positive_up_to, positive_numbers, within_degree, sq_of, command_from, command_of, IsWithin, IsWithinLimits}
+use Rattle.ext_words.specs.declared.command.TheConstants.{MAX_WORKERS, MAX_SQUARES, MAX_DEGREE}
 
 up-to : (short within : Bool) (value limit : ℕ) → nat_le value limit ≡ within → IfSome (if short && within then Some value else None) (λ n. n ≤ limit)
 up-to true true value limit e = leb-true value limit e
@@ -74,20 +76,46 @@ made-within : (make : Common → Command) (common : Option Common) → ((c : Com
 made-within make None within h = tt
 made-within make (Some common) within h = within common h
 
-named-within : (sphere resolve dump check sample : Bool) (common : Option Common) (bare drawn : Option Command) → IfSome common IsWithin → IfSome bare IsWithinLimits → IfSome drawn IsWithinLimits →
-    IfSome (if sphere then option_map Sphere common else if resolve then option_map Resolve common else if dump then option_map Dump common else if check then bare else if sample then drawn else None) IsWithinLimits
-named-within true resolve dump check sample common bare drawn h b d = made-within Sphere common (λ c within. within) h
-named-within false true dump check sample common bare drawn h b d = made-within Resolve common (λ c within. within) h
-named-within false false true check sample common bare drawn h b d = made-within Dump common (λ c within. within) h
-named-within false false false true sample common bare drawn h b d = b
-named-within false false false false true common bare drawn h b d = d
-named-within false false false false false common bare drawn h b d = tt
+named-within : (sphere resolve dump check sample sq : Bool) (common : Option Common) (bare drawn product : Option Command) → IfSome common IsWithin → IfSome bare IsWithinLimits → IfSome drawn IsWithinLimits → IfSome product IsWithinLimits →
+    IfSome (if sphere then option_map Sphere common else if resolve then option_map Resolve common else if dump then option_map Dump common else if check then bare else if sample then drawn else if sq then product else None) IsWithinLimits
+named-within true resolve dump check sample sq common bare drawn product h b d p = made-within Sphere common (λ c within. within) h
+named-within false true dump check sample sq common bare drawn product h b d p = made-within Resolve common (λ c within. within) h
+named-within false false true check sample sq common bare drawn product h b d p = made-within Dump common (λ c within. within) h
+named-within false false false true sample sq common bare drawn product h b d p = b
+named-within false false false false true sq common bare drawn product h b d p = d
+named-within false false false false false true common bare drawn product h b d p = p
+named-within false false false false false false common bare drawn product h b d p = tt
+
+every-positive : (limit : ℕ) (words : List (List ℕ)) → IfSome (positive_numbers limit words) (All (λ n. 1 ≤ n))
+every-positive limit [] = All-nil (λ n. 1 ≤ n)
+every-positive limit (word ∷ words) = one-more (positive_up_to limit word) (positive_numbers limit words) (positive-from limit (number_up_to limit word) (number-within limit word)) (every-positive limit words)
+  where
+    one-more : (n : Option ℕ) (ns : Option (List ℕ)) → IfSome n (λ m. (1 ≤ m) × (m ≤ limit)) → IfSome ns (All (λ m. 1 ≤ m)) → IfSome (option_and_then (λ m. option_map (λ ms. m ∷ ms) ns) n) (All (λ m. 1 ≤ m))
+    one-more None ns h hs = tt
+    one-more (Some n) None h hs = tt
+    one-more (Some n) (Some ns) h hs = All-cons (λ m. 1 ≤ m) n ns h.0 hs
+
+within-degree : (few small : Bool) (numbers : List ℕ) → nat_le (length numbers) MAX_SQUARES ≡ few → nat_le (sum numbers) MAX_DEGREE ≡ small → All (λ n. 1 ≤ n) numbers → IfSome (option_map Sq (if few && small then Some numbers else None)) IsWithinLimits
+within-degree true true numbers few small positive = (positive, leb-true _ _ few, leb-true _ _ small)
+within-degree true false numbers few small positive = tt
+within-degree false small numbers few is positive = tt
+
+factors-within : (numbers : Option (List ℕ)) → IfSome numbers (All (λ n. 1 ≤ n)) → IfSome (option_map Sq (option_and_then within_degree numbers)) IsWithinLimits
+factors-within None h = tt
+factors-within (Some numbers) h = within-degree (nat_le (length numbers) MAX_SQUARES) (nat_le (sum numbers) MAX_DEGREE) numbers refl refl h
+
+sq-within : (parts : List Part) → IfSome (sq_of parts) IsWithinLimits
+sq-within [] = tt
+sq-within (plain word ∷ []) = factors-within (positive_numbers MAX_DEGREE (slice_split (λ c. c == 44) word)) (every-positive MAX_DEGREE (slice_split (λ c. c == 44) word))
+sq-within (plain word ∷ part ∷ parts) = tt
+sq-within (workers value ∷ parts) = tt
+sq-within (save ∷ parts) = tt
 
 parts-within : (name : List ℕ) (parts : Option (List Part)) → IfSome (option_and_then (command_from name) parts) IsWithinLimits
 parts-within name None = tt
 parts-within name (Some parts) =
-    named-within (bytes_eq (codes "sphere") name) (bytes_eq (codes "resolve") name) (bytes_eq (codes "dump") name) (bytes_eq (codes "check") name) (bytes_eq (codes "sample") name) (common_of (plain_words parts) parts) (check_of parts) (sample_of (plain_words parts) parts)
-    (common-within (plain_words parts) parts) (check-within parts) (sample-within (plain_words parts) parts)
+    named-within (bytes_eq (codes "sphere") name) (bytes_eq (codes "resolve") name) (bytes_eq (codes "dump") name) (bytes_eq (codes "check") name) (bytes_eq (codes "sample") name) (bytes_eq (codes "sq") name) (common_of (plain_words parts) parts) (check_of parts) (sample_of (plain_words parts) parts) (sq_of parts)
+    (common-within (plain_words parts) parts) (check-within parts) (sample-within (plain_words parts) parts) (sq-within parts)
 
 pub command-within : (words : List (List ℕ)) → IfSome (command_of words) IsWithinLimits
 command-within [] = tt

@@ -1,14 +1,14 @@
 -- The command that the words of a command line give, none where they are outside the grammar.
 use Rattle.std.specs.Prelude.{ℕ, zero, suc, ◌≤◌, ◌+◌, ◌-◌, ◌*◌, ◌==◌, Bool, true, false, ◌&&◌, nat_lt, nat_le, if◌then◌else◌, List, [], ◌∷◌, length, take, drop, Option, Some, None, option_map, option_and_then, map, codes, ⊤}
 use Rattle.std.specs.Borrow.{Bor}
-use Rattle.std.specs.List.{fold, list_all}
+use Rattle.std.specs.List.{All, fold, list_all, slice_split, sum}
 use Rattle.std.specs.Str.{bytes_eq}
 use Rattle.std.specs.Char.{is_ascii_digit}
 use Rattle.square.specs.declared.range.Range.{Range}
 use Rattle.square.specs.declared.range.TheConstants.{MAX_S, MAX_T}
-use Rattle.ext_words.specs.declared.command.TheConstants.{MAX_WORKERS}
+use Rattle.ext_words.specs.declared.command.TheConstants.{MAX_WORKERS, MAX_SQUARES, MAX_DEGREE}
 use Rattle.ext_words.specs.declared.command.Command.{Command}
-use Rattle.ext_words.specs.declared.command.Command.TheVariants.{Sphere, Resolve, Dump, Check, Sample}
+use Rattle.ext_words.specs.declared.command.Command.TheVariants.{Sphere, Resolve, Dump, Check, Sample, Sq}
 use Rattle.ext_words.specs.declared.command.Common.{Common}
 
 -- the bytes of the words
@@ -91,6 +91,19 @@ is_long_number word = nat_lt 0 (length word) && (nat_le (length word) 10 && list
 abbrev pub seed_of : List ℕ → Option ℕ
 seed_of word = if is_long_number word && nat_le (decimal_value word) 4294967295 then Some (decimal_value word) else None
 
+-- the numbers of words, each from 1 to the limit
+abbrev pub positive_numbers : ℕ → List (List ℕ) → Option (List ℕ)
+positive_numbers limit [] = Some []
+positive_numbers limit (word ∷ words) = option_and_then (λ n. option_map (λ ns. n ∷ ns) (positive_numbers limit words)) (positive_up_to limit word)
+
+-- the numbers of a product of squares, where there are not too many, and their sum, which is its degree, is not too great
+abbrev pub within_degree : List ℕ → Option (List ℕ)
+within_degree numbers = if nat_le (length numbers) MAX_SQUARES && nat_le (sum numbers) MAX_DEGREE then Some numbers else None
+
+-- the numbers of a product of squares, which a word has between commas
+abbrev pub product_of : List ℕ → Option (List ℕ)
+product_of word = option_and_then within_degree (positive_numbers MAX_DEGREE (slice_split (λ c. c == 44) word))
+
 -- ---- commands
 
 abbrev pub range_from : Option ℕ → Option ℕ → Option Range
@@ -140,14 +153,20 @@ abbrev pub check_of : List Part → Option Command
 check_of [] = Some Check
 check_of _ = None
 
--- `sphere S T`, `resolve S T`, `dump S T`, `check` or `sample N S T`, by its name and the parts behind it
+-- the plain word W alone
+abbrev pub sq_of : List Part → Option Command
+sq_of (plain word ∷ []) = option_map Sq (product_of word)
+sq_of _ = None
+
+-- `sphere S T`, `resolve S T`, `dump S T`, `check`, `sample N S T` or `sq W`, by its name and the parts behind it
 abbrev pub command_from : List ℕ → List Part → Option Command
 command_from name parts =
     if bytes_eq (codes "sphere") name then option_map Sphere (common_of (plain_words parts) parts)
     else if bytes_eq (codes "resolve") name then option_map Resolve (common_of (plain_words parts) parts)
     else if bytes_eq (codes "dump") name then option_map Dump (common_of (plain_words parts) parts)
     else if bytes_eq (codes "check") name then check_of parts
-    else if bytes_eq (codes "sample") name then sample_of (plain_words parts) parts else None
+    else if bytes_eq (codes "sample") name then sample_of (plain_words parts) parts
+    else if bytes_eq (codes "sq") name then sq_of parts else None
 
 -- the command's name, and what is behind it
 abbrev pub command_of : List (List ℕ) → Option Command
@@ -166,3 +185,4 @@ IsWithinLimits (Resolve common) = IsWithin common
 IsWithinLimits (Dump common) = IsWithin common
 IsWithinLimits Check = ⊤
 IsWithinLimits (Sample n common) = IsWithin common
+IsWithinLimits (Sq numbers) = All (λ n. 1 ≤ n) numbers × (length numbers ≤ MAX_SQUARES) × (sum numbers ≤ MAX_DEGREE)

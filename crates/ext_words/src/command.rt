@@ -3,13 +3,20 @@ ghost use Rattle.std.specs.Prelude.{◌≡◌};
 ghost use Rattle.ext_words.specs.declared.command.WordsFault.TheVariants.{Memory as WantOfMemory};
 
 use memory::Memory;
+use sq_calc::Mono;
 use square::Range;
 use thiserror::Error;
 
 /// The greatest number of workers.
 pub const MAX_WORKERS: u16 = 64;
 
-/// What every command but `check` has.
+/// The greatest number of squares in a product.
+pub const MAX_SQUARES: usize = 16;
+
+/// The greatest degree of a product of squares, which is the sum of their numbers.
+pub const MAX_DEGREE: u16 = 127;
+
+/// What every command has that resolves a module.
 #[derive(Clone, Copy, Debug, PartialEq, Eq)]
 pub struct Common {
     pub range: Range,
@@ -20,7 +27,7 @@ pub struct Common {
 }
 
 /// What the words of a command line ask for.
-#[derive(Clone, Copy, Debug, PartialEq, Eq)]
+#[derive(Debug, PartialEq, Eq, Drop)]
 pub enum Command {
     /// `sphere S T`: the chart of the sphere.
     Sphere(Common),
@@ -32,6 +39,8 @@ pub enum Command {
     Check,
     /// `sample N S T`: the summary of the resolution of the module that N draws.
     Sample(u32, Common),
+    /// `sq W`: the product of these squares, in Milnor's basis and as a sum of admissible monomials.
+    Sq(Mono),
 }
 
 /// Why words gave no command.

@@ -5,5 +5,5 @@ mod command;
 mod numbers;
 mod words;
 
-pub use command::{Command, Common, MAX_WORKERS, WordsFault};
+pub use command::{Command, Common, MAX_DEGREE, MAX_SQUARES, MAX_WORKERS, WordsFault};
 pub use words::parse;

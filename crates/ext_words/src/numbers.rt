@@ -1,8 +1,13 @@
 //! The numbers that words say.
-ghost use Rattle.std.specs.Prelude.{◌≡◌, ◌+◌, ◌-◌, ◌*◌, ◌≤◌, min, length};
-ghost use Rattle.std.specs.List.{list_all};
+ghost use Rattle.std.specs.Prelude.{◌≡◌, ◌+◌, ◌-◌, ◌*◌, ◌≤◌, ◌==◌, min, map, length, option_map, IfOk};
+ghost use Rattle.std.specs.List.{list_all, slice_split};
 ghost use Rattle.std.specs.Char.{is_ascii_digit};
-ghost use Rattle.ext_words.specs.Words.{number_up_to, positive_up_to, is_short_number, is_long_number, seed_of, decimal_value};
+ghost use Rattle.ext_words.specs.Words.{number_up_to, positive_up_to, positive_numbers, product_of, is_short_number, is_long_number, seed_of, decimal_value, texts_of};
+
+use crate::command::{MAX_DEGREE, MAX_SQUARES};
+use memory::Memory;
+use sq_calc::Mono;
+use std::alloc::Global;
 
 fn are_digits(bytes: &[u8]) -> bool
     ensures { result ≡ list_all is_ascii_digit bytes.now }
@@ -41,15 +46,11 @@ pub fn number_up_to(limit: u16, word: &str) -> Option<u16>
 }
 
 /// The number of a word, from 1 to `limit`.
-pub fn positive_up_to(limit: u16, word: &str) -> Option<u32>
+pub fn positive_up_to(limit: u16, word: &str) -> Option<u16>
     ensures { result ≡ positive_up_to limit word.now }
 {
     let value = number_up_to(limit, word)?;
-    if value == 0 {
-        None
-    } else {
-        Some(u32::from(value))
-    }
+    if value == 0 { None } else { Some(value) }
 }
 
 fn is_long_number(word: &str) -> bool
@@ -94,5 +95,43 @@ pub fn seed_of(word: &str) -> Option<u32>
         Some(value as u32)
     } else {
         None
+    }
+}
+
+/// The texts between the commas of a word.
+fn texts_between_commas<'a>(alloc: Global, word: &'a str) -> Result<Vec<&'a str>, Memory>
+    ensures { IfOk result (λ texts. texts_of texts.items ≡ slice_split (λ c. c == 44) word.now) }
+{
+    Ok(word.split(',').collect(alloc)?)
+}
+
+/// The numbers of the texts, each from 1 to `limit`, none where a text is no such number.
+fn positive_numbers(alloc: Global, limit: u16, texts: &[&str]) -> Result<Option<Vec<u16>>, Memory>
+    ensures { IfOk result (λ numbers. option_map (λ v. v.items) numbers ≡ positive_numbers limit (texts_of texts.now)) }
+{
+    let mut numbers = Vec::new(alloc);
+    for text in texts {
+        let Some(number) = positive_up_to(limit, text) else {
+            return Ok(None);
+        };
+        numbers.push(number)?;
+    }
+    Ok(Some(numbers))
+}
+
+/// The product of squares that a word says: their numbers, joined by commas. None where there are too many, or the degree is too
+/// great, or one is no number above 0.
+pub fn product_of(alloc: Global, word: &str) -> Result<Option<Mono>, Memory>
+    ensures { IfOk result (λ product. product ≡ product_of word.now) }
+{
+    let texts = texts_between_commas(alloc, word)?;
+    let Some(numbers) = positive_numbers(alloc, MAX_DEGREE, texts.as_slice())? else {
+        return Ok(None);
+    };
+    let is_short = numbers.len() <= MAX_SQUARES;
+    let product = Mono::of(numbers);
+    match product.degree() {
+        Some(degree) if is_short && degree <= MAX_DEGREE => Ok(Some(product)),
+        _ => Ok(None),
     }
 }

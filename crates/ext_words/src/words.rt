@@ -2,19 +2,20 @@
 ghost use Rattle.std.specs.Prelude.{◌≡◌, ◌≢◌, ◌⊎◌, Some, None, [], Err, IfOk, IfSome, OnSome, IfNone, false};
 ghost use Rattle.clap.specs.Words.{app_of, fault_of, found_of, rows_of, subcommand_of, subcommand_rows_of};
 ghost use Rattle.clap.specs.declared.builder.command.Command.TheViews.{out-Command};
-ghost use Rattle.ext_words.specs.Inside.CommandLine.{with_options, range_command, command_line, number_in, workers_in, saves_in, common_in, seed_in, sample_command, command_in};
+ghost use Rattle.ext_words.specs.Inside.CommandLine.{with_options, range_command, command_line, number_in, workers_in, saves_in, common_in, seed_in, sample_command, product_in, sq_command, no_command, module_command, command_in};
 ghost use Rattle.ext_words.specs.declared.command.WordsFault as WordsFault;
 ghost use Rattle.ext_words.specs.Words.{texts_of, command_of, IsWithinLimits};
 
 use crate::command::{Command, Common, MAX_WORKERS, WordsFault};
-use crate::numbers::{number_up_to, positive_up_to, seed_of};
+use crate::numbers::{number_up_to, positive_up_to, product_of, seed_of};
 use clap::error::ErrorKind;
 use clap::{Arg, ArgAction, ArgMatches};
 use memory::Memory;
+use sq_calc::Mono;
 use square::{MAX_S, MAX_T, Range};
 use std::alloc::{AllocError, Global};
 
-/// The command with the options that all commands but `check` have.
+/// The command with the options that all commands have that resolve a module.
 fn with_options<'a>(
     alloc: Global,
     command: clap::Command<'a>,
@@ -54,20 +55,36 @@ fn sample_command<'a>(alloc: Global) -> Result<clap::Command<'a>, AllocError>
     with_options(alloc, command)
 }
 
-/// All commands, without `clap`'s help.
-fn command_line<'a>(alloc: Global) -> Result<clap::Command<'a>, AllocError>
-    ensures { IfOk result (λ command. app_of command ≡ command_line) }
+/// The command with the word W, and without options.
+fn sq_command<'a>(alloc: Global) -> Result<clap::Command<'a>, AllocError>
+    ensures app { IfOk result (λ command. app_of command ≡ sq_command) }
+    ensures local { IfOk result (λ command. (out-Command command).has_globals ≡ false) }
+{
+    clap::Command::new(alloc, "sq").arg(Arg::new(alloc, "W").required(true))
+}
+
+/// The command line without commands, and without `clap`'s help.
+fn no_command<'a>(alloc: Global) -> clap::Command<'a>
+    ensures { app_of result ≡ no_command }
 {
     clap::Command::new(alloc, "ext")
         .no_binary_name(true)
         .disable_help_flag(true)
         .disable_help_subcommand(true)
         .subcommand_required(true)
+}
+
+/// All commands.
+fn command_line<'a>(alloc: Global) -> Result<clap::Command<'a>, AllocError>
+    ensures { IfOk result (λ command. app_of command ≡ command_line) }
+{
+    no_command(alloc)
         .subcommand(range_command(alloc, "sphere")?)?
         .subcommand(range_command(alloc, "resolve")?)?
         .subcommand(range_command(alloc, "dump")?)?
         .subcommand(clap::Command::new(alloc, "check"))?
-        .subcommand(sample_command(alloc)?)
+        .subcommand(sample_command(alloc)?)?
+        .subcommand(sq_command(alloc)?)
 }
 
 /// The matches of the words, none where `clap` refuses them.
@@ -95,7 +112,7 @@ fn workers_in(matches: &ArgMatches) -> Option<u32>
     ensures { result ≡ workers_in (rows_of (found_of matches.now)) }
 {
     match matches.get_str("workers") {
-        Some(word) => positive_up_to(MAX_WORKERS, word),
+        Some(word) => Some(u32::from(positive_up_to(MAX_WORKERS, word)?)),
         None => Some(1),
     }
 }
@@ -128,19 +145,41 @@ fn seed_in(matches: &ArgMatches) -> Option<u32>
     seed_of(matches.get_str("N")?)
 }
 
-/// The command that matches name.
-fn command_in(matches: &ArgMatches) -> Option<Command>
-    ensures { result ≡ command_in (subcommand_rows_of matches.now) }
+/// The product W of a command's matches.
+fn product_in(alloc: Global, matches: &ArgMatches) -> Result<Option<Mono>, Memory>
+    ensures { IfOk result (λ product. product ≡ product_in (rows_of (found_of matches.now))) }
 {
-    let (name, inner) = matches.subcommand()?;
+    match matches.get_str("W") {
+        Some(word) => product_of(alloc, word),
+        None => Ok(None),
+    }
+}
+
+/// The command on a module that has this name, with its matches.
+fn module_command(name: &str, matches: &ArgMatches) -> Option<Command>
+    ensures { result ≡ module_command name.now (rows_of (found_of matches.now)) }
+{
     match name {
-        "sphere" => Some(Command::Sphere(common_in(inner)?)),
-        "resolve" => Some(Command::Resolve(common_in(inner)?)),
-        "dump" => Some(Command::Dump(common_in(inner)?)),
+        "sphere" => Some(Command::Sphere(common_in(matches)?)),
+        "resolve" => Some(Command::Resolve(common_in(matches)?)),
+        "dump" => Some(Command::Dump(common_in(matches)?)),
         "check" => Some(Command::Check),
-        "sample" => Some(Command::Sample(seed_in(inner)?, common_in(inner)?)),
+        "sample" => Some(Command::Sample(seed_in(matches)?, common_in(matches)?)),
         _ => None,
     }
+}
+
+/// The command that matches name.
+fn command_in(alloc: Global, matches: &ArgMatches) -> Result<Option<Command>, Memory>
+    ensures { IfOk result (λ command. command ≡ command_in (subcommand_rows_of matches.now)) }
+{
+    let Some((name, inner)) = matches.subcommand() else {
+        return Ok(None);
+    };
+    if name == "sq" {
+        return Ok(product_in(alloc, inner)?.map(Command::Sq));
+    }
+    Ok(module_command(name, inner))
 }
 
 /// The command that the words give, none where they are outside the grammar.
@@ -152,7 +191,7 @@ fn command_of(alloc: Global, words: &[&str]) -> Result<Option<Command>, Memory>
         return Ok(None);
     }
     match matches_of(alloc, words)? {
-        Some(matches) => Ok(command_in(&matches)),
+        Some(matches) => command_in(alloc, &matches),
         None => Ok(None),
     }
 }

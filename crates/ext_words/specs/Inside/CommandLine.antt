@@ -7,9 +7,9 @@ use Rattle.clap.specs.declared.builder.action.ArgAction.TheVariants.{Set}
 use Rattle.square.specs.declared.range.TheConstants.{MAX_S, MAX_T}
 use Rattle.ext_words.specs.declared.command.TheConstants.{MAX_WORKERS}
 use Rattle.ext_words.specs.declared.command.Command.{Command}
-use Rattle.ext_words.specs.declared.command.Command.TheVariants.{Sphere, Resolve, Dump, Check}
+use Rattle.ext_words.specs.declared.command.Command.TheVariants.{Sphere, Resolve, Dump, Check, Sq}
 use Rattle.ext_words.specs.declared.command.Common.{Common}
-use Rattle.ext_words.specs.Words.{number_up_to, positive_up_to, range_from, common_from, seed_of, sample_from}
+use Rattle.ext_words.specs.Words.{number_up_to, positive_up_to, range_from, common_from, seed_of, sample_from, product_of}
 
 -- a word that has to be there
 abbrev pub positional : Text → Rule
@@ -23,7 +23,7 @@ option name = record (new_rule name) { long = Some name }
 abbrev pub flag : Text → Rule
 flag name = record (new_rule name) { long = Some name; action = Some Set; range = Some (record { start_inclusive = 0; end_inclusive = 0 }) }
 
--- the command with the options that all commands but `check` have
+-- the command with the options that all commands have that resolve a module
 abbrev pub with_options : App → App
 with_options app = with_rule (with_rule app (option (codes "workers"))) (flag (codes "save"))
 
@@ -35,12 +35,17 @@ range_command name = with_options (with_rule (with_rule (new_app name) (position
 abbrev pub sample_command : App
 sample_command = with_options (with_rule (with_rule (with_rule (new_app (codes "sample")) (positional (codes "N"))) (positional (codes "S"))) (positional (codes "T")))
 
+-- the command with the word W, and without options
+abbrev pub sq_command : App
+sq_command = with_rule (new_app (codes "sq")) (positional (codes "W"))
+
 abbrev pub no_command : App
 no_command = on_top (λ top. record top { no_binary_name = true; disable_help_flag = true; disable_help_subcommand = true; subcommand_required = true }) (new_app (codes "ext"))
 
 -- all commands, without help
 abbrev pub command_line : App
-command_line = with_subcommand (with_subcommand (with_subcommand (with_subcommand (with_subcommand no_command (range_command (codes "sphere")).top) (range_command (codes "resolve")).top) (range_command (codes "dump")).top) (new_app (codes "check")).top) sample_command.top
+command_line =
+    with_subcommand (with_subcommand (with_subcommand (with_subcommand (with_subcommand (with_subcommand no_command (range_command (codes "sphere")).top) (range_command (codes "resolve")).top) (range_command (codes "dump")).top) (new_app (codes "check")).top) sample_command.top) sq_command.top
 
 -- the number of a command's word
 abbrev pub number_in : List Row → Text → ℕ → Option ℕ
@@ -67,13 +72,21 @@ common_in rows = common_from (range_from (number_in rows (codes "S") MAX_S) (num
 abbrev pub seed_in : List Row → Option ℕ
 seed_in rows = option_and_then seed_of (first_of (codes "N") rows)
 
-abbrev pub command_named : Text → List Row → Option Command
-command_named name rows =
+-- the product W of a command's matches
+abbrev pub product_in : List Row → Option (List ℕ)
+product_in rows = option_and_then product_of (first_of (codes "W") rows)
+
+-- the command on a module of a name with its matches
+abbrev pub module_command : Text → List Row → Option Command
+module_command name rows =
     if bytes_eq (codes "sphere") name then option_map Sphere (common_in rows)
     else if bytes_eq (codes "resolve") name then option_map Resolve (common_in rows)
     else if bytes_eq (codes "dump") name then option_map Dump (common_in rows)
     else if bytes_eq (codes "check") name then Some Check
     else if bytes_eq (codes "sample") name then sample_from (seed_in rows) (common_in rows) else None
+
+abbrev pub command_named : Text → List Row → Option Command
+command_named name rows = if bytes_eq (codes "sq") name then option_map Sq (product_in rows) else module_command name rows
 
 -- the command of a name with its matches
 abbrev pub command_in : Option (Text × List Row) → Option Command

@@ -7,4 +7,4 @@ returns c = answer_is_there (record {
   minimal = c.canonical_table_is_minimal_resolution.ensures;
   modules = c.modules_are_graded_modules.ensures;
   accepted = c.accepted_is_module.ensures;
-})
+}) c.admissible_basis.ensures.form

@@ -1,8 +1,8 @@
-use Rattle.std.proofs.Common.{◌∙◌}
+use Rattle.std.proofs.Common.{sym, subst, ◌∙◌}
 use Rattle.std.proofs.lemmas.Result.{err_from_is_err_and}
 use Rattle.ext_run.specs.declared.task.Form.TheVariants.{Chart, Differentials}
-use Rattle.ext_run.specs.Answer.{IsChart, IsDump, IsLineOn, IsCommandCauseFrom}
-use Rattle.ext_run.proofs.Commands.{resolve_on, dump_on, check_on, module_answer, module_cause}
+use Rattle.ext_run.specs.Answer.{IsChart, IsDump, IsLineOn, IsProduct, IsCommandCauseFrom}
+use Rattle.ext_run.proofs.Commands.{resolve_on, dump_on, check_on, module_answer, module_cause, product_answer}
 use Rattle.ext_run.proofs.Tasks.{sphere_task, sample_task, module_task, sphere_saved, sample_saved, resolve_saved, dump_saved}
 use Rattle.ext_run.proofs.task.task_for.Goals as goal
 
@@ -65,3 +65,7 @@ returns-in_ok-module-in-Dump-clause-saved g c =
 pub returns-in_ok-sample-in-Sample-clause-saved : goal.returns-in_ok-sample-in-Sample-clause-saved
 returns-in_ok-sample-in-Sample-clause-saved g c =
     sample_saved c.in-Sample.n c.args.command c.in-Sample.common _ c.in_ok-sample-in-Sample.sample _ c.in-Sample.is c.in_ok-sample-in-Sample.ensures c.to_resolve-in-Sample.ensures
+
+pub returns-in_ok-product_lines-in-Sq-clause-task : goal.returns-in_ok-product_lines-in-Sq-clause-task
+returns-in_ok-product_lines-in-Sq-clause-task g c = λ text is.
+    product_answer c.in-Sq.squares c.args.command _ text c.in-Sq.is (subst (IsProduct c.in-Sq.squares) (sym is) c.in_ok-product_lines-in-Sq.ensures)

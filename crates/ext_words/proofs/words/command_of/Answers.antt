@@ -1,5 +1,6 @@
 use Rattle.std.proofs.Common.{sym, subst, ap, ◌≡◌, ◌∙◌, true, false, Option, Some, None}
 use Rattle.std.specs.Prelude.{IfSome, IfNone}
+use Rattle.std.proofs.lemmas.Result.{IfOk-weaker}
 use Rattle.clap.proofs.WalkLemmas.{list_any-map}
 use Rattle.ext_words.specs.Words.{texts_of}
 use Rattle.ext_words.specs.Inside.CommandLine.{command_in}
@@ -24,7 +25,7 @@ returns-in-Some c =
     let plain : has_dashes (texts_of c.args.words.now) ≡ false = sym (list_any-map _ _ c.args.words.now) ∙ (sym c.contains.ensures.value ∙ c.if-contains.false) in
     let taken = at-some c.in_ok-matches.field-0 c.in-Some.matches _ c.in-Some.is c.in_ok-matches.ensures.taken in
     let rows = at-some c.in_ok-matches.field-0 c.in-Some.matches _ c.in-Some.is c.in_ok-matches.ensures.rows in
-    c.command_in.ensures ∙ (ap command_in rows ∙ taken-reads (texts_of c.args.words.now) plain taken)
+    IfOk-weaker c.command_in.result _ _ (λ command is. is ∙ (ap command_in rows ∙ taken-reads (texts_of c.args.words.now) plain taken)) c.command_in.ensures
 
 pub returns-in-None : goal.returns-in-None
 returns-in-None c =
