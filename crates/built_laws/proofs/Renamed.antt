@@ -51,7 +51,7 @@ renamed a b is also count degrees same = record {
 }
 
 -- a list by its places
-places : (xs : List ℕ) → map (λ i. get_or xs i 0) (range_with_len 0 (length xs)) ≡ xs
+pub places : (xs : List ℕ) → map (λ i. get_or xs i 0) (range_with_len 0 (length xs)) ≡ xs
 places xs =
     ext_get_or 0 (map (λ i. get_or xs i 0) (range_with_len 0 (length xs))) xs (length-map (range_with_len 0 (length xs)) (λ i. get_or xs i 0) ∙ length-range_with_len 0 (length xs))
     (λ i l. let k : i < length xs = omega (arith, length-map (range_with_len 0 (length xs)) (λ i. get_or xs i 0), length-range_with_len 0 (length xs)) in

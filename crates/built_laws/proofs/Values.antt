@@ -98,20 +98,21 @@ numbers-sum f i (g ∷ gs) t =
 slice_get-range : (n i : ℕ) → i < n → slice_get (range_with_len 0 n) i ≡ Some i
 slice_get-range n i l = slice_get-get_or (range_with_len 0 n) i 0 (omega (arith, length-range_with_len 0 n)) ∙ ap Some (get_or-range_with_len 0 n i 0 l ∙ omega arith)
 
+-- the value of Sq(R) where the operators are those of a list of elements that has R at its place
+pub value_listed : (gs : List Generator) (c : List ℕ → ℕ → ℕ → Bool) (xs : List (List ℕ)) (r : List ℕ) (i p : ℕ) → place_of r ≡ Some p → slice_get xs p ≡ Some r → i < length gs → value gs (map (operator_on gs c) xs) r i ≡ values_on gs c r i
+value_listed gs c xs r i p e h l =
+    by_place gs (map (operator_on gs c) xs) r i p e
+    ∙ ap (or_zeros (width gs (degree_at gs i +ℤ pos (degree_of r))))
+    (value_at_some (map (operator_on gs c) xs) (operator_on gs c r) i p (slice_get-map (operator_on gs c) xs p ∙ ap (option_map (operator_on gs c)) h)
+    ∙ slice_get-map (values_on gs c r) (range_with_len 0 (length gs)) i
+    ∙ ap (option_map (values_on gs c r)) (slice_get-range (length gs) i l))
+
 module _ (gs : List Generator) (c : List ℕ → ℕ → ℕ → Bool) where
   abbrev operators : List (List (List Bool))
   operators = (built gs c).operators
 
   operator_there : (r : List ℕ) (p : ℕ) → slice_get (elements (span gs + 1)) p ≡ Some r → slice_get operators p ≡ Some (operator_on gs c r)
   operator_there r p e = slice_get-map (operator_on gs c) (elements (span gs + 1)) p ∙ ap (option_map (operator_on gs c)) e
-
-  value_there : (r : List ℕ) (i p : ℕ) → place_of r ≡ Some p → slice_get (elements (span gs + 1)) p ≡ Some r → i < length gs → value gs operators r i ≡ values_on gs c r i
-  value_there r i p e h l =
-      by_place gs operators r i p e
-      ∙ ap (or_zeros (width gs (degree_at gs i +ℤ pos (degree_of r))))
-      (value_at_some operators (operator_on gs c r) i p (operator_there r p h)
-      ∙ slice_get-map (values_on gs c r) (range_with_len 0 (length gs)) i
-      ∙ ap (option_map (values_on gs c r)) (slice_get-range (length gs) i l))
 
   -- the value of Sq(R) on a generator
   pub value_built : NeverFall gs → (r : List ℕ) (i : ℕ) → IsTrimmed r → i < length gs → value gs operators r i ≡ values_on gs c r i
@@ -122,7 +123,7 @@ module _ (gs : List Generator) (c : List ℕ → ℕ → ℕ → Bool) where
             let found = Contains-basis_of (degree_of r) r h refl in
             let p : ℕ = elements_below (degree_of r) + found.0 in
             let e : place_of r ≡ Some p = place_found (degree_of r) found.0 r refl (slice_get-get_or (basis_of (degree_of r)) found.0 r found.1 ∙ ap Some found.2) in
-            value_there r i p e (elements_at n r p (place_is r p e) below) l
+            value_listed gs c (elements n) r i p e (elements_at n r p (place_is r p e) below) l
         | inr above ↦
             let t : ℤ = degree_at gs i +ℤ pos (degree_of r) in
             let none : width gs t ≡ 0 = width_above_span gs i (degree_of r) falls l (omega arith) in
@@ -145,7 +146,7 @@ module _ (gs : List Generator) (c : List ℕ → ℕ → ℕ → Bool) where
                 let same : s ≡ r = element_at_place n r s p e there in
                 let own : slice_get (elements n) p ≡ Some r = there ∙ ap Some same in
                 elim (cases_lt i (length gs)) [
-                  | inl l ↦ ap length (value_there r i p e own l) ∙ length-map (generators_in gs (degree_at gs i +ℤ pos (degree_of r))) (c r i)
+                  | inl l ↦ ap length (value_listed gs c (elements n) r i p e own l) ∙ length-map (generators_in gs (degree_at gs i +ℤ pos (degree_of r))) (c r i)
                   | inr l ↦ ap length (by_place gs operators r i p e ∙ ap (or_zeros w) (value_at_some operators (operator_on gs c r) i p (operator_there r p own)
                       ∙ slice_get_past (operator_on gs c r) i (omega (arith, length-map (range_with_len 0 (length gs)) (values_on gs c r), length-range_with_len 0 (length gs))))) ∙ length-zeros w
                 ]

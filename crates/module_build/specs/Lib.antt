@@ -1,0 +1,4 @@
+pub mod Names
+pub mod Limits
+pub mod FileText
+pub mod Inside
