@@ -1,0 +1,66 @@
+//! Lifts of classes.
+ghost use Rattle.std.specs.Prelude.{◌≡◌, ◌+ℤ◌, ◌<◌, pos, length, ℕ};
+ghost use Rattle.chain_map.specs.Rows.{value_at};
+ghost use Rattle.chain_map.specs.Lifting.{HasValue, row_values};
+
+use crate::values::Values;
+use f2_vec::BitVec;
+use memory::Memory;
+use std::alloc::Global;
+use std::marker::Model;
+
+/// A lift of a class: chain maps phi_k from F_(s+k) of a module's resolution to F_k of the sphere's, through some k and
+/// some degree, that lower degrees by the class's, by their values on the generators.
+#[derive(Drop)]
+pub struct Lift {
+    bottom: i32,
+    rows: Vec<Values>,
+}
+
+impl Model for Lift {
+    ghost use Rattle.chain_map.specs.Lifting.{LiftValues};
+
+    ghost Value = { LiftValues };
+
+    ghost view = { λ l. record { bottom = l.bottom; rows = l.rows.items } };
+}
+
+impl Lift {
+    /// The value of phi_k on number `i` of the generators of degree `t` of row s + k, a vector of F_k of the sphere's
+    /// resolution in the degree that is lower by the class's.
+    pub fn value(&self, k: u16, t: i32, i: usize) -> &BitVec
+        requires { HasValue self.now k t i }
+        ensures { (above : ℕ) → t ≡ self.now.bottom +ℤ pos above → result.now ≡ value_at (row_values self.now k) above i }
+    {
+        let above = t - self.bottom;
+        self.rows[usize::from(k)].at(above as usize, i)
+    }
+
+    /// The values of phi_k on all generators that it has them for, in their order.
+    pub fn vectors(&self, k: u16) -> &[BitVec]
+        requires { k < length self.now.rows }
+        ensures { result.now ≡ (row_values self.now k).vectors }
+    {
+        self.rows[usize::from(k)].vectors()
+    }
+}
+
+/// So many lifts without a row.
+pub(crate) fn empty_lifts(alloc: Global, bottom: i32, count: usize) -> Result<Vec<Lift>, Memory> {
+    let mut lifts = Vec::new(alloc);
+    for _ in 0..count {
+        lifts.push(Lift {
+            bottom,
+            rows: Vec::new(alloc),
+        })?;
+    }
+    Ok(lifts)
+}
+
+/// Puts a row more on each of the lifts.
+pub(crate) fn put_rows(lifts: &mut Vec<Lift>, rows: Vec<Values>) -> Result<(), Memory> {
+    for (j, row) in rows.into_iter().enumerate() {
+        lifts[j].rows.push(row)?;
+    }
+    Ok(())
+}
