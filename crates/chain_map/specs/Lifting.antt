@@ -1,5 +1,5 @@
 -- Lifts of classes over the squares of two tables.
-use Rattle.std.specs.Prelude.{◌≡◌, ℕ, zero, suc, ◌+◌, ◌<◌, ◌≤◌, ℤ, pos, ◌+ℤ◌, ◌-ℤ◌, Bool, if◌then◌else◌, lt, List, [], length, map, slice_index_or}
+use Rattle.std.specs.Prelude.{◌≡◌, ℕ, zero, suc, ◌+◌, ◌<◌, ◌≤◌, ℤ, pos, ◌+ℤ◌, ◌-ℤ◌, min, Bool, List, [], length, map, slice_index_or}
 use Rattle.std.specs.List.{range_with_len}
 use Rattle.f2_vec.specs.Spans.{row}
 use Rattle.free_module.specs.FreeModule.{free_width}
@@ -44,11 +44,8 @@ abbrev pub shifted_length : ℕ → ℕ → ℕ
 shifted_length above zero = 0
 shifted_length above (suc n) = above + suc n
 
-abbrev pub lesser : ℕ → ℕ → ℕ
-lesser m n = if lt m n then m else n
-
 abbrev pub degrees_through : Staircase → Staircase → ℕ → ℕ → ℕ → ℕ
-degrees_through table sphere s above upto = lesser (length (row_in table.rows (s + upto))) (shifted_length above (length (row_in sphere.rows upto)))
+degrees_through table sphere s above upto = min (length (row_in table.rows (s + upto))) (shifted_length above (length (row_in sphere.rows upto)))
 
 -- the greatest of these degrees, and one below the bottom where there is none
 abbrev pub greatest : Staircase → ℕ → ℤ

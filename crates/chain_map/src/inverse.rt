@@ -1,5 +1,5 @@
 //! Quasi-inverses of the maps of a resolution.
-ghost use Rattle.std.specs.Prelude.{◌≡◌, ◌≤ℤ◌, length, IfOk, IfSome, IsSome};
+ghost use Rattle.std.specs.Prelude.{◌≡◌, ◌≤ℤ◌, length, None, IfOk, IfSome, IsSome};
 ghost use Rattle.square.specs.Squares.{bottom_of};
 ghost use Rattle.square.specs.Tables.{square_at};
 ghost use Rattle.chain_map.specs.Rows.{IsInverseAt, chosen_preimage};
@@ -27,6 +27,13 @@ impl Model for Inverse {
 }
 
 impl Inverse {
+    /// That where there is nothing to invert.
+    pub fn none() -> Self
+        ensures { result ≡ None }
+    {
+        Inverse { reduced: None }
+    }
+
     /// That of the square in row `k` and of degree `t` of the table: a copy of what the square kept, and else it is made again.
     ///
     /// # Errors
@@ -36,7 +43,7 @@ impl Inverse {
         ensures { IfOk result (IsInverseAt table.now k t) }
     {
         if t < table.module().bottom() {
-            return Ok(Inverse { reduced: None });
+            return Ok(Inverse::none());
         }
         let reduced = table.quasi(alloc, k, t)?;
         Ok(Inverse {

@@ -1,12 +1,14 @@
 //! How lifts are made.
-ghost use Rattle.std.specs.Prelude.{◌≡◌, ◌+ℤ◌, ◌<◌, pos, length, IfOk, ℕ, slice_index_or};
+ghost use Rattle.std.specs.Prelude.{◌≡◌, ◌+ℤ◌, ◌<◌, ◌≤◌, ◌+◌, pos, length, IfOk, OnOk, ℕ, slice_index_or};
 ghost use Rattle.square.specs.Squares.{bottom_of};
 ghost use Rattle.lift_laws.specs.Lifts.{IsSphere};
 ghost use Rattle.lift_laws.specs.Products.{count_of};
-ghost use Rattle.chain_map.specs.Lifting.{resolution_of, IsClassOf, IsSquareOf, IsLiftOver, no_lift};
+ghost use Rattle.chain_map.specs.Lifting.{resolution_of, IsClassOf, IsSquareOf, IsLiftOver, no_lift, degrees_through};
+ghost use Rattle.chain_map.specs.Inside.Making.{AreMadeLifts, Reaches};
+ghost use Rattle.square.specs.Tables.{IsTable};
 
 use crate::class::Class;
-use crate::maps::{Lift, empty_lifts, put_rows};
+use crate::maps::Lift;
 use crate::rows::Course;
 use memory::Memory;
 use square::Table;
@@ -80,37 +82,93 @@ fn lifts_of(
     from: usize,
     count: usize,
     upto: u16,
-) -> Result<Vec<Lift>, Memory> {
-    let above = (t - table.module().bottom()) as u16;
+) -> Result<Vec<Lift>, Memory>
+    requires sphere { IsSphere (resolution_of sphere.now) }
+    requires square { IsSquareOf table.now s t }
+    requires classes { (above : ℕ) → t ≡ bottom_of table.now.resolved +ℤ pos above → from + count ≤ count_of (resolution_of table.now) s above }
+    ensures one_each { IfOk result (λ lifts. length lifts.items ≡ count) }
+    ensures lifts { (above j : ℕ) → t ≡ bottom_of table.now.resolved +ℤ pos above → IfOk result (λ lifts. j < length lifts.items → IsLiftOver table.now sphere.now s above (from + j) upto (slice_index_or lifts.items j no_lift)) }
+{
+    let above = match table.at(s, t) {
+        Some(square) => square.above(),
+        None => unreachable!(),
+    };
+    let bottom = table.module().bottom();
     let reach = degrees_through(table, sphere, s, above, upto);
+    let mut lifts = Vec::new(alloc);
+    for _ in 0..count {
+        lifts.push(Lift::new(alloc, bottom))?;
+    }
     let course = Course {
         table,
         sphere,
         s,
         above,
         reach,
+        far: sphere.front(upto) as u16,
     };
-    let mut lifts = empty_lifts(alloc, table.module().bottom(), count)?;
-    if reach == 0 {
-        return Ok(lifts);
-    }
-    let first = course.first_rows(alloc, from, count)?;
-    put_rows(&mut lifts, first)?;
-    for k in 0..upto {
-        let next = course.next_rows(alloc, k + 1, &lifts)?;
-        put_rows(&mut lifts, next)?;
+    if reach > 0 {
+        add_rows(alloc, &course, from, upto, &mut lifts)?;
     }
     Ok(lifts)
 }
 
 /// How many degrees a lift goes through, from the bottom of the module's table on.
-fn degrees_through(table: &Table, sphere: &Table, s: u16, above: u16, upto: u16) -> u16 {
+fn degrees_through(table: &Table, sphere: &Table, s: u16, above: u16, upto: u16) -> u16
+    requires { IsTable table.now }
+    ensures { result ≡ degrees_through table.now sphere.now s above upto }
+{
     let far = sphere.front(upto);
     if far == 0 {
         return 0;
     }
-    let Ok(row) = u16::try_from(u32::from(s) + u32::from(upto)) else {
+    // Above the last row there is none.
+    let Some(row) = s.checked_add(upto) else {
         return 0;
     };
     table.front(row).min(usize::from(above) + far) as u16
+}
+
+/// The rows of all maps through map `upto`.
+fn add_rows(
+    alloc: Global,
+    course: &Course<'_>,
+    from: usize,
+    upto: u16,
+    lifts: &mut Vec<Lift>,
+) -> Result<(), Memory>
+    requires sphere { IsSphere (resolution_of course.now.sphere.now) }
+    requires reaches { Reaches course.now.table.now course.now.sphere.now course.now.s course.now.above upto course.now.reach course.now.far }
+    requires classes { from + length lifts.old.items ≤ count_of (resolution_of course.now.table.now) course.now.s course.now.above }
+    requires made { AreMadeLifts course.now.table.now course.now.sphere.now course.now.s course.now.above course.now.reach course.now.far from 0 lifts.old.items }
+    ensures one_each { OnOk result (length lifts.new.items ≡ length lifts.old.items) }
+    ensures made { OnOk result (AreMadeLifts course.now.table.now course.now.sphere.now course.now.s course.now.above course.now.reach course.now.far from (upto + 1) lifts.new.items) }
+{
+    for k in 0..=upto {
+        add_row(alloc, course, from, k, lifts)?;
+    }
+    Ok(())
+}
+
+/// The row of map `k`, of each lift.
+fn add_row(
+    alloc: Global,
+    course: &Course<'_>,
+    from: usize,
+    k: u16,
+    lifts: &mut Vec<Lift>,
+) -> Result<(), Memory>
+    requires sphere { IsSphere (resolution_of course.now.sphere.now) }
+    requires reaches { Reaches course.now.table.now course.now.sphere.now course.now.s course.now.above k course.now.reach course.now.far }
+    requires classes { from + length lifts.old.items ≤ count_of (resolution_of course.now.table.now) course.now.s course.now.above }
+    requires made { AreMadeLifts course.now.table.now course.now.sphere.now course.now.s course.now.above course.now.reach course.now.far from k lifts.old.items }
+    ensures one_each { OnOk result (length lifts.new.items ≡ length lifts.old.items) }
+    ensures made { OnOk result (AreMadeLifts course.now.table.now course.now.sphere.now course.now.s course.now.above course.now.reach course.now.far from (k + 1) lifts.new.items) }
+{
+    let inverses = course.inverses(alloc, k)?;
+    for j in 0..lifts.len() {
+        let row = course.row(alloc, k, &inverses, from + j, &lifts[j])?;
+        lifts[j].push(row)?;
+    }
+    Ok(())
 }

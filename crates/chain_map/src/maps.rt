@@ -1,5 +1,5 @@
 //! Lifts of classes.
-ghost use Rattle.std.specs.Prelude.{◌≡◌, ◌+ℤ◌, ◌<◌, pos, length, ℕ};
+ghost use Rattle.std.specs.Prelude.{◌≡◌, ◌+ℤ◌, ◌<◌, ◌++◌, [], ◌∷◌, pos, length, ℕ, OnOk};
 ghost use Rattle.chain_map.specs.Rows.{value_at};
 ghost use Rattle.chain_map.specs.Lifting.{HasValue, row_values};
 
@@ -43,24 +43,25 @@ impl Lift {
     {
         self.rows[usize::from(k)].vectors()
     }
-}
 
-/// So many lifts without a row.
-pub(crate) fn empty_lifts(alloc: Global, bottom: i32, count: usize) -> Result<Vec<Lift>, Memory> {
-    let mut lifts = Vec::new(alloc);
-    for _ in 0..count {
-        lifts.push(Lift {
+    /// No rows.
+    pub(crate) fn new(alloc: Global, bottom: i32) -> Self
+        ensures { result ≡ record { bottom = bottom; rows = [] } }
+    {
+        Lift {
             bottom,
             rows: Vec::new(alloc),
-        })?;
+        }
     }
-    Ok(lifts)
-}
 
-/// Puts a row more on each of the lifts.
-pub(crate) fn put_rows(lifts: &mut Vec<Lift>, rows: Vec<Values>) -> Result<(), Memory> {
-    for (j, row) in rows.into_iter().enumerate() {
-        lifts[j].rows.push(row)?;
+    /// Puts a row more behind the others.
+    ///
+    /// # Errors
+    /// `Memory` if allocation fails.
+    pub(crate) fn push(&mut self, row: Values) -> Result<(), Memory>
+        ensures { OnOk result (self.new ≡ record { bottom = self.old.bottom; rows = self.old.rows ++ row ∷ [] }) }
+    {
+        self.rows.push(row)?;
+        Ok(())
     }
-    Ok(())
 }

@@ -1,8 +1,19 @@
 //! The maps of lifts, row by row.
-ghost use Rattle.std.specs.Prelude.{◌≡◌, ◌≤◌, ◌-ℤ◌, ◌≤ℤ◌, pos, negsuc, length, map, take, IfOk};
+ghost use Rattle.std.specs.Prelude.{◌≡◌, ◌≤◌, ◌<◌, ◌+◌, ◌-ℤ◌, ◌+ℤ◌, ◌≤ℤ◌, ℕ, zero, suc, pos, negsuc, Option, length, map, take, IfOk, OnOk, slice_index_or, nat_eq, ◌&&◌, IsTrue};
+ghost use Rattle.f2_vec.specs.Spans.{row};
+ghost use Rattle.free_module.specs.FreeModule.{free_width, IsWithinReach};
+ghost use Rattle.free_module.specs.Graded.{free_graded};
+ghost use Rattle.free_module.specs.LinearMap.{AreImages, mapped};
 ghost use Rattle.resolution_laws.specs.Resolution.{degrees_from, row_of};
+ghost use Rattle.square.specs.declared.range.TheConstants.{MAX_T};
 ghost use Rattle.square.specs.Squares.{bottom_of};
-ghost use Rattle.square.specs.Tables.{row_in, plain_rows};
+ghost use Rattle.square.specs.Tables.{row_in, plain_rows, content_at};
+ghost use Rattle.lift_laws.specs.Lifts.{IsSphere};
+ghost use Rattle.lift_laws.specs.Maps.{lowered_by};
+ghost use Rattle.lift_laws.specs.Products.{first_of, count_of};
+ghost use Rattle.chain_map.specs.Rows.{IsInverseAt};
+ghost use Rattle.chain_map.specs.Lifting.{resolution_of, row_values};
+ghost use Rattle.chain_map.specs.Inside.Making.{IsChosenFor, AreInverses, AreMade, class_of, class_value, next_goal, source_of, target_of, goal_of, IsMade, Reaches};
 
 use crate::inverse::Inverse;
 use crate::maps::Lift;
@@ -11,20 +22,8 @@ use f2_vec::BitVec;
 use free_hom::Hom;
 use free_module::Gens;
 use memory::Memory;
-use milnor_basis::Basis;
 use square::Table;
 use std::alloc::Global;
-
-/// What lifts of classes of one square go over: the two tables, the row and the height of the square above the bottom, and how
-/// many degrees they go through.
-#[derive(Drop)]
-pub(crate) struct Course<'a> {
-    pub(crate) table: &'a Table,
-    pub(crate) sphere: &'a Table,
-    pub(crate) s: u16,
-    pub(crate) above: u16,
-    pub(crate) reach: u16,
-}
 
 /// The generators of the first `n` squares of row `s` of the table, each in a degree that is lower by `x`.
 ///
@@ -40,7 +39,7 @@ pub fn lowered_generators(
     requires within { n ≤ length (row_in table.now.rows s) }
     requires low { negsuc 511 ≤ℤ x }
     requires high { x ≤ℤ pos 511 }
-    ensures { IfOk result (λ gens. gens ≡ map (λ d. d -ℤ x) (degrees_from (bottom_of table.now.resolved) (take n (row_of (plain_rows table.now.rows) s)))) }
+    ensures { IfOk result (λ gens. gens ≡ lowered_by x (degrees_from (bottom_of table.now.resolved) (take n (row_of (plain_rows table.now.rows) s)))) }
 {
     let gens = table.generators(alloc, s, n)?;
     let mut lowered = Gens::new(alloc);
@@ -50,127 +49,232 @@ pub fn lowered_generators(
     Ok(lowered)
 }
 
+/// What lifts of classes of one square go over: the two tables, the row of the square and how many degrees it is above the
+/// bottom, how many degrees they go through, and how many squares of each row of the sphere's table they use.
+#[derive(Drop)]
+pub(crate) struct Course<'a> {
+    pub(crate) table: &'a Table,
+    pub(crate) sphere: &'a Table,
+    pub(crate) s: u16,
+    pub(crate) above: u16,
+    pub(crate) reach: u16,
+    pub(crate) far: u16,
+}
+
 impl Course<'_> {
-    /// The classes' degree.
-    fn x(&self) -> i32 {
-        self.table.module().bottom() + i32::from(self.above)
+    /// How many degrees the square that is `n` above the bottom is above that of the classes.
+    fn over(&self, n: u16) -> i32
+        ensures { result ≡ pos n -ℤ pos self.now.above }
+    {
+        i32::from(n) - i32::from(self.above)
     }
 
-    /// The images of the generators of the square in row `s` that is `n` above the bottom.
-    fn images(&self, s: u16, n: u16) -> &[BitVec] {
-        match self.table.at(s, self.table.module().bottom() + i32::from(n)) {
+    /// The images of the generators of the square in row `i` that is `n` above the bottom.
+    fn images(&self, i: u16, n: u16) -> &[BitVec]
+        requires { n < length (row_in self.now.table.now.rows i) }
+        ensures { result.now ≡ (content_at self.now.table.now.rows i n).images }
+    {
+        match self.table.at(i, self.table.module().bottom() + i32::from(n)) {
             Some(square) => square.gens(),
             None => unreachable!(),
         }
     }
 
-    /// The values of the first maps of lifts of `count` classes, from number `from` of the square on: d_0 takes them to the
-    /// classes' values.
-    pub(crate) fn first_rows(
-        &self,
-        alloc: Global,
-        from: usize,
-        count: usize,
-    ) -> Result<Vec<Values>, Memory> {
-        let mut rows = empty_rows(alloc, count)?;
-        for n in 0..self.reach {
-            self.first_square(alloc, n, from, &mut rows)?;
+    /// The quasi-inverse of d_k for the values on the square in row s + k that is `n` above the bottom, if it has generators.
+    fn inverse(&self, alloc: Global, k: u16, n: u16) -> Result<Inverse, Memory>
+        requires sphere { IsSphere (resolution_of self.now.sphere.now) }
+        requires reaches { Reaches self.now.table.now self.now.sphere.now self.now.s self.now.above k self.now.reach self.now.far }
+        requires within { n < self.now.reach }
+        ensures { IfOk result (λ inverse. 0 < count_of (resolution_of self.now.table.now) (self.now.s + k) n → IsInverseAt self.now.sphere.now k (pos n -ℤ pos self.now.above) inverse) }
+    {
+        if self.images(self.s + k, n).is_empty() {
+            return Ok(Inverse::none());
         }
-        Ok(rows)
+        Inverse::of(alloc, self.sphere, k, self.over(n))
     }
 
-    /// The values on the square that is `n` above the bottom.
+    /// Those of all squares of that row.
+    pub(crate) fn inverses(&self, alloc: Global, k: u16) -> Result<Vec<Inverse>, Memory>
+        requires sphere { IsSphere (resolution_of self.now.sphere.now) }
+        requires reaches { Reaches self.now.table.now self.now.sphere.now self.now.s self.now.above k self.now.reach self.now.far }
+        ensures { IfOk result (λ list. AreInverses self.now.table.now self.now.sphere.now (self.now.s + k) k self.now.above self.now.reach list.items) }
+    {
+        let mut inverses = Vec::new(alloc);
+        for n in 0..self.reach {
+            inverses.push(self.inverse(alloc, k, n)?)?;
+        }
+        Ok(inverses)
+    }
+
+    /// The values of map `k` of a lift of the square's number `class`, which has the maps below it.
+    pub(crate) fn row(
+        &self,
+        alloc: Global,
+        k: u16,
+        inverses: &Vec<Inverse>,
+        class: usize,
+        lift: &Lift,
+    ) -> Result<Values, Memory>
+        requires sphere { IsSphere (resolution_of self.now.sphere.now) }
+        requires reaches { Reaches self.now.table.now self.now.sphere.now self.now.s self.now.above k self.now.reach self.now.far }
+        requires inverses { AreInverses self.now.table.now self.now.sphere.now (self.now.s + k) k self.now.above self.now.reach inverses.now.items }
+        requires class { class < count_of (resolution_of self.now.table.now) self.now.s self.now.above }
+        requires made { IsMade self.now.table.now self.now.sphere.now self.now.s self.now.above self.now.reach self.now.far class k lift.now }
+        ensures { IfOk result (AreMade self.now.table.now self.now.sphere.now (self.now.s + k) k (bottom_of self.now.table.now.resolved +ℤ pos self.now.above) (goal_of self.now.table.now self.now.sphere.now self.now.s self.now.above self.now.reach self.now.far class lift.now k) self.now.reach) }
+    {
+        if k == 0 {
+            return self.first_row(alloc, inverses, class);
+        }
+        self.next_row(alloc, k - 1, inverses, lift.vectors(k - 1))
+    }
+
+    /// The values of map 0: d_0 takes them to the class.
+    fn first_row(
+        &self,
+        alloc: Global,
+        inverses: &Vec<Inverse>,
+        class: usize,
+    ) -> Result<Values, Memory>
+        requires sphere { IsSphere (resolution_of self.now.sphere.now) }
+        requires reaches { Reaches self.now.table.now self.now.sphere.now self.now.s self.now.above 0 self.now.reach self.now.far }
+        requires inverses { AreInverses self.now.table.now self.now.sphere.now self.now.s 0 self.now.above self.now.reach inverses.now.items }
+        requires class { class < count_of (resolution_of self.now.table.now) self.now.s self.now.above }
+        ensures { IfOk result (AreMade self.now.table.now self.now.sphere.now self.now.s 0 (bottom_of self.now.table.now.resolved +ℤ pos self.now.above) (class_of self.now.table.now self.now.sphere.now self.now.s self.now.above class) self.now.reach) }
+    {
+        let mut values = Values::new(alloc);
+        for n in 0..self.reach {
+            self.first_square(alloc, n, &inverses[usize::from(n)], class, &mut values)?;
+        }
+        Ok(values)
+    }
+
+    /// The same on the square that is `n` above the bottom, behind those on the squares before it.
     fn first_square(
         &self,
         alloc: Global,
         n: u16,
-        from: usize,
-        rows: &mut Vec<Values>,
-    ) -> Result<(), Memory> {
-        begin_squares(rows)?;
-        let count = self.images(self.s, n).len();
-        if count == 0 {
-            return Ok(());
-        }
-        let u = i32::from(n) - i32::from(self.above);
-        let width = self.sphere.module().dim_in(u);
-        let inverse = Inverse::of(alloc, self.sphere, 0, u)?;
-        for j in 0..rows.len() {
-            for i in 0..count {
-                let goal = if n == self.above && i == from + j {
-                    BitVec::unit(alloc, width, 0)?
-                } else {
-                    BitVec::zero(alloc, width)?
-                };
-                rows[j].push(inverse.preimage(alloc, &goal)?)?;
-            }
+        inverse: &Inverse,
+        class: usize,
+        values: &mut Values,
+    ) -> Result<(), Memory>
+        requires sphere { IsSphere (resolution_of self.now.sphere.now) }
+        requires within { n < length (row_in self.now.table.now.rows self.now.s) }
+        requires class { class < count_of (resolution_of self.now.table.now) self.now.s self.now.above }
+        requires inverse { 0 < count_of (resolution_of self.now.table.now) self.now.s n → IsInverseAt self.now.sphere.now 0 (pos n -ℤ pos self.now.above) inverse.now }
+        requires made { AreMade self.now.table.now self.now.sphere.now self.now.s 0 (bottom_of self.now.table.now.resolved +ℤ pos self.now.above) (class_of self.now.table.now self.now.sphere.now self.now.s self.now.above class) n values.old }
+        ensures { OnOk result (AreMade self.now.table.now self.now.sphere.now self.now.s 0 (bottom_of self.now.table.now.resolved +ℤ pos self.now.above) (class_of self.now.table.now self.now.sphere.now self.now.s self.now.above class) (n + 1) values.new) }
+    {
+        values.begin_square()?;
+        for i in 0..self.images(self.s, n).len() {
+            let value = self.first_value(alloc, n, i, inverse, class)?;
+            values.push(value)?;
         }
         Ok(())
     }
 
-    /// The values of map `k` of the lifts, which have those below it: d_k takes them to the value of map k - 1 on what d takes
-    /// the generator to.
-    pub(crate) fn next_rows(
+    /// The value on number `i` of that square.
+    fn first_value(
+        &self,
+        alloc: Global,
+        n: u16,
+        i: usize,
+        inverse: &Inverse,
+        class: usize,
+    ) -> Result<BitVec, Memory>
+        requires sphere { IsSphere (resolution_of self.now.sphere.now) }
+        requires inverse { IsInverseAt self.now.sphere.now 0 (pos n -ℤ pos self.now.above) inverse.now }
+        ensures { IfOk result (IsChosenFor self.now.sphere.now 0 (pos n -ℤ pos self.now.above) (class_value ((resolution_of self.now.sphere.now).base.graded.width (pos n -ℤ pos self.now.above)) (nat_eq n self.now.above && nat_eq i class))) }
+    {
+        let width = self.sphere.module().dim_in(self.over(n));
+        let goal = class_value(alloc, width, n == self.above && i == class)?;
+        inverse.preimage(alloc, &goal)
+    }
+
+    /// The values of map k + 1, where `below` has those of map `k`: d_(k+1) takes them to the value of map k on what d takes the
+    /// generator to.
+    fn next_row(
         &self,
         alloc: Global,
         k: u16,
-        lifts: &Vec<Lift>,
-    ) -> Result<Vec<Values>, Memory> {
-        let source =
-            lowered_generators(alloc, self.table, self.s + k - 1, self.reach, self.x())?;
-        let target = self
-            .sphere
-            .generators(alloc, k - 1, self.reach.saturating_sub(self.above))?;
-        let mut rows = empty_rows(alloc, lifts.len())?;
+        inverses: &Vec<Inverse>,
+        below: &[BitVec],
+    ) -> Result<Values, Memory>
+        requires sphere { IsSphere (resolution_of self.now.sphere.now) }
+        requires reaches { Reaches self.now.table.now self.now.sphere.now self.now.s self.now.above (suc k) self.now.reach self.now.far }
+        requires inverses { AreInverses self.now.table.now self.now.sphere.now (suc (self.now.s + k)) (suc k) self.now.above self.now.reach inverses.now.items }
+        requires below { AreImages (free_graded (target_of self.now.sphere.now k self.now.far)) (source_of self.now.table.now (self.now.s + k) self.now.reach (bottom_of self.now.table.now.resolved +ℤ pos self.now.above)) below.now }
+        ensures { IfOk result (AreMade self.now.table.now self.now.sphere.now (suc (self.now.s + k)) (suc k) (bottom_of self.now.table.now.resolved +ℤ pos self.now.above) (next_goal self.now.table.now self.now.sphere.now (self.now.s + k) k self.now.above self.now.reach self.now.far below.now) self.now.reach) }
+    {
+        let x = self.table.module().bottom() + i32::from(self.above);
+        let source = lowered_generators(alloc, self.table, self.s + k, self.reach, x)?;
+        let target = self.sphere.generators(alloc, k, self.far)?;
+        let map = Hom::new(self.table.basis(), &source, &target, below);
+        let mut values = Values::new(alloc);
         for n in 0..self.reach {
-            self.next_square(alloc, k, n, &source, &target, lifts, &mut rows)?;
+            self.next_square(alloc, k, n, &inverses[usize::from(n)], &map, &mut values)?;
         }
-        Ok(rows)
+        Ok(values)
     }
 
-    /// The values on the square that is `n` above the bottom.
+    /// The same on the square that is `n` above the bottom, behind those on the squares before it.
     fn next_square(
         &self,
         alloc: Global,
         k: u16,
         n: u16,
-        source: &Gens,
-        target: &Gens,
-        lifts: &Vec<Lift>,
-        rows: &mut Vec<Values>,
-    ) -> Result<(), Memory> {
-        begin_squares(rows)?;
-        let images = self.images(self.s + k, n);
-        if images.is_empty() {
-            return Ok(());
-        }
-        let u = i32::from(n) - i32::from(self.above);
-        let inverse = Inverse::of(alloc, self.sphere, k, u)?;
-        let basis = self.table.basis();
-        for j in 0..rows.len() {
-            let map = Hom::new(basis, source, target, lifts[j].vectors(k - 1));
-            for image in images {
-                let goal = map.apply(alloc, u, image)?;
-                rows[j].push(inverse.preimage(alloc, &goal)?)?;
-            }
+        inverse: &Inverse,
+        map: &Hom<'_, Gens>,
+        values: &mut Values,
+    ) -> Result<(), Memory>
+        requires within { n < self.now.reach }
+        requires reaches { Reaches self.now.table.now self.now.sphere.now self.now.s self.now.above (suc k) self.now.reach self.now.far }
+        requires inverse { 0 < count_of (resolution_of self.now.table.now) (suc (self.now.s + k)) n → IsInverseAt self.now.sphere.now (suc k) (pos n -ℤ pos self.now.above) inverse.now }
+        requires basis { map.now.basis.now ≡ MAX_T }
+        requires source { map.now.source.now ≡ source_of self.now.table.now (self.now.s + k) self.now.reach (bottom_of self.now.table.now.resolved +ℤ pos self.now.above) }
+        requires target { map.now.target.now ≡ target_of self.now.sphere.now k self.now.far }
+        requires made { AreMade self.now.table.now self.now.sphere.now (suc (self.now.s + k)) (suc k) (bottom_of self.now.table.now.resolved +ℤ pos self.now.above) (next_goal self.now.table.now self.now.sphere.now (self.now.s + k) k self.now.above self.now.reach self.now.far map.now.images.now) n values.old }
+        ensures { OnOk result (AreMade self.now.table.now self.now.sphere.now (suc (self.now.s + k)) (suc k) (bottom_of self.now.table.now.resolved +ℤ pos self.now.above) (next_goal self.now.table.now self.now.sphere.now (self.now.s + k) k self.now.above self.now.reach self.now.far map.now.images.now) (n + 1) values.new) }
+    {
+        values.begin_square()?;
+        let images = self.images(self.s + k + 1, n);
+        for i in 0..images.len() {
+            let value = self.next_value(alloc, k, n, inverse, map, &images[i])?;
+            values.push(value)?;
         }
         Ok(())
     }
+
+    /// The value on a generator of that square, whose image is `image`.
+    fn next_value(
+        &self,
+        alloc: Global,
+        k: u16,
+        n: u16,
+        inverse: &Inverse,
+        map: &Hom<'_, Gens>,
+        image: &BitVec,
+    ) -> Result<BitVec, Memory>
+        requires within { n < self.now.reach }
+        requires reaches { Reaches self.now.table.now self.now.sphere.now self.now.s self.now.above (suc k) self.now.reach self.now.far }
+        requires inverse { IsInverseAt self.now.sphere.now (suc k) (pos n -ℤ pos self.now.above) inverse.now }
+        requires basis { map.now.basis.now ≡ MAX_T }
+        requires source { map.now.source.now ≡ source_of self.now.table.now (self.now.s + k) self.now.reach (bottom_of self.now.table.now.resolved +ℤ pos self.now.above) }
+        requires target { map.now.target.now ≡ target_of self.now.sphere.now k self.now.far }
+        requires width { length image.now ≡ free_width map.now.source.now (pos n -ℤ pos self.now.above) }
+        ensures { IfOk result (IsChosenFor self.now.sphere.now (suc k) (pos n -ℤ pos self.now.above) (mapped (free_graded map.now.target.now) map.now.source.now map.now.images.now (pos n -ℤ pos self.now.above) image.now)) }
+    {
+        let goal = map.apply(alloc, self.over(n), image)?;
+        inverse.preimage(alloc, &goal)
+    }
 }
 
-/// So many rows without a square.
-fn empty_rows(alloc: Global, count: usize) -> Result<Vec<Values>, Memory> {
-    let mut rows = Vec::new(alloc);
-    for _ in 0..count {
-        rows.push(Values::new(alloc))?;
+/// The value of a class on a generator, in the field with two elements or, of width 0, outside its degree: 1 on the class's own.
+fn class_value(alloc: Global, width: usize, own: bool) -> Result<BitVec, Memory>
+    requires { IsTrue own → 0 < width }
+    ensures { IfOk result (λ v. v ≡ class_value width own) }
+{
+    if own {
+        return BitVec::unit(alloc, width, 0);
     }
-    Ok(rows)
-}
-
-/// The next square in each of the rows.
-fn begin_squares(rows: &mut Vec<Values>) -> Result<(), Memory> {
-    for j in 0..rows.len() {
-        rows[j].begin_square()?;
-    }
-    Ok(())
+    BitVec::zero(alloc, width)
 }

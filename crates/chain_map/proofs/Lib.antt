@@ -1,0 +1,5 @@
+pub mod Generators
+mod MadeRows
+mod Widths
+mod Resolved
+mod MadeLifts
