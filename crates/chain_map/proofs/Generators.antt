@@ -1,10 +1,12 @@
 -- The generators of a row by squares: number i of a square is that many behind the row's generators before it.
-use Rattle.std.proofs.Common.{◌≡◌, ℕ, zero, suc, ◌+◌, ◌<◌, Bool, ℤ, pos, ◌+ℤ◌, List, [], ◌∷◌, ◌++◌, length, take, refl, ap, sym, ◌∙◌, arith}
+use Rattle.std.proofs.Common.{◌≡◌, ℕ, zero, suc, ◌+◌, ◌<◌, Bool, ℤ, pos, ◌+ℤ◌, ◌-ℤ◌, ◌≤ℤ◌, List, [], ◌∷◌, ◌++◌, length, map, replicate, take, refl, ap, sym, ◌∙◌, arith}
 use Rattle.std.proofs.lemmas.Int.{ints}
-use Rattle.std.proofs.lemmas.List.{get_or_append_left, get_or-append-add, length-append, take_more}
+use Rattle.std.proofs.lemmas.List.{get_or_append_left, get_or-append-add, length-append, map-append, take_more}
 use Rattle.f2_vec.specs.Spans.{row}
-use Rattle.resolution_laws.specs.Resolution.{Content, no_content, square_in, images_of, row_of}
-use Rattle.resolution_laws.proofs.Rows.{images_of-push}
+use Rattle.resolution_laws.specs.Resolution.{Content, no_content, square_in, degrees_from, images_of, row_of}
+use Rattle.resolution_laws.proofs.Rows.{images_of-push, degrees_from-between}
+use Rattle.free_module.specs.FreeModule.{IsWithinReach}
+use Rattle.lift_laws.specs.Maps.{lowered_by}
 use Rattle.lift_laws.specs.Lifts.{Resolution, gens, degree, image}
 use Rattle.lift_laws.specs.Products.{first_of, count_of}
 use Rattle.lift_laws.proofs.Coefficients.{is_new}
@@ -49,3 +51,27 @@ number_is_once r i n m h c l k a b e =
     let same : n ≡ m = omega (arith, ints) in
     let firsts : first_of r i n ≡ first_of r i m = ap (first_of r i) same in
     record { square = same; place = omega arith }
+
+map-replicate : (f : ℤ → ℤ) (n : ℕ) (x : ℤ) → map f (replicate n x) ≡ replicate n (f x)
+map-replicate f zero x = refl
+map-replicate f (suc n) x = ap (λ (z : List ℤ). f x ∷ z) (map-replicate f n x)
+
+-- the generators of a row in degrees that are lower by x
+lowered-from : (x b : ℤ) (squares : List Content) → lowered_by x (degrees_from b squares) ≡ degrees_from (b -ℤ x) squares
+lowered-from x b [] = refl
+lowered-from x b (c ∷ squares) =
+    let n = length c.images in
+    let low : ℤ → ℤ = λ d. d -ℤ x in
+    let next : (b +ℤ pos 1) -ℤ x ≡ (b -ℤ x) +ℤ pos 1 = omega (arith, ints) in
+    map-append low (replicate n b) (degrees_from (b +ℤ pos 1) squares)
+    ∙ (ap (λ (z : List ℤ). z ++ lowered_by x (degrees_from (b +ℤ pos 1) squares)) (map-replicate low n b)
+    ∙ ap (λ (z : List ℤ). replicate n (b -ℤ x) ++ z) (lowered-from x (b +ℤ pos 1) squares ∙ ap (λ (t : ℤ). degrees_from t squares) next))
+
+pub lowered-row : (b : ℤ) (a : ℕ) (squares : List Content) → lowered_by (b +ℤ pos a) (degrees_from b squares) ≡ degrees_from (pos 0 -ℤ pos a) squares
+lowered-row b a squares =
+    let e : b -ℤ (b +ℤ pos a) ≡ pos 0 -ℤ pos a = omega (arith, ints) in
+    lowered-from (b +ℤ pos a) b squares ∙ ap (λ (t : ℤ). degrees_from t squares) e
+
+-- a degree is within reach of each generator, where it is of the bottom
+pub within-reach : (b : ℤ) (squares : List Content) (max : ℕ) (t : ℤ) → t ≤ℤ (b +ℤ pos max) → IsWithinReach max (degrees_from b squares) t
+within-reach b squares max t l g h = let p = degrees_from-between b squares g h in omega (arith, ints, p.from)

@@ -3,3 +3,8 @@ mod MadeRows
 mod Widths
 mod Resolved
 mod MadeLifts
+mod Squares
+mod Goals
+mod Places
+mod Growing
+mod Finished

@@ -11,7 +11,7 @@ use Rattle.f2_vec.proofs.Sums.{length-zeros}
 use Rattle.f2_matrix.specs.Reduction.{Reduction, IsReductionOf}
 use Rattle.free_module.specs.FreeModule.{degree_at, free_width}
 use Rattle.free_module.specs.Graded.{IsSteenrodModule, free_graded}
-use Rattle.free_module.specs.LinearMap.{map_rows}
+use Rattle.free_module.specs.LinearMap.{map_rows, mapped}
 use Rattle.milnor_laws.proofs.FreeModules.{free_modules_are_modules}
 use Rattle.resolution_laws.specs.Resolution.{Content, square_in, degrees_from, images_of, row_of, below_of, target_over}
 use Rattle.resolution_laws.specs.Exactness.{target_of}
@@ -33,21 +33,28 @@ use Rattle.lift_laws.proofs.Cut.{degree-cut, image-cut, basis-cut, IsLift-uncut}
 use Rattle.chain_map.specs.Rows.{IsInverseAt, chosen_preimage}
 use Rattle.chain_map.specs.Lifting.{resolution_of, LiftValues, row_values, map_of}
 use Rattle.chain_map.specs.Inside.Making.{IsChosenFor, AreMade, class_of, next_goal, goal_of, IsMade}
-use Rattle.chain_map.proofs.Generators.{is_number}
+use Rattle.chain_map.proofs.Generators.{is_number, lowered-row}
 use Rattle.chain_map.proofs.Widths.{HasPlace, value_width, width-take}
 use Rattle.chain_map.proofs.Resolved.{longer_below, part, part_of, row_of-part, long-row}
 
--- a generator of the first n squares of a row is of a lower degree than the square behind them
-pub degree-below : (r : Resolution) (i n g : ℕ) → n ≤ length (row_of r.table i) → g < first_of r i n → degree r i g <ℤ (r.base.bottom +ℤ pos n)
-degree-below r i n g l b =
+-- a generator of the first n squares of a row, among these
+pub degree-first : (r : Resolution) (i n g : ℕ) → g < first_of r i n → degree_at (degrees_from r.base.bottom (take n (row_of r.table i))) g ≡ degree r i g
+degree-first r i n g b =
     let squares = row_of r.table i in
     let base = r.base.bottom in
     let first = degrees_from base (take n squares) in
     let later = degrees_from (base +ℤ pos n) (drop n squares) in
     let count = length-images_of base (take n squares) in
-    let here : g < length first = omega arith in
-    let same : degree r i g ≡ degree_at first g = ap (λ (z : List ℤ). degree_at z g) (degrees_from-split base squares n) ∙ get_or_append_left first later (pos 0) g here in
-    let low = (degrees_from-between base (take n squares) g here).below in
+    sym (ap (λ (z : List ℤ). degree_at z g) (degrees_from-split base squares n) ∙ get_or_append_left first later (pos 0) g (omega arith))
+
+-- it is of a lower degree than the square behind them
+pub degree-below : (r : Resolution) (i n g : ℕ) → n ≤ length (row_of r.table i) → g < first_of r i n → degree r i g <ℤ (r.base.bottom +ℤ pos n)
+degree-below r i n g l b =
+    let squares = row_of r.table i in
+    let base = r.base.bottom in
+    let count = length-images_of base (take n squares) in
+    let same = degree-first r i n g b in
+    let low = (degrees_from-between base (take n squares) g (omega arith)).below in
     let len : length (take n squares) ≡ n = length-take-le n squares l in
     omega (arith, ints)
 
@@ -235,10 +242,11 @@ module _ (table sphere : Staircase) (h : IsTable table) (hq : IsTable sphere) (i
         let target_is : target ≡ gens qc k = ap (λ (w : ℕ). degrees_from (bottom_of sphere.resolved) (take w (row_of q.table k))) far_is ∙ ap (degrees_from (bottom_of sphere.resolved)) (sym (q_rows k (omega arith))) in
         let goal = next_goal table sphere i k above n far (row_values lift k).vectors g in
         let goal_is : goal ≡ wanted =
-        mapped-lowered (free_graded target) x source (row_values lift k).vectors (degree r (suc i) g) (image r (suc i) g)
+        ap (λ (w : List ℤ). mapped (free_graded target) w (row_values lift k).vectors (degree r (suc i) g -ℤ x) (image r (suc i) g)) (sym (lowered-row (bottom_of table.resolved) above (take n (row_of r.table i))))
+        ∙ (mapped-lowered (free_graded target) x source (row_values lift k).vectors (degree r (suc i) g) (image r (suc i) g)
         ∙ (ap (λ (w : List ℤ). extended (shifted x (free_graded w)) source (phi k) (degree r (suc i) g) (image r (suc i) g)) target_is
         ∙ (ap (λ (w : List ℤ). extended (shifted x (free qc k)) w (phi k) (degree r (suc i) g) (image r (suc i) g)) source_is
-        ∙ (ap (λ (w : ℤ). lowered rc i qc k x (phi k) w (image r (suc i) g)) (sym same) ∙ ap (lowered rc i qc k x (phi k) (degree rc (suc i) g)) (sym im)))) in
+        ∙ (ap (λ (w : ℤ). lowered rc i qc k x (phi k) w (image r (suc i) g)) (sym same) ∙ ap (lowered rc i qc k x (phi k) (degree rc (suc i) g)) (sym im))))) in
         let good = IsSteenrodModule-shifted x (free qc k) (free_modules_are_modules (gens qc k)) in
         let len : length wanted ≡ free_width (gens qc k) u = length-extended (shifted x (free qc k)) good (gens rc i) top (phi k) (lift_k.fit k i (omega arith) refl) (degree rc (suc i) g) (image rc (suc i) g) low in
         let zero = is_sphere.bottom in

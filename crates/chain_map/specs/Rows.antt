@@ -1,10 +1,11 @@
 -- What a map has on the generators of a row, and what a quasi-inverse gives.
-use Rattle.std.specs.Prelude.{◌≡◌, ℕ, ◌+◌, ◌<◌, ℤ, ◌<ℤ◌, Bool, List, [], length, slice_index_or, Option, Some, None}
+use Rattle.std.specs.Prelude.{◌≡◌, ℕ, ◌+◌, ◌<◌, ℤ, pos, ◌-ℤ◌, ◌<ℤ◌, Bool, List, [], length, take, slice_index_or, Option, Some, None}
 use Rattle.f2_vec.specs.Spans.{row}
 use Rattle.f2_matrix.specs.Reduction.{Reduction}
 use Rattle.f2_matrix.specs.Preimages.{quasi_of}
+use Rattle.resolution_laws.specs.Resolution.{degrees_from, row_of}
 use Rattle.square.specs.Squares.{bottom_of}
-use Rattle.square.specs.Tables.{Staircase, IsQuasiAt}
+use Rattle.square.specs.Tables.{Staircase, plain_rows, IsQuasiAt}
 
 -- The values of a map on the generators of a row, in their order, and for each of its squares, from the bottom degree on, the
 -- number of its first generator.
@@ -22,6 +23,11 @@ pub record HasValueAt (v : RowValues) (above i : ℕ) : Type 0 where
 
 abbrev pub value_at : RowValues → ℕ → ℕ → List Bool
 value_at v above i = row v.vectors (first_in v above + i)
+
+-- The degrees of the generators of the first n squares of row s, each lower by that of the squares that are `above` above the
+-- bottom: the bottom degree becomes -above.
+abbrev pub lowered_row : Staircase → ℕ → ℕ → ℕ → List ℤ
+lowered_row table s n above = degrees_from (pos 0 -ℤ pos above) (take n (row_of (plain_rows table.rows) s))
 
 -- ---- quasi-inverses
 

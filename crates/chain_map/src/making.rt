@@ -1,11 +1,12 @@
 //! How lifts are made.
-ghost use Rattle.std.specs.Prelude.{◌≡◌, ◌+ℤ◌, ◌<◌, ◌≤◌, ◌+◌, pos, length, IfOk, OnOk, ℕ, slice_index_or};
-ghost use Rattle.square.specs.Squares.{bottom_of};
+ghost use Rattle.std.specs.Prelude.{◌≡◌, ◌+ℤ◌, ◌<◌, ◌≤◌, ◌+◌, ◌^◌, pos, [], length, replicate, IfOk, OnOk, ℕ, slice_index_or};
+ghost use Rattle.resolution_laws.specs.Exactness.{IsBoundedBelow};
+ghost use Rattle.square.specs.Squares.{over, bottom_of};
+ghost use Rattle.square.specs.Tables.{row_in, IsTable};
 ghost use Rattle.lift_laws.specs.Lifts.{IsSphere};
 ghost use Rattle.lift_laws.specs.Products.{count_of};
 ghost use Rattle.chain_map.specs.Lifting.{resolution_of, IsClassOf, IsSquareOf, IsLiftOver, no_lift, degrees_through};
 ghost use Rattle.chain_map.specs.Inside.Making.{AreMadeLifts, Reaches};
-ghost use Rattle.square.specs.Tables.{IsTable};
 
 use crate::class::Class;
 use crate::maps::Lift;
@@ -63,12 +64,9 @@ pub fn lifts(
     requires sphere { IsSphere (resolution_of sphere.now) }
     requires square { IsSquareOf table.now s t }
     ensures one_each { (above : ℕ) → t ≡ bottom_of table.now.resolved +ℤ pos above → IfOk result (λ lifts. length lifts.items ≡ count_of (resolution_of table.now) s above) }
-    ensures lifts { (above j : ℕ) → t ≡ bottom_of table.now.resolved +ℤ pos above → IfOk result (λ lifts. j < length lifts.items → IsLiftOver table.now sphere.now s above j upto (slice_index_or lifts.items j no_lift)) }
+    ensures lifts { (above : ℕ) → t ≡ bottom_of table.now.resolved +ℤ pos above → IfOk result (λ lifts. (j : ℕ) → j < length lifts.items → IsLiftOver table.now sphere.now s above j upto (slice_index_or lifts.items j no_lift)) }
 {
-    let count = match table.at(s, t) {
-        Some(square) => square.gens().len(),
-        None => unreachable!(),
-    };
+    let (_, count) = square_of(table, s, t);
     lifts_of(alloc, table, sphere, s, t, 0, count, upto)
 }
 
@@ -87,29 +85,73 @@ fn lifts_of(
     requires square { IsSquareOf table.now s t }
     requires classes { (above : ℕ) → t ≡ bottom_of table.now.resolved +ℤ pos above → from + count ≤ count_of (resolution_of table.now) s above }
     ensures one_each { IfOk result (λ lifts. length lifts.items ≡ count) }
-    ensures lifts { (above j : ℕ) → t ≡ bottom_of table.now.resolved +ℤ pos above → IfOk result (λ lifts. j < length lifts.items → IsLiftOver table.now sphere.now s above (from + j) upto (slice_index_or lifts.items j no_lift)) }
+    ensures lifts { (above : ℕ) → t ≡ bottom_of table.now.resolved +ℤ pos above → IfOk result (λ lifts. (j : ℕ) → j < length lifts.items → IsLiftOver table.now sphere.now s above (from + j) upto (slice_index_or lifts.items j no_lift)) }
 {
-    let above = match table.at(s, t) {
-        Some(square) => square.above(),
-        None => unreachable!(),
-    };
-    let bottom = table.module().bottom();
-    let reach = degrees_through(table, sphere, s, above, upto);
-    let mut lifts = Vec::new(alloc);
-    for _ in 0..count {
-        lifts.push(Lift::new(alloc, bottom))?;
-    }
+    let (above, _) = square_of(table, s, t);
     let course = Course {
         table,
         sphere,
         s,
         above,
-        reach,
+        reach: degrees_through(table, sphere, s, above, upto),
         far: sphere.front(upto) as u16,
     };
-    if reach > 0 {
-        add_rows(alloc, &course, from, upto, &mut lifts)?;
+    let lifts = empty_lifts(alloc, table.module().bottom(), count)?;
+    with_rows(alloc, &course, from, upto, lifts)
+}
+
+/// How many degrees the square in row `s` and of degree `t` is above the bottom, and how many generators it has.
+fn square_of(table: &Table, s: u16, t: i32) -> (u16, usize)
+    requires { IsSquareOf table.now s t }
+    ensures above { t ≡ bottom_of table.now.resolved +ℤ pos result.0 }
+    ensures there { result.0 < length (row_in table.now.rows s) }
+    ensures count { result.1 ≡ count_of (resolution_of table.now) s result.0 }
+    ensures is_table { IsTable table.now }
+{
+    match table.at(s, t) {
+        Some(square) => (square.above(), square.gens().len()),
+        None => unreachable!(),
     }
+}
+
+/// So many lifts without a row.
+fn empty_lifts(alloc: Global, bottom: i32, count: usize) -> Result<Vec<Lift>, Memory>
+    ensures { IfOk result (λ lifts. lifts.items ≡ replicate count (record { bottom = bottom; rows = [] })) }
+{
+    let mut lifts = Vec::new(alloc);
+    for _ in 0..count {
+        lifts.push(Lift::new(alloc, bottom))?;
+    }
+    Ok(lifts)
+}
+
+/// These lifts, which have no row, with all their rows.
+fn with_rows(
+    alloc: Global,
+    course: &Course<'_>,
+    from: usize,
+    upto: u16,
+    mut lifts: Vec<Lift>,
+) -> Result<Vec<Lift>, Memory>
+    requires sphere { IsSphere (resolution_of course.now.sphere.now) }
+    requires is_table { IsTable course.now.table.now }
+    requires is_sphere_table { IsTable course.now.sphere.now }
+    requires bounded { IsBoundedBelow (over course.now.table.now.resolved) }
+    requires there { course.now.above < length (row_in course.now.table.now.rows course.now.s) }
+    requires reach { course.now.reach ≡ degrees_through course.now.table.now course.now.sphere.now course.now.s course.now.above upto }
+    requires far { course.now.far ≡ length (row_in course.now.sphere.now.rows upto) }
+    requires classes { from + length lifts.items ≤ count_of (resolution_of course.now.table.now) course.now.s course.now.above }
+    requires small { from + length lifts.items < 2 ^ 64 }
+    requires empty { (j : ℕ) → j < length lifts.items → slice_index_or lifts.items j no_lift ≡ record { bottom = bottom_of course.now.table.now.resolved; rows = [] } }
+    ensures one_each { IfOk result (λ more. length more.items ≡ length lifts.items) }
+    ensures lifts { IfOk result (λ more. (j : ℕ) → j < length more.items → IsLiftOver course.now.table.now course.now.sphere.now course.now.s course.now.above (from + j) upto (slice_index_or more.items j no_lift)) }
+{
+    resolution_laws::canonical_table_is_minimal_resolution();
+    finite_module::modules_are_graded_modules();
+    if course.reach == 0 {
+        return Ok(lifts);
+    }
+    add_rows(alloc, course, from, upto, &mut lifts)?;
     Ok(lifts)
 }
 
@@ -140,11 +182,12 @@ fn add_rows(
     requires sphere { IsSphere (resolution_of course.now.sphere.now) }
     requires reaches { Reaches course.now.table.now course.now.sphere.now course.now.s course.now.above upto course.now.reach course.now.far }
     requires classes { from + length lifts.old.items ≤ count_of (resolution_of course.now.table.now) course.now.s course.now.above }
+    requires small { from + length lifts.old.items < 2 ^ 64 }
     requires made { AreMadeLifts course.now.table.now course.now.sphere.now course.now.s course.now.above course.now.reach course.now.far from 0 lifts.old.items }
     ensures one_each { OnOk result (length lifts.new.items ≡ length lifts.old.items) }
     ensures made { OnOk result (AreMadeLifts course.now.table.now course.now.sphere.now course.now.s course.now.above course.now.reach course.now.far from (upto + 1) lifts.new.items) }
 {
-    for k in 0..=upto {
+    for k in 0..upto + 1 {
         add_row(alloc, course, from, k, lifts)?;
     }
     Ok(())
@@ -161,6 +204,7 @@ fn add_row(
     requires sphere { IsSphere (resolution_of course.now.sphere.now) }
     requires reaches { Reaches course.now.table.now course.now.sphere.now course.now.s course.now.above k course.now.reach course.now.far }
     requires classes { from + length lifts.old.items ≤ count_of (resolution_of course.now.table.now) course.now.s course.now.above }
+    requires small { from + length lifts.old.items < 2 ^ 64 }
     requires made { AreMadeLifts course.now.table.now course.now.sphere.now course.now.s course.now.above course.now.reach course.now.far from k lifts.old.items }
     ensures one_each { OnOk result (length lifts.new.items ≡ length lifts.old.items) }
     ensures made { OnOk result (AreMadeLifts course.now.table.now course.now.sphere.now course.now.s course.now.above course.now.reach course.now.far from (k + 1) lifts.new.items) }

@@ -32,8 +32,10 @@ impl Lift {
         requires { HasValue self.now k t i }
         ensures { (above : ℕ) → t ≡ self.now.bottom +ℤ pos above → result.now ≡ value_at (row_values self.now k) above i }
     {
-        let above = t - self.bottom;
-        self.rows[usize::from(k)].at(above as usize, i)
+        match degrees::above_of(self.bottom, t) {
+            Some(above) => self.rows[usize::from(k)].at(above as usize, i),
+            None => unreachable!(),
+        }
     }
 
     /// The values of phi_k on all generators that it has them for, in their order.

@@ -7,13 +7,13 @@ ghost use Rattle.free_module.specs.LinearMap.{AreImages, mapped};
 ghost use Rattle.resolution_laws.specs.Resolution.{degrees_from, row_of};
 ghost use Rattle.square.specs.declared.range.TheConstants.{MAX_T};
 ghost use Rattle.square.specs.Squares.{bottom_of};
-ghost use Rattle.square.specs.Tables.{row_in, plain_rows, content_at};
+ghost use Rattle.square.specs.Tables.{row_in, content_at, IsTable};
 ghost use Rattle.lift_laws.specs.Lifts.{IsSphere};
-ghost use Rattle.lift_laws.specs.Maps.{lowered_by};
 ghost use Rattle.lift_laws.specs.Products.{first_of, count_of};
 ghost use Rattle.chain_map.specs.Rows.{IsInverseAt};
-ghost use Rattle.chain_map.specs.Lifting.{resolution_of, row_values};
-ghost use Rattle.chain_map.specs.Inside.Making.{IsChosenFor, AreInverses, AreMade, class_of, class_value, next_goal, source_of, target_of, goal_of, IsMade, Reaches};
+ghost use Rattle.chain_map.specs.Lifting.{resolution_of};
+ghost use Rattle.chain_map.specs.Rows.{lowered_row};
+ghost use Rattle.chain_map.specs.Inside.Making.{IsChosenFor, AreInverses, AreMade, class_of, class_value, next_goal, target_of, goal_of, IsMade, Reaches};
 
 use crate::inverse::Inverse;
 use crate::maps::Lift;
@@ -25,7 +25,8 @@ use memory::Memory;
 use square::Table;
 use std::alloc::Global;
 
-/// The generators of the first `n` squares of row `s` of the table, each in a degree that is lower by `x`.
+/// The generators of the first `n` squares of row `s` of the table, each in a degree that is lower by that of the squares that are
+/// `above` above the bottom.
 ///
 /// # Errors
 /// `Memory` if allocation fails.
@@ -34,19 +35,29 @@ pub fn lowered_generators(
     table: &Table,
     s: u16,
     n: u16,
-    x: i32,
+    above: u16,
 ) -> Result<Gens, Memory>
-    requires within { n ≤ length (row_in table.now.rows s) }
-    requires low { negsuc 511 ≤ℤ x }
-    requires high { x ≤ℤ pos 511 }
-    ensures { IfOk result (λ gens. gens ≡ lowered_by x (degrees_from (bottom_of table.now.resolved) (take n (row_of (plain_rows table.now.rows) s)))) }
+    requires { n ≤ length (row_in table.now.rows s) }
+    ensures { IfOk result (λ gens. gens ≡ lowered_row table.now s n above) }
 {
-    let gens = table.generators(alloc, s, n)?;
-    let mut lowered = Gens::new(alloc);
-    for degree in gens.degrees() {
-        lowered.push(*degree - x)?;
+    let mut gens = Gens::new(alloc);
+    for k in 0..n {
+        let count = images_at(table, s, k).len();
+        gens.push_many(count, i32::from(k) - i32::from(above))?;
     }
-    Ok(lowered)
+    Ok(gens)
+}
+
+/// The images of the generators of the square in row `s` that is `n` above the bottom.
+fn images_at(table: &Table, s: u16, n: u16) -> &[BitVec]
+    requires { n < length (row_in table.now.rows s) }
+    ensures images { result.now ≡ (content_at table.now.rows s n).images }
+    ensures is_table { IsTable table.now }
+{
+    match table.at(s, table.module().bottom() + i32::from(n)) {
+        Some(square) => square.gens(),
+        None => unreachable!(),
+    }
 }
 
 /// What lifts of classes of one square go over: the two tables, the row of the square and how many degrees it is above the
@@ -69,17 +80,6 @@ impl Course<'_> {
         i32::from(n) - i32::from(self.above)
     }
 
-    /// The images of the generators of the square in row `i` that is `n` above the bottom.
-    fn images(&self, i: u16, n: u16) -> &[BitVec]
-        requires { n < length (row_in self.now.table.now.rows i) }
-        ensures { result.now ≡ (content_at self.now.table.now.rows i n).images }
-    {
-        match self.table.at(i, self.table.module().bottom() + i32::from(n)) {
-            Some(square) => square.gens(),
-            None => unreachable!(),
-        }
-    }
-
     /// The quasi-inverse of d_k for the values on the square in row s + k that is `n` above the bottom, if it has generators.
     fn inverse(&self, alloc: Global, k: u16, n: u16) -> Result<Inverse, Memory>
         requires sphere { IsSphere (resolution_of self.now.sphere.now) }
@@ -87,7 +87,7 @@ impl Course<'_> {
         requires within { n < self.now.reach }
         ensures { IfOk result (λ inverse. 0 < count_of (resolution_of self.now.table.now) (self.now.s + k) n → IsInverseAt self.now.sphere.now k (pos n -ℤ pos self.now.above) inverse) }
     {
-        if self.images(self.s + k, n).is_empty() {
+        if images_at(self.table, self.s + k, n).is_empty() {
             return Ok(Inverse::none());
         }
         Inverse::of(alloc, self.sphere, k, self.over(n))
@@ -122,10 +122,10 @@ impl Course<'_> {
         requires made { IsMade self.now.table.now self.now.sphere.now self.now.s self.now.above self.now.reach self.now.far class k lift.now }
         ensures { IfOk result (AreMade self.now.table.now self.now.sphere.now (self.now.s + k) k (bottom_of self.now.table.now.resolved +ℤ pos self.now.above) (goal_of self.now.table.now self.now.sphere.now self.now.s self.now.above self.now.reach self.now.far class lift.now k) self.now.reach) }
     {
-        if k == 0 {
-            return self.first_row(alloc, inverses, class);
+        match k.checked_sub(1) {
+            None => self.first_row(alloc, inverses, class),
+            Some(below) => self.next_row(alloc, below, inverses, lift.vectors(below)),
         }
-        self.next_row(alloc, k - 1, inverses, lift.vectors(k - 1))
     }
 
     /// The values of map 0: d_0 takes them to the class.
@@ -158,14 +158,15 @@ impl Course<'_> {
         values: &mut Values,
     ) -> Result<(), Memory>
         requires sphere { IsSphere (resolution_of self.now.sphere.now) }
-        requires within { n < length (row_in self.now.table.now.rows self.now.s) }
+        requires reaches { Reaches self.now.table.now self.now.sphere.now self.now.s self.now.above 0 self.now.reach self.now.far }
+        requires within { n < self.now.reach }
         requires class { class < count_of (resolution_of self.now.table.now) self.now.s self.now.above }
         requires inverse { 0 < count_of (resolution_of self.now.table.now) self.now.s n → IsInverseAt self.now.sphere.now 0 (pos n -ℤ pos self.now.above) inverse.now }
         requires made { AreMade self.now.table.now self.now.sphere.now self.now.s 0 (bottom_of self.now.table.now.resolved +ℤ pos self.now.above) (class_of self.now.table.now self.now.sphere.now self.now.s self.now.above class) n values.old }
         ensures { OnOk result (AreMade self.now.table.now self.now.sphere.now self.now.s 0 (bottom_of self.now.table.now.resolved +ℤ pos self.now.above) (class_of self.now.table.now self.now.sphere.now self.now.s self.now.above class) (n + 1) values.new) }
     {
         values.begin_square()?;
-        for i in 0..self.images(self.s, n).len() {
+        for i in 0..images_at(self.table, self.s, n).len() {
             let value = self.first_value(alloc, n, i, inverse, class)?;
             values.push(value)?;
         }
@@ -182,12 +183,22 @@ impl Course<'_> {
         class: usize,
     ) -> Result<BitVec, Memory>
         requires sphere { IsSphere (resolution_of self.now.sphere.now) }
+        requires reaches { Reaches self.now.table.now self.now.sphere.now self.now.s self.now.above 0 self.now.reach self.now.far }
+        requires within { n < self.now.reach }
         requires inverse { IsInverseAt self.now.sphere.now 0 (pos n -ℤ pos self.now.above) inverse.now }
         ensures { IfOk result (IsChosenFor self.now.sphere.now 0 (pos n -ℤ pos self.now.above) (class_value ((resolution_of self.now.sphere.now).base.graded.width (pos n -ℤ pos self.now.above)) (nat_eq n self.now.above && nat_eq i class))) }
     {
         let width = self.sphere.module().dim_in(self.over(n));
-        let goal = class_value(alloc, width, n == self.above && i == class)?;
+        let own = self.is_own(n, i, class);
+        let goal = class_value(alloc, width, own)?;
         inverse.preimage(alloc, &goal)
+    }
+
+    /// Whether number `i` of that square is the generator of number `class` of the classes' square.
+    fn is_own(&self, n: u16, i: usize, class: usize) -> bool
+        ensures { result ≡ (nat_eq n self.now.above && nat_eq i class) }
+    {
+        n == self.above && i == class
     }
 
     /// The values of map k + 1, where `below` has those of map `k`: d_(k+1) takes them to the value of map k on what d takes the
@@ -202,11 +213,11 @@ impl Course<'_> {
         requires sphere { IsSphere (resolution_of self.now.sphere.now) }
         requires reaches { Reaches self.now.table.now self.now.sphere.now self.now.s self.now.above (suc k) self.now.reach self.now.far }
         requires inverses { AreInverses self.now.table.now self.now.sphere.now (suc (self.now.s + k)) (suc k) self.now.above self.now.reach inverses.now.items }
-        requires below { AreImages (free_graded (target_of self.now.sphere.now k self.now.far)) (source_of self.now.table.now (self.now.s + k) self.now.reach (bottom_of self.now.table.now.resolved +ℤ pos self.now.above)) below.now }
+        requires below { AreImages (free_graded (target_of self.now.sphere.now k self.now.far)) (lowered_row self.now.table.now (self.now.s + k) self.now.reach self.now.above) below.now }
         ensures { IfOk result (AreMade self.now.table.now self.now.sphere.now (suc (self.now.s + k)) (suc k) (bottom_of self.now.table.now.resolved +ℤ pos self.now.above) (next_goal self.now.table.now self.now.sphere.now (self.now.s + k) k self.now.above self.now.reach self.now.far below.now) self.now.reach) }
     {
-        let x = self.table.module().bottom() + i32::from(self.above);
-        let source = lowered_generators(alloc, self.table, self.s + k, self.reach, x)?;
+        let source =
+            lowered_generators(alloc, self.table, self.s + k, self.reach, self.above)?;
         let target = self.sphere.generators(alloc, k, self.far)?;
         let map = Hom::new(self.table.basis(), &source, &target, below);
         let mut values = Values::new(alloc);
@@ -226,17 +237,18 @@ impl Course<'_> {
         map: &Hom<'_, Gens>,
         values: &mut Values,
     ) -> Result<(), Memory>
+        requires sphere { IsSphere (resolution_of self.now.sphere.now) }
         requires within { n < self.now.reach }
         requires reaches { Reaches self.now.table.now self.now.sphere.now self.now.s self.now.above (suc k) self.now.reach self.now.far }
         requires inverse { 0 < count_of (resolution_of self.now.table.now) (suc (self.now.s + k)) n → IsInverseAt self.now.sphere.now (suc k) (pos n -ℤ pos self.now.above) inverse.now }
         requires basis { map.now.basis.now ≡ MAX_T }
-        requires source { map.now.source.now ≡ source_of self.now.table.now (self.now.s + k) self.now.reach (bottom_of self.now.table.now.resolved +ℤ pos self.now.above) }
+        requires source { map.now.source.now ≡ lowered_row self.now.table.now (self.now.s + k) self.now.reach self.now.above }
         requires target { map.now.target.now ≡ target_of self.now.sphere.now k self.now.far }
         requires made { AreMade self.now.table.now self.now.sphere.now (suc (self.now.s + k)) (suc k) (bottom_of self.now.table.now.resolved +ℤ pos self.now.above) (next_goal self.now.table.now self.now.sphere.now (self.now.s + k) k self.now.above self.now.reach self.now.far map.now.images.now) n values.old }
         ensures { OnOk result (AreMade self.now.table.now self.now.sphere.now (suc (self.now.s + k)) (suc k) (bottom_of self.now.table.now.resolved +ℤ pos self.now.above) (next_goal self.now.table.now self.now.sphere.now (self.now.s + k) k self.now.above self.now.reach self.now.far map.now.images.now) (n + 1) values.new) }
     {
         values.begin_square()?;
-        let images = self.images(self.s + k + 1, n);
+        let images = images_at(self.table, self.s + k + 1, n);
         for i in 0..images.len() {
             let value = self.next_value(alloc, k, n, inverse, map, &images[i])?;
             values.push(value)?;
@@ -254,11 +266,12 @@ impl Course<'_> {
         map: &Hom<'_, Gens>,
         image: &BitVec,
     ) -> Result<BitVec, Memory>
+        requires sphere { IsSphere (resolution_of self.now.sphere.now) }
         requires within { n < self.now.reach }
         requires reaches { Reaches self.now.table.now self.now.sphere.now self.now.s self.now.above (suc k) self.now.reach self.now.far }
         requires inverse { IsInverseAt self.now.sphere.now (suc k) (pos n -ℤ pos self.now.above) inverse.now }
         requires basis { map.now.basis.now ≡ MAX_T }
-        requires source { map.now.source.now ≡ source_of self.now.table.now (self.now.s + k) self.now.reach (bottom_of self.now.table.now.resolved +ℤ pos self.now.above) }
+        requires source { map.now.source.now ≡ lowered_row self.now.table.now (self.now.s + k) self.now.reach self.now.above }
         requires target { map.now.target.now ≡ target_of self.now.sphere.now k self.now.far }
         requires width { length image.now ≡ free_width map.now.source.now (pos n -ℤ pos self.now.above) }
         ensures { IfOk result (IsChosenFor self.now.sphere.now (suc k) (pos n -ℤ pos self.now.above) (mapped (free_graded map.now.target.now) map.now.source.now map.now.images.now (pos n -ℤ pos self.now.above) image.now)) }

@@ -10,10 +10,9 @@ use Rattle.resolution_laws.specs.Resolution.{degrees_from, row_of}
 use Rattle.square.specs.declared.range.TheConstants.{MAX_S}
 use Rattle.square.specs.Squares.{bottom_of}
 use Rattle.square.specs.Tables.{Staircase, row_in, plain_rows, IsTable}
-use Rattle.lift_laws.specs.Maps.{lowered_by}
 use Rattle.lift_laws.specs.Lifts.{degree, image, dual_of}
 use Rattle.lift_laws.specs.Products.{first_of, count_of}
-use Rattle.chain_map.specs.Rows.{RowValues, IsInverseAt, chosen_preimage}
+use Rattle.chain_map.specs.Rows.{RowValues, lowered_row, IsInverseAt, chosen_preimage}
 use Rattle.chain_map.specs.Lifting.{resolution_of, LiftValues, row_values, no_lift}
 
 -- v is what a quasi-inverse of d_k of q in degree u gives on goal
@@ -44,10 +43,7 @@ pub record AreMade (table sphere : Staircase) (i k : ℕ) (x : ℤ) (goal : ℕ 
 
 -- ---- the rows of a lift
 
--- the generators of the first n squares of row i, with degrees that are lower by x
-abbrev pub source_of : Staircase → ℕ → ℕ → ℤ → List ℤ
-source_of table i n x = lowered_by x (degrees_from (bottom_of table.resolved) (take n (row_of (plain_rows table.rows) i)))
-
+-- the degrees of the generators of the first n squares of row k
 abbrev pub target_of : Staircase → ℕ → ℕ → List ℤ
 target_of table k n = degrees_from (bottom_of table.resolved) (take n (row_of (plain_rows table.rows) k))
 
@@ -64,7 +60,7 @@ class_value width own = if own then unit_vector width 0 else zeros width
 abbrev pub next_goal : Staircase → Staircase → ℕ → ℕ → ℕ → ℕ → ℕ → List (List Bool) → ℕ → List Bool
 next_goal table sphere i k above n far below g =
     let x = bottom_of table.resolved +ℤ pos above in
-    mapped (free_graded (target_of sphere k far)) (source_of table i n x) below (degree (resolution_of table) (suc i) g -ℤ x) (image (resolution_of table) (suc i) g)
+    mapped (free_graded (target_of sphere k far)) (lowered_row table i n above) below (degree (resolution_of table) (suc i) g -ℤ x) (image (resolution_of table) (suc i) g)
 
 -- what d_k has to take the value of map k on generator g to, for number c of the square (s, above)
 abbrev pub goal_of : Staircase → Staircase → ℕ → ℕ → ℕ → ℕ → ℕ → LiftValues → ℕ → ℕ → List Bool

@@ -1,0 +1,1 @@
+use Rattle.chain_map.proofs.making.lift.Goals as goal
