@@ -32,6 +32,9 @@ pub fn lift(
     requires class { IsClassOf table.now class }
     ensures { (above : ℕ) → class.t ≡ bottom_of table.now.resolved +ℤ pos above → IfOk result (IsLiftOver table.now sphere.now class.s above class.i upto) }
 {
+    // No row is longer than row 0, and there is none above the last: so the number of the class's row is small.
+    let longest = table.front(0);
+    prove!(longest > 0);
     let mut lifts = lifts_of(
         alloc,
         table,
