@@ -42,7 +42,7 @@ made_row table sphere s above n far c k old new row e made added =
             let at : k ≡ j = omega arith in
             let P : ℕ → Type 0 = λ j. AreMade table sphere (s + j) j x (goal_of table sphere s above n far c more j) n (row_values more j) in
             subst P at (AreMade-same table sphere (s + k) k x (goal_of table sphere s above n far c old k) (goal_of table sphere s above n far c more k) n (row_values more k) (goal_same table sphere s above n far c old more k (λ i d. earlier i (omega arith)))
-              (subst (AreMade table sphere (s + k) k x (goal_of table sphere s above n far c old k) n) last added))
+            (subst (AreMade table sphere (s + k) k x (goal_of table sphere s above n far c old k) n) last added))
       ];
     } in
     subst (IsMade table sphere s above n far c (k + 1)) (sym e) grown

@@ -59,8 +59,8 @@ degree-below r i n g l b =
     omega (arith, ints)
 
 module _ (table sphere : Staircase) (h : IsTable table) (hq : IsTable sphere) (is_sphere : IsSphere (resolution_of sphere))
-         (s above n far c count upto : ℕ) (lift : LiftValues) (made : IsMade table sphere s above n far c count lift)
-         (long : n ≤ length (row_in table.rows (s + upto))) (enough : n ≤ above + far) (reach : far ≤ length (row_in sphere.rows upto)) (within : count ≤ upto + 1) where
+    (s above n far c count upto : ℕ) (lift : LiftValues) (made : IsMade table sphere s above n far c count lift)
+    (long : n ≤ length (row_in table.rows (s + upto))) (enough : n ≤ above + far) (reach : far ≤ length (row_in sphere.rows upto)) (within : count ≤ upto + 1) where
   abbrev r : Resolution
   r = resolution_of table
 
@@ -106,8 +106,8 @@ module _ (table sphere : Staircase) (h : IsTable table) (hq : IsTable sphere) (i
   -- ---- over canonical squares
 
   module _ (t tq : ℕ) (n_is : n ≡ t + 1) (far_is : far ≡ tq + 1) (all : count ≡ upto + 1) (class_there : above < length (row_in table.rows s)) (class : c < count_of r s above)
-           (inside : t < length (row_in table.rows (s + upto))) (inside_q : tq < length (row_in sphere.rows upto))
-           (p : IsResolved (part_of table h (s + upto) t inside) (s + upto) t) (o : IsResolved (part_of sphere hq upto tq inside_q) upto tq) where
+      (inside : t < length (row_in table.rows (s + upto))) (inside_q : tq < length (row_in sphere.rows upto))
+      (p : IsResolved (part_of table h (s + upto) t inside) (s + upto) t) (o : IsResolved (part_of sphere hq upto tq inside_q) upto tq) where
     abbrev rc : Resolution
     rc = part_of table h (s + upto) t inside
 

@@ -27,8 +27,8 @@ use Rattle.chain_map.proofs.MadeLifts.{value-fits, degree-first, degree-below}
 -- ---- the class, on number h of the square (s, n)
 
 module _ (table sphere : Staircase) (s above class n h : ℕ) (is_sphere : IsSphere (resolution_of sphere))
-         (there : above < length (row_of (plain_rows table.rows) s)) (class_there : class < count_of (resolution_of table) s above)
-         (n_there : n < length (row_of (plain_rows table.rows) s)) (h_there : h < count_of (resolution_of table) s n) where
+    (there : above < length (row_of (plain_rows table.rows) s)) (class_there : class < count_of (resolution_of table) s above)
+    (n_there : n < length (row_of (plain_rows table.rows) s)) (h_there : h < count_of (resolution_of table) s n) where
   abbrev number : ℕ
   number = first_of (resolution_of table) s above + class
 

@@ -216,8 +216,7 @@ impl Course<'_> {
         requires below { AreImages (free_graded (target_of self.now.sphere.now k self.now.far)) (lowered_row self.now.table.now (self.now.s + k) self.now.reach self.now.above) below.now }
         ensures { IfOk result (AreMade self.now.table.now self.now.sphere.now (suc (self.now.s + k)) (suc k) (bottom_of self.now.table.now.resolved +ℤ pos self.now.above) (next_goal self.now.table.now self.now.sphere.now (self.now.s + k) k self.now.above self.now.reach self.now.far below.now) self.now.reach) }
     {
-        let source =
-            lowered_generators(alloc, self.table, self.s + k, self.reach, self.above)?;
+        let source = lowered_generators(alloc, self.table, self.s + k, self.reach, self.above)?;
         let target = self.sphere.generators(alloc, k, self.far)?;
         let map = Hom::new(self.table.basis(), &source, &target, below);
         let mut values = Values::new(alloc);

@@ -26,7 +26,8 @@ pub fn resolved(alloc: Global, module: Module, range: Range) -> Result<Table, Me
 
 /// The module of two cells, in degrees 0 and 1.
 pub fn two_cells(alloc: Global) -> Result<Option<Module>, Memory> {
-    let text = r#"{"type":"finite dimensional module","p":2,"gens":{"x0":0,"x1":1},"actions":["Sq1 x0 = x1"]}"#;
+    let text =
+        r#"{"type":"finite dimensional module","p":2,"gens":{"x0":0,"x1":1},"actions":["Sq1 x0 = x1"]}"#;
     let Ok(spec) = read(alloc, text.as_bytes()) else {
         return Ok(None);
     };

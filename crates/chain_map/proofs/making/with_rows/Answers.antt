@@ -9,7 +9,7 @@ pub add_rows-requires-clause-reaches : goal.add_rows-requires-clause-reaches
 add_rows-requires-clause-reaches c =
     let course = c.args.course.now in
     let some = c.if-course-eq0.false in
-    let positive : 0 < course.reach = elim (cases_eq course.reach 0) [ | inl e ↦ absurd (some e) | inr f ↦ omega arith ] in
+    let positive : 0 < course.reach = elim (cases_eq course.reach 0) [ inl e ↦ absurd (some e) | inr f ↦ omega arith ] in
     reaches_all course.table.now course.sphere.now c.requires.is_table c.requires.is_sphere_table course.s course.above c.args.upto course.reach course.far c.requires.there c.requires.reach c.requires.far positive
 
 pub add_rows-requires-clause-made : goal.add_rows-requires-clause-made
@@ -28,7 +28,7 @@ pub returns-clause-lifts : goal.returns-clause-lifts
 returns-clause-lifts c = λ j l.
     let course = c.args.course.now in
     let some = c.if-course-eq0.false in
-    let positive : 0 < course.reach = elim (cases_eq course.reach 0) [ | inl e ↦ absurd (some e) | inr f ↦ omega arith ] in
+    let positive : 0 < course.reach = elim (cases_eq course.reach 0) [ inl e ↦ absurd (some e) | inr f ↦ omega arith ] in
     let reaches = reaches_all course.table.now course.sphere.now c.requires.is_table c.requires.is_sphere_table course.s course.above c.args.upto course.reach course.far c.requires.there c.requires.reach c.requires.far positive in
     let count = c.in_ok-add_rows.ensures.one_each in
     let classes = c.requires.classes in

@@ -31,7 +31,7 @@ returns-in-None c =
     let table = self.table.now in
     let sphere = self.sphere.now in
     let x = bottom_of table.resolved +ℤ pos self.above in
-    let none : 0 ≡ c.args.k = elim (cases_lt 0 c.args.k) [ | inl l ↦ absurd (c.in-None.ensures (omega arith)) | inr l ↦ omega arith ] in
+    let none : 0 ≡ c.args.k = elim (cases_lt 0 c.args.k) [ inl l ↦ absurd (c.in-None.ensures (omega arith)) | inr l ↦ omega arith ] in
     let e : self.s ≡ self.s + 0 = omega arith in
     let P : ℕ → RowValues → Type 0 = λ k v. AreMade table sphere (self.s + k) k x (goal_of table sphere self.s self.above self.reach self.far c.args.class c.args.lift.now k) self.reach v in
     IfOk-weaker c.first_row.result (AreMade table sphere self.s 0 x (class_of table sphere self.s self.above c.args.class) self.reach) (P c.args.k) (λ v made. subst (λ (k : ℕ). P k v) none (subst (λ (i : ℕ). AreMade table sphere i 0 x (class_of table sphere self.s self.above c.args.class) self.reach v) e made)) c.first_row.ensures
