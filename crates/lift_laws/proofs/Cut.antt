@@ -1,7 +1,8 @@
 -- A lift over tables is a lift over the tables cut to fewer degrees, as far as these go.
-use Rattle.std.proofs.Common.{◌≡◌, ℕ, zero, suc, ◌+◌, ◌<◌, ◌≤◌, ℤ, pos, ◌+ℤ◌, ◌-ℤ◌, ◌≤ℤ◌, ◌<ℤ◌, Bool, List, [], ◌∷◌, ◌++◌, length, map, take, drop, refl, ap, sym, subst, ◌∙◌, arith}
+use Rattle.std.proofs.Common.{◌≡◌, ◌-◌, inr, inl, ℕ, zero, suc, ◌+◌, ◌<◌, ◌≤◌, ℤ, pos, ◌+ℤ◌, ◌-ℤ◌, ◌≤ℤ◌, ◌<ℤ◌, Bool, List, [], ◌∷◌, ◌++◌, length, map, take, drop, refl, ap, sym, subst, ◌∙◌, arith}
 use Rattle.std.proofs.lemmas.Int.{ints}
-use Rattle.std.proofs.lemmas.List.{append_assoc, get_or_append_left, length-append}
+use Rattle.std.proofs.lemmas.Bool.{cases_lt}
+use Rattle.std.proofs.lemmas.List.{append_assoc, get_or_append_left, length-append, get_or-append_right}
 use Rattle.f2_vec.specs.Spans.{row, combination}
 use Rattle.f2_vec.proofs.Combinations.{map_same_all}
 use Rattle.free_module.specs.FreeModule.{degree_at, free_basis, free_width}
@@ -10,7 +11,7 @@ use Rattle.free_module.specs.Graded.{GradedModule, free_graded}
 use Rattle.free_module.proofs.FreeBasis.{All-free_basis}
 use Rattle.resolution_laws.specs.Resolution.{Module, Content, degrees_from, images_of, row_of}
 use Rattle.resolution_laws.specs.Exactness.{target_of}
-use Rattle.resolution_laws.proofs.Rows.{degrees_from-split, free_basis-take}
+use Rattle.resolution_laws.proofs.Rows.{degrees_from-between, degrees_from-split, free_basis-take}
 use Rattle.resolution_laws.proofs.Generators.{length-images_of, AgreeIn, AgreeIn-take}
 use Rattle.lift_laws.specs.Maps.{shifted, value_of, extended}
 use Rattle.lift_laws.specs.Lifts.{Resolution, gens, degree, free, image, d, lowered, IsLift}
@@ -55,6 +56,20 @@ module _ (m : Module) (s n : ℕ) (table cut : List (List Content)) (rows : (i :
 
   pub there-cut : (i g : ℕ) → i ≤ s → g < length (gens small i) → g < length (gens big i)
   there-cut i g h l = omega (arith, ap length (gens-split i h), length-append (gens small i) (degrees_from (m.bottom +ℤ pos n) (drop n (row_of table i))))
+
+  -- a generator of a degree that is not cut off is kept
+  pub kept-cut : (i g : ℕ) → i ≤ s → g < length (gens big i) → degree big i g <ℤ (m.bottom +ℤ pos n) → g < length (gens small i)
+  kept-cut i g h l low = elim (cases_lt g (length (gens small i))) [
+    | inl b ↦ b
+    | inr b ↦
+        let rest = drop n (row_of table i) in
+        let later = degrees_from (m.bottom +ℤ pos n) rest in
+        let split = gens-split i h in
+        let all : length (gens big i) ≡ length (gens small i) + length later = ap length split ∙ length-append (gens small i) later in
+        let at : degree big i g ≡ degree_at later (g - length (gens small i)) = ap (λ (z : List ℤ). degree_at z g) split ∙ get_or-append_right (gens small i) later (length (gens small i)) g (pos 0) refl b in
+        let high = (degrees_from-between (m.bottom +ℤ pos n) rest (g - length (gens small i)) (omega arith)).from in
+        absurd (omega (arith, ints))
+  ]
 
   pub degree-cut : (i g : ℕ) → i ≤ s → g < length (gens small i) → degree small i g ≡ degree big i g
   degree-cut i g h l = sym (ap (λ (z : List ℤ). degree_at z g) (gens-split i h) ∙ get_or_append_left (gens small i) (degrees_from (m.bottom +ℤ pos n) (drop n (row_of table i))) (pos 0) g l)
@@ -117,4 +132,31 @@ module _ (m w : Module) (rs rn qs qn : ℕ) (rt rc qt qc : List (List Content))
         ∙ (ap (λ (u : ℤ). lowered r j q k x (phi k) u (image r i g)) (sym same)
         ∙ (ap (lowered r j q k x (phi k) (degree r_cut i g)) (sym im)
         ∙ sym (lowered-cut j k x (phi k) (degree r_cut i g) (image r_cut i g) (omega arith) (omega arith) (omega (arith, ints)) (omega (arith, ints)))))));
+  }
+
+  -- and back, where the generators that are cut off are of greater degree
+  pub IsLift-uncut : (s : ℕ) (x : ℤ) (z : ℕ → List Bool) (upto : ℕ) (top : ℤ) (phi : ℕ → ℕ → List Bool) → s + upto ≤ rs → upto ≤ qs → top <ℤ (m.bottom +ℤ pos rn) → (top -ℤ x) <ℤ (w.bottom +ℤ pos qn) → IsLift r_cut q_cut s x z upto top phi → IsLift r q s x z upto top phi
+  IsLift-uncut s x z upto top phi inside within l b a = record {
+    fit = λ k i h e g there c.
+        let kept = kept-cut m rs rn rt rc r_rows i g (omega arith) there (omega (arith, ints)) in
+        let same = degree-cut m rs rn rt rc r_rows i g (omega arith) kept in
+        a.fit k i h e g kept (omega (arith, ints))
+        ∙ (ap (λ (u : ℤ). free_width (gens q_cut k) (u -ℤ x)) same
+        ∙ ap length (basis-cut w qs qn qt qc q_rows k (degree r i g -ℤ x) (omega arith) (omega (arith, ints))));
+    start = λ g there c.
+        let kept = kept-cut m rs rn rt rc r_rows s g (omega arith) there (omega (arith, ints)) in
+        let same = degree-cut m rs rn rt rc r_rows s g (omega arith) kept in
+        sym (d-cut w qs qn qt qc q_rows 0 (degree r s g -ℤ x) (phi 0 g) (omega arith) (omega (arith, ints)))
+        ∙ (ap (λ (u : ℤ). d q_cut 0 (u -ℤ x) (phi 0 g)) (sym same)
+        ∙ a.start g kept (omega (arith, ints)));
+    commutes = λ k i j h e f g there c.
+        let kept = kept-cut m rs rn rt rc r_rows i g (omega arith) there (omega (arith, ints)) in
+        let same = degree-cut m rs rn rt rc r_rows i g (omega arith) kept in
+        let im = image-cut m rs rn rt rc r_rows i g (omega arith) kept in
+        sym (d-cut w qs qn qt qc q_rows (suc k) (degree r i g -ℤ x) (phi (suc k) g) (omega arith) (omega (arith, ints)))
+        ∙ (ap (λ (u : ℤ). d q_cut (suc k) (u -ℤ x) (phi (suc k) g)) (sym same)
+        ∙ (a.commutes k i j h e f g kept (omega (arith, ints))
+        ∙ (ap (λ (u : ℤ). lowered r_cut j q_cut k x (phi k) u (image r_cut i g)) same
+        ∙ (ap (lowered r_cut j q_cut k x (phi k) (degree r i g)) im
+        ∙ lowered-cut j k x (phi k) (degree r i g) (image r i g) (omega arith) (omega arith) (omega (arith, ints)) (omega (arith, ints))))));
   }

@@ -30,7 +30,7 @@ pub record HasPreimage (q : Resolution) (k : ℕ) (t : ℤ) (v : List Bool) : Ty
   pub gives : d q (suc k) t vector ≡ v
 
 -- nothing is below the bottom
-free_width-below : (q : Resolution) (k : ℕ) (t : ℤ) → t <ℤ q.base.bottom → free_width (gens q k) t ≡ 0
+pub free_width-below : (q : Resolution) (k : ℕ) (t : ℤ) → t <ℤ q.base.bottom → free_width (gens q k) t ≡ 0
 free_width-below q k t h = ap length (free_basis_from-above 0 q.base.bottom (row_of q.table k) t h)
 
 -- the degree above the bottom, or that the degree is below it

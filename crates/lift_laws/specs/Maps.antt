@@ -9,6 +9,10 @@ use Rattle.free_module.specs.Graded.{GradedModule}
 abbrev pub shifted : ℤ → GradedModule → GradedModule
 shifted x m = record { width = λ t. m.width (t -ℤ x); action = λ r t v. m.action r (t -ℤ x) v }
 
+-- the degrees, each lower by x
+abbrev pub lowered_by : ℤ → List ℤ → List ℤ
+lowered_by x degrees = map (λ d. d -ℤ x) degrees
+
 -- in degrees through top, op is a linear map from m to n that commutes with each Sq(R); op t is its part of degree t
 pub record IsMap (top : ℤ) (m n : GradedModule) (op : ℤ → List Bool → List Bool) : Type 0 where
   pub fits : (t : ℤ) (v : List Bool) → t ≤ℤ top → length v ≡ m.width t → length (op t v) ≡ n.width t

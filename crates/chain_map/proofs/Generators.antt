@@ -1,0 +1,77 @@
+-- The generators of a row by squares: number i of a square is that many behind the row's generators before it.
+use Rattle.std.proofs.Common.{◌≡◌, ℕ, zero, suc, ◌+◌, ◌<◌, Bool, ℤ, pos, ◌+ℤ◌, ◌-ℤ◌, ◌≤ℤ◌, List, [], ◌∷◌, ◌++◌, length, map, replicate, take, refl, ap, sym, ◌∙◌, arith}
+use Rattle.std.proofs.lemmas.Int.{ints}
+use Rattle.std.proofs.lemmas.List.{get_or_append_left, get_or-append-add, length-append, map-append, take_more}
+use Rattle.f2_vec.specs.Spans.{row}
+use Rattle.resolution_laws.specs.Resolution.{Content, no_content, square_in, degrees_from, images_of, row_of}
+use Rattle.resolution_laws.proofs.Rows.{images_of-push, degrees_from-between}
+use Rattle.free_module.specs.FreeModule.{IsWithinReach}
+use Rattle.lift_laws.specs.Maps.{lowered_by}
+use Rattle.lift_laws.specs.Lifts.{Resolution, gens, degree, image}
+use Rattle.lift_laws.specs.Products.{first_of, count_of}
+use Rattle.lift_laws.proofs.Coefficients.{is_new}
+
+-- the image of number h of square n
+image_in : (squares : List Content) (n h : ℕ) → n < length squares → h < length (square_in squares n).images → row (images_of squares) (length (images_of (take n squares)) + h) ≡ row (square_in squares n).images h
+image_in [] n h l b = absurd (omega arith)
+image_in (c ∷ squares) zero h l b = let at : 0 + h ≡ h = omega arith in ap (row (c.images ++ images_of squares)) at ∙ get_or_append_left c.images (images_of squares) [] h b
+image_in (c ∷ squares) (suc n) h l b =
+    let before = images_of (take n squares) in
+    let at : length (c.images ++ before) + h ≡ length c.images + (length before + h) = omega (arith, length-append c.images before) in
+    ap (row (c.images ++ images_of squares)) at ∙ (get_or-append-add c.images (images_of squares) (length before + h) [] ∙ image_in squares n h (omega arith) b)
+
+-- number h of the square (i, n)
+pub record IsNumber (r : Resolution) (i n h : ℕ) : Type 0 where
+  pub there : first_of r i n + h < length (gens r i)
+  pub degree_is : degree r i (first_of r i n + h) ≡ r.base.bottom +ℤ pos n
+  pub image_is : image r i (first_of r i n + h) ≡ row (square_in (row_of r.table i) n).images h
+
+pub is_number : (r : Resolution) (i n h : ℕ) → n < length (row_of r.table i) → h < count_of r i n → IsNumber r i n h
+is_number r i n h l b =
+    let new = is_new r i n l h b in
+    record { there = new.generator; degree_is = new.degree_is; image_is = image_in (row_of r.table i) n h l b }
+
+-- the squares before the next
+pub first_of-more : (r : Resolution) (i n : ℕ) → n < length (row_of r.table i) → first_of r i (n + 1) ≡ first_of r i n + count_of r i n
+first_of-more r i n l =
+    let squares = row_of r.table i in
+    let c = square_in squares n in
+    ap length (ap images_of (take_more squares n no_content l) ∙ images_of-push (take n squares) c) ∙ length-append (images_of (take n squares)) c.images
+
+-- a number is in one square alone, at one place
+pub record IsSame (n m h c : ℕ) : Type 0 where
+  pub square : n ≡ m
+  pub place : h ≡ c
+
+pub number_is_once : (r : Resolution) (i n m h c : ℕ) → n < length (row_of r.table i) → m < length (row_of r.table i) → h < count_of r i n → c < count_of r i m → first_of r i n + h ≡ first_of r i m + c → IsSame n m h c
+number_is_once r i n m h c l k a b e =
+    let p = (is_number r i n h l a).degree_is in
+    let q = (is_number r i m c k b).degree_is in
+    let degrees : degree r i (first_of r i n + h) ≡ degree r i (first_of r i m + c) = ap (degree r i) e in
+    let same : n ≡ m = omega (arith, ints) in
+    let firsts : first_of r i n ≡ first_of r i m = ap (first_of r i) same in
+    record { square = same; place = omega arith }
+
+map-replicate : (f : ℤ → ℤ) (n : ℕ) (x : ℤ) → map f (replicate n x) ≡ replicate n (f x)
+map-replicate f zero x = refl
+map-replicate f (suc n) x = ap (λ (z : List ℤ). f x ∷ z) (map-replicate f n x)
+
+-- the generators of a row in degrees that are lower by x
+lowered-from : (x b : ℤ) (squares : List Content) → lowered_by x (degrees_from b squares) ≡ degrees_from (b -ℤ x) squares
+lowered-from x b [] = refl
+lowered-from x b (c ∷ squares) =
+    let n = length c.images in
+    let low : ℤ → ℤ = λ d. d -ℤ x in
+    let next : (b +ℤ pos 1) -ℤ x ≡ (b -ℤ x) +ℤ pos 1 = omega (arith, ints) in
+    map-append low (replicate n b) (degrees_from (b +ℤ pos 1) squares)
+    ∙ (ap (λ (z : List ℤ). z ++ lowered_by x (degrees_from (b +ℤ pos 1) squares)) (map-replicate low n b)
+    ∙ ap (λ (z : List ℤ). replicate n (b -ℤ x) ++ z) (lowered-from x (b +ℤ pos 1) squares ∙ ap (λ (t : ℤ). degrees_from t squares) next))
+
+pub lowered-row : (b : ℤ) (a : ℕ) (squares : List Content) → lowered_by (b +ℤ pos a) (degrees_from b squares) ≡ degrees_from (pos 0 -ℤ pos a) squares
+lowered-row b a squares =
+    let e : b -ℤ (b +ℤ pos a) ≡ pos 0 -ℤ pos a = omega (arith, ints) in
+    lowered-from (b +ℤ pos a) b squares ∙ ap (λ (t : ℤ). degrees_from t squares) e
+
+-- a degree is within reach of each generator, where it is of the bottom
+pub within-reach : (b : ℤ) (squares : List Content) (max : ℕ) (t : ℤ) → t ≤ℤ (b +ℤ pos max) → IsWithinReach max (degrees_from b squares) t
+within-reach b squares max t l g h = let p = degrees_from-between b squares g h in omega (arith, ints, p.from)

@@ -1,0 +1,81 @@
+-- What has to be covered is of the dimension that the quasi-inverse takes.
+use Rattle.std.proofs.Common.{◌≡◌, ℕ, zero, suc, ◌+◌, ◌-◌, ◌<◌, ◌≤◌, Bool, true, false, ℤ, pos, ◌+ℤ◌, ◌-ℤ◌, ◌≤ℤ◌, List, length, take, Option, IfSome, refl, ap, sym, subst, ◌∙◌, arith}
+use Rattle.std.specs.Prelude.{IsSome}
+use Rattle.std.proofs.lemmas.Int.{ints}
+use Rattle.std.proofs.lemmas.List.{length-take-le}
+use Rattle.f2_vec.specs.Vectors.{zeros}
+use Rattle.f2_vec.specs.Spans.{unit_vector}
+use Rattle.f2_vec.proofs.Sums.{length-zeros}
+use Rattle.f2_vec.proofs.Split.{length-unit_vector}
+use Rattle.f2_vec.proofs.Spans.{length-combination}
+use Rattle.f2_matrix.specs.Reduction.{Reduction}
+use Rattle.free_module.specs.FreeModule.{IsWithinReach, free_width}
+use Rattle.free_module.specs.Graded.{free_graded}
+use Rattle.free_module.specs.LinearMap.{AreImages, map_rows, mapped}
+use Rattle.free_module.proofs.MapRows.{HaveWidth-map_rows}
+use Rattle.milnor_laws.proofs.FreeModules.{free_modules_are_modules}
+use Rattle.resolution_laws.specs.Resolution.{row_of}
+use Rattle.square.specs.declared.range.TheConstants.{MAX_T}
+use Rattle.square.specs.Squares.{over, bottom_of}
+use Rattle.square.specs.Tables.{Staircase, row_in, plain_rows, square_at, IsTable}
+use Rattle.square.proofs.Targets.{row_short}
+use Rattle.square.proofs.Places.{length-row_of}
+use Rattle.lift_laws.specs.Lifts.{gens, IsSphere}
+use Rattle.chain_map.specs.Rows.{IsInverseAt, lowered_row}
+use Rattle.chain_map.specs.Lifting.{resolution_of}
+use Rattle.chain_map.specs.Inside.Making.{Reaches, class_value, target_of}
+use Rattle.chain_map.proofs.Generators.{within-reach}
+use Rattle.chain_map.proofs.Squares.{square_is_there}
+use Rattle.chain_map.proofs.Widths.{HasPlace, width-take, first_goal_fits, next_goal_fits}
+
+module _ (table sphere : Staircase) (s above k n far m : ℕ) (is_sphere : IsSphere (resolution_of sphere)) (reaches : Reaches table sphere s above k n far) (within : m < n) where
+  -- the square of the sphere in that degree, if it is not below the bottom
+  pub place_there : HasPlace sphere k (pos m -ℤ pos above)
+  place_there j e =
+      let zero = is_sphere.bottom in
+      let there = reaches.there in
+      let enough = reaches.enough in
+      let at : j < far = omega (arith, ints) in
+      omega arith
+
+  pub sphere_square : (u : ℤ) → u ≡ pos m -ℤ pos above → bottom_of sphere.resolved ≤ℤ u → IsSome (square_at sphere k u)
+  sphere_square u e low =
+      let zero = is_sphere.bottom in
+      let h : above ≤ m = omega (arith, ints) in
+      let at : pos m -ℤ pos above ≡ bottom_of sphere.resolved +ℤ pos (m - above) = omega (arith, ints) in
+      square_is_there sphere k (m - above) u (e ∙ at) (place_there (m - above) at)
+
+  pub reach_low : (max : ℕ) (t : ℤ) → max ≡ MAX_T → t ≡ pos m -ℤ pos above → (i : ℕ) (gens : List ℤ) → gens ≡ lowered_row table i n above → IsWithinReach max gens t
+  reach_low max t e at i gens same =
+      let short = row_short table reaches.is_table (s + k) in
+      let here = reaches.here in
+      let P : List ℤ → Type 0 = λ z. IsWithinReach max z t in
+      subst P (sym same) (within-reach (pos 0 -ℤ pos above) (take n (row_of (plain_rows table.rows) i)) max t (omega (arith, ints)))
+
+  pub reach_target : (max : ℕ) (t : ℤ) → max ≡ MAX_T → t ≡ pos m -ℤ pos above → (i : ℕ) (gens : List ℤ) → gens ≡ target_of sphere i far → IsWithinReach max gens t
+  reach_target max t e at i gens same =
+      let short = row_short table reaches.is_table (s + k) in
+      let here = reaches.here in
+      let zero = is_sphere.bottom in
+      let P : List ℤ → Type 0 = λ z. IsWithinReach max z t in
+      subst P (sym same) (within-reach (bottom_of sphere.resolved) (take far (row_of (plain_rows sphere.rows) i)) max t (omega (arith, ints)))
+
+length-class_value : (width : ℕ) (own : Bool) → length (class_value width own) ≡ width
+length-class_value width true = length-unit_vector width 0
+length-class_value width false = length-zeros width
+
+pub class_goal_fits : (table sphere : Staircase) (s above n far m : ℕ) → IsSphere (resolution_of sphere) → Reaches table sphere s above 0 n far → m < n → (inverse : Option Reduction) (goal : List Bool) (width : ℕ) (own : Bool) → width ≡ (over sphere.resolved).graded.width (pos m -ℤ pos above) → goal ≡ class_value width own → IsInverseAt sphere 0 (pos m -ℤ pos above) inverse → IfSome inverse (λ r. length goal ≡ r.cols)
+class_goal_fits table sphere s above n far m is_sphere reaches within inverse goal width own e same is =
+    first_goal_fits sphere (pos m -ℤ pos above) inverse goal (place_there table sphere s above 0 n far m is_sphere reaches within) is (ap length same ∙ (length-class_value width own ∙ e))
+
+-- the image of a map to F_k, through its first generators
+pub image_goal_fits : (table sphere : Staircase) (s above k n far m : ℕ) → IsSphere (resolution_of sphere) → Reaches table sphere s above (suc k) n far → m < n → (inverse : Option Reduction) (source target : List ℤ) (images : List (List Bool)) (goal v : List Bool) (t : ℤ) → t ≡ pos m -ℤ pos above → target ≡ target_of sphere k far → AreImages (free_graded target) source images → goal ≡ mapped (free_graded target) source images t v → IsInverseAt sphere (suc k) (pos m -ℤ pos above) inverse → IfSome inverse (λ r. length goal ≡ r.cols)
+image_goal_fits table sphere s above k n far m is_sphere reaches within inverse source target images goal v t at target_is are same is =
+    let zero = is_sphere.bottom in
+    let there = reaches.there in
+    let enough = reaches.enough in
+    let len : length goal ≡ free_width target t = ap length same ∙ length-combination (free_width target t) v (map_rows (free_graded target) source images t) (HaveWidth-map_rows (free_graded target) source images t (free_modules_are_modules target).widths are) in
+    let row = row_of (plain_rows sphere.rows) k in
+    let all : free_width target t ≡ free_width (gens (resolution_of sphere) k) (pos m -ℤ pos above) =
+    ap (λ (z : List ℤ). free_width z t) target_is ∙ (ap (free_width (target_of sphere k far)) at ∙ width-take (bottom_of sphere.resolved) row far (pos m -ℤ pos above) (omega (arith, ints))) in
+    next_goal_fits sphere k (pos m -ℤ pos above) inverse goal (place_there table sphere s above (suc k) n far m is_sphere reaches within) is (len ∙ all)

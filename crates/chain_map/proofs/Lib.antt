@@ -1,0 +1,10 @@
+pub mod Generators
+mod MadeRows
+mod Widths
+mod Resolved
+mod MadeLifts
+mod Squares
+mod Goals
+mod Places
+mod Growing
+mod Finished

@@ -1,0 +1,34 @@
+use Rattle.std.proofs.Common.{◌≡◌, ◌+◌, ◌<◌, length, min, inl, inr, refl, ap, sym, ◌∙◌, arith}
+use Rattle.std.proofs.Math.Nat.{min-le_left}
+use Rattle.std.proofs.lemmas.Bool.{cases_lt}
+use Rattle.square.specs.declared.range.TheConstants.{MAX_S, MAX_T}
+use Rattle.square.specs.Tables.{row_in}
+use Rattle.square.proofs.Found.{row_within}
+use Rattle.square.proofs.Targets.{row_short}
+use Rattle.chain_map.proofs.making.degrees_through.Goals as goal
+
+pub returns-in_default : goal.returns-in_default
+returns-in_default c =
+    let row = row_in c.args.table.now.rows (c.args.s + c.args.upto) in
+    let all = c.requires.rows in
+    let none : length row ≡ 0 = elim (cases_lt 0 (length row)) [
+      | inl l ↦ let there = row_within c.args.table.now.rows (c.args.s + c.args.upto) 0 l in absurd (c.in_default.ensures (omega arith))
+      | inr l ↦ omega arith
+    ] in
+    omega (arith, none)
+
+pub overflow_add-from : goal.overflow_add-from
+overflow_add-from c =
+    let short = row_short c.args.sphere.now c.front-far.ensures.is_table c.args.upto in
+    let front = c.front-far.ensures.front in
+    let from = c.from.ensures in
+    let range = c.ranges.above in
+    omega arith
+
+pub overflow_cast-result : goal.overflow_cast-result
+overflow_cast-result c =
+    let short = row_short c.args.table.now c.front.ensures.is_table c.in-Some.row in
+    let front = c.front.ensures.front in
+    let least = min-le_left c.front.result (c.from.result + c.front-far.result) in
+    let same = c.min.ensures in
+    omega arith

@@ -1,0 +1,39 @@
+use Rattle.std.proofs.Common.{◌≡◌, ℕ, List, ◌+◌, ◌<◌, ◌++◌, ◌∷◌, [], pos, ◌+ℤ◌, length, ap, sym, subst, ◌∙◌, w32, to_z, of_z, arith}
+use Rattle.std.proofs.lemmas.Int.{ints, to_z-of_z}
+use Rattle.std.proofs.lemmas.List.{get_or_push, length_push}
+use Rattle.std.specs.Prelude.{slice_index_or}
+use Rattle.square.specs.Squares.{bottom_of}
+use Rattle.square.specs.Tables.{row_in}
+use Rattle.chain_map.specs.Lifting.{LiftValues, IsLiftOver, no_lift}
+use Rattle.chain_map.proofs.Resolved.{longer_below}
+use Rattle.chain_map.proofs.making.lift.Goals as goal
+
+pub prove-unreachable-requires : goal.prove-unreachable-requires
+prove-unreachable-requires c =
+    let table = c.args.table.now in
+    let is = c.front-longest.ensures.is_table in
+    let front = c.front-longest.ensures.front in
+    let e : 0 + c.args.class.s ≡ c.args.class.s = omega arith in
+    let same = ap (λ (i : ℕ). length (row_in table.rows i)) e in
+    let more = longer_below table is 0 c.args.class.s in
+    let there = c.requires.class.square in
+    let none = c.if-prove.true in
+    omega arith
+
+pub returns : goal.returns
+returns c = λ above e.
+    let table = c.args.table.now in
+    let class = c.args.class in
+    let all = c.in_ok-lifts.lifts.items in
+    let rest = c.pop.new.self.items in
+    let lift = c.in-Some.lift in
+    let one = c.in_ok-lifts.ensures.one_each in
+    let parts : all ≡ rest ++ lift ∷ [] = c.in-Some.ensures.items in
+    let len = ap length parts in
+    let none : length rest ≡ 0 = omega (arith, length_push rest lift) in
+    let at : slice_index_or all 0 no_lift ≡ lift = ap (λ (z : List LiftValues). slice_index_or z 0 no_lift) parts ∙ get_or_push rest lift no_lift 0 none in
+    let first = c.in_ok-lifts.ensures.lifts above (omega (arith, ints, e)) 0 (omega arith) in
+    let number : class.i + 0 ≡ class.i = omega arith in
+    let P : LiftValues → Type 0 = λ z. IsLiftOver table c.args.sphere.now class.s above (class.i + 0) c.args.upto z in
+    let Q : ℕ → Type 0 = λ i. IsLiftOver table c.args.sphere.now class.s above i c.args.upto lift in
+    subst Q number (subst P at first)

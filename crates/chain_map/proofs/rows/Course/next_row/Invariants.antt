@@ -1,0 +1,7 @@
+use Rattle.std.proofs.Common.{suc, ◌+◌, pos, ◌+ℤ◌}
+use Rattle.square.specs.Squares.{bottom_of}
+use Rattle.chain_map.specs.Inside.Making.{AreMade, next_goal}
+use Rattle.chain_map.proofs.rows.Course.next_row.Given as goal
+
+abbrev pub invariant-loop-n : goal.invariant-loop-n
+invariant-loop-n l = AreMade l.self.table.now l.self.sphere.now (suc (l.self.s + l.k)) (suc l.k) (bottom_of l.self.table.now.resolved +ℤ pos l.self.above) (next_goal l.self.table.now l.self.sphere.now (l.self.s + l.k) l.k l.self.above l.self.reach l.self.far l.below) l.n l.values

@@ -1,0 +1,3 @@
+pub mod Lifting
+pub mod Rows
+pub mod Inside

@@ -1,0 +1,95 @@
+-- Lifts of classes over the squares of two tables.
+use Rattle.std.specs.Prelude.{◌≡◌, ℕ, zero, suc, ◌+◌, ◌<◌, ◌≤◌, ℤ, pos, ◌+ℤ◌, ◌-ℤ◌, min, Bool, List, [], length, map, slice_index_or}
+use Rattle.std.specs.List.{range_with_len}
+use Rattle.f2_vec.specs.Spans.{row}
+use Rattle.free_module.specs.FreeModule.{free_width}
+use Rattle.resolution_laws.specs.Start.{IsOf}
+use Rattle.square.specs.Squares.{over, bottom_of}
+use Rattle.square.specs.Tables.{Staircase, row_in, plain_rows, content_at}
+use Rattle.lift_laws.specs.Lifts.{Resolution, gens, degree}
+use Rattle.lift_laws.specs.Products.{first_of, count_of, number_of, IsLiftOfClass}
+use Rattle.lift_laws.specs.Products.{Class as ClassAbove}
+use Rattle.chain_map.specs.declared.class.Class.{Class}
+use Rattle.chain_map.specs.Rows.{RowValues, first_in, value_at, HasValueAt}
+
+-- the resolution whose squares a table has
+abbrev pub resolution_of : Staircase → Resolution
+resolution_of table = record { base = over table.resolved; table = plain_rows table.rows }
+
+-- each square of the rows through s, in the first n degrees from the bottom on, is that of the canonical resolution
+abbrev pub AreCanonical : Staircase → ℕ → ℕ → Type 0
+AreCanonical table s n = (i k : ℕ) → i ≤ s → k < n → IsOf (over table.resolved) [] i k (content_at table.rows i k)
+
+-- ---- classes
+
+-- the table has the class's generator
+pub record IsClassOf (table : Staircase) (class : Class) : Type 0 where
+  pub above : ℕ
+  pub degree : class.t ≡ bottom_of table.resolved +ℤ pos above
+  pub square : above < length (row_in table.rows class.s)
+  pub generator : class.i < count_of (resolution_of table) class.s above
+
+-- the square (s, t) is there
+pub record IsSquareOf (table : Staircase) (s : ℕ) (t : ℤ) : Type 0 where
+  pub above : ℕ
+  pub degree : t ≡ bottom_of table.resolved +ℤ pos above
+  pub square : above < length (row_in table.rows s)
+
+-- ---- how far a lift goes
+
+-- How many degrees, from the bottom of the first table on, a lift of a class that is `above` above it goes through: it goes through
+-- the lesser of the greatest degree that row s + upto of this table reaches, and the class's degree with the greatest that row upto
+-- of the sphere's reaches. It goes through none where one of these rows is empty.
+abbrev pub shifted_length : ℕ → ℕ → ℕ
+shifted_length above zero = 0
+shifted_length above (suc n) = above + suc n
+
+abbrev pub degrees_through : Staircase → Staircase → ℕ → ℕ → ℕ → ℕ
+degrees_through table sphere s above upto = min (length (row_in table.rows (s + upto))) (shifted_length above (length (row_in sphere.rows upto)))
+
+-- the greatest of these degrees, and one below the bottom where there is none
+abbrev pub greatest : Staircase → ℕ → ℤ
+greatest table n = (bottom_of table.resolved +ℤ pos n) -ℤ pos 1
+
+-- ---- lifts
+
+-- The values of the maps of a lift, which it has for each row where it goes through any degree, and the bottom degree of the rows.
+pub record LiftValues : Type 0 where
+  pub bottom : ℤ
+  pub rows : List RowValues
+
+abbrev pub no_values : RowValues
+no_values = record { vectors = []; firsts = [] }
+
+abbrev pub no_lift : LiftValues
+no_lift = record { bottom = pos 0; rows = [] }
+
+abbrev pub row_values : LiftValues → ℕ → RowValues
+row_values lift k = slice_index_or lift.rows k no_values
+
+-- map k on generator g of its row
+abbrev pub map_of : LiftValues → ℕ → ℕ → List Bool
+map_of lift k g = row (row_values lift k).vectors g
+
+-- map k has a value on number i of the square of degree t
+pub record HasValue (lift : LiftValues) (k : ℕ) (t : ℤ) (i : ℕ) : Type 0 where
+  pub row : k < length lift.rows
+  pub above : ℕ
+  pub degree : t ≡ lift.bottom +ℤ pos above
+  pub there : HasValueAt (row_values lift k) above i
+
+-- Map k has its values on the generators of row s + k of the table in the first n degrees, and they are vectors of F_k of the
+-- sphere's resolution, the class's degree x lower.
+pub record AreValues (table sphere : Staircase) (s : ℕ) (x : ℤ) (n k : ℕ) (v : RowValues) : Type 0 where
+  pub firsts : v.firsts ≡ map (λ j. first_of (resolution_of table) (s + k) j) (range_with_len 0 n)
+  pub one_each : length v.vectors ≡ first_of (resolution_of table) (s + k) n
+  pub widths : (g : ℕ) → g < length v.vectors → length (row v.vectors g) ≡ free_width (gens (resolution_of sphere) k) (degree (resolution_of table) (s + k) g -ℤ x)
+
+-- The lift of number i of the square (s, above): it goes through the degrees that the tables have, and where their squares
+-- there are canonical, it is a lift of the class.
+pub record IsLiftOver (table sphere : Staircase) (s above i upto : ℕ) (lift : LiftValues) : Type 0 where
+  pub bottom : lift.bottom ≡ bottom_of table.resolved
+  pub rows : 0 < degrees_through table sphere s above upto → length lift.rows ≡ upto + 1
+  pub values : (k : ℕ) → k < length lift.rows → AreValues table sphere s (bottom_of table.resolved +ℤ pos above) (degrees_through table sphere s above upto) k (row_values lift k)
+  pub is_lift : AreCanonical table (s + upto) (degrees_through table sphere s above upto) → AreCanonical sphere upto (length (row_in sphere.rows upto)) →
+      IsLiftOfClass (resolution_of table) (resolution_of sphere) (record { s = s; above = above; i = i }) upto (greatest table (degrees_through table sphere s above upto)) (map_of lift)

@@ -1,0 +1,16 @@
+//! Lifts of classes to chain maps from a module's resolution to the sphere's.
+#![tactic(auto)]
+
+mod class;
+mod inverse;
+mod making;
+mod maps;
+mod rows;
+mod values;
+
+pub use class::Class;
+pub use inverse::Inverse;
+pub use making::{lift, lifts};
+pub use maps::Lift;
+pub use rows::lowered_generators;
+pub use values::Values;

@@ -1,0 +1,221 @@
+//! How lifts are made.
+ghost use Rattle.std.specs.Prelude.{◌≡◌, ◌+ℤ◌, ◌<◌, ◌≤◌, ◌+◌, ◌^◌, pos, [], length, replicate, IfOk, OnOk, ℕ, slice_index_or};
+ghost use Rattle.resolution_laws.specs.Exactness.{IsBoundedBelow};
+ghost use Rattle.square.specs.Squares.{over, bottom_of};
+ghost use Rattle.square.specs.Tables.{row_in, IsTable};
+ghost use Rattle.lift_laws.specs.Lifts.{IsSphere};
+ghost use Rattle.lift_laws.specs.Products.{count_of};
+ghost use Rattle.chain_map.specs.Lifting.{resolution_of, IsClassOf, IsSquareOf, IsLiftOver, no_lift, degrees_through};
+ghost use Rattle.chain_map.specs.Inside.Making.{AreMadeLifts, Reaches};
+
+use crate::class::Class;
+use crate::maps::Lift;
+use crate::rows::Course;
+use memory::Memory;
+use square::Table;
+use std::alloc::Global;
+
+/// A lift of the class, through row `upto` of the sphere's resolution, and through the lesser of two degrees: the greatest that
+/// row s + upto of the module's table reaches, and the class's degree with the greatest that row `upto` of the sphere's
+/// reaches. Where one of these rows is empty it goes through none.
+///
+/// # Errors
+/// `Memory` where there is none for it.
+pub fn lift(
+    alloc: Global,
+    table: &Table,
+    sphere: &Table,
+    class: Class,
+    upto: u16,
+) -> Result<Lift, Memory>
+    requires sphere { IsSphere (resolution_of sphere.now) }
+    requires class { IsClassOf table.now class }
+    ensures { (above : ℕ) → class.t ≡ bottom_of table.now.resolved +ℤ pos above → IfOk result (IsLiftOver table.now sphere.now class.s above class.i upto) }
+{
+    // No row is longer than row 0, and there is none above the last: so the number of the class's row is small.
+    let longest = table.front(0);
+    prove!(longest > 0);
+    let mut lifts = lifts_of(
+        alloc,
+        table,
+        sphere,
+        class.s as u16,
+        class.t,
+        class.i,
+        1,
+        upto,
+    )?;
+    match lifts.pop() {
+        Some(lift) => Ok(lift),
+        None => unreachable!(),
+    }
+}
+
+/// A lift of each class of the square in row `s` and of degree `t`, in their order, as `lift` makes it. Each square of the
+/// sphere's resolution is inverted once for all of them.
+///
+/// # Errors
+/// `Memory` where there is none for them.
+pub fn lifts(
+    alloc: Global,
+    table: &Table,
+    sphere: &Table,
+    s: u16,
+    t: i32,
+    upto: u16,
+) -> Result<Vec<Lift>, Memory>
+    requires sphere { IsSphere (resolution_of sphere.now) }
+    requires square { IsSquareOf table.now s t }
+    ensures one_each { (above : ℕ) → t ≡ bottom_of table.now.resolved +ℤ pos above → IfOk result (λ lifts. length lifts.items ≡ count_of (resolution_of table.now) s above) }
+    ensures lifts { (above : ℕ) → t ≡ bottom_of table.now.resolved +ℤ pos above → IfOk result (λ lifts. (j : ℕ) → j < length lifts.items → IsLiftOver table.now sphere.now s above j upto (slice_index_or lifts.items j no_lift)) }
+{
+    let (_, count) = square_of(table, s, t);
+    lifts_of(alloc, table, sphere, s, t, 0, count, upto)
+}
+
+/// Lifts of `count` classes, from number `from` of the square on.
+fn lifts_of(
+    alloc: Global,
+    table: &Table,
+    sphere: &Table,
+    s: u16,
+    t: i32,
+    from: usize,
+    count: usize,
+    upto: u16,
+) -> Result<Vec<Lift>, Memory>
+    requires sphere { IsSphere (resolution_of sphere.now) }
+    requires square { IsSquareOf table.now s t }
+    requires classes { (above : ℕ) → t ≡ bottom_of table.now.resolved +ℤ pos above → from + count ≤ count_of (resolution_of table.now) s above }
+    ensures one_each { IfOk result (λ lifts. length lifts.items ≡ count) }
+    ensures lifts { (above : ℕ) → t ≡ bottom_of table.now.resolved +ℤ pos above → IfOk result (λ lifts. (j : ℕ) → j < length lifts.items → IsLiftOver table.now sphere.now s above (from + j) upto (slice_index_or lifts.items j no_lift)) }
+{
+    let (above, _) = square_of(table, s, t);
+    let course = Course {
+        table,
+        sphere,
+        s,
+        above,
+        reach: degrees_through(table, sphere, s, above, upto),
+        far: sphere.front(upto) as u16,
+    };
+    let lifts = empty_lifts(alloc, table.module().bottom(), count)?;
+    with_rows(alloc, &course, from, upto, lifts)
+}
+
+/// How many degrees the square in row `s` and of degree `t` is above the bottom, and how many generators it has.
+fn square_of(table: &Table, s: u16, t: i32) -> (u16, usize)
+    requires { IsSquareOf table.now s t }
+    ensures above { t ≡ bottom_of table.now.resolved +ℤ pos result.0 }
+    ensures there { result.0 < length (row_in table.now.rows s) }
+    ensures count { result.1 ≡ count_of (resolution_of table.now) s result.0 }
+    ensures is_table { IsTable table.now }
+{
+    match table.at(s, t) {
+        Some(square) => (square.above(), square.gens().len()),
+        None => unreachable!(),
+    }
+}
+
+/// So many lifts without a row.
+fn empty_lifts(alloc: Global, bottom: i32, count: usize) -> Result<Vec<Lift>, Memory>
+    ensures { IfOk result (λ lifts. lifts.items ≡ replicate count (record { bottom = bottom; rows = [] })) }
+{
+    let mut lifts = Vec::new(alloc);
+    for _ in 0..count {
+        lifts.push(Lift::new(alloc, bottom))?;
+    }
+    Ok(lifts)
+}
+
+/// These lifts, which have no row, with all their rows.
+fn with_rows(
+    alloc: Global,
+    course: &Course<'_>,
+    from: usize,
+    upto: u16,
+    mut lifts: Vec<Lift>,
+) -> Result<Vec<Lift>, Memory>
+    requires sphere { IsSphere (resolution_of course.now.sphere.now) }
+    requires is_table { IsTable course.now.table.now }
+    requires is_sphere_table { IsTable course.now.sphere.now }
+    requires bounded { IsBoundedBelow (over course.now.table.now.resolved) }
+    requires there { course.now.above < length (row_in course.now.table.now.rows course.now.s) }
+    requires reach { course.now.reach ≡ degrees_through course.now.table.now course.now.sphere.now course.now.s course.now.above upto }
+    requires far { course.now.far ≡ length (row_in course.now.sphere.now.rows upto) }
+    requires classes { from + length lifts.items ≤ count_of (resolution_of course.now.table.now) course.now.s course.now.above }
+    requires small { from + length lifts.items < 2 ^ 64 }
+    requires empty { (j : ℕ) → j < length lifts.items → slice_index_or lifts.items j no_lift ≡ record { bottom = bottom_of course.now.table.now.resolved; rows = [] } }
+    ensures one_each { IfOk result (λ more. length more.items ≡ length lifts.items) }
+    ensures lifts { IfOk result (λ more. (j : ℕ) → j < length more.items → IsLiftOver course.now.table.now course.now.sphere.now course.now.s course.now.above (from + j) upto (slice_index_or more.items j no_lift)) }
+{
+    resolution_laws::canonical_table_is_minimal_resolution();
+    finite_module::modules_are_graded_modules();
+    if course.reach == 0 {
+        return Ok(lifts);
+    }
+    add_rows(alloc, course, from, upto, &mut lifts)?;
+    Ok(lifts)
+}
+
+/// How many degrees a lift goes through, from the bottom of the module's table on.
+fn degrees_through(table: &Table, sphere: &Table, s: u16, above: u16, upto: u16) -> u16
+    requires { IsTable table.now }
+    ensures { result ≡ degrees_through table.now sphere.now s above upto }
+{
+    let far = sphere.front(upto);
+    if far == 0 {
+        return 0;
+    }
+    // Above the last row there is none.
+    let Some(row) = s.checked_add(upto) else {
+        return 0;
+    };
+    table.front(row).min(usize::from(above) + far) as u16
+}
+
+/// The rows of all maps through map `upto`.
+fn add_rows(
+    alloc: Global,
+    course: &Course<'_>,
+    from: usize,
+    upto: u16,
+    lifts: &mut Vec<Lift>,
+) -> Result<(), Memory>
+    requires sphere { IsSphere (resolution_of course.now.sphere.now) }
+    requires reaches { Reaches course.now.table.now course.now.sphere.now course.now.s course.now.above upto course.now.reach course.now.far }
+    requires classes { from + length lifts.old.items ≤ count_of (resolution_of course.now.table.now) course.now.s course.now.above }
+    requires small { from + length lifts.old.items < 2 ^ 64 }
+    requires made { AreMadeLifts course.now.table.now course.now.sphere.now course.now.s course.now.above course.now.reach course.now.far from 0 lifts.old.items }
+    ensures one_each { OnOk result (length lifts.new.items ≡ length lifts.old.items) }
+    ensures made { OnOk result (AreMadeLifts course.now.table.now course.now.sphere.now course.now.s course.now.above course.now.reach course.now.far from (upto + 1) lifts.new.items) }
+{
+    for k in 0..upto + 1 {
+        add_row(alloc, course, from, k, lifts)?;
+    }
+    Ok(())
+}
+
+/// The row of map `k`, of each lift.
+fn add_row(
+    alloc: Global,
+    course: &Course<'_>,
+    from: usize,
+    k: u16,
+    lifts: &mut Vec<Lift>,
+) -> Result<(), Memory>
+    requires sphere { IsSphere (resolution_of course.now.sphere.now) }
+    requires reaches { Reaches course.now.table.now course.now.sphere.now course.now.s course.now.above k course.now.reach course.now.far }
+    requires classes { from + length lifts.old.items ≤ count_of (resolution_of course.now.table.now) course.now.s course.now.above }
+    requires small { from + length lifts.old.items < 2 ^ 64 }
+    requires made { AreMadeLifts course.now.table.now course.now.sphere.now course.now.s course.now.above course.now.reach course.now.far from k lifts.old.items }
+    ensures one_each { OnOk result (length lifts.new.items ≡ length lifts.old.items) }
+    ensures made { OnOk result (AreMadeLifts course.now.table.now course.now.sphere.now course.now.s course.now.above course.now.reach course.now.far from (k + 1) lifts.new.items) }
+{
+    let inverses = course.inverses(alloc, k)?;
+    for j in 0..lifts.len() {
+        let row = course.row(alloc, k, &inverses, from + j, &lifts[j])?;
+        lifts[j].push(row)?;
+    }
+    Ok(())
+}

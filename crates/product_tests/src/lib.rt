@@ -1,0 +1,7 @@
+//! Tests of lifts and products.
+#![tactic(auto)]
+
+#[cfg(test)]
+mod lifts;
+#[cfg(test)]
+mod tables;
