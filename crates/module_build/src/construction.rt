@@ -13,6 +13,9 @@ use memory::Memory;
 use milnor_basis::Exps;
 use std::alloc::Global;
 
+/// The degree of the unit, Sq().
+const UNIT_DEGREE: u32 = 0;
+
 /// What a module is made of, and how. Its basis is numbered: that of a sum part by part, and that of a tensor product row by
 /// row, a row for each generator of the left factor.
 #[derive(Clone, Copy)]
@@ -89,7 +92,7 @@ impl Construction<'_> {
                 coefficients.operator(alloc, before.generators(), order, r.degree())
             }
             Construction::Dual { given } => {
-                if r.degree() > 0 {
+                if r.degree() > UNIT_DEGREE {
                     return dual_operator(alloc, given, before, order, r);
                 }
                 let coefficients = Coefficients::Turned {

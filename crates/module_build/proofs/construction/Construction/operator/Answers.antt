@@ -75,8 +75,8 @@ returns-in_ok-splittings-in-Tensor c =
     (λ x y lx ly. (ap (λ m. sum_over (pairs_at m c.operators-in-Tensor-2.result.now x y) xs) c.operators-in-Tensor.ensures ∙ ap (λ m. sum_over (pairs_at c.in-Tensor.left.now.plain m x y) xs) c.operators-in-Tensor-2.ensures ∙ tensor_entry c.in-Tensor.left c.in-Tensor.right c.args.r.now xs x y (omega (arith, lx, ap size_of c.in-Tensor.is)) are) ∙ sym (ap (λ s. coefficient_in s c.args.r.now x y) c.in-Tensor.is)))
     c.operator-in-Tensor.ensures
 
-pub returns-else-degree-gt0 : goal.returns-else-degree-gt0
-returns-else-degree-gt0 c =
+pub returns-else-degree-gt-UNIT_DEGREE : goal.returns-else-degree-gt-UNIT_DEGREE
+returns-else-degree-gt-UNIT_DEGREE c =
     let self = c.args.self.now in
     let k : Coefficients = Turned c.operators-in-Dual.result c.args.r.now in
     let none : c.args.r.now ≡ [] = elim (nothing_or_positive c.args.r.now c.degree-in-Dual.ensures.trimmed) [
@@ -102,8 +102,8 @@ dual_operator-requires-clause-before c =
     let f : c.args.order.now ≡ order_of (Dual c.in-Dual.given) = c.requires.order ∙ ap order_of c.in-Dual.is in
     λ r i h l b. c.requires.before r i h l b ∙ ap (λ s. values_on gs (coefficient_by s) r i) c.in-Dual.is ∙ ap (λ o. values_on gs (dual_by m o) r i) (sym f)
 
-pub returns-then-degree-gt0 : goal.returns-then-degree-gt0
-returns-then-degree-gt0 c =
+pub returns-then-degree-gt-UNIT_DEGREE : goal.returns-then-degree-gt-UNIT_DEGREE
+returns-then-degree-gt-UNIT_DEGREE c =
     let m = c.in-Dual.given.now.plain in
     let own = generators_of (order_of c.args.self.now) in
     let f : c.args.order.now ≡ order_of (Dual c.in-Dual.given) = c.requires.order ∙ ap order_of c.in-Dual.is in
