@@ -1,7 +1,7 @@
 pub mod Generators
 mod MadeRows
 mod Widths
-mod Resolved
+pub mod Resolved
 mod MadeLifts
 mod Squares
 mod Goals

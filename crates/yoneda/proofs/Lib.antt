@@ -1,0 +1,5 @@
+mod Squares
+mod Coordinates
+pub mod Lifted
+pub mod Cut
+pub mod OneProduct

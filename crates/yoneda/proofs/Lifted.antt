@@ -1,0 +1,90 @@
+-- The values of a lift on the generators of the square of a product.
+use Rattle.std.proofs.Common.{◌≡◌, ℕ, zero, suc, ◌+◌, ◌<◌, ◌≤◌, ℤ, pos, ◌+ℤ◌, ◌-ℤ◌, Bool, List, [], ◌∷◌, ◌++◌, length, map, get_or, take, refl, ap, sym, subst, ◌∙◌, arith}
+use Rattle.std.proofs.lemmas.Int.{ints}
+use Rattle.std.proofs.lemmas.List.{length-append, take_more, map-append}
+use Rattle.f2_vec.specs.Spans.{row}
+use Rattle.free_module.specs.FreeModule.{free_width}
+use Rattle.resolution_laws.specs.Resolution.{Content, images_of, row_of}
+use Rattle.square.specs.declared.range.Range.{Range}
+use Rattle.square.specs.Squares.{bottom_of}
+use Rattle.square.specs.Tables.{Staircase, row_in, plain_rows, IsThrough}
+use Rattle.square.proofs.Places.{length-row_of}
+use Rattle.lift_laws.specs.Lifts.{Resolution, IsSphere, gens, degree}
+use Rattle.lift_laws.specs.Products.{first_of, count_of}
+use Rattle.chain_map.specs.declared.class.Class.{Class}
+use Rattle.chain_map.specs.Rows.{RowValues}
+use Rattle.chain_map.specs.Lifting.{LiftValues, resolution_of, row_values, shifted_length, degrees_through, AreValues, IsLiftOver}
+use Rattle.chain_map.proofs.Generators.{is_number, first_of-more}
+use Rattle.yoneda.specs.declared.place.Place.{Place}
+use Rattle.yoneda.specs.Places.{IsPlaceOf}
+use Rattle.yoneda.specs.Products.{AreOnSquare}
+
+shifted_length-positive : (above n : ℕ) → 0 < n → shifted_length above n ≡ above + n
+shifted_length-positive above zero h = absurd (omega arith)
+shifted_length-positive above (suc n) h = refl
+
+-- a lift of x goes through the degree of its product with a
+pub goes_through : (table sphere : Staircase) (a x : Place) → a.above + x.above < length (row_in table.rows (x.s + a.s)) → a.above < length (row_in sphere.rows a.s) → a.above + x.above < degrees_through table sphere x.s x.above a.s
+goes_through table sphere a x h l =
+    let e = shifted_length-positive x.above (length (row_in sphere.rows a.s)) (omega arith) in
+    omega arith
+
+-- fewer squares have no more generators
+images_taken : (squares : List Content) (m n : ℕ) → m ≤ n → length (images_of (take m squares)) ≤ length (images_of (take n squares))
+images_taken squares zero n h = omega arith
+images_taken [] (suc m) n h = omega arith
+images_taken (c ∷ squares) (suc m) zero h = absurd (omega arith)
+images_taken (c ∷ squares) (suc m) (suc n) h =
+    let rest = images_taken squares m n (omega arith) in
+    omega (arith, length-append c.images (images_of (take m squares)), length-append c.images (images_of (take n squares)))
+
+pub on_square_of : (table sphere : Staircase) → IsSphere (resolution_of sphere) → (a x : Place) (n : ℕ) (v : RowValues) → AreValues table sphere x.s (bottom_of table.resolved +ℤ pos x.above) n a.s v → a.above + x.above < n → a.above + x.above < length (row_in table.rows (x.s + a.s)) → AreOnSquare table sphere a (x.s + a.s) (a.above + x.above) v.vectors
+on_square_of table sphere is_sphere a x n v values far there =
+    let r = resolution_of table in
+    let i = x.s + a.s in
+    let at = a.above + x.above in
+    let same = length-row_of table.rows i in
+    let long : at < length (row_of r.table i) = omega arith in
+    let more = first_of-more r i at long in
+    let fewer = images_taken (row_of r.table i) (at + 1) n (omega arith) in
+    let one = values.one_each in
+    let bottom = is_sphere.bottom in
+    record {
+      enough = omega arith;
+      widths = λ j l.
+          let number = is_number r i at j long l in
+          let deg : degree r i (first_of r i at + j) -ℤ (bottom_of table.resolved +ℤ pos x.above) ≡ bottom_of sphere.resolved +ℤ pos a.above = let d = number.degree_is in omega (arith, ints) in
+          values.widths (first_of r i at + j) (omega arith) ∙ ap (free_width (gens (resolution_of sphere) a.s)) deg;
+    }
+
+-- the same lift, by the place of its class
+pub lift_at : (table sphere : Staircase) (range : Range) (class : Class) (x : Place) (upto : ℕ) (lift : LiftValues) → IsPlaceOf table range class x → IsLiftOver table sphere class.s x.above class.i upto lift → IsLiftOver table sphere x.s x.above x.i upto lift
+lift_at table sphere range class x upto lift is l =
+    let P : ℕ → Type 0 = λ s. IsLiftOver table sphere s x.above class.i upto lift in
+    subst (λ (i : ℕ). IsLiftOver table sphere x.s x.above i upto lift) is.number (subst P is.row l)
+
+-- what the lift of x has for its product with a
+pub record HasRow (table sphere : Staircase) (a x : Place) (lift : LiftValues) : Type 0 where
+  pub there : a.above + x.above < length (row_in table.rows (x.s + a.s))
+  pub far : a.above + x.above < degrees_through table sphere x.s x.above a.s
+  pub row : a.s < length lift.rows
+  pub on_square : AreOnSquare table sphere a (x.s + a.s) (a.above + x.above) (row_values lift a.s).vectors
+
+pub has_row : (table sphere : Staircase) (range : Range) → IsThrough range table.rows → IsThrough range sphere.rows → IsSphere (resolution_of sphere) → (a x : Place) (upto : ℕ) (lift : LiftValues) → a.s + x.s ≤ range.s → a.above + x.above ≤ range.t → upto ≡ a.s → IsLiftOver table sphere x.s x.above x.i upto lift → HasRow table sphere a x lift
+has_row table sphere range through through_q is_sphere a x upto lift rows degrees e l =
+    let p = through (x.s + a.s) (omega arith) in
+    let q = through_q a.s (omega arith) in
+    let far = goes_through table sphere a x (omega arith) (omega arith) in
+    let lifted : IsLiftOver table sphere x.s x.above x.i a.s lift = subst (λ (k : ℕ). IsLiftOver table sphere x.s x.above x.i k lift) e l in
+    let count = lifted.rows (omega arith) in
+    record {
+      there = omega arith;
+      far = far;
+      row = omega arith;
+      on_square = on_square_of table sphere is_sphere a x (degrees_through table sphere x.s x.above a.s) (row_values lift a.s) (lifted.values a.s (omega arith)) far (omega arith);
+    }
+
+-- one row more
+pub rows_more : {A : Type 0} (f : A → List Bool) (xs : List A) (i : ℕ) (d : A) (rows new : List (List Bool)) (value : List Bool) → i < length xs → rows ≡ map f (take i xs) → value ≡ f (get_or xs i d) → new ≡ rows ++ value ∷ [] → new ≡ map f (take (i + 1) xs)
+rows_more f xs i d rows new value l before is e =
+    e ∙ (ap (λ (v : List Bool). rows ++ v ∷ []) is ∙ (ap (λ (z : List (List Bool)). z ++ f (get_or xs i d) ∷ []) before ∙ (sym (map-append f (take i xs) (get_or xs i d ∷ [])) ∙ ap (map f) (sym (take_more xs i d l)))))

@@ -1,0 +1,12 @@
+//! Products of classes of the sphere with classes of a module.
+#![tactic(auto)]
+
+mod fault;
+mod multiply;
+mod place;
+mod values;
+
+pub use fault::YonedaFault;
+pub use multiply::{product, products};
+pub use place::{Place, degree, generators_at, place_of};
+pub use values::coefficients;

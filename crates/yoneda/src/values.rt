@@ -1,0 +1,65 @@
+//! The coefficients of a class in the values of a map.
+ghost use Rattle.std.specs.Prelude.{◌≡◌, ℕ, ◌+◌, ◌<◌, ◌≤◌, length, map, take, IfOk};
+ghost use Rattle.f2_vec.specs.Vectors.{bit};
+ghost use Rattle.f2_vec.specs.Spans.{row};
+ghost use Rattle.resolution_laws.specs.Resolution.{row_of, degrees_from};
+ghost use Rattle.square.specs.Squares.{bottom_of};
+ghost use Rattle.square.specs.Tables.{row_in, plain_rows};
+ghost use Rattle.lift_laws.specs.Products.{coefficient_of, first_of, on_square};
+ghost use Rattle.chain_map.specs.Lifting.{resolution_of};
+ghost use Rattle.yoneda.specs.Places.{class_above, IsThere};
+ghost use Rattle.yoneda.specs.Products.{AreOnSquare, coefficients_back};
+
+use crate::place::{Place, generators_at};
+use f2_vec::BitVec;
+use memory::Memory;
+use square::Table;
+use std::alloc::Global;
+
+/// The coefficient of the class `a` of the sphere in a map's values on the generators of the square in row `s`, `above` degrees
+/// above the bottom. The map goes from F_s of the module's resolution to F_(a.s) of the sphere's, and takes the square's degree to
+/// a's; `values` are its values on the first generators of row s, in their order, those of the square among them.
+///
+/// # Errors
+/// `Memory` if allocation fails.
+pub fn coefficients(
+    alloc: Global,
+    table: &Table,
+    sphere: &Table,
+    values: &[BitVec],
+    a: Place,
+    s: u16,
+    above: u16,
+) -> Result<BitVec, Memory>
+    requires class { IsThere sphere.now a }
+    requires square { above < length (row_in table.now.rows s) }
+    requires values { AreOnSquare table.now sphere.now a s above values.now }
+    ensures { IfOk result (λ v. v ≡ on_square (resolution_of table.now) s above (λ g. coefficient_of (resolution_of sphere.now) (class_above a) (row values.now g))) }
+{
+    let first = first_at(alloc, table, s, above)?;
+    let count = generators_at(table, s, above);
+    let back = generators_at(sphere, a.s, a.above) - a.i;
+    coordinates_back(alloc, &values[first..first + count], back)
+}
+
+/// The number in row `s` of the first generator that is `above` degrees above the bottom.
+fn first_at(alloc: Global, table: &Table, s: u16, above: u16) -> Result<usize, Memory>
+    requires { above < length (row_in table.now.rows s) }
+    ensures { IfOk result (λ first. first ≡ first_of (resolution_of table.now) s above) }
+{
+    let before = table.generators(alloc, s, above)?;
+    Ok(before.degrees().len())
+}
+
+/// Of each of the vectors the coordinate that is `back` places before its end.
+fn coordinates_back(alloc: Global, vectors: &[BitVec], back: usize) -> Result<BitVec, Memory>
+    requires behind { 0 < back }
+    requires within { (i : ℕ) → i < length vectors.now → back ≤ length (row vectors.now i) }
+    ensures { IfOk result (λ v. v ≡ map (coefficients_back back) vectors.now) }
+{
+    let mut coordinates = BitVec::zero(alloc, 0)?;
+    for v in vectors {
+        coordinates.push(v.get(v.len() - back))?;
+    }
+    Ok(coordinates)
+}
