@@ -1,17 +1,19 @@
 -- The operators of each construction are those that it should have.
 use Rattle.std.specs.Prelude.{nat_le}
 use Rattle.std.specs.List.{range_with_len}
-use Rattle.std.proofs.Common.{Bor, ◌≡◌, ℕ, zero, suc, ◌+◌, ◌*◌, ◌/◌, ◌%◌, ◌<◌, ◌≤◌, ℤ, pos, ◌+ℤ◌, ◌-ℤ◌, Bool, true, false, ◌&&◌, List, [], ◌∷◌, length, map, get_or, EachIndex, refl, ap, sym, subst, ◌∙◌, arith}
-use Rattle.std.proofs.Math.Nat.{div-lt_iff_lt-mul}
+use Rattle.std.proofs.Common.{Bor, ◌≡◌, ℕ, zero, suc, ◌+◌, ◌-◌, ◌*◌, ◌/◌, ◌%◌, ◌<◌, ◌≤◌, ℤ, pos, ◌+ℤ◌, ◌-ℤ◌, Bool, true, false, ◌&&◌, List, [], ◌∷◌, length, map, get_or, EachIndex, refl, ap, sym, subst, ◌∙◌, arith}
+use Rattle.std.proofs.Math.Nat.{div-lt_iff_lt-mul, mod-lt}
+use Rattle.std.proofs.lemmas.Bool.{and_right}
 use Rattle.std.proofs.lemmas.Int.{ints}
 use Rattle.std.proofs.lemmas.List.{length-map}
 use Rattle.std.proofs.lemmas.List.FromFn.{length-range_with_len, get_or-range_with_len}
 use Rattle.f2_vec.proofs.Sums.{plus-false}
 use Rattle.f2_vec.proofs.Combinations.{map_same}
 use Rattle.milnor_basis.specs.Exponents.{degree_of, IsTrimmed}
-use Rattle.milnor_basis.proofs.Parity.{odd_by, odd_by-map, odd_by-same}
+use Rattle.milnor_basis.proofs.Parity.{odd_by, odd_by-map}
+use Rattle.milnor_laws.proofs.Associative.{odd_by-same_all}
 use Rattle.hopf_laws.specs.Diagonal.{splittings}
-use Rattle.hopf_laws.proofs.Splittings.{Pair}
+use Rattle.hopf_laws.proofs.Splittings.{Pair, IsSplit, All-splittings}
 use Rattle.module_json.specs.ModuleFile.{Generator, degree_at, no_generator}
 use Rattle.module_json.specs.WellFormed.{NeverFall}
 use Rattle.finite_module.specs.Module.{Module, generators_in}
@@ -60,14 +62,17 @@ numbers_are c order w f e i l =
     let few : i < size_of c = omega (arith, ap length f, length-order c) in
     omega (arith, number_within c i few)
 
--- the sum over the splittings that the span lets count
-pub tensor_entry : (m k : Bor Checked) (r : List ℕ) (xs : List Splitting) (x y : ℕ) → x < size_of (Tensor m k) → AreSplittings (span m.now.plain.generators) r xs → sum_over (pairs_at m.now.plain k.now.plain x y) xs ≡ coefficient_in (Tensor m k) r x y
+-- the sum over the splittings that the spans let count
+pub tensor_entry : (m k : Bor Checked) (r : List ℕ) (xs : List Splitting) (x y : ℕ) → x < size_of (Tensor m k) → AreSplittings (degree_of r - span k.now.plain.generators) (span m.now.plain.generators) r xs → sum_over (pairs_at m.now.plain k.now.plain x y) xs ≡ coefficient_in (Tensor m k) r x y
 tensor_entry m k r xs x y l are =
     are (pairs_at m.now.plain k.now.plain x y)
-    ∙ odd_by-same (λ p. nat_le (degree_of p.0) (span m.now.plain.generators) && pairs_at m.now.plain k.now.plain x y p) (pairs_at m.now.plain k.now.plain x y) (splittings r) (λ p. within p (nat_le (degree_of p.0) (span m.now.plain.generators)) refl)
+    ∙ odd_by-same_all (IsSplit 1 r) (λ p. nat_le (degree_of p.0) (span m.now.plain.generators) && (nat_le first (degree_of p.0) && pairs_at m.now.plain k.now.plain x y p)) (pairs_at m.now.plain k.now.plain x y) (splittings r) (All-splittings 1 r) (λ p h. within p h (nat_le (degree_of p.0) (span m.now.plain.generators)) (nat_le first (degree_of p.0)) refl refl)
   where
     n : ℕ
     n = length k.now.plain.generators
+
+    first : ℕ
+    first = degree_of r - span k.now.plain.generators
 
     far_from : (d s : ℕ) → nat_le d s ≡ false → s < d
     far_from d s e = grind arith
@@ -76,12 +81,19 @@ tensor_entry m k r xs x y l are =
     some a zero h = absurd (omega arith)
     some a (suc b) h = omega arith
 
-    row : x / n < length m.now.plain.generators
-    row = (div-lt_iff_lt-mul (some (length m.now.plain.generators) n l)).1 l
+    some_right : 0 < n
+    some_right = some (length m.now.plain.generators) n l
 
-    within : (p : Pair) (b : Bool) → nat_le (degree_of p.0) (span m.now.plain.generators) ≡ b → (b && pairs_at m.now.plain k.now.plain x y p) ≡ pairs_at m.now.plain k.now.plain x y p
-    within p true e = refl
-    within p false e = sym (ap (λ b. b && (action_of k.now.plain).coefficient p.1 (x % n) (y % n)) (none_above_span m.now.plain m.now.by_degree.ordered p.0 (x / n) (y / n) row (far_from (degree_of p.0) (span m.now.plain.generators) e)))
+    row : x / n < length m.now.plain.generators
+    row = (div-lt_iff_lt-mul some_right).1 l
+
+    within : (p : Pair) → IsSplit 1 r p → (b c : Bool) → nat_le (degree_of p.0) (span m.now.plain.generators) ≡ b → nat_le first (degree_of p.0) ≡ c → (b && (c && pairs_at m.now.plain k.now.plain x y p)) ≡ pairs_at m.now.plain k.now.plain x y p
+    within p h true true e g = refl
+    within p h true false e g =
+        let below : degree_of p.0 < first = far_from first (degree_of p.0) g in
+        let whole : degree_of p.0 + degree_of p.1 ≡ degree_of r = h.degree in
+        sym (and_right ((action_of m.now.plain).coefficient p.0 (x / n) (y / n)) ((action_of k.now.plain).coefficient p.1 (x % n) (y % n)) (none_above_span k.now.plain k.now.by_degree.ordered p.1 (x % n) (y % n) (mod-lt x some_right) (omega arith)))
+    within p h false c e g = sym (ap (λ b. b && (action_of k.now.plain).coefficient p.1 (x % n) (y % n)) (none_above_span m.now.plain m.now.by_degree.ordered p.0 (x / n) (y / n) row (far_from (degree_of p.0) (span m.now.plain.generators) e)))
 
 -- the unit of a dual
 pub turned_entry : (m : Bor Checked) (r : List ℕ) (x y : ℕ) → r ≡ [] → (action_of m.now.plain).coefficient r y x ≡ coefficient_in (Dual m) r x y

@@ -90,15 +90,18 @@ module _ (m : Module) (is : IsModule m) (falls : NeverFall m.generators) (gs : L
       all_below : (a b : ℕ) → a ≡ b → All (λ k. k < b) (range_with_len 0 a)
       all_below a b e = subst (λ n. All (λ k. k < n) (range_with_len 0 a)) e (range_below a)
 
-  pub dual_by_splittings : (r : List ℕ) (xs : List Splitting) (i j : ℕ) → IsTrimmed r → 0 < degree_of r → i < length gs → AreSplittings (span m.generators) r xs → sum_over (proper_term m order i j) xs ≡ dual_by m order r i j
+  pub dual_by_splittings : (r : List ℕ) (xs : List Splitting) (i j : ℕ) → IsTrimmed r → 0 < degree_of r → i < length gs → AreSplittings 0 (span m.generators) r xs → sum_over (proper_term m order i j) xs ≡ dual_by m order r i j
   dual_by_splittings r xs i j h positive l are =
       are (proper_term m order i j)
-      ∙ odd_by-same (λ p. nat_le (degree_of p.0) (span m.generators) && proper_term m order i j p) (proper_term m order i j) (splittings r) (λ p. within p)
+      ∙ odd_by-same (λ p. nat_le (degree_of p.0) (span m.generators) && (nat_le 0 (degree_of p.0) && proper_term m order i j p)) (proper_term m order i j) (splittings r) (λ p. ap (λ b. nat_le (degree_of p.0) (span m.generators) && (b && proper_term m order i j p)) (none_below (degree_of p.0)) ∙ within p)
       ∙ odd_by-same (proper_term m order i j) (λ p. not (is_nothing p.0) && odd_by (λ z. (action_of m).coefficient p.0 z (number_at order i) && (dual conjugate (action_of m)).coefficient p.1 z (number_at order j)) (action_of m).basis) (splittings r) (λ p. ap (λ b. not (is_nothing p.0) && b) (term_is i j p))
       ∙ sym (dual_unfolded (action_of m) (modules_are_actions m is) r h positive (number_at order i) (number_at order j))
     where
       far_from : (d s : ℕ) → nat_le d s ≡ false → s < d
       far_from d s e = grind arith
+
+      none_below : (d : ℕ) → nat_le 0 d ≡ true
+      none_below d = grind arith
 
       within : (p : Pair) → (nat_le (degree_of p.0) (span m.generators) && proper_term m order i j p) ≡ proper_term m order i j p
       within p = at (nat_le (degree_of p.0) (span m.generators)) refl

@@ -1,5 +1,5 @@
 -- The splittings of an exponent list with a given left part, and those of one degree.
-use Rattle.std.specs.Prelude.{nat_eq, nat_le, nat_lt, slice_set}
+use Rattle.std.specs.Prelude.{◌⊎◌, nat_eq, nat_le, nat_lt, slice_set}
 use Rattle.std.specs.Cmp.Lexicographic.{bytes_decides, pointwise}
 use Rattle.std.specs.List.{All}
 use Rattle.std.proofs.Common.{◌≡◌, ◌≢◌, ℕ, zero, suc, ◌+◌, ◌-◌, ◌*◌, ◌^◌, ◌<◌, ◌≤◌, inl, inr, Bool, true, false, ◌&&◌, List, [], ◌∷◌, ◌++◌, length, map, take, get_or, refl, sym, ◌∙◌, ap, subst, arith}
@@ -146,8 +146,27 @@ both_degrees d n b = elim (cases_lt d n) [
         above : d ≢ n → n + 1 ≤ d
         above g = omega arith
 
-pub degrees_none : (r : List ℕ) (f : Pair → Bool) → odd_by (λ p. nat_lt (degree_of p.0) 0 && f p) (splittings r) ≡ false
-degrees_none r f = odd_by-none (λ p. nat_lt (degree_of p.0) 0 && f p) (splittings r) (λ p. ap (λ x. x && f p) (le-ltb (degree_of p.0) 0 (omega arith)))
+-- what a function gives to splittings whose left part is of this degree at least
+abbrev pub from : ℕ → (Pair → Bool) → Pair → Bool
+from first f p = nat_le first (degree_of p.0) && f p
+
+leb : (a b : ℕ) → a ≤ b → nat_le a b ≡ true
+leb a b l = grind arith
+
+leb_true : (a b : ℕ) → nat_le a b ≡ true → a ≤ b
+leb_true a b e = grind arith
+
+not_leb : (a b : ℕ) → b < a → nat_le a b ≡ false
+not_leb a b l = grind arith
+
+pub degrees_none : (first : ℕ) (r : List ℕ) (f : Pair → Bool) → odd_by (λ p. nat_lt (degree_of p.0) first && from first f p) (splittings r) ≡ false
+degrees_none first r f = odd_by-none (λ p. nat_lt (degree_of p.0) first && from first f p) (splittings r) (λ p. none (degree_of p.0) (f p))
+  where
+    none : (d : ℕ) (b : Bool) → (nat_lt d first && (nat_le first d && b)) ≡ false
+    none d b = elim (cases_lt d first) [
+      | inl l ↦ ap (λ x. nat_lt d first && (x && b)) (not_leb first d l) ∙ Booleans.and-false (nat_lt d first)
+      | inr l ↦ ap (λ x. x && (nat_le first d && b)) (le-ltb d first l)
+    ]
 
 pub degrees_more : (n : ℕ) (r : List ℕ) (f : Pair → Bool) → plus (odd_by (λ p. nat_lt (degree_of p.0) n && f p) (splittings r)) (odd_by (λ p. nat_eq (degree_of p.0) n && f p) (splittings r)) ≡ odd_by (λ p. nat_lt (degree_of p.0) (n + 1) && f p) (splittings r)
 degrees_more n r f =
@@ -155,21 +174,22 @@ degrees_more n r f =
     ∙ odd_by-same (λ p. plus (nat_lt (degree_of p.0) n && f p) (nat_eq (degree_of p.0) n && f p)) (λ p. nat_lt (degree_of p.0) (n + 1) && f p) (splittings r) (λ p. both_degrees (degree_of p.0) n (f p))
 
 -- through the lesser of a number and the degree of R
-pub degrees_all : (n last max : ℕ) (r : List ℕ) (f : Pair → Bool) → IsTrimmed r → last + 1 ≤ n → last ≤ max → n ≤ last + 1 → (degree_of r ≤ max → last ≡ degree_of r) → (max ≤ degree_of r → last ≡ max)
-    → odd_by (λ p. nat_lt (degree_of p.0) n && f p) (splittings r) ≡ odd_by (λ p. nat_le (degree_of p.0) max && f p) (splittings r)
-degrees_all n last max r f hr lo few hi low high =
-    odd_by-same_all (IsSplit 1 r) (λ p. nat_lt (degree_of p.0) n && f p) (λ p. nat_le (degree_of p.0) max && f p) (splittings r) (All-splittings 1 r)
-    (λ p h. ap (λ x. x && f p) (same_answers (nat_lt (degree_of p.0) n) (nat_le (degree_of p.0) max) (λ e. let l = ltb_true (degree_of p.0) n e in leb (degree_of p.0) max (omega arith))
-    (λ e. let l = leb_true (degree_of p.0) max e in let d = h.degree in lt-ltb (degree_of p.0) n (elim (cases_lt max (degree_of r)) [ inl past ↦ let g = high (omega arith) in omega arith | inr within ↦ let g = low within in omega arith ]))))
+pub degrees_all : (n first last max : ℕ) (r : List ℕ) (f : Pair → Bool) → last + 1 ≤ n → last ≤ max → (n ≤ last + 1) ⊎ (n ≤ first) → (degree_of r ≤ max → last ≡ degree_of r) → (max ≤ degree_of r → last ≡ max)
+    → odd_by (λ p. nat_lt (degree_of p.0) n && from first f p) (splittings r) ≡ odd_by (λ p. nat_le (degree_of p.0) max && from first f p) (splittings r)
+degrees_all n first last max r f lo few hi low high =
+    odd_by-same_all (IsSplit 1 r) (λ p. nat_lt (degree_of p.0) n && from first f p) (λ p. nat_le (degree_of p.0) max && from first f p) (splittings r) (All-splittings 1 r) (λ p h. at p h (nat_le first (degree_of p.0)) refl)
   where
     ltb_true : (a b : ℕ) → nat_lt a b ≡ true → a < b
     ltb_true a b e = elim (cases_lt a b) [ inl l ↦ l | inr l ↦ absurd (cc (le-ltb a b l)) ]
 
-    leb : (a b : ℕ) → a ≤ b → nat_le a b ≡ true
-    leb a b l = grind arith
+    within : (p : Pair) → first ≤ degree_of p.0 → degree_of p.0 < n → degree_of p.0 ≤ max
+    within p g l = elim hi [ inl a ↦ omega arith | inr a ↦ absurd (omega arith) ]
 
-    leb_true : (a b : ℕ) → nat_le a b ≡ true → a ≤ b
-    leb_true a b e = grind arith
+    at : (p : Pair) → IsSplit 1 r p → (b : Bool) → nat_le first (degree_of p.0) ≡ b → (nat_lt (degree_of p.0) n && (b && f p)) ≡ (nat_le (degree_of p.0) max && (b && f p))
+    at p h false g = Booleans.and-false (nat_lt (degree_of p.0) n) ∙ sym (Booleans.and-false (nat_le (degree_of p.0) max))
+    at p h true g =
+        ap (λ x. x && f p) (same_answers (nat_lt (degree_of p.0) n) (nat_le (degree_of p.0) max) (λ e. leb (degree_of p.0) max (within p (leb_true first (degree_of p.0) g) (ltb_true (degree_of p.0) n e)))
+        (λ e. let l = leb_true (degree_of p.0) max e in let d = h.degree in lt-ltb (degree_of p.0) n (elim (cases_lt max (degree_of r)) [ inl past ↦ let g = high (omega arith) in omega arith | inr within ↦ let g = low within in omega arith ])))
 
 -- ---- lists
 
@@ -202,6 +222,14 @@ pub left_all : (r : List ℕ) (n i : ℕ) (first xs : List Splitting) → length
 left_all r n i first xs l before f = before f ∙ ap (λ ys. plus (sum_over f first) (odd_by (with_left r f) ys)) (take_all i (basis_of n) l) ∙ ap (plus (sum_over f first)) (with_left-degree n r f)
 
 -- one degree more
-pub degree_more : (r : List ℕ) (n : ℕ) (xs ys : List Splitting) → ((f : Pair → Bool) → sum_over f xs ≡ odd_by (λ p. nat_lt (degree_of p.0) n && f p) (splittings r)) → AddsDegree n r xs ys
-    → (f : Pair → Bool) → sum_over f ys ≡ odd_by (λ p. nat_lt (degree_of p.0) (n + 1) && f p) (splittings r)
-degree_more r n xs ys before more f = more f ∙ ap (λ b. plus b (odd_by (λ p. nat_eq (degree_of p.0) n && f p) (splittings r))) (before f) ∙ degrees_more n r f
+pub degree_more : (r : List ℕ) (first n : ℕ) (xs ys : List Splitting) → first ≤ n → ((f : Pair → Bool) → sum_over f xs ≡ odd_by (λ p. nat_lt (degree_of p.0) n && from first f p) (splittings r)) → AddsDegree n r xs ys
+    → (f : Pair → Bool) → sum_over f ys ≡ odd_by (λ p. nat_lt (degree_of p.0) (n + 1) && from first f p) (splittings r)
+degree_more r first n xs ys l before more f =
+    more f
+    ∙ ap (λ b. plus b (odd_by (λ p. nat_eq (degree_of p.0) n && f p) (splittings r))) (before f)
+    ∙ ap (plus (odd_by (λ p. nat_lt (degree_of p.0) n && from first f p) (splittings r))) (odd_by-same (λ p. nat_eq (degree_of p.0) n && f p) (λ p. nat_eq (degree_of p.0) n && from first f p) (splittings r) (λ p. here (degree_of p.0) (f p) (nat_eq (degree_of p.0) n) refl))
+    ∙ degrees_more n r (from first f)
+  where
+    here : (d : ℕ) (b c : Bool) → nat_eq d n ≡ c → (c && b) ≡ (c && (nat_le first d && b))
+    here d b true e = let g : d ≡ n = eqb-true d n e in ap (λ x. x && b) (sym (leb first d (omega arith)))
+    here d b false e = refl

@@ -87,7 +87,12 @@ impl Construction<'_> {
                 let coefficients = Coefficients::Pairs {
                     left: left.operators(),
                     right: right.operators(),
-                    splittings: splittings(alloc, left.operators().basis(), r)?,
+                    splittings: splittings(
+                        alloc,
+                        left.operators().basis(),
+                        right.operators().basis(),
+                        r,
+                    )?,
                 };
                 coefficients.operator(alloc, before.generators(), order, r.degree())
             }

@@ -11,7 +11,7 @@ ghost use Rattle.module_build.specs.Inside.Splittings.{AreSplittings, IsSplittin
 
 use crate::coefficients::coefficient;
 use crate::order::Placed;
-use crate::splittings::{Splitting, splittings};
+use crate::splittings::{Splitting, splittings_from};
 use f2_vec::BitVec;
 use finite_module::{Module, Operator, Operators};
 use memory::Memory;
@@ -34,7 +34,7 @@ pub(crate) fn dual_operator(
     requires before { HasValuesBelow (degree_of r.now) (dual_by given.now.plain order.now) before.now }
     ensures { IfOk result (λ operator. operator ≡ operator_on before.now.generators (dual_by given.now.plain order.now) r.now) }
 {
-    let splittings = splittings(alloc, given.operators().basis(), r)?;
+    let splittings = splittings_from(alloc, given.operators().basis(), r, 0)?;
     let count = before.generators().count();
     let mut values = Vec::with_capacity(alloc, count)?;
     for i in 0..count {
@@ -57,7 +57,7 @@ fn dual_value(
     requires order { IsDualOrder given.now.plain before.now.generators order.now }
     requires positive { 0 < degree_of r.now }
     requires before { HasValuesBelow (degree_of r.now) (dual_by given.now.plain order.now) before.now }
-    requires sums { AreSplittings (span given.now.plain.generators) r.now splittings.now }
+    requires sums { AreSplittings 0 (span given.now.plain.generators) r.now splittings.now }
     requires each { All (IsSplitting r.now) splittings.now }
     requires generator { i < length before.now.generators }
     ensures { IfOk result (λ v. v ≡ values_on before.now.generators (dual_by given.now.plain order.now) r.now i) }

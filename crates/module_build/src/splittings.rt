@@ -1,6 +1,6 @@
 //! The ways to write an exponent list as a sum of two.
-ghost use Rattle.std.specs.Prelude.{◌≡◌, ◌≢◌, ◌≤◌, ℕ, List, All, IfOk, IfSome, IfNone, OnOk};
-ghost use Rattle.milnor_basis.specs.Exponents.{IsTrimmed};
+ghost use Rattle.std.specs.Prelude.{◌≡◌, ◌≢◌, ◌≤◌, ◌-◌, ℕ, List, All, IfOk, IfSome, IfNone, OnOk};
+ghost use Rattle.milnor_basis.specs.Exponents.{degree_of, IsTrimmed};
 ghost use Rattle.hopf_laws.specs.Diagonal.{added};
 ghost use Rattle.module_build.specs.Inside.Splittings.{AreSplittings, AddsDegree, AddsLeft, IsSplitting};
 
@@ -33,14 +33,35 @@ fn difference(r: &Exps, a: &Exps) -> Option<Exps>
     Some(Exps::of(numbers))
 }
 
-/// The splittings of R whose left part is of a degree of the basis.
-pub(crate) fn splittings(alloc: Global, basis: &Basis, r: &Exps) -> Result<Vec<Splitting>, Memory>
-    ensures sums { IfOk result (λ splittings. AreSplittings basis.now r.now splittings.items) }
+/// The splittings of R whose parts are of degrees of these bases.
+pub(crate) fn splittings(
+    alloc: Global,
+    left: &Basis,
+    right: &Basis,
+    r: &Exps,
+) -> Result<Vec<Splitting>, Memory>
+    ensures { IfOk result (λ splittings. AreSplittings (degree_of r.now - right.now) left.now r.now splittings.items) }
+{
+    let first = r.degree().saturating_sub(u32::from(right.max()));
+    splittings_from(alloc, left, r, first)
+}
+
+/// The splittings of R whose left part is of a degree of the basis, `first` or above.
+pub(crate) fn splittings_from(
+    alloc: Global,
+    basis: &Basis,
+    r: &Exps,
+    first: u32,
+) -> Result<Vec<Splitting>, Memory>
+    ensures sums { IfOk result (λ splittings. AreSplittings first basis.now r.now splittings.items) }
     ensures each { IfOk result (λ splittings. All (IsSplitting r.now) splittings.items) }
 {
     let last = r.degree().min(u32::from(basis.max()));
     let mut splittings = Vec::new(alloc);
-    for n in 0..last + 1 {
+    if last < first {
+        return Ok(splittings);
+    }
+    for n in first..last + 1 {
         add_degree(&mut splittings, basis, r, n as u16)?;
     }
     Ok(splittings)

@@ -17,9 +17,9 @@ pub record IsSplitting (r : List ℕ) (s : Splitting) : Type 0 where
 abbrev pub sum_over : (List ℕ × List ℕ → Bool) → List Splitting → Bool
 sum_over f xs = odd_by (λ s. f (s.left, s.right)) xs
 
--- they are the splittings of R whose left part is of degree max at most
-abbrev pub AreSplittings : ℕ → List ℕ → List Splitting → Type 0
-AreSplittings max r xs = (f : List ℕ × List ℕ → Bool) → sum_over f xs ≡ odd_by (λ p. nat_le (degree_of p.0) max && f p) (splittings r)
+-- they are the splittings of R whose left part is of degree min at least and max at most
+abbrev pub AreSplittings : ℕ → ℕ → List ℕ → List Splitting → Type 0
+AreSplittings min max r xs = (f : List ℕ × List ℕ → Bool) → sum_over f xs ≡ odd_by (λ p. nat_le (degree_of p.0) max && (nat_le min (degree_of p.0) && f p)) (splittings r)
 
 -- the second list has, beside those of the first, the splittings of R whose left part is of degree n
 abbrev pub AddsDegree : ℕ → List ℕ → List Splitting → List Splitting → Type 0

@@ -8,8 +8,8 @@ use Rattle.module_build.proofs.dual_operators.dual_operator.Goals as goal
 
 pub dual_value-requires-clause-sums : goal.dual_value-requires-clause-sums
 dual_value-requires-clause-sums c =
-    subst (λ n. AreSplittings n c.args.r.now c.as_slice.result.now) (c.basis.ensures ∙ ap (λ m. span m.generators) c.operators.ensures)
-    (subst (AreSplittings c.basis.result.now c.args.r.now) (sym c.as_slice.ensures.value) c.in_ok-splittings.ensures.sums)
+    subst (λ n. AreSplittings 0 n c.args.r.now c.as_slice.result.now) (c.basis.ensures ∙ ap (λ m. span m.generators) c.operators.ensures)
+    (subst (AreSplittings 0 c.basis.result.now c.args.r.now) (sym c.as_slice.ensures.value) c.in_ok-splittings.ensures.sums)
 
 pub loop-i-preserved : goal.loop-i-preserved
 loop-i-preserved c =

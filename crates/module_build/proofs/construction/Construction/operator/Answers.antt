@@ -1,4 +1,4 @@
-use Rattle.std.proofs.Common.{Bor, ◌≡◌, ◌<◌, ◌+◌, ◌*◌, ℕ, List, [], length, IfOk, refl, ap, sym, subst, ◌∙◌, inl, inr, arith}
+use Rattle.std.proofs.Common.{Bor, ◌≡◌, ◌<◌, ◌+◌, ◌-◌, ◌*◌, ℕ, List, [], length, IfOk, refl, ap, sym, subst, ◌∙◌, inl, inr, arith}
 use Rattle.milnor_basis.specs.Exponents.{degree_of, IsTrimmed}
 use Rattle.hopf_laws.proofs.Antipode.{nothing_or_positive}
 use Rattle.module_json.specs.ModuleFile.{Generator}
@@ -67,11 +67,15 @@ returns-in-Sum c =
 pub returns-in_ok-splittings-in-Tensor : goal.returns-in_ok-splittings-in-Tensor
 returns-in_ok-splittings-in-Tensor c =
     let self = c.args.self.now in
-    let k : Coefficients = Pairs c.operators-in-Tensor.result c.operators-in-Tensor-2.result c.in_ok-splittings-in-Tensor.field-0 in
+    let pairs : Coefficients = Pairs c.operators-in-Tensor.result c.operators-in-Tensor-2.result c.in_ok-splittings-in-Tensor.field-0 in
     let xs = c.in_ok-splittings-in-Tensor.field-0.items in
-    let are : AreSplittings (span c.in-Tensor.left.now.plain.generators) c.args.r.now xs = subst (λ n. AreSplittings n c.args.r.now xs) (c.basis.ensures ∙ ap (λ (m : Module). span m.generators) c.operators-in-Tensor-3.ensures) c.in_ok-splittings-in-Tensor.ensures.sums in
+    let m = c.in-Tensor.left.now.plain.generators in
+    let k = c.in-Tensor.right.now.plain.generators in
+    let left : c.basis.result.now ≡ span m = c.basis.ensures ∙ ap (λ (m : Module). span m.generators) c.operators-in-Tensor-3.ensures in
+    let right : c.basis-in-Tensor.result.now ≡ span k = c.basis-in-Tensor.ensures ∙ ap (λ (m : Module). span m.generators) c.operators-in-Tensor-4.ensures in
+    let are : AreSplittings (degree_of c.args.r.now - span k) (span m) c.args.r.now xs = subst (λ n. AreSplittings (degree_of c.args.r.now - n) (span m) c.args.r.now xs) right (subst (λ n. AreSplittings (degree_of c.args.r.now - c.basis-in-Tensor.result.now) n c.args.r.now xs) left c.in_ok-splittings-in-Tensor.ensures) in
     subst (λ x. IfOk c.operator-in-Tensor.result (λ operator. operator ≡ x))
-    (operator_is self k c.generators-in-Tensor.result.now c.args.order.now c.degree-in-Tensor.result c.args.r.now (c.generators-in-Tensor.ensures.generators ∙ c.requires.generators) c.requires.order c.degree-in-Tensor.ensures.degree c.degree-in-Tensor.ensures.trimmed
+    (operator_is self pairs c.generators-in-Tensor.result.now c.args.order.now c.degree-in-Tensor.result c.args.r.now (c.generators-in-Tensor.ensures.generators ∙ c.requires.generators) c.requires.order c.degree-in-Tensor.ensures.degree c.degree-in-Tensor.ensures.trimmed
     (λ x y lx ly. (ap (λ m. sum_over (pairs_at m c.operators-in-Tensor-2.result.now x y) xs) c.operators-in-Tensor.ensures ∙ ap (λ m. sum_over (pairs_at c.in-Tensor.left.now.plain m x y) xs) c.operators-in-Tensor-2.ensures ∙ tensor_entry c.in-Tensor.left c.in-Tensor.right c.args.r.now xs x y (omega (arith, lx, ap size_of c.in-Tensor.is)) are) ∙ sym (ap (λ s. coefficient_in s c.args.r.now x y) c.in-Tensor.is)))
     c.operator-in-Tensor.ensures
 
