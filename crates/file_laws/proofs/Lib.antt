@@ -1,1 +1,1 @@
-mod FileLaw
+pub mod FileLaw

@@ -1,0 +1,10 @@
+mod Newline
+mod Values
+mod Written
+mod Members
+mod Header
+mod Lines
+mod Sums
+mod Described
+mod Bounds
+mod Law
