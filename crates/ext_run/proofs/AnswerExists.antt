@@ -9,7 +9,7 @@ use Rattle.std.proofs.lemmas.Int.{ints}
 use Rattle.adem_laws.specs.Admissible.{value as value_of, AdmissibleFormIsUnique}
 use Rattle.adem_laws.proofs.Values.{length-value}
 use Rattle.module_json.specs.ModuleFile.{Generator, Entry, File, IsFileOf, basis, degree_at, listed, unless_refused, with_entries, first_refusal, gens_of, entries_from, actions_of}
-use Rattle.module_json.specs.ModuleFile.IsFileOf.{too_long, no_json, value}
+use Rattle.module_json.specs.ModuleFile.IsFileOf.{no_value, described}
 use Rattle.module_json.specs.WellFormed.{NeverFall}
 use Rattle.module_json.specs.declared.malformed.Malformed.{Malformed}
 use Rattle.module_json.proofs.Order.{EachPair, Rises-by_degree}
@@ -105,9 +105,8 @@ pairs_by_place R [] h = λ i j d l m. absurd (omega (arith, m))
 pairs_by_place R (g ∷ gs) h = AllPairs-cons R g gs (All-from_recursion (R g) gs h.0) (pairs_by_place R gs h.1)
 
 in_order : (bytes : List ℕ) (r : Result File Malformed) → IsFileOf bytes r → (f : File) → r ≡ Ok f → NeverFall f.generators
-in_order bytes r (too_long e h) f p = cc
-in_order bytes r (no_json h none) f p = cc
-in_order bytes r (value h d is) f p =
+in_order bytes r (no_value e is) f p = cc
+in_order bytes r (described d is) f p =
     let gs = basis (gens_of d) in
     subst NeverFall (accepted_generators (first_refusal d) gs (entries_from gs [] (actions_of d)) f p) (pairs_by_place (λ g h. g.degree ≤ℤ h.degree) gs (Rises-by_degree (listed (gens_of d))))
 

@@ -1,16 +1,14 @@
 -- What a failure's status says of its cause, and what the answer to words and input excludes.
-use Rattle.std.proofs.Common.{◌≡◌, ℕ, ◌^◌, ◌≤◌, ◌⊎◌, inl, inr, List, [], length, drop, Bool, true, false, Option, Some, None, IfSome, refl, sym, subst, ◌∙◌, ap, arith}
-use Rattle.std.specs.Prelude.{MatchOption, Result, Ok, Err, nat_le, ⊤}
-use Rattle.std.proofs.lemmas.Bool.{leb-true}
+use Rattle.std.proofs.Common.{◌≡◌, ℕ, ◌^◌, ◌≤◌, ◌⊎◌, inl, inr, List, [], length, drop, Option, Some, None, IfSome, refl, sym, subst, ◌∙◌, ap, arith}
+use Rattle.std.specs.Prelude.{MatchOption, Result, Ok, Err, ⊤}
 use Rattle.std.proofs.lemmas.List.{drop_all}
 use Rattle.f2_matrix.proofs.Unique.{kernel_basis_unique}
 use Rattle.edge.specs.Source.{without_first}
-use Rattle.module_json.specs.ModuleFile.{File, IsFileOf, too_long, no_json, value}
-use Rattle.module_json.specs.Checks.{unless}
+use Rattle.module_json.specs.ModuleFile.{File, IsFileOf, no_value, described}
 use Rattle.module_json.specs.declared.malformed.Malformed.{Malformed}
-use Rattle.module_json.specs.declared.malformed.Malformed.TheVariants.{Limit, Json, Shape, Kind, Prime, Name, Degree, Action, Memory as NoRoom}
-use Rattle.module_json.specs.declared.malformed.What.TheVariants.{Bytes}
+use Rattle.module_json.specs.declared.malformed.Malformed.TheVariants.{Limit, Json, Shape, Kind, Prime, Name, Degree, Action, Parts, Memory as NoRoom}
 use Rattle.module_json.proofs.Reading.{file_unique}
+use Rattle.module_json.proofs.Sizes.{value_fits}
 use Rattle.finite_module.specs.Module.{Module as SteenrodModule}
 use Rattle.module_check.specs.Acceptance.{refusal_of}
 use Rattle.module_check.specs.declared.fault.CheckFault.{CheckFault}
@@ -62,14 +60,9 @@ words_refused (Some (Sq numbers)) bytes a e p = absurd (subst (IsAnswerTo (Sq nu
 
 -- ---- the size of a file
 
-within : (n m : ℕ) (e : Malformed) (b : Bool) → nat_le n m ≡ b → unless b e ≡ None → n ≤ m
-within n m e true same h = leb-true n m same
-within n m e false same h = absurd cc
-
 file_fits : (bytes : List ℕ) (f : File) (r : Result File Malformed) → IsFileOf bytes r → r ≡ Ok f → length bytes ≤ 2 ^ 20
-file_fits bytes f r (too_long e h) same = absurd cc
-file_fits bytes f r (no_json h n) same = absurd cc
-file_fits bytes f r (value h d j) same = within (length bytes) (2 ^ 20) (Limit Bytes) (nat_le (length bytes) (2 ^ 20)) refl h
+file_fits bytes f r (no_value e p) same = absurd cc
+file_fits bytes f r (described d p) same = value_fits bytes (Ok d) d p refl
 
 module_fits : (P : SteenrodModule → List ℕ → Type 0) (bytes : List ℕ) (text : List ℕ) (a : Result (List ℕ) Failure) → IsModuleAnswer P bytes a → a ≡ Ok text → length bytes ≤ 2 ^ 20
 module_fits P bytes text a (no_file e p) h = absurd cc
@@ -106,6 +99,7 @@ malformed_statuses (Prime given) = inl refl
 malformed_statuses (Name generator) = inl refl
 malformed_statuses (Degree generator) = inl refl
 malformed_statuses (Action index why) = inl refl
+malformed_statuses (Parts want given) = inl refl
 malformed_statuses NoRoom = inr refl
 
 fault_statuses : (e : CheckFault) → (fault_status e ≡ 4) ⊎ (fault_status e ≡ 12)

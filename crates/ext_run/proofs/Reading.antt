@@ -1,14 +1,13 @@
 -- What a source has left, read up to one byte past the greatest size of a module file.
-use Rattle.std.proofs.Common.{◌≡◌, ◌≢◌, ℕ, ◌+◌, ◌^◌, ◌<◌, min, List, length, take, drop, inl, inr, refl, sym, ◌∙◌, ap, subst, arith}
-use Rattle.std.specs.Prelude.{IfSome, Option, Some, None, Result, Err}
-use Rattle.std.proofs.lemmas.Bool.{cases_lt, lt-leb}
+use Rattle.std.proofs.Common.{◌≡◌, ◌≢◌, ℕ, ◌+◌, ◌^◌, ◌<◌, min, List, length, take, drop, inl, inr, refl, ◌∙◌, ap, subst, arith}
+use Rattle.std.specs.Prelude.{IfSome, Option, Some, None, Result, Ok, Err}
+use Rattle.std.proofs.lemmas.Bool.{cases_lt}
 use Rattle.std.proofs.lemmas.List.{take_all, length-take, length-take-le, drop_min}
 use Rattle.edge.specs.Source.{without_first}
-use Rattle.module_json.specs.ModuleFile.{File, IsFileOf, too_long, no_json, value}
-use Rattle.module_json.specs.Checks.{unless, size_refusal}
+use Rattle.module_json.specs.ModuleFile.{File, IsFileOf, no_value, described}
+use Rattle.module_json.proofs.Sizes.{value_of_longer}
 use Rattle.module_json.specs.declared.malformed.Malformed.{Malformed}
-use Rattle.module_json.specs.declared.malformed.Malformed.TheVariants.{Limit, Json, Shape, Kind, Prime, Name, Degree, Action, Memory}
-use Rattle.module_json.specs.declared.malformed.What.TheVariants.{Bytes}
+use Rattle.module_json.specs.declared.malformed.Malformed.TheVariants.{Limit, Json, Shape, Kind, Prime, Name, Degree, Action, Parts, Memory}
 use Rattle.ext_run.specs.Failure.{file_failure}
 use Rattle.ext_run.specs.Input.{IsFileFrom, IsFileCauseFrom, most_read}
 
@@ -16,17 +15,9 @@ pub most_read-is : most_read ≡ 2 ^ 20 + 1
 unfolding most_read
 most_read-is = refl
 
--- bytes past the limit are refused by their size alone
-size_refusal-long : (l : List ℕ) → 2 ^ 20 < length l → size_refusal l ≡ Some (Limit Bytes)
-size_refusal-long l h = ap (λ b. unless b (Limit Bytes)) (lt-leb (length l) (2 ^ 20) h)
-
-never_both : (l : List ℕ) → size_refusal l ≡ None → size_refusal l ≡ Some (Limit Bytes) → ⊥
-never_both l e h = let same : None ≡ Some (Limit Bytes) = sym e ∙ h in cc
-
 file_of_longer : (read l : List ℕ) (file : Result File Malformed) → 2 ^ 20 < length read → 2 ^ 20 < length l → IsFileOf read file → IsFileOf l file
-file_of_longer read l file h k (too_long e s) = too_long e (size_refusal-long l k ∙ (sym (size_refusal-long read h) ∙ s))
-file_of_longer read l file h k (no_json s n) = absurd (never_both read s (size_refusal-long read h))
-file_of_longer read l file h k (value s d j) = absurd (never_both read s (size_refusal-long read h))
+file_of_longer read l file h k (no_value e p) = no_value e (value_of_longer read l (Err e) h k p)
+file_of_longer read l file h k (described d p) = described d (value_of_longer read l (Ok d) h k p)
 
 -- what the bytes that were read describe is what all bytes do
 file_of_all : (read l : List ℕ) (file : Result File Malformed) → read ≡ take most_read l → IsFileOf read file → IsFileOf l file
@@ -57,4 +48,5 @@ file_cause left (Prime given) p = p (λ h. cc)
 file_cause left (Name generator) p = p (λ h. cc)
 file_cause left (Degree generator) p = p (λ h. cc)
 file_cause left (Action index why) p = p (λ h. cc)
+file_cause left (Parts want given) p = p (λ h. cc)
 file_cause left Memory p = tt

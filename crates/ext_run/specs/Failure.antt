@@ -6,7 +6,7 @@ use Rattle.edge.specs.declared.reading.ReadFault.{ReadFault}
 use Rattle.edge.specs.declared.reading.ReadFault.TheVariants.{Failed, Memory as NoSpace}
 use Rattle.module_json.specs.ModuleFile.{Generator}
 use Rattle.module_json.specs.declared.malformed.Malformed.{Malformed}
-use Rattle.module_json.specs.declared.malformed.Malformed.TheVariants.{Limit, Json, Shape, Kind, Prime, Name, Degree, Action, Memory as NoRoom}
+use Rattle.module_json.specs.declared.malformed.Malformed.TheVariants.{Limit, Json, Shape, Kind, Prime, Name, Degree, Action, Parts, Memory as NoRoom}
 use Rattle.module_json.specs.declared.malformed.What.{What}
 use Rattle.module_json.specs.declared.malformed.What.TheVariants.{Bytes, Gens, Degree as DegreeLimit, Span, Actions}
 use Rattle.module_json.specs.declared.malformed.Place.{Place}
@@ -65,6 +65,7 @@ malformed_line (Prime given) = codes "ext: module file: prime " ++ (decimal give
 malformed_line (Name generator) = codes "ext: module file: name of generator " ++ (decimal generator ++ newline)
 malformed_line (Degree generator) = codes "ext: module file: degree of generator " ++ (decimal generator ++ newline)
 malformed_line (Action index why) = action_line index why
+malformed_line (Parts want given) = codes "ext: module file: " ++ (decimal given ++ (codes " parts, wanted " ++ (decimal want ++ newline)))
 malformed_line NoRoom = memory_line
 
 abbrev pub fault_line : List Generator → CheckFault → List ℕ

@@ -233,6 +233,15 @@ fn malformed_line(malformed: Malformed) -> Line<'static>
             Number(generator as u64),
         ),
         Malformed::Action { index, why } => action_line(index, why),
+        Malformed::Parts { want, given } => [
+            Text(b"ext: module file: "),
+            Number(given as u64),
+            Text(b" parts, wanted "),
+            Number(want as u64),
+            Text(b"\n"),
+            Nothing,
+            Nothing,
+        ],
         Malformed::Memory => plain(MEMORY_LINE),
     }
 }

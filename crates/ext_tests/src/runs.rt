@@ -346,6 +346,7 @@ fn lines_of_refusals(rt: HostRuntime) -> Result<(), Fail> {
             },
             "action 4095: differs from action 12",
         ),
+        (Malformed::Parts { want: 2, given: 1 }, "1 parts, wanted 2"),
     ] {
         let err = line_of(rt.alloc(), Failure::Malformed(malformed))?;
         let want = format!(in rt.alloc(); "ext: module file: {text}\n")?;

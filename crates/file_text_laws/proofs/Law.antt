@@ -8,8 +8,8 @@ use Rattle.json.proofs.Printed.Decimals.{IsNumber-decimal, IsNumber-signed_decim
 use Rattle.json.proofs.Printed.Utf8.{IsUtf8-are_ascii}
 use Rattle.serde_json.specs.Read.{read}
 use Rattle.serde_json.specs.Written.{outline, items_outline, members_outline}
-use Rattle.module_json.specs.Checks.{unless, size_refusal}
-use Rattle.module_json.specs.ModuleFile.{Generator, File, IsFileOf, value, file_of, with_entries}
+use Rattle.module_json.specs.Checks.{unless, size_refusal, value}
+use Rattle.module_json.specs.ModuleFile.{Generator, File, IsFileOf, described as described_by, file_of, with_entries}
 use Rattle.module_json.specs.WellFormed.{AreByDegree}
 use Rattle.module_json.specs.declared.malformed.Malformed.{Malformed}
 use Rattle.module_json.specs.declared.malformed.Malformed.TheVariants.{Limit}
@@ -101,7 +101,7 @@ module _ (m : Module) (limits : AreByDegree m.generators) (is : IsModule m) (nam
   text_ascii = subst IsUtf8 (sym text_is) (IsUtf8-are_ascii (text_of gs ts) (ascii_is (text_of gs ts) (text_fits m is numbered few).ascii))
 
   describes : IsFileOf (file_text m) (Ok (file_of_module m))
-  describes = subst (IsFileOf (file_text m)) file_is (value size_is (value_of_file gs ts) (record { is_text = text_ascii; reads = value_read }))
+  describes = subst (IsFileOf (file_text m)) file_is (described_by (value_of_file gs ts) (value size_is (value_of_file gs ts) (record { is_text = text_ascii; reads = value_read })))
 
 pub text_describes : TextDescribesFile
 text_describes m limits is names = describes m limits is names

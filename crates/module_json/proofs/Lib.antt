@@ -4,6 +4,8 @@ pub mod Listing
 pub mod Order
 pub mod Basis
 pub mod Reading
+pub mod Sizes
+mod Parts
 pub mod Squares
 pub mod Entries
 pub mod Numbering

@@ -5,7 +5,7 @@ use Rattle.serde_json.specs.Find.{as_number, as_str, as_array, as_object, as_u64
 use Rattle.serde_json.specs.Read.{read}
 use Rattle.module_json.specs.declared.limits.TheConstants.{MAX_FILE_BYTES, MAX_GENERATORS, MAX_ACTIONS}
 use Rattle.module_json.specs.declared.malformed.Malformed.{Malformed}
-use Rattle.module_json.specs.declared.malformed.Malformed.TheVariants.{Limit, Shape, Kind as OtherKind, Prime as OtherPrime, Memory}
+use Rattle.module_json.specs.declared.malformed.Malformed.TheVariants.{Limit, Json, Shape, Kind as OtherKind, Prime as OtherPrime, Memory}
 use Rattle.module_json.specs.declared.malformed.What.TheVariants.{Bytes, Gens as ManyGens, Actions as ManyActions}
 use Rattle.module_json.specs.declared.malformed.Place.TheVariants.{Whole, Kind, Cofiber, Shift, Prime, Gens, Actions}
 
@@ -39,6 +39,12 @@ unless false e = Some e
 
 abbrev pub size_refusal : List ℕ → Option Malformed
 size_refusal bytes = unless (nat_le (length bytes) MAX_FILE_BYTES) (Limit Bytes)
+
+-- What bytes are: too many, no JSON text, or a value.
+pub data IsValueOf (bytes : List ℕ) : Result Data Malformed → Type 0 where
+  too_long : (e : Malformed) → size_refusal bytes ≡ Some e → IsValueOf bytes (Err e)
+  no_json : size_refusal bytes ≡ None → ((d : Data) → IsJson bytes d → ⊥) → IsValueOf bytes (Err Json)
+  value : size_refusal bytes ≡ None → (d : Data) → IsJson bytes d → IsValueOf bytes (Ok d)
 
 abbrev pub whole_refusal : Data → Option Malformed
 whole_refusal d = unless_there (Shape Whole) (as_object d)

@@ -1,5 +1,6 @@
 pub mod Actions
 pub mod Checks
 pub mod ModuleFile
+pub mod Parts
 pub mod WellFormed
 pub mod Inside

@@ -7,10 +7,10 @@ use Rattle.std.specs.Option.{option_or}
 use Rattle.serde_json.specs.Data.{Data, Items, no_items, item, Members, no_members, member}
 use Rattle.serde_json.specs.Find.{as_number, as_str, as_array, as_object, as_i64, get}
 use Rattle.module_json.specs.Actions.{is_name, Written, action_of}
-use Rattle.module_json.specs.Checks.{IsJson, unless, size_refusal, whole_refusal, kind_refusal, cofiber_refusal, shift_refusal, prime_refusal, gens_refusal, actions_refusal}
+use Rattle.module_json.specs.Checks.{IsValueOf, unless, whole_refusal, kind_refusal, cofiber_refusal, shift_refusal, prime_refusal, gens_refusal, actions_refusal}
 use Rattle.module_json.specs.declared.limits.TheConstants.{MAX_DEGREE, MAX_SPAN}
 use Rattle.module_json.specs.declared.malformed.Malformed.{Malformed}
-use Rattle.module_json.specs.declared.malformed.Malformed.TheVariants.{Limit, Json, Name, Degree as NoDegree, Action}
+use Rattle.module_json.specs.declared.malformed.Malformed.TheVariants.{Limit, Name, Degree as NoDegree, Action}
 use Rattle.module_json.specs.declared.malformed.What.TheVariants.{Degree, Span}
 use Rattle.module_json.specs.declared.malformed.Why.{Why}
 use Rattle.module_json.specs.declared.malformed.Why.TheVariants.{Syntax, SquareZero, Unknown, WrongDegree, Repeated}
@@ -92,13 +92,14 @@ pub record Entry : Type 0 where
   pub generator : ℕ
   pub sum : List ℕ
 
+-- the values of an array, if it is there
+abbrev pub items_or : Option Items → Items
+items_or None = no_items
+items_or (Some ds) = ds
+
 -- The values under `actions`.
 abbrev pub actions_of : Data → Items
 actions_of d = items_or (option_and_then as_array (get (codes "actions") d))
-  where
-    items_or : Option Items → Items
-    items_or None = no_items
-    items_or (Some ds) = ds
 
 -- an action as it is written
 abbrev pub written : Data → Option Written
@@ -193,7 +194,7 @@ abbrev pub with_entries : List Generator → Result (List Entry) Malformed → R
 with_entries gs (Ok es) = Ok (record { generators = gs; entries = es })
 with_entries gs (Err e) = Err e
 
-abbrev pub unless_refused : Option Malformed → Result File Malformed → Result File Malformed
+abbrev pub unless_refused : {A : Type 0} → Option Malformed → Result A Malformed → Result A Malformed
 unless_refused None r = r
 unless_refused (Some e) r = Err e
 
@@ -201,11 +202,10 @@ unless_refused (Some e) r = Err e
 abbrev pub file_of : Data → Result File Malformed
 file_of d = unless_refused (first_refusal d) (with_entries (basis (gens_of d)) (entries_from (basis (gens_of d)) [] (actions_of d)))
 
--- What bytes describe: they are too many, or no JSON text, or what their value describes.
+-- What bytes describe: they have no value, or it is what their value describes.
 pub data IsFileOf (bytes : List ℕ) : Result File Malformed → Type 0 where
-  too_long : (e : Malformed) → size_refusal bytes ≡ Some e → IsFileOf bytes (Err e)
-  no_json : size_refusal bytes ≡ None → ((d : Data) → IsJson bytes d → ⊥) → IsFileOf bytes (Err Json)
-  value : size_refusal bytes ≡ None → (d : Data) → IsJson bytes d → IsFileOf bytes (file_of d)
+  no_value : (e : Malformed) → IsValueOf bytes (Err e) → IsFileOf bytes (Err e)
+  described : (d : Data) → IsValueOf bytes (Ok d) → IsFileOf bytes (file_of d)
 
 -- Bytes describe one thing at most.
 abbrev pub FileIsUnique : Type 0

@@ -1,11 +1,12 @@
 //! The checks of a module file before its actions.
-ghost use Rattle.std.specs.Prelude.{◌≡◌, ◌≢◌, ◌≤◌, length, Some, IfOk, IfErr};
+ghost use Rattle.std.specs.Prelude.{◌≡◌, ◌≢◌, ◌≤◌, length, Some, Ok, Err, IfOk, IfErr};
 ghost use Rattle.std.specs.Result.{result_err};
 ghost use Rattle.std.specs.String.{string_cmp};
 ghost use Rattle.std.specs.BTreeMap.{IsOrdered};
 ghost use Rattle.serde_json.specs.Data.{Data};
 ghost use Rattle.serde_json.specs.View.{view, members_view, items_view};
-ghost use Rattle.module_json.specs.Checks.{IsJson, size_refusal, whole_refusal, kind_refusal, cofiber_refusal, shift_refusal, prime_refusal, gens_refusal, actions_refusal};
+ghost use Rattle.module_json.specs.Checks.{IsJson, IsValueOf, size_refusal, whole_refusal, kind_refusal, cofiber_refusal, shift_refusal, prime_refusal, gens_refusal, actions_refusal};
+ghost use Rattle.module_json.specs.Parts.{parts_refusal, parts_of};
 ghost use Rattle.module_json.specs.ModuleFile.{gens_of, actions_of, degree_of, generator_refusal, header_refusal};
 
 use crate::action::names;
@@ -18,7 +19,7 @@ use std::alloc::Global;
 const KIND: &str = "finite dimensional module";
 
 /// The check of the size of a file.
-pub(crate) fn check_size(bytes: &[u8]) -> Result<(), Malformed>
+fn check_size(bytes: &[u8]) -> Result<(), Malformed>
     ensures { result_err result ≡ size_refusal bytes.now }
 {
     if bytes.len() > MAX_FILE_BYTES {
@@ -27,8 +28,8 @@ pub(crate) fn check_size(bytes: &[u8]) -> Result<(), Malformed>
     Ok(())
 }
 
-/// The JSON value of a file.
-pub(crate) fn parse(alloc: Global, bytes: &[u8]) -> Result<Value, Malformed>
+/// The JSON value of bytes.
+fn parse(alloc: Global, bytes: &[u8]) -> Result<Value, Malformed>
     ensures value { IfOk result (λ v. IsJson bytes.now (view v)) }
     ensures only { IfErr result (λ e. e ≢ Malformed.Memory → e ≡ Malformed.Json) }
     ensures refuses { IfErr result (λ e. e ≢ Malformed.Memory → (d : Data) → ¬ IsJson bytes.now d) }
@@ -42,6 +43,31 @@ pub(crate) fn parse(alloc: Global, bytes: &[u8]) -> Result<Value, Malformed>
             Err(Malformed::Json)
         }
     }
+}
+
+/// The JSON value of a file.
+pub(crate) fn read_value(alloc: Global, bytes: &[u8]) -> Result<Value, Malformed>
+    ensures value { IfOk result (λ v. IsValueOf bytes.now (Ok (view v))) }
+    ensures refused { IfErr result (λ e. e ≢ Malformed.Memory → IsValueOf bytes.now (Err e)) }
+{
+    check_size(bytes)?;
+    parse(alloc, bytes)
+}
+
+/// The parts of a file, which is a JSON array of `want` of them.
+#[tactic(auto, using(crate::proofs::Counts::items_counted))]
+pub(crate) fn parts(file: &Value, want: usize) -> Result<&[Value], Malformed>
+    ensures refuses { result_err result ≡ parts_refusal want (view file.now) }
+    ensures value { IfOk result (λ a. items_view a.now ≡ parts_of (view file.now)) }
+{
+    let Some(parts) = file.as_array() else {
+        return Err(Malformed::Shape { at: Place::Whole });
+    };
+    let given = parts.len();
+    if given != want {
+        return Err(Malformed::Parts { want, given });
+    }
+    Ok(parts.as_slice())
 }
 
 /// The check that a file is a JSON object.

@@ -11,7 +11,7 @@ mod limits;
 mod malformed;
 mod spec;
 
-pub use laws::file_is_unique;
+pub use laws::{file_is_unique, parts_are_unique};
 pub use limits::{MAX_ACTIONS, MAX_DEGREE, MAX_FILE_BYTES, MAX_GENERATORS, MAX_SPAN};
 pub use malformed::{Malformed, Place, What, Why};
-pub use spec::{Spec, read};
+pub use spec::{Spec, read, read_parts};

@@ -28,6 +28,9 @@ pub enum Malformed {
     /// Actions are numbered from 0, as they are listed.
     #[error("action {index}: {why}")]
     Action { index: usize, why: Why },
+    /// A file of several modules has `given` of them, where `want` are asked for.
+    #[error("{given} parts, wanted {want}")]
+    Parts { want: usize, given: usize },
     #[error("out of memory")]
     Memory,
 }

@@ -1,11 +1,11 @@
 //! A module as a file describes it.
 ghost use Rattle.std.specs.Prelude.{◌≡◌, ◌≢◌, ◌<◌, length, Some, Ok, Err, IfOk, IfErr, option_map, slice_get};
-ghost use Rattle.serde_json.specs.View.{view};
-ghost use Rattle.module_json.specs.Checks.{Answers};
+ghost use Rattle.serde_json.specs.View.{view, items_view};
 ghost use Rattle.module_json.specs.ModuleFile.{file_of, IsFileOf};
+ghost use Rattle.module_json.specs.Parts.{files_of, modules_of, ArePartsOf};
 ghost use Rattle.module_json.specs.WellFormed.{IsWellFormed};
 
-use crate::checks::{actions, check_header, check_size, gens, parse};
+use crate::checks::{actions, check_header, gens, parts, read_value};
 use crate::entry::{Entry, entries};
 use crate::generator::{Generator, check_span, generators};
 use crate::malformed::Malformed;
@@ -77,7 +77,8 @@ impl Spec {
 
 /// The module that a value describes, or the first thing wrong with it.
 fn describe(alloc: Global, file: &Value) -> Result<Spec, Malformed>
-    ensures { Answers result (file_of (view file.now)) }
+    ensures module { IfOk result (λ s. file_of (view file.now) ≡ Ok s) }
+    ensures refused { IfErr result (λ e. e ≢ Malformed.Memory → file_of (view file.now) ≡ Err e) }
 {
     check_header(file)?;
     let members = gens(file)?;
@@ -105,7 +106,43 @@ pub fn read(alloc: Global, bytes: &[u8]) -> Result<Spec, Malformed>
     ensures module { IfOk result (λ s. IsFileOf bytes.now (Ok s)) }
     ensures refused { IfErr result (λ e. e ≢ Malformed.Memory → IsFileOf bytes.now (Err e)) }
 {
-    check_size(bytes)?;
-    let file = parse(alloc, bytes)?;
+    let file = read_value(alloc, bytes)?;
     describe(alloc, &file)
+}
+
+/// The modules that values describe, or the first thing wrong with one, from the first value on.
+fn describe_each(alloc: Global, parts: &[Value]) -> Result<Vec<Spec>, Malformed>
+    ensures modules { IfOk result (λ specs. files_of (items_view parts.now) ≡ Ok specs.items) }
+    ensures refused { IfErr result (λ e. e ≢ Malformed.Memory → files_of (items_view parts.now) ≡ Err e) }
+{
+    let mut specs = Vec::with_capacity(alloc, parts.len())?;
+    for part in parts {
+        let spec = describe(alloc, part)?;
+        specs.push(spec)?;
+    }
+    Ok(specs)
+}
+
+/// The modules that a value describes, which is an array of `want` of them, or the first thing wrong with it.
+fn describe_parts(alloc: Global, file: &Value, want: usize) -> Result<Vec<Spec>, Malformed>
+    ensures modules { IfOk result (λ specs. modules_of want (view file.now) ≡ Ok specs.items) }
+    ensures refused { IfErr result (λ e. e ≢ Malformed.Memory → modules_of want (view file.now) ≡ Err e) }
+{
+    let parts = parts(file, want)?;
+    describe_each(alloc, parts)
+}
+
+/// The modules that a file of `want` modules describes, or the first thing wrong with it.
+///
+/// The file is a JSON array of at most 2^20 bytes. Its items are `want` modules, each as in a file that [`read`] takes.
+///
+/// An error is the first check that fails, in this order: bytes, JSON, that it is an array, how many items it has, each
+/// item by the checks of [`read`] from the one on that it is an object. It does not tell which item it is of. `Memory`
+/// may come at any time.
+pub fn read_parts(alloc: Global, bytes: &[u8], want: usize) -> Result<Vec<Spec>, Malformed>
+    ensures modules { IfOk result (λ specs. ArePartsOf want bytes.now (Ok specs.items)) }
+    ensures refused { IfErr result (λ e. e ≢ Malformed.Memory → ArePartsOf want bytes.now (Err e)) }
+{
+    let file = read_value(alloc, bytes)?;
+    describe_parts(alloc, &file, want)
 }

@@ -1,5 +1,7 @@
 //! The answers to files, by hand: no clause says what a text of a file means beyond its definition.
-use module_json::{Malformed, Place, Spec, What, Why, file_is_unique, read};
+use module_json::{
+    Malformed, Place, Spec, What, Why, file_is_unique, parts_are_unique, read, read_parts,
+};
 use std::alloc::Global;
 use std::test::Fail;
 
@@ -272,6 +274,15 @@ fn keys(rt: HostRuntime) -> Result<(), Fail> {
     Ok(())
 }
 
+/// Texts one behind another.
+fn joined(alloc: Global, texts: &[&str]) -> Result<String, Malformed> {
+    let mut all = String::new(alloc);
+    for text in texts {
+        all.push_str(text)?;
+    }
+    Ok(all)
+}
+
 /// A text so many times, between a first and a last one.
 fn repeated(
     alloc: Global,
@@ -357,5 +368,78 @@ fn counts(rt: HostRuntime) -> Result<(), Fail> {
             what: What::Actions
         })
     );
+    Ok(())
+}
+
+/// The parts of a file of `want` modules, each as it is told, with ` / ` behind it.
+fn told_parts(alloc: Global, file: &str, want: usize) -> Result<String, Malformed> {
+    let mut text = String::new(alloc);
+    for spec in &read_parts(alloc, file.as_bytes(), want)? {
+        text.push_str(told(alloc, spec)?.as_str())?;
+        text.push_str("/ ")?;
+    }
+    Ok(text)
+}
+
+const POINT: &str = r#"{"type":"finite dimensional module","p":2,"gens":{"x0":0}}"#;
+
+const CELLS: &str =
+    r#"{"type":"finite dimensional module","gens":{"x1":1,"x0":0},"actions":["Sq1 x0 = x1"]}"#;
+
+const OTHER: &str = r#"{"type":"module"}"#;
+
+const ODD: &str = r#"{"type":"finite dimensional module","p":3}"#;
+
+#[test]
+fn parts(rt: HostRuntime) -> Result<(), Fail> {
+    let alloc = rt.alloc();
+    parts_are_unique();
+    let whole = Malformed::Shape { at: Place::Whole };
+    let counted = |want, given| Malformed::Parts { want, given };
+    for (parts, want, refusal) in [
+        (&["[", POINT, ",", CELLS][..], 2, Malformed::Json),
+        (&[POINT], 1, whole),
+        (&["3"], 0, whole),
+        (&["[]"], 1, counted(1, 0)),
+        (&["[", POINT, "]"], 2, counted(2, 1)),
+        (&["[", ODD, ",3,", POINT, "]"], 2, counted(2, 3)),
+        (&["[[", POINT, "]]"], 1, whole),
+        (&["[", POINT, ",3]"], 2, whole),
+        (&["[3,", OTHER, "]"], 2, whole),
+        (&["[", OTHER, ",", ODD, "]"], 2, Malformed::Kind),
+        (
+            &["[", CELLS, ",", ODD, "]"],
+            2,
+            Malformed::Prime { given: 3 },
+        ),
+    ] {
+        let file = joined(alloc, parts)?;
+        assert_eq!(rt;
+            told_parts(alloc, file.as_str(), want).err(),
+            Some(refusal),
+            "{file}"
+        );
+    }
+    for (parts, want, text) in [
+        (&["[]"][..], 0, ""),
+        (&[" [", POINT, "]"], 1, "x0 0, / "),
+        (
+            &["[", CELLS, " , ", POINT, "]"],
+            2,
+            "x0 0, x1 1, 1 0 [1]; / x0 0, / ",
+        ),
+        (
+            &["[", POINT, ",", CELLS, ",", POINT, "]"],
+            3,
+            "x0 0, / x0 0, x1 1, 1 0 [1]; / x0 0, / ",
+        ),
+    ] {
+        let file = joined(alloc, parts)?;
+        assert_eq!(rt;
+            told_parts(alloc, file.as_str(), want)?.as_str(),
+            text,
+            "{file}"
+        );
+    }
     Ok(())
 }

@@ -4,7 +4,7 @@ use std::thread;
 use std::time::{Clock, Duration};
 
 /// So often a pass that waits only yields its thread. Then it sleeps between two looks, so that it burns no processor.
-const YIELDS: u32 = 200;
+const YIELDS: u32 = 20;
 
 /// How long it sleeps, in microseconds: less than most squares take.
 const NAP: u64 = 50;
