@@ -30,7 +30,7 @@ goes_through table sphere a x h l =
     omega arith
 
 -- fewer squares have no more generators
-images_taken : (squares : List Content) (m n : ℕ) → m ≤ n → length (images_of (take m squares)) ≤ length (images_of (take n squares))
+pub images_taken : (squares : List Content) (m n : ℕ) → m ≤ n → length (images_of (take m squares)) ≤ length (images_of (take n squares))
 images_taken squares zero n h = omega arith
 images_taken [] (suc m) n h = omega arith
 images_taken (c ∷ squares) (suc m) zero h = absurd (omega arith)
