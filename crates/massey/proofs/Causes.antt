@@ -49,7 +49,7 @@ module _ (one : LiftsGiveOneProduct) (minimal : CanonicalTableIsMinimalResolutio
       let is_lift = IsLift-less r q x.s (degree_of_class r (class_above x)) (dual_of r q x.s (degree_of_class r (class_above x)) (number_of r (class_above x))) upto a.s top (map_of lift) enough long in
       record {
         some = record { top = top; phi = map_of lift; reaches = low; is_lift = is_lift; gives = gives };
-        each = λ other phi reached other_lift. gives ∙ every_lift one minimal modules table sphere h hq range whole whole_q is_sphere (canonical_through table range whole all) (canonical_through sphere range whole_q all_q) a x places.a_is.generator places.row_within small top other (map_of lift) phi low reached is_lift other_lift;
+        each = λ other phi reached other_lift. gives ∙ every_lift one minimal modules table sphere h hq range range whole whole_q is_sphere (canonical_through table range whole all) (canonical_through sphere range whole_q all_q) a x places.a_is.generator places.row_within small (let within = places.row_within in omega arith) (omega arith) top other (map_of lift) phi low reached is_lift other_lift;
       }
 
   pub product_by_lift : IsProductOver table sphere range a_class x_class v
