@@ -4,8 +4,6 @@
 #[cfg(test)]
 mod runs;
 #[cfg(test)]
-mod saves;
-#[cfg(test)]
 mod streams;
 #[cfg(test)]
 mod texts;
