@@ -2,8 +2,8 @@ use Rattle.std.proofs.Common.{◌≡◌, w32, ◌∙◌, sym, ap, subst, inr}
 use Rattle.std.proofs.lemmas.Int.{to_z-of_z}
 use Rattle.finite_module.specs.Checked.{Checked}
 use Rattle.square.specs.Tables.{Staircase, IsContinued}
-use Rattle.ext_tests.proofs.SphereTable.{first_content, first_readable, first_read}
-use Rattle.ext_tests.proofs.texts.sphere_table.Goals as goal
+use Rattle.text_tests.proofs.SphereTable.{first_content, first_readable, first_read}
+use Rattle.text_tests.proofs.texts.sphere_table.Goals as goal
 use Rattle.square.specs.Squares.{bottom_of}
 
 pub read-square-requires : goal.read-square-requires

@@ -8,12 +8,7 @@ use std::io::{ErrorKind, Read, Write};
 use std::test::Fail;
 
 /// A source of so many bytes a call, in which one call fails, and none for 0.
-pub(crate) fn source(
-    alloc: Global,
-    bytes: &[u8],
-    piece: usize,
-    failing: u64,
-) -> Result<MemSource, Fail>
+fn source(alloc: Global, bytes: &[u8], piece: usize, failing: u64) -> Result<MemSource, Fail>
     requires { 0 < piece }
 {
     let mut calls = Vec::new(alloc);
