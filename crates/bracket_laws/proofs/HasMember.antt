@@ -13,14 +13,14 @@ use Rattle.resolution_laws.proofs.Generators.{element-IsOfDegree}
 use Rattle.lift_laws.specs.Maps.{shifted, extended, FitThrough}
 use Rattle.lift_laws.specs.Lifts.{Resolution, gens, degree, free, d, lowered, dual_of, IsSphere}
 use Rattle.lift_laws.specs.Products.{Class, count_of, number_of, degree_of_class, old_width, coefficient_of, IsLiftOfClass}
-use Rattle.bracket_laws.specs.Brackets.{composed, HasRoom, HasZeroLower, BracketHasMember}
+use Rattle.bracket_laws.specs.Brackets.{IsNullHomotopy, composed, HasRoom, HasZeroLower, BracketHasMember}
 use Rattle.lift_laws.proofs.Linear.{IsMap-shifted, HaveWidth-extended, extended-same, extended-after, IsSteenrodModule-shifted}
 use Rattle.lift_laws.proofs.Facts.{IsMap-d}
 use Rattle.lift_laws.proofs.Coefficients.{is_new, element-new}
 use Rattle.bracket_laws.proofs.Vectors.{in_square}
 use Rattle.lift_laws.proofs.OneProduct.{length-start}
 use Rattle.lift_laws.proofs.Existence.{augmented-vanishes_where}
-use Rattle.bracket_laws.proofs.Members.{homotopy, homotopy-IsNull}
+use Rattle.bracket_laws.proofs.Members.{AreMadeMaps, made-IsNull, homotopy, homotopy-IsNull}
 use Rattle.milnor_laws.proofs.FreeModules.{free_modules_are_modules}
 use Rattle.lift_laws.proofs.Resolved.{IsResolved, is_resolved}
 
@@ -96,6 +96,22 @@ module _ (r q : Resolution) (rs rt qs qt : ℕ) (p : IsResolved r rs rt) (o : Is
       ]) in
       ap (λ (k : ℤ). d q 0 k (composed q b.s y x beta gamma 0 t g)) (sym across) ∙ (ap (d q 0 (u -ℤ y)) named ∙ (one ∙ (two ∙ (three ∙ ap (λ (k : ℤ). zeros (q.base.graded.width k)) across))))
 
+  base : (i : ℕ) → i ≡ suc n → (g : ℕ) → g < length (gens r i) → degree r i g ≤ℤ top → d q 0 (degree r i g -ℤ (x +ℤ y)) (composed q b.s y x beta gamma 0 (degree r i g) g) ≡ zeros (q.base.graded.width (degree r i g -ℤ (x +ℤ y)))
+  base i same =
+      let P : ℕ → Type 0 = λ i. (g : ℕ) → g < length (gens r i) → degree r i g ≤ℤ top → d q 0 (degree r i g -ℤ (x +ℤ y)) (composed q b.s y x beta gamma 0 (degree r i g) g) ≡ zeros (q.base.graded.width (degree r i g -ℤ (x +ℤ y))) in
+      subst P (sym same) base_at
+
+  -- maps that are made one from the other are a null homotopy of beta gamma
+  pub made_homotopy : (top -ℤ x) ≤ℤ (q.base.bottom +ℤ pos qt) → (H : ℕ → ℕ → List Bool) → AreMadeMaps r q n (x +ℤ y) (composed q b.s y x beta gamma) a.s top H → IsNullHomotopy r q n (x +ℤ y) (composed q b.s y x beta gamma) a.s top H
+  made_homotopy reach_x H made =
+      let e = sphere.bottom in
+      let e1 = room.l_row in
+      let e2 = room.a_row in
+      let f2 = room.rows_q in
+      let reach : (top -ℤ x) ≤ℤ (top -ℤ x) = omega (arith, ints) in
+      let reach_w : (top -ℤ (x +ℤ y)) ≤ℤ (q.base.bottom +ℤ pos qt) = omega (arith, ints) in
+      made-IsNull r q rs rt qs qt p o c.s b.s n x y top (top -ℤ x) room.n_row reach reach_w l a.s (dual_of r q c.s x (number_of r c)) (dual_of q q b.s y (number_of q b)) gamma beta lower.gamma_lift beta_lift (omega arith) room.rows_r (omega arith) (omega arith) base H made
+
 pub bracket_has_member : CanonicalTableIsMinimalResolution → BracketHasMember
 bracket_has_member law r q rs rt qs qt a b c n l top gamma beta cr cq sphere room reaches reach_x there lower beta_lift =
     let p = is_resolved law r rs rt cr in
@@ -109,9 +125,7 @@ bracket_has_member law r q rs rt qs qt a b c n l top gamma beta cr cq sphere roo
     let f2 = room.rows_q in
     let reach : (top -ℤ x) ≤ℤ (top -ℤ x) = omega (arith, ints) in
     let reach_w : (top -ℤ (x +ℤ y)) ≤ℤ (q.base.bottom +ℤ pos qt) = omega (arith, ints) in
-    let base : (i : ℕ) → i ≡ suc n → (g : ℕ) → g < length (gens r i) → degree r i g ≤ℤ top → d q 0 (degree r i g -ℤ (x +ℤ y)) (composed q b.s y x beta gamma 0 (degree r i g) g) ≡ zeros (q.base.graded.width (degree r i g -ℤ (x +ℤ y))) = λ i same.
-    let P : ℕ → Type 0 = λ i. (g : ℕ) → g < length (gens r i) → degree r i g ≤ℤ top → d q 0 (degree r i g -ℤ (x +ℤ y)) (composed q b.s y x beta gamma 0 (degree r i g) g) ≡ zeros (q.base.graded.width (degree r i g -ℤ (x +ℤ y))) in
-    subst P (sym same) (base_at r q rs rt qs qt p o a b c n l sphere room top there gamma beta lower beta_lift) in (
-      homotopy r q rs rt qs qt p o c.s b.s n x y top (top -ℤ x) room.n_row reach reach_w l a.s (dual_of r q c.s x (number_of r c)) (dual_of q q b.s y (number_of q b)) gamma beta lower.gamma_lift beta_lift (omega arith) room.rows_r (omega arith) (omega arith) base,
-      homotopy-IsNull r q rs rt qs qt p o c.s b.s n x y top (top -ℤ x) room.n_row reach reach_w l a.s (dual_of r q c.s x (number_of r c)) (dual_of q q b.s y (number_of q b)) gamma beta lower.gamma_lift beta_lift (omega arith) room.rows_r (omega arith) (omega arith) base,
+    let base_r = base r q rs rt qs qt p o a b c n l sphere room top there gamma beta lower beta_lift in (
+      homotopy r q rs rt qs qt p o c.s b.s n x y top (top -ℤ x) room.n_row reach reach_w l a.s (dual_of r q c.s x (number_of r c)) (dual_of q q b.s y (number_of q b)) gamma beta lower.gamma_lift beta_lift (omega arith) room.rows_r (omega arith) (omega arith) base_r,
+      homotopy-IsNull r q rs rt qs qt p o c.s b.s n x y top (top -ℤ x) room.n_row reach reach_w l a.s (dual_of r q c.s x (number_of r c)) (dual_of q q b.s y (number_of q b)) gamma beta lower.gamma_lift beta_lift (omega arith) room.rows_r (omega arith) (omega arith) base_r,
     )

@@ -20,6 +20,16 @@ use Rattle.bracket_laws.proofs.Contracted.{cancel-right}
 use Rattle.milnor_laws.proofs.FreeModules.{free_modules_are_modules}
 use Rattle.lift_laws.proofs.Resolved.{IsResolved}
 
+-- Maps that are made one from the other: the first is zero, and the values of each other one are vectors that d takes, where that is
+-- a cycle, to theta and the map before it after d together.
+pub record AreMadeMaps (r q : Resolution) (n : ℕ) (w : ℤ) (theta : ℕ → ℤ → ℕ → List Bool) (upto : ℕ) (top : ℤ) (H : ℕ → ℕ → List Bool) : Type 0 where
+  pub starts : (g : ℕ) → g < length (gens r n) → degree r n g ≤ℤ top → H 0 g ≡ zeros (free_width (gens q 0) (degree r n g -ℤ w))
+  pub fits : (k j g : ℕ) → k < upto → j ≡ n + k → g < length (gens r (suc j)) → degree r (suc j) g ≤ℤ top → length (H (suc k) g) ≡ free_width (gens q (suc k)) (degree r (suc j) g -ℤ w)
+  pub gives : (k j g : ℕ) → k < upto → j ≡ n + k → g < length (gens r (suc j)) → degree r (suc j) g ≤ℤ top →
+      length (sum_of (theta k (degree r (suc j) g) g) (lowered r j q k w (H k) (degree r (suc j) g) (image r (suc j) g))) ≡ free_width (gens q k) (degree r (suc j) g -ℤ w) →
+      d q k (degree r (suc j) g -ℤ w) (sum_of (theta k (degree r (suc j) g) g) (lowered r j q k w (H k) (degree r (suc j) g) (image r (suc j) g))) ≡ zeros ((target_of q.base q.table k).width (degree r (suc j) g -ℤ w)) →
+      d q (suc k) (degree r (suc j) g -ℤ w) (H (suc k) g) ≡ sum_of (theta k (degree r (suc j) g) g) (lowered r j q k w (H k) (degree r (suc j) g) (image r (suc j) g))
+
 module _ (r q : Resolution) (rs rt qs qt : ℕ) (p : IsResolved r rs rt) (o : IsResolved q qs qt)
     (s b n : ℕ) (x y top topq : ℤ) (rows : suc n ≡ s + b) (reach : (top -ℤ x) ≤ℤ topq) (reach_w : (top -ℤ (x +ℤ y)) ≤ℤ (q.base.bottom +ℤ pos qt))
     (l upto : ℕ) (zg zb : ℕ → List Bool) (gamma beta : ℕ → ℕ → List Bool) (gamma_lift : IsLift r q s x zg l top gamma) (beta_lift : IsLift q q b y zb upto topq beta)
@@ -61,13 +71,13 @@ module _ (r q : Resolution) (rs rt qs qt : ℕ) (p : IsResolved r rs rt) (o : Is
     fit : FitThrough (shifted w (free q k)) (gens r j) top H
     closed : k < upto → suc j ≤ rs → (g : ℕ) → g < length (gens r (suc j)) → degree r (suc j) g ≤ℤ top → d q k (degree r (suc j) g -ℤ w) (goal k j H g) ≡ zeros ((target_of q.base q.table k).width (degree r (suc j) g -ℤ w))
 
-  first : IsPart 0 n (λ g. zeros (free_width (gens q 0) (degree r n g -ℤ w)))
-  first = record {
-    fit = λ g a c. length-zeros (free_width (gens q 0) (degree r n g -ℤ w));
+  first : (H : ℕ → List Bool) → ((g : ℕ) → g < length (gens r n) → degree r n g ≤ℤ top → H g ≡ zeros (free_width (gens q 0) (degree r n g -ℤ w))) → IsPart 0 n H
+  first H starts = record {
+    fit = λ g a c. ap length (starts g a c) ∙ length-zeros (free_width (gens q 0) (degree r n g -ℤ w));
     closed = λ h0 h g a c.
         let t = degree r (suc n) g in
         let size = free_width (gens q 0) (t -ℤ w) in
-        let none : lowered r n q 0 w (λ g. zeros (free_width (gens q 0) (degree r n g -ℤ w))) t (image r (suc n) g) ≡ zeros size = extended-null (shifted w (free q 0)) (good 0) (gens r n) top (λ g. zeros (free_width (gens q 0) (degree r n g -ℤ w))) (λ g l m. refl) t (image r (suc n) g) c in
+        let none : lowered r n q 0 w H t (image r (suc n) g) ≡ zeros size = extended-null (shifted w (free q 0)) (good 0) (gens r n) top H starts t (image r (suc n) g) c in
         ap (d q 0 (t -ℤ w)) (ap (sum_of (theta 0 t g)) none ∙ sum_of-zeros_right size (theta 0 t g) (length-theta 0 (omega arith) (suc n) g c)) ∙ base (suc n) refl g a c;
   }
 
@@ -127,6 +137,44 @@ module _ (r q : Resolution) (rs rt qs qt : ℕ) (p : IsResolved r rs rt) (o : Is
   up-is zero = omega arith
   up-is (suc k) = let e = up-is k in omega arith
 
+  length-goal : (k : ℕ) (H : ℕ → List Bool) → k < upto → FitThrough (shifted w (free q k)) (gens r (up k)) top H → (g : ℕ) → degree r (suc (up k)) g ≤ℤ top → length (goal k (up k) H g) ≡ free_width (gens q k) (degree r (suc (up k)) g -ℤ w)
+  length-goal k H h fit g c =
+      let lt = length-theta k (omega arith) (suc (up k)) g c in
+      let lb = length-extended (shifted w (free q k)) (good k) (gens r (up k)) top H fit (degree r (suc (up k)) g) (image r (suc (up k)) g) c in
+      length-sum_of (theta k (degree r (suc (up k)) g) g) (lowered r (up k) q k w H (degree r (suc (up k)) g) (image r (suc (up k)) g)) (lt ∙ sym lb) ∙ lt
+
+  -- parts, each of which d takes to what it has to, are a null homotopy
+  null_of_parts : (H : ℕ → ℕ → List Bool) → ((k : ℕ) → k ≤ upto → IsPart k (up k) (H k)) → ((k : ℕ) → k < upto → (g : ℕ) → g < length (gens r (suc (up k))) → degree r (suc (up k)) g ≤ℤ top → d q (suc k) (degree r (suc (up k)) g -ℤ w) (H (suc k) g) ≡ goal k (up k) (H k) g) → IsNullHomotopy r q n w theta upto top H
+  null_of_parts H parts gives = record {
+    fit = λ k i h e. subst (λ (i : ℕ). FitThrough (shifted w (free q k)) (gens r i) top (H k)) (up-is k ∙ sym e) (parts k h).fit;
+    bounds = λ k i j h e f g.
+        let P : ℕ → ℕ → Type 0 = λ i j. g < length (gens r i) → degree r i g ≤ℤ top → sum_of (d q (suc k) (degree r i g -ℤ w) (H (suc k) g)) (lowered r j q k w (H k) (degree r i g) (image r i g)) ≡ theta k (degree r i g) g in
+        let at : P (suc (up k)) (up k) = λ a c.
+        let t = degree r (suc (up k)) g in
+        let low = lowered r (up k) q k w (H k) t (image r (suc (up k)) g) in
+        let lt = length-theta k (omega arith) (suc (up k)) g c in
+        let lb = length-extended (shifted w (free q k)) (good k) (gens r (up k)) top (H k) (parts k (omega arith)).fit t (image r (suc (up k)) g) c in
+        ap (λ (z : List Bool). sum_of z low) (gives k h g a c) ∙ cancel-right (free_width (gens q k) (t -ℤ w)) (theta k t g) low lt lb in
+        let Q : ℕ → Type 0 = λ j. P (suc j) j in
+        subst (λ (i : ℕ). P i j) (sym f) (subst Q (up-is k ∙ sym e) at);
+  }
+
+  -- so maps that are made one from the other are
+  module _ (H : ℕ → ℕ → List Bool) (made : AreMadeMaps r q n w theta upto top H) where
+    covers : (k : ℕ) → k < upto → IsPart k (up k) (H k) → (g : ℕ) → g < length (gens r (suc (up k))) → degree r (suc (up k)) g ≤ℤ top → d q (suc k) (degree r (suc (up k)) g -ℤ w) (H (suc k) g) ≡ goal k (up k) (H k) g
+    covers k h m g a c = let e = up-is k in made.gives k (up k) g h (up-is k) a c (length-goal k (H k) h m.fit g c) (m.closed h (omega arith) g a c)
+
+    is_part : (k : ℕ) → k ≤ upto → IsPart k (up k) (H k)
+    is_part zero h = first (H 0) made.starts
+    is_part (suc k) h =
+        let m = is_part k (omega arith) in
+        next_part k (up k) (H k) (H (suc k)) (omega arith) (up-is k) m (λ g a c. made.fits k (up k) g (omega arith) (up-is k) a c) (covers k (omega arith) m)
+
+    pub made-IsNull : IsNullHomotopy r q n w theta upto top H
+    made-IsNull = null_of_parts H is_part (λ k h. covers k h (is_part k (omega arith)))
+
+  -- ---- where there are none yet
+
   record Part (k : ℕ) : Type 0 where
     H : ℕ → List Bool
     holds : k ≤ upto → IsPart k (up k) H
@@ -150,9 +198,7 @@ module _ (r q : Resolution) (rs rt qs qt : ℕ) (p : IsResolved r rs rt) (o : Is
       let c : degree r (suc (up k)) g ≤ℤ top = there.1 in
       let is = m.holds (omega arith) in
       let e = up-is k in
-      let lt = length-theta k (omega arith) (suc (up k)) g c in
-      let lb = length-extended (shifted w (free q k)) (good k) (gens r (up k)) top m.H is.fit (degree r (suc (up k)) g) (image r (suc (up k)) g) c in
-      let y = preimage q qs qt o k (degree r (suc (up k)) g -ℤ w) (goal k (up k) m.H g) (omega arith) (omega (arith, ints)) (length-sum_of (theta k (degree r (suc (up k)) g) g) (lowered r (up k) q k w m.H (degree r (suc (up k)) g) (image r (suc (up k)) g)) (lt ∙ sym lb) ∙ lt) (is.closed h (omega arith) g there.0 c) in
+      let y = preimage q qs qt o k (degree r (suc (up k)) g -ℤ w) (goal k (up k) m.H g) (omega arith) (omega (arith, ints)) (length-goal k m.H h is.fit g c) (is.closed h (omega arith) g there.0 c) in
       (y.vector, (y.fits, y.gives))
 
   made : (k : ℕ) → Part k → ℕ → List Bool
@@ -163,7 +209,7 @@ module _ (r q : Resolution) (rs rt qs qt : ℕ) (p : IsResolved r rs rt) (o : Is
   made-is k m h g a c = (pick (CanStep k g) (can_step k g) (IsValue k m.H g) (found k m g)).1 (h, (a, c))
 
   part : (k : ℕ) → Part k
-  part zero = record { H = λ g. zeros (free_width (gens q 0) (degree r n g -ℤ w)); holds = λ h. first }
+  part zero = record { H = λ g. zeros (free_width (gens q 0) (degree r n g -ℤ w)); holds = λ h. first (λ g. zeros (free_width (gens q 0) (degree r n g -ℤ w))) (λ g a c. refl) }
   part (suc k) = record {
     H = made k (part k);
     holds = λ h. next_part k (up k) (part k).H (made k (part k)) (omega arith) (up-is k) ((part k).holds (omega arith)) (λ g a c. (made-is k (part k) (omega arith) g a c).0) (λ g a c. (made-is k (part k) (omega arith) g a c).1);
@@ -178,18 +224,4 @@ module _ (r q : Resolution) (rs rt qs qt : ℕ) (p : IsResolved r rs rt) (o : Is
 
   pub homotopy-IsNull : IsNullHomotopy r q n w theta upto top homotopy
   unfolding homotopy
-  homotopy-IsNull = record {
-    fit = λ k i h e. subst (λ (i : ℕ). FitThrough (shifted w (free q k)) (gens r i) top (part k).H) (up-is k ∙ sym e) ((part k).holds h).fit;
-    bounds = λ k i j h e f g.
-        let P : ℕ → ℕ → Type 0 = λ i j. g < length (gens r i) → degree r i g ≤ℤ top → sum_of (d q (suc k) (degree r i g -ℤ w) ((part (suc k)).H g)) (lowered r j q k w (part k).H (degree r i g) (image r i g)) ≡ theta k (degree r i g) g in
-        let at : P (suc (up k)) (up k) = λ a c.
-        let t = degree r (suc (up k)) g in
-        let is = (part k).holds (omega arith) in
-        let low = lowered r (up k) q k w (part k).H t (image r (suc (up k)) g) in
-        let one : d q (suc k) (t -ℤ w) ((part (suc k)).H g) ≡ sum_of (theta k t g) low = ap (λ (z : ℕ → List Bool). d q (suc k) (t -ℤ w) (z g)) (part-next k) ∙ (made-is k (part k) h g a c).1 in
-        let lt = length-theta k (omega arith) (suc (up k)) g c in
-        let lb = length-extended (shifted w (free q k)) (good k) (gens r (up k)) top (part k).H is.fit t (image r (suc (up k)) g) c in
-        ap (λ (z : List Bool). sum_of z low) one ∙ cancel-right (free_width (gens q k) (t -ℤ w)) (theta k t g) low lt lb in
-        let Q : ℕ → Type 0 = λ j. P (suc j) j in
-        subst (λ (i : ℕ). P i j) (sym f) (subst Q (up-is k ∙ sym e) at);
-  }
+  homotopy-IsNull = null_of_parts homotopy (λ k h. (part k).holds h) (λ k h g a c. ap (λ (z : ℕ → List Bool). d q (suc k) (degree r (suc (up k)) g -ℤ w) (z g)) (part-next k) ∙ (made-is k (part k) h g a c).1)

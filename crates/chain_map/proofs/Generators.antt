@@ -1,11 +1,12 @@
 -- The generators of a row by squares: number i of a square is that many behind the row's generators before it.
-use Rattle.std.proofs.Common.{◌≡◌, ℕ, zero, suc, ◌+◌, ◌<◌, Bool, ℤ, pos, ◌+ℤ◌, ◌-ℤ◌, ◌≤ℤ◌, List, [], ◌∷◌, ◌++◌, length, map, replicate, take, refl, ap, sym, ◌∙◌, arith}
+use Rattle.std.proofs.Common.{◌≡◌, ℕ, zero, suc, ◌+◌, ◌<◌, ◌≤◌, Bool, ℤ, pos, ◌+ℤ◌, ◌-ℤ◌, ◌<ℤ◌, ◌≤ℤ◌, List, [], ◌∷◌, ◌++◌, length, map, replicate, take, drop, refl, ap, sym, ◌∙◌, arith}
 use Rattle.std.proofs.lemmas.Int.{ints}
-use Rattle.std.proofs.lemmas.List.{get_or_append_left, get_or-append-add, length-append, map-append, take_more}
+use Rattle.std.proofs.lemmas.List.{get_or_append_left, get_or-append-add, get_or-map, length-append, length-take-le, map-append, take_more}
 use Rattle.f2_vec.specs.Spans.{row}
 use Rattle.resolution_laws.specs.Resolution.{Content, no_content, square_in, degrees_from, images_of, row_of}
-use Rattle.resolution_laws.proofs.Rows.{images_of-push, degrees_from-between}
-use Rattle.free_module.specs.FreeModule.{IsWithinReach}
+use Rattle.resolution_laws.proofs.Rows.{images_of-push, degrees_from-between, degrees_from-split}
+use Rattle.resolution_laws.proofs.Generators.{length-images_of}
+use Rattle.free_module.specs.FreeModule.{degree_at, IsWithinReach}
 use Rattle.lift_laws.specs.Maps.{lowered_by}
 use Rattle.lift_laws.specs.Lifts.{Resolution, gens, degree, image}
 use Rattle.lift_laws.specs.Products.{first_of, count_of}
@@ -75,3 +76,33 @@ lowered-row b a squares =
 -- a degree is within reach of each generator, where it is of the bottom
 pub within-reach : (b : ℤ) (squares : List Content) (max : ℕ) (t : ℤ) → t ≤ℤ (b +ℤ pos max) → IsWithinReach max (degrees_from b squares) t
 within-reach b squares max t l g h = let p = degrees_from-between b squares g h in omega (arith, ints, p.from)
+
+-- a generator of the first n squares of a row, among these
+pub degree-first : (r : Resolution) (i n g : ℕ) → g < first_of r i n → degree_at (degrees_from r.base.bottom (take n (row_of r.table i))) g ≡ degree r i g
+degree-first r i n g b =
+    let squares = row_of r.table i in
+    let base = r.base.bottom in
+    let first = degrees_from base (take n squares) in
+    let later = degrees_from (base +ℤ pos n) (drop n squares) in
+    let count = length-images_of base (take n squares) in
+    sym (ap (λ (z : List ℤ). degree_at z g) (degrees_from-split base squares n) ∙ get_or_append_left first later (pos 0) g (omega arith))
+
+-- it is of a lower degree than the square behind them
+pub degree-below : (r : Resolution) (i n g : ℕ) → n ≤ length (row_of r.table i) → g < first_of r i n → degree r i g <ℤ (r.base.bottom +ℤ pos n)
+degree-below r i n g l b =
+    let squares = row_of r.table i in
+    let base = r.base.bottom in
+    let count = length-images_of base (take n squares) in
+    let same = degree-first r i n g b in
+    let low = (degrees_from-between base (take n squares) g (omega arith)).below in
+    let len : length (take n squares) ≡ n = length-take-le n squares l in
+    omega (arith, ints)
+
+-- its degree where those of the row are lowered
+pub degree-lowered : (r : Resolution) (i n a g : ℕ) → g < first_of r i n → degree_at (degrees_from (pos 0 -ℤ pos a) (take n (row_of r.table i))) g ≡ degree r i g -ℤ (r.base.bottom +ℤ pos a)
+degree-lowered r i n a g there =
+    let squares = take n (row_of r.table i) in
+    let base = r.base.bottom in
+    ap (λ (z : List ℤ). degree_at z g) (sym (lowered-row base a squares))
+    ∙ (get_or-map (λ (d : ℤ). d -ℤ (base +ℤ pos a)) (degrees_from base squares) g (pos 0) (pos 0) (omega (arith, length-images_of base squares))
+    ∙ ap (λ (d : ℤ). d -ℤ (base +ℤ pos a)) (degree-first r i n g there))

@@ -1,5 +1,5 @@
 -- What has to be covered is of the dimension that the quasi-inverse takes.
-use Rattle.std.proofs.Common.{◌≡◌, ℕ, zero, suc, ◌+◌, ◌-◌, ◌<◌, ◌≤◌, Bool, true, false, ℤ, pos, ◌+ℤ◌, ◌-ℤ◌, ◌≤ℤ◌, List, length, take, Option, IfSome, refl, ap, sym, subst, ◌∙◌, arith}
+use Rattle.std.proofs.Common.{◌≡◌, ℕ, zero, suc, ◌+◌, ◌-◌, ◌<◌, ◌≤◌, Bool, true, false, ℤ, pos, ◌+ℤ◌, ◌-ℤ◌, ◌<ℤ◌, ◌≤ℤ◌, List, length, take, Option, IfSome, refl, ap, sym, subst, ◌∙◌, arith}
 use Rattle.std.specs.Prelude.{IsSome}
 use Rattle.std.proofs.lemmas.Int.{ints}
 use Rattle.std.proofs.lemmas.List.{length-take-le}
@@ -68,14 +68,15 @@ pub class_goal_fits : (table sphere : Staircase) (s above n far m : ℕ) → IsS
 class_goal_fits table sphere s above n far m is_sphere reaches within inverse goal width own e same is =
     first_goal_fits sphere (pos m -ℤ pos above) inverse goal (place_there table sphere s above 0 n far m is_sphere reaches within) is (ap length same ∙ (length-class_value width own ∙ e))
 
--- the image of a map to F_k, through its first generators
+-- a map to F_k, through its first generators, gives vectors of F_k
+pub mapped_width : (sphere : Staircase) (k far : ℕ) (t u : ℤ) (source target : List ℤ) (images : List (List Bool)) (v : List Bool) → t ≡ u → u <ℤ (bottom_of sphere.resolved +ℤ pos far) → target ≡ target_of sphere k far → AreImages (free_graded target) source images → length (mapped (free_graded target) source images t v) ≡ free_width (gens (resolution_of sphere) k) u
+mapped_width sphere k far t u source target images v at low target_is are =
+    length-combination (free_width target t) v (map_rows (free_graded target) source images t) (HaveWidth-map_rows (free_graded target) source images t (free_modules_are_modules target).widths are)
+    ∙ (ap (λ (z : List ℤ). free_width z t) target_is ∙ (ap (free_width (target_of sphere k far)) at ∙ width-take (bottom_of sphere.resolved) (row_of (plain_rows sphere.rows) k) far u low))
+
+-- so a quasi-inverse takes them
 pub image_goal_fits : (table sphere : Staircase) (s above k n far m : ℕ) → IsSphere (resolution_of sphere) → Reaches table sphere s above (suc k) n far → m < n → (inverse : Option Reduction) (source target : List ℤ) (images : List (List Bool)) (goal v : List Bool) (t : ℤ) → t ≡ pos m -ℤ pos above → target ≡ target_of sphere k far → AreImages (free_graded target) source images → goal ≡ mapped (free_graded target) source images t v → IsInverseAt sphere (suc k) (pos m -ℤ pos above) inverse → IfSome inverse (λ r. length goal ≡ r.cols)
 image_goal_fits table sphere s above k n far m is_sphere reaches within inverse source target images goal v t at target_is are same is =
     let zero = is_sphere.bottom in
-    let there = reaches.there in
     let enough = reaches.enough in
-    let len : length goal ≡ free_width target t = ap length same ∙ length-combination (free_width target t) v (map_rows (free_graded target) source images t) (HaveWidth-map_rows (free_graded target) source images t (free_modules_are_modules target).widths are) in
-    let row = row_of (plain_rows sphere.rows) k in
-    let all : free_width target t ≡ free_width (gens (resolution_of sphere) k) (pos m -ℤ pos above) =
-    ap (λ (z : List ℤ). free_width z t) target_is ∙ (ap (free_width (target_of sphere k far)) at ∙ width-take (bottom_of sphere.resolved) row far (pos m -ℤ pos above) (omega (arith, ints))) in
-    next_goal_fits sphere k (pos m -ℤ pos above) inverse goal (place_there table sphere s above (suc k) n far m is_sphere reaches within) is (len ∙ all)
+    next_goal_fits sphere k (pos m -ℤ pos above) inverse goal (place_there table sphere s above (suc k) n far m is_sphere reaches within) is (ap length same ∙ mapped_width sphere k far t (pos m -ℤ pos above) source target images v at (omega (arith, ints)) target_is are)

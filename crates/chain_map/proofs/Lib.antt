@@ -1,10 +1,11 @@
 pub mod Generators
 mod MadeRows
-mod Widths
+pub mod Widths
 pub mod Resolved
+pub mod Preimages
 mod MadeLifts
 mod Squares
-mod Goals
-mod Places
+pub mod Goals
+pub mod Places
 mod Growing
 mod Finished

@@ -33,30 +33,10 @@ use Rattle.lift_laws.proofs.Cut.{degree-cut, image-cut, basis-cut, IsLift-uncut}
 use Rattle.chain_map.specs.Rows.{IsInverseAt, chosen_preimage}
 use Rattle.chain_map.specs.Lifting.{resolution_of, LiftValues, row_values, map_of}
 use Rattle.chain_map.specs.Inside.Making.{IsChosenFor, AreMade, class_of, next_goal, goal_of, IsMade}
-use Rattle.chain_map.proofs.Generators.{is_number, lowered-row}
+use Rattle.chain_map.proofs.Generators.{is_number, lowered-row, degree-below}
 use Rattle.chain_map.proofs.Widths.{HasPlace, value_width, width-take}
 use Rattle.chain_map.proofs.Resolved.{longer_below, part, part_of, row_of-part, long-row}
-
--- a generator of the first n squares of a row, among these
-pub degree-first : (r : Resolution) (i n g : ℕ) → g < first_of r i n → degree_at (degrees_from r.base.bottom (take n (row_of r.table i))) g ≡ degree r i g
-degree-first r i n g b =
-    let squares = row_of r.table i in
-    let base = r.base.bottom in
-    let first = degrees_from base (take n squares) in
-    let later = degrees_from (base +ℤ pos n) (drop n squares) in
-    let count = length-images_of base (take n squares) in
-    sym (ap (λ (z : List ℤ). degree_at z g) (degrees_from-split base squares n) ∙ get_or_append_left first later (pos 0) g (omega arith))
-
--- it is of a lower degree than the square behind them
-pub degree-below : (r : Resolution) (i n g : ℕ) → n ≤ length (row_of r.table i) → g < first_of r i n → degree r i g <ℤ (r.base.bottom +ℤ pos n)
-degree-below r i n g l b =
-    let squares = row_of r.table i in
-    let base = r.base.bottom in
-    let count = length-images_of base (take n squares) in
-    let same = degree-first r i n g b in
-    let low = (degrees_from-between base (take n squares) g (omega arith)).below in
-    let len : length (take n squares) ≡ n = length-take-le n squares l in
-    omega (arith, ints)
+use Rattle.chain_map.proofs.Preimages.{gives-of}
 
 module _ (table sphere : Staircase) (h : IsTable table) (hq : IsTable sphere) (is_sphere : IsSphere (resolution_of sphere))
     (s above n far c count upto : ℕ) (lift : LiftValues) (made : IsMade table sphere s above n far c count lift)
@@ -183,32 +163,6 @@ module _ (table sphere : Staircase) (h : IsTable table) (hq : IsTable sphere) (i
     z-fits : FitThrough (shifted x qc.base.graded) (gens rc s) top z
     z-fits g b low = z-fits-at g b ∙ ap (λ (u : ℤ). q.base.graded.width (u -ℤ x)) (sym (same-degree s g (omega arith) b))
 
-    -- d_k takes a value to what it has to
-    below-bottom : (k : ℕ) (u : ℤ) → u <ℤ bottom_of sphere.resolved → (target_of qc.base qc.table k).width u ≡ 0
-    below-bottom zero u l = o.bounded u l
-    below-bottom (suc k) u l = free_width-below qc k u l
-
-    gives-of : (k : ℕ) (u : ℤ) (goal v : List Bool) (inverse : Option Reduction) → k ≤ upto → u <ℤ (bottom_of sphere.resolved +ℤ pos (tq + 1)) → IsInverseAt sphere k u inverse → v ≡ chosen_preimage inverse goal → length v ≡ free_width (gens qc k) u → length goal ≡ (target_of qc.base qc.table k).width u → IsCycle qc k u goal → d qc k u v ≡ goal
-    gives-of k u goal v None l low is value fits len cyc =
-        let none = below-bottom k u is in
-        nil_from_length (d qc k u v) ((IsMap-d qc upto tq o k u l).fits u v (omega (arith, ints)) fits ∙ none) ∙ sym (nil_from_length goal (len ∙ none))
-    gives-of k u goal v (Some reduction) l low is value fits len cyc =
-        let j = is.above in
-        let m = over sphere.resolved in
-        let at = is.degree in
-        let squares = row_of q.table k in
-        let small : j < tq + 1 = omega (arith, ints) in
-        let long_q = long-row sphere hq upto tq inside_q k l in
-        let count_j : length (take j squares) ≡ j = length-take-le j squares (omega arith) in
-        let content = square_in squares j in
-        let cut = target_over m (below_of q.table k j) in
-        let P : ℕ → Type 0 = λ w. IsReductionOf (cut.width (m.bottom +ℤ pos w)) (map_rows cut (degrees_from m.bottom (take j squares) ++ replicate (length content.images) (m.bottom +ℤ pos w)) (images_of (take j squares) ++ content.images) (m.bottom +ℤ pos w)) reduction in
-        let Q : ℤ → Type 0 = λ u. length goal ≡ (target_of qc.base qc.table k).width u in
-        let R : ℤ → Type 0 = λ u. IsCycle qc k u goal in
-        let S : ℤ → Type 0 = λ u. d qc k u (chosen_preimage (Some reduction) goal) ≡ goal in
-        let given = quasi-gives qc upto tq o (plain_rows sphere.rows) q_rows k j l (omega arith) (omega arith) reduction (subst P count_j is.quasi) goal (subst Q at len) (subst R at cyc) in
-        ap (d qc k u) value ∙ subst S (sym at) given.gives
-
     -- ---- the rows, one after the other
 
     first-start : (g : ℕ) → g < length (gens rc s) → degree rc s g ≤ℤ top → d qc 0 (degree rc s g -ℤ x) (phi 0 g) ≡ z g
@@ -222,7 +176,7 @@ module _ (table sphere : Staircase) (h : IsTable table) (hq : IsTable sphere) (i
         let S : ℤ → Type 0 = λ w. IsInverseAt sphere 0 (w -ℤ x) made_here.inverse in
         let zero = is_sphere.bottom in
         let low_g = low-degree s g (omega arith) b in
-        gives-of 0 (degree rc s g -ℤ x) (z g) (phi 0 g) made_here.inverse (omega arith) (omega (arith, ints)) (subst S (sym same) made_here.is) made_here.value fits (z-fits g b low) tt
+        gives-of sphere hq upto tq inside_q o 0 (degree rc s g -ℤ x) (z g) (phi 0 g) made_here.inverse (omega arith) (omega (arith, ints)) (subst S (sym same) made_here.is) made_here.value fits (z-fits g b low) tt
 
     next-value : (k g : ℕ) → k < upto → IsLift rc qc s x z k top phi → g < length (gens rc (suc (s + k))) → degree rc (suc (s + k)) g ≤ℤ top → d qc (suc k) (degree rc (suc (s + k)) g -ℤ x) (phi (suc k) g) ≡ lowered rc (s + k) qc k x (phi k) (degree rc (suc (s + k)) g) (image rc (suc (s + k)) g)
     next-value k g l lift_k b low =
@@ -254,7 +208,7 @@ module _ (table sphere : Staircase) (h : IsTable table) (hq : IsTable sphere) (i
         let cyc = cycle rc qc (s + upto) t upto tq p o (record { bottom = is_sphere.bottom; one = is_sphere.one; none = is_sphere.none }) s x top reach_top z z-fits k i phi lift_k refl (omega arith) (omega arith) g b low in
         let S : ℤ → Type 0 = λ w. IsInverseAt sphere (suc k) (w -ℤ x) made_here.inverse in
         let low_g = low-degree (suc i) g (omega arith) b in
-        gives-of (suc k) u wanted (phi (suc k) g) made_here.inverse (omega arith) (omega (arith, ints)) (subst S (sym same) made_here.is) (made_here.value ∙ ap (chosen_preimage made_here.inverse) goal_is) fits len cyc
+        gives-of sphere hq upto tq inside_q o (suc k) u wanted (phi (suc k) g) made_here.inverse (omega arith) (omega (arith, ints)) (subst S (sym same) made_here.is) (made_here.value ∙ ap (chosen_preimage made_here.inverse) goal_is) fits len cyc
 
     lift-part : (k : ℕ) → k ≤ upto → IsLift rc qc s x z k top phi
     lift-part zero l = record { fit = λ k i b e. fit-part k i (omega arith) e; start = first-start; commutes = λ k i j b e f g there low. absurd (omega arith) }

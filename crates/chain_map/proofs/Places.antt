@@ -20,9 +20,9 @@ use Rattle.lift_laws.proofs.Bridge.{basis-lowered}
 use Rattle.chain_map.specs.Rows.{lowered_row}
 use Rattle.chain_map.specs.Lifting.{resolution_of, LiftValues, row_values}
 use Rattle.chain_map.specs.Inside.Making.{class_of, class_value, next_goal, target_of, IsMade, Reaches}
-use Rattle.chain_map.proofs.Generators.{is_number, number_is_once, lowered-row}
+use Rattle.chain_map.proofs.Generators.{is_number, number_is_once, lowered-row, degree-below, degree-lowered}
 use Rattle.chain_map.proofs.Widths.{image_widths, width-take}
-use Rattle.chain_map.proofs.MadeLifts.{value-fits, degree-first, degree-below}
+use Rattle.chain_map.proofs.MadeLifts.{value-fits}
 
 -- ---- the class, on number h of the square (s, n)
 
@@ -75,18 +75,18 @@ module _ (table sphere : Staircase) (s above class n h : ℕ) (is_sphere : IsSph
 
 -- ---- the map below, on the image of number h of the square (i + 1, m)
 
-low_width : (b : ℤ) (squares : List Content) (a n m : ℕ) → m < n → free_width (degrees_from (pos 0 -ℤ pos a) (take n squares)) (pos m -ℤ pos a) ≡ free_width (degrees_from b squares) (b +ℤ pos m)
-low_width b squares a n m l =
+-- the dimension of a row's generators of lowered degrees
+pub low_width : (b : ℤ) (squares : List Content) (a n : ℕ) (t u : ℤ) → t <ℤ (b +ℤ pos n) → u ≡ t -ℤ (b +ℤ pos a) → free_width (degrees_from (pos 0 -ℤ pos a) (take n squares)) u ≡ free_width (degrees_from b squares) t
+low_width b squares a n t u l at =
     let ds = degrees_from b (take n squares) in
-    let at : (b +ℤ pos m) -ℤ (b +ℤ pos a) ≡ pos m -ℤ pos a = omega (arith, ints) in
-    ap (λ (z : List ℤ). free_width z (pos m -ℤ pos a)) (sym (lowered-row b a (take n squares)))
-    ∙ (ap (free_width (lowered_by (b +ℤ pos a) ds)) (sym at)
-    ∙ (ap length (basis-lowered (b +ℤ pos a) 0 ds (b +ℤ pos m)) ∙ width-take b squares n (b +ℤ pos m) (omega (arith, ints))))
+    ap (λ (z : List ℤ). free_width z u) (sym (lowered-row b a (take n squares)))
+    ∙ (ap (free_width (lowered_by (b +ℤ pos a) ds)) at
+    ∙ (ap length (basis-lowered (b +ℤ pos a) 0 ds t) ∙ width-take b squares n t l))
 
 pub image_width : (table : Staircase) → IsTable table → (i above n m h : ℕ) (source : List ℤ) (v : List Bool) → m < n → m < length (row_in table.rows (suc i)) → h < count_of (resolution_of table) (suc i) m → source ≡ lowered_row table i n above → v ≡ row (content_at table.rows (suc i) m).images h → length v ≡ free_width source (pos m -ℤ pos above)
 image_width table is i above n m h source v within there b same at =
     let b0 = bottom_of table.resolved in
-    ap length at ∙ (image_widths table is i m there h b ∙ sym (ap (λ (z : List ℤ). free_width z (pos m -ℤ pos above)) same ∙ low_width b0 (row_of (plain_rows table.rows) i) above n m within))
+    ap length at ∙ (image_widths table is i m there h b ∙ sym (ap (λ (z : List ℤ). free_width z (pos m -ℤ pos above)) same ∙ low_width b0 (row_of (plain_rows table.rows) i) above n (b0 +ℤ pos m) (pos m -ℤ pos above) (omega (arith, ints)) (omega (arith, ints))))
 
 pub next_goal_is : (table sphere : Staircase) (i k above n far m h : ℕ) (source target : List ℤ) (images : List (List Bool)) (v : List Bool) → m < length (row_of (plain_rows table.rows) (suc i)) → h < count_of (resolution_of table) (suc i) m → source ≡ lowered_row table i n above → target ≡ target_of sphere k far → v ≡ row (content_at table.rows (suc i) m).images h
     → mapped (free_graded target) source images (pos m -ℤ pos above) v ≡ next_goal table sphere i k above n far images (first_of (resolution_of table) (suc i) m + h)
@@ -103,34 +103,34 @@ next_goal_is table sphere i k above n far m h source target images v there b sou
     ∙ (ap (λ (u : ℤ). mapped (free_graded (target_of sphere k far)) (lowered_row table i n above) images u v) low
     ∙ ap (mapped (free_graded (target_of sphere k far)) (lowered_row table i n above) images (degree r (suc i) g -ℤ x)) same))
 
--- ---- the values of map k as images
+-- ---- values as images
 
-pub values_are_images : (table sphere : Staircase) (s above n far c count k : ℕ) (lift : LiftValues) → IsSphere (resolution_of sphere) → Reaches table sphere s above (suc k) n far → IsMade table sphere s above n far c count lift → count ≡ suc k → AreImages (free_graded (target_of sphere k far)) (lowered_row table (s + k) n above) (row_values lift k).vectors
-values_are_images table sphere s above n far c count k lift is_sphere reaches made count_is =
+-- vectors of F_k for the generators of the first n squares of row i
+pub are_images : (table sphere : Staircase) (i k above n far : ℕ) (vectors : List (List Bool)) → IsSphere (resolution_of sphere) → n ≤ length (row_in table.rows i) → n ≤ above + far → length vectors ≡ first_of (resolution_of table) i n → ((g : ℕ) → g < length vectors → length (row vectors g) ≡ free_width (gens (resolution_of sphere) k) (degree (resolution_of table) i g -ℤ (bottom_of table.resolved +ℤ pos above))) → AreImages (free_graded (target_of sphere k far)) (lowered_row table i n above) vectors
+are_images table sphere i k above n far vectors is_sphere here enough one widths =
     let r = resolution_of table in
     let b0 = bottom_of table.resolved in
-    let i = s + k in
-    let row_made = made.values k (omega arith) in
-    let one = row_made.one_each in
     let squares = take n (row_of (plain_rows table.rows) i) in
     let size : length (lowered_row table i n above) ≡ first_of r i n = sym (length-images_of (pos 0 -ℤ pos above) squares) in
-    let rise = reaches.is_table.never_rise i in
-    let e : s + suc k ≡ suc i = omega arith in
-    let same_row = ap (λ (z : ℕ). length (row_in table.rows z)) e in
     let len = length-row_of table.rows i in
-    let here = reaches.here in
     record {
       one_each = one ∙ sym size;
       widths = λ g l.
           let there : g < first_of r i n = omega arith in
           let low = degree-below r i n g (omega arith) there in
-          let at : degree_at (lowered_row table i n above) g ≡ degree_at (degrees_from b0 squares) g -ℤ (b0 +ℤ pos above) =
-          ap (λ (z : List ℤ). degree_at z g) (sym (lowered-row b0 above squares)) ∙ get_or-map (λ (d : ℤ). d -ℤ (b0 +ℤ pos above)) (degrees_from b0 squares) g (pos 0) (pos 0) (omega (arith, length-images_of b0 squares)) in
-          let first : degree_at (degrees_from b0 squares) g ≡ degree r i g = degree-first r i n g there in
           let zero = is_sphere.bottom in
-          let enough = reaches.enough in
           let u = degree r i g -ℤ (b0 +ℤ pos above) in
-          let v : degree_at (lowered_row table i n above) g ≡ u = at ∙ ap (λ (d : ℤ). d -ℤ (b0 +ℤ pos above)) first in
-          value-fits table sphere reaches.is_table reaches.is_sphere_table is_sphere s above n far c count (suc k) lift made reaches.here reaches.enough reaches.there (omega arith) k g (omega arith) (omega arith)
-          ∙ (sym (width-take (bottom_of sphere.resolved) (row_of (plain_rows sphere.rows) k) far u (omega (arith, ints))) ∙ ap (free_width (target_of sphere k far)) (sym v));
+          let v : degree_at (lowered_row table i n above) g ≡ u = degree-lowered r i n above g there in
+          widths g (omega arith) ∙ (sym (width-take (bottom_of sphere.resolved) (row_of (plain_rows sphere.rows) k) far u (omega (arith, ints))) ∙ ap (free_width (target_of sphere k far)) (sym v));
     }
+
+-- the values of map k of a lift
+pub values_are_images : (table sphere : Staircase) (s above n far c count k : ℕ) (lift : LiftValues) → IsSphere (resolution_of sphere) → Reaches table sphere s above (suc k) n far → IsMade table sphere s above n far c count lift → count ≡ suc k → AreImages (free_graded (target_of sphere k far)) (lowered_row table (s + k) n above) (row_values lift k).vectors
+values_are_images table sphere s above n far c count k lift is_sphere reaches made count_is =
+    let i = s + k in
+    let rise = reaches.is_table.never_rise i in
+    let e : s + suc k ≡ suc i = omega arith in
+    let same_row = ap (λ (z : ℕ). length (row_in table.rows z)) e in
+    let here = reaches.here in
+    are_images table sphere i k above n far (row_values lift k).vectors is_sphere (omega arith) reaches.enough (made.values k (omega arith)).one_each
+    (λ g l. value-fits table sphere reaches.is_table reaches.is_sphere_table is_sphere s above n far c count (suc k) lift made reaches.here reaches.enough reaches.there (omega arith) k g (omega arith) l)

@@ -3,10 +3,12 @@ use Rattle.std.specs.Prelude.{◌≡◌, ℕ, zero, suc, ◌+◌, ◌<◌, ◌�
 use Rattle.std.specs.List.{range_with_len}
 use Rattle.f2_vec.specs.Spans.{row}
 use Rattle.free_module.specs.FreeModule.{free_width}
+use Rattle.finite_module.specs.Checked.{sphere_file}
+use Rattle.finite_module.specs.DerivedAction.{derived_module}
 use Rattle.resolution_laws.specs.Start.{IsOf}
 use Rattle.square.specs.Squares.{over, bottom_of}
 use Rattle.square.specs.Tables.{Staircase, row_in, plain_rows, content_at}
-use Rattle.lift_laws.specs.Lifts.{Resolution, gens, degree}
+use Rattle.lift_laws.specs.Lifts.{Resolution, IsSphere, gens, degree}
 use Rattle.lift_laws.specs.Products.{first_of, count_of, number_of, IsLiftOfClass}
 use Rattle.lift_laws.specs.Products.{Class as ClassAbove}
 use Rattle.chain_map.specs.declared.class.Class.{Class}
@@ -15,6 +17,10 @@ use Rattle.chain_map.specs.Rows.{RowValues, first_in, value_at, HasValueAt}
 -- the resolution whose squares a table has
 abbrev pub resolution_of : Staircase → Resolution
 resolution_of table = record { base = over table.resolved; table = plain_rows table.rows }
+
+-- The law: a table of the sphere's module, with one generator, in degree 0, is of the sphere.
+abbrev pub TablesOfTheSphere : Type 0
+TablesOfTheSphere = (table : Staircase) → table.resolved.plain ≡ derived_module sphere_file → IsSphere (resolution_of table)
 
 -- each square of the rows through s, in the first n degrees from the bottom on, is that of the canonical resolution
 abbrev pub AreCanonical : Staircase → ℕ → ℕ → Type 0

@@ -3,6 +3,7 @@
 
 mod class;
 mod inverse;
+mod laws;
 mod making;
 mod maps;
 mod rows;
@@ -10,7 +11,8 @@ mod values;
 
 pub use class::Class;
 pub use inverse::Inverse;
+pub use laws::tables_of_the_sphere;
 pub use making::{lift, lifts};
 pub use maps::Lift;
-pub use rows::lowered_generators;
+pub use rows::{images_at, lowered_generators};
 pub use values::Values;

@@ -49,7 +49,7 @@ pub fn lowered_generators(
 }
 
 /// The images of the generators of the square in row `s` that is `n` above the bottom.
-fn images_at(table: &Table, s: u16, n: u16) -> &[BitVec]
+pub fn images_at(table: &Table, s: u16, n: u16) -> &[BitVec]
     requires { n < length (row_in table.now.rows s) }
     ensures images { result.now ≡ (content_at table.now.rows s n).images }
     ensures is_table { IsTable table.now }

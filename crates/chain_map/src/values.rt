@@ -1,5 +1,5 @@
 //! The values of a map on the generators of a row.
-ghost use Rattle.std.specs.Prelude.{◌≡◌, ◌++◌, [], ◌∷◌, length, OnOk};
+ghost use Rattle.std.specs.Prelude.{◌≡◌, ◌++◌, [], ◌∷◌, length, OnOk, OnErr};
 ghost use Rattle.chain_map.specs.Rows.{HasValueAt, value_at};
 
 use f2_vec::BitVec;
@@ -38,7 +38,8 @@ impl Values {
     /// # Errors
     /// `Memory` if allocation fails.
     pub fn begin_square(&mut self) -> Result<(), Memory>
-        ensures { OnOk result (self.new ≡ record { vectors = self.old.vectors; firsts = self.old.firsts ++ length self.old.vectors ∷ [] }) }
+        ensures ok { OnOk result (self.new ≡ record { vectors = self.old.vectors; firsts = self.old.firsts ++ length self.old.vectors ∷ [] }) }
+        ensures err { OnErr result (self.new ≡ self.old) }
     {
         self.firsts.push(self.vectors.len())?;
         Ok(())
@@ -49,7 +50,8 @@ impl Values {
     /// # Errors
     /// `Memory` if allocation fails.
     pub fn push(&mut self, value: BitVec) -> Result<(), Memory>
-        ensures { OnOk result (self.new ≡ record { vectors = self.old.vectors ++ value ∷ []; firsts = self.old.firsts }) }
+        ensures ok { OnOk result (self.new ≡ record { vectors = self.old.vectors ++ value ∷ []; firsts = self.old.firsts }) }
+        ensures err { OnErr result (self.new ≡ self.old) }
     {
         self.vectors.push(value)?;
         Ok(())

@@ -1,5 +1,6 @@
 pub mod Agreement
 pub mod ChartText
+mod ClassSteps
 pub mod DumpSteps
 pub mod Examples
 mod ProductSteps

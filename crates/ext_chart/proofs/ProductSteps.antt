@@ -33,11 +33,11 @@ monomial-later m i before some l e =
 
 -- ---- sums of terms
 
-some-terms : (terms : List (List ℕ)) → 0 < length terms → joined_by_plus terms ≡ terms_text terms
+pub some-terms : (terms : List (List ℕ)) → 0 < length terms → joined_by_plus terms ≡ terms_text terms
 some-terms [] l = absurd (omega arith)
 some-terms (term ∷ terms) l = refl
 
-no-terms : (terms : List (List ℕ)) → length terms ≡ 0 → codes "0" ≡ terms_text terms
+pub no-terms : (terms : List (List ℕ)) → length terms ≡ 0 → codes "0" ≡ terms_text terms
 no-terms [] e = refl
 no-terms (term ∷ terms) e = absurd (omega arith)
 

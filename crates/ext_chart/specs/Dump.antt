@@ -1,7 +1,6 @@
 -- The differentials of a resolution as text: a line for each generator, row by row, in a row by degree, and in a degree by
 -- number. `d(2,4,0) = Sq(3)*(1,1,0) + Sq(2)*(1,2,0)`
-use Rattle.std.specs.Prelude.{ℕ, zero, suc, ◌+◌, ℤ, pos, ◌+ℤ◌, Bool, List, [], ◌∷◌, ◌++◌, length, map, codes, decimal, slice_index_or}
-use Rattle.std.specs.Fmt.{signed_decimal}
+use Rattle.std.specs.Prelude.{ℕ, zero, suc, ◌+◌, ℤ, pos, ◌+ℤ◌, Bool, List, [], ◌∷◌, ◌++◌, length, map, codes, slice_index_or}
 use Rattle.std.specs.List.{flat_map, range_with_len, items_where_true}
 use Rattle.f2_vec.specs.Spans.{row}
 use Rattle.milnor_basis.specs.Text.{sq_text}
@@ -10,11 +9,12 @@ use Rattle.module_json.specs.ModuleFile.{Generator}
 use Rattle.finite_module.specs.Module.{bottom, width}
 use Rattle.finite_module.specs.Text.{newline, joined_by_plus, sum_text}
 use Rattle.resolution_laws.specs.Resolution.{Content, square_in, row_of, degrees_from}
+use Rattle.ext_chart.specs.Classes.{class_text}
 use Rattle.ext_chart.specs.declared.place.Place.{Place}
 
 -- `(s,t,i)`: generator i, from 0, of row s in internal degree t
 abbrev pub place_text : Place → List ℕ
-place_text p = codes "(" ++ (decimal p.s ++ (codes "," ++ (signed_decimal p.t ++ (codes "," ++ (decimal p.i ++ codes ")")))))
+place_text p = class_text (pos p.s) p.t p.i
 
 abbrev pub no_place : Place
 no_place = record { s = 0; t = pos 0; i = 0 }

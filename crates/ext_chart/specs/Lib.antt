@@ -1,5 +1,6 @@
 pub mod Chart
 pub mod Check
+pub mod Classes
 pub mod Dump
 pub mod Inside
 pub mod Product

@@ -1,8 +1,11 @@
-//! Tables of squares as text, the line on an accepted module, and products of Steenrod's squares.
+//! Tables of squares, products of classes and brackets as text, the line on an accepted module, and products of Steenrod's squares.
 #![tactic(auto)]
 
+mod bracket_text;
 mod chart_text;
 mod check_text;
+mod class_products;
+mod classes;
 mod dump_text;
 mod images;
 mod lines;
@@ -13,8 +16,10 @@ mod row_gens;
 mod summary_text;
 mod terms;
 
+pub use bracket_text::bracket_lines;
 pub use chart_text::chart;
 pub use check_text::check_line;
+pub use class_products::{ProductLine, product_lines};
 pub use dump_text::dump;
 pub use place::Place;
 pub use product_text::product;

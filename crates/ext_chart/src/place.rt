@@ -2,7 +2,7 @@
 ghost use Rattle.std.specs.Prelude.{◌≡◌, ◌++◌, IfOk};
 ghost use Rattle.ext_chart.specs.Dump.{place_text, square_places};
 
-use itoa::Buffer;
+use crate::classes::class_text;
 use memory::Memory;
 use std::alloc::Global;
 
@@ -19,15 +19,7 @@ pub struct Place {
 pub(crate) fn place_text(alloc: Global, place: Place) -> Result<Vec<u8>, Memory>
     ensures { IfOk result (λ text. text.items ≡ place_text place) }
 {
-    let mut buffer = Buffer::new();
-    let mut text = Vec::from_slice(alloc, b"(")?;
-    text.extend_from_slice(buffer.format(place.s).as_bytes())?;
-    text.push(b',')?;
-    text.extend_from_slice(buffer.format(place.t).as_bytes())?;
-    text.push(b',')?;
-    text.extend_from_slice(buffer.format(place.i).as_bytes())?;
-    text.push(b')')?;
-    Ok(text)
+    class_text(alloc, i32::from(place.s), place.t, place.i)
 }
 
 /// `places`, and behind them those of the `count` generators of a square.

@@ -11,7 +11,7 @@ use sq_calc::{Mono, Sum};
 use std::alloc::Global;
 
 /// What a sum without terms is written as.
-const ZERO: &[u8] = b"0";
+pub(crate) const ZERO: &[u8] = b"0";
 
 /// A vector of degree `deg` as a sum of elements of Milnor's basis.
 fn milnor_text(alloc: Global, basis: &Basis, deg: u16, v: &BitVec) -> Result<Vec<u8>, Memory>

@@ -1,15 +1,7 @@
-//! Tests of the edge, of words, of texts and of whole runs.
+//! Tests of whole runs.
 #![tactic(auto)]
 
 #[cfg(test)]
 mod runs;
-#[cfg(test)]
-mod saves;
-#[cfg(test)]
-mod streams;
-#[cfg(test)]
-mod texts;
-#[cfg(test)]
-mod words;
 #[cfg(test)]
 mod workers;

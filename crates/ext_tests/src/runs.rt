@@ -1,8 +1,7 @@
 //! What no clause says: the printed text, and the status and the line of each refusal.
 ghost use Rattle.std.specs.Prelude.{◌<◌};
 
-use crate::streams::source;
-use edge::{MemDisk, MemSink};
+use edge::{MemDisk, MemSink, MemSource};
 use ext_run::{Ended, Failure, answer_is_unique, report, run_one};
 use module_json::{Malformed, Place, What, Why};
 use resolution_laws::canonical_table_is_unique;
@@ -18,6 +17,21 @@ const STEMS_12: &str =
     " 4 |1......1.\n 3 |1..1...111\n 2 |1.11..111..\n 1 |11.1...1....\n 0 |1............\nstems 0..12\n";
 
 const WORDS_LINE: &str = "ext: words outside the command grammar\n";
+
+/// A source of so many bytes a call, in which one call fails, and none for 0.
+pub(crate) fn source(
+    alloc: Global,
+    bytes: &[u8],
+    piece: usize,
+    failing: u64,
+) -> Result<MemSource, Fail>
+    requires { 0 < piece }
+{
+    let mut calls = Vec::new(alloc);
+    calls.push(failing)?;
+    let bytes = bytes.to_vec(alloc)?;
+    Ok(MemSource::new(alloc, bytes, piece, calls)?)
+}
 
 /// A sink of so many bytes a call, in which one call fails, and none for 0.
 pub(crate) fn sink(alloc: Global, piece: usize, failing: u64) -> Result<MemSink, Fail>

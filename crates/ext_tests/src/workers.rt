@@ -1,6 +1,5 @@
 //! What no clause says: that the program has memory for several workers, and that two of them work at once.
-use crate::runs::{STEMS_8, disk, sink};
-use crate::streams::source;
+use crate::runs::{STEMS_8, disk, sink, source};
 use ext_run::{run, run_one};
 use square_worker::{Gate, OpenGate};
 use std::alloc::Global;

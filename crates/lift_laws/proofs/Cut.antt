@@ -22,14 +22,14 @@ images_of-split [] (suc n) = refl
 images_of-split (x ∷ squares) (suc n) =
     ap (λ (z : List (List Bool)). x.images ++ z) (images_of-split squares n) ∙ sym (append_assoc x.images (images_of (take n squares)) (images_of (drop n squares)))
 
-AgreeIn-shifted : (x t : ℤ) (m n : GradedModule) → AgreeIn (t -ℤ x) m n → AgreeIn t (shifted x m) (shifted x n)
+pub AgreeIn-shifted : (x t : ℤ) (m n : GradedModule) → AgreeIn (t -ℤ x) m n → AgreeIn t (shifted x m) (shifted x n)
 AgreeIn-shifted x t m n a = record { width = a.width; action = λ r u v e. a.action r (u -ℤ x) v (omega (arith, ints)) }
 
 AgreeIn-self : (t : ℤ) (m : GradedModule) → AgreeIn t m m
 AgreeIn-self t m = record { width = refl; action = λ r u v e. refl }
 
 -- the same basis, values and module in degree t
-extended-cut : (m n : GradedModule) (ds es : List ℤ) (f h : ℕ → List Bool) (t : ℤ) (v : List Bool) → AgreeIn t m n → free_basis ds t ≡ free_basis es t → ((g : ℕ) → g < length ds → degree_at ds g ≡ degree_at es g) → ((g : ℕ) → g < length ds → f g ≡ h g) → extended m ds f t v ≡ extended n es h t v
+pub extended-cut : (m n : GradedModule) (ds es : List ℤ) (f h : ℕ → List Bool) (t : ℤ) (v : List Bool) → AgreeIn t m n → free_basis ds t ≡ free_basis es t → ((g : ℕ) → g < length ds → degree_at ds g ≡ degree_at es g) → ((g : ℕ) → g < length ds → f g ≡ h g) → extended m ds f t v ≡ extended n es h t v
 extended-cut m n ds es f h t v a basis degrees values =
     let each : map (value_of m ds f) (free_basis ds t) ≡ map (value_of n es h) (free_basis ds t) = map_same_all (IsOfDegree ds t) (value_of m ds f) (value_of n es h) (free_basis ds t) (All-free_basis ds t) (λ e o.
     a.action e.1 (degree_at ds e.0) (f e.0) o.degree

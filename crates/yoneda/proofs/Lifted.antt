@@ -30,7 +30,7 @@ goes_through table sphere a x h l =
     omega arith
 
 -- fewer squares have no more generators
-images_taken : (squares : List Content) (m n : ℕ) → m ≤ n → length (images_of (take m squares)) ≤ length (images_of (take n squares))
+pub images_taken : (squares : List Content) (m n : ℕ) → m ≤ n → length (images_of (take m squares)) ≤ length (images_of (take n squares))
 images_taken squares zero n h = omega arith
 images_taken [] (suc m) n h = omega arith
 images_taken (c ∷ squares) (suc m) zero h = absurd (omega arith)
@@ -70,10 +70,9 @@ pub record HasRow (table sphere : Staircase) (a x : Place) (lift : LiftValues) :
   pub row : a.s < length lift.rows
   pub on_square : AreOnSquare table sphere a (x.s + a.s) (a.above + x.above) (row_values lift a.s).vectors
 
-pub has_row : (table sphere : Staircase) (range : Range) → IsThrough range table.rows → IsThrough range sphere.rows → IsSphere (resolution_of sphere) → (a x : Place) (upto : ℕ) (lift : LiftValues) → a.s + x.s ≤ range.s → a.above + x.above ≤ range.t → upto ≡ a.s → IsLiftOver table sphere x.s x.above x.i upto lift → HasRow table sphere a x lift
-has_row table sphere range through through_q is_sphere a x upto lift rows degrees e l =
+pub has_row : (table sphere : Staircase) (range : Range) → IsThrough range table.rows → IsSphere (resolution_of sphere) → (a x : Place) (upto : ℕ) (lift : LiftValues) → a.above < length (row_in sphere.rows a.s) → a.s + x.s ≤ range.s → a.above + x.above ≤ range.t → upto ≡ a.s → IsLiftOver table sphere x.s x.above x.i upto lift → HasRow table sphere a x lift
+has_row table sphere range through is_sphere a x upto lift there rows degrees e l =
     let p = through (x.s + a.s) (omega arith) in
-    let q = through_q a.s (omega arith) in
     let far = goes_through table sphere a x (omega arith) (omega arith) in
     let lifted : IsLiftOver table sphere x.s x.above x.i a.s lift = subst (λ (k : ℕ). IsLiftOver table sphere x.s x.above x.i k lift) e l in
     let count = lifted.rows (omega arith) in

@@ -70,7 +70,6 @@ pub fn products(
     above: u16,
 ) -> Result<Vec<BitVec>, Memory>
     requires table { IsThrough range table.now.rows }
-    requires sphere_table { IsThrough range sphere.now.rows }
     requires sphere { IsSphere (resolution_of sphere.now) }
     requires class { IsThere sphere.now a }
     requires rows { a.s + s ≤ range.s }

@@ -2,7 +2,7 @@ use Rattle.std.proofs.Common.{◌≡◌, ℕ, List, Bool, length, refl, ap, sym,
 use Rattle.std.proofs.lemmas.List.FromFn.{length-map-range_with_len}
 use Rattle.yoneda.specs.Products.{AreOnSquare}
 use Rattle.yoneda.proofs.Lifted.{lift_at, has_row}
-use Rattle.yoneda.proofs.OneProduct.{product_over}
+use Rattle.yoneda.proofs.OneProduct.{place_there, product_over}
 use Rattle.yoneda.proofs.multiply.product.Goals as goal
 
 pub coefficients-requires-clause-values : goal.coefficients-requires-clause-values
@@ -11,7 +11,7 @@ coefficients-requires-clause-values c =
     let a = c.in_ok-first.first in
     let x = c.in_ok-first.second in
     let lifted = lift_at c.args.table.now c.args.sphere.now c.args.range c.args.x x a.s c.in_ok-lift.lift p.x_is (c.in_ok-lift.ensures x.above p.x_is.degree) in
-    let made = has_row c.args.table.now c.args.sphere.now c.args.range c.requires.table c.requires.sphere_table c.requires.sphere a x a.s c.in_ok-lift.lift p.row_within p.degree_within refl lifted in
+    let made = has_row c.args.table.now c.args.sphere.now c.args.range c.requires.table c.requires.sphere a x a.s c.in_ok-lift.lift (place_there c.args.sphere.now c.args.range c.args.a a c.requires.sphere_table p.a_is).square p.row_within p.degree_within refl lifted in
     subst (AreOnSquare c.args.table.now c.args.sphere.now a _ _) (sym c.vectors.ensures) made.on_square
 
 pub returns-clause-product : goal.returns-clause-product

@@ -25,7 +25,7 @@ there c =
 pub loop-i-init : goal.loop-i-init
 loop-i-init c =
     let self = c.args.self.now in
-    made_square self.table.now self.sphere.now self.s 0 (bottom_of self.table.now.resolved +ℤ pos self.above) (class_of self.table.now self.sphere.now self.s self.above c.args.class) c.args.n c.args.values.now c.begin_square.new.self c.in_ok-begin_square.ensures c.requires.made
+    made_square self.table.now self.sphere.now self.s 0 (bottom_of self.table.now.resolved +ℤ pos self.above) (class_of self.table.now self.sphere.now self.s self.above c.args.class) c.args.n c.args.values.now c.begin_square.new.self c.in_ok-begin_square.ensures.ok c.requires.made
 
 pub loop-i-preserved : goal.loop-i-preserved
 loop-i-preserved c =
@@ -40,7 +40,7 @@ loop-i-preserved c =
     let b : i < count_of (resolution_of table) self.s c.args.n = omega (arith, ap length c.images_at-i-end.ensures.images) in
     let x = bottom_of table.resolved +ℤ pos self.above in
     let u = pos c.args.n -ℤ pos self.above in
-    made_value table sphere self.s 0 x (class_of table sphere self.s self.above c.args.class) c.args.n i c.loop-i.values c.push.new.self u _ c.in_ok-value.value l b c.in_ok-push.ensures (omega (arith, ints)) (class_value_is table sphere self.s self.above c.args.class c.args.n i c.requires.sphere (omega arith) c.requires.class l b) c.in_ok-value.ensures c.loop-i.invariant
+    made_value table sphere self.s 0 x (class_of table sphere self.s self.above c.args.class) c.args.n i c.loop-i.values c.push.new.self u _ c.in_ok-value.value l b c.in_ok-push.ensures.ok (omega (arith, ints)) (class_value_is table sphere self.s self.above c.args.class c.args.n i c.requires.sphere (omega arith) c.requires.class l b) c.in_ok-value.ensures c.loop-i.invariant
 
 pub returns : goal.returns
 returns c =

@@ -43,7 +43,7 @@ image-is c same =
 pub loop-i-init : goal.loop-i-init
 loop-i-init c =
     let self = c.args.self.now in
-    made_square self.table.now self.sphere.now (suc (self.s + c.args.k)) (suc c.args.k) (bottom_of self.table.now.resolved +ℤ pos self.above) (next_goal self.table.now self.sphere.now (self.s + c.args.k) c.args.k self.above self.reach self.far c.args.map.now.images.now) c.args.n c.args.values.now c.begin_square.new.self c.in_ok-begin_square.ensures c.requires.made
+    made_square self.table.now self.sphere.now (suc (self.s + c.args.k)) (suc c.args.k) (bottom_of self.table.now.resolved +ℤ pos self.above) (next_goal self.table.now self.sphere.now (self.s + c.args.k) c.args.k self.above self.reach self.far c.args.map.now.images.now) c.args.n c.args.values.now c.begin_square.new.self c.in_ok-begin_square.ensures.ok c.requires.made
 
 pub next_value-requires-clause-width : goal.next_value-requires-clause-width
 next_value-requires-clause-width c =
@@ -65,7 +65,7 @@ loop-i-preserved c =
     let x = bottom_of table.resolved +ℤ pos self.above in
     let u = pos c.args.n -ℤ pos self.above in
     let map = c.args.map.now in
-    made_value table sphere i (suc c.args.k) x (next_goal table sphere (self.s + c.args.k) c.args.k self.above self.reach self.far map.images.now) c.args.n c.loop-i.i c.loop-i.values c.push.new.self u _ c.in_ok-value.value l (number here same) c.in_ok-push.ensures (omega (arith, ints)) (next_goal_is table sphere (self.s + c.args.k) c.args.k self.above self.reach self.far c.args.n c.loop-i.i map.source.now map.target.now map.images.now c.index-images-i.result l (number here same) c.requires.source c.requires.target (image-is here same)) c.in_ok-value.ensures c.loop-i.invariant
+    made_value table sphere i (suc c.args.k) x (next_goal table sphere (self.s + c.args.k) c.args.k self.above self.reach self.far map.images.now) c.args.n c.loop-i.i c.loop-i.values c.push.new.self u _ c.in_ok-value.value l (number here same) c.in_ok-push.ensures.ok (omega (arith, ints)) (next_goal_is table sphere (self.s + c.args.k) c.args.k self.above self.reach self.far c.args.n c.loop-i.i map.source.now map.target.now map.images.now c.index-images-i.result l (number here same) c.requires.source c.requires.target (image-is here same)) c.in_ok-value.ensures c.loop-i.invariant
 
 pub returns : goal.returns
 returns c =

@@ -1,0 +1,196 @@
+-- There is one answer to what is asked of products.
+use Rattle.std.proofs.Common.{◌≡◌, ℕ, ◌+◌, ◌<◌, ◌≤◌, inl, inr, ℤ, pos, negsuc, ◌+ℤ◌, ◌-ℤ◌, ◌≤ℤ◌, Bool, true, false, List, [], length, refl, ap, sym, subst, ◌∙◌, arith}
+use Rattle.std.specs.Prelude.{Option, Some, None, MatchOption, Result, Ok, Err, IsOkAnd, nat_lt, if◌then◌else◌}
+use Rattle.std.proofs.lemmas.Bool.{cases_lt}
+use Rattle.std.proofs.lemmas.Bool.Decides.{nat_tests}
+use Rattle.std.proofs.lemmas.Int.{ints}
+use Rattle.std.proofs.lemmas.List.{get_or_past}
+use Rattle.degrees.specs.Above.{natural, above_of}
+use Rattle.square.specs.declared.range.Range.{Range}
+use Rattle.resolution_laws.specs.Resolution.{Content, no_content, square_in, row_of, IsCanonicalTable}
+use Rattle.lift_laws.specs.Lifts.{Resolution, IsCanonical, IsSphere, IsLift, EachClassLifts, dual_of}
+use Rattle.lift_laws.specs.Products.{Class as ClassAbove, count_of, degree_of_class, number_of, product_by, LiftsGiveOneProduct}
+use Rattle.chain_map.specs.declared.class.Class.{Class}
+use Rattle.chain_map.proofs.Generators.{is_number}
+use Rattle.ext_chart.specs.declared.class_products.ProductLine.{ProductLine}
+use Rattle.ext_chart.specs.Classes.{product_lines_text}
+use Rattle.ext_products.specs.declared.refusal.Refusal.{Refusal}
+use Rattle.ext_products.specs.declared.refusal.Refusal.TheVariants.{NoClass}
+use Rattle.ext_products.specs.declared.refusal.Named.TheVariants.{By}
+use Rattle.ext_products.specs.Lines.{OneEach}
+use Rattle.ext_products.specs.Products.{class_at, classes_over, class_count, missing_in, IsAt, factors, IsGivenBy, IsYonedaProduct, IsProductLine, IsProductsText}
+use Rattle.ext_products.specs.Laws.{ProductsAnswerExists, ProductsAnswerIsUnique}
+use Rattle.ext_products.proofs.OneEach.{OneEach-unique, OneEach-made}
+use Rattle.ext_products.proofs.Factors.{IsFactor, are_factors}
+
+-- ---- at most one
+
+abbrev line_of : ℕ → ℤ → ℕ → ℕ → ℤ → List Bool → ProductLine
+line_of s t i target_s target_t value = record { s = s; t = t; i = i; target_s = target_s; target_t = target_t; value = value }
+
+-- a line has what its class determines
+line-unique : (r q : Resolution) (a x : ClassAbove) (y z : ProductLine) → IsProductLine r q a x y → IsProductLine r q a x z → y ≡ z
+line-unique r q a x y z p k =
+    let s : y.s ≡ z.s = p.places.s ∙ sym k.places.s in
+    let t : y.t ≡ z.t = p.places.t ∙ sym k.places.t in
+    let i : y.i ≡ z.i = p.places.i ∙ sym k.places.i in
+    let target_s : y.target_s ≡ z.target_s = p.places.target_s ∙ sym k.places.target_s in
+    let target_t : y.target_t ≡ z.target_t = p.places.target_t ∙ sym k.places.target_t in
+    let value : y.value ≡ z.value = p.product.each z.value k.product.some in
+    ap (λ (n : ℕ). line_of n y.t y.i y.target_s y.target_t y.value) s
+    ∙ (ap (λ (n : ℤ). line_of z.s n y.i y.target_s y.target_t y.value) t
+    ∙ (ap (λ (n : ℕ). line_of z.s z.t n y.target_s y.target_t y.value) i
+    ∙ (ap (λ (n : ℕ). line_of z.s z.t z.i n y.target_t y.value) target_s
+    ∙ (ap (λ (n : ℤ). line_of z.s z.t z.i z.target_s n y.value) target_t ∙ ap (λ (v : List Bool). line_of z.s z.t z.i z.target_s z.target_t v) value))))
+
+class-unique : (q : Resolution) (c : Class) (a b : ClassAbove) → IsAt q c a → IsAt q c b → a ≡ b
+class-unique q c a b p k =
+    let s : a.s ≡ b.s = sym p.row ∙ k.row in
+    let same : degree_of_class q a ≡ degree_of_class q b = sym p.degree ∙ k.degree in
+    let above : a.above ≡ b.above = omega (arith, ints, same) in
+    let i : a.i ≡ b.i = sym p.number ∙ k.number in
+    ap (λ (n : ℕ). class_at n a.above a.i) s ∙ (ap (λ (n : ℕ). class_at b.s n a.i) above ∙ ap (λ (n : ℕ). class_at b.s b.above n) i)
+
+text-unique : (range : Range) (by : Class) (r q : Resolution) (x y : List ℕ) → IsProductsText range by r q x → IsProductsText range by r q y → x ≡ y
+text-unique range by r q x y p k =
+    let a = class-unique q by p.a k.a p.at k.at in
+    let here : OneEach (IsProductLine r q k.a) (factors r range k.a) p.lines = subst (λ (c : ClassAbove). OneEach (IsProductLine r q c) (factors r range c) p.lines) a p.are_lines in
+    let lines : p.lines ≡ k.lines = OneEach-unique (IsProductLine r q k.a) (line-unique r q k.a) (factors r range k.a) p.lines k.lines here k.are_lines in
+    p.is ∙ (ap product_lines_text lines ∙ sym k.is)
+
+answer-unique : (range : Range) (by : Class) (r q : Resolution) (missing : Option ℕ) (x y : Result (List ℕ) Refusal) → MatchOption missing (IsOkAnd x (IsProductsText range by r q)) (λ count. x ≡ Err (NoClass By by count)) → MatchOption missing (IsOkAnd y (IsProductsText range by r q)) (λ count. y ≡ Err (NoClass By by count)) → x ≡ y
+answer-unique range by r q (Some count) x y p k = p ∙ sym k
+answer-unique range by r q None (Ok x) (Ok y) p k = ap (λ (t : List ℕ). Ok t) (text-unique range by r q x y p k)
+answer-unique range by r q None (Ok x) (Err e) p k = absurd k
+answer-unique range by r q None (Err e) y p k = absurd p
+
+pub answers-unique : ProductsAnswerIsUnique
+answers-unique r q range by a b p k = answer-unique range by r q (missing_in q by) a b p k
+
+-- ---- one
+
+-- a lift through a degree is one through each lesser
+lower-lift : (r q : Resolution) (s : ℕ) (x : ℤ) (z : ℕ → List Bool) (upto : ℕ) (top less : ℤ) (phi : ℕ → ℕ → List Bool) → less ≤ℤ top → IsLift r q s x z upto top phi → IsLift r q s x z upto less phi
+lower-lift r q s x z upto top less phi low a = record {
+  fit = λ k i h e g l d. a.fit k i h e g l (omega (arith, ints, low, d));
+  start = λ g l d. a.start g l (omega (arith, ints, low, d));
+  commutes = λ k i j h e f g l d. a.commutes k i j h e f g l (omega (arith, ints, low, d));
+}
+
+given-lowered : (r q : Resolution) (a x : ClassAbove) (v : List Bool) (p : IsGivenBy r q a x v) → IsLift r q x.s (degree_of_class r x) (dual_of r q x.s (degree_of_class r x) (number_of r x)) a.s (r.base.bottom +ℤ pos (a.above + x.above)) p.phi
+given-lowered r q a x v p = lower-lift r q x.s (degree_of_class r x) (dual_of r q x.s (degree_of_class r x) (number_of r x)) a.s p.top (r.base.bottom +ℤ pos (a.above + x.above)) p.phi p.reaches p.is_lift
+
+-- what one lift gives, each does
+pub product-of-lift : LiftsGiveOneProduct → (r q : Resolution) (range : Range) (a x : ClassAbove) (v : List Bool) → IsCanonical r range.s range.t → IsCanonical q range.s range.t → IsSphere q → IsFactor r range a x → a.i < count_of q a.s a.above → IsGivenBy r q a x v → IsYonedaProduct r q a x v
+product-of-lift one r q range a x v canonical canonical_q sphere factor there given =
+    let row = factor.row in
+    let degree = factor.degree in
+    let bottom = sphere.bottom in
+    let z = dual_of r q x.s (degree_of_class r x) (number_of r x) in
+    let less : ℤ = r.base.bottom +ℤ pos (a.above + x.above) in
+    let low : (less -ℤ (r.base.bottom +ℤ pos x.above)) ≤ℤ (q.base.bottom +ℤ pos range.t) = omega (arith, ints, bottom, degree) in
+    record {
+      some = given;
+      each = λ w other.
+          given.gives
+          ∙ (one r q range.s range.t range.s range.t x.s x.above z a less given.phi other.phi canonical canonical_q sphere row degree (omega arith) there (omega (arith, ints)) low (given-lowered r q a x v given) (given-lowered r q a x w other)
+          ∙ sym other.gives);
+    }
+
+-- a class that is in the range has its product
+product-exists : EachClassLifts → LiftsGiveOneProduct → (r q : Resolution) (range : Range) (a x : ClassAbove) → IsCanonical r range.s range.t → IsCanonical q range.s range.t → IsSphere q → IsFactor r range a x → a.i < count_of q a.s a.above → (v : List Bool) × IsYonedaProduct r q a x v
+product-exists lifts one r q range a x canonical canonical_q sphere factor there =
+    let row = factor.row in
+    let degree = factor.degree in
+    let bottom = sphere.bottom in
+    let long = canonical.canonical.squares x.s (omega arith) in
+    let number = is_number r x.s x.above x.i (omega arith) factor.number in
+    let top : ℤ = r.base.bottom +ℤ pos (a.above + x.above) in
+    let lift = lifts r q range.s range.t range.s range.t x.s (number_of r x) (degree_of_class r x) a.s top canonical canonical_q sphere row (omega arith) (omega (arith, ints)) number.there number.degree_is in
+    let v = product_by r q a lift.phi (x.s + a.s) (a.above + x.above) in
+    (v, product-of-lift one r q range a x v canonical canonical_q sphere factor there (record { top = top; phi = lift.phi; reaches = omega (arith, ints); is_lift = lift.is_lift; gives = refl }))
+
+line-exists : EachClassLifts → LiftsGiveOneProduct → (r q : Resolution) (range : Range) (a : ClassAbove) → IsCanonical r range.s range.t → IsCanonical q range.s range.t → IsSphere q → a.i < count_of q a.s a.above → (x : ClassAbove) → IsFactor r range a x → (line : ProductLine) × IsProductLine r q a x line
+line-exists lifts one r q range a canonical canonical_q sphere there x factor =
+    let product = product-exists lifts one r q range a x canonical canonical_q sphere factor there in (
+      record { s = x.s; t = r.base.bottom +ℤ pos x.above; i = x.i; target_s = x.s + a.s; target_t = r.base.bottom +ℤ pos (a.above + x.above); value = product.0 },
+      record { places = record { s = refl; t = refl; i = refl; target_s = refl; target_t = refl }; product = product.1 },
+    )
+
+-- ---- the class that is asked for
+
+natural-is : (z : ℤ) (k : ℕ) → natural z ≡ Some k → z ≡ pos k
+natural-is (pos n) k e = cc
+natural-is (negsuc n) k e = absurd (cc)
+
+-- a square outside of the range has no class
+pub none_past : (q : Resolution) (s t : ℕ) → IsCanonicalTable q.base s t q.table → (i k : ℕ) → (i ≤ s → k ≤ t → ⊥) → count_of q i k ≡ 0
+none_past q s t canonical i k out = elim (cases_lt s i) [
+  | inl past ↦
+      let rows = canonical.rows in
+      let none : row_of q.table i ≡ [] = get_or_past q.table i [] (omega arith) in
+      ap (λ (squares : List Content). length (square_in squares k).images) none
+  | inr within ↦ elim (cases_lt t k) [
+    | inl past ↦
+        let squares = canonical.squares i within in
+        ap (λ (c : Content). length c.images) (get_or_past (row_of q.table i) k no_content (omega arith))
+    | inr near ↦ absurd (out within near)
+  ]
+]
+
+-- where a class is
+pub record IsFound (q : Resolution) (c : Class) : Type 0 where
+  pub class : ClassAbove
+  pub at : IsAt q c class
+  pub there : class.i < count_of q class.s class.above
+
+found : (q : Resolution) (c : Class) (o : Option ℕ) → above_of q.base.bottom c.t ≡ o → c.i < classes_over q c.s o → IsFound q c
+found q c None e l = absurd (omega (arith, l))
+found q c (Some k) e l =
+    let d = natural-is (c.t -ℤ q.base.bottom) k e in
+    record {
+      class = record { s = c.s; above = k; i = c.i };
+      at = record { row = refl; degree = omega (arith, ints); number = refl };
+      there = l;
+    }
+
+pub record IsWithin (range : Range) (a : ClassAbove) : Type 0 where
+  pub row : a.s ≤ range.s
+  pub degree : a.above ≤ range.t
+
+pub within-range : (q : Resolution) (range : Range) (a : ClassAbove) → IsCanonicalTable q.base range.s range.t q.table → a.i < count_of q a.s a.above → IsWithin range a
+within-range q range a canonical there = elim (cases_lt range.s a.s) [
+  | inl past ↦ absurd (let none = none_past q range.s range.t canonical a.s a.above (λ h l. omega (arith, h, past)) in omega (arith, none, there))
+  | inr row ↦ elim (cases_lt range.t a.above) [
+    | inl past ↦ absurd (let none = none_past q range.s range.t canonical a.s a.above (λ h l. omega (arith, l, past)) in omega (arith, none, there))
+    | inr degree ↦ record { row = row; degree = degree }
+  ]
+]
+
+-- ---- the answer
+
+text-exists : EachClassLifts → LiftsGiveOneProduct → (r q : Resolution) (range : Range) (by : Class) → IsCanonical r range.s range.t → IsCanonical q range.s range.t → IsSphere q → IsFound q by → (text : List ℕ) × IsProductsText range by r q text
+text-exists lifts one r q range by canonical canonical_q sphere f =
+    let a = f.class in
+    let within = within-range q range a canonical_q.canonical f.there in
+    let lines = OneEach-made (IsFactor r range a) (IsProductLine r q a) (line-exists lifts one r q range a canonical canonical_q sphere f.there) (factors r range a) (are_factors r range a within.row within.degree) in
+    (product_lines_text lines.0, record { a = a; at = f.at; lines = lines.0; are_lines = lines.1; is = refl })
+
+answer-by : (range : Range) (by : Class) (r q : Resolution) (count : ℕ) → (by.i < count → (text : List ℕ) × IsProductsText range by r q text) → (answer : Result (List ℕ) Refusal) × MatchOption (if nat_lt by.i count then None else Some count) (IsOkAnd answer (IsProductsText range by r q)) (λ n. answer ≡ Err (NoClass By by n))
+answer-by range by r q count text = elim (cases_lt by.i count) [
+  | inl l ↦
+      let test : nat_lt by.i count ≡ true = grind (arith, nat_tests) in
+      let made = text l in
+      let answer : Result (List ℕ) Refusal = Ok made.0 in
+      let P : Bool → Type 0 = λ b. MatchOption (if b then None else Some count) (IsOkAnd answer (IsProductsText range by r q)) (λ n. answer ≡ Err (NoClass By by n)) in
+      (answer, subst P (sym test) made.1)
+  | inr l ↦
+      let test : nat_lt by.i count ≡ false = grind (arith, nat_tests) in
+      let answer : Result (List ℕ) Refusal = Err (NoClass By by count) in
+      let P : Bool → Type 0 = λ b. MatchOption (if b then None else Some count) (IsOkAnd answer (IsProductsText range by r q)) (λ n. answer ≡ Err (NoClass By by n)) in
+      (answer, subst P (sym test) refl)
+]
+
+pub answers-exist : EachClassLifts → LiftsGiveOneProduct → ProductsAnswerExists
+answers-exist lifts one r q range by canonical canonical_q sphere =
+    answer-by range by r q (class_count q by.s by.t) (λ l. text-exists lifts one r q range by canonical canonical_q sphere (found q by (above_of q.base.bottom by.t) refl l))

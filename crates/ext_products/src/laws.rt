@@ -1,0 +1,15 @@
+//! Laws over the definitions, as contracts of functions that do nothing.
+ghost use Rattle.ext_products.specs.Laws.{ProductsAnswerExists, ProductsAnswerIsUnique};
+
+/// The canonical resolutions of a module and of the sphere have an answer for each class that products are asked with.
+pub fn products_answer_exists()
+    ensures { ProductsAnswerExists }
+{
+    lift_laws::each_class_lifts();
+    lift_laws::lifts_give_one_product();
+}
+
+/// Two resolutions have at most one answer.
+pub fn products_answer_is_unique()
+    ensures { ProductsAnswerIsUnique }
+{}

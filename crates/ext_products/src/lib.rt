@@ -1,0 +1,13 @@
+//! What is told of products of classes: from the table of a module to the text.
+#![tactic(auto)]
+
+mod laws;
+mod lines;
+mod products;
+mod refusal;
+mod sphere;
+
+pub use laws::{products_answer_exists, products_answer_is_unique};
+pub use products::products_text;
+pub use refusal::{Named, ProductsFault, Refusal};
+pub use sphere::sphere_table;

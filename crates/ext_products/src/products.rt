@@ -1,0 +1,75 @@
+//! What is told of the products with a class of the sphere.
+ghost use Rattle.std.specs.Prelude.{◌≡◌, ◌≢◌, ◌≤◌, IfOk, IfErr, Ok, Err};
+ghost use Rattle.square.specs.Tables.{IsTable, IsThrough};
+ghost use Rattle.square.specs.declared.range.TheConstants.{MAX_S, MAX_T};
+ghost use Rattle.ext_products.specs.Over.{IsAnswerOver};
+ghost use Rattle.ext_products.specs.Inside.Lining.{reach_of};
+ghost use Rattle.ext_products.specs.declared.refusal.ProductsFault.TheVariants.{Refused, Memory as OutOfMemory};
+ghost use Rattle.ext_products.specs.declared.refusal.Refusal.{Refusal as WhyNot};
+
+use crate::lines::lines;
+use crate::refusal::{Named, ProductsFault, Refusal};
+use crate::sphere::sphere_table;
+use chain_map::Class;
+use degrees::above_of;
+use ext_chart::product_lines;
+use square::{Range, Table};
+use std::alloc::Global;
+use yoneda::place_of;
+
+/// A line for each class of the table's module whose product with the class `by` of the sphere is in the range: the class, and the
+/// product as a sum of classes. They stand by row, then by degree, then by number. The sphere's resolution is made as far as `by`.
+///
+/// # Errors
+/// `Refused` where the sphere has not this class through the range. `Memory` where there is none for the lifts or for the text.
+pub fn products_text(
+    alloc: Global,
+    table: &Table,
+    range: Range,
+    by: Class,
+) -> Result<Vec<u8>, ProductsFault>
+    requires rows { range.s ≤ MAX_S }
+    requires degrees { range.t ≤ MAX_T }
+    requires through { IsThrough range table.now.rows }
+    ensures text { IfOk result (λ text. IsAnswerOver table.now range by (Ok text.items)) }
+    ensures refused { IfErr result (λ e. e ≢ OutOfMemory → (refusal : WhyNot) × (e ≡ Refused refusal) × IsAnswerOver table.now range by (Err refusal)) }
+{
+    resolution_laws::canonical_table_is_minimal_resolution();
+    finite_module::modules_are_graded_modules();
+    lift_laws::lifts_give_one_product();
+    known(table);
+    let reach = reach_of(range, by);
+    let sphere = sphere_table(alloc, reach)?;
+    match place_of(&sphere, reach, by) {
+        Ok(a) => {
+            let lines = lines(alloc, table, &sphere, range, a)?;
+            Ok(product_lines(alloc, lines.as_slice())?)
+        }
+        Err(count) => Err(ProductsFault::Refused(Refusal::NoClass {
+            named: Named::By,
+            class: by,
+            count,
+        })),
+    }
+}
+
+/// What is known of each table.
+fn known(table: &Table)
+    ensures { IsTable table.now }
+{
+    let _rows = table.front(0);
+}
+
+/// How far the sphere's resolution is asked: as far as the class, within the range.
+fn reach_of(range: Range, by: Class) -> Range
+    ensures { result ≡ reach_of range by }
+{
+    let t = match above_of(0, by.t) {
+        Some(above) => above.min(u64::from(range.t)) as u16,
+        None => 0,
+    };
+    Range {
+        s: by.s.min(u32::from(range.s)) as u16,
+        t,
+    }
+}

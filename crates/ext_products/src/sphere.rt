@@ -1,0 +1,37 @@
+//! The sphere's table.
+ghost use Rattle.std.specs.Prelude.{◌≡◌, ◌≤◌, IfOk};
+ghost use Rattle.finite_module.specs.Checked.{sphere_file};
+ghost use Rattle.finite_module.specs.DerivedAction.{derived_module};
+ghost use Rattle.square.specs.Tables.{IsThrough};
+ghost use Rattle.square.specs.declared.range.TheConstants.{MAX_S, MAX_T};
+ghost use Rattle.lift_laws.specs.Lifts.{IsSphere};
+ghost use Rattle.chain_map.specs.Lifting.{resolution_of};
+ghost use Rattle.yoneda.specs.Products.{IsAllCanonical};
+
+use finite_module::Module;
+use memory::Memory;
+use resolution_step::resolve_alone;
+use square::{NoKeep, Range, Table};
+use std::alloc::Global;
+
+/// The canonical table of the sphere through the range, made on the caller's thread.
+///
+/// # Errors
+/// `Memory` where there is none for it.
+pub fn sphere_table(alloc: Global, range: Range) -> Result<Table, Memory>
+    requires rows { range.s ≤ MAX_S }
+    requires degrees { range.t ≤ MAX_T }
+    ensures module_is { IfOk result (λ table. table.resolved.plain ≡ derived_module sphere_file) }
+    ensures through { IfOk result (λ table. IsThrough range table.rows) }
+    ensures canonical { IfOk result IsAllCanonical }
+    ensures sphere { IfOk result (λ table. IsSphere (resolution_of table)) }
+{
+    let sphere = Module::sphere(alloc)?;
+    let table = Table::new(alloc, sphere)?;
+    let (resolved, _) = resolve_alone(alloc, table, range, NoKeep);
+    match resolved {
+        Ok(table) => Ok(table),
+        // What keeps nothing does not fail.
+        Err(_) => Err(Memory),
+    }
+}

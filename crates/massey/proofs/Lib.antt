@@ -1,0 +1,16 @@
+mod Clearing
+mod Refusals
+mod Through
+mod Values
+mod Members
+mod Spanning
+mod Assembled
+mod Causes
+mod Units
+mod Positive
+mod Maps
+mod Composites
+mod Chosen
+mod MapValues
+mod NextGoals
+mod LastMap

@@ -1,0 +1,11 @@
+use Rattle.std.proofs.Common.{suc, ◌+◌, pos, ◌+ℤ◌}
+use Rattle.square.specs.Squares.{bottom_of}
+use Rattle.lift_laws.specs.Products.{first_of}
+use Rattle.chain_map.specs.Lifting.{resolution_of}
+use Rattle.massey.specs.Brackets.{above_bc}
+use Rattle.massey.specs.Inside.Homotopies.{AreChosen, homotopy_goal}
+use Rattle.massey.proofs.homotopy.Composite.next_map.Given as goal
+
+abbrev pub invariant-loop-j : goal.invariant-loop-j
+invariant-loop-j l =
+    AreChosen l.self.setting.table.now l.self.setting.sphere.now (suc (l.self.n + l.k)) (suc l.k) (bottom_of l.self.setting.table.now.resolved +ℤ pos (above_bc l.self.setting.places)) (homotopy_goal l.self.setting.table.now l.self.setting.sphere.now l.self.setting.places l.self.n l.k l.beta.images.now l.self.gamma.now l.map.images.now) (first_of (resolution_of l.self.setting.table.now) (suc (l.self.n + l.k)) l.j) l.values.items

@@ -1,0 +1,20 @@
+use Rattle.std.proofs.Common.{Some, None}
+use Rattle.std.proofs.lemmas.Result.{err_from_is_err_and}
+use Rattle.massey.proofs.Refusals.{are_small, refused_by_places, refused_by_class}
+use Rattle.massey.proofs.places.places_of.Goals as goal
+
+pub are_inside-requires : goal.are_inside-requires
+are_inside-requires c = are_small c.args.table.now c.args.sphere.now c.args.range c.args.a c.args.b c.args.c c.in_ok-places.places c.in_ok-places.ensures.found
+
+pub returns-in_err-places-clause-refused : goal.returns-in_err-places-clause-refused
+returns-in_err-places-clause-refused c =
+    let p = err_from_is_err_and c.from_residual.result c.from_residual.ensures.1 in
+    rw (p.1, p.2) (refused_by_class c.args.table.now c.args.sphere.now c.args.range c.args.a c.args.b c.args.c _ c.in_err-places.ensures.refused)
+
+pub returns-in_err-are_inside-clause-refused : goal.returns-in_err-are_inside-clause-refused
+returns-in_err-are_inside-clause-refused c =
+    let p = err_from_is_err_and c.from_residual-in_err-are_inside.result c.from_residual-in_err-are_inside.ensures.1 in
+    rw (p.1, p.2) (refused_by_places c.args.table.now c.args.sphere.now c.args.range c.requires.sphere c.args.a c.args.b c.args.c c.in_ok-places.places c.in_ok-places.ensures.found (Some _) c.in_ok-places.ensures.made c.in_err-are_inside.ensures.refused)
+
+pub returns-clause-made : goal.returns-clause-made
+returns-clause-made c = refused_by_places c.args.table.now c.args.sphere.now c.args.range c.requires.sphere c.args.a c.args.b c.args.c c.in_ok-places.places c.in_ok-places.ensures.found None c.in_ok-places.ensures.made c.in_ok-are_inside.ensures.made

@@ -1,0 +1,4 @@
+pub mod Cosets
+pub mod Refusals
+pub mod Brackets
+pub mod Inside

@@ -1,0 +1,14 @@
+//! Three-fold Massey products.
+#![tactic(auto)]
+
+mod answer;
+mod coset;
+mod fault;
+mod homotopy;
+mod making;
+mod places;
+mod setting;
+
+pub use answer::Bracket;
+pub use fault::MasseyFault;
+pub use making::bracket;

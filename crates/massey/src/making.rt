@@ -1,0 +1,328 @@
+//! How brackets are made.
+ghost use Rattle.std.specs.Prelude.{◌≡◌, ◌+◌, ◌-◌, ◌<◌, ℕ, suc, pos, ◌+ℤ◌, ◌-ℤ◌, length, map, ◌++◌, IfOk, IfErr, OnOk, None};
+ghost use Rattle.std.specs.List.{range_with_len};
+ghost use Rattle.f2_vec.specs.Vectors.{IsZero};
+ghost use Rattle.f2_vec.specs.Spans.{HaveWidth};
+ghost use Rattle.square.specs.Squares.{bottom_of};
+ghost use Rattle.square.specs.Tables.{IsThrough};
+ghost use Rattle.lift_laws.specs.Lifts.{IsSphere};
+ghost use Rattle.lift_laws.specs.Products.{count_of, product_by, on_square, coefficient_of};
+ghost use Rattle.chain_map.specs.Lifting.{resolution_of, map_of, IsLiftOver};
+ghost use Rattle.yoneda.specs.Places.{class_above, IsPlaceOf};
+ghost use Rattle.yoneda.specs.Products.{IsAllCanonical, AreProducts};
+ghost use Rattle.massey.specs.Refusals.{refusal_of};
+ghost use Rattle.massey.specs.Brackets.{above_of, above_ab, above_bc, IsSetting, AreLifts, IsBracketOver, IsCause, IsMemberBy, AreSpanning, IsBracket, lower_product};
+
+use crate::answer::Bracket;
+use crate::coset::{clear_at_pivots, row_basis};
+use crate::fault::MasseyFault;
+use crate::homotopy::last_map;
+use crate::places::places_of;
+use crate::setting::Setting;
+use bracket_laws::bracket_is_coset;
+use chain_map::{Class, Lift, lift};
+use f2_matrix::Matrix;
+use f2_vec::BitVec;
+use finite_module::modules_are_graded_modules;
+use lift_laws::lifts_give_one_product;
+use memory::Memory;
+use resolution_laws::canonical_table_is_minimal_resolution;
+use square::{Range, Table};
+use std::alloc::Global;
+use yoneda::{Place, coefficients, degree, generators_at, products};
+
+/// The bracket <a, b, c> of the classes a and b of the sphere with the class c of the module, where ab and bc are zero: the values that lifts of b
+/// and c and null homotopies give, in the square (a.s + b.s + c.s - 1, a.t + b.t + c.t), are one of them and the indeterminacy, which is spanned by
+/// the products of a and by those with c.
+///
+/// # Errors
+/// The first of: a, b and then c is no class of its table through the range; the square of ab, of bc or of the bracket is past the range; ab
+/// is not zero, or bc. `Memory` where there is none for what it takes.
+pub fn bracket(
+    alloc: Global,
+    table: &Table,
+    sphere: &Table,
+    range: Range,
+    a: Class,
+    b: Class,
+    c: Class,
+) -> Result<Bracket, MasseyFault>
+    requires table { IsThrough range table.now.rows }
+    requires sphere_table { IsThrough range sphere.now.rows }
+    requires sphere { IsSphere (resolution_of sphere.now) }
+    ensures made { OnOk result (refusal_of table.now sphere.now range a b c ≡ None) }
+    ensures cause { IfErr result (IsCause table.now sphere.now range a b c) }
+    ensures bracket { IfOk result (IsBracketOver table.now sphere.now range a b c) }
+{
+    // Why every lift gives these products.
+    canonical_table_is_minimal_resolution();
+    modules_are_graded_modules();
+    lifts_give_one_product();
+    let places = places_of(table, sphere, range, a, b, c)?;
+    let setting = Setting {
+        table,
+        sphere,
+        range,
+        places,
+    };
+    let beta = lift_of_b(alloc, &setting, b)?;
+    let ab = first_product(alloc, &setting, &beta)?;
+    if !ab.is_zero() {
+        return Err(MasseyFault::Nonzero {
+            which: 0,
+            product: ab,
+        });
+    }
+    let gamma = lift_of_c(alloc, &setting, c)?;
+    let bc = second_product(alloc, &setting, &gamma)?;
+    if !bc.is_zero() {
+        return Err(MasseyFault::Nonzero {
+            which: 1,
+            product: bc,
+        });
+    }
+    let bracket = by_lifts(alloc, &setting, &beta, &gamma)?;
+    Ok(bracket)
+}
+
+/// A lift of b to row a.s of the sphere.
+fn lift_of_b(alloc: Global, setting: &Setting<'_>, b: Class) -> Result<Lift, Memory>
+    requires setting { IsSetting setting.now.table.now setting.now.sphere.now setting.now.range setting.now.places }
+    requires class { IsPlaceOf setting.now.sphere.now setting.now.range b setting.now.places.b }
+    ensures { IfOk result (IsLiftOver setting.now.sphere.now setting.now.sphere.now setting.now.places.b.s setting.now.places.b.above setting.now.places.b.i setting.now.places.a.s) }
+{
+    lift(alloc, setting.sphere, setting.sphere, b, setting.places.a.s)
+}
+
+/// A lift of c to the row of the sphere that is one below that of ab, and to that of b at least.
+fn lift_of_c(alloc: Global, setting: &Setting<'_>, c: Class) -> Result<Lift, Memory>
+    requires setting { IsSetting setting.now.table.now setting.now.sphere.now setting.now.range setting.now.places }
+    requires class { IsPlaceOf setting.now.table.now setting.now.range c setting.now.places.c }
+    ensures { IfOk result (IsLiftOver setting.now.table.now setting.now.sphere.now setting.now.places.c.s setting.now.places.c.above setting.now.places.c.i (setting.now.places.b.s + (setting.now.places.a.s - 1))) }
+{
+    let places = setting.places;
+    let last = places.b.s + places.a.s.saturating_sub(1);
+    lift(alloc, setting.table, setting.sphere, c, last)
+}
+
+/// The bracket, by lifts of b and c that give zero for ab and bc.
+fn by_lifts(
+    alloc: Global,
+    setting: &Setting<'_>,
+    beta: &Lift,
+    gamma: &Lift,
+) -> Result<Bracket, Memory>
+    requires setting { IsSetting setting.now.table.now setting.now.sphere.now setting.now.range setting.now.places }
+    requires beta { IsLiftOver setting.now.sphere.now setting.now.sphere.now setting.now.places.b.s setting.now.places.b.above setting.now.places.b.i setting.now.places.a.s beta.now }
+    requires gamma { IsLiftOver setting.now.table.now setting.now.sphere.now setting.now.places.c.s setting.now.places.c.above setting.now.places.c.i (setting.now.places.b.s + (setting.now.places.a.s - 1)) gamma.now }
+    requires ab_zero { IsZero (product_by (resolution_of setting.now.sphere.now) (resolution_of setting.now.sphere.now) (class_above setting.now.places.a) (map_of beta.now) (setting.now.places.b.s + setting.now.places.a.s) (above_ab setting.now.places)) }
+    requires bc_zero { IsZero (product_by (resolution_of setting.now.table.now) (resolution_of setting.now.sphere.now) (class_above setting.now.places.b) (map_of gamma.now) (setting.now.places.c.s + setting.now.places.b.s) (above_bc setting.now.places)) }
+    ensures s { IfOk result (λ bracket. bracket.s ≡ pos (setting.now.places.a.s + setting.now.places.b.s + setting.now.places.c.s) -ℤ pos 1) }
+    ensures t { IfOk result (λ bracket. bracket.t ≡ bottom_of setting.now.table.now.resolved +ℤ pos (above_of setting.now.places)) }
+    ensures widths { IfOk result (λ bracket. bracket.indeterminacy.cols ≡ length bracket.value) }
+    ensures bracket { IfOk result (λ bracket. IsAllCanonical setting.now.table.now → IsAllCanonical setting.now.sphere.now → IsBracket setting.now.table.now setting.now.sphere.now setting.now.range setting.now.places bracket.value bracket.indeterminacy.rows) }
+{
+    canonical_table_is_minimal_resolution();
+    modules_are_graded_modules();
+    let places = setting.places;
+    if places.a.s == 0 {
+        return empty(alloc, setting);
+    }
+    if places.b.s == 0 {
+        return empty(alloc, setting);
+    }
+    coset(alloc, setting, beta, gamma, places.c.s + places.b.s - 1)
+}
+
+/// What is answered where a or b is in row 0. That is for tables alone that are no resolutions: else ab is not zero.
+fn empty(alloc: Global, setting: &Setting<'_>) -> Result<Bracket, Memory>
+    requires setting { IsSetting setting.now.table.now setting.now.sphere.now setting.now.range setting.now.places }
+    ensures s { IfOk result (λ bracket. bracket.s ≡ pos (setting.now.places.a.s + setting.now.places.b.s + setting.now.places.c.s) -ℤ pos 1) }
+    ensures t { IfOk result (λ bracket. bracket.t ≡ bottom_of setting.now.table.now.resolved +ℤ pos (above_of setting.now.places)) }
+    ensures widths { IfOk result (λ bracket. bracket.indeterminacy.cols ≡ length bracket.value) }
+{
+    let places = setting.places;
+    Ok(Bracket {
+        s: i32::from(places.a.s + places.b.s + places.c.s) - 1,
+        t: degree(setting.table, setting.above()),
+        value: BitVec::zero(alloc, 0)?,
+        indeterminacy: Matrix::from_rows(0, Vec::new(alloc)),
+    })
+}
+
+/// ab, by a lift of b.
+fn first_product(alloc: Global, setting: &Setting<'_>, beta: &Lift) -> Result<BitVec, Memory>
+    requires setting { IsSetting setting.now.table.now setting.now.sphere.now setting.now.range setting.now.places }
+    requires lift { IsLiftOver setting.now.sphere.now setting.now.sphere.now setting.now.places.b.s setting.now.places.b.above setting.now.places.b.i setting.now.places.a.s beta.now }
+    ensures { IfOk result (λ v. v ≡ product_by (resolution_of setting.now.sphere.now) (resolution_of setting.now.sphere.now) (class_above setting.now.places.a) (map_of beta.now) (setting.now.places.b.s + setting.now.places.a.s) (above_ab setting.now.places)) }
+{
+    let places = setting.places;
+    coefficients(
+        alloc,
+        setting.sphere,
+        setting.sphere,
+        beta.vectors(places.a.s),
+        places.a,
+        places.b.s + places.a.s,
+        setting.above_ab(),
+    )
+}
+
+/// bc, by a lift of c.
+fn second_product(alloc: Global, setting: &Setting<'_>, gamma: &Lift) -> Result<BitVec, Memory>
+    requires setting { IsSetting setting.now.table.now setting.now.sphere.now setting.now.range setting.now.places }
+    requires lift { IsLiftOver setting.now.table.now setting.now.sphere.now setting.now.places.c.s setting.now.places.c.above setting.now.places.c.i (setting.now.places.b.s + (setting.now.places.a.s - 1)) gamma.now }
+    ensures { IfOk result (λ v. v ≡ product_by (resolution_of setting.now.table.now) (resolution_of setting.now.sphere.now) (class_above setting.now.places.b) (map_of gamma.now) (setting.now.places.c.s + setting.now.places.b.s) (above_bc setting.now.places)) }
+{
+    let places = setting.places;
+    coefficients(
+        alloc,
+        setting.table,
+        setting.sphere,
+        gamma.vectors(places.b.s),
+        places.b,
+        places.c.s + places.b.s,
+        setting.above_bc(),
+    )
+}
+
+/// The bracket, by lifts of b and c.
+fn coset(
+    alloc: Global,
+    setting: &Setting<'_>,
+    beta: &Lift,
+    gamma: &Lift,
+    n: u16,
+) -> Result<Bracket, Memory>
+    requires setting { IsSetting setting.now.table.now setting.now.sphere.now setting.now.range setting.now.places }
+    requires lifts { AreLifts setting.now.table.now setting.now.sphere.now setting.now.places beta.now gamma.now }
+    requires n { suc n ≡ setting.now.places.c.s + setting.now.places.b.s }
+    ensures s { IfOk result (λ bracket. bracket.s ≡ pos (n + setting.now.places.a.s)) }
+    ensures t { IfOk result (λ bracket. bracket.t ≡ bottom_of setting.now.table.now.resolved +ℤ pos (above_of setting.now.places)) }
+    ensures widths { IfOk result (λ bracket. bracket.indeterminacy.cols ≡ length bracket.value) }
+    ensures bracket { IfOk result (λ bracket. IsAllCanonical setting.now.table.now → IsAllCanonical setting.now.sphere.now → IsBracket setting.now.table.now setting.now.sphere.now setting.now.range setting.now.places bracket.value bracket.indeterminacy.rows) }
+{
+    // Why the value and the indeterminacy are all values.
+    canonical_table_is_minimal_resolution();
+    modules_are_graded_modules();
+    bracket_is_coset();
+    let s = i32::from(n + setting.places.a.s);
+    let t = degree(setting.table, setting.above());
+    let mut value = member(alloc, setting, beta, gamma, n)?;
+    let rows = indeterminacy_rows(alloc, setting, beta, gamma, n)?;
+    let rows = Matrix::from_rows(value.len(), rows);
+    let indeterminacy = row_basis(alloc, &rows)?;
+    clear_at_pivots(&mut value, &indeterminacy);
+    Ok(Bracket {
+        s,
+        t,
+        value,
+        indeterminacy,
+    })
+}
+
+/// A value of the bracket, by a null homotopy.
+fn member(
+    alloc: Global,
+    setting: &Setting<'_>,
+    beta: &Lift,
+    gamma: &Lift,
+    n: u16,
+) -> Result<BitVec, Memory>
+    requires setting { IsSetting setting.now.table.now setting.now.sphere.now setting.now.range setting.now.places }
+    requires lifts { AreLifts setting.now.table.now setting.now.sphere.now setting.now.places beta.now gamma.now }
+    requires n { suc n ≡ setting.now.places.c.s + setting.now.places.b.s }
+    ensures length { IfOk result (λ v. length v ≡ count_of (resolution_of setting.now.table.now) (n + setting.now.places.a.s) (above_of setting.now.places)) }
+    ensures member { IfOk result (λ v. IsAllCanonical setting.now.table.now → IsAllCanonical setting.now.sphere.now → IsMemberBy setting.now.table.now setting.now.sphere.now setting.now.range setting.now.places n v) }
+{
+    let last = last_map(alloc, setting, beta, gamma, n)?;
+    let a = setting.places.a;
+    coefficients(
+        alloc,
+        setting.table,
+        setting.sphere,
+        last.as_slice(),
+        a,
+        n + a.s,
+        setting.above(),
+    )
+}
+
+/// The products of a with the classes of the square of bc one row lower, and those of the classes of the square of ab one row lower
+/// with c.
+fn indeterminacy_rows(
+    alloc: Global,
+    setting: &Setting<'_>,
+    beta: &Lift,
+    gamma: &Lift,
+    n: u16,
+) -> Result<Vec<BitVec>, Memory>
+    requires setting { IsSetting setting.now.table.now setting.now.sphere.now setting.now.range setting.now.places }
+    requires lifts { AreLifts setting.now.table.now setting.now.sphere.now setting.now.places beta.now gamma.now }
+    requires n { suc n ≡ setting.now.places.c.s + setting.now.places.b.s }
+    ensures widths { IfOk result (λ rows. HaveWidth (count_of (resolution_of setting.now.table.now) (n + setting.now.places.a.s) (above_of setting.now.places)) rows.items) }
+    ensures spanning { IfOk result (λ rows. IsAllCanonical setting.now.table.now → IsAllCanonical setting.now.sphere.now → AreSpanning setting.now.table.now setting.now.sphere.now setting.now.range setting.now.places n rows.items) }
+{
+    let mut rows = products(
+        alloc,
+        setting.table,
+        setting.sphere,
+        setting.range,
+        setting.places.a,
+        n,
+        setting.above_bc(),
+    )?;
+    add_lower_rows(alloc, setting, beta, gamma, &mut rows)?;
+    Ok(rows)
+}
+
+/// Puts behind the rows the products of the classes of the square of ab one row lower with c.
+fn add_lower_rows(
+    alloc: Global,
+    setting: &Setting<'_>,
+    beta: &Lift,
+    gamma: &Lift,
+    rows: &mut Vec<BitVec>,
+) -> Result<(), Memory>
+    requires setting { IsSetting setting.now.table.now setting.now.sphere.now setting.now.range setting.now.places }
+    requires lifts { AreLifts setting.now.table.now setting.now.sphere.now setting.now.places beta.now gamma.now }
+    ensures { OnOk result ((l : ℕ) → suc l ≡ setting.now.places.b.s + setting.now.places.a.s → rows.new.items ≡ rows.old.items ++ map (lower_product setting.now.table.now setting.now.sphere.now setting.now.places gamma.now l) (range_with_len 0 (count_of (resolution_of setting.now.sphere.now) l (above_ab setting.now.places)))) }
+{
+    let places = setting.places;
+    let l = places.b.s + places.a.s - 1;
+    for i in 0..generators_at(setting.sphere, l, setting.above_ab()) {
+        rows.push(lower_row(alloc, setting, beta, gamma, l, i)?)?;
+    }
+    Ok(())
+}
+
+/// That of the class with number `i` of that square, which is in row `l`.
+fn lower_row(
+    alloc: Global,
+    setting: &Setting<'_>,
+    beta: &Lift,
+    gamma: &Lift,
+    l: u16,
+    i: usize,
+) -> Result<BitVec, Memory>
+    requires setting { IsSetting setting.now.table.now setting.now.sphere.now setting.now.range setting.now.places }
+    requires lifts { AreLifts setting.now.table.now setting.now.sphere.now setting.now.places beta.now gamma.now }
+    requires row { suc l ≡ setting.now.places.b.s + setting.now.places.a.s }
+    requires class { i < count_of (resolution_of setting.now.sphere.now) l (above_ab setting.now.places) }
+    ensures { IfOk result (λ v. v ≡ lower_product setting.now.table.now setting.now.sphere.now setting.now.places gamma.now l i) }
+{
+    let y = Place {
+        s: l,
+        above: setting.above_ab(),
+        i,
+    };
+    coefficients(
+        alloc,
+        setting.table,
+        setting.sphere,
+        gamma.vectors(l),
+        y,
+        setting.places.c.s + l,
+        setting.above(),
+    )
+}

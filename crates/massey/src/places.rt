@@ -1,0 +1,122 @@
+//! Where the three classes of a bracket stand.
+ghost use Rattle.std.specs.Prelude.{◌≡◌, ◌≤◌, ◌+◌, pos, ◌+ℤ◌, ◌-ℤ◌, IfOk, IfErr, OnOk, None, Some};
+ghost use Rattle.square.specs.Squares.{bottom_of};
+ghost use Rattle.square.specs.Tables.{IsTable, IsThrough};
+ghost use Rattle.lift_laws.specs.Lifts.{IsSphere};
+ghost use Rattle.chain_map.specs.Lifting.{resolution_of};
+ghost use Rattle.yoneda.specs.Places.{missing, IsPlaceOf};
+ghost use Rattle.massey.specs.Refusals.{no_class, out_of_range, class_refusal, place_refusal, refusal_of, AreFound, AreInside, AreSmall};
+
+use crate::fault::MasseyFault;
+use chain_map::Class;
+use square::{Range, Table};
+use yoneda::{Place, degree, place_of};
+
+/// Where the three classes of a bracket stand.
+#[derive(Clone, Copy)]
+pub(crate) struct Places {
+    pub(crate) a: Place,
+    pub(crate) b: Place,
+    pub(crate) c: Place,
+}
+
+/// Where the three classes stand, or why they have no bracket in the range: the first of no class a, b or c, and then of ab, bc or the
+/// bracket outside of the range.
+pub(crate) fn places_of(
+    table: &Table,
+    sphere: &Table,
+    range: Range,
+    a: Class,
+    b: Class,
+    c: Class,
+) -> Result<Places, MasseyFault>
+    requires table { IsThrough range table.now.rows }
+    requires sphere_table { IsThrough range sphere.now.rows }
+    requires sphere { IsSphere (resolution_of sphere.now) }
+    ensures made { OnOk result (refusal_of table.now sphere.now range a b c ≡ None) }
+    ensures refused { IfErr result (λ e. refusal_of table.now sphere.now range a b c ≡ Some e) }
+    ensures found { IfOk result (AreFound table.now sphere.now range a b c) }
+    ensures inside { IfOk result (AreInside range) }
+    ensures is_table { OnOk result (IsTable table.now) }
+    ensures is_sphere_table { OnOk result (IsTable sphere.now) }
+{
+    let places = classes_of(table, sphere, range, a, b, c)?;
+    are_inside(table, sphere, range, places)?;
+    Ok(places)
+}
+
+/// Where the three classes stand.
+fn classes_of(
+    table: &Table,
+    sphere: &Table,
+    range: Range,
+    a: Class,
+    b: Class,
+    c: Class,
+) -> Result<Places, MasseyFault>
+    requires table { IsThrough range table.now.rows }
+    requires sphere_table { IsThrough range sphere.now.rows }
+    ensures made { OnOk result (class_refusal table.now sphere.now range a b c ≡ None) }
+    ensures refused { IfErr result (λ e. class_refusal table.now sphere.now range a b c ≡ Some e) }
+    ensures found { IfOk result (AreFound table.now sphere.now range a b c) }
+    ensures is_table { OnOk result (IsTable table.now) }
+    ensures is_sphere_table { OnOk result (IsTable sphere.now) }
+{
+    let a = found(sphere, range, a, 0)?;
+    let b = found(sphere, range, b, 1)?;
+    let c = found(table, range, c, 2)?;
+    Ok(Places { a, b, c })
+}
+
+/// That ab, bc and the bracket are in the range.
+fn are_inside(
+    table: &Table,
+    sphere: &Table,
+    range: Range,
+    places: Places,
+) -> Result<(), MasseyFault>
+    requires { AreSmall places }
+    ensures made { OnOk result (place_refusal table.now sphere.now range places ≡ None) }
+    ensures refused { IfErr result (λ e. place_refusal table.now sphere.now range places ≡ Some e) }
+    ensures inside { OnOk result (AreInside range places) }
+{
+    let Places { a, b, c } = places;
+    within(sphere, range, 0, a.s + b.s + 1, a.above + b.above)?;
+    within(table, range, 1, b.s + c.s + 1, b.above + c.above)?;
+    within(
+        table,
+        range,
+        2,
+        a.s + b.s + c.s,
+        a.above + b.above + c.above,
+    )
+}
+
+/// Where the class stands in the table, or that it does not.
+fn found(table: &Table, range: Range, class: Class, which: u8) -> Result<Place, MasseyFault>
+    requires { IsThrough range table.now.rows }
+    ensures found { OnOk result (no_class which table.now range class ≡ None) }
+    ensures missing { IfErr result (λ e. no_class which table.now range class ≡ Some e) }
+    ensures there { IfOk result (IsPlaceOf table.now range class) }
+    ensures is_table { OnOk result (IsTable table.now) }
+{
+    match place_of(table, range, class) {
+        Ok(place) => Ok(place),
+        Err(count) => Err(MasseyFault::NoClass { which, count }),
+    }
+}
+
+/// That a square is not past the range: it is in the row that has `rows` rows below it and itself, and `above` degrees above the bottom.
+fn within(table: &Table, range: Range, which: u8, rows: u16, above: u16) -> Result<(), MasseyFault>
+    ensures within { OnOk result (out_of_range which table.now range (pos rows -ℤ pos 1) (bottom_of table.now.resolved +ℤ pos above) ≡ None) }
+    ensures past { IfErr result (λ e. out_of_range which table.now range (pos rows -ℤ pos 1) (bottom_of table.now.resolved +ℤ pos above) ≡ Some e) }
+    ensures row { OnOk result (rows ≤ range.s + 1) }
+    ensures degree { OnOk result (above ≤ range.t) }
+{
+    let s = i32::from(rows) - 1;
+    if s > i32::from(range.s) || above > range.t {
+        let t = degree(table, above);
+        return Err(MasseyFault::OutOfRange { which, s, t });
+    }
+    Ok(())
+}
