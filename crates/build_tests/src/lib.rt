@@ -1,0 +1,7 @@
+//! Tests of modules made of others, and of the files of modules.
+#![tactic(auto)]
+
+#[cfg(test)]
+mod made;
+#[cfg(test)]
+mod modules;
