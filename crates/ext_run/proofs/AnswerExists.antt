@@ -8,7 +8,9 @@ use Rattle.std.proofs.lemmas.Bool.{cases_eq}
 use Rattle.std.proofs.lemmas.Int.{ints}
 use Rattle.adem_laws.specs.Admissible.{value as value_of, AdmissibleFormIsUnique}
 use Rattle.adem_laws.proofs.Values.{length-value}
-use Rattle.module_json.specs.ModuleFile.{Generator, Entry, File, IsFileOf, basis, degree_at, listed, unless_refused, with_entries, first_refusal, gens_of, entries_from, actions_of}
+use Rattle.serde_json.specs.Data.{Data}
+use Rattle.module_json.specs.Checks.{IsValueOf}
+use Rattle.module_json.specs.ModuleFile.{Generator, Entry, File, IsFileOf, file_of, basis, degree_at, listed, unless_refused, with_entries, first_refusal, gens_of, entries_from, actions_of}
 use Rattle.module_json.specs.ModuleFile.IsFileOf.{no_value, described}
 use Rattle.module_json.specs.WellFormed.{NeverFall}
 use Rattle.module_json.specs.declared.malformed.Malformed.{Malformed}
@@ -34,12 +36,13 @@ use Rattle.ext_chart.specs.Dump.{dump_text}
 use Rattle.ext_chart.specs.Product.{product_text}
 use Rattle.ext_chart.specs.Summary.{summary_text}
 use Rattle.ext_words.specs.declared.command.Command.{Command}
-use Rattle.ext_words.specs.declared.command.Command.TheVariants.{Sphere, Resolve, Dump, Check, Sample, Sq}
+use Rattle.ext_words.specs.declared.command.Command.TheVariants.{Sphere, Resolve, Dump, Check, Build, Sample, Sq}
 use Rattle.ext_run.specs.declared.failure.Failure.{Failure}
 use Rattle.ext_run.specs.declared.failure.Failure.TheVariants.{Words, Malformed as NoModuleFile, NotModule}
 use Rattle.ext_run.specs.Answer.{IsResolved, IsChart, IsDump, IsSummary, IsLineOn, IsProduct, IsModuleAnswer, no_file, no_module, text_of, IsAnswerTo, Reads}
 use Rattle.ext_words.specs.Words.{command_of}
-use Rattle.ext_run.specs.Existence.{IsDescribed, AnswerExists}
+use Rattle.ext_run.specs.Existence.{HasValue, AnswerExists}
+use Rattle.ext_run.proofs.BuildAnswers.{build_answer_exists}
 use Rattle.ext_run.specs.declared.task.Form.{Form}
 use Rattle.ext_run.specs.declared.task.Form.TheVariants.{Chart, Differentials, Summary}
 use Rattle.ext_run.specs.declared.task.Task.{Task}
@@ -124,23 +127,32 @@ module _ (accepted : AcceptedIsModule) (IsTextOf : SteenrodModule → List ℕ �
   of_bytes (Ok f) is = of_file f is (refusal_of f) refl
   of_bytes (Err e) is = (Err (NoModuleFile e), no_file e is)
 
+-- the file of bytes that have a value
+file_of_value : (bytes : List ℕ) → HasValue bytes → (file : Result File Malformed) × IsFileOf bytes file
+file_of_value bytes has = of_value has.value has.is_value
+  where
+    of_value : (value : Result Data Malformed) → IsValueOf bytes value → (file : Result File Malformed) × IsFileOf bytes file
+    of_value (Ok d) is = (file_of d, described d is)
+    of_value (Err e) is = (Err e, no_value e is)
+
 one_alone : NeverFall sphere_file.generators
 one_alone i j d l k = absurd (omega arith)
 
-to_command : Laws → AdmissibleFormIsUnique → (command : Command) (bytes : List ℕ) → (Reads command → IsDescribed bytes) → (answer : Result (List ℕ) Failure) × IsAnswerTo command bytes answer
+to_command : Laws → AdmissibleFormIsUnique → (command : Command) (bytes : List ℕ) → (Reads command → HasValue bytes) → (answer : Result (List ℕ) Failure) × IsAnswerTo command bytes answer
 to_command laws forms (Sphere common) bytes file =
     let x = chart_exists laws common.range (derived_module sphere_file) (laws.accepted sphere_file one_alone refl) one_alone in
     (Ok x.0, x.1)
-to_command laws forms (Resolve common) bytes file = let d = file tt in of_bytes laws.accepted (IsChart common.range) (chart_exists laws common.range) bytes d.file d.is_file
-to_command laws forms (Dump common) bytes file = let d = file tt in of_bytes laws.accepted (IsDump common.range) (dump_exists laws common.range) bytes d.file d.is_file
-to_command laws forms Check bytes file = let d = file tt in of_bytes laws.accepted IsLineOn line_exists bytes d.file d.is_file
+to_command laws forms (Resolve common) bytes has = let d = file_of_value bytes (has tt) in of_bytes laws.accepted (IsChart common.range) (chart_exists laws common.range) bytes d.0 d.1
+to_command laws forms (Dump common) bytes has = let d = file_of_value bytes (has tt) in of_bytes laws.accepted (IsDump common.range) (dump_exists laws common.range) bytes d.0 d.1
+to_command laws forms Check bytes has = let d = file_of_value bytes (has tt) in of_bytes laws.accepted IsLineOn line_exists bytes d.0 d.1
+to_command laws forms (Build made) bytes has = build_answer_exists made bytes (has tt)
 to_command laws forms (Sample n common) bytes file =
     let order : NeverFall (sample_generators n) = (sample_by_degree n).ordered in
     let x = summary_exists laws common.range (derived_module (sample_file n)) (sample_is_module n) order in
     (Ok x.0, x.1)
 to_command laws forms (Sq numbers) bytes file = let x = product_exists forms numbers in (Ok x.0, x.1)
 
-to_words : Laws → AdmissibleFormIsUnique → (command : Option Command) (bytes : List ℕ) → (MatchOption command ⊥ Reads → IsDescribed bytes) → (answer : Result (List ℕ) Failure) × MatchOption command (answer ≡ Err Words) (λ c. IsAnswerTo c bytes answer)
+to_words : Laws → AdmissibleFormIsUnique → (command : Option Command) (bytes : List ℕ) → (MatchOption command ⊥ Reads → HasValue bytes) → (answer : Result (List ℕ) Failure) × MatchOption command (answer ≡ Err Words) (λ c. IsAnswerTo c bytes answer)
 to_words laws forms None bytes file = (Err Words, refl)
 to_words laws forms (Some command) bytes file = to_command laws forms command bytes file
 

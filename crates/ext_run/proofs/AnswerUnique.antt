@@ -13,7 +13,7 @@ use Rattle.finite_module.specs.Checked.{sphere_file}
 use Rattle.finite_module.specs.Sample.{sample_file}
 use Rattle.module_check.specs.declared.fault.CheckFault.{CheckFault}
 use Rattle.ext_words.specs.declared.command.Command.{Command}
-use Rattle.ext_words.specs.declared.command.Command.TheVariants.{Sphere, Resolve, Dump, Check, Sample, Sq}
+use Rattle.ext_words.specs.declared.command.Command.TheVariants.{Sphere, Resolve, Dump, Check, Build, Sample, Sq}
 use Rattle.ext_run.specs.declared.failure.Failure.{Failure}
 use Rattle.ext_run.specs.declared.failure.Failure.TheVariants.{Words}
 use Rattle.resolution_laws.specs.Resolution.{Content, generator_count, CanonicalTableIsUnique}
@@ -25,6 +25,7 @@ use Rattle.ext_chart.specs.Product.{product_text}
 use Rattle.ext_chart.specs.Summary.{summary_text}
 use Rattle.ext_words.specs.Words.{command_of}
 use Rattle.ext_run.specs.Answer.{IsResolved, IsChart, IsDump, IsSummary, IsLineOn, IsProduct, IsModuleAnswer, no_file, no_module, text_of, IsAnswerTo, AnswerIsUnique}
+use Rattle.ext_run.proofs.BuildAnswers.{build_answer_unique}
 
 -- two texts that a function makes of two tables of one module and range
 same-text : CanonicalTableIsUnique → (range : Range) (m : SteenrodModule) (text : List (List Content) → List ℕ) (a b : List (List Content)) (x y : List ℕ) → IsResolved range m a → IsResolved range m b → x ≡ text a → y ≡ text b → x ≡ y
@@ -95,6 +96,7 @@ answer-to-unique unique files forms (Sphere common) bytes (Err e) b p q = absurd
 answer-to-unique unique files forms (Resolve common) bytes a b p q = module-answer-unique files (IsChart common.range) (chart-unique unique common.range) bytes a b p q
 answer-to-unique unique files forms (Dump common) bytes a b p q = module-answer-unique files (IsDump common.range) (dump-unique unique common.range) bytes a b p q
 answer-to-unique unique files forms Check bytes a b p q = module-answer-unique files IsLineOn (λ m x y s t. s ∙ sym t) bytes a b p q
+answer-to-unique unique files forms (Build made) bytes a b p q = build_answer_unique made bytes a b p q
 answer-to-unique unique files forms (Sample n common) bytes (Ok x) (Ok y) p q = let text = summary-unique unique common.range (derived_module (sample_file n)) x y p q in cc
 answer-to-unique unique files forms (Sample n common) bytes (Ok x) (Err e) p q = absurd q
 answer-to-unique unique files forms (Sample n common) bytes (Err e) b p q = absurd p

@@ -6,6 +6,7 @@ use Rattle.f2_matrix.proofs.Unique.{kernel_basis_unique}
 use Rattle.edge.specs.Source.{without_first}
 use Rattle.module_json.specs.ModuleFile.{File, IsFileOf, no_value, described}
 use Rattle.module_json.specs.declared.malformed.Malformed.{Malformed}
+use Rattle.module_json.specs.declared.malformed.What.{What}
 use Rattle.module_json.specs.declared.malformed.Malformed.TheVariants.{Limit, Json, Shape, Kind, Prime, Name, Degree, Action, Parts, Memory as NoRoom}
 use Rattle.module_json.proofs.Reading.{file_unique}
 use Rattle.module_json.proofs.Sizes.{value_fits}
@@ -14,9 +15,9 @@ use Rattle.module_check.specs.Acceptance.{refusal_of}
 use Rattle.module_check.specs.declared.fault.CheckFault.{CheckFault}
 use Rattle.module_check.specs.declared.fault.CheckFault.TheVariants.{Listed, Relation, Memory as NoMemory}
 use Rattle.ext_words.specs.declared.command.Command.{Command}
-use Rattle.ext_words.specs.declared.command.Command.TheVariants.{Sphere, Resolve, Dump, Check, Sample, Sq}
+use Rattle.ext_words.specs.declared.command.Command.TheVariants.{Sphere, Resolve, Dump, Check, Build, Sample, Sq}
 use Rattle.ext_run.specs.declared.failure.Failure.{Failure}
-use Rattle.ext_run.specs.declared.failure.Failure.TheVariants.{Words, Malformed as NoModuleFile, NotModule, Reading, Writing, Saving, SaveFile, Memory}
+use Rattle.ext_run.specs.declared.failure.Failure.TheVariants.{Words, Malformed as NoModuleFile, NotModule, PastLimit, Reading, Writing, Saving, SaveFile, Memory}
 use Rattle.ext_words.specs.Words.{command_of}
 use Rattle.ext_run.specs.Run.{IsStatusOf, IsComplete}
 use Rattle.ext_run.specs.Failure.{status_of, malformed_status, fault_status}
@@ -26,6 +27,7 @@ use Rattle.ext_run.specs.Saving.{IsRunCauseFrom}
 use Rattle.save_file.specs.declared.fault.ResumeFault.{ResumeFault}
 use Rattle.ext_run.proofs.AnswerUnique.{answer-unique}
 use Rattle.ext_run.proofs.Reading.{most_read-is}
+use Rattle.ext_run.proofs.BuildAnswers.{build_not_words, build_fits, buildable_failure}
 use Rattle.resolution_laws.proofs.TableIsUnique.{table_is_unique}
 use Rattle.adem_laws.proofs.Forms.{admissible_form_is_unique}
 
@@ -55,6 +57,7 @@ words_refused (Some (Sphere common)) bytes a e p = absurd (subst (IsAnswerTo (Sp
 words_refused (Some (Resolve common)) bytes a e p = absurd (not_words (IsChart common.range) bytes a p e)
 words_refused (Some (Dump common)) bytes a e p = absurd (not_words (IsDump common.range) bytes a p e)
 words_refused (Some Check) bytes a e p = absurd (not_words IsLineOn bytes a p e)
+words_refused (Some (Build made)) bytes a e p = absurd (build_not_words made bytes a p e)
 words_refused (Some (Sample n common)) bytes a e p = absurd (subst (IsAnswerTo (Sample n common) bytes) e p)
 words_refused (Some (Sq numbers)) bytes a e p = absurd (subst (IsAnswerTo (Sq numbers) bytes) e p)
 
@@ -75,6 +78,7 @@ answer_fits (Some (Sphere common)) bytes text r p = absurd r
 answer_fits (Some (Resolve common)) bytes text r p = module_fits (IsChart common.range) bytes text (Ok text) p refl
 answer_fits (Some (Dump common)) bytes text r p = module_fits (IsDump common.range) bytes text (Ok text) p refl
 answer_fits (Some Check) bytes text r p = module_fits IsLineOn bytes text (Ok text) p refl
+answer_fits (Some (Build made)) bytes text r p = build_fits made bytes text (Ok text) p refl
 answer_fits (Some (Sample n common)) bytes text r p = absurd r
 answer_fits (Some (Sq numbers)) bytes text r p = absurd r
 
@@ -131,6 +135,7 @@ pub never_0 : (failure : Failure) → status_of failure ≡ 0 → ⊥
 never_0 Words h = omega arith
 never_0 (NoModuleFile e) h = neither (malformed_status e) 3 12 0 (malformed_statuses e) (λ p. omega arith) (λ p. omega arith) h
 never_0 (NotModule f e) h = neither (fault_status e) 4 12 0 (fault_statuses e) (λ p. omega arith) (λ p. omega arith) h
+never_0 (PastLimit what) h = omega arith
 never_0 Reading h = omega arith
 never_0 Writing h = omega arith
 never_0 Saving h = omega arith
@@ -141,6 +146,7 @@ pub only_reading : (failure : Failure) → status_of failure ≡ 6 → failure �
 only_reading Words h = absurd (omega arith)
 only_reading (NoModuleFile e) h = absurd (neither (malformed_status e) 3 12 6 (malformed_statuses e) (λ p. omega arith) (λ p. omega arith) h)
 only_reading (NotModule f e) h = absurd (neither (fault_status e) 4 12 6 (fault_statuses e) (λ p. omega arith) (λ p. omega arith) h)
+only_reading (PastLimit what) h = absurd (omega arith)
 only_reading Reading h = refl
 only_reading Writing h = absurd (omega arith)
 only_reading Saving h = absurd (omega arith)
@@ -151,6 +157,7 @@ pub only_writing : (failure : Failure) → status_of failure ≡ 7 → failure �
 only_writing Words h = absurd (omega arith)
 only_writing (NoModuleFile e) h = absurd (neither (malformed_status e) 3 12 7 (malformed_statuses e) (λ p. omega arith) (λ p. omega arith) h)
 only_writing (NotModule f e) h = absurd (neither (fault_status e) 4 12 7 (fault_statuses e) (λ p. omega arith) (λ p. omega arith) h)
+only_writing (PastLimit what) h = absurd (omega arith)
 only_writing Reading h = absurd (omega arith)
 only_writing Writing h = refl
 only_writing Saving h = absurd (omega arith)
@@ -161,6 +168,7 @@ pub only_saving : (failure : Failure) → status_of failure ≡ 8 → failure �
 only_saving Words h = absurd (omega arith)
 only_saving (NoModuleFile e) h = absurd (neither (malformed_status e) 3 12 8 (malformed_statuses e) (λ p. omega arith) (λ p. omega arith) h)
 only_saving (NotModule f e) h = absurd (neither (fault_status e) 4 12 8 (fault_statuses e) (λ p. omega arith) (λ p. omega arith) h)
+only_saving (PastLimit what) h = absurd (omega arith)
 only_saving Reading h = absurd (omega arith)
 only_saving Writing h = absurd (omega arith)
 only_saving Saving h = refl
@@ -171,6 +179,7 @@ pub only_refused : (failure : Failure) → status_of failure ≡ 9 → (e : Resu
 only_refused Words h = absurd (omega arith)
 only_refused (NoModuleFile e) h = absurd (neither (malformed_status e) 3 12 9 (malformed_statuses e) (λ p. omega arith) (λ p. omega arith) h)
 only_refused (NotModule f e) h = absurd (neither (fault_status e) 4 12 9 (fault_statuses e) (λ p. omega arith) (λ p. omega arith) h)
+only_refused (PastLimit what) h = absurd (omega arith)
 only_refused Reading h = absurd (omega arith)
 only_refused Writing h = absurd (omega arith)
 only_refused Saving h = absurd (omega arith)
@@ -179,10 +188,10 @@ only_refused Memory h = absurd (omega arith)
 
 -- the statuses that there are
 abbrev IsKnown : ℕ → Type 0
-IsKnown n = (n ≡ 0) ⊎ (n ≡ 2) ⊎ (n ≡ 3) ⊎ (n ≡ 4) ⊎ (n ≡ 6) ⊎ (n ≡ 7) ⊎ (n ≡ 8) ⊎ (n ≡ 9) ⊎ (n ≡ 12)
+IsKnown n = (n ≡ 0) ⊎ (n ≡ 2) ⊎ (n ≡ 3) ⊎ (n ≡ 4) ⊎ (n ≡ 6) ⊎ (n ≡ 7) ⊎ (n ≡ 8) ⊎ (n ≡ 9) ⊎ (n ≡ 12) ⊎ (n ≡ 14)
 
 known_memory : (n : ℕ) → n ≡ 12 → IsKnown n
-known_memory n h = inr (inr (inr (inr (inr (inr (inr (inr h)))))))
+known_memory n h = inr (inr (inr (inr (inr (inr (inr (inr (inl h))))))))
 
 known_malformed : (n : ℕ) → (n ≡ 3) ⊎ (n ≡ 12) → IsKnown n
 known_malformed n (inl h) = inr (inr (inl h))
@@ -196,6 +205,7 @@ known_status : (failure : Failure) → IsKnown (status_of failure)
 known_status Words = inr (inl refl)
 known_status (NoModuleFile e) = known_malformed (malformed_status e) (malformed_statuses e)
 known_status (NotModule f e) = known_fault (fault_status e) (fault_statuses e)
+known_status (PastLimit what) = inr (inr (inr (inr (inr (inr (inr (inr (inr refl))))))))
 known_status Reading = inr (inr (inr (inr (inl refl))))
 known_status Writing = inr (inr (inr (inr (inr (inl refl)))))
 known_status Saving = inr (inr (inr (inr (inr (inr (inl refl))))))
@@ -207,6 +217,7 @@ module _ (words : List (List ℕ)) (left now : Option (List ℕ)) where
   refused Words p h = words_refused (command_of words) p.bytes (Err Words) refl p.holds
   refused (NoModuleFile e) p h = absurd (no_2 e h)
   refused (NotModule f e) p h = absurd (fault_no_2 e h)
+  refused (PastLimit what) p h = absurd (omega arith)
   refused Reading p h = absurd (omega arith)
   refused Writing p h = absurd (omega arith)
   refused Saving p h = absurd (omega arith)
@@ -217,6 +228,7 @@ module _ (words : List (List ℕ)) (left now : Option (List ℕ)) where
   malformed (NoModuleFile e) p h = (e, p)
   malformed Words p h = absurd (omega arith)
   malformed (NotModule f e) p h = absurd (fault_no_3 e h)
+  malformed (PastLimit what) p h = absurd (omega arith)
   malformed Reading p h = absurd (omega arith)
   malformed Writing p h = absurd (omega arith)
   malformed Saving p h = absurd (omega arith)
@@ -227,11 +239,23 @@ module _ (words : List (List ℕ)) (left now : Option (List ℕ)) where
   not_a_module (NotModule f e) p h = (f, e, p)
   not_a_module Words p h = absurd (omega arith)
   not_a_module (NoModuleFile e) p h = absurd (no_4 e h)
+  not_a_module (PastLimit what) p h = absurd (omega arith)
   not_a_module Reading p h = absurd (omega arith)
   not_a_module Writing p h = absurd (omega arith)
   not_a_module Saving p h = absurd (omega arith)
   not_a_module (SaveFile e) p h = absurd (omega arith)
   not_a_module Memory p h = absurd (omega arith)
+
+  pub too_great : (failure : Failure) → IsRunCauseFrom words left now failure → status_of failure ≡ 14 → (what : What) × IsAnswerFrom words left (Err (PastLimit what))
+  too_great (PastLimit what) p h = (what, p)
+  too_great Words p h = absurd (omega arith)
+  too_great (NoModuleFile e) p h = absurd (neither (malformed_status e) 3 12 14 (malformed_statuses e) (λ k. omega arith) (λ k. omega arith) h)
+  too_great (NotModule f e) p h = absurd (neither (fault_status e) 4 12 14 (fault_statuses e) (λ k. omega arith) (λ k. omega arith) h)
+  too_great Reading p h = absurd (omega arith)
+  too_great Writing p h = absurd (omega arith)
+  too_great Saving p h = absurd (omega arith)
+  too_great (SaveFile e) p h = absurd (omega arith)
+  too_great Memory p h = absurd (omega arith)
 
   -- words and input have a text where writing or the save file fails
   abbrev pub HasText : Failure → Type 0
@@ -247,6 +271,7 @@ module _ (words : List (List ℕ)) (left now : Option (List ℕ)) where
   refuses Words p w h = inl refl
   refuses (NoModuleFile e) p w h = let same = only_words words p.bytes (Err (NoModuleFile e)) h p.holds in absurd cc
   refuses (NotModule f e) p w h = let same = only_words words p.bytes (Err (NotModule f e)) h p.holds in absurd cc
+  refuses (PastLimit what) p w h = let same = only_words words p.bytes (Err (PastLimit what)) h p.holds in absurd cc
   refuses Reading p w h = absurd (subst (λ (c : Option Command). MatchOption c ⊥ Reads) h p)
   refuses Writing p w h = absurd (no_text w.0 w.1 h)
   refuses Saving p w h = absurd (no_text w.0 w.1 h)
@@ -262,6 +287,7 @@ module _ (words : List (List ℕ)) (left now : Option (List ℕ)) where
     malformed_comes Words e p w a = let same = told words left l (Err Words) (Err (NoModuleFile e)) tells p a in absurd cc
     malformed_comes (NoModuleFile d) e p w a = either3 (malformed_statuses d)
     malformed_comes (NotModule f d) e p w a = let same = told words left l (Err (NotModule f d)) (Err (NoModuleFile e)) tells p a in absurd cc
+    malformed_comes (PastLimit what) e p w a = let same = told words left l (Err (PastLimit what)) (Err (NoModuleFile e)) tells p a in absurd cc
     malformed_comes Reading e p w a = inr (inl refl)
     malformed_comes Writing e p w a = absurd (no_failure w.0 (NoModuleFile e) w.1 a)
     malformed_comes Saving e p w a = absurd (no_failure w.0 (NoModuleFile e) w.1 a)
@@ -272,11 +298,23 @@ module _ (words : List (List ℕ)) (left now : Option (List ℕ)) where
     no_module_comes Words g e p w a = let same = told words left l (Err Words) (Err (NotModule g e)) tells p a in absurd cc
     no_module_comes (NoModuleFile d) g e p w a = let same = told words left l (Err (NoModuleFile d)) (Err (NotModule g e)) tells p a in absurd cc
     no_module_comes (NotModule f d) g e p w a = either3 (fault_statuses d)
+    no_module_comes (PastLimit what) g e p w a = let same = told words left l (Err (PastLimit what)) (Err (NotModule g e)) tells p a in absurd cc
     no_module_comes Reading g e p w a = inr (inl refl)
     no_module_comes Writing g e p w a = absurd (no_failure w.0 (NotModule g e) w.1 a)
     no_module_comes Saving g e p w a = absurd (no_failure w.0 (NotModule g e) w.1 a)
     no_module_comes (SaveFile d) g e p w a = absurd (no_failure w.0 (NotModule g e) w.1 a)
     no_module_comes Memory g e p w a = inr (inr refl)
+
+    pub too_great_comes : (failure : Failure) (what : What) → IsRunCauseFrom words left now failure → HasText failure → IsAnswer words l (Err (PastLimit what)) → (status_of failure ≡ 14) ⊎ (status_of failure ≡ 6) ⊎ (status_of failure ≡ 12)
+    too_great_comes Words what p w a = let same = told words left l (Err Words) (Err (PastLimit what)) tells p a in absurd cc
+    too_great_comes (NoModuleFile d) what p w a = let same = told words left l (Err (NoModuleFile d)) (Err (PastLimit what)) tells p a in absurd cc
+    too_great_comes (NotModule f d) what p w a = let same = told words left l (Err (NotModule f d)) (Err (PastLimit what)) tells p a in absurd cc
+    too_great_comes (PastLimit other) what p w a = inl refl
+    too_great_comes Reading what p w a = inr (inl refl)
+    too_great_comes Writing what p w a = absurd (no_failure w.0 (PastLimit what) w.1 a)
+    too_great_comes Saving what p w a = absurd (no_failure w.0 (PastLimit what) w.1 a)
+    too_great_comes (SaveFile d) what p w a = absurd (no_failure w.0 (PastLimit what) w.1 a)
+    too_great_comes Memory what p w a = inr (inr refl)
 
 -- ---- a file that describes a module leaves no failure of its own
 
@@ -301,6 +339,7 @@ answerable_failure left (Some (Sphere common)) bytes a failure e all has p = sub
 answerable_failure left (Some (Resolve common)) bytes a failure e all has p = accepted_failure (IsChart common.range) left bytes a failure e all has p
 answerable_failure left (Some (Dump common)) bytes a failure e all has p = accepted_failure (IsDump common.range) left bytes a failure e all has p
 answerable_failure left (Some Check) bytes a failure e all has p = accepted_failure IsLineOn left bytes a failure e all has p
+answerable_failure left (Some (Build made)) bytes a failure e all has p = buildable_failure made left bytes a failure e all has p
 answerable_failure left (Some (Sample n common)) bytes a failure e all has p = subst (IsAnswerTo (Sample n common) bytes) e p
 answerable_failure left (Some (Sq numbers)) bytes a failure e all has p = subst (IsAnswerTo (Sq numbers) bytes) e p
 
@@ -309,6 +348,7 @@ pub complete : (words : List (List ℕ)) (left now : Option (List ℕ)) (failure
 complete words left now Words p r w s f has = absurd (answerable_failure left (command_of words) p.bytes (Err Words) Words refl p.all has p.holds)
 complete words left now (NoModuleFile e) p r w s f has = absurd (answerable_failure left (command_of words) p.bytes (Err (NoModuleFile e)) (NoModuleFile e) refl p.all has p.holds)
 complete words left now (NotModule g e) p r w s f has = absurd (answerable_failure left (command_of words) p.bytes (Err (NotModule g e)) (NotModule g e) refl p.all has p.holds)
+complete words left now (PastLimit what) p r w s f has = absurd (answerable_failure left (command_of words) p.bytes (Err (PastLimit what)) (PastLimit what) refl p.all has p.holds)
 complete words left now Reading p r w s f has = absurd (r refl)
 complete words left now Writing p r w s f has = absurd (w refl)
 complete words left now Saving p r w s f has = absurd (s refl)
@@ -326,6 +366,8 @@ status_of_failure words left now failure p w = record {
   malformed_comes = λ l e tells a. malformed_comes words left now l tells failure e p w a;
   no_module = not_a_module words left now failure p;
   no_module_comes = λ l f e tells a. no_module_comes words left now l tells failure f e p w a;
+  past_limit = too_great words left now failure p;
+  past_limit_comes = λ l what tells a. too_great_comes words left now l tells failure what p w a;
 }
 
 pub status_of_text : (words : List (List ℕ)) (left : Option (List ℕ)) (text : List ℕ) → IsAnswerFrom words left (Ok text) → IsStatusOf words left 0
@@ -337,4 +379,6 @@ status_of_text words left text p = record {
   malformed_comes = λ l e tells a. absurd (no_failure words left None l tells text (NoModuleFile e) p a);
   no_module = λ h. absurd (omega arith);
   no_module_comes = λ l f e tells a. absurd (no_failure words left None l tells text (NotModule f e) p a);
+  past_limit = λ h. absurd (omega arith);
+  past_limit_comes = λ l what tells a. absurd (no_failure words left None l tells text (PastLimit what) p a);
 }

@@ -9,7 +9,7 @@ use Rattle.ext_words.specs.declared.command.Command.{Command}
 use Rattle.ext_words.specs.declared.command.Command.TheVariants.{Sphere, Resolve, Dump, Check, Sample, Sq}
 use Rattle.ext_words.specs.declared.command.Common.{Common}
 use Rattle.ext_run.specs.declared.failure.Failure.{Failure}
-use Rattle.ext_run.specs.declared.failure.Failure.TheVariants.{Words, Malformed as NoModuleFile, NotModule, Reading, Writing, Saving, SaveFile, Memory}
+use Rattle.ext_run.specs.declared.failure.Failure.TheVariants.{Words, Malformed as NoModuleFile, NotModule, PastLimit, Reading, Writing, Saving, SaveFile, Memory}
 use Rattle.ext_words.specs.declared.command.WordsFault.{WordsFault}
 use Rattle.ext_words.specs.declared.command.WordsFault.TheVariants.{Words as Outside, Memory as NoSpace}
 use Rattle.ext_run.specs.Failure.{words_failure}
@@ -81,6 +81,7 @@ module _ (command : Command) (IsTextOf : SteenrodModule → List ℕ → Type 0)
   module_cause Words p = absurd p
   module_cause (NoModuleFile e) p = record { bytes = p.bytes; all = p.all; holds = on.answers p.bytes (Err (NoModuleFile e)) (no_file e p.holds) }
   module_cause (NotModule f e) p = record { bytes = p.0.bytes; all = p.0.all; holds = on.answers p.0.bytes (Err (NotModule f e)) (no_module f e p.0.holds p.1) }
+  module_cause (PastLimit what) p = absurd p
   module_cause Reading p = on.reads
   module_cause Writing p = absurd p
   module_cause Saving p = absurd p
@@ -106,6 +107,7 @@ pub words_cause : (words : List (List ℕ)) (left : Option (List ℕ)) (command 
 words_cause words left command Words e p = words_answer words left command (Err Words) e p
 words_cause words left command (NoModuleFile d) e p = words_answer words left command (Err (NoModuleFile d)) e p
 words_cause words left command (NotModule f d) e p = words_answer words left command (Err (NotModule f d)) e p
+words_cause words left command (PastLimit what) e p = words_answer words left command (Err (PastLimit what)) e p
 words_cause words left command Reading e p = words_read words command e p
 words_cause words left command Writing e p = absurd p
 words_cause words left command Saving e p = absurd p

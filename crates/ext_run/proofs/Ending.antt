@@ -5,7 +5,7 @@ use Rattle.edge.specs.Faults.{HasRisen}
 use Rattle.edge.specs.Source.{without_first, HasGivenUpTo}
 use Rattle.ext_run.specs.Failure.{status_of}
 use Rattle.ext_run.specs.declared.failure.Failure.{Failure}
-use Rattle.ext_run.specs.declared.failure.Failure.TheVariants.{Words, Malformed as NoModuleFile, NotModule, Reading, Writing, Saving, SaveFile, Memory}
+use Rattle.ext_run.specs.declared.failure.Failure.TheVariants.{Words, Malformed as NoModuleFile, NotModule, PastLimit, Reading, Writing, Saving, SaveFile, Memory}
 use Rattle.save_file.specs.declared.fault.ResumeFault.{ResumeFault}
 use Rattle.ext_run.specs.Input.{most_read}
 use Rattle.ext_run.specs.Answer.{IsAnswerFrom, WordsRead}
@@ -150,6 +150,7 @@ module _ (source out err : Device) (store : Store) (words : List (List ℕ)) (s 
   some_text answer there Words = tt
   some_text answer there (NoModuleFile e) = tt
   some_text answer there (NotModule f e) = tt
+  some_text answer there (PastLimit what) = tt
   some_text answer there Reading = tt
   some_text answer there Writing = (answer, there)
   some_text answer there Saving = (answer, there)

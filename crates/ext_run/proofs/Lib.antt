@@ -1,5 +1,6 @@
 mod AnswerExists
 mod AnswerUnique
+mod BuildAnswers
 mod Commands
 mod Continuing
 mod Joined

@@ -13,10 +13,10 @@ use Rattle.square.specs.declared.range.Range.{Range}
 use Rattle.save_file.specs.declared.fault.ResumeFault.{ResumeFault}
 use Rattle.ext_words.specs.declared.command.Common.{Common}
 use Rattle.ext_words.specs.declared.command.Command.{Command}
-use Rattle.ext_words.specs.declared.command.Command.TheVariants.{Sphere, Resolve, Dump, Check, Sample, Sq}
+use Rattle.ext_words.specs.declared.command.Command.TheVariants.{Sphere, Resolve, Dump, Check, Build, Sample, Sq}
 use Rattle.ext_words.specs.Words.{command_of}
 use Rattle.ext_run.specs.declared.failure.Failure.{Failure}
-use Rattle.ext_run.specs.declared.failure.Failure.TheVariants.{Words, Malformed as NoModuleFile, NotModule, Reading, Writing, Saving, SaveFile, Memory}
+use Rattle.ext_run.specs.declared.failure.Failure.TheVariants.{Words, Malformed as NoModuleFile, NotModule, PastLimit, Reading, Writing, Saving, SaveFile, Memory}
 use Rattle.ext_run.specs.declared.task.Task.{Task}
 use Rattle.ext_run.specs.declared.task.Task.TheVariants.{Text, Resolution}
 use Rattle.ext_run.specs.declared.task.Resolution.{Resolution as ToResolve}
@@ -43,6 +43,7 @@ same_of (Sphere common) b d m n same p q = p ∙ sym q
 same_of (Resolve common) b d m n same p q = same_module b d m n (same tt) p q
 same_of (Dump common) b d m n same p q = same_module b d m n (same tt) p q
 same_of Check b d m n same p q = same_module b d m n (same tt) p q
+same_of (Build made) b d m n same p q = absurd p
 same_of (Sample k common) b d m n same p q = p ∙ sym q
 same_of (Sq numbers) b d m n same p q = absurd p
 
@@ -68,6 +69,7 @@ answered_failure (Sphere common) b d m failure same p a = a
 answered_failure (Resolve common) b d m failure same p a = accepted_text (IsChart common.range) b (Err failure) failure (record { file = p.file; is_file = subst (λ (x : List ℕ). IsFileOf x (Ok p.file)) (sym (same tt)) p.is_file; no_refusal = p.no_refusal }) a refl
 answered_failure (Dump common) b d m failure same p a = accepted_text (IsDump common.range) b (Err failure) failure (record { file = p.file; is_file = subst (λ (x : List ℕ). IsFileOf x (Ok p.file)) (sym (same tt)) p.is_file; no_refusal = p.no_refusal }) a refl
 answered_failure Check b d m failure same p a = accepted_text IsLineOn b (Err failure) failure (record { file = p.file; is_file = subst (λ (x : List ℕ). IsFileOf x (Ok p.file)) (sym (same tt)) p.is_file; no_refusal = p.no_refusal }) a refl
+answered_failure (Build made) b d m failure same p a = p
 answered_failure (Sample k common) b d m failure same p a = a
 answered_failure (Sq numbers) b d m failure same p a = a
 
@@ -155,6 +157,7 @@ module _ (store : Store) (laws : Lawful store.now store.moment store.images stor
   early_refusal Words bytes m range cause unwritten tells p = absurd (saved_no_failure words left bytes m range Words tells p cause)
   early_refusal (NoModuleFile e) bytes m range cause unwritten tells p = absurd (saved_no_failure words left bytes m range (NoModuleFile e) tells p cause)
   early_refusal (NotModule f e) bytes m range cause unwritten tells p = absurd (saved_no_failure words left bytes m range (NotModule f e) tells p cause)
+  early_refusal (PastLimit what) bytes m range cause unwritten tells p = absurd (saved_no_failure words left bytes m range (PastLimit what) tells p cause)
   early_refusal Reading bytes m range cause unwritten tells p = inr (inl refl)
   early_refusal Writing bytes m range cause unwritten tells p = absurd (unwritten refl)
   early_refusal Saving bytes m range cause unwritten tells p = absurd cause
@@ -230,7 +233,8 @@ module _ (store : Store) (laws : Lawful store.now store.moment store.images stor
         not_early one (inl h) = not_one 2 one h (omega arith) (λ e. omega (arith, e))
         not_early one (inr (inl h)) = not_one 3 one h (omega arith) (λ e. omega (arith, e))
         not_early one (inr (inr (inl h))) = not_one 4 one h (omega arith) (λ e. omega (arith, e))
-        not_early one (inr (inr (inr h))) = not_one 6 one h (omega arith) (λ e. omega (arith, e))
+        not_early one (inr (inr (inr (inl h)))) = not_one 6 one h (omega arith) (λ e. omega (arith, e))
+        not_early one (inr (inr (inr (inr h)))) = not_one 14 one h (omega arith) (λ e. omega (arith, e))
 
         accepted_is_not_refused : (bytes file : List ℕ) (m : SteenrodModule) (range : Range) (e : ResumeFault) → (WordsRead words → left ≡ Some bytes) → store.now d ≡ Some file → IsSavedBy words bytes m range → standing_for m file ≡ Err e → ⊥
         accepted_is_not_refused bytes file m range e tells told p refusal =
@@ -259,11 +263,17 @@ module _ (store : Store) (laws : Lawful store.now store.moment store.images stor
         not_one (inr (inl a)) low = omega (arith, a, low)
         not_one (inr (inr a)) low = omega (arith, a, low)
 
+        not_14 : (status ≡ 8) ⊎ (status ≡ 9) ⊎ (status ≡ 12) → status ≡ 14 → ⊥
+        not_14 (inl a) h = omega (arith, a, h)
+        not_14 (inr (inl a)) h = omega (arith, a, h)
+        not_14 (inr (inr a)) h = omega (arith, a, h)
+
         not_early : (status ≡ 8) ⊎ (status ≡ 9) ⊎ (status ≡ 12) → IsEarly status → ⊥
         not_early one (inl h) = not_one one (omega (arith, h))
         not_early one (inr (inl h)) = not_one one (omega (arith, h))
         not_early one (inr (inr (inl h))) = not_one one (omega (arith, h))
-        not_early one (inr (inr (inr h))) = not_one one (omega (arith, h))
+        not_early one (inr (inr (inr (inl h)))) = not_one one (omega (arith, h))
+        not_early one (inr (inr (inr (inr h)))) = not_14 one h
 
         no_text : (status ≡ 8) ⊎ (status ≡ 9) ⊎ (status ≡ 12) → (status ≡ 0) ⊎ (status ≡ 7) → ⊥
         no_text one (inl h) = not_one one (omega (arith, h))
@@ -398,6 +408,7 @@ module _ (store : Store) (laws : Lawful store.now store.moment store.images stor
   early_cause Words d cause unwritten = record { cause = cause; has_text = tt; accepted = λ usable fault h. cc }
   early_cause (NoModuleFile e) d cause unwritten = record { cause = cause; has_text = tt; accepted = λ usable fault h. cc }
   early_cause (NotModule f e) d cause unwritten = record { cause = cause; has_text = tt; accepted = λ usable fault h. cc }
+  early_cause (PastLimit what) d cause unwritten = record { cause = cause; has_text = tt; accepted = λ usable fault h. cc }
   early_cause Reading d cause unwritten = record { cause = cause; has_text = tt; accepted = λ usable fault h. cc }
   early_cause Writing d cause unwritten = absurd (unwritten refl)
   early_cause Saving d cause unwritten = absurd cause

@@ -11,7 +11,7 @@ use Rattle.finite_module.specs.Sample.{sample_file}
 use Rattle.module_check.specs.declared.fault.CheckFault.{CheckFault}
 use Rattle.adem_laws.specs.Admissible.{value, IsAdmissibleForm}
 use Rattle.ext_words.specs.declared.command.Command.{Command}
-use Rattle.ext_words.specs.declared.command.Command.TheVariants.{Sphere, Resolve, Dump, Check, Sample, Sq}
+use Rattle.ext_words.specs.declared.command.Command.TheVariants.{Sphere, Resolve, Dump, Check, Build, Sample, Sq}
 use Rattle.ext_run.specs.declared.failure.Failure.{Failure}
 use Rattle.ext_run.specs.declared.failure.Failure.TheVariants.{Words, Malformed as NoModuleFile, NotModule}
 use Rattle.resolution_laws.specs.Resolution.{Content, IsCanonicalTable, generator_count}
@@ -25,6 +25,7 @@ use Rattle.ext_chart.specs.Product.{product_text}
 use Rattle.ext_chart.specs.Summary.{summary_text}
 use Rattle.ext_words.specs.Words.{command_of}
 use Rattle.ext_run.specs.Input.{IsOfInput, IsCauseOf, IsAccepted}
+use Rattle.ext_run.specs.Building.{IsBuildAnswer, IsBuildable}
 
 -- ---- the texts of a module
 
@@ -76,6 +77,7 @@ IsAnswerTo (Sphere common) bytes answer = IsOkAnd answer (IsChart common.range (
 IsAnswerTo (Resolve common) bytes answer = IsModuleAnswer (IsChart common.range) bytes answer
 IsAnswerTo (Dump common) bytes answer = IsModuleAnswer (IsDump common.range) bytes answer
 IsAnswerTo Check bytes answer = IsModuleAnswer IsLineOn bytes answer
+IsAnswerTo (Build made) bytes answer = IsBuildAnswer made bytes answer
 IsAnswerTo (Sample n common) bytes answer = IsOkAnd answer (IsSummary common.range (derived_module (sample_file n)))
 IsAnswerTo (Sq numbers) bytes answer = IsOkAnd answer (IsProduct numbers)
 
@@ -103,6 +105,7 @@ Reads (Sphere common) = ⊥
 Reads (Resolve common) = ⊤
 Reads (Dump common) = ⊤
 Reads Check = ⊤
+Reads (Build made) = ⊤
 Reads (Sample n common) = ⊥
 Reads (Sq numbers) = ⊥
 
@@ -116,12 +119,14 @@ IsCauseFrom words left failure = IsCauseOf (WordsRead words) ⊤ (λ f. IsAnswer
 abbrev pub IsCommandCauseFrom : Command → Option (List ℕ) → Failure → Type 0
 IsCommandCauseFrom command left failure = IsCauseOf (Reads command) ⊥ (λ f. IsCommandAnswerFrom command left (Err f)) failure
 
--- The command has the module that it needs: where it reads its input, that is told, and describes one.
+-- The command has what it needs: where it reads its input, that is told, and describes a module, or those that something is built of within
+-- the limits.
 abbrev pub HasModule : Option (List ℕ) → Command → Type 0
 HasModule left (Sphere common) = ⊤
 HasModule left (Resolve common) = MatchOption left ⊥ IsAccepted
 HasModule left (Dump common) = MatchOption left ⊥ IsAccepted
 HasModule left Check = MatchOption left ⊥ IsAccepted
+HasModule left (Build made) = MatchOption left ⊥ (IsBuildable made)
 HasModule left (Sample n common) = ⊤
 HasModule left (Sq numbers) = ⊤
 

@@ -17,6 +17,8 @@ use Rattle.finite_module.specs.Text.{name_at}
 use Rattle.module_check.specs.declared.fault.CheckFault.{CheckFault}
 use Rattle.module_check.specs.declared.fault.CheckFault.TheVariants.{Listed, Relation, Memory as NoMemory}
 use Rattle.finite_module.specs.Text.{newline}
+use Rattle.module_build.specs.declared.fault.BuildFault.{BuildFault}
+use Rattle.module_build.specs.declared.fault.BuildFault.TheVariants.{Limit as OfBuilt, Memory as NoRoomToBuild}
 use Rattle.save_journal.specs.declared.fault.OpenFault.{OpenFault}
 use Rattle.save_journal.specs.declared.fault.OpenFault.TheVariants.{Failed as OpenFailed, NotSave, Other, Damaged, Short, Memory as OpenMemory}
 use Rattle.save_file.specs.declared.fault.ResumeFault.{ResumeFault}
@@ -24,7 +26,7 @@ use Rattle.save_file.specs.declared.fault.ResumeFault.TheVariants.{Open, Strange
 use Rattle.ext_words.specs.declared.command.WordsFault.{WordsFault}
 use Rattle.ext_words.specs.declared.command.WordsFault.TheVariants.{Words as Outside, Memory as NoSpaceForWords}
 use Rattle.ext_run.specs.declared.failure.Failure.{Failure}
-use Rattle.ext_run.specs.declared.failure.Failure.TheVariants.{Words, Malformed as NoModuleFile, NotModule, Reading, Writing, Saving, SaveFile, Memory}
+use Rattle.ext_run.specs.declared.failure.Failure.TheVariants.{Words, Malformed as NoModuleFile, NotModule, PastLimit, Reading, Writing, Saving, SaveFile, Memory}
 
 abbrev pub what_text : What → List ℕ
 what_text Bytes = codes "bytes"
@@ -74,6 +76,10 @@ fault_line generators (Relation r s generator) =
     codes "ext: not a module: " ++ (sq_text r ++ (codes " " ++ (sq_text s ++ (codes " on " ++ (name_at generators generator ++ newline)))))
 fault_line generators NoMemory = memory_line
 
+-- the limit that a built module would pass
+abbrev pub built_line : What → List ℕ
+built_line what = codes "ext: built module: past the limit of " ++ (what_text what ++ newline)
+
 -- why a save file was not opened, and why it was not taken up
 abbrev pub open_line : OpenFault → List ℕ
 open_line OpenFailed = saving_line
@@ -95,6 +101,7 @@ line_of (SaveFile fault) = refusal_line fault
 line_of Words = codes "ext: words outside the command grammar\n"
 line_of (NoModuleFile malformed) = malformed_line malformed
 line_of (NotModule file fault) = fault_line file.generators fault
+line_of (PastLimit what) = built_line what
 line_of Reading = codes "ext: reading the module failed\n"
 line_of Writing = codes "ext: writing failed\n"
 line_of Memory = memory_line
@@ -111,6 +118,10 @@ read_failure NoSpace = Memory
 abbrev pub file_failure : Malformed → Failure
 file_failure NoRoom = Memory
 file_failure malformed = NoModuleFile malformed
+
+abbrev pub build_failure : BuildFault → Failure
+build_failure (OfBuilt what) = PastLimit what
+build_failure NoRoomToBuild = Memory
 
 abbrev pub resume_failure : ResumeFault → Failure
 resume_failure (Open OpenFailed) = Saving
@@ -132,6 +143,7 @@ status_of (SaveFile fault) = 9
 status_of Words = 2
 status_of (NoModuleFile malformed) = malformed_status malformed
 status_of (NotModule file fault) = fault_status fault
+status_of (PastLimit what) = 14
 status_of Reading = 6
 status_of Writing = 7
 status_of Memory = 12

@@ -1,4 +1,5 @@
 pub mod Input
+pub mod Building
 pub mod Answer
 pub mod Task
 pub mod Saving

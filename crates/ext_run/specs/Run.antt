@@ -7,8 +7,9 @@ use Rattle.edge.specs.Source.{without_first, HasGivenUpTo}
 use Rattle.edge.specs.Sink.{with_more, HasPrefixMore}
 use Rattle.module_json.specs.ModuleFile.{File}
 use Rattle.module_json.specs.declared.malformed.Malformed.{Malformed}
+use Rattle.module_json.specs.declared.malformed.What.{What}
 use Rattle.module_check.specs.declared.fault.CheckFault.{CheckFault}
-use Rattle.ext_run.specs.declared.failure.Failure.TheVariants.{Malformed as NoModuleFile, NotModule}
+use Rattle.ext_run.specs.declared.failure.Failure.TheVariants.{Malformed as NoModuleFile, NotModule, PastLimit}
 use Rattle.ext_words.specs.Words.{command_of}
 use Rattle.ext_run.specs.Input.{most_read}
 use Rattle.ext_run.specs.Answer.{IsAnswer, IsAnswerFrom, IsAnswerable, WordsRead}
@@ -17,7 +18,7 @@ use Rattle.ext_run.specs.Saving.{IsLineFrom}
 -- The status says what the words and the input are. Failed reads and want of memory may come before a refusal of the input.
 pub record IsStatusOf (words : List (List ℕ)) (left : Option (List ℕ)) (status : ℕ) : Type 0 where
   -- the statuses that there are
-  pub known : (status ≡ 0) ⊎ (status ≡ 2) ⊎ (status ≡ 3) ⊎ (status ≡ 4) ⊎ (status ≡ 6) ⊎ (status ≡ 7) ⊎ (status ≡ 8) ⊎ (status ≡ 9) ⊎ (status ≡ 12)
+  pub known : (status ≡ 0) ⊎ (status ≡ 2) ⊎ (status ≡ 3) ⊎ (status ≡ 4) ⊎ (status ≡ 6) ⊎ (status ≡ 7) ⊎ (status ≡ 8) ⊎ (status ≡ 9) ⊎ (status ≡ 12) ⊎ (status ≡ 14)
   -- 2: the words are outside the grammar
   pub refused : status ≡ 2 → command_of words ≡ None
   pub refuses : command_of words ≡ None → (status ≡ 2) ⊎ (status ≡ 12)
@@ -27,6 +28,9 @@ pub record IsStatusOf (words : List (List ℕ)) (left : Option (List ℕ)) (stat
   -- 4: it is one, and describes no module
   pub no_module : status ≡ 4 → (f : File) × (e : CheckFault) × IsAnswerFrom words left (Err (NotModule f e))
   pub no_module_comes : (l : List ℕ) (f : File) (e : CheckFault) → left ≡ Some l → IsAnswer words l (Err (NotModule f e)) → (status ≡ 4) ⊎ (status ≡ 6) ⊎ (status ≡ 12)
+  -- 14: what was to be built passes a limit
+  pub past_limit : status ≡ 14 → (what : What) × IsAnswerFrom words left (Err (PastLimit what))
+  pub past_limit_comes : (l : List ℕ) (what : What) → left ≡ Some l → IsAnswer words l (Err (PastLimit what)) → (status ≡ 14) ⊎ (status ≡ 6) ⊎ (status ≡ 12)
 
 -- What becomes of a source, by its trait's left and faults.
 pub record HasRead {S : Type 0} (left : S → Option (List ℕ)) (faults : S → ℕ) (words : List (List ℕ)) (status : ℕ) (old new : S) : Type 0 where
@@ -65,6 +69,6 @@ pub record HasReported {E : Type 0} (written : E → Option (List ℕ)) (faults 
   pub whole_line : status ≢ 0 → (HasRisen (faults old) (faults new) → ⊥) → (line : List ℕ) × IsLineFrom words left now status line × (written new ≡ with_more (written old) line)
   pub never_falls : faults old ≤ faults new
 
--- Words in the grammar, with a file that describes a module where one is read, have their answer, unless memory ends.
+-- Words in the grammar, with a file that describes what they need where one is read, have their answer, unless memory ends.
 abbrev pub IsComplete : List (List ℕ) → Option (List ℕ) → ℕ → Type 0
 IsComplete words left status = IsAnswerable words left → (status ≡ 0) ⊎ (status ≡ 12)

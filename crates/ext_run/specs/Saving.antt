@@ -17,7 +17,7 @@ use Rattle.save_file.specs.Files.{Standing, of_records}
 use Rattle.save_file.specs.declared.fault.ResumeFault.{ResumeFault}
 use Rattle.ext_words.specs.declared.command.Common.{Common}
 use Rattle.ext_words.specs.declared.command.Command.{Command}
-use Rattle.ext_words.specs.declared.command.Command.TheVariants.{Sphere, Resolve, Dump, Check, Sample, Sq}
+use Rattle.ext_words.specs.declared.command.Command.TheVariants.{Sphere, Resolve, Dump, Check, Build, Sample, Sq}
 use Rattle.ext_words.specs.Words.{command_of}
 use Rattle.ext_run.specs.Input.{IsOfInput}
 use Rattle.ext_run.specs.Answer.{WordsRead, IsCauseFrom}
@@ -33,6 +33,7 @@ options_of (Sphere common) = Some common
 options_of (Resolve common) = Some common
 options_of (Dump common) = Some common
 options_of Check = None
+options_of (Build made) = None
 options_of (Sample n common) = Some common
 options_of (Sq numbers) = None
 
@@ -55,6 +56,7 @@ IsModuleOf (Sphere common) bytes m = m ≡ derived_module sphere_file
 IsModuleOf (Resolve common) bytes m = IsModuleIn bytes m
 IsModuleOf (Dump common) bytes m = IsModuleIn bytes m
 IsModuleOf Check bytes m = IsModuleIn bytes m
+IsModuleOf (Build made) bytes m = ⊥
 IsModuleOf (Sample n common) bytes m = m ≡ derived_module (sample_file n)
 IsModuleOf (Sq numbers) bytes m = ⊥
 
@@ -141,7 +143,7 @@ IsUsable words left now images =
 
 -- the statuses before the save file's turn
 abbrev pub IsEarly : ℕ → Type 0
-IsEarly status = (status ≡ 2) ⊎ (status ≡ 3) ⊎ (status ≡ 4) ⊎ (status ≡ 6)
+IsEarly status = (status ≡ 2) ⊎ (status ≡ 3) ⊎ (status ≡ 4) ⊎ (status ≡ 6) ⊎ (status ≡ 14)
 
 -- What becomes of the disk of a run, by its trait's now, moment, images, since and faults.
 pub record HasSaved {D : Type 0} (now : D → Option (List ℕ)) (moment : D → ℕ) (images : D → List ℕ → Type 0) (since : D → ℕ → List ℕ → Type 0) (faults : D → ℕ) (words : List (List ℕ)) (left : Option (List ℕ)) (status : ℕ) (old new : D) : Type 0 where

@@ -40,7 +40,7 @@ pub struct Ended<D> {
 ///
 /// The status is 0 where the answer is written whole, 2 for words outside the grammar, 3 where what was read is no module
 /// file, 4 where it describes no module, 6 where reading failed, 7 where writing failed, 8 where the disk failed, 9 where what it
-/// holds is no save file of the module, and 12 where memory ended.
+/// holds is no save file of the module, 12 where memory ended, and 14 where what was to be built passes a limit.
 pub fn run<
     R,
     W: Threads + Wait + Clock + Sync,

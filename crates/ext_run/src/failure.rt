@@ -6,17 +6,19 @@ ghost use Rattle.finite_module.specs.Text.{name_at};
 ghost use Rattle.finite_module.specs.Text.{newline};
 ghost use Rattle.ext_run.specs.Parts.{part_text, parts_text};
 ghost use Rattle.ext_run.specs.declared.failure.Failure.TheVariants.{Memory as WantOfMemory};
-ghost use Rattle.ext_run.specs.Failure.{what_text, place_text, action_line, malformed_line, fault_line, open_line, refusal_line, line_of, status_of, malformed_status, fault_status, words_failure, read_failure, file_failure, resume_failure};
+ghost use Rattle.ext_run.specs.Failure.{what_text, place_text, action_line, malformed_line, fault_line, open_line, refusal_line, built_line, line_of, status_of, malformed_status, fault_status, words_failure, read_failure, file_failure, build_failure, resume_failure};
 
 use crate::writing::Part::{self, Digest, Nothing, Number, Square, Text};
 use crate::writing::{write_all, write_parts};
 use edge::{Failed, ReadFault, Sink};
 use ext_words::WordsFault;
 use memory::Memory;
+use module_build::BuildFault;
 use module_check::CheckFault;
 use module_json::{Malformed, Place, Spec, What, Why};
 use save_file::ResumeFault;
 use save_journal::OpenFault;
+use std::alloc::{AllocError, AllocFailed};
 
 /// Why a run has no answer.
 #[derive(Drop)]
@@ -27,6 +29,8 @@ pub enum Failure {
     Malformed(Malformed),
     /// The module file that was read describes no module.
     NotModule(Spec, CheckFault),
+    /// What was to be built has too much of this.
+    PastLimit(What),
     /// The module file could not be read.
     Reading,
     /// The answer could not be written.
@@ -43,6 +47,22 @@ impl From<Memory> for Failure {
     ghost from_gives = { λ _ failure. failure ≡ WantOfMemory };
 
     fn from(_: Memory) -> Self {
+        Failure::Memory
+    }
+}
+
+impl From<AllocError> for Failure {
+    ghost from_gives = { λ _ failure. failure ≡ WantOfMemory };
+
+    fn from(_: AllocError) -> Self {
+        Failure::Memory
+    }
+}
+
+impl<T: Drop> From<AllocFailed<T>> for Failure {
+    ghost from_gives = { λ _ failure. failure ≡ WantOfMemory };
+
+    fn from(_: AllocFailed<T>) -> Self {
         Failure::Memory
     }
 }
@@ -80,6 +100,17 @@ impl From<Malformed> for Failure {
     }
 }
 
+impl From<BuildFault> for Failure {
+    ghost from_gives = { λ fault failure. failure ≡ build_failure fault };
+
+    fn from(fault: BuildFault) -> Self {
+        match fault {
+            BuildFault::Limit { what } => Failure::PastLimit(what),
+            BuildFault::Memory => Failure::Memory,
+        }
+    }
+}
+
 impl From<ResumeFault> for Failure {
     ghost from_gives = { λ fault failure. failure ≡ resume_failure fault };
 
@@ -107,6 +138,7 @@ impl Failure {
             Failure::Malformed(_) => 3,
             Failure::NotModule(_, CheckFault::Memory) => 12,
             Failure::NotModule(_, _) => 4,
+            Failure::PastLimit(_) => 14,
             Failure::Reading => 6,
             Failure::Writing => 7,
             Failure::Saving => 8,
@@ -269,6 +301,16 @@ fn fault_line<'a>(spec: &'a Spec, fault: &'a CheckFault) -> Line<'a>
     }
 }
 
+/// The limit that what was to be built passes.
+fn built_line(what: What) -> Line<'static>
+    ensures { parts_text result ≡ built_line what }
+{
+    ended(
+        b"ext: built module: past the limit of ",
+        Text(what_text(what)),
+    )
+}
+
 /// Why a save file was not opened.
 fn open_line(fault: &OpenFault) -> Line<'_>
     ensures { parts_text result ≡ open_line fault.now }
@@ -329,6 +371,7 @@ fn write_line<E: Sink>(failure: &Failure, err: &mut E) -> Result<(), Failed>
         Failure::Words => write_all(err, b"ext: words outside the command grammar\n"),
         Failure::Malformed(malformed) => write_parts(err, &malformed_line(*malformed)),
         Failure::NotModule(spec, fault) => write_parts(err, &fault_line(spec, fault)),
+        Failure::PastLimit(what) => write_parts(err, &built_line(*what)),
         Failure::Reading => write_all(err, b"ext: reading the module failed\n"),
         Failure::Writing => write_all(err, b"ext: writing failed\n"),
         Failure::Saving => write_all(err, SAVING_LINE),

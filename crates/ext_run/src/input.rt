@@ -16,7 +16,7 @@ use std::alloc::Global;
 
 /// How many bytes are read at most: one past the greatest size of a module file, so that a longer file is seen to be one.
 #[tactic(auto, unfolding(crate::specs::Input::most_read))]
-fn most_read() -> usize
+pub(crate) fn most_read() -> usize
     ensures { result ≡ most_read }
 {
     MAX_FILE_BYTES + 1
@@ -37,7 +37,7 @@ fn read_file<S: Source>(alloc: Global, source: &mut S) -> Result<Spec, Failure>
 }
 
 /// The module that a file describes.
-fn module_of(alloc: Global, spec: Spec) -> Result<Module, Failure>
+pub(crate) fn module_of(alloc: Global, spec: Spec) -> Result<Module, Failure>
     ensures module { IfOk result (λ m. m.plain ≡ derived_module spec) }
     ensures accepted { OnOk result (refusal_of spec ≡ None) }
     ensures cause { IfErr result (λ failure. failure ≢ Failure.Memory → (e : Fault) × (failure ≡ Failure.NotModule spec e) × (refusal_of spec ≡ Some e)) }

@@ -11,8 +11,8 @@ pub fn answer_is_unique()
     adem_laws::admissible_basis();
 }
 
-/// All words have an answer to each input. If they read it, it is asked that the input is described: as a module file, or by
-/// its first refusal.
+/// All words have an answer to each input. If they read it, it is asked that the input has a value as JSON, or is refused as
+/// having none.
 pub fn answer_exists()
     ensures { AnswerExists }
 {

@@ -2,6 +2,7 @@
 #![tactic(auto)]
 
 mod answer;
+mod building;
 mod failure;
 mod input;
 mod laws;
@@ -10,7 +11,7 @@ mod texts;
 mod writing;
 
 pub use answer::{Ended, run, run_one};
-pub use ext_words::{Command, Common, WordsFault, parse};
+pub use ext_words::{Build, Command, Common, WordsFault, parse};
 pub use failure::{Failure, report};
 pub use laws::{answer_exists, answer_is_unique};
 pub use square::Range;

@@ -11,6 +11,7 @@ ghost use Rattle.ext_run.specs.Task.{IsTaskFor, IsTaskFrom, IsTaskWithin, IsSave
 ghost use Rattle.ext_run.specs.declared.failure.Failure as Failure;
 ghost use Rattle.ext_run.specs.declared.task.Task.TheVariants.{Resolution as ToResolve};
 
+use crate::building::built_text;
 use crate::failure::Failure;
 use crate::input::read_module;
 use edge::Source;
@@ -107,6 +108,7 @@ fn task_for<S: Source>(alloc: Global, command: Command, source: &mut S) -> Resul
             let module = read_module(alloc, source)?;
             Ok(Task::Text(module_line(alloc, &module)?))
         }
+        Command::Build(made) => Ok(Task::Text(built_text(alloc, made, source)?)),
         Command::Sample(n, common) => {
             let sample = Module::sample(alloc, n)?;
             Ok(to_resolve(sample, common, Form::Summary))

@@ -2,6 +2,8 @@
 #![tactic(auto)]
 
 #[cfg(test)]
+mod builds;
+#[cfg(test)]
 mod runs;
 #[cfg(test)]
 mod workers;

@@ -56,13 +56,14 @@ pub(crate) fn disk(
 }
 
 /// The module of one generator.
-const F2: &str = r#"{"type":"finite dimensional module","p":2,"gens":{"x0":0},"actions":[]}"#;
+pub(crate) const F2: &str =
+    r#"{"type":"finite dimensional module","p":2,"gens":{"x0":0},"actions":[]}"#;
 
 pub(crate) const C2: &str =
     r#"{"type":"finite dimensional module","p":2,"gens":{"x0":0,"x1":1},"actions":["Sq1 x0 = x1"]}"#;
 
 /// The module of no generator.
-const NONE: &str = r#"{"type":"finite dimensional module","gens":{}}"#;
+pub(crate) const NONE: &str = r#"{"type":"finite dimensional module","gens":{}}"#;
 
 /// The module of two generators of degree -1.
 const TWO: &str = r#"{"type":"finite dimensional module","gens":{"b":-1,"a":-1}}"#;
@@ -71,7 +72,7 @@ const F2_DUMP: &str =
     "d(0,0,0) = x0\nd(1,1,0) = Sq(1)*(0,0,0)\nd(1,2,0) = Sq(2)*(0,0,0)\nd(1,4,0) = Sq(4)*(0,0,0)\n";
 
 /// Compares the status, the text and the line that these words have with this module file.
-fn assert_answer<R: Abort + AllocGlobal>(
+pub(crate) fn assert_answer<R: Abort + AllocGlobal>(
     rt: &R,
     words: &[&str],
     file: &str,

@@ -1,238 +1,307 @@
--- The commands with S and T, and the one with N, S and T: what the matches give, and what the grammar gives.
-use Rattle.std.proofs.Common.{◌≡◌, ℕ, suc, refl, List, [], ◌∷◌, ◌++◌, Bool, true, false, Option, Some, None, ◌⊎◌, inl, inr, ap, sym, ◌∙◌}
-use Rattle.std.specs.Prelude.{codes, not, ◌||◌, ◌==◌, option_and_then, IfSome, if◌then◌else◌}
+-- Each command: what its matches give is what the grammar gives.
+use Rattle.std.proofs.Common.{◌≡◌, ℕ, refl, List, [], ◌∷◌, Bool, true, false, Option, Some, None, ap, ap₂, sym, subst, ◌∙◌}
+use Rattle.std.specs.Prelude.{codes, ◌&&◌, ◌==◌, option_map, option_and_then, IfSome, if◌then◌else◌}
 use Rattle.std.specs.List.{fold}
-use Rattle.clap.specs.Takes.{is_given}
-use Rattle.clap.specs.Walk.{Row, Rule, Text, walked, finished}
-use Rattle.clap.specs.declared.error.kind.ErrorKind.TheVariants.{TooManyValues}
+use Rattle.std.specs.Str.{bytes_eq}
+use Rattle.std.proofs.lemmas.Slice.Eq.{bytes_eq-Decides}
+use Rattle.clap.specs.Walk.{Row, Rule, Text, walked, finished, has_row}
 use Rattle.square.specs.declared.range.Range.{Range}
 use Rattle.square.specs.declared.range.TheConstants.{MAX_S, MAX_T}
-use Rattle.ext_words.specs.declared.command.TheConstants.{MAX_WORKERS}
 use Rattle.ext_words.specs.declared.command.Common.{Common}
 use Rattle.ext_words.specs.declared.command.Command.{Command}
-use Rattle.ext_words.specs.Words.{Part, plain, workers, save, parts_of, plain_words, worker_values, save_count, number_up_to, range_from, range_of, workers_of, save_of, common_from, common_of, seed_of, sample_from, sample_of}
-use Rattle.ext_words.specs.Inside.CommandLine.{common_in, seed_in}
-use Rattle.ext_words.proofs.ClapWords.{Fails, IsNoNumber}
-use Rattle.ext_words.proofs.ClapParts.{leaf, word_rule, workers_rule, save_rule, after_parts, IsWordOf, TakesOptions, Agrees, HasNoNumber}
-use Rattle.ext_words.proofs.ClapLevels.{start, rest_fault, Ends, has_dashes, follows}
-use Rattle.ext_words.proofs.ClapRows.{row_with, save_row, told-first, told-given, told-used, told-others, has-others}
-use Rattle.ext_words.proofs.ClapRange.{Told, values, saves, EndsWithRange, common-none, common-unkept, range-parts, with-workers, with-save, workers-first, workers-twice, save-first, save-twice, word-first}
+use Rattle.ext_words.specs.declared.command.Command.TheVariants.{Check, Build as Built, Sq}
+use Rattle.ext_words.specs.Words.{Part, is_in, plain_words, parts_of, value_of, is_among, each_once, number_up_to, range_from, range_of, workers_of, common_from, common_of, range_command_of, seed_of, sample_from, sample_of, sample_by, check_from, check_of, product_of, sq_from, sq_of, built_by, build_from, build_of, read_by, no_options, resolving}
+use Rattle.ext_words.specs.Inside.CommandLine.{has_stray, common_in, sample_in, product_in, build_in}
+use Rattle.ext_words.proofs.ClapWords.{Fails, Arguments, IsOption, IsFlag, Named, is_option, is_flag, is_unknown, option_rule, flag_rule}
+use Rattle.ext_words.proofs.ClapParts.{leaf, word_rule, after_parts, IsWordOf, IsCommand}
+use Rattle.ext_words.proofs.ClapLevels.{start, rest_fault, Ends, follows}
+use Rattle.ext_words.proofs.ClapUses.{uses, fits, IsKnown, Stand, AreNew, after-first, word_at, first-option, first-word, has-uses, known-parts}
 
 -- ---- the arguments of the commands
 
-abbrev pub range_rules : List Rule
-range_rules = word_rule 1 (codes "S") ∷ word_rule 2 (codes "T") ∷ workers_rule ∷ save_rule ∷ []
+abbrev pub range_arguments : Arguments
+range_arguments = record { rules = word_rule 1 (codes "S") ∷ word_rule 2 (codes "T") ∷ option_rule (codes "workers") ∷ flag_rule (codes "save") ∷ []; words = codes "S" ∷ codes "T" ∷ []; options = resolving }
 
-abbrev pub sample_rules : List Rule
-sample_rules = word_rule 1 (codes "N") ∷ word_rule 2 (codes "S") ∷ word_rule 3 (codes "T") ∷ workers_rule ∷ save_rule ∷ []
+abbrev pub sample_arguments : Arguments
+sample_arguments = record { rules = word_rule 1 (codes "N") ∷ word_rule 2 (codes "S") ∷ word_rule 3 (codes "T") ∷ option_rule (codes "workers") ∷ flag_rule (codes "save") ∷ []; words = codes "N" ∷ codes "S" ∷ codes "T" ∷ []; options = resolving }
 
-range-word : (first second : Bool) → IfSome (if first then Some (word_rule 1 (codes "S")) else if second then Some (word_rule 2 (codes "T")) else None) (IsWordOf range_rules)
-range-word true second = record { position = 1; id = codes "S"; is = refl; own = refl }
-range-word false true = record { position = 2; id = codes "T"; is = refl; own = refl }
-range-word false false = tt
+abbrev pub build_arguments : Arguments
+build_arguments = record { rules = word_rule 1 (codes "OP") ∷ option_rule (codes "degrees") ∷ []; words = codes "OP" ∷ []; options = record { valued = codes "degrees" ∷ []; flags = [] } }
 
-sample-word : (first second third : Bool) → IfSome (if first then Some (word_rule 1 (codes "N")) else if second then Some (word_rule 2 (codes "S")) else if third then Some (word_rule 3 (codes "T")) else None) (IsWordOf sample_rules)
-sample-word true second third = record { position = 1; id = codes "N"; is = refl; own = refl }
-sample-word false true third = record { position = 2; id = codes "S"; is = refl; own = refl }
-sample-word false false true = record { position = 3; id = codes "T"; is = refl; own = refl }
-sample-word false false false = tt
+abbrev pub sq_arguments : Arguments
+sq_arguments = record { rules = word_rule 1 (codes "W") ∷ []; words = codes "W" ∷ []; options = no_options }
 
-range_takes : TakesOptions range_rules
-range_takes = record {
-  others = record { no_long = λ name e f. rw (e, f) refl; no_value = λ text h. record { first = TooManyValues; others = []; is = refl }; no_short = λ x. refl };
-  long = refl;
-  own = refl;
-  long_save = refl;
-  words = λ position. range-word (1 == position) (2 == position);
+abbrev pub no_arguments : Arguments
+no_arguments = record { rules = []; words = []; options = no_options }
+
+-- ---- what a command has of a name
+
+-- an option of this name
+by-option : (c : Arguments) (known name : Text) → bytes_eq known name ≡ true → IsOption c known → Named c name
+by-option c known name same is = subst (λ (n : Text). Named c n) ((bytes_eq-Decides known name).0 same) (is_option is)
+
+by-flag : (c : Arguments) (known name : Text) → bytes_eq known name ≡ true → IsFlag c known → Named c name
+by-flag c known name same is = subst (λ (n : Text). Named c n) ((bytes_eq-Decides known name).0 same) (is_flag is)
+
+range-named : (name : Text) (workers save : Bool) → bytes_eq (codes "workers") name ≡ workers → bytes_eq (codes "save") name ≡ save → Named range_arguments name
+range-named name true save w s = by-option range_arguments (codes "workers") name w (record { by_long = refl; by_id = refl; listed = refl; no_word = refl })
+range-named name false true w s = by-flag range_arguments (codes "save") name s (record { by_long = refl; by_id = refl; unlisted = refl; listed = refl; no_word = refl })
+range-named name false false w s = is_unknown (rw (w, s) refl) (rw w refl) (rw s refl)
+
+sample-named : (name : Text) (workers save : Bool) → bytes_eq (codes "workers") name ≡ workers → bytes_eq (codes "save") name ≡ save → Named sample_arguments name
+sample-named name true save w s = by-option sample_arguments (codes "workers") name w (record { by_long = refl; by_id = refl; listed = refl; no_word = refl })
+sample-named name false true w s = by-flag sample_arguments (codes "save") name s (record { by_long = refl; by_id = refl; unlisted = refl; listed = refl; no_word = refl })
+sample-named name false false w s = is_unknown (rw (w, s) refl) (rw w refl) (rw s refl)
+
+build-named : (name : Text) (degrees : Bool) → bytes_eq (codes "degrees") name ≡ degrees → Named build_arguments name
+build-named name true d = by-option build_arguments (codes "degrees") name d (record { by_long = refl; by_id = refl; listed = refl; no_word = refl })
+build-named name false d = is_unknown (rw d refl) (rw d refl) refl
+
+-- ---- the words of the commands
+
+abbrev WordAt : Arguments → Option Rule → Type 0
+WordAt c found = IfSome found (IsWordOf c.rules)
+
+one-word : (c : Arguments) (first : Rule) → IsWordOf c.rules first → (here : Bool) → WordAt c (if here then Some first else None)
+one-word c first is true = is
+one-word c first is false = tt
+
+two-words : (c : Arguments) (first second : Rule) → IsWordOf c.rules first → IsWordOf c.rules second → (here next : Bool) → WordAt c (if here then Some first else if next then Some second else None)
+two-words c first second is is_second true next = is
+two-words c first second is is_second false next = one-word c second is_second next
+
+three-words : (c : Arguments) (first second third : Rule) → IsWordOf c.rules first → IsWordOf c.rules second → IsWordOf c.rules third → (here next last : Bool) →
+    WordAt c (if here then Some first else if next then Some second else if last then Some third else None)
+three-words c first second third is is_second is_third true next last = is
+three-words c first second third is is_second is_third false next last = two-words c second third is_second is_third next last
+
+pub is_range : IsCommand range_arguments
+is_range = record {
+  named = λ name. range-named name (bytes_eq (codes "workers") name) (bytes_eq (codes "save") name) refl refl;
+  at_position = λ position. two-words range_arguments _ _ (record { position = 1; id = codes "S"; is = refl; own = refl }) (record { position = 2; id = codes "T"; is = refl; own = refl }) (1 == position) (2 == position);
   no_defaults = refl;
+  none_lacking = λ rows. refl;
 }
 
-sample_takes : TakesOptions sample_rules
-sample_takes = record {
-  others = record { no_long = λ name e f. rw (e, f) refl; no_value = λ text h. record { first = TooManyValues; others = []; is = refl }; no_short = λ x. refl };
-  long = refl;
-  own = refl;
-  long_save = refl;
-  words = λ position. sample-word (1 == position) (2 == position) (3 == position);
+pub is_sample : IsCommand sample_arguments
+is_sample = record {
+  named = λ name. sample-named name (bytes_eq (codes "workers") name) (bytes_eq (codes "save") name) refl refl;
+  at_position = λ position. three-words sample_arguments _ _ _ (record { position = 1; id = codes "N"; is = refl; own = refl }) (record { position = 2; id = codes "S"; is = refl; own = refl }) (record { position = 3; id = codes "T"; is = refl; own = refl }) (1 == position) (2 == position) (3 == position);
   no_defaults = refl;
+  none_lacking = λ rows. refl;
 }
 
--- ---- the parts, as they are used
-
--- S, T and the options
-abbrev pub range_given : List Part → Option Common
-range_given parts = common_of (plain_words parts) parts
-
-range_ends : EndsWithRange range_rules 1 2 3 None (λ (common : Option Common). common) common_in
-range_ends = record {
-  is_s = refl;
-  is_t = refl;
-  is_past = refl;
-  after_s = refl;
-  after_t = refl;
-  lacking = λ rows told. refl;
-  none = refl;
-  reads = λ rows told. refl;
+pub is_build : IsCommand build_arguments
+is_build = record {
+  named = λ name. build-named name (bytes_eq (codes "degrees") name) refl;
+  at_position = λ position. one-word build_arguments _ (record { position = 1; id = codes "OP"; is = refl; own = refl }) (1 == position);
+  no_defaults = refl;
+  none_lacking = λ rows. refl;
 }
 
-untold : Told [] None None None None false
-untold = record { tells_n = refl; tells_s = refl; tells_t = refl; tells_workers = refl; tells_save = refl }
-
-range-level : (parts : List Part) → option_and_then common_in (after_parts range_rules [] 1 parts) ≡ range_given parts
-range-level parts = range-parts range_rules 1 2 3 None (λ (common : Option Common). common) common_in range_ends parts [] None false untold
-
--- N, S, T and the options
-abbrev pub sample_read : List Row → Option Command
-sample_read rows = sample_from (seed_in rows) (common_in rows)
-
-abbrev sample_by : List Text → List Text → ℕ → Option Command
-sample_by [] numbers count = None
-sample_by (n ∷ words) numbers count = sample_from (seed_of n) (common_from (range_of words) (workers_of numbers) (save_of count))
-
-abbrev pub sample_given : List Part → Option Command
-sample_given parts = sample_of (plain_words parts) parts
-
-sample-same : (words : List Text) (parts : List Part) → sample_by words (worker_values parts) (save_count parts) ≡ sample_of words parts
-sample-same [] parts = refl
-sample-same (n ∷ words) parts = refl
-
-no-common : (n : Option ℕ) → sample_from n None ≡ None
-no-common None = refl
-no-common (Some n) = refl
-
-sample-ends : (n : Text) → EndsWithRange sample_rules 2 3 4 (Some n) (sample_from (seed_of n)) sample_read
-sample-ends n = record {
-  is_s = refl;
-  is_t = refl;
-  is_past = refl;
-  after_s = refl;
-  after_t = refl;
-  lacking = λ rows told. ap (λ (b : Bool). not b || (not (is_given (codes "S") rows) || (not (is_given (codes "T") rows) || false))) (told-given (codes "N") rows (Some n) told);
-  none = no-common (seed_of n);
-  reads = λ rows told. ap (λ (o : Option Text). sample_from (option_and_then seed_of o) (common_in rows)) (told-first (codes "N") rows (Some n) told);
+pub is_sq : IsCommand sq_arguments
+is_sq = record {
+  named = λ name. is_unknown refl refl refl;
+  at_position = λ position. one-word sq_arguments _ (record { position = 1; id = codes "W"; is = refl; own = refl }) (1 == position);
+  no_defaults = refl;
+  none_lacking = λ rows. refl;
 }
 
-with-n : (rows : List Row) (n : Text) (count : Option Text) (saved : Bool) → Told rows None None None count saved → Told (rows ++ row_with (codes "N") n ∷ []) (Some n) None None count saved
-with-n rows n count saved told =
-    let r = row_with (codes "N") n in
-    record {
-      tells_n = told-used (codes "N") n rows refl told.tells_n;
-      tells_s = told-others r (codes "S") rows None refl told.tells_s;
-      tells_t = told-others r (codes "T") rows None refl told.tells_t;
-      tells_workers = told-others r (codes "workers") rows count refl told.tells_workers;
-      tells_save = has-others (codes "save") r rows saved refl told.tells_save;
-    }
+pub is_bare : IsCommand no_arguments
+is_bare = record {
+  named = λ name. is_unknown refl refl refl;
+  at_position = λ position. tt;
+  no_defaults = refl;
+  none_lacking = λ rows. refl;
+}
 
-sample-twice : (words : List Text) (first value : Text) (more : List Text) (count : ℕ) → None ≡ sample_by words (first ∷ value ∷ more) count
-sample-twice [] first value more count = refl
-sample-twice (n ∷ words) first value more count = sym (ap (sample_from (seed_of n)) (common-none (range_of words) (save_of count)) ∙ no-common (seed_of n))
-
-sample-saves : (words numbers : List Text) (count : ℕ) → None ≡ sample_by words numbers (suc (suc count))
-sample-saves [] numbers count = refl
-sample-saves (n ∷ words) numbers count = sym (ap (sample_from (seed_of n)) (common-unkept (range_of words) (workers_of numbers)) ∙ no-common (seed_of n))
-
-sample-parts : (parts : List Part) (rows : List Row) (count : Option Text) (saved : Bool) → Told rows None None None count saved →
-    option_and_then sample_read (after_parts sample_rules rows 1 parts) ≡ sample_by (plain_words parts) (values count ++ worker_values parts) (saves saved (save_count parts))
-sample-parts [] rows count saved told = ap (λ (b : Bool). option_and_then sample_read (if not b || (not (is_given (codes "S") rows) || (not (is_given (codes "T") rows) || false)) then None else Some rows)) (told-given (codes "N") rows None told.tells_n)
-sample-parts (plain n ∷ parts) rows count saved told =
-    word-first sample_rules sample_read rows 1 2 (codes "N") n parts refl refl told.tells_n
-    ∙ range-parts sample_rules 2 3 4 (Some n) (sample_from (seed_of n)) sample_read (sample-ends n) parts (rows ++ row_with (codes "N") n ∷ []) count saved (with-n rows n count saved told)
-sample-parts (workers value ∷ parts) rows None saved told =
-    workers-first sample_rules sample_read rows 1 value parts told.tells_workers ∙ sample-parts parts (rows ++ row_with (codes "workers") value ∷ []) (Some value) saved (with-workers rows None None None value saved told)
-sample-parts (workers value ∷ parts) rows (Some first) saved told =
-    workers-twice sample_rules sample_read rows 1 first value parts told.tells_workers ∙ sample-twice (plain_words parts) first value (worker_values parts) (saves saved (save_count parts))
-sample-parts (save ∷ parts) rows count false told =
-    save-first sample_rules sample_read rows 1 parts told.tells_save ∙ sample-parts parts (rows ++ save_row ∷ []) count true (with-save rows None None None count told)
-sample-parts (save ∷ parts) rows count true told =
-    save-twice sample_rules sample_read rows 1 parts told.tells_save ∙ sample-saves (plain_words parts) (values count ++ worker_values parts) (save_count parts)
-
-sample-level : (parts : List Part) → option_and_then sample_read (after_parts sample_rules [] 1 parts) ≡ sample_given parts
-sample-level parts = sample-parts parts [] None false untold ∙ sample-same (plain_words parts) parts
-
--- ---- parts of which one is no number
-
--- one of the texts is no number
-abbrev HasNone : List Text → Type 0
-HasNone [] = ⊥
-HasNone (word ∷ words) = IsNoNumber word ⊎ HasNone words
-
-sorted : (parts : List Part) → HasNoNumber parts → HasNone (plain_words parts) ⊎ HasNone (worker_values parts)
-sorted [] h = absurd h
-sorted (plain word ∷ parts) (inl none) = inl (inl none)
-sorted (plain word ∷ parts) (inr h) = elim (sorted parts h) [
-  | inl plain_one ↦ inl (inr plain_one)
-  | inr valued ↦ inr valued
-]
-sorted (workers word ∷ parts) (inl none) = inr (inl none)
-sorted (workers word ∷ parts) (inr h) = elim (sorted parts h) [
-  | inl plain_one ↦ inl plain_one
-  | inr valued ↦ inr (inr valued)
-]
-sorted (save ∷ parts) h = sorted parts h
-
-range-none : (s : Option ℕ) → range_from s None ≡ None
-range-none None = refl
-range-none (Some s) = refl
-
-no-range : (words : List Text) → HasNone words → range_of words ≡ None
-no-range [] h = absurd h
-no-range (s ∷ []) h = refl
-no-range (s ∷ t ∷ []) (inl none) = ap (λ (o : Option ℕ). range_from o (number_up_to MAX_T t)) (none.none MAX_S)
-no-range (s ∷ t ∷ []) (inr (inl none)) = ap (range_from (number_up_to MAX_S s)) (none.none MAX_T) ∙ range-none (number_up_to MAX_S s)
-no-range (s ∷ t ∷ []) (inr (inr h)) = absurd h
-no-range (s ∷ t ∷ u ∷ more) h = refl
-
-no-workers : (numbers : List Text) → HasNone numbers → workers_of numbers ≡ None
-no-workers [] h = absurd h
-no-workers (value ∷ []) (inl none) = ap (λ (o : Option ℕ). option_and_then (λ n. if n == 0 then None else Some n) o) (none.none MAX_WORKERS)
-no-workers (value ∷ []) (inr h) = absurd h
-no-workers (value ∷ more ∷ numbers) h = refl
-
-range-stray : (words numbers : List Text) (count : ℕ) → HasNone words ⊎ HasNone numbers → common_from (range_of words) (workers_of numbers) (save_of count) ≡ None
-range-stray words numbers count (inl h) = ap (λ (o : Option Range). common_from o (workers_of numbers) (save_of count)) (no-range words h)
-range-stray words numbers count (inr h) = ap (λ (o : Option ℕ). common_from (range_of words) o (save_of count)) (no-workers numbers h) ∙ common-none (range_of words) (save_of count)
-
-sample-stray : (words numbers : List Text) (count : ℕ) → HasNone words ⊎ HasNone numbers → sample_by words numbers count ≡ None
-sample-stray [] numbers count h = refl
-sample-stray (n ∷ words) numbers count (inl (inl none)) = ap (λ (o : Option ℕ). sample_from o (common_from (range_of words) (workers_of numbers) (save_of count))) none.no_seed
-sample-stray (n ∷ words) numbers count (inl (inr h)) = ap (sample_from (seed_of n)) (range-stray words numbers count (inl h)) ∙ no-common (seed_of n)
-sample-stray (n ∷ words) numbers count (inr h) = ap (sample_from (seed_of n)) (range-stray words numbers count (inr h)) ∙ no-common (seed_of n)
-
--- ---- the words behind the name
+-- ---- the words behind a name
 
 abbrev pub matches_after : List Rule → List Text → List Row
 matches_after rules words = finished rules (fold (walked rules []) start words).held
 
 -- `clap` refuses the words, which give nothing, or its matches give what the words do
-pub data ReadsLevel {X : Type 0} (name : Text) (rules : List Rule) (read : List Row → Option X) (given : Option X) (words : List Text) : Type 0 where
+pub data ReadsLevel (name : Text) (rules : List Rule) (read : List Row → Option Command) (given : Option Command) (words : List Text) : Type 0 where
   refuses : Fails (rest_fault (leaf name rules) start words) → given ≡ None → ReadsLevel name rules read given words
   reads : rest_fault (leaf name rules) start words ≡ [] → read (matches_after rules words) ≡ given → ReadsLevel name rules read given words
 
-pub ended : {X : Type 0} (name : Text) (rules : List Rule) (read : List Row → Option X) (given : Option X) (words : List Text) (rows : Option (List Row)) → Ends (leaf name rules) start words rows → option_and_then read rows ≡ given → ReadsLevel name rules read given words
+ended : (name : Text) (rules : List Rule) (read : List Row → Option Command) (given : Option Command) (words : List Text) (rows : Option (List Row)) → Ends (leaf name rules) start words rows → option_and_then read rows ≡ given → ReadsLevel name rules read given words
 ended name rules read given words None fails is = refuses fails (sym is)
 ended name rules read given words (Some rows) ends is = reads ends.0 (ap read ends.1 ∙ is)
 
-module _ {X : Type 0} (name : Text) (rules : List Rule) (read : List Row → Option X) (given : List Part → Option X) (level : (parts : List Part) → option_and_then read (after_parts rules [] 1 parts) ≡ given parts) (stray : (parts : List Part) → HasNoNumber parts → given parts ≡ None) where
-  by-parts : (taken : Option (List Part)) → option_and_then read (option_and_then (after_parts rules [] 1) taken) ≡ option_and_then given taken
-  by-parts None = refl
-  by-parts (Some parts) = level parts
+-- a command's words stand in their order, and what it makes of its parts is read of their rows
+pub record Makes (c : Arguments) (read : List Row → Option Command) (make : List Part → Option Command) : Type 0 where
+  pub command : IsCommand c
+  pub stand : Stand c 1 c.words
+  pub new : AreNew c [] c.words
+  pub too_many : (parts : List Part) → fits (plain_words parts) c.words ≡ false → make parts ≡ None
+  pub whole : (parts : List Part) → IsKnown c parts → fits (plain_words parts) c.words ≡ true → read (uses parts c.words) ≡ make parts
 
-  no-parts : (taken : Option (List Part)) → IfSome taken HasNoNumber → option_and_then given taken ≡ None
-  no-parts None h = refl
-  no-parts (Some parts) h = stray parts h
+module _ (c : Arguments) (read : List Row → Option Command) (make : List Part → Option Command) (makes : Makes c read make) where
+  by-rows : (parts : List Part) → IsKnown c parts → (once within : Bool) → fits (plain_words parts) c.words ≡ within → option_and_then read (if once && within then Some (uses parts c.words) else None) ≡ (if once then make parts else None)
+  by-rows parts known false within e = refl
+  by-rows parts known true false e = sym (makes.too_many parts e)
+  by-rows parts known true true e = makes.whole parts known e
 
-  agreed : (taken found : Option (List Part)) → Agrees taken found → option_and_then given taken ≡ option_and_then given found
-  agreed taken found (inl same) = ap (option_and_then given) same
-  agreed taken found (inr h) = no-parts taken h.1 ∙ sym (ap (option_and_then given) h.0)
+  by-parts : (taken : Option (List Part)) → IfSome taken (IsKnown c) → option_and_then read (option_and_then (after_parts c.rules [] 1) taken) ≡ option_and_then (λ parts. if each_once parts then make parts else None) taken
+  by-parts None known = refl
+  by-parts (Some parts) known =
+      ap (option_and_then read) (after-first c parts makes.stand makes.new known) ∙ by-rows parts known (each_once parts) (fits (plain_words parts) c.words) refl
 
-  pub reads-level : TakesOptions rules → (words : List Text) → has_dashes words ≡ false → ReadsLevel name rules read (option_and_then given (parts_of words)) words
-  reads-level takes words dashes =
-      let all = follows name rules takes words dashes in
-      ended name rules read (option_and_then given (parts_of words)) words (option_and_then (after_parts rules [] 1) all.taken) (all.goes [] None 1 refl) (by-parts all.taken ∙ agreed all.taken (parts_of words) all.agrees)
+  pub reads-level : (name : Text) (words : List Text) → has_stray words ≡ false → ReadsLevel name c.rules read (read_by c.options make words) words
+  reads-level name words kept =
+      let all = follows name c makes.command words kept in
+      ended name c.rules read (read_by c.options make words) words (option_and_then (after_parts c.rules [] 1) (parts_of c.options words)) (all.goes [] None 1 refl) (by-parts (parts_of c.options words) (known-parts c makes.command words kept))
 
-pub reads-range : (name : Text) (words : List Text) → has_dashes words ≡ false → ReadsLevel name range_rules common_in (option_and_then range_given (parts_of words)) words
-reads-range name words dashes = reads-level name range_rules common_in range_given range-level (λ parts h. range-stray (plain_words parts) (worker_values parts) (save_count parts) (sorted parts h)) range_takes words dashes
+-- ---- S, T and the options
 
-pub reads-sample : (words : List Text) → has_dashes words ≡ false → ReadsLevel (codes "sample") sample_rules sample_read (option_and_then sample_given (parts_of words)) words
-reads-sample words dashes =
-    reads-level (codes "sample") sample_rules sample_read sample_given sample-level (λ parts h. sym (sample-same (plain_words parts) parts) ∙ sample-stray (plain_words parts) (worker_values parts) (save_count parts) (sorted parts h)) sample_takes words dashes
+range-none : (s : Option ℕ) → range_from s None ≡ None
+range-none None = refl
+range-none (Some s) = refl
+
+-- what the words S and T say
+abbrev two_numbers : Option Text → Option Text → Option Range
+two_numbers s t = range_from (option_and_then (number_up_to MAX_S) s) (option_and_then (number_up_to MAX_T) t)
+
+two-words-read : (words : List Text) → fits words (codes "S" ∷ codes "T" ∷ []) ≡ true → two_numbers (word_at (codes "S") (codes "S" ∷ codes "T" ∷ []) words) (word_at (codes "T") (codes "S" ∷ codes "T" ∷ []) words) ≡ range_of words
+two-words-read [] e = refl
+two-words-read (s ∷ []) e = range-none (number_up_to MAX_S s)
+two-words-read (s ∷ t ∷ []) e = refl
+two-words-read (s ∷ t ∷ u ∷ words) e = absurd (cc)
+
+two-words-past : (words : List Text) → fits words (codes "S" ∷ codes "T" ∷ []) ≡ false → range_of words ≡ None
+two-words-past [] e = refl
+two-words-past (s ∷ []) e = refl
+two-words-past (s ∷ t ∷ []) e = absurd (cc)
+two-words-past (s ∷ t ∷ u ∷ words) e = refl
+
+-- what the matches give for the words S and T and the options
+common-told : (c : Arguments) → is_in c.words (codes "S") ≡ true → is_in c.words (codes "T") ≡ true → is_in c.words (codes "save") ≡ false → IsOption c (codes "workers") → (parts : List Part) → IsKnown c parts →
+    common_in (uses parts c.words) ≡ common_from (two_numbers (word_at (codes "S") c.words (plain_words parts)) (word_at (codes "T") c.words (plain_words parts))) (workers_of (value_of (codes "workers") parts)) (is_among (codes "save") parts)
+common-told c has_s has_t no_save workers parts known =
+    ap₂ (λ (range : Option Range) (count : Option ℕ). common_from range count (has_row (codes "save") (uses parts c.words)))
+    (ap₂ two_numbers (first-word c (codes "S") has_s parts known) (first-word c (codes "T") has_t parts known))
+    (ap workers_of (first-option c (codes "workers") workers parts known))
+    ∙ ap (common_from (two_numbers (word_at (codes "S") c.words (plain_words parts)) (word_at (codes "T") c.words (plain_words parts))) (workers_of (value_of (codes "workers") parts))) (has-uses (codes "save") parts c.words no_save)
+
+-- the common part of a command whose words are S and T
+module _ (c : Arguments) (two : c.words ≡ codes "S" ∷ codes "T" ∷ []) (workers : IsOption c (codes "workers")) where
+  pub common-read : (parts : List Part) → IsKnown c parts → fits (plain_words parts) c.words ≡ true → common_in (uses parts c.words) ≡ common_of (plain_words parts) parts
+  common-read parts known e =
+      let has_s = ap (λ (names : List Text). is_in names (codes "S")) two in
+      let has_t = ap (λ (names : List Text). is_in names (codes "T")) two in
+      let no_save = ap (λ (names : List Text). is_in names (codes "save")) two in
+      common-told c has_s has_t no_save workers parts known
+      ∙ ap (λ (range : Option Range). common_from range (workers_of (value_of (codes "workers") parts)) (is_among (codes "save") parts))
+      (ap (λ (names : List Text). two_numbers (word_at (codes "S") names (plain_words parts)) (word_at (codes "T") names (plain_words parts))) two ∙ two-words-read (plain_words parts) (sym (ap (fits (plain_words parts)) two) ∙ e))
+
+  pub common-past : (parts : List Part) → fits (plain_words parts) c.words ≡ false → common_of (plain_words parts) parts ≡ None
+  common-past parts e = ap (λ (range : Option Range). common_from range (workers_of (value_of (codes "workers") parts)) (is_among (codes "save") parts)) (two-words-past (plain_words parts) (sym (ap (fits (plain_words parts)) two) ∙ e))
+
+-- ---- the commands
+
+range_option : IsOption range_arguments (codes "workers")
+range_option = record { by_long = refl; by_id = refl; listed = refl; no_word = refl }
+
+pub makes_range : (make : Common → Command) → Makes range_arguments (λ rows. option_map make (common_in rows)) (range_command_of make)
+makes_range make = record {
+  command = is_range;
+  stand = (refl, (refl, refl));
+  new = (refl, refl, refl, (refl, refl, refl, tt));
+  too_many = λ parts e. ap (option_map make) (common-past range_arguments refl range_option parts e);
+  whole = λ parts known e. ap (option_map make) (common-read range_arguments refl range_option parts known e);
+}
+
+no-common : (n : Option ℕ) → sample_from n None ≡ None
+no-common None = refl
+no-common (Some n) = refl
+
+-- the names of the words of `sample`
+abbrev three : List Text
+three = codes "N" ∷ codes "S" ∷ codes "T" ∷ []
+
+three-words-read : (words : List Text) (parts : List Part) → fits words three ≡ true →
+    sample_from (option_and_then seed_of (word_at (codes "N") three words)) (common_from (two_numbers (word_at (codes "S") three words) (word_at (codes "T") three words)) (workers_of (value_of (codes "workers") parts)) (is_among (codes "save") parts)) ≡ sample_by words parts
+three-words-read [] parts e = refl
+three-words-read (n ∷ []) parts e = refl
+three-words-read (n ∷ s ∷ []) parts e = ap (λ (range : Option Range). sample_from (seed_of n) (common_from range (workers_of (value_of (codes "workers") parts)) (is_among (codes "save") parts))) (range-none (number_up_to MAX_S s))
+three-words-read (n ∷ s ∷ t ∷ []) parts e = refl
+three-words-read (n ∷ s ∷ t ∷ u ∷ words) parts e = absurd (cc)
+
+three-words-past : (words : List Text) (parts : List Part) → fits words three ≡ false → sample_by words parts ≡ None
+three-words-past [] parts e = refl
+three-words-past (n ∷ []) parts e = absurd (cc)
+three-words-past (n ∷ s ∷ []) parts e = absurd (cc)
+three-words-past (n ∷ s ∷ t ∷ []) parts e = absurd (cc)
+three-words-past (n ∷ s ∷ t ∷ u ∷ words) parts e = no-common (seed_of n)
+
+pub makes_sample : Makes sample_arguments sample_in sample_of
+makes_sample = record {
+  command = is_sample;
+  stand = (refl, (refl, (refl, refl)));
+  new = (refl, refl, refl, (refl, refl, refl, (refl, refl, refl, tt)));
+  too_many = λ parts e. three-words-past (plain_words parts) parts e;
+  whole = λ parts known e.
+      ap₂ (λ (n : Option Text) (common : Option Common). sample_from (option_and_then seed_of n) common) (first-word sample_arguments (codes "N") refl parts known)
+      (common-told sample_arguments refl refl refl (record { by_long = refl; by_id = refl; listed = refl; no_word = refl }) parts known)
+      ∙ three-words-read (plain_words parts) parts e;
+}
+
+check-past : (words : List Text) → fits words [] ≡ false → check_from words ≡ None
+check-past [] e = absurd (cc)
+check-past (word ∷ words) e = refl
+
+check-read : (words : List Text) → fits words [] ≡ true → Some Check ≡ check_from words
+check-read [] e = refl
+check-read (word ∷ words) e = absurd (cc)
+
+pub makes_check : Makes no_arguments (λ rows. Some Check) check_of
+makes_check = record {
+  command = is_bare;
+  stand = refl;
+  new = tt;
+  too_many = λ parts e. check-past (plain_words parts) e;
+  whole = λ parts known e. check-read (plain_words parts) e;
+}
+
+-- one word
+sq-past : (words : List Text) → fits words (codes "W" ∷ []) ≡ false → sq_from words ≡ None
+sq-past [] e = refl
+sq-past (word ∷ []) e = absurd (cc)
+sq-past (word ∷ more ∷ words) e = refl
+
+sq-read : (words : List Text) → fits words (codes "W" ∷ []) ≡ true → option_map Sq (option_and_then product_of (word_at (codes "W") (codes "W" ∷ []) words)) ≡ sq_from words
+sq-read [] e = refl
+sq-read (word ∷ []) e = refl
+sq-read (word ∷ more ∷ words) e = absurd (cc)
+
+pub makes_sq : Makes sq_arguments (λ rows. option_map Sq (product_in rows)) sq_of
+makes_sq = record {
+  command = is_sq;
+  stand = (refl, refl);
+  new = (refl, refl, refl, tt);
+  too_many = λ parts e. sq-past (plain_words parts) e;
+  whole = λ parts known e. ap (λ (word : Option Text). option_map Sq (option_and_then product_of word)) (first-word sq_arguments (codes "W") refl parts known) ∙ sq-read (plain_words parts) e;
+}
+
+build-past : (words : List Text) (degrees : Option Text) → fits words (codes "OP" ∷ []) ≡ false → build_from words degrees ≡ None
+build-past [] degrees e = refl
+build-past (word ∷ []) degrees e = absurd (cc)
+build-past (word ∷ more ∷ words) degrees e = refl
+
+build-read : (words : List Text) (degrees : Option Text) → fits words (codes "OP" ∷ []) ≡ true → option_map Built (option_and_then (λ word. built_by word degrees) (word_at (codes "OP") (codes "OP" ∷ []) words)) ≡ build_from words degrees
+build-read [] degrees e = refl
+build-read (word ∷ []) degrees e = refl
+build-read (word ∷ more ∷ words) degrees e = absurd (cc)
+
+pub makes_build : Makes build_arguments (λ rows. option_map Built (build_in rows)) build_of
+makes_build = record {
+  command = is_build;
+  stand = (refl, refl);
+  new = (refl, refl, refl, tt);
+  too_many = λ parts e. build-past (plain_words parts) (value_of (codes "degrees") parts) e;
+  whole = λ parts known e.
+      ap₂ (λ (word degrees : Option Text). option_map Built (option_and_then (λ op. built_by op degrees) word)) (first-word build_arguments (codes "OP") refl parts known)
+      (first-option build_arguments (codes "degrees") (record { by_long = refl; by_id = refl; listed = refl; no_word = refl }) parts known)
+      ∙ build-read (plain_words parts) (value_of (codes "degrees") parts) e;
+}

@@ -1,39 +1,38 @@
--- The matches of `clap` are those of the grammar, where no word is `--`.
+-- The matches of `clap` are those of the grammar, where no word is stray.
 use Rattle.std.proofs.Common.{◌≡◌, refl, List, [], ◌∷◌, Bool, true, false, Option, Some, None, ◌⊎◌, inl, inr, ap, sym, subst, ◌∙◌}
-use Rattle.std.specs.Prelude.{codes, option_map, option_and_then, is_some, length, drop, if◌then◌else◌, ◌≢◌}
+use Rattle.std.specs.Prelude.{codes, option_map, is_some, ◌≢◌}
 use Rattle.std.specs.List.{fold}
 use Rattle.std.specs.Str.{bytes_eq}
 use Rattle.std.proofs.lemmas.Slice.Eq.{bytes_eq-Decides}
 use Rattle.clap.specs.Lexer.{long_of}
-use Rattle.clap.specs.Walk.{Text, Names, Held, Step, idle, Walk, walked, subcommand_met, finished, settled, word_met, long_or_other}
+use Rattle.clap.specs.Walk.{Row, Text, Held, Step, idle, Walk, walked, subcommand_met, finished, settled, word_met, long_or_other}
 use Rattle.clap.specs.Simple.{App, Shape, entered, names_of, new_shape, subcommand_of}
 use Rattle.clap.specs.Kinds.{Kinds, or_else}
 use Rattle.clap.specs.Faults.{fault_of, walk_fault, defaults_fault, entered_fault, flag_word_fault, settle_fault, step_fault, turn_fault, word_fault, check_fault}
 use Rattle.clap.specs.declared.error.kind.ErrorKind.TheVariants.{UnknownArgument, InvalidSubcommand, MissingSubcommand}
 use Rattle.clap.proofs.WalkLemmas.{walk_stopped}
 use Rattle.clap.proofs.FaultLemmas.{stopped_fault}
-use Rattle.ext_words.specs.declared.command.Common.{Common}
 use Rattle.ext_words.specs.declared.command.Command.{Command}
-use Rattle.ext_words.specs.declared.command.Command.TheVariants.{Sphere, Resolve, Dump, Check}
-use Rattle.ext_words.specs.Words.{Part, plain, workers, save, with_next, with_word, begins_with, parts_of, check_of, command_from, command_of}
-use Rattle.ext_words.specs.Inside.CommandLine.{command_line, common_in, command_in}
-use Rattle.ext_words.proofs.ClapWords.{Fails, fails-first, fails-as, held, Passes, meets, is_plain, is_stray, is_refused, is_alone, is_joined, is_flag}
+use Rattle.ext_words.specs.declared.command.Command.TheVariants.{Sphere, Resolve, Dump, Check, Build as Built, Sq}
+use Rattle.ext_words.specs.Words.{Part, range_command_of, check_of, build_of, sample_of, sq_of, read_by, command_of}
+use Rattle.ext_words.specs.Inside.CommandLine.{is_stray, has_stray, command_line, common_in, build_in, sample_in, product_in, command_in}
+use Rattle.ext_words.proofs.ClapWords.{Fails, fails-first, fails-as, held, Arguments, Passes, no-dashes, meets, meets_plain, meets_none, meets_alone, meets_joined, meets_flag}
 use Rattle.ext_words.proofs.ClapParts.{settings, leaf}
-use Rattle.ext_words.proofs.ClapLevels.{start, rest_fault, has_dashes, first-plain}
-use Rattle.ext_words.proofs.ClapCommands.{range_rules, range_given, sample_rules, sample_read, matches_after, refuses, reads, reads-range, reads-sample}
-use Rattle.ext_words.proofs.ClapProduct.{sq_rules, sq_read, reads-product}
+use Rattle.ext_words.proofs.ClapLevels.{start, rest_fault, first-kept}
+use Rattle.ext_words.proofs.ClapCommands.{range_arguments, build_arguments, sample_arguments, sq_arguments, no_arguments, is_bare, matches_after, refuses, reads, Makes, reads-level, makes_range, makes_check, makes_build, makes_sample, makes_sq}
 
 -- ---- the command line as it is built
 
--- a command without arguments
-abbrev bare : Text → Bool → Bool → Shape
-bare name is_leaf needs_subcommand = settings (record (new_shape name) { is_leaf = is_leaf; subcommand_required = needs_subcommand })
-
+-- a command without arguments, which has others below it
 abbrev top : Shape
-top = bare (codes "ext") false true
+top = settings (record (new_shape (codes "ext")) { is_leaf = false; subcommand_required = true })
 
 abbrev ready : App
-ready = record { top = top; subs = leaf (codes "sphere") range_rules ∷ leaf (codes "resolve") range_rules ∷ leaf (codes "dump") range_rules ∷ leaf (codes "check") [] ∷ leaf (codes "sample") sample_rules ∷ leaf (codes "sq") sq_rules ∷ [] }
+ready = record {
+  top = top;
+  subs =
+      leaf (codes "sphere") range_arguments.rules ∷ leaf (codes "resolve") range_arguments.rules ∷ leaf (codes "dump") range_arguments.rules ∷ leaf (codes "check") no_arguments.rules ∷ leaf (codes "build") build_arguments.rules ∷ leaf (codes "sample") sample_arguments.rules ∷ leaf (codes "sq") sq_arguments.rules ∷ [];
+}
 
 -- `clap` refuses the words, which give no command, or its matches give the command
 pub data Reads (words : List Text) : Type 0 where
@@ -42,30 +41,26 @@ pub data Reads (words : List Text) : Type 0 where
 
 -- ---- words where there are no arguments
 
-flag-or-word : (word : Text) → bytes_eq word (45 ∷ 45 ∷ []) ≡ false → Fails (flag_word_fault [] false (long_of word) word (held [] None)) ⊎ Passes [] word
-flag-or-word word no_dashes = elim (meets [] (record { no_long = λ name e f. refl; no_value = λ text h. record { first = UnknownArgument; others = []; is = refl }; no_short = λ x. refl }) word no_dashes) [
-  | is_plain passes given ↦ inr passes
-  | is_stray passes none stray ↦ inr passes
-  | is_refused refused none ↦ inl (refused [] None)
-  | is_alone is ↦ inl (record { first = UnknownArgument; others = []; is = ap (λ (t : Text). flag_word_fault [] false (long_of t) t (held [] None)) is })
-  | is_joined text is ↦ inl (record { first = UnknownArgument; others = []; is = ap (λ (t : Text). flag_word_fault [] false (long_of t) t (held [] None)) is })
-  | is_flag is ↦ inl (record { first = UnknownArgument; others = []; is = ap (λ (t : Text). flag_word_fault [] false (long_of t) t (held [] None)) is })
+flag-or-word : (word : Text) → is_stray word ≡ false → Fails (flag_word_fault [] false (long_of word) word (held [] None)) ⊎ Passes [] word
+flag-or-word word kept = elim (meets no_arguments is_bare.named word kept) [
+  | meets_plain passes given ↦ inr passes
+  | meets_none refused given ↦ inl (refused [] None)
+  | meets_alone name is long given ↦ absurd (let bad = is.listed in cc)
+  | meets_joined name value is long given ↦ absurd (let bad = is.listed in cc)
+  | meets_flag name is long given ↦ absurd (let bad = is.listed in cc)
 ]
 
-stray : (is_leaf : Bool) → Fails (if is_leaf then UnknownArgument ∷ [] else UnknownArgument ∷ InvalidSubcommand ∷ [])
-stray true = record { first = UnknownArgument; others = []; is = refl }
-stray false = record { first = UnknownArgument; others = InvalidSubcommand ∷ []; is = refl }
-
-bare-fails : (name : Text) (is_leaf needs : Bool) (names : Names) (word : Text) → subcommand_met names idle word ≡ None → bytes_eq word (45 ∷ 45 ∷ []) ≡ false → Fails (turn_fault (bare name is_leaf needs) names start word)
-bare-fails name is_leaf needs names word unnamed no_dashes =
-    let s = bare name is_leaf needs in
+top-fails : (word : Text) → subcommand_met (names_of ready) idle word ≡ None → is_stray word ≡ false → Fails (turn_fault top (names_of ready) start word)
+top-fails word unnamed kept =
+    let dashes = no-dashes word kept in
+    let names = names_of ready in
     let h = held [] None in
-    let met : word_met [] names false idle 1 word h ≡ long_or_other [] idle word (long_of word) h = rw (unnamed, no_dashes) refl in
-    let fault : word_fault s names false idle word h ≡ flag_word_fault [] false (long_of word) word h = rw (unnamed, no_dashes) refl in
-    elim (flag-or-word word no_dashes) [
+    let met : word_met [] names false idle 1 word h ≡ long_or_other [] idle word (long_of word) h = rw (unnamed, dashes) refl in
+    let fault : word_fault top names false idle word h ≡ flag_word_fault [] false (long_of word) word h = rw (unnamed, dashes) refl in
+    elim (flag-or-word word kept) [
       | inl fails ↦ fails-first _ _ (fails-as _ _ fault fails)
-      | inr passes ↦ fails-as _ _ (ap (λ (k : Kinds). or_else k (step_fault s 1 (word_met [] names false idle 1 word h).0 (word_met [] names false idle 1 word h).1)) (fault ∙ passes.fault [] None)
-          ∙ ap (λ (m : Held × Step). step_fault s 1 m.0 m.1) (met ∙ passes.met idle [] None)) (stray is_leaf)
+      | inr passes ↦ fails-as _ _ (ap (λ (k : Kinds). or_else k (step_fault top 1 (word_met [] names false idle 1 word h).0 (word_met [] names false idle 1 word h).1)) (fault ∙ passes.fault [] None)
+          ∙ ap (λ (m : Held × Step). step_fault top 1 m.0 m.1) (met ∙ passes.met idle [] None)) (record { first = UnknownArgument; others = InvalidSubcommand ∷ []; is = refl })
     ]
 
 -- the walk over the words behind a command's name
@@ -92,96 +87,76 @@ named-fault name words =
     ap (λ (walking : Kinds). whole_fault walking (walk_behind name words)) (stopped_fault top (names_of ready) start (name, []) words)
     ∙ ap (λ (w : Walk). whole_fault [] w) (after-name name words)
 
--- ---- a command with the words S and T: its errors, its matches, and the command that the grammar gives
+-- ---- a command of this name: its errors, its matches, and what the grammar gives
 
-record IsRangeCommand (name : Text) (make : Common → Command) : Type 0 where
-  fault : (words : List Text) → fault_of command_line (name ∷ words) ≡ rest_fault (leaf name range_rules) start words
-  matches : (words : List Text) → command_in (subcommand_of command_line (name ∷ words)) ≡ option_map make (common_in (matches_after range_rules words))
-  given : (words : List Text) → command_of (name ∷ words) ≡ option_map make (option_and_then range_given (parts_of words))
+record IsNamed (name : Text) (c : Arguments) (read : List Row → Option Command) (make : List Part → Option Command) : Type 0 where
+  fault : (words : List Text) → fault_of command_line (name ∷ words) ≡ rest_fault (leaf name c.rules) start words
+  matches : (words : List Text) → command_in (subcommand_of command_line (name ∷ words)) ≡ read (matches_after c.rules words)
+  given : (words : List Text) → command_of (name ∷ words) ≡ read_by c.options make words
+  makes : Makes c read make
 
-made : (make : Common → Command) (parts : Option (List Part)) → option_and_then (λ p. option_map make (range_given p)) parts ≡ option_map make (option_and_then range_given parts)
-made make None = refl
-made make (Some parts) = refl
-
-is_sphere : IsRangeCommand (codes "sphere") Sphere
+is_sphere : IsNamed (codes "sphere") range_arguments (λ rows. option_map Sphere (common_in rows)) (range_command_of Sphere)
 unfolding walk_fault walked defaults_fault
 is_sphere = record {
-  fault = λ words. named-fault (codes "sphere") words ∙ or_else-nil (rest_fault (leaf (codes "sphere") range_rules) start words);
+  fault = λ words. named-fault (codes "sphere") words ∙ or_else-nil (rest_fault (leaf (codes "sphere") range_arguments.rules) start words);
   matches = λ words. ap (λ (w : Walk). command_in (entered ready w.stopped)) (after-name (codes "sphere") words);
-  given = λ words. made Sphere (parts_of words);
+  given = λ words. refl;
+  makes = makes_range Sphere;
 }
 
-is_resolve : IsRangeCommand (codes "resolve") Resolve
+is_resolve : IsNamed (codes "resolve") range_arguments (λ rows. option_map Resolve (common_in rows)) (range_command_of Resolve)
 unfolding walk_fault walked defaults_fault
 is_resolve = record {
-  fault = λ words. named-fault (codes "resolve") words ∙ or_else-nil (rest_fault (leaf (codes "resolve") range_rules) start words);
+  fault = λ words. named-fault (codes "resolve") words ∙ or_else-nil (rest_fault (leaf (codes "resolve") range_arguments.rules) start words);
   matches = λ words. ap (λ (w : Walk). command_in (entered ready w.stopped)) (after-name (codes "resolve") words);
-  given = λ words. made Resolve (parts_of words);
+  given = λ words. refl;
+  makes = makes_range Resolve;
 }
 
-is_dump : IsRangeCommand (codes "dump") Dump
+is_dump : IsNamed (codes "dump") range_arguments (λ rows. option_map Dump (common_in rows)) (range_command_of Dump)
 unfolding walk_fault walked defaults_fault
 is_dump = record {
-  fault = λ words. named-fault (codes "dump") words ∙ or_else-nil (rest_fault (leaf (codes "dump") range_rules) start words);
+  fault = λ words. named-fault (codes "dump") words ∙ or_else-nil (rest_fault (leaf (codes "dump") range_arguments.rules) start words);
   matches = λ words. ap (λ (w : Walk). command_in (entered ready w.stopped)) (after-name (codes "dump") words);
-  given = λ words. made Dump (parts_of words);
+  given = λ words. refl;
+  makes = makes_range Dump;
 }
 
--- ---- the command without words
-
-check-fault : (words : List Text) → fault_of command_line (codes "check" ∷ words) ≡ rest_fault (leaf (codes "check") []) start words
+is_check : IsNamed (codes "check") no_arguments (λ rows. Some Check) check_of
 unfolding walk_fault walked defaults_fault
-check-fault words = named-fault (codes "check") words ∙ or_else-nil (rest_fault (leaf (codes "check") []) start words)
+is_check = record {
+  fault = λ words. named-fault (codes "check") words ∙ or_else-nil (rest_fault (leaf (codes "check") no_arguments.rules) start words);
+  matches = λ words. ap (λ (w : Walk). command_in (entered ready w.stopped)) (after-name (codes "check") words);
+  given = λ words. refl;
+  makes = makes_check;
+}
 
-check-matches : (words : List Text) → command_in (subcommand_of command_line (codes "check" ∷ words)) ≡ Some Check
-unfolding walked
-check-matches words = ap (λ (w : Walk). command_in (entered ready w.stopped)) (after-name (codes "check") words)
-
-check-none : rest_fault (leaf (codes "check") []) start [] ≡ []
-unfolding walk_fault defaults_fault
-check-none = refl
-
-check-more : (word : Text) (words : List Text) → has_dashes (word ∷ words) ≡ false → Fails (rest_fault (leaf (codes "check") []) start (word ∷ words))
-unfolding walk_fault
-check-more word words dashes = fails-first _ _ (fails-first _ _ (bare-fails (codes "check") true false [] word refl (first-plain word words dashes).0))
-
-next-no-check : (parts : List Part) → option_and_then check_of (with_next workers parts) ≡ None
-next-no-check [] = refl
-next-no-check (plain word ∷ parts) = refl
-next-no-check (workers word ∷ parts) = refl
-next-no-check (save ∷ parts) = refl
-
-part-no-check : (word : Text) (parts : List Part) (alone joined flag hyphen : Bool) →
-    option_and_then check_of (if alone then with_next workers parts else if joined then Some (workers (drop (length (codes "--workers=")) word) ∷ parts) else if flag then Some (save ∷ parts) else if hyphen then None else Some (plain word ∷ parts)) ≡ None
-part-no-check word parts true joined flag hyphen = next-no-check parts
-part-no-check word parts false true flag hyphen = refl
-part-no-check word parts false false true hyphen = refl
-part-no-check word parts false false false true = refl
-part-no-check word parts false false false false = refl
-
-word-no-check : (word : Text) (parts : Option (List Part)) → option_and_then check_of (option_and_then (with_word word) parts) ≡ None
-word-no-check word None = refl
-word-no-check word (Some parts) = part-no-check word parts (bytes_eq (codes "--workers") word) (begins_with (codes "--workers=") word) (bytes_eq (codes "--save") word) (begins_with (codes "-") word)
-
--- ---- the command with the words N, S and T
-
-sample-fault : (words : List Text) → fault_of command_line (codes "sample" ∷ words) ≡ rest_fault (leaf (codes "sample") sample_rules) start words
+is_build : IsNamed (codes "build") build_arguments (λ rows. option_map Built (build_in rows)) build_of
 unfolding walk_fault walked defaults_fault
-sample-fault words = named-fault (codes "sample") words ∙ or_else-nil (rest_fault (leaf (codes "sample") sample_rules) start words)
+is_build = record {
+  fault = λ words. named-fault (codes "build") words ∙ or_else-nil (rest_fault (leaf (codes "build") build_arguments.rules) start words);
+  matches = λ words. ap (λ (w : Walk). command_in (entered ready w.stopped)) (after-name (codes "build") words);
+  given = λ words. refl;
+  makes = makes_build;
+}
 
-sample-matches : (words : List Text) → command_in (subcommand_of command_line (codes "sample" ∷ words)) ≡ sample_read (matches_after sample_rules words)
-unfolding walked
-sample-matches words = ap (λ (w : Walk). command_in (entered ready w.stopped)) (after-name (codes "sample") words)
-
--- ---- the command with the word W
-
-sq-fault : (words : List Text) → fault_of command_line (codes "sq" ∷ words) ≡ rest_fault (leaf (codes "sq") sq_rules) start words
+is_sample : IsNamed (codes "sample") sample_arguments sample_in sample_of
 unfolding walk_fault walked defaults_fault
-sq-fault words = named-fault (codes "sq") words ∙ or_else-nil (rest_fault (leaf (codes "sq") sq_rules) start words)
+is_sample = record {
+  fault = λ words. named-fault (codes "sample") words ∙ or_else-nil (rest_fault (leaf (codes "sample") sample_arguments.rules) start words);
+  matches = λ words. ap (λ (w : Walk). command_in (entered ready w.stopped)) (after-name (codes "sample") words);
+  given = λ words. refl;
+  makes = makes_sample;
+}
 
-sq-matches : (words : List Text) → command_in (subcommand_of command_line (codes "sq" ∷ words)) ≡ sq_read (matches_after sq_rules words)
-unfolding walked
-sq-matches words = ap (λ (w : Walk). command_in (entered ready w.stopped)) (after-name (codes "sq") words)
+is_sq : IsNamed (codes "sq") sq_arguments (λ rows. option_map Sq (product_in rows)) sq_of
+unfolding walk_fault walked defaults_fault
+is_sq = record {
+  fault = λ words. named-fault (codes "sq") words ∙ or_else-nil (rest_fault (leaf (codes "sq") sq_arguments.rules) start words);
+  matches = λ words. ap (λ (w : Walk). command_in (entered ready w.stopped)) (after-name (codes "sq") words);
+  given = λ words. refl;
+  makes = makes_sq;
+}
 
 -- ---- the words, by the first of them
 
@@ -189,69 +164,49 @@ reads-nothing : Reads []
 unfolding walk_fault defaults_fault
 reads-nothing = refused_words (record { first = MissingSubcommand; others = []; is = refl }) refl
 
-reads-numbers : (name : Text) (make : Common → Command) → IsRangeCommand name make → (words : List Text) → has_dashes words ≡ false → Reads (name ∷ words)
-reads-numbers name make command words dashes = elim (reads-range name words dashes) [
-  | refuses fails none ↦ refused_words (fails-as _ _ (command.fault words) fails) (command.given words ∙ ap (option_map make) none)
-  | reads passes is ↦ read_words (command.fault words ∙ passes) (command.matches words ∙ (ap (option_map make) is ∙ sym (command.given words)))
-]
-
-reads-check : (words : List Text) → has_dashes words ≡ false → Reads (codes "check" ∷ words)
-reads-check [] dashes = read_words (check-fault [] ∙ check-none) (check-matches [])
-reads-check (word ∷ words) dashes = refused_words (fails-as _ _ (check-fault (word ∷ words)) (check-more word words dashes)) (word-no-check word (parts_of words))
-
-reads-drawn : (words : List Text) → has_dashes words ≡ false → Reads (codes "sample" ∷ words)
-reads-drawn words dashes = elim (reads-sample words dashes) [
-  | refuses fails none ↦ refused_words (fails-as _ _ (sample-fault words) fails) none
-  | reads passes is ↦ read_words (sample-fault words ∙ passes) (sample-matches words ∙ is)
-]
-
-reads-squares : (words : List Text) → has_dashes words ≡ false → Reads (codes "sq" ∷ words)
-reads-squares words dashes = elim (reads-product words dashes) [
-  | refuses fails none ↦ refused_words (fails-as _ _ (sq-fault words) fails) none
-  | reads passes is ↦ read_words (sq-fault words ∙ passes) (sq-matches words ∙ is)
+reads-named : (name : Text) (c : Arguments) (read : List Row → Option Command) (make : List Part → Option Command) → IsNamed name c read make → (words : List Text) → has_stray words ≡ false → Reads (name ∷ words)
+reads-named name c read make is words kept = elim (reads-level c read make is.makes name words kept) [
+  | refuses fails none ↦ refused_words (fails-as _ _ (is.fault words) fails) (is.given words ∙ none)
+  | reads passes same ↦ read_words (is.fault words ∙ passes) (is.matches words ∙ (same ∙ sym (is.given words)))
 ]
 
 -- a first word that is no command
-other-command : (word : Text) → bytes_eq (codes "sphere") word ≡ false → bytes_eq (codes "resolve") word ≡ false → bytes_eq (codes "dump") word ≡ false → bytes_eq (codes "check") word ≡ false → bytes_eq (codes "sample") word ≡ false → bytes_eq (codes "sq") word ≡ false →
-    (parts : Option (List Part)) → option_and_then (command_from word) parts ≡ None
-other-command word sphere resolve dump check sample sq None = refl
-other-command word sphere resolve dump check sample sq (Some parts) = rw (sphere, resolve, dump, check, sample, sq) refl
-
-reads-other : (word : Text) (words : List Text) → bytes_eq word (45 ∷ 45 ∷ []) ≡ false → bytes_eq (codes "sphere") word ≡ false → bytes_eq (codes "resolve") word ≡ false → bytes_eq (codes "dump") word ≡ false → bytes_eq (codes "check") word ≡ false → bytes_eq (codes "sample") word ≡ false → bytes_eq (codes "sq") word ≡ false → Reads (word ∷ words)
+reads-other : (word : Text) (words : List Text) → is_stray word ≡ false → bytes_eq (codes "sphere") word ≡ false → bytes_eq (codes "resolve") word ≡ false → bytes_eq (codes "dump") word ≡ false → bytes_eq (codes "check") word ≡ false → bytes_eq (codes "build") word ≡ false → bytes_eq (codes "sample") word ≡ false → bytes_eq (codes "sq") word ≡ false → Reads (word ∷ words)
 unfolding walk_fault
-reads-other word words no_dashes sphere resolve dump check sample sq =
-    let unnamed : subcommand_met (names_of ready) idle word ≡ None = rw (sphere, resolve, dump, check, sample, sq) refl in
-    refused_words (fails-first _ _ (fails-first _ _ (bare-fails (codes "ext") false true (names_of ready) word unnamed no_dashes))) (other-command word sphere resolve dump check sample sq (parts_of words))
+reads-other word words kept is_no_1 is_no_2 is_no_3 is_no_4 is_no_5 is_no_6 is_no_7 =
+    let unnamed : subcommand_met (names_of ready) idle word ≡ None = rw (is_no_1, is_no_2, is_no_3, is_no_4, is_no_5, is_no_6, is_no_7) refl in
+    refused_words (fails-first _ _ (fails-first _ _ (top-fails word unnamed kept))) (rw (is_no_1, is_no_2, is_no_3, is_no_4, is_no_5, is_no_6, is_no_7) refl)
 
 -- a first word that is a command's name
 same-name : (name word : Text) (words : List Text) → bytes_eq name word ≡ true → Reads (name ∷ words) → Reads (word ∷ words)
 same-name name word words same = subst (λ (w : Text). Reads (w ∷ words)) ((bytes_eq-Decides name word).0 same)
 
-by-name : (word : Text) (words : List Text) (sphere resolve dump check sample sq : Bool) → bytes_eq (codes "sphere") word ≡ sphere → bytes_eq (codes "resolve") word ≡ resolve → bytes_eq (codes "dump") word ≡ dump → bytes_eq (codes "check") word ≡ check → bytes_eq (codes "sample") word ≡ sample → bytes_eq (codes "sq") word ≡ sq → bytes_eq word (45 ∷ 45 ∷ []) ≡ false → has_dashes words ≡ false → Reads (word ∷ words)
-by-name word words true resolve dump check sample sq s r d c x q no_dashes more = same-name (codes "sphere") word words s (reads-numbers (codes "sphere") Sphere is_sphere words more)
-by-name word words false true dump check sample sq s r d c x q no_dashes more = same-name (codes "resolve") word words r (reads-numbers (codes "resolve") Resolve is_resolve words more)
-by-name word words false false true check sample sq s r d c x q no_dashes more = same-name (codes "dump") word words d (reads-numbers (codes "dump") Dump is_dump words more)
-by-name word words false false false true sample sq s r d c x q no_dashes more = same-name (codes "check") word words c (reads-check words more)
-by-name word words false false false false true sq s r d c x q no_dashes more = same-name (codes "sample") word words x (reads-drawn words more)
-by-name word words false false false false false true s r d c x q no_dashes more = same-name (codes "sq") word words q (reads-squares words more)
-by-name word words false false false false false false s r d c x q no_dashes more = reads-other word words no_dashes s r d c x q
+by-name : (word : Text) (words : List Text) (b1 b2 b3 b4 b5 b6 b7 : Bool) → bytes_eq (codes "sphere") word ≡ b1 → bytes_eq (codes "resolve") word ≡ b2 → bytes_eq (codes "dump") word ≡ b3 → bytes_eq (codes "check") word ≡ b4 → bytes_eq (codes "build") word ≡ b5 → bytes_eq (codes "sample") word ≡ b6 → bytes_eq (codes "sq") word ≡ b7 → is_stray word ≡ false → has_stray words ≡ false → Reads (word ∷ words)
+by-name word words true b2 b3 b4 b5 b6 b7 e1 e2 e3 e4 e5 e6 e7 kept more = same-name (codes "sphere") word words e1 (reads-named (codes "sphere") _ _ _ is_sphere words more)
+by-name word words false true b3 b4 b5 b6 b7 e1 e2 e3 e4 e5 e6 e7 kept more = same-name (codes "resolve") word words e2 (reads-named (codes "resolve") _ _ _ is_resolve words more)
+by-name word words false false true b4 b5 b6 b7 e1 e2 e3 e4 e5 e6 e7 kept more = same-name (codes "dump") word words e3 (reads-named (codes "dump") _ _ _ is_dump words more)
+by-name word words false false false true b5 b6 b7 e1 e2 e3 e4 e5 e6 e7 kept more = same-name (codes "check") word words e4 (reads-named (codes "check") _ _ _ is_check words more)
+by-name word words false false false false true b6 b7 e1 e2 e3 e4 e5 e6 e7 kept more = same-name (codes "build") word words e5 (reads-named (codes "build") _ _ _ is_build words more)
+by-name word words false false false false false true b7 e1 e2 e3 e4 e5 e6 e7 kept more = same-name (codes "sample") word words e6 (reads-named (codes "sample") _ _ _ is_sample words more)
+by-name word words false false false false false false true e1 e2 e3 e4 e5 e6 e7 kept more = same-name (codes "sq") word words e7 (reads-named (codes "sq") _ _ _ is_sq words more)
+by-name word words false false false false false false false e1 e2 e3 e4 e5 e6 e7 kept more = reads-other word words kept e1 e2 e3 e4 e5 e6 e7
 
-pub clap-reads : (words : List Text) → has_dashes words ≡ false → Reads words
-clap-reads [] dashes = reads-nothing
-clap-reads (word ∷ words) dashes =
-    let parts = first-plain word words dashes in
-    by-name word words (bytes_eq (codes "sphere") word) (bytes_eq (codes "resolve") word) (bytes_eq (codes "dump") word) (bytes_eq (codes "check") word) (bytes_eq (codes "sample") word) (bytes_eq (codes "sq") word) refl refl refl refl refl refl parts.0 parts.1
+pub clap-reads : (words : List Text) → has_stray words ≡ false → Reads words
+clap-reads [] kept = reads-nothing
+clap-reads (word ∷ words) kept =
+    let parts = first-kept word words kept in
+    by-name word words (bytes_eq (codes "sphere") word) (bytes_eq (codes "resolve") word) (bytes_eq (codes "dump") word) (bytes_eq (codes "check") word) (bytes_eq (codes "build") word) (bytes_eq (codes "sample") word) (bytes_eq (codes "sq") word) refl refl refl refl refl refl refl parts.0 parts.1
 
 -- the matches of words that are taken give their command
-pub taken-reads : (words : List Text) → has_dashes words ≡ false → fault_of command_line words ≡ [] → command_in (subcommand_of command_line words) ≡ command_of words
-taken-reads words dashes taken = elim (clap-reads words dashes) [
+pub taken-reads : (words : List Text) → has_stray words ≡ false → fault_of command_line words ≡ [] → command_in (subcommand_of command_line words) ≡ command_of words
+taken-reads words kept taken = elim (clap-reads words kept) [
   | refused_words fails none ↦ absurd (let bad : [] ≡ fails.first ∷ fails.others = sym taken ∙ fails.is in cc)
   | read_words passes is ↦ is
 ]
 
 -- words that are refused give none
-pub refused-none : (words : List Text) → has_dashes words ≡ false → (fault_of command_line words ≢ []) → command_of words ≡ None
-refused-none words dashes refused = elim (clap-reads words dashes) [
+pub refused-none : (words : List Text) → has_stray words ≡ false → (fault_of command_line words ≢ []) → command_of words ≡ None
+refused-none words kept refused = elim (clap-reads words kept) [
   | refused_words fails none ↦ none
   | read_words passes is ↦ absurd (refused passes)
 ]

@@ -6,7 +6,7 @@ use Rattle.std.proofs.lemmas.Slice.Eq.{bytes_eq-Decides}
 use Rattle.clap.specs.Walk.{Row, Text}
 use Rattle.clap.specs.Words.{subcommand_name_of, subcommand_rows_of}
 use Rattle.clap.specs.declared.parser.matches.ArgMatches.{ArgMatches}
-use Rattle.ext_words.specs.Inside.CommandLine.{module_command, command_named}
+use Rattle.ext_words.specs.Inside.CommandLine.{command_named}
 
 -- ---- the name of matches, and their rows
 
@@ -33,11 +33,9 @@ differs : (a b : Text) (same : Bool) → bytes_eq a b ≡ same → (b ≢ a) →
 differs a b true e distinct = absurd (distinct (sym ((bytes_eq-Decides a b).0 e)))
 differs a b false e distinct = e
 
-pub not-sq : (name : Text) (rows : List Row) → (name ≢ codes "sq") → command_named name rows ≡ module_command name rows
-not-sq name rows distinct = rw (differs (codes "sq") name (bytes_eq (codes "sq") name) refl distinct) refl
-
--- a name that no command on a module has
-pub other-name : (name : Text) (rows : List Row) → (name ≢ codes "sphere") → (name ≢ codes "resolve") → (name ≢ codes "dump") → (name ≢ codes "check") → (name ≢ codes "sample") → module_command name rows ≡ None
-other-name name rows s r d c x =
+-- a name that no command has
+pub other-name : (name : Text) (rows : List Row) → (name ≢ codes "sphere") → (name ≢ codes "resolve") → (name ≢ codes "dump") → (name ≢ codes "check") → (name ≢ codes "build") → (name ≢ codes "sample") → (name ≢ codes "sq") →
+    command_named name rows ≡ None
+other-name name rows s r d c b x q =
     let other = λ (t : Text) (distinct : name ≢ t). differs t name (bytes_eq t name) refl distinct in
-    rw (other (codes "sphere") s, other (codes "resolve") r, other (codes "dump") d, other (codes "check") c, other (codes "sample") x) refl
+    rw (other (codes "sphere") s, other (codes "resolve") r, other (codes "dump") d, other (codes "check") c, other (codes "build") b, other (codes "sample") x, other (codes "sq") q) refl

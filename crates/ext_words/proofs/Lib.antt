@@ -1,12 +1,10 @@
 mod ClapCommands
 mod ClapLevels
 mod ClapParts
-mod ClapProduct
-mod ClapRange
 mod ClapReads
-mod ClapRows
+mod ClapUses
 mod ClapWords
 mod CommandNames
-mod Dashes
 mod Factors
-mod WordLimits
+mod Limits
+mod Strays

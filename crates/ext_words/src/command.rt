@@ -16,6 +16,9 @@ pub const MAX_SQUARES: usize = 16;
 /// The greatest degree of a product of squares, which is the sum of their numbers.
 pub const MAX_DEGREE: u16 = 127;
 
+/// The greatest number of degrees that a module is shifted by, up or down.
+pub const MAX_SHIFT: u16 = 256;
+
 /// What every command has that resolves a module.
 #[derive(Clone, Copy, Debug, PartialEq, Eq)]
 pub struct Common {
@@ -24,6 +27,19 @@ pub struct Common {
     pub workers: u32,
     /// Whether the squares are kept in the save file, and those that it has are taken up.
     pub save: bool,
+}
+
+/// What is built from the modules on standard input.
+#[derive(Clone, Copy, Debug, PartialEq, Eq)]
+pub enum Build {
+    /// `sum`: the direct sum of two modules.
+    Sum,
+    /// `tensor`: the tensor product of two modules.
+    Tensor,
+    /// `dual`: the dual of a module.
+    Dual,
+    /// `shift --degrees N`: a module whose degrees are N greater, from -`MAX_SHIFT` to `MAX_SHIFT`.
+    Shift(i32),
 }
 
 /// What the words of a command line ask for.
@@ -37,6 +53,8 @@ pub enum Command {
     Dump(Common),
     /// `check`: a line on the module on standard input.
     Check,
+    /// `build OP`: the file of the module that is built from those on standard input.
+    Build(Build),
     /// `sample N S T`: the summary of the resolution of the module that N draws.
     Sample(u32, Common),
     /// `sq W`: the product of these squares, in Milnor's basis and as a sum of admissible monomials.

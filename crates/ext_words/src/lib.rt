@@ -5,5 +5,7 @@ mod command;
 mod numbers;
 mod words;
 
-pub use command::{Command, Common, MAX_DEGREE, MAX_SQUARES, MAX_WORKERS, WordsFault};
+pub use command::{
+    Build, Command, Common, MAX_DEGREE, MAX_SHIFT, MAX_SQUARES, MAX_WORKERS, WordsFault,
+};
 pub use words::parse;

@@ -1,25 +1,25 @@
 //! The numbers that words say.
-ghost use Rattle.std.specs.Prelude.{◌≡◌, ◌+◌, ◌-◌, ◌*◌, ◌≤◌, ◌==◌, min, map, length, option_map, IfOk};
-ghost use Rattle.std.specs.List.{list_all, slice_split};
+ghost use Rattle.std.specs.Prelude.{◌≡◌, ◌+◌, ◌-◌, ◌*◌, ◌≤◌, min, length, option_map, IfOk};
+ghost use Rattle.std.specs.List.{list_all};
 ghost use Rattle.std.specs.Char.{is_ascii_digit};
-ghost use Rattle.ext_words.specs.Words.{number_up_to, positive_up_to, positive_numbers, product_of, is_short_number, is_long_number, seed_of, decimal_value, texts_of};
+ghost use Rattle.ext_words.specs.Words.{are_digits, decimal_value, number_of, signed_number_of, number_up_to, positive_up_to, shift_of, seed_of, between_commas, positive_numbers, product_of, texts_of};
 
-use crate::command::{MAX_DEGREE, MAX_SQUARES};
+use crate::command::{MAX_DEGREE, MAX_SHIFT, MAX_SQUARES};
 use memory::Memory;
 use sq_calc::Mono;
 use std::alloc::Global;
 
-fn are_digits(bytes: &[u8]) -> bool
+fn are_all_digits(bytes: &[u8]) -> bool
     ensures { result ≡ list_all is_ascii_digit bytes.now }
 {
     bytes.iter().all(|c| c.is_ascii_digit())
 }
 
-fn is_short_number(word: &str) -> bool
-    ensures { result ≡ is_short_number word.now }
+/// Whether bytes are decimal digits, from one to `most`.
+fn are_digits(most: usize, bytes: &[u8]) -> bool
+    ensures { result ≡ are_digits most bytes.now }
 {
-    let digits = word.as_bytes();
-    !digits.is_empty() && digits.len() <= 3 && are_digits(digits)
+    !bytes.is_empty() && bytes.len() <= most && are_all_digits(bytes)
 }
 
 /// The number that at most three digits say.
@@ -34,14 +34,32 @@ fn decimal_value(digits: &[u8]) -> u16
     value
 }
 
+/// The number of at most three digits.
+fn number_of(digits: &[u8]) -> Option<u16>
+    ensures { result ≡ number_of 3 digits.now }
+{
+    if are_digits(3, digits) {
+        Some(decimal_value(digits))
+    } else {
+        None
+    }
+}
+
+/// The number of at most three digits, below 0 where a hyphen stands in front of them.
+fn signed_number_of(word: &[u8]) -> Option<i32>
+    ensures { result ≡ signed_number_of word.now }
+{
+    match word {
+        [b'-', digits @ ..] => Some(-i32::from(number_of(digits)?)),
+        digits => Some(i32::from(number_of(digits)?)),
+    }
+}
+
 /// The number of a word, at most `limit`.
 pub fn number_up_to(limit: u16, word: &str) -> Option<u16>
     ensures { result ≡ number_up_to limit word.now }
 {
-    if !is_short_number(word) {
-        return None;
-    }
-    let value = decimal_value(word.as_bytes());
+    let value = number_of(word.as_bytes())?;
     if value <= limit { Some(value) } else { None }
 }
 
@@ -53,11 +71,17 @@ pub fn positive_up_to(limit: u16, word: &str) -> Option<u16>
     if value == 0 { None } else { Some(value) }
 }
 
-fn is_long_number(word: &str) -> bool
-    ensures { result ≡ is_long_number word.now }
+/// The number of degrees of a shift, from -`MAX_SHIFT` to `MAX_SHIFT`.
+pub fn shift_of(word: &str) -> Option<i32>
+    ensures { result ≡ shift_of word.now }
 {
-    let digits = word.as_bytes();
-    !digits.is_empty() && digits.len() <= 10 && are_digits(digits)
+    let degrees = signed_number_of(word.as_bytes())?;
+    let most = i32::from(MAX_SHIFT);
+    if -most <= degrees && degrees <= most {
+        Some(degrees)
+    } else {
+        None
+    }
 }
 
 /// The least number of more than 32 bits.
@@ -87,7 +111,7 @@ fn longer(value: u64, c: u8) -> u64
 pub fn seed_of(word: &str) -> Option<u32>
     ensures { result ≡ seed_of word.now }
 {
-    if !is_long_number(word) {
+    if !are_digits(10, word.as_bytes()) {
         return None;
     }
     let value = long_value(word.as_bytes());
@@ -99,8 +123,8 @@ pub fn seed_of(word: &str) -> Option<u32>
 }
 
 /// The texts between the commas of a word.
-fn texts_between_commas<'a>(alloc: Global, word: &'a str) -> Result<Vec<&'a str>, Memory>
-    ensures { IfOk result (λ texts. texts_of texts.items ≡ slice_split (λ c. c == 44) word.now) }
+fn between_commas<'a>(alloc: Global, word: &'a str) -> Result<Vec<&'a str>, Memory>
+    ensures { IfOk result (λ texts. texts_of texts.items ≡ between_commas word.now) }
 {
     Ok(word.split(',').collect(alloc)?)
 }
@@ -124,7 +148,7 @@ fn positive_numbers(alloc: Global, limit: u16, texts: &[&str]) -> Result<Option<
 pub fn product_of(alloc: Global, word: &str) -> Result<Option<Mono>, Memory>
     ensures { IfOk result (λ product. product ≡ product_of word.now) }
 {
-    let texts = texts_between_commas(alloc, word)?;
+    let texts = between_commas(alloc, word)?;
     let Some(numbers) = positive_numbers(alloc, MAX_DEGREE, texts.as_slice())? else {
         return Ok(None);
     };

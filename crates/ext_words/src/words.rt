@@ -1,19 +1,35 @@
 //! The command grammar.
-ghost use Rattle.std.specs.Prelude.{◌≡◌, ◌≢◌, ◌⊎◌, Some, None, [], Err, IfOk, IfSome, OnSome, IfNone, false};
+ghost use Rattle.std.specs.Prelude.{◌≡◌, ◌≢◌, ◌⊎◌, Some, None, [], Err, IfOk, IfSome, OnSome, IfNone, false, option_map};
 ghost use Rattle.clap.specs.Words.{app_of, fault_of, found_of, rows_of, subcommand_of, subcommand_rows_of};
+ghost use Rattle.std.specs.List.{list_any};
+ghost use Rattle.clap.specs.Simple.{with_rule};
+ghost use Rattle.clap.specs.Walk.{first_of};
 ghost use Rattle.clap.specs.declared.builder.command.Command.TheViews.{out-Command};
-ghost use Rattle.ext_words.specs.Inside.CommandLine.{with_options, range_command, command_line, number_in, workers_in, saves_in, common_in, seed_in, sample_command, product_in, sq_command, no_command, module_command, command_in};
+ghost use Rattle.ext_words.specs.Inside.CommandLine.{is_stray, option_named, with_options, range_command, build_command, module_commands, command_line, number_in, workers_in, saves_in, common_in, build_in, seed_in, sample_in, sample_command, product_in, sq_command, no_command, command_named, command_in};
 ghost use Rattle.ext_words.specs.declared.command.WordsFault as WordsFault;
-ghost use Rattle.ext_words.specs.Words.{texts_of, command_of, IsWithinLimits};
+ghost use Rattle.ext_words.specs.Words.{texts_of, built_by, command_of, IsWithinLimits};
 
-use crate::command::{Command, Common, MAX_WORKERS, WordsFault};
-use crate::numbers::{number_up_to, positive_up_to, product_of, seed_of};
+use crate::command::{Build, Command, Common, MAX_WORKERS, WordsFault};
+use crate::numbers::{number_up_to, positive_up_to, product_of, seed_of, shift_of};
 use clap::error::ErrorKind;
 use clap::{Arg, ArgAction, ArgMatches};
 use memory::Memory;
 use sq_calc::Mono;
 use square::{MAX_S, MAX_T, Range};
 use std::alloc::{AllocError, Global};
+
+/// The command with one more option, which has a value. No option and no word is marked as required: where one is missing, what
+/// reads it finds none.
+fn with_option<'a>(
+    alloc: Global,
+    command: clap::Command<'a>,
+    name: &'a str,
+) -> Result<clap::Command<'a>, AllocError>
+    ensures app { IfOk result (λ made. app_of made ≡ with_rule (app_of command.entry) (option_named name.now)) }
+    ensures local { (out-Command command.entry).has_globals ≡ false → IfOk result (λ made. (out-Command made).has_globals ≡ false) }
+{
+    command.arg(Arg::new(alloc, name).long(name))
+}
 
 /// The command with the options that all commands have that resolve a module.
 fn with_options<'a>(
@@ -27,9 +43,7 @@ fn with_options<'a>(
         .long("save")
         .action(ArgAction::Set)
         .num_args(0);
-    command
-        .arg(Arg::new(alloc, "workers").long("workers"))?
-        .arg(save)
+    with_option(alloc, command, "workers")?.arg(save)
 }
 
 /// A command with the words S and T, and with the options.
@@ -38,9 +52,18 @@ fn range_command<'a>(alloc: Global, name: &'a str) -> Result<clap::Command<'a>, 
     ensures local { IfOk result (λ command. (out-Command command).has_globals ≡ false) }
 {
     let command = clap::Command::new(alloc, name)
-        .arg(Arg::new(alloc, "S").required(true))?
-        .arg(Arg::new(alloc, "T").required(true))?;
+        .arg(Arg::new(alloc, "S"))?
+        .arg(Arg::new(alloc, "T"))?;
     with_options(alloc, command)
+}
+
+/// The command with the word OP and a number of degrees.
+fn build_command<'a>(alloc: Global) -> Result<clap::Command<'a>, AllocError>
+    ensures app { IfOk result (λ command. app_of command ≡ build_command) }
+    ensures local { IfOk result (λ command. (out-Command command).has_globals ≡ false) }
+{
+    let command = clap::Command::new(alloc, "build").arg(Arg::new(alloc, "OP"))?;
+    with_option(alloc, command, "degrees")
 }
 
 /// The command with the words N, S and T, and with the options.
@@ -49,9 +72,9 @@ fn sample_command<'a>(alloc: Global) -> Result<clap::Command<'a>, AllocError>
     ensures local { IfOk result (λ command. (out-Command command).has_globals ≡ false) }
 {
     let command = clap::Command::new(alloc, "sample")
-        .arg(Arg::new(alloc, "N").required(true))?
-        .arg(Arg::new(alloc, "S").required(true))?
-        .arg(Arg::new(alloc, "T").required(true))?;
+        .arg(Arg::new(alloc, "N"))?
+        .arg(Arg::new(alloc, "S"))?
+        .arg(Arg::new(alloc, "T"))?;
     with_options(alloc, command)
 }
 
@@ -60,7 +83,7 @@ fn sq_command<'a>(alloc: Global) -> Result<clap::Command<'a>, AllocError>
     ensures app { IfOk result (λ command. app_of command ≡ sq_command) }
     ensures local { IfOk result (λ command. (out-Command command).has_globals ≡ false) }
 {
-    clap::Command::new(alloc, "sq").arg(Arg::new(alloc, "W").required(true))
+    clap::Command::new(alloc, "sq").arg(Arg::new(alloc, "W"))
 }
 
 /// The command line without commands, and without `clap`'s help.
@@ -74,15 +97,23 @@ fn no_command<'a>(alloc: Global) -> clap::Command<'a>
         .subcommand_required(true)
 }
 
-/// All commands.
-fn command_line<'a>(alloc: Global) -> Result<clap::Command<'a>, AllocError>
-    ensures { IfOk result (λ command. app_of command ≡ command_line) }
+/// The commands that resolve a module on standard input, or the sphere.
+fn module_commands<'a>(alloc: Global) -> Result<clap::Command<'a>, AllocError>
+    ensures { IfOk result (λ command. app_of command ≡ module_commands) }
 {
     no_command(alloc)
         .subcommand(range_command(alloc, "sphere")?)?
         .subcommand(range_command(alloc, "resolve")?)?
-        .subcommand(range_command(alloc, "dump")?)?
+        .subcommand(range_command(alloc, "dump")?)
+}
+
+/// All commands.
+fn command_line<'a>(alloc: Global) -> Result<clap::Command<'a>, AllocError>
+    ensures { IfOk result (λ command. app_of command ≡ command_line) }
+{
+    module_commands(alloc)?
         .subcommand(clap::Command::new(alloc, "check"))?
+        .subcommand(build_command(alloc)?)?
         .subcommand(sample_command(alloc)?)?
         .subcommand(sq_command(alloc)?)
 }
@@ -100,18 +131,25 @@ fn matches_of<'a>(alloc: Global, words: &'a [&'a str]) -> Result<Option<ArgMatch
     }
 }
 
+/// The word, or the value of the option, that a command's matches have of this name.
+fn word_in<'m>(matches: &'m ArgMatches, id: &str) -> Option<&'m str>
+    ensures { option_map (λ word. word.now) result ≡ first_of id.now (rows_of (found_of matches.now)) }
+{
+    matches.get_str(id)
+}
+
 /// The number of a command's word, at most `limit`.
 fn number_in(matches: &ArgMatches, id: &str, limit: u16) -> Option<u16>
     ensures { result ≡ number_in (rows_of (found_of matches.now)) id.now limit }
 {
-    number_up_to(limit, matches.get_str(id)?)
+    number_up_to(limit, word_in(matches, id)?)
 }
 
 /// The number of workers of a command's matches, 1 where the option is not given.
 fn workers_in(matches: &ArgMatches) -> Option<u32>
     ensures { result ≡ workers_in (rows_of (found_of matches.now)) }
 {
-    match matches.get_str("workers") {
+    match word_in(matches, "workers") {
         Some(word) => Some(u32::from(positive_up_to(MAX_WORKERS, word)?)),
         None => Some(1),
     }
@@ -138,34 +176,66 @@ fn common_in(matches: &ArgMatches) -> Option<Common>
     })
 }
 
+/// What is built by the word OP and by the value of `--degrees`, which stands with `shift`, and there alone.
+fn built_by(word: &str, degrees: Option<&str>) -> Option<Build>
+    ensures { result ≡ built_by word.now (option_map (λ text. text.now) degrees.entry) }
+{
+    match degrees {
+        None => match word {
+            "sum" => Some(Build::Sum),
+            "tensor" => Some(Build::Tensor),
+            "dual" => Some(Build::Dual),
+            _ => None,
+        },
+        Some(degrees) if word == "shift" => Some(Build::Shift(shift_of(degrees)?)),
+        Some(_) => None,
+    }
+}
+
+/// What is built by the word OP of a command's matches.
+fn build_in(matches: &ArgMatches) -> Option<Build>
+    ensures { result ≡ build_in (rows_of (found_of matches.now)) }
+{
+    built_by(word_in(matches, "OP")?, word_in(matches, "degrees"))
+}
+
 /// The number N of a command's matches.
 fn seed_in(matches: &ArgMatches) -> Option<u32>
     ensures { result ≡ seed_in (rows_of (found_of matches.now)) }
 {
-    seed_of(matches.get_str("N")?)
+    seed_of(word_in(matches, "N")?)
+}
+
+/// The sample that a command's matches ask for.
+fn sample_in(matches: &ArgMatches) -> Option<Command>
+    ensures { result ≡ sample_in (rows_of (found_of matches.now)) }
+{
+    Some(Command::Sample(seed_in(matches)?, common_in(matches)?))
 }
 
 /// The product W of a command's matches.
 fn product_in(alloc: Global, matches: &ArgMatches) -> Result<Option<Mono>, Memory>
     ensures { IfOk result (λ product. product ≡ product_in (rows_of (found_of matches.now))) }
 {
-    match matches.get_str("W") {
+    match word_in(matches, "W") {
         Some(word) => product_of(alloc, word),
         None => Ok(None),
     }
 }
 
-/// The command on a module that has this name, with its matches.
-fn module_command(name: &str, matches: &ArgMatches) -> Option<Command>
-    ensures { result ≡ module_command name.now (rows_of (found_of matches.now)) }
+/// The command that has this name, with its matches.
+fn command_named(alloc: Global, name: &str, matches: &ArgMatches) -> Result<Option<Command>, Memory>
+    ensures { IfOk result (λ command. command ≡ command_named name.now (rows_of (found_of matches.now))) }
 {
     match name {
-        "sphere" => Some(Command::Sphere(common_in(matches)?)),
-        "resolve" => Some(Command::Resolve(common_in(matches)?)),
-        "dump" => Some(Command::Dump(common_in(matches)?)),
-        "check" => Some(Command::Check),
-        "sample" => Some(Command::Sample(seed_in(matches)?, common_in(matches)?)),
-        _ => None,
+        "sphere" => Ok(common_in(matches).map(Command::Sphere)),
+        "resolve" => Ok(common_in(matches).map(Command::Resolve)),
+        "dump" => Ok(common_in(matches).map(Command::Dump)),
+        "check" => Ok(Some(Command::Check)),
+        "build" => Ok(build_in(matches).map(Command::Build)),
+        "sample" => Ok(sample_in(matches)),
+        "sq" => Ok(product_in(alloc, matches)?.map(Command::Sq)),
+        _ => Ok(None),
     }
 }
 
@@ -173,21 +243,36 @@ fn module_command(name: &str, matches: &ArgMatches) -> Option<Command>
 fn command_in(alloc: Global, matches: &ArgMatches) -> Result<Option<Command>, Memory>
     ensures { IfOk result (λ command. command ≡ command_in (subcommand_rows_of matches.now)) }
 {
-    let Some((name, inner)) = matches.subcommand() else {
-        return Ok(None);
-    };
-    if name == "sq" {
-        return Ok(product_in(alloc, inner)?.map(Command::Sq));
+    match matches.subcommand() {
+        Some((name, inner)) => command_named(alloc, name, inner),
+        None => Ok(None),
     }
-    Ok(module_command(name, inner))
+}
+
+/// Whether a word begins with a hyphen and is no option. `clap` takes what follows `--` as it is, and some words behind one hyphen
+/// too; the grammar has none of them.
+fn is_stray(word: &str) -> bool
+    ensures { result ≡ is_stray word.now }
+{
+    match word.as_bytes() {
+        [b'-', b'-', _, ..] => false,
+        [b'-', ..] => true,
+        _ => false,
+    }
+}
+
+/// Whether a word among these is stray.
+fn has_stray(words: &[&str]) -> bool
+    ensures { result ≡ list_any (λ word. is_stray word.now) words.now }
+{
+    words.iter().any(|word| is_stray(word))
 }
 
 /// The command that the words give, none where they are outside the grammar.
 fn command_of(alloc: Global, words: &[&str]) -> Result<Option<Command>, Memory>
     ensures { IfOk result (λ command. command ≡ command_of (texts_of words.now)) }
 {
-    // `clap` takes what follows a word `--` as it is, and the grammar has no such word.
-    if words.contains(&"--") {
+    if has_stray(words) {
         return Ok(None);
     }
     match matches_of(alloc, words)? {

@@ -1,8 +1,8 @@
-//! The texts of a table of one square, and lines on modules, by hand.
+//! The texts of a table of one square, lines on modules, and sums of classes, by hand.
 ghost use Rattle.std.specs.Prelude.{◌≡◌, true, [], ◌∷◌, IfOk};
 ghost use Rattle.square.specs.Tables.{IsThrough};
 
-use ext_chart::{chart, check_line, dump, summary};
+use ext_chart::{ProductLine, bracket_lines, chart, check_line, dump, product_lines, summary};
 use f2_vec::BitVec;
 use finite_module::Module;
 use memory::Memory;
@@ -63,5 +63,63 @@ fn check_lines(rt: HostRuntime) -> Result<(), Fail> {
         let line = check_line(rt.alloc(), count, least, greatest)?;
         assert_eq!(rt; line.as_slice(), text.as_bytes());
     }
+    Ok(())
+}
+
+// The vector with these coordinates.
+fn vector(alloc: Global, bits: &[bool]) -> Result<BitVec, Memory> {
+    let mut v = BitVec::zero(alloc, 0)?;
+    for bit in bits {
+        v.push(*bit)?;
+    }
+    Ok(v)
+}
+
+#[test]
+fn writes_products(rt: HostRuntime) -> Result<(), Fail> {
+    let alloc = rt.alloc();
+    let mut lines = Vec::new(alloc);
+    lines.push(ProductLine {
+        s: 1,
+        t: 4,
+        i: 0,
+        target_s: 2,
+        target_t: 5,
+        value: vector(alloc, &[true])?,
+    })?;
+    lines.push(ProductLine {
+        s: 2,
+        t: -1,
+        i: 10,
+        target_s: 3,
+        target_t: 8,
+        value: vector(alloc, &[true, false, true])?,
+    })?;
+    lines.push(ProductLine {
+        s: 1,
+        t: 2,
+        i: 0,
+        target_s: 2,
+        target_t: 3,
+        value: vector(alloc, &[])?,
+    })?;
+    let text = product_lines(alloc, lines.as_slice())?;
+    let want = b"(1,4,0) -> (2,5,0)\n(2,-1,10) -> (3,8,0) + (3,8,2)\n(1,2,0) -> 0\n".as_slice();
+    assert_eq!(rt; text.as_slice(), want);
+    Ok(())
+}
+
+#[test]
+fn writes_brackets(rt: HostRuntime) -> Result<(), Fail> {
+    let alloc = rt.alloc();
+    let one = vector(alloc, &[true])?;
+    let none = vector(alloc, &[false])?;
+    let text = bracket_lines(alloc, 3, 11, &one, &[])?;
+    let want = b"value (3,11): (3,11,0)\nindeterminacy: 0\n".as_slice();
+    assert_eq!(rt; text.as_slice(), want);
+    let rows = vec![in alloc; one]?;
+    let text = bracket_lines(alloc, 3, 6, &none, rows.as_slice())?;
+    let want = b"value (3,6): 0\nindeterminacy: (3,6,0)\n".as_slice();
+    assert_eq!(rt; text.as_slice(), want);
     Ok(())
 }

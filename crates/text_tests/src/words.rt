@@ -1,5 +1,5 @@
 //! Words and what they ask for.
-use ext_words::{Command, Common, WordsFault, parse};
+use ext_words::{Build, Command, Common, WordsFault, parse};
 use sq_calc::Mono;
 use square::Range;
 use std::test::Fail;
@@ -85,6 +85,28 @@ fn parses(rt: HostRuntime) -> Result<(), Fail> {
 }
 
 #[test]
+fn parses_builds(rt: HostRuntime) -> Result<(), Fail> {
+    for (line, build) in [
+        ("build sum", Build::Sum),
+        ("build tensor", Build::Tensor),
+        ("build dual", Build::Dual),
+        ("build shift --degrees 3", Build::Shift(3)),
+        ("build --degrees 256 shift", Build::Shift(256)),
+        ("build --degrees=-256 shift", Build::Shift(-256)),
+        ("build shift --degrees=-007", Build::Shift(-7)),
+        ("build shift --degrees=-0", Build::Shift(0)),
+    ] {
+        let words: Vec<&str> = line.split(' ').collect(rt.alloc())?;
+        assert_eq!(rt;
+            parse(rt.alloc(), words.as_slice()),
+            Ok(Command::Build(build)),
+            "at {line}"
+        );
+    }
+    Ok(())
+}
+
+#[test]
 fn parses_products(rt: HostRuntime) -> Result<(), Fail> {
     let alloc = rt.alloc();
     let cases: [(&str, &[u16]); 6] = [
@@ -143,6 +165,26 @@ fn parses_nothing_else(rt: HostRuntime) -> Result<(), Fail> {
         "sphere 4 -- 8",
         "sphere 4 8 --",
         "-- sphere 4 8",
+        "sphere 4 8 --by 1,1,0",
+        "products 4 8 --by 1,1,0",
+        "products 4 8 --by=1,1,0",
+        "massey 3 8 --a=1,1,0 --b=1,1,0 --c=1,1,0",
+        "build",
+        "build product",
+        "build sum tensor",
+        "build sum --degrees 3",
+        "build shift",
+        "build shift --degrees",
+        "build shift --degrees -3",
+        "build shift --degrees=257",
+        "build shift --degrees=-257",
+        "build shift --degrees=0256",
+        "build shift --degrees=--3",
+        "build shift --degrees=+3",
+        "build shift --degrees 3 --degrees 3",
+        "build dual --save",
+        "build dual --workers 2",
+        "check --degrees 3",
         "--",
         "sph 4 8",
         "Sphere 4 8",

@@ -2,6 +2,7 @@ use Rattle.std.proofs.Common.{sym, subst, ◌∙◌}
 use Rattle.std.proofs.lemmas.Result.{err_from_is_err_and}
 use Rattle.ext_run.specs.declared.task.Form.TheVariants.{Chart, Differentials}
 use Rattle.ext_run.specs.Answer.{IsChart, IsDump, IsLineOn, IsProduct, IsCommandCauseFrom}
+use Rattle.ext_run.proofs.BuildAnswers.{build_answer, build_cause}
 use Rattle.ext_run.proofs.Commands.{resolve_on, dump_on, check_on, module_answer, module_cause, product_answer}
 use Rattle.ext_run.proofs.Tasks.{sphere_task, sample_task, module_task, sphere_saved, sample_saved, resolve_saved, dump_saved}
 use Rattle.ext_run.proofs.task.task_for.Goals as goal
@@ -69,3 +70,13 @@ returns-in_ok-sample-in-Sample-clause-saved g c =
 pub returns-in_ok-product_lines-in-Sq-clause-task : goal.returns-in_ok-product_lines-in-Sq-clause-task
 returns-in_ok-product_lines-in-Sq-clause-task g c = λ text is.
     product_answer c.in-Sq.squares c.args.command _ text c.in-Sq.is (subst (IsProduct c.in-Sq.squares) (sym is) c.in_ok-product_lines-in-Sq.ensures)
+
+pub returns-in_err-built_text-in-Build-clause-cause : goal.returns-in_err-built_text-in-Build-clause-cause
+returns-in_err-built_text-in-Build-clause-cause g c =
+    let p = err_from_is_err_and c.from_residual-in_err-built_text-in-Build.result c.from_residual-in_err-built_text-in-Build.ensures.1 in
+    let failure = c.in_err-built_text-in-Build.field-0.0 in
+    let cause : IsCommandCauseFrom c.args.command (g.S.Source.left c.args.source.now) failure = build_cause c.args.command c.in-Build.made _ failure c.in-Build.is c.in_err-built_text-in-Build.ensures.cause in
+    rw (p.1, p.2) cause
+
+pub returns-in_ok-built_text-in-Build-clause-task : goal.returns-in_ok-built_text-in-Build-clause-task
+returns-in_ok-built_text-in-Build-clause-task g c = λ text is. build_answer c.args.command c.in-Build.made _ c.in_ok-built_text-in-Build.field-0.items text c.in-Build.is is c.in_ok-built_text-in-Build.ensures.text

@@ -1,5 +1,5 @@
 use Rattle.ext_words.specs.Words.{texts_of}
-use Rattle.ext_words.proofs.WordLimits.{command-within, ok-within}
+use Rattle.ext_words.proofs.Limits.{command-within, ok-within}
 use Rattle.ext_words.proofs.words.parse.Goals as goal
 
 pub returns-clause-within : goal.returns-clause-within

@@ -1,6 +1,6 @@
 use Rattle.std.proofs.Common.{codes, ◌∙◌}
 use Rattle.clap.specs.Words.{found_of}
-use Rattle.ext_words.proofs.ClapRows.{matched-has}
+use Rattle.ext_words.proofs.ClapUses.{matched-has}
 use Rattle.ext_words.proofs.words.saves_in.Goals as goal
 
 pub returns : goal.returns

@@ -2,7 +2,7 @@ use Rattle.std.proofs.Common.{lit<, ap, ◌∙◌}
 use Rattle.std.proofs.lemmas.Iterator.{items_from_drains}
 use Rattle.std.proofs.lemmas.Iterator.Splits.{YieldsList-from_str_split}
 use Rattle.ext_words.specs.Words.{texts_of}
-use Rattle.ext_words.proofs.numbers.texts_between_commas.Goals as goal
+use Rattle.ext_words.proofs.numbers.between_commas.Goals as goal
 
 pub returns : goal.returns
 returns c =

@@ -1,8 +1,0 @@
-use Rattle.std.proofs.Common.{sym}
-use Rattle.clap.specs.Words.{found_of, rows_of}
-use Rattle.ext_words.proofs.CommandNames.{other-name}
-use Rattle.ext_words.proofs.words.module_command.Goals as goal
-
-pub returns-in_default : goal.returns-in_default
-returns-in_default c =
-    sym (other-name c.args.name.now (rows_of (found_of c.args.matches.now)) c.in_default.not-sphere c.in_default.not-resolve c.in_default.not-dump c.in_default.not-check c.in_default.not-sample)
