@@ -2,6 +2,7 @@
 use ext_words::{Build, Command, Common, WordsFault, parse};
 use sq_calc::Mono;
 use square::Range;
+use std::process::Abort;
 use std::test::Fail;
 
 /// What the words `0 7` ask for, with so many workers.
@@ -131,6 +132,17 @@ fn parses_products(rt: HostRuntime) -> Result<(), Fail> {
     Ok(())
 }
 
+/// That the words of the line, with a blank between two, are outside the grammar.
+fn assert_outside<R: Abort + AllocGlobal>(rt: &R, line: &str) -> Result<(), Fail> {
+    let words: Vec<&str> = line.split(' ').collect(rt.alloc())?;
+    assert_eq!(rt;
+        parse(rt.alloc(), words.as_slice()),
+        Err(WordsFault::Words),
+        "at {line}"
+    );
+    Ok(())
+}
+
 #[test]
 fn parses_nothing_else(rt: HostRuntime) -> Result<(), Fail> {
     assert_eq!(rt; parse(rt.alloc(), &[]), Err(WordsFault::Words));
@@ -148,15 +160,12 @@ fn parses_nothing_else(rt: HostRuntime) -> Result<(), Fail> {
         "sphere -4 8",
         "sphere - 8",
         "sphere 4 8 --save --save",
-        "sphere --save 4 8 --workers 2 --save",
         "sphere 4 8 --save=",
         "sphere 4 8 --save=1",
-        "sphere 4 8 --workers --save",
         "sphere 4 --save",
         "sphere 4 8 --sav",
         "sphere 4 8 --saved",
         "sphere 4 8 -save",
-        "check --save",
         "--save",
         "--save sphere 4 8",
         "sphere 4 8 -h",
@@ -166,6 +175,23 @@ fn parses_nothing_else(rt: HostRuntime) -> Result<(), Fail> {
         "sphere 4 8 --",
         "-- sphere 4 8",
         "sphere 4 8 --by 1,1,0",
+        "--",
+        "sph 4 8",
+        "Sphere 4 8",
+        "sphère 4 8",
+        "sphere ４ 8",
+        "sphere -é 8",
+        "4 8 sphere",
+    ] {
+        assert_outside(&rt, line)?;
+    }
+    Ok(())
+}
+
+#[test]
+fn parses_no_other_form_of_a_command(rt: HostRuntime) -> Result<(), Fail> {
+    for line in [
+        "check --save",
         "products 4 8 --by 1,1,0",
         "products 4 8 --by=1,1,0",
         "massey 3 8 --a=1,1,0 --b=1,1,0 --c=1,1,0",
@@ -183,15 +209,7 @@ fn parses_nothing_else(rt: HostRuntime) -> Result<(), Fail> {
         "build shift --degrees=+3",
         "build shift --degrees 3 --degrees 3",
         "build dual --save",
-        "build dual --workers 2",
         "check --degrees 3",
-        "--",
-        "sph 4 8",
-        "Sphere 4 8",
-        "sphère 4 8",
-        "sphere ４ 8",
-        "sphere -é 8",
-        "4 8 sphere",
         "resolve 1",
         "resolve 64 1",
         "dump",
@@ -234,9 +252,6 @@ fn parses_nothing_else(rt: HostRuntime) -> Result<(), Fail> {
         "sq 1,-1",
         "sq 1x",
         "sq １",
-        "sq 1 --workers 2",
-        "sq --workers=2 1",
-        "sq --workers 1",
         "sq 1 --save",
         "sq --save 1",
         "sq --save",
@@ -251,6 +266,21 @@ fn parses_nothing_else(rt: HostRuntime) -> Result<(), Fail> {
         "--help",
         "-h",
         "--version",
+    ] {
+        assert_outside(&rt, line)?;
+    }
+    Ok(())
+}
+
+#[test]
+fn parses_no_other_workers(rt: HostRuntime) -> Result<(), Fail> {
+    for line in [
+        "sphere --save 4 8 --workers 2 --save",
+        "sphere 4 8 --workers --save",
+        "build dual --workers 2",
+        "sq 1 --workers 2",
+        "sq --workers=2 1",
+        "sq --workers 1",
         "sphere 4 8 --workers 0",
         "sphere 4 8 --workers 65",
         "sphere 4 8 --workers 256",
@@ -297,12 +327,7 @@ fn parses_nothing_else(rt: HostRuntime) -> Result<(), Fail> {
         "check --workers=4",
         "help --workers 4",
     ] {
-        let words: Vec<&str> = line.split(' ').collect(rt.alloc())?;
-        assert_eq!(rt;
-            parse(rt.alloc(), words.as_slice()),
-            Err(WordsFault::Words),
-            "at {line}"
-        );
+        assert_outside(&rt, line)?;
     }
     Ok(())
 }
