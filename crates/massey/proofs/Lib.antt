@@ -1,4 +1,4 @@
-mod Clearing
+pub mod Clearing
 mod Refusals
 mod Through
 mod Values
@@ -6,7 +6,7 @@ mod Members
 mod Spanning
 mod Assembled
 mod Causes
-mod Units
+pub mod Units
 mod Positive
 mod Maps
 mod Composites

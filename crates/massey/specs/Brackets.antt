@@ -8,7 +8,7 @@ use Rattle.square.specs.declared.range.Range.{Range}
 use Rattle.square.specs.Squares.{over, bottom_of}
 use Rattle.square.specs.Tables.{Staircase, plain_rows, content_at, IsTable, IsThrough}
 use Rattle.lift_laws.specs.Lifts.{Resolution, IsSphere}
-use Rattle.lift_laws.specs.Products.{count_of, degree_of_class, coefficient_of, on_square, product_by}
+use Rattle.lift_laws.specs.Products.{Class as ClassAbove, count_of, degree_of_class, coefficient_of, on_square, product_by}
 use Rattle.bracket_laws.specs.Brackets.{IsNullHomotopy, composed, top_of, IsBracketMember, IsIndeterminacy}
 use Rattle.chain_map.specs.declared.class.Class.{Class}
 use Rattle.chain_map.specs.Lifting.{LiftValues, resolution_of, map_of, IsLiftOver}
@@ -35,20 +35,24 @@ above_ab p = p.a.above + p.b.above
 abbrev pub above_bc : Places → ℕ
 above_bc p = p.b.above + p.c.above
 
--- The bracket of the classes at these places, in the square `above_of` above the bottom in row n + a.s, where n is one row below that
--- of bc and l one below that of ab: the value is one of its values, by lifts and a null homotopy; it is zero at the pivots of the
--- rows, which are the reduced basis of the indeterminacy; and the values are just the value and the span of the rows.
-pub record IsBracket (table sphere : Staircase) (range : Range) (p : Places) (value : List Bool) (rows : List (List Bool)) : Type 0 where
+-- The bracket <a, b, c> of classes a and b of the sphere's resolution q and c of r, in the square of its degree in row n + a.s, where n is
+-- one row below that of bc and l one below that of ab: the value is one of its values, by lifts and a null homotopy; it is zero at the
+-- pivots of the rows, which are the reduced basis of the indeterminacy; and the values are just the value and the span of the rows.
+pub record IsBracketOf (r q : Resolution) (a b c : ClassAbove) (value : List Bool) (rows : List (List Bool)) : Type 0 where
   pub n : ℕ
   pub l : ℕ
-  pub n_row : suc n ≡ p.c.s + p.b.s
-  pub l_row : suc l ≡ p.b.s + p.a.s
-  pub member : IsBracketMember (through range table) (through range sphere) (class_above p.a) (class_above p.b) (class_above p.c) n l (top_of (through range table) (class_above p.a) (class_above p.b) (class_above p.c)) value
+  pub n_row : suc n ≡ c.s + b.s
+  pub l_row : suc l ≡ b.s + a.s
+  pub member : IsBracketMember r q a b c n l (top_of r a b c) value
   pub spanning : List (List Bool)
-  pub spans : IsIndeterminacy (through range table) (through range sphere) (class_above p.a) (class_above p.b) (class_above p.c) n l (top_of (through range table) (class_above p.a) (class_above p.b) (class_above p.c)) spanning
-  pub basis : IsRowBasis (count_of (through range table) (n + p.a.s) (above_of p)) spanning rows
+  pub spans : IsIndeterminacy r q a b c n l (top_of r a b c) spanning
+  pub basis : IsRowBasis (count_of r (n + a.s) (a.above + b.above + c.above)) spanning rows
   pub clear : IsZeroAtPivots rows value
-  pub all : (v : List Bool) → length v ≡ count_of (through range table) (n + p.a.s) (above_of p) → IsBracketMember (through range table) (through range sphere) (class_above p.a) (class_above p.b) (class_above p.c) n l (top_of (through range table) (class_above p.a) (class_above p.b) (class_above p.c)) v ↔ IsInSpan (count_of (through range table) (n + p.a.s) (above_of p)) rows (sum_of v value)
+  pub all : (v : List Bool) → length v ≡ count_of r (n + a.s) (a.above + b.above + c.above) → IsBracketMember r q a b c n l (top_of r a b c) v ↔ IsInSpan (count_of r (n + a.s) (a.above + b.above + c.above)) rows (sum_of v value)
+
+-- the bracket of the classes at these places of two tables, through the range
+abbrev pub IsBracket : Staircase → Staircase → Range → Places → List Bool → List (List Bool) → Type 0
+IsBracket table sphere range p value rows = IsBracketOf (through range table) (through range sphere) (class_above p.a) (class_above p.b) (class_above p.c) value rows
 
 -- ---- answers
 
