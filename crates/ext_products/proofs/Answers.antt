@@ -43,7 +43,7 @@ line-unique r q a x y z p k =
     ∙ (ap (λ (n : ℕ). line_of z.s z.t z.i n y.target_t y.value) target_s
     ∙ (ap (λ (n : ℤ). line_of z.s z.t z.i z.target_s n y.value) target_t ∙ ap (λ (v : List Bool). line_of z.s z.t z.i z.target_s z.target_t v) value))))
 
-class-unique : (q : Resolution) (c : Class) (a b : ClassAbove) → IsAt q c a → IsAt q c b → a ≡ b
+pub class-unique : (q : Resolution) (c : Class) (a b : ClassAbove) → IsAt q c a → IsAt q c b → a ≡ b
 class-unique q c a b p k =
     let s : a.s ≡ b.s = sym p.row ∙ k.row in
     let same : degree_of_class q a ≡ degree_of_class q b = sym p.degree ∙ k.degree in
@@ -98,7 +98,7 @@ product-of-lift one r q range a x v canonical canonical_q sphere factor there gi
     }
 
 -- a class that is in the range has its product
-product-exists : EachClassLifts → LiftsGiveOneProduct → (r q : Resolution) (range : Range) (a x : ClassAbove) → IsCanonical r range.s range.t → IsCanonical q range.s range.t → IsSphere q → IsFactor r range a x → a.i < count_of q a.s a.above → (v : List Bool) × IsYonedaProduct r q a x v
+pub product-exists : EachClassLifts → LiftsGiveOneProduct → (r q : Resolution) (range : Range) (a x : ClassAbove) → IsCanonical r range.s range.t → IsCanonical q range.s range.t → IsSphere q → IsFactor r range a x → a.i < count_of q a.s a.above → (v : List Bool) × IsYonedaProduct r q a x v
 product-exists lifts one r q range a x canonical canonical_q sphere factor there =
     let row = factor.row in
     let degree = factor.degree in
@@ -144,7 +144,7 @@ pub record IsFound (q : Resolution) (c : Class) : Type 0 where
   pub at : IsAt q c class
   pub there : class.i < count_of q class.s class.above
 
-found : (q : Resolution) (c : Class) (o : Option ℕ) → above_of q.base.bottom c.t ≡ o → c.i < classes_over q c.s o → IsFound q c
+pub found : (q : Resolution) (c : Class) (o : Option ℕ) → above_of q.base.bottom c.t ≡ o → c.i < classes_over q c.s o → IsFound q c
 found q c None e l = absurd (omega (arith, l))
 found q c (Some k) e l =
     let d = natural-is (c.t -ℤ q.base.bottom) k e in

@@ -1,6 +1,6 @@
-mod Factors
+pub mod Factors
 mod Loops
 mod OneEach
 pub mod SphereTables
-mod Transport
+pub mod Transport
 pub mod Answers

@@ -212,7 +212,7 @@ module _ (one : LiftsGiveOneProduct) (minimal : CanonicalTableIsMinimalResolutio
         sym (product_by-part (over table.resolved) (over sphere.resolved) (plain_rows table.rows) cut_r.table (plain_rows sphere.rows) cut_q.table range.t a.above (x.s + a.s) (a.above + x.above) (class_above a) (cut_rows (x.s + a.s) rows) (near_rows a.s (omega arith)) degrees (omega arith) phi)
         ∙ product_by-part (over table.resolved) (over sphere.resolved) cut_r.table cut_r.table full cut_q.table range.t a.above (x.s + a.s) (a.above + x.above) (class_above a) (again_rows (x.s + a.s) rows) (full_rows a.s (omega arith)) degrees (omega arith) phi
 
-    product-through : (v : List Bool) → IsProduct table sphere a (place_of x) v → IsYonedaProduct cut_r whole_q (class_above a) x v
+    pub product-through : (v : List Bool) → IsProduct table sphere a (place_of x) v → IsYonedaProduct cut_r whole_q (class_above a) x v
     product-through v product =
         let some = product.some in
         product-of-lift one cut_r whole_q range (class_above a) x v (r_canonical table h range whole minimal modules all) (q_canonical sphere all_q range full is_full modules) (record { bottom = is_sphere.bottom; one = is_sphere.one; none = is_sphere.none }) factor a_count

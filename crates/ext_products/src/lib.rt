@@ -9,5 +9,5 @@ mod sphere;
 
 pub use laws::{products_answer_exists, products_answer_is_unique};
 pub use products::products_text;
-pub use refusal::{Named, ProductsFault, Refusal};
+pub use refusal::{ClassesFault, Named, Pair, Refusal, Target};
 pub use sphere::sphere_table;

@@ -4,11 +4,11 @@ ghost use Rattle.square.specs.Tables.{IsTable, IsThrough};
 ghost use Rattle.square.specs.declared.range.TheConstants.{MAX_S, MAX_T};
 ghost use Rattle.ext_products.specs.Over.{IsAnswerOver};
 ghost use Rattle.ext_products.specs.Inside.Lining.{reach_of};
-ghost use Rattle.ext_products.specs.declared.refusal.ProductsFault.TheVariants.{Refused, Memory as OutOfMemory};
+ghost use Rattle.ext_products.specs.declared.refusal.ClassesFault.TheVariants.{Refused, Memory as OutOfMemory};
 ghost use Rattle.ext_products.specs.declared.refusal.Refusal.{Refusal as WhyNot};
 
 use crate::lines::lines;
-use crate::refusal::{Named, ProductsFault, Refusal};
+use crate::refusal::{ClassesFault, Named, Refusal};
 use crate::sphere::sphere_table;
 use chain_map::Class;
 use degrees::above_of;
@@ -27,7 +27,7 @@ pub fn products_text(
     table: &Table,
     range: Range,
     by: Class,
-) -> Result<Vec<u8>, ProductsFault>
+) -> Result<Vec<u8>, ClassesFault>
     requires rows { range.s ≤ MAX_S }
     requires degrees { range.t ≤ MAX_T }
     requires through { IsThrough range table.now.rows }
@@ -45,7 +45,7 @@ pub fn products_text(
             let lines = lines(alloc, table, &sphere, range, a)?;
             Ok(product_lines(alloc, lines.as_slice())?)
         }
-        Err(count) => Err(ProductsFault::Refused(Refusal::NoClass {
+        Err(count) => Err(ClassesFault::Refused(Refusal::NoClass {
             named: Named::By,
             class: by,
             count,
