@@ -1,0 +1,193 @@
+-- There is an answer to what is asked of a bracket.
+use Rattle.std.proofs.Common.{◌≡◌, inl, inr, ℕ, ℤ, pos, ◌+ℤ◌, ◌≤ℤ◌, Bool, true, false, List, refl, sym, ◌∙◌, arith}
+use Rattle.std.specs.Prelude.{Option, Some, None, MatchOption, Result, Ok, Err, option_map, nat_lt, int_lt, if◌then◌else◌}
+use Rattle.std.specs.Option.{option_or}
+use Rattle.std.proofs.lemmas.Bool.{true≢false, or_parts}
+use Rattle.std.proofs.lemmas.Bool.Decides.{nat_tests}
+use Rattle.std.proofs.lemmas.Int.{ints, by_lt_z}
+use Rattle.f2_vec.specs.Vectors.{IsZero}
+use Rattle.f2_matrix.proofs.Unique.{zero_or_first}
+use Rattle.degrees.specs.Above.{above_of}
+use Rattle.square.specs.declared.range.Range.{Range}
+use Rattle.lift_laws.specs.Lifts.{Resolution, IsCanonical, IsSphere}
+use Rattle.lift_laws.specs.Products.{Class as ClassAbove, LiftsGiveOneProduct}
+use Rattle.chain_map.specs.declared.class.Class.{Class}
+use Rattle.ext_chart.specs.Classes.{bracket_text}
+use Rattle.ext_products.specs.declared.refusal.Named.{Named}
+use Rattle.ext_products.specs.declared.refusal.Named.TheVariants.{A, B, C}
+use Rattle.ext_products.specs.declared.refusal.Pair.TheVariants.{Ab, Bc}
+use Rattle.ext_products.specs.declared.refusal.Target.{Target}
+use Rattle.ext_products.specs.declared.refusal.Target.TheVariants.{Product, Bracket}
+use Rattle.ext_products.specs.declared.refusal.Refusal.{Refusal}
+use Rattle.ext_products.specs.declared.refusal.Refusal.TheVariants.{NoClass, OutOfRange, Nonzero}
+use Rattle.ext_products.specs.Products.{class_count, IsYonedaProduct}
+use Rattle.ext_products.proofs.Answers.{IsFound, found, product-exists}
+use Rattle.ext_brackets.specs.Brackets.{product_row, product_degree, bracket_row, bracket_degree, passes, no_class, out_of_range, class_refusal, range_refusal, refusal_of, IsToldOfLower, IsTold}
+use Rattle.ext_brackets.specs.Laws.{BracketAnswerExists}
+use Rattle.ext_brackets.proofs.Exists.{AreLaws, AreInRange, bracket_exists}
+
+-- ---- what no refusal says
+
+or_none : (o p : Option Refusal) → option_or o p ≡ None → (o ≡ None) × (p ≡ None)
+or_none None p e = (refl, e)
+or_none (Some f) p e = absurd (cc)
+
+count_of-none : (found : Bool) (n : ℕ) (f : ℕ → Refusal) → option_map f (if found then None else Some n) ≡ None → found ≡ true
+count_of-none true n f e = refl
+count_of-none false n f e = absurd (cc)
+
+-- a class that is not missing is there
+pub class_there : (named : Named) (c : Class) (r : Resolution) → no_class named c r ≡ None → IsFound r c
+class_there named c r none =
+    let test = count_of-none (nat_lt c.i (class_count r c.s c.t)) (class_count r c.s c.t) (λ count. NoClass named c count) none in
+    found r c (above_of r.base.bottom c.t) refl (grind (arith, nat_tests, test))
+
+past-none : (past : Bool) (e : Refusal) → (if past then Some e else None) ≡ None → past ≡ false
+past-none false e h = refl
+past-none true e h = absurd (cc)
+
+int_lt-true : (x y : ℤ) → int_lt x y ≡ false → y ≤ℤ x
+int_lt-true x y e = by_lt_z x y (λ l. let t : int_lt x y ≡ true = grind (arith, ints) in absurd (true≢false (sym t ∙ e))) (λ h. h)
+
+-- a square that is not past the range is in it
+pub record IsNear (r : Resolution) (range : Range) (s t : ℤ) : Type 0 where
+  pub row : s ≤ℤ pos range.s
+  pub degree : t ≤ℤ (r.base.bottom +ℤ pos range.t)
+
+pub square_near : (target : Target) (range : Range) (r : Resolution) (s t : ℤ) → out_of_range target range r s t ≡ None → IsNear r range s t
+square_near target range r s t none =
+    let near = or_parts (int_lt (pos range.s) s) (int_lt (r.base.bottom +ℤ pos range.t) t) (past-none (passes r range s t) (OutOfRange target s t) none) in
+    record { row = int_lt-true (pos range.s) s near.0; degree = int_lt-true (r.base.bottom +ℤ pos range.t) t near.1 }
+
+-- the three classes are there
+pub record AreThere (a b c : Class) (r q : Resolution) : Type 0 where
+  pub a_is : IsFound q a
+  pub b_is : IsFound q b
+  pub c_is : IsFound r c
+
+pub classes_there : (a b c : Class) (r q : Resolution) → class_refusal a b c r q ≡ None → AreThere a b c r q
+classes_there a b c r q none =
+    let first = or_none (no_class A a q) (option_or (no_class B b q) (no_class C c r)) none in
+    let second = or_none (no_class B b q) (no_class C c r) first.1 in
+    record { a_is = class_there A a q first.0; b_is = class_there B b q second.0; c_is = class_there C c r second.1 }
+
+pub parts_none : (range : Range) (a b c : Class) (r q : Resolution) → refusal_of range a b c r q ≡ None → (class_refusal a b c r q ≡ None) × (range_refusal range a b c r q ≡ None)
+parts_none range a b c r q none = or_none (class_refusal a b c r q) (range_refusal range a b c r q) none
+
+in_range : (range : Range) (a b c : Class) (r q : Resolution) → IsSphere q → (there : AreThere a b c r q) → range_refusal range a b c r q ≡ None → AreInRange range r q there.a_is.class there.b_is.class there.c_is.class
+in_range range a b c r q sphere there none =
+    let ab = out_of_range (Product Ab) range q (product_row a b) (product_degree a b) in
+    let bc = out_of_range (Product Bc) range r (product_row b c) (product_degree b c) in
+    let abc = out_of_range Bracket range r (bracket_row a b c) (bracket_degree a b c) in
+    let first = or_none ab (option_or bc abc) none in
+    let second = or_none bc abc first.1 in
+    let near_ab = square_near (Product Ab) range q (product_row a b) (product_degree a b) first.0 in
+    let near_bc = square_near (Product Bc) range r (product_row b c) (product_degree b c) second.0 in
+    let near = square_near Bracket range r (bracket_row a b c) (bracket_degree a b c) second.1 in
+    let ab_row = near_ab.row in
+    let ab_degree = near_ab.degree in
+    let bc_row = near_bc.row in
+    let bc_degree = near_bc.degree in
+    let row = near.row in
+    let degree = near.degree in
+    let bottom = sphere.bottom in
+    let a_row = there.a_is.at.row in
+    let b_row = there.b_is.at.row in
+    let c_row = there.c_is.at.row in
+    let a_degree = there.a_is.at.degree in
+    let b_degree = there.b_is.at.degree in
+    let c_degree = there.c_is.at.degree in
+    record {
+      x_there = there.a_is.there;
+      y_there = there.b_is.there;
+      z_there = there.c_is.there;
+      xy_row = omega (arith, ints);
+      xy_degree = omega (arith, ints);
+      yz_row = omega (arith, ints);
+      yz_degree = omega (arith, ints);
+      row = omega (arith, ints);
+      degree = omega (arith, ints);
+    }
+
+-- ---- what is told of classes that are there, in the range
+
+module _ (laws : AreLaws) (one : LiftsGiveOneProduct) (r q : Resolution) (range : Range) (canonical : IsCanonical r range.s range.t) (canonical_q : IsCanonical q range.s range.t) (sphere : IsSphere q) (a b c : Class) where
+  module _ (there : AreThere a b c r q) (inside : AreInRange range r q there.a_is.class there.b_is.class there.c_is.class) where
+    abbrev x : ClassAbove
+    x = there.a_is.class
+
+    abbrev y : ClassAbove
+    y = there.b_is.class
+
+    abbrev z : ClassAbove
+    z = there.c_is.class
+
+    lower-exists : (ab : List Bool) → IsYonedaProduct q q x y ab → IsZero ab → (answer : Result (List ℕ) Refusal) × IsToldOfLower a b c r q x y z answer
+    lower-exists ab ab_is ab_zero =
+        let row = inside.yz_row in
+        let product = product-exists laws.lifts one r q range y z canonical canonical_q sphere (record { row = omega arith; degree = inside.yz_degree; number = inside.z_there }) inside.y_there in
+        elim (zero_or_first product.0) [
+          | inl zero ↦
+              let bracket = bracket_exists laws r q range canonical canonical_q sphere x y z inside ab product.0 ab_is product.1 ab_zero zero in
+              let text = bracket_text (bracket_row a b c) (bracket_degree a b c) bracket.value bracket.rows in (
+                Ok text,
+                record {
+                  bc = product.0;
+                  product = product.1;
+                  nonzero = λ not. absurd (not zero);
+                  zero = λ w. record { value = bracket.value; rows = bracket.rows; bracket = bracket.is_bracket; is = refl };
+                },
+              )
+          | inr first ↦ (
+            Err (Nonzero Bc (product_row b c) (product_degree b c) product.0),
+            record { bc = product.0; product = product.1; nonzero = λ not. refl; zero = λ zero. absurd (true≢false (sym first.1.one ∙ zero first.0)) },
+          )
+        ]
+
+    told-exists : (answer : Result (List ℕ) Refusal) × IsTold a b c r q answer
+    told-exists =
+        let row = inside.xy_row in
+        let product = product-exists laws.lifts one q q range x y canonical_q canonical_q sphere (record { row = omega arith; degree = inside.xy_degree; number = inside.y_there }) inside.x_there in
+        elim (zero_or_first product.0) [
+          | inl zero ↦
+              let lower = lower-exists product.0 product.1 zero in (
+                lower.0,
+                record {
+                  x = x;
+                  y = y;
+                  z = z;
+                  a_at = there.a_is.at;
+                  b_at = there.b_is.at;
+                  c_at = there.c_is.at;
+                  ab = product.0;
+                  product = product.1;
+                  nonzero = λ not. absurd (not zero);
+                  zero = λ w. lower.1;
+                },
+              )
+          | inr first ↦ (
+            Err (Nonzero Ab (product_row a b) (product_degree a b) product.0),
+            record {
+              x = x;
+              y = y;
+              z = z;
+              a_at = there.a_is.at;
+              b_at = there.b_is.at;
+              c_at = there.c_is.at;
+              ab = product.0;
+              product = product.1;
+              nonzero = λ not. refl;
+              zero = λ zero. absurd (true≢false (sym first.1.one ∙ zero first.0));
+            },
+          )
+        ]
+
+  answer-exists : (refusal : Option Refusal) → refusal_of range a b c r q ≡ refusal → (answer : Result (List ℕ) Refusal) × MatchOption refusal (IsTold a b c r q answer) (λ e. answer ≡ Err e)
+  answer-exists None none =
+      let parts = parts_none range a b c r q none in
+      let there = classes_there a b c r q parts.0 in
+      told-exists there (in_range range a b c r q sphere there parts.1)
+  answer-exists (Some e) some = (Err e, refl)
+
+pub answers-exist : AreLaws → LiftsGiveOneProduct → BracketAnswerExists
+answers-exist laws one r q range a b c canonical canonical_q sphere = answer-exists laws one r q range canonical canonical_q sphere a b c (refusal_of range a b c r q) refl

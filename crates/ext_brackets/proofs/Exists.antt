@@ -1,0 +1,288 @@
+-- There is a bracket of classes whose products are zero.
+use Rattle.std.proofs.Common.{◌≡◌, inl, inr, ℕ, zero, suc, ◌+◌, ◌-◌, ◌<◌, ◌≤◌, ℤ, pos, ◌+ℤ◌, ◌-ℤ◌, ◌≤ℤ◌, Bool, false, List, [], ◌++◌, length, map, refl, ap, sym, subst, ◌∙◌, arith}
+use Rattle.std.specs.List.{range_with_len}
+use Rattle.std.proofs.lemmas.Bool.{cases_lt, cases_Bool}
+use Rattle.std.proofs.lemmas.Int.{ints}
+use Rattle.f2_vec.specs.Vectors.{sum_of, bit, zeros, IsZero}
+use Rattle.f2_vec.specs.Spans.{row, HaveWidth, IsInSpan}
+use Rattle.f2_vec.proofs.Sums.{length-zeros, sum_of-comm}
+use Rattle.f2_vec.proofs.Spans.{HaveWidth-append}
+use Rattle.f2_vec.proofs.Combinations.{HaveWidth-map}
+use Rattle.f2_matrix.specs.Echelon.{IsReduced, HasNoZeroRow}
+use Rattle.f2_matrix.specs.Existence.{RowBasisExists}
+use Rattle.f2_matrix.proofs.Unique.{first_one}
+use Rattle.f2_matrix.proofs.Pivots.{first_within, pivot_first}
+use Rattle.resolution_laws.specs.Exactness.{CanonicalTableIsMinimalResolution}
+use Rattle.square.specs.declared.range.Range.{Range}
+use Rattle.lift_laws.specs.Lifts.{Resolution, IsCanonical, IsSphere, IsLift, EachClassLifts, dual_of}
+use Rattle.lift_laws.specs.Products.{Class, first_of, count_of, number_of, degree_of_class, coefficients, coefficient_of, on_square, product_by}
+use Rattle.lift_laws.proofs.ChainMaps.{IsLift-less}
+use Rattle.lift_laws.proofs.Resolved.{is_resolved}
+use Rattle.bracket_laws.specs.Brackets.{HasRoom, HasZeroProduct, HasZeroLower, IsIndeterminacy, IsBracketMember, BracketHasMember, BracketIsCoset, top_of, bracket_by}
+use Rattle.bracket_laws.proofs.Vectors.{length-on_square, bit-on_square}
+use Rattle.chain_map.proofs.Generators.{is_number}
+use Rattle.massey.specs.Brackets.{IsBracketOf}
+use Rattle.massey.proofs.Clearing.{IsCleared, cleared_none, cleared_more, cleared_there}
+use Rattle.massey.proofs.Units.{unit_times_class}
+use Rattle.ext_products.specs.Products.{IsYonedaProduct}
+use Rattle.ext_brackets.proofs.Members.{length-member}
+
+-- ---- a vector, cleared at the pivots of a reduced basis
+
+record IsClearedBy (n : ℕ) (rows : List (List Bool)) (k : ℕ) (start : List Bool) : Type 0 where
+  pub now : List Bool
+  pub cleared : IsCleared n rows k start now
+
+cleared_row : (n : ℕ) (rows : List (List Bool)) (k : ℕ) (start : List Bool) → HaveWidth n rows → IsReduced rows → HasNoZeroRow rows → length start ≡ n → k < length rows → IsClearedBy n rows k start → IsClearedBy n rows (k + 1) start
+cleared_row n rows k start wide reduced nonzero e h c =
+    let r = row rows k in
+    let first = first_one r (nonzero k h) in
+    let same : length c.now ≡ length r = c.cleared.width ∙ (e ∙ sym (wide k h)) in
+    elim (cases_Bool (bit c.now first.0)) [
+      | inl one ↦ record {
+        now = sum_of c.now r;
+        cleared = cleared_more n rows k start c.now (sum_of c.now r) wide reduced e h c.cleared (inr refl) (cleared_there c.now r first.0 same first.1 one);
+      }
+      | inr none ↦ record {
+        now = c.now;
+        cleared = cleared_more n rows k start c.now c.now wide reduced e h c.cleared (inl refl) (λ p other.
+            let pivots : first.0 ≡ p = sym (pivot_first r first.0 first.1) ∙ pivot_first r p other in
+            subst (λ (i : ℕ). bit c.now i ≡ false) pivots none);
+      }
+    ]
+
+cleared_rows : (n : ℕ) (rows : List (List Bool)) (k : ℕ) (start : List Bool) → HaveWidth n rows → IsReduced rows → HasNoZeroRow rows → length start ≡ n → k ≤ length rows → IsClearedBy n rows k start
+cleared_rows n rows zero start wide reduced nonzero e h = record { now = start; cleared = cleared_none n rows start wide e }
+cleared_rows n rows (suc k) start wide reduced nonzero e h =
+    let next : k + 1 ≡ suc k = omega arith in
+    subst (λ (i : ℕ). IsClearedBy n rows i start) next (cleared_row n rows k start wide reduced nonzero e (omega arith) (cleared_rows n rows k start wide reduced nonzero e (omega arith)))
+
+-- ---- lifts
+
+-- the laws on which brackets rest
+pub record AreLaws : Type 0 where
+  pub minimal : CanonicalTableIsMinimalResolution
+  pub lifts : EachClassLifts
+  pub member : BracketHasMember
+  pub coset : BracketIsCoset
+  pub bases : RowBasisExists
+
+-- x, y and z are classes of q, q and r, and their products and their bracket are in the range
+pub record AreInRange (range : Range) (r q : Resolution) (x y z : Class) : Type 0 where
+  pub x_there : x.i < count_of q x.s x.above
+  pub y_there : y.i < count_of q y.s y.above
+  pub z_there : z.i < count_of r z.s z.above
+  pub xy_row : x.s + y.s ≤ range.s
+  pub xy_degree : x.above + y.above ≤ range.t
+  pub yz_row : y.s + z.s ≤ range.s
+  pub yz_degree : y.above + z.above ≤ range.t
+  pub row : x.s + y.s + z.s ≤ range.s + 1
+  pub degree : x.above + y.above + z.above ≤ range.t
+
+-- a lift of class i of the square (s, k), through row s + upto
+record HasClassLift (r q : Resolution) (s k i upto : ℕ) (u top : ℤ) : Type 0 where
+  pub phi : ℕ → ℕ → List Bool
+  pub is_lift : IsLift r q s u (dual_of r q s u (first_of r s k + i)) upto top phi
+
+class_lift : EachClassLifts → (r q : Resolution) (range : Range) → IsCanonical r range.s range.t → IsCanonical q range.s range.t → IsSphere q → (s k i upto : ℕ) (u top : ℤ) → i < count_of r s k → s + upto ≤ range.s → k ≤ range.t → u ≡ r.base.bottom +ℤ pos k → (top -ℤ u) ≤ℤ (q.base.bottom +ℤ pos range.t) → HasClassLift r q s k i upto u top
+class_lift lifts r q range canonical canonical_q sphere s k i upto u top there rows within degree_is low =
+    let long = canonical.canonical.squares s (omega arith) in
+    let number = is_number r s k i (omega arith) there in
+    let lift = lifts r q range.s range.t range.s range.t s (first_of r s k + i) u upto top canonical canonical_q sphere rows (omega arith) low number.there (number.degree_is ∙ sym degree_is) in
+    record { phi = lift.phi; is_lift = lift.is_lift }
+
+-- ---- the bracket
+
+pub record HasBracket (r q : Resolution) (x y z : Class) : Type 0 where
+  pub value : List Bool
+  pub rows : List (List Bool)
+  pub is_bracket : IsBracketOf r q x y z value rows
+
+module _ (laws : AreLaws) (r q : Resolution) (range : Range) (canonical : IsCanonical r range.s range.t) (canonical_q : IsCanonical q range.s range.t) (sphere : IsSphere q)
+    (x y z : Class) (inside : AreInRange range r q x y z) (xy yz : List Bool) (xy_is : IsYonedaProduct q q x y xy) (yz_is : IsYonedaProduct r q y z yz) (xy_zero : IsZero xy) (yz_zero : IsZero yz) where
+  -- neither x nor y is in row 0, since their products are zero
+  x_positive : x.s ≡ 0 → ⊥
+  x_positive e =
+      let some = xy_is.some in
+      let i = inside.xy_row in
+      let k = inside.xy_degree in
+      let low = some.reaches in
+      unit_times_class q q range.s range.t range.s range.t canonical_q (is_resolved laws.minimal q range.s range.t canonical_q) sphere x y e (omega arith) inside.x_there (omega arith) (omega arith) inside.y_there x.s some.top (omega (arith, ints)) some.phi some.is_lift
+      (subst IsZero some.gives xy_zero)
+
+  y_positive : y.s ≡ 0 → ⊥
+  y_positive e =
+      let some = yz_is.some in
+      let i = inside.yz_row in
+      let k = inside.yz_degree in
+      let low = some.reaches in
+      unit_times_class r q range.s range.t range.s range.t canonical (is_resolved laws.minimal q range.s range.t canonical_q) sphere y z e (omega arith) inside.y_there (omega arith) (omega arith) inside.z_there y.s some.top (omega (arith, ints)) some.phi some.is_lift
+      (subst IsZero some.gives yz_zero)
+
+  module _ (last low : ℕ) (x_row : x.s ≡ suc last) (y_row : y.s ≡ suc low) where
+    abbrev n : ℕ
+    n = z.s + low
+
+    abbrev l : ℕ
+    l = y.s + last
+
+    abbrev top : ℤ
+    top = top_of r x y z
+
+    abbrev size : ℕ
+    size = count_of r (n + x.s) (x.above + y.above + z.above)
+
+    room : HasRoom range.s range.t range.s range.t x y z n l
+    room =
+        let i = inside.row in
+        let k = inside.xy_row in
+        record { last = last; low = low; a_row = x_row; b_row = y_row; n_row = omega arith; l_row = omega arith; rows_r = omega arith; rows_q = omega arith; degrees_r = inside.degree; degrees_q = inside.xy_degree }
+
+    beta : HasClassLift q q y.s y.above y.i x.s (degree_of_class q y) (top -ℤ degree_of_class r z)
+    beta =
+        let i = inside.xy_row in
+        let k = inside.xy_degree in
+        let bottom = sphere.bottom in
+        class_lift laws.lifts q q range canonical_q canonical_q sphere y.s y.above y.i x.s (degree_of_class q y) (top -ℤ degree_of_class r z) inside.y_there (omega arith) (omega arith) refl (omega (arith, ints))
+
+    gamma : HasClassLift r q z.s z.above z.i l (degree_of_class r z) top
+    gamma =
+        let i = inside.row in
+        let k = inside.xy_degree in
+        let m = inside.degree in
+        let bottom = sphere.bottom in
+        class_lift laws.lifts r q range canonical canonical_q sphere z.s z.above z.i l (degree_of_class r z) top inside.z_there (omega arith) (omega arith) refl (omega (arith, ints))
+
+    low_top : (top -ℤ degree_of_class r z) ≤ℤ (q.base.bottom +ℤ pos range.t)
+    low_top =
+        let k = inside.xy_degree in
+        let bottom = sphere.bottom in
+        omega (arith, ints)
+
+    product_zero : HasZeroProduct r q x y z l top
+    product_zero =
+        let bottom = sphere.bottom in
+        let given = xy_is.each (product_by q q x beta.phi (y.s + x.s) (x.above + y.above)) (record { top = top -ℤ degree_of_class r z; phi = beta.phi; reaches = omega (arith, ints); is_lift = beta.is_lift; gives = refl }) in
+        let same : y.s + x.s ≡ suc l = omega arith in
+        let IsVanishing : ℕ → Type 0 = λ k. (i : ℕ) → i < count_of q k (x.above + y.above) → coefficient_of q x (beta.phi x.s (first_of q k (x.above + y.above) + i)) ≡ false in
+        record {
+          beta = beta.phi;
+          beta_lift = beta.is_lift;
+          zero = subst IsVanishing same (λ i h. sym (bit-on_square q (y.s + x.s) (x.above + y.above) (λ g. coefficient_of q x (beta.phi x.s g)) i h) ∙ (ap (λ (v : List Bool). bit v i) (sym given) ∙ xy_zero i));
+        }
+
+    lower_zero : HasZeroLower r q x y z n l top gamma.phi
+    lower_zero =
+        let m = y.s in
+        let less = IsLift-less r q z.s (degree_of_class r z) (dual_of r q z.s (degree_of_class r z) (number_of r z)) l y.s top gamma.phi (omega arith) gamma.is_lift in
+        let given = yz_is.each (product_by r q y gamma.phi (z.s + y.s) (y.above + z.above)) (record { top = top; phi = gamma.phi; reaches = omega (arith, ints); is_lift = less; gives = refl }) in
+        let same : z.s + y.s ≡ suc n = omega arith in
+        let IsVanishing : ℕ → Type 0 = λ k. (i : ℕ) → i < count_of r k (y.above + z.above) → coefficient_of q y (gamma.phi y.s (first_of r k (y.above + z.above) + i)) ≡ false in
+        record {
+          gamma_lift = gamma.is_lift;
+          zero = subst IsVanishing same (λ i h. sym (bit-on_square r (z.s + y.s) (y.above + z.above) (λ g. coefficient_of q y (gamma.phi y.s g)) i h) ∙ (ap (λ (v : List Bool). bit v i) (sym given) ∙ yz_zero i));
+        }
+
+    abbrev e : List Bool
+    e = zeros (count_of q l (x.above + y.above))
+
+    -- a member
+    record HasMember : Type 0 where
+      pub value : List Bool
+      pub is_member : IsBracketMember r q x y z n l top value
+
+    first : HasMember
+    first =
+        let H = laws.member r q range.s range.t range.s range.t x y z n l top gamma.phi beta.phi canonical canonical_q sphere room (omega (arith, ints)) low_top inside.y_there lower_zero beta.is_lift in
+        record {
+          value = bracket_by r q x y z n l gamma.phi H.0 e;
+          is_member = record { gamma = gamma.phi; beta = beta.phi; H = H.0; e = e; gamma_lift = gamma.is_lift; beta_lift = beta.is_lift; homotopy = H.1; one_each = length-zeros (count_of q l (x.above + y.above)); value = refl };
+        }
+
+    -- ---- its indeterminacy
+
+    abbrev lower_degree : ℤ
+    lower_degree = degree_of_class r z +ℤ degree_of_class q y
+
+    abbrev IsLowerLift : ℕ → (ℕ → ℕ → List Bool) → Type 0
+    IsLowerLift j phi = IsLift r q n lower_degree (dual_of r q n lower_degree (first_of r n (y.above + z.above) + j)) x.s top phi
+
+    record HasLowerLift (j : ℕ) : Type 0 where
+      pub phi : ℕ → ℕ → List Bool
+      pub is_lift : j < count_of r n (y.above + z.above) → IsLowerLift j phi
+
+    lower_lift : (j : ℕ) → HasLowerLift j
+    lower_lift j = elim (cases_lt j (count_of r n (y.above + z.above))) [
+      | inl there ↦
+          let i = inside.row in
+          let k = inside.yz_degree in
+          let m = inside.xy_degree in
+          let bottom = sphere.bottom in
+          let lift = class_lift laws.lifts r q range canonical canonical_q sphere n (y.above + z.above) j x.s lower_degree top there (omega arith) k (omega (arith, ints)) (omega (arith, ints)) in
+          record { phi = lift.phi; is_lift = λ h. lift.is_lift }
+      | inr past ↦ record { phi = λ k g. []; is_lift = λ h. absurd (omega arith) }
+    ]
+
+    abbrev lifts : ℕ → ℕ → ℕ → List Bool
+    lifts j = (lower_lift j).phi
+
+    abbrev first_rows : List (List Bool)
+    first_rows = map (λ j. product_by r q x (lifts j) (n + x.s) (x.above + y.above + z.above)) (range_with_len 0 (count_of r n (y.above + z.above)))
+
+    abbrev second_rows : List (List Bool)
+    second_rows = map (λ i. on_square r (n + x.s) (x.above + y.above + z.above) (λ g. bit (coefficients q l (x.above + y.above) (gamma.phi l g)) i)) (range_with_len 0 (count_of q l (x.above + y.above)))
+
+    indeterminacy : IsIndeterminacy r q x y z n l top (first_rows ++ second_rows)
+    indeterminacy = record { lifts = lifts; gamma = gamma.phi; each = λ j h. (lower_lift j).is_lift h; gamma_lift = gamma.is_lift; are = refl }
+
+    wide : HaveWidth size (first_rows ++ second_rows)
+    wide =
+        let m = x.above + y.above + z.above in
+        HaveWidth-append size first_rows second_rows
+        (HaveWidth-map size (λ j. product_by r q x (lifts j) (n + x.s) m) (range_with_len 0 (count_of r n (y.above + z.above))) (λ j. length-on_square r (n + x.s) m (λ g. coefficient_of q x (lifts j x.s g))))
+        (HaveWidth-map size (λ i. on_square r (n + x.s) m (λ g. bit (coefficients q l (x.above + y.above) (gamma.phi l g)) i)) (range_with_len 0 (count_of q l (x.above + y.above))) (λ i. length-on_square r (n + x.s) m (λ g. bit (coefficients q l (x.above + y.above) (gamma.phi l g)) i)))
+
+    -- ---- all values
+
+    bracket_is : HasBracket r q x y z
+    bracket_is =
+        let rows = first_rows ++ second_rows in
+        let found = laws.bases size rows wide in
+        let basis = found.0 in
+        let is_basis = found.1 in
+        let start = first.value in
+        let len = length-member r q x y z n l top start first.is_member in
+        let clear = cleared_rows size basis (length basis) start is_basis.widths is_basis.reduced is_basis.nonzero len (omega arith) in
+        let value = clear.now in
+        let len_value : length value ≡ size = clear.cleared.width ∙ len in
+        let law = λ (w : List Bool) (is : IsBracketMember r q x y z n l top w).
+        laws.coset r q range.s range.t range.s range.t x y z n l top rows w canonical canonical_q sphere room (omega (arith, ints)) low_top inside.x_there product_zero indeterminacy is in
+        let reached : IsInSpan size rows (sum_of value start) = (is_basis.same_span (sum_of value start)).1 (subst (IsInSpan size basis) (sum_of-comm start value) clear.cleared.coset) in
+        let member : IsBracketMember r q x y z n l top value = (law start first.is_member value len_value).1 reached in
+        record {
+          value = value;
+          rows = basis;
+          is_bracket = record {
+            n = n;
+            l = l;
+            n_row = omega arith;
+            l_row = omega arith;
+            member = member;
+            spanning = rows;
+            spans = indeterminacy;
+            basis = is_basis;
+            clear = λ i p f. clear.cleared.clear i p (first_within basis i p f) f;
+            all = λ v h. (λ w. (is_basis.same_span (sum_of v value)).0 ((law value member v h).0 w), λ w. (law value member v h).1 ((is_basis.same_span (sum_of v value)).1 w));
+          };
+        }
+
+  pub bracket_exists : HasBracket r q x y z
+  bracket_exists =
+      elim (cases_lt 0 x.s) [
+        | inr none ↦ absurd (x_positive (omega arith))
+        | inl x_some ↦ elim (cases_lt 0 y.s) [
+          | inr none ↦ absurd (y_positive (omega arith))
+          | inl y_some ↦
+              bracket_is (x.s - 1) (y.s - 1) (omega arith) (omega arith)
+        ]
+      ]

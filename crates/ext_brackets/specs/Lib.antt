@@ -1,0 +1,4 @@
+pub mod Brackets
+pub mod Laws
+pub mod Over
+pub mod Inside

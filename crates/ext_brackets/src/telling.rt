@@ -1,0 +1,71 @@
+//! Why there is no bracket, told of the classes that were asked for.
+ghost use Rattle.std.specs.Prelude.{◌≡◌};
+ghost use Rattle.ext_products.specs.declared.refusal.Refusal.TheVariants.{Nonzero as NotZero};
+ghost use Rattle.ext_brackets.specs.Brackets.{product_row, product_degree};
+ghost use Rattle.ext_brackets.specs.Inside.Telling.{absent, target_of, told, HasSquare, HasSquares};
+
+use chain_map::Class;
+use ext_products::{ClassesFault, Named, Pair, Refusal, Target};
+use f2_vec::BitVec;
+use massey::MasseyFault;
+
+/// What a fault of the bracket <a, b, c> says of the classes.
+pub(crate) fn told(fault: MasseyFault, a: Class, b: Class, c: Class) -> ClassesFault
+    requires squares { HasSquares a b c fault }
+    ensures { result ≡ told a b c fault }
+{
+    let refusal = match fault {
+        MasseyFault::NoClass { which, count } => no_class(which, count, a, b, c),
+        MasseyFault::OutOfRange { which, s, t } => Refusal::OutOfRange {
+            target: target(which),
+            s,
+            t,
+        },
+        MasseyFault::Nonzero { which, product } => match which {
+            0 => nonzero(Pair::Ab, a, b, product),
+            _ => nonzero(Pair::Bc, b, c, product),
+        },
+        MasseyFault::Memory => return ClassesFault::Memory,
+    };
+    ClassesFault::Refused(refusal)
+}
+
+/// That there is no class with this number, 0 for a, 1 for b and 2 for c.
+fn no_class(which: u8, count: usize, a: Class, b: Class, c: Class) -> Refusal
+    ensures { result ≡ absent a b c which count }
+{
+    let (named, class) = match which {
+        0 => (Named::A, a),
+        1 => (Named::B, b),
+        _ => (Named::C, c),
+    };
+    Refusal::NoClass {
+        named,
+        class,
+        count,
+    }
+}
+
+/// The target with this number: 0 for ab, 1 for bc, and 2 for the bracket.
+fn target(which: u8) -> Target
+    ensures { result ≡ target_of which }
+{
+    match which {
+        0 => Target::Product(Pair::Ab),
+        1 => Target::Product(Pair::Bc),
+        _ => Target::Bracket,
+    }
+}
+
+/// That the product of the classes `a` and `x` is not zero.
+fn nonzero(pair: Pair, a: Class, x: Class, product: BitVec) -> Refusal
+    requires square { HasSquare a x }
+    ensures { result ≡ NotZero pair (product_row a x) (product_degree a x) product }
+{
+    Refusal::Nonzero {
+        pair,
+        s: (a.s + x.s) as i32,
+        t: a.t + x.t,
+        product,
+    }
+}

@@ -1,0 +1,75 @@
+//! A bracket as text, or why there is none.
+ghost use Rattle.std.specs.Prelude.{◌≡◌, ◌≢◌, ◌≤◌, ◌≤ℤ◌, neg_ℤ, IfOk, IfErr, Ok, Err};
+ghost use Rattle.module_json.specs.declared.limits.TheConstants.{MAX_DEGREE};
+ghost use Rattle.square.specs.Squares.{bottom_of};
+ghost use Rattle.square.specs.Tables.{IsTable, IsThrough};
+ghost use Rattle.square.specs.declared.range.TheConstants.{MAX_S, MAX_T};
+ghost use Rattle.ext_chart.specs.Classes.{bracket_text as text_of};
+ghost use Rattle.ext_products.specs.declared.refusal.ClassesFault.TheVariants.{Refused, Memory as OutOfMemory};
+ghost use Rattle.ext_products.specs.declared.refusal.Refusal.{Refusal as WhyNot};
+ghost use Rattle.ext_brackets.specs.Over.{IsBracketAnswerOver};
+
+use crate::telling::told;
+use chain_map::Class;
+use ext_chart::bracket_lines;
+use ext_products::{ClassesFault, sphere_table};
+use massey::{Bracket, bracket};
+use memory::Memory;
+use square::{Range, Table};
+use std::alloc::Global;
+
+/// The bracket <a, b, c> of the classes a and b of the sphere with the class c of the table's module: a line with one of its values, and
+/// one for each vector of a basis of its indeterminacy. The sphere's resolution is made through the range.
+///
+/// # Errors
+/// `Refused` with the first of: a, b or c is no class through the range; the square of ab, of bc or of the bracket is past it; ab is not
+/// zero, or bc. `Memory` where there is none for the lifts or for the text.
+pub fn bracket_text(
+    alloc: Global,
+    table: &Table,
+    range: Range,
+    a: Class,
+    b: Class,
+    c: Class,
+) -> Result<Vec<u8>, ClassesFault>
+    requires rows { range.s ≤ MAX_S }
+    requires degrees { range.t ≤ MAX_T }
+    requires through { IsThrough range table.now.rows }
+    ensures text { IfOk result (λ text. IsBracketAnswerOver table.now range a b c (Ok text.items)) }
+    ensures refused { IfErr result (λ e. e ≢ OutOfMemory → (refusal : WhyNot) × (e ≡ Refused refusal) × IsBracketAnswerOver table.now range a b c (Err refusal)) }
+{
+    resolution_laws::canonical_table_is_minimal_resolution();
+    resolution_laws::canonical_table_is_unique();
+    finite_module::modules_are_graded_modules();
+    lift_laws::lifts_give_one_product();
+    known(table);
+    let sphere = sphere_table(alloc, range)?;
+    known(&sphere);
+    match bracket(alloc, table, &sphere, range, a, b, c) {
+        Ok(found) => Ok(lines(alloc, &found)?),
+        Err(fault) => Err(told(fault, a, b, c)),
+    }
+}
+
+/// The lines of a bracket.
+fn lines(alloc: Global, found: &Bracket) -> Result<Vec<u8>, Memory>
+    ensures { IfOk result (λ text. text.items ≡ text_of found.now.s found.now.t found.now.value found.now.indeterminacy.rows) }
+{
+    bracket_lines(
+        alloc,
+        found.s,
+        found.t,
+        &found.value,
+        found.indeterminacy.rows(),
+    )
+}
+
+/// What is known of each table.
+fn known(table: &Table)
+    ensures is_table { IsTable table.now }
+    ensures least { neg_ℤ MAX_DEGREE ≤ℤ bottom_of table.now.resolved }
+    ensures most { bottom_of table.now.resolved ≤ℤ MAX_DEGREE }
+{
+    let _rows = table.front(0);
+    let _bottom = table.module().bottom();
+}
