@@ -1,8 +1,10 @@
-//! Tests of products and brackets.
+//! Tests of lifts, products and brackets.
 #![tactic(auto)]
 
 #[cfg(test)]
 mod brackets;
+#[cfg(test)]
+mod lifts;
 #[cfg(test)]
 mod products;
 #[cfg(test)]
