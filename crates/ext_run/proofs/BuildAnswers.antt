@@ -29,10 +29,10 @@ use Rattle.ext_words.specs.declared.command.Command.TheVariants.{Build as Built}
 use Rattle.ext_words.specs.declared.command.Build.{Build}
 use Rattle.ext_words.specs.declared.command.Build.TheVariants.{Sum, Tensor, Dual, Shift}
 use Rattle.ext_run.specs.declared.failure.Failure.{Failure}
-use Rattle.ext_run.specs.declared.failure.Failure.TheVariants.{Words, Malformed as NoModuleFile, NotModule, PastLimit, Reading, Writing, Saving, SaveFile, Memory}
+use Rattle.ext_run.specs.declared.failure.Failure.TheVariants.{Words, Malformed as NoModuleFile, NotModule, PastLimit, Reading, Writing, Saving, SaveFile, Classes, Memory}
 use Rattle.ext_run.specs.Building.{wanted, built_of, first_refused, IsBuilt, IsAnswerToFiles, no_module, past_limit, file_of as file_of_built, IsBuildAnswer, no_files, of_files, IsBuildable, ArePartsFrom, IsBuildAnswerFrom, IsBuildCauseFrom}
 use Rattle.ext_run.specs.Failure.{build_failure}
-use Rattle.ext_run.specs.Answer.{IsCommandAnswerFrom, IsCommandCauseFrom}
+use Rattle.ext_run.specs.Answer.{IsTold, IsCommandAnswerFrom, IsCommandCauseFrom}
 use Rattle.ext_run.specs.Existence.{HasValue}
 
 -- ---- one answer
@@ -95,12 +95,9 @@ buildable_answer made bytes failure has p =
     let same = build_answer_unique made bytes (Ok (file_text has.built)) (Err failure) (of_files has.files (Ok (file_text has.built)) has.are_files (file_of_built has.built has.is_built has.within)) p in
     cc
 
-buildable_input : (made : Build) (left : Option (List ℕ)) (bytes : List ℕ) (failure : Failure) → IfSome left (λ l. bytes ≡ l) → MatchOption left ⊥ (IsBuildable made) → IsBuildAnswer made bytes (Err failure) → ⊥
-buildable_input made None bytes failure all has p = has
-buildable_input made (Some l) bytes failure all has p = buildable_answer made bytes failure (subst (IsBuildable made) (sym all) has) p
-
-pub buildable_failure : (made : Build) (left : Option (List ℕ)) (bytes : List ℕ) (a : Result (List ℕ) Failure) (failure : Failure) → a ≡ Err failure → IfSome left (λ l. bytes ≡ l) → MatchOption left ⊥ (IsBuildable made) → IsBuildAnswer made bytes a → ⊥
-buildable_failure made left bytes a failure e all has p = buildable_input made left bytes failure all has (subst (IsBuildAnswer made bytes) e p)
+pub buildable_failure : (made : Build) (left : Option (List ℕ)) (bytes : List ℕ) (failure : Failure) → IfSome left (λ l. bytes ≡ l) → MatchOption left ⊥ (IsBuildable made) → IsBuildAnswer made bytes (Err failure) → ⊥
+buildable_failure made None bytes failure all has p = has
+buildable_failure made (Some l) bytes failure all has p = buildable_answer made bytes failure (subst (IsBuildable made) (sym all) has) p
 
 -- ---- the size of a file
 
@@ -108,9 +105,9 @@ parts_fit : (want : ℕ) (bytes : List ℕ) (files : List File) (r : Result (Lis
 parts_fit want bytes files r (no_value e p) same = absurd cc
 parts_fit want bytes files r (described d p) same = value_fits bytes (Ok d) d p refl
 
-pub build_fits : (made : Build) (bytes text : List ℕ) (a : Result (List ℕ) Failure) → IsBuildAnswer made bytes a → a ≡ Ok text → length bytes ≤ 2 ^ 20
-build_fits made bytes text a (no_files e p) h = absurd cc
-build_fits made bytes text a (of_files files x p answer) h = parts_fit (wanted made) bytes files (Ok files) p refl
+pub build_fits : (made : Build) (bytes : List ℕ) (a : Result (List ℕ) Failure) → IsTold a → IsBuildAnswer made bytes a → length bytes ≤ 2 ^ 20
+build_fits made bytes a told (no_files e p) = absurd told
+build_fits made bytes a told (of_files files x p answer) = parts_fit (wanted made) bytes files (Ok files) p refl
 
 -- ---- files are so many as are wanted
 
@@ -277,6 +274,7 @@ module _ (made : Build) (left : Option (List ℕ)) (files : List File) where
   files_cause Writing p w = absurd (of_files_alone made files (Err Writing) Writing (w (λ h. cc)) refl)
   files_cause Saving p w = absurd (of_files_alone made files (Err Saving) Saving (w (λ h. cc)) refl)
   files_cause (SaveFile e) p w = absurd (of_files_alone made files (Err (SaveFile e)) (SaveFile e) (w (λ h. cc)) refl)
+  files_cause (Classes e) p w = absurd (of_files_alone made files (Err (Classes e)) (Classes e) (w (λ h. cc)) refl)
   files_cause Memory p w = tt
 
   files_not_reading : (failure : Failure) → (failure ≢ Memory → IsAnswerToFiles made files (Err failure)) → failure ≡ Reading → ⊥
@@ -290,10 +288,10 @@ module _ (made : Build) (left : Option (List ℕ)) (files : List File) where
 
 -- ---- from what is built to the command
 
-pub build_answer : (command : Command) (made : Build) (left : Option (List ℕ)) (made_text text : List ℕ) → command ≡ Built made → text ≡ made_text → IsBuildAnswerFrom made left (Ok made_text) → IsCommandAnswerFrom command left (Ok text)
-build_answer command made left made_text text is same p =
-    let answer : IsCommandAnswerFrom (Built made) left (Ok made_text) = p in
-    subst (λ (x : List ℕ). IsCommandAnswerFrom command left (Ok x)) (sym same) (subst (λ (c : Command). IsCommandAnswerFrom c left (Ok made_text)) (sym is) answer)
+pub build_answer : (command : Command) (made : Build) (left : Option (List ℕ)) (text : List ℕ) (answer : Result (List ℕ) Failure) → command ≡ Built made → answer ≡ Ok text → IsBuildAnswerFrom made left (Ok text) → IsCommandAnswerFrom command left answer
+build_answer command made left text answer is same p =
+    let there : IsCommandAnswerFrom (Built made) left (Ok text) = p in
+    subst (IsCommandAnswerFrom command left) (sym same) (subst (λ (c : Command). IsCommandAnswerFrom c left (Ok text)) (sym is) there)
 
 pub build_cause : (command : Command) (made : Build) (left : Option (List ℕ)) (failure : Failure) → command ≡ Built made → IsBuildCauseFrom made left failure → IsCommandCauseFrom command left failure
 build_cause command made left failure is p =

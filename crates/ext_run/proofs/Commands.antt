@@ -5,17 +5,18 @@ use Rattle.finite_module.specs.Module.{Module as SteenrodModule}
 use Rattle.finite_module.specs.DerivedAction.{derived_module}
 use Rattle.finite_module.specs.Checked.{sphere_file}
 use Rattle.finite_module.specs.Sample.{sample_file}
+use Rattle.chain_map.specs.declared.class.Class.{Class}
 use Rattle.ext_words.specs.declared.command.Command.{Command}
-use Rattle.ext_words.specs.declared.command.Command.TheVariants.{Sphere, Resolve, Dump, Check, Sample, Sq}
+use Rattle.ext_words.specs.declared.command.Command.TheVariants.{Sphere, Resolve, Dump, Products, Massey, Check, Sample, Sq}
 use Rattle.ext_words.specs.declared.command.Common.{Common}
 use Rattle.ext_run.specs.declared.failure.Failure.{Failure}
-use Rattle.ext_run.specs.declared.failure.Failure.TheVariants.{Words, Malformed as NoModuleFile, NotModule, PastLimit, Reading, Writing, Saving, SaveFile, Memory}
+use Rattle.ext_run.specs.declared.failure.Failure.TheVariants.{Words, Malformed as NoModuleFile, NotModule, PastLimit, Reading, Writing, Saving, SaveFile, Classes, Memory}
 use Rattle.ext_words.specs.declared.command.WordsFault.{WordsFault}
 use Rattle.ext_words.specs.declared.command.WordsFault.TheVariants.{Words as Outside, Memory as NoSpace}
 use Rattle.ext_run.specs.Failure.{words_failure}
 use Rattle.ext_words.specs.Words.{command_of}
 use Rattle.ext_run.specs.Input.{IsFileCauseFrom, IsModuleFrom}
-use Rattle.ext_run.specs.Answer.{IsAnswer, IsAnswerTo, IsAnswerFrom, IsCauseFrom, Reads, WordsRead, IsChart, IsDump, IsSummary, IsLineOn, IsProduct, IsModuleAnswer, no_file, no_module, text_of, IsCommandAnswerFrom, IsCommandCauseFrom}
+use Rattle.ext_run.specs.Answer.{IsAnswer, IsAnswerTo, IsAnswerFrom, IsCauseFrom, Reads, WordsRead, IsChart, IsDump, IsSummary, IsLineOn, IsProduct, IsText, IsProducts, IsBracket, IsModuleAnswer, no_file, no_module, answer_of, IsCommandAnswerFrom, IsCommandCauseFrom}
 
 -- some bytes, and all that is left where that is told
 pub bytes_of : Option (List ℕ) → List ℕ
@@ -27,18 +28,18 @@ unfolding bytes_of
 all_of None = tt
 all_of (Some l) = refl
 
-pub sphere_answer : (common : Common) (left : Option (List ℕ)) (m : SteenrodModule) (text : List ℕ) → m ≡ derived_module sphere_file → IsChart common.range m text → IsCommandAnswerFrom (Sphere common) left (Ok text)
-sphere_answer common left m text e p = record {
+pub sphere_answer : (common : Common) (left : Option (List ℕ)) (m : SteenrodModule) (answer : Result (List ℕ) Failure) → m ≡ derived_module sphere_file → IsText (IsChart common.range) m answer → IsCommandAnswerFrom (Sphere common) left answer
+sphere_answer common left m answer e p = record {
   bytes = bytes_of left;
   all = all_of left;
-  holds = subst (λ (n : SteenrodModule). IsChart common.range n text) e p;
+  holds = subst (λ (n : SteenrodModule). IsText (IsChart common.range) n answer) e p;
 }
 
-pub sample_answer : (n : ℕ) (common : Common) (left : Option (List ℕ)) (m : SteenrodModule) (text : List ℕ) → m ≡ derived_module (sample_file n) → IsSummary common.range m text → IsCommandAnswerFrom (Sample n common) left (Ok text)
-sample_answer n common left m text e p = record {
+pub sample_answer : (n : ℕ) (common : Common) (left : Option (List ℕ)) (m : SteenrodModule) (answer : Result (List ℕ) Failure) → m ≡ derived_module (sample_file n) → IsText (IsSummary common.range) m answer → IsCommandAnswerFrom (Sample n common) left answer
+sample_answer n common left m answer e p = record {
   bytes = bytes_of left;
   all = all_of left;
-  holds = subst (λ (x : SteenrodModule). IsSummary common.range x text) e p;
+  holds = subst (λ (x : SteenrodModule). IsText (IsSummary common.range) x answer) e p;
 }
 
 pub product_answer : (numbers : List ℕ) (command : Command) (left : Option (List ℕ)) (text : List ℕ) → command ≡ Sq numbers → IsProduct numbers text → IsCommandAnswerFrom command left (Ok text)
@@ -48,32 +49,42 @@ product_answer numbers command left text is p =
 
 -- ---- the commands that read a module
 
--- the command reads a module file, and answers what is right for it as IsTextOf says
-pub record IsOnModule (command : Command) (IsTextOf : SteenrodModule → List ℕ → Type 0) : Type 0 where
+-- the command reads a module file, and answers what is right for it as IsAnswerOf says
+pub record IsOnModule (command : Command) (IsAnswerOf : SteenrodModule → Result (List ℕ) Failure → Type 0) : Type 0 where
   pub reads : Reads command
-  pub answers : (bytes : List ℕ) (answer : Result (List ℕ) Failure) → IsModuleAnswer IsTextOf bytes answer → IsAnswerTo command bytes answer
+  pub answers : (bytes : List ℕ) (answer : Result (List ℕ) Failure) → IsModuleAnswer IsAnswerOf bytes answer → IsAnswerTo command bytes answer
 
-pub resolve_on : (command : Command) (common : Common) → command ≡ Resolve common → IsOnModule command (IsChart common.range)
+pub resolve_on : (command : Command) (common : Common) → command ≡ Resolve common → IsOnModule command (IsText (IsChart common.range))
 resolve_on command common is =
-    let on : IsOnModule (Resolve common) (IsChart common.range) = record { reads = tt; answers = λ bytes answer p. p } in
-    subst (λ (c : Command). IsOnModule c (IsChart common.range)) (sym is) on
+    let on : IsOnModule (Resolve common) (IsText (IsChart common.range)) = record { reads = tt; answers = λ bytes answer p. p } in
+    subst (λ (c : Command). IsOnModule c (IsText (IsChart common.range))) (sym is) on
 
-pub dump_on : (command : Command) (common : Common) → command ≡ Dump common → IsOnModule command (IsDump common.range)
+pub dump_on : (command : Command) (common : Common) → command ≡ Dump common → IsOnModule command (IsText (IsDump common.range))
 dump_on command common is =
-    let on : IsOnModule (Dump common) (IsDump common.range) = record { reads = tt; answers = λ bytes answer p. p } in
-    subst (λ (c : Command). IsOnModule c (IsDump common.range)) (sym is) on
+    let on : IsOnModule (Dump common) (IsText (IsDump common.range)) = record { reads = tt; answers = λ bytes answer p. p } in
+    subst (λ (c : Command). IsOnModule c (IsText (IsDump common.range))) (sym is) on
 
-pub check_on : (command : Command) → command ≡ Check → IsOnModule command IsLineOn
+pub check_on : (command : Command) → command ≡ Check → IsOnModule command (IsText IsLineOn)
 check_on command is =
-    let on : IsOnModule Check IsLineOn = record { reads = tt; answers = λ bytes answer p. p } in
-    subst (λ (c : Command). IsOnModule c IsLineOn) (sym is) on
+    let on : IsOnModule Check (IsText IsLineOn) = record { reads = tt; answers = λ bytes answer p. p } in
+    subst (λ (c : Command). IsOnModule c (IsText IsLineOn)) (sym is) on
 
-module _ (command : Command) (IsTextOf : SteenrodModule → List ℕ → Type 0) (on : IsOnModule command IsTextOf) (left : Option (List ℕ)) where
-  pub module_answer : (m : SteenrodModule) (text : List ℕ) → IsModuleFrom left m → IsTextOf m text → IsCommandAnswerFrom command left (Ok text)
-  module_answer m text p x = record {
+pub products_on : (command : Command) (common : Common) (by : Class) → command ≡ Products common by → IsOnModule command (IsProducts common.range by)
+products_on command common by is =
+    let on : IsOnModule (Products common by) (IsProducts common.range by) = record { reads = tt; answers = λ bytes answer p. p } in
+    subst (λ (c : Command). IsOnModule c (IsProducts common.range by)) (sym is) on
+
+pub massey_on : (command : Command) (common : Common) (a b c : Class) → command ≡ Massey common a b c → IsOnModule command (IsBracket common.range a b c)
+massey_on command common a b c is =
+    let on : IsOnModule (Massey common a b c) (IsBracket common.range a b c) = record { reads = tt; answers = λ bytes answer p. p } in
+    subst (λ (x : Command). IsOnModule x (IsBracket common.range a b c)) (sym is) on
+
+module _ (command : Command) (IsAnswerOf : SteenrodModule → Result (List ℕ) Failure → Type 0) (on : IsOnModule command IsAnswerOf) (left : Option (List ℕ)) where
+  pub module_answer : (m : SteenrodModule) (answer : Result (List ℕ) Failure) → IsModuleFrom left m → IsAnswerOf m answer → IsCommandAnswerFrom command left answer
+  module_answer m answer p x = record {
     bytes = p.is_file.bytes;
     all = p.is_file.all;
-    holds = on.answers p.is_file.bytes (Ok text) (text_of p.file text p.is_file.holds p.no_refusal (subst (λ (n : SteenrodModule). IsTextOf n text) p.is_derived x));
+    holds = on.answers p.is_file.bytes answer (answer_of p.file answer p.is_file.holds p.no_refusal (subst (λ (n : SteenrodModule). IsAnswerOf n answer) p.is_derived x));
   }
 
   -- there is no answer where there is no module
@@ -86,6 +97,7 @@ module _ (command : Command) (IsTextOf : SteenrodModule → List ℕ → Type 0)
   module_cause Writing p = absurd p
   module_cause Saving p = absurd p
   module_cause (SaveFile e) p = absurd p
+  module_cause (Classes e) p = absurd p
   module_cause Memory p = tt
 
 -- ---- from a command to the words that give it
@@ -112,6 +124,7 @@ words_cause words left command Reading e p = words_read words command e p
 words_cause words left command Writing e p = absurd p
 words_cause words left command Saving e p = absurd p
 words_cause words left command (SaveFile d) e p = absurd p
+words_cause words left command (Classes d) e p = absurd p
 words_cause words left command Memory e p = tt
 
 -- words outside the grammar are the cause of their refusal

@@ -1,5 +1,5 @@
 -- A table that was continued through a range, and what is told of it.
-use Rattle.std.proofs.Common.{◌≡◌, ℕ, ◌<◌, ◌⊎◌, inl, inr, List, length, Option, Some, None, sym, subst, refl, arith}
+use Rattle.std.proofs.Common.{◌≡◌, ℕ, ◌<◌, ◌⊎◌, inl, inr, List, [], length, Option, Some, None, sym, subst, refl, arith}
 use Rattle.std.proofs.lemmas.Option.{slice_get_cases}
 use Rattle.std.specs.Prelude.{Result, Ok, Err, IfOk, IfErr, OnOk, IfSome, IsSome, slice_get}
 use Rattle.std.specs.Option.{option_map}
@@ -9,20 +9,23 @@ use Rattle.finite_module.specs.Graded.{ModulesAreSteenrodModules}
 use Rattle.finite_module.specs.ModuleLaws.{width-below}
 use Rattle.resolution_laws.specs.Resolution.{Content, IsCanonicalTable}
 use Rattle.resolution_laws.specs.Exactness.{CanonicalTableIsMinimalResolution}
-use Rattle.resolution_laws.specs.Start.{Entry, entry_at, IsCanonicalStart}
+use Rattle.resolution_laws.specs.Start.{Entry, entry_at, IsOf, IsCanonicalStart}
+use Rattle.resolution_laws.proofs.StartLaws.{canonical_content}
 use Rattle.square.specs.declared.range.Range.{Range}
 use Rattle.square.specs.Squares.{Placed, over}
 use Rattle.square.specs.Tables.{Staircase, row_in, plain_rows, IsThrough}
 use Rattle.square.specs.Growing.{HasGrown}
+use Rattle.square.proofs.Places.{slice_get-there, content_at-is}
 use Rattle.square.specs.Keeping.{Keeper, HoldsTable, IsKeeperOf, HasKept}
-use Rattle.resolution_step.specs.Alone.{cut}
+use Rattle.resolution_step.specs.Alone.{cut, AreOfStart}
+use Rattle.yoneda.specs.Products.{IsAllCanonical}
 use Rattle.ext_run.specs.declared.failure.Failure.{Failure}
 use Rattle.ext_run.specs.declared.failure.Failure.TheVariants.{Saving, Memory}
 use Rattle.ext_run.specs.declared.task.Form.{Form}
-use Rattle.ext_run.specs.Answer.{IsResolved}
+use Rattle.ext_run.specs.Answer.{IsResolved, IsOfClasses}
 use Rattle.ext_run.specs.Task.{IsInForm}
 use Rattle.ext_run.specs.Saving.{HasRange}
-use Rattle.ext_run.specs.Work.{Told, HasContinued}
+use Rattle.ext_run.specs.Work.{Told, HasAnswer, answer_of, HasContinued}
 
 -- a table with each square of the range, in a list
 some_content : (o : Option Placed) → ((q : Placed) × (o ≡ Some q)) → IsSome (option_map (λ q. q.content) o)
@@ -51,52 +54,65 @@ resolved_by minimal modules range m table canonical = record {
   minimal = minimal (over m) range.s range.t table (modules m.plain m.is_module) (width-below m.plain.generators m.by_degree) canonical;
 }
 
+-- each square of the continued table is canonical, where the table began with canonical squares
+canonical_squares : (table more : Staircase) → HasGrown table more → AreOfStart more → IsCanonicalStart (over table.resolved) table.start → IsAllCanonical more
+canonical_squares table more grown are start i k l =
+    let there = slice_get-there (row_in more.rows i) k l in
+    let P : Checked → Type 0 = λ m. IsCanonicalStart (over m) table.start in
+    let here : IsCanonicalStart (over more.resolved) more.start = subst (λ (entries : List Entry). IsCanonicalStart (over more.resolved) entries) (sym grown.start) (subst P (sym grown.resolved) start) in
+    subst (IsOf (over more.resolved) [] i k) (sym (content_at-is more.rows i k there.0 there.1)) (canonical_content (over more.resolved) more.start here i k there.0.content (are i k there.0 there.1))
+
 -- what is told of the continued table
 abbrev pub IsToldOf : Range → Form → Staircase → Told → Type 0
-IsToldOf range form more text = IfOk text (λ t. IsResolved range more.resolved.plain (cut range (plain_rows more.rows)) → IsInForm form range more.resolved.plain t.items)
+IsToldOf range form more text = HasAnswer text → IsResolved range more.resolved.plain (cut range (plain_rows more.rows)) → IsAllCanonical more → IsInForm form range more.resolved.plain (answer_of text)
 
-told_with : (minimal : CanonicalTableIsMinimalResolution) (modules : ModulesAreSteenrodModules) (range : Range) (form : Form) (table more : Staircase) (text : Told) → HasGrown table more → (IsCanonicalStart (over table.resolved) table.start → IsCanonicalTable (over table.resolved) range.s range.t (cut range (plain_rows more.rows))) → IsToldOf range form more text →
-    IfOk text (λ t. IsCanonicalStart (over table.resolved) table.start → IsInForm form range table.resolved.plain t.items)
-told_with minimal modules range form table more (Err e) grown canonical told = tt
-told_with minimal modules range form table more (Ok t) grown canonical told = λ start.
+told_with : (minimal : CanonicalTableIsMinimalResolution) (modules : ModulesAreSteenrodModules) (range : Range) (form : Form) (table more : Staircase) (text : Told) → HasGrown table more → AreOfStart more → (IsCanonicalStart (over table.resolved) table.start → IsCanonicalTable (over table.resolved) range.s range.t (cut range (plain_rows more.rows))) → IsToldOf range form more text →
+    HasAnswer text → IsCanonicalStart (over table.resolved) table.start → IsInForm form range table.resolved.plain (answer_of text)
+told_with minimal modules range form table more text grown are canonical told has start =
     let rows = cut range (plain_rows more.rows) in
     let here : IsResolved range table.resolved.plain rows = resolved_by minimal modules range table.resolved rows (canonical start) in
-    let P : Checked → Type 0 = λ m. IsResolved range m.plain rows → IsInForm form range m.plain t.items in
-    subst P grown.resolved told here
+    let all = canonical_squares table more grown are start in
+    let P : Checked → Type 0 = λ m. IsResolved range m.plain rows → IsInForm form range m.plain (answer_of text) in
+    subst P grown.resolved (λ resolved. told has resolved all) here
 
-only_memory : (text : Told) → IfErr text (λ e. e ≡ Memory) → IfErr text (λ e. (e ≡ Saving) ⊎ (e ≡ Memory))
-only_memory (Ok t) h = tt
-only_memory (Err e) h = inr h
+or_saving : (text : Told) → IfErr text (λ e. (e ≡ Memory) ⊎ IsOfClasses e) → IfErr text (λ e. (e ≡ Saving) ⊎ (e ≡ Memory) ⊎ IsOfClasses e)
+or_saving (Ok t) h = tt
+or_saving (Err e) h = inr h
 
-not_failed : (text : Told) (X : Type 0) → IfErr text (λ e. e ≡ Memory) → text ≡ Err Saving → X
+not_failed : (text : Told) (X : Type 0) → IfErr text (λ e. (e ≡ Memory) ⊎ IsOfClasses e) → text ≡ Err Saving → X
 not_failed (Ok t) X h is = absurd (cc)
-not_failed (Err e) X h is = absurd (cc)
+not_failed (Err e) X (inl h) is = absurd (cc)
+not_failed (Err e) X (inr h) is = absurd (let same : e ≡ Saving = cc in subst IsOfClasses same h)
 
-always : (text : Told) (P : Type 0) → P → OnOk text P
-always (Ok t) P p = p
-always (Err e) P p = tt
-
-pub continued : (minimal : CanonicalTableIsMinimalResolution) (modules : ModulesAreSteenrodModules) (range : Range) (form : Form) (table more : Staircase) (text : Told) (old new : Keeper) (given : List Entry) → HasGrown table more → IsThrough range more.rows → (IsCanonicalStart (over table.resolved) table.start → IsCanonicalTable (over table.resolved) range.s range.t (cut range (plain_rows more.rows)))
-    → IsKeeperOf new more → new.live → new.faults ≡ old.faults → HasKept (over table.resolved) table.start old new given → IsToldOf range form more text → IfErr text (λ e. e ≡ Memory) → HasContinued range form table text old new
-continued minimal modules range form table more text old new given grown through canonical keeper live no_fault kept told why = record {
-  told = told_with minimal modules range form table more text grown canonical told;
-  why = only_memory text why;
+pub continued : (minimal : CanonicalTableIsMinimalResolution) (modules : ModulesAreSteenrodModules) (range : Range) (form : Form) (table more : Staircase) (text : Told) (old new : Keeper) (given : List Entry) → HasGrown table more → AreOfStart more → IsThrough range more.rows → (IsCanonicalStart (over table.resolved) table.start → IsCanonicalTable (over table.resolved) range.s range.t (cut range (plain_rows more.rows)))
+    → IsKeeperOf new more → new.live → new.faults ≡ old.faults → HasKept (over table.resolved) table.start old new given → IsToldOf range form more text → IfErr text (λ e. (e ≡ Memory) ⊎ IsOfClasses e) → HasContinued range form table text old new
+continued minimal modules range form table more text old new given grown are through canonical keeper live no_fault kept told why = record {
+  told = told_with minimal modules range form table more text grown are canonical told;
+  why = or_saving text why;
   failed = not_failed text _ why;
-  no_fault = always text _ no_fault;
-  live = always text _ live;
-  whole = always text _ (range_kept range more.rows new.kept through keeper.holds);
+  no_fault = λ has. no_fault;
+  live = λ has. live;
+  whole = λ has. range_kept range more.rows new.kept through keeper.holds;
   given = given;
   kept = kept;
 }
 
+no_answer : (e : Failure) → (e ≡ Saving) ⊎ (e ≡ Memory) → IsOfClasses e → ⊥
+no_answer e (inl h) has = subst IsOfClasses h has
+no_answer e (inr h) has = subst IsOfClasses h has
+
+device_or_memory : (e : Failure) → (e ≡ Saving) ⊎ (e ≡ Memory) → (e ≡ Saving) ⊎ (e ≡ Memory) ⊎ IsOfClasses e
+device_or_memory e (inl h) = inl h
+device_or_memory e (inr h) = inr (inl h)
+
 pub not_continued : (range : Range) (form : Form) (table : Staircase) (e : Failure) (old new : Keeper) (given : List Entry) → (e ≡ Saving) ⊎ (e ≡ Memory) → (e ≡ Saving → HasRisen old.faults new.faults) → HasKept (over table.resolved) table.start old new given → HasContinued range form table (Err e) old new
 not_continued range form table e old new given why failed kept = record {
-  told = tt;
-  why = why;
+  told = λ has. absurd (no_answer e why has);
+  why = device_or_memory e why;
   failed = λ is. failed (cc);
-  no_fault = tt;
-  live = tt;
-  whole = tt;
+  no_fault = λ has. absurd (no_answer e why has);
+  live = λ has. absurd (no_answer e why has);
+  whole = λ has. absurd (no_answer e why has);
   given = given;
   kept = kept;
 }
@@ -108,8 +124,3 @@ at_ok {X = X} {E = E} r x P is h = subst (λ (q : Result X E). IfOk q P) is h
 
 pub when_ok : {X E : Type 0} (r : Result X E) (x : X) (P : Type 0) → r ≡ Ok x → OnOk r P → P
 when_ok {X = X} {E = E} r x P is h = subst (λ (q : Result X E). OnOk q P) is h
-
--- a text that was handed on
-pub handed_on : {X E F : Type 0} (text : Result X F) (made : Result X E) (P : X → Type 0) → IfOk text (λ t. made ≡ Ok t) → IfOk made P → IfOk text P
-handed_on (Ok t) made P is h = at_ok made t P is h
-handed_on (Err e) made P is h = tt

@@ -1,18 +1,18 @@
--- What a run promises, by how it ends: by a text that answers the words, or by a failure.
+-- What a run promises, by how it ends: by a text that answers the words, or by a failure, which may be an answer too.
 use Rattle.std.proofs.Common.{◌≡◌, ◌≢◌, ◌∙◌, ℕ, ◌≤◌, ◌⊎◌, inl, inr, List, Option, refl, sym, subst, ap, arith}
 use Rattle.std.specs.Prelude.{Result, Ok, Err, IfOk, IfErr}
 use Rattle.edge.specs.Faults.{HasRisen}
 use Rattle.edge.specs.Source.{without_first, HasGivenUpTo}
 use Rattle.ext_run.specs.Failure.{status_of}
 use Rattle.ext_run.specs.declared.failure.Failure.{Failure}
-use Rattle.ext_run.specs.declared.failure.Failure.TheVariants.{Words, Malformed as NoModuleFile, NotModule, PastLimit, Reading, Writing, Saving, SaveFile, Memory}
+use Rattle.ext_run.specs.declared.failure.Failure.TheVariants.{Words, Malformed as NoModuleFile, NotModule, PastLimit, Reading, Writing, Saving, SaveFile, Classes, Memory}
 use Rattle.save_file.specs.declared.fault.ResumeFault.{ResumeFault}
 use Rattle.ext_run.specs.Input.{most_read}
-use Rattle.ext_run.specs.Answer.{IsAnswerFrom, WordsRead}
+use Rattle.ext_run.specs.Answer.{IsTold, IsAnswerFrom, WordsRead}
 use Rattle.ext_run.specs.Saving.{IsRunCauseFrom}
 use Rattle.ext_run.specs.Ending.{HasTold, HasGotWhole, HasGotPart}
 use Rattle.ext_run.specs.Run.{IsStatusOf, HasRead, HasAnswered, HasReported, IsComplete}
-use Rattle.ext_run.proofs.Causes.{read_whole, never_0, only_reading, only_writing, HasText, status_of_text, status_of_failure, complete}
+use Rattle.ext_run.proofs.Causes.{read_whole, never_0, only_reading, only_writing, HasOutcome, status_of_text, status_of_failure, complete}
 use Rattle.ext_run.proofs.Saved.{Store, IsKept, IsUsableAt}
 
 -- how a source, a sink or standard error is seen: what it has left or got, and its count of faults
@@ -23,10 +23,10 @@ pub record Device : Type 1 where
 
 -- what a run promises
 pub record IsRun (source out err : Device) (store : Store) (words : List (List ℕ)) (code : ℕ) (s t : source.State) (o p : out.State) (e f : err.State) (d g : store.State) : Type 0 where
-  pub status : IsStatusOf words (source.shows s) code
+  pub status : IsStatusOf words (source.shows s) (IsUsableAt store words (source.shows s) d) code
   pub read : HasRead source.shows source.faults words code s t
   pub answered : HasAnswered out.shows out.faults words (source.shows s) (IsUsableAt store words (source.shows s) d) code o p
-  pub reported : HasReported err.shows err.faults words (source.shows s) (store.now d) code e f
+  pub reported : HasReported err.shows err.faults words (source.shows s) (store.now d) (IsUsableAt store words (source.shows s) d) code e f
   pub saved : IsKept store words (source.shows s) code d g
   pub complete : IsUsableAt store words (source.shows s) d → (HasRisen (source.faults s) (source.faults t) → ⊥) → (HasRisen (out.faults o) (out.faults p) → ⊥) → (HasRisen (store.faults d) (store.faults g) → ⊥) → IsComplete words (source.shows s) code
 
@@ -40,8 +40,8 @@ pub record IsRead (source : Device) (words : List (List ℕ)) (s t : source.Stat
 
 -- what becomes of the source, of the sink and of the disk where there is this failure
 pub record IsFailed (source out : Device) (store : Store) (words : List (List ℕ)) (failure : Failure) (s t : source.State) (o p : out.State) (d g : store.State) : Type 0 where
-  pub cause : IsRunCauseFrom words (source.shows s) (store.now d) failure
-  pub has_text : HasText words (source.shows s) (store.now d) failure
+  pub cause : IsRunCauseFrom words (source.shows s) (store.now d) (IsUsableAt store words (source.shows s) d) failure
+  pub outcome : HasOutcome words (source.shows s) (store.now d) (IsUsableAt store words (source.shows s) d) failure
   pub unread : (WordsRead words → ⊥) → t ≡ s
   pub given : HasGivenUpTo most_read (source.shows s) (source.shows t)
   pub read : WordsRead words → failure ≢ Reading → failure ≢ Memory → source.shows t ≡ without_first (source.shows s) most_read
@@ -58,7 +58,7 @@ module _ (source out err : Device) (store : Store) (words : List (List ℕ)) (s 
   -- a run that ends by a failure
   pub run_of_failure : (failure : Failure) (status : ℕ) → IsFailed source out store words failure s t o p d g → HasTold err.shows err.faults failure status e f → IsRun source out err store words status s t o p e f d g
   run_of_failure failure status came told = record {
-    status = subst (IsStatusOf words (source.shows s)) (sym told.status_is) (status_of_failure words (source.shows s) (store.now d) failure came.cause came.has_text);
+    status = subst (IsStatusOf words (source.shows s) (IsUsableAt store words (source.shows s) d)) (sym told.status_is) (status_of_failure words (source.shows s) (store.now d) (IsUsableAt store words (source.shows s) d) failure came.cause came.outcome (λ usable h. let part = came.part h in (part.0, part.1 usable)) came.accepted);
     read = record {
       unread = came.unread;
       given = came.given;
@@ -84,19 +84,19 @@ module _ (source out err : Device) (store : Store) (words : List (List ℕ)) (s 
     };
     saved = subst (λ (n : ℕ). IsKept store words (source.shows s) n d g) (sym told.status_is) came.saved;
     complete = λ usable no_read no_write no_save. subst (IsComplete words (source.shows s)) (sym told.status_is)
-        (complete words (source.shows s) (store.now d) failure came.cause (λ h. no_read (came.reading h)) (λ h. let part = came.part h in no_write part.2.risen) (λ h. no_save (came.saved.failed (ap status_of h))) (came.accepted usable));
+        (complete words (source.shows s) (store.now d) (IsUsableAt store words (source.shows s) d) failure came.cause usable (λ h. no_read (came.reading h)) (λ h. let part = came.part h in no_write part.2.risen) (λ h. no_save (came.saved.failed (ap status_of h))) (came.accepted usable));
   }
 
   -- a run that ends by a text, the words having an answer
-  pub run_of_text : (answer text : List ℕ) (status : ℕ) → IsRead source words s t → IsAnswerFrom words (source.shows s) (Ok answer) → (IsUsableAt store words (source.shows s) d → IsAnswerFrom words (source.shows s) (Ok text)) → HasGotWhole out.shows out.faults text o p → status ≡ 0 → f ≡ e →
+  pub run_of_text : (answer : Result (List ℕ) Failure) (text : List ℕ) (status : ℕ) → IsRead source words s t → IsTold answer → IsAnswerFrom words (source.shows s) answer → (IsUsableAt store words (source.shows s) d → IsAnswerFrom words (source.shows s) (Ok text)) → HasGotWhole out.shows out.faults text o p → status ≡ 0 → f ≡ e →
       IsKept store words (source.shows s) 0 d g → IsRun source out err store words status s t o p e f d g
-  run_of_text answer text status read there answers got is silent saved = record {
-    status = subst (IsStatusOf words (source.shows s)) (sym is) (status_of_text words (source.shows s) answer there);
+  run_of_text answer text status read told there answers got is silent saved = record {
+    status = subst (IsStatusOf words (source.shows s) (IsUsableAt store words (source.shows s) d)) (sym is) (status_of_text words (source.shows s) (IsUsableAt store words (source.shows s) d) answer text told there answers);
     read = record {
       unread = read.unread;
       given = read.given;
       read = λ reads no_6 no_12. read.read reads;
-      read_through = λ reads h. read_whole words (source.shows s) (source.shows t) answer reads there (read.read reads);
+      read_through = λ reads h. read_whole words (source.shows s) (source.shows t) answer told reads there (read.read reads);
       never_falls = read.never_falls;
       no_fault = λ no_6. read.no_fault;
       failed = λ h. absurd (omega (arith, is, h));
@@ -120,11 +120,11 @@ module _ (source out err : Device) (store : Store) (words : List (List ℕ)) (s 
   }
 
   -- the text cannot be written
-  cut : (answer text : List ℕ) → IsRead source words s t → IsAnswerFrom words (source.shows s) (Ok answer) → (IsUsableAt store words (source.shows s) d → IsAnswerFrom words (source.shows s) (Ok text)) → HasGotPart out.shows out.faults text o p →
+  cut : (answer : Result (List ℕ) Failure) (text : List ℕ) → IsRead source words s t → IsTold answer → IsAnswerFrom words (source.shows s) answer → (IsUsableAt store words (source.shows s) d → IsAnswerFrom words (source.shows s) (Ok text)) → HasGotPart out.shows out.faults text o p →
       IsKept store words (source.shows s) 7 d g → IsFailed source out store words Writing s t o p d g
-  cut answer text read there answers got saved = record {
+  cut answer text read told there answers got saved = record {
     cause = tt;
-    has_text = (answer, there);
+    outcome = (answer, told, there);
     unread = read.unread;
     given = read.given;
     read = λ reads no_6 no_12. read.read reads;
@@ -140,27 +140,28 @@ module _ (source out err : Device) (store : Store) (words : List (List ℕ)) (s 
 
   -- what is asked of the failure of a task
   pub record IsTaskFailure (failure : Failure) : Type 0 where
-    pub cause : IsRunCauseFrom words (source.shows s) (store.now d) failure
+    pub cause : IsRunCauseFrom words (source.shows s) (store.now d) (IsUsableAt store words (source.shows s) d) failure
     pub not_reading : failure ≢ Reading
     pub not_writing : failure ≢ Writing
     pub saved : IsKept store words (source.shows s) (status_of failure) d g
     pub accepted : IsUsableAt store words (source.shows s) d → (fault : ResumeFault) → failure ≡ SaveFile fault → ⊥
 
-  some_text : (answer : List ℕ) → IsAnswerFrom words (source.shows s) (Ok answer) → (failure : Failure) → HasText words (source.shows s) (store.now d) failure
-  some_text answer there Words = tt
-  some_text answer there (NoModuleFile e) = tt
-  some_text answer there (NotModule f e) = tt
-  some_text answer there (PastLimit what) = tt
-  some_text answer there Reading = tt
-  some_text answer there Writing = (answer, there)
-  some_text answer there Saving = (answer, there)
-  some_text answer there (SaveFile e) = (answer, there)
-  some_text answer there Memory = tt
+  some_outcome : (answer : Result (List ℕ) Failure) → IsTold answer → IsAnswerFrom words (source.shows s) answer → (failure : Failure) → HasOutcome words (source.shows s) (store.now d) (IsUsableAt store words (source.shows s) d) failure
+  some_outcome answer told there Words = tt
+  some_outcome answer told there (NoModuleFile e) = tt
+  some_outcome answer told there (NotModule f e) = tt
+  some_outcome answer told there (PastLimit what) = tt
+  some_outcome answer told there Reading = tt
+  some_outcome answer told there Writing = (answer, told, there)
+  some_outcome answer told there Saving = (answer, told, there)
+  some_outcome answer told there (SaveFile e) = (answer, told, there)
+  some_outcome answer told there (Classes e) = (answer, told, there)
+  some_outcome answer told there Memory = tt
 
-  ended_without : (answer : List ℕ) (failure : Failure) → IsRead source words s t → IsAnswerFrom words (source.shows s) (Ok answer) → IsTaskFailure failure → p ≡ o → IsFailed source out store words failure s t o p d g
-  ended_without answer failure read there why same = record {
+  ended_without : (answer : Result (List ℕ) Failure) (failure : Failure) → IsRead source words s t → IsTold answer → IsAnswerFrom words (source.shows s) answer → IsTaskFailure failure → p ≡ o → IsFailed source out store words failure s t o p d g
+  ended_without answer failure read told there why same = record {
     cause = why.cause;
-    has_text = some_text answer there failure;
+    outcome = some_outcome answer told there failure;
     unread = read.unread;
     given = read.given;
     read = λ reads no_6 no_12. read.read reads;
@@ -175,14 +176,15 @@ module _ (source out err : Device) (store : Store) (words : List (List ℕ)) (s 
   }
 
   -- a run whose words have a task, by the text that is made for it
-  pub run_of_task : {X : Type 0} (items : X → List ℕ) (text : Result X Failure) (status : ℕ) (answer : List ℕ)
+  pub run_of_task : {X : Type 0} (items : X → List ℕ) (text : Result X Failure) (status : ℕ) (answer : Result (List ℕ) Failure)
       → IsRead source words s t
-      → IsAnswerFrom words (source.shows s) (Ok answer)
+      → IsTold answer
+      → IsAnswerFrom words (source.shows s) answer
       → IfOk text (λ x. (IsUsableAt store words (source.shows s) d → IsAnswerFrom words (source.shows s) (Ok (items x))) × IsKept store words (source.shows s) 0 d g × IsKept store words (source.shows s) 7 d g)
       → IfErr text IsTaskFailure
       → IfOk text (λ x. (HasGotWhole out.shows out.faults (items x) o p × (status ≡ 0) × (f ≡ e)) ⊎ (HasGotPart out.shows out.faults (items x) o p × HasTold err.shows err.faults Writing status e f))
       → IfErr text (λ failure. (p ≡ o) × HasTold err.shows err.faults failure status e f)
       → IsRun source out err store words status s t o p e f d g
-  run_of_task items (Ok x) status answer read there made failed (inl got) none = run_of_text answer (items x) status read there made.0 got.0 got.1 got.2 made.1
-  run_of_task items (Ok x) status answer read there made failed (inr got) none = run_of_failure Writing status (cut answer (items x) read there made.0 got.0 made.2) got.1
-  run_of_task items (Err failure) status answer read there made failed got none = run_of_failure failure status (ended_without answer failure read there failed none.0) none.1
+  run_of_task items (Ok x) status answer read told there made failed (inl got) none = run_of_text answer (items x) status read told there made.0 got.0 got.1 got.2 made.1
+  run_of_task items (Ok x) status answer read told there made failed (inr got) none = run_of_failure Writing status (cut answer (items x) read told there made.0 got.0 made.2) got.1
+  run_of_task items (Err failure) status answer read told there made failed got none = run_of_failure failure status (ended_without answer failure read told there failed none.0) none.1

@@ -1,6 +1,6 @@
 -- A resolution over a save file: what its parts promise, put together.
 use Rattle.std.proofs.Common.{◌≡◌, ◌≢◌, ℕ, ◌≤◌, ◌⊎◌, inl, inr, List, [], ◌++◌, Option, Some, ap, sym, subst, ◌∙◌, refl, arith, append-nil}
-use Rattle.std.specs.Prelude.{Ok, Err, IfOk, IfErr, OnOk, IsOk, IfSome, IsSome}
+use Rattle.std.specs.Prelude.{Ok, Err, IfErr, IfSome, IsSome}
 use Rattle.std.specs.Option.{option_map}
 use Rattle.edge.specs.Faults.{HasRisen}
 use Rattle.edge.specs.Disk.{LeavesOnly}
@@ -21,33 +21,24 @@ use Rattle.ext_run.specs.declared.failure.Failure.{Failure}
 use Rattle.ext_run.specs.declared.failure.Failure.TheVariants.{Saving, SaveFile, Memory}
 use Rattle.ext_run.specs.declared.task.Resolution.{Resolution as ToResolve}
 use Rattle.ext_run.specs.Failure.{resume_failure}
+use Rattle.ext_run.specs.Answer.{IsOfClasses}
 use Rattle.ext_run.specs.Task.{IsInForm}
 use Rattle.ext_run.specs.Saving.{AreCanonical, standing_for, StandsWith, IsOurs, HasLasted}
-use Rattle.ext_run.specs.Work.{Told, HasContinued, IsRefusedFor, HasKeptOn}
+use Rattle.ext_run.specs.Work.{Told, HasAnswer, answer_of, HasContinued, IsRefusedFor, HasKeptOn}
 use Rattle.ext_run.proofs.Lasting.{some_of, at_some, all_first, canonical_start, as_another, lasting}
 
 -- an error of a continued table is no refusal
-no_refusal : (text : Told) (fault : ResumeFault) → IfErr text (λ e. (e ≡ Saving) ⊎ (e ≡ Memory)) → text ≡ Err (SaveFile fault) → ⊥
+no_refusal : (text : Told) (fault : ResumeFault) → IfErr text (λ e. (e ≡ Saving) ⊎ (e ≡ Memory) ⊎ IsOfClasses e) → text ≡ Err (SaveFile fault) → ⊥
 no_refusal (Ok t) fault why is = cc
 no_refusal (Err e) fault (inl h) is = cc
-no_refusal (Err e) fault (inr h) is = cc
+no_refusal (Err e) fault (inr (inl h)) is = cc
+no_refusal (Err e) fault (inr (inr h)) is = let same : e ≡ SaveFile fault = cc in subst IsOfClasses same h
 
-wider : (text : Told) (X : Failure → Type 0) → IfErr text (λ e. (e ≡ Saving) ⊎ (e ≡ Memory)) → IfErr text (λ e. (e ≡ Saving) ⊎ (e ≡ Memory) ⊎ X e)
+wider : (text : Told) (X : Failure → Type 0) → IfErr text (λ e. (e ≡ Saving) ⊎ (e ≡ Memory) ⊎ IsOfClasses e) → IfErr text (λ e. (e ≡ Saving) ⊎ (e ≡ Memory) ⊎ IsOfClasses e ⊎ X e)
 wider (Ok t) X why = tt
 wider (Err e) X (inl h) = inl h
-wider (Err e) X (inr h) = inr (inl h)
-
-on_ok : (text : Told) (P : Type 0) → OnOk text P → IsOk text → P
-on_ok (Ok t) P p ok = p
-on_ok (Err e) P p ok = absurd (cc)
-
-if_ok : (text : Told) (P : Type 0) → P → OnOk text P
-if_ok (Ok t) P p = p
-if_ok (Err e) P p = tt
-
-also : (text : Told) (P Q : Type 0) → (P → Q) → OnOk text P → OnOk text Q
-also (Ok t) P Q f p = f p
-also (Err e) P Q f p = tt
+wider (Err e) X (inr (inl h)) = inr (inl h)
+wider (Err e) X (inr (inr h)) = inr (inr (inl h))
 
 module _ {D : Type 0} (now : D → Option (List ℕ)) (moment : D → ℕ) (images : D → List ℕ → Type 0) (since : D → ℕ → List ℕ → Type 0) (faults : D → ℕ) (laws : Lawful now moment images since) (r : ToResolve) (disk : D) where
   abbrev telling : SaveState D → Keeper
@@ -72,23 +63,22 @@ module _ {D : Type 0} (now : D → Option (List ℕ)) (moment : D → ℕ) (imag
     begun : (list more : List Entry) (file : List ℕ) → now disk ≡ Some file → standing_for r.resolved.plain file ≡ Ok (list ++ more) → table.start ≡ list ++ more
     begun list more file is stands = let both : Ok table.start ≡ Ok (list ++ more) = sym (start_is file is) ∙ stands in cc
 
-    text_told : (text : Told) → IfOk text (λ t. IsCanonicalStart (over table.resolved) table.start → IsInForm r.form r.common.range table.resolved.plain t.items) → IfOk text (λ t. IsSome (now disk) → (list : List Entry) → IsOurs r.resolved.plain list (images disk) → IsInForm r.form r.common.range r.resolved.plain t.items)
-    text_told (Err e) h = tt
-    text_told (Ok t) h = λ told list ours.
+    answer_told : HasAnswer text → IsSome (now disk) → (list : List Entry) → IsOurs r.resolved.plain list (images disk) → IsInForm r.form r.common.range r.resolved.plain (answer_of text)
+    answer_told has told list ours =
         let found = here list told ours in
         let is = begun list found.2.more found.0 found.1 found.2.stands in
         let start : IsCanonicalStart (over r.resolved) table.start = subst (IsCanonicalStart (over r.resolved)) (sym is) (canonical_start (over r.resolved) (list ++ found.2.more) found.2.canonical) in
-        let P : Checked → Type 0 = λ m. IsCanonicalStart (over m) table.start → IsInForm r.form r.common.range m.plain t.items in
-        subst P resolved h start
+        let P : Checked → Type 0 = λ m. IsCanonicalStart (over m) table.start → IsInForm r.form r.common.range m.plain (answer_of text) in
+        subst P resolved (continued.told has) start
 
     pub kept_on : HasKeptOn now moment images since faults r text disk after.journal.disk
     kept_on = record {
-      told = text_told text continued.told;
+      told = answer_told;
       why = wider text _ continued.why;
       failed = λ is. subst (λ (n : ℕ). HasRisen n (faults after.journal.disk)) no_fault (continued.failed is);
-      no_fault = also text _ _ (λ same. same ∙ no_fault) continued.no_fault;
+      no_fault = λ has. continued.no_fault has ∙ no_fault;
       never_falls = let rest = continued.kept.never_fall in omega (arith, no_fault, rest);
-      accepted = if_ok text _ (λ file is. (table.start, start_is file is));
+      accepted = λ has file is. (table.start, start_is file is);
       unwritten = λ fault is. absurd (no_refusal text fault continued.why is);
       lasts = λ told list ours.
           let found = here list told ours in
@@ -99,15 +89,15 @@ module _ {D : Type 0} (now : D → Option (List ℕ)) (moment : D → ℕ) (imag
           let opened = at_some (now disk) (λ _. LeavesOnly moment since disk k.journal.disk (HasRecordsOf (digest_of r.resolved) (images disk))) found.0 found.1 opening in
           let given = subst (λ (m : Checked). HasKept (over m) table.start (telling k) (telling after) continued.given) resolved continued.kept in
           let given_behind = subst (λ (l : List Entry). HasKept (over r.resolved) l (telling k) (telling after) continued.given) is given in
-          lasting now moment images since faults laws r.resolved r.common.range list with.more continued.given (IsOk text) disk k after with.at_most_one with.canonical ours k_resolved kept_is opened given_behind
-          (on_ok text _ continued.live) (on_ok text _ continued.whole);
+          lasting now moment images since faults laws r.resolved r.common.range list with.more continued.given (HasAnswer text) disk k after with.at_most_one with.canonical ours k_resolved kept_is opened given_behind
+          continued.live continued.whole;
     }
 
   -- ---- the file was not taken up
 
   -- a disk that a run left without squares of its own
-  left_alone : (range : Range) (list : List Entry) (d : D) (had_text : Type 0) → (had_text → ⊥) → IsSome (now disk) → IsOurs r.resolved.plain list (images disk) → LeavesOnly moment since disk d (HasRecordsOf (digest_of r.resolved) (images disk)) → HasLasted moment images since r.resolved.plain range list had_text disk d
-  left_alone range list d had_text never told ours leaves =
+  left_alone : (range : Range) (list : List Entry) (d : D) (had_answer : Type 0) → (had_answer → ⊥) → IsSome (now disk) → IsOurs r.resolved.plain list (images disk) → LeavesOnly moment since disk d (HasRecordsOf (digest_of r.resolved) (images disk)) → HasLasted moment images since r.resolved.plain range list had_answer disk d
+  left_alone range list d had_answer never told ours leaves =
       let found = here list told ours in
       let same : (list ++ []) ++ [] ≡ list = append-nil (list ++ []) ∙ append-nil list in
       let stands : (c : List ℕ) → since d (moment disk) c → StandsWith r.resolved.plain list c = λ c was. let of_image = leaves.each c was in as_another r.resolved list c of_image.0 of_image.2 (ours of_image.0 of_image.1) in
@@ -142,10 +132,10 @@ module _ {D : Type 0} (now : D → Option (List ℕ)) (moment : D → ℕ) (imag
   module _ (fault : ResumeFault) (d : D) (refused : (fault ≡ Open DiskFailed) ⊎ (fault ≡ OutOfMemory) ⊎ IfSome (now disk) (λ file. standing_of r.resolved file ≡ Err fault)) (same : fault ≢ Open DiskFailed → now d ≡ now disk)
       (unwritten : fault ≢ Open DiskFailed → IfSome (now disk) (λ _. (c : List ℕ) → images d c → images disk c)) (opening : IfSome (now disk) (λ _. LeavesOnly moment since disk d (HasRecordsOf (digest_of r.resolved) (images disk)))) (never_fall : faults disk ≤ faults d)
       (cause : fault ≡ Open DiskFailed → HasRisen (faults disk) (faults d)) where
-    why_not : Kind fault → (resume_failure fault ≡ Saving) ⊎ (resume_failure fault ≡ Memory) ⊎ ((f : ResumeFault) × (resume_failure fault ≡ SaveFile f) × IsRefusedFor r.resolved.plain (now disk) f)
+    why_not : Kind fault → (resume_failure fault ≡ Saving) ⊎ (resume_failure fault ≡ Memory) ⊎ IsOfClasses (resume_failure fault) ⊎ ((f : ResumeFault) × (resume_failure fault ≡ SaveFile f) × IsRefusedFor r.resolved.plain (now disk) f)
     why_not (disk_failed is e) = inl e
     why_not (no_memory e) = inr (inl e)
-    why_not (refusal e no_disk no_room) = inr (inr (
+    why_not (refusal e no_disk no_room) = inr (inr (inr (
       fault,
       e,
       elim refused [
@@ -155,7 +145,12 @@ module _ {D : Type 0} (now : D → Option (List ℕ)) (moment : D → ℕ) (imag
           | inr h ↦ h
         ]
       ],
-    ))
+    )))
+
+    no_answer : Kind fault → IsOfClasses (resume_failure fault) → ⊥
+    no_answer (disk_failed is e) h = subst IsOfClasses e h
+    no_answer (no_memory e) h = subst IsOfClasses e h
+    no_answer (refusal e no_disk no_room) h = subst IsOfClasses e h
 
     risen : Kind fault → resume_failure fault ≡ Saving → HasRisen (faults disk) (faults d)
     risen (disk_failed is e) h = cause is
@@ -169,15 +164,15 @@ module _ {D : Type 0} (now : D → Option (List ℕ)) (moment : D → ℕ) (imag
 
     pub not_taken_up : HasKeptOn now moment images since faults r (Err (resume_failure fault)) disk d
     not_taken_up = record {
-      told = tt;
+      told = λ has. absurd (no_answer (kind_of fault) has);
       why = why_not (kind_of fault);
       failed = λ is. risen (kind_of fault) (cc);
-      no_fault = tt;
+      no_fault = λ has. absurd (no_answer (kind_of fault) has);
       never_falls = never_fall;
-      accepted = tt;
+      accepted = λ has. absurd (no_answer (kind_of fault) has);
       unwritten = λ f is. let no = not_disk (kind_of fault) f (cc) in (same no, unwritten no);
       lasts = λ told list ours.
           let found = some_of (now disk) told in
           let opened = at_some (now disk) (λ _. LeavesOnly moment since disk d (HasRecordsOf (digest_of r.resolved) (images disk))) found.0 found.1 opening in
-          left_alone r.common.range list d _ (λ h. cc) told ours opened;
+          left_alone r.common.range list d _ (no_answer (kind_of fault)) told ours opened;
     }

@@ -108,10 +108,10 @@ module _ {D : Type 0} (now : D → Option (List ℕ)) (moment : D → ℕ) (imag
   abbrev telling : SaveState D → Keeper
   telling k = telling_of now moment images since faults k
 
-  module _ (m : Checked) (range : Range) (list more given : List Entry) (had_text : Type 0) (disk : D) (k after : SaveState D)
+  module _ (m : Checked) (range : Range) (list more given : List Entry) (had_answer : Type 0) (disk : D) (k after : SaveState D)
       (at_most_one : length more ≤ 1) (canonical : AreCanonical m.plain (list ++ more)) (ours : IsOurs m.plain list (images disk)) (resolved : k.resolved ≡ m) (kept_is : kept_in now k ≡ Some (list ++ more))
       (opening : LeavesOnly moment since disk k.journal.disk (HasRecordsOf (digest_of m) (images disk))) (kept : HasKept (over m) (list ++ more) (telling k) (telling after) given)
-      (live : had_text → TakesSquares now images after) (whole : had_text → IfSome (kept_in now after) (HasRange range)) where
+      (live : had_answer → TakesSquares now images after) (whole : had_answer → IfSome (kept_in now after) (HasRange range)) where
     abbrev start : List Entry
     start = list ++ more
 
@@ -161,14 +161,14 @@ module _ {D : Type 0} (now : D → Option (List ℕ)) (moment : D → ℕ) (imag
         stands_with m start (start ++ given) c reads all_canonical
         (subst (IsImageWith (over m) start (start ++ given)) (read_after c) (ending (squares_in after.resolved c) (c, laws.counts_now after.journal.disk c image, refl)))
 
-    only : had_text → (c : List ℕ) → images after.journal.disk c → standing_of m c ≡ Ok (start ++ given)
+    only : had_answer → (c : List ℕ) → images after.journal.disk c → standing_of m c ≡ Ok (start ++ given)
     only has c image =
         let is_kept = left_is_kept now moment images since laws.only_now after (live has) in
         let U = telling after in
         let exact = subst (λ (o : Option (List Entry)). IfSome o (λ (l : List Entry). (i : Option (List Entry)) → U.since U.moment i → i ≡ Some l)) after_kept is_kept in
         standing_ok (standing_of m c) (start ++ given) (sym (read_after c) ∙ exact (squares_in after.resolved c) (c, laws.counts_now after.journal.disk c image, refl))
 
-    pub lasting : HasLasted moment images since m.plain range list had_text disk after.journal.disk
+    pub lasting : HasLasted moment images since m.plain range list had_answer disk after.journal.disk
     lasting = record {
       more = more;
       given = given;

@@ -8,6 +8,7 @@ mod KeptOn
 mod Lasting
 mod Reading
 mod Resolved
+mod Sums
 mod Tasks
 mod Working
 mod Written

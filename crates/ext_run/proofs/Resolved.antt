@@ -1,9 +1,10 @@
 -- The table that is resolved, cut to its range, is the module's canonical resolution, and the texts are of that.
-use Rattle.std.proofs.Common.{◌≡◌, ℕ, ◌+◌, List, length, take, sym, ◌∙◌, ap, arith}
+use Rattle.std.proofs.Common.{◌≡◌, ℕ, ◌+◌, List, length, take, refl, sym, subst, ◌∙◌, ap, arith}
 use Rattle.std.proofs.lemmas.List.{take-take}
-use Rattle.resolution_laws.specs.Resolution.{row_of, generator_count}
+use Rattle.resolution_laws.specs.Resolution.{Content, IsCanonicalTable, row_of, generator_count}
 use Rattle.square.specs.declared.range.Range.{Range}
-use Rattle.square.specs.Squares.{bottom_of}
+use Rattle.lift_laws.specs.Lifts.{Resolution}
+use Rattle.square.specs.Squares.{bottom_of, module_over}
 use Rattle.square.specs.Tables.{Staircase, plain_rows, IsThrough}
 use Rattle.resolution_step.specs.Alone.{cut}
 use Rattle.resolution_step.proofs.Canonical.{row_of-cut}
@@ -11,7 +12,18 @@ use Rattle.ext_chart.specs.Chart.{chart_text}
 use Rattle.ext_chart.specs.Dump.{dump_text}
 use Rattle.ext_chart.specs.Summary.{summary_text}
 use Rattle.ext_chart.proofs.Agreement.{AgreeThrough, chart_text-agree, dump_text-agree, summary_text-agree}
-use Rattle.ext_run.specs.Answer.{IsResolved, IsChart, IsDump, IsSummary}
+use Rattle.std.specs.Prelude.{◌≢◌, Result, Err}
+use Rattle.finite_module.specs.Checked.{sphere_file}
+use Rattle.finite_module.specs.DerivedAction.{derived_module}
+use Rattle.ext_products.specs.declared.refusal.Refusal.{Refusal}
+use Rattle.ext_products.specs.Products.{resolution}
+use Rattle.ext_products.specs.Over.{through}
+use Rattle.ext_run.specs.Answer.{IsResolved, IsChart, IsDump, IsSummary, IsToldOfClasses, told_of_classes}
+use Rattle.ext_products.specs.declared.refusal.ClassesFault.{ClassesFault}
+use Rattle.ext_products.specs.declared.refusal.ClassesFault.TheVariants.{Refused, Memory as NoSpace}
+use Rattle.ext_run.specs.Failure.{classes_failure}
+use Rattle.ext_run.specs.Work.{Told, HasAnswer, answer_of}
+use Rattle.ext_run.proofs.AnswerExists.{TableLaws, table_exists, one_alone}
 
 -- a table has the same squares through a range as what is cut of it
 cut-agrees : (range : Range) (table : Staircase) → IsThrough range table.rows → AgreeThrough range.s range.t (plain_rows table.rows) (cut range (plain_rows table.rows))
@@ -39,3 +51,17 @@ is_summary range table text resolved through is = record {
   resolved = resolved;
   summary = is ∙ summary_text-agree range.s range.t (plain_rows table.rows) (cut range (plain_rows table.rows)) (cut-agrees range table through) (length table.resolved.plain.generators) (bottom_of table.resolved);
 }
+
+-- what is told of a table's classes is told of the canonical resolutions
+pub is_told_of_classes : TableLaws → (IsToldOf : Resolution → Resolution → Result (List ℕ) Refusal → Type 0) (range : Range) (table : Staircase) (told : Result (List ℕ) Refusal) → IsResolved range table.resolved.plain (cut range (plain_rows table.rows))
+    → ((sphere : List (List Content)) → IsCanonicalTable (module_over (derived_module sphere_file)) range.s range.t sphere → IsToldOf (through range table) (resolution (derived_module sphere_file) sphere) told) → IsToldOfClasses IsToldOf range table.resolved.plain (told_of_classes told)
+is_told_of_classes laws IsToldOf range table told resolved over =
+    let sphere = table_exists laws range (derived_module sphere_file) (laws.accepted sphere_file one_alone refl) one_alone in
+    record { table = cut range (plain_rows table.rows); resolved = resolved; sphere = sphere.0; sphere_resolved = sphere.1; told = told; is_told = over sphere.0 sphere.1.canonical; is = refl }
+
+-- what a call says that tells nothing of classes
+pub classes_failed : (P : Result (List ℕ) Refusal → Type 0) (fault : ClassesFault) (text : Told) → text ≡ Err (classes_failure fault) → (fault ≢ NoSpace → (refusal : Refusal) × (fault ≡ Refused refusal) × P (Err refusal)) → HasAnswer text → (told : Result (List ℕ) Refusal) × (answer_of text ≡ told_of_classes told) × P told
+classes_failed P (Refused refusal) text is why has =
+    let known = why (λ h. cc) in
+    (Err known.0, ap answer_of is ∙ ap (λ (fault : ClassesFault). Err (classes_failure fault)) known.1, known.2)
+classes_failed P NoSpace text is why has = absurd (subst HasAnswer is has)

@@ -1,32 +1,37 @@
 -- What becomes of the disk of a run, by how the run ends.
 use Rattle.std.proofs.Common.{◌≡◌, ◌≢◌, ◌∙◌, ℕ, ◌<◌, ◌≤◌, ◌⊎◌, inl, inr, List, [], ◌++◌, Bool, true, false, Option, Some, None, refl, sym, subst, ap, arith, append-nil}
 use Rattle.std.specs.declared.alloc.Global.{Global}
-use Rattle.std.specs.Prelude.{Vec, Result, Ok, Err, IfOk, IfErr, OnOk, IsOk, IfSome, IsSome, MatchOption}
+use Rattle.std.specs.Prelude.{Vec, Result, Ok, Err, IfOk, IfErr, IfSome, IsSome, MatchOption}
 use Rattle.edge.specs.Faults.{HasRisen}
 use Rattle.module_json.specs.ModuleFile.{IsFileOf}
 use Rattle.module_json.proofs.Reading.{file_unique}
 use Rattle.finite_module.specs.Module.{Module as SteenrodModule}
+use Rattle.finite_module.specs.Checked.{sphere_file}
 use Rattle.finite_module.specs.DerivedAction.{derived_module}
+use Rattle.finite_module.specs.Sample.{sample_file}
 use Rattle.resolution_laws.specs.Start.{Entry, IsOf}
 use Rattle.square.specs.Squares.{module_over}
 use Rattle.square.specs.declared.range.Range.{Range}
 use Rattle.save_file.specs.declared.fault.ResumeFault.{ResumeFault}
+use Rattle.ext_products.specs.declared.refusal.Refusal.{Refusal}
+use Rattle.ext_products.specs.Products.{IsProductsAnswer}
+use Rattle.ext_brackets.specs.Brackets.{IsBracketAnswer}
 use Rattle.ext_words.specs.declared.command.Common.{Common}
 use Rattle.ext_words.specs.declared.command.Command.{Command}
-use Rattle.ext_words.specs.declared.command.Command.TheVariants.{Sphere, Resolve, Dump, Check, Build, Sample, Sq}
+use Rattle.ext_words.specs.declared.command.Command.TheVariants.{Sphere, Resolve, Dump, Products, Massey, Check, Build, Sample, Sq}
 use Rattle.ext_words.specs.Words.{command_of}
 use Rattle.ext_run.specs.declared.failure.Failure.{Failure}
-use Rattle.ext_run.specs.declared.failure.Failure.TheVariants.{Words, Malformed as NoModuleFile, NotModule, PastLimit, Reading, Writing, Saving, SaveFile, Memory}
+use Rattle.ext_run.specs.declared.failure.Failure.TheVariants.{Words, Malformed as NoModuleFile, NotModule, PastLimit, Reading, Writing, Saving, SaveFile, Classes, Memory}
 use Rattle.ext_run.specs.declared.task.Task.{Task}
 use Rattle.ext_run.specs.declared.task.Task.TheVariants.{Text, Resolution}
 use Rattle.ext_run.specs.declared.task.Resolution.{Resolution as ToResolve}
-use Rattle.ext_run.specs.Input.{IsOfInput}
+use Rattle.ext_run.specs.Input.{IsOfInput, IsAccepted}
 use Rattle.ext_run.specs.Failure.{status_of}
-use Rattle.ext_run.specs.Answer.{IsChart, IsDump, IsLineOn, IsAnswerTo, IsAnswerFrom, IsCauseFrom, Reads, WordsRead}
-use Rattle.ext_run.specs.Saving.{options_of, Saves, WordsSave, IsModuleIn, IsModuleOf, IsSavedBy, standing_for, AreCanonical, IsOurs, HasLasted, HasSaved, IsUsable, IsRunCauseFrom, IsRefusedFrom, IsEarly}
-use Rattle.ext_run.specs.Task.{IsTextOf, IsSavedFor, IsSavedAs}
-use Rattle.ext_run.specs.Work.{Told, IsUnsaved, IsRefusedFor, HasKeptOn, HasWorked}
-use Rattle.ext_run.proofs.Causes.{accepted_text, HasText, never_0, only_writing, only_saving, only_refused}
+use Rattle.ext_run.specs.Answer.{IsText, IsChart, IsDump, IsSummary, IsLineOn, IsProducts, IsBracket, IsOfClasses, IsTold, IsAnswerTo, IsAnswerFrom, IsCauseFrom, Reads, WordsRead}
+use Rattle.ext_run.specs.Saving.{options_of, Saves, WordsSave, IsModuleIn, IsModuleOf, IsSavedBy, standing_for, AreCanonical, IsOurs, HasLasted, HasSaved, IsUsable, IsRunCauseFrom, IsRefusedFrom, IsEarly, IsAnswered}
+use Rattle.ext_run.specs.Task.{IsDoneBy, IsTaskFrom, IsSavedFor, IsSavedAs}
+use Rattle.ext_run.specs.Work.{Told, HasAnswer, answer_of, IsUnsaved, IsRefusedFor, HasKeptOn, HasWorked}
+use Rattle.ext_run.proofs.Causes.{text_told, classes_told, accepted_failure, as_classes, class_statuses, HasOutcome, never_0, only_writing, only_saving, only_refused, only_classes}
 use Rattle.edge.proofs.Moments.{Lawful}
 use Rattle.ext_run.proofs.Lasting.{some_of, at_some, all_first}
 
@@ -42,6 +47,8 @@ same_of : (command : Command) (b d : List ℕ) (m n : SteenrodModule) → (Reads
 same_of (Sphere common) b d m n same p q = p ∙ sym q
 same_of (Resolve common) b d m n same p q = same_module b d m n (same tt) p q
 same_of (Dump common) b d m n same p q = same_module b d m n (same tt) p q
+same_of (Products common by) b d m n same p q = same_module b d m n (same tt) p q
+same_of (Massey common x y z) b d m n same p q = same_module b d m n (same tt) p q
 same_of Check b d m n same p q = same_module b d m n (same tt) p q
 same_of (Build made) b d m n same p q = absurd p
 same_of (Sample k common) b d m n same p q = p ∙ sym q
@@ -64,25 +71,46 @@ saved_words words bytes m range p =
 
 -- ---- words that ask for a save file are answered by no failure of the input
 
-answered_failure : (command : Command) (b d : List ℕ) (m : SteenrodModule) (failure : Failure) → (Reads command → b ≡ d) → IsModuleOf command d m → IsAnswerTo command b (Err failure) → ⊥
-answered_failure (Sphere common) b d m failure same p a = a
-answered_failure (Resolve common) b d m failure same p a = accepted_text (IsChart common.range) b (Err failure) failure (record { file = p.file; is_file = subst (λ (x : List ℕ). IsFileOf x (Ok p.file)) (sym (same tt)) p.is_file; no_refusal = p.no_refusal }) a refl
-answered_failure (Dump common) b d m failure same p a = accepted_text (IsDump common.range) b (Err failure) failure (record { file = p.file; is_file = subst (λ (x : List ℕ). IsFileOf x (Ok p.file)) (sym (same tt)) p.is_file; no_refusal = p.no_refusal }) a refl
-answered_failure Check b d m failure same p a = accepted_text IsLineOn b (Err failure) failure (record { file = p.file; is_file = subst (λ (x : List ℕ). IsFileOf x (Ok p.file)) (sym (same tt)) p.is_file; no_refusal = p.no_refusal }) a refl
-answered_failure (Build made) b d m failure same p a = p
-answered_failure (Sample k common) b d m failure same p a = a
-answered_failure (Sq numbers) b d m failure same p a = a
+accepted_in : (command : Command) (b d : List ℕ) (m : SteenrodModule) → (Reads command → b ≡ d) → Reads command → IsModuleIn d m → IsAccepted b
+accepted_in command b d m same reads p = record { file = p.file; is_file = subst (λ (x : List ℕ). IsFileOf x (Ok p.file)) (sym (same reads)) p.is_file; no_refusal = p.no_refusal }
+
+answered_failure : (command : Command) (b d : List ℕ) (m : SteenrodModule) (a : Result (List ℕ) Failure) → (Reads command → b ≡ d) → IsModuleOf command d m → IsAnswerTo command b a → IsTold a
+answered_failure (Sphere common) b d m a same p is = text_told (IsChart common.range) (derived_module sphere_file) a is
+answered_failure (Resolve common) b d m a same p is = accepted_failure (IsText (IsChart common.range)) (text_told (IsChart common.range)) b a (accepted_in (Resolve common) b d m same tt p) is
+answered_failure (Dump common) b d m a same p is = accepted_failure (IsText (IsDump common.range)) (text_told (IsDump common.range)) b a (accepted_in (Dump common) b d m same tt p) is
+answered_failure (Products common by) b d m a same p is = accepted_failure (IsProducts common.range by) (classes_told common.range (IsProductsAnswer common.range by)) b a (accepted_in (Products common by) b d m same tt p) is
+answered_failure (Massey common x y z) b d m a same p is = accepted_failure (IsBracket common.range x y z) (classes_told common.range (IsBracketAnswer common.range x y z)) b a (accepted_in (Massey common x y z) b d m same tt p) is
+answered_failure Check b d m a same p is = accepted_failure (IsText IsLineOn) (text_told IsLineOn) b a (accepted_in Check b d m same tt p) is
+answered_failure (Build made) b d m a same p is = absurd p
+answered_failure (Sample k common) b d m a same p is = text_told (IsSummary common.range) (derived_module (sample_file k)) a is
+answered_failure (Sq numbers) b d m a same p is = absurd p
 
 -- where the input is told, its bytes are those
 told_bytes : (left : Option (List ℕ)) (b d : List ℕ) → IfSome left (λ l. b ≡ l) → left ≡ Some d → b ≡ d
 told_bytes left b d all is = subst (λ (o : Option (List ℕ)). IfSome o (λ l. b ≡ l)) is all
 
-saved_no_failure : (words : List (List ℕ)) (left : Option (List ℕ)) (bytes : List ℕ) (m : SteenrodModule) (range : Range) (failure : Failure) → (WordsRead words → left ≡ Some bytes) → IsSavedBy words bytes m range → IsAnswerFrom words left (Err failure) → ⊥
-saved_no_failure words left bytes m range failure tells p a =
+saved_no_failure : (words : List (List ℕ)) (left : Option (List ℕ)) (bytes : List ℕ) (m : SteenrodModule) (range : Range) (failure : Failure) → (IsOfClasses failure → ⊥) → (WordsRead words → left ≡ Some bytes) → IsSavedBy words bytes m range → IsAnswerFrom words left (Err failure) → ⊥
+saved_no_failure words left bytes m range failure other tells p a =
     let reads : Reads p.command → a.bytes ≡ bytes = λ r. told_bytes left a.bytes bytes a.all (tells (subst (λ (o : Option Command). MatchOption o ⊥ Reads) (sym p.is) r)) in
     let none : Result (List ℕ) Failure = Err failure in
     let answer : IsAnswerTo p.command a.bytes none = subst (λ (o : Option Command). MatchOption o (none ≡ Err Words) (λ c. IsAnswerTo c a.bytes none)) p.is a.holds in
-    answered_failure p.command a.bytes bytes m failure reads p.resolves answer
+    other (answered_failure p.command a.bytes bytes m none reads p.resolves answer)
+
+-- ---- a failure of classes
+
+of_classes : (failure : Failure) → IsOfClasses failure → (status_of failure ≡ 10) ⊎ (status_of failure ≡ 11)
+of_classes failure h =
+    let only = as_classes failure h in
+    subst (λ (f : Failure). (status_of f ≡ 10) ⊎ (status_of f ≡ 11)) (sym only.1) (class_statuses only.0)
+
+classes_cause : (words : List (List ℕ)) (left now : Option (List ℕ)) (usable : Type 0) (failure : Failure) → IsOfClasses failure → (usable → IsAnswerFrom words left (Err failure)) → IsRunCauseFrom words left now usable failure
+classes_cause words left now usable failure h answers =
+    let only = as_classes failure h in
+    subst (IsRunCauseFrom words left now usable) (sym only.1) (λ ok. subst (λ (f : Failure). IsAnswerFrom words left (Err f)) only.1 (answers ok))
+
+neither_of : (n k : ℕ) → n ≡ k → (n ≡ 10) ⊎ (n ≡ 11) → k ≢ 10 → k ≢ 11 → ⊥
+neither_of n k is (inl h) ten eleven = ten (sym is ∙ h)
+neither_of n k is (inr h) ten eleven = eleven (sym is ∙ h)
 
 -- ---- a disk
 
@@ -122,8 +150,8 @@ module _ (store : Store) (laws : Lawful store.now store.moment store.images stor
   -- ---- a disk that got no call
 
   -- nothing was kept and nothing is lost
-  as_it_was : (m : SteenrodModule) (range : Range) (list : List Entry) (had_text : Type 0) (d : store.State) → (had_text → ⊥) → IsSome (store.now d) → IsOurs m list (store.images d) → HasLasted store.moment store.images store.since m range list had_text d d
-  as_it_was m range list had_text d never told ours =
+  as_it_was : (m : SteenrodModule) (range : Range) (list : List Entry) (had_answer : Type 0) (d : store.State) → (had_answer → ⊥) → IsSome (store.now d) → IsOurs m list (store.images d) → HasLasted store.moment store.images store.since m range list had_answer d d
+  as_it_was m range list had_answer d never told ours =
       let found = some_of (store.now d) told in
       let here = ours found.0 (file_of store.now store.images laws.now_is_image d found.0 found.1) in
       let same : (list ++ []) ++ [] ≡ list = append-nil (list ++ []) ∙ append-nil list in
@@ -154,14 +182,15 @@ module _ (store : Store) (laws : Lawful store.now store.moment store.images stor
 
   early_refusal : (failure : Failure) (bytes : List ℕ) (m : SteenrodModule) (range : Range) → IsCauseFrom words left failure → failure ≢ Writing → (WordsRead words → left ≡ Some bytes) → IsSavedBy words bytes m range →
       (status_of failure ≡ 9) ⊎ (status_of failure ≡ 6) ⊎ (status_of failure ≡ 8) ⊎ (status_of failure ≡ 12)
-  early_refusal Words bytes m range cause unwritten tells p = absurd (saved_no_failure words left bytes m range Words tells p cause)
-  early_refusal (NoModuleFile e) bytes m range cause unwritten tells p = absurd (saved_no_failure words left bytes m range (NoModuleFile e) tells p cause)
-  early_refusal (NotModule f e) bytes m range cause unwritten tells p = absurd (saved_no_failure words left bytes m range (NotModule f e) tells p cause)
-  early_refusal (PastLimit what) bytes m range cause unwritten tells p = absurd (saved_no_failure words left bytes m range (PastLimit what) tells p cause)
+  early_refusal Words bytes m range cause unwritten tells p = absurd (saved_no_failure words left bytes m range Words (λ h. h) tells p cause)
+  early_refusal (NoModuleFile e) bytes m range cause unwritten tells p = absurd (saved_no_failure words left bytes m range (NoModuleFile e) (λ h. h) tells p cause)
+  early_refusal (NotModule f e) bytes m range cause unwritten tells p = absurd (saved_no_failure words left bytes m range (NotModule f e) (λ h. h) tells p cause)
+  early_refusal (PastLimit what) bytes m range cause unwritten tells p = absurd (saved_no_failure words left bytes m range (PastLimit what) (λ h. h) tells p cause)
   early_refusal Reading bytes m range cause unwritten tells p = inr (inl refl)
   early_refusal Writing bytes m range cause unwritten tells p = absurd (unwritten refl)
   early_refusal Saving bytes m range cause unwritten tells p = absurd cause
   early_refusal (SaveFile e) bytes m range cause unwritten tells p = absurd cause
+  early_refusal (Classes e) bytes m range cause unwritten tells p = absurd cause
   early_refusal Memory bytes m range cause unwritten tells p = inr (inr (inr refl))
 
   no_saving : (failure : Failure) → IsCauseFrom words left failure → failure ≡ Saving → ⊥
@@ -170,9 +199,13 @@ module _ (store : Store) (laws : Lawful store.now store.moment store.images stor
   no_refusal : (failure : Failure) → IsCauseFrom words left failure → ((e : ResumeFault) × (failure ≡ SaveFile e)) → ⊥
   no_refusal failure cause is = subst (IsCauseFrom words left) is.1 cause
 
-  no_text_status : (failure : Failure) → failure ≢ Writing → (status_of failure ≡ 0) ⊎ (status_of failure ≡ 7) → ⊥
-  no_text_status failure unwritten (inl h) = never_0 failure h
-  no_text_status failure unwritten (inr h) = unwritten (only_writing failure h)
+  no_classes : (failure : Failure) → IsCauseFrom words left failure → ((e : Refusal) × (failure ≡ Classes e)) → ⊥
+  no_classes failure cause is = subst (IsCauseFrom words left) is.1 cause
+
+  no_answer_status : (failure : Failure) → IsCauseFrom words left failure → failure ≢ Writing → IsAnswered (status_of failure) → ⊥
+  no_answer_status failure cause unwritten (inl h) = never_0 failure h
+  no_answer_status failure cause unwritten (inr (inl h)) = unwritten (only_writing failure h)
+  no_answer_status failure cause unwritten (inr (inr h)) = no_classes failure cause (only_classes failure h)
 
   -- a failure before the disk's turn
   pub kept_early : (failure : Failure) (d : store.State) → IsCauseFrom words left failure → failure ≢ Writing → IsKept store words left (status_of failure) d d
@@ -185,7 +218,7 @@ module _ (store : Store) (laws : Lawful store.now store.moment store.images stor
     refused = λ h. absurd (no_refusal failure cause (only_refused failure h));
     refuses = λ bytes file m range e tells is p h. early_refusal failure bytes m range cause unwritten tells p;
     unwritten = λ h. absurd (no_refusal failure cause (only_refused failure h));
-    lasts = λ bytes m range list tells told p ours. as_it_was m range list _ d (no_text_status failure unwritten) told ours;
+    lasts = λ bytes m range list tells told p ours. as_it_was m range list _ d (no_answer_status failure cause unwritten) told ours;
   }
 
   -- ---- a disk with the save file
@@ -198,48 +231,46 @@ module _ (store : Store) (laws : Lawful store.now store.moment store.images stor
     save : WordsSave words
     save = saved_words words by.bytes r.resolved.plain r.common.range by.holds
 
-    on_lasts : (had_text : Type 0) → (had_text → IsOk text) → (bytes : List ℕ) (m : SteenrodModule) (range : Range) (list : List Entry) → (WordsRead words → left ≡ Some bytes) → IsSome (store.now d) → IsSavedBy words bytes m range → IsOurs m list (store.images d) →
-        HasLasted store.moment store.images store.since m range list had_text d g
-    on_lasts had_text has bytes m range list tells told p ours =
+    on_lasts : (had_answer : Type 0) → (had_answer → HasAnswer text) → (bytes : List ℕ) (m : SteenrodModule) (range : Range) (list : List Entry) → (WordsRead words → left ≡ Some bytes) → IsSome (store.now d) → IsSavedBy words bytes m range → IsOurs m list (store.images d) →
+        HasLasted store.moment store.images store.since m range list had_answer d g
+    on_lasts had_answer has bytes m range list tells told p ours =
         let same = the_same bytes m range tells p in
         let here : IsOurs r.resolved.plain list (store.images d) = subst (λ (x : SteenrodModule). IsOurs x list (store.images d)) (sym same.0) ours in
-        let lasted = lasted_by store.moment store.images store.since r.resolved.plain r.common.range list (IsOk text) had_text d g has (on.lasts told list here) in
-        subst (λ (x : Range). HasLasted store.moment store.images store.since m x list had_text d g) same.1
-        (subst (λ (x : SteenrodModule). HasLasted store.moment store.images store.since x r.common.range list had_text d g) same.0 lasted)
+        let lasted = lasted_by store.moment store.images store.since r.resolved.plain r.common.range list (HasAnswer text) had_answer d g has (on.lasts told list here) in
+        subst (λ (x : Range). HasLasted store.moment store.images store.since m x list had_answer d g) same.1
+        (subst (λ (x : SteenrodModule). HasLasted store.moment store.images store.since x r.common.range list had_answer d g) same.0 lasted)
 
-    -- a run that has a text
-    pub kept_with_text : (status : ℕ) → (status ≡ 0) ⊎ (status ≡ 7) → IsOk text → IsKept store words left status d g
-    kept_with_text status is ok = record {
+    -- a run that has an answer
+    pub kept_with_answer : (status : ℕ) → IsAnswered status → HasAnswer text → IsKept store words left status d g
+    kept_with_answer status is has = record {
       unsaved = λ unasked. absurd (unasked save);
       early = λ h. absurd (not_early is h);
-      failed = λ h. absurd (not_one 8 is h (omega arith) (omega arith));
-      no_fault = λ h. at_ok text _ ok on.no_fault;
+      failed = λ h. absurd (not_one 8 is h (omega arith) (omega arith) (omega arith) (omega arith));
+      no_fault = λ h. on.no_fault has;
       never_falls = on.never_falls;
-      refused = λ h. absurd (not_one 9 is h (omega arith) (omega arith));
+      refused = λ h. absurd (not_one 9 is h (omega arith) (omega arith) (omega arith) (omega arith));
       refuses = λ bytes file m range e tells told p refusal. absurd (accepted_is_not_refused bytes file m range e tells told p refusal);
-      unwritten = λ h. absurd (not_one 9 is h (omega arith) (omega arith));
-      lasts = on_lasts _ (λ _. ok);
+      unwritten = λ h. absurd (not_one 9 is h (omega arith) (omega arith) (omega arith) (omega arith));
+      lasts = on_lasts _ (λ _. has);
     }
       where
-        at_ok : (t : Told) (P : Type 0) → IsOk t → OnOk t P → P
-        at_ok (Ok x) P ok p = p
-        at_ok (Err x) P ok p = absurd (cc)
+        not_one : (n : ℕ) → IsAnswered status → status ≡ n → 0 < n → n ≢ 7 → n ≢ 10 → n ≢ 11 → ⊥
+        not_one n (inl a) b low seven ten eleven = omega (arith, a, b, low)
+        not_one n (inr (inl a)) b low seven ten eleven = seven (sym b ∙ a)
+        not_one n (inr (inr (inl a))) b low seven ten eleven = ten (sym b ∙ a)
+        not_one n (inr (inr (inr a))) b low seven ten eleven = eleven (sym b ∙ a)
 
-        not_one : (n : ℕ) → (status ≡ 0) ⊎ (status ≡ 7) → status ≡ n → 0 < n → n ≢ 7 → ⊥
-        not_one n (inl a) b low other = omega (arith, a, b, low)
-        not_one n (inr a) b low other = other (sym b ∙ a)
-
-        not_early : (status ≡ 0) ⊎ (status ≡ 7) → IsEarly status → ⊥
-        not_early one (inl h) = not_one 2 one h (omega arith) (λ e. omega (arith, e))
-        not_early one (inr (inl h)) = not_one 3 one h (omega arith) (λ e. omega (arith, e))
-        not_early one (inr (inr (inl h))) = not_one 4 one h (omega arith) (λ e. omega (arith, e))
-        not_early one (inr (inr (inr (inl h)))) = not_one 6 one h (omega arith) (λ e. omega (arith, e))
-        not_early one (inr (inr (inr (inr h)))) = not_one 14 one h (omega arith) (λ e. omega (arith, e))
+        not_early : IsAnswered status → IsEarly status → ⊥
+        not_early one (inl h) = not_one 2 one h (omega arith) (omega arith) (omega arith) (omega arith)
+        not_early one (inr (inl h)) = not_one 3 one h (omega arith) (omega arith) (omega arith) (omega arith)
+        not_early one (inr (inr (inl h))) = not_one 4 one h (omega arith) (omega arith) (omega arith) (omega arith)
+        not_early one (inr (inr (inr (inl h)))) = not_one 6 one h (omega arith) (omega arith) (omega arith) (omega arith)
+        not_early one (inr (inr (inr (inr h)))) = not_one 14 one h (omega arith) (omega arith) (omega arith) (omega arith)
 
         accepted_is_not_refused : (bytes file : List ℕ) (m : SteenrodModule) (range : Range) (e : ResumeFault) → (WordsRead words → left ≡ Some bytes) → store.now d ≡ Some file → IsSavedBy words bytes m range → standing_for m file ≡ Err e → ⊥
         accepted_is_not_refused bytes file m range e tells told p refusal =
             let same = the_same bytes m range tells p in
-            let list = at_ok text _ ok on.accepted file told in
+            let list = on.accepted has file told in
             let both : Ok list.0 ≡ Err e = sym list.1 ∙ ap (λ (x : SteenrodModule). standing_for x file) same.0 ∙ refusal in
             cc
 
@@ -275,9 +306,12 @@ module _ (store : Store) (laws : Lawful store.now store.moment store.images stor
         not_early one (inr (inr (inr (inl h)))) = not_one one (omega (arith, h))
         not_early one (inr (inr (inr (inr h)))) = not_14 one h
 
-        no_text : (status ≡ 8) ⊎ (status ≡ 9) ⊎ (status ≡ 12) → (status ≡ 0) ⊎ (status ≡ 7) → ⊥
+        no_text : (status ≡ 8) ⊎ (status ≡ 9) ⊎ (status ≡ 12) → IsAnswered status → ⊥
         no_text one (inl h) = not_one one (omega (arith, h))
-        no_text one (inr h) = not_one one (omega (arith, h))
+        no_text one (inr (inl h)) = not_one one (omega (arith, h))
+        no_text (inl a) (inr (inr h)) = neither_of status 8 a h (omega arith) (omega arith)
+        no_text (inr (inl a)) (inr (inr h)) = neither_of status 9 a h (omega arith) (omega arith)
+        no_text (inr (inr a)) (inr (inr h)) = neither_of status 12 a h (omega arith) (omega arith)
 
         late : (status ≡ 8) ⊎ (status ≡ 9) ⊎ (status ≡ 12) → (status ≡ 9) ⊎ (status ≡ 6) ⊎ (status ≡ 8) ⊎ (status ≡ 12)
         late (inl h) = inr (inr (inl h))
@@ -288,7 +322,7 @@ module _ (store : Store) (laws : Lawful store.now store.moment store.images stor
     refused_here None fault h = tt
     refused_here (Some file) fault h = (fault, record { bytes = by.bytes; all = by.all; holds = (r.resolved.plain, r.common.range, by.holds, h) })
 
-    pub kept_with_failure : (failure : Failure) → text ≡ Err failure → ((failure ≡ Saving) ⊎ (failure ≡ Memory) ⊎ ((fault : ResumeFault) × (failure ≡ SaveFile fault) × IsRefusedFor r.resolved.plain (store.now d) fault)) →
+    pub kept_with_failure : (failure : Failure) → text ≡ Err failure → ((failure ≡ Saving) ⊎ (failure ≡ Memory) ⊎ IsOfClasses failure ⊎ ((fault : ResumeFault) × (failure ≡ SaveFile fault) × IsRefusedFor r.resolved.plain (store.now d) fault)) →
         IsKept store words left (status_of failure) d g
     kept_with_failure failure is (inl h) =
         let status : status_of failure ≡ 8 = ap status_of h in
@@ -296,7 +330,8 @@ module _ (store : Store) (laws : Lawful store.now store.moment store.images stor
     kept_with_failure failure is (inr (inl h)) =
         let status : status_of failure ≡ 12 = ap status_of h in
         kept_late (status_of failure) (inr (inr status)) (λ e. absurd (omega (arith, status, e))) (λ e. absurd (omega (arith, status, e))) (λ e. absurd (omega (arith, status, e)))
-    kept_with_failure failure is (inr (inr h)) =
+    kept_with_failure failure is (inr (inr (inl h))) = kept_with_answer (status_of failure) (inr (inr (of_classes failure h))) (subst HasAnswer (sym is) h)
+    kept_with_failure failure is (inr (inr (inr h))) =
         let status : status_of failure ≡ 9 = ap status_of h.1 in
         kept_late (status_of failure) (inr (inl status)) (λ e. absurd (omega (arith, status, e))) (λ e. refused_here (store.now d) h.0 h.2) (λ e. on.unwritten h.0 (is ∙ ap Err h.1))
 
@@ -304,10 +339,11 @@ module _ (store : Store) (laws : Lawful store.now store.moment store.images stor
     refusal_cause None fault h = tt
     refusal_cause (Some file) fault h = record { bytes = by.bytes; all = by.all; holds = (r.resolved.plain, r.common.range, by.holds, h) }
 
-    pub saving_cause : (failure : Failure) → ((failure ≡ Saving) ⊎ (failure ≡ Memory) ⊎ ((fault : ResumeFault) × (failure ≡ SaveFile fault) × IsRefusedFor r.resolved.plain (store.now d) fault)) → IsRunCauseFrom words left (store.now d) failure
-    saving_cause failure (inl h) = subst (IsRunCauseFrom words left (store.now d)) (sym h) save
-    saving_cause failure (inr (inl h)) = subst (IsRunCauseFrom words left (store.now d)) (sym h) tt
-    saving_cause failure (inr (inr h)) = subst (IsRunCauseFrom words left (store.now d)) (sym h.1) (refusal_cause (store.now d) h.0 h.2)
+    pub saving_cause : (usable : Type 0) (failure : Failure) → (IsOfClasses failure → usable → IsAnswerFrom words left (Err failure)) → ((failure ≡ Saving) ⊎ (failure ≡ Memory) ⊎ IsOfClasses failure ⊎ ((fault : ResumeFault) × (failure ≡ SaveFile fault) × IsRefusedFor r.resolved.plain (store.now d) fault)) → IsRunCauseFrom words left (store.now d) usable failure
+    saving_cause usable failure answers (inl h) = subst (IsRunCauseFrom words left (store.now d) usable) (sym h) save
+    saving_cause usable failure answers (inr (inl h)) = subst (IsRunCauseFrom words left (store.now d) usable) (sym h) tt
+    saving_cause usable failure answers (inr (inr (inl h))) = classes_cause words left (store.now d) usable failure h (answers h)
+    saving_cause usable failure answers (inr (inr (inr h))) = subst (IsRunCauseFrom words left (store.now d) usable) (sym h.1) (refusal_cause (store.now d) h.0 h.2)
 
   -- ---- a task
 
@@ -332,22 +368,27 @@ module _ (store : Store) (laws : Lawful store.now store.moment store.images stor
 
   -- what a run is told of its text and its disk
   pub record IsWorked (text : Told) (task : Task) (d g : store.State) : Type 0 where
-    pub made : IfOk text (λ x. (IsUsableAt store words left d → IsTextOf task x.items) × IsKept store words left 0 d g × IsKept store words left 7 d g)
-    pub failed : IfErr text (λ failure. IsRunCauseFrom words left (store.now d) failure × (failure ≢ Reading) × (failure ≢ Writing) × IsKept store words left (status_of failure) d g
+    pub made : HasAnswer text → IsUsableAt store words left d → IsDoneBy task (answer_of text)
+    pub kept : IfOk text (λ x. IsKept store words left 0 d g × IsKept store words left 7 d g)
+    pub failed : IfErr text (λ failure. ((IsOfClasses failure → IsUsableAt store words left d → IsAnswerFrom words left (Err failure)) → IsRunCauseFrom words left (store.now d) (IsUsableAt store words left d) failure) × (failure ≢ Reading) × (failure ≢ Writing) × IsKept store words left (status_of failure) d g
         × (IsUsableAt store words left d → (fault : ResumeFault) → failure ≡ SaveFile fault → ⊥))
+
+  memory_or_classes : (failure : Failure) (d g : store.State) → g ≡ d → (WordsSave words → ⊥) → (failure ≡ Memory) ⊎ IsOfClasses failure → ((IsOfClasses failure → IsUsableAt store words left d → IsAnswerFrom words left (Err failure)) → IsRunCauseFrom words left (store.now d) (IsUsableAt store words left d) failure) × (failure ≢ Reading) × (failure ≢ Writing) × IsKept store words left (status_of failure) d g
+      × (IsUsableAt store words left d → (fault : ResumeFault) → failure ≡ SaveFile fault → ⊥)
+  memory_or_classes failure d g same unasked (inl memory) =
+      let status : status_of failure ≡ 12 = ap status_of memory in
+      (λ answers. subst (IsRunCauseFrom words left (store.now d) (IsUsableAt store words left d)) (sym memory) tt, λ h. cc, λ h. cc, kept_unsaved (status_of failure) d g same unasked (λ h. omega (arith, status, h)) (λ h. omega (arith, status, h)), λ usable fault h. cc)
+  memory_or_classes failure d g same unasked (inr classes) =
+      let no : (k : ℕ) → k ≢ 10 → k ≢ 11 → status_of failure ≡ k → ⊥ = λ k ten eleven h. neither_of (status_of failure) k h (of_classes failure classes) ten eleven in
+      (λ answers. classes_cause words left (store.now d) (IsUsableAt store words left d) failure classes (answers classes), λ h. subst IsOfClasses h classes, λ h. subst IsOfClasses h classes, kept_unsaved (status_of failure) d g same unasked (no 8 (omega arith) (omega arith)) (no 9 (omega arith) (omega arith)), λ usable fault h. subst IsOfClasses h classes)
 
   worked_unsaved : (task : Task) (text : Told) (d g : store.State) → (WordsSave words → ⊥) → IsUnsaved task text d g → IsWorked text task d g
   worked_unsaved task (Ok x) d g unasked u = record {
-    made = (λ usable. u.told, kept_unsaved 0 d g u.same unasked (λ h. omega (arith, h)) (λ h. omega (arith, h)), kept_unsaved 7 d g u.same unasked (λ h. omega (arith, h)) (λ h. omega (arith, h)));
+    made = λ has usable. u.told tt;
+    kept = (kept_unsaved 0 d g u.same unasked (λ h. omega (arith, h)) (λ h. omega (arith, h)), kept_unsaved 7 d g u.same unasked (λ h. omega (arith, h)) (λ h. omega (arith, h)));
     failed = tt;
   }
-  worked_unsaved task (Err failure) d g unasked u =
-      let memory : failure ≡ Memory = u.why in
-      let status : status_of failure ≡ 12 = ap status_of memory in
-      record {
-        made = tt;
-        failed = (subst (IsRunCauseFrom words left (store.now d)) (sym memory) tt, λ h. cc, λ h. cc, kept_unsaved (status_of failure) d g u.same unasked (λ h. omega (arith, status, h)) (λ h. omega (arith, status, h)), λ usable fault h. cc);
-      }
+  worked_unsaved task (Err failure) d g unasked u = record { made = λ has usable. u.told has; kept = tt; failed = memory_or_classes failure d g u.same unasked u.why }
 
   -- a usable file is not refused
   usable_file : (r : ToResolve) (d : store.State) (fault : ResumeFault) → IsOfInput (λ bytes. IsSavedBy words bytes r.resolved.plain r.common.range) left → IsUsableAt store words left d → IsRefusedFor r.resolved.plain (store.now d) fault → ⊥
@@ -361,32 +402,33 @@ module _ (store : Store) (laws : Lawful store.now store.moment store.images stor
 
   worked_saved : (r : ToResolve) (text : Told) (d g : store.State) → IsOfInput (λ bytes. IsSavedBy words bytes r.resolved.plain r.common.range) left → HasKeptOn store.now store.moment store.images store.since store.faults r text d g → IsWorked text (Resolution r) d g
   worked_saved r (Ok x) d g by on = record {
-    made = (
-      λ usable. let ours = usable by.bytes r.resolved.plain r.common.range by.all by.holds in on.told ours.0 ours.1.0 ours.1.1,
-      kept_with_text r d g (Ok x) on by 0 (inl refl) refl,
-      kept_with_text r d g (Ok x) on by 7 (inr refl) refl,
-    );
+    made = λ has usable. let ours = usable by.bytes r.resolved.plain r.common.range by.all by.holds in on.told tt ours.0 ours.1.0 ours.1.1;
+    kept = (kept_with_answer r d g (Ok x) on by 0 (inl refl) tt, kept_with_answer r d g (Ok x) on by 7 (inr (inl refl)) tt);
     failed = tt;
   }
   worked_saved r (Err failure) d g by on = record {
-    made = tt;
-    failed = (saving_cause r d g (Err failure) on by failure on.why, no_device failure on.why, no_sink failure on.why, kept_with_failure r d g (Err failure) on by failure refl on.why, λ usable fault h. refused failure on.why usable fault h);
+    made = λ has usable. let ours = usable by.bytes r.resolved.plain r.common.range by.all by.holds in on.told has ours.0 ours.1.0 ours.1.1;
+    kept = tt;
+    failed = (λ answers. saving_cause r d g (Err failure) on by (IsUsableAt store words left d) failure answers on.why, no_device failure on.why, no_sink failure on.why, kept_with_failure r d g (Err failure) on by failure refl on.why, λ usable fault h. refused failure on.why usable fault h);
   }
     where
-      no_device : (e : Failure) → ((e ≡ Saving) ⊎ (e ≡ Memory) ⊎ ((fault : ResumeFault) × (e ≡ SaveFile fault) × IsRefusedFor r.resolved.plain (store.now d) fault)) → e ≢ Reading
+      no_device : (e : Failure) → ((e ≡ Saving) ⊎ (e ≡ Memory) ⊎ IsOfClasses e ⊎ ((fault : ResumeFault) × (e ≡ SaveFile fault) × IsRefusedFor r.resolved.plain (store.now d) fault)) → e ≢ Reading
       no_device e (inl w) h = cc
       no_device e (inr (inl w)) h = cc
-      no_device e (inr (inr w)) h = let is = w.1 in cc
+      no_device e (inr (inr (inl w))) h = subst IsOfClasses h w
+      no_device e (inr (inr (inr w))) h = let is = w.1 in cc
 
-      no_sink : (e : Failure) → ((e ≡ Saving) ⊎ (e ≡ Memory) ⊎ ((fault : ResumeFault) × (e ≡ SaveFile fault) × IsRefusedFor r.resolved.plain (store.now d) fault)) → e ≢ Writing
+      no_sink : (e : Failure) → ((e ≡ Saving) ⊎ (e ≡ Memory) ⊎ IsOfClasses e ⊎ ((fault : ResumeFault) × (e ≡ SaveFile fault) × IsRefusedFor r.resolved.plain (store.now d) fault)) → e ≢ Writing
       no_sink e (inl w) h = cc
       no_sink e (inr (inl w)) h = cc
-      no_sink e (inr (inr w)) h = let is = w.1 in cc
+      no_sink e (inr (inr (inl w))) h = subst IsOfClasses h w
+      no_sink e (inr (inr (inr w))) h = let is = w.1 in cc
 
-      refused : (e : Failure) → ((e ≡ Saving) ⊎ (e ≡ Memory) ⊎ ((fault : ResumeFault) × (e ≡ SaveFile fault) × IsRefusedFor r.resolved.plain (store.now d) fault)) → IsUsableAt store words left d → (fault : ResumeFault) → e ≡ SaveFile fault → ⊥
+      refused : (e : Failure) → ((e ≡ Saving) ⊎ (e ≡ Memory) ⊎ IsOfClasses e ⊎ ((fault : ResumeFault) × (e ≡ SaveFile fault) × IsRefusedFor r.resolved.plain (store.now d) fault)) → IsUsableAt store words left d → (fault : ResumeFault) → e ≡ SaveFile fault → ⊥
       refused e (inl w) usable fault h = cc
       refused e (inr (inl w)) usable fault h = cc
-      refused e (inr (inr w)) usable fault h = usable_file r d w.0 by usable w.2
+      refused e (inr (inr (inl w))) usable fault h = subst IsOfClasses h w
+      refused e (inr (inr (inr w))) usable fault h = usable_file r d w.0 by usable w.2
 
   by_option : (r : ToResolve) (text : Told) (d g : store.State) (saves : Bool) → r.common.save ≡ saves → IsSavedAs words left (Resolution r) → HasWorked store.now store.moment store.images store.since store.faults (Resolution r) text d g → IsWorked text (Resolution r) d g
   by_option r text d g true is saved did = worked_saved r text d g (saved_by r (command_of words) refl saved is) (did.1 is)
@@ -396,21 +438,33 @@ module _ (store : Store) (laws : Lawful store.now store.moment store.images stor
   worked (Text made) text d g saved did = worked_unsaved (Text made) text d g (text_unsaved made (command_of words) refl saved) did
   worked (Resolution r) text d g saved did = by_option r text d g r.common.save refl saved did
 
+  -- the answers of a task are those of the words
+  pub worked_text : (task : Task) (text : Told) (d g : store.State) → IsTaskFrom words left task → IsWorked text task d g → IfOk text (λ x. (IsUsableAt store words left d → IsAnswerFrom words left (Ok x.items)) × IsKept store words left 0 d g × IsKept store words left 7 d g)
+  worked_text task (Ok x) d g answers did = (λ usable. answers (Ok x.items) (did.made tt usable), did.kept.0, did.kept.1)
+  worked_text task (Err e) d g answers did = tt
+
+  pub worked_failure : (task : Task) (text : Told) (d g : store.State) → IsTaskFrom words left task → IsWorked text task d g → IfErr text (λ failure. IsRunCauseFrom words left (store.now d) (IsUsableAt store words left d) failure × (failure ≢ Reading) × (failure ≢ Writing) × IsKept store words left (status_of failure) d g × (IsUsableAt store words left d → (fault : ResumeFault) → failure ≡ SaveFile fault → ⊥))
+  worked_failure task (Ok x) d g answers did = tt
+  worked_failure task (Err e) d g answers did =
+      let failed = did.failed in
+      (failed.0 (λ classes usable. answers (Err e) (did.made classes usable)), failed.1, failed.2, failed.3, failed.4)
+
   -- ---- a failure before there is a task
 
   -- what is asked of it besides
   pub record IsEarlyCause (failure : Failure) (d : store.State) : Type 0 where
-    pub cause : IsRunCauseFrom words left (store.now d) failure
-    pub has_text : HasText words left (store.now d) failure
+    pub cause : IsRunCauseFrom words left (store.now d) (IsUsableAt store words left d) failure
+    pub outcome : HasOutcome words left (store.now d) (IsUsableAt store words left d) failure
     pub accepted : IsUsableAt store words left d → (fault : ResumeFault) → failure ≡ SaveFile fault → ⊥
 
   pub early_cause : (failure : Failure) (d : store.State) → IsCauseFrom words left failure → failure ≢ Writing → IsEarlyCause failure d
-  early_cause Words d cause unwritten = record { cause = cause; has_text = tt; accepted = λ usable fault h. cc }
-  early_cause (NoModuleFile e) d cause unwritten = record { cause = cause; has_text = tt; accepted = λ usable fault h. cc }
-  early_cause (NotModule f e) d cause unwritten = record { cause = cause; has_text = tt; accepted = λ usable fault h. cc }
-  early_cause (PastLimit what) d cause unwritten = record { cause = cause; has_text = tt; accepted = λ usable fault h. cc }
-  early_cause Reading d cause unwritten = record { cause = cause; has_text = tt; accepted = λ usable fault h. cc }
+  early_cause Words d cause unwritten = record { cause = cause; outcome = tt; accepted = λ usable fault h. cc }
+  early_cause (NoModuleFile e) d cause unwritten = record { cause = cause; outcome = tt; accepted = λ usable fault h. cc }
+  early_cause (NotModule f e) d cause unwritten = record { cause = cause; outcome = tt; accepted = λ usable fault h. cc }
+  early_cause Reading d cause unwritten = record { cause = cause; outcome = tt; accepted = λ usable fault h. cc }
+  early_cause (PastLimit what) d cause unwritten = record { cause = cause; outcome = tt; accepted = λ usable fault h. cc }
   early_cause Writing d cause unwritten = absurd (unwritten refl)
   early_cause Saving d cause unwritten = absurd cause
   early_cause (SaveFile e) d cause unwritten = absurd cause
-  early_cause Memory d cause unwritten = record { cause = cause; has_text = tt; accepted = λ usable fault h. cc }
+  early_cause (Classes e) d cause unwritten = absurd cause
+  early_cause Memory d cause unwritten = record { cause = cause; outcome = tt; accepted = λ usable fault h. cc }

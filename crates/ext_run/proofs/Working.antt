@@ -1,7 +1,7 @@
 -- What becomes of a task, by its kind.
-use Rattle.std.proofs.Common.{◌≡◌, ℕ, List, [], true, false, sym, subst, refl, inl, inr}
+use Rattle.std.proofs.Common.{◌≡◌, ℕ, List, [], true, false, ◌⊎◌, sym, subst, refl, inl, inr}
 use Rattle.std.specs.declared.alloc.Global.{Global}
-use Rattle.std.specs.Prelude.{Option, Vec, Ok, Err, IfOk, IfErr}
+use Rattle.std.specs.Prelude.{Option, Vec, Ok, Err, IfErr}
 use Rattle.edge.specs.Faults.{HasRisen}
 use Rattle.finite_module.specs.Checked.{Checked}
 use Rattle.resolution_laws.specs.Start.{IsCanonicalStart}
@@ -14,8 +14,9 @@ use Rattle.ext_run.specs.declared.task.Form.{Form}
 use Rattle.ext_run.specs.declared.task.Task.{Task}
 use Rattle.ext_run.specs.declared.task.Task.TheVariants.{Text, Resolution}
 use Rattle.ext_run.specs.declared.task.Resolution.{Resolution as ToResolve}
+use Rattle.ext_run.specs.Answer.{IsOfClasses}
 use Rattle.ext_run.specs.Task.{IsInForm}
-use Rattle.ext_run.specs.Work.{Told, HasContinued, HasKeptOn, HasWorked}
+use Rattle.ext_run.specs.Work.{Told, HasAnswer, answer_of, HasContinued, HasKeptOn, HasWorked}
 
 -- ---- without a save file
 
@@ -23,28 +24,27 @@ none_read : (m : Checked) → IsCanonicalStart (over m) []
 none_read m s k content there = absurd (cc)
 
 -- the table began without squares, so that all of it is canonical
-pub told_unsaved : (range : Range) (form : Form) (m : Checked) (rows : List (List Placed)) (spare : ℕ) (table : Staircase) (text : Told) (old new : Keeper) → table ≡ record { resolved = m; start = []; rows = rows; spare = spare } → HasContinued range form table text old new → IfOk text (λ t. IsInForm form range m.plain t.items)
-told_unsaved range form m rows spare table (Err e) old new is h = tt
-told_unsaved range form m rows spare table (Ok t) old new is h =
-    let P : Staircase → Type 0 = λ before. IsCanonicalStart (over before.resolved) before.start → IsInForm form range before.resolved.plain t.items in
-    subst P is h.told (none_read m)
+pub told_unsaved : (range : Range) (form : Form) (m : Checked) (rows : List (List Placed)) (spare : ℕ) (table : Staircase) (text : Told) (old new : Keeper) → table ≡ record { resolved = m; start = []; rows = rows; spare = spare } → HasContinued range form table text old new → HasAnswer text → IsInForm form range m.plain (answer_of text)
+told_unsaved range form m rows spare table text old new is h has =
+    let P : Staircase → Type 0 = λ before. IsCanonicalStart (over before.resolved) before.start → IsInForm form range before.resolved.plain (answer_of text) in
+    subst P is (h.told has) (none_read m)
 
 -- what keeps nothing does not fail
-pub why_unsaved : (range : Range) (form : Form) (table : Staircase) (text : Told) (old new : Keeper) → (HasRisen old.faults new.faults → ⊥) → HasContinued range form table text old new → IfErr text (λ e. e ≡ Memory)
+pub why_unsaved : (range : Range) (form : Form) (table : Staircase) (text : Told) (old new : Keeper) → (HasRisen old.faults new.faults → ⊥) → HasContinued range form table text old new → IfErr text (λ e. (e ≡ Memory) ⊎ IsOfClasses e)
 why_unsaved range form table (Ok t) old new never h = tt
 why_unsaved range form table (Err e) old new never h = elim h.why [
   | inl failed ↦ absurd (never (h.failed (cc)))
-  | inr memory ↦ memory
+  | inr others ↦ others
 ]
 
 -- ---- the kinds of tasks
 
 module _ {D : Type 0} (now : D → Option (List ℕ)) (moment : D → ℕ) (images : D → List ℕ → Type 0) (since : D → ℕ → List ℕ → Type 0) (faults : D → ℕ) (task : Task) where
   pub worked_text : (made : Vec ℕ Global) (d : D) → task ≡ Text made → HasWorked now moment images since faults task (Ok made) d d
-  worked_text made d is = subst (λ (t : Task). HasWorked now moment images since faults t (Ok made) d d) (sym is) (record { told = refl; why = tt; same = refl })
+  worked_text made d is = subst (λ (t : Task). HasWorked now moment images since faults t (Ok made) d d) (sym is) (record { told = λ has. refl; why = tt; same = refl })
 
   pub worked_saved : (r : ToResolve) (text : Told) (d g : D) → task ≡ Resolution r → r.common.save ≡ true → HasKeptOn now moment images since faults r text d g → HasWorked now moment images since faults task text d g
   worked_saved r text d g is saves on = subst (λ (t : Task). HasWorked now moment images since faults t text d g) (sym is) (λ h. absurd (cc), λ h. on)
 
-  pub worked_unsaved : (r : ToResolve) (text : Told) (d : D) → task ≡ Resolution r → r.common.save ≡ false → IfOk text (λ t. IsInForm r.form r.common.range r.resolved.plain t.items) → IfErr text (λ e. e ≡ Memory) → HasWorked now moment images since faults task text d d
+  pub worked_unsaved : (r : ToResolve) (text : Told) (d : D) → task ≡ Resolution r → r.common.save ≡ false → (HasAnswer text → IsInForm r.form r.common.range r.resolved.plain (answer_of text)) → IfErr text (λ e. (e ≡ Memory) ⊎ IsOfClasses e) → HasWorked now moment images since faults task text d d
   worked_unsaved r text d is saves told why = subst (λ (t : Task). HasWorked now moment images since faults t text d d) (sym is) (λ h. record { told = told; why = why; same = refl }, λ h. absurd (cc))

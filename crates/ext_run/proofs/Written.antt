@@ -46,6 +46,9 @@ HasPrefixMore-behind a b old mid new e p = record {
   gained = with_more-two old mid new a (take p.taken b) e p.gained ∙ ap (with_more old) (sym (take-append-add a b p.taken));
 }
 
+pub HasPrefixMore-of : (a b : List ℕ) (old new : Option (List ℕ)) → a ≡ b → HasPrefixMore a old new → HasPrefixMore b old new
+HasPrefixMore-of a b old new e p = subst (λ (t : List ℕ). HasPrefixMore t old new) e p
+
 pub HasPrefixMore-within : (a b rest whole : List ℕ) (old mid new : Option (List ℕ)) → mid ≡ with_more old a → HasPrefixMore b mid new → whole ≡ (a ++ b) ++ rest → HasPrefixMore whole old new
 HasPrefixMore-within a b rest whole old mid new e p is =
     let P : List ℕ → Type 0 = λ t. HasPrefixMore t old new in

@@ -1,5 +1,5 @@
 -- Why a run has no answer: its status, and its line on standard error.
-use Rattle.std.specs.Prelude.{ℕ, List, ◌++◌, codes, decimal}
+use Rattle.std.specs.Prelude.{ℕ, pos, List, ◌++◌, codes, decimal}
 use Rattle.hex.specs.Hex.{encode_lower}
 use Rattle.milnor_basis.specs.Text.{sq_text}
 use Rattle.edge.specs.declared.reading.ReadFault.{ReadFault}
@@ -23,10 +23,22 @@ use Rattle.save_journal.specs.declared.fault.OpenFault.{OpenFault}
 use Rattle.save_journal.specs.declared.fault.OpenFault.TheVariants.{Failed as OpenFailed, NotSave, Other, Damaged, Short, Memory as OpenMemory}
 use Rattle.save_file.specs.declared.fault.ResumeFault.{ResumeFault}
 use Rattle.save_file.specs.declared.fault.ResumeFault.TheVariants.{Open, Strange, Memory as ResumeMemory}
+use Rattle.ext_products.specs.declared.refusal.Named.{Named}
+use Rattle.ext_products.specs.declared.refusal.Named.TheVariants.{By, A, B, C}
+use Rattle.ext_products.specs.declared.refusal.Pair.{Pair}
+use Rattle.ext_products.specs.declared.refusal.Pair.TheVariants.{Ab, Bc}
+use Rattle.ext_products.specs.declared.refusal.Target.{Target}
+use Rattle.ext_products.specs.declared.refusal.Target.TheVariants.{Product, Bracket}
+use Rattle.ext_products.specs.declared.refusal.Refusal.{Refusal}
+use Rattle.ext_products.specs.declared.refusal.Refusal.TheVariants.{NoClass, OutOfRange, Nonzero}
+use Rattle.ext_products.specs.declared.refusal.ClassesFault.{ClassesFault}
+use Rattle.ext_products.specs.declared.refusal.ClassesFault.TheVariants.{Refused, Memory as NoSpaceForClasses}
 use Rattle.ext_words.specs.declared.command.WordsFault.{WordsFault}
 use Rattle.ext_words.specs.declared.command.WordsFault.TheVariants.{Words as Outside, Memory as NoSpaceForWords}
+use Rattle.ext_chart.specs.Classes.{class_text, class_sum_text}
+use Rattle.ext_run.specs.Parts.{square_place}
 use Rattle.ext_run.specs.declared.failure.Failure.{Failure}
-use Rattle.ext_run.specs.declared.failure.Failure.TheVariants.{Words, Malformed as NoModuleFile, NotModule, PastLimit, Reading, Writing, Saving, SaveFile, Memory}
+use Rattle.ext_run.specs.declared.failure.Failure.TheVariants.{Words, Malformed as NoModuleFile, NotModule, PastLimit, Reading, Writing, Saving, SaveFile, Classes, Memory}
 
 abbrev pub what_text : What → List ℕ
 what_text Bytes = codes "bytes"
@@ -95,9 +107,32 @@ refusal_line (Open fault) = open_line fault
 refusal_line (Strange number) = codes "ext: save file: record " ++ (decimal number ++ codes " strange\n")
 refusal_line ResumeMemory = memory_line
 
+-- what a class is asked for as
+abbrev pub named_text : Named → List ℕ
+named_text By = codes "by"
+named_text A = codes "a"
+named_text B = codes "b"
+named_text C = codes "c"
+
+abbrev pub pair_text : Pair → List ℕ
+pair_text Ab = codes "ab"
+pair_text Bc = codes "bc"
+
+abbrev pub target_text : Target → List ℕ
+target_text (Product pair) = pair_text pair
+target_text Bracket = codes "value"
+
+-- why there is nothing to tell of classes
+abbrev pub class_line : Refusal → List ℕ
+class_line (NoClass named class count) =
+    codes "ext: no class " ++ (named_text named ++ (codes " " ++ (class_text (pos class.s) class.t class.i ++ (codes ", " ++ (decimal count ++ codes " there\n")))))
+class_line (OutOfRange target s t) = codes "ext: out of range at " ++ (target_text target ++ (codes " " ++ (square_place s t ++ newline)))
+class_line (Nonzero pair s t product) = codes "ext: product " ++ (pair_text pair ++ (codes " is not zero: " ++ (class_sum_text s t product ++ newline)))
+
 abbrev pub line_of : Failure → List ℕ
 line_of Saving = saving_line
 line_of (SaveFile fault) = refusal_line fault
+line_of (Classes refusal) = class_line refusal
 line_of Words = codes "ext: words outside the command grammar\n"
 line_of (NoModuleFile malformed) = malformed_line malformed
 line_of (NotModule file fault) = fault_line file.generators fault
@@ -129,6 +164,10 @@ resume_failure (Open OpenMemory) = Memory
 resume_failure ResumeMemory = Memory
 resume_failure fault = SaveFile fault
 
+abbrev pub classes_failure : ClassesFault → Failure
+classes_failure (Refused refusal) = Classes refusal
+classes_failure NoSpaceForClasses = Memory
+
 abbrev pub malformed_status : Malformed → ℕ
 malformed_status NoRoom = 12
 malformed_status malformed = 3
@@ -137,9 +176,15 @@ abbrev pub fault_status : CheckFault → ℕ
 fault_status NoMemory = 12
 fault_status fault = 4
 
+abbrev pub class_status : Refusal → ℕ
+class_status (NoClass named class count) = 11
+class_status (OutOfRange target s t) = 11
+class_status (Nonzero pair s t product) = 10
+
 abbrev pub status_of : Failure → ℕ
 status_of Saving = 8
 status_of (SaveFile fault) = 9
+status_of (Classes refusal) = class_status refusal
 status_of Words = 2
 status_of (NoModuleFile malformed) = malformed_status malformed
 status_of (NotModule file fault) = fault_status fault

@@ -7,7 +7,7 @@ use Rattle.finite_module.specs.Module.{Module as SteenrodModule}
 use Rattle.finite_module.specs.DerivedAction.{derived_module}
 use Rattle.module_check.specs.Acceptance.{refusal_of}
 use Rattle.ext_run.specs.declared.failure.Failure.{Failure}
-use Rattle.ext_run.specs.declared.failure.Failure.TheVariants.{Malformed as NoModuleFile, NotModule, Reading, Writing, Saving, SaveFile, Memory}
+use Rattle.ext_run.specs.declared.failure.Failure.TheVariants.{Malformed as NoModuleFile, NotModule, Reading, Writing, Saving, SaveFile, Classes, Memory}
 
 -- P holds of all that a source has left; where it does not tell that, of some bytes.
 pub record IsOfInput (P : List ℕ → Type 0) (left : Option (List ℕ)) : Type 0 where
@@ -15,14 +15,15 @@ pub record IsOfInput (P : List ℕ → Type 0) (left : Option (List ℕ)) : Type
   pub all : IfSome left (λ l. bytes ≡ l)
   pub holds : P bytes
 
--- Why there is no answer, the save file apart: a failed read or write, where there may be one, or want of memory; or what Is says of
--- the failure.
+-- Why there is no answer, the save file and what is resolved apart: a failed read or write, where there may be one, or want of memory; or
+-- what Is says of the failure.
 abbrev pub IsCauseOf : Type 0 → Type 0 → (Failure → Type 0) → Failure → Type 0
 IsCauseOf MayRead MayWrite Is Reading = MayRead
 IsCauseOf MayRead MayWrite Is Writing = MayWrite
 IsCauseOf MayRead MayWrite Is Memory = ⊤
 IsCauseOf MayRead MayWrite Is Saving = ⊥
 IsCauseOf MayRead MayWrite Is (SaveFile e) = ⊥
+IsCauseOf MayRead MayWrite Is (Classes refusal) = ⊥
 IsCauseOf MayRead MayWrite Is failure = Is failure
 
 -- one byte past the greatest size of a module file, which is as far as an input is read

@@ -9,16 +9,19 @@ use Rattle.module_json.specs.ModuleFile.{File}
 use Rattle.module_json.specs.declared.malformed.Malformed.{Malformed}
 use Rattle.module_json.specs.declared.malformed.What.{What}
 use Rattle.module_check.specs.declared.fault.CheckFault.{CheckFault}
-use Rattle.ext_run.specs.declared.failure.Failure.TheVariants.{Malformed as NoModuleFile, NotModule, PastLimit}
+use Rattle.ext_products.specs.declared.refusal.Refusal.{Refusal}
+use Rattle.ext_run.specs.Failure.{class_status}
+use Rattle.ext_run.specs.declared.failure.Failure.TheVariants.{Malformed as NoModuleFile, NotModule, PastLimit, Classes}
 use Rattle.ext_words.specs.Words.{command_of}
 use Rattle.ext_run.specs.Input.{most_read}
 use Rattle.ext_run.specs.Answer.{IsAnswer, IsAnswerFrom, IsAnswerable, WordsRead}
 use Rattle.ext_run.specs.Saving.{IsLineFrom}
 
--- The status says what the words and the input are. Failed reads and want of memory may come before a refusal of the input.
-pub record IsStatusOf (words : List (List ℕ)) (left : Option (List ℕ)) (status : ℕ) : Type 0 where
+-- The status says what the words and the input are. Failed reads and want of memory may come before a refusal of the input, and a failed
+-- disk before one of the classes, which is told if what the save file has may be used.
+pub record IsStatusOf (words : List (List ℕ)) (left : Option (List ℕ)) (usable : Type 0) (status : ℕ) : Type 0 where
   -- the statuses that there are
-  pub known : (status ≡ 0) ⊎ (status ≡ 2) ⊎ (status ≡ 3) ⊎ (status ≡ 4) ⊎ (status ≡ 6) ⊎ (status ≡ 7) ⊎ (status ≡ 8) ⊎ (status ≡ 9) ⊎ (status ≡ 12) ⊎ (status ≡ 14)
+  pub known : (status ≡ 0) ⊎ (status ≡ 2) ⊎ (status ≡ 3) ⊎ (status ≡ 4) ⊎ (status ≡ 6) ⊎ (status ≡ 7) ⊎ (status ≡ 8) ⊎ (status ≡ 9) ⊎ (status ≡ 10) ⊎ (status ≡ 11) ⊎ (status ≡ 12) ⊎ (status ≡ 14)
   -- 2: the words are outside the grammar
   pub refused : status ≡ 2 → command_of words ≡ None
   pub refuses : command_of words ≡ None → (status ≡ 2) ⊎ (status ≡ 12)
@@ -31,6 +34,9 @@ pub record IsStatusOf (words : List (List ℕ)) (left : Option (List ℕ)) (stat
   -- 14: what was to be built passes a limit
   pub past_limit : status ≡ 14 → (what : What) × IsAnswerFrom words left (Err (PastLimit what))
   pub past_limit_comes : (l : List ℕ) (what : What) → left ≡ Some l → IsAnswer words l (Err (PastLimit what)) → (status ≡ 14) ⊎ (status ≡ 6) ⊎ (status ≡ 12)
+  -- 10 and 11: a product of the classes has to be zero and is not; a class is not there, or what is asked for is out of the range
+  pub no_value : (status ≡ 10) ⊎ (status ≡ 11) → usable → (refusal : Refusal) × (status ≡ class_status refusal) × IsAnswerFrom words left (Err (Classes refusal))
+  pub no_value_comes : (l : List ℕ) (refusal : Refusal) → left ≡ Some l → usable → IsAnswer words l (Err (Classes refusal)) → (status ≡ class_status refusal) ⊎ (status ≡ 6) ⊎ (status ≡ 8) ⊎ (status ≡ 12)
 
 -- What becomes of a source, by its trait's left and faults.
 pub record HasRead {S : Type 0} (left : S → Option (List ℕ)) (faults : S → ℕ) (words : List (List ℕ)) (status : ℕ) (old new : S) : Type 0 where
@@ -59,16 +65,18 @@ pub record HasAnswered {O : Type 0} (written : O → Option (List ℕ)) (faults 
   pub no_fault : status ≡ 0 → faults new ≡ faults old
   pub failed : status ≡ 7 → HasRisen (faults old) (faults new)
 
--- What becomes of standard error, by its trait's written and faults. now is what the disk held, where it tells.
-pub record HasReported {E : Type 0} (written : E → Option (List ℕ)) (faults : E → ℕ) (words : List (List ℕ)) (left now : Option (List ℕ)) (status : ℕ) (old new : E) : Type 0 where
+-- What becomes of standard error, by its trait's written and faults. now is what the disk held, where it tells, and usable that what
+-- the save file has may be used.
+pub record HasReported {E : Type 0} (written : E → Option (List ℕ)) (faults : E → ℕ) (words : List (List ℕ)) (left now : Option (List ℕ)) (usable : Type 0) (status : ℕ) (old new : E) : Type 0 where
   -- an answer is silent: no call is made
   pub silent : status ≡ 0 → new ≡ old
   -- else it got the line of the failure, or a first part of that
-  pub line : status ≢ 0 → (line : List ℕ) × IsLineFrom words left now status line × HasPrefixMore line (written old) (written new)
+  pub line : status ≢ 0 → (line : List ℕ) × IsLineFrom words left now usable status line × HasPrefixMore line (written old) (written new)
   -- all of it where no write failed
-  pub whole_line : status ≢ 0 → (HasRisen (faults old) (faults new) → ⊥) → (line : List ℕ) × IsLineFrom words left now status line × (written new ≡ with_more (written old) line)
+  pub whole_line : status ≢ 0 → (HasRisen (faults old) (faults new) → ⊥) → (line : List ℕ) × IsLineFrom words left now usable status line × (written new ≡ with_more (written old) line)
   pub never_falls : faults old ≤ faults new
 
--- Words in the grammar, with a file that describes what they need where one is read, have their answer, unless memory ends.
+-- Words in the grammar, with a file that describes what they need where one is read, and with classes of which there is a text to tell,
+-- have that text, unless memory ends.
 abbrev pub IsComplete : List (List ℕ) → Option (List ℕ) → ℕ → Type 0
 IsComplete words left status = IsAnswerable words left → (status ≡ 0) ⊎ (status ≡ 12)

@@ -17,13 +17,13 @@ use Rattle.save_file.specs.Files.{Standing, of_records}
 use Rattle.save_file.specs.declared.fault.ResumeFault.{ResumeFault}
 use Rattle.ext_words.specs.declared.command.Common.{Common}
 use Rattle.ext_words.specs.declared.command.Command.{Command}
-use Rattle.ext_words.specs.declared.command.Command.TheVariants.{Sphere, Resolve, Dump, Check, Build, Sample, Sq}
+use Rattle.ext_words.specs.declared.command.Command.TheVariants.{Sphere, Resolve, Dump, Products, Massey, Check, Build, Sample, Sq}
 use Rattle.ext_words.specs.Words.{command_of}
 use Rattle.ext_run.specs.Input.{IsOfInput}
-use Rattle.ext_run.specs.Answer.{WordsRead, IsCauseFrom}
+use Rattle.ext_run.specs.Answer.{WordsRead, IsAnswerFrom, IsCauseFrom}
 use Rattle.ext_run.specs.Failure.{status_of, line_of}
 use Rattle.ext_run.specs.declared.failure.Failure.{Failure}
-use Rattle.ext_run.specs.declared.failure.Failure.TheVariants.{Saving, SaveFile}
+use Rattle.ext_run.specs.declared.failure.Failure.TheVariants.{Saving, SaveFile, Classes}
 
 -- ---- words that ask for a save file
 
@@ -32,6 +32,8 @@ abbrev pub options_of : Command → Option Common
 options_of (Sphere common) = Some common
 options_of (Resolve common) = Some common
 options_of (Dump common) = Some common
+options_of (Products common by) = Some common
+options_of (Massey common a b c) = Some common
 options_of Check = None
 options_of (Build made) = None
 options_of (Sample n common) = Some common
@@ -55,6 +57,8 @@ abbrev pub IsModuleOf : Command → List ℕ → SteenrodModule → Type 0
 IsModuleOf (Sphere common) bytes m = m ≡ derived_module sphere_file
 IsModuleOf (Resolve common) bytes m = IsModuleIn bytes m
 IsModuleOf (Dump common) bytes m = IsModuleIn bytes m
+IsModuleOf (Products common by) bytes m = IsModuleIn bytes m
+IsModuleOf (Massey common a b c) bytes m = IsModuleIn bytes m
 IsModuleOf Check bytes m = IsModuleIn bytes m
 IsModuleOf (Build made) bytes m = ⊥
 IsModuleOf (Sample n common) bytes m = m ≡ derived_module (sample_file n)
@@ -107,31 +111,33 @@ HasRange range list = (s k : ℕ) → s ≤ range.s → k ≤ range.t → IsSome
 -- From old to new the disk of a run, which was ours for the list, kept its squares: the run took up the list, or it and one square
 -- more, and put the given ones behind them. At every moment since it began a crash would have left the list and at most one square
 -- more, or what was taken up, a first part of what was given, and at most one square more. In the end it is ours for all of them; and
--- if there was a text, each image has just these, and each square of the range is among them.
-pub record HasLasted {D : Type 0} (moment : D → ℕ) (images : D → List ℕ → Type 0) (since : D → ℕ → List ℕ → Type 0) (m : SteenrodModule) (range : Range) (list : List Entry) (had_text : Type 0) (old new : D) : Type 0 where
+-- if there was an answer, each image has just these, and each square of the range is among them.
+pub record HasLasted {D : Type 0} (moment : D → ℕ) (images : D → List ℕ → Type 0) (since : D → ℕ → List ℕ → Type 0) (m : SteenrodModule) (range : Range) (list : List Entry) (had_answer : Type 0) (old new : D) : Type 0 where
   pub more : List Entry
   pub given : List Entry
   pub at_most_one : length more ≤ 1
   pub canonical : AreCanonical m ((list ++ more) ++ given)
   pub moments : (c : List ℕ) → since new (moment old) c → StandsWith m list c ⊎ StandsAmid m (list ++ more) given c
   pub ours : IsOurs m ((list ++ more) ++ given) (images new)
-  pub exact : had_text → (c : List ℕ) → images new c → standing_for m c ≡ Ok ((list ++ more) ++ given)
-  pub whole : had_text → HasRange range ((list ++ more) ++ given)
+  pub exact : had_answer → (c : List ℕ) → images new c → standing_for m c ≡ Ok ((list ++ more) ++ given)
+  pub whole : had_answer → HasRange range ((list ++ more) ++ given)
 
 -- the file is refused, for the module of these words and this input
 abbrev pub IsRefusedFrom : List (List ℕ) → Option (List ℕ) → List ℕ → ResumeFault → Type 0
 IsRefusedFrom words left file e = IsOfInput (λ bytes. (m : SteenrodModule) × (range : Range) × IsSavedBy words bytes m range × (standing_for m file ≡ Err e)) left
 
--- Why a run has no answer, where the disk held this: what the words and the input have, a failed disk, or a refused file.
-abbrev pub IsRunCauseFrom : List (List ℕ) → Option (List ℕ) → Option (List ℕ) → Failure → Type 0
-IsRunCauseFrom words left now Saving = WordsSave words
-IsRunCauseFrom words left now (SaveFile e) = IfSome now (λ file. IsRefusedFrom words left file e)
-IsRunCauseFrom words left now failure = IsCauseFrom words left failure
+-- Why a run has no text, where the disk held this: what the words and the input have, a failed disk, a refused file, or what the classes
+-- have that are asked for, if what the save file has may be used.
+abbrev pub IsRunCauseFrom : List (List ℕ) → Option (List ℕ) → Option (List ℕ) → Type 0 → Failure → Type 0
+IsRunCauseFrom words left now usable Saving = WordsSave words
+IsRunCauseFrom words left now usable (SaveFile e) = IfSome now (λ file. IsRefusedFrom words left file e)
+IsRunCauseFrom words left now usable (Classes refusal) = usable → IsAnswerFrom words left (Err (Classes refusal))
+IsRunCauseFrom words left now usable failure = IsCauseFrom words left failure
 
 -- the line on standard error for a status other than 0
-pub record IsLineFrom (words : List (List ℕ)) (left now : Option (List ℕ)) (status : ℕ) (line : List ℕ) : Type 0 where
+pub record IsLineFrom (words : List (List ℕ)) (left now : Option (List ℕ)) (usable : Type 0) (status : ℕ) (line : List ℕ) : Type 0 where
   pub failure : Failure
-  pub cause : IsRunCauseFrom words left now failure
+  pub cause : IsRunCauseFrom words left now usable failure
   pub status_is : status ≡ status_of failure
   pub line_is : line ≡ line_of failure
 
@@ -145,6 +151,10 @@ IsUsable words left now images =
 abbrev pub IsEarly : ℕ → Type 0
 IsEarly status = (status ≡ 2) ⊎ (status ≡ 3) ⊎ (status ≡ 4) ⊎ (status ≡ 6) ⊎ (status ≡ 14)
 
+-- the statuses behind it: the range is resolved, and there is an answer
+abbrev pub IsAnswered : ℕ → Type 0
+IsAnswered status = (status ≡ 0) ⊎ (status ≡ 7) ⊎ (status ≡ 10) ⊎ (status ≡ 11)
+
 -- What becomes of the disk of a run, by its trait's now, moment, images, since and faults.
 pub record HasSaved {D : Type 0} (now : D → Option (List ℕ)) (moment : D → ℕ) (images : D → List ℕ → Type 0) (since : D → ℕ → List ℕ → Type 0) (faults : D → ℕ) (words : List (List ℕ)) (left : Option (List ℕ)) (status : ℕ) (old new : D) : Type 0 where
   -- no call is made unless the words ask for a save file, nor where there is no module
@@ -152,7 +162,7 @@ pub record HasSaved {D : Type 0} (now : D → Option (List ℕ)) (moment : D →
   pub early : IsEarly status → new ≡ old
   -- 8: a call failed; an answer comes only if none did
   pub failed : status ≡ 8 → HasRisen (faults old) (faults new)
-  pub no_fault : (status ≡ 0) ⊎ (status ≡ 7) → faults new ≡ faults old
+  pub no_fault : IsAnswered status → faults new ≡ faults old
   pub never_falls : faults old ≤ faults new
   -- 9: the file is refused; nothing is written then
   pub refused : status ≡ 9 → IfSome (now old) (λ file. (e : ResumeFault) × IsRefusedFrom words left file e)
@@ -161,4 +171,4 @@ pub record HasSaved {D : Type 0} (now : D → Option (List ℕ)) (moment : D →
   pub unwritten : status ≡ 9 → (now new ≡ now old) × IfSome (now old) (λ _. (c : List ℕ) → images new c → images old c)
   -- squares last
   pub lasts : (bytes : List ℕ) (m : SteenrodModule) (range : Range) (list : List Entry) → (WordsRead words → left ≡ Some bytes) → IsSome (now old) → IsSavedBy words bytes m range → IsOurs m list (images old) →
-      HasLasted moment images since m range list ((status ≡ 0) ⊎ (status ≡ 7)) old new
+      HasLasted moment images since m range list (IsAnswered status) old new

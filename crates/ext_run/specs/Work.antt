@@ -1,5 +1,5 @@
 -- What becomes of a task, and of the disk that its save file is on.
-use Rattle.std.specs.Prelude.{◌≡◌, ℕ, ◌≤◌, ◌⊎◌, true, false, List, Option, Some, IsSome, IfSome, Vec, Result, Ok, Err, IfOk, IfErr, OnOk, IsOk}
+use Rattle.std.specs.Prelude.{◌≡◌, ℕ, ◌≤◌, ◌⊎◌, true, false, List, Option, Some, IsSome, IfSome, Vec, Result, Ok, Err, IfErr, ⊤}
 use Rattle.std.specs.declared.alloc.Global.{Global}
 use Rattle.finite_module.specs.Module.{Module as SteenrodModule}
 use Rattle.edge.specs.Faults.{HasRisen}
@@ -15,29 +15,39 @@ use Rattle.ext_run.specs.declared.task.Form.{Form}
 use Rattle.ext_run.specs.declared.task.Task.{Task}
 use Rattle.ext_run.specs.declared.task.Task.TheVariants.{Text, Resolution}
 use Rattle.ext_run.specs.declared.task.Resolution.{Resolution as ToResolve}
-use Rattle.ext_run.specs.Task.{IsInForm, IsTextOf}
+use Rattle.ext_run.specs.Answer.{IsOfClasses}
+use Rattle.ext_run.specs.Task.{IsInForm, IsDoneBy}
 use Rattle.ext_run.specs.Saving.{standing_for, IsOurs, HasLasted, HasRange}
 
 -- a text, or why there is none
 abbrev pub Told : Type 0
 Told = Result (Vec ℕ Global) Failure
 
+-- it is an answer of what is resolved, and which one it is
+abbrev pub HasAnswer : Told → Type 0
+HasAnswer (Ok text) = ⊤
+HasAnswer (Err failure) = IsOfClasses failure
+
+abbrev pub answer_of : Told → Result (List ℕ) Failure
+answer_of (Ok text) = Ok text.items
+answer_of (Err failure) = Err failure
+
 -- A table was continued through the range and told of, and the keeper got the new squares. If the table began with canonical squares,
--- the text is that of the canonical resolution.
+-- the answer is that of the canonical resolution.
 pub record HasContinued (range : Range) (form : Form) (table : Staircase) (text : Told) (old new : Keeper) : Type 0 where
-  pub told : IfOk text (λ t. IsCanonicalStart (over table.resolved) table.start → IsInForm form range table.resolved.plain t.items)
-  pub why : IfErr text (λ e. (e ≡ Saving) ⊎ (e ≡ Memory))
+  pub told : HasAnswer text → IsCanonicalStart (over table.resolved) table.start → IsInForm form range table.resolved.plain (answer_of text)
+  pub why : IfErr text (λ e. (e ≡ Saving) ⊎ (e ≡ Memory) ⊎ IsOfClasses e)
   pub failed : text ≡ Err Saving → HasRisen old.faults new.faults
-  pub no_fault : OnOk text (new.faults ≡ old.faults)
-  pub live : OnOk text new.live
-  pub whole : OnOk text (IfSome new.kept (HasRange range))
+  pub no_fault : HasAnswer text → new.faults ≡ old.faults
+  pub live : HasAnswer text → new.live
+  pub whole : HasAnswer text → IfSome new.kept (HasRange range)
   pub given : List Entry
   pub kept : HasKept (over table.resolved) table.start old new given
 
--- the text does the task, or memory ended, and nothing else happened
+-- the answer does the task, or memory ended, and nothing else happened
 pub record IsUnsaved {D : Type 0} (task : Task) (text : Told) (old new : D) : Type 0 where
-  pub told : IfOk text (λ t. IsTextOf task t.items)
-  pub why : IfErr text (λ e. e ≡ Memory)
+  pub told : HasAnswer text → IsDoneBy task (answer_of text)
+  pub why : IfErr text (λ e. (e ≡ Memory) ⊎ IsOfClasses e)
   pub same : new ≡ old
 
 -- the file is refused as one of the module
@@ -46,14 +56,14 @@ IsRefusedFor m now fault = IfSome now (λ file. standing_for m file ≡ Err faul
 
 -- A resolution was made over the save file on a disk, by its trait's now, moment, images, since and faults.
 pub record HasKeptOn {D : Type 0} (now : D → Option (List ℕ)) (moment : D → ℕ) (images : D → List ℕ → Type 0) (since : D → ℕ → List ℕ → Type 0) (faults : D → ℕ) (r : ToResolve) (text : Told) (old new : D) : Type 0 where
-  pub told : IfOk text (λ t. IsSome (now old) → (list : List Entry) → IsOurs r.resolved.plain list (images old) → IsTextOf (Resolution r) t.items)
-  pub why : IfErr text (λ e. (e ≡ Saving) ⊎ (e ≡ Memory) ⊎ ((fault : ResumeFault) × (e ≡ SaveFile fault) × IsRefusedFor r.resolved.plain (now old) fault))
+  pub told : HasAnswer text → IsSome (now old) → (list : List Entry) → IsOurs r.resolved.plain list (images old) → IsDoneBy (Resolution r) (answer_of text)
+  pub why : IfErr text (λ e. (e ≡ Saving) ⊎ (e ≡ Memory) ⊎ IsOfClasses e ⊎ ((fault : ResumeFault) × (e ≡ SaveFile fault) × IsRefusedFor r.resolved.plain (now old) fault))
   pub failed : text ≡ Err Saving → HasRisen (faults old) (faults new)
-  pub no_fault : OnOk text (faults new ≡ faults old)
+  pub no_fault : HasAnswer text → faults new ≡ faults old
   pub never_falls : faults old ≤ faults new
-  pub accepted : OnOk text ((file : List ℕ) → now old ≡ Some file → (list : List Entry) × (standing_for r.resolved.plain file ≡ Ok list))
+  pub accepted : HasAnswer text → (file : List ℕ) → now old ≡ Some file → (list : List Entry) × (standing_for r.resolved.plain file ≡ Ok list)
   pub unwritten : (fault : ResumeFault) → text ≡ Err (SaveFile fault) → (now new ≡ now old) × IfSome (now old) (λ _. (c : List ℕ) → images new c → images old c)
-  pub lasts : IsSome (now old) → (list : List Entry) → IsOurs r.resolved.plain list (images old) → HasLasted moment images since r.resolved.plain r.common.range list (IsOk text) old new
+  pub lasts : IsSome (now old) → (list : List Entry) → IsOurs r.resolved.plain list (images old) → HasLasted moment images since r.resolved.plain r.common.range list (HasAnswer text) old new
 
 -- what became of the task and of the disk
 abbrev pub HasWorked : {D : Type 0} → (D → Option (List ℕ)) → (D → ℕ) → (D → List ℕ → Type 0) → (D → ℕ → List ℕ → Type 0) → (D → ℕ) → Task → Told → D → D → Type 0

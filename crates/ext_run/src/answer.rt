@@ -40,7 +40,9 @@ pub struct Ended<D> {
 ///
 /// The status is 0 where the answer is written whole, 2 for words outside the grammar, 3 where what was read is no module
 /// file, 4 where it describes no module, 6 where reading failed, 7 where writing failed, 8 where the disk failed, 9 where what it
-/// holds is no save file of the module, 12 where memory ended, and 14 where what was to be built passes a limit.
+/// holds is no save file of the module, 10 where a product of the classes that the words name has to be zero and is not, 11 where
+/// one of them is not there or what is asked for is out of the range, 12 where memory ended, and 14 where what was to be built passes
+/// a limit.
 pub fn run<
     R,
     W: Threads + Wait + Clock + Sync,
@@ -60,10 +62,10 @@ pub fn run<
     disk: D,
     gate: &G,
 ) -> Ended<D>
-    ensures status { IsStatusOf (texts_of words.now) (S.left source.old) result.status }
+    ensures status { IsStatusOf (texts_of words.now) (S.left source.old) (IsUsable (texts_of words.now) (S.left source.old) (D.now disk) (D.images disk)) result.status }
     ensures read { HasRead S.left S.faults (texts_of words.now) result.status source.old source.new }
     ensures answered { HasAnswered O.written O.faults (texts_of words.now) (S.left source.old) (IsUsable (texts_of words.now) (S.left source.old) (D.now disk) (D.images disk)) result.status out.old out.new }
-    ensures reported { HasReported E.written E.faults (texts_of words.now) (S.left source.old) (D.now disk) result.status err.old err.new }
+    ensures reported { HasReported E.written E.faults (texts_of words.now) (S.left source.old) (D.now disk) (IsUsable (texts_of words.now) (S.left source.old) (D.now disk) (D.images disk)) result.status err.old err.new }
     ensures saved { HasSaved D.now D.moment D.images D.since D.faults (texts_of words.now) (S.left source.old) result.status disk result.disk }
     ensures complete { IsUsable (texts_of words.now) (S.left source.old) (D.now disk) (D.images disk) → ¬ HasRisen (S.faults source.old) (S.faults source.new) → ¬ HasRisen (O.faults out.old) (O.faults out.new) → ¬ HasRisen (D.faults disk) (D.faults result.disk) → IsComplete (texts_of words.now) (S.left source.old) result.status }
 {
@@ -91,10 +93,10 @@ pub fn run_one<R, S: Source, O: Sink, E: Sink, D: Disk>(
     err: &mut E,
     disk: D,
 ) -> Ended<D>
-    ensures status { IsStatusOf (texts_of words.now) (S.left source.old) result.status }
+    ensures status { IsStatusOf (texts_of words.now) (S.left source.old) (IsUsable (texts_of words.now) (S.left source.old) (D.now disk) (D.images disk)) result.status }
     ensures read { HasRead S.left S.faults (texts_of words.now) result.status source.old source.new }
     ensures answered { HasAnswered O.written O.faults (texts_of words.now) (S.left source.old) (IsUsable (texts_of words.now) (S.left source.old) (D.now disk) (D.images disk)) result.status out.old out.new }
-    ensures reported { HasReported E.written E.faults (texts_of words.now) (S.left source.old) (D.now disk) result.status err.old err.new }
+    ensures reported { HasReported E.written E.faults (texts_of words.now) (S.left source.old) (D.now disk) (IsUsable (texts_of words.now) (S.left source.old) (D.now disk) (D.images disk)) result.status err.old err.new }
     ensures saved { HasSaved D.now D.moment D.images D.since D.faults (texts_of words.now) (S.left source.old) result.status disk result.disk }
     ensures complete { IsUsable (texts_of words.now) (S.left source.old) (D.now disk) (D.images disk) → ¬ HasRisen (S.faults source.old) (S.faults source.new) → ¬ HasRisen (O.faults out.old) (O.faults out.new) → ¬ HasRisen (D.faults disk) (D.faults result.disk) → IsComplete (texts_of words.now) (S.left source.old) result.status }
 {

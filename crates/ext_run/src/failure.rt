@@ -6,16 +6,17 @@ ghost use Rattle.finite_module.specs.Text.{name_at};
 ghost use Rattle.finite_module.specs.Text.{newline};
 ghost use Rattle.ext_run.specs.Parts.{part_text, parts_text};
 ghost use Rattle.ext_run.specs.declared.failure.Failure.TheVariants.{Memory as WantOfMemory};
-ghost use Rattle.ext_run.specs.Failure.{what_text, place_text, action_line, malformed_line, fault_line, open_line, refusal_line, built_line, line_of, status_of, malformed_status, fault_status, words_failure, read_failure, file_failure, build_failure, resume_failure};
+ghost use Rattle.ext_run.specs.Failure.{what_text, place_text, action_line, malformed_line, fault_line, open_line, refusal_line, built_line, line_of, status_of, malformed_status, fault_status, class_status, named_text, pair_text, target_text, class_line, words_failure, read_failure, file_failure, build_failure, resume_failure, classes_failure};
 
-use crate::writing::Part::{self, Digest, Nothing, Number, Square, Text};
+use crate::writing::Part::{self, Class, Digest, Nothing, Number, Place, Square, Sum, Text};
 use crate::writing::{write_all, write_parts};
 use edge::{Failed, ReadFault, Sink};
+use ext_products::{ClassesFault, Named, Pair, Refusal, Target};
 use ext_words::WordsFault;
 use memory::Memory;
 use module_build::BuildFault;
 use module_check::CheckFault;
-use module_json::{Malformed, Place, Spec, What, Why};
+use module_json::{Malformed, Place as FilePlace, Spec, What, Why};
 use save_file::ResumeFault;
 use save_journal::OpenFault;
 use std::alloc::{AllocError, AllocFailed};
@@ -39,6 +40,8 @@ pub enum Failure {
     Saving,
     /// What is in the save file's place is none of the module.
     SaveFile(ResumeFault),
+    /// There is nothing to tell of the classes that the words name.
+    Classes(Refusal),
     /// There was no memory.
     Memory,
 }
@@ -123,6 +126,17 @@ impl From<ResumeFault> for Failure {
     }
 }
 
+impl From<ClassesFault> for Failure {
+    ghost from_gives = { λ fault failure. failure ≡ classes_failure fault };
+
+    fn from(fault: ClassesFault) -> Self {
+        match fault {
+            ClassesFault::Refused(refusal) => Failure::Classes(refusal),
+            ClassesFault::Memory => Failure::Memory,
+        }
+    }
+}
+
 const MEMORY_LINE: &[u8] = b"ext: out of memory\n";
 
 const SAVING_LINE: &[u8] = b"ext: the save file failed\n";
@@ -143,6 +157,8 @@ impl Failure {
             Failure::Writing => 7,
             Failure::Saving => 8,
             Failure::SaveFile(_) => 9,
+            Failure::Classes(Refusal::NoClass { .. } | Refusal::OutOfRange { .. }) => 11,
+            Failure::Classes(Refusal::Nonzero { .. }) => 10,
             Failure::Memory => 12,
         }
     }
@@ -185,17 +201,17 @@ fn what_text(what: What) -> &'static [u8]
     }
 }
 
-fn place_text(at: Place) -> &'static [u8]
+fn place_text(at: FilePlace) -> &'static [u8]
     ensures { result.now ≡ place_text at }
 {
     match at {
-        Place::Whole => b"whole",
-        Place::Kind => b"type",
-        Place::Cofiber => b"cofiber",
-        Place::Shift => b"shift",
-        Place::Prime => b"p",
-        Place::Gens => b"gens",
-        Place::Actions => b"actions",
+        FilePlace::Whole => b"whole",
+        FilePlace::Kind => b"type",
+        FilePlace::Cofiber => b"cofiber",
+        FilePlace::Shift => b"shift",
+        FilePlace::Prime => b"p",
+        FilePlace::Gens => b"gens",
+        FilePlace::Actions => b"actions",
     }
 }
 
@@ -360,6 +376,82 @@ fn refusal_line(fault: &ResumeFault) -> Line<'_>
     }
 }
 
+/// What a class is asked for as.
+fn named_text(named: &Named) -> &[u8]
+    ensures { result.now ≡ named_text named.now }
+{
+    match named {
+        Named::By => b"by",
+        Named::A => b"a",
+        Named::B => b"b",
+        Named::C => b"c",
+    }
+}
+
+/// A product of two of the classes of a bracket.
+fn pair_text(pair: &Pair) -> &[u8]
+    ensures { result.now ≡ pair_text pair.now }
+{
+    match pair {
+        Pair::Ab => b"ab",
+        Pair::Bc => b"bc",
+    }
+}
+
+/// What has to be in the range.
+fn target_text(target: &Target) -> &[u8]
+    ensures { result.now ≡ target_text target.now }
+{
+    match target {
+        Target::Product(pair) => pair_text(pair),
+        Target::Bracket => b"value",
+    }
+}
+
+/// Why there is nothing to tell of classes.
+fn class_line(refusal: &Refusal) -> Line<'_>
+    ensures { parts_text result ≡ class_line refusal.now }
+{
+    match refusal {
+        Refusal::NoClass {
+            named,
+            class,
+            count,
+        } => [
+            Text(b"ext: no class "),
+            Text(named_text(named)),
+            Text(b" "),
+            Class(*class),
+            Text(b", "),
+            Number(*count as u64),
+            Text(b" there\n"),
+        ],
+        Refusal::OutOfRange { target, s, t } => [
+            Text(b"ext: out of range at "),
+            Text(target_text(target)),
+            Text(b" "),
+            Place(*s, *t),
+            Text(b"\n"),
+            Nothing,
+            Nothing,
+        ],
+        Refusal::Nonzero {
+            pair,
+            s,
+            t,
+            product,
+        } => [
+            Text(b"ext: product "),
+            Text(pair_text(pair)),
+            Text(b" is not zero: "),
+            Sum(*s, *t, product),
+            Text(b"\n"),
+            Nothing,
+            Nothing,
+        ],
+    }
+}
+
 /// Writes the line of a failure. After an error some first bytes are written.
 fn write_line<E: Sink>(failure: &Failure, err: &mut E) -> Result<(), Failed>
     ensures whole { OnOk result (E.written err.new ≡ with_more (E.written err.old) (line_of failure.now)) }
@@ -376,6 +468,7 @@ fn write_line<E: Sink>(failure: &Failure, err: &mut E) -> Result<(), Failed>
         Failure::Writing => write_all(err, b"ext: writing failed\n"),
         Failure::Saving => write_all(err, SAVING_LINE),
         Failure::SaveFile(fault) => write_parts(err, &refusal_line(fault)),
+        Failure::Classes(refusal) => write_parts(err, &class_line(refusal)),
         Failure::Memory => write_all(err, MEMORY_LINE),
     }
 }

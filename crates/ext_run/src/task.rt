@@ -7,15 +7,18 @@ ghost use Rattle.ext_words.specs.declared.command.TheConstants.{MAX_DEGREE};
 ghost use Rattle.ext_words.specs.Words.{texts_of, IsWithinLimits};
 ghost use Rattle.ext_run.specs.Input.{most_read};
 ghost use Rattle.ext_run.specs.Answer.{IsLineOn, IsProduct, IsCauseFrom, IsCommandCauseFrom, Reads, WordsRead};
-ghost use Rattle.ext_run.specs.Task.{IsTaskFor, IsTaskFrom, IsTaskWithin, IsSavedFor, IsSavedAs, HasItsText};
+ghost use Rattle.ext_run.specs.Task.{IsTaskFor, IsTaskFrom, IsTaskWithin, IsSavedFor, IsSavedAs, HasItsAnswer};
 ghost use Rattle.ext_run.specs.declared.failure.Failure as Failure;
 ghost use Rattle.ext_run.specs.declared.task.Task.TheVariants.{Resolution as ToResolve};
 
 use crate::building::built_text;
 use crate::failure::Failure;
 use crate::input::read_module;
+use chain_map::Class;
 use edge::Source;
+use ext_brackets::bracket_answer_exists;
 use ext_chart::{check_line, product};
+use ext_products::products_answer_exists;
 use ext_words::{Command, Common, parse};
 use memory::Memory;
 use milnor_basis::Basis;
@@ -48,6 +51,10 @@ pub enum Form {
     Chart,
     Differentials,
     Summary,
+    /// The products of this class of the sphere with the classes of the module.
+    Products(Class),
+    /// The bracket of the classes `a` and `b` of the sphere with the class `c` of the module.
+    Bracket { a: Class, b: Class, c: Class },
 }
 
 /// What the words ask for, with the module file that the source has left where they read one.
@@ -58,7 +65,7 @@ pub(crate) fn task_from<S: Source>(
 ) -> Result<Task, Failure>
     ensures task { IfOk result (IsTaskFrom (texts_of words.now) (S.left source.old)) }
     ensures saved { IfOk result (IsSavedAs (texts_of words.now) (S.left source.old)) }
-    ensures text { IfOk result HasItsText }
+    ensures answer { IfOk result HasItsAnswer }
     ensures limits { IfOk result IsTaskWithin }
     ensures cause { IfErr result (IsCauseFrom (texts_of words.now) (S.left source.old)) }
     ensures not_writing { result ≢ Err Failure.Writing }
@@ -73,6 +80,8 @@ pub(crate) fn task_from<S: Source>(
     canonical_table_is_minimal_resolution();
     modules_are_graded_modules();
     accepted_is_module();
+    products_answer_exists();
+    bracket_answer_exists();
     let command = parse(alloc, words)?;
     task_for(alloc, command, source)
 }
@@ -103,6 +112,14 @@ fn task_for<S: Source>(alloc: Global, command: Command, source: &mut S) -> Resul
         Command::Dump(common) => {
             let module = read_module(alloc, source)?;
             Ok(to_resolve(module, common, Form::Differentials))
+        }
+        Command::Products { common, by } => {
+            let module = read_module(alloc, source)?;
+            Ok(to_resolve(module, common, Form::Products(by)))
+        }
+        Command::Massey { common, a, b, c } => {
+            let module = read_module(alloc, source)?;
+            Ok(to_resolve(module, common, Form::Bracket { a, b, c }))
         }
         Command::Check => {
             let module = read_module(alloc, source)?;

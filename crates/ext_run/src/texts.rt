@@ -1,23 +1,26 @@
 //! The text of a task: a module is resolved, by the caller alone or by workers, over its save file if the words say so, and its table is told.
-ghost use Rattle.std.specs.Prelude.{◌≡◌, ◌≤◌, ◌<◌, Ok, IfOk, IfErr};
+ghost use Rattle.std.specs.Prelude.{◌≡◌, ◌≤◌, ◌<◌, ◌⊎◌, IfErr};
 ghost use Rattle.square.specs.declared.range.TheConstants.{MAX_S, MAX_T};
 ghost use Rattle.square.specs.Keeping.{IsKeeperOf};
 ghost use Rattle.square.specs.Tables.{plain_rows, IsThrough};
 ghost use Rattle.resolution_step.specs.Alone.{cut};
-ghost use Rattle.ext_run.specs.Answer.{IsResolved};
+ghost use Rattle.ext_run.specs.Answer.{IsResolved, IsOfClasses};
+ghost use Rattle.yoneda.specs.Products.{IsAllCanonical};
 ghost use Rattle.ext_words.specs.Words.{IsWithin};
 ghost use Rattle.ext_run.specs.Task.{IsInForm, IsTaskWithin};
-ghost use Rattle.ext_run.specs.Work.{HasContinued, HasKeptOn, HasWorked};
+ghost use Rattle.ext_run.specs.Work.{HasAnswer, answer_of, HasContinued, HasKeptOn, HasWorked};
 ghost use Rattle.ext_run.specs.declared.failure.Failure.TheVariants.{Memory as WantOfMemory};
 
 use crate::failure::Failure;
 use crate::task::{Form, Resolution, Task};
 use board_core::Cause;
 use edge::Disk;
+use ext_brackets::bracket_text;
 use ext_chart::{chart, dump, summary};
+use ext_products::products_text;
 use ext_words::Common;
-use memory::Memory;
-use module_check::modules_are_graded_modules;
+use module_check::{accepted_is_module, modules_are_graded_modules};
+use resolution_existence::canonical_table_exists;
 use resolution_laws::canonical_table_is_minimal_resolution;
 use resolution_step::resolve_alone;
 use save_file::resume;
@@ -73,8 +76,8 @@ pub(crate) fn text_by_workers<W: Threads + Wait + Clock + Sync, D: Disk + Send, 
 /// The text of a resolution, made on the caller's thread. Nothing is kept.
 fn unsaved_alone(alloc: Global, resolution: Resolution) -> Result<Vec<u8>, Failure>
     requires { IsWithin resolution.common }
-    ensures told { IfOk result (λ text. IsInForm resolution.form resolution.common.range resolution.resolved.plain text.items) }
-    ensures why { IfErr result (λ e. e ≡ WantOfMemory) }
+    ensures told { HasAnswer result → IsInForm resolution.form resolution.common.range resolution.resolved.plain (answer_of result) }
+    ensures why { IfErr result (λ e. (e ≡ WantOfMemory) ⊎ IsOfClasses e) }
 {
     let range = resolution.common.range;
     let table = Table::new(alloc, resolution.resolved)?;
@@ -89,8 +92,8 @@ fn unsaved_by_workers<W: Threads + Wait + Clock + Sync, G: Gate + Sync>(
     gate: &G,
 ) -> Result<Vec<u8>, Failure>
     requires { IsWithin resolution.common }
-    ensures told { IfOk result (λ text. IsInForm resolution.form resolution.common.range resolution.resolved.plain text.items) }
-    ensures why { IfErr result (λ e. e ≡ WantOfMemory) }
+    ensures told { HasAnswer result → IsInForm resolution.form resolution.common.range resolution.resolved.plain (answer_of result) }
+    ensures why { IfErr result (λ e. (e ≡ WantOfMemory) ⊎ IsOfClasses e) }
 {
     let Common { range, workers, .. } = resolution.common;
     let table = Table::new(alloc, resolution.resolved)?;
@@ -169,7 +172,7 @@ fn told_alone<K: Keep>(
     let (resolved, keeper) = resolve_alone(alloc, table, range, keeper);
     match resolved {
         Ok(table) => {
-            let text = text_or_failure(told(alloc, form, &table, range));
+            let text = told(alloc, form, &table, range);
             leave(table);
             (text, keeper)
         }
@@ -202,7 +205,7 @@ fn told_by_workers<W: Threads + Wait + Clock + Sync, K: Keep + Send, G: Gate + S
     let (resolved, keeper) = resolve_with(wait, alloc, workers, table, range, keeper, gate);
     match resolved {
         Ok(table) => {
-            let text = text_or_failure(told(alloc, form, &table, range));
+            let text = told(alloc, form, &table, range);
             leave(table);
             (text, keeper)
         }
@@ -217,25 +220,23 @@ fn leave(table: Table) {
     forget(table);
 }
 
-/// A text, or want of memory as a run's failure.
-fn text_or_failure(text: Result<Vec<u8>, Memory>) -> Result<Vec<u8>, Failure>
-    ensures text { IfOk result (λ made. text ≡ Ok made) }
-    ensures memory { IfErr result (λ e. e ≡ WantOfMemory) }
-{
-    match text {
-        Ok(text) => Ok(text),
-        Err(Memory) => Err(Failure::Memory),
-    }
-}
-
 /// What is told of a table that is resolved through the range.
-fn told(alloc: Global, form: Form, table: &Table, range: Range) -> Result<Vec<u8>, Memory>
-    requires { IsThrough range table.now.rows }
-    ensures { IfOk result (λ text. IsResolved range table.now.resolved.plain (cut range (plain_rows table.now.rows)) → IsInForm form range table.now.resolved.plain text.items) }
+fn told(alloc: Global, form: Form, table: &Table, range: Range) -> Result<Vec<u8>, Failure>
+    requires through { IsThrough range table.now.rows }
+    requires rows { range.s ≤ MAX_S }
+    requires degrees { range.t ≤ MAX_T }
+    ensures told { HasAnswer result → IsResolved range table.now.resolved.plain (cut range (plain_rows table.now.rows)) → IsAllCanonical table.now → IsInForm form range table.now.resolved.plain (answer_of result) }
+    ensures why { IfErr result (λ e. (e ≡ WantOfMemory) ⊎ IsOfClasses e) }
 {
+    canonical_table_exists();
+    canonical_table_is_minimal_resolution();
+    modules_are_graded_modules();
+    accepted_is_module();
     match form {
-        Form::Chart => chart(alloc, table, range),
-        Form::Differentials => dump(alloc, table, range),
-        Form::Summary => summary(alloc, table, range),
+        Form::Chart => Ok(chart(alloc, table, range)?),
+        Form::Differentials => Ok(dump(alloc, table, range)?),
+        Form::Summary => Ok(summary(alloc, table, range)?),
+        Form::Products(by) => Ok(products_text(alloc, table, range, by)?),
+        Form::Bracket { a, b, c } => Ok(bracket_text(alloc, table, range, a, b, c)?),
     }
 }

@@ -4,6 +4,8 @@
 #[cfg(test)]
 mod builds;
 #[cfg(test)]
+mod classes;
+#[cfg(test)]
 mod runs;
 #[cfg(test)]
 mod workers;

@@ -66,7 +66,7 @@ pub(crate) const C2: &str =
 pub(crate) const NONE: &str = r#"{"type":"finite dimensional module","gens":{}}"#;
 
 /// The module of two generators of degree -1.
-const TWO: &str = r#"{"type":"finite dimensional module","gens":{"b":-1,"a":-1}}"#;
+pub(crate) const TWO: &str = r#"{"type":"finite dimensional module","gens":{"b":-1,"a":-1}}"#;
 
 const F2_DUMP: &str =
     "d(0,0,0) = x0\nd(1,1,0) = Sq(1)*(0,0,0)\nd(1,2,0) = Sq(2)*(0,0,0)\nd(1,4,0) = Sq(4)*(0,0,0)\n";
@@ -237,7 +237,13 @@ fn refuses_module_files(rt: HostRuntime) -> Result<(), Fail> {
             "ext: not a module: action 0 differs from its derived value\n",
         ),
     ] {
-        let commands: [&[&str]; 3] = [&["check"], &["resolve", "2", "4"], &["dump", "2", "4"]];
+        let commands: [&[&str]; 5] = [
+            &["check"],
+            &["resolve", "2", "4"],
+            &["dump", "2", "4"],
+            &["products", "2", "4", "--by=9,9,9"],
+            &["massey", "2", "4", "--a=1,1,0", "--b=1,1,0", "--c=1,1,0"],
+        ];
         for words in commands {
             assert_answer(&rt, words, file, status, "", line)?;
         }

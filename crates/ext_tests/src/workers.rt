@@ -1,5 +1,6 @@
 //! What no clause says: that the program has memory for several workers, and that two of them work at once.
-use crate::runs::{STEMS_8, disk, sink, source};
+use crate::classes::{BRACKET, PRODUCTS};
+use crate::runs::{F2, STEMS_8, disk, sink, source};
 use ext_run::{run, run_one};
 use square_worker::{Gate, OpenGate};
 use std::alloc::Global;
@@ -13,15 +14,16 @@ use std::time::Clock;
 
 const STEMS_1: &str = " 1 |1\n 0 |1.\nstems 0..1\n";
 
-// Whether these words have this text, by as many workers as they say.
+// Whether these words have this text with this module file, by as many workers as they say.
 fn answer<W: Threads + Wait + Clock + Sync, G: Gate + Sync>(
     wait: &W,
     alloc: Global,
     words: &[&str],
+    file: &str,
     gate: &G,
     text: &str,
 ) -> Result<bool, Fail> {
-    let mut source = source(alloc, &[], 7, 0)?;
+    let mut source = source(alloc, file.as_bytes(), 7, 0)?;
     let mut out = sink(alloc, 1000, 0)?;
     let mut err = sink(alloc, 1000, 0)?;
     let disk = disk(alloc, b"", 0, u64::MAX)?;
@@ -45,8 +47,32 @@ fn workers_print_what_one_prints(rt: HostRuntime) -> Result<(), Fail> {
     for workers in ["1", "2", "7", "64"] {
         let words = ["sphere", "--workers", workers, "4", "8"];
         assert!(rt;
-            answer(&rt, alloc, &words, &OpenGate, STEMS_8)?,
+            answer(&rt, alloc, &words, "", &OpenGate, STEMS_8)?,
             "{workers} workers"
+        );
+    }
+    Ok(())
+}
+
+#[test]
+fn workers_multiply_what_one_multiplies(rt: HostRuntime) -> Result<(), Fail> {
+    let alloc = rt.alloc();
+    for (line, text) in [
+        ("products 3 8 --by 1,1,0 --workers 3", PRODUCTS),
+        ("products 3 8 --by 1,1,0 --workers 3 --save", PRODUCTS),
+        (
+            "massey 3 8 --a=1,1,0 --b=1,2,0 --c=1,1,0 --workers 3",
+            BRACKET,
+        ),
+        (
+            "massey 3 8 --a=1,1,0 --b=1,2,0 --c=1,1,0 --workers 3 --save",
+            BRACKET,
+        ),
+    ] {
+        let words: Vec<&str> = line.split(' ').collect(alloc)?;
+        assert!(rt;
+            answer(&rt, alloc, words.as_slice(), F2, &OpenGate, text)?,
+            "{line}"
         );
     }
     Ok(())
@@ -111,7 +137,7 @@ fn two_workers_work_at_once(rt: HostRuntime) -> Result<(), Fail> {
         missed: AtomicU64::new(0),
     };
     let words = ["sphere", "1", "1", "--workers", "2"];
-    assert!(rt; answer(&rt, alloc, &words, &meeting, STEMS_1)?);
+    assert!(rt; answer(&rt, alloc, &words, "", &meeting, STEMS_1)?);
     let entered = (
         meeting.left.load(Ordering::SeqCst),
         meeting.right.load(Ordering::SeqCst),

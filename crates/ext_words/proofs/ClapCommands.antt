@@ -5,13 +5,14 @@ use Rattle.std.specs.List.{fold}
 use Rattle.std.specs.Str.{bytes_eq}
 use Rattle.std.proofs.lemmas.Slice.Eq.{bytes_eq-Decides}
 use Rattle.clap.specs.Walk.{Row, Rule, Text, walked, finished, has_row}
+use Rattle.chain_map.specs.declared.class.Class.{Class}
 use Rattle.square.specs.declared.range.Range.{Range}
 use Rattle.square.specs.declared.range.TheConstants.{MAX_S, MAX_T}
 use Rattle.ext_words.specs.declared.command.Common.{Common}
 use Rattle.ext_words.specs.declared.command.Command.{Command}
-use Rattle.ext_words.specs.declared.command.Command.TheVariants.{Check, Build as Built, Sq}
-use Rattle.ext_words.specs.Words.{Part, is_in, plain_words, parts_of, value_of, is_among, each_once, number_up_to, range_from, range_of, workers_of, common_from, common_of, range_command_of, seed_of, sample_from, sample_of, sample_by, check_from, check_of, product_of, sq_from, sq_of, built_by, build_from, build_of, read_by, no_options, resolving}
-use Rattle.ext_words.specs.Inside.CommandLine.{has_stray, common_in, sample_in, product_in, build_in}
+use Rattle.ext_words.specs.declared.command.Command.TheVariants.{Products, Massey, Check, Build as Built, Sq}
+use Rattle.ext_words.specs.Words.{Part, is_in, plain_words, parts_of, value_of, is_among, each_once, number_up_to, range_from, range_of, workers_of, common_from, common_of, range_command_of, class_of, class_given, products_of, massey_of, seed_of, sample_from, sample_of, sample_by, check_from, check_of, product_of, sq_from, sq_of, built_by, build_from, build_of, read_by, no_options, resolving}
+use Rattle.ext_words.specs.Inside.CommandLine.{has_stray, common_in, class_in, products_in, massey_in, sample_in, product_in, build_in}
 use Rattle.ext_words.proofs.ClapWords.{Fails, Arguments, IsOption, IsFlag, Named, is_option, is_flag, is_unknown, option_rule, flag_rule}
 use Rattle.ext_words.proofs.ClapParts.{leaf, word_rule, after_parts, IsWordOf, IsCommand}
 use Rattle.ext_words.proofs.ClapLevels.{start, rest_fault, Ends, follows}
@@ -20,10 +21,20 @@ use Rattle.ext_words.proofs.ClapUses.{uses, fits, IsKnown, Stand, AreNew, after-
 -- ---- the arguments of the commands
 
 abbrev pub range_arguments : Arguments
-range_arguments = record { rules = word_rule 1 (codes "S") ∷ word_rule 2 (codes "T") ∷ option_rule (codes "workers") ∷ flag_rule (codes "save") ∷ []; words = codes "S" ∷ codes "T" ∷ []; options = resolving }
+range_arguments = record { rules = word_rule 1 (codes "S") ∷ word_rule 2 (codes "T") ∷ option_rule (codes "workers") ∷ flag_rule (codes "save") ∷ []; words = codes "S" ∷ codes "T" ∷ []; options = resolving [] }
+
+abbrev pub products_arguments : Arguments
+products_arguments = record { rules = word_rule 1 (codes "S") ∷ word_rule 2 (codes "T") ∷ option_rule (codes "workers") ∷ flag_rule (codes "save") ∷ option_rule (codes "by") ∷ []; words = codes "S" ∷ codes "T" ∷ []; options = resolving (codes "by" ∷ []) }
+
+abbrev pub massey_arguments : Arguments
+massey_arguments = record {
+  rules = word_rule 1 (codes "S") ∷ word_rule 2 (codes "T") ∷ option_rule (codes "workers") ∷ flag_rule (codes "save") ∷ option_rule (codes "a") ∷ option_rule (codes "b") ∷ option_rule (codes "c") ∷ [];
+  words = codes "S" ∷ codes "T" ∷ [];
+  options = resolving (codes "a" ∷ codes "b" ∷ codes "c" ∷ []);
+}
 
 abbrev pub sample_arguments : Arguments
-sample_arguments = record { rules = word_rule 1 (codes "N") ∷ word_rule 2 (codes "S") ∷ word_rule 3 (codes "T") ∷ option_rule (codes "workers") ∷ flag_rule (codes "save") ∷ []; words = codes "N" ∷ codes "S" ∷ codes "T" ∷ []; options = resolving }
+sample_arguments = record { rules = word_rule 1 (codes "N") ∷ word_rule 2 (codes "S") ∷ word_rule 3 (codes "T") ∷ option_rule (codes "workers") ∷ flag_rule (codes "save") ∷ []; words = codes "N" ∷ codes "S" ∷ codes "T" ∷ []; options = resolving [] }
 
 abbrev pub build_arguments : Arguments
 build_arguments = record { rules = word_rule 1 (codes "OP") ∷ option_rule (codes "degrees") ∷ []; words = codes "OP" ∷ []; options = record { valued = codes "degrees" ∷ []; flags = [] } }
@@ -47,6 +58,20 @@ range-named : (name : Text) (workers save : Bool) → bytes_eq (codes "workers")
 range-named name true save w s = by-option range_arguments (codes "workers") name w (record { by_long = refl; by_id = refl; listed = refl; no_word = refl })
 range-named name false true w s = by-flag range_arguments (codes "save") name s (record { by_long = refl; by_id = refl; unlisted = refl; listed = refl; no_word = refl })
 range-named name false false w s = is_unknown (rw (w, s) refl) (rw w refl) (rw s refl)
+
+products-named : (name : Text) (workers save by : Bool) → bytes_eq (codes "workers") name ≡ workers → bytes_eq (codes "save") name ≡ save → bytes_eq (codes "by") name ≡ by → Named products_arguments name
+products-named name true save by w s b = by-option products_arguments (codes "workers") name w (record { by_long = refl; by_id = refl; listed = refl; no_word = refl })
+products-named name false true by w s b = by-flag products_arguments (codes "save") name s (record { by_long = refl; by_id = refl; unlisted = refl; listed = refl; no_word = refl })
+products-named name false false true w s b = by-option products_arguments (codes "by") name b (record { by_long = refl; by_id = refl; listed = refl; no_word = refl })
+products-named name false false false w s b = is_unknown (rw (w, s, b) refl) (rw (w, b) refl) (rw s refl)
+
+massey-named : (name : Text) (workers save one two three : Bool) → bytes_eq (codes "workers") name ≡ workers → bytes_eq (codes "save") name ≡ save → bytes_eq (codes "a") name ≡ one → bytes_eq (codes "b") name ≡ two → bytes_eq (codes "c") name ≡ three → Named massey_arguments name
+massey-named name true save one two three w s a b c = by-option massey_arguments (codes "workers") name w (record { by_long = refl; by_id = refl; listed = refl; no_word = refl })
+massey-named name false true one two three w s a b c = by-flag massey_arguments (codes "save") name s (record { by_long = refl; by_id = refl; unlisted = refl; listed = refl; no_word = refl })
+massey-named name false false true two three w s a b c = by-option massey_arguments (codes "a") name a (record { by_long = refl; by_id = refl; listed = refl; no_word = refl })
+massey-named name false false false true three w s a b c = by-option massey_arguments (codes "b") name b (record { by_long = refl; by_id = refl; listed = refl; no_word = refl })
+massey-named name false false false false true w s a b c = by-option massey_arguments (codes "c") name c (record { by_long = refl; by_id = refl; listed = refl; no_word = refl })
+massey-named name false false false false false w s a b c = is_unknown (rw (w, s, a, b, c) refl) (rw (w, a, b, c) refl) (rw s refl)
 
 sample-named : (name : Text) (workers save : Bool) → bytes_eq (codes "workers") name ≡ workers → bytes_eq (codes "save") name ≡ save → Named sample_arguments name
 sample-named name true save w s = by-option sample_arguments (codes "workers") name w (record { by_long = refl; by_id = refl; listed = refl; no_word = refl })
@@ -79,6 +104,22 @@ pub is_range : IsCommand range_arguments
 is_range = record {
   named = λ name. range-named name (bytes_eq (codes "workers") name) (bytes_eq (codes "save") name) refl refl;
   at_position = λ position. two-words range_arguments _ _ (record { position = 1; id = codes "S"; is = refl; own = refl }) (record { position = 2; id = codes "T"; is = refl; own = refl }) (1 == position) (2 == position);
+  no_defaults = refl;
+  none_lacking = λ rows. refl;
+}
+
+pub is_products : IsCommand products_arguments
+is_products = record {
+  named = λ name. products-named name (bytes_eq (codes "workers") name) (bytes_eq (codes "save") name) (bytes_eq (codes "by") name) refl refl refl;
+  at_position = λ position. two-words products_arguments _ _ (record { position = 1; id = codes "S"; is = refl; own = refl }) (record { position = 2; id = codes "T"; is = refl; own = refl }) (1 == position) (2 == position);
+  no_defaults = refl;
+  none_lacking = λ rows. refl;
+}
+
+pub is_massey : IsCommand massey_arguments
+is_massey = record {
+  named = λ name. massey-named name (bytes_eq (codes "workers") name) (bytes_eq (codes "save") name) (bytes_eq (codes "a") name) (bytes_eq (codes "b") name) (bytes_eq (codes "c") name) refl refl refl refl refl;
+  at_position = λ position. two-words massey_arguments _ _ (record { position = 1; id = codes "S"; is = refl; own = refl }) (record { position = 2; id = codes "T"; is = refl; own = refl }) (1 == position) (2 == position);
   no_defaults = refl;
   none_lacking = λ rows. refl;
 }
@@ -211,6 +252,54 @@ makes_range make = record {
   too_many = λ parts e. ap (option_map make) (common-past range_arguments refl range_option parts e);
   whole = λ parts known e. ap (option_map make) (common-read range_arguments refl range_option parts known e);
 }
+
+-- the class of an option
+class-read : (c : Arguments) (name : Text) → IsOption c name → (parts : List Part) → IsKnown c parts → class_in (uses parts c.words) name ≡ class_given name parts
+class-read c name is parts known = ap (option_and_then class_of) (first-option c name is parts known)
+
+pub makes_products : Makes products_arguments products_in products_of
+makes_products = record {
+  command = is_products;
+  stand = (refl, (refl, refl));
+  new = (refl, refl, refl, (refl, refl, refl, tt));
+  too_many = λ parts e. ap (option_and_then _) (common-past products_arguments refl workers parts e);
+  whole = λ parts known e.
+      ap₂ (λ (common : Option Common) (by : Option Class). option_and_then (λ one. option_map (λ class. Products one class) by) common)
+      (common-read products_arguments refl workers parts known e) (class-read products_arguments (codes "by") by parts known);
+}
+  where
+    workers : IsOption products_arguments (codes "workers")
+    workers = record { by_long = refl; by_id = refl; listed = refl; no_word = refl }
+
+    by : IsOption products_arguments (codes "by")
+    by = record { by_long = refl; by_id = refl; listed = refl; no_word = refl }
+
+pub makes_massey : Makes massey_arguments massey_in massey_of
+makes_massey = record {
+  command = is_massey;
+  stand = (refl, (refl, refl));
+  new = (refl, refl, refl, (refl, refl, refl, tt));
+  too_many = λ parts e. ap (option_and_then _) (common-past massey_arguments refl workers parts e);
+  whole = λ parts known e.
+      ap (λ (class : Option Class). made (common_in (uses parts massey_arguments.words)) class (class_in (uses parts massey_arguments.words) (codes "b")) (class_in (uses parts massey_arguments.words) (codes "c"))) (class-read massey_arguments (codes "a") a parts known)
+      ∙ (ap (λ (class : Option Class). made (common_in (uses parts massey_arguments.words)) (class_given (codes "a") parts) class (class_in (uses parts massey_arguments.words) (codes "c"))) (class-read massey_arguments (codes "b") b parts known)
+      ∙ ap₂ (λ (common : Option Common) (class : Option Class). made common (class_given (codes "a") parts) (class_given (codes "b") parts) class) (common-read massey_arguments refl workers parts known e) (class-read massey_arguments (codes "c") c parts known));
+}
+  where
+    made : Option Common → Option Class → Option Class → Option Class → Option Command
+    made common one two three = option_and_then (λ all. option_and_then (λ x. option_and_then (λ y. option_map (λ z. Massey all x y z) three) two) one) common
+
+    workers : IsOption massey_arguments (codes "workers")
+    workers = record { by_long = refl; by_id = refl; listed = refl; no_word = refl }
+
+    a : IsOption massey_arguments (codes "a")
+    a = record { by_long = refl; by_id = refl; listed = refl; no_word = refl }
+
+    b : IsOption massey_arguments (codes "b")
+    b = record { by_long = refl; by_id = refl; listed = refl; no_word = refl }
+
+    c : IsOption massey_arguments (codes "c")
+    c = record { by_long = refl; by_id = refl; listed = refl; no_word = refl }
 
 no-common : (n : Option ℕ) → sample_from n None ≡ None
 no-common None = refl

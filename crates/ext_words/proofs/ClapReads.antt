@@ -14,12 +14,12 @@ use Rattle.clap.proofs.WalkLemmas.{walk_stopped}
 use Rattle.clap.proofs.FaultLemmas.{stopped_fault}
 use Rattle.ext_words.specs.declared.command.Command.{Command}
 use Rattle.ext_words.specs.declared.command.Command.TheVariants.{Sphere, Resolve, Dump, Check, Build as Built, Sq}
-use Rattle.ext_words.specs.Words.{Part, range_command_of, check_of, build_of, sample_of, sq_of, read_by, command_of}
-use Rattle.ext_words.specs.Inside.CommandLine.{is_stray, has_stray, command_line, common_in, build_in, sample_in, product_in, command_in}
+use Rattle.ext_words.specs.Words.{Part, range_command_of, products_of, massey_of, check_of, build_of, sample_of, sq_of, read_by, command_of}
+use Rattle.ext_words.specs.Inside.CommandLine.{is_stray, has_stray, command_line, common_in, products_in, massey_in, build_in, sample_in, product_in, command_in}
 use Rattle.ext_words.proofs.ClapWords.{Fails, fails-first, fails-as, held, Arguments, Passes, no-dashes, meets, meets_plain, meets_none, meets_alone, meets_joined, meets_flag}
 use Rattle.ext_words.proofs.ClapParts.{settings, leaf}
 use Rattle.ext_words.proofs.ClapLevels.{start, rest_fault, first-kept}
-use Rattle.ext_words.proofs.ClapCommands.{range_arguments, build_arguments, sample_arguments, sq_arguments, no_arguments, is_bare, matches_after, refuses, reads, Makes, reads-level, makes_range, makes_check, makes_build, makes_sample, makes_sq}
+use Rattle.ext_words.proofs.ClapCommands.{range_arguments, products_arguments, massey_arguments, build_arguments, sample_arguments, sq_arguments, no_arguments, is_bare, matches_after, refuses, reads, Makes, reads-level, makes_range, makes_products, makes_massey, makes_check, makes_build, makes_sample, makes_sq}
 
 -- ---- the command line as it is built
 
@@ -31,7 +31,7 @@ abbrev ready : App
 ready = record {
   top = top;
   subs =
-      leaf (codes "sphere") range_arguments.rules ∷ leaf (codes "resolve") range_arguments.rules ∷ leaf (codes "dump") range_arguments.rules ∷ leaf (codes "check") no_arguments.rules ∷ leaf (codes "build") build_arguments.rules ∷ leaf (codes "sample") sample_arguments.rules ∷ leaf (codes "sq") sq_arguments.rules ∷ [];
+      leaf (codes "sphere") range_arguments.rules ∷ leaf (codes "resolve") range_arguments.rules ∷ leaf (codes "dump") range_arguments.rules ∷ leaf (codes "products") products_arguments.rules ∷ leaf (codes "massey") massey_arguments.rules ∷ leaf (codes "check") no_arguments.rules ∷ leaf (codes "build") build_arguments.rules ∷ leaf (codes "sample") sample_arguments.rules ∷ leaf (codes "sq") sq_arguments.rules ∷ [];
 }
 
 -- `clap` refuses the words, which give no command, or its matches give the command
@@ -122,6 +122,24 @@ is_dump = record {
   makes = makes_range Dump;
 }
 
+is_products : IsNamed (codes "products") products_arguments products_in products_of
+unfolding walk_fault walked defaults_fault
+is_products = record {
+  fault = λ words. named-fault (codes "products") words ∙ or_else-nil (rest_fault (leaf (codes "products") products_arguments.rules) start words);
+  matches = λ words. ap (λ (w : Walk). command_in (entered ready w.stopped)) (after-name (codes "products") words);
+  given = λ words. refl;
+  makes = makes_products;
+}
+
+is_massey : IsNamed (codes "massey") massey_arguments massey_in massey_of
+unfolding walk_fault walked defaults_fault
+is_massey = record {
+  fault = λ words. named-fault (codes "massey") words ∙ or_else-nil (rest_fault (leaf (codes "massey") massey_arguments.rules) start words);
+  matches = λ words. ap (λ (w : Walk). command_in (entered ready w.stopped)) (after-name (codes "massey") words);
+  given = λ words. refl;
+  makes = makes_massey;
+}
+
 is_check : IsNamed (codes "check") no_arguments (λ rows. Some Check) check_of
 unfolding walk_fault walked defaults_fault
 is_check = record {
@@ -171,31 +189,33 @@ reads-named name c read make is words kept = elim (reads-level c read make is.ma
 ]
 
 -- a first word that is no command
-reads-other : (word : Text) (words : List Text) → is_stray word ≡ false → bytes_eq (codes "sphere") word ≡ false → bytes_eq (codes "resolve") word ≡ false → bytes_eq (codes "dump") word ≡ false → bytes_eq (codes "check") word ≡ false → bytes_eq (codes "build") word ≡ false → bytes_eq (codes "sample") word ≡ false → bytes_eq (codes "sq") word ≡ false → Reads (word ∷ words)
+reads-other : (word : Text) (words : List Text) → is_stray word ≡ false → bytes_eq (codes "sphere") word ≡ false → bytes_eq (codes "resolve") word ≡ false → bytes_eq (codes "dump") word ≡ false → bytes_eq (codes "products") word ≡ false → bytes_eq (codes "massey") word ≡ false → bytes_eq (codes "check") word ≡ false → bytes_eq (codes "build") word ≡ false → bytes_eq (codes "sample") word ≡ false → bytes_eq (codes "sq") word ≡ false → Reads (word ∷ words)
 unfolding walk_fault
-reads-other word words kept is_no_1 is_no_2 is_no_3 is_no_4 is_no_5 is_no_6 is_no_7 =
-    let unnamed : subcommand_met (names_of ready) idle word ≡ None = rw (is_no_1, is_no_2, is_no_3, is_no_4, is_no_5, is_no_6, is_no_7) refl in
-    refused_words (fails-first _ _ (fails-first _ _ (top-fails word unnamed kept))) (rw (is_no_1, is_no_2, is_no_3, is_no_4, is_no_5, is_no_6, is_no_7) refl)
+reads-other word words kept is_no_1 is_no_2 is_no_3 is_no_4 is_no_5 is_no_6 is_no_7 is_no_8 is_no_9 =
+    let unnamed : subcommand_met (names_of ready) idle word ≡ None = rw (is_no_1, is_no_2, is_no_3, is_no_4, is_no_5, is_no_6, is_no_7, is_no_8, is_no_9) refl in
+    refused_words (fails-first _ _ (fails-first _ _ (top-fails word unnamed kept))) (rw (is_no_1, is_no_2, is_no_3, is_no_4, is_no_5, is_no_6, is_no_7, is_no_8, is_no_9) refl)
 
 -- a first word that is a command's name
 same-name : (name word : Text) (words : List Text) → bytes_eq name word ≡ true → Reads (name ∷ words) → Reads (word ∷ words)
 same-name name word words same = subst (λ (w : Text). Reads (w ∷ words)) ((bytes_eq-Decides name word).0 same)
 
-by-name : (word : Text) (words : List Text) (b1 b2 b3 b4 b5 b6 b7 : Bool) → bytes_eq (codes "sphere") word ≡ b1 → bytes_eq (codes "resolve") word ≡ b2 → bytes_eq (codes "dump") word ≡ b3 → bytes_eq (codes "check") word ≡ b4 → bytes_eq (codes "build") word ≡ b5 → bytes_eq (codes "sample") word ≡ b6 → bytes_eq (codes "sq") word ≡ b7 → is_stray word ≡ false → has_stray words ≡ false → Reads (word ∷ words)
-by-name word words true b2 b3 b4 b5 b6 b7 e1 e2 e3 e4 e5 e6 e7 kept more = same-name (codes "sphere") word words e1 (reads-named (codes "sphere") _ _ _ is_sphere words more)
-by-name word words false true b3 b4 b5 b6 b7 e1 e2 e3 e4 e5 e6 e7 kept more = same-name (codes "resolve") word words e2 (reads-named (codes "resolve") _ _ _ is_resolve words more)
-by-name word words false false true b4 b5 b6 b7 e1 e2 e3 e4 e5 e6 e7 kept more = same-name (codes "dump") word words e3 (reads-named (codes "dump") _ _ _ is_dump words more)
-by-name word words false false false true b5 b6 b7 e1 e2 e3 e4 e5 e6 e7 kept more = same-name (codes "check") word words e4 (reads-named (codes "check") _ _ _ is_check words more)
-by-name word words false false false false true b6 b7 e1 e2 e3 e4 e5 e6 e7 kept more = same-name (codes "build") word words e5 (reads-named (codes "build") _ _ _ is_build words more)
-by-name word words false false false false false true b7 e1 e2 e3 e4 e5 e6 e7 kept more = same-name (codes "sample") word words e6 (reads-named (codes "sample") _ _ _ is_sample words more)
-by-name word words false false false false false false true e1 e2 e3 e4 e5 e6 e7 kept more = same-name (codes "sq") word words e7 (reads-named (codes "sq") _ _ _ is_sq words more)
-by-name word words false false false false false false false e1 e2 e3 e4 e5 e6 e7 kept more = reads-other word words kept e1 e2 e3 e4 e5 e6 e7
+by-name : (word : Text) (words : List Text) (b1 b2 b3 b4 b5 b6 b7 b8 b9 : Bool) → bytes_eq (codes "sphere") word ≡ b1 → bytes_eq (codes "resolve") word ≡ b2 → bytes_eq (codes "dump") word ≡ b3 → bytes_eq (codes "products") word ≡ b4 → bytes_eq (codes "massey") word ≡ b5 → bytes_eq (codes "check") word ≡ b6 → bytes_eq (codes "build") word ≡ b7 → bytes_eq (codes "sample") word ≡ b8 → bytes_eq (codes "sq") word ≡ b9 → is_stray word ≡ false → has_stray words ≡ false → Reads (word ∷ words)
+by-name word words true b2 b3 b4 b5 b6 b7 b8 b9 e1 e2 e3 e4 e5 e6 e7 e8 e9 kept more = same-name (codes "sphere") word words e1 (reads-named (codes "sphere") _ _ _ is_sphere words more)
+by-name word words false true b3 b4 b5 b6 b7 b8 b9 e1 e2 e3 e4 e5 e6 e7 e8 e9 kept more = same-name (codes "resolve") word words e2 (reads-named (codes "resolve") _ _ _ is_resolve words more)
+by-name word words false false true b4 b5 b6 b7 b8 b9 e1 e2 e3 e4 e5 e6 e7 e8 e9 kept more = same-name (codes "dump") word words e3 (reads-named (codes "dump") _ _ _ is_dump words more)
+by-name word words false false false true b5 b6 b7 b8 b9 e1 e2 e3 e4 e5 e6 e7 e8 e9 kept more = same-name (codes "products") word words e4 (reads-named (codes "products") _ _ _ is_products words more)
+by-name word words false false false false true b6 b7 b8 b9 e1 e2 e3 e4 e5 e6 e7 e8 e9 kept more = same-name (codes "massey") word words e5 (reads-named (codes "massey") _ _ _ is_massey words more)
+by-name word words false false false false false true b7 b8 b9 e1 e2 e3 e4 e5 e6 e7 e8 e9 kept more = same-name (codes "check") word words e6 (reads-named (codes "check") _ _ _ is_check words more)
+by-name word words false false false false false false true b8 b9 e1 e2 e3 e4 e5 e6 e7 e8 e9 kept more = same-name (codes "build") word words e7 (reads-named (codes "build") _ _ _ is_build words more)
+by-name word words false false false false false false false true b9 e1 e2 e3 e4 e5 e6 e7 e8 e9 kept more = same-name (codes "sample") word words e8 (reads-named (codes "sample") _ _ _ is_sample words more)
+by-name word words false false false false false false false false true e1 e2 e3 e4 e5 e6 e7 e8 e9 kept more = same-name (codes "sq") word words e9 (reads-named (codes "sq") _ _ _ is_sq words more)
+by-name word words false false false false false false false false false e1 e2 e3 e4 e5 e6 e7 e8 e9 kept more = reads-other word words kept e1 e2 e3 e4 e5 e6 e7 e8 e9
 
 pub clap-reads : (words : List Text) → has_stray words ≡ false → Reads words
 clap-reads [] kept = reads-nothing
 clap-reads (word ∷ words) kept =
     let parts = first-kept word words kept in
-    by-name word words (bytes_eq (codes "sphere") word) (bytes_eq (codes "resolve") word) (bytes_eq (codes "dump") word) (bytes_eq (codes "check") word) (bytes_eq (codes "build") word) (bytes_eq (codes "sample") word) (bytes_eq (codes "sq") word) refl refl refl refl refl refl refl parts.0 parts.1
+    by-name word words (bytes_eq (codes "sphere") word) (bytes_eq (codes "resolve") word) (bytes_eq (codes "dump") word) (bytes_eq (codes "products") word) (bytes_eq (codes "massey") word) (bytes_eq (codes "check") word) (bytes_eq (codes "build") word) (bytes_eq (codes "sample") word) (bytes_eq (codes "sq") word) refl refl refl refl refl refl refl refl refl parts.0 parts.1
 
 -- the matches of words that are taken give their command
 pub taken-reads : (words : List Text) → has_stray words ≡ false → fault_of command_line words ≡ [] → command_in (subcommand_of command_line words) ≡ command_of words

@@ -34,8 +34,8 @@ differs a b true e distinct = absurd (distinct (sym ((bytes_eq-Decides a b).0 e)
 differs a b false e distinct = e
 
 -- a name that no command has
-pub other-name : (name : Text) (rows : List Row) → (name ≢ codes "sphere") → (name ≢ codes "resolve") → (name ≢ codes "dump") → (name ≢ codes "check") → (name ≢ codes "build") → (name ≢ codes "sample") → (name ≢ codes "sq") →
+pub other-name : (name : Text) (rows : List Row) → (name ≢ codes "sphere") → (name ≢ codes "resolve") → (name ≢ codes "dump") → (name ≢ codes "products") → (name ≢ codes "massey") → (name ≢ codes "check") → (name ≢ codes "build") → (name ≢ codes "sample") → (name ≢ codes "sq") →
     command_named name rows ≡ None
-other-name name rows s r d c b x q =
+other-name name rows s r d p m c b x q =
     let other = λ (t : Text) (distinct : name ≢ t). differs t name (bytes_eq t name) refl distinct in
-    rw (other (codes "sphere") s, other (codes "resolve") r, other (codes "dump") d, other (codes "check") c, other (codes "build") b, other (codes "sample") x, other (codes "sq") q) refl
+    rw (other (codes "sphere") s, other (codes "resolve") r, other (codes "dump") d, other (codes "products") p, other (codes "massey") m, other (codes "check") c, other (codes "build") b, other (codes "sample") x, other (codes "sq") q) refl

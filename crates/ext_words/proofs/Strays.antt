@@ -6,7 +6,7 @@ use Rattle.std.proofs.lemmas.Bool.{and_parts, or_cases, eqb-true, true≢false}
 use Rattle.clap.specs.Walk.{Text}
 use Rattle.ext_words.specs.declared.command.Command.{Command}
 use Rattle.ext_words.specs.declared.command.Command.TheVariants.{Sphere, Resolve, Dump}
-use Rattle.ext_words.specs.Words.{Part, Options, with_word, parts_of, each_once, read_by, range_command_of, check_of, build_of, sample_of, sq_of, no_options, resolving, command_from, command_of}
+use Rattle.ext_words.specs.Words.{Part, Options, with_word, parts_of, each_once, read_by, range_command_of, products_of, massey_of, check_of, build_of, sample_of, sq_of, no_options, resolving, command_from, command_of}
 use Rattle.ext_words.specs.Inside.CommandLine.{is_stray, has_stray}
 use Rattle.ext_words.proofs.ClapWords.{apart}
 
@@ -50,22 +50,24 @@ strays-no-parts options (word ∷ words) stray = elim (or_cases _ _ stray) [
 read-none : (options : Options) (make : List Part → Option Command) (words : List Text) → has_stray words ≡ true → read_by options make words ≡ None
 read-none options make words stray = ap (option_and_then (λ (parts : List Part). if each_once parts then make parts else None)) (strays-no-parts options words stray)
 
-by-name : (b1 b2 b3 b4 b5 b6 b7 : Bool) (o1 o2 o3 o4 o5 o6 o7 : Option Command) → o1 ≡ None → o2 ≡ None → o3 ≡ None → o4 ≡ None → o5 ≡ None → o6 ≡ None → o7 ≡ None → (if b1 then o1 else if b2 then o2 else if b3 then o3 else if b4 then o4 else if b5 then o5 else if b6 then o6 else if b7 then o7 else None) ≡ None
-by-name true b2 b3 b4 b5 b6 b7 o1 o2 o3 o4 o5 o6 o7 h1 h2 h3 h4 h5 h6 h7 = h1
-by-name false true b3 b4 b5 b6 b7 o1 o2 o3 o4 o5 o6 o7 h1 h2 h3 h4 h5 h6 h7 = h2
-by-name false false true b4 b5 b6 b7 o1 o2 o3 o4 o5 o6 o7 h1 h2 h3 h4 h5 h6 h7 = h3
-by-name false false false true b5 b6 b7 o1 o2 o3 o4 o5 o6 o7 h1 h2 h3 h4 h5 h6 h7 = h4
-by-name false false false false true b6 b7 o1 o2 o3 o4 o5 o6 o7 h1 h2 h3 h4 h5 h6 h7 = h5
-by-name false false false false false true b7 o1 o2 o3 o4 o5 o6 o7 h1 h2 h3 h4 h5 h6 h7 = h6
-by-name false false false false false false true o1 o2 o3 o4 o5 o6 o7 h1 h2 h3 h4 h5 h6 h7 = h7
-by-name false false false false false false false o1 o2 o3 o4 o5 o6 o7 h1 h2 h3 h4 h5 h6 h7 = refl
+by-name : (b1 b2 b3 b4 b5 b6 b7 b8 b9 : Bool) (o1 o2 o3 o4 o5 o6 o7 o8 o9 : Option Command) → o1 ≡ None → o2 ≡ None → o3 ≡ None → o4 ≡ None → o5 ≡ None → o6 ≡ None → o7 ≡ None → o8 ≡ None → o9 ≡ None → (if b1 then o1 else if b2 then o2 else if b3 then o3 else if b4 then o4 else if b5 then o5 else if b6 then o6 else if b7 then o7 else if b8 then o8 else if b9 then o9 else None) ≡ None
+by-name true b2 b3 b4 b5 b6 b7 b8 b9 o1 o2 o3 o4 o5 o6 o7 o8 o9 h1 h2 h3 h4 h5 h6 h7 h8 h9 = h1
+by-name false true b3 b4 b5 b6 b7 b8 b9 o1 o2 o3 o4 o5 o6 o7 o8 o9 h1 h2 h3 h4 h5 h6 h7 h8 h9 = h2
+by-name false false true b4 b5 b6 b7 b8 b9 o1 o2 o3 o4 o5 o6 o7 o8 o9 h1 h2 h3 h4 h5 h6 h7 h8 h9 = h3
+by-name false false false true b5 b6 b7 b8 b9 o1 o2 o3 o4 o5 o6 o7 o8 o9 h1 h2 h3 h4 h5 h6 h7 h8 h9 = h4
+by-name false false false false true b6 b7 b8 b9 o1 o2 o3 o4 o5 o6 o7 o8 o9 h1 h2 h3 h4 h5 h6 h7 h8 h9 = h5
+by-name false false false false false true b7 b8 b9 o1 o2 o3 o4 o5 o6 o7 o8 o9 h1 h2 h3 h4 h5 h6 h7 h8 h9 = h6
+by-name false false false false false false true b8 b9 o1 o2 o3 o4 o5 o6 o7 o8 o9 h1 h2 h3 h4 h5 h6 h7 h8 h9 = h7
+by-name false false false false false false false true b9 o1 o2 o3 o4 o5 o6 o7 o8 o9 h1 h2 h3 h4 h5 h6 h7 h8 h9 = h8
+by-name false false false false false false false false true o1 o2 o3 o4 o5 o6 o7 o8 o9 h1 h2 h3 h4 h5 h6 h7 h8 h9 = h9
+by-name false false false false false false false false false o1 o2 o3 o4 o5 o6 o7 o8 o9 h1 h2 h3 h4 h5 h6 h7 h8 h9 = refl
 
 words-none : (name : Text) (words : List Text) → has_stray words ≡ true → command_from name words ≡ None
 words-none name words stray =
     let none = λ (options : Options) (make : List Part → Option Command). read-none options make words stray in
-    by-name (bytes_eq (codes "sphere") name) (bytes_eq (codes "resolve") name) (bytes_eq (codes "dump") name) (bytes_eq (codes "check") name) (bytes_eq (codes "build") name) (bytes_eq (codes "sample") name) (bytes_eq (codes "sq") name)
-    (read_by resolving (range_command_of Sphere) words) (read_by resolving (range_command_of Resolve) words) (read_by resolving (range_command_of Dump) words) (read_by no_options check_of words) (read_by (record { valued = codes "degrees" ∷ []; flags = [] }) build_of words) (read_by resolving sample_of words) (read_by no_options sq_of words)
-    (none resolving (range_command_of Sphere)) (none resolving (range_command_of Resolve)) (none resolving (range_command_of Dump)) (none no_options check_of) (none (record { valued = codes "degrees" ∷ []; flags = [] }) build_of) (none resolving sample_of) (none no_options sq_of)
+    by-name (bytes_eq (codes "sphere") name) (bytes_eq (codes "resolve") name) (bytes_eq (codes "dump") name) (bytes_eq (codes "products") name) (bytes_eq (codes "massey") name) (bytes_eq (codes "check") name) (bytes_eq (codes "build") name) (bytes_eq (codes "sample") name) (bytes_eq (codes "sq") name)
+    (read_by (resolving []) (range_command_of Sphere) words) (read_by (resolving []) (range_command_of Resolve) words) (read_by (resolving []) (range_command_of Dump) words) (read_by (resolving (codes "by" ∷ [])) products_of words) (read_by (resolving (codes "a" ∷ codes "b" ∷ codes "c" ∷ [])) massey_of words) (read_by no_options check_of words) (read_by (record { valued = codes "degrees" ∷ []; flags = [] }) build_of words) (read_by (resolving []) sample_of words) (read_by no_options sq_of words)
+    (none (resolving []) (range_command_of Sphere)) (none (resolving []) (range_command_of Resolve)) (none (resolving []) (range_command_of Dump)) (none (resolving (codes "by" ∷ [])) products_of) (none (resolving (codes "a" ∷ codes "b" ∷ codes "c" ∷ [])) massey_of) (none no_options check_of) (none (record { valued = codes "degrees" ∷ []; flags = [] }) build_of) (none (resolving []) sample_of) (none no_options sq_of)
 
 -- a stray word is no command's name
 name-none : (name : Text) (words : List Text) → is_stray name ≡ true → command_from name words ≡ None

@@ -4,13 +4,14 @@ use Rattle.std.specs.Borrow.{Bor}
 use Rattle.std.specs.List.{All, fold, list_all, list_any, before_first, after_first, slice_split, sum}
 use Rattle.std.specs.Str.{bytes_eq}
 use Rattle.std.specs.Char.{is_ascii_digit}
+use Rattle.chain_map.specs.declared.class.Class.{Class}
 use Rattle.square.specs.declared.range.Range.{Range}
 use Rattle.square.specs.declared.range.TheConstants.{MAX_S, MAX_T}
 use Rattle.ext_words.specs.declared.command.TheConstants.{MAX_WORKERS, MAX_SQUARES, MAX_DEGREE, MAX_SHIFT}
 use Rattle.ext_words.specs.declared.command.Build.{Build}
 use Rattle.ext_words.specs.declared.command.Build.TheVariants as build
 use Rattle.ext_words.specs.declared.command.Command.{Command}
-use Rattle.ext_words.specs.declared.command.Command.TheVariants.{Sphere, Resolve, Dump, Check, Build as Built, Sample, Sq}
+use Rattle.ext_words.specs.declared.command.Command.TheVariants.{Sphere, Resolve, Dump, Products, Massey, Check, Build as Built, Sample, Sq}
 use Rattle.ext_words.specs.declared.command.Common.{Common}
 
 -- the bytes of the words
@@ -112,10 +113,10 @@ decimal_value word = fold (λ n c. 10 * n + (c - 48)) 0 word
 abbrev pub number_of : ℕ → List ℕ → Option ℕ
 number_of most word = if are_digits most word then Some (decimal_value word) else None
 
--- the number of a word of at most three digits, below 0 where a hyphen stands in front
-abbrev pub signed_number_of : List ℕ → Option ℤ
-signed_number_of [] = None
-signed_number_of (c ∷ word) = if c == 45 then option_map (λ n. neg_ℤ (pos n)) (number_of 3 word) else option_map pos (number_of 3 (c ∷ word))
+-- the same, below 0 where a hyphen stands in front
+abbrev pub signed_number_of : ℕ → List ℕ → Option ℤ
+signed_number_of most [] = None
+signed_number_of most (c ∷ word) = if c == 45 then option_map (λ n. neg_ℤ (pos n)) (number_of most word) else option_map pos (number_of most (c ∷ word))
 
 -- the number of a word of at most three digits, where it is no greater than the limit
 abbrev pub number_up_to : ℕ → List ℕ → Option ℕ
@@ -131,7 +132,7 @@ seed_of word = option_and_then (λ n. if nat_le n 4294967295 then Some n else No
 
 -- the number of degrees of a shift
 abbrev pub shift_of : List ℕ → Option ℤ
-shift_of word = option_and_then (λ n. if int_le (neg_ℤ (pos MAX_SHIFT)) n && int_le n (pos MAX_SHIFT) then Some n else None) (signed_number_of word)
+shift_of word = option_and_then (λ n. if int_le (neg_ℤ (pos MAX_SHIFT)) n && int_le n (pos MAX_SHIFT) then Some n else None) (signed_number_of 3 word)
 
 -- the texts between the commas of a word
 abbrev pub between_commas : List ℕ → List (List ℕ)
@@ -149,6 +150,16 @@ within_degree numbers = if nat_le (length numbers) MAX_SQUARES && nat_le (sum nu
 -- the numbers of a product of squares, which a word has between commas
 abbrev pub product_of : List ℕ → Option (List ℕ)
 product_of word = option_and_then within_degree (positive_numbers MAX_DEGREE (between_commas word))
+
+-- a class, by the texts of its row, its degree and its number: each has one to five digits, and the degree alone may have a hyphen in
+-- front of them
+abbrev pub class_from : List (List ℕ) → Option Class
+class_from (s ∷ t ∷ i ∷ []) = option_and_then (λ row. option_and_then (λ degree. option_map (λ number. record { s = row; t = degree; i = number }) (number_of 5 i)) (signed_number_of 5 t)) (number_of 5 s)
+class_from _ = None
+
+-- the class whose row, degree and number a word has between commas
+abbrev pub class_of : List ℕ → Option Class
+class_of word = class_from (between_commas word)
 
 -- ---- commands
 
@@ -179,6 +190,25 @@ common_of words parts = common_from (range_of words) (workers_of (value_of (code
 -- the command that makes something of S and T
 abbrev pub range_command_of : (Common → Command) → List Part → Option Command
 range_command_of make parts = option_map make (common_of (plain_words parts) parts)
+
+-- the class that an option is given
+abbrev pub class_given : List ℕ → List Part → Option Class
+class_given name parts = option_and_then class_of (value_of name parts)
+
+-- the words S and T, and the class that `--by` is given, which has to be there
+abbrev pub products_of : List Part → Option Command
+products_of parts = option_and_then (λ common. option_map (λ by. Products common by) (class_given (codes "by") parts)) (common_of (plain_words parts) parts)
+
+-- the words S and T, and the classes that `--a`, `--b` and `--c` are given, which all have to be there
+abbrev pub massey_of : List Part → Option Command
+massey_of parts =
+    option_and_then (λ common.
+    option_and_then (λ a.
+    option_and_then (λ b.
+    option_map (λ c. Massey common a b c) (class_given (codes "c") parts))
+    (class_given (codes "b") parts))
+    (class_given (codes "a") parts))
+    (common_of (plain_words parts) parts)
 
 abbrev pub sample_from : Option ℕ → Option Common → Option Command
 sample_from (Some n) (Some common) = Some (Sample n common)
@@ -228,19 +258,22 @@ read_by options make words = option_and_then (λ parts. if each_once parts then 
 abbrev pub no_options : Options
 no_options = record { valued = []; flags = [] }
 
--- the options of a command that resolves a module
-abbrev pub resolving : Options
-resolving = record { valued = codes "workers" ∷ []; flags = codes "save" ∷ [] }
+-- the options of a command that resolves a module, with those that it has alone
+abbrev pub resolving : List (List ℕ) → Options
+resolving names = record { valued = codes "workers" ∷ names; flags = codes "save" ∷ [] }
 
--- `sphere S T`, `resolve S T`, `dump S T`, `check`, `build OP`, `sample N S T` or `sq W`, by its name and the words behind it
+-- `sphere S T`, `resolve S T`, `dump S T`, `products S T`, `massey S T`, `check`, `build OP`, `sample N S T` or `sq W`, by its name and
+-- the words behind it
 abbrev pub command_from : List ℕ → List (List ℕ) → Option Command
 command_from name words =
-    if bytes_eq (codes "sphere") name then read_by resolving (range_command_of Sphere) words
-    else if bytes_eq (codes "resolve") name then read_by resolving (range_command_of Resolve) words
-    else if bytes_eq (codes "dump") name then read_by resolving (range_command_of Dump) words
+    if bytes_eq (codes "sphere") name then read_by (resolving []) (range_command_of Sphere) words
+    else if bytes_eq (codes "resolve") name then read_by (resolving []) (range_command_of Resolve) words
+    else if bytes_eq (codes "dump") name then read_by (resolving []) (range_command_of Dump) words
+    else if bytes_eq (codes "products") name then read_by (resolving (codes "by" ∷ [])) products_of words
+    else if bytes_eq (codes "massey") name then read_by (resolving (codes "a" ∷ codes "b" ∷ codes "c" ∷ [])) massey_of words
     else if bytes_eq (codes "check") name then read_by no_options check_of words
     else if bytes_eq (codes "build") name then read_by (record { valued = codes "degrees" ∷ []; flags = [] }) build_of words
-    else if bytes_eq (codes "sample") name then read_by resolving sample_of words
+    else if bytes_eq (codes "sample") name then read_by (resolving []) sample_of words
     else if bytes_eq (codes "sq") name then read_by no_options sq_of words else None
 
 -- the command's name, and what is behind it
@@ -253,6 +286,10 @@ command_of (name ∷ words) = command_from name words
 abbrev pub IsWithin : Common → Type 0
 IsWithin common = (common.range.s ≤ MAX_S) × (common.range.t ≤ MAX_T) × (1 ≤ common.workers) × (common.workers ≤ MAX_WORKERS)
 
+-- numbers of at most five digits
+abbrev pub IsShort : Class → Type 0
+IsShort class = (class.s ≤ 99999) × (neg_ℤ (pos 99999) ≤ℤ class.t) × (class.t ≤ℤ pos 99999) × (class.i ≤ 99999)
+
 abbrev pub IsWithinShift : Build → Type 0
 IsWithinShift (build.Shift n) = (neg_ℤ (pos MAX_SHIFT) ≤ℤ n) × (n ≤ℤ pos MAX_SHIFT)
 IsWithinShift _ = ⊤
@@ -262,6 +299,8 @@ abbrev pub IsWithinLimits : Command → Type 0
 IsWithinLimits (Sphere common) = IsWithin common
 IsWithinLimits (Resolve common) = IsWithin common
 IsWithinLimits (Dump common) = IsWithin common
+IsWithinLimits (Products common by) = IsWithin common × IsShort by
+IsWithinLimits (Massey common a b c) = IsWithin common × IsShort a × IsShort b × IsShort c
 IsWithinLimits Check = ⊤
 IsWithinLimits (Built made) = IsWithinShift made
 IsWithinLimits (Sample n common) = IsWithin common

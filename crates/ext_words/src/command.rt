@@ -2,6 +2,7 @@
 ghost use Rattle.std.specs.Prelude.{◌≡◌};
 ghost use Rattle.ext_words.specs.declared.command.WordsFault.TheVariants.{Memory as WantOfMemory};
 
+use chain_map::Class;
 use memory::Memory;
 use sq_calc::Mono;
 use square::Range;
@@ -51,6 +52,19 @@ pub enum Command {
     Resolve(Common),
     /// `dump S T`: the differentials of the resolution of the module on standard input.
     Dump(Common),
+    /// `products S T --by C`: the products of the class `by` of the sphere with the classes of the module on standard input.
+    Products {
+        common: Common,
+        by: Class,
+    },
+    /// `massey S T --a C --b C --c C`: the bracket of the classes `a` and `b` of the sphere with the class `c` of the module on
+    /// standard input.
+    Massey {
+        common: Common,
+        a: Class,
+        b: Class,
+        c: Class,
+    },
     /// `check`: a line on the module on standard input.
     Check,
     /// `build OP`: the file of the module that is built from those on standard input.

@@ -1,10 +1,11 @@
 //! The numbers that words say.
-ghost use Rattle.std.specs.Prelude.{◌≡◌, ◌+◌, ◌-◌, ◌*◌, ◌≤◌, min, length, option_map, IfOk};
+ghost use Rattle.std.specs.Prelude.{◌≡◌, ◌+◌, ◌-◌, ◌*◌, ◌≤◌, ◌<◌, ◌^◌, min, length, option_map, IfOk, IfSome};
 ghost use Rattle.std.specs.List.{list_all};
 ghost use Rattle.std.specs.Char.{is_ascii_digit};
-ghost use Rattle.ext_words.specs.Words.{are_digits, decimal_value, number_of, signed_number_of, number_up_to, positive_up_to, shift_of, seed_of, between_commas, positive_numbers, product_of, texts_of};
+ghost use Rattle.ext_words.specs.Words.{are_digits, decimal_value, number_of, signed_number_of, number_up_to, positive_up_to, shift_of, seed_of, between_commas, class_from, class_of, positive_numbers, product_of, texts_of};
 
 use crate::command::{MAX_DEGREE, MAX_SHIFT, MAX_SQUARES};
+use chain_map::Class;
 use memory::Memory;
 use sq_calc::Mono;
 use std::alloc::Global;
@@ -22,36 +23,43 @@ fn are_digits(most: usize, bytes: &[u8]) -> bool
     !bytes.is_empty() && bytes.len() <= most && are_all_digits(bytes)
 }
 
-/// The number that at most three digits say.
-fn decimal_value(digits: &[u8]) -> u16
-    requires { length digits.now ≤ 3 }
-    ensures { result ≡ decimal_value digits.now }
+/// The most digits of a row, a degree or a number of a class.
+const CLASS_DIGITS: usize = 5;
+
+/// The number that at most five digits say.
+fn decimal_value(digits: &[u8]) -> u32
+    requires { length digits.now ≤ CLASS_DIGITS }
+    ensures value { result ≡ decimal_value digits.now }
+    ensures small { result < 2 ^ 31 }
 {
     let mut value = 0;
     for c in digits {
-        value = 10 * value + u16::from(c.saturating_sub(b'0'));
+        value = 10 * value + u32::from(c.saturating_sub(b'0'));
     }
     value
 }
 
-/// The number of at most three digits.
-fn number_of(digits: &[u8]) -> Option<u16>
-    ensures { result ≡ number_of 3 digits.now }
+/// The number of at most `most` digits.
+fn number_of(most: usize, digits: &[u8]) -> Option<u32>
+    requires { most ≤ CLASS_DIGITS }
+    ensures number { result ≡ number_of most digits.now }
+    ensures small { IfSome result (λ n. n < 2 ^ 31) }
 {
-    if are_digits(3, digits) {
+    if are_digits(most, digits) {
         Some(decimal_value(digits))
     } else {
         None
     }
 }
 
-/// The number of at most three digits, below 0 where a hyphen stands in front of them.
-fn signed_number_of(word: &[u8]) -> Option<i32>
-    ensures { result ≡ signed_number_of word.now }
+/// The number of at most `most` digits, below 0 where a hyphen stands in front of them.
+fn signed_number_of(most: usize, word: &[u8]) -> Option<i32>
+    requires { most ≤ CLASS_DIGITS }
+    ensures { result ≡ signed_number_of most word.now }
 {
     match word {
-        [b'-', digits @ ..] => Some(-i32::from(number_of(digits)?)),
-        digits => Some(i32::from(number_of(digits)?)),
+        [b'-', digits @ ..] => Some(-(number_of(most, digits)? as i32)),
+        digits => Some(number_of(most, digits)? as i32),
     }
 }
 
@@ -59,8 +67,12 @@ fn signed_number_of(word: &[u8]) -> Option<i32>
 pub fn number_up_to(limit: u16, word: &str) -> Option<u16>
     ensures { result ≡ number_up_to limit word.now }
 {
-    let value = number_of(word.as_bytes())?;
-    if value <= limit { Some(value) } else { None }
+    let value = number_of(3, word.as_bytes())?;
+    if value <= u32::from(limit) {
+        Some(value as u16)
+    } else {
+        None
+    }
 }
 
 /// The number of a word, from 1 to `limit`.
@@ -75,7 +87,7 @@ pub fn positive_up_to(limit: u16, word: &str) -> Option<u16>
 pub fn shift_of(word: &str) -> Option<i32>
     ensures { result ≡ shift_of word.now }
 {
-    let degrees = signed_number_of(word.as_bytes())?;
+    let degrees = signed_number_of(3, word.as_bytes())?;
     let most = i32::from(MAX_SHIFT);
     if -most <= degrees && degrees <= most {
         Some(degrees)
@@ -127,6 +139,28 @@ fn between_commas<'a>(alloc: Global, word: &'a str) -> Result<Vec<&'a str>, Memo
     ensures { IfOk result (λ texts. texts_of texts.items ≡ between_commas word.now) }
 {
     Ok(word.split(',').collect(alloc)?)
+}
+
+/// The class of these texts: its row, its degree and its number.
+fn class_from(texts: &[&str]) -> Option<Class>
+    ensures { result ≡ class_from (texts_of texts.now) }
+{
+    let [s, t, i] = texts else {
+        return None;
+    };
+    Some(Class {
+        s: number_of(CLASS_DIGITS, s.as_bytes())?,
+        t: signed_number_of(CLASS_DIGITS, t.as_bytes())?,
+        i: number_of(CLASS_DIGITS, i.as_bytes())? as usize,
+    })
+}
+
+/// The class that a word says: its row, its degree and its number, joined by commas.
+pub fn class_of(alloc: Global, word: &str) -> Result<Option<Class>, Memory>
+    ensures { IfOk result (λ class. class ≡ class_of word.now) }
+{
+    let texts = between_commas(alloc, word)?;
+    Ok(class_from(texts.as_slice()))
 }
 
 /// The numbers of the texts, each from 1 to `limit`, none where a text is no such number.

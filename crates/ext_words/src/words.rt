@@ -5,12 +5,13 @@ ghost use Rattle.std.specs.List.{list_any};
 ghost use Rattle.clap.specs.Simple.{with_rule};
 ghost use Rattle.clap.specs.Walk.{first_of};
 ghost use Rattle.clap.specs.declared.builder.command.Command.TheViews.{out-Command};
-ghost use Rattle.ext_words.specs.Inside.CommandLine.{is_stray, option_named, with_options, range_command, build_command, module_commands, command_line, number_in, workers_in, saves_in, common_in, build_in, seed_in, sample_in, sample_command, product_in, sq_command, no_command, command_named, command_in};
+ghost use Rattle.ext_words.specs.Inside.CommandLine.{is_stray, option_named, with_options, range_command, products_command, massey_command, build_command, module_commands, command_line, number_in, workers_in, saves_in, common_in, class_in, products_in, massey_in, build_in, seed_in, sample_in, sample_command, product_in, sq_command, no_command, command_named, command_in};
 ghost use Rattle.ext_words.specs.declared.command.WordsFault as WordsFault;
 ghost use Rattle.ext_words.specs.Words.{texts_of, built_by, command_of, IsWithinLimits};
 
 use crate::command::{Build, Command, Common, MAX_WORKERS, WordsFault};
-use crate::numbers::{number_up_to, positive_up_to, product_of, seed_of, shift_of};
+use crate::numbers::{class_of, number_up_to, positive_up_to, product_of, seed_of, shift_of};
+use chain_map::Class;
 use clap::error::ErrorKind;
 use clap::{Arg, ArgAction, ArgMatches};
 use memory::Memory;
@@ -55,6 +56,24 @@ fn range_command<'a>(alloc: Global, name: &'a str) -> Result<clap::Command<'a>, 
         .arg(Arg::new(alloc, "S"))?
         .arg(Arg::new(alloc, "T"))?;
     with_options(alloc, command)
+}
+
+/// The command with the words S and T, the options and a class.
+fn products_command<'a>(alloc: Global) -> Result<clap::Command<'a>, AllocError>
+    ensures app { IfOk result (λ command. app_of command ≡ products_command) }
+    ensures local { IfOk result (λ command. (out-Command command).has_globals ≡ false) }
+{
+    with_option(alloc, range_command(alloc, "products")?, "by")
+}
+
+/// The command with the words S and T, the options and three classes.
+fn massey_command<'a>(alloc: Global) -> Result<clap::Command<'a>, AllocError>
+    ensures app { IfOk result (λ command. app_of command ≡ massey_command) }
+    ensures local { IfOk result (λ command. (out-Command command).has_globals ≡ false) }
+{
+    let command = with_option(alloc, range_command(alloc, "massey")?, "a")?;
+    let command = with_option(alloc, command, "b")?;
+    with_option(alloc, command, "c")
 }
 
 /// The command with the word OP and a number of degrees.
@@ -104,7 +123,9 @@ fn module_commands<'a>(alloc: Global) -> Result<clap::Command<'a>, AllocError>
     no_command(alloc)
         .subcommand(range_command(alloc, "sphere")?)?
         .subcommand(range_command(alloc, "resolve")?)?
-        .subcommand(range_command(alloc, "dump")?)
+        .subcommand(range_command(alloc, "dump")?)?
+        .subcommand(products_command(alloc)?)?
+        .subcommand(massey_command(alloc)?)
 }
 
 /// All commands.
@@ -176,6 +197,44 @@ fn common_in(matches: &ArgMatches) -> Option<Common>
     })
 }
 
+/// The class that an option of a command's matches has.
+fn class_in(alloc: Global, matches: &ArgMatches, name: &str) -> Result<Option<Class>, Memory>
+    ensures { IfOk result (λ class. class ≡ class_in (rows_of (found_of matches.now)) name.now) }
+{
+    match word_in(matches, name) {
+        Some(word) => class_of(alloc, word),
+        None => Ok(None),
+    }
+}
+
+/// The command of products that a command's matches ask for.
+fn products_in(alloc: Global, matches: &ArgMatches) -> Result<Option<Command>, Memory>
+    ensures { IfOk result (λ command. command ≡ products_in (rows_of (found_of matches.now))) }
+{
+    let Some(common) = common_in(matches) else {
+        return Ok(None);
+    };
+    let by = class_in(alloc, matches, "by")?;
+    Ok(by.map(|by| Command::Products { common, by }))
+}
+
+/// The command of a bracket that a command's matches ask for.
+fn massey_in(alloc: Global, matches: &ArgMatches) -> Result<Option<Command>, Memory>
+    ensures { IfOk result (λ command. command ≡ massey_in (rows_of (found_of matches.now))) }
+{
+    let Some(common) = common_in(matches) else {
+        return Ok(None);
+    };
+    let Some(a) = class_in(alloc, matches, "a")? else {
+        return Ok(None);
+    };
+    let Some(b) = class_in(alloc, matches, "b")? else {
+        return Ok(None);
+    };
+    let c = class_in(alloc, matches, "c")?;
+    Ok(c.map(|c| Command::Massey { common, a, b, c }))
+}
+
 /// What is built by the word OP and by the value of `--degrees`, which stands with `shift`, and there alone.
 fn built_by(word: &str, degrees: Option<&str>) -> Option<Build>
     ensures { result ≡ built_by word.now (option_map (λ text. text.now) degrees.entry) }
@@ -231,6 +290,8 @@ fn command_named(alloc: Global, name: &str, matches: &ArgMatches) -> Result<Opti
         "sphere" => Ok(common_in(matches).map(Command::Sphere)),
         "resolve" => Ok(common_in(matches).map(Command::Resolve)),
         "dump" => Ok(common_in(matches).map(Command::Dump)),
+        "products" => products_in(alloc, matches),
+        "massey" => massey_in(alloc, matches),
         "check" => Ok(Some(Command::Check)),
         "build" => Ok(build_in(matches).map(Command::Build)),
         "sample" => Ok(sample_in(matches)),

@@ -1,4 +1,5 @@
 //! Words and what they ask for.
+use chain_map::Class;
 use ext_words::{Build, Command, Common, WordsFault, parse};
 use sq_calc::Mono;
 use square::Range;
@@ -29,6 +30,21 @@ fn saved(common: Common) -> Common {
         save: true,
         ..common
     }
+}
+
+/// Class `i` of row `s` in degree `t`.
+fn class(s: u32, t: i32, i: usize) -> Class {
+    Class { s, t, i }
+}
+
+/// What `products` asks for.
+fn products(common: Common, by: Class) -> Command {
+    Command::Products { common, by }
+}
+
+/// What `massey` asks for.
+fn massey(common: Common, a: Class, b: Class, c: Class) -> Command {
+    Command::Massey { common, a, b, c }
 }
 
 #[test]
@@ -73,6 +89,62 @@ fn parses(rt: HostRuntime) -> Result<(), Fail> {
         (
             "sample --save 7 0 7 --workers 2",
             Command::Sample(7, saved(least(2))),
+        ),
+    ] {
+        let words: Vec<&str> = line.split(' ').collect(rt.alloc())?;
+        assert_eq!(rt;
+            parse(rt.alloc(), words.as_slice()),
+            Ok(command),
+            "at {line}"
+        );
+    }
+    Ok(())
+}
+
+#[test]
+fn parses_classes(rt: HostRuntime) -> Result<(), Fail> {
+    for (line, command) in [
+        (
+            "products 0 7 --by 1,1,0",
+            products(least(1), class(1, 1, 0)),
+        ),
+        (
+            "products --by=00001,-2,99999 0 7 --workers 3",
+            products(least(3), class(1, -2, 99999)),
+        ),
+        (
+            "products 63 --save --by 99999,-99999,0 127",
+            products(saved(greatest(1)), class(99999, -99999, 0)),
+        ),
+        (
+            "products --by 0,-0,0 --workers=2 0 7",
+            products(least(2), class(0, 0, 0)),
+        ),
+        (
+            "products 0 7 --by=1,-1,0",
+            products(least(1), class(1, -1, 0)),
+        ),
+        (
+            "massey 0 7 --a=1,1,0 --b=2,2,1 --c=3,3,2",
+            massey(least(1), class(1, 1, 0), class(2, 2, 1), class(3, 3, 2)),
+        ),
+        (
+            "massey --c 1,-1,0 63 --b=0,0,0 127 --a 63,00127,00009",
+            massey(
+                greatest(1),
+                class(63, 127, 9),
+                class(0, 0, 0),
+                class(1, -1, 0),
+            ),
+        ),
+        (
+            "massey 0 --b 1,1,1 --save --a=2,2,2 --workers 64 --c 99999,99999,99999 7",
+            massey(
+                saved(least(64)),
+                class(2, 2, 2),
+                class(1, 1, 1),
+                class(99999, 99999, 99999),
+            ),
         ),
     ] {
         let words: Vec<&str> = line.split(' ').collect(rt.alloc())?;
@@ -192,9 +264,6 @@ fn parses_nothing_else(rt: HostRuntime) -> Result<(), Fail> {
 fn parses_no_other_form_of_a_command(rt: HostRuntime) -> Result<(), Fail> {
     for line in [
         "check --save",
-        "products 4 8 --by 1,1,0",
-        "products 4 8 --by=1,1,0",
-        "massey 3 8 --a=1,1,0 --b=1,1,0 --c=1,1,0",
         "build",
         "build product",
         "build sum tensor",
@@ -266,6 +335,113 @@ fn parses_no_other_form_of_a_command(rt: HostRuntime) -> Result<(), Fail> {
         "--help",
         "-h",
         "--version",
+    ] {
+        assert_outside(&rt, line)?;
+    }
+    Ok(())
+}
+
+#[test]
+fn parses_no_other_products(rt: HostRuntime) -> Result<(), Fail> {
+    for line in [
+        "products",
+        "products 4 8",
+        "products --by 1,1,0",
+        "products --by 1,1,0 4",
+        "products 4 8 1,1,0",
+        "products 4 8 9 --by 1,1,0",
+        "products 64 8 --by 1,1,0",
+        "products 4 128 --by 1,1,0",
+        "products 4 8 --by",
+        "products 4 8 --by=",
+        "products 4 8 --by ",
+        "products 4 8 --by --save",
+        "products 4 8 --by 1,1,0 --by 1,1,0",
+        "products 4 8 --by=1,1,0 --by=2,2,0",
+        "products 4 8 --by 1,1,0 --a 1,1,0",
+        "products 4 8 --a 1,1,0",
+        "products 4 8 --BY 1,1,0",
+        "products 4 8 -by 1,1,0",
+        "products 4 8 --by 1,1,0 --workers 65",
+        "products 4 8 --by 1,1,0 --save --save",
+        "--by 1,1,0 products 4 8",
+        "sphere 4 8 --by=1,1,0",
+        "resolve 4 8 --by 1,1,0",
+        "dump 4 8 --by 1,1,0",
+        "sample 0 4 8 --by 1,1,0",
+        "check --by 1,1,0",
+        "sq 1 --by 1,1,0",
+    ] {
+        assert_outside(&rt, line)?;
+    }
+    Ok(())
+}
+
+#[test]
+fn parses_no_other_classes(rt: HostRuntime) -> Result<(), Fail> {
+    for line in [
+        "products 4 8 --by 1",
+        "products 4 8 --by 1,1",
+        "products 4 8 --by 1,1,0,0",
+        "products 4 8 --by 1,1,0,",
+        "products 4 8 --by ,1,0",
+        "products 4 8 --by 1,,0",
+        "products 4 8 --by 1,1,",
+        "products 4 8 --by ,,",
+        "products 4 8 --by 1;1;0",
+        "products 4 8 --by 1, 1,0",
+        "products 4 8 --by -1,1,0",
+        "products 4 8 --by=-1,1,0",
+        "products 4 8 --by=-0,1,0",
+        "products 4 8 --by 1,1,-1",
+        "products 4 8 --by 1,1,-0",
+        "products 4 8 --by +1,1,0",
+        "products 4 8 --by 1,+1,0",
+        "products 4 8 --by 1,1,+0",
+        "products 4 8 --by 1,--1,0",
+        "products 4 8 --by 1,-,0",
+        "products 4 8 --by 100000,1,0",
+        "products 4 8 --by 000001,1,0",
+        "products 4 8 --by 1,100000,0",
+        "products 4 8 --by 1,-000001,0",
+        "products 4 8 --by 1,1,100000",
+        "products 4 8 --by 1,1,000000",
+        "products 4 8 --by 1,1,x",
+        "products 4 8 --by １,1,0",
+    ] {
+        assert_outside(&rt, line)?;
+    }
+    Ok(())
+}
+
+#[test]
+fn parses_no_other_massey(rt: HostRuntime) -> Result<(), Fail> {
+    for line in [
+        "massey 3 8",
+        "massey 3 8 --a=1,1,0",
+        "massey 3 8 --a=1,1,0 --b=1,1,0",
+        "massey 3 8 --a=1,1,0 --c=1,1,0",
+        "massey 3 8 --b=1,1,0 --c=1,1,0",
+        "massey 3 --a=1,1,0 --b=1,1,0 --c=1,1,0",
+        "massey 3 8 9 --a=1,1,0 --b=1,1,0 --c=1,1,0",
+        "massey 64 8 --a=1,1,0 --b=1,1,0 --c=1,1,0",
+        "massey 3 128 --a=1,1,0 --b=1,1,0 --c=1,1,0",
+        "massey 3 8 --a=1,1,0 --b=1,1,0 --c",
+        "massey 3 8 --a=1,1,0 --b=1,1,0 --c=1,1",
+        "massey 3 8 --a=1,1,0 --b=1,1,0,0 --c=1,1,0",
+        "massey 3 8 --a=1,1,100000 --b=1,1,0 --c=1,1,0",
+        "massey 3 8 --a=-1,1,0 --b=1,1,0 --c=1,1,0",
+        "massey 3 8 --a=1,1,0 --b=1,1,0 --c=1,1,-1",
+        "massey 3 8 --a=1,1,0 --b=1,1,0 --c=1,1,0 --a=1,1,0",
+        "massey 3 8 --a 1,1,0 --b 1,1,0 --b 1,1,0 --c 1,1,0",
+        "massey 3 8 --a=1,1,0 --b=1,1,0 --c=1,1,0 --c=1,1,0",
+        "massey 3 8 --a=1,1,0 --b=1,1,0 --c=1,1,0 --by=1,1,0",
+        "massey 3 8 --a=1,1,0 --b=1,1,0 --c=1,1,0 --d=1,1,0",
+        "massey 3 8 -a=1,1,0 -b=1,1,0 -c=1,1,0",
+        "massey 3 8 -a 1,1,0 --b=1,1,0 --c=1,1,0",
+        "massey 3 8 --by 1,1,0",
+        "sphere 3 8 --a=1,1,0 --b=1,1,0 --c=1,1,0",
+        "resolve 3 8 --c=1,1,0",
     ] {
         assert_outside(&rt, line)?;
     }

@@ -61,7 +61,7 @@ of_memory g c =
     let failed : IsFailed (source g) (out g) (store g) words Memory c.args.source.now c.args.source.now c.args.out.now c.args.out.now c.args.disk c.args.disk =
     record {
       cause = tt;
-      has_text = tt;
+      outcome = tt;
       unread = λ h. refl;
       given = given-none _ _;
       read = λ reads no_6 no_12. absurd (no_12 refl);

@@ -6,11 +6,12 @@ use Rattle.clap.specs.Walk.{Row, Rule, Text, first_of, has_row}
 use Rattle.clap.specs.Simple.{App, new_app, new_rule, on_top, with_rule, with_subcommand}
 use Rattle.clap.specs.declared.builder.action.ArgAction.TheVariants.{Set}
 use Rattle.square.specs.declared.range.TheConstants.{MAX_S, MAX_T}
+use Rattle.chain_map.specs.declared.class.Class.{Class}
 use Rattle.ext_words.specs.declared.command.Build.{Build}
 use Rattle.ext_words.specs.declared.command.Command.{Command}
-use Rattle.ext_words.specs.declared.command.Command.TheVariants.{Sphere, Resolve, Dump, Check, Build as Built, Sq}
+use Rattle.ext_words.specs.declared.command.Command.TheVariants.{Sphere, Resolve, Dump, Products, Massey, Check, Build as Built, Sq}
 use Rattle.ext_words.specs.declared.command.Common.{Common}
-use Rattle.ext_words.specs.Words.{number_up_to, workers_of, range_from, common_from, seed_of, sample_from, product_of, built_by}
+use Rattle.ext_words.specs.Words.{number_up_to, workers_of, range_from, common_from, seed_of, sample_from, product_of, class_of, built_by}
 
 -- ---- words that `clap` is not told of: `--`, behind which it takes words as they are, and those behind one hyphen, of which it
 -- takes some as plain words
@@ -46,6 +47,14 @@ with_options app = with_rule (with_rule app (option_named (codes "workers"))) (f
 abbrev pub range_command : Text → App
 range_command name = with_options (with_rule (with_rule (new_app name) (word_named (codes "S"))) (word_named (codes "T")))
 
+-- the command with the words S and T, and with a class
+abbrev pub products_command : App
+products_command = with_rule (range_command (codes "products")) (option_named (codes "by"))
+
+-- the command with the words S and T, and with three classes
+abbrev pub massey_command : App
+massey_command = with_rule (with_rule (with_rule (range_command (codes "massey")) (option_named (codes "a"))) (option_named (codes "b"))) (option_named (codes "c"))
+
 -- the command with the word OP, and with a number of degrees
 abbrev pub build_command : App
 build_command = with_rule (with_rule (new_app (codes "build")) (word_named (codes "OP"))) (option_named (codes "degrees"))
@@ -64,7 +73,7 @@ no_command = on_top (λ top. record top { no_binary_name = true; disable_help_fl
 -- the commands that resolve a module on standard input, or the sphere
 abbrev pub module_commands : App
 module_commands =
-    with_subcommand (with_subcommand (with_subcommand no_command (range_command (codes "sphere")).top) (range_command (codes "resolve")).top) (range_command (codes "dump")).top
+    with_subcommand (with_subcommand (with_subcommand (with_subcommand (with_subcommand no_command (range_command (codes "sphere")).top) (range_command (codes "resolve")).top) (range_command (codes "dump")).top) products_command.top) massey_command.top
 
 -- all commands, without help
 abbrev pub command_line : App
@@ -88,6 +97,18 @@ saves_in rows = has_row (codes "save") rows
 abbrev pub common_in : List Row → Option Common
 common_in rows = common_from (range_from (number_in rows (codes "S") MAX_S) (number_in rows (codes "T") MAX_T)) (workers_in rows) (saves_in rows)
 
+-- the class of an option
+abbrev pub class_in : List Row → Text → Option Class
+class_in rows name = option_and_then class_of (first_of name rows)
+
+-- the numbers S and T of a command's matches, and a class
+abbrev pub products_in : List Row → Option Command
+products_in rows = option_and_then (λ common. option_map (λ by. Products common by) (class_in rows (codes "by"))) (common_in rows)
+
+-- the numbers S and T of a command's matches, and three classes
+abbrev pub massey_in : List Row → Option Command
+massey_in rows = option_and_then (λ common. option_and_then (λ a. option_and_then (λ b. option_map (λ c. Massey common a b c) (class_in rows (codes "c"))) (class_in rows (codes "b"))) (class_in rows (codes "a"))) (common_in rows)
+
 -- what is built by the word OP of a command's matches, and by its number of degrees
 abbrev pub build_in : List Row → Option Build
 build_in rows = option_and_then (λ word. built_by word (first_of (codes "degrees") rows)) (first_of (codes "OP") rows)
@@ -110,6 +131,8 @@ command_named name rows =
     if bytes_eq (codes "sphere") name then option_map Sphere (common_in rows)
     else if bytes_eq (codes "resolve") name then option_map Resolve (common_in rows)
     else if bytes_eq (codes "dump") name then option_map Dump (common_in rows)
+    else if bytes_eq (codes "products") name then products_in rows
+    else if bytes_eq (codes "massey") name then massey_in rows
     else if bytes_eq (codes "check") name then Some Check
     else if bytes_eq (codes "build") name then option_map Built (build_in rows)
     else if bytes_eq (codes "sample") name then sample_in rows

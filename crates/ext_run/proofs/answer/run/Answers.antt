@@ -1,9 +1,10 @@
 use Rattle.std.proofs.Common.{Err, refl, ap, arith}
-use Rattle.std.proofs.lemmas.Result.{IfOk-weaker, IfErr-weaker}
+use Rattle.std.proofs.lemmas.Result.{IfErr-weaker}
 use Rattle.edge.proofs.Moments.{Lawful}
 use Rattle.ext_words.specs.Words.{texts_of}
 use Rattle.ext_run.proofs.Ending.{Device, IsRun, IsRead, IsFailed, run_of_failure, run_of_task}
-use Rattle.ext_run.proofs.Saved.{Store, worked, kept_early, early_cause}
+use Rattle.ext_run.proofs.Saved.{Store, worked, worked_text, worked_failure, kept_early, early_cause}
+use Rattle.ext_run.proofs.Causes.{task_told}
 use Rattle.ext_run.proofs.answer.run.Given.{Over}
 use Rattle.ext_run.proofs.answer.run.Goals as goal
 
@@ -34,10 +35,10 @@ of_task g c =
     let read : IsRead (source g) words c.args.source.now c.task_from.new.source =
     record { unread = given.unread; given = given.given; read = λ reads. given.read reads (λ h. cc) (λ h. cc); never_falls = given.never_fall; no_fault = given.no_fault (λ h. cc) } in
     let did = worked (store g) (laws g) words left c.in-Ok.task c.text_by_workers-text.result.0 c.args.disk c.text_by_workers-text.result.1 given.saved c.text_by_workers-text.ensures in
-    run_of_task (source g) (out g) (err g) (store g) words c.args.source.now c.task_from.new.source c.args.out.now c.outcome-status.new.out c.args.err.now c.outcome-status.new.err c.args.disk c.text_by_workers-text.result.1 (λ t. t.items) c.text_by_workers-text.result.0 c.outcome-status.result given.text.0 read
-    (given.task given.text.0 given.text.1)
-    (IfOk-weaker c.text_by_workers-text.result.0 _ _ (λ t made. (λ usable. given.task t.items (made.0 usable), made.1, made.2)) did.made)
-    (IfErr-weaker c.text_by_workers-text.result.0 _ _ (λ e failed. record { cause = failed.0; not_reading = failed.1; not_writing = failed.2; saved = failed.3; accepted = failed.4 }) did.failed)
+    run_of_task (source g) (out g) (err g) (store g) words c.args.source.now c.task_from.new.source c.args.out.now c.outcome-status.new.out c.args.err.now c.outcome-status.new.err c.args.disk c.text_by_workers-text.result.1 (λ t. t.items) c.text_by_workers-text.result.0 c.outcome-status.result given.answer.0 read
+    (task_told c.in-Ok.task given.answer.0 given.answer.1) (given.task given.answer.0 given.answer.1)
+    (worked_text (store g) (laws g) words left c.in-Ok.task c.text_by_workers-text.result.0 c.args.disk c.text_by_workers-text.result.1 given.task did)
+    (IfErr-weaker c.text_by_workers-text.result.0 _ _ (λ e failed. record { cause = failed.0; not_reading = failed.1; not_writing = failed.2; saved = failed.3; accepted = failed.4 }) (worked_failure (store g) (laws g) words left c.in-Ok.task c.text_by_workers-text.result.0 c.args.disk c.text_by_workers-text.result.1 given.task did))
     c.outcome-status.ensures.text c.outcome-status.ensures.failed
 
 pub returns-in-Ok-clause-status : goal.returns-in-Ok-clause-status
@@ -70,7 +71,7 @@ of_failure g c =
     let failed : IsFailed (source g) (out g) (store g) words failure c.args.source.now c.task_from.new.source c.args.out.now c.args.out.now c.args.disk c.args.disk =
     record {
       cause = early.cause;
-      has_text = early.has_text;
+      outcome = early.outcome;
       unread = given.unread;
       given = given.given;
       read = λ reads no_6 no_12. given.read reads (λ h. no_6 cc) (λ h. no_12 cc);

@@ -4,8 +4,8 @@ use Rattle.ext_words.specs.Words.{texts_of}
 use Rattle.ext_run.specs.Failure.{words_failure}
 use Rattle.ext_run.specs.Answer.{IsCauseFrom}
 use Rattle.ext_run.proofs.Commands.{words_fault_cause}
-use Rattle.ext_run.specs.Task.{HasItsText}
-use Rattle.ext_run.proofs.AnswerExists.{Laws, text_is_there, all_ok}
+use Rattle.ext_run.specs.Task.{HasItsAnswer}
+use Rattle.ext_run.proofs.AnswerExists.{Laws, task_is_done, all_ok}
 use Rattle.ext_run.proofs.task.task_from.Goals as goal
 
 pub returns-in_err-command-clause-cause : goal.returns-in_err-command-clause-cause
@@ -16,7 +16,7 @@ returns-in_err-command-clause-cause g c =
     words_fault_cause (texts_of c.args.words.now) _ fault (λ h. c.in_err-command.ensures.refused (ap Err h)) in
     rw (p.1, p.2) cause
 
-pub returns-clause-text : goal.returns-clause-text
-returns-clause-text g c =
-    let laws : Laws = record { exists = c.canonical_table_exists.ensures; minimal = c.canonical_table_is_minimal_resolution.ensures; modules = c.modules_are_graded_modules.ensures; accepted = c.accepted_is_module.ensures } in
-    all_ok c.task_for.result HasItsText (text_is_there laws)
+pub returns-clause-answer : goal.returns-clause-answer
+returns-clause-answer g c =
+    let laws : Laws = record { tables = record { exists = c.canonical_table_exists.ensures; minimal = c.canonical_table_is_minimal_resolution.ensures; modules = c.modules_are_graded_modules.ensures; accepted = c.accepted_is_module.ensures }; products = c.products_answer_exists.ensures; brackets = c.bracket_answer_exists.ensures } in
+    all_ok c.task_for.result HasItsAnswer (task_is_done laws)

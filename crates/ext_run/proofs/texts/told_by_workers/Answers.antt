@@ -1,4 +1,4 @@
-use Rattle.ext_run.proofs.Continuing.{continued, at_ok, when_ok, handed_on}
+use Rattle.ext_run.proofs.Continuing.{continued, at_ok, when_ok}
 use Rattle.ext_run.proofs.texts.told_by_workers.Goals as goal
 
 pub returns-in-Ok : goal.returns-in-Ok
@@ -8,6 +8,6 @@ returns-in-Ok g c =
     let new = g.K.Keep.telling c.resolve_with-resolved.result.1 in
     let r = c.resolve_with-resolved.result.0 in
     let more = c.in-Ok.table in
-    continued c.canonical_table_is_minimal_resolution.ensures c.modules_are_graded_modules.ensures c.args.range c.args.form c.args.table more c.text_or_failure-text.result old new made.given.given
-    (at_ok r more _ c.in-Ok.is made.grown) (at_ok r more _ c.in-Ok.is made.through) (λ start. at_ok r more _ c.in-Ok.is (made.canonical start)) (at_ok r more _ c.in-Ok.is made.of_table) (when_ok r more _ c.in-Ok.is made.live) (when_ok r more _ c.in-Ok.is made.no_fault) made.given.kept
-    (handed_on c.text_or_failure-text.result c.told.result _ c.text_or_failure-text.ensures.text c.told.ensures) c.text_or_failure-text.ensures.memory
+    continued c.canonical_table_is_minimal_resolution.ensures c.modules_are_graded_modules.ensures c.args.range c.args.form c.args.table more c.told-text.result old new made.given.given
+    (at_ok r more _ c.in-Ok.is made.grown) (at_ok r more _ c.in-Ok.is made.are_of_start) (at_ok r more _ c.in-Ok.is made.through) (λ start. at_ok r more _ c.in-Ok.is (made.canonical start)) (at_ok r more _ c.in-Ok.is made.of_table) (when_ok r more _ c.in-Ok.is made.live) (when_ok r more _ c.in-Ok.is made.no_fault) made.given.kept
+    c.told-text.ensures.told c.told-text.ensures.why

@@ -9,5 +9,7 @@ invariant-loop-c l = record {
   none_read : l.c-index ≤ 0 → l.value ≤ 0;
   one_read : l.c-index ≤ 1 → l.value ≤ 207;
   two_read : l.c-index ≤ 2 → l.value ≤ 2277;
-  all_read : l.value ≤ 22977;
+  three_read : l.c-index ≤ 3 → l.value ≤ 22977;
+  four_read : l.c-index ≤ 4 → l.value ≤ 229977;
+  all_read : l.value ≤ 2299977;
 }
