@@ -2,3 +2,4 @@ mod Crossing
 mod Ended
 mod Passes
 mod Made
+mod Seen

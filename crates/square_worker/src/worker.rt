@@ -5,6 +5,7 @@ ghost use Rattle.board_core.specs.Laws.{first_cause};
 ghost use Rattle.square_board.specs.Courses.{events_of};
 ghost use Rattle.square_board.specs.Desks.{IsOver, IsJobOf};
 ghost use Rattle.square_board.specs.Boards.{IsPassOf, IsSamePass, state_seen};
+ghost use Rattle.square_worker.specs.Workers.{HasSeenNoLess};
 ghost use Rattle.square_worker.specs.declared.worker.WorkEnd.TheVariants.{Over, Stopped};
 
 use crate::gate::Gate;
@@ -40,6 +41,7 @@ pub fn work<R: Wait + Clock, K: Keep, G: Gate>(
     requires { IsPassOf board.now pass.old }
     ensures pass { IsPassOf board.now pass.new }
     ensures same { IsSamePass pass.old pass.new }
+    ensures no_less { HasSeenNoLess pass.old pass.new }
     ensures over { (result ≡ Over) ↔ IsOver (state_seen pass.new) }
     ensures stopped { (cause : Cause) → (result ≡ Stopped cause) ↔ (first_cause (events_of pass.new.seen) ≡ Some cause) }
 {
@@ -71,6 +73,7 @@ fn make<R: Wait + Clock, K: Keep>(
     requires job { IsJobOf board.now.name pass.old.number pass.old.own job }
     ensures pass { IsPassOf board.now pass.new }
     ensures same { IsSamePass pass.old pass.new }
+    ensures no_less { HasSeenNoLess pass.old pass.new }
 {
     match step(alloc, job.inputs()) {
         Ok(square) => {

@@ -1,3 +1,4 @@
+use Rattle.square_worker.proofs.Seen.{and_then, by_take}
 use Rattle.square_worker.proofs.worker.work.Goals as goal
 
 pub returns-in-Ok-Over-clause-stopped : goal.returns-in-Ok-Over-clause-stopped
@@ -17,3 +18,6 @@ pub returns-in-Err-clause-stopped : goal.returns-in-Err-clause-stopped
 returns-in-Err-clause-stopped g c cause =
     let is = c.in-Err.is in
     (λ e. absurd (let f = e in cc), λ f. absurd (let t = (c.take.ensures.stopped cause).1 f in cc))
+
+pub returns-in-Err-clause-no_less : goal.returns-in-Err-clause-no_less
+returns-in-Err-clause-no_less g c = and_then _ _ _ c.loop.invariant.no_less (by_take _ _ _ c.take.ensures.job)

@@ -1,4 +1,5 @@
 use Rattle.square_board.specs.Boards.{IsPassOf, IsSamePass}
+use Rattle.square_worker.specs.Workers.{HasSeenNoLess}
 use Rattle.square_worker.proofs.worker.work.Given as goal
 
 abbrev pub invariant-loop : goal.invariant-loop
@@ -7,4 +8,5 @@ invariant-loop g l = record {
   goes_on : (goal.iterator-loop g).is_finite l.iterator';
   pass : IsPassOf l.board l.pass;
   same : IsSamePass l.initial.pass l.pass;
+  no_less : HasSeenNoLess l.initial.pass l.pass;
 }
