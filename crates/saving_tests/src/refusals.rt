@@ -25,7 +25,7 @@ const ZEROS: &str =
     "0000000000000000000000000000000000000000000000000000000000000000000000000000000000000000000000000000";
 
 /// The file is refused, for this reason, and left as it is.
-fn assert_refused<W: Threads + Wait + Clock + Sync + Abort>(
+pub(crate) fn assert_refused<W: Threads + Wait + Clock + Sync + Abort>(
     rt: &W,
     alloc: Global,
     words: &[&str],

@@ -26,15 +26,22 @@ pub(crate) const STEMS_0: &str = " 0 |1\nstems 0..0\n";
 
 pub(crate) const SPHERE_0: &[&str] = &["sphere", "0", "0", "--save"];
 
-/// Runs these words over a disk, where the source has the module of two cells. Compares the status, the text and the line, and gives
-/// the disk back.
-pub(crate) fn run_over<W: Threads + Wait + Clock + Sync + Abort>(
+/// What a run came to.
+#[derive(Drop)]
+pub(crate) struct Outcome {
+    pub(crate) status: u8,
+    out: MemSink,
+    err: MemSink,
+    disk: MemDisk,
+}
+
+/// Runs these words over a disk, where the source has the module of two cells.
+pub(crate) fn ran<W: Threads + Wait + Clock + Sync>(
     rt: &W,
     alloc: Global,
     words: &[&str],
     disk: MemDisk,
-    (status, text, line): (u8, &str, &str),
-) -> Result<MemDisk, Fail> {
+) -> Result<Outcome, Fail> {
     let mut source = MemSource::new(alloc, C2.to_vec(alloc)?, 7, Vec::new(alloc))?;
     let mut out = MemSink::new(alloc, 1000, 1000, Vec::new(alloc))?;
     let mut err = MemSink::new(alloc, 1000, 1000, Vec::new(alloc))?;
@@ -49,17 +56,36 @@ pub(crate) fn run_over<W: Threads + Wait + Clock + Sync + Abort>(
         disk,
         &OpenGate,
     );
+    Ok(Outcome {
+        status: ended.status,
+        out,
+        err,
+        disk: ended.disk,
+    })
+}
+
+/// Compares the status, the text and the line of these words over a disk, and gives the disk back.
+pub(crate) fn run_over<W: Threads + Wait + Clock + Sync + Abort>(
+    rt: &W,
+    alloc: Global,
+    words: &[&str],
+    disk: MemDisk,
+    ended: (u8, &str, &str),
+) -> Result<MemDisk, Fail> {
+    let Outcome {
+        status,
+        out,
+        err,
+        disk,
+    } = ran(rt, alloc, words, disk)?;
+    let (text, line) = (from_utf8(out.written())?, from_utf8(err.written())?);
+    let calls = disk.calls();
     assert_eq!(rt;
-        (
-            ended.status,
-            from_utf8(out.written())?,
-            from_utf8(err.written())?
-        ),
         (status, text, line),
-        "at {words:?}, after {} calls of the disk",
-        ended.disk.calls()
+        ended,
+        "at {words:?}, after {calls} calls of the disk"
     );
-    Ok(ended.disk)
+    Ok(disk)
 }
 
 /// The file of the first square, and how many calls of the disk make it of what was there before: of nothing, of a file without room
