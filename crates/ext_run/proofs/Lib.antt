@@ -6,6 +6,7 @@ mod Continuing
 mod Joined
 mod KeptOn
 mod Lasting
+mod NextRun
 mod Reading
 mod Resolved
 mod Sums

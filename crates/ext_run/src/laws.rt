@@ -1,6 +1,9 @@
 //! Laws over the definitions, as contracts of functions that do nothing.
 ghost use Rattle.ext_run.specs.Answer.{AnswerIsUnique};
 ghost use Rattle.ext_run.specs.Existence.{AnswerExists};
+ghost use Rattle.ext_run.specs.NextRun.{NextRunMayUse};
+
+use edge::Disk;
 
 /// The same words have at most one answer to the same input.
 pub fn answer_is_unique()
@@ -23,4 +26,13 @@ pub fn answer_exists()
     ext_products::products_answer_exists();
     ext_brackets::bracket_answer_exists();
     adem_laws::admissible_basis();
+}
+
+/// What a run for a module has left of the disk of its save file, a run for the same module may use that finds it: wherever the
+/// first one was cut off, and through whatever range each of them goes. (`run` and `run_one` promise their text where the disk
+/// may be used.)
+pub fn next_run_may_use_what_is_left<D: Disk>()
+    ensures { NextRunMayUse D.now D.moment D.images D.since D.faults }
+{
+    module_json::file_is_unique();
 }

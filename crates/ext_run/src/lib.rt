@@ -13,5 +13,5 @@ mod writing;
 pub use answer::{Ended, run, run_one};
 pub use ext_words::{Build, Command, Common, WordsFault, parse};
 pub use failure::{Failure, report};
-pub use laws::{answer_exists, answer_is_unique};
+pub use laws::{answer_exists, answer_is_unique, next_run_may_use_what_is_left};
 pub use square::Range;

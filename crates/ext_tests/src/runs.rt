@@ -2,7 +2,7 @@
 ghost use Rattle.std.specs.Prelude.{◌<◌};
 
 use edge::{MemDisk, MemSink, MemSource};
-use ext_run::{Ended, Failure, answer_is_unique, report, run_one};
+use ext_run::{Ended, Failure, answer_is_unique, next_run_may_use_what_is_left, report, run_one};
 use module_json::{Malformed, Place, What, Why};
 use resolution_laws::canonical_table_is_unique;
 use std::alloc::Global;
@@ -490,4 +490,5 @@ fn answers_without_memory(rt: HostRuntime) -> Result<(), Fail> {
 fn laws(_rt: HostRuntime) {
     canonical_table_is_unique();
     answer_is_unique();
+    next_run_may_use_what_is_left::<MemDisk>();
 }
