@@ -33,6 +33,4 @@ pub fn answer_exists()
 /// may be used.)
 pub fn next_run_may_use_what_is_left<D: Disk>()
     ensures { NextRunMayUse D.now D.moment D.images D.since D.faults }
-{
-    module_json::file_is_unique();
-}
+{}
