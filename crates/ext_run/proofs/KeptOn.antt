@@ -11,9 +11,10 @@ use Rattle.square.specs.Squares.{over, module_over}
 use Rattle.square.specs.Tables.{Staircase}
 use Rattle.square.specs.Keeping.{Keeper, IsKeeperOf, HasKept}
 use Rattle.square.specs.declared.range.Range.{Range}
+use Rattle.save_journal.specs.Records.{Records}
 use Rattle.save_journal.specs.Journals.{HasRecordsOf}
 use Rattle.save_journal.specs.declared.fault.OpenFault.TheVariants.{Failed as DiskFailed, NotSave, Other, Damaged, Short, Memory as OpenMemory}
-use Rattle.save_file.specs.Files.{digest_of, standing_of}
+use Rattle.save_file.specs.Files.{digest_of, standing_of, of_records}
 use Rattle.save_file.specs.Saving.{SaveState, kept_in, telling_of}
 use Rattle.save_file.specs.declared.fault.ResumeFault.{ResumeFault}
 use Rattle.save_file.specs.declared.fault.ResumeFault.TheVariants.{Open, Strange, Memory as OutOfMemory}
@@ -23,9 +24,9 @@ use Rattle.ext_run.specs.declared.task.Resolution.{Resolution as ToResolve}
 use Rattle.ext_run.specs.Failure.{resume_failure}
 use Rattle.ext_run.specs.Answer.{IsOfClasses}
 use Rattle.ext_run.specs.Task.{IsInForm}
-use Rattle.ext_run.specs.Saving.{AreCanonical, standing_for, StandsWith, IsOurs, HasLasted}
+use Rattle.ext_run.specs.Saving.{AreCanonical, standing_for, StandsWith, IsOurs, IsUnwritten, HasLasted}
 use Rattle.ext_run.specs.Work.{Told, HasAnswer, answer_of, HasContinued, IsRefusedFor, HasKeptOn}
-use Rattle.ext_run.proofs.Lasting.{some_of, at_some, all_first, canonical_start, as_another, lasting}
+use Rattle.ext_run.proofs.Lasting.{some_of, at_some, all_first, canonical_start, as_another, unwritten_since, lasting}
 
 -- an error of a continued table is no refusal
 no_refusal : (text : Told) (fault : ResumeFault) → IfErr text (λ e. (e ≡ Saving) ⊎ (e ≡ Memory) ⊎ IsOfClasses e) → text ≡ Err (SaveFile fault) → ⊥
@@ -33,6 +34,11 @@ no_refusal (Ok t) fault why is = cc
 no_refusal (Err e) fault (inl h) is = cc
 no_refusal (Err e) fault (inr (inl h)) is = cc
 no_refusal (Err e) fault (inr (inr h)) is = let same : e ≡ SaveFile fault = cc in subst IsOfClasses same h
+
+-- an answer comes only if the save file did not fail
+pub answer_unfailed : (text : Told) → HasAnswer text → text ≢ Err Saving
+answer_unfailed (Ok t) has is = cc
+answer_unfailed (Err e) has is = let same : e ≡ Saving = cc in subst IsOfClasses same has
 
 wider : (text : Told) (X : Failure → Type 0) → IfErr text (λ e. (e ≡ Saving) ⊎ (e ≡ Memory) ⊎ IsOfClasses e) → IfErr text (λ e. (e ≡ Saving) ⊎ (e ≡ Memory) ⊎ IsOfClasses e ⊎ X e)
 wider (Ok t) X why = tt
@@ -89,15 +95,15 @@ module _ {D : Type 0} (now : D → Option (List ℕ)) (moment : D → ℕ) (imag
           let opened = at_some (now disk) (λ _. LeavesOnly moment since disk k.journal.disk (HasRecordsOf (digest_of r.resolved) (images disk))) found.0 found.1 opening in
           let given = subst (λ (m : Checked). HasKept (over m) table.start (telling k) (telling after) continued.given) resolved continued.kept in
           let given_behind = subst (λ (l : List Entry). HasKept (over r.resolved) l (telling k) (telling after) continued.given) is given in
-          lasting now moment images since faults laws r.resolved r.common.range list with.more continued.given (HasAnswer text) disk k after with.at_most_one with.canonical ours k_resolved kept_is opened given_behind
-          continued.live continued.whole;
+          lasting now moment images since faults laws r.resolved r.common.range list with.more continued.given (HasAnswer text) (text ≢ Err Saving) disk k after with.at_most_one with.canonical ours k_resolved kept_is opened given_behind
+          (answer_unfailed text) continued.live continued.whole;
     }
 
   -- ---- the file was not taken up
 
   -- a disk that a run left without squares of its own
-  left_alone : (range : Range) (list : List Entry) (d : D) (had_answer : Type 0) → (had_answer → ⊥) → IsSome (now disk) → IsOurs r.resolved.plain list (images disk) → LeavesOnly moment since disk d (HasRecordsOf (digest_of r.resolved) (images disk)) → HasLasted moment images since r.resolved.plain range list had_answer disk d
-  left_alone range list d had_answer never told ours leaves =
+  left_alone : (range : Range) (list : List Entry) (d : D) (had_answer unfailed : Type 0) → (had_answer → ⊥) → (unfailed → IsUnwritten now moment images since disk d) → IsSome (now disk) → IsOurs r.resolved.plain list (images disk) → LeavesOnly moment since disk d (HasRecordsOf (digest_of r.resolved) (images disk)) → HasLasted now moment images since r.resolved.plain range list had_answer unfailed disk d
+  left_alone range list d had_answer unfailed never unwritten told ours leaves =
       let found = here list told ours in
       let same : (list ++ []) ++ [] ≡ list = append-nil (list ++ []) ∙ append-nil list in
       let stands : (c : List ℕ) → since d (moment disk) c → StandsWith r.resolved.plain list c = λ c was. let of_image = leaves.each c was in as_another r.resolved list c of_image.0 of_image.2 (ours of_image.0 of_image.1) in
@@ -109,6 +115,8 @@ module _ {D : Type 0} (now : D → Option (List ℕ)) (moment : D → ℕ) (imag
         canonical = subst (AreCanonical r.resolved.plain) (sym same) (all_first (λ e. IsOf (module_over r.resolved.plain) [] e.s e.above e.content) list found.2.more found.2.canonical);
         moments = λ c was. inl (stands c was);
         ours = subst (λ (l : List Entry). IsOurs r.resolved.plain l (images d)) (sym same) now_ours;
+        keeps = λ worked c was. let of_image = leaves.each c was in inl (of_image.0, of_image.1, ap (λ (of_file : Records). of_records (module_over r.resolved.plain) of_file) of_image.2);
+        settled = λ worked. inl (refl, refl, unwritten worked);
         exact = λ h. absurd (never h);
         whole = λ h. absurd (never h);
       }
@@ -130,7 +138,7 @@ module _ {D : Type 0} (now : D → Option (List ℕ)) (moment : D → ℕ) (imag
   kind_of (Strange n) = refusal refl (λ h. cc) (λ h. cc)
 
   module _ (fault : ResumeFault) (d : D) (refused : (fault ≡ Open DiskFailed) ⊎ (fault ≡ OutOfMemory) ⊎ IfSome (now disk) (λ file. standing_of r.resolved file ≡ Err fault)) (same : fault ≢ Open DiskFailed → now d ≡ now disk)
-      (unwritten : fault ≢ Open DiskFailed → IfSome (now disk) (λ _. (c : List ℕ) → images d c → images disk c)) (opening : IfSome (now disk) (λ _. LeavesOnly moment since disk d (HasRecordsOf (digest_of r.resolved) (images disk)))) (never_fall : faults disk ≤ faults d)
+      (unwritten : fault ≢ Open DiskFailed → IfSome (now disk) (λ _. LeavesOnly moment since disk d (images disk))) (opening : IfSome (now disk) (λ _. LeavesOnly moment since disk d (HasRecordsOf (digest_of r.resolved) (images disk)))) (never_fall : faults disk ≤ faults d)
       (cause : fault ≡ Open DiskFailed → HasRisen (faults disk) (faults d)) where
     why_not : Kind fault → (resume_failure fault ≡ Saving) ⊎ (resume_failure fault ≡ Memory) ⊎ IsOfClasses (resume_failure fault) ⊎ ((f : ResumeFault) × (resume_failure fault ≡ SaveFile f) × IsRefusedFor r.resolved.plain (now disk) f)
     why_not (disk_failed is e) = inl e
@@ -162,6 +170,12 @@ module _ {D : Type 0} (now : D → Option (List ℕ)) (moment : D → ℕ) (imag
     not_disk (no_memory e) f h = absurd (let bad : Memory ≡ SaveFile f = sym e ∙ h in cc)
     not_disk (refusal e no_disk no_room) f h = no_disk
 
+    not_written : fault ≢ Open DiskFailed → IsUnwritten now moment images since disk d
+    not_written no = unwritten_since now moment images since faults laws disk d (same no) (unwritten no)
+
+    no_failure : Err (resume_failure fault) ≢ Err Saving → fault ≢ Open DiskFailed
+    no_failure other is = other (ap (λ (f : ResumeFault). Err (resume_failure f)) is)
+
     pub not_taken_up : HasKeptOn now moment images since faults r (Err (resume_failure fault)) disk d
     not_taken_up = record {
       told = λ has. absurd (no_answer (kind_of fault) has);
@@ -170,9 +184,9 @@ module _ {D : Type 0} (now : D → Option (List ℕ)) (moment : D → ℕ) (imag
       no_fault = λ has. absurd (no_answer (kind_of fault) has);
       never_falls = never_fall;
       accepted = λ has. absurd (no_answer (kind_of fault) has);
-      unwritten = λ f is. let no = not_disk (kind_of fault) f (cc) in (same no, unwritten no);
+      unwritten = λ f is. not_written (not_disk (kind_of fault) f (cc));
       lasts = λ told list ours.
           let found = some_of (now disk) told in
           let opened = at_some (now disk) (λ _. LeavesOnly moment since disk d (HasRecordsOf (digest_of r.resolved) (images disk))) found.0 found.1 opening in
-          left_alone r.common.range list d _ (no_answer (kind_of fault)) told ours opened;
+          left_alone r.common.range list d _ _ (no_answer (kind_of fault)) (λ worked. not_written (no_failure worked)) told ours opened;
     }

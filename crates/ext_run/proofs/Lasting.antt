@@ -12,14 +12,14 @@ use Rattle.resolution_laws.specs.Resolution.{Module, Content}
 use Rattle.resolution_laws.specs.Start.{Entry, entry_at, IsOf, AreOf, IsCanonicalStart}
 use Rattle.resolution_laws.proofs.StartLaws.{canonical_content}
 use Rattle.square.specs.Squares.{over}
-use Rattle.square.specs.Keeping.{Keeper, HasKept, IsImageWith, IsImageAmid, with_squares}
+use Rattle.square.specs.Keeping.{Keeper, HasKept, IsImageWith, IsImageAmid, IsImagePart, with_squares}
 use Rattle.square.specs.declared.range.Range.{Range}
 use Rattle.save_journal.specs.Records.{Records, records_of}
 use Rattle.save_journal.specs.Journals.{HasRecordsOf}
 use Rattle.save_file.specs.Files.{Standing, digest_of, of_records, standing_of, squares_in}
 use Rattle.save_file.specs.Saving.{SaveState, TakesSquares, kept_in, telling_of}
 use Rattle.save_file.specs.Inside.SavingLaws.{left_is_kept}
-use Rattle.ext_run.specs.Saving.{AreCanonical, StandsWith, StandsAmid, IsOurs, HasLasted, HasRange}
+use Rattle.ext_run.specs.Saving.{AreCanonical, StandsWith, StandsAmid, StandsAtPart, StandsAsOneOf, IsOurs, MayBeLeft, IsUnwritten, HasLasted, HasRange}
 
 -- ---- what is told
 
@@ -101,6 +101,20 @@ as_read m list c d same with = record {
   stands = standing_ok (standing_of m c) (list ++ with.more) (same ∙ ap (λ (s : Standing). result_ok s) with.stands);
 }
 
+-- and so does one of which the same squares are read, as they are of one that stands for squares
+standing_same : (m : Checked) (list : List Entry) (c d : List ℕ) → squares_in m c ≡ squares_in m d → standing_of m d ≡ Ok list → standing_of m c ≡ standing_of m d
+standing_same m list c d same stands = standing_ok (standing_of m c) list (same ∙ ap (λ (s : Standing). result_ok s) stands) ∙ sym stands
+
+-- ---- a disk on which nothing was written
+
+where_some : {X : Type 0} (o : Option X) (P Q : Type 0) → (P → Q) → IfSome o (λ _. P) → IfSome o (λ _. Q)
+where_some None P Q f p = tt
+where_some (Some x) P Q f p = f p
+
+if_some : {X : Type 0} (o : Option X) (P : Type 0) → P → IfSome o (λ _. P)
+if_some None P p = tt
+if_some (Some x) P p = p
+
 -- ---- a run
 
 module _ {D : Type 0} (now : D → Option (List ℕ)) (moment : D → ℕ) (images : D → List ℕ → Type 0) (since : D → ℕ → List ℕ → Type 0) (faults : D → ℕ) (laws : Lawful now moment images since) where
@@ -108,10 +122,24 @@ module _ {D : Type 0} (now : D → Option (List ℕ)) (moment : D → ℕ) (imag
   abbrev telling : SaveState D → Keeper
   telling k = telling_of now moment images since faults k
 
-  module _ (m : Checked) (range : Range) (list more given : List Entry) (had_answer : Type 0) (disk : D) (k after : SaveState D)
+  -- what was left since the beginning, and what is left now, was left before it
+  pub unwritten_since : (old new : D) → now new ≡ now old → IfSome (now old) (λ _. LeavesOnly moment since old new (images old)) → IsUnwritten now moment images since old new
+  unwritten_since old new same was =
+      (same, where_some (now old) (LeavesOnly moment since old new (images old)) ((c : List ℕ) → MayBeLeft moment images since old new c → images old c) (λ leaves c may. elim may [
+        | inl left ↦ leaves.each c left
+        | inr image ↦ leaves.each c (laws.since_earlier new (moment old) (moment new) c leaves.later (laws.counts_now new c image))
+      ]) was)
+
+  pub unwritten_same : (d : D) → IsUnwritten now moment images since d d
+  unwritten_same d = (refl, if_some (now d) ((c : List ℕ) → MayBeLeft moment images since d d c → images d c) (λ c may. elim may [
+    | inl left ↦ laws.only_now d c left
+    | inr image ↦ image
+  ]))
+
+  module _ (m : Checked) (range : Range) (list more given : List Entry) (had_answer unfailed : Type 0) (disk : D) (k after : SaveState D)
       (at_most_one : length more ≤ 1) (canonical : AreCanonical m.plain (list ++ more)) (ours : IsOurs m.plain list (images disk)) (resolved : k.resolved ≡ m) (kept_is : kept_in now k ≡ Some (list ++ more))
       (opening : LeavesOnly moment since disk k.journal.disk (HasRecordsOf (digest_of m) (images disk))) (kept : HasKept (over m) (list ++ more) (telling k) (telling after) given)
-      (live : had_answer → TakesSquares now images after) (whole : had_answer → IfSome (kept_in now after) (HasRange range)) where
+      (answered : had_answer → unfailed) (live : unfailed → TakesSquares now images after) (whole : had_answer → IfSome (kept_in now after) (HasRange range)) where
     abbrev start : List Entry
     start = list ++ more
 
@@ -161,14 +189,33 @@ module _ {D : Type 0} (now : D → Option (List ℕ)) (moment : D → ℕ) (imag
         stands_with m start (start ++ given) c reads all_canonical
         (subst (IsImageWith (over m) start (start ++ given)) (read_after c) (ending (squares_in after.resolved c) (c, laws.counts_now after.journal.disk c image, refl)))
 
-    only : had_answer → (c : List ℕ) → images after.journal.disk c → standing_of m c ≡ Ok (start ++ given)
-    only has c image =
-        let is_kept = left_is_kept now moment images since laws.only_now after (live has) in
+    keeps : unfailed → (c : List ℕ) → since after.journal.disk (moment disk) c → StandsAsOneOf m.plain (images disk) c ⊎ StandsAtPart m.plain start given c
+    keeps worked c left =
+        let image = squares_in after.resolved c in
+        let T = telling k in
+        let U = telling after in
+        let earlier = at_start (λ (l : List Entry). (t : ℕ) (i : Option (List Entry)) → t ≤ T.moment → U.since t i ↔ (T.since t i ⊎ U.since T.moment i)) kept.earlier in
+        let exact = at_start (λ (l : List Entry). (i : Option (List Entry)) → U.since T.moment i → IsImagePart l given i) (kept.exact (live worked)) in
+        elim ((earlier (moment disk) image opening.later).0 (c, left, refl)) [
+          | inl before ↦
+              let d = before.0 in
+              let found = opening.each d before.1 in
+              let read : squares_in m c ≡ squares_in m d = sym (read_after c) ∙ before.2 ∙ ap (λ (q : Checked). squares_in q d) resolved in
+              let as_found = as_another m list d found.0 found.2 (ours found.0 found.1) in
+              inl (found.0, found.1, standing_same m (list ++ as_found.more) c d read as_found.stands ∙ ap (λ (r : Records). of_records (over m) r) found.2)
+          | inr now_left ↦
+              let at = exact image now_left in
+              inr (record { first = at.first; rest = at.rest; parts = at.parts; stands = standing_ok (standing_of m c) (start ++ at.first) (sym (read_after c) ∙ at.is) })
+        ]
+
+    only : unfailed → (c : List ℕ) → images after.journal.disk c → standing_of m c ≡ Ok (start ++ given)
+    only worked c image =
+        let is_kept = left_is_kept now moment images since laws.only_now after (live worked) in
         let U = telling after in
         let exact = subst (λ (o : Option (List Entry)). IfSome o (λ (l : List Entry). (i : Option (List Entry)) → U.since U.moment i → i ≡ Some l)) after_kept is_kept in
         standing_ok (standing_of m c) (start ++ given) (sym (read_after c) ∙ exact (squares_in after.resolved c) (c, laws.counts_now after.journal.disk c image, refl))
 
-    pub lasting : HasLasted moment images since m.plain range list had_answer disk after.journal.disk
+    pub lasting : HasLasted now moment images since m.plain range list had_answer unfailed disk after.journal.disk
     lasting = record {
       more = more;
       given = given;
@@ -176,6 +223,8 @@ module _ {D : Type 0} (now : D → Option (List ℕ)) (moment : D → ℕ) (imag
       canonical = all_canonical;
       moments = moments;
       ours = in_the_end;
-      exact = only;
+      keeps = keeps;
+      settled = λ worked. inr (only worked);
+      exact = λ has. only (answered has);
       whole = λ has. subst (λ (o : Option (List Entry)). IfSome o (HasRange range)) after_kept (whole has);
     }

@@ -4,8 +4,8 @@ use Rattle.std.specs.Prelude.{Option, Some, IfSome, IsSome}
 use Rattle.finite_module.specs.Module.{Module as SteenrodModule}
 use Rattle.resolution_laws.specs.Start.{Entry}
 use Rattle.square.specs.declared.range.Range.{Range}
-use Rattle.ext_run.specs.Saving.{IsSavedBy, StandsWith, IsOurs, HasLasted}
-use Rattle.ext_run.specs.NextRun.{AsksFor, MayBeLeft, IsFoundWith, NextRunMayUse}
+use Rattle.ext_run.specs.Saving.{IsSavedBy, StandsWith, IsOurs, MayBeLeft, HasLasted}
+use Rattle.ext_run.specs.NextRun.{AsksFor, IsFoundWith, NextRunMayUse}
 use Rattle.ext_run.proofs.Saved.{saved_unique}
 
 -- ---- one module
@@ -20,10 +20,10 @@ named words left m n bytes range asks told saved =
 
 -- ---- what is left
 
-stands : {D : Type 0} (moment : D → ℕ) (images : D → List ℕ → Type 0) (since : D → ℕ → List ℕ → Type 0) (m : SteenrodModule) (range : Range) (list : List Entry) (had_text : Type 0) (old new : D) (c : List ℕ) → HasLasted moment images since m range list had_text old new → MayBeLeft moment images since old new c →
+stands : {D : Type 0} (now : D → Option (List ℕ)) (moment : D → ℕ) (images : D → List ℕ → Type 0) (since : D → ℕ → List ℕ → Type 0) (m : SteenrodModule) (range : Range) (list : List Entry) (had_answer unfailed : Type 0) (old new : D) (c : List ℕ) → HasLasted now moment images since m range list had_answer unfailed old new → MayBeLeft moment images since old new c →
     (squares : List Entry) × StandsWith m squares c
-stands moment images since m range list had_text old new c lasted (inr image) = (_, lasted.ours c image)
-stands moment images since m range list had_text old new c lasted (inl was) = elim (lasted.moments c was) [
+stands now moment images since m range list had_answer unfailed old new c lasted (inr image) = (_, lasted.ours c image)
+stands now moment images since m range list had_answer unfailed old new c lasted (inl was) = elim (lasted.moments c was) [
   | inl before ↦ (list, before)
   | inr amid ↦ ((list ++ lasted.more) ++ amid.first, amid.with_more)
 ]
@@ -35,7 +35,7 @@ found_is_ours now images m squares c next with found =
 pub next_run : {D : Type 0} (now : D → Option (List ℕ)) (moment : D → ℕ) (images : D → List ℕ → Type 0) (since : D → ℕ → List ℕ → Type 0) (faults : D → ℕ) → NextRunMayUse now moment images since faults
 next_run now moment images since faults m words left asks list status old new told ours saved c may next_words next_left next_asks next found =
     let lasted = saved.lasts asks.bytes m asks.range list asks.reads told asks.saved ours in
-    let standing = stands moment images since m asks.range list _ old new c lasted may in
+    let standing = stands now moment images since m asks.range list _ _ old new c lasted may in
     let usable = found_is_ours now images m standing.0 c next standing.1 found in
     λ bytes n range given next_saved.
     let same = named next_words next_left m n bytes range next_asks given next_saved in

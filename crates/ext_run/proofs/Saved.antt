@@ -28,12 +28,13 @@ use Rattle.ext_run.specs.declared.task.Resolution.{Resolution as ToResolve}
 use Rattle.ext_run.specs.Input.{IsOfInput, IsAccepted}
 use Rattle.ext_run.specs.Failure.{status_of}
 use Rattle.ext_run.specs.Answer.{IsText, IsChart, IsDump, IsSummary, IsLineOn, IsProducts, IsBracket, IsOfClasses, IsTold, IsAnswerTo, IsAnswerFrom, IsCauseFrom, Reads, WordsRead}
-use Rattle.ext_run.specs.Saving.{options_of, Saves, WordsSave, IsModuleIn, IsModuleOf, IsSavedBy, standing_for, AreCanonical, IsOurs, HasLasted, HasSaved, IsUsable, IsRunCauseFrom, IsRefusedFrom, IsEarly, IsAnswered}
+use Rattle.ext_run.specs.Saving.{options_of, Saves, WordsSave, IsModuleIn, IsModuleOf, IsSavedBy, standing_for, AreCanonical, IsOurs, IsUnwritten, HasLasted, HasSaved, IsUsable, IsRunCauseFrom, IsRefusedFrom, IsEarly, IsAnswered}
 use Rattle.ext_run.specs.Task.{IsDoneBy, IsTaskFrom, IsSavedFor, IsSavedAs}
 use Rattle.ext_run.specs.Work.{Told, HasAnswer, answer_of, IsUnsaved, IsRefusedFor, HasKeptOn, HasWorked}
 use Rattle.ext_run.proofs.Causes.{text_told, classes_told, accepted_failure, as_classes, class_statuses, HasOutcome, never_0, only_writing, only_saving, only_refused, only_classes}
 use Rattle.edge.proofs.Moments.{Lawful}
-use Rattle.ext_run.proofs.Lasting.{some_of, at_some, all_first}
+use Rattle.ext_run.proofs.Lasting.{some_of, at_some, all_first, unwritten_same}
+use Rattle.ext_run.proofs.KeptOn.{answer_unfailed}
 
 -- ---- the module and the range that words ask to be saved
 
@@ -129,15 +130,17 @@ IsKept store words left status d g = HasSaved store.now store.moment store.image
 abbrev pub IsUsableAt : (store : Store) → List (List ℕ) → Option (List ℕ) → store.State → Type 0
 IsUsableAt store words left d = IsUsable words left (store.now d) (store.images d)
 
--- what lasts with a text lasts without
-lasted_by : {D : Type 0} (moment : D → ℕ) (images : D → List ℕ → Type 0) (since : D → ℕ → List ℕ → Type 0) (m : SteenrodModule) (range : Range) (list : List Entry) (A B : Type 0) (old new : D) → (B → A) → HasLasted moment images since m range list A old new → HasLasted moment images since m range list B old new
-lasted_by moment images since m range list A B old new f h = record {
+-- what lasts on these conditions lasts on narrower ones
+lasted_by : {D : Type 0} (now : D → Option (List ℕ)) (moment : D → ℕ) (images : D → List ℕ → Type 0) (since : D → ℕ → List ℕ → Type 0) (m : SteenrodModule) (range : Range) (list : List Entry) (A B U V : Type 0) (old new : D) → (B → A) → (V → U) → HasLasted now moment images since m range list A U old new → HasLasted now moment images since m range list B V old new
+lasted_by now moment images since m range list A B U V old new f u h = record {
   more = h.more;
   given = h.given;
   at_most_one = h.at_most_one;
   canonical = h.canonical;
   moments = h.moments;
   ours = h.ours;
+  keeps = λ v. h.keeps (u v);
+  settled = λ v. h.settled (u v);
   exact = λ b. h.exact (f b);
   whole = λ b. h.whole (f b);
 }
@@ -150,8 +153,8 @@ module _ (store : Store) (laws : Lawful store.now store.moment store.images stor
   -- ---- a disk that got no call
 
   -- nothing was kept and nothing is lost
-  as_it_was : (m : SteenrodModule) (range : Range) (list : List Entry) (had_answer : Type 0) (d : store.State) → (had_answer → ⊥) → IsSome (store.now d) → IsOurs m list (store.images d) → HasLasted store.moment store.images store.since m range list had_answer d d
-  as_it_was m range list had_answer d never told ours =
+  as_it_was : (m : SteenrodModule) (range : Range) (list : List Entry) (had_answer unfailed : Type 0) (d : store.State) → (had_answer → ⊥) → IsSome (store.now d) → IsOurs m list (store.images d) → HasLasted store.now store.moment store.images store.since m range list had_answer unfailed d d
+  as_it_was m range list had_answer unfailed d never told ours =
       let found = some_of (store.now d) told in
       let here = ours found.0 (file_of store.now store.images laws.now_is_image d found.0 found.1) in
       let same : (list ++ []) ++ [] ≡ list = append-nil (list ++ []) ∙ append-nil list in
@@ -162,6 +165,8 @@ module _ (store : Store) (laws : Lawful store.now store.moment store.images stor
         canonical = subst (AreCanonical m) (sym same) (all_first (λ e. IsOf (module_over m) [] e.s e.above e.content) list here.more here.canonical);
         moments = λ c was. inl (ours c (laws.only_now d c was));
         ours = subst (λ (l : List Entry). IsOurs m l (store.images d)) (sym same) ours;
+        keeps = λ worked c was. inl (c, laws.only_now d c was, refl);
+        settled = λ worked. inl (refl, refl, unwritten_same store.now store.moment store.images store.since store.faults laws d);
         exact = λ h. absurd (never h);
         whole = λ h. absurd (never h);
       }
@@ -218,7 +223,7 @@ module _ (store : Store) (laws : Lawful store.now store.moment store.images stor
     refused = λ h. absurd (no_refusal failure cause (only_refused failure h));
     refuses = λ bytes file m range e tells is p h. early_refusal failure bytes m range cause unwritten tells p;
     unwritten = λ h. absurd (no_refusal failure cause (only_refused failure h));
-    lasts = λ bytes m range list tells told p ours. as_it_was m range list _ d (no_answer_status failure cause unwritten) told ours;
+    lasts = λ bytes m range list tells told p ours. as_it_was m range list _ _ d (no_answer_status failure cause unwritten) told ours;
   }
 
   -- ---- a disk with the save file
@@ -231,14 +236,14 @@ module _ (store : Store) (laws : Lawful store.now store.moment store.images stor
     save : WordsSave words
     save = saved_words words by.bytes r.resolved.plain r.common.range by.holds
 
-    on_lasts : (had_answer : Type 0) → (had_answer → HasAnswer text) → (bytes : List ℕ) (m : SteenrodModule) (range : Range) (list : List Entry) → (WordsRead words → left ≡ Some bytes) → IsSome (store.now d) → IsSavedBy words bytes m range → IsOurs m list (store.images d) →
-        HasLasted store.moment store.images store.since m range list had_answer d g
-    on_lasts had_answer has bytes m range list tells told p ours =
+    on_lasts : (had_answer unfailed : Type 0) → (had_answer → HasAnswer text) → (unfailed → text ≢ Err Saving) → (bytes : List ℕ) (m : SteenrodModule) (range : Range) (list : List Entry) → (WordsRead words → left ≡ Some bytes) → IsSome (store.now d) → IsSavedBy words bytes m range → IsOurs m list (store.images d) →
+        HasLasted store.now store.moment store.images store.since m range list had_answer unfailed d g
+    on_lasts had_answer unfailed has worked bytes m range list tells told p ours =
         let same = the_same bytes m range tells p in
         let here : IsOurs r.resolved.plain list (store.images d) = subst (λ (x : SteenrodModule). IsOurs x list (store.images d)) (sym same.0) ours in
-        let lasted = lasted_by store.moment store.images store.since r.resolved.plain r.common.range list (HasAnswer text) had_answer d g has (on.lasts told list here) in
-        subst (λ (x : Range). HasLasted store.moment store.images store.since m x list had_answer d g) same.1
-        (subst (λ (x : SteenrodModule). HasLasted store.moment store.images store.since x r.common.range list had_answer d g) same.0 lasted)
+        let lasted = lasted_by store.now store.moment store.images store.since r.resolved.plain r.common.range list (HasAnswer text) had_answer (text ≢ Err Saving) unfailed d g has worked (on.lasts told list here) in
+        subst (λ (x : Range). HasLasted store.now store.moment store.images store.since m x list had_answer unfailed d g) same.1
+        (subst (λ (x : SteenrodModule). HasLasted store.now store.moment store.images store.since x r.common.range list had_answer unfailed d g) same.0 lasted)
 
     -- a run that has an answer
     pub kept_with_answer : (status : ℕ) → IsAnswered status → HasAnswer text → IsKept store words left status d g
@@ -251,7 +256,7 @@ module _ (store : Store) (laws : Lawful store.now store.moment store.images stor
       refused = λ h. absurd (not_one 9 is h (omega arith) (omega arith) (omega arith) (omega arith));
       refuses = λ bytes file m range e tells told p refusal. absurd (accepted_is_not_refused bytes file m range e tells told p refusal);
       unwritten = λ h. absurd (not_one 9 is h (omega arith) (omega arith) (omega arith) (omega arith));
-      lasts = on_lasts _ (λ _. has);
+      lasts = on_lasts _ _ (λ _. has) (λ _. answer_unfailed text has);
     }
       where
         not_one : (n : ℕ) → IsAnswered status → status ≡ n → 0 < n → n ≢ 7 → n ≢ 10 → n ≢ 11 → ⊥
@@ -276,8 +281,8 @@ module _ (store : Store) (laws : Lawful store.now store.moment store.images stor
 
     -- a run that has none
     kept_late : (status : ℕ) → (status ≡ 8) ⊎ (status ≡ 9) ⊎ (status ≡ 12) → (status ≡ 8 → HasRisen (store.faults d) (store.faults g)) → (status ≡ 9 → IfSome (store.now d) (λ file. (e : ResumeFault) × IsRefusedFrom words left file e)) →
-        (status ≡ 9 → (store.now g ≡ store.now d) × IfSome (store.now d) (λ _. (c : List ℕ) → store.images g c → store.images d c)) → IsKept store words left status d g
-    kept_late status is failed refused unwritten = record {
+        (status ≡ 9 → IsUnwritten store.now store.moment store.images store.since d g) → (text ≡ Err Saving → status ≡ 8) → IsKept store words left status d g
+    kept_late status is failed refused unwritten was_disk = record {
       unsaved = λ unasked. absurd (unasked save);
       early = λ h. absurd (not_early is h);
       failed = failed;
@@ -286,7 +291,7 @@ module _ (store : Store) (laws : Lawful store.now store.moment store.images stor
       refused = refused;
       refuses = λ bytes file m range e tells told p refusal. late is;
       unwritten = unwritten;
-      lasts = on_lasts _ (λ h. absurd (no_text is h));
+      lasts = on_lasts _ _ (λ h. absurd (no_text is h)) (λ other h. other (was_disk h));
     }
       where
         not_one : (status ≡ 8) ⊎ (status ≡ 9) ⊎ (status ≡ 12) → status ≤ 7 → ⊥
@@ -322,18 +327,24 @@ module _ (store : Store) (laws : Lawful store.now store.moment store.images stor
     refused_here None fault h = tt
     refused_here (Some file) fault h = (fault, record { bytes = by.bytes; all = by.all; holds = (r.resolved.plain, r.common.range, by.holds, h) })
 
+    saving_8 : (failure : Failure) → text ≡ Err failure → text ≡ Err Saving → status_of failure ≡ 8
+    saving_8 failure is other =
+        let both : Err failure ≡ Err Saving = sym is ∙ other in
+        let same : failure ≡ Saving = cc in
+        ap status_of same
+
     pub kept_with_failure : (failure : Failure) → text ≡ Err failure → ((failure ≡ Saving) ⊎ (failure ≡ Memory) ⊎ IsOfClasses failure ⊎ ((fault : ResumeFault) × (failure ≡ SaveFile fault) × IsRefusedFor r.resolved.plain (store.now d) fault)) →
         IsKept store words left (status_of failure) d g
     kept_with_failure failure is (inl h) =
         let status : status_of failure ≡ 8 = ap status_of h in
-        kept_late (status_of failure) (inl status) (λ e. on.failed (is ∙ ap Err h)) (λ e. absurd (omega (arith, status, e))) (λ e. absurd (omega (arith, status, e)))
+        kept_late (status_of failure) (inl status) (λ e. on.failed (is ∙ ap Err h)) (λ e. absurd (omega (arith, status, e))) (λ e. absurd (omega (arith, status, e))) (λ e. status)
     kept_with_failure failure is (inr (inl h)) =
         let status : status_of failure ≡ 12 = ap status_of h in
-        kept_late (status_of failure) (inr (inr status)) (λ e. absurd (omega (arith, status, e))) (λ e. absurd (omega (arith, status, e))) (λ e. absurd (omega (arith, status, e)))
+        kept_late (status_of failure) (inr (inr status)) (λ e. absurd (omega (arith, status, e))) (λ e. absurd (omega (arith, status, e))) (λ e. absurd (omega (arith, status, e))) (saving_8 failure is)
     kept_with_failure failure is (inr (inr (inl h))) = kept_with_answer (status_of failure) (inr (inr (of_classes failure h))) (subst HasAnswer (sym is) h)
     kept_with_failure failure is (inr (inr (inr h))) =
         let status : status_of failure ≡ 9 = ap status_of h.1 in
-        kept_late (status_of failure) (inr (inl status)) (λ e. absurd (omega (arith, status, e))) (λ e. refused_here (store.now d) h.0 h.2) (λ e. on.unwritten h.0 (is ∙ ap Err h.1))
+        kept_late (status_of failure) (inr (inl status)) (λ e. absurd (omega (arith, status, e))) (λ e. refused_here (store.now d) h.0 h.2) (λ e. on.unwritten h.0 (is ∙ ap Err h.1)) (saving_8 failure is)
 
     refusal_cause : (o : Option (List ℕ)) (fault : ResumeFault) → IsRefusedFor r.resolved.plain o fault → IfSome o (λ file. IsRefusedFrom words left file fault)
     refusal_cause None fault h = tt

@@ -1,11 +1,11 @@
 -- What a run leaves to the next one that resolves the same module over the same disk.
-use Rattle.std.specs.Prelude.{◌≡◌, ℕ, ◌⊎◌, List, Option, Some, IsSome}
+use Rattle.std.specs.Prelude.{◌≡◌, ℕ, List, Option, Some, IsSome}
 use Rattle.finite_module.specs.Module.{Module as SteenrodModule}
 use Rattle.edge.specs.Disk.{Only}
 use Rattle.resolution_laws.specs.Start.{Entry}
 use Rattle.square.specs.declared.range.Range.{Range}
 use Rattle.ext_run.specs.Answer.{WordsRead}
-use Rattle.ext_run.specs.Saving.{IsSavedBy, IsOurs, IsUsable, HasSaved}
+use Rattle.ext_run.specs.Saving.{IsSavedBy, IsOurs, MayBeLeft, IsUsable, HasSaved}
 
 -- The words ask for a save file of the module, which they name themselves or the input describes.
 pub record AsksFor (words : List (List ℕ)) (left : Option (List ℕ)) (m : SteenrodModule) : Type 0 where
@@ -13,10 +13,6 @@ pub record AsksFor (words : List (List ℕ)) (left : Option (List ℕ)) (m : Ste
   pub range : Range
   pub reads : WordsRead words → left ≡ Some bytes
   pub saved : IsSavedBy words bytes m range
-
--- Of the disk of a run, old and in the end new, a crash may have left these bytes at some moment of the run, or may leave them now.
-abbrev pub MayBeLeft : {D : Type 0} → (D → ℕ) → (D → List ℕ → Type 0) → (D → ℕ → List ℕ → Type 0) → D → D → List ℕ → Type 0
-MayBeLeft moment images since old new c = since new (moment old) c ⊎ images new c
 
 -- the disk has these bytes, and a crash leaves just them
 pub record IsFoundWith {D : Type 0} (now : D → Option (List ℕ)) (images : D → List ℕ → Type 0) (c : List ℕ) (disk : D) : Type 0 where

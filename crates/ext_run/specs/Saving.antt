@@ -1,5 +1,5 @@
 -- What a run does with its save file.
-use Rattle.std.specs.Prelude.{◌≡◌, ℕ, ◌≤◌, ◌⊎◌, true, List, [], ◌++◌, length, Option, Some, None, IsSome, IfSome, MatchOption, Ok, Err}
+use Rattle.std.specs.Prelude.{◌≡◌, ◌≢◌, ℕ, ◌≤◌, ◌⊎◌, true, List, [], ◌++◌, length, Option, Some, None, IsSome, IfSome, MatchOption, Ok, Err}
 use Rattle.sha2.specs.Sha256.{sha256}
 use Rattle.module_json.specs.ModuleFile.{File, IsFileOf}
 use Rattle.finite_module.specs.Module.{Module as SteenrodModule}
@@ -98,11 +98,30 @@ pub record StandsAmid (m : SteenrodModule) (list given : List Entry) (file : Lis
   pub parts : given ≡ first ++ rest
   pub with_more : StandsWith m (list ++ first) file
 
+-- the file stands for just the list and a first part of the given squares, with no square more
+pub record StandsAtPart (m : SteenrodModule) (list given : List Entry) (file : List ℕ) : Type 0 where
+  pub first : List Entry
+  pub rest : List Entry
+  pub parts : given ≡ first ++ rest
+  pub stands : standing_for m file ≡ Ok (list ++ first)
+
+-- the file stands for what one of these images stands for
+abbrev pub StandsAsOneOf : SteenrodModule → (List ℕ → Type 0) → List ℕ → Type 0
+StandsAsOneOf m images file = (d : List ℕ) × images d × (standing_for m file ≡ standing_for m d)
+
 -- The disk is ours for the list: whatever a crash now leaves of it stands for the list, or it and one square more.
 abbrev pub IsOurs : SteenrodModule → List Entry → (List ℕ → Type 0) → Type 0
 IsOurs m list images = (c : List ℕ) → images c → StandsWith m list c
 
 -- ---- a run
+
+-- Of the disk of a run, old and in the end new, a crash may have left these bytes at some moment of the run, or may leave them now.
+abbrev pub MayBeLeft : {D : Type 0} → (D → ℕ) → (D → List ℕ → Type 0) → (D → ℕ → List ℕ → Type 0) → D → D → List ℕ → Type 0
+MayBeLeft moment images since old new c = since new (moment old) c ⊎ images new c
+
+-- Nothing was written: the disk holds what it held, and where it tells, a crash leaves at each moment what it might have left before.
+abbrev pub IsUnwritten : {D : Type 0} → (D → Option (List ℕ)) → (D → ℕ) → (D → List ℕ → Type 0) → (D → ℕ → List ℕ → Type 0) → D → D → Type 0
+IsUnwritten now moment images since old new = (now new ≡ now old) × IfSome (now old) (λ _. (c : List ℕ) → MayBeLeft moment images since old new c → images old c)
 
 -- the list has each square of the range
 abbrev pub HasRange : Range → List Entry → Type 0
@@ -110,15 +129,19 @@ HasRange range list = (s k : ℕ) → s ≤ range.s → k ≤ range.t → IsSome
 
 -- From old to new the disk of a run, which was ours for the list, kept its squares: the run took up the list, or it and one square
 -- more, and put the given ones behind them. At every moment since it began a crash would have left the list and at most one square
--- more, or what was taken up, a first part of what was given, and at most one square more. In the end it is ours for all of them; and
--- if there was an answer, each image has just these, and each square of the range is among them.
-pub record HasLasted {D : Type 0} (moment : D → ℕ) (images : D → List ℕ → Type 0) (since : D → ℕ → List ℕ → Type 0) (m : SteenrodModule) (range : Range) (list : List Entry) (had_answer : Type 0) (old new : D) : Type 0 where
+-- more, or what was taken up, a first part of what was given, and at most one square more. In the end it is ours for all of them.
+-- Unless it failed, a crash would have left at every moment what one from before the run left, or else just what was taken up and a
+-- first part of what was given; and either nothing was written, or in the end each image has just all of them. That is so if there was
+-- an answer, and then each square of the range is among them.
+pub record HasLasted {D : Type 0} (now : D → Option (List ℕ)) (moment : D → ℕ) (images : D → List ℕ → Type 0) (since : D → ℕ → List ℕ → Type 0) (m : SteenrodModule) (range : Range) (list : List Entry) (had_answer unfailed : Type 0) (old new : D) : Type 0 where
   pub more : List Entry
   pub given : List Entry
   pub at_most_one : length more ≤ 1
   pub canonical : AreCanonical m ((list ++ more) ++ given)
   pub moments : (c : List ℕ) → since new (moment old) c → StandsWith m list c ⊎ StandsAmid m (list ++ more) given c
   pub ours : IsOurs m ((list ++ more) ++ given) (images new)
+  pub keeps : unfailed → (c : List ℕ) → since new (moment old) c → StandsAsOneOf m (images old) c ⊎ StandsAtPart m (list ++ more) given c
+  pub settled : unfailed → ((more ≡ []) × (given ≡ []) × IsUnwritten now moment images since old new) ⊎ ((c : List ℕ) → images new c → standing_for m c ≡ Ok ((list ++ more) ++ given))
   pub exact : had_answer → (c : List ℕ) → images new c → standing_for m c ≡ Ok ((list ++ more) ++ given)
   pub whole : had_answer → HasRange range ((list ++ more) ++ given)
 
@@ -168,7 +191,7 @@ pub record HasSaved {D : Type 0} (now : D → Option (List ℕ)) (moment : D →
   pub refused : status ≡ 9 → IfSome (now old) (λ file. (e : ResumeFault) × IsRefusedFrom words left file e)
   pub refuses : (bytes file : List ℕ) (m : SteenrodModule) (range : Range) (e : ResumeFault) → (WordsRead words → left ≡ Some bytes) → now old ≡ Some file → IsSavedBy words bytes m range → standing_for m file ≡ Err e →
       (status ≡ 9) ⊎ (status ≡ 6) ⊎ (status ≡ 8) ⊎ (status ≡ 12)
-  pub unwritten : status ≡ 9 → (now new ≡ now old) × IfSome (now old) (λ _. (c : List ℕ) → images new c → images old c)
+  pub unwritten : status ≡ 9 → IsUnwritten now moment images since old new
   -- squares last
   pub lasts : (bytes : List ℕ) (m : SteenrodModule) (range : Range) (list : List Entry) → (WordsRead words → left ≡ Some bytes) → IsSome (now old) → IsSavedBy words bytes m range → IsOurs m list (images old) →
-      HasLasted moment images since m range list (IsAnswered status) old new
+      HasLasted now moment images since m range list (IsAnswered status) (status ≢ 8) old new

@@ -1,5 +1,5 @@
 -- What becomes of a task, and of the disk that its save file is on.
-use Rattle.std.specs.Prelude.{◌≡◌, ℕ, ◌≤◌, ◌⊎◌, true, false, List, Option, Some, IsSome, IfSome, Vec, Result, Ok, Err, IfErr, ⊤}
+use Rattle.std.specs.Prelude.{◌≡◌, ◌≢◌, ℕ, ◌≤◌, ◌⊎◌, true, false, List, Option, Some, IsSome, IfSome, Vec, Result, Ok, Err, IfErr, ⊤}
 use Rattle.std.specs.declared.alloc.Global.{Global}
 use Rattle.finite_module.specs.Module.{Module as SteenrodModule}
 use Rattle.edge.specs.Faults.{HasRisen}
@@ -17,7 +17,7 @@ use Rattle.ext_run.specs.declared.task.Task.TheVariants.{Text, Resolution}
 use Rattle.ext_run.specs.declared.task.Resolution.{Resolution as ToResolve}
 use Rattle.ext_run.specs.Answer.{IsOfClasses}
 use Rattle.ext_run.specs.Task.{IsInForm, IsDoneBy}
-use Rattle.ext_run.specs.Saving.{standing_for, IsOurs, HasLasted, HasRange}
+use Rattle.ext_run.specs.Saving.{standing_for, IsOurs, IsUnwritten, HasLasted, HasRange}
 
 -- a text, or why there is none
 abbrev pub Told : Type 0
@@ -39,7 +39,7 @@ pub record HasContinued (range : Range) (form : Form) (table : Staircase) (text 
   pub why : IfErr text (λ e. (e ≡ Saving) ⊎ (e ≡ Memory) ⊎ IsOfClasses e)
   pub failed : text ≡ Err Saving → HasRisen old.faults new.faults
   pub no_fault : HasAnswer text → new.faults ≡ old.faults
-  pub live : HasAnswer text → new.live
+  pub live : text ≢ Err Saving → new.live
   pub whole : HasAnswer text → IfSome new.kept (HasRange range)
   pub given : List Entry
   pub kept : HasKept (over table.resolved) table.start old new given
@@ -62,8 +62,8 @@ pub record HasKeptOn {D : Type 0} (now : D → Option (List ℕ)) (moment : D �
   pub no_fault : HasAnswer text → faults new ≡ faults old
   pub never_falls : faults old ≤ faults new
   pub accepted : HasAnswer text → (file : List ℕ) → now old ≡ Some file → (list : List Entry) × (standing_for r.resolved.plain file ≡ Ok list)
-  pub unwritten : (fault : ResumeFault) → text ≡ Err (SaveFile fault) → (now new ≡ now old) × IfSome (now old) (λ _. (c : List ℕ) → images new c → images old c)
-  pub lasts : IsSome (now old) → (list : List Entry) → IsOurs r.resolved.plain list (images old) → HasLasted moment images since r.resolved.plain r.common.range list (HasAnswer text) old new
+  pub unwritten : (fault : ResumeFault) → text ≡ Err (SaveFile fault) → IsUnwritten now moment images since old new
+  pub lasts : IsSome (now old) → (list : List Entry) → IsOurs r.resolved.plain list (images old) → HasLasted now moment images since r.resolved.plain r.common.range list (HasAnswer text) (text ≢ Err Saving) old new
 
 -- what became of the task and of the disk
 abbrev pub HasWorked : {D : Type 0} → (D → Option (List ℕ)) → (D → ℕ) → (D → List ℕ → Type 0) → (D → ℕ → List ℕ → Type 0) → (D → ℕ) → Task → Told → D → D → Type 0
