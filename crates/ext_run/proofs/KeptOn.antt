@@ -171,12 +171,15 @@ module _ {D : Type 0} (now : D → Option (List ℕ)) (moment : D → ℕ) (imag
     not_disk (refusal e no_disk no_room) f h = no_disk
 
     not_written : fault ≢ Open DiskFailed → IsUnwritten now moment images since disk d
-    not_written no = unwritten_since now moment images since faults laws disk d (same no) (unwritten no)
+    not_written other = unwritten_since now moment images since faults laws disk d (same other) (unwritten other)
 
-    no_failure : Err (resume_failure fault) ≢ Err Saving → fault ≢ Open DiskFailed
+    abbrev untold : Told
+    untold = Err (resume_failure fault)
+
+    no_failure : untold ≢ Err Saving → fault ≢ Open DiskFailed
     no_failure other is = other (ap (λ (f : ResumeFault). Err (resume_failure f)) is)
 
-    pub not_taken_up : HasKeptOn now moment images since faults r (Err (resume_failure fault)) disk d
+    pub not_taken_up : HasKeptOn now moment images since faults r untold disk d
     not_taken_up = record {
       told = λ has. absurd (no_answer (kind_of fault) has);
       why = why_not (kind_of fault);
