@@ -130,9 +130,10 @@ HasRange range list = (s k : ℕ) → s ≤ range.s → k ≤ range.t → IsSome
 -- From old to new the disk of a run, which was ours for the list, kept its squares: the run took up the list, or it and one square
 -- more, and put the given ones behind them. At every moment since it began a crash would have left the list and at most one square
 -- more, or what was taken up, a first part of what was given, and at most one square more. In the end it is ours for all of them.
--- Unless it failed, a crash would have left at every moment what one from before the run left, or else just what was taken up and a
--- first part of what was given; and either nothing was written, or in the end each image has just all of them. That is so if there was
--- an answer, and then each square of the range is among them.
+--
+-- Unless the disk failed, there is no square more: at every moment an image stands for what one from before the run stood for, or for
+-- just what was taken up and a first part of what was given; and in the end each image has just all of them, or nothing was written. If
+-- there was an answer, each has just all of them, and each square of the range is among them.
 pub record HasLasted {D : Type 0} (now : D → Option (List ℕ)) (moment : D → ℕ) (images : D → List ℕ → Type 0) (since : D → ℕ → List ℕ → Type 0) (m : SteenrodModule) (range : Range) (list : List Entry) (had_answer unfailed : Type 0) (old new : D) : Type 0 where
   pub more : List Entry
   pub given : List Entry
