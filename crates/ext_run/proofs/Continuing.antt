@@ -112,9 +112,9 @@ not_continued range form table e old new given why failed lives kept = record {
   failed = λ is. failed (cc);
   no_fault = λ has. absurd (no_answer e why has);
   live = λ unfailed. elim why [
-      | inl saving ↦ absurd (unfailed (ap Err saving))
-      | inr memory ↦ lives memory
-    ];
+    | inl saving ↦ absurd (unfailed (ap Err saving))
+    | inr memory ↦ lives memory
+  ];
   whole = λ has. absurd (no_answer e why has);
   given = given;
   kept = kept;

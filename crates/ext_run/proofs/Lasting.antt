@@ -124,17 +124,22 @@ module _ {D : Type 0} (now : D → Option (List ℕ)) (moment : D → ℕ) (imag
 
   -- what was left since the beginning, and what is left now, was left before it
   pub unwritten_since : (old new : D) → now new ≡ now old → IfSome (now old) (λ _. LeavesOnly moment since old new (images old)) → IsUnwritten now moment images since old new
-  unwritten_since old new same was =
-      (same, where_some (now old) (LeavesOnly moment since old new (images old)) ((c : List ℕ) → MayBeLeft moment images since old new c → images old c) (λ leaves c may. elim may [
-        | inl left ↦ leaves.each c left
-        | inr image ↦ leaves.each c (laws.since_earlier new (moment old) (moment new) c leaves.later (laws.counts_now new c image))
-      ]) was)
+  unwritten_since old new same was = (
+    same,
+    where_some (now old) (LeavesOnly moment since old new (images old)) ((c : List ℕ) → MayBeLeft moment images since old new c → images old c) (λ leaves c may. elim may [
+      | inl left ↦ leaves.each c left
+      | inr image ↦ leaves.each c (laws.since_earlier new (moment old) (moment new) c leaves.later (laws.counts_now new c image))
+    ]) was,
+  )
 
   pub unwritten_same : (d : D) → IsUnwritten now moment images since d d
-  unwritten_same d = (refl, if_some (now d) ((c : List ℕ) → MayBeLeft moment images since d d c → images d c) (λ c may. elim may [
-    | inl left ↦ laws.only_now d c left
-    | inr image ↦ image
-  ]))
+  unwritten_same d = (
+    refl,
+    if_some (now d) ((c : List ℕ) → MayBeLeft moment images since d d c → images d c) (λ c may. elim may [
+      | inl left ↦ laws.only_now d c left
+      | inr image ↦ image
+    ]),
+  )
 
   module _ (m : Checked) (range : Range) (list more given : List Entry) (had_answer unfailed : Type 0) (disk : D) (k after : SaveState D)
       (at_most_one : length more ≤ 1) (canonical : AreCanonical m.plain (list ++ more)) (ours : IsOurs m.plain list (images disk)) (resolved : k.resolved ≡ m) (kept_is : kept_in now k ≡ Some (list ++ more))
