@@ -6,11 +6,11 @@ ghost use Rattle.edge.specs.Faults.{HasRisen};
 
 use crate::faults::Failed;
 
-/// A file of bytes, at most 2^63 - 1 of them. An image is what a crash may leave of it.
+/// A file of bytes, at most 2^63 - 1 of them. An image is a file that one may find in its place after a crash.
 ///
-/// Between two syncs each range that was written, and the part past the old end, may hold any bytes in an image, and the
-/// image may be of any length between the old and the new; the bytes elsewhere stay. After a sync that succeeds a crash
-/// leaves what a read gives. What a read gives is always an image.
+/// What was written since the last sync is not settled yet: an image may have anything there and behind the old end, and may
+/// end wherever lies from the old end to the new. All other bytes are in every image as they are. A sync that succeeds settles
+/// everything: from then until the next write the file, as a read gives it, is the only image. It is one at any time.
 ///
 /// A disk that tells nothing of its bytes has contracts on faults, lengths and moments alone; whether it tells them never
 /// changes.
