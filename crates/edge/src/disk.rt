@@ -31,6 +31,9 @@ pub trait Disk {
     ghost faults: { Self → ℕ };
 
     /// How many bytes there are.
+    ///
+    /// # Errors
+    /// `Failed` if the disk failed.
     fn len(&mut self) -> Result<u64, Failed>
         ensures len { IfOk result (λ n. IfSome (now self.old) (λ file. n ≡ length file)) }
         ensures limit { IfOk result (λ n. n < 2 ^ 63) }
@@ -41,7 +44,10 @@ pub trait Disk {
         ensures no_fault { OnOk result (faults self.new ≡ faults self.old) }
         ensures cause { OnErr result (HasRisen (faults self.old) (faults self.new)) };
 
-    /// Fills `into` with the bytes from `at` on. What it holds after an error is open.
+    /// Fills `into` with the bytes from `at` on.
+    ///
+    /// # Errors
+    /// `Failed` if the disk failed. What `into` holds then is open.
     fn read(&mut self, at: u64, into: &mut [u8]) -> Result<(), Failed>
         requires within { IfSome (now self.old) (λ file. at + length into.old ≤ length file) }
         ensures read { OnOk result (IfSome (now self.old) (λ file. into.new ≡ take (length into.old) (drop at file))) }
@@ -52,8 +58,10 @@ pub trait Disk {
         ensures no_fault { OnOk result (faults self.new ≡ faults self.old) }
         ensures cause { OnErr result (HasRisen (faults self.old) (faults self.new)) };
 
-    /// Writes the bytes from `at` on, over what is there and past the end. A write that would pass the greatest length fails.
-    /// One that fails may have written any part of its range.
+    /// Writes the bytes from `at` on, over what is there and past the end.
+    ///
+    /// # Errors
+    /// `Failed` if the disk failed, as where the greatest length would be passed. Any part of the range may be written then.
     fn write_at(&mut self, at: u64, bytes: &[u8]) -> Result<(), Failed>
         requires within { IfSome (now self.old) (λ file. at ≤ length file) }
         ensures written { OnOk result (now self.new ≡ option_map (written at bytes.now) (now self.old)) }
@@ -65,7 +73,10 @@ pub trait Disk {
         ensures no_fault { OnOk result (faults self.new ≡ faults self.old) }
         ensures cause { OnErr result (HasRisen (faults self.old) (faults self.new)) };
 
-    /// Waits until what was written is kept: after it, a crash leaves what a read gives. One that fails adds no image.
+    /// Waits until what was written is kept: after it, a crash leaves what a read gives.
+    ///
+    /// # Errors
+    /// `Failed` if the disk failed. No image is added then.
     fn sync(&mut self) -> Result<(), Failed>
         ensures durable { OnOk result (IfSome (now self.old) (λ file. Only file (images self.new))) }
         ensures same { now self.new ≡ now self.old }
