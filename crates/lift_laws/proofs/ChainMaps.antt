@@ -1,5 +1,6 @@
 -- A lift commutes with d on all vectors; with fewer rows it is still one.
 use Rattle.std.proofs.Common.{◌≡◌, ℕ, suc, ◌+◌, ◌<◌, ◌≤◌, ℤ, ◌-ℤ◌, ◌≤ℤ◌, Bool, List, refl, sym, subst, ◌∙◌, arith}
+use Rattle.std.proofs.lemmas.Int.{ints}
 use Rattle.resolution_laws.proofs.Squares.{AreImages-all}
 use Rattle.lift_laws.specs.Maps.{shifted, extended, FitThrough}
 use Rattle.lift_laws.specs.Lifts.{Resolution, gens, degree, free, image, d, lowered, IsLift, HasImages, LiftsAreChainMaps, CanonicalTablesHaveImages}
