@@ -31,7 +31,7 @@ records_before digest bodies width (Some file) p e is =
 same_bodies : (xs ys : List (List ℕ)) (r : Records) → r ≡ Ok xs → r ≡ Ok ys → xs ≡ ys
 same_bodies xs ys r e f = cc
 
-kept_file : (digest file : List ℕ) (bodies : List (List ℕ)) → records_of digest file ≡ Ok bodies → (bodies ≡ [] → ⊥) → opened digest file ≡ file
+pub kept_file : (digest file : List ℕ) (bodies : List (List ℕ)) → records_of digest file ≡ Ok bodies → (bodies ≡ [] → ⊥) → opened digest file ≡ file
 kept_file digest file bodies is some = elim (cases_lt (length file) 42) [
   | inl few ↦ absurd (some (same_bodies bodies [] (records_of digest file) is (records_few digest file (omega arith))))
   | inr many ↦ opened_many digest file (omega arith)

@@ -39,7 +39,8 @@ impl<D: Disk> Journal<D> {
     /// written anew, unless it is what it would be then; a longer one is left as it is.
     ///
     /// # Errors
-    /// Each comes with the disk. `Failed` if it failed, `Memory` if allocation fails, and otherwise the refusal of the file.
+    /// Each comes with the disk, on which a refusal writes nothing. `Failed` if the disk failed, `Memory` if allocation fails, and
+    /// otherwise the refusal of the file.
     pub fn open(
         alloc: Global,
         disk: D,
@@ -52,7 +53,8 @@ impl<D: Disk> Journal<D> {
         ensures file { IfOk result (λ r. D.now r.0.disk ≡ option_map (opened digest) (D.now disk)) }
         ensures refused { IfErr result (λ e. (e.0 ≡ DiskFailed) ⊎ (e.0 ≡ WantOfMemory) ⊎ IfSome (D.now disk) (λ file. records_of digest file ≡ Err e.0)) }
         ensures same { IfErr result (λ e. e.0 ≢ DiskFailed → D.now e.1 ≡ D.now disk) }
-        ensures unwritten { IfErr result (λ e. e.0 ≢ DiskFailed → (c : List ℕ) → D.images e.1 c → D.images disk c) }
+        ensures unwritten { IfErr result (λ e. e.0 ≢ DiskFailed → LeavesOnly D.moment D.since disk e.1 (D.images disk)) }
+        ensures left_alone { IfOk result (λ r. IfSome (D.now disk) (λ file. opened digest file ≡ file → LeavesOnly D.moment D.since disk r.0.disk (D.images disk))) }
         ensures time { MatchResult result (λ r. LeavesOnly D.moment D.since disk r.0.disk (λ _. Unit {0})) (λ e. LeavesOnly D.moment D.since disk e.1 (λ _. Unit {0})) }
         ensures any_moment { IfSome (D.now disk) (λ _. MatchResult result (λ r. LeavesOnly D.moment D.since disk r.0.disk (HasRecordsOf digest (D.images disk))) (λ e. LeavesOnly D.moment D.since disk e.1 (HasRecordsOf digest (D.images disk)))) }
         ensures no_fault { IfOk result (λ r. D.faults r.0.disk ≡ D.faults disk) }

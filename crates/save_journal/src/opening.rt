@@ -26,7 +26,8 @@ pub fn open_on<D: Disk>(
     ensures file { OnOk result (D.now disk.new ≡ option_map (opened digest.now) (D.now disk.old)) }
     ensures refused { IfErr result (λ e. (e ≡ DiskFailed) ⊎ (e ≡ WantOfMemory) ⊎ IfSome (D.now disk.old) (λ file. records_of digest.now file ≡ Err e)) }
     ensures same { IfErr result (λ e. e ≢ DiskFailed → D.now disk.new ≡ D.now disk.old) }
-    ensures unwritten { IfErr result (λ e. e ≢ DiskFailed → (c : List ℕ) → D.images disk.new c → D.images disk.old c) }
+    ensures unwritten { IfErr result (λ e. e ≢ DiskFailed → LeavesOnly D.moment D.since disk.old disk.new (D.images disk.old)) }
+    ensures left_alone { OnOk result (IfSome (D.now disk.old) (λ file. opened digest.now file ≡ file → LeavesOnly D.moment D.since disk.old disk.new (D.images disk.old))) }
     ensures time { LeavesOnly D.moment D.since disk.old disk.new (λ _. Unit {0}) }
     ensures any_moment { IfSome (D.now disk.old) (λ _. LeavesOnly D.moment D.since disk.old disk.new (HasRecordsOf digest.now (D.images disk.old))) }
     ensures never_fall { D.faults disk.old ≤ D.faults disk.new }
