@@ -10,9 +10,9 @@ pub fn adem_relations()
     ensures binomials { AdemBinomials }
 {}
 
-/// The values of the admissible monomials of a degree are a basis: each is an element of Milnor's basis and a sum of elements
-/// that stand before it, another one for each monomial. So each vector is the sum of the values of exactly one set of
-/// admissible monomials, which is one list if the greater stand first.
+/// In each degree the values of the admissible monomials form a basis: each is an element of Milnor's basis and a sum of elements
+/// that stand before it, another one for each monomial. So there is one way to write a vector as a sum of such values, and one
+/// list of the monomials in it if the greater stand first.
 pub fn admissible_basis()
     ensures members { AdmissiblesAre }
     ensures leading { ValuesLead }

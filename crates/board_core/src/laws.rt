@@ -48,7 +48,7 @@ pub fn some_square_is_ready()
     ensures { SomeSquareIsReady }
 {}
 
-/// A history without Back, Fail and Stop that has twice as many events as there were unfinished squares leaves none unfinished.
+/// Two events for each unfinished square finish the board, if no Back, Fail or Stop is among them.
 pub fn board_is_finished()
     ensures { BoardIsFinished }
 {}

@@ -16,7 +16,7 @@ use Rattle.module_check.specs.declared.fault.CheckFault.{CheckFault}
 abbrev pub with_operators : File → List (List (List Bool)) → Module
 with_operators f operators = record { generators = f.generators; operators = operators }
 
--- Sq^n, n a power of two, acts as listed, and as zero where it is not listed
+-- the operators of Sq^1, Sq^2, Sq^4, .. are those of the file's entries, and zero on a generator for which there is none
 abbrev pub ActsAsListed : File → List (List (List Bool)) → Type 0
 ActsAsListed f operators = (n i : ℕ) → is_power_of_two n ≡ true → i < length f.generators → value f.generators operators (n ∷ []) i ≡ sum_vector f.generators (listed_sum f.entries n i) (degree_at f.generators i +ℤ pos n)
 

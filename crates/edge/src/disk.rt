@@ -6,11 +6,11 @@ ghost use Rattle.edge.specs.Faults.{HasRisen};
 
 use crate::faults::Failed;
 
-/// A file of bytes, at most 2^63 - 1 of them. An image is what a crash may leave of it.
+/// A file of bytes, at most 2^63 - 1 of them. An image is a file that one may find in its place after a crash.
 ///
-/// Between two syncs each range that was written, and the part past the old end, may hold any bytes in an image, and the
-/// image may be of any length between the old and the new; the bytes elsewhere stay. After a sync that succeeds a crash
-/// leaves what a read gives. What a read gives is always an image.
+/// What was written since the last sync is not settled yet: an image may have anything there and behind the old end, and may
+/// end wherever lies from the old end to the new. All other bytes are in every image as they are. A sync that succeeds settles
+/// everything: from then until the next write the file, as a read gives it, is the only image. It is one at any time.
 ///
 /// A disk that tells nothing of its bytes has contracts on faults, lengths and moments alone; whether it tells them never
 /// changes.
@@ -31,6 +31,9 @@ pub trait Disk {
     ghost faults: { Self → ℕ };
 
     /// How many bytes there are.
+    ///
+    /// # Errors
+    /// `Failed` if the disk failed.
     fn len(&mut self) -> Result<u64, Failed>
         ensures len { IfOk result (λ n. IfSome (now self.old) (λ file. n ≡ length file)) }
         ensures limit { IfOk result (λ n. n < 2 ^ 63) }
@@ -41,7 +44,10 @@ pub trait Disk {
         ensures no_fault { OnOk result (faults self.new ≡ faults self.old) }
         ensures cause { OnErr result (HasRisen (faults self.old) (faults self.new)) };
 
-    /// Fills `into` with the bytes from `at` on. What it holds after an error is open.
+    /// Fills `into` with the bytes from `at` on.
+    ///
+    /// # Errors
+    /// `Failed` if the disk failed. What `into` holds then is open.
     fn read(&mut self, at: u64, into: &mut [u8]) -> Result<(), Failed>
         requires within { IfSome (now self.old) (λ file. at + length into.old ≤ length file) }
         ensures read { OnOk result (IfSome (now self.old) (λ file. into.new ≡ take (length into.old) (drop at file))) }
@@ -52,8 +58,10 @@ pub trait Disk {
         ensures no_fault { OnOk result (faults self.new ≡ faults self.old) }
         ensures cause { OnErr result (HasRisen (faults self.old) (faults self.new)) };
 
-    /// Writes the bytes from `at` on, over what is there and past the end. A write that would pass the greatest length fails.
-    /// One that fails may have written any part of its range.
+    /// Writes the bytes from `at` on, over what is there and past the end.
+    ///
+    /// # Errors
+    /// `Failed` if the disk failed, as where the greatest length would be passed. Any part of the range may be written then.
     fn write_at(&mut self, at: u64, bytes: &[u8]) -> Result<(), Failed>
         requires within { IfSome (now self.old) (λ file. at ≤ length file) }
         ensures written { OnOk result (now self.new ≡ option_map (written at bytes.now) (now self.old)) }
@@ -65,7 +73,10 @@ pub trait Disk {
         ensures no_fault { OnOk result (faults self.new ≡ faults self.old) }
         ensures cause { OnErr result (HasRisen (faults self.old) (faults self.new)) };
 
-    /// Waits until what was written is kept: after it, a crash leaves what a read gives. One that fails adds no image.
+    /// Waits until what was written is kept: after it, a crash leaves what a read gives.
+    ///
+    /// # Errors
+    /// `Failed` if the disk failed. No image is added then.
     fn sync(&mut self) -> Result<(), Failed>
         ensures durable { OnOk result (IfSome (now self.old) (λ file. Only file (images self.new))) }
         ensures same { now self.new ≡ now self.old }

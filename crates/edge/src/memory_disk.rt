@@ -168,8 +168,8 @@ impl MemDisk {
         }
     }
 
-    /// One of the images now: 0 picks the bytes of the last sync, 1 all as written, and another number those with it added,
-    /// mod 256, to each byte at a place that was written since that sync.
+    /// One of the images now: for 0 the file as it was last synced, for 1 the file as it has been written since, and for any other
+    /// number the latter, where each byte that is not settled is greater by that number, mod 256.
     ///
     /// # Errors
     /// `Memory` where there is none for it.

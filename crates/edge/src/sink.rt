@@ -16,7 +16,10 @@ pub trait Sink {
     /// How often it has failed.
     ghost faults: { Self → ℕ };
 
-    /// Takes some first bytes of `bytes`, at least one, and answers how many. After an error it has taken none.
+    /// Takes some first bytes of `bytes`, at least one, and answers how many.
+    ///
+    /// # Errors
+    /// `Failed` if the sink failed. It has taken none of them then.
     fn write(&mut self, bytes: &[u8]) -> Result<usize, Failed>
         requires { 0 < length bytes.now }
         ensures count { IfOk result (λ n. (0 < n) × (n ≤ length bytes.now)) }

@@ -17,7 +17,10 @@ pub trait Source {
     ghost faults: { Self → ℕ };
 
     /// Moves some first bytes of what is left to the beginning of `into`, and answers how many: 0 only at the end.
-    /// What `into` holds behind them, or after an error, is open. After an error nothing has been moved.
+    /// What `into` holds behind them is open.
+    ///
+    /// # Errors
+    /// `Failed` if the source failed. Nothing has been moved then, and what `into` holds is open.
     fn read(&mut self, into: &mut [u8]) -> Result<usize, Failed>
         requires { 0 < length into.old }
         ensures count { IfOk result (λ n. n ≤ length into.old) }

@@ -40,6 +40,9 @@ impl<'a, T: Target> Hom<'a, T> {
     }
 
     /// The matrix of the map in degree `t`: its row i is the image of basis element i.
+    ///
+    /// # Errors
+    /// `Memory` if allocation fails.
     pub fn matrix(&self, alloc: Global, t: i32) -> Result<Matrix, Memory>
         requires source { IsWithinReach self.now.basis.now self.now.source.now t }
         requires target { T.reaches self.now.target.now self.now.basis.now t }
@@ -58,6 +61,9 @@ impl<'a, T: Target> Hom<'a, T> {
     }
 
     /// The map on `v`, a vector of degree `t`.
+    ///
+    /// # Errors
+    /// `Memory` if allocation fails.
     pub fn apply(&self, alloc: Global, t: i32, v: &BitVec) -> Result<BitVec, Memory>
         requires width { length v.now ≡ free_width self.now.source.now t }
         requires source { IsWithinReach self.now.basis.now self.now.source.now t }

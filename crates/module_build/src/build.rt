@@ -17,6 +17,10 @@ use memory::Memory;
 use std::alloc::Global;
 
 /// The module with all degrees raised by `n`.
+///
+/// # Errors
+/// `Limit` with the first limit that the module would pass: generators, a degree, or the span of degrees. `Memory` if
+/// allocation fails.
 pub fn shift(alloc: Global, given: &Module, n: i32) -> Result<Module, BuildFault>
     ensures module { IfOk result (λ made. made.plain ≡ shift_module numbered_name n given.now.plain) }
     ensures within { OnOk result (limit_passed (shift_module numbered_name n given.now.plain).generators ≡ None) }
@@ -26,6 +30,10 @@ pub fn shift(alloc: Global, given: &Module, n: i32) -> Result<Module, BuildFault
 }
 
 /// The sum of two modules.
+///
+/// # Errors
+/// `Limit` with the first limit that the module would pass: generators, a degree, or the span of degrees. `Memory` if
+/// allocation fails.
 pub fn sum(alloc: Global, left: &Module, right: &Module) -> Result<Module, BuildFault>
     ensures module { IfOk result (λ made. made.plain ≡ sum_module numbered_name left.now.plain right.now.plain) }
     ensures within { OnOk result (limit_passed (sum_module numbered_name left.now.plain right.now.plain).generators ≡ None) }
@@ -35,6 +43,10 @@ pub fn sum(alloc: Global, left: &Module, right: &Module) -> Result<Module, Build
 }
 
 /// The tensor product of two modules.
+///
+/// # Errors
+/// `Limit` with the first limit that the module would pass: generators, a degree, or the span of degrees. `Memory` if
+/// allocation fails.
 pub fn tensor(alloc: Global, left: &Module, right: &Module) -> Result<Module, BuildFault>
     ensures module { IfOk result (λ made. made.plain ≡ tensor_module numbered_name left.now.plain right.now.plain) }
     ensures within { OnOk result (limit_passed (tensor_module numbered_name left.now.plain right.now.plain).generators ≡ None) }
@@ -44,6 +56,10 @@ pub fn tensor(alloc: Global, left: &Module, right: &Module) -> Result<Module, Bu
 }
 
 /// The dual of a module.
+///
+/// # Errors
+/// `Limit` with the first limit that the module would pass: generators, a degree, or the span of degrees. `Memory` if
+/// allocation fails.
 pub fn dual(alloc: Global, given: &Module) -> Result<Module, BuildFault>
     ensures module { IfOk result (λ made. made.plain ≡ dual_module numbered_name given.now.plain) }
     ensures within { OnOk result (limit_passed (dual_module numbered_name given.now.plain).generators ≡ None) }

@@ -14,6 +14,9 @@ use std::alloc::Global;
 const POWERS: [u16; 7] = [1, 2, 4, 8, 16, 32, 64];
 
 /// The module file that describes a module: its generators, and the squares Sq^n, n a power of two, that are not zero, in one line.
+///
+/// # Errors
+/// `Memory` if allocation fails.
 pub fn file_text(alloc: Global, given: &Module) -> Result<Vec<u8>, Memory>
     ensures { IfOk result (λ text. text.items ≡ file_text given.now.plain) }
 {

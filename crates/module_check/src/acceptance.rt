@@ -12,8 +12,11 @@ use memory::Memory;
 use module_json::Spec;
 use std::alloc::Global;
 
-/// The module that a file describes, with each Sq(R) derived from the squares that the file lists. It describes none
-/// where an entry differs from its derived value, or else a relation fails; the first of these is the fault.
+/// The module that a file describes, with each Sq(R) derived from the squares that the file lists.
+///
+/// # Errors
+/// The first reason why it describes none: `Listed` for an entry that differs from its derived value, or else `Relation` for a
+/// relation that fails. `Memory` if allocation fails.
 pub fn check(alloc: Global, spec: &Spec) -> Result<Module, CheckFault>
     ensures module { IfOk result (λ m. m.plain ≡ derived_module spec.now) }
     ensures accepted { OnOk result (refusal_of spec.now ≡ None) }

@@ -7,7 +7,7 @@ use Rattle.std.proofs.lemmas.Option.{IfSome_then}
 use Rattle.resolution_laws.specs.Resolution.{Module}
 use Rattle.resolution_laws.specs.Start.{Entry, IsOf, AreOf}
 use Rattle.square.specs.Squares.{Placed, entry_of}
-use Rattle.square.specs.Keeping.{Keeper, with_squares, IsImageBetween, IsImageWith, IsImageAmid, HasKept}
+use Rattle.square.specs.Keeping.{Keeper, with_squares, IsImageBetween, IsImageWith, IsImageAmid, IsImagePart, HasKept}
 
 -- ---- options
 
@@ -69,6 +69,30 @@ module _ (m : Module) (start : List Entry) where
     with_more = subst (λ (x : List Entry). IsImageWith m start x image) (append_assoc list given p.first) p.with_more;
   }
 
+-- images that have no square more
+
+part_none : (list given : List Entry) (image : Option (List Entry)) → image ≡ Some list → IsImagePart list given image
+part_none list given image e = record { first = []; rest = given; parts = refl; is = e ∙ ap (λ (x : List Entry). Some x) (sym (append-nil list)) }
+
+part_all : (list given : List Entry) (image : Option (List Entry)) → image ≡ Some (list ++ given) → IsImagePart list given image
+part_all list given image e = record { first = given; rest = []; parts = sym (append-nil given); is = e }
+
+part_earlier : (list given more : List Entry) (image : Option (List Entry)) → IsImagePart list given image → IsImagePart list (given ++ more) image
+part_earlier list given more image p = record {
+  first = p.first;
+  rest = p.rest ++ more;
+  parts = ap (λ (x : List Entry). x ++ more) p.parts ∙ append_assoc p.first p.rest more;
+  is = p.is;
+}
+
+part_later : (list given more : List Entry) (image : Option (List Entry)) → IsImagePart (list ++ given) more image → IsImagePart list (given ++ more) image
+part_later list given more image p = record {
+  first = given ++ p.first;
+  rest = p.rest;
+  parts = ap (λ (x : List Entry). given ++ x) p.parts ∙ sym (append_assoc given p.first p.rest);
+  is = p.is ∙ ap (λ (x : List Entry). Some x) (append_assoc list given p.first);
+}
+
 -- ---- a keeper to which nothing was given
 
 -- images of a live keeper now are what is kept, and images since a moment are images since each earlier one
@@ -84,8 +108,10 @@ HasKept-none m start keeper settled = record {
   same_start = refl;
   never_fall = omega arith;
   later = omega arith;
+  was_live = λ live. live;
   since = IfSome_then keeper.kept settled.images (λ list h image s. amid_none m start list [] image (with_none m start list image (h image s)));
   now = IfSome_then keeper.kept settled.images (λ list h image s. same_list m start list image (with_none m start list image (h image s)));
+  exact = λ _. IfSome_then keeper.kept settled.images (λ list h image s. part_none list [] image (h image s));
   earlier = IfSome_then keeper.kept settled.images (λ list _ m image l. (λ x. inl x, λ x. elim x [ inl y ↦ y | inr y ↦ settled.earlier m keeper.moment image l y ]));
 }
 
@@ -100,9 +126,15 @@ pub record HasTried (old new : Keeper) (q : Placed) : Type 0 where
   pub between : IfSome old.kept (λ list. (image : Option (List Entry)) → new.since old.moment image → IsImageBetween list q image)
   pub earlier : IfSome old.kept (λ list. (m : ℕ) (image : Option (List Entry)) → m ≤ old.moment → new.since m image ↔ (old.since m image ⊎ new.since old.moment image))
 
--- it was not kept
-pub HasKept-tried : (m : Module) (start : List Entry) (old new : Keeper) (q : Placed) → IsOf m start q.s q.above q.content → HasTried old new q → new.kept ≡ old.kept → ((m n : ℕ) (image : Option (List Entry)) → m ≤ n → new.since n image → new.since m image) → HasKept m start old new []
-HasKept-tried m start old new q is_of tried kept antitone =
+-- it was not kept: a keeper that is live nevertheless has the images that it had
+abbrev pub IsUnmoved : Keeper → Keeper → Type 0
+IsUnmoved old new = new.live → IfSome old.kept (λ list. (image : Option (List Entry)) → new.since old.moment image → image ≡ Some list)
+
+pub IsUnmoved-same : {K : Type 0} (telling : K → Keeper) (old new : K) → IfSome (telling old).kept (λ list. (image : Option (List Entry)) → (telling old).since (telling old).moment image → image ≡ Some list) → new ≡ old → IsUnmoved (telling old) (telling new)
+IsUnmoved-same telling old new images same _ = subst (λ k. IfSome (telling old).kept (λ list. (image : Option (List Entry)) → (telling k).since (telling old).moment image → image ≡ Some list)) (sym same) images
+
+pub HasKept-tried : (m : Module) (start : List Entry) (old new : Keeper) (q : Placed) → IsOf m start q.s q.above q.content → HasTried old new q → old.live → new.kept ≡ old.kept → IsUnmoved old new → ((m n : ℕ) (image : Option (List Entry)) → m ≤ n → new.since n image → new.since m image) → HasKept m start old new []
+HasKept-tried m start old new q is_of tried live kept unmoved antitone =
     let images : IfSome old.kept (λ list. (image : Option (List Entry)) → new.since old.moment image → IsImageWith m start list image) =
     IfSome_then old.kept tried.between (λ list h image s. elim (h image s) [ inl e ↦ with_none m start list image e | inr e ↦ with_one m start list image (entry_of q) is_of e ]) in
     record {
@@ -112,14 +144,16 @@ HasKept-tried m start old new q is_of tried kept antitone =
       same_start = tried.same_start;
       never_fall = tried.never_fall;
       later = tried.later;
+      was_live = λ _. live;
       since = IfSome_then old.kept images (λ list h image s. amid_none m start list [] image (h image s));
       now = IfSome_then old.kept images (λ list h image s. same_list m start list image (h image (antitone old.moment new.moment image tried.later s)));
+      exact = λ still. IfSome_then old.kept (unmoved still) (λ list h image s. part_none list [] image (h image s));
       earlier = tried.earlier;
     }
 
 -- it was kept
-pub HasKept-one : (m : Module) (start : List Entry) (old new : Keeper) (q : Placed) → IsOf m start q.s q.above q.content → HasTried old new q → new.kept ≡ with_squares old.kept (entry_of q ∷ []) → IsSettled new → HasKept m start old new (entry_of q ∷ [])
-HasKept-one m start old new q is_of tried put settled =
+pub HasKept-one : (m : Module) (start : List Entry) (old new : Keeper) (q : Placed) → IsOf m start q.s q.above q.content → HasTried old new q → old.live → new.kept ≡ with_squares old.kept (entry_of q ∷ []) → IsSettled new → HasKept m start old new (entry_of q ∷ [])
+HasKept-one m start old new q is_of tried live put settled =
     let I : List Entry → Type 0 = λ list. (image : Option (List Entry)) → new.since new.moment image → image ≡ Some list in
     let P : Option (List Entry) → Type 0 = λ o. IfSome o I in
     let now : IfSome old.kept (λ list. I (list ++ entry_of q ∷ [])) = mapped old.kept (λ list. list ++ entry_of q ∷ []) I (subst P put settled.images) in
@@ -130,11 +164,16 @@ HasKept-one m start old new q is_of tried put settled =
       same_start = tried.same_start;
       never_fall = tried.never_fall;
       later = tried.later;
+      was_live = λ _. live;
       since = IfSome_then old.kept tried.between (λ list h image s. elim (h image s) [
         | inl e ↦ amid_none m start list (entry_of q ∷ []) image (with_none m start list image e)
         | inr e ↦ amid_all m start list (entry_of q ∷ []) image e
       ]);
       now = IfSome_then old.kept now (λ list h image s. with_none m start (list ++ entry_of q ∷ []) image (h image s));
+      exact = λ _. IfSome_then old.kept tried.between (λ list h image s. elim (h image s) [
+        | inl e ↦ part_none list (entry_of q ∷ []) image e
+        | inr e ↦ part_all list (entry_of q ∷ []) image e
+      ]);
       earlier = tried.earlier;
     }
 
@@ -146,6 +185,8 @@ HasKept-then m start old mid new a b p q =
     let since : IfSome old.kept (λ list. S (list ++ a)) = mapped old.kept (λ list. list ++ a) S (subst (λ o. IfSome o S) p.kept q.since) in
     let N : List Entry → Type 0 = λ list. (image : Option (List Entry)) → new.since new.moment image → IsImageWith m start (list ++ b) image in
     let now : IfSome old.kept (λ list. N (list ++ a)) = mapped old.kept (λ list. list ++ a) N (subst (λ o. IfSome o N) p.kept q.now) in
+    let X : List Entry → Type 0 = λ list. (image : Option (List Entry)) → new.since mid.moment image → IsImagePart list b image in
+    let exact : new.live → IfSome old.kept (λ list. X (list ++ a)) = λ live. mapped old.kept (λ list. list ++ a) X (subst (λ o. IfSome o X) p.kept (q.exact live)) in
     let E : List Entry → Type 0 = λ _. (k : ℕ) (image : Option (List Entry)) → k ≤ mid.moment → new.since k image ↔ (mid.since k image ⊎ new.since mid.moment image) in
     let earlier : IfSome old.kept (λ list. E (list ++ a)) = mapped old.kept (λ list. list ++ a) E (subst (λ o. IfSome o E) p.kept q.earlier) in
     let later = p.later in
@@ -159,11 +200,16 @@ HasKept-then m start old mid new a b p q =
       same_start = q.same_start ∙ p.same_start;
       never_fall = omega arith;
       later = omega arith;
+      was_live = λ live. p.was_live (q.was_live live);
       since = IfSome_then old.kept (both old.kept _ _ (both old.kept _ _ p.since since) earlier) (λ list h image s. elim ((h.1 old.moment image later).0 s) [
         | inl y ↦ amid_earlier m start list a b image (h.0.0 image y)
         | inr y ↦ amid_later m start list a b image (h.0.1 image y)
       ]);
       now = IfSome_then old.kept now (λ list h image s. subst (λ (x : List Entry). IsImageWith m start x image) (append_assoc list a b) (h image s));
+      exact = λ live. IfSome_then old.kept (both old.kept _ _ (both old.kept _ _ (p.exact (q.was_live live)) (exact live)) earlier) (λ list h image s. elim ((h.1 old.moment image later).0 s) [
+        | inl y ↦ part_earlier list a b image (h.0.0 image y)
+        | inr y ↦ part_later list a b image (h.0.1 image y)
+      ]);
       earlier = IfSome_then old.kept (both old.kept _ _ p.earlier earlier) (λ list h k image l. (
         λ x. elim ((h.1 k image (omega arith)).0 x) [
           | inl y ↦ elim ((h.0 k image l).0 y) [

@@ -65,9 +65,17 @@ pub record IsImageAmid (m : Module) (start list given : List Entry) (image : Opt
   pub parts : given ≡ first ++ rest
   pub with_more : IsImageWith m start (list ++ first) image
 
+-- the image is the list and a first part of given, and no square more
+pub record IsImagePart (list given : List Entry) (image : Option (List Entry)) : Type 0 where
+  pub first : List Entry
+  pub rest : List Entry
+  pub parts : given ≡ first ++ rest
+  pub is : image ≡ Some (list ++ first)
+
 -- From old to new the keeper was given these squares of the start's table, and they stand at the end of what it has kept. Each
 -- image since then is what was kept before them, a first part of them, and at most one square more; each image now has all of
--- them. Images since an earlier moment are those had before, and those since then.
+-- them. Where the keeper is still live, it was so all along, nothing is torn, and no image has a square more. Images since an
+-- earlier moment are those had before, and those since then.
 pub record HasKept (m : Module) (start : List Entry) (old new : Keeper) (given : List Entry) : Type 0 where
   pub are_of : AreOf m start given
   pub kept : new.kept ≡ with_squares old.kept given
@@ -75,6 +83,8 @@ pub record HasKept (m : Module) (start : List Entry) (old new : Keeper) (given :
   pub same_start : new.start ≡ old.start
   pub never_fall : old.faults ≤ new.faults
   pub later : old.moment ≤ new.moment
+  pub was_live : new.live → old.live
   pub since : IfSome old.kept (λ list. (image : Option (List Entry)) → new.since old.moment image → IsImageAmid m start list given image)
   pub now : IfSome old.kept (λ list. (image : Option (List Entry)) → new.since new.moment image → IsImageWith m start (list ++ given) image)
+  pub exact : new.live → IfSome old.kept (λ list. (image : Option (List Entry)) → new.since old.moment image → IsImagePart list given image)
   pub earlier : IfSome old.kept (λ list. (m : ℕ) (image : Option (List Entry)) → m ≤ old.moment → new.since m image ↔ (old.since m image ⊎ new.since old.moment image))

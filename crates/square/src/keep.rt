@@ -1,5 +1,5 @@
 //! Where squares are kept.
-ghost use Rattle.std.specs.Prelude.{◌≡◌, ◌≢◌, ℕ, ◌≤◌, ◌<◌, ◌↔◌, ◌⊎◌, Option, Some, None, List, [], ◌∷◌, true, false, length, IfSome, IsOkAnd, OnOk, OnErr, Err};
+ghost use Rattle.std.specs.Prelude.{◌≡◌, ◌≢◌, ℕ, ◌≤◌, ◌<◌, ◌↔◌, ◌⊎◌, Option, Some, None, List, [], ◌∷◌, true, false, length, IfSome, IsOkAnd, OnOk, OnErr, Ok, Err};
 ghost use Rattle.edge.specs.Faults.{HasRisen, one_up};
 ghost use Rattle.resolution_laws.specs.Start.{Entry};
 ghost use Rattle.square.specs.Squares.{entry_of};
@@ -81,7 +81,9 @@ pub struct NoKeep;
 impl Keep for NoKeep {
     ghost telling = { λ _. record { live = Unit {0}; faults = 0; kept = None; resolved = None; start = None; moment = 0; since = λ _ _. ⊥ } };
 
-    fn keep(&mut self, _square: &Square) -> Result<(), KeepFault> {
+    fn keep(&mut self, _square: &Square) -> Result<(), KeepFault>
+        ensures always { result ≡ Ok tt }
+    {
         Ok(())
     }
 

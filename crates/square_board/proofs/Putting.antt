@@ -7,7 +7,7 @@ use Rattle.resolution_laws.specs.Start.{Entry, IsOf}
 use Rattle.square.specs.Squares.{Placed}
 use Rattle.square.specs.Tables.{Staircase}
 use Rattle.square.specs.Keeping.{Keeper, HoldsTable, IsKeeperOf}
-use Rattle.square.proofs.Kept.{IsSettled, HasTried, HasKept-none, HasKept-tried}
+use Rattle.square.proofs.Kept.{IsSettled, HasTried, IsUnmoved, HasKept-none, HasKept-tried}
 use Rattle.square_board.specs.Inside.Putting.{HaveSameSquares, HasNotPut}
 
 pub on_err : {A E : Type 0} (r : Result A E) (P : Type 0) → P → OnErr r P
@@ -32,9 +32,9 @@ keeper_same old new before after goes kept resolved start same = record {
 pub not_put : (m : Module) (start : List Entry) (keeper : Keeper) (before after : Staircase) → HaveSameSquares before after → IsSettled keeper → IsKeeperOf keeper before → HasNotPut m start keeper keeper before after
 not_put m start keeper before after same settled goes = record { same = same; of_table = keeper_same keeper keeper before after goes refl refl refl same; kept = HasKept-none m start keeper settled }
 
-pub not_kept : (m : Module) (start : List Entry) (old new : Keeper) (before after : Staircase) (q : Placed) → HaveSameSquares before after → IsOf m start q.s q.above q.content → HasTried old new q → new.kept ≡ old.kept → ((i n : ℕ) (image : Option (List Entry)) → i ≤ n → new.since n image → new.since i image) → IsKeeperOf old before → HasNotPut m start old new before after
-not_kept m start old new before after q same right tried kept antitone goes = record {
+pub not_kept : (m : Module) (start : List Entry) (old new : Keeper) (before after : Staircase) (q : Placed) → HaveSameSquares before after → IsOf m start q.s q.above q.content → HasTried old new q → old.live → new.kept ≡ old.kept → IsUnmoved old new → ((i n : ℕ) (image : Option (List Entry)) → i ≤ n → new.since n image → new.since i image) → IsKeeperOf old before → HasNotPut m start old new before after
+not_kept m start old new before after q same right tried live kept unmoved antitone goes = record {
   same = same;
   of_table = keeper_same old new before after goes kept tried.same_module tried.same_start same;
-  kept = HasKept-tried m start old new q right tried kept antitone;
+  kept = HasKept-tried m start old new q right tried live kept unmoved antitone;
 }

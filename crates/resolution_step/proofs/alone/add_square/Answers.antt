@@ -8,7 +8,7 @@ use Rattle.square.specs.declared.keep.KeepFault.TheVariants.{Failed, Memory}
 use Rattle.square.specs.Squares.{Placed, entry_of, over}
 use Rattle.square.specs.Tables.{Staircase, row_in, with_square, IsNext}
 use Rattle.square.specs.Keeping.{IsNextIn}
-use Rattle.square.proofs.Kept.{HasKept-none, HasKept-tried, HasKept-one}
+use Rattle.square.proofs.Kept.{IsUnmoved, IsUnmoved-same, HasKept-none, HasKept-tried, HasKept-one}
 use Rattle.square.proofs.Places.{next_length}
 use Rattle.resolution_step.specs.Inside.Adding.{IsEndOf}
 use Rattle.resolution_step.proofs.Orders.{new_one}
@@ -42,6 +42,10 @@ unkept : (g : Over) (c : After-drop-square-in_err-keep g) (fault : KeepFault) �
 unkept g c Failed e = c.keep.ensures.unput e
 unkept g c Memory e = ap (λ k. (g.K.Keep.telling k).kept) (c.keep.ensures.memory e)
 
+unmoved : (g : Over) (c : After-drop-square-in_err-keep g) (fault : KeepFault) → c.keep.result ≡ Err fault → IsUnmoved (g.K.Keep.telling c.args.keeper.now) (g.K.Keep.telling c.keep.new.self)
+unmoved g c Failed e live = absurd (c.keep.ensures.dead e live)
+unmoved g c Memory e = IsUnmoved-same g.K.Keep.telling c.args.keeper.now c.keep.new.self (g.met.K.Keep.image_is_kept c.args.keeper.now c.requires.live) (c.keep.ensures.memory e)
+
 pub returns-in_err-keep-clause-added : goal.returns-in_err-keep-clause-added
 returns-in_err-keep-clause-added g c =
     let before = c.args.table.now in
@@ -51,7 +55,9 @@ returns-in_err-keep-clause-added g c =
     HasAdded-none _ _ _ before c.reserve.new.self (ap (λ (t : Staircase). t.resolved) same) (ap (λ (t : Staircase). t.start) same) (ap (λ (t : Staircase). t.rows) same)
     (HasKept-tried _ _ _ _ c.deref.result.now (subst P (sym c.deref.ensures) c.in_ok-square.ensures.is_of)
     (record { never_fall = tried.never_fall; same_module = tried.same_module; same_start = tried.same_start; later = tried.later; between = tried.between; earlier = tried.earlier })
+    c.requires.live
     (unkept g c c.in_err-keep.field-0.0 c.in_err-keep.was)
+    (unmoved g c c.in_err-keep.field-0.0 c.in_err-keep.was)
     (g.met.K.Keep.since_earlier c.keep.new.self))
 
 pub push-requires-clause-next : goal.push-requires-clause-next
@@ -107,6 +113,7 @@ returns-clause-added g c =
       given = given_one _ _ at _ _ (entry_of a) (subst H (sym c.deref.ensures) here)
           (HasKept-one _ _ _ _ a (subst P (sym c.deref.ensures) new.is_of)
           (record { never_fall = tried.never_fall; same_module = tried.same_module; same_start = tried.same_start; later = tried.later; between = tried.between; earlier = tried.earlier })
+          c.requires.live
           c.in_ok-keep.ensures.put
           (record { images = g.met.K.Keep.image_is_kept keeper c.in_ok-keep.ensures.live; earlier = g.met.K.Keep.since_earlier keeper }));
     }

@@ -8,7 +8,7 @@ use Rattle.square.specs.Squares.{Placed, module_over, entry_of}
 use Rattle.square.specs.Tables.{Staircase, with_square}
 use Rattle.square.specs.Keeping.{IsNextIn, HasKept}
 use Rattle.square.proofs.Growing.{IsNextIn-table, IsKeeperOf-more}
-use Rattle.square.proofs.Kept.{HasKept-one}
+use Rattle.square.proofs.Kept.{IsUnmoved, IsUnmoved-same, HasKept-one}
 use Rattle.square_board.proofs.Putting.{on_err, same_self, same_room, not_put, not_kept}
 use Rattle.square_board.proofs.desk.put.Given.{Over}
 use Rattle.square_board.proofs.desk.put.Goals as goal
@@ -34,6 +34,10 @@ unkept : (g : Over) (c : After-drop-square-in_err-keep g) (fault : KeepFault) �
 unkept g c Failed e = c.keep.ensures.unput e
 unkept g c Memory e = ap (λ k. (g.K.Keep.telling k).kept) (c.keep.ensures.memory e)
 
+unmoved : (g : Over) (c : After-drop-square-in_err-keep g) (fault : KeepFault) → c.keep.result ≡ Err fault → IsUnmoved (g.K.Keep.telling c.args.keeper.now) (g.K.Keep.telling c.keep.new.self)
+unmoved g c Failed e live = absurd (c.keep.ensures.dead e live)
+unmoved g c Memory e = IsUnmoved-same g.K.Keep.telling c.args.keeper.now c.keep.new.self (g.met.K.Keep.image_is_kept c.args.keeper.now c.requires.live) (c.keep.ensures.memory e)
+
 pub returns-in_err-keep-clause-err : goal.returns-in_err-keep-clause-err
 returns-in_err-keep-clause-err g c =
     let table = c.args.table.now in
@@ -42,7 +46,9 @@ returns-in_err-keep-clause-err g c =
     let P : Placed → Type 0 = λ q. IsOf (module_over table.resolved.plain) table.start q.s q.above q.content in
     on_err _ _ (not_kept _ _ _ _ table c.reserve.new.self c.deref.result.now (same_room _ _ _ c.reserve.ensures.same) (subst P (sym is) c.requires.is_of)
     (record { never_fall = tried.never_fall; same_module = tried.same_module; same_start = tried.same_start; later = tried.later; between = tried.between; earlier = tried.earlier })
+    c.requires.live
     (unkept g c c.in_err-keep.field-0.0 c.in_err-keep.was)
+    (unmoved g c c.in_err-keep.field-0.0 c.in_err-keep.was)
     (g.met.K.Keep.since_earlier c.keep.new.self)
     c.requires.of_table)
 
@@ -66,6 +72,7 @@ returns-clause-ok g c =
     let m = module_over table.resolved.plain in
     let kept : HasKept m table.start old new (entry_of a ∷ []) = HasKept-one m table.start old new a (subst P (sym is) c.requires.is_of)
     (record { never_fall = tried.never_fall; same_module = tried.same_module; same_start = tried.same_start; later = tried.later; between = tried.between; earlier = tried.earlier })
+    c.requires.live
     c.in_ok-keep.ensures.put
     (record { images = g.met.K.Keep.image_is_kept keeper c.in_ok-keep.ensures.live; earlier = g.met.K.Keep.since_earlier keeper }) in
     record {
