@@ -7,3 +7,4 @@ pub mod Coset
 pub mod Members
 pub mod HasMember
 pub mod UnitRow
+mod Examples

@@ -17,6 +17,7 @@ use Rattle.chain_map.specs.Lifting.{resolution_of, AreCanonical, shifted_length,
 use Rattle.chain_map.specs.Inside.Making.{class_of, IsMade, Reaches}
 use Rattle.chain_map.proofs.Resolved.{resolved-part}
 use Rattle.chain_map.proofs.MadeLifts.{value-fits, is-lift}
+use Rattle.chain_map.proofs.Images.{chain_map_of}
 
 -- no generator is of a degree below the bottom
 no_generator : (table : Staircase) (i g : ℕ) → g < length (gens (resolution_of table) i) → degree (resolution_of table) i g ≤ℤ greatest table 0 → ⊥
@@ -26,20 +27,25 @@ no_generator table i g l low =
     absurd (omega (arith, ints))
 
 -- where it goes through no degree
-pub lift_of_none : (table sphere : Staircase) (s above c upto : ℕ) (lift : LiftValues) → lift.bottom ≡ bottom_of table.resolved → lift.rows ≡ [] → degrees_through table sphere s above upto ≡ 0 → IsLiftOver table sphere s above c upto lift
-lift_of_none table sphere s above c upto lift bottom none zero_n = record {
-  bottom = bottom;
-  rows = λ some. absurd (omega arith);
-  values = λ k l. absurd (omega (arith, ap length none));
-  is_lift = λ a b.
-      let P : ℕ → Type 0 = λ n. IsLift (resolution_of table) (resolution_of sphere) s (bottom_of table.resolved +ℤ pos above) (class_of table sphere s above c) upto (greatest table n) (map_of lift) in
-      let empty : P 0 = record {
-        fit = λ k i h e g there low. absurd (no_generator table i g there low);
-        start = λ g there low. absurd (no_generator table s g there low);
-        commutes = λ k i j h e f g there low. absurd (no_generator table i g there low);
-      } in
-      subst P (sym zero_n) empty;
-}
+pub lift_of_none : (table sphere : Staircase) → IsTable table → IsTable sphere → (s above c upto : ℕ) (lift : LiftValues) → lift.bottom ≡ bottom_of table.resolved → lift.rows ≡ [] → degrees_through table sphere s above upto ≡ 0 → IsLiftOver table sphere s above c upto lift
+lift_of_none table sphere is_table is_sphere_table s above c upto lift bottom none zero_n =
+    let x = bottom_of table.resolved +ℤ pos above in
+    let n = degrees_through table sphere s above upto in
+    let z = class_of table sphere s above c in
+    let P : ℕ → Type 0 = λ n. IsLift (resolution_of table) (resolution_of sphere) s x z upto (greatest table n) (map_of lift) in
+    let empty : P 0 = record {
+      fit = λ k i h e g there low. absurd (no_generator table i g there low);
+      start = λ g there low. absurd (no_generator table s g there low);
+      commutes = λ k i j h e f g there low. absurd (no_generator table i g there low);
+    } in
+    let lifted : P n = subst P (sym zero_n) empty in
+    record {
+      bottom = bottom;
+      rows = λ some. absurd (omega arith);
+      values = λ k l. absurd (omega (arith, ap length none));
+      is_lift = λ a b. lifted;
+      chain_map = λ a b. chain_map_of table sphere is_table is_sphere_table s x z upto (greatest table n) (map_of lift) lifted;
+    }
 
 shifted-sum : (above n : ℕ) → shifted_length above n ≤ above + n
 shifted-sum above zero = omega arith
@@ -78,6 +84,31 @@ pub lift_of_made : CanonicalTableIsMinimalResolution → ModulesAreSteenrodModul
 lift_of_made minimal modules table sphere s above c upto n far lift bounded is_sphere reaches far_is n_is class made =
     let q = resolution_of sphere in
     let x = bottom_of table.resolved +ℤ pos above in
+    let through = degrees_through table sphere s above upto in
+    let z = class_of table sphere s above c in
+    let top = greatest table through in
+    let lifted : AreCanonical table (s + upto) through → AreCanonical sphere upto (length (row_in sphere.rows upto)) → IsLift (resolution_of table) q s x z upto top (map_of lift) = λ a b.
+    let t = n - 1 in
+    let tq = far - 1 in
+    let some = reaches.some in
+    let here = reaches.here in
+    let there = reaches.there in
+    let n_t : n ≡ t + 1 = omega arith in
+    let enough = reaches.enough in
+    let class_there = reaches.class_there in
+    let far_some : 0 < far = omega (arith, sphere_reaches table sphere s above upto (omega arith)) in
+    let far_t : far ≡ tq + 1 = omega arith in
+    let inside : t < length (row_in table.rows (s + upto)) = omega arith in
+    let inside_q : tq < length (row_in sphere.rows upto) = omega arith in
+    let A : ℕ → Type 0 = λ m. AreCanonical table (s + upto) m in
+    let B : ℕ → Type 0 = λ m. AreCanonical sphere upto m in
+    let bounded_q : IsBoundedBelow (over sphere.resolved) = λ u l. is_sphere.none u (λ e. let zero = is_sphere.bottom in omega (arith, ints)) in
+    let p = resolved-part table reaches.is_table (s + upto) t inside minimal modules bounded (subst A (sym n_is ∙ n_t) a) in
+    let o = resolved-part sphere reaches.is_sphere_table upto tq inside_q minimal modules bounded_q (subst B (sym far_is ∙ far_t) b) in
+    let made_lift = is-lift table sphere reaches.is_table reaches.is_sphere_table is_sphere s above n far c (upto + 1) upto lift made reaches.here reaches.enough reaches.there (omega arith) t tq n_t far_t refl class_there class inside inside_q p o in
+    let top_is : bottom_of table.resolved +ℤ pos t ≡ greatest table (degrees_through table sphere s above upto) = omega (arith, ints) in
+    let R : ℤ → Type 0 = λ top. IsLift (resolution_of table) q s x (class_of table sphere s above c) upto top (map_of lift) in
+    subst R top_is made_lift in
     record {
       bottom = made.bottom;
       rows = λ some. made.rows;
@@ -86,26 +117,6 @@ lift_of_made minimal modules table sphere s above c upto n far lift bounded is_s
           let v = made.values k inside in
           let Q : ℕ → Type 0 = λ n. AreValues table sphere s x n k (row_values lift k) in
           subst Q n_is (record { firsts = v.firsts; one_each = v.one_each; widths = λ g b. value-fits table sphere reaches.is_table reaches.is_sphere_table is_sphere s above n far c (upto + 1) upto lift made reaches.here reaches.enough reaches.there (omega arith) k g inside b });
-      is_lift = λ a b.
-          let t = n - 1 in
-          let tq = far - 1 in
-          let some = reaches.some in
-          let here = reaches.here in
-          let there = reaches.there in
-          let n_t : n ≡ t + 1 = omega arith in
-          let enough = reaches.enough in
-          let class_there = reaches.class_there in
-          let far_some : 0 < far = omega (arith, sphere_reaches table sphere s above upto (omega arith)) in
-          let far_t : far ≡ tq + 1 = omega arith in
-          let inside : t < length (row_in table.rows (s + upto)) = omega arith in
-          let inside_q : tq < length (row_in sphere.rows upto) = omega arith in
-          let A : ℕ → Type 0 = λ m. AreCanonical table (s + upto) m in
-          let B : ℕ → Type 0 = λ m. AreCanonical sphere upto m in
-          let bounded_q : IsBoundedBelow (over sphere.resolved) = λ u l. is_sphere.none u (λ e. let zero = is_sphere.bottom in omega (arith, ints)) in
-          let p = resolved-part table reaches.is_table (s + upto) t inside minimal modules bounded (subst A (sym n_is ∙ n_t) a) in
-          let o = resolved-part sphere reaches.is_sphere_table upto tq inside_q minimal modules bounded_q (subst B (sym far_is ∙ far_t) b) in
-          let lifted = is-lift table sphere reaches.is_table reaches.is_sphere_table is_sphere s above n far c (upto + 1) upto lift made reaches.here reaches.enough reaches.there (omega arith) t tq n_t far_t refl class_there class inside inside_q p o in
-          let top : bottom_of table.resolved +ℤ pos t ≡ greatest table (degrees_through table sphere s above upto) = omega (arith, ints) in
-          let R : ℤ → Type 0 = λ top. IsLift (resolution_of table) q s x (class_of table sphere s above c) upto top (map_of lift) in
-          subst R top lifted;
+      is_lift = lifted;
+      chain_map = λ a b. chain_map_of table sphere reaches.is_table reaches.is_sphere_table s x z upto top (map_of lift) (lifted a b);
     }

@@ -5,6 +5,7 @@ pub mod Resolved
 pub mod Preimages
 mod MadeLifts
 mod Squares
+mod Images
 pub mod Goals
 pub mod Places
 mod Growing

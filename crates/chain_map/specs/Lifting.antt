@@ -7,8 +7,8 @@ use Rattle.finite_module.specs.Checked.{sphere_file}
 use Rattle.finite_module.specs.DerivedAction.{derived_module}
 use Rattle.resolution_laws.specs.Start.{IsOf}
 use Rattle.square.specs.Squares.{over, bottom_of}
-use Rattle.square.specs.Tables.{Staircase, row_in, plain_rows, content_at}
-use Rattle.lift_laws.specs.Lifts.{Resolution, IsSphere, gens, degree}
+use Rattle.square.specs.Tables.{Staircase, row_in, plain_rows, content_at, IsTable}
+use Rattle.lift_laws.specs.Lifts.{Resolution, IsSphere, gens, degree, HasImages, IsChainMap}
 use Rattle.lift_laws.specs.Products.{first_of, count_of, number_of, IsLiftOfClass}
 use Rattle.lift_laws.specs.Products.{Class as ClassAbove}
 use Rattle.chain_map.specs.declared.class.Class.{Class}
@@ -21,6 +21,11 @@ resolution_of table = record { base = over table.resolved; table = plain_rows ta
 -- The law: a table of the sphere's module, with one generator, in degree 0, is of the sphere.
 abbrev pub TablesOfTheSphere : Type 0
 TablesOfTheSphere = (table : Staircase) → table.resolved.plain ≡ derived_module sphere_file → IsSphere (resolution_of table)
+
+-- The law: in each table, whatever its squares hold, d takes generators to vectors of the free module below. So each lift over
+-- two tables is a chain map, by the law of lifts.
+abbrev pub TablesHaveImages : Type 0
+TablesHaveImages = (table : Staircase) → IsTable table → (from rows : ℕ) (top : ℤ) → HasImages (resolution_of table) from rows top
 
 -- each square of the rows through s, in the first n degrees from the bottom on, is that of the canonical resolution
 abbrev pub AreCanonical : Staircase → ℕ → ℕ → Type 0
@@ -92,10 +97,12 @@ pub record AreValues (table sphere : Staircase) (s : ℕ) (x : ℤ) (n k : ℕ) 
   pub widths : (g : ℕ) → g < length v.vectors → length (row v.vectors g) ≡ free_width (gens (resolution_of sphere) k) (degree (resolution_of table) (s + k) g -ℤ x)
 
 -- The lift of number i of the square (s, above): it goes through the degrees that the tables have, and where their squares
--- there are canonical, it is a lift of the class.
+-- there are canonical, it is a lift of the class, and a chain map on all vectors of these degrees.
 pub record IsLiftOver (table sphere : Staircase) (s above i upto : ℕ) (lift : LiftValues) : Type 0 where
   pub bottom : lift.bottom ≡ bottom_of table.resolved
   pub rows : 0 < degrees_through table sphere s above upto → length lift.rows ≡ upto + 1
   pub values : (k : ℕ) → k < length lift.rows → AreValues table sphere s (bottom_of table.resolved +ℤ pos above) (degrees_through table sphere s above upto) k (row_values lift k)
   pub is_lift : AreCanonical table (s + upto) (degrees_through table sphere s above upto) → AreCanonical sphere upto (length (row_in sphere.rows upto)) →
       IsLiftOfClass (resolution_of table) (resolution_of sphere) (record { s = s; above = above; i = i }) upto (greatest table (degrees_through table sphere s above upto)) (map_of lift)
+  pub chain_map : AreCanonical table (s + upto) (degrees_through table sphere s above upto) → AreCanonical sphere upto (length (row_in sphere.rows upto)) →
+      IsChainMap (resolution_of table) (resolution_of sphere) s (bottom_of table.resolved +ℤ pos above) upto (greatest table (degrees_through table sphere s above upto)) (map_of lift)

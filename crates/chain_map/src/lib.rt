@@ -11,7 +11,7 @@ mod values;
 
 pub use class::Class;
 pub use inverse::Inverse;
-pub use laws::tables_of_the_sphere;
+pub use laws::{tables_have_images, tables_of_the_sphere};
 pub use making::{lift, lifts};
 pub use maps::Lift;
 pub use rows::{images_at, lowered_generators};

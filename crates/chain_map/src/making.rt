@@ -17,7 +17,7 @@ use std::alloc::Global;
 
 /// A lift of the class, through row `upto` of the sphere's resolution, and through the lesser of two degrees: the greatest that
 /// row s + upto of the module's table reaches, and the class's degree with the greatest that row `upto` of the sphere's
-/// reaches. Where one of these rows is empty it goes through none.
+/// reaches. Where one of these rows is empty it goes through none. Where the squares are canonical, it is a chain map on all vectors.
 ///
 /// # Errors
 /// `Memory` where there is none for it.

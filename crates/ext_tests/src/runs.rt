@@ -378,7 +378,7 @@ fn lines_of_refusals(rt: HostRuntime) -> Result<(), Fail> {
 
 #[test]
 fn refuses(rt: HostRuntime) -> Result<(), Fail> {
-    let outside: [&[&str]; 28] = [
+    let outside: [&[&str]; 31] = [
         &[],
         &["sphere", "4"],
         &["sphere", "64", "1"],
@@ -388,6 +388,9 @@ fn refuses(rt: HostRuntime) -> Result<(), Fail> {
         &["sphere", "4", "8", "--save", "--save"],
         &["sphere", "--", "4", "8"],
         &["massey", "3", "8", "--a=1,1,0"],
+        &["products", "3", "8", "--by", "1,1,0", "--by", "1,1,0"],
+        &["products", "3", "8", "--by", "1,1,x"],
+        &["products", "3", "8", "--by=-1,1,0"],
         &["sphere", "0004", "8"],
         &["sphere", "+4", "8"],
         &["sphere", "-4", "8"],

@@ -15,6 +15,9 @@ const ACTION: &str = r#""Sq1 x0 = x1""#;
 
 const ACCEPTED: (u8, &str, &str) = (0, "accepted 2 generators, degrees 0..1\n", "");
 
+/// Its chart through row 2 and degree 6.
+const TWO_CELLS_CHART: &str = " 2 |..11.\n 1 |.111..\n 0 |1......\nstems 0..6\n";
+
 const NOT_JSON: (u8, &str, &str) = (3, "", "ext: module file: not JSON\n");
 
 /// Compares how `check` ends on this file.
@@ -25,6 +28,17 @@ fn assert_check<W: Threads + Wait + Clock + Sync + Abort>(
     ended: (u8, &str, &str),
 ) -> Result<(), Fail> {
     assert_ended(rt, alloc, &["check"], file, SOUND, ended)
+}
+
+/// The file is accepted, as the module of two cells.
+fn assert_is_two_cells<W: Threads + Wait + Clock + Sync + Abort>(
+    rt: &W,
+    alloc: Global,
+    file: &[u8],
+) -> Result<(), Fail> {
+    assert_check(rt, alloc, file, ACCEPTED)?;
+    let ended = (0, TWO_CELLS_CHART, "");
+    assert_ended(rt, alloc, &["resolve", "2", "6"], file, SOUND, ended)
 }
 
 /// The file is refused with this line.
@@ -95,9 +109,12 @@ fn primes(rt: HostRuntime) -> Result<(), Fail> {
 fn generators(rt: HostRuntime) -> Result<(), Fail> {
     let alloc = rt.alloc();
     for (generator, why) in [
-        (r#""x0":9223372036854775808"#, "degree of generator 0"),
         (
-            r#""a23456789012345678901234567890123":0"#,
+            r#""x0":9223372036854775808,"x1":1"#,
+            "degree of generator 0",
+        ),
+        (
+            r#""abcdefghijklmnopqrstuvwxyzabcdefg":0"#,
             "name of generator 0",
         ),
         (r#""":0"#, "name of generator 0"),
@@ -105,7 +122,7 @@ fn generators(rt: HostRuntime) -> Result<(), Fail> {
         (r#""a+b":0"#, "name of generator 0"),
     ] {
         let file = format!(in alloc;
-            r#"{{"type":"finite dimensional module","p":2,"gens":{{{generator}}},"actions":[]}}"#
+            r#"{{"type":"finite dimensional module","p":2,"gens":{{{generator}}},"actions":[{ACTION}]}}"#
         )?;
         assert_refused(&rt, alloc, file.as_str(), why)?;
     }
@@ -120,14 +137,14 @@ fn actions(rt: HostRuntime) -> Result<(), Fail> {
         assert_refused(&rt, alloc, file.as_str(), "action 0: syntax")?;
     }
     let zeros = with_actions(alloc, r#""Sq001 x0 = x1""#, 1)?;
-    assert_check(&rt, alloc, zeros.as_bytes(), ACCEPTED)
+    assert_is_two_cells(&rt, alloc, zeros.as_bytes())
 }
 
 #[test]
 fn many_actions(rt: HostRuntime) -> Result<(), Fail> {
     let alloc = rt.alloc();
     let most = with_actions(alloc, ACTION, 4096)?;
-    assert_check(&rt, alloc, most.as_bytes(), ACCEPTED)?;
+    assert_is_two_cells(&rt, alloc, most.as_bytes())?;
     let over = with_actions(alloc, ACTION, 4097)?;
     assert_refused(&rt, alloc, over.as_str(), "past the limit of actions")
 }
@@ -143,6 +160,8 @@ fn deep_arrays(rt: HostRuntime) -> Result<(), Fail> {
     for _ in 0..200 {
         file.push_str("]")?;
     }
-    file.push_str(r#","type":"finite dimensional module","p":2,"gens":{"x0":0,"x1":1}}"#)?;
+    file.push_str(
+        r#","type":"finite dimensional module","p":2,"gens":{"x0":0,"x1":1},"actions":["Sq1 x0 = x1"]}"#,
+    )?;
     assert_check(&rt, alloc, file.as_bytes(), NOT_JSON)
 }

@@ -79,8 +79,17 @@ pub record IsChainMap (r q : Resolution) (s : ℕ) (x : ℤ) (upto : ℕ) (top :
   pub maps : (k i : ℕ) → k ≤ upto → i ≡ s + k → IsMap top (free r i) (shifted x (free q k)) (lowered r i q k x (phi k))
   pub commutes : (k i j : ℕ) → k < upto → j ≡ s + k → i ≡ suc j → (t : ℤ) (v : List Bool) → t ≤ℤ top → d q (suc k) (t -ℤ x) (lowered r i q (suc k) x (phi (suc k)) t v) ≡ lowered r j q k x (phi k) t (d r i t v)
 
--- A lift, which is given by its values on generators, is one.
+-- In rows from + 1 through from + rows, d takes each generator of degree at most top to a vector of the free module below, in the
+-- generator's degree.
+pub record HasImages (r : Resolution) (from rows : ℕ) (top : ℤ) : Type 0 where
+  pub widths : (i j : ℕ) → from ≤ j → j < from + rows → i ≡ suc j → FitThrough (free r j) (gens r i) top (image r i)
+
+-- A lift, which is given by its values on generators, is one, whatever else the two tables hold.
 abbrev pub LiftsAreChainMaps : Type 0
 LiftsAreChainMaps =
-    (r q : Resolution) (rs rt qs qt s : ℕ) (x : ℤ) (z : ℕ → List Bool) (upto : ℕ) (top : ℤ) (phi : ℕ → ℕ → List Bool) →
-    IsCanonical r rs rt → IsCanonical q qs qt → s + upto ≤ rs → upto ≤ qs → IsLift r q s x z upto top phi → IsChainMap r q s x upto top phi
+    (r q : Resolution) (s : ℕ) (x : ℤ) (z : ℕ → List Bool) (upto : ℕ) (top : ℤ) (phi : ℕ → ℕ → List Bool) →
+    HasImages r s upto top → HasImages q 0 upto (top -ℤ x) → IsLift r q s x z upto top phi → IsChainMap r q s x upto top phi
+
+-- A canonical table has such images, in all degrees.
+abbrev pub CanonicalTablesHaveImages : Type 0
+CanonicalTablesHaveImages = (r : Resolution) (s t from rows : ℕ) (top : ℤ) → IsCanonicalTable r.base s t r.table → from + rows ≤ s → HasImages r from rows top

@@ -141,6 +141,15 @@ fn refusals_of_products(rt: HostRuntime) -> Result<(), Fail> {
             Some(fault)
         );
     }
+    let one = product(
+        alloc,
+        &table,
+        &sphere,
+        range,
+        class((1, 1, 0)),
+        class((1, 3, 0)),
+    )?;
+    assert_eq!(rt; (one.len(), one.first_one()), (1, Some(0)));
     // A class of the table that the range leaves out is none.
     let less = Range { s: 2, t: 2 };
     assert_eq!(rt; place_of(&table, range, class((1, 3, 0))).err(), None);

@@ -22,7 +22,7 @@ returns-then-course-eq0-clause-lifts c = λ j l.
     let course = c.args.course.now in
     let lift = slice_index_or c.args.lifts.items j no_lift in
     let empty = c.requires.empty j l in
-    lift_of_none course.table.now course.sphere.now course.s course.above (c.args.from + j) c.args.upto lift (ap (λ (z : LiftValues). z.bottom) empty) (ap (λ (z : LiftValues). z.rows) empty) (sym c.requires.reach ∙ c.if-course-eq0.true)
+    lift_of_none course.table.now course.sphere.now c.requires.is_table c.requires.is_sphere_table course.s course.above (c.args.from + j) c.args.upto lift (ap (λ (z : LiftValues). z.bottom) empty) (ap (λ (z : LiftValues). z.rows) empty) (sym c.requires.reach ∙ c.if-course-eq0.true)
 
 pub returns-clause-lifts : goal.returns-clause-lifts
 returns-clause-lifts c = λ j l.

@@ -35,7 +35,7 @@ unkept g c Failed e = c.keep.ensures.unput e
 unkept g c Memory e = ap (λ k. (g.K.Keep.telling k).kept) (c.keep.ensures.memory e)
 
 unmoved : (g : Over) (c : After-drop-square-in_err-keep g) (fault : KeepFault) → c.keep.result ≡ Err fault → IsUnmoved (g.K.Keep.telling c.args.keeper.now) (g.K.Keep.telling c.keep.new.self)
-unmoved g c Failed e live = absurd (c.keep.ensures.dead e live)
+unmoved g c Failed e = λ live. absurd (c.keep.ensures.dead e live)
 unmoved g c Memory e = IsUnmoved-same g.K.Keep.telling c.args.keeper.now c.keep.new.self (g.met.K.Keep.image_is_kept c.args.keeper.now c.requires.live) (c.keep.ensures.memory e)
 
 pub returns-in_err-keep-clause-err : goal.returns-in_err-keep-clause-err
