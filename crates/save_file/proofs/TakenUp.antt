@@ -10,12 +10,12 @@ use Rattle.square.specs.Squares.{over}
 use Rattle.square.specs.Tables.{Staircase, AllRead, IsTable}
 use Rattle.square.specs.Keeping.{HoldsTable, IsKeeperOf}
 use Rattle.edge.specs.Disk.{LeavesOnly}
-use Rattle.edge.proofs.Moments.{Lawful, where_some, started}
+use Rattle.edge.proofs.Moments.{Lawful, where_told, at_told, where_some, started}
 use Rattle.save_journal.specs.Records.{Records, records_of, opened}
-use Rattle.save_journal.specs.Journals.{JournalState, IsLive, IsSettled, HasRecordsOf}
+use Rattle.save_journal.specs.Journals.{JournalState, IsLive, HasRecordsOf}
 use Rattle.save_journal.specs.declared.fault.OpenFault.{OpenFault}
 use Rattle.save_journal.specs.declared.fault.OpenFault.TheVariants.{Failed as DiskFailed, Memory as OpenMemory}
-use Rattle.save_journal.proofs.Opened.{HasBodies, records_before, file_kept}
+use Rattle.save_journal.proofs.Opened.{HasBodies, records_before, kept_file, file_kept}
 use Rattle.save_file.specs.Reading.{squares_from, squares_of}
 use Rattle.save_file.specs.Files.{opening_refusal, body_refusal, of_squares, of_records, digest_of, standing_of, list_in, first_records, first_squares}
 use Rattle.save_file.specs.Saving.{SaveState, HasSquares, TakesSquares, kept_in, telling_of}
@@ -79,12 +79,6 @@ where_mapped (Some y) x Q q = q
 abbrev pub Taken : {D : Type 0} → JournalState D → Staircase → ℕ → SaveState D
 Taken journal table n = record { journal = journal; count = n; resolved = table.resolved; start = table.start }
 
--- ---- on a disk that is as it was, a crash leaves what it left before
-
-no_new_told : (images before : List ℕ → Type 0) (digest : List ℕ) (end : ℕ) (o : Option (List ℕ)) → IfSome o (λ file. IsSettled digest end file images) → IfSome o before → IfSome o (λ _. (c : List ℕ) → images c → before c)
-no_new_told images before digest end None settled here = tt
-no_new_told images before digest end (Some file) settled here = λ c image. subst before (sym (settled.only c image)) here
-
 module _ {D : Type 0} (now : D → Option (List ℕ)) (images : D → List ℕ → Type 0) (m : Checked) (old : D) (journal : JournalState D) (bodies : List (List ℕ)) (h : IsOpened now images m old journal bodies) where
   pub stands : (s : Result (List Entry) ℕ) → squares_of (over m) bodies ≡ s → IfSome (now old) (λ file. standing_of m file ≡ of_squares s)
   stands s e = IfSome_then (now old) h.was (λ file is. ap (of_records (over m)) is ∙ ap of_squares e)
@@ -93,11 +87,11 @@ module _ {D : Type 0} (now : D → Option (List ℕ)) (images : D → List ℕ �
   pub as_was : (bodies ≡ [] → ⊥) → now journal.disk ≡ now old
   as_was some = h.file ∙ file_kept (digest_of m) bodies some (now old) h.was
 
-  pub no_new : (bodies ≡ [] → ⊥) → IfSome (now old) (images old) → IfSome (now old) (λ _. (c : List ℕ) → images journal.disk c → images old c)
-  no_new some here =
-      let live = h.live in
-      let settled : IfSome (now old) (λ file. IsSettled journal.digest journal.end file (images journal.disk)) = subst (λ o. IfSome o (λ file. IsSettled journal.digest journal.end file (images journal.disk))) (as_was some) live.settled in
-      no_new_told (images journal.disk) (images old) journal.digest journal.end (now old) settled here
+  -- and nothing was written, if that is so of a file that an opening leaves as it is
+  pub not_written : (bodies ≡ [] → ⊥) → (X : Type 0) → IfSome (now old) (λ file. opened (digest_of m) file ≡ file → X) → IfSome (now old) (λ _. X)
+  not_written some X alone =
+      where_told (now old) (λ file. opened (digest_of m) file ≡ file → X) (λ _. X) alone
+      (λ file here so. so (kept_file (digest_of m) file bodies (at_told (now old) (λ f. records_of (digest_of m) f ≡ Ok bodies) file here h.was) some))
 
   -- ---- the keeper of a table whose squares the bodies are
 
@@ -165,3 +159,6 @@ strange m fault e o is told = subst (λ e. (e ≡ Open DiskFailed) ⊎ (e ≡ Ou
 -- where the disk gets no call
 pub not_called : {D : Type 0} (now : D → Option (List ℕ)) (moment : D → ℕ) (images : D → List ℕ → Type 0) (since : D → ℕ → List ℕ → Type 0) → Lawful now moment images since → (digest : List ℕ) (d : D) → IfSome (now d) (λ _. LeavesOnly moment since d d (HasRecordsOf digest (images d)))
 not_called now moment images since laws digest d = where_some (now d) (λ _. LeavesOnly moment since d d (HasRecordsOf digest (images d))) (λ _ _. started now moment images since laws d (HasRecordsOf digest (images d)) (λ c image. (c, image, refl)))
+
+pub untouched : {D : Type 0} (now : D → Option (List ℕ)) (moment : D → ℕ) (images : D → List ℕ → Type 0) (since : D → ℕ → List ℕ → Type 0) → Lawful now moment images since → (d : D) → IfSome (now d) (λ _. LeavesOnly moment since d d (images d))
+untouched now moment images since laws d = where_some (now d) (λ _. LeavesOnly moment since d d (images d)) (λ _ _. started now moment images since laws d (images d) (λ c image. image))

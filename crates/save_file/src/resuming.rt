@@ -1,5 +1,5 @@
 //! How a save file is taken up.
-ghost use Rattle.std.specs.Prelude.{◌≡◌, ◌≢◌, ◌⊎◌, ℕ, ◌≤◌, [], ◌++◌, ◌∷◌, List, Some, None, Ok, Err, IfOk, IfErr, IfSome, OnOk, OnErr, IsOk, MatchResult};
+ghost use Rattle.std.specs.Prelude.{◌≡◌, ◌≢◌, ◌⊎◌, ℕ, ◌≤◌, [], ◌++◌, ◌∷◌, Some, None, Ok, Err, IfOk, IfErr, IfSome, OnOk, OnErr, IsOk, MatchResult};
 ghost use Rattle.std.specs.Option.{option_map};
 ghost use Rattle.edge.specs.Disk.{LeavesOnly};
 ghost use Rattle.edge.specs.Faults.{HasRisen};
@@ -55,7 +55,8 @@ pub fn resume<D: Disk>(
     ensures refused { IfErr result (λ e. (e.0 ≡ Open DiskFailed) ⊎ (e.0 ≡ OutOfMemory) ⊎ IfSome (D.now disk) (λ file. standing_of «module» file ≡ Err e.0)) }
     ensures memory { IfErr result (λ e. e.0 ≢ Open OpenMemory) }
     ensures same { IfErr result (λ e. e.0 ≢ Open DiskFailed → D.now e.1 ≡ D.now disk) }
-    ensures unwritten { IfErr result (λ e. e.0 ≢ Open DiskFailed → IfSome (D.now disk) (λ _. (c : List ℕ) → D.images e.1 c → D.images disk c)) }
+    ensures unwritten { IfErr result (λ e. e.0 ≢ Open DiskFailed → IfSome (D.now disk) (λ _. LeavesOnly D.moment D.since disk e.1 (D.images disk))) }
+    ensures left_alone { IfOk result (λ r. IfSome (D.now disk) (λ file. opened (digest_of «module») file ≡ file → LeavesOnly D.moment D.since disk r.1.journal.disk (D.images disk))) }
     ensures time { MatchResult result (λ r. LeavesOnly D.moment D.since disk r.1.journal.disk (λ _. Unit {0})) (λ e. LeavesOnly D.moment D.since disk e.1 (λ _. Unit {0})) }
     ensures any_moment { IfSome (D.now disk) (λ _. MatchResult result (λ r. LeavesOnly D.moment D.since disk r.1.journal.disk (HasRecordsOf (digest_of «module») (D.images disk))) (λ e. LeavesOnly D.moment D.since disk e.1 (HasRecordsOf (digest_of «module») (D.images disk)))) }
     ensures no_fault { IfOk result (λ r. D.faults r.1.journal.disk ≡ D.faults disk) }

@@ -7,12 +7,13 @@ use Rattle.edge.specs.Disk.{LeavesOnly}
 use Rattle.edge.proofs.Moments.{Lawful}
 use Rattle.resolution_laws.specs.Start.{Entry}
 use Rattle.square.specs.Squares.{over}
+use Rattle.save_journal.specs.Records.{opened}
 use Rattle.save_journal.specs.Journals.{HasRecordsOf, contents}
 use Rattle.save_file.specs.Reading.{squares_from, squares_of}
 use Rattle.save_file.specs.Files.{opening_refusal, digest_of}
 use Rattle.save_file.specs.declared.fault.DecodeFault.{DecodeFault}
 use Rattle.save_file.proofs.Adding.{anyway}
-use Rattle.save_file.proofs.TakenUp.{IsOpened, is_opened, stands, as_was, no_new, takes, kept, keeper, from_none, refused, failed, not_open, strange, not_called}
+use Rattle.save_file.proofs.TakenUp.{IsOpened, is_opened, stands, as_was, not_written, takes, kept, keeper, from_none, refused, failed, not_open, strange, not_called, untouched}
 use Rattle.save_file.proofs.resuming.resume.Given.{Over}
 use Rattle.save_file.proofs.resuming.resume.Goals.{After-open, After-read_bodies}
 use Rattle.save_file.proofs.resuming.resume.Goals as goal
@@ -41,10 +42,18 @@ squares_here g c s e =
     from_none c.args.module (contents c.in-Ok-open.opened.1.items) s c.in-Ok.table c.in-Ok.ensures.resolved c.in-Ok.ensures.start
     (ap (λ l. squares_from (over c.in-Ok.table.resolved) c.in-Ok.table.start 0 (contents l)) (sym c.as_slice-2.ensures.value) ∙ e)
 
+-- an opening that leaves the file as it is writes nothing
+alone_here : (g : Over) (c : After-read_bodies g) → IfSome (g.D.Disk.now c.args.disk) (λ file. opened (digest_of c.args.module) file ≡ file → LeavesOnly g.D.Disk.moment g.D.Disk.since c.args.disk c.in-Ok-open.opened.0.disk (g.D.Disk.images c.args.disk))
+alone_here g c =
+    subst (λ d. IfSome (g.D.Disk.now c.args.disk) (λ file. opened d file ≡ file → LeavesOnly g.D.Disk.moment g.D.Disk.since c.args.disk c.in-Ok-open.opened.0.disk (g.D.Disk.images c.args.disk))) (c.digest-digest.ensures ∙ ap sha256 (c.as_slice.ensures.value ∙ c.in-Ok.ensures.text)) c.in-Ok-open.ensures.left_alone
+
 -- ---- before the disk got a call
 
 pub returns-in_default-clause-any_moment : goal.returns-in_default-clause-any_moment
 returns-in_default-clause-any_moment g c = not_called g.D.Disk.now g.D.Disk.moment g.D.Disk.images g.D.Disk.since (laws g) (digest_of c.args.module) c.args.disk
+
+pub returns-in_default-clause-unwritten : goal.returns-in_default-clause-unwritten
+returns-in_default-clause-unwritten g c = λ _. untouched g.D.Disk.now g.D.Disk.moment g.D.Disk.images g.D.Disk.since (laws g) c.args.disk
 
 -- ---- a file that was not opened
 
@@ -82,8 +91,10 @@ returns-in-Err-read_bodies-clause-same g c = λ _.
 
 pub returns-in-Err-read_bodies-clause-unwritten : goal.returns-in-Err-read_bodies-clause-unwritten
 returns-in-Err-read_bodies-clause-unwritten g c = λ _.
-    subst (λ d. IfSome (g.D.Disk.now c.args.disk) (λ _. (x : List ℕ) → g.D.Disk.images d x → g.D.Disk.images c.args.disk x)) (sym c.into_disk.ensures)
-    (no_new g.D.Disk.now g.D.Disk.images c.args.module c.args.disk c.in-Ok-open.opened.0 (contents c.in-Ok-open.opened.1.items) (opened_here g (goal.at.returns-in-Err-read_bodies-clause-unwritten g c).After-read_bodies) (λ none. absurd (false≢true (c.in-Err-read_bodies.ensures.none (ap contents c.as_slice-2.ensures.value ∙ none)))) (g.met.D.Disk.now_is_image c.args.disk))
+    let at = (goal.at.returns-in-Err-read_bodies-clause-unwritten g c).After-read_bodies in
+    subst (λ d. IfSome (g.D.Disk.now c.args.disk) (λ _. LeavesOnly g.D.Disk.moment g.D.Disk.since c.args.disk d (g.D.Disk.images c.args.disk))) (sym c.into_disk.ensures)
+    (not_written g.D.Disk.now g.D.Disk.images c.args.module c.args.disk c.in-Ok-open.opened.0 (contents c.in-Ok-open.opened.1.items) (opened_here g at) (λ none. absurd (false≢true (c.in-Err-read_bodies.ensures.none (ap contents c.as_slice-2.ensures.value ∙ none))))
+    (LeavesOnly g.D.Disk.moment g.D.Disk.since c.args.disk c.in-Ok-open.opened.0.disk (g.D.Disk.images c.args.disk)) (alone_here g at))
 
 -- ---- a file that was taken up
 
@@ -110,3 +121,6 @@ returns-in-Ok-read_bodies-clause-kept g c =
     let at = (goal.at.returns-in-Ok-read_bodies-clause-kept g c).After-read_bodies in
     kept g.D.Disk.now g.D.Disk.images c.args.module c.args.disk c.in-Ok-open.opened.0 (contents c.in-Ok-open.opened.1.items) (opened_here g at) c.read_bodies.new.table c.of-opened.result.value c.len-count.result c.of-opened.ensures
     (omega (arith, length-map c.in-Ok-open.opened.1.items (λ v. v.items), c.len-count.ensures, c.in-Ok-open.opened.1.ok)) (c.read_bodies.ensures.resolved ∙ c.in-Ok.ensures.resolved) (squares_here g at (Ok c.read_bodies.new.table.start) c.in-Ok-read_bodies.ensures.read) c.in-Ok-read_bodies.ensures.is_table c.read_bodies.ensures.all_read
+
+pub returns-in-Ok-read_bodies-clause-left_alone : goal.returns-in-Ok-read_bodies-clause-left_alone
+returns-in-Ok-read_bodies-clause-left_alone g c = alone_here g (goal.at.returns-in-Ok-read_bodies-clause-left_alone g c).After-read_bodies
