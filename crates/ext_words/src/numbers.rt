@@ -156,6 +156,9 @@ fn class_from(texts: &[&str]) -> Option<Class>
 }
 
 /// The class that a word says: its row, its degree and its number, joined by commas.
+///
+/// # Errors
+/// `Memory` where there is none for the work.
 pub fn class_of(alloc: Global, word: &str) -> Result<Option<Class>, Memory>
     ensures { IfOk result (λ class. class ≡ class_of word.now) }
 {
@@ -179,6 +182,9 @@ fn positive_numbers(alloc: Global, limit: u16, texts: &[&str]) -> Result<Option<
 
 /// The product of squares that a word says: their numbers, joined by commas. None where there are too many, or the degree is too
 /// great, or one is no number above 0.
+///
+/// # Errors
+/// `Memory` where there is none for it.
 pub fn product_of(alloc: Global, word: &str) -> Result<Option<Mono>, Memory>
     ensures { IfOk result (λ product. product ≡ product_of word.now) }
 {

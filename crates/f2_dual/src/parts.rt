@@ -51,6 +51,9 @@ fn rows_before(rows: &[BitVec], end: usize) -> usize
 }
 
 /// A copy of the candidate at the pivot of each kernel row, whose part right of the bar begins at place `n`.
+///
+/// # Errors
+/// `Memory` where there is none for them.
 pub fn new_rows(
     alloc: Global,
     n: usize,
@@ -73,6 +76,9 @@ pub fn new_rows(
 /// The preimages of the candidates, coefficients of the rows and of the new ones, and the reduced relations between the rows, which
 /// have zeros at the new ones. `image` and `kernel` are the rows of the form, of length `width`, that go to its image and its kernel;
 /// the bar stands at place `n`. The columns at the pivots of the image are not made.
+///
+/// # Errors
+/// `Memory` where there is none for them.
 pub fn preimages_and_relations(
     alloc: Global,
     n: usize,

@@ -10,6 +10,9 @@ use memory::Memory;
 use std::alloc::Global;
 
 /// For each of `n` places the number of the row whose pivot is there.
+///
+/// # Errors
+/// `Memory` where there is none for it.
 pub fn table_of_pivots(
     alloc: Global,
     n: usize,

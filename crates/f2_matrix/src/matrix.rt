@@ -65,6 +65,9 @@ impl Matrix {
     }
 
     /// Puts one more row at the end.
+    ///
+    /// # Errors
+    /// `Memory` where there is none for it.
     pub fn push_row(&mut self, row: BitVec) -> Result<(), Memory>
         requires { length row ≡ self.old.cols }
         ensures cols { self.new.cols ≡ self.old.cols }
@@ -110,6 +113,9 @@ impl Matrix {
     }
 
     /// The matrix with the unit matrix put to the right of it, `[D | I]`.
+    ///
+    /// # Errors
+    /// `Memory` where there is none for it.
     pub fn augment(&self, alloc: Global) -> Result<Matrix, Memory>
         ensures cols { IfOk result (λ m. m.cols ≡ self.now.cols + length self.now.rows) }
         ensures rows { IfOk result (λ m. m.rows ≡ augmented self.now.rows) }

@@ -38,6 +38,9 @@ impl Model for Reduced {
 
 impl Reduced {
     /// Reduces `[D | I]` once, for the matrix D.
+    ///
+    /// # Errors
+    /// `Memory` where there is none for it.
     pub fn of(alloc: Global, matrix: &Matrix) -> Result<Self, Memory>
         ensures parts { IfOk result (λ r. IsReductionOf matrix.now.cols matrix.now.rows r) }
         ensures cols { IfOk result (λ r. r.cols ≡ matrix.now.cols) }
@@ -136,6 +139,9 @@ impl Reduced {
     }
 
     /// Whether `v` is a sum of rows of the matrix.
+    ///
+    /// # Errors
+    /// `Memory` where there is none for the work.
     pub fn contains(&self, alloc: Global, v: &BitVec) -> Result<bool, Memory>
         requires { length v.now ≡ self.now.cols }
         ensures { IfOk result (λ inside. IsTrue inside ↔ IsInSpan self.now.cols self.now.image v.now) }
@@ -145,6 +151,9 @@ impl Reduced {
 
     /// The preimage of `v`: the coefficients, one for each row of the matrix, that give `v` and are zero at the
     /// pivots of the kernel rows. There is one just where `v` is a sum of rows of the matrix.
+    ///
+    /// # Errors
+    /// `Memory` where there is none for it.
     pub fn preimage(&self, alloc: Global, v: &BitVec) -> Result<Option<BitVec>, Memory>
         requires { length v.now ≡ self.now.cols }
         ensures inside { IfOk result (λ found. IsSome found ↔ IsInSpan self.now.cols self.now.image v.now) }
@@ -157,8 +166,12 @@ impl Reduced {
         Ok(Some(self.quasi(alloc, v)?))
     }
 
-    /// The quasi-inverse at `v`, on every vector: the sum of the chosen preimages of those image rows at whose
-    /// pivots `v` has a 1. It has one coefficient for each row of the matrix, and is the preimage where there is one.
+    /// Applies the quasi-inverse to `v`, which need not be in the image: each image row whose pivot column has a 1 in `v`
+    /// gives its chosen preimage, and these are added. There is one coefficient for each row of the matrix; where `v` is in
+    /// the image, this is its preimage.
+    ///
+    /// # Errors
+    /// `Memory` where there is none for it.
     pub fn quasi(&self, alloc: Global, v: &BitVec) -> Result<BitVec, Memory>
         requires { length v.now ≡ self.now.cols }
         ensures sum { IfOk result (λ c. c ≡ quasi_of self.now.height self.now.image self.now.chosen v.now) }
@@ -171,6 +184,9 @@ impl Reduced {
     }
 
     /// The same reduction. Its image and kernel rows are shared, not copied.
+    ///
+    /// # Errors
+    /// `Memory` where there is none for it.
     pub fn try_copy(&self, alloc: Global) -> Result<Reduced, Memory>
         ensures { IfOk result (λ copy. copy ≡ self.now) }
     {

@@ -26,6 +26,9 @@ impl Model for Rows {
 
 impl Rows {
     /// These rows, to be shared.
+    ///
+    /// # Errors
+    /// `Memory` where there is none for it.
     pub fn of(alloc: Global, rows: Vec<BitVec>) -> Result<Rows, Memory>
         ensures { IfOk result (λ shared. shared ≡ rows.items) }
     {
@@ -41,7 +44,10 @@ impl Rows {
         self.held.rows.as_slice()
     }
 
-    /// One more owner of the same rows, which takes no memory. It fails only where there are too many owners to count.
+    /// One more owner of the same rows, which takes no memory.
+    ///
+    /// # Errors
+    /// `Memory` where there are too many owners to count.
     pub fn share(&self) -> Result<Rows, Memory>
         ensures { IfOk result (λ shared. shared ≡ self.now) }
     {

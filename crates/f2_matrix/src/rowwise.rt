@@ -34,6 +34,9 @@ pub struct Quarters<'a> {
 }
 
 /// Brings the rows to row reduced echelon form.
+///
+/// # Errors
+/// `Memory` where there is none for the work.
 pub fn eliminate(alloc: Global, cols: usize, rows: &mut [BitVec]) -> Result<(), Memory>
     requires { HaveWidth cols rows.old }
     ensures ok { OnOk result (IsEchelonForm cols rows.old rows.new) }

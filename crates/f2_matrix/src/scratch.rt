@@ -30,6 +30,9 @@ impl Model for Scratch {
 
 impl Scratch {
     /// Room for the rows of a matrix with this many columns.
+    ///
+    /// # Errors
+    /// `Memory` where there is none for it.
     pub fn new(alloc: Global, cols: usize) -> Result<Self, Memory>
         ensures { IfOk result (λ s. s ≡ cols) }
     {
@@ -39,6 +42,9 @@ impl Scratch {
 }
 
 /// Room for the sums of up to `bits` rows of length `cols`.
+///
+/// # Errors
+/// `Memory` where there is none for it.
 pub fn room_for_sums(alloc: Global, cols: usize, bits: usize) -> Result<Vec<BitVec>, Memory>
     requires { bits ≤ 8 }
     ensures { IfOk result (λ table. IsRoomForSums cols bits table.items) }

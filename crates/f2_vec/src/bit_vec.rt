@@ -50,6 +50,9 @@ impl Clone for BitVec {
 
 impl BitVec {
     /// The zero vector of length `n`.
+    ///
+    /// # Errors
+    /// `Memory` where there is none for it.
     pub fn zero(alloc: Global, n: usize) -> Result<Self, Memory>
         ensures { IfOk result (λ v. v ≡ zeros n) }
     {
@@ -60,6 +63,9 @@ impl BitVec {
     }
 
     /// `count` zero vectors of length `n`.
+    ///
+    /// # Errors
+    /// `Memory` where there is none for them.
     pub fn zero_rows(alloc: Global, count: usize, n: usize) -> Result<Vec<Self>, Memory>
         ensures { IfOk result (λ rows. rows.items ≡ replicate count (zeros n)) }
     {
@@ -71,6 +77,9 @@ impl BitVec {
     }
 
     /// The unit vector of length `n` with its 1 at place `i`.
+    ///
+    /// # Errors
+    /// `Memory` where there is none for it.
     pub fn unit(alloc: Global, n: usize, i: usize) -> Result<Self, Memory>
         requires { i < n }
         ensures { IfOk result (λ v. v ≡ unit_vector n i) }
@@ -196,6 +205,9 @@ impl BitVec {
     }
 
     /// The `len` coordinates from place `from` on.
+    ///
+    /// # Errors
+    /// `Memory` where there is none for them.
     pub fn part(&self, alloc: Global, from: usize, len: usize) -> Result<Self, Memory>
         requires { from + len ≤ length self.now }
         ensures { IfOk result (λ part. part ≡ take len (drop from self.now)) }
@@ -245,6 +257,9 @@ impl BitVec {
     }
 
     /// The places that hold a 1, in rising order.
+    ///
+    /// # Errors
+    /// `Memory` where there is none for the list.
     pub fn ones(&self, alloc: Global) -> Result<Vec<usize>, Memory>
         ensures places { IfOk result (λ ones. ones.items ≡ items_where_true self.now (range_with_len 0 (length self.now))) }
         ensures within { IfOk result (λ ones. EachIndex ones.items (λ k. slice_index ones.items k < length self.now)) }
@@ -261,6 +276,9 @@ impl BitVec {
     }
 
     /// Puts one more coordinate at the end.
+    ///
+    /// # Errors
+    /// `Memory` where there is none for it.
     pub fn push(&mut self, b: bool) -> Result<(), Memory>
         ensures ok { OnOk result (self.new ≡ self.old ++ b ∷ []) }
         ensures err { OnErr result (self.new ≡ self.old) }
@@ -279,6 +297,9 @@ impl BitVec {
     }
 
     /// Puts the coordinates of `other` at the end, in order.
+    ///
+    /// # Errors
+    /// `Memory` where there is none for them.
     pub fn append(&mut self, other: &BitVec) -> Result<(), Memory>
         ensures ok { OnOk result (self.new ≡ self.old ++ other.now) }
         ensures err { OnErr result (self.new ≡ self.old) }
@@ -296,6 +317,9 @@ impl BitVec {
 
     /// The vector of length `n` with these bytes, eight coordinates to a byte, lowest bit first. There have to be as many bytes as
     /// `n` coordinates take, and the bits of the last byte that are no coordinate have to be 0.
+    ///
+    /// # Errors
+    /// `Length` where there are more or fewer bytes, `SpareBits` where one of the last bits is 1, and `Memory` where there is none for it.
     pub fn from_bytes(alloc: Global, n: usize, bytes: &[u8]) -> Result<Self, BitsFault>
         ensures len { IfOk result (λ v. length v ≡ n) }
         ensures bytes { IfOk result (λ v. packed v ≡ bytes.now) }
@@ -319,6 +343,9 @@ impl BitVec {
     }
 
     /// The bytes of the vector, eight coordinates to a byte, lowest bit first. The bits of the last byte that are no coordinate are 0.
+    ///
+    /// # Errors
+    /// `Memory` where there is none for them.
     pub fn to_bytes(&self, alloc: Global) -> Result<Vec<u8>, Memory>
         ensures { IfOk result (λ bytes. bytes.items ≡ packed self.now) }
     {
@@ -328,6 +355,9 @@ impl BitVec {
     }
 
     /// Puts the bytes of the vector at the end of `bytes`.
+    ///
+    /// # Errors
+    /// `Memory` where there is none for them.
     pub fn append_bytes(&self, bytes: &mut Vec<u8>) -> Result<(), Memory>
         ensures ok { OnOk result (bytes.new.items ≡ bytes.old.items ++ packed self.now) }
         ensures err { OnErr result (bytes.new.items ≡ bytes.old.items) }
@@ -343,6 +373,9 @@ impl BitVec {
     }
 
     /// A vector of the same coordinates.
+    ///
+    /// # Errors
+    /// `Memory` where there is none for it.
     pub fn try_copy(&self, alloc: Global) -> Result<Self, Memory>
         ensures { IfOk result (λ v. v ≡ self.now) }
     {

@@ -64,6 +64,9 @@ impl Model for Generators {
 
 impl Generators {
     /// The generators of a module file.
+    ///
+    /// # Errors
+    /// `Memory` where there is none for them.
     pub fn of(alloc: Global, spec: &Spec) -> Result<Self, Memory>
         ensures { IfOk result (λ generators. generators ≡ spec.now.generators) }
     {
@@ -90,6 +93,9 @@ impl Generators {
     }
 
     /// These generators by degree; those of one degree keep their order.
+    ///
+    /// # Errors
+    /// `Memory` where there is none for the work.
     pub fn by_degree(mut list: Vec<Generator>) -> Result<Self, Memory>
         requires { AreByDegree (by_degree list.items) }
         ensures { IfOk result (λ generators. generators ≡ by_degree list.items) }
@@ -218,6 +224,9 @@ impl Generators {
     }
 
     /// Generator `i` as a vector of its degree.
+    ///
+    /// # Errors
+    /// `Memory` where there is none for it.
     pub fn unit(&self, alloc: Global, i: usize) -> Result<BitVec, Memory>
         requires { i < length self.now }
         ensures { IfOk result (λ v. v ≡ unit self.now i) }
@@ -227,6 +236,9 @@ impl Generators {
     }
 
     /// The sum of these generators as a vector of degree `t`.
+    ///
+    /// # Errors
+    /// `Memory` where there is none for it.
     pub fn sum(&self, alloc: Global, numbers: &[usize], t: i64) -> Result<BitVec, Memory>
         ensures { IfOk result (λ v. v ≡ sum_vector self.now numbers.now t) }
     {

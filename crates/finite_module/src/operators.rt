@@ -71,6 +71,9 @@ impl Model for Operators {
 
 impl Operators {
     /// The generators, with no operator so far.
+    ///
+    /// # Errors
+    /// `Memory` where there is none for them.
     pub fn new(alloc: Global, generators: Generators) -> Result<Self, Memory>
         ensures { IfOk result (λ m. m ≡ record { generators = generators; operators = [] }) }
     {
@@ -138,6 +141,9 @@ impl Operators {
     }
 
     /// The value of Sq(R) on generator `i`.
+    ///
+    /// # Errors
+    /// `Memory` where there is none for it.
     pub fn value(&self, alloc: Global, r: &Exps, i: usize) -> Result<BitVec, Memory>
         requires { i < length self.now.generators }
         ensures { IfOk result (λ v. v ≡ value self.now.generators self.now.operators r.now i) }
@@ -152,6 +158,9 @@ impl Operators {
     }
 
     /// The value of Sq(R) on the vector `v` of degree `t`.
+    ///
+    /// # Errors
+    /// `Memory` where there is none for it.
     pub fn act_on(&self, alloc: Global, r: &Exps, t: i64, v: &BitVec) -> Result<BitVec, Memory>
         requires { length v.now ≡ width self.now.generators t }
         ensures { IfOk result (λ w. w ≡ act_on self.now.generators self.now.operators r.now t v.now) }
@@ -167,6 +176,9 @@ impl Operators {
     }
 
     /// The sum of the values of these Sq(R), which are of degree `n`, on generator `i`.
+    ///
+    /// # Errors
+    /// `Memory` where there is none for it.
     pub fn sum_on(
         &self,
         alloc: Global,
@@ -199,6 +211,9 @@ impl Operators {
     }
 
     /// Puts the operator of Sq(R), the next element of Milnor's bases, behind the others.
+    ///
+    /// # Errors
+    /// `Memory` where there is none for it.
     pub fn push(&mut self, r: &Exps, operator: Operator) -> Result<(), Memory>
         requires next { slice_get (elements (span self.old.generators + 1)) (length self.old.operators) ≡ Some r.now }
         requires widths { EachIndex operator (λ i. length (slice_index_or operator i []) ≡ width self.old.generators (degree_at self.old.generators i +ℤ pos (degree_of r.now))) }

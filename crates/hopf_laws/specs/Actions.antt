@@ -43,7 +43,7 @@ blocks f g (inr y) (inr z) = g y z
 abbrev pub sum : {X Y : Type 0} → Action X → Action Y → Action (X ⊎ Y)
 sum m k = record { basis = map inl m.basis ++ map inr k.basis; degree = either_degree m k; coefficient = λ r. blocks (m.coefficient r) (k.coefficient r); same = blocks m.same k.same }
 
--- Sq(R) is the sum over R1 + R2 = R of Sq(R1) tensor Sq(R2)
+-- by Cartan's formula: each way to write R as R1 + R2 lets Sq(R1) act on the left factor and Sq(R2) on the right one
 abbrev pub tensor : {X Y : Type 0} → Action X → Action Y → Action (X × Y)
 tensor m k = record {
   basis = flat_map (λ x. map (λ y. (x, y)) k.basis) m.basis;

@@ -99,9 +99,9 @@ fn describe(alloc: Global, file: &Value) -> Result<Spec, Malformed>
 /// such as `Sq2 x0 = x2 + y2`, whose right side is `0` for none. The keys `"cofiber"` and `"shift"` are refused, and
 /// others are passed over. A repeated key has its last value.
 ///
-/// An error is the first check that fails, in this order: bytes, JSON, `"type"`, the refused keys, `"p"`, `"gens"`, each
-/// generator in the order of the names' bytes, the span of the degrees, `"actions"`, each action. `Memory` may come at
-/// any time.
+/// # Errors
+/// The first check that fails, in this order: bytes, JSON, `"type"`, the refused keys, `"p"`, `"gens"`, each generator in
+/// the order of the names' bytes, the span of the degrees, `"actions"`, each action. `Memory` may come at any time.
 pub fn read(alloc: Global, bytes: &[u8]) -> Result<Spec, Malformed>
     ensures module { IfOk result (λ s. IsFileOf bytes.now (Ok s)) }
     ensures refused { IfErr result (λ e. e ≢ Malformed.Memory → IsFileOf bytes.now (Err e)) }
@@ -136,9 +136,10 @@ fn describe_parts(alloc: Global, file: &Value, want: usize) -> Result<Vec<Spec>,
 ///
 /// The file is a JSON array of at most 2^20 bytes. Its items are `want` modules, each as in a file that [`read`] takes.
 ///
-/// An error is the first check that fails, in this order: bytes, JSON, that it is an array, how many items it has, each
-/// item by the checks of [`read`] from the one on that it is an object. It does not tell which item it is of. `Memory`
-/// may come at any time.
+/// # Errors
+/// The first check that fails, in this order: bytes, JSON, that it is an array, how many items it has, each item by the
+/// checks of [`read`] from the one on that it is an object. It does not tell which item it is of. `Memory` may come at any
+/// time.
 pub fn read_parts(alloc: Global, bytes: &[u8], want: usize) -> Result<Vec<Spec>, Malformed>
     ensures modules { IfOk result (λ specs. ArePartsOf want bytes.now (Ok specs.items)) }
     ensures refused { IfErr result (λ e. e ≢ Malformed.Memory → ArePartsOf want bytes.now (Err e)) }
