@@ -1,6 +1,7 @@
 -- The generators of one degree, and how far apart the degrees are.
-use Rattle.std.proofs.Common.{◌≡◌, ℕ, zero, suc, ◌+◌, ◌-◌, ◌<◌, ◌≤◌, ℤ, pos, ◌+ℤ◌, ◌≤ℤ◌, ◌<ℤ◌, Bool, true, false, cond, Some, option_map, List, [], ◌∷◌, ◌++◌, length, take, get_or, refl, sym, subst, ap, ◌∙◌, arith, slice_get, slice_index_or}
-use Rattle.std.specs.Prelude.{int_lt, neg_ℤ}
+use Rattle.std.proofs.Common.{◌≡◌, ◌⊎◌, inl, inr, ℕ, zero, suc, ◌+◌, ◌-◌, ◌<◌, ◌≤◌, ℤ, pos, ◌+ℤ◌, ◌≤ℤ◌, ◌<ℤ◌, Bool, true, false, cond, Some, option_map, List, [], ◌∷◌, ◌++◌, length, take, get_or, refl, sym, subst, ap, ◌∙◌, arith, slice_get, slice_index_or}
+use Rattle.std.specs.Prelude.{int_lt, int_le, neg_ℤ}
+use Rattle.std.specs.List.Sorted.{IsPartitionPoint, IsPartitionedBy}
 use Rattle.std.specs.Ordering.{int_eq}
 use Rattle.std.specs.List.{count_by, range_with_len}
 use Rattle.std.proofs.lemmas.Int.{ints, by_lt_z}
@@ -10,7 +11,8 @@ use Rattle.std.proofs.lemmas.List.{take_more}
 use Rattle.std.proofs.lemmas.List.FromFn.{length-range_with_len, get_or-range_with_len}
 use Rattle.f2_vec.specs.Spans.{unit_vector}
 use Rattle.std.proofs.lemmas.Option.{slice_get-get_or}
-use Rattle.std.proofs.lemmas.List.Sums.{sum_by-cons}
+use Rattle.std.proofs.lemmas.List.Sums.{sum_by-cons, count_by-le-length}
+use Rattle.std.proofs.lemmas.Bool.{cases_lt}
 use Rattle.module_json.specs.WellFormed.{NeverFall, AreByDegree}
 use Rattle.module_json.specs.declared.limits.TheConstants.{MAX_DEGREE, MAX_SPAN}
 use Rattle.finite_module.specs.Module.{numbers_from, generators_in, width, unit, bottom}
@@ -64,6 +66,12 @@ lt_yes x y h = grind (arith, ints)
 
 lt_no : (x y : ℤ) → y ≤ℤ x → int_lt x y ≡ false
 lt_no x y h = grind (arith, ints)
+
+le_yes : (x y : ℤ) → x ≤ℤ y → int_le x y ≡ true
+le_yes x y h = grind (arith, ints)
+
+le_no : (x y : ℤ) → y <ℤ x → int_le x y ≡ false
+le_no x y h = grind (arith, ints)
 
 eq_yes : (x y : ℤ) → x ≡ y → int_eq x y ≡ true
 eq_yes x y e = (Decides-int_eq x y).1 e
@@ -131,28 +139,62 @@ numbers_from_are i (g ∷ gs) t h =
     let b : count_by (is_in t) (g ∷ gs) ≡ 0 = count-cons (is_in t) g gs false no ∙ omega arith in
     ap pick no ∙ later ∙ range_same _ (suc i + count_by (is_below t) gs) _ 0 refl none ∙ sym (range_same _ (i + count_by (is_below t) (g ∷ gs)) _ 0 refl b))
 
-pub generators_in_are : (gs : List Generator) (t : ℤ) (start len : ℕ) → AreByDegree gs → start ≡ count_by (is_below t) gs → len ≡ count_by (is_in t) gs → generators_in gs t ≡ range_with_len start (start + len - start)
-generators_in_are gs t start len h a b =
-    numbers_from_are 0 gs t h.ordered ∙ range_same _ _ _ _ (omega arith) (omega arith)
+-- ---- searched by halves
 
-both_within : {X : Type 0} (p q : X → Bool) (xs : List X) → ((x : X) → p x ≡ true → q x ≡ false) → count_by p xs + count_by q xs ≤ length xs
-both_within p q [] h = omega arith
-both_within p q (x ∷ xs) h = by (p x) (q x) refl refl (both_within p q xs h) where
-  no : true ≡ false → ⊥
-  no e = cc
+-- where a test passes up to i and fails from there on, i generators pass it
+pub count_by-point : (p : Generator → Bool) (gs : List Generator) (i : ℕ) → i ≤ length gs → IsPartitionPoint (λ g. p g ≡ true) (λ g. p g ≡ false) gs i → i ≡ count_by p gs
+count_by-point p [] i l h = omega arith
+count_by-point p (g ∷ gs) zero l h = sym (count_none p (g ∷ gs) (λ j m. h.1 j no_generator (omega arith) m))
+count_by-point p (g ∷ gs) (suc i) l h =
+    let later = count_by-point p gs i (omega arith) ((λ k d m n. h.0 (suc k) d (omega arith) (omega arith)), (λ k d m n. h.1 (suc k) d (omega arith) (omega arith))) in
+    omega (arith, count-cons p g gs true (h.0 0 no_generator (omega arith) (omega arith)))
 
-  by : (b c : Bool) → p x ≡ b → q x ≡ c → count_by p xs + count_by q xs ≤ length xs → count_by p (x ∷ xs) + count_by q (x ∷ xs) ≤ suc (length xs)
-  by true true e f later = absurd (no (sym f ∙ h x e))
-  by true false e f later = omega (arith, count-cons p x xs true e, count-cons q x xs false f)
-  by false true e f later = omega (arith, count-cons p x xs false e, count-cons q x xs true f)
-  by false false e f later = omega (arith, count-cons p x xs false e, count-cons q x xs false f)
+never_falls : (gs : List Generator) (i j : ℕ) (d : Generator) → NeverFall gs → i ≤ j → j < length gs → (slice_index_or gs i d).degree ≤ℤ (slice_index_or gs j d).degree
+never_falls gs i j d h l m = by (cases_lt i j) where
+  by : (i < j) ⊎ (j ≤ i) → (slice_index_or gs i d).degree ≤ℤ (slice_index_or gs j d).degree
+  by (inl k) = h i j d k m
+  by (inr k) = let e : i ≡ j = omega arith in rw e (omega (arith, ints))
 
-pub generators_in_end : (gs : List Generator) (t : ℤ) (start len : ℕ) → start ≡ count_by (is_below t) gs → len ≡ count_by (is_in t) gs → start + len ≤ length gs
-generators_in_end gs t start len a b =
-    omega (arith, both_within (is_below t) (is_in t) gs (λ g e. by_order (int_eq g.degree t ≡ false) g.degree t (λ l. eq_no g.degree t (λ f. omega (arith, ints))) (λ s. absurd (no (sym e ∙ lt_no g.degree t (omega (arith, ints))))) (λ l. eq_no g.degree t (λ f. omega (arith, ints)))))
-  where
-    no : true ≡ false → ⊥
-    no e = cc
+-- whether a generator is of a degree of at most t
+abbrev pub is_upto : ℤ → Generator → Bool
+is_upto t = λ g. int_le g.degree t
+
+below_back : (t x y : ℤ) → x ≤ℤ y → int_lt y t ≡ true → int_lt x t ≡ true
+below_back t x y l e = grind (arith, ints)
+
+upto_back : (t x y : ℤ) → x ≤ℤ y → int_le y t ≡ true → int_le x t ≡ true
+upto_back t x y l e = grind (arith, ints)
+
+pub below_is_partitioned : (gs : List Generator) (t : ℤ) → NeverFall gs → IsPartitionedBy (is_below t) gs
+below_is_partitioned gs t h i j d l m e = below_back t _ _ (never_falls gs i j d h l m) e
+
+pub upto_is_partitioned : (gs : List Generator) (t : ℤ) → NeverFall gs → IsPartitionedBy (is_upto t) gs
+upto_is_partitioned gs t h i j d l m e = upto_back t _ _ (never_falls gs i j d h l m) e
+
+-- those of a degree of at most t are those below t and those in t
+count_upto : (gs : List Generator) (t : ℤ) → count_by (is_upto t) gs ≡ count_by (is_below t) gs + count_by (is_in t) gs
+count_upto [] t = refl
+count_upto (g ∷ gs) t =
+    let later = count_upto gs t in
+    by_order (count_by (is_upto t) (g ∷ gs) ≡ count_by (is_below t) (g ∷ gs) + count_by (is_in t) (g ∷ gs)) g.degree t
+    (λ l. omega (arith, count-cons (is_upto t) g gs true (le_yes g.degree t (omega (arith, ints))), count-cons (is_below t) g gs true (lt_yes g.degree t l), count-cons (is_in t) g gs false (eq_no g.degree t (λ e. omega (arith, ints)))))
+    (λ s. omega (arith, count-cons (is_upto t) g gs true (le_yes g.degree t (omega (arith, ints))), count-cons (is_below t) g gs false (lt_no g.degree t (omega (arith, ints))), count-cons (is_in t) g gs true (eq_yes g.degree t s)))
+    (λ l. omega (arith, count-cons (is_upto t) g gs false (le_no g.degree t l), count-cons (is_below t) g gs false (lt_no g.degree t (omega (arith, ints))), count-cons (is_in t) g gs false (eq_no g.degree t (λ e. omega (arith, ints)))))
+
+-- the numbers of the generators of degree t, from where those below end to where those of at most t end
+pub record AreBetween (gs : List Generator) (t : ℤ) (start end : ℕ) : Type 0 where
+  pub numbers : generators_in gs t ≡ range_with_len start (end - start)
+  pub in_order : start ≤ end
+  pub within : end ≤ length gs
+
+pub are_between : (gs : List Generator) (t : ℤ) (start end : ℕ) → AreByDegree gs → start ≡ count_by (is_below t) gs → end ≡ count_by (is_upto t) gs → AreBetween gs t start end
+are_between gs t start end h a b =
+    let upto = count_upto gs t in
+    record {
+      numbers = numbers_from_are 0 gs t h.ordered ∙ range_same _ _ _ _ (omega arith) (omega arith);
+      in_order = omega arith;
+      within = omega (arith, count_by-le-length (is_upto t) gs);
+    }
 
 -- generator i is one of those of its degree, behind those before it
 module _ (t : ℤ) where

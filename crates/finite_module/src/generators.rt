@@ -1,7 +1,6 @@
 //! The generators of a module, and those of one degree.
-ghost use Rattle.std.specs.Prelude.{◌≡◌, ℕ, ◌-◌, ◌<◌, ◌≤◌, pos, ◌+ℤ◌, neg_ℤ, ◌≤ℤ◌, int_lt, nat_eq, [], ◌∷◌, length, IfOk, string_bytes};
+ghost use Rattle.std.specs.Prelude.{◌≡◌, ℕ, ◌-◌, ◌<◌, ◌≤◌, pos, ◌+ℤ◌, neg_ℤ, ◌≤ℤ◌, int_lt, int_le, nat_eq, [], ◌∷◌, length, IfOk, string_bytes};
 ghost use Rattle.std.specs.List.{count_by, list_any, range_with_len};
-ghost use Rattle.std.specs.Ordering.{int_eq};
 ghost use Rattle.milnor_basis.specs.Exponents.{degree_of};
 ghost use Rattle.module_json.specs.ModuleFile.{degree_at, by_degree, number_of};
 ghost use Rattle.module_json.specs.WellFormed.{AreByDegree};
@@ -174,21 +173,18 @@ impl Generators {
         (self.top() - self.bottom()) as u16
     }
 
-    /// How many generators are of a degree below `t`.
+    /// How many generators are of a degree below `t`. The degrees do not fall, so it is searched by halves.
     fn count_below(&self, t: i64) -> usize
         ensures { result ≡ count_by (λ g. int_lt g.degree t) self.now }
     {
-        self.list.iter().filter(|g| i64::from(g.degree) < t).count()
+        self.list.partition_point(|g| i64::from(g.degree) < t)
     }
 
-    /// How many generators are of degree `t`, counted one by one.
-    fn count_in(&self, t: i64) -> usize
-        ensures { result ≡ count_by (λ g. int_eq g.degree t) self.now }
+    /// How many generators are of a degree of at most `t`.
+    fn count_upto(&self, t: i64) -> usize
+        ensures { result ≡ count_by (λ g. int_le g.degree t) self.now }
     {
-        self.list
-            .iter()
-            .filter(|g| i64::from(g.degree) == t)
-            .count()
+        self.list.partition_point(|g| i64::from(g.degree) <= t)
     }
 
     /// How many generators are of degree `t`.
@@ -206,8 +202,7 @@ impl Generators {
         ensures end { result.end ≤ length self.now }
     {
         let _ = &self.list;
-        let start = self.count_below(t);
-        start..start + self.count_in(t)
+        self.count_below(t)..self.count_upto(t)
     }
 
     /// How many generators are of the degree to which Sq(R) takes degree `t`.

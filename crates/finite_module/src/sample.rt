@@ -59,11 +59,11 @@ impl Model for Action {
 impl Module {
     /// The module that `n` draws: a sum of 1 + (n mod 12) pieces, each of one cell or of two cells.
     ///
-    /// The numbers are v_0 = n mod 2^31 and v_(k+1) = (1103515245 v_k + 12345) mod 2^31, and v = v_(k+1) draws piece k, from
-    /// 0 on: its kind is (v div 65536) mod 5, and its shift (v div 256) mod 8. It has a generator `x` with the number k in
-    /// degree shift; of kind 0 that is all. Kinds 1 to 4 have also `y` with the number k, in a degree that is 1, 2, 4 or 8
-    /// higher, and that square takes the one to the other. The generators stand by degree, and in one degree by name, as
-    /// those of a module file do.
+    /// It is drawn with a linear congruential generator: v_0 = n mod 2^31, v_(k+1) = (1103515245 v_k + 12345) mod 2^31. Piece
+    /// k, counted from 0, comes from v = v_(k+1). Its lower cell is called `x` with the number k, and its degree is
+    /// (v div 256) mod 8. What (v div 65536) mod 5 is tells whether there is a second cell: at 0 there is none, and at 1 to 4
+    /// it is called `y` with the number k, and Sq1, Sq2, Sq4 or Sq8 takes the lower cell to it. The generators stand as those
+    /// of a module file do, by degree and in one degree by name.
     ///
     /// # Errors
     /// `Memory` where there is none for it.
