@@ -48,9 +48,9 @@ pub record IsSquareOf (table : Staircase) (s : ℕ) (t : ℤ) : Type 0 where
 
 -- ---- how far a lift goes
 
--- How many degrees, from the bottom of the first table on, a lift of a class that is `above` above it goes through: it goes through
--- the lesser of the greatest degree that row s + upto of this table reaches, and the class's degree with the greatest that row upto
--- of the sphere's reaches. It goes through none where one of these rows is empty.
+-- How many degrees, from the bottom of the first table on, the lift of a class that is `above` above it has: as many as both
+-- tables have room for. Row s + upto of the first table ends somewhere, and so, moved up by the class's degree, does row upto
+-- of the sphere's. Where one of these rows is empty it has none.
 abbrev pub shifted_length : ℕ → ℕ → ℕ
 shifted_length above zero = 0
 shifted_length above (suc n) = above + suc n

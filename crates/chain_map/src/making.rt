@@ -15,9 +15,10 @@ use memory::Memory;
 use square::Table;
 use std::alloc::Global;
 
-/// A lift of the class, through row `upto` of the sphere's resolution, and through the lesser of two degrees: the greatest that
-/// row s + upto of the module's table reaches, and the class's degree with the greatest that row `upto` of the sphere's
-/// reaches. Where one of these rows is empty it goes through none. Where the squares are canonical, it is a chain map on all vectors.
+/// Lifts the class to a chain map, on rows 0 to `upto` of the sphere's resolution. How far it goes up in each row is what both
+/// tables have room for: row s + upto of the module's table ends somewhere, and so does row `upto` of the sphere's, which the
+/// class moves up by its own degree; the lift stops at the lower of these two ends. Where one of the rows is empty it goes
+/// through no degree. Where the squares are canonical, it is a chain map on all vectors.
 ///
 /// # Errors
 /// `Memory` where there is none for it.

@@ -42,8 +42,8 @@ IsImageBetween list q image = (image ≡ Some list) ⊎ (image ≡ Some (list ++
 abbrev pub HoldsTable : List Entry → List (List Placed) → Type 0
 HoldsTable list rows = (s k : ℕ) → entry_at list s k ≡ option_map (λ q. q.content) (slice_get (row_in rows s) k)
 
--- The keeper goes with the table: where it tells, its list has just the table's squares, and its module and start are the
--- table's.
+-- What the keeper tells agrees with the table, where it tells anything: its list is of the same squares, and its module and
+-- the start that it read are those of the table.
 pub record IsKeeperOf (keeper : Keeper) (table : Staircase) : Type 0 where
   pub holds : IfSome keeper.kept (λ list. HoldsTable list table.rows)
   pub resolved : IfSome keeper.resolved (λ m. table.resolved ≡ m)

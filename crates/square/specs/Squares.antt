@@ -48,8 +48,9 @@ IsQuasi m below squares content reduction = IsReductionOf (target_width m below 
 
 -- ---- squares with their place
 
--- A square is `above` degrees above the bottom of the module that is resolved, and continues a start, the squares that were
--- read up to it, itself included where it was read. One that was made has kept the reduction of its matrix.
+-- A square of the resolution of a module, in row s and `above` degrees above the module's bottom. `start` lists what had been
+-- read of a save file when it came: where it was read itself, that includes it. A square that was made, not read, still has
+-- the reduction of its matrix.
 pub record Placed : Type 0 where
   pub resolved : Checked
   pub start : List Entry

@@ -74,7 +74,7 @@ pub trait Keep {
     ghost image_is_kept: { (k : Self) → (telling k).live → IfSome (telling k).kept (λ list. (image : Option (List Entry)) → (telling k).since (telling k).moment image → image ≡ Some list) };
 }
 
-/// A keeper that keeps nothing, and takes no memory.
+/// For runs without a save file: nothing is kept, and no memory is taken.
 #[derive(Clone, Copy, Debug)]
 pub struct NoKeep;
 
