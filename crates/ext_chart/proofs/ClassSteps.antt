@@ -37,10 +37,6 @@ line-parts a b = append_assoc (a ++ codes " -> ") b newline ∙ append_assoc a (
 
 -- ---- the lines of an indeterminacy
 
-pub no-lines : (s t : ℤ) (vectors : List (List Bool)) → length vectors ≡ 0 → indeterminacy_line s t [] ≡ indeterminacy_lines s t vectors
-no-lines s t [] e = refl
-no-lines s t (v ∷ vectors) e = absurd (omega (arith, e))
-
 pub some-lines : (s t : ℤ) (vectors : List (List Bool)) → 0 < length vectors → flat_map (indeterminacy_line s t) vectors ≡ indeterminacy_lines s t vectors
 some-lines s t [] l = absurd (omega (arith, l))
 some-lines s t (v ∷ vectors) l = refl

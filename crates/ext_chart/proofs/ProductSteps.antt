@@ -87,9 +87,6 @@ monomials-next monomials k text some l e =
     let within : k < length (places monomials) = omega (arith, length-range_with_len 0 (length monomials)) in
     ap (λ i. (text ++ codes " + ") ++ monomial_at monomials i) (sym (place-is monomials k l)) ∙ joined_by_plus-next (monomial_at monomials) (places monomials) k text some within e
 
-pub no-monomials : (monomials : List (List ℕ)) → length monomials ≡ 0 → codes "0" ≡ admissible_text monomials
-no-monomials monomials none = no-terms (map monomial_text monomials) (length-map monomials monomial_text ∙ none)
-
 pub joined-monomials : (monomials : List (List ℕ)) (k : ℕ) (text : List ℕ) → 0 < length monomials → length monomials ≤ k → text ≡ monomials_through monomials k → text ≡ admissible_text monomials
 joined-monomials monomials k text some l e =
     let at : ℕ → List ℕ = λ i. get_or monomials i [] in

@@ -16,7 +16,7 @@ use Rattle.ext_words.specs.declared.command.WordsFault.TheVariants.{Words as Out
 use Rattle.ext_run.specs.Failure.{words_failure}
 use Rattle.ext_words.specs.Words.{command_of}
 use Rattle.ext_run.specs.Input.{IsFileCauseFrom, IsModuleFrom}
-use Rattle.ext_run.specs.Answer.{IsAnswer, IsAnswerTo, IsAnswerFrom, IsCauseFrom, Reads, WordsRead, IsChart, IsDump, IsSummary, IsLineOn, IsProduct, IsText, IsProducts, IsBracket, IsModuleAnswer, no_file, no_module, answer_of, IsCommandAnswerFrom, IsCommandCauseFrom}
+use Rattle.ext_run.specs.Answer.{IsAnswer, IsAnswerTo, IsCauseFrom, Reads, IsChart, IsDump, IsSummary, IsLineOn, IsProduct, IsText, IsProducts, IsBracket, IsModuleAnswer, no_file, no_module, answer_of, IsCommandAnswerFrom, IsCommandCauseFrom}
 
 -- some bytes, and all that is left where that is told
 pub bytes_of : Option (List ℕ) → List ℕ
@@ -100,32 +100,7 @@ module _ (command : Command) (IsAnswerOf : SteenrodModule → Result (List ℕ) 
   module_cause (Classes e) p = absurd p
   module_cause Memory p = tt
 
--- ---- from a command to the words that give it
-
-pub words_answer : (words : List (List ℕ)) (left : Option (List ℕ)) (command : Command) (answer : Result (List ℕ) Failure) → command_of words ≡ Some command → IsCommandAnswerFrom command left answer → IsAnswerFrom words left answer
-words_answer words left command answer e p = record {
-  bytes = p.bytes;
-  all = p.all;
-  holds = subst (λ (o : Option Command). MatchOption o (answer ≡ Err Words) (λ c. IsAnswerTo c p.bytes answer)) (sym e) p.holds;
-}
-
-pub words_read : (words : List (List ℕ)) (command : Command) → command_of words ≡ Some command → Reads command → WordsRead words
-words_read words command e r = subst (λ (o : Option Command). MatchOption o ⊥ Reads) (sym e) r
-
-pub command_reads : (words : List (List ℕ)) (command : Command) → command_of words ≡ Some command → WordsRead words → Reads command
-command_reads words command e r = subst (λ (o : Option Command). MatchOption o ⊥ Reads) e r
-
-pub words_cause : (words : List (List ℕ)) (left : Option (List ℕ)) (command : Command) (failure : Failure) → command_of words ≡ Some command → IsCommandCauseFrom command left failure → IsCauseFrom words left failure
-words_cause words left command Words e p = words_answer words left command (Err Words) e p
-words_cause words left command (NoModuleFile d) e p = words_answer words left command (Err (NoModuleFile d)) e p
-words_cause words left command (NotModule f d) e p = words_answer words left command (Err (NotModule f d)) e p
-words_cause words left command (PastLimit what) e p = words_answer words left command (Err (PastLimit what)) e p
-words_cause words left command Reading e p = words_read words command e p
-words_cause words left command Writing e p = absurd p
-words_cause words left command Saving e p = absurd p
-words_cause words left command (SaveFile d) e p = absurd p
-words_cause words left command (Classes d) e p = absurd p
-words_cause words left command Memory e p = tt
+-- ---- words outside the grammar
 
 -- words outside the grammar are the cause of their refusal
 refused_as : (words : List (List ℕ)) (bytes : List ℕ) (a : Result (List ℕ) Failure) → command_of words ≡ None → a ≡ Err Words → IsAnswer words bytes a

@@ -1,9 +1,8 @@
 -- A table that was continued through a range, and what is told of it.
-use Rattle.std.proofs.Common.{◌≡◌, ℕ, ◌<◌, ◌⊎◌, inl, inr, List, [], length, Option, Some, None, ap, sym, subst, refl, arith}
+use Rattle.std.proofs.Common.{◌≡◌, ℕ, ◌<◌, ◌⊎◌, inl, inr, List, [], length, Option, Some, None, sym, subst, refl, arith}
 use Rattle.std.proofs.lemmas.Option.{slice_get_cases}
 use Rattle.std.specs.Prelude.{Result, Ok, Err, IfOk, IfErr, OnOk, IfSome, IsSome, slice_get}
 use Rattle.std.specs.Option.{option_map}
-use Rattle.edge.specs.Faults.{HasRisen}
 use Rattle.finite_module.specs.Checked.{Checked}
 use Rattle.finite_module.specs.Graded.{ModulesAreSteenrodModules}
 use Rattle.finite_module.specs.ModuleLaws.{width-below}
@@ -93,29 +92,6 @@ continued minimal modules range form table more text old new given grown are thr
   no_fault = λ has. no_fault;
   live = λ unfailed. live;
   whole = λ has. range_kept range more.rows new.kept through keeper.holds;
-  given = given;
-  kept = kept;
-}
-
-no_answer : (e : Failure) → (e ≡ Saving) ⊎ (e ≡ Memory) → IsOfClasses e → ⊥
-no_answer e (inl h) has = subst IsOfClasses h has
-no_answer e (inr h) has = subst IsOfClasses h has
-
-device_or_memory : (e : Failure) → (e ≡ Saving) ⊎ (e ≡ Memory) → (e ≡ Saving) ⊎ (e ≡ Memory) ⊎ IsOfClasses e
-device_or_memory e (inl h) = inl h
-device_or_memory e (inr h) = inr (inl h)
-
-pub not_continued : (range : Range) (form : Form) (table : Staircase) (e : Failure) (old new : Keeper) (given : List Entry) → (e ≡ Saving) ⊎ (e ≡ Memory) → (e ≡ Saving → HasRisen old.faults new.faults) → (e ≡ Memory → new.live) → HasKept (over table.resolved) table.start old new given → HasContinued range form table (Err e) old new
-not_continued range form table e old new given why failed lives kept = record {
-  told = λ has. absurd (no_answer e why has);
-  why = device_or_memory e why;
-  failed = λ is. failed (cc);
-  no_fault = λ has. absurd (no_answer e why has);
-  live = λ unfailed. elim why [
-    | inl saving ↦ absurd (unfailed (ap Err saving))
-    | inr memory ↦ lives memory
-  ];
-  whole = λ has. absurd (no_answer e why has);
   given = given;
   kept = kept;
 }

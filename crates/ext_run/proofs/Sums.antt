@@ -41,9 +41,6 @@ nothing_more : (old : Option (List ℕ)) → old ≡ with_more old []
 nothing_more None = refl
 nothing_more (Some l) = ap (λ (t : List ℕ). Some t) (sym (append-nil l))
 
-pub no_terms : (f : ℕ → List ℕ) (v : List Bool) (old : Option (List ℕ)) → HasTerms f v false 0 old old
-no_terms f v old = record { front = []; written = nothing_more old; parts = refl }
-
 module _ (f : ℕ → List ℕ) (v : List Bool) (some : Bool) (i : ℕ) (old new : Option (List ℕ)) (p : HasTerms f v some i old new) where
   -- the next place has no term
   pub term_skipped : i < length v → get_or v i false ≡ false → HasTerms f v some (i + 1) old new

@@ -4,7 +4,6 @@ use Rattle.std.proofs.Math.Seq.{take-add, take-length, take-append_seam, take-ap
 use Rattle.std.proofs.lemmas.Bool.{cases_lt}
 use Rattle.std.proofs.lemmas.List.{take_rest, take_all, take-append-le, length-drop}
 use Rattle.std.specs.Prelude.{Option, Some, None}
-use Rattle.edge.specs.Faults.{HasRisen}
 use Rattle.edge.specs.Sink.{with_more, HasPrefixMore}
 
 pub with_more-with_more : (w : Option (List ℕ)) (a b : List ℕ) → with_more (with_more w a) b ≡ with_more w (a ++ b)
@@ -53,8 +52,3 @@ pub HasPrefixMore-within : (a b rest whole : List ℕ) (old mid new : Option (Li
 HasPrefixMore-within a b rest whole old mid new e p is =
     let P : List ℕ → Type 0 = λ t. HasPrefixMore t old new in
     subst P (sym is) (HasPrefixMore-front (a ++ b) rest old new (HasPrefixMore-behind a b old mid new e p))
-
--- a count that rose later rose
-pub HasRisen-later : (old mid new : ℕ) → old ≤ mid → HasRisen mid new → HasRisen old new
-HasRisen-later old mid new l (inl h) = inl (omega arith)
-HasRisen-later old mid new l (inr h) = inr h

@@ -22,9 +22,6 @@ use Rattle.save_file.proofs.Unpacking.{length-unpacked, length-rows, unpacked_ro
 number_behind : (place n : ℕ) (front rest : List ℕ) → length front ≡ place → n < 2 ^ 64 → number_at w64 place (front ++ (to_be_bytes w64 n ++ rest)) ≡ n
 number_behind place n front rest at fits = ap (λ (x : List ℕ). from_be_bytes w64 (take 8 x)) (drop_at front (to_be_bytes w64 n ++ rest) place at) ∙ from_be_bytes-to_be_bytes_8 n fits
 
-matrix_split : (m : Rows) (rest : List ℕ) → matrix_bytes m ++ rest ≡ to_be_bytes w64 (length m.rows) ++ (to_be_bytes w64 m.cols ++ (flat_map packed m.rows ++ rest))
-matrix_split m rest = refl
-
 height_behind : (place : ℕ) (front : List ℕ) (m : Rows) (rest : List ℕ) → length front ≡ place → length m.rows < 2 ^ 64 → number_at w64 place (front ++ (matrix_bytes m ++ rest)) ≡ length m.rows
 height_behind place front m rest at fits = number_behind place (length m.rows) front (to_be_bytes w64 m.cols ++ (flat_map packed m.rows ++ rest)) at fits
 

@@ -1,5 +1,5 @@
 -- A table whose squares were all read has what its start has.
-use Rattle.std.proofs.Common.{◌≡◌, ℕ, suc, ◌<◌, List, length, take, Option, Some, None, MatchOption, IsSome, refl, sym, ◌∙◌, ap, subst, arith, inl, inr}
+use Rattle.std.proofs.Common.{◌≡◌, ℕ, ◌<◌, List, length, take, Option, Some, None, MatchOption, IsSome, refl, sym, ◌∙◌, ap, subst, arith, inl, inr}
 use Rattle.std.specs.Option.{is_some, unwrap_or}
 use Rattle.std.proofs.lemmas.Bool.{cases_lt, false≢true}
 use Rattle.resolution_laws.specs.Resolution.{Content, no_content, row_of, below_of}
@@ -82,6 +82,3 @@ source_dim_is table h read s k count next = ap (λ x. width_with (over table.res
 
 pub next_first : (rows : List (List Placed)) (s k : ℕ) → length (row_in rows s) ≡ k → s ≡ 0 → IsNext rows s k
 next_first rows s k len e = record { absent = omega arith; before = λ j d. omega arith; below = λ i d. absurd (omega arith) }
-
-pub next_above : (rows : List (List Placed)) (s k i : ℕ) → length (row_in rows s) ≡ k → suc i ≡ s → k < length (row_in rows i) → IsNext rows s k
-next_above rows s k i len e l = record { absent = omega arith; before = λ j d. omega arith; below = λ j d. let same : i ≡ j = omega arith in subst (λ n. k < length (row_in rows n)) same l }

@@ -50,11 +50,3 @@ images_length bytes o whole e =
     let len = length_packed_at 5 bytes (packed_at 5 bytes) (omega arith) refl in
     let here : P (outline_at bytes) = omega arith in
     subst P (sym e) here
-
-pub kernel_length : (bytes : List ℕ) (o : Outline) → IsWhole bytes → o ≡ outline_at bytes → length o.kernel.bytes ≡ o.kernel.height * packed_len o.kernel.cols
-kernel_length bytes o whole e =
-    let all = whole.length_is in
-    let P : Outline → Type 0 = λ x. length x.kernel.bytes ≡ x.kernel.height * packed_len x.kernel.cols in
-    let len = length_packed_at (end_of 5 bytes) bytes (packed_at (end_of 5 bytes) bytes) (omega arith) refl in
-    let here : P (outline_at bytes) = omega arith in
-    subst P (sym e) here

@@ -1,7 +1,7 @@
 -- Packed rows taken one after the other.
-use Rattle.std.proofs.Common.{◌≡◌, ℕ, zero, suc, ◌+◌, ◌-◌, ◌*◌, ◌<◌, ◌≤◌, Bool, List, [], ◌∷◌, ◌++◌, length, take, drop, refl, sym, ◌∙◌, ap, append_assoc, arith}
+use Rattle.std.proofs.Common.{◌≡◌, ℕ, zero, suc, ◌+◌, ◌-◌, ◌*◌, ◌<◌, ◌≤◌, Bool, List, [], ◌∷◌, ◌++◌, length, take, drop, sym, ◌∙◌, ap, append_assoc, arith}
 use Rattle.std.specs.List.{flat_map}
-use Rattle.std.proofs.lemmas.List.{append-nil, length-drop, nil_from_length, take-append-drop, take_at, drop_at, drop-drop, length_push}
+use Rattle.std.proofs.lemmas.List.{append-nil, length-drop, take-append-drop, take_at, drop_at, drop-drop, length_push}
 use Rattle.std.proofs.lemmas.List.Concat.{flat_map-append}
 use Rattle.f2_vec.specs.Spans.{row, HaveWidth}
 use Rattle.f2_vec.proofs.Spans.{HaveWidth-head, HaveWidth-tail, HaveWidth-append, HaveWidth-cons}
@@ -18,15 +18,6 @@ pub record AreUnpackedTo (p : Packed) (i : ℕ) (rows : List (List Bool)) (rest 
   pub widths : HaveWidth p.cols rows
   pub parts : flat_map packed rows ++ rest ≡ p.bytes
   pub left : length rest ≡ (p.height - i) * packed_len p.cols
-
-pub none_unpacked : (p : Packed) → length p.bytes ≡ p.height * packed_len p.cols → AreUnpackedTo p 0 [] p.bytes
-none_unpacked p e = record {
-  as_many = refl;
-  within = omega arith;
-  widths = λ i l. absurd (omega arith);
-  parts = refl;
-  left = let all : p.height - 0 ≡ p.height = omega arith in e ∙ ap (λ n. n * packed_len p.cols) (sym all);
-}
 
 -- the next row is there
 pub row_left : (p : Packed) (i : ℕ) (rows : List (List Bool)) (rest : List ℕ) → AreUnpackedTo p i rows rest → i < p.height → packed_len p.cols ≤ length rest
@@ -60,21 +51,6 @@ one_more_unpacked p i rows rest v h l wide is =
           let sum : suc (p.height - (i + 1)) * n ≡ n + (p.height - (i + 1)) * n = omega arith in
           let len = length-drop n rest in
           omega arith;
-    }
-
-pub all_unpacked : (p : Packed) (i : ℕ) (rows : List (List Bool)) (rest : List ℕ) → AreUnpackedTo p i rows rest → p.height ≤ i → AreUnpacked p rows
-all_unpacked p i rows rest h l =
-    let count = h.as_many in
-    let within = h.within in
-    let left = h.left in
-    let none : p.height - i ≡ 0 = omega arith in
-    let same = ap (λ k. k * packed_len p.cols) none in
-    let nothing : 0 * packed_len p.cols ≡ 0 = omega arith in
-    let empty : rest ≡ [] = nil_from_length rest (omega arith) in
-    record {
-      as_many = omega arith;
-      widths = h.widths;
-      bytes = sym (append-nil (flat_map packed rows)) ∙ ap (λ (x : List ℕ). flat_map packed rows ++ x) (sym empty) ∙ h.parts;
     }
 
 -- the bytes of a row among those of all

@@ -185,10 +185,6 @@ not_Ok number list e = cc
 
 -- ---- lists of squares that stand behind those that they stand on
 
-some_or : {A : Type 0} (o : Option A) → (o ≡ None) ⊎ IsSome o
-some_or None = inl refl
-some_or (Some x) = inr refl
-
 -- an entry more
 kept_there : (list : List Entry) (e : Entry) (s k : ℕ) → entry_at list e.s e.above ≡ None → IsSome (entry_at list s k) → IsSome (entry_at (list ++ e ∷ []) s k)
 kept_there list e s k absent there =

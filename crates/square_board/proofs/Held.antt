@@ -1,5 +1,5 @@
 -- Who has the square of a job.
-use Rattle.std.proofs.Common.{◌≡◌, ℕ, ◌<◌, ℤ, pos, ◌+ℤ◌, List, [], length, Option, Some, None, refl, sym, ◌∙◌, ap, subst, arith}
+use Rattle.std.proofs.Common.{◌≡◌, ℕ, ℤ, pos, ◌+ℤ◌, List, [], Option, Some, None, refl, sym, ◌∙◌, ap, subst}
 use Rattle.finite_module.specs.Checked.{Checked}
 use Rattle.finite_module.specs.Module.{bottom}
 use Rattle.edge.specs.Faults.{HasRisen}
@@ -42,18 +42,6 @@ module _ {K : Type 0} (before now : Keeper) (opening : Opening K) (course : Cour
       let sound = reached_is_sound course.bottom course.rows course.degrees course.start course.history state desk.legal in
       let taken : IsTaken state s above = subst (λ (k : ℕ). IsTaken state s k) (height_is state t above at) (sound.taken s (height state t) (held_at_height state who s t held)) in
       next_of before now opening course table desk s above taken.parents taken.not_done
-
-  -- the row of a square that is out is one of the table's
-  pub held_row : (who s : ℕ) (t : ℤ) → IsHeld (state_of course) who s t → s < length table.rows
-  held_row who s t held =
-      let state = state_of course in
-      let range = desk_range before now opening course table desk in
-      let sound = reached_is_sound course.bottom course.rows course.degrees course.start course.history state desk.legal in
-      let row = (sound.taken s (height state t) (held_at_height state who s t held)).in_range.row in
-      let rows = range.rows_are in
-      let most = desk.row in
-      let count = desk.count in
-      omega arith
 
 -- the square of a job is its pass's, seen from the value that contracts have of the desk
 pub job_holds : {K : Type 0} (before now : Keeper) (opening : Opening K) (course : Course) (table : Staircase) (keeper : K) (value : DeskState K) (job : Taking) (who s : ℕ) (t : ℤ) → IsDesk before now opening course table → record { opening = opening; course = course; table = table; keeper = keeper } ≡ value → IsJobOf value.opening job.who (events_by job.who value.course.history) job → who ≡ job.who → s ≡ job.inputs.s → t ≡ degree_of job.inputs → IsHeld (state_of course) who s t

@@ -41,25 +41,6 @@ part_more low start next table s n t is part within at same =
           grind (arith, nat_tests)
     ]
 
--- a row is through
-pub part_row : (low : ℤ) (start : List (ℕ × ℤ)) (rows : List (List Placed)) (s n : ℕ) → ListsPart low start rows s n → n ≡ length (row_in rows s) → ListsPart low start rows (s + 1) 0
-part_row low start rows s n part all = record {
-  once = part.once;
-  squares = λ i k. part.squares i k ∙ row_through (length (row_in rows i)) i k s n (λ e. all ∙ sym (ap (λ (r : ℕ). length (row_in rows r)) e));
-}
-  where
-    row_through : (long i k s n : ℕ) → (i ≡ s → n ≡ long) → (nat_lt k long && (nat_lt i s || (nat_eq i s && nat_lt k n))) ≡ (nat_lt k long && (nat_lt i (s + 1) || (nat_eq i (s + 1) && nat_lt k 0)))
-    row_through long i k s n all = elim (eqb_tells i s) [
-      | inl p ↦
-          let there = all p.1 in
-          let same = p.1 in
-          grind (arith, nat_tests)
-      | inr p ↦
-          let other = p.1 in
-          let tested = p.0 in
-          grind (arith, nat_tests)
-    ]
-
 pub part_none : (low : ℤ) (rows : List (List Placed)) → ListsPart low [] rows 0 0
 part_none low rows = record {
   once = λ n q e. cc;

@@ -1,11 +1,11 @@
 -- A pass that saw a history go on has seen no less.
-use Rattle.std.proofs.Common.{◌≡◌, List, [], ◌++◌, ap, sym, subst, ◌∙◌, refl}
+use Rattle.std.proofs.Common.{List, [], ◌++◌, sym, subst, ◌∙◌, refl}
 use Rattle.std.proofs.lemmas.List.{map-append}
 use Rattle.std.specs.Prelude.{Result, Ok, Err}
 use mathlib.Core.List.{IsPrefix}
 use Rattle.board_core.specs.declared.event.Entry.{Entry as Event}
 use Rattle.board_core.specs.Entries.{who_of}
-use Rattle.turn_lock.specs.Turns.{PassState, after_turn, after_rest, Continues}
+use Rattle.turn_lock.specs.Turns.{PassState, after_turn}
 use Rattle.turn_lock.proofs.Histories.{prefix_self, prefix_trans}
 use Rattle.square_board.specs.declared.job.Taken.{Taken}
 use Rattle.square_board.specs.declared.job.Taken.TheVariants.{Job, Idle, Over, Stopped}
@@ -35,9 +35,6 @@ module _ {K : Type 0} where
         told = refl;
       } in
       subst (λ (n : Pass K). HasSeenNoLess p n) (sym t.is) turned
-
-  pub by_rest : (p q : Pass K) → q ≡ after_rest p q.seen → Continues p q.seen → HasSeenNoLess p q
-  by_rest p q is goes = let rested : HasSeenNoLess p (after_rest p q.seen) = record { seen = goes.seen; latest = goes.latest; told = refl } in subst (λ (n : Pass K). HasSeenNoLess p n) (sym is) rested
 
   pub by_take : {E : Type 0} (p q : Pass K) (taken : Result Taken E) → MatchTaken taken (λ job. HasTakenJob p q job) (HasTurned p q []) → HasSeenNoLess p q
   by_take p q (Ok (Job job)) t = by_turn p q _ t.turned
