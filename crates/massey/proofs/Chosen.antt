@@ -11,7 +11,6 @@ use Rattle.massey.specs.declared.places.Places.{Places}
 use Rattle.massey.specs.Inside.Homotopies.{AreChosen, AreNext, AreMaps, zero_map}
 
 module _ (table sphere : Staircase) (i k : ℕ) (x : ℤ) (goal : ℕ → List Bool) where
-
   pub chosen_more : (count : ℕ) (old new : List (List Bool)) (u : ℤ) (wanted w : List Bool) → new ≡ old ++ w ∷ [] → u ≡ degree (resolution_of table) i count -ℤ x → wanted ≡ goal count → IsChosenFor sphere k u wanted w → AreChosen table sphere i k x goal count old → AreChosen table sphere i k x goal (count + 1) new
   chosen_more count old new u wanted w e at same chosen p =
       let len = length_push old w in
