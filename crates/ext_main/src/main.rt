@@ -1,7 +1,7 @@
 //! `ext`: Ext over the mod 2 Steenrod algebra, as charts.
 #![tactic(auto)]
 
-ghost use Rattle.std.specs.Prelude.{◌≡◌, ◌≢◌, ◌≤◌, map, string_bytes, IfOk};
+ghost use Rattle.std.specs.Prelude.{◌≡◌, ◌≢◌, ◌≤◌, map, string_bytes, codes, IfOk};
 ghost use Rattle.edge.specs.Faults.{HasRisen};
 ghost use Rattle.edge.specs.Sink.{HasPrefixMore, with_more};
 ghost use Rattle.ext_run.specs.declared.failure.Failure.TheVariants.{Words as OutsideGrammar, Memory as OutOfMemory};
@@ -23,7 +23,11 @@ use std::time::Clock;
 use std::{env, io};
 
 /// The save file, in the folder that the program runs in.
-const SAVE_FILE: &str = "ext.save";
+fn save_file() -> &'static str
+    ensures { result.now ≡ codes "ext.save" }
+{
+    "ext.save"
+}
 
 fn main(rt: HostRuntime) -> ExitCode {
     ExitCode::from(status(&rt, &rt))
@@ -35,7 +39,7 @@ fn status<W: Threads + Wait + Clock + Sync>(rt: &HostRuntime, wait: &W) -> u8 {
     let mut source = StdSource::new(rt.stdin());
     let mut out = StdSink::new(rt.stdout());
     let mut err = StdSink::new(rt.stderr());
-    let disk = FileDisk::new(rt, SAVE_FILE);
+    let disk = FileDisk::new(rt, save_file());
     match arguments(rt) {
         Ok(arguments) => {
             let ended = answer::<

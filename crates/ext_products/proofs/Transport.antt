@@ -40,7 +40,7 @@ use Rattle.ext_products.specs.declared.refusal.Refusal.TheVariants.{NoClass}
 use Rattle.ext_products.specs.declared.refusal.Named.TheVariants.{By}
 use Rattle.ext_products.specs.Lines.{OneEach}
 use Rattle.ext_products.specs.Products.{resolution, classes_over, missing_in, factors, IsYonedaProduct, IsProductLine, IsProductsText, IsProductsAnswer}
-use Rattle.ext_products.specs.Over.{through, IsAnswerOver}
+use Rattle.ext_products.specs.Over.{through, IsAnswerOver, IsRefusalOver}
 use Rattle.ext_products.specs.Inside.Lining.{reach_of, degrees_within, place_of, IsLineOver}
 use Rattle.ext_products.proofs.OneEach.{OneEach-all}
 use Rattle.ext_products.proofs.Factors.{IsFactor, are_factors, factors-same}
@@ -231,13 +231,16 @@ module _ (one : LiftsGiveOneProduct) (minimal : CanonicalTableIsMinimalResolutio
 
 module _ (table sphere : Staircase) (range : Range) (by : Class) (all_q : IsAllCanonical sphere) (is_sphere : IsSphere (resolution_of sphere)) (near : IsThrough (reach_of range by) sphere.rows)
     (is_sphere_module : sphere.resolved.plain ≡ derived_module sphere_file) where
-  pub refused-answer : (count : ℕ) → missing sphere (reach_of range by) by ≡ Some count → IsAnswerOver table range by (Err (NoClass By by count))
-  refused-answer count missed all =
+  pub sure-answer : (count : ℕ) → missing sphere (reach_of range by) by ≡ Some count → IsRefusalOver table range by (NoClass By by count)
+  sure-answer count missed =
       let answer : Result (List ℕ) Refusal = Err (NoClass By by count) in
       let P : SteenrodModule → Type 0 = λ m. (full : List (List Content)) → IsCanonicalTable (module_over m) range.s range.t full → IsProductsAnswer range by (through range table) (resolution m full) answer in
       subst P is_sphere_module (λ full is_full.
       let none = sym (same_missing sphere all_q range full is_full is_sphere.bottom by near) ∙ missed in
       subst (λ (o : Option ℕ). MatchOption o (IsOkAnd answer (IsProductsText range by (through range table) (resolution sphere.resolved.plain full))) (λ n. answer ≡ Err (NoClass By by n))) (sym none) refl)
+
+  pub refused-answer : (count : ℕ) → missing sphere (reach_of range by) by ≡ Some count → IsAnswerOver table range by (Err (NoClass By by count))
+  refused-answer count missed all = sure-answer count missed
 
   module _ (one : LiftsGiveOneProduct) (minimal : CanonicalTableIsMinimalResolution) (modules : ModulesAreSteenrodModules) (h : IsTable table) (hq : IsTable sphere) (whole : IsThrough range table.rows) where
     pub text-answer : (a : Place) → IsPlaceOf sphere (reach_of range by) by a → missing sphere (reach_of range by) by ≡ None → (lines : List ProductLine) → OneEach (IsLineOver table sphere a) (factors (resolution_of table) range (class_above a)) lines → (text : List ℕ) → text ≡ product_lines_text lines → IsAnswerOver table range by (Ok text)

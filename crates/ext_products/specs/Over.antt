@@ -1,5 +1,5 @@
 -- What is told of the table that there is, which may have more squares than the range.
-use Rattle.std.specs.Prelude.{ℕ, List, Result}
+use Rattle.std.specs.Prelude.{ℕ, List, Result, Err}
 use Rattle.finite_module.specs.Checked.{sphere_file}
 use Rattle.finite_module.specs.DerivedAction.{derived_module}
 use Rattle.resolution_laws.specs.Resolution.{Content, IsCanonicalTable}
@@ -16,6 +16,11 @@ use Rattle.ext_products.specs.Products.{resolution, IsProductsAnswer}
 -- the resolution of a table's module through a range
 abbrev pub through : Range → Staircase → Resolution
 through range table = record { base = over table.resolved; table = cut range (plain_rows table.rows) }
+
+-- what is told where there is no text, whatever the table is
+abbrev pub IsRefusalOver : Staircase → Range → Class → Refusal → Type 0
+IsRefusalOver table range by refusal =
+    (sphere : List (List Content)) → IsCanonicalTable (module_over (derived_module sphere_file)) range.s range.t sphere → IsProductsAnswer range by (through range table) (resolution (derived_module sphere_file) sphere) (Err refusal)
 
 -- what is told is right, where the table is that of the canonical resolution
 abbrev pub IsAnswerOver : Staircase → Range → Class → Result (List ℕ) Refusal → Type 0

@@ -1,8 +1,9 @@
 //! The sphere's table.
-ghost use Rattle.std.specs.Prelude.{◌≡◌, ◌≤◌, IfOk};
+ghost use Rattle.std.specs.Prelude.{◌≡◌, ◌≤◌, ◌<◌, ℕ, length, IfOk};
 ghost use Rattle.finite_module.specs.Checked.{sphere_file};
 ghost use Rattle.finite_module.specs.DerivedAction.{derived_module};
-ghost use Rattle.square.specs.Tables.{IsThrough};
+ghost use Rattle.square.specs.Tables.{row_in, IsThrough};
+ghost use Rattle.resolution_step.specs.Alone.{IsInRange};
 ghost use Rattle.square.specs.declared.range.TheConstants.{MAX_S, MAX_T};
 ghost use Rattle.lift_laws.specs.Lifts.{IsSphere};
 ghost use Rattle.chain_map.specs.Lifting.{resolution_of};
@@ -23,6 +24,7 @@ pub fn sphere_table(alloc: Global, range: Range) -> Result<Table, Memory>
     requires degrees { range.t ≤ MAX_T }
     ensures module_is { IfOk result (λ table. table.resolved.plain ≡ derived_module sphere_file) }
     ensures through { IfOk result (λ table. IsThrough range table.rows) }
+    ensures only { IfOk result (λ table. (s k : ℕ) → k < length (row_in table.rows s) → IsInRange range s k) }
     ensures canonical { IfOk result IsAllCanonical }
     ensures sphere { IfOk result (λ table. IsSphere (resolution_of table)) }
 {

@@ -16,7 +16,8 @@ use Rattle.square.specs.Tables.{Staircase, row_in, plain_rows, IsThrough}
 use Rattle.square.specs.Growing.{HasGrown}
 use Rattle.square.proofs.Places.{slice_get-there, content_at-is}
 use Rattle.square.specs.Keeping.{Keeper, HoldsTable, IsKeeperOf, HasKept}
-use Rattle.resolution_step.specs.Alone.{cut, AreOfStart}
+use Rattle.std.specs.List.{All}
+use Rattle.resolution_step.specs.Alone.{cut, AreOfStart, IsInRange}
 use Rattle.yoneda.specs.Products.{IsAllCanonical}
 use Rattle.ext_run.specs.declared.failure.Failure.{Failure}
 use Rattle.ext_run.specs.declared.failure.Failure.TheVariants.{Saving, Memory}
@@ -84,8 +85,8 @@ not_failed (Err e) X (inl h) is = absurd (cc)
 not_failed (Err e) X (inr h) is = absurd (let same : e ≡ Saving = cc in subst IsOfClasses same h)
 
 pub continued : (minimal : CanonicalTableIsMinimalResolution) (modules : ModulesAreSteenrodModules) (range : Range) (form : Form) (table more : Staircase) (text : Told) (old new : Keeper) (given : List Entry) → HasGrown table more → AreOfStart more → IsThrough range more.rows → (IsCanonicalStart (over table.resolved) table.start → IsCanonicalTable (over table.resolved) range.s range.t (cut range (plain_rows more.rows)))
-    → IsKeeperOf new more → new.live → new.faults ≡ old.faults → HasKept (over table.resolved) table.start old new given → IsToldOf range form more text → IfErr text (λ e. (e ≡ Memory) ⊎ IsOfClasses e) → HasContinued range form table text old new
-continued minimal modules range form table more text old new given grown are through canonical keeper live no_fault kept told why = record {
+    → IsKeeperOf new more → new.live → new.faults ≡ old.faults → HasKept (over table.resolved) table.start old new given → All (λ e. IsInRange range e.s e.above) given → IsToldOf range form more text → IfErr text (λ e. (e ≡ Memory) ⊎ IsOfClasses e) → HasContinued range form table text old new
+continued minimal modules range form table more text old new given grown are through canonical keeper live no_fault kept places told why = record {
   told = told_with minimal modules range form table more text grown are canonical told;
   why = or_saving text why;
   failed = not_failed text _ why;
@@ -93,6 +94,7 @@ continued minimal modules range form table more text old new given grown are thr
   live = λ unfailed. live;
   whole = λ has. range_kept range more.rows new.kept through keeper.holds;
   given = given;
+  places = places;
   kept = kept;
 }
 

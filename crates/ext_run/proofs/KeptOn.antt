@@ -2,6 +2,8 @@
 use Rattle.std.proofs.Common.{◌≡◌, ◌≢◌, ℕ, ◌≤◌, ◌⊎◌, inl, inr, List, [], ◌++◌, Option, Some, ap, sym, subst, ◌∙◌, refl, arith, append-nil}
 use Rattle.std.specs.Prelude.{Ok, Err, IfErr, IfSome, IsSome}
 use Rattle.std.specs.Option.{option_map}
+use Rattle.std.proofs.lemmas.List.Elements.{All-nil}
+use Rattle.resolution_step.specs.Alone.{IsInRange}
 use Rattle.edge.specs.Faults.{HasRisen}
 use Rattle.edge.specs.Disk.{LeavesOnly}
 use Rattle.edge.proofs.Moments.{Lawful}
@@ -86,6 +88,7 @@ module _ {D : Type 0} (now : D → Option (List ℕ)) (moment : D → ℕ) (imag
       never_falls = let rest = continued.kept.never_fall in omega (arith, no_fault, rest);
       accepted = λ has file is. (table.start, start_is file is);
       unwritten = λ fault is. absurd (no_refusal text fault continued.why is);
+      spared = λ file fault is refusal worked. let both : Ok table.start ≡ Err fault = sym (start_is file is) ∙ refusal in absurd (cc);
       lasts = λ told list ours.
           let found = here list told ours in
           let with = found.2 in
@@ -95,7 +98,7 @@ module _ {D : Type 0} (now : D → Option (List ℕ)) (moment : D → ℕ) (imag
           let opened = at_some (now disk) (λ _. LeavesOnly moment since disk k.journal.disk (HasRecordsOf (digest_of r.resolved) (images disk))) found.0 found.1 opening in
           let given = subst (λ (m : Checked). HasKept (over m) table.start (telling k) (telling after) continued.given) resolved continued.kept in
           let given_behind = subst (λ (l : List Entry). HasKept (over r.resolved) l (telling k) (telling after) continued.given) is given in
-          lasting now moment images since faults laws r.resolved r.common.range list with.more continued.given (HasAnswer text) (text ≢ Err Saving) disk k after with.at_most_one with.canonical ours k_resolved kept_is opened given_behind
+          lasting now moment images since faults laws r.resolved r.common.range list with.more continued.given (HasAnswer text) (text ≢ Err Saving) disk k after with.at_most_one with.canonical ours k_resolved kept_is opened given_behind continued.places
           (answer_unfailed text) continued.live continued.whole;
     }
 
@@ -111,6 +114,7 @@ module _ {D : Type 0} (now : D → Option (List ℕ)) (moment : D → ℕ) (imag
       record {
         more = [];
         given = [];
+        places = All-nil (λ e. IsInRange range e.s e.above);
         at_most_one = omega arith;
         canonical = subst (AreCanonical r.resolved.plain) (sym same) (all_first (λ e. IsOf (module_over r.resolved.plain) [] e.s e.above e.content) list found.2.more found.2.canonical);
         moments = λ c was. inl (stands c was);
@@ -139,7 +143,7 @@ module _ {D : Type 0} (now : D → Option (List ℕ)) (moment : D → ℕ) (imag
 
   module _ (fault : ResumeFault) (d : D) (refused : (fault ≡ Open DiskFailed) ⊎ (fault ≡ OutOfMemory) ⊎ IfSome (now disk) (λ file. standing_of r.resolved file ≡ Err fault)) (same : fault ≢ Open DiskFailed → now d ≡ now disk)
       (unwritten : fault ≢ Open DiskFailed → IfSome (now disk) (λ _. LeavesOnly moment since disk d (images disk))) (opening : IfSome (now disk) (λ _. LeavesOnly moment since disk d (HasRecordsOf (digest_of r.resolved) (images disk)))) (never_fall : faults disk ≤ faults d)
-      (cause : fault ≡ Open DiskFailed → HasRisen (faults disk) (faults d)) where
+      (cause : fault ≡ Open DiskFailed → HasRisen (faults disk) (faults d)) (quiet : fault ≢ Open DiskFailed → faults d ≡ faults disk) where
     why_not : Kind fault → (resume_failure fault ≡ Saving) ⊎ (resume_failure fault ≡ Memory) ⊎ IsOfClasses (resume_failure fault) ⊎ ((f : ResumeFault) × (resume_failure fault ≡ SaveFile f) × IsRefusedFor r.resolved.plain (now disk) f)
     why_not (disk_failed is e) = inl e
     why_not (no_memory e) = inr (inl e)
@@ -184,10 +188,11 @@ module _ {D : Type 0} (now : D → Option (List ℕ)) (moment : D → ℕ) (imag
       told = λ has. absurd (no_answer (kind_of fault) has);
       why = why_not (kind_of fault);
       failed = λ is. risen (kind_of fault) (cc);
-      no_fault = λ has. absurd (no_answer (kind_of fault) has);
+      no_fault = λ other. quiet (no_failure other);
       never_falls = never_fall;
       accepted = λ has. absurd (no_answer (kind_of fault) has);
       unwritten = λ f is. not_written (not_disk (kind_of fault) f (cc));
+      spared = λ file f is refusal worked. not_written (no_failure worked);
       lasts = λ told list ours.
           let found = some_of (now disk) told in
           let opened = at_some (now disk) (λ _. LeavesOnly moment since disk d (HasRecordsOf (digest_of r.resolved) (images disk))) found.0 found.1 opening in

@@ -19,6 +19,7 @@ use Rattle.save_journal.specs.Journals.{HasRecordsOf}
 use Rattle.save_file.specs.Files.{Standing, digest_of, of_records, standing_of, squares_in}
 use Rattle.save_file.specs.Saving.{SaveState, TakesSquares, kept_in, telling_of}
 use Rattle.save_file.specs.Inside.SavingLaws.{left_is_kept}
+use Rattle.resolution_step.specs.Alone.{IsInRange}
 use Rattle.ext_run.specs.Saving.{AreCanonical, StandsWith, StandsAmid, StandsAtPart, StandsAsOneOf, IsOurs, MayBeLeft, IsUnwritten, HasLasted, HasRange}
 
 -- ---- what is told
@@ -143,7 +144,7 @@ module _ {D : Type 0} (now : D → Option (List ℕ)) (moment : D → ℕ) (imag
 
   module _ (m : Checked) (range : Range) (list more given : List Entry) (had_answer unfailed : Type 0) (disk : D) (k after : SaveState D)
       (at_most_one : length more ≤ 1) (canonical : AreCanonical m.plain (list ++ more)) (ours : IsOurs m.plain list (images disk)) (resolved : k.resolved ≡ m) (kept_is : kept_in now k ≡ Some (list ++ more))
-      (opening : LeavesOnly moment since disk k.journal.disk (HasRecordsOf (digest_of m) (images disk))) (kept : HasKept (over m) (list ++ more) (telling k) (telling after) given)
+      (opening : LeavesOnly moment since disk k.journal.disk (HasRecordsOf (digest_of m) (images disk))) (kept : HasKept (over m) (list ++ more) (telling k) (telling after) given) (places : All (λ e. IsInRange range e.s e.above) given)
       (answered : had_answer → unfailed) (live : unfailed → TakesSquares now images after) (whole : had_answer → IfSome (kept_in now after) (HasRange range)) where
     abbrev start : List Entry
     start = list ++ more
@@ -224,6 +225,7 @@ module _ {D : Type 0} (now : D → Option (List ℕ)) (moment : D → ℕ) (imag
     lasting = record {
       more = more;
       given = given;
+      places = places;
       at_most_one = at_most_one;
       canonical = all_canonical;
       moments = moments;

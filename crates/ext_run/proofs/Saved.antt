@@ -28,6 +28,8 @@ use Rattle.ext_run.specs.declared.task.Resolution.{Resolution as ToResolve}
 use Rattle.ext_run.specs.Input.{IsOfInput, IsAccepted}
 use Rattle.ext_run.specs.Failure.{status_of}
 use Rattle.ext_run.specs.Answer.{IsText, IsChart, IsDump, IsSummary, IsLineOn, IsProducts, IsBracket, IsOfClasses, IsTold, IsAnswerTo, IsAnswerFrom, IsCauseFrom, Reads, WordsRead}
+use Rattle.std.proofs.lemmas.List.Elements.{All-nil}
+use Rattle.resolution_step.specs.Alone.{IsInRange}
 use Rattle.ext_run.specs.Saving.{options_of, Saves, WordsSave, IsModuleIn, IsModuleOf, IsSavedBy, standing_for, AreCanonical, IsOurs, IsUnwritten, HasLasted, HasSaved, IsUsable, IsRunCauseFrom, IsRefusedFrom, IsEarly, IsAnswered}
 use Rattle.ext_run.specs.Task.{IsDoneBy, IsTaskFrom, IsSavedFor, IsSavedAs}
 use Rattle.ext_run.specs.Work.{Told, HasAnswer, answer_of, IsUnsaved, IsRefusedFor, HasKeptOn, HasWorked}
@@ -135,6 +137,7 @@ lasted_by : {D : Type 0} (now : D → Option (List ℕ)) (moment : D → ℕ) (i
 lasted_by now moment images since m range list A B U V old new f u h = record {
   more = h.more;
   given = h.given;
+  places = h.places;
   at_most_one = h.at_most_one;
   canonical = h.canonical;
   moments = h.moments;
@@ -161,6 +164,7 @@ module _ (store : Store) (laws : Lawful store.now store.moment store.images stor
       record {
         more = [];
         given = [];
+        places = All-nil (λ e. IsInRange range e.s e.above);
         at_most_one = omega arith;
         canonical = subst (AreCanonical m) (sym same) (all_first (λ e. IsOf (module_over m) [] e.s e.above e.content) list here.more here.canonical);
         moments = λ c was. inl (ours c (laws.only_now d c was));
@@ -182,6 +186,7 @@ module _ (store : Store) (laws : Lawful store.now store.moment store.images stor
     refused = λ h. absurd (no_9 h);
     refuses = λ bytes file m range e tells is p h. absurd (unasked (saved_words words bytes m range p));
     unwritten = λ h. absurd (no_9 h);
+    spared = λ bytes file m range e tells is p h other. absurd (unasked (saved_words words bytes m range p));
     lasts = λ bytes m range list tells told p ours. absurd (unasked (saved_words words bytes m range p));
   }
 
@@ -223,6 +228,7 @@ module _ (store : Store) (laws : Lawful store.now store.moment store.images stor
     refused = λ h. absurd (no_refusal failure cause (only_refused failure h));
     refuses = λ bytes file m range e tells is p h. early_refusal failure bytes m range cause unwritten tells p;
     unwritten = λ h. absurd (no_refusal failure cause (only_refused failure h));
+    spared = λ bytes file m range e tells is p h other. unwritten_same store.now store.moment store.images store.since store.faults laws d;
     lasts = λ bytes m range list tells told p ours. as_it_was m range list _ _ d (no_answer_status failure cause unwritten) told ours;
   }
 
@@ -251,11 +257,12 @@ module _ (store : Store) (laws : Lawful store.now store.moment store.images stor
       unsaved = λ unasked. absurd (unasked save);
       early = λ h. absurd (not_early is h);
       failed = λ h. absurd (not_one 8 is h (omega arith) (omega arith) (omega arith) (omega arith));
-      no_fault = λ h. on.no_fault has;
+      no_fault = λ h. on.no_fault (answer_unfailed text has);
       never_falls = on.never_falls;
       refused = λ h. absurd (not_one 9 is h (omega arith) (omega arith) (omega arith) (omega arith));
       refuses = λ bytes file m range e tells told p refusal. absurd (accepted_is_not_refused bytes file m range e tells told p refusal);
       unwritten = λ h. absurd (not_one 9 is h (omega arith) (omega arith) (omega arith) (omega arith));
+      spared = λ bytes file m range e tells told p refusal other. absurd (accepted_is_not_refused bytes file m range e tells told p refusal);
       lasts = on_lasts _ _ (λ _. has) (λ _. answer_unfailed text has);
     }
       where
@@ -286,11 +293,12 @@ module _ (store : Store) (laws : Lawful store.now store.moment store.images stor
       unsaved = λ unasked. absurd (unasked save);
       early = λ h. absurd (not_early is h);
       failed = failed;
-      no_fault = λ h. absurd (no_text is h);
+      no_fault = λ other. on.no_fault (λ h. other (was_disk h));
       never_falls = on.never_falls;
       refused = refused;
       refuses = λ bytes file m range e tells told p refusal. late is;
       unwritten = unwritten;
+      spared = λ bytes file m range e tells told p refusal other. let same = the_same bytes m range tells p in on.spared file e told (ap (λ (x : SteenrodModule). standing_for x file) same.0 ∙ refusal) (λ h. other (was_disk h));
       lasts = on_lasts _ _ (λ h. absurd (no_text is h)) (λ other h. other (was_disk h));
     }
       where

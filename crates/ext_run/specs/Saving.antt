@@ -8,6 +8,8 @@ use Rattle.finite_module.specs.Checked.{sphere_file}
 use Rattle.finite_module.specs.Sample.{sample_file}
 use Rattle.finite_module.specs.Text.{canonical_text}
 use Rattle.module_check.specs.Acceptance.{refusal_of}
+use Rattle.std.specs.List.{All}
+use Rattle.resolution_step.specs.Alone.{IsInRange}
 use Rattle.edge.specs.Faults.{HasRisen}
 use Rattle.resolution_laws.specs.Start.{Entry, entry_at, AreOf}
 use Rattle.square.specs.Squares.{module_over}
@@ -137,6 +139,7 @@ HasRange range list = (s k : ℕ) → s ≤ range.s → k ≤ range.t → IsSome
 pub record HasLasted {D : Type 0} (now : D → Option (List ℕ)) (moment : D → ℕ) (images : D → List ℕ → Type 0) (since : D → ℕ → List ℕ → Type 0) (m : SteenrodModule) (range : Range) (list : List Entry) (had_answer unfailed : Type 0) (old new : D) : Type 0 where
   pub more : List Entry
   pub given : List Entry
+  pub places : All (λ e. IsInRange range e.s e.above) given
   pub at_most_one : length more ≤ 1
   pub canonical : AreCanonical m ((list ++ more) ++ given)
   pub moments : (c : List ℕ) → since new (moment old) c → StandsWith m list c ⊎ StandsAmid m (list ++ more) given c
@@ -186,13 +189,14 @@ pub record HasSaved {D : Type 0} (now : D → Option (List ℕ)) (moment : D →
   pub early : IsEarly status → new ≡ old
   -- 8: a call failed; an answer comes only if none did
   pub failed : status ≡ 8 → HasRisen (faults old) (faults new)
-  pub no_fault : IsAnswered status → faults new ≡ faults old
+  pub no_fault : status ≢ 8 → faults new ≡ faults old
   pub never_falls : faults old ≤ faults new
   -- 9: the file is refused; nothing is written then
   pub refused : status ≡ 9 → IfSome (now old) (λ file. (e : ResumeFault) × IsRefusedFrom words left file e)
   pub refuses : (bytes file : List ℕ) (m : SteenrodModule) (range : Range) (e : ResumeFault) → (WordsRead words → left ≡ Some bytes) → now old ≡ Some file → IsSavedBy words bytes m range → standing_for m file ≡ Err e →
       (status ≡ 9) ⊎ (status ≡ 6) ⊎ (status ≡ 8) ⊎ (status ≡ 12)
   pub unwritten : status ≡ 9 → IsUnwritten now moment images since old new
+  pub spared : (bytes file : List ℕ) (m : SteenrodModule) (range : Range) (e : ResumeFault) → (WordsRead words → left ≡ Some bytes) → now old ≡ Some file → IsSavedBy words bytes m range → standing_for m file ≡ Err e → status ≢ 8 → IsUnwritten now moment images since old new
   -- squares last
   pub lasts : (bytes : List ℕ) (m : SteenrodModule) (range : Range) (list : List Entry) → (WordsRead words → left ≡ Some bytes) → IsSome (now old) → IsSavedBy words bytes m range → IsOurs m list (images old) →
       HasLasted now moment images since m range list (IsAnswered status) (status ≢ 8) old new

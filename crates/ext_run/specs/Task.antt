@@ -36,6 +36,14 @@ abbrev pub IsTaskWithin : Task → Type 0
 IsTaskWithin (Text made) = ⊤
 IsTaskWithin (Resolution r) = IsWithin r.common
 
+-- what is told is of classes that the words name
+abbrev pub TellsOfClasses : Form → Type 0
+TellsOfClasses Chart = ⊥
+TellsOfClasses Differentials = ⊥
+TellsOfClasses Summary = ⊥
+TellsOfClasses (Products by) = ⊤
+TellsOfClasses (Bracket a b c) = ⊤
+
 -- each answer that does the task is one to the command, where this is the input
 abbrev pub IsTaskFor : Command → Option (List ℕ) → Task → Type 0
 IsTaskFor command left task = (answer : Result (List ℕ) Failure) → IsDoneBy task answer → IsCommandAnswerFrom command left answer

@@ -2,6 +2,8 @@
 use Rattle.std.specs.Prelude.{◌≡◌, ◌≢◌, ℕ, ◌≤◌, ◌⊎◌, true, false, List, Option, Some, IsSome, IfSome, Vec, Result, Ok, Err, IfErr, ⊤}
 use Rattle.std.specs.declared.alloc.Global.{Global}
 use Rattle.finite_module.specs.Module.{Module as SteenrodModule}
+use Rattle.std.specs.List.{All}
+use Rattle.resolution_step.specs.Alone.{IsInRange}
 use Rattle.edge.specs.Faults.{HasRisen}
 use Rattle.resolution_laws.specs.Start.{Entry, IsCanonicalStart}
 use Rattle.square.specs.Squares.{over}
@@ -38,10 +40,11 @@ pub record HasContinued (range : Range) (form : Form) (table : Staircase) (text 
   pub told : HasAnswer text → IsCanonicalStart (over table.resolved) table.start → IsInForm form range table.resolved.plain (answer_of text)
   pub why : IfErr text (λ e. (e ≡ Saving) ⊎ (e ≡ Memory) ⊎ IsOfClasses e)
   pub failed : text ≡ Err Saving → HasRisen old.faults new.faults
-  pub no_fault : HasAnswer text → new.faults ≡ old.faults
+  pub no_fault : text ≢ Err Saving → new.faults ≡ old.faults
   pub live : text ≢ Err Saving → new.live
   pub whole : HasAnswer text → IfSome new.kept (HasRange range)
   pub given : List Entry
+  pub places : All (λ e. IsInRange range e.s e.above) given
   pub kept : HasKept (over table.resolved) table.start old new given
 
 -- the answer does the task, or memory ended, and nothing else happened
@@ -59,10 +62,11 @@ pub record HasKeptOn {D : Type 0} (now : D → Option (List ℕ)) (moment : D �
   pub told : HasAnswer text → IsSome (now old) → (list : List Entry) → IsOurs r.resolved.plain list (images old) → IsDoneBy (Resolution r) (answer_of text)
   pub why : IfErr text (λ e. (e ≡ Saving) ⊎ (e ≡ Memory) ⊎ IsOfClasses e ⊎ ((fault : ResumeFault) × (e ≡ SaveFile fault) × IsRefusedFor r.resolved.plain (now old) fault))
   pub failed : text ≡ Err Saving → HasRisen (faults old) (faults new)
-  pub no_fault : HasAnswer text → faults new ≡ faults old
+  pub no_fault : text ≢ Err Saving → faults new ≡ faults old
   pub never_falls : faults old ≤ faults new
   pub accepted : HasAnswer text → (file : List ℕ) → now old ≡ Some file → (list : List Entry) × (standing_for r.resolved.plain file ≡ Ok list)
   pub unwritten : (fault : ResumeFault) → text ≡ Err (SaveFile fault) → IsUnwritten now moment images since old new
+  pub spared : (file : List ℕ) (fault : ResumeFault) → now old ≡ Some file → standing_for r.resolved.plain file ≡ Err fault → text ≢ Err Saving → IsUnwritten now moment images since old new
   pub lasts : IsSome (now old) → (list : List Entry) → IsOurs r.resolved.plain list (images old) → HasLasted now moment images since r.resolved.plain r.common.range list (HasAnswer text) (text ≢ Err Saving) old new
 
 -- what became of the task and of the disk

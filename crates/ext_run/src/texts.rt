@@ -7,7 +7,7 @@ ghost use Rattle.resolution_step.specs.Alone.{cut};
 ghost use Rattle.ext_run.specs.Answer.{IsResolved, IsOfClasses};
 ghost use Rattle.yoneda.specs.Products.{IsAllCanonical};
 ghost use Rattle.ext_words.specs.Words.{IsWithin};
-ghost use Rattle.ext_run.specs.Task.{IsInForm, IsTaskWithin};
+ghost use Rattle.ext_run.specs.Task.{IsInForm, IsTaskWithin, TellsOfClasses};
 ghost use Rattle.ext_run.specs.Work.{HasAnswer, answer_of, HasContinued, HasKeptOn, HasWorked};
 ghost use Rattle.ext_run.specs.declared.failure.Failure.TheVariants.{Memory as WantOfMemory};
 
@@ -227,6 +227,7 @@ fn told(alloc: Global, form: Form, table: &Table, range: Range) -> Result<Vec<u8
     requires degrees { range.t ≤ MAX_T }
     ensures told { HasAnswer result → IsResolved range table.now.resolved.plain (cut range (plain_rows table.now.rows)) → IsAllCanonical table.now → IsInForm form range table.now.resolved.plain (answer_of result) }
     ensures why { IfErr result (λ e. (e ≡ WantOfMemory) ⊎ IsOfClasses e) }
+    ensures named { IfErr result (λ e. IsOfClasses e → TellsOfClasses form) }
 {
     canonical_table_exists();
     canonical_table_is_minimal_resolution();

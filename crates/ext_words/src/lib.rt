@@ -2,10 +2,12 @@
 #![tactic(auto)]
 
 mod command;
+mod constants;
 mod numbers;
 mod words;
 
 pub use command::{
     Build, Command, Common, MAX_DEGREE, MAX_SHIFT, MAX_SQUARES, MAX_WORKERS, WordsFault,
 };
+pub use constants::limits_are_these;
 pub use words::parse;

@@ -70,6 +70,7 @@ pub record IsBracketOver (table sphere : Staircase) (range : Range) (a b c : Cla
   pub s : bracket.s ≡ pos (places.a.s + places.b.s + places.c.s) -ℤ pos 1
   pub t : bracket.t ≡ bottom_of table.resolved +ℤ pos (above_of places)
   pub widths : bracket.indeterminacy.cols ≡ length bracket.value
+  pub one_each : (row : ℕ) → suc row ≡ places.a.s + places.b.s + places.c.s → length bracket.value ≡ count_of (resolution_of table) row (above_of places)
   pub ab_zero : HasZeroProduct sphere sphere range a b
   pub bc_zero : HasZeroProduct table sphere range b c
   pub is_bracket : IsAllCanonical table → IsAllCanonical sphere → IsBracket table sphere range places bracket.value bracket.indeterminacy.rows

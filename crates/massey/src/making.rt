@@ -120,6 +120,7 @@ fn by_lifts(
     ensures s { IfOk result (λ bracket. bracket.s ≡ pos (setting.now.places.a.s + setting.now.places.b.s + setting.now.places.c.s) -ℤ pos 1) }
     ensures t { IfOk result (λ bracket. bracket.t ≡ bottom_of setting.now.table.now.resolved +ℤ pos (above_of setting.now.places)) }
     ensures widths { IfOk result (λ bracket. bracket.indeterminacy.cols ≡ length bracket.value) }
+    ensures one_each { IfOk result (λ bracket. (row : ℕ) → suc row ≡ setting.now.places.a.s + setting.now.places.b.s + setting.now.places.c.s → length bracket.value ≡ count_of (resolution_of setting.now.table.now) row (above_of setting.now.places)) }
     ensures bracket { IfOk result (λ bracket. IsAllCanonical setting.now.table.now → IsAllCanonical setting.now.sphere.now → IsBracket setting.now.table.now setting.now.sphere.now setting.now.range setting.now.places bracket.value bracket.indeterminacy.rows) }
 {
     canonical_table_is_minimal_resolution();
@@ -140,13 +141,18 @@ fn empty(alloc: Global, setting: &Setting<'_>) -> Result<Bracket, Memory>
     ensures s { IfOk result (λ bracket. bracket.s ≡ pos (setting.now.places.a.s + setting.now.places.b.s + setting.now.places.c.s) -ℤ pos 1) }
     ensures t { IfOk result (λ bracket. bracket.t ≡ bottom_of setting.now.table.now.resolved +ℤ pos (above_of setting.now.places)) }
     ensures widths { IfOk result (λ bracket. bracket.indeterminacy.cols ≡ length bracket.value) }
+    ensures one_each { IfOk result (λ bracket. (row : ℕ) → suc row ≡ setting.now.places.a.s + setting.now.places.b.s + setting.now.places.c.s → length bracket.value ≡ count_of (resolution_of setting.now.table.now) row (above_of setting.now.places)) }
 {
     let places = setting.places;
+    let count = match (places.a.s + places.b.s + places.c.s).checked_sub(1) {
+        Some(row) => generators_at(setting.table, row, setting.above()),
+        None => 0,
+    };
     Ok(Bracket {
         s: i32::from(places.a.s + places.b.s + places.c.s) - 1,
         t: degree(setting.table, setting.above()),
-        value: BitVec::zero(alloc, 0)?,
-        indeterminacy: Matrix::from_rows(0, Vec::new(alloc)),
+        value: BitVec::zero(alloc, count)?,
+        indeterminacy: Matrix::from_rows(count, Vec::new(alloc)),
     })
 }
 
@@ -197,6 +203,7 @@ fn coset(
     requires setting { IsSetting setting.now.table.now setting.now.sphere.now setting.now.range setting.now.places }
     requires lifts { AreLifts setting.now.table.now setting.now.sphere.now setting.now.places beta.now gamma.now }
     requires n { suc n ≡ setting.now.places.c.s + setting.now.places.b.s }
+    ensures one_each { IfOk result (λ bracket. length bracket.value ≡ count_of (resolution_of setting.now.table.now) (n + setting.now.places.a.s) (above_of setting.now.places)) }
     ensures s { IfOk result (λ bracket. bracket.s ≡ pos (n + setting.now.places.a.s)) }
     ensures t { IfOk result (λ bracket. bracket.t ≡ bottom_of setting.now.table.now.resolved +ℤ pos (above_of setting.now.places)) }
     ensures widths { IfOk result (λ bracket. bracket.indeterminacy.cols ≡ length bracket.value) }

@@ -60,6 +60,7 @@ pub fn resume<D: Disk>(
     ensures time { MatchResult result (λ r. LeavesOnly D.moment D.since disk r.1.journal.disk (λ _. Unit {0})) (λ e. LeavesOnly D.moment D.since disk e.1 (λ _. Unit {0})) }
     ensures any_moment { IfSome (D.now disk) (λ _. MatchResult result (λ r. LeavesOnly D.moment D.since disk r.1.journal.disk (HasRecordsOf (digest_of «module») (D.images disk))) (λ e. LeavesOnly D.moment D.since disk e.1 (HasRecordsOf (digest_of «module») (D.images disk)))) }
     ensures no_fault { IfOk result (λ r. D.faults r.1.journal.disk ≡ D.faults disk) }
+    ensures quiet { IfErr result (λ e. e.0 ≢ Open DiskFailed → D.faults e.1 ≡ D.faults disk) }
     ensures never_fall { IfErr result (λ e. D.faults disk ≤ D.faults e.1) }
     ensures cause { IfErr result (λ e. e.0 ≡ Open DiskFailed → HasRisen (D.faults disk) (D.faults e.1)) }
 {

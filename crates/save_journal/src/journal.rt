@@ -58,6 +58,7 @@ impl<D: Disk> Journal<D> {
         ensures time { MatchResult result (λ r. LeavesOnly D.moment D.since disk r.0.disk (λ _. Unit {0})) (λ e. LeavesOnly D.moment D.since disk e.1 (λ _. Unit {0})) }
         ensures any_moment { IfSome (D.now disk) (λ _. MatchResult result (λ r. LeavesOnly D.moment D.since disk r.0.disk (HasRecordsOf digest (D.images disk))) (λ e. LeavesOnly D.moment D.since disk e.1 (HasRecordsOf digest (D.images disk)))) }
         ensures no_fault { IfOk result (λ r. D.faults r.0.disk ≡ D.faults disk) }
+        ensures quiet { IfErr result (λ e. e.0 ≢ DiskFailed → D.faults e.1 ≡ D.faults disk) }
         ensures never_fall { IfErr result (λ e. D.faults disk ≤ D.faults e.1) }
         ensures cause { IfErr result (λ e. e.0 ≡ DiskFailed → HasRisen (D.faults disk) (D.faults e.1)) }
     {

@@ -32,6 +32,7 @@ pub fn open_on<D: Disk>(
     ensures any_moment { IfSome (D.now disk.old) (λ _. LeavesOnly D.moment D.since disk.old disk.new (HasRecordsOf digest.now (D.images disk.old))) }
     ensures never_fall { D.faults disk.old ≤ D.faults disk.new }
     ensures no_fault { OnOk result (D.faults disk.new ≡ D.faults disk.old) }
+    ensures quiet { IfErr result (λ e. e ≢ DiskFailed → D.faults disk.new ≡ D.faults disk.old) }
     ensures cause { result ≡ Err DiskFailed → HasRisen (D.faults disk.old) (D.faults disk.new) }
 {
     disk.sync()?; // What is read is then what a crash leaves.
@@ -57,6 +58,7 @@ fn read_all<D: Disk>(alloc: Global, disk: &mut D) -> Result<Vec<u8>, OpenFault>
     ensures any_moment { LeavesOnly D.moment D.since disk.old disk.new (D.images disk.old) }
     ensures never_fall { D.faults disk.old ≤ D.faults disk.new }
     ensures no_fault { OnOk result (D.faults disk.new ≡ D.faults disk.old) }
+    ensures quiet { IfErr result (λ e. e ≢ DiskFailed → D.faults disk.new ≡ D.faults disk.old) }
     ensures cause { IfErr result (λ e. (e ≡ WantOfMemory) ⊎ (e ≡ DiskFailed) × HasRisen (D.faults disk.old) (D.faults disk.new)) }
 {
     let len = disk.len()?;

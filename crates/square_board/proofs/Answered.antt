@@ -1,15 +1,16 @@
 -- What a give, a take and a look answer, and what the pass has then seen.
-use Rattle.std.proofs.Common.{◌≡◌, ◌⊎◌, ◌↔◌, ℕ, ℤ, pos, ◌+ℤ◌, Bool, false, nat_lt, List, [], map, ◌∷◌, ◌++◌, length, Option, Some, None, IfSome, Result, Ok, Err, refl, sym, ◌∙◌, ap, subst, arith, inl, inr}
+use Rattle.std.proofs.Common.{◌≡◌, ◌⊎◌, ◌↔◌, ℕ, suc, ◌≤◌, ℤ, pos, ◌+ℤ◌, ◌-ℤ◌, Bool, false, nat_lt, List, [], map, ◌∷◌, ◌++◌, length, Option, Some, None, IfSome, Result, Ok, Err, refl, sym, ◌∙◌, ap, subst, arith, inl, inr}
 use Rattle.std.specs.List.{slice_get}
 use Rattle.std.proofs.Math.Path.{fun_ext}
 use Rattle.std.proofs.Math.Path.{fun_ext}
 use Rattle.std.specs.Result.{IfOk}
 use Rattle.std.specs.Option.{option_map, option_and_then}
 use Rattle.std.proofs.lemmas.Bool.{cases_lt}
+use Rattle.std.proofs.lemmas.Int.{ints}
 use Rattle.std.proofs.lemmas.Bool.Decides.{nat_tests}
 use Rattle.std.proofs.lemmas.List.{append-nil, length_push}
 use Rattle.std.proofs.lemmas.Option.{slice_get_within}
-use Rattle.degrees.specs.Above.{above_of}
+use Rattle.degrees.specs.Above.{natural, above_of}
 use Rattle.finite_module.specs.Checked.{Checked}
 use Rattle.finite_module.specs.Module.{bottom}
 use Rattle.board_core.specs.declared.event.Cause.{Cause}
@@ -34,7 +35,7 @@ use Rattle.square_board.specs.declared.job.Taken.{Taken}
 use Rattle.square_board.specs.declared.job.Taken.TheVariants.{Job, Idle, Over, Stopped}
 use Rattle.square_board.specs.declared.opening.Opening.{Opening}
 use Rattle.square_board.specs.Courses.{Course, after_all, state_of, with_event, IsLegalCourse, numbered, events_of}
-use Rattle.square_board.specs.Openings.{first_table, bottom_of, module_of, low_of}
+use Rattle.square_board.specs.Openings.{first_table, bottom_of, module_of, low_of, front_after}
 use Rattle.square_board.specs.Jobs.{Taking, degree_of}
 use Rattle.square_board.specs.Desks.{DeskState, IsDesk, IsOver, IsIdle, MatchTaken, HasTaken}
 use Rattle.square_board.specs.Boards.{HasTurned, HasTakenJob, StoodBefore, IsSquareAt, entry_of_give, state_seen}
@@ -244,6 +245,22 @@ module _ {K : Type 0} (before now : Keeper) (opening : Opening K) (course : Cour
       let done : (λ k. nat_lt k (length (row_in table.rows s))) ≡ state.done s = fun_ext (λ k. sym (desk.done s k)) in
       let by_done : (found ≡ None) ↔ (holds_at (state.done s) (above_of (low_of table) t) ≡ false) = subst (λ (test : ℕ → Bool). (found ≡ None) ↔ (holds_at test (above_of (low_of table) t) ≡ false)) done here in
       subst (λ (b : ℤ). (found ≡ None) ↔ (holds_at (state.done s) (above_of b t) ≡ false)) (sym low) by_done
+
+  pub look_falling : IsTable table → (s : ℕ) → front_after opening course.history (suc s) ≤ front_after opening course.history s
+  look_falling is_table s = let a = desk.fronts s in let b = desk.fronts (suc s) in let c = is_table.never_rise s in omega arith
+
+  pub look_reached : {A : Type 0} (f : A → Placed) (found : Option A) (s : ℕ) (t : ℤ) (k : ℕ) → option_map f found ≡ square_at table s t → t ≡ bottom_of opening +ℤ pos k → found ≡ None → front_after opening course.history s ≤ k
+  look_reached {A} f found s t k is at none =
+      let low : low_of table ≡ bottom_of opening = ap (λ (x : Checked). bottom x.plain.generators) desk.grown.resolved in
+      let d : t -ℤ low_of table ≡ pos k = omega (arith, ints) in
+      let above : above_of (low_of table) t ≡ Some k = ap natural d in
+      let here : square_at table s t ≡ slice_get (row_in table.rows s) k = ap (λ (o : Option ℕ). option_and_then (λ j. slice_get (row_in table.rows s) j) o) above in
+      let nothing : slice_get (row_in table.rows s) k ≡ None = sym here ∙ (sym is ∙ ap (option_map f) none) in
+      let front = desk.fronts s in
+      elim (cases_lt k (length (row_in table.rows s))) [
+        | inl less ↦ let found_there = slice_get-there (row_in table.rows s) k less in absurd (cc (nothing, found_there.1))
+        | inr past ↦ omega arith
+      ]
 
   pub look_square : {A : Type 0} (f : A → Placed) (found : Option A) (s : ℕ) (t : ℤ) → IsTable table → option_map f found ≡ square_at table s t → IfSome found (λ a. IsSquareAt opening s t (f a))
   look_square {A} f None s t is_table is = tt

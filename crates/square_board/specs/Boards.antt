@@ -1,5 +1,5 @@
 -- A board and its passes: what each call does to a pass, and what is so of the history that it has then seen.
-use Rattle.std.specs.Prelude.{◌≡◌, ℕ, ◌≤◌, ℤ, pos, ◌+ℤ◌, false, List, [], ◌∷◌, ◌++◌, All, Some, Result, Ok, Err}
+use Rattle.std.specs.Prelude.{◌≡◌, ℕ, suc, ◌≤◌, ℤ, pos, ◌+ℤ◌, false, List, [], ◌∷◌, ◌++◌, All, Some, Result, Ok, Err}
 use Rattle.board_core.specs.declared.event.Cause.{Cause}
 use Rattle.board_core.specs.declared.event.Entry.{Entry as Event}
 use Rattle.board_core.specs.declared.event.Entry.TheVariants.{Take, Give, Back, Fail}
@@ -60,6 +60,10 @@ module _ {K : Type 0} where
     pub last : Event
     pub seen : pass.seen ≡ numbered (before ++ last ∷ [])
     pub stood : first_cause before ≡ Some cause
+
+  -- no row has more squares done after these events than the row below it
+  abbrev pub AreFalling : Opening K → List Event → Type 0
+  AreFalling opening events = (s : ℕ) → front_after opening events (suc s) ≤ front_after opening events s
 
   -- the square is that of the board's start at its place, in row s and of degree t
   pub record IsSquareAt (opening : Opening K) (s : ℕ) (t : ℤ) (q : Placed) : Type 0 where

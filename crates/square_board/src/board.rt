@@ -1,5 +1,5 @@
 //! The board: a desk behind a turn.
-ghost use Rattle.std.specs.Prelude.{◌≡◌, ◌⊎◌, ℕ, ◌+◌, ◌<◌, ◌≤◌, ◌↔◌, Ok, Err, None, Some, false, [], ◌∷◌, ◌++◌, length, slice_get, All, IfOk, IfErr, IfSome};
+ghost use Rattle.std.specs.Prelude.{◌≡◌, ◌⊎◌, ℕ, pos, ◌+ℤ◌, ◌+◌, ◌<◌, ◌≤◌, ◌↔◌, Ok, Err, None, Some, false, [], ◌∷◌, ◌++◌, length, slice_get, All, IfOk, IfErr, IfSome};
 ghost use Rattle.std.specs.Arc.{arc_value};
 ghost use Rattle.board_core.specs.declared.event.Cause.{Cause};
 ghost use Rattle.board_core.specs.declared.event.Entry.{Entry};
@@ -13,9 +13,9 @@ ghost use Rattle.square_board.specs.declared.job.GiveFault.TheVariants.{Stopped 
 ghost use Rattle.square_board.specs.declared.job.Taken.TheVariants.{Idle, Over, Stopped};
 ghost use Rattle.square_board.specs.Courses.{numbered, events_of};
 ghost use Rattle.square_board.specs.Jobs.{degree_of};
-ghost use Rattle.square_board.specs.Openings.{IsOpenedWith, course_of, front_after};
+ghost use Rattle.square_board.specs.Openings.{IsOpenedWith, bottom_of, course_of, front_after};
 ghost use Rattle.square_board.specs.Desks.{IsDesk, IsOver, IsIdle, IsMadeFrom, IsJobOf, MatchTaken};
-ghost use Rattle.square_board.specs.Boards.{IsPassOf, IsSamePass, HasTurned, HasTakenJob, StoodBefore, IsSquareAt, entry_of_give, state_seen};
+ghost use Rattle.square_board.specs.Boards.{IsPassOf, IsSamePass, HasTurned, HasTakenJob, StoodBefore, IsSquareAt, AreFalling, entry_of_give, state_seen};
 
 use crate::desk::Desk;
 use crate::job::{GiveFault, Job, Taken};
@@ -170,6 +170,8 @@ impl<K: Keep> Board<K> {
         ensures turned { HasTurned pass.old pass.new [] }
         ensures none { IfOk result (λ found. (found ≡ None) ↔ (is_done_at (state_seen pass.new) s t ≡ false)) }
         ensures square { IfOk result (λ found. IfSome found (λ a. IsSquareAt self.now.name s t (arc_value a))) }
+        ensures reached { IfOk result (λ found. (k : ℕ) → t ≡ bottom_of self.now.name +ℤ pos k → found ≡ None → front_after self.now.name (events_of pass.new.seen) s ≤ k) }
+        ensures falling { AreFalling self.now.name (events_of pass.new.seen) }
     {
         let held = self.turn.acquire(wait, pass);
         let found = held.value.look(s, t);

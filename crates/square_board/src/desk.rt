@@ -6,7 +6,8 @@ ghost use Rattle.board_core.specs.declared.event.Cause.{Cause};
 ghost use Rattle.board_core.specs.declared.event.Entry.TheVariants.{Take, Give, Back, Fail};
 ghost use Rattle.board_core.specs.Entries.{events_by};
 ghost use Rattle.board_core.specs.Laws.{first_cause, HasUnfinished};
-ghost use Rattle.board_core.specs.Machine.{IsInRange, IsRowNumber, IsRowNumberBelow};
+ghost use Rattle.board_core.specs.Machine.{IsInRange, IsReady, IsRowNumber, IsRowNumberBelow};
+ghost use Rattle.square_board.specs.Jobs.{Taking};
 ghost use Rattle.resolution_laws.specs.Start.{IsOf};
 ghost use Rattle.square.specs.declared.range.TheConstants.{MAX_S, MAX_T};
 ghost use Rattle.square.specs.Squares.{module_over};
@@ -103,6 +104,7 @@ impl<K: Keep> Desk<K> {
     /// `Memory` if allocation fails; nothing is taken then.
     pub(crate) fn take(&mut self, alloc: Global, who: u64) -> Result<Taken, Memory>
         ensures job { MatchTaken result (λ job. HasTaken self.old self.new who job) (self.new ≡ self.old) }
+        ensures lowest { IfOk result (λ taken. (job : Taking) → taken ≡ AJob job → (i k : ℕ) → i < job.inputs.s → IsReady (state_of self.old.course) i k → ⊥) }
         ensures idle { (result ≡ Ok Idle) ↔ IsIdle (state_of self.old.course) }
         ensures over { (result ≡ Ok Over) ↔ IsOver (state_of self.old.course) }
         ensures stopped { (cause : Cause) → (result ≡ Ok (Stopped cause)) ↔ ((state_of self.old.course).cause ≡ Some cause) }

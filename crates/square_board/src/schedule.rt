@@ -74,6 +74,7 @@ impl Schedule {
     /// A square that may be taken, that in the lowest row which has one. None exactly where there is none.
     pub(crate) fn ready(&self) -> Option<(u16, i32)>
         ensures some { IfSome result (λ q. IsReadyAt (state_of self.now) q.0 q.1) }
+        ensures lowest { IfSome result (λ q. (s k : ℕ) → s < q.0 → IsReady (state_of self.now) s k → ⊥) }
         ensures none { result ≡ None → (s k : ℕ) → IsReady (state_of self.now) s k → ⊥ }
         ensures is_legal { IsLegalCourse self.now }
     {

@@ -202,15 +202,28 @@ impl<T: Told> Turn<T> {
         ensures continues { Continues pass.old pass.new.seen }
         ensures more { length pass.old.seen < length pass.new.seen }
     {
-        let seen = pass.count;
+        let _count = pass.count; // What is known of a pass, which proofs learn here.
         let mut pauses = 0;
         for _ in wait.forever() {
-            if self.see(pass) > seen {
+            if self.sees_more(pass) {
                 return;
             }
             pauses = pause(wait, pauses);
         }
         unreachable!()
+    }
+
+    /// Whether the history has more entries than the pass saw in its last turn, rest or join. It has then seen them.
+    fn sees_more(&self, pass: &mut Pass<T>) -> bool
+        requires pass { pass.old.turn ≡ self.now }
+        requires idle { pass.old.holds ≡ false }
+        ensures pass { pass.new ≡ after_rest pass.old pass.new.seen }
+        ensures continues { Continues pass.old pass.new.seen }
+        ensures more { result ≡ true → length pass.old.seen < length pass.new.seen }
+        ensures all { result ≡ false → length pass.new.seen ≡ length pass.old.seen }
+    {
+        let seen = pass.count;
+        self.see(pass) > seen
     }
 
     /// How many entries the history has. The pass has then seen them, as in a turn.

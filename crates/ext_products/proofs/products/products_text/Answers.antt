@@ -6,7 +6,7 @@ use Rattle.yoneda.specs.Places.{missing, IsPlaceOf}
 use Rattle.ext_chart.specs.Classes.{product_lines_text}
 use Rattle.ext_products.specs.declared.refusal.Refusal.TheVariants.{NoClass}
 use Rattle.ext_products.specs.declared.refusal.Named.TheVariants.{By}
-use Rattle.ext_products.proofs.Transport.{text-answer, refused-answer}
+use Rattle.ext_products.proofs.Transport.{text-answer, refused-answer, sure-answer}
 use Rattle.ext_products.proofs.products.products_text.Goals as goal
 
 pub returns-in-Ok-clause-text : goal.returns-in-Ok-clause-text
@@ -21,6 +21,16 @@ returns-in-Ok-clause-text c =
     let there = subst (λ (r : Range). missing sphere r by ≡ None) reach c.in-Ok.ensures.there in
     text-answer c.args.table.now sphere c.args.range by made.canonical made.sphere near made.module_is c.lifts_give_one_product.ensures c.canonical_table_is_minimal_resolution.ensures c.modules_are_graded_modules.ensures c.known.ensures c.in-Ok.ensures.is_table c.requires.through
     a is there c.in_ok-lines-in-Ok.lines.items c.in_ok-lines-in-Ok.ensures _ (c.in_ok-product_lines-in-Ok.ensures ∙ ap product_lines_text c.as_slice.ensures.value)
+
+pub returns-clause-sure : goal.returns-clause-sure
+returns-clause-sure c = λ other.
+    let by = c.args.by in
+    let sphere = c.in_ok-sphere.sphere in
+    let made = c.in_ok-sphere.ensures in
+    let reach = c.reach_of-reach.ensures in
+    let near = subst (λ (r : Range). IsThrough r sphere.rows) reach made.through in
+    let missed = subst (λ (r : Range). missing sphere r by ≡ Some c.in-Err.count) reach c.in-Err.ensures.missing in
+    (NoClass By by c.in-Err.count, refl, sure-answer c.args.table.now sphere c.args.range by made.canonical made.sphere near made.module_is c.in-Err.count missed)
 
 pub returns-clause-refused : goal.returns-clause-refused
 returns-clause-refused c = λ other.

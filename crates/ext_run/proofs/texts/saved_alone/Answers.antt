@@ -19,4 +19,4 @@ pub returns-in-Err : goal.returns-in-Err
 returns-in-Err g c =
     let e = c.in-Err.ensures in
     subst (λ (failure : Failure). HasKeptOn g.D.Disk.now g.D.Disk.moment g.D.Disk.images g.D.Disk.since g.D.Disk.faults c.args.resolution (Err failure) c.args.disk c.in-Err.disk) (sym c.from.ensures)
-    (not_taken_up g.D.Disk.now g.D.Disk.moment g.D.Disk.images g.D.Disk.since g.D.Disk.faults (laws g) c.args.resolution c.args.disk c.in-Err.fault c.in-Err.disk e.refused e.same e.unwritten e.any_moment e.never_fall e.cause)
+    (not_taken_up g.D.Disk.now g.D.Disk.moment g.D.Disk.images g.D.Disk.since g.D.Disk.faults (laws g) c.args.resolution c.args.disk c.in-Err.fault c.in-Err.disk e.refused e.same e.unwritten e.any_moment e.never_fall e.cause e.quiet)

@@ -62,6 +62,7 @@ returns-clause-bracket c = record {
   s = c.in_ok-bracket.ensures.s;
   t = c.in_ok-bracket.ensures.t;
   widths = c.in_ok-bracket.ensures.widths;
+  one_each = c.in_ok-bracket.ensures.one_each;
   ab_zero = record { product = c.in_ok-ab.ab; is_product = ab_product c.lifts_give_one_product.ensures c.canonical_table_is_minimal_resolution.ensures c.modules_are_graded_modules.ensures c.args.table.now c.args.sphere.now c.args.range c.args.a c.args.b c.args.c c.in_ok-places.places (setting_of c.args.table.now c.args.sphere.now c.args.range c.in_ok-places.ensures.is_table c.in_ok-places.ensures.is_sphere_table c.requires.table c.requires.sphere_table c.requires.sphere c.args.a c.args.b c.args.c c.in_ok-places.places c.in_ok-places.ensures.found c.in_ok-places.ensures.inside) c.in_ok-places.ensures.found c.in_ok-beta.beta c.in_ok-beta.ensures c.in_ok-ab.ab c.in_ok-ab.ensures; is_zero = (zero_when c.is_zero.result c.in_ok-ab.ab c.is_zero.ensures c.if-not-is_zero.false) };
   bc_zero = record { product = c.in_ok-bc.bc; is_product = bc_product c.lifts_give_one_product.ensures c.canonical_table_is_minimal_resolution.ensures c.modules_are_graded_modules.ensures c.args.table.now c.args.sphere.now c.args.range c.args.a c.args.b c.args.c c.in_ok-places.places (setting_of c.args.table.now c.args.sphere.now c.args.range c.in_ok-places.ensures.is_table c.in_ok-places.ensures.is_sphere_table c.requires.table c.requires.sphere_table c.requires.sphere c.args.a c.args.b c.args.c c.in_ok-places.places c.in_ok-places.ensures.found c.in_ok-places.ensures.inside) c.in_ok-places.ensures.found c.in_ok-gamma.gamma c.in_ok-gamma.ensures c.in_ok-bc.bc c.in_ok-bc.ensures; is_zero = (zero_when c.is_zero-2.result c.in_ok-bc.bc c.is_zero-2.ensures c.if-not-is_zero-2.false) };
   is_bracket = c.in_ok-bracket.ensures.bracket;

@@ -1,4 +1,7 @@
-use Rattle.std.proofs.Common.{◌∙◌, arith}
+use Rattle.std.proofs.Common.{ℕ, ◌∙◌, ap, arith}
+use Rattle.lift_laws.specs.Products.{count_of}
+use Rattle.chain_map.specs.Lifting.{resolution_of}
+use Rattle.massey.specs.Brackets.{above_of}
 use Rattle.std.proofs.lemmas.Result.{IfOk-weaker}
 use Rattle.massey.proofs.Positive.{a_row_positive, b_row_positive}
 use Rattle.massey.proofs.Values.{are_lifts, bracket_row}
@@ -9,6 +12,9 @@ coset-requires-clause-lifts c = are_lifts c.args.setting.now.table.now c.args.se
 
 pub coset-requires-clause-n : goal.coset-requires-clause-n
 coset-requires-clause-n c = let h = c.if-places-eq0-2.false in omega arith
+
+pub returns-clause-one_each : goal.returns-clause-one_each
+returns-clause-one_each c = IfOk-weaker c.coset.result _ _ (λ bracket e row r. let h = c.if-places-eq0-2.false in e ∙ ap (λ (i : ℕ). count_of (resolution_of c.args.setting.now.table.now) i (above_of c.args.setting.now.places)) (omega arith)) c.coset.ensures.one_each
 
 pub returns-clause-s : goal.returns-clause-s
 returns-clause-s c = IfOk-weaker c.coset.result _ _ (λ bracket e. e ∙ bracket_row c.args.setting.now.places c.if-places-eq0-2.false) c.coset.ensures.s
