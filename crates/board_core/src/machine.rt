@@ -193,7 +193,7 @@ impl Core {
         Ok(true)
     }
 
-    /// The square that `who` has is done. Answers whether it is, which it is not where a cause stands.
+    /// Marks the square that `who` has as done. Returns false, and changes nothing, if `who` does not have it or a cause stands.
     fn give(&mut self, who: u64, s: u16, t: i32) -> bool
         ensures accepts { result ≡ true → IsHeldWithoutCause (state_of self.old) who s t }
         ensures effect { result ≡ true → state_of self.new ≡ after (state_of self.old) (Give who s t) }
@@ -328,7 +328,8 @@ impl Core {
         Some(above)
     }
 
-    /// The same, and none where a cause stands.
+    /// How many degrees above the bottom the square is that `who` has. `None` if the board is closed, if `who` does not have it, or if
+    /// a cause stands.
     fn held_without_cause(&self, who: u64, s: u16, t: i32) -> Option<u64>
         ensures running { OnSome result (self.now.running ≡ true) }
         ensures no_cause { OnSome result (self.now.cause ≡ None) }

@@ -10,7 +10,7 @@ pub fn every_schedule_is_canonical()
     ensures { EveryScheduleIsCanonical }
 {}
 
-/// The same for the table of the start itself: squares that were read stand as they were read, and each other is the step
+/// Every schedule continues the table of its start: squares that were read stand as they were read, and each other is the step
 /// over the table's squares.
 pub fn every_schedule_continues_its_start()
     ensures { EveryScheduleContinuesItsStart }
@@ -21,7 +21,7 @@ pub fn every_history_has_a_run()
     ensures { EveryHistoryHasARun }
 {}
 
-/// The same from a start whose squares are those of its own table.
+/// Every history has a run with contents if the squares of its start are those of the start's own table.
 pub fn every_history_from_its_start_has_a_run()
     ensures { EveryHistoryFromItsStartHasARun }
 {}

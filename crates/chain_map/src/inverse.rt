@@ -27,17 +27,17 @@ impl Model for Inverse {
 }
 
 impl Inverse {
-    /// That where there is nothing to invert.
+    /// The quasi-inverse in a degree in which nothing has to be inverted.
     pub fn none() -> Self
         ensures { result ≡ None }
     {
         Inverse { reduced: None }
     }
 
-    /// That of the square in row `k` and of degree `t` of the table: a copy of what the square kept, and else it is made again.
+    /// The quasi-inverse at the square in row `k` and of degree `t` of the table: a copy if the square kept it, and made again otherwise.
     ///
     /// # Errors
-    /// `Memory` where there is none for it.
+    /// `Memory` if allocation fails.
     pub fn of(alloc: Global, table: &Table, k: u16, t: i32) -> Result<Self, Memory>
         requires { bottom_of table.now.resolved ≤ℤ t → IsSome (square_at table.now k t) }
         ensures { IfOk result (IsInverseAt table.now k t) }

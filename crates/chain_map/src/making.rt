@@ -21,7 +21,7 @@ use std::alloc::Global;
 /// through no degree. Where the squares are canonical, it is a chain map on all vectors.
 ///
 /// # Errors
-/// `Memory` where there is none for it.
+/// `Memory` if allocation fails.
 pub fn lift(
     alloc: Global,
     table: &Table,
@@ -56,7 +56,7 @@ pub fn lift(
 /// sphere's resolution is inverted once for all of them.
 ///
 /// # Errors
-/// `Memory` where there is none for them.
+/// `Memory` if allocation fails.
 pub fn lifts(
     alloc: Global,
     table: &Table,

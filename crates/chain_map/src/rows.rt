@@ -93,7 +93,7 @@ impl Course<'_> {
         Inverse::of(alloc, self.sphere, k, self.over(n))
     }
 
-    /// Those of all squares of that row.
+    /// The quasi-inverses of d_k for the values on all squares of row s + k, in order of degree.
     pub(crate) fn inverses(&self, alloc: Global, k: u16) -> Result<Vec<Inverse>, Memory>
         requires sphere { IsSphere (resolution_of self.now.sphere.now) }
         requires reaches { Reaches self.now.table.now self.now.sphere.now self.now.s self.now.above k self.now.reach self.now.far }
@@ -148,7 +148,7 @@ impl Course<'_> {
         Ok(values)
     }
 
-    /// The same on the square that is `n` above the bottom, behind those on the squares before it.
+    /// Appends the values of map 0 on the square that is `n` above the bottom. The values on the squares before it are there.
     fn first_square(
         &self,
         alloc: Global,
@@ -226,7 +226,7 @@ impl Course<'_> {
         Ok(values)
     }
 
-    /// The same on the square that is `n` above the bottom, behind those on the squares before it.
+    /// Appends the values of the next map on the square that is `n` above the bottom. The values on the squares before it are there.
     fn next_square(
         &self,
         alloc: Global,

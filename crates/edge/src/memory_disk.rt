@@ -109,7 +109,7 @@ impl MemDisk {
     /// fail; and so does a call with which the bytes here, the bytes written and the calls would be more than `room`.
     ///
     /// # Errors
-    /// `Memory` where there is none for `room` bytes.
+    /// `Memory` if allocation fails.
     pub fn new(
         alloc: Global,
         bytes: Vec<u8>,
@@ -172,7 +172,7 @@ impl MemDisk {
     /// number the latter, where each byte that is not settled is greater by that number, mod 256.
     ///
     /// # Errors
-    /// `Memory` where there is none for it.
+    /// `Memory` if allocation fails.
     pub fn image(&self, alloc: Global, pick: u64) -> Result<Vec<u8>, Memory>
         ensures picked { IfOk result (λ v. v.items ≡ image_of pick self.now.history) }
         ensures image { IfOk result (λ v. IsImage self.now.history.first self.now.history.steps v.items) }

@@ -30,7 +30,7 @@ pub trait Sink {
         ensures cause { OnErr result (HasRisen (faults self.old) (faults self.new)) };
 }
 
-/// A sink of tests, which holds what it gets.
+/// A sink in memory, which holds what it gets.
 #[derive(Debug, Drop)]
 pub struct MemSink {
     written: Vec<u8>,
@@ -57,7 +57,7 @@ impl MemSink {
     /// counted from 1.
     ///
     /// # Errors
-    /// `Memory` where there is none for `room` bytes.
+    /// `Memory` if allocation fails.
     pub fn new(
         alloc: Global,
         piece: usize,

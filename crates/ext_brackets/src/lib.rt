@@ -1,4 +1,4 @@
-//! What is told of brackets: from the table of a module to the text.
+//! The output of `massey`: resolves the sphere, makes the bracket, formats it.
 #![tactic(auto)]
 
 mod laws;

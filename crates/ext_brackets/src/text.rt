@@ -23,7 +23,7 @@ use std::alloc::Global;
 ///
 /// # Errors
 /// `Refused` with the first of: a, b or c is no class through the range; the square of ab, of bc or of the bracket is past it; ab is not
-/// zero, or bc. `Memory` where there is none for the lifts or for the text.
+/// zero, or bc. `Memory` if allocation fails.
 pub fn bracket_text(
     alloc: Global,
     table: &Table,

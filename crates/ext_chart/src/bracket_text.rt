@@ -55,7 +55,7 @@ fn indeterminacy_lines(alloc: Global, s: i32, t: i32, rows: &[BitVec]) -> Result
 /// line `indeterminacy: 0` where there are none.
 ///
 /// # Errors
-/// `Memory` where there is none for the text.
+/// `Memory` if allocation fails.
 pub fn bracket_lines(
     alloc: Global,
     s: i32,

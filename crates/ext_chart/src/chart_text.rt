@@ -93,7 +93,7 @@ fn stems_line(alloc: Global, bottom: i32, t: u16) -> Result<Vec<u8>, Memory>
 /// stem, and last the line of the stems.
 ///
 /// # Errors
-/// `Memory` where there is none for the text.
+/// `Memory` if allocation fails.
 pub fn chart(alloc: Global, table: &Table, range: Range) -> Result<Vec<u8>, Memory>
     requires { IsThrough range table.now.rows }
     ensures { IfOk result (λ text. text.items ≡ chart_text (bottom_of table.now.resolved) range.s range.t (generator_count (plain_rows table.now.rows))) }

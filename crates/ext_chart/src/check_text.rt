@@ -39,7 +39,7 @@ fn generators_line(
 /// The line on an accepted module of `count` generators, whose degrees go from `least` to `greatest`.
 ///
 /// # Errors
-/// `Memory` where there is none for the text.
+/// `Memory` if allocation fails.
 pub fn check_line(alloc: Global, count: usize, least: i32, greatest: i32) -> Result<Vec<u8>, Memory>
     ensures { IfOk result (λ line. line.items ≡ check_line count least greatest) }
 {

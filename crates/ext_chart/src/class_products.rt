@@ -35,7 +35,7 @@ fn product_line(alloc: Global, line: &ProductLine) -> Result<Vec<u8>, Memory>
 /// is zero.
 ///
 /// # Errors
-/// `Memory` where there is none for the text.
+/// `Memory` if allocation fails.
 pub fn product_lines(alloc: Global, lines: &[ProductLine]) -> Result<Vec<u8>, Memory>
     ensures { IfOk result (λ text. text.items ≡ product_lines_text lines.now) }
 {

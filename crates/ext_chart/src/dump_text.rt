@@ -15,7 +15,7 @@ use std::alloc::Global;
 /// degree, and in a degree by number.
 ///
 /// # Errors
-/// `Memory` where there is none for the text.
+/// `Memory` if allocation fails.
 pub fn dump(alloc: Global, table: &Table, range: Range) -> Result<Vec<u8>, Memory>
     requires { IsThrough range table.now.rows }
     ensures { IfOk result (λ text. text.items ≡ dump_text table.now.resolved.plain.generators range.s range.t (plain_rows table.now.rows)) }
@@ -57,7 +57,7 @@ fn squares_text(
     Ok(text)
 }
 
-/// Those of the square `k` degrees above the bottom alone.
+/// The lines of the generators in the square of row `s` that is `k` degrees above the bottom.
 fn square_text(
     alloc: Global,
     table: &Table,

@@ -74,7 +74,7 @@ fn admissible_text(alloc: Global, sum: &Sum) -> Result<Vec<u8>, Memory>
 /// stands for the same: a line each, `milnor: Sq(6) + Sq(3,1)` and `admissible: Sq6 + Sq5 Sq1`, with `0` for no terms.
 ///
 /// # Errors
-/// `Memory` where there is none for the text.
+/// `Memory` if allocation fails.
 pub fn product(
     alloc: Global,
     basis: &Basis,

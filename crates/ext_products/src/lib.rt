@@ -1,4 +1,4 @@
-//! What is told of products of classes: from the table of a module to the text.
+//! The output of `products`: resolves the sphere, multiplies, formats.
 #![tactic(auto)]
 
 mod laws;

@@ -1,4 +1,4 @@
-//! What is told of the products with a class of the sphere.
+//! The lines of the products with a class of the sphere, or the refusal of that class.
 ghost use Rattle.std.specs.Prelude.{◌≡◌, ◌≢◌, ◌≤◌, IfOk, IfErr, Ok, Err};
 ghost use Rattle.square.specs.Tables.{IsTable, IsThrough};
 ghost use Rattle.square.specs.declared.range.TheConstants.{MAX_S, MAX_T};
@@ -21,7 +21,7 @@ use yoneda::place_of;
 /// product as a sum of classes. They stand by row, then by degree, then by number. The sphere's resolution is made as far as `by`.
 ///
 /// # Errors
-/// `Refused` where the sphere has not this class through the range. `Memory` where there is none for the lifts or for the text.
+/// `Refused` where the sphere has not this class through the range. `Memory` if allocation fails.
 pub fn products_text(
     alloc: Global,
     table: &Table,

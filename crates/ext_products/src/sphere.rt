@@ -18,7 +18,7 @@ use std::alloc::Global;
 /// The canonical table of the sphere through the range, made on the caller's thread.
 ///
 /// # Errors
-/// `Memory` where there is none for it.
+/// `Memory` if allocation fails.
 pub fn sphere_table(alloc: Global, range: Range) -> Result<Table, Memory>
     requires rows { range.s ≤ MAX_S }
     requires degrees { range.t ≤ MAX_T }

@@ -5,7 +5,7 @@ ghost use Rattle.ext_run.specs.NextRun.{NextRunMayUse};
 
 use edge::Disk;
 
-/// The same words have at most one answer to the same input.
+/// Words have at most one answer to an input.
 pub fn answer_is_unique()
     ensures { AnswerIsUnique }
 {

@@ -45,7 +45,7 @@ pub struct Resolution {
     pub form: Form,
 }
 
-/// What is told of a resolution.
+/// What is printed of a resolution.
 #[derive(Clone, Copy, Debug)]
 pub enum Form {
     Chart,

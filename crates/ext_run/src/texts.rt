@@ -84,7 +84,7 @@ fn unsaved_alone(alloc: Global, resolution: Resolution) -> Result<Vec<u8>, Failu
     told_alone(alloc, table, range, resolution.form, NoKeep).0
 }
 
-/// The same, made by as many workers as the resolution says.
+/// The text of a resolution, made by as many workers as it says. Nothing is kept.
 fn unsaved_by_workers<W: Threads + Wait + Clock + Sync, G: Gate + Sync>(
     wait: &W,
     alloc: Global,
@@ -129,7 +129,7 @@ fn saved_alone<D: Disk>(
     }
 }
 
-/// The same, made by as many workers as the resolution says.
+/// The text of a resolution over the save file of its module, made by as many workers as it says.
 fn saved_by_workers<W: Threads + Wait + Clock + Sync, D: Disk + Send, G: Gate + Sync>(
     wait: &W,
     alloc: Global,
@@ -153,7 +153,7 @@ fn saved_by_workers<W: Threads + Wait + Clock + Sync, D: Disk + Send, G: Gate + 
     }
 }
 
-/// What is told of a table that is continued through the range on the caller's thread; the keeper gets its new squares.
+/// Continues a table through the range on the caller's thread and formats it; the keeper gets the new squares.
 fn told_alone<K: Keep>(
     alloc: Global,
     table: Table,
@@ -181,7 +181,7 @@ fn told_alone<K: Keep>(
     }
 }
 
-/// The same, by so many workers.
+/// Continues a table through the range by so many workers and formats it; the keeper gets the new squares.
 fn told_by_workers<W: Threads + Wait + Clock + Sync, K: Keep + Send, G: Gate + Sync>(
     wait: &W,
     alloc: Global,
@@ -214,13 +214,13 @@ fn told_by_workers<W: Threads + Wait + Clock + Sync, K: Keep + Send, G: Gate + S
     }
 }
 
-/// Leaves a table to the end of the process, whose work the run is. The system then takes all of its memory back at once, which is
-/// sooner than to let go of some hundred thousand rows one by one, on one processor.
+/// Leaks the table on purpose: the process is about to end, and the system takes the memory back at once, while letting go of some
+/// hundred thousand rows one by one took a twentieth of a run.
 fn leave(table: Table) {
     forget(table);
 }
 
-/// What is told of a table that is resolved through the range.
+/// Formats a table that covers the range.
 fn told(alloc: Global, form: Form, table: &Table, range: Range) -> Result<Vec<u8>, Failure>
     requires through { IsThrough range table.now.rows }
     requires rows { range.s ≤ MAX_S }

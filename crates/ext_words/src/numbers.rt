@@ -158,7 +158,7 @@ fn class_from(texts: &[&str]) -> Option<Class>
 /// The class that a word says: its row, its degree and its number, joined by commas.
 ///
 /// # Errors
-/// `Memory` where there is none for the work.
+/// `Memory` if allocation fails.
 pub fn class_of(alloc: Global, word: &str) -> Result<Option<Class>, Memory>
     ensures { IfOk result (λ class. class ≡ class_of word.now) }
 {
@@ -184,7 +184,7 @@ fn positive_numbers(alloc: Global, limit: u16, texts: &[&str]) -> Result<Option<
 /// great, or one is no number above 0.
 ///
 /// # Errors
-/// `Memory` where there is none for it.
+/// `Memory` if allocation fails.
 pub fn product_of(alloc: Global, word: &str) -> Result<Option<Mono>, Memory>
     ensures { IfOk result (λ product. product ≡ product_of word.now) }
 {

@@ -345,7 +345,7 @@ fn command_of(alloc: Global, words: &[&str]) -> Result<Option<Command>, Memory>
 /// The command that the words after a program's name give.
 ///
 /// # Errors
-/// `Words` where they are outside the grammar, and `Memory` where there is none to read them.
+/// `Words` where they are outside the grammar, and `Memory` if allocation fails while they are read.
 pub fn parse(alloc: Global, words: &[&str]) -> Result<Command, WordsFault>
     ensures ok { IfOk result (λ command. command_of (texts_of words.now) ≡ Some command) }
     ensures within { IfOk result IsWithinLimits }

@@ -18,7 +18,7 @@ use std::alloc::Global;
 /// coordinates on these, and the image is the candidates, shared.
 ///
 /// # Errors
-/// `Memory` where there is none for these.
+/// `Memory` if allocation fails.
 pub fn choose(
     alloc: Global,
     matrix: Matrix,
@@ -38,7 +38,7 @@ pub fn choose(
     }
 }
 
-/// The same where each row is a sum of candidates, from the rows' coordinates with the unit matrix to the right of them.
+/// Makes the choice if each row is a sum of candidates, from the rows' coordinates with the unit matrix to the right of them.
 fn choose_covered(
     alloc: Global,
     matrix: Matrix,
@@ -75,7 +75,7 @@ fn choose_covered(
     ))
 }
 
-/// The same of any rows, one candidate after the other.
+/// Makes the choice for any rows, one candidate after the other.
 pub(crate) fn choose_any(
     alloc: Global,
     matrix: &Matrix,

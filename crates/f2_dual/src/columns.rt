@@ -12,7 +12,7 @@ use std::alloc::Global;
 /// stand side by side.
 ///
 /// # Errors
-/// `Memory` where there is none for them.
+/// `Memory` if allocation fails.
 pub fn columns_at(alloc: Global, places: &[usize], rows: &[&BitVec]) -> Result<Vec<BitVec>, Memory>
     ensures { IfOk result (λ columns. columns.items ≡ columns_at_of places.now (map (λ v. v.now) rows.now)) }
 {

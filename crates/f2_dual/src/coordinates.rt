@@ -21,7 +21,7 @@ use std::alloc::Global;
 /// are none where a row is no sum of candidates.
 ///
 /// # Errors
-/// `Memory` where there is none for these.
+/// `Memory` if allocation fails.
 pub fn coordinates(
     alloc: Global,
     matrix: &Matrix,

@@ -53,7 +53,7 @@ fn rows_before(rows: &[BitVec], end: usize) -> usize
 /// A copy of the candidate at the pivot of each kernel row, whose part right of the bar begins at place `n`.
 ///
 /// # Errors
-/// `Memory` where there is none for them.
+/// `Memory` if allocation fails.
 pub fn new_rows(
     alloc: Global,
     n: usize,
@@ -78,7 +78,7 @@ pub fn new_rows(
 /// the bar stands at place `n`. The columns at the pivots of the image are not made.
 ///
 /// # Errors
-/// `Memory` where there is none for them.
+/// `Memory` if allocation fails.
 pub fn preimages_and_relations(
     alloc: Global,
     n: usize,

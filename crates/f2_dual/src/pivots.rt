@@ -12,7 +12,7 @@ use std::alloc::Global;
 /// For each of `n` places the number of the row whose pivot is there.
 ///
 /// # Errors
-/// `Memory` where there is none for it.
+/// `Memory` if allocation fails.
 pub fn table_of_pivots(
     alloc: Global,
     n: usize,

@@ -18,7 +18,7 @@ impl Reduced {
     /// for the longer matrix.
     ///
     /// # Errors
-    /// `Memory` where there is none for it; the reduction is then as before.
+    /// `Memory` if allocation fails; the reduction is then as before.
     pub fn extend(&mut self, alloc: Global, rows: &[BitVec]) -> Result<(), Memory>
         requires { HaveWidth self.old.cols rows.now }
         ensures cols { self.new.cols ≡ self.old.cols }

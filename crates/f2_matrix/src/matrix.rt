@@ -67,7 +67,7 @@ impl Matrix {
     /// Puts one more row at the end.
     ///
     /// # Errors
-    /// `Memory` where there is none for it.
+    /// `Memory` if allocation fails.
     pub fn push_row(&mut self, row: BitVec) -> Result<(), Memory>
         requires { length row ≡ self.old.cols }
         ensures cols { self.new.cols ≡ self.old.cols }
@@ -86,7 +86,7 @@ impl Matrix {
         reduce_rows(self.rows.as_mut_slice(), self.cols);
     }
 
-    /// The same by blocks of up to eight pivots, with room that was made for the matrix's columns.
+    /// Brings the matrix into row reduced echelon form by blocks of up to eight pivots, with room that was made for its columns.
     pub fn reduce_with(&mut self, scratch: &mut Scratch)
         requires { scratch.old ≡ self.old.cols }
         ensures cols { self.new.cols ≡ self.old.cols }
@@ -100,10 +100,10 @@ impl Matrix {
         );
     }
 
-    /// The same, row by row, with several tables of sums that are made for it.
+    /// Brings the matrix into row reduced echelon form row by row, with several tables of sums that are made for it.
     ///
     /// # Errors
-    /// `Memory` where there is none for these; the matrix is then as before.
+    /// `Memory` if allocation fails; the matrix is then as before.
     pub fn reduce_rowwise(&mut self, alloc: Global) -> Result<(), Memory>
         ensures cols { self.new.cols ≡ self.old.cols }
         ensures ok { OnOk result (IsEchelonForm self.old.cols self.old.rows self.new.rows) }
@@ -115,7 +115,7 @@ impl Matrix {
     /// The matrix with the unit matrix put to the right of it, `[D | I]`.
     ///
     /// # Errors
-    /// `Memory` where there is none for it.
+    /// `Memory` if allocation fails.
     pub fn augment(&self, alloc: Global) -> Result<Matrix, Memory>
         ensures cols { IfOk result (λ m. m.cols ≡ self.now.cols + length self.now.rows) }
         ensures rows { IfOk result (λ m. m.rows ≡ augmented self.now.rows) }

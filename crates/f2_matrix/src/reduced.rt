@@ -40,7 +40,7 @@ impl Reduced {
     /// Reduces `[D | I]` once, for the matrix D.
     ///
     /// # Errors
-    /// `Memory` where there is none for it.
+    /// `Memory` if allocation fails.
     pub fn of(alloc: Global, matrix: &Matrix) -> Result<Self, Memory>
         ensures parts { IfOk result (λ r. IsReductionOf matrix.now.cols matrix.now.rows r) }
         ensures cols { IfOk result (λ r. r.cols ≡ matrix.now.cols) }
@@ -141,7 +141,7 @@ impl Reduced {
     /// Whether `v` is a sum of rows of the matrix.
     ///
     /// # Errors
-    /// `Memory` where there is none for the work.
+    /// `Memory` if allocation fails.
     pub fn contains(&self, alloc: Global, v: &BitVec) -> Result<bool, Memory>
         requires { length v.now ≡ self.now.cols }
         ensures { IfOk result (λ inside. IsTrue inside ↔ IsInSpan self.now.cols self.now.image v.now) }
@@ -153,7 +153,7 @@ impl Reduced {
     /// pivots of the kernel rows. There is one just where `v` is a sum of rows of the matrix.
     ///
     /// # Errors
-    /// `Memory` where there is none for it.
+    /// `Memory` if allocation fails.
     pub fn preimage(&self, alloc: Global, v: &BitVec) -> Result<Option<BitVec>, Memory>
         requires { length v.now ≡ self.now.cols }
         ensures inside { IfOk result (λ found. IsSome found ↔ IsInSpan self.now.cols self.now.image v.now) }
@@ -171,7 +171,7 @@ impl Reduced {
     /// the image, this is its preimage.
     ///
     /// # Errors
-    /// `Memory` where there is none for it.
+    /// `Memory` if allocation fails.
     pub fn quasi(&self, alloc: Global, v: &BitVec) -> Result<BitVec, Memory>
         requires { length v.now ≡ self.now.cols }
         ensures sum { IfOk result (λ c. c ≡ quasi_of self.now.height self.now.image self.now.chosen v.now) }
@@ -183,10 +183,10 @@ impl Reduced {
         Ok(quasi)
     }
 
-    /// The same reduction. Its image and kernel rows are shared, not copied.
+    /// A copy of the reduction, which shares the image and kernel rows.
     ///
     /// # Errors
-    /// `Memory` where there is none for it.
+    /// `Memory` if allocation fails.
     pub fn try_copy(&self, alloc: Global) -> Result<Reduced, Memory>
         ensures { IfOk result (λ copy. copy ≡ self.now) }
     {

@@ -28,7 +28,7 @@ impl Rows {
     /// These rows, to be shared.
     ///
     /// # Errors
-    /// `Memory` where there is none for it.
+    /// `Memory` if allocation fails.
     pub fn of(alloc: Global, rows: Vec<BitVec>) -> Result<Rows, Memory>
         ensures { IfOk result (λ shared. shared ≡ rows.items) }
     {

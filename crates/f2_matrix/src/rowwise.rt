@@ -36,7 +36,7 @@ pub struct Quarters<'a> {
 /// Brings the rows to row reduced echelon form.
 ///
 /// # Errors
-/// `Memory` where there is none for the work.
+/// `Memory` if allocation fails.
 pub fn eliminate(alloc: Global, cols: usize, rows: &mut [BitVec]) -> Result<(), Memory>
     requires { HaveWidth cols rows.old }
     ensures ok { OnOk result (IsEchelonForm cols rows.old rows.new) }

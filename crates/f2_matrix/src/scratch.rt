@@ -32,7 +32,7 @@ impl Scratch {
     /// Room for the rows of a matrix with this many columns.
     ///
     /// # Errors
-    /// `Memory` where there is none for it.
+    /// `Memory` if allocation fails.
     pub fn new(alloc: Global, cols: usize) -> Result<Self, Memory>
         ensures { IfOk result (λ s. s ≡ cols) }
     {
@@ -44,7 +44,7 @@ impl Scratch {
 /// Room for the sums of up to `bits` rows of length `cols`.
 ///
 /// # Errors
-/// `Memory` where there is none for it.
+/// `Memory` if allocation fails.
 pub fn room_for_sums(alloc: Global, cols: usize, bits: usize) -> Result<Vec<BitVec>, Memory>
     requires { bits ≤ 8 }
     ensures { IfOk result (λ table. IsRoomForSums cols bits table.items) }

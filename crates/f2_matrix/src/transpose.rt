@@ -14,7 +14,7 @@ impl Matrix {
     /// The matrix with the columns of this one as rows, in order.
     ///
     /// # Errors
-    /// `Memory` where there is none for them.
+    /// `Memory` if allocation fails.
     pub fn transposed(&self, alloc: Global) -> Result<Matrix, Memory>
         ensures cols { IfOk result (λ m. m.cols ≡ length self.now.rows) }
         ensures rows { IfOk result (λ m. m.rows ≡ columns_of self.now.cols self.now.rows) }
@@ -28,7 +28,7 @@ impl Matrix {
 /// The columns of the rows, in order, of which there are `cols`.
 ///
 /// # Errors
-/// `Memory` where there is none for them.
+/// `Memory` if allocation fails.
 pub fn transposed_rows(alloc: Global, cols: usize, rows: &[&BitVec]) -> Result<Vec<BitVec>, Memory>
     ensures { IfOk result (λ columns. columns.items ≡ columns_of cols (map (λ v. v.now) rows.now)) }
 {

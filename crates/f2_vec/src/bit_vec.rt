@@ -52,7 +52,7 @@ impl BitVec {
     /// The zero vector of length `n`.
     ///
     /// # Errors
-    /// `Memory` where there is none for it.
+    /// `Memory` if allocation fails.
     pub fn zero(alloc: Global, n: usize) -> Result<Self, Memory>
         ensures { IfOk result (λ v. v ≡ zeros n) }
     {
@@ -65,7 +65,7 @@ impl BitVec {
     /// `count` zero vectors of length `n`.
     ///
     /// # Errors
-    /// `Memory` where there is none for them.
+    /// `Memory` if allocation fails.
     pub fn zero_rows(alloc: Global, count: usize, n: usize) -> Result<Vec<Self>, Memory>
         ensures { IfOk result (λ rows. rows.items ≡ replicate count (zeros n)) }
     {
@@ -79,7 +79,7 @@ impl BitVec {
     /// The unit vector of length `n` with its 1 at place `i`.
     ///
     /// # Errors
-    /// `Memory` where there is none for it.
+    /// `Memory` if allocation fails.
     pub fn unit(alloc: Global, n: usize, i: usize) -> Result<Self, Memory>
         requires { i < n }
         ensures { IfOk result (λ v. v ≡ unit_vector n i) }
@@ -207,7 +207,7 @@ impl BitVec {
     /// The `len` coordinates from place `from` on.
     ///
     /// # Errors
-    /// `Memory` where there is none for them.
+    /// `Memory` if allocation fails.
     pub fn part(&self, alloc: Global, from: usize, len: usize) -> Result<Self, Memory>
         requires { from + len ≤ length self.now }
         ensures { IfOk result (λ part. part ≡ take len (drop from self.now)) }
@@ -259,7 +259,7 @@ impl BitVec {
     /// The places that hold a 1, in rising order.
     ///
     /// # Errors
-    /// `Memory` where there is none for the list.
+    /// `Memory` if allocation fails.
     pub fn ones(&self, alloc: Global) -> Result<Vec<usize>, Memory>
         ensures places { IfOk result (λ ones. ones.items ≡ items_where_true self.now (range_with_len 0 (length self.now))) }
         ensures within { IfOk result (λ ones. EachIndex ones.items (λ k. slice_index ones.items k < length self.now)) }
@@ -278,7 +278,7 @@ impl BitVec {
     /// Puts one more coordinate at the end.
     ///
     /// # Errors
-    /// `Memory` where there is none for it.
+    /// `Memory` if allocation fails.
     pub fn push(&mut self, b: bool) -> Result<(), Memory>
         ensures ok { OnOk result (self.new ≡ self.old ++ b ∷ []) }
         ensures err { OnErr result (self.new ≡ self.old) }
@@ -299,7 +299,7 @@ impl BitVec {
     /// Puts the coordinates of `other` at the end, in order.
     ///
     /// # Errors
-    /// `Memory` where there is none for them.
+    /// `Memory` if allocation fails.
     pub fn append(&mut self, other: &BitVec) -> Result<(), Memory>
         ensures ok { OnOk result (self.new ≡ self.old ++ other.now) }
         ensures err { OnErr result (self.new ≡ self.old) }
@@ -319,7 +319,7 @@ impl BitVec {
     /// `n` coordinates take, and the bits of the last byte that are no coordinate have to be 0.
     ///
     /// # Errors
-    /// `Length` where there are more or fewer bytes, `SpareBits` where one of the last bits is 1, and `Memory` where there is none for it.
+    /// `Length` where there are more or fewer bytes, `SpareBits` where one of the last bits is 1, and `Memory` if allocation fails.
     pub fn from_bytes(alloc: Global, n: usize, bytes: &[u8]) -> Result<Self, BitsFault>
         ensures len { IfOk result (λ v. length v ≡ n) }
         ensures bytes { IfOk result (λ v. packed v ≡ bytes.now) }
@@ -345,7 +345,7 @@ impl BitVec {
     /// The bytes of the vector, eight coordinates to a byte, lowest bit first. The bits of the last byte that are no coordinate are 0.
     ///
     /// # Errors
-    /// `Memory` where there is none for them.
+    /// `Memory` if allocation fails.
     pub fn to_bytes(&self, alloc: Global) -> Result<Vec<u8>, Memory>
         ensures { IfOk result (λ bytes. bytes.items ≡ packed self.now) }
     {
@@ -357,7 +357,7 @@ impl BitVec {
     /// Puts the bytes of the vector at the end of `bytes`.
     ///
     /// # Errors
-    /// `Memory` where there is none for them.
+    /// `Memory` if allocation fails.
     pub fn append_bytes(&self, bytes: &mut Vec<u8>) -> Result<(), Memory>
         ensures ok { OnOk result (bytes.new.items ≡ bytes.old.items ++ packed self.now) }
         ensures err { OnErr result (bytes.new.items ≡ bytes.old.items) }
@@ -375,7 +375,7 @@ impl BitVec {
     /// A vector of the same coordinates.
     ///
     /// # Errors
-    /// `Memory` where there is none for it.
+    /// `Memory` if allocation fails.
     pub fn try_copy(&self, alloc: Global) -> Result<Self, Memory>
         ensures { IfOk result (λ v. v ≡ self.now) }
     {

@@ -3,7 +3,7 @@ ghost use Rattle.std.specs.Prelude.{◌≡◌, ℕ, ◌*◌, ◌<◌, ◌≤◌,
 ghost use Rattle.std.specs.Int.{div_ceil};
 ghost use Rattle.f2_vec.specs.Inside.Packed.{unit_bit};
 
-/// Makes the bytes the first ones of the words, of which there are enough.
+/// Fills `bytes` from the start of `words`, which has at least as many bytes.
 pub fn write_bytes(bytes: &mut [u8], words: &[u64])
     requires { length bytes.old ≤ 8 * length words.now }
     ensures length { length bytes.new ≡ length bytes.old }

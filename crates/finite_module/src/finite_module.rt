@@ -53,7 +53,7 @@ impl Module {
     /// The module with one generator `x0`, in degree 0, on which each Sq(R) of positive degree is zero.
     ///
     /// # Errors
-    /// `Memory` where there is none for it.
+    /// `Memory` if allocation fails.
     pub fn sphere(alloc: Global) -> Result<Self, Memory>
         ensures { IfOk result (λ m. m.plain ≡ derived_module sphere_file) }
     {
@@ -118,7 +118,7 @@ impl Module {
     /// The value of Sq(R) on generator `i`, a vector of that generator's degree and R's.
     ///
     /// # Errors
-    /// `Memory` where there is none for it.
+    /// `Memory` if allocation fails.
     pub fn act(&self, alloc: Global, r: &Exps, i: usize) -> Result<BitVec, Memory>
         requires { i < length self.now.plain.generators }
         ensures { IfOk result (λ v. v ≡ value_of self.now.plain r.now i) }
@@ -129,7 +129,7 @@ impl Module {
     /// A vector of degree `t` as text: the names of its generators, in order, with ` + ` between each two.
     ///
     /// # Errors
-    /// `Memory` where there is none for the text.
+    /// `Memory` if allocation fails.
     pub fn sum_text(&self, alloc: Global, t: i32, v: &BitVec) -> Result<Vec<u8>, Memory>
         requires { length v.now ≡ width self.now.plain.generators t }
         ensures { IfOk result (λ text. text.items ≡ sum_text self.now.plain.generators t v.now) }
@@ -141,7 +141,7 @@ impl Module {
     /// not zero.
     ///
     /// # Errors
-    /// `Memory` where there is none for the text.
+    /// `Memory` if allocation fails.
     pub fn canonical_text(&self, alloc: Global) -> Result<Vec<u8>, Memory>
         ensures { IfOk result (λ text. text.items ≡ canonical_text self.now.plain) }
     {

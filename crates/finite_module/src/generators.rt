@@ -65,7 +65,7 @@ impl Generators {
     /// The generators of a module file.
     ///
     /// # Errors
-    /// `Memory` where there is none for them.
+    /// `Memory` if allocation fails.
     pub fn of(alloc: Global, spec: &Spec) -> Result<Self, Memory>
         ensures { IfOk result (λ generators. generators ≡ spec.now.generators) }
     {
@@ -94,7 +94,7 @@ impl Generators {
     /// These generators by degree; those of one degree keep their order.
     ///
     /// # Errors
-    /// `Memory` where there is none for the work.
+    /// `Memory` if allocation fails.
     pub fn by_degree(mut list: Vec<Generator>) -> Result<Self, Memory>
         requires { AreByDegree (by_degree list.items) }
         ensures { IfOk result (λ generators. generators ≡ by_degree list.items) }
@@ -221,7 +221,7 @@ impl Generators {
     /// Generator `i` as a vector of its degree.
     ///
     /// # Errors
-    /// `Memory` where there is none for it.
+    /// `Memory` if allocation fails.
     pub fn unit(&self, alloc: Global, i: usize) -> Result<BitVec, Memory>
         requires { i < length self.now }
         ensures { IfOk result (λ v. v ≡ unit self.now i) }
@@ -233,7 +233,7 @@ impl Generators {
     /// The sum of these generators as a vector of degree `t`.
     ///
     /// # Errors
-    /// `Memory` where there is none for it.
+    /// `Memory` if allocation fails.
     pub fn sum(&self, alloc: Global, numbers: &[usize], t: i64) -> Result<BitVec, Memory>
         ensures { IfOk result (λ v. v ≡ sum_vector self.now numbers.now t) }
     {

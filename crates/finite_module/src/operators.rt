@@ -73,7 +73,7 @@ impl Operators {
     /// The generators, with no operator so far.
     ///
     /// # Errors
-    /// `Memory` where there is none for them.
+    /// `Memory` if allocation fails.
     pub fn new(alloc: Global, generators: Generators) -> Result<Self, Memory>
         ensures { IfOk result (λ m. m ≡ record { generators = generators; operators = [] }) }
     {
@@ -129,7 +129,7 @@ impl Operators {
         operator.get(i)
     }
 
-    /// The value of Sq(R) on generator `i`, none where it is zero because the operators have none.
+    /// The value of Sq(R) on generator `i`. `None` if Sq(R) is beyond the last operator; its value is then zero.
     pub fn value_ref(&self, r: &Exps, i: usize) -> Option<&BitVec>
         ensures some { IfSome result (λ v. v.now ≡ value self.now.generators self.now.operators r.now i) }
         ensures none { IfNone result (value self.now.generators self.now.operators r.now i ≡ zeros (width self.now.generators (degree_at self.now.generators i +ℤ pos (degree_of r.now)))) }
@@ -143,7 +143,7 @@ impl Operators {
     /// The value of Sq(R) on generator `i`.
     ///
     /// # Errors
-    /// `Memory` where there is none for it.
+    /// `Memory` if allocation fails.
     pub fn value(&self, alloc: Global, r: &Exps, i: usize) -> Result<BitVec, Memory>
         requires { i < length self.now.generators }
         ensures { IfOk result (λ v. v ≡ value self.now.generators self.now.operators r.now i) }
@@ -160,7 +160,7 @@ impl Operators {
     /// The value of Sq(R) on the vector `v` of degree `t`.
     ///
     /// # Errors
-    /// `Memory` where there is none for it.
+    /// `Memory` if allocation fails.
     pub fn act_on(&self, alloc: Global, r: &Exps, t: i64, v: &BitVec) -> Result<BitVec, Memory>
         requires { length v.now ≡ width self.now.generators t }
         ensures { IfOk result (λ w. w ≡ act_on self.now.generators self.now.operators r.now t v.now) }
@@ -178,7 +178,7 @@ impl Operators {
     /// The sum of the values of these Sq(R), which are of degree `n`, on generator `i`.
     ///
     /// # Errors
-    /// `Memory` where there is none for it.
+    /// `Memory` if allocation fails.
     pub fn sum_on(
         &self,
         alloc: Global,
@@ -213,7 +213,7 @@ impl Operators {
     /// Puts the operator of Sq(R), the next element of Milnor's bases, behind the others.
     ///
     /// # Errors
-    /// `Memory` where there is none for it.
+    /// `Memory` if allocation fails.
     pub fn push(&mut self, r: &Exps, operator: Operator) -> Result<(), Memory>
         requires next { slice_get (elements (span self.old.generators + 1)) (length self.old.operators) ≡ Some r.now }
         requires widths { EachIndex operator (λ i. length (slice_index_or operator i []) ≡ width self.old.generators (degree_at self.old.generators i +ℤ pos (degree_of r.now))) }

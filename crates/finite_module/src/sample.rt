@@ -66,7 +66,7 @@ impl Module {
     /// of a module file do, by degree and in one degree by name.
     ///
     /// # Errors
-    /// `Memory` where there is none for it.
+    /// `Memory` if allocation fails.
     pub fn sample(alloc: Global, n: u32) -> Result<Self, Memory>
         ensures { IfOk result (λ m. m.plain ≡ derived_module (sample_file n)) }
     {

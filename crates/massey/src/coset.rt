@@ -13,7 +13,7 @@ use std::alloc::Global;
 /// The echelon rows of the span of the rows, without zero rows.
 ///
 /// # Errors
-/// `Memory` where there is none for them.
+/// `Memory` if allocation fails.
 pub(crate) fn row_basis(alloc: Global, rows: &Matrix) -> Result<Matrix, Memory>
     ensures cols { IfOk result (λ basis. basis.cols ≡ rows.now.cols) }
     ensures basis { IfOk result (λ basis. IsRowBasis rows.now.cols rows.now.rows basis.rows) }

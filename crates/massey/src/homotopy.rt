@@ -130,7 +130,8 @@ impl Composite<'_> {
         Ok(values)
     }
 
-    /// The same on the square that is `j` above the bottom, behind those on the squares before it.
+    /// Appends the values of the next map of the null homotopy on the square that is `j` above the bottom. The values on the squares
+    /// before it are there.
     fn next_square(
         &self,
         alloc: Global,

@@ -37,7 +37,7 @@ use yoneda::{Place, coefficients, degree, generators_at, products};
 ///
 /// # Errors
 /// The first of: a, b and then c is no class of its table through the range; the square of ab, of bc or of the bracket is past the range; ab
-/// is not zero, or bc. `Memory` where there is none for what it takes.
+/// is not zero, or bc. `Memory` if allocation fails.
 pub fn bracket(
     alloc: Global,
     table: &Table,
@@ -303,7 +303,7 @@ fn add_lower_rows(
     Ok(())
 }
 
-/// That of the class with number `i` of that square, which is in row `l`.
+/// The product with c of the class with number `i` in the square of ab one row lower, which is row `l`.
 fn lower_row(
     alloc: Global,
     setting: &Setting<'_>,

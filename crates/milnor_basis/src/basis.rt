@@ -101,7 +101,7 @@ impl Basis {
     /// The bases of the degrees 0 to `max`.
     ///
     /// # Errors
-    /// `Memory` where there is none for them.
+    /// `Memory` if allocation fails.
     pub fn new(alloc: Global, max: u16) -> Result<Self, Memory>
         requires { max ≤ 255 }
         ensures { IfOk result (λ basis. basis ≡ max) }

@@ -18,17 +18,17 @@ use std::alloc::Global;
 /// The coefficients of Sq(R) on a numbered basis.
 #[derive(Drop)]
 pub(crate) enum Coefficients<'a> {
-    /// Those of a module.
+    /// The coefficients of a module.
     Same {
         operators: &'a Operators,
         r: Exps,
     },
-    /// Those of a module, turned round.
+    /// The coefficients of a module, turned round.
     Turned {
         operators: &'a Operators,
         r: Exps,
     },
-    /// Those of two modules, and zero between them.
+    /// The coefficients of two modules, and zero between them.
     Blocks {
         left: &'a Operators,
         right: &'a Operators,
@@ -122,7 +122,7 @@ pub(crate) fn coefficient(operators: &Operators, r: &Exps, x: usize, y: usize) -
     }
 }
 
-/// The same of the sum of two modules, whose generators are numbered one part after the other.
+/// The coefficient of Sq(R) between two generators of the sum of two modules, whose generators are numbered one part after the other.
 pub(crate) fn coefficient_in_sum(
     left: &Operators,
     right: &Operators,
@@ -142,7 +142,7 @@ pub(crate) fn coefficient_in_sum(
     }
 }
 
-/// The same of the tensor product of two modules, for the splittings of R. Its basis elements are numbered row by row, a row
+/// The coefficient of Sq(R) between two basis elements of the tensor product of two modules, for the splittings of R. The basis elements are numbered row by row, a row
 /// for each generator on the left.
 pub(crate) fn coefficient_in_tensor(
     left: &Operators,

@@ -22,7 +22,7 @@ pub fn check(alloc: Global, spec: &Spec) -> Result<Module, CheckFault>
     ensures accepted { OnOk result (refusal_of spec.now ≡ None) }
     ensures refused { IfErr result (λ e. e ≢ CheckFault.Memory → refusal_of spec.now ≡ Some e) }
 {
-    // What holds of each file is known by the count of its generators.
+    // The call makes the invariant of the file known to the proof.
     let _ = spec.count();
     let operators = derive(alloc, spec)?;
     check_entries(alloc, spec, &operators)?;

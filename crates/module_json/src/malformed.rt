@@ -104,7 +104,7 @@ pub enum Why {
     Unknown,
     #[error("wrong degree")]
     WrongDegree,
-    /// The same square of the same generator was listed at index `first` with another sum.
+    /// The entry at index `first` gives this square of this generator another sum.
     #[error("differs from action {first}")]
     Repeated { first: usize },
 }

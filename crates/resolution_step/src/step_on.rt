@@ -22,7 +22,7 @@ use std::alloc::Global;
 /// The square that is the step on these inputs. It keeps the reduction of its matrix.
 ///
 /// # Errors
-/// `Memory` where there is none for it.
+/// `Memory` if allocation fails.
 pub fn step(alloc: Global, inputs: &Inputs) -> Result<Square, Memory>
     ensures step { IfOk result (IsStepOf inputs.now) }
     ensures is_square { IfOk result IsSquare }
@@ -54,7 +54,7 @@ fn parts_on(alloc: Global, inputs: &Inputs) -> Result<Parts, Memory>
     }
 }
 
-/// The same, where `candidates` are the vectors to cover.
+/// The parts of the new square, if `candidates` are the vectors that d_s has to cover.
 fn parts_over(alloc: Global, inputs: &Inputs, candidates: &Rows) -> Result<Parts, Memory>
     requires { candidates.now ≡ candidates_over (over inputs.now.resolved) inputs.now.below inputs.now.above }
     ensures is_footing { IsFooting inputs.now }

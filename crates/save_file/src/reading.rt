@@ -37,7 +37,7 @@ pub fn decode(alloc: Global, table: &Table, number: u64, body: &[u8]) -> Result<
     }
 }
 
-/// The same, and none where the bytes are no such square.
+/// The square that the bytes are, or `None` if they are no square that may stand there.
 fn read_square(alloc: Global, table: &Table, body: &[u8]) -> Result<Option<Square>, Memory>
     requires { AllRead table.now.rows }
     ensures { IfOk result (λ found. MatchOption found (square_in (over table.now.resolved) table.now.start body.now ≡ None) (λ q. IsDecoded table.now body.now q)) }

@@ -1,3 +1,4 @@
+//! What a square is made from.
 ghost use Rattle.std.specs.Prelude.{◌≡◌, ◌+ℤ◌, pos, option_map, ℕ, ◌≤◌, IfOk, IfSome};
 ghost use Rattle.std.specs.Arc.{arc_value};
 ghost use Rattle.finite_module.specs.Module.{bottom};
@@ -143,7 +144,7 @@ impl Inputs {
         Some(square.kernel())
     }
 
-    /// The same rows, for one more owner: shared where the square below was made, and copied where it was read.
+    /// The kernel rows of the square below for one more owner: shared if that square was made, and copied if it was read.
     ///
     /// # Errors
     /// `Memory` if allocation fails, or if there are too many owners to count.

@@ -26,7 +26,7 @@ impl Kernel {
         }
     }
 
-    /// The same rows, for one more owner: those of the reduction where one is kept, and else a copy.
+    /// The kernel rows for one more owner: shared with the reduction if one is kept, and copied otherwise.
     pub(crate) fn shared(&self, alloc: Global) -> Result<Rows, Memory>
         ensures { IfOk result (λ rows. rows ≡ rows_of self.now) }
     {

@@ -1,3 +1,4 @@
+//! A row of squares, from the bottom degree up.
 ghost use Rattle.std.specs.Prelude.{◌≡◌, ◌≤◌, ◌<◌, ◌+◌, ◌-◌, ◌++◌, ◌^◌, ◌≤ℤ◌, pos, negsuc, [], ◌∷◌, length, take, slice_get, option_map, SomeIff, IfOk, OnOk, OnErr, IsOk, IfErr};
 ghost use Rattle.std.specs.Arc.{arc_value};
 ghost use Rattle.resolution_laws.specs.Resolution.{degrees_from, images_of};
@@ -74,7 +75,7 @@ impl Row {
     /// Makes room for `n` squares more.
     ///
     /// # Errors
-    /// `Memory` where there is none for them; the row is then as before.
+    /// `Memory` if allocation fails; the row is then as before.
     pub(crate) fn reserve(&mut self, n: usize) -> Result<(), Memory>
         ensures squares { self.new.squares ≡ self.old.squares }
         ensures ok { OnOk result (n ≤ self.new.room) }

@@ -1,3 +1,4 @@
+//! A square of the resolution: the new generators with their images, and the kernel.
 ghost use Rattle.std.specs.Prelude.{◌≡◌, ◌<◌, ◌≤◌, ◌^◌, ◌++◌, ◌+ℤ◌, pos, [], ◌∷◌, Some, None, option_map, IfOk};
 ghost use Rattle.resolution_laws.specs.Resolution.{IsStep};
 ghost use Rattle.square.specs.Squares.{entry_of, IsSquare, IsQuasi, AreWidths, KeptWhereMade, over, bottom_of};
@@ -55,7 +56,7 @@ impl Square {
         Square::reduced(inputs, gens, quasi)
     }
 
-    /// The same square, where nobody holds its kernel rows beside the reduction that has them.
+    /// The square that is made from these inputs, if nobody holds its kernel rows beside the reduction that has them.
     pub fn reduced(inputs: &Inputs, gens: Vec<BitVec>, quasi: Reduced) -> Square
         requires step { IsStep (over inputs.now.resolved) inputs.now.below inputs.now.squares (record { images = gens.items; kernel = quasi.kernel }) }
         requires quasi { IsQuasi (over inputs.now.resolved) inputs.now.below inputs.now.squares (record { images = gens.items; kernel = quasi.kernel }) quasi }

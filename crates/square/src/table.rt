@@ -1,3 +1,4 @@
+//! The squares of a resolution, row by row, and what is read off them.
 ghost use Rattle.std.specs.Prelude.{◌≡◌, ℕ, suc, ◌≤◌, ◌<◌, ◌+◌, ◌^◌, ◌+ℤ◌, ◌≤ℤ◌, pos, [], map, take, length, replicate, Some, option_map, SomeIff, IsSome, IfOk, IfErr, OnOk, OnErr, IsOk};
 ghost use Rattle.std.specs.Arc.{arc_value};
 ghost use Rattle.finite_module.specs.Module.{bottom};
@@ -58,7 +59,7 @@ impl Table {
     /// The table of no square of this module.
     ///
     /// # Errors
-    /// `Memory` where there is none for it.
+    /// `Memory` if allocation fails.
     pub fn new(alloc: Global, module: Module) -> Result<Table, Memory>
         ensures { IfOk result (λ table. table ≡ record { resolved = «module»; start = []; rows = replicate (MAX_S + 1) []; spare = 0 }) }
     {
@@ -126,7 +127,7 @@ impl Table {
     /// Puts a square at the end of its row.
     ///
     /// # Errors
-    /// `Memory`, with the square, where there is none for it; the table is then as before.
+    /// `Memory`, with the square, if allocation fails; the table is then as before.
     pub fn push(&mut self, square: Arc<Square>) -> Result<(), (Memory, Arc<Square>)>
         requires resolved { (arc_value square).resolved ≡ self.old.resolved }
         requires next { IsNext self.old.rows (arc_value square).s (arc_value square).above }
@@ -154,7 +155,7 @@ impl Table {
     /// What the square in row `s` and of degree `t` is made from. It is not there yet, and those that it stands on are.
     ///
     /// # Errors
-    /// `Memory` where there is none to share those.
+    /// `Memory` if allocation fails.
     pub fn inputs(&self, alloc: Global, s: u16, t: i32) -> Result<Inputs, Memory>
         requires { IsNextAt self.now s t }
         ensures resolved { IfOk result (λ i. i.resolved ≡ self.now.resolved) }
@@ -230,8 +231,8 @@ impl Table {
         Ok(Below::Row(gens))
     }
 
-    /// The dimensions, in degree `t`, of what d_s goes to and of F_s with `count` new generators, where the next square of row
-    /// `s` is. None where one of them does not fit 64 bits.
+    /// The dimensions of the target of d_s and of F_s in degree `t`, if the next square of row `s` gets `count` generators. `None` if
+    /// one of them does not fit 64 bits.
     pub fn next_widths(&self, s: u16, t: i32, count: usize) -> Option<(u64, u64)>
         requires { IsNextAt self.now s t }
         ensures { (k : ℕ) → t ≡ bottom_of self.now.resolved +ℤ pos k → SomeIff result (FitWords (next_widths self.now s k count)) (next_widths self.now s k count) }
@@ -246,7 +247,7 @@ impl Table {
     /// square kept, and else it is made again.
     ///
     /// # Errors
-    /// `Memory` where there is none for it.
+    /// `Memory` if allocation fails.
     pub fn quasi(&self, alloc: Global, s: u16, t: i32) -> Result<Reduced, Memory>
         requires { IsSome (square_at self.now s t) }
         ensures { IfOk result (λ reduced. IsQuasiAt self.now s t reduced) }
@@ -270,7 +271,7 @@ impl Table {
         }
     }
 
-    /// The same, made from the images of the generators of the rows.
+    /// The reduction of the matrix of d_s, made again from the images of the generators of the rows.
     fn quasi_again(&self, alloc: Global, s: u16, above: u16) -> Result<Reduced, Memory>
         requires row { s ≤ MAX_S }
         requires degree { above ≤ MAX_T }

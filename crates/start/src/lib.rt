@@ -50,7 +50,7 @@ impl Start {
         }
     }
 
-    /// The same start.
+    /// A copy of the start. It takes no memory.
     pub fn again(&self) -> Start
         ensures { result ≡ self.now }
     {

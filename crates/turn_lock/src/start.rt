@@ -19,7 +19,7 @@ impl<T: Told> Turn<T> {
     /// This is the only call that takes memory: a word for each front, and room for the passes.
     ///
     /// # Errors
-    /// `Memory` where there is none; the state comes back.
+    /// `Memory` if allocation fails; the state comes back.
     pub fn new(
         alloc: Global,
         state: T,

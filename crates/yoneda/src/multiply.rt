@@ -26,8 +26,8 @@ use std::alloc::Global;
 /// (a.s + x.s, a.t + x.t) of the module's resolution, in their order.
 ///
 /// # Errors
-/// The first of: a, and then x, is no class of its table through the range; the product is not in the range. `Memory` where there is none for
-/// the lift that it takes.
+/// The first of: a, and then x, is no class of its table through the range; the product is not in the range. `Memory` if allocation
+/// fails.
 pub fn product(
     alloc: Global,
     table: &Table,
@@ -59,7 +59,7 @@ pub fn product(
 /// their order. All classes of the square are lifted in one pass.
 ///
 /// # Errors
-/// `Memory` where there is none for the lifts.
+/// `Memory` if allocation fails.
 pub fn products(
     alloc: Global,
     table: &Table,
