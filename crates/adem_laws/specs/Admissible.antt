@@ -34,14 +34,17 @@ admissible_of n = map monomial_of (basis_of n)
 -- they are the admissible monomials of degree n, each once
 pub record AreAdmissible (n : ℕ) (monomials : List (List ℕ)) : Type 0 where
   pub members : (m : List ℕ) → Contains monomials m ↔ (IsAdmissible m × (sum m ≡ n))
-  pub once : (i j : ℕ) → i < length monomials → j < length monomials → slice_index_or monomials i [] ≡ slice_index_or monomials j [] → i ≡ j
+  pub once : (i j : ℕ) → i < length monomials → j < length monomials →
+      slice_index_or monomials i [] ≡ slice_index_or monomials j [] → i ≡ j
 
 abbrev pub AdmissiblesAre : Type 0
 AdmissiblesAre = (n : ℕ) → AreAdmissible n (admissible_of n)
 
 -- Sq^i1 Sq^i2 .. is Sq(R), r_j = i_j - 2 i_(j+1), with terms before Sq(R) in Milnor's basis
 abbrev pub ValuesLead : Type 0
-ValuesLead = (n i : ℕ) → i < length (basis_of n) → (bit (value (slice_index_or (admissible_of n) i [])) i ≡ true) × ((j : ℕ) → i < j → j < length (basis_of n) → bit (value (slice_index_or (admissible_of n) i [])) j ≡ false)
+ValuesLead = (n i : ℕ) → i < length (basis_of n) →
+    (bit (value (slice_index_or (admissible_of n) i [])) i ≡ true)
+    × ((j : ℕ) → i < j → j < length (basis_of n) → bit (value (slice_index_or (admissible_of n) i [])) j ≡ false)
 
 -- v is the sum of the values of the admissible monomials of degree n that c chooses
 pub record IsAdmissibleSum (n : ℕ) (c v : List Bool) : Type 0 where
@@ -50,7 +53,8 @@ pub record IsAdmissibleSum (n : ℕ) (c v : List Bool) : Type 0 where
 
 -- exactly one choice has each vector as its sum
 abbrev pub AdmissiblesAreBasis : Type 0
-AdmissiblesAreBasis = (n : ℕ) (v : List Bool) → length v ≡ length (basis_of n) → (c : List Bool) × IsAdmissibleSum n c v × ((d : List Bool) → IsAdmissibleSum n d v → d ≡ c)
+AdmissiblesAreBasis = (n : ℕ) (v : List Bool) → length v ≡ length (basis_of n) →
+    (c : List Bool) × IsAdmissibleSum n c v × ((d : List Bool) → IsAdmissibleSum n d v → d ≡ c)
 
 -- the sum of the values of monomials of degree n
 abbrev pub sum_of_values : ℕ → List (List ℕ) → List Bool
@@ -65,4 +69,6 @@ pub record IsAdmissibleForm (n : ℕ) (v : List Bool) (monomials : List (List �
 
 -- exactly one list is the admissible form of v
 abbrev pub AdmissibleFormIsUnique : Type 0
-AdmissibleFormIsUnique = (n : ℕ) (v : List Bool) → length v ≡ length (basis_of n) → (monomials : List (List ℕ)) × IsAdmissibleForm n v monomials × ((others : List (List ℕ)) → IsAdmissibleForm n v others → others ≡ monomials)
+AdmissibleFormIsUnique = (n : ℕ) (v : List Bool) → length v ≡ length (basis_of n) →
+    (monomials : List (List ℕ)) × IsAdmissibleForm n v monomials
+    × ((others : List (List ℕ)) → IsAdmissibleForm n v others → others ≡ monomials)

@@ -25,7 +25,17 @@ pub record Board : Type 0 where
 
 -- the state of a board
 abbrev pub state_of : Board → State
-state_of b = record { rows = b.rows; degrees = b.degrees; bottom = b.bottom; done = below_fronts b.fronts; out = b.out; failed = b.failed; file = b.file; cause = b.cause; running = b.running }
+state_of b = record {
+  rows = b.rows;
+  degrees = b.degrees;
+  bottom = b.bottom;
+  done = below_fronts b.fronts;
+  out = b.out;
+  failed = b.failed;
+  file = b.file;
+  cause = b.cause;
+  running = b.running;
+}
 
 -- ---- what is so of each board
 

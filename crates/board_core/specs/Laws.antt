@@ -25,7 +25,8 @@ IsReachedByEntries bottom s t start entries state = IsReached bottom s t start (
 
 -- The done squares are a staircase.
 abbrev pub DoneIsStaircase : Type 0
-DoneIsStaircase = (bottom : ℤ) (s t : ℕ) (start : List (ℕ × ℤ)) (events : List Event) (state : State) → IsReached bottom s t start events state → IsStaircase state.done
+DoneIsStaircase = (bottom : ℤ) (s t : ℕ) (start : List (ℕ × ℤ)) (events : List Event) (state : State) →
+    IsReached bottom s t start events state → IsStaircase state.done
 
 -- the squares that the events put into the file, in their order: those that are given, and that which a Stop finds there
 abbrev pub filed : List Event → List (ℕ × ℤ)
@@ -46,7 +47,8 @@ pub record AreFiledOnce (bottom : ℤ) (start : List (ℕ × ℤ)) (events : Lis
 
 -- No square is given twice, nor one that the file had, also if the board has stopped and opened in between.
 abbrev pub SquaresAreFiledOnce : Type 0
-SquaresAreFiledOnce = (bottom : ℤ) (s t : ℕ) (start : List (ℕ × ℤ)) (events : List Event) (state : State) → IsReached bottom s t start events state → AreFiledOnce bottom start events state
+SquaresAreFiledOnce = (bottom : ℤ) (s t : ℕ) (start : List (ℕ × ℤ)) (events : List Event) (state : State) →
+    IsReached bottom s t start events state → AreFiledOnce bottom start events state
 
 -- each square that is out stands there once; it and the one that failed are in the range, are not done, and have their
 -- parents done
@@ -56,7 +58,8 @@ pub record AreOutOnce (state : State) : Type 0 where
   pub failed_taken : (e : Out) → state.failed ≡ Some e → IsTaken state e.s e.above
 
 abbrev pub SquaresAreOutOnce : Type 0
-SquaresAreOutOnce = (bottom : ℤ) (s t : ℕ) (start : List (ℕ × ℤ)) (events : List Event) (state : State) → IsReached bottom s t start events state → AreOutOnce state
+SquaresAreOutOnce = (bottom : ℤ) (s t : ℕ) (start : List (ℕ × ℤ)) (events : List Event) (state : State) →
+    IsReached bottom s t start events state → AreOutOnce state
 
 -- a square that whoever asks may take, with the right snapshot
 pub record HasReady (state : State) : Type 0 where
@@ -74,7 +77,9 @@ pub record HasUnfinished (state : State) : Type 0 where
 
 -- While it runs the board does not get stuck.
 abbrev pub SomeSquareIsReady : Type 0
-SomeSquareIsReady = (bottom : ℤ) (s t : ℕ) (start : List (ℕ × ℤ)) (events : List Event) (state : State) → IsReached bottom s t start events state → state.running ≡ true → state.cause ≡ None → state.out ≡ [] → HasUnfinished state → HasReady state
+SomeSquareIsReady = (bottom : ℤ) (s t : ℕ) (start : List (ℕ × ℤ)) (events : List Event) (state : State) →
+    IsReached bottom s t start events state → state.running ≡ true → state.cause ≡ None → state.out ≡ [] →
+    HasUnfinished state → HasReady state
 
 -- how many squares of the first rows and degrees are not in the set
 abbrev pub count_missing : Squares → ℕ → ℕ → ℕ
@@ -97,7 +102,9 @@ NothingStops (Open ∷ events) = NothingStops events
 
 -- Two events for each square that the opening leaves unfinished finish the board.
 abbrev pub BoardIsFinished : Type 0
-BoardIsFinished = (bottom : ℤ) (s t : ℕ) (start : List (ℕ × ℤ)) (events : List Event) (state : State) → IsReached bottom s t start events state → NothingStops events → length events ≡ 2 * unfinished (opening bottom s t start) → (i k : ℕ) → IsInRange state i k → state.done i k ≡ true
+BoardIsFinished = (bottom : ℤ) (s t : ℕ) (start : List (ℕ × ℤ)) (events : List Event) (state : State) →
+    IsReached bottom s t start events state → NothingStops events →
+    length events ≡ 2 * unfinished (opening bottom s t start) → (i k : ℕ) → IsInRange state i k → state.done i k ≡ true
 
 -- ---- in one run
 
@@ -118,7 +125,8 @@ pub record AreDoneOnce (bottom : ℤ) (start : List (ℕ × ℤ)) (events : List
 
 -- No square is given twice, nor one of the start again.
 abbrev pub SquaresAreGivenOnce : Type 0
-SquaresAreGivenOnce = (bottom : ℤ) (s t : ℕ) (start : List (ℕ × ℤ)) (events : List Entry) (state : State) → IsReachedByEntries bottom s t start events state → AreDoneOnce bottom start events state
+SquaresAreGivenOnce = (bottom : ℤ) (s t : ℕ) (start : List (ℕ × ℤ)) (events : List Entry) (state : State) →
+    IsReachedByEntries bottom s t start events state → AreDoneOnce bottom start events state
 
 -- how many of the squares that the events give are in row i
 abbrev pub given_in : ℕ → List Entry → ℕ
@@ -126,11 +134,15 @@ given_in i events = count_by (λ q. nat_eq q.0 i) (given events)
 
 -- Each square that is given lengthens its row by one: a row has so many squares done more than at the opening.
 abbrev pub FrontsAreGiven : Type 0
-FrontsAreGiven = (bottom : ℤ) (s t : ℕ) (start : List (ℕ × ℤ)) (events : List Entry) (state : State) → IsReachedByEntries bottom s t start events state → (i n : ℕ) → IsRowNumber (opening bottom s t start).done i n → IsRowNumber state.done i (n + given_in i events)
+FrontsAreGiven = (bottom : ℤ) (s t : ℕ) (start : List (ℕ × ℤ)) (events : List Entry) (state : State) →
+    IsReachedByEntries bottom s t start events state → (i n : ℕ) → IsRowNumber (opening bottom s t start).done i n →
+    IsRowNumber state.done i (n + given_in i events)
 
 -- Who has taken a square, and has neither given it nor handed it back nor failed at it, has it still.
 abbrev pub OpenTakeIsHeld : Type 0
-OpenTakeIsHeld = (bottom : ℤ) (s t : ℕ) (start : List (ℕ × ℤ)) (events : List Entry) (state : State) → IsReachedByEntries bottom s t start events state → (who i : ℕ) (u : ℤ) → HasOpenTake (events_by who events) i u → IsHeld state who i u
+OpenTakeIsHeld = (bottom : ℤ) (s t : ℕ) (start : List (ℕ × ℤ)) (events : List Entry) (state : State) →
+    IsReachedByEntries bottom s t start events state → (who i : ℕ) (u : ℤ) → HasOpenTake (events_by who events) i u →
+    IsHeld state who i u
 
 -- the cause that the first Back or Fail of the events brings, none where they have neither
 abbrev pub first_cause : List Entry → Option Cause
@@ -142,7 +154,8 @@ first_cause (Fail who s t ∷ events) = Some Failed
 
 -- The cause that stands is that of the first Back or Fail.
 abbrev pub CauseIsTheFirst : Type 0
-CauseIsTheFirst = (bottom : ℤ) (s t : ℕ) (start : List (ℕ × ℤ)) (events : List Entry) (state : State) → IsReachedByEntries bottom s t start events state → state.cause ≡ first_cause events
+CauseIsTheFirst = (bottom : ℤ) (s t : ℕ) (start : List (ℕ × ℤ)) (events : List Entry) (state : State) →
+    IsReachedByEntries bottom s t start events state → state.cause ≡ first_cause events
 
 -- what was done is done still, and no row has fewer squares done
 pub record HasGrown (first last : State) : Type 0 where
@@ -151,11 +164,13 @@ pub record HasGrown (first last : State) : Type 0 where
 
 -- No event takes a square from those that are done.
 abbrev pub DoneSquaresGrow : Type 0
-DoneSquaresGrow = (first : State) (events : List Entry) (last : State) → IsEntryHistory first events last → HasGrown first last
+DoneSquaresGrow = (first : State) (events : List Entry) (last : State) → IsEntryHistory first events last →
+    HasGrown first last
 
 -- A history has at most two events for each square of the range that the opening leaves unfinished.
 abbrev pub HistoryIsShort : Type 0
-HistoryIsShort = (bottom : ℤ) (s t : ℕ) (start : List (ℕ × ℤ)) (events : List Entry) (state : State) → IsReachedByEntries bottom s t start events state → length events ≤ 2 * unfinished (opening bottom s t start)
+HistoryIsShort = (bottom : ℤ) (s t : ℕ) (start : List (ℕ × ℤ)) (events : List Entry) (state : State) →
+    IsReachedByEntries bottom s t start events state → length events ≤ 2 * unfinished (opening bottom s t start)
 
 -- The unfinished squares are at most all squares of the range.
 abbrev pub RangeIsAll : Type 0

@@ -93,7 +93,17 @@ pub record State : Type 0 where
 
 -- before the first event: the squares of the start are done, and the file has them
 abbrev pub opening : ℤ → ℕ → ℕ → List (ℕ × ℤ) → State
-opening bottom s t start = record { rows = s; degrees = t; bottom = bottom; done = squares_of bottom start; out = []; failed = None; file = start; cause = None; running = true }
+opening bottom s t start = record {
+  rows = s;
+  degrees = t;
+  bottom = bottom;
+  done = squares_of bottom start;
+  out = [];
+  failed = None;
+  file = start;
+  cause = None;
+  running = true;
+}
 
 -- an entry of the list has the square
 abbrev pub is_out : List Out → ℕ → ℕ → Bool
@@ -195,11 +205,29 @@ file_with file (Some q) = file ++ q ∷ []
 
 -- what an event that is accepted does
 abbrev pub after : State → Event → State
-after state (Take who s t snapshot) = record state { out = state.out ++ record { who = who; s = s; above = height state t } ∷ [] }
-after state (Give who s t) = record state { done = insert_square state.done s (height state t); out = without state.out s (height state t); file = state.file ++ (s, t) ∷ [] }
-after state (Back who s t) = record state { out = without state.out s (height state t); cause = Some (cause_or state.cause Memory) }
-after state (Fail who s t) = record state { out = without state.out s (height state t); failed = Some (record { who = who; s = s; above = height state t }); cause = Some Failed }
-after state (Stop in_file) = record state { done = no_squares; out = []; failed = None; file = file_with state.file in_file; running = false }
+after state (Take who s t snapshot) =
+    record state { out = state.out ++ record { who = who; s = s; above = height state t } ∷ [] }
+after state (Give who s t) = record state {
+  done = insert_square state.done s (height state t);
+  out = without state.out s (height state t);
+  file = state.file ++ (s, t) ∷ [];
+}
+after state (Back who s t) = record state {
+  out = without state.out s (height state t);
+  cause = Some (cause_or state.cause Memory);
+}
+after state (Fail who s t) = record state {
+  out = without state.out s (height state t);
+  failed = Some (record { who = who; s = s; above = height state t });
+  cause = Some Failed;
+}
+after state (Stop in_file) = record state {
+  done = no_squares;
+  out = [];
+  failed = None;
+  file = file_with state.file in_file;
+  running = false;
+}
 after state Open = record state { done = squares_of state.bottom state.file; cause = None; running = true }
 
 -- ---- histories
@@ -207,4 +235,5 @@ after state Open = record state { done = squares_of state.bottom state.file; cau
 -- the events are accepted one after another, and lead from one state to the other
 pub data IsHistory : State → List Event → State → Type 0 where
   nothing : (state : State) → IsHistory state [] state
-  then : (state : State) (event : Event) (events : List Event) (last : State) → IsLegal state event → IsHistory (after state event) events last → IsHistory state (event ∷ events) last
+  then : (state : State) (event : Event) (events : List Event) (last : State) → IsLegal state event →
+      IsHistory (after state event) events last → IsHistory state (event ∷ events) last

@@ -45,9 +45,32 @@ impl Model for Core {
 
     ghost Value = { Board };
 
-    ghost view = { λ c. record { rows = c.rows; degrees = c.degrees; bottom = c.bottom; fronts = c.fronts; out = c.out.items; failed = c.failed; file = c.file; cause = c.cause; running = c.running; spare = vec_capacity c.out - vec_len c.out } };
+    ghost view = { λ c. record {
+      rows = c.rows;
+      degrees = c.degrees;
+      bottom = c.bottom;
+      fronts = c.fronts;
+      out = c.out.items;
+      failed = c.failed;
+      file = c.file;
+      cause = c.cause;
+      running = c.running;
+      spare = vec_capacity c.out - vec_len c.out;
+    } };
 
-    ghost invariant = { λ c. IsWellKept (record { rows = c.rows; degrees = c.degrees; bottom = c.bottom; done = below_fronts c.fronts; out = c.out.items; failed = c.failed; file = c.file; cause = c.cause; running = c.running }) (length c.fronts) c.busy.items c.aside };
+    ghost invariant = { λ c. IsWellKept
+        (record {
+          rows = c.rows;
+          degrees = c.degrees;
+          bottom = c.bottom;
+          done = below_fronts c.fronts;
+          out = c.out.items;
+          failed = c.failed;
+          file = c.file;
+          cause = c.cause;
+          running = c.running;
+        })
+        (length c.fronts) c.busy.items c.aside };
 }
 
 impl Core {
@@ -359,7 +382,8 @@ impl Core {
     /// Whether a square of row `s` may be taken while the board runs and no cause stands.
     fn is_open(&self, s: u16) -> bool
         requires { s ≤ self.now.rows }
-        ensures yes { result ≡ true → self.now.running ≡ true → self.now.cause ≡ None → (k : ℕ) × IsReady (state_of self.now) s k }
+        ensures yes { result ≡ true → self.now.running ≡ true → self.now.cause ≡ None →
+            (k : ℕ) × IsReady (state_of self.now) s k }
         ensures no { result ≡ false → (k : ℕ) → IsReady (state_of self.now) s k → ⊥ }
     {
         !self.busy[usize::from(s)] && self.has_next(s)
@@ -381,7 +405,8 @@ impl Core {
     fn is_seen(&self, s: u16, snapshot: (u64, u64)) -> bool
         ensures yes { result ≡ true → IsRowNumber (below_fronts self.now.fronts) s snapshot.0 }
         ensures yes_below { result ≡ true → IsRowNumberBelow (below_fronts self.now.fronts) s snapshot.1 }
-        ensures no { IsRowNumber (below_fronts self.now.fronts) s snapshot.0 → IsRowNumberBelow (below_fronts self.now.fronts) s snapshot.1 → result ≡ true }
+        ensures no { IsRowNumber (below_fronts self.now.fronts) s snapshot.0 →
+            IsRowNumberBelow (below_fronts self.now.fronts) s snapshot.1 → result ≡ true }
     {
         let below = if s == 0 { 0 } else { self.fronts.front(s - 1) };
         snapshot.0 == self.fronts.front(s) && snapshot.1 == below
@@ -399,7 +424,8 @@ impl Core {
 fn take_from(out: &mut Vec<Out>, busy: &mut Vec<bool>, s: u16, k: u64)
     requires row { s < length busy.old.items }
     requires alone { has_row (without out.old.items s k) s ≡ false }
-    ensures busy { (rows : ℕ) → IsMarked busy.old.items rows out.old.items → IsMarked busy.new.items rows out.new.items }
+    ensures busy { (rows : ℕ) → IsMarked busy.old.items rows out.old.items →
+        IsMarked busy.new.items rows out.new.items }
     ensures items { out.new.items ≡ without out.old.items s k }
     ensures len { vec_len out.new ≤ vec_len out.old }
     ensures capacity { vec_capacity out.new ≡ vec_capacity out.old }

@@ -61,11 +61,31 @@ places bottom list = map (λ e. (e.s, bottom +ℤ pos e.above)) list
 
 -- the machine's state
 abbrev pub without_contents : Filled → State
-without_contents board = record { rows = board.rows; degrees = board.degrees; bottom = board.bottom; done = λ s k. is_some (board.done s k); out = map (λ copy. copy.out) board.out; failed = option_map (λ copy. copy.out) board.failed; file = places board.bottom board.file; cause = board.cause; running = board.running }
+without_contents board = record {
+  rows = board.rows;
+  degrees = board.degrees;
+  bottom = board.bottom;
+  done = λ s k. is_some (board.done s k);
+  out = map (λ copy. copy.out) board.out;
+  failed = option_map (λ copy. copy.out) board.failed;
+  file = places board.bottom board.file;
+  cause = board.cause;
+  running = board.running;
+}
 
 -- before the first event: the squares of the start are done, and the file has them
 abbrev pub filled_opening : Module → ℕ → ℕ → List Entry → Filled
-filled_opening m s t start = record { rows = s; degrees = t; bottom = m.bottom; done = entry_at start; out = []; failed = None; file = start; cause = None; running = true }
+filled_opening m s t start = record {
+  rows = s;
+  degrees = t;
+  bottom = m.bottom;
+  done = entry_at start;
+  out = [];
+  failed = None;
+  file = start;
+  cause = None;
+  running = true;
+}
 
 -- how many degrees a square of the board is above the bottom
 abbrev pub filled_height : Filled → ℤ → ℕ
@@ -78,10 +98,22 @@ without_copy out s k = filter (λ copy. not (nat_eq copy.out.s s && nat_eq copy.
 -- ---- what each event does, at the square (s, k)
 
 abbrev pub after_take : Filled → ℕ → ℕ → ℕ → Filled
-after_take board who s k = record board { out = board.out ++ record { out = record { who = who; s = s; above = k }; below = copy_below board.done s k; row = row_copy (board.done s) k } ∷ [] }
+after_take board who s k = record board {
+  out = board.out
+      ++ record {
+        out = record { who = who; s = s; above = k };
+        below = copy_below board.done s k;
+        row = row_copy (board.done s) k;
+      }
+      ∷ [];
+}
 
 abbrev pub after_give : Filled → ℕ → ℕ → Content → Filled
-after_give board s k content = record board { done = with_content board.done s k content; out = without_copy board.out s k; file = board.file ++ record { s = s; above = k; content = content } ∷ [] }
+after_give board s k content = record board {
+  done = with_content board.done s k content;
+  out = without_copy board.out s k;
+  file = board.file ++ record { s = s; above = k; content = content } ∷ [];
+}
 
 abbrev pub after_back : Filled → ℕ → ℕ → Filled
 after_back board s k = record board { out = without_copy board.out s k; cause = Some (cause_or board.cause Memory) }
@@ -131,10 +163,23 @@ pub record IsMadeAtStop (m : Module) (board : Filled) (s k : ℕ) (content : Con
 -- the events, one after another, lead from one board to the other
 pub data IsRun (m : Module) : Filled → List Event → Filled → Type 0 where
   no_event : (board : Filled) → IsRun m board [] board
-  take_first : (board : Filled) (who s : ℕ) (t : ℤ) (snapshot : ℕ × ℕ) (events : List Event) (last : Filled) → IsRun m (after_take board who s (filled_height board t)) events last → IsRun m board (Take who s t snapshot ∷ events) last
-  give_first : (board : Filled) (who s : ℕ) (t : ℤ) (content : Content) (events : List Event) (last : Filled) → IsMadeFromCopy m board who s (filled_height board t) content → IsRun m (after_give board s (filled_height board t) content) events last → IsRun m board (Give who s t ∷ events) last
-  back_first : (board : Filled) (who s : ℕ) (t : ℤ) (events : List Event) (last : Filled) → IsRun m (after_back board s (filled_height board t)) events last → IsRun m board (Back who s t ∷ events) last
-  fail_first : (board : Filled) (who s : ℕ) (t : ℤ) (copy : Copy) (events : List Event) (last : Filled) → IsCopyFor board.out who s (filled_height board t) copy → IsRun m (after_fail board copy s (filled_height board t)) events last → IsRun m board (Fail who s t ∷ events) last
-  stop_first : (board : Filled) (events : List Event) (last : Filled) → IsRun m (after_stop board board.file) events last → IsRun m board (Stop None ∷ events) last
-  stop_with_first : (board : Filled) (q : ℕ × ℤ) (content : Content) (events : List Event) (last : Filled) → IsMadeAtStop m board q.0 (filled_height board q.1) content → IsRun m (after_stop board (file_and board q.0 (filled_height board q.1) content)) events last → IsRun m board (Stop (Some q) ∷ events) last
-  open_first : (board : Filled) (events : List Event) (last : Filled) → IsRun m (after_open board) events last → IsRun m board (Open ∷ events) last
+  take_first : (board : Filled) (who s : ℕ) (t : ℤ) (snapshot : ℕ × ℕ) (events : List Event) (last : Filled) →
+      IsRun m (after_take board who s (filled_height board t)) events last →
+      IsRun m board (Take who s t snapshot ∷ events) last
+  give_first : (board : Filled) (who s : ℕ) (t : ℤ) (content : Content) (events : List Event) (last : Filled) →
+      IsMadeFromCopy m board who s (filled_height board t) content →
+      IsRun m (after_give board s (filled_height board t) content) events last →
+      IsRun m board (Give who s t ∷ events) last
+  back_first : (board : Filled) (who s : ℕ) (t : ℤ) (events : List Event) (last : Filled) →
+      IsRun m (after_back board s (filled_height board t)) events last → IsRun m board (Back who s t ∷ events) last
+  fail_first : (board : Filled) (who s : ℕ) (t : ℤ) (copy : Copy) (events : List Event) (last : Filled) →
+      IsCopyFor board.out who s (filled_height board t) copy →
+      IsRun m (after_fail board copy s (filled_height board t)) events last → IsRun m board (Fail who s t ∷ events) last
+  stop_first : (board : Filled) (events : List Event) (last : Filled) →
+      IsRun m (after_stop board board.file) events last → IsRun m board (Stop None ∷ events) last
+  stop_with_first : (board : Filled) (q : ℕ × ℤ) (content : Content) (events : List Event) (last : Filled) →
+      IsMadeAtStop m board q.0 (filled_height board q.1) content →
+      IsRun m (after_stop board (file_and board q.0 (filled_height board q.1) content)) events last →
+      IsRun m board (Stop (Some q) ∷ events) last
+  open_first : (board : Filled) (events : List Event) (last : Filled) → IsRun m (after_open board) events last →
+      IsRun m board (Open ∷ events) last

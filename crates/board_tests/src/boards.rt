@@ -64,7 +64,8 @@ fn idle<R: Wait + Clock + Abort, K: Keep>(
     requires { IsPassOf board.now pass.old }
     ensures pass { IsPassOf board.now pass.new }
     ensures same { IsSamePass pass.old pass.new }
-    ensures jobs { (job : Taking) → IsJobOf board.now.name pass.old.number pass.old.own job → IsJobOf board.now.name pass.new.number pass.new.own job }
+    ensures jobs { (job : Taking) → IsJobOf board.now.name pass.old.number pass.old.own job →
+        IsJobOf board.now.name pass.new.number pass.new.own job }
 {
     match board.take(rt, alloc, pass) {
         Ok(Taken::Idle) => {}

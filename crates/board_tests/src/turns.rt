@@ -133,7 +133,9 @@ fn add_in_threads<R: Threads + Wait + Clock + Sync>(
     times: u64,
 )
     requires { All (λ p. (p.turn ≡ turn.now) × (p.holds ≡ false)) row.old }
-    ensures { (i : ℕ) (d : _) → i < length row.old → ((slice_index_or row.new i d).turn ≡ turn.now) × ((slice_index_or row.new i d).holds ≡ false) × ((slice_index_or row.new i d).number ≡ (slice_index_or row.old i d).number) }
+    ensures { (i : ℕ) (d : _) → i < length row.old →
+        ((slice_index_or row.new i d).turn ≡ turn.now) × ((slice_index_or row.new i d).holds ≡ false)
+        × ((slice_index_or row.new i d).number ≡ (slice_index_or row.old i d).number) }
 {
     thread::for_each_mut(
         rt,
@@ -141,7 +143,8 @@ fn add_in_threads<R: Threads + Wait + Clock + Sync>(
         2,
         &|_i, pass: &mut Pass<Log>|
             requires { (pass.now.turn ≡ turn.now) × (pass.now.holds ≡ false) }
-            ensures { (pass.exit.now.turn ≡ turn.entry.now) × (pass.exit.now.holds ≡ false) × (pass.exit.now.number ≡ pass.entry.now.number) }
+            ensures { (pass.exit.now.turn ≡ turn.entry.now) × (pass.exit.now.holds ≡ false)
+                × (pass.exit.now.number ≡ pass.entry.now.number) }
         { add_often(rt, turn, pass, times) },
     );
 }

@@ -10,9 +10,12 @@ use Rattle.lift_laws.specs.Products.{Class, first_of, count_of, degree_of_class,
 
 -- Maps H k from F_(n+k) of r to F_k of q, for k through upto, that lower degrees by x: d H and H d sum to theta, whose part k
 -- is told on generator g of degree t of row n + k + 1. Nothing is asked of H 0 after d_0.
-pub record IsNullHomotopy (r q : Resolution) (n : ℕ) (x : ℤ) (theta : ℕ → ℤ → ℕ → List Bool) (upto : ℕ) (top : ℤ) (H : ℕ → ℕ → List Bool) : Type 0 where
+pub record IsNullHomotopy (r q : Resolution) (n : ℕ) (x : ℤ) (theta : ℕ → ℤ → ℕ → List Bool) (upto : ℕ) (top : ℤ)
+    (H : ℕ → ℕ → List Bool) : Type 0 where
   pub fit : (k i : ℕ) → k ≤ upto → i ≡ n + k → FitThrough (shifted x (free q k)) (gens r i) top (H k)
-  pub bounds : (k i j : ℕ) → k < upto → j ≡ n + k → i ≡ suc j → (g : ℕ) → g < length (gens r i) → degree r i g ≤ℤ top → sum_of (d q (suc k) (degree r i g -ℤ x) (H (suc k) g)) (lowered r j q k x (H k) (degree r i g) (image r i g)) ≡ theta k (degree r i g) g
+  pub bounds : (k i j : ℕ) → k < upto → j ≡ n + k → i ≡ suc j → (g : ℕ) → g < length (gens r i) → degree r i g ≤ℤ top →
+      sum_of (d q (suc k) (degree r i g -ℤ x) (H (suc k) g)) (lowered r j q k x (H k) (degree r i g) (image r i g))
+      ≡ theta k (degree r i g) g
 
 -- beta k after gamma (s + k), on generator g of degree t: beta lowers degrees by y, gamma by x
 abbrev pub composed : Resolution → ℕ → ℤ → ℤ → (ℕ → ℕ → List Bool) → (ℕ → ℕ → List Bool) → ℕ → ℤ → ℕ → List Bool
@@ -44,9 +47,11 @@ abbrev pub top_of : Resolution → Class → Class → Class → ℤ
 top_of r a b c = r.base.bottom +ℤ pos (a.above + b.above + c.above)
 
 -- the value that H, gamma and e give: a's coefficient in H, and that of the sum e of classes of (l, ab) in gamma, at each generator
-abbrev pub bracket_by : Resolution → Resolution → Class → Class → Class → ℕ → ℕ → (ℕ → ℕ → List Bool) → (ℕ → ℕ → List Bool) → List Bool → List Bool
+abbrev pub bracket_by : Resolution → Resolution → Class → Class → Class → ℕ → ℕ → (ℕ → ℕ → List Bool) →
+    (ℕ → ℕ → List Bool) → List Bool → List Bool
 bracket_by r q a b c n l gamma H e =
-    on_square r (n + a.s) (a.above + b.above + c.above) (λ g. plus (coefficient_of q a (H a.s g)) (dot e (coefficients q l (a.above + b.above) (gamma l g))))
+    on_square r (n + a.s) (a.above + b.above + c.above)
+    (λ g. plus (coefficient_of q a (H a.s g)) (dot e (coefficients q l (a.above + b.above) (gamma l g))))
 
 -- v is a value of the bracket: by a lift gamma of c, a lift beta of b, a null homotopy H of beta gamma, and e
 pub record IsBracketMember (r q : Resolution) (a b c : Class) (n l : ℕ) (top : ℤ) (v : List Bool) : Type 0 where
@@ -56,7 +61,8 @@ pub record IsBracketMember (r q : Resolution) (a b c : Class) (n l : ℕ) (top :
   pub e : List Bool
   pub gamma_lift : IsLiftOfClass r q c l top gamma
   pub beta_lift : IsLiftOfClass q q b a.s (top -ℤ degree_of_class r c) beta
-  pub homotopy : IsNullHomotopy r q n (degree_of_class r c +ℤ degree_of_class q b) (composed q b.s (degree_of_class q b) (degree_of_class r c) beta gamma) a.s top H
+  pub homotopy : IsNullHomotopy r q n (degree_of_class r c +ℤ degree_of_class q b)
+      (composed q b.s (degree_of_class q b) (degree_of_class r c) beta gamma) a.s top H
   pub one_each : length e ≡ count_of q l (a.above + b.above)
   pub value : v ≡ bracket_by r q a b c n l gamma H e
 
@@ -64,21 +70,33 @@ pub record IsBracketMember (r q : Resolution) (a b c : Class) (n l : ℕ) (top :
 pub record HasZeroProduct (r q : Resolution) (a b c : Class) (l : ℕ) (top : ℤ) : Type 0 where
   pub beta : ℕ → ℕ → List Bool
   pub beta_lift : IsLiftOfClass q q b a.s (top -ℤ degree_of_class r c) beta
-  pub zero : (i : ℕ) → i < count_of q (suc l) (a.above + b.above) → coefficient_of q a (beta a.s (first_of q (suc l) (a.above + b.above) + i)) ≡ false
+  pub zero : (i : ℕ) → i < count_of q (suc l) (a.above + b.above) →
+      coefficient_of q a (beta a.s (first_of q (suc l) (a.above + b.above) + i)) ≡ false
 
 -- bc is zero, by the lift gamma of c
-pub record HasZeroLower (r q : Resolution) (a b c : Class) (n l : ℕ) (top : ℤ) (gamma : ℕ → ℕ → List Bool) : Type 0 where
+pub record HasZeroLower (r q : Resolution) (a b c : Class) (n l : ℕ) (top : ℤ) (gamma : ℕ → ℕ → List Bool)
+    : Type 0 where
   pub gamma_lift : IsLiftOfClass r q c l top gamma
-  pub zero : (i : ℕ) → i < count_of r (suc n) (b.above + c.above) → coefficient_of q b (gamma b.s (first_of r (suc n) (b.above + c.above) + i)) ≡ false
+  pub zero : (i : ℕ) → i < count_of r (suc n) (b.above + c.above) →
+      coefficient_of q b (gamma b.s (first_of r (suc n) (b.above + c.above) + i)) ≡ false
 
 -- What spans the indeterminacy: the products a z with the classes z of the square (n, bc), by lifts of them, and y c with the
 -- classes y of the square (l, ab) of the sphere, by a lift of c.
-pub record IsIndeterminacy (r q : Resolution) (a b c : Class) (n l : ℕ) (top : ℤ) (rows : List (List Bool)) : Type 0 where
+pub record IsIndeterminacy (r q : Resolution) (a b c : Class) (n l : ℕ) (top : ℤ) (rows : List (List Bool))
+    : Type 0 where
   pub lifts : ℕ → ℕ → ℕ → List Bool
   pub gamma : ℕ → ℕ → List Bool
-  pub each : (j : ℕ) → j < count_of r n (b.above + c.above) → IsLift r q n (degree_of_class r c +ℤ degree_of_class q b) (dual_of r q n (degree_of_class r c +ℤ degree_of_class q b) (first_of r n (b.above + c.above) + j)) a.s top (lifts j)
+  pub each : (j : ℕ) → j < count_of r n (b.above + c.above) →
+      IsLift r q n (degree_of_class r c +ℤ degree_of_class q b)
+      (dual_of r q n (degree_of_class r c +ℤ degree_of_class q b) (first_of r n (b.above + c.above) + j)) a.s top
+      (lifts j)
   pub gamma_lift : IsLiftOfClass r q c l top gamma
-  pub are : rows ≡ map (λ j. product_by r q a (lifts j) (n + a.s) (a.above + b.above + c.above)) (range_with_len 0 (count_of r n (b.above + c.above))) ++ map (λ i. on_square r (n + a.s) (a.above + b.above + c.above) (λ g. bit (coefficients q l (a.above + b.above) (gamma l g)) i)) (range_with_len 0 (count_of q l (a.above + b.above)))
+  pub are : rows ≡ map (λ j. product_by r q a (lifts j) (n + a.s) (a.above + b.above + c.above))
+      (range_with_len 0 (count_of r n (b.above + c.above)))
+      ++ map
+      (λ i. on_square r (n + a.s) (a.above + b.above + c.above)
+      (λ g. bit (coefficients q l (a.above + b.above) (gamma l g)) i))
+      (range_with_len 0 (count_of q l (a.above + b.above)))
 
 -- ---- the laws
 
@@ -86,15 +104,19 @@ pub record IsIndeterminacy (r q : Resolution) (a b c : Class) (n l : ℕ) (top :
 abbrev pub BracketHasMember : Type 0
 BracketHasMember =
     (r q : Resolution) (rs rt qs qt : ℕ) (a b c : Class) (n l : ℕ) (top : ℤ) (gamma beta : ℕ → ℕ → List Bool) →
-    IsCanonical r rs rt → IsCanonical q qs qt → IsSphere q → HasRoom rs rt qs qt a b c n l → top_of r a b c ≤ℤ top → (top -ℤ degree_of_class r c) ≤ℤ (q.base.bottom +ℤ pos qt) → b.i < count_of q b.s b.above →
+    IsCanonical r rs rt → IsCanonical q qs qt → IsSphere q → HasRoom rs rt qs qt a b c n l → top_of r a b c ≤ℤ top →
+    (top -ℤ degree_of_class r c) ≤ℤ (q.base.bottom +ℤ pos qt) → b.i < count_of q b.s b.above →
     HasZeroLower r q a b c n l top gamma → IsLiftOfClass q q b a.s (top -ℤ degree_of_class r c) beta →
-    (H : ℕ → ℕ → List Bool) × IsNullHomotopy r q n (degree_of_class r c +ℤ degree_of_class q b) (composed q b.s (degree_of_class q b) (degree_of_class r c) beta gamma) a.s top H
+    (H : ℕ → ℕ → List Bool) × IsNullHomotopy r q n (degree_of_class r c +ℤ degree_of_class q b)
+    (composed q b.s (degree_of_class q b) (degree_of_class r c) beta gamma) a.s top H
 
 -- The members of a bracket whose ab is zero are one of them and the span of the indeterminacy.
 abbrev pub BracketIsCoset : Type 0
 BracketIsCoset =
     (r q : Resolution) (rs rt qs qt : ℕ) (a b c : Class) (n l : ℕ) (top : ℤ) (rows : List (List Bool)) (w : List Bool) →
-    IsCanonical r rs rt → IsCanonical q qs qt → IsSphere q → HasRoom rs rt qs qt a b c n l → top_of r a b c ≤ℤ top → (top -ℤ degree_of_class r c) ≤ℤ (q.base.bottom +ℤ pos qt) → a.i < count_of q a.s a.above →
+    IsCanonical r rs rt → IsCanonical q qs qt → IsSphere q → HasRoom rs rt qs qt a b c n l → top_of r a b c ≤ℤ top →
+    (top -ℤ degree_of_class r c) ≤ℤ (q.base.bottom +ℤ pos qt) → a.i < count_of q a.s a.above →
     HasZeroProduct r q a b c l top → IsIndeterminacy r q a b c n l top rows → IsBracketMember r q a b c n l top w →
     (v : List Bool) → length v ≡ count_of r (n + a.s) (a.above + b.above + c.above) →
-    IsBracketMember r q a b c n l top v ↔ IsInSpan (count_of r (n + a.s) (a.above + b.above + c.above)) rows (sum_of v w)
+    IsBracketMember r q a b c n l top v
+    ↔ IsInSpan (count_of r (n + a.s) (a.above + b.above + c.above)) rows (sum_of v w)

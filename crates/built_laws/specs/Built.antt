@@ -20,7 +20,8 @@ abbrev pub action_of : Module → Action ℕ
 action_of m = record {
   basis = range_with_len 0 (length m.generators);
   degree = degree_at m.generators;
-  coefficient = λ r i j. nat_lt i (length m.generators) && coordinate (generators_in m.generators (degree_at m.generators i +ℤ pos (degree_of r))) (value_of m r i) j;
+  coefficient = λ r i j. nat_lt i (length m.generators)
+      && coordinate (generators_in m.generators (degree_at m.generators i +ℤ pos (degree_of r))) (value_of m r i) j;
   same = λ i j. nat_eq i j && nat_lt i (length m.generators);
 }
 
@@ -41,11 +42,14 @@ pub record IsNumbered (gs : List Generator) (a : Action ℕ) : Type 0 where
   pub same : (i j : ℕ) → i < length gs → j < length gs → a.same i j ≡ nat_eq i j
 
 abbrev pub BuiltIsModule : Type 0
-BuiltIsModule = (gs : List Generator) (a : Action ℕ) → NeverFall gs → IsNumbered gs a → IsAction a → IsModule (built gs a.coefficient)
+BuiltIsModule = (gs : List Generator) (a : Action ℕ) → NeverFall gs → IsNumbered gs a → IsAction a →
+    IsModule (built gs a.coefficient)
 
 -- what was built has the coefficients that were given
 abbrev pub BuiltHasCoefficients : Type 0
-BuiltHasCoefficients = (gs : List Generator) (a : Action ℕ) → NeverFall gs → IsNumbered gs a → IsAction a → (r : List ℕ) (i j : ℕ) → IsTrimmed r → i < length gs → j < length gs → (action_of (built gs a.coefficient)).coefficient r i j ≡ a.coefficient r i j
+BuiltHasCoefficients = (gs : List Generator) (a : Action ℕ) → NeverFall gs → IsNumbered gs a → IsAction a →
+    (r : List ℕ) (i j : ℕ) → IsTrimmed r → i < length gs → j < length gs →
+    (action_of (built gs a.coefficient)).coefficient r i j ≡ a.coefficient r i j
 
 abbrev pub ModulesAreActions : Type 0
 ModulesAreActions = (m : Module) → IsModule m → IsAction (action_of m)

@@ -23,11 +23,13 @@ by_degree degree (x ∷ xs) = inserted degree x (by_degree degree xs)
 -- generators of these degrees, named by their numbers, from i on
 abbrev pub generators_from : {X : Type 0} → (ℕ → List ℕ) → (X → ℤ) → ℕ → List X → List Generator
 generators_from names degree i [] = []
-generators_from names degree i (x ∷ xs) = record { name = names i; degree = degree x } ∷ generators_from names degree (suc i) xs
+generators_from names degree i (x ∷ xs) =
+    record { name = names i; degree = degree x } ∷ generators_from names degree (suc i) xs
 
 -- the module of an action: its basis in the order of degree
 abbrev pub module_of : {X : Type 0} → (ℕ → List ℕ) → X → Action X → Module
-module_of names d a = built (generators_from names a.degree 0 (by_degree a.degree a.basis)) (numbered d (by_degree a.degree a.basis) a).coefficient
+module_of names d a = built (generators_from names a.degree 0 (by_degree a.degree a.basis))
+    (numbered d (by_degree a.degree a.basis) a).coefficient
 
 abbrev pub shift_module : (ℕ → List ℕ) → ℤ → Module → Module
 shift_module names n m = module_of names 0 (shifted n (action_of m))
@@ -60,7 +62,9 @@ pub record IsRenamed (a b : Module) : Type 0 where
   pub values : (r : List ℕ) (i : ℕ) → IsTrimmed r → i < length b.generators → value_of a r i ≡ value_of b r i
 
 abbrev pub DualTwiceIsModule : Type 0
-DualTwiceIsModule = (names names' : ℕ → List ℕ) (m : Module) → NeverFall m.generators → IsModule m → IsRenamed (dual_module names' (dual_module names m)) m
+DualTwiceIsModule = (names names' : ℕ → List ℕ) (m : Module) → NeverFall m.generators → IsModule m →
+    IsRenamed (dual_module names' (dual_module names m)) m
 
 abbrev pub ShiftBackIsModule : Type 0
-ShiftBackIsModule = (names names' : ℕ → List ℕ) (n : ℤ) (m : Module) → NeverFall m.generators → IsModule m → IsRenamed (shift_module names' (pos 0 -ℤ n) (shift_module names n m)) m
+ShiftBackIsModule = (names names' : ℕ → List ℕ) (n : ℤ) (m : Module) → NeverFall m.generators → IsModule m →
+    IsRenamed (shift_module names' (pos 0 -ℤ n) (shift_module names n m)) m

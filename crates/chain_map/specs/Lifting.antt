@@ -20,12 +20,14 @@ resolution_of table = record { base = over table.resolved; table = plain_rows ta
 
 -- The law: a table of the sphere's module, with one generator, in degree 0, is of the sphere.
 abbrev pub TablesOfTheSphere : Type 0
-TablesOfTheSphere = (table : Staircase) → table.resolved.plain ≡ derived_module sphere_file → IsSphere (resolution_of table)
+TablesOfTheSphere = (table : Staircase) → table.resolved.plain ≡ derived_module sphere_file →
+    IsSphere (resolution_of table)
 
 -- The law: in each table, whatever its squares hold, d takes generators to vectors of the free module below. So each lift over
 -- two tables is a chain map, by the law of lifts.
 abbrev pub TablesHaveImages : Type 0
-TablesHaveImages = (table : Staircase) → IsTable table → (from rows : ℕ) (top : ℤ) → HasImages (resolution_of table) from rows top
+TablesHaveImages = (table : Staircase) → IsTable table → (from rows : ℕ) (top : ℤ) →
+    HasImages (resolution_of table) from rows top
 
 -- each square of the rows through s, in the first n degrees from the bottom on, is that of the canonical resolution
 abbrev pub AreCanonical : Staircase → ℕ → ℕ → Type 0
@@ -56,7 +58,8 @@ shifted_length above zero = 0
 shifted_length above (suc n) = above + suc n
 
 abbrev pub degrees_through : Staircase → Staircase → ℕ → ℕ → ℕ → ℕ
-degrees_through table sphere s above upto = min (length (row_in table.rows (s + upto))) (shifted_length above (length (row_in sphere.rows upto)))
+degrees_through table sphere s above upto =
+    min (length (row_in table.rows (s + upto))) (shifted_length above (length (row_in sphere.rows upto)))
 
 -- the greatest of these degrees, and one below the bottom where there is none
 abbrev pub greatest : Staircase → ℕ → ℤ
@@ -94,15 +97,23 @@ pub record HasValue (lift : LiftValues) (k : ℕ) (t : ℤ) (i : ℕ) : Type 0 w
 pub record AreValues (table sphere : Staircase) (s : ℕ) (x : ℤ) (n k : ℕ) (v : RowValues) : Type 0 where
   pub firsts : v.firsts ≡ map (λ j. first_of (resolution_of table) (s + k) j) (range_with_len 0 n)
   pub one_each : length v.vectors ≡ first_of (resolution_of table) (s + k) n
-  pub widths : (g : ℕ) → g < length v.vectors → length (row v.vectors g) ≡ free_width (gens (resolution_of sphere) k) (degree (resolution_of table) (s + k) g -ℤ x)
+  pub widths : (g : ℕ) → g < length v.vectors →
+      length (row v.vectors g)
+      ≡ free_width (gens (resolution_of sphere) k) (degree (resolution_of table) (s + k) g -ℤ x)
 
 -- The lift of number i of the square (s, above): it goes through the degrees that the tables have, and where their squares
 -- there are canonical, it is a lift of the class, and a chain map on all vectors of these degrees.
 pub record IsLiftOver (table sphere : Staircase) (s above i upto : ℕ) (lift : LiftValues) : Type 0 where
   pub bottom : lift.bottom ≡ bottom_of table.resolved
   pub rows : 0 < degrees_through table sphere s above upto → length lift.rows ≡ upto + 1
-  pub values : (k : ℕ) → k < length lift.rows → AreValues table sphere s (bottom_of table.resolved +ℤ pos above) (degrees_through table sphere s above upto) k (row_values lift k)
-  pub is_lift : AreCanonical table (s + upto) (degrees_through table sphere s above upto) → AreCanonical sphere upto (length (row_in sphere.rows upto)) →
-      IsLiftOfClass (resolution_of table) (resolution_of sphere) (record { s = s; above = above; i = i }) upto (greatest table (degrees_through table sphere s above upto)) (map_of lift)
-  pub chain_map : AreCanonical table (s + upto) (degrees_through table sphere s above upto) → AreCanonical sphere upto (length (row_in sphere.rows upto)) →
-      IsChainMap (resolution_of table) (resolution_of sphere) s (bottom_of table.resolved +ℤ pos above) upto (greatest table (degrees_through table sphere s above upto)) (map_of lift)
+  pub values : (k : ℕ) → k < length lift.rows →
+      AreValues table sphere s (bottom_of table.resolved +ℤ pos above) (degrees_through table sphere s above upto) k
+      (row_values lift k)
+  pub is_lift : AreCanonical table (s + upto) (degrees_through table sphere s above upto) →
+      AreCanonical sphere upto (length (row_in sphere.rows upto)) →
+      IsLiftOfClass (resolution_of table) (resolution_of sphere) (record { s = s; above = above; i = i }) upto
+      (greatest table (degrees_through table sphere s above upto)) (map_of lift)
+  pub chain_map : AreCanonical table (s + upto) (degrees_through table sphere s above upto) →
+      AreCanonical sphere upto (length (row_in sphere.rows upto)) →
+      IsChainMap (resolution_of table) (resolution_of sphere) s (bottom_of table.resolved +ℤ pos above) upto
+      (greatest table (degrees_through table sphere s above upto)) (map_of lift)

@@ -31,7 +31,8 @@ pub fn lift(
 ) -> Result<Lift, Memory>
     requires sphere { IsSphere (resolution_of sphere.now) }
     requires class { IsClassOf table.now class }
-    ensures { (above : ℕ) → class.t ≡ bottom_of table.now.resolved +ℤ pos above → IfOk result (IsLiftOver table.now sphere.now class.s above class.i upto) }
+    ensures { (above : ℕ) → class.t ≡ bottom_of table.now.resolved +ℤ pos above →
+        IfOk result (IsLiftOver table.now sphere.now class.s above class.i upto) }
 {
     // No row is longer than row 0, and there is none above the last: so the number of the class's row is small.
     let longest = table.front(0);
@@ -67,8 +68,11 @@ pub fn lifts(
 ) -> Result<Vec<Lift>, Memory>
     requires sphere { IsSphere (resolution_of sphere.now) }
     requires square { IsSquareOf table.now s t }
-    ensures one_each { (above : ℕ) → t ≡ bottom_of table.now.resolved +ℤ pos above → IfOk result (λ lifts. length lifts.items ≡ count_of (resolution_of table.now) s above) }
-    ensures lifts { (above : ℕ) → t ≡ bottom_of table.now.resolved +ℤ pos above → IfOk result (λ lifts. (j : ℕ) → j < length lifts.items → IsLiftOver table.now sphere.now s above j upto (slice_index_or lifts.items j no_lift)) }
+    ensures one_each { (above : ℕ) → t ≡ bottom_of table.now.resolved +ℤ pos above →
+        IfOk result (λ lifts. length lifts.items ≡ count_of (resolution_of table.now) s above) }
+    ensures lifts { (above : ℕ) → t ≡ bottom_of table.now.resolved +ℤ pos above →
+        IfOk result (λ lifts. (j : ℕ) → j < length lifts.items →
+        IsLiftOver table.now sphere.now s above j upto (slice_index_or lifts.items j no_lift)) }
 {
     let (_, count) = square_of(table, s, t);
     lifts_of(alloc, table, sphere, s, t, 0, count, upto)
@@ -87,9 +91,12 @@ fn lifts_of(
 ) -> Result<Vec<Lift>, Memory>
     requires sphere { IsSphere (resolution_of sphere.now) }
     requires square { IsSquareOf table.now s t }
-    requires classes { (above : ℕ) → t ≡ bottom_of table.now.resolved +ℤ pos above → from + count ≤ count_of (resolution_of table.now) s above }
+    requires classes { (above : ℕ) → t ≡ bottom_of table.now.resolved +ℤ pos above →
+        from + count ≤ count_of (resolution_of table.now) s above }
     ensures one_each { IfOk result (λ lifts. length lifts.items ≡ count) }
-    ensures lifts { (above : ℕ) → t ≡ bottom_of table.now.resolved +ℤ pos above → IfOk result (λ lifts. (j : ℕ) → j < length lifts.items → IsLiftOver table.now sphere.now s above (from + j) upto (slice_index_or lifts.items j no_lift)) }
+    ensures lifts { (above : ℕ) → t ≡ bottom_of table.now.resolved +ℤ pos above →
+        IfOk result (λ lifts. (j : ℕ) → j < length lifts.items →
+        IsLiftOver table.now sphere.now s above (from + j) upto (slice_index_or lifts.items j no_lift)) }
 {
     let (above, _) = square_of(table, s, t);
     let course = Course {
@@ -142,13 +149,18 @@ fn with_rows(
     requires is_sphere_table { IsTable course.now.sphere.now }
     requires bounded { IsBoundedBelow (over course.now.table.now.resolved) }
     requires there { course.now.above < length (row_in course.now.table.now.rows course.now.s) }
-    requires reach { course.now.reach ≡ degrees_through course.now.table.now course.now.sphere.now course.now.s course.now.above upto }
+    requires reach { course.now.reach
+        ≡ degrees_through course.now.table.now course.now.sphere.now course.now.s course.now.above upto }
     requires far { course.now.far ≡ length (row_in course.now.sphere.now.rows upto) }
-    requires classes { from + length lifts.items ≤ count_of (resolution_of course.now.table.now) course.now.s course.now.above }
+    requires classes { from + length lifts.items
+        ≤ count_of (resolution_of course.now.table.now) course.now.s course.now.above }
     requires small { from + length lifts.items < 2 ^ 64 }
-    requires empty { (j : ℕ) → j < length lifts.items → slice_index_or lifts.items j no_lift ≡ record { bottom = bottom_of course.now.table.now.resolved; rows = [] } }
+    requires empty { (j : ℕ) → j < length lifts.items →
+        slice_index_or lifts.items j no_lift ≡ record { bottom = bottom_of course.now.table.now.resolved; rows = [] } }
     ensures one_each { IfOk result (λ more. length more.items ≡ length lifts.items) }
-    ensures lifts { IfOk result (λ more. (j : ℕ) → j < length more.items → IsLiftOver course.now.table.now course.now.sphere.now course.now.s course.now.above (from + j) upto (slice_index_or more.items j no_lift)) }
+    ensures lifts { IfOk result (λ more. (j : ℕ) → j < length more.items →
+        IsLiftOver course.now.table.now course.now.sphere.now course.now.s course.now.above (from + j) upto
+        (slice_index_or more.items j no_lift)) }
 {
     resolution_laws::canonical_table_is_minimal_resolution();
     finite_module::modules_are_graded_modules();
@@ -184,12 +196,16 @@ fn add_rows(
     lifts: &mut Vec<Lift>,
 ) -> Result<(), Memory>
     requires sphere { IsSphere (resolution_of course.now.sphere.now) }
-    requires reaches { Reaches course.now.table.now course.now.sphere.now course.now.s course.now.above upto course.now.reach course.now.far }
-    requires classes { from + length lifts.old.items ≤ count_of (resolution_of course.now.table.now) course.now.s course.now.above }
+    requires reaches { Reaches course.now.table.now course.now.sphere.now course.now.s course.now.above upto
+        course.now.reach course.now.far }
+    requires classes { from + length lifts.old.items
+        ≤ count_of (resolution_of course.now.table.now) course.now.s course.now.above }
     requires small { from + length lifts.old.items < 2 ^ 64 }
-    requires made { AreMadeLifts course.now.table.now course.now.sphere.now course.now.s course.now.above course.now.reach course.now.far from 0 lifts.old.items }
+    requires made { AreMadeLifts course.now.table.now course.now.sphere.now course.now.s course.now.above
+        course.now.reach course.now.far from 0 lifts.old.items }
     ensures one_each { OnOk result (length lifts.new.items ≡ length lifts.old.items) }
-    ensures made { OnOk result (AreMadeLifts course.now.table.now course.now.sphere.now course.now.s course.now.above course.now.reach course.now.far from (upto + 1) lifts.new.items) }
+    ensures made { OnOk result (AreMadeLifts course.now.table.now course.now.sphere.now course.now.s course.now.above
+        course.now.reach course.now.far from (upto + 1) lifts.new.items) }
 {
     for k in 0..upto + 1 {
         add_row(alloc, course, from, k, lifts)?;
@@ -206,12 +222,16 @@ fn add_row(
     lifts: &mut Vec<Lift>,
 ) -> Result<(), Memory>
     requires sphere { IsSphere (resolution_of course.now.sphere.now) }
-    requires reaches { Reaches course.now.table.now course.now.sphere.now course.now.s course.now.above k course.now.reach course.now.far }
-    requires classes { from + length lifts.old.items ≤ count_of (resolution_of course.now.table.now) course.now.s course.now.above }
+    requires reaches { Reaches course.now.table.now course.now.sphere.now course.now.s course.now.above k
+        course.now.reach course.now.far }
+    requires classes { from + length lifts.old.items
+        ≤ count_of (resolution_of course.now.table.now) course.now.s course.now.above }
     requires small { from + length lifts.old.items < 2 ^ 64 }
-    requires made { AreMadeLifts course.now.table.now course.now.sphere.now course.now.s course.now.above course.now.reach course.now.far from k lifts.old.items }
+    requires made { AreMadeLifts course.now.table.now course.now.sphere.now course.now.s course.now.above
+        course.now.reach course.now.far from k lifts.old.items }
     ensures one_each { OnOk result (length lifts.new.items ≡ length lifts.old.items) }
-    ensures made { OnOk result (AreMadeLifts course.now.table.now course.now.sphere.now course.now.s course.now.above course.now.reach course.now.far from (k + 1) lifts.new.items) }
+    ensures made { OnOk result (AreMadeLifts course.now.table.now course.now.sphere.now course.now.s course.now.above
+        course.now.reach course.now.far from (k + 1) lifts.new.items) }
 {
     let inverses = course.inverses(alloc, k)?;
     for j in 0..lifts.len() {

@@ -30,7 +30,8 @@ impl Lift {
     /// resolution in the degree that is lower by the class's.
     pub fn value(&self, k: u16, t: i32, i: usize) -> &BitVec
         requires { HasValue self.now k t i }
-        ensures { (above : ℕ) → t ≡ self.now.bottom +ℤ pos above → result.now ≡ value_at (row_values self.now k) above i }
+        ensures { (above : ℕ) → t ≡ self.now.bottom +ℤ pos above →
+            result.now ≡ value_at (row_values self.now k) above i }
     {
         match degrees::above_of(self.bottom, t) {
             Some(above) => self.rows[usize::from(k)].at(above as usize, i),

@@ -83,9 +83,11 @@ impl Course<'_> {
     /// The quasi-inverse of d_k for the values on the square in row s + k that is `n` above the bottom, if it has generators.
     fn inverse(&self, alloc: Global, k: u16, n: u16) -> Result<Inverse, Memory>
         requires sphere { IsSphere (resolution_of self.now.sphere.now) }
-        requires reaches { Reaches self.now.table.now self.now.sphere.now self.now.s self.now.above k self.now.reach self.now.far }
+        requires reaches { Reaches self.now.table.now self.now.sphere.now self.now.s self.now.above k self.now.reach
+            self.now.far }
         requires within { n < self.now.reach }
-        ensures { IfOk result (λ inverse. 0 < count_of (resolution_of self.now.table.now) (self.now.s + k) n → IsInverseAt self.now.sphere.now k (pos n -ℤ pos self.now.above) inverse) }
+        ensures { IfOk result (λ inverse. 0 < count_of (resolution_of self.now.table.now) (self.now.s + k) n →
+            IsInverseAt self.now.sphere.now k (pos n -ℤ pos self.now.above) inverse) }
     {
         if images_at(self.table, self.s + k, n).is_empty() {
             return Ok(Inverse::none());
@@ -96,8 +98,10 @@ impl Course<'_> {
     /// The quasi-inverses of d_k for the values on all squares of row s + k, in order of degree.
     pub(crate) fn inverses(&self, alloc: Global, k: u16) -> Result<Vec<Inverse>, Memory>
         requires sphere { IsSphere (resolution_of self.now.sphere.now) }
-        requires reaches { Reaches self.now.table.now self.now.sphere.now self.now.s self.now.above k self.now.reach self.now.far }
-        ensures { IfOk result (λ list. AreInverses self.now.table.now self.now.sphere.now (self.now.s + k) k self.now.above self.now.reach list.items) }
+        requires reaches { Reaches self.now.table.now self.now.sphere.now self.now.s self.now.above k self.now.reach
+            self.now.far }
+        ensures { IfOk result (λ list. AreInverses self.now.table.now self.now.sphere.now (self.now.s + k) k
+            self.now.above self.now.reach list.items) }
     {
         let mut inverses = Vec::new(alloc);
         for n in 0..self.reach {
@@ -116,11 +120,18 @@ impl Course<'_> {
         lift: &Lift,
     ) -> Result<Values, Memory>
         requires sphere { IsSphere (resolution_of self.now.sphere.now) }
-        requires reaches { Reaches self.now.table.now self.now.sphere.now self.now.s self.now.above k self.now.reach self.now.far }
-        requires inverses { AreInverses self.now.table.now self.now.sphere.now (self.now.s + k) k self.now.above self.now.reach inverses.now.items }
+        requires reaches { Reaches self.now.table.now self.now.sphere.now self.now.s self.now.above k self.now.reach
+            self.now.far }
+        requires inverses { AreInverses self.now.table.now self.now.sphere.now (self.now.s + k) k self.now.above
+            self.now.reach inverses.now.items }
         requires class { class < count_of (resolution_of self.now.table.now) self.now.s self.now.above }
-        requires made { IsMade self.now.table.now self.now.sphere.now self.now.s self.now.above self.now.reach self.now.far class k lift.now }
-        ensures { IfOk result (AreMade self.now.table.now self.now.sphere.now (self.now.s + k) k (bottom_of self.now.table.now.resolved +ℤ pos self.now.above) (goal_of self.now.table.now self.now.sphere.now self.now.s self.now.above self.now.reach self.now.far class lift.now k) self.now.reach) }
+        requires made { IsMade self.now.table.now self.now.sphere.now self.now.s self.now.above self.now.reach
+            self.now.far class k lift.now }
+        ensures { IfOk result (AreMade self.now.table.now self.now.sphere.now (self.now.s + k) k
+            (bottom_of self.now.table.now.resolved +ℤ pos self.now.above)
+            (goal_of self.now.table.now self.now.sphere.now self.now.s self.now.above self.now.reach self.now.far class
+            lift.now k)
+            self.now.reach) }
     {
         match k.checked_sub(1) {
             None => self.first_row(alloc, inverses, class),
@@ -136,10 +147,14 @@ impl Course<'_> {
         class: usize,
     ) -> Result<Values, Memory>
         requires sphere { IsSphere (resolution_of self.now.sphere.now) }
-        requires reaches { Reaches self.now.table.now self.now.sphere.now self.now.s self.now.above 0 self.now.reach self.now.far }
-        requires inverses { AreInverses self.now.table.now self.now.sphere.now self.now.s 0 self.now.above self.now.reach inverses.now.items }
+        requires reaches { Reaches self.now.table.now self.now.sphere.now self.now.s self.now.above 0 self.now.reach
+            self.now.far }
+        requires inverses { AreInverses self.now.table.now self.now.sphere.now self.now.s 0 self.now.above
+            self.now.reach inverses.now.items }
         requires class { class < count_of (resolution_of self.now.table.now) self.now.s self.now.above }
-        ensures { IfOk result (AreMade self.now.table.now self.now.sphere.now self.now.s 0 (bottom_of self.now.table.now.resolved +ℤ pos self.now.above) (class_of self.now.table.now self.now.sphere.now self.now.s self.now.above class) self.now.reach) }
+        ensures { IfOk result (AreMade self.now.table.now self.now.sphere.now self.now.s 0
+            (bottom_of self.now.table.now.resolved +ℤ pos self.now.above)
+            (class_of self.now.table.now self.now.sphere.now self.now.s self.now.above class) self.now.reach) }
     {
         let mut values = Values::new(alloc);
         for n in 0..self.reach {
@@ -158,12 +173,18 @@ impl Course<'_> {
         values: &mut Values,
     ) -> Result<(), Memory>
         requires sphere { IsSphere (resolution_of self.now.sphere.now) }
-        requires reaches { Reaches self.now.table.now self.now.sphere.now self.now.s self.now.above 0 self.now.reach self.now.far }
+        requires reaches { Reaches self.now.table.now self.now.sphere.now self.now.s self.now.above 0 self.now.reach
+            self.now.far }
         requires within { n < self.now.reach }
         requires class { class < count_of (resolution_of self.now.table.now) self.now.s self.now.above }
-        requires inverse { 0 < count_of (resolution_of self.now.table.now) self.now.s n → IsInverseAt self.now.sphere.now 0 (pos n -ℤ pos self.now.above) inverse.now }
-        requires made { AreMade self.now.table.now self.now.sphere.now self.now.s 0 (bottom_of self.now.table.now.resolved +ℤ pos self.now.above) (class_of self.now.table.now self.now.sphere.now self.now.s self.now.above class) n values.old }
-        ensures { OnOk result (AreMade self.now.table.now self.now.sphere.now self.now.s 0 (bottom_of self.now.table.now.resolved +ℤ pos self.now.above) (class_of self.now.table.now self.now.sphere.now self.now.s self.now.above class) (n + 1) values.new) }
+        requires inverse { 0 < count_of (resolution_of self.now.table.now) self.now.s n →
+            IsInverseAt self.now.sphere.now 0 (pos n -ℤ pos self.now.above) inverse.now }
+        requires made { AreMade self.now.table.now self.now.sphere.now self.now.s 0
+            (bottom_of self.now.table.now.resolved +ℤ pos self.now.above)
+            (class_of self.now.table.now self.now.sphere.now self.now.s self.now.above class) n values.old }
+        ensures { OnOk result (AreMade self.now.table.now self.now.sphere.now self.now.s 0
+            (bottom_of self.now.table.now.resolved +ℤ pos self.now.above)
+            (class_of self.now.table.now self.now.sphere.now self.now.s self.now.above class) (n + 1) values.new) }
     {
         values.begin_square()?;
         for i in 0..images_at(self.table, self.s, n).len() {
@@ -183,10 +204,13 @@ impl Course<'_> {
         class: usize,
     ) -> Result<BitVec, Memory>
         requires sphere { IsSphere (resolution_of self.now.sphere.now) }
-        requires reaches { Reaches self.now.table.now self.now.sphere.now self.now.s self.now.above 0 self.now.reach self.now.far }
+        requires reaches { Reaches self.now.table.now self.now.sphere.now self.now.s self.now.above 0 self.now.reach
+            self.now.far }
         requires within { n < self.now.reach }
         requires inverse { IsInverseAt self.now.sphere.now 0 (pos n -ℤ pos self.now.above) inverse.now }
-        ensures { IfOk result (IsChosenFor self.now.sphere.now 0 (pos n -ℤ pos self.now.above) (class_value ((resolution_of self.now.sphere.now).base.graded.width (pos n -ℤ pos self.now.above)) (nat_eq n self.now.above && nat_eq i class))) }
+        ensures { IfOk result (IsChosenFor self.now.sphere.now 0 (pos n -ℤ pos self.now.above)
+            (class_value ((resolution_of self.now.sphere.now).base.graded.width (pos n -ℤ pos self.now.above))
+            (nat_eq n self.now.above && nat_eq i class))) }
     {
         let width = self.sphere.module().dim_in(self.over(n));
         let own = self.is_own(n, i, class);
@@ -211,10 +235,17 @@ impl Course<'_> {
         below: &[BitVec],
     ) -> Result<Values, Memory>
         requires sphere { IsSphere (resolution_of self.now.sphere.now) }
-        requires reaches { Reaches self.now.table.now self.now.sphere.now self.now.s self.now.above (suc k) self.now.reach self.now.far }
-        requires inverses { AreInverses self.now.table.now self.now.sphere.now (suc (self.now.s + k)) (suc k) self.now.above self.now.reach inverses.now.items }
-        requires below { AreImages (free_graded (target_of self.now.sphere.now k self.now.far)) (lowered_row self.now.table.now (self.now.s + k) self.now.reach self.now.above) below.now }
-        ensures { IfOk result (AreMade self.now.table.now self.now.sphere.now (suc (self.now.s + k)) (suc k) (bottom_of self.now.table.now.resolved +ℤ pos self.now.above) (next_goal self.now.table.now self.now.sphere.now (self.now.s + k) k self.now.above self.now.reach self.now.far below.now) self.now.reach) }
+        requires reaches { Reaches self.now.table.now self.now.sphere.now self.now.s self.now.above (suc k)
+            self.now.reach self.now.far }
+        requires inverses { AreInverses self.now.table.now self.now.sphere.now (suc (self.now.s + k)) (suc k)
+            self.now.above self.now.reach inverses.now.items }
+        requires below { AreImages (free_graded (target_of self.now.sphere.now k self.now.far))
+            (lowered_row self.now.table.now (self.now.s + k) self.now.reach self.now.above) below.now }
+        ensures { IfOk result (AreMade self.now.table.now self.now.sphere.now (suc (self.now.s + k)) (suc k)
+            (bottom_of self.now.table.now.resolved +ℤ pos self.now.above)
+            (next_goal self.now.table.now self.now.sphere.now (self.now.s + k) k self.now.above self.now.reach
+            self.now.far below.now)
+            self.now.reach) }
     {
         let source = lowered_generators(alloc, self.table, self.s + k, self.reach, self.above)?;
         let target = self.sphere.generators(alloc, k, self.far)?;
@@ -238,13 +269,24 @@ impl Course<'_> {
     ) -> Result<(), Memory>
         requires sphere { IsSphere (resolution_of self.now.sphere.now) }
         requires within { n < self.now.reach }
-        requires reaches { Reaches self.now.table.now self.now.sphere.now self.now.s self.now.above (suc k) self.now.reach self.now.far }
-        requires inverse { 0 < count_of (resolution_of self.now.table.now) (suc (self.now.s + k)) n → IsInverseAt self.now.sphere.now (suc k) (pos n -ℤ pos self.now.above) inverse.now }
+        requires reaches { Reaches self.now.table.now self.now.sphere.now self.now.s self.now.above (suc k)
+            self.now.reach self.now.far }
+        requires inverse { 0 < count_of (resolution_of self.now.table.now) (suc (self.now.s + k)) n →
+            IsInverseAt self.now.sphere.now (suc k) (pos n -ℤ pos self.now.above) inverse.now }
         requires basis { map.now.basis.now ≡ MAX_T }
-        requires source { map.now.source.now ≡ lowered_row self.now.table.now (self.now.s + k) self.now.reach self.now.above }
+        requires source { map.now.source.now
+            ≡ lowered_row self.now.table.now (self.now.s + k) self.now.reach self.now.above }
         requires target { map.now.target.now ≡ target_of self.now.sphere.now k self.now.far }
-        requires made { AreMade self.now.table.now self.now.sphere.now (suc (self.now.s + k)) (suc k) (bottom_of self.now.table.now.resolved +ℤ pos self.now.above) (next_goal self.now.table.now self.now.sphere.now (self.now.s + k) k self.now.above self.now.reach self.now.far map.now.images.now) n values.old }
-        ensures { OnOk result (AreMade self.now.table.now self.now.sphere.now (suc (self.now.s + k)) (suc k) (bottom_of self.now.table.now.resolved +ℤ pos self.now.above) (next_goal self.now.table.now self.now.sphere.now (self.now.s + k) k self.now.above self.now.reach self.now.far map.now.images.now) (n + 1) values.new) }
+        requires made { AreMade self.now.table.now self.now.sphere.now (suc (self.now.s + k)) (suc k)
+            (bottom_of self.now.table.now.resolved +ℤ pos self.now.above)
+            (next_goal self.now.table.now self.now.sphere.now (self.now.s + k) k self.now.above self.now.reach
+            self.now.far map.now.images.now)
+            n values.old }
+        ensures { OnOk result (AreMade self.now.table.now self.now.sphere.now (suc (self.now.s + k)) (suc k)
+            (bottom_of self.now.table.now.resolved +ℤ pos self.now.above)
+            (next_goal self.now.table.now self.now.sphere.now (self.now.s + k) k self.now.above self.now.reach
+            self.now.far map.now.images.now)
+            (n + 1) values.new) }
     {
         values.begin_square()?;
         let images = images_at(self.table, self.s + k + 1, n);
@@ -267,13 +309,17 @@ impl Course<'_> {
     ) -> Result<BitVec, Memory>
         requires sphere { IsSphere (resolution_of self.now.sphere.now) }
         requires within { n < self.now.reach }
-        requires reaches { Reaches self.now.table.now self.now.sphere.now self.now.s self.now.above (suc k) self.now.reach self.now.far }
+        requires reaches { Reaches self.now.table.now self.now.sphere.now self.now.s self.now.above (suc k)
+            self.now.reach self.now.far }
         requires inverse { IsInverseAt self.now.sphere.now (suc k) (pos n -ℤ pos self.now.above) inverse.now }
         requires basis { map.now.basis.now ≡ MAX_T }
-        requires source { map.now.source.now ≡ lowered_row self.now.table.now (self.now.s + k) self.now.reach self.now.above }
+        requires source { map.now.source.now
+            ≡ lowered_row self.now.table.now (self.now.s + k) self.now.reach self.now.above }
         requires target { map.now.target.now ≡ target_of self.now.sphere.now k self.now.far }
         requires width { length image.now ≡ free_width map.now.source.now (pos n -ℤ pos self.now.above) }
-        ensures { IfOk result (IsChosenFor self.now.sphere.now (suc k) (pos n -ℤ pos self.now.above) (mapped (free_graded map.now.target.now) map.now.source.now map.now.images.now (pos n -ℤ pos self.now.above) image.now)) }
+        ensures { IfOk result (IsChosenFor self.now.sphere.now (suc k) (pos n -ℤ pos self.now.above)
+            (mapped (free_graded map.now.target.now) map.now.source.now map.now.images.now (pos n -ℤ pos self.now.above)
+            image.now)) }
     {
         let goal = map.apply(alloc, self.over(n), image)?;
         inverse.preimage(alloc, &goal)

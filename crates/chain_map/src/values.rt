@@ -38,7 +38,10 @@ impl Values {
     /// # Errors
     /// `Memory` if allocation fails.
     pub fn begin_square(&mut self) -> Result<(), Memory>
-        ensures ok { OnOk result (self.new ≡ record { vectors = self.old.vectors; firsts = self.old.firsts ++ length self.old.vectors ∷ [] }) }
+        ensures ok { OnOk result (self.new ≡ record {
+          vectors = self.old.vectors;
+          firsts = self.old.firsts ++ length self.old.vectors ∷ [];
+        }) }
         ensures err { OnErr result (self.new ≡ self.old) }
     {
         self.firsts.push(self.vectors.len())?;
@@ -50,7 +53,10 @@ impl Values {
     /// # Errors
     /// `Memory` if allocation fails.
     pub fn push(&mut self, value: BitVec) -> Result<(), Memory>
-        ensures ok { OnOk result (self.new ≡ record { vectors = self.old.vectors ++ value ∷ []; firsts = self.old.firsts }) }
+        ensures ok { OnOk result (self.new ≡ record {
+          vectors = self.old.vectors ++ value ∷ [];
+          firsts = self.old.firsts;
+        }) }
         ensures err { OnErr result (self.new ≡ self.old) }
     {
         self.vectors.push(value)?;

@@ -18,16 +18,25 @@ with_operators f operators = record { generators = f.generators; operators = ope
 
 -- the operators of Sq^1, Sq^2, Sq^4, .. are those of the file's entries, and zero on a generator for which there is none
 abbrev pub ActsAsListed : File → List (List (List Bool)) → Type 0
-ActsAsListed f operators = (n i : ℕ) → is_power_of_two n ≡ true → i < length f.generators → value f.generators operators (n ∷ []) i ≡ sum_vector f.generators (listed_sum f.entries n i) (degree_at f.generators i +ℤ pos n)
+ActsAsListed f operators = (n i : ℕ) → is_power_of_two n ≡ true → i < length f.generators →
+    value f.generators operators (n ∷ []) i
+    ≡ sum_vector f.generators (listed_sum f.entries n i) (degree_at f.generators i +ℤ pos n)
 
 -- a module whose squares act as listed has the derived action
 abbrev pub DerivedActionIsUnique : Type 0
-DerivedActionIsUnique = (f : File) (operators : List (List (List Bool))) → NeverFall f.generators → IsModule (with_operators f operators) → ActsAsListed f operators → (r : List ℕ) (i : ℕ) → IsTrimmed r → i < length f.generators → value f.generators operators r i ≡ value f.generators (derived_module f).operators r i
+DerivedActionIsUnique = (f : File) (operators : List (List (List Bool))) → NeverFall f.generators →
+    IsModule (with_operators f operators) → ActsAsListed f operators → (r : List ℕ) (i : ℕ) → IsTrimmed r →
+    i < length f.generators → value f.generators operators r i ≡ value f.generators (derived_module f).operators r i
 
 -- the operators agree with all entries of the file
 abbrev pub AgreesWith : File → List (List (List Bool)) → Type 0
-AgreesWith f operators = All (λ e. value f.generators operators (e.n ∷ []) e.generator ≡ sum_vector f.generators e.sum (degree_at f.generators e.generator +ℤ pos e.n)) f.entries
+AgreesWith f operators = All
+    (λ e. value f.generators operators (e.n ∷ []) e.generator
+    ≡ sum_vector f.generators e.sum (degree_at f.generators e.generator +ℤ pos e.n))
+    f.entries
 
 -- no module agrees with a file that is refused, by an entry or by a relation
 abbrev pub RefusedHasNoModule : Type 0
-RefusedHasNoModule = (f : File) → IsWellFormed f → (fault : CheckFault) → refusal_of f ≡ Some fault → (operators : List (List (List Bool))) → IsModule (with_operators f operators) → ActsAsListed f operators → AgreesWith f operators → ⊥
+RefusedHasNoModule = (f : File) → IsWellFormed f → (fault : CheckFault) → refusal_of f ≡ Some fault →
+    (operators : List (List (List Bool))) → IsModule (with_operators f operators) → ActsAsListed f operators →
+    AgreesWith f operators → ⊥

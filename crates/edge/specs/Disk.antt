@@ -41,7 +41,8 @@ pub record Elapses (before now : ℕ) (past since : ℕ → List ℕ → Type 0)
 
 -- Over a run of calls: each image since old has P, and those since a moment before old are those that they were, and those
 -- since old.
-pub record LeavesOnly {D : Type 0} (moment : D → ℕ) (since : D → ℕ → List ℕ → Type 0) (old new : D) (P : List ℕ → Type 0) : Type 0 where
+pub record LeavesOnly {D : Type 0} (moment : D → ℕ) (since : D → ℕ → List ℕ → Type 0) (old new : D)
+    (P : List ℕ → Type 0) : Type 0 where
   pub later : moment old ≤ moment new
   pub each : (c : List ℕ) → since new (moment old) c → P c
   pub earlier : (t : ℕ) (c : List ℕ) → t ≤ moment old → since new t c → since old t c ⊎ since new (moment old) c

@@ -34,4 +34,7 @@ abbrev pub after_failed_write : Held → Held
 after_failed_write held = record held { calls = one_up held.calls; faults = one_up held.faults }
 
 abbrev pub after_write : Held → List ℕ → Held
-after_write held bytes = record held { written = held.written ++ take (write_count held (length bytes)) bytes; calls = one_up held.calls }
+after_write held bytes = record held {
+  written = held.written ++ take (write_count held (length bytes)) bytes;
+  calls = one_up held.calls;
+}

@@ -35,7 +35,15 @@ impl Model for MemDisk {
 
     ghost Value = { Stored };
 
-    ghost view = { λ s. record { history = s.past; room = s.room; used = s.used; failing = s.failing.items; stop_after = s.stop_after; calls = s.calls; faults = s.faults } };
+    ghost view = { λ s. record {
+      history = s.past;
+      room = s.room;
+      used = s.used;
+      failing = s.failing.items;
+      stop_after = s.stop_after;
+      calls = s.calls;
+      faults = s.faults;
+    } };
 
     ghost invariant = { λ s. record {
       bytes_are : s.bytes.items ≡ content s.past.first s.past.steps;
@@ -117,7 +125,15 @@ impl MemDisk {
         failing: Vec<u64>,
         stop_after: u64,
     ) -> Result<MemDisk, Memory>
-        ensures { IfOk result (λ d. d ≡ record { history = opened bytes.items; room = max room (vec_len bytes); used = vec_len bytes; failing = failing.items; stop_after = stop_after; calls = 0; faults = 0 }) }
+        ensures { IfOk result (λ d. d ≡ record {
+          history = opened bytes.items;
+          room = max room (vec_len bytes);
+          used = vec_len bytes;
+          failing = failing.items;
+          stop_after = stop_after;
+          calls = 0;
+          faults = 0;
+        }) }
     {
         // With less room each call fails, as with just this much.
         let room = room.max(bytes.len());
@@ -231,7 +247,8 @@ impl Disk for MemDisk {
 
     fn read(&mut self, at: u64, into: &mut [u8]) -> Result<(), Failed>
         requires within { at + length into.old ≤ length (content self.old.history.first self.old.history.steps) }
-        ensures read { OnOk result (into.new ≡ take (length into.old) (drop at (content self.old.history.first self.old.history.steps))) }
+        ensures read { OnOk result
+            (into.new ≡ take (length into.old) (drop at (content self.old.history.first self.old.history.steps))) }
         ensures done { OnOk result ((call_fails self.old 0 ≡ false) × (self.new ≡ after_look self.old)) }
         ensures fails { OnErr result ((call_fails self.old 0 ≡ true) × (self.new ≡ after_failed_call self.old)) }
         ensures never_fall { self.old.faults ≤ self.new.faults }
@@ -251,9 +268,13 @@ impl Disk for MemDisk {
     fn write_at(&mut self, at: u64, bytes: &[u8]) -> Result<(), Failed>
         requires within { at ≤ length (content self.old.history.first self.old.history.steps) }
         ensures limit { OnOk result (at + length bytes.now < 2 ^ 63) }
-        ensures images { Follows (Torn at (length bytes.now)) (λ c. IsImage self.old.history.first self.old.history.steps c) (λ c. IsImage self.new.history.first self.new.history.steps c) }
-        ensures done { OnOk result ((call_fails self.old (length bytes.now) ≡ false) × (self.new ≡ after_write self.old at bytes.now)) }
-        ensures fails { OnErr result ((call_fails self.old (length bytes.now) ≡ true) × (self.new ≡ after_failed_call self.old)) }
+        ensures images { Follows (Torn at (length bytes.now))
+            (λ c. IsImage self.old.history.first self.old.history.steps c)
+            (λ c. IsImage self.new.history.first self.new.history.steps c) }
+        ensures done { OnOk result ((call_fails self.old (length bytes.now) ≡ false)
+            × (self.new ≡ after_write self.old at bytes.now)) }
+        ensures fails { OnErr result ((call_fails self.old (length bytes.now) ≡ true)
+            × (self.new ≡ after_failed_call self.old)) }
         ensures never_fall { self.old.faults ≤ self.new.faults }
     {
         let fails = self.fails_next(bytes.len());
@@ -270,7 +291,8 @@ impl Disk for MemDisk {
     }
 
     fn sync(&mut self) -> Result<(), Failed>
-        ensures images { (c : List ℕ) → IsImage self.new.history.first self.new.history.steps c → IsImage self.old.history.first self.old.history.steps c }
+        ensures images { (c : List ℕ) → IsImage self.new.history.first self.new.history.steps c →
+            IsImage self.old.history.first self.old.history.steps c }
         ensures done { OnOk result ((call_fails self.old 0 ≡ false) × (self.new ≡ after_sync self.old)) }
         ensures fails { OnErr result ((call_fails self.old 0 ≡ true) × (self.new ≡ after_failed_call self.old)) }
         ensures never_fall { self.old.faults ≤ self.new.faults }

@@ -47,7 +47,14 @@ impl Model for MemSink {
 
     ghost Value = { Held };
 
-    ghost view = { λ s. record { written = s.written.items; piece = s.piece; room = s.room; failing = s.failing.items; calls = s.calls; faults = s.faults } };
+    ghost view = { λ s. record {
+      written = s.written.items;
+      piece = s.piece;
+      room = s.room;
+      failing = s.failing.items;
+      calls = s.calls;
+      faults = s.faults;
+    } };
 
     ghost invariant = { λ s. (0 < s.piece) × (s.room ≤ vec_capacity s.written) };
 }
@@ -65,7 +72,14 @@ impl MemSink {
         failing: Vec<u64>,
     ) -> Result<MemSink, Memory>
         requires { 0 < piece }
-        ensures { IfOk result (λ sink. sink ≡ record { written = []; piece = piece; room = room; failing = failing.items; calls = 0; faults = 0 }) }
+        ensures { IfOk result (λ sink. sink ≡ record {
+          written = [];
+          piece = piece;
+          room = room;
+          failing = failing.items;
+          calls = 0;
+          faults = 0;
+        }) }
     {
         Ok(MemSink {
             written: Vec::with_capacity(alloc, room)?,
@@ -118,12 +132,14 @@ impl Sink for MemSink {
     fn write(&mut self, bytes: &[u8]) -> Result<usize, Failed>
         requires { 0 < length bytes.now }
         ensures count { IfOk result (λ n. (0 < n) × (n ≤ length bytes.now)) }
-        ensures taken { IfOk result (λ n. Some self.new.written ≡ with_more (Some self.old.written) (take n bytes.now)) }
+        ensures taken { IfOk result
+            (λ n. Some self.new.written ≡ with_more (Some self.old.written) (take n bytes.now)) }
         ensures refused { OnErr result (Some self.new.written ≡ Some self.old.written) }
         ensures never_fall { self.old.faults ≤ self.new.faults }
         ensures no_fault { OnOk result (self.new.faults ≡ self.old.faults) }
         ensures cause { OnErr result (HasRisen self.old.faults self.new.faults) }
-        ensures takes { IfOk result (λ n. (write_fails self.old ≡ false) × (n ≡ write_count self.old (length bytes.now)) × (self.new ≡ after_write self.old bytes.now)) }
+        ensures takes { IfOk result (λ n. (write_fails self.old ≡ false) × (n ≡ write_count self.old (length bytes.now))
+            × (self.new ≡ after_write self.old bytes.now)) }
         ensures fails { OnErr result ((write_fails self.old ≡ true) × (self.new ≡ after_failed_write self.old)) }
     {
         let fails = self.fails_next();

@@ -50,7 +50,13 @@ impl Model for MemSource {
 
     ghost Value = { Supply };
 
-    ghost view = { λ s. record { left = drop s.at s.bytes.items; piece = s.piece; failing = s.failing.items; calls = s.calls; faults = s.faults } };
+    ghost view = { λ s. record {
+      left = drop s.at s.bytes.items;
+      piece = s.piece;
+      failing = s.failing.items;
+      calls = s.calls;
+      faults = s.faults;
+    } };
 
     ghost invariant = { λ s. (0 < s.piece) × (s.at ≤ vec_len s.bytes) };
 }
@@ -67,7 +73,13 @@ impl MemSource {
         failing: Vec<u64>,
     ) -> Result<MemSource, Memory>
         requires { 0 < piece }
-        ensures { IsOkAnd result (λ source. source ≡ record { left = bytes.items; piece = piece; failing = failing.items; calls = 0; faults = 0 }) }
+        ensures { IsOkAnd result (λ source. source ≡ record {
+          left = bytes.items;
+          piece = piece;
+          failing = failing.items;
+          calls = 0;
+          faults = 0;
+        }) }
     {
         Ok(MemSource {
             bytes,
@@ -126,9 +138,11 @@ impl Source for MemSource {
         ensures never_fall { self.old.faults ≤ self.new.faults }
         ensures no_fault { OnOk result (self.new.faults ≡ self.old.faults) }
         ensures cause { OnErr result (HasRisen self.old.faults self.new.faults) }
-        ensures gives { IfOk result (λ n. (read_fails self.old ≡ false) × (n ≡ read_count self.old (length into.old)) × (self.new ≡ after_read self.old (length into.old))) }
+        ensures gives { IfOk result (λ n. (read_fails self.old ≡ false) × (n ≡ read_count self.old (length into.old))
+            × (self.new ≡ after_read self.old (length into.old))) }
         ensures fills { IfOk result (λ n. into.new ≡ take n self.old.left ++ drop n into.old) }
-        ensures fails { OnErr result ((read_fails self.old ≡ true) × (self.new ≡ after_failed_read self.old) × (into.new ≡ into.old)) }
+        ensures fails { OnErr result ((read_fails self.old ≡ true) × (self.new ≡ after_failed_read self.old)
+            × (into.new ≡ into.old)) }
     {
         let fails = self.read_fails();
         if fails {

@@ -68,7 +68,8 @@ pub record IsBracketText (a b c : Class) (r q : Resolution) (x y z : ClassAbove)
   pub is : text ≡ bracket_text (bracket_row a b c) (bracket_degree a b c) value rows
 
 -- what is told where ab is zero: bc, where that is not, and else the bracket
-pub record IsToldOfLower (a b c : Class) (r q : Resolution) (x y z : ClassAbove) (answer : Result (List ℕ) Refusal) : Type 0 where
+pub record IsToldOfLower (a b c : Class) (r q : Resolution) (x y z : ClassAbove) (answer : Result (List ℕ) Refusal)
+    : Type 0 where
   pub bc : List Bool
   pub product : IsYonedaProduct r q y z bc
   pub nonzero : (IsZero bc → ⊥) → answer ≡ Err (Nonzero Bc (product_row b c) (product_degree b c) bc)
@@ -90,4 +91,5 @@ pub record IsTold (a b c : Class) (r q : Resolution) (answer : Result (List ℕ)
 -- What is told of the bracket <a, b, c>, where r and q are the resolutions of the module and of the sphere through the range: that
 -- a class is not there, or a square past the range; else a product that is not zero; else the text.
 abbrev pub IsBracketAnswer : Range → Class → Class → Class → Resolution → Resolution → Result (List ℕ) Refusal → Type 0
-IsBracketAnswer range a b c r q answer = MatchOption (refusal_of range a b c r q) (IsTold a b c r q answer) (λ refusal. answer ≡ Err refusal)
+IsBracketAnswer range a b c r q answer =
+    MatchOption (refusal_of range a b c r q) (IsTold a b c r q answer) (λ refusal. answer ≡ Err refusal)

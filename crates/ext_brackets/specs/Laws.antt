@@ -8,8 +8,11 @@ use Rattle.ext_brackets.specs.Brackets.{IsBracketAnswer}
 
 -- The canonical resolutions of a module and of the sphere have an answer for any three classes,
 abbrev pub BracketAnswerExists : Type 0
-BracketAnswerExists = (r q : Resolution) (range : Range) (a b c : Class) → IsCanonical r range.s range.t → IsCanonical q range.s range.t → IsSphere q → (answer : Result (List ℕ) Refusal) × IsBracketAnswer range a b c r q answer
+BracketAnswerExists = (r q : Resolution) (range : Range) (a b c : Class) → IsCanonical r range.s range.t →
+    IsCanonical q range.s range.t → IsSphere q →
+    (answer : Result (List ℕ) Refusal) × IsBracketAnswer range a b c r q answer
 
 -- and any two resolutions at most one.
 abbrev pub BracketAnswerIsUnique : Type 0
-BracketAnswerIsUnique = (r q : Resolution) (range : Range) (a b c : Class) (x y : Result (List ℕ) Refusal) → IsBracketAnswer range a b c r q x → IsBracketAnswer range a b c r q y → x ≡ y
+BracketAnswerIsUnique = (r q : Resolution) (range : Range) (a b c : Class) (x y : Result (List ℕ) Refusal) →
+    IsBracketAnswer range a b c r q x → IsBracketAnswer range a b c r q y → x ≡ y

@@ -16,4 +16,6 @@ use Rattle.ext_brackets.specs.Brackets.{IsBracketAnswer}
 -- what is told is right, where the table is that of the canonical resolution
 abbrev pub IsBracketAnswerOver : Staircase → Range → Class → Class → Class → Result (List ℕ) Refusal → Type 0
 IsBracketAnswerOver table range a b c answer =
-    IsAllCanonical table → (sphere : List (List Content)) → IsCanonicalTable (module_over (derived_module sphere_file)) range.s range.t sphere → IsBracketAnswer range a b c (through range table) (resolution (derived_module sphere_file) sphere) answer
+    IsAllCanonical table → (sphere : List (List Content)) →
+    IsCanonicalTable (module_over (derived_module sphere_file)) range.s range.t sphere →
+    IsBracketAnswer range a b c (through range table) (resolution (derived_module sphere_file) sphere) answer

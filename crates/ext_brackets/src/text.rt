@@ -36,7 +36,8 @@ pub fn bracket_text(
     requires degrees { range.t ≤ MAX_T }
     requires through { IsThrough range table.now.rows }
     ensures text { IfOk result (λ text. IsBracketAnswerOver table.now range a b c (Ok text.items)) }
-    ensures refused { IfErr result (λ e. e ≢ OutOfMemory → (refusal : WhyNot) × (e ≡ Refused refusal) × IsBracketAnswerOver table.now range a b c (Err refusal)) }
+    ensures refused { IfErr result (λ e. e ≢ OutOfMemory →
+        (refusal : WhyNot) × (e ≡ Refused refusal) × IsBracketAnswerOver table.now range a b c (Err refusal)) }
 {
     resolution_laws::canonical_table_is_minimal_resolution();
     resolution_laws::canonical_table_is_unique();
@@ -53,7 +54,8 @@ pub fn bracket_text(
 
 /// The lines of a bracket.
 fn lines(alloc: Global, found: &Bracket) -> Result<Vec<u8>, Memory>
-    ensures { IfOk result (λ text. text.items ≡ text_of found.now.s found.now.t found.now.value found.now.indeterminacy.rows) }
+    ensures { IfOk result
+        (λ text. text.items ≡ text_of found.now.s found.now.t found.now.value found.now.indeterminacy.rows) }
 {
     bracket_lines(
         alloc,

@@ -13,4 +13,5 @@ generators_line count least greatest =
 
 -- how many generators the module has, and their degrees
 abbrev pub check_line : ℕ → ℤ → ℤ → List ℕ
-check_line count least greatest = if nat_eq count 0 then codes "accepted 0 generators\n" else generators_line count least greatest
+check_line count least greatest =
+    if nat_eq count 0 then codes "accepted 0 generators\n" else generators_line count least greatest

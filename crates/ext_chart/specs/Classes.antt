@@ -8,7 +8,8 @@ use Rattle.ext_chart.specs.declared.class_products.ProductLine.{ProductLine}
 
 -- `(s,t,i)`: class i, from 0, of row s in internal degree t
 abbrev pub class_text : ℤ → ℤ → ℕ → List ℕ
-class_text s t i = codes "(" ++ (signed_decimal s ++ (codes "," ++ (signed_decimal t ++ (codes "," ++ (decimal i ++ codes ")")))))
+class_text s t i =
+    codes "(" ++ (signed_decimal s ++ (codes "," ++ (signed_decimal t ++ (codes "," ++ (decimal i ++ codes ")")))))
 
 -- a vector over the classes of row s in degree t, as the sum of those where it is one: `(5,20,0) + (5,20,1)`, and `0` for none
 abbrev pub class_sum_text : ℤ → ℤ → List Bool → List ℕ
@@ -16,14 +17,16 @@ class_sum_text s t v = terms_text (map (class_text s t) (items_where_true v (ran
 
 -- `(1,1,0) -> (2,2,0)`: a class and its product, a vector over the classes of the product's row and degree
 abbrev pub product_line : ProductLine → List ℕ
-product_line l = class_text (pos l.s) l.t l.i ++ (codes " -> " ++ (class_sum_text (pos l.target_s) l.target_t l.value ++ newline))
+product_line l =
+    class_text (pos l.s) l.t l.i ++ (codes " -> " ++ (class_sum_text (pos l.target_s) l.target_t l.value ++ newline))
 
 abbrev pub product_lines_text : List ProductLine → List ℕ
 product_lines_text lines = flat_map product_line lines
 
 -- `value (3,8): (3,8,0)`
 abbrev pub value_line : ℤ → ℤ → List Bool → List ℕ
-value_line s t v = codes "value (" ++ (signed_decimal s ++ (codes "," ++ (signed_decimal t ++ (codes "): " ++ (class_sum_text s t v ++ newline)))))
+value_line s t v = codes "value ("
+    ++ (signed_decimal s ++ (codes "," ++ (signed_decimal t ++ (codes "): " ++ (class_sum_text s t v ++ newline)))))
 
 -- `indeterminacy: (3,8,0)`
 abbrev pub indeterminacy_line : ℤ → ℤ → List Bool → List ℕ

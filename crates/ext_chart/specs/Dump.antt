@@ -42,13 +42,16 @@ generator_line p image = codes "d" ++ (place_text p ++ (codes " = " ++ (image ++
 
 -- the lines of the generators of a square of row s and of degree t, given how the text of an image is made
 abbrev pub square_lines : (List Bool → List ℕ) → ℕ → ℤ → List (List Bool) → List ℕ
-square_lines image_text s t images = flat_map (λ i. generator_line (record { s = s; t = t; i = i }) (image_text (row images i))) (range_with_len 0 (length images))
+square_lines image_text s t images = flat_map
+    (λ i. generator_line (record { s = s; t = t; i = i }) (image_text (row images i)))
+    (range_with_len 0 (length images))
 
 -- What d_s takes generators of degree t to: in row 0 vectors of the module, whose generators have names, and above vectors of
 -- the free module on the generators of the row below.
 abbrev pub image_text : List Generator → List (List Content) → ℕ → ℤ → List Bool → List ℕ
 image_text gs table zero t v = sum_text gs t v
-image_text gs table (suc s) t v = free_sum_text (places_from s (bottom gs) (row_of table s)) (degrees_from (bottom gs) (row_of table s)) t v
+image_text gs table (suc s) t v =
+    free_sum_text (places_from s (bottom gs) (row_of table s)) (degrees_from (bottom gs) (row_of table s)) t v
 
 -- the dimension of what d_s goes to, in degree t
 abbrev pub image_width : List Generator → List (List Content) → ℕ → ℤ → ℕ
@@ -57,7 +60,8 @@ image_width gs table (suc s) t = free_width (degrees_from (bottom gs) (row_of ta
 
 -- the lines of square (s, k), and those of row s through degree bottom + t
 abbrev pub square_text : List Generator → List (List Content) → ℕ → ℕ → List ℕ
-square_text gs table s k = square_lines (image_text gs table s (bottom gs +ℤ pos k)) s (bottom gs +ℤ pos k) (square_in (row_of table s) k).images
+square_text gs table s k = square_lines (image_text gs table s (bottom gs +ℤ pos k)) s (bottom gs +ℤ pos k)
+    (square_in (row_of table s) k).images
 
 abbrev pub row_text : List Generator → List (List Content) → ℕ → ℕ → List ℕ
 row_text gs table t s = flat_map (square_text gs table s) (range_with_len 0 (t + 1))

@@ -28,4 +28,5 @@ admissible_text monomials = terms_text (map monomial_text monomials)
 
 -- the line of a vector of degree n in Milnor's basis, and that of monomials whose sum it is
 abbrev pub product_text : ℕ → List Bool → List (List ℕ) → List ℕ
-product_text n v monomials = codes "milnor: " ++ (milnor_text n v ++ (newline ++ (codes "admissible: " ++ (admissible_text monomials ++ newline))))
+product_text n v monomials = codes "milnor: "
+    ++ (milnor_text n v ++ (newline ++ (codes "admissible: " ++ (admissible_text monomials ++ newline))))

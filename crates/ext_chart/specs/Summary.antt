@@ -15,7 +15,8 @@ row_totals count s t = map (row_total count t) (range_with_len 0 (s + 1))
 
 -- `module gens 2 bottom -5`: how many generators the module has, and the least of their degrees
 abbrev pub module_line : ℕ → ℤ → List ℕ
-module_line gens bottom = codes "module gens " ++ (decimal gens ++ (codes " bottom " ++ (signed_decimal bottom ++ newline)))
+module_line gens bottom =
+    codes "module gens " ++ (decimal gens ++ (codes " bottom " ++ (signed_decimal bottom ++ newline)))
 
 -- the squares of rows 0 to s through degree bottom + t
 abbrev pub squares_line : ℕ → ℕ → List ℕ
@@ -36,4 +37,5 @@ total_lines s (total ∷ totals) = total_line s total ++ total_lines (suc s) tot
 -- the summary of a resolution through row s and degree bottom + t, of a module with so many generators
 abbrev pub summary_text : ℕ → ℤ → ℕ → ℕ → (ℕ → ℕ → ℕ) → List ℕ
 summary_text gens bottom s t count =
-    module_line gens bottom ++ (squares_line s t ++ (gens_line (sum (row_totals count s t)) ++ total_lines 0 (row_totals count s t)))
+    module_line gens bottom
+    ++ (squares_line s t ++ (gens_line (sum (row_totals count s t)) ++ total_lines 0 (row_totals count s t)))

@@ -40,7 +40,8 @@ fn row_label(alloc: Global, s: u16) -> Result<Vec<u8>, Memory>
 /// The marks of a row, from stem 0 on, through `t` degrees above the bottom.
 fn marks(alloc: Global, table: &Table, s: u16, t: u16) -> Result<Vec<u8>, Memory>
     requires { t < length (row_in table.now.rows s) }
-    ensures { IfOk result (λ marks. marks.items ≡ map (λ k. mark (generator_count (plain_rows table.now.rows) s k)) (range_with_len s (t + 1 - s))) }
+    ensures { IfOk result (λ marks. marks.items
+        ≡ map (λ k. mark (generator_count (plain_rows table.now.rows) s k)) (range_with_len s (t + 1 - s))) }
 {
     let mut marks = Vec::new(alloc);
     for k in s..=t {
@@ -65,7 +66,8 @@ fn row_line(alloc: Global, table: &Table, s: u16, t: u16) -> Result<Vec<u8>, Mem
 /// The lines of the rows of the range, the greatest first.
 fn row_lines(alloc: Global, table: &Table, range: Range) -> Result<Vec<u8>, Memory>
     requires { IsThrough range table.now.rows }
-    ensures { IfOk result (λ text. text.items ≡ row_lines (generator_count (plain_rows table.now.rows)) range.t (range.s + 1)) }
+    ensures { IfOk result
+        (λ text. text.items ≡ row_lines (generator_count (plain_rows table.now.rows)) range.t (range.s + 1)) }
 {
     let mut text = Vec::new(alloc);
     for i in 0..=range.s {
@@ -96,7 +98,8 @@ fn stems_line(alloc: Global, bottom: i32, t: u16) -> Result<Vec<u8>, Memory>
 /// `Memory` if allocation fails.
 pub fn chart(alloc: Global, table: &Table, range: Range) -> Result<Vec<u8>, Memory>
     requires { IsThrough range table.now.rows }
-    ensures { IfOk result (λ text. text.items ≡ chart_text (bottom_of table.now.resolved) range.s range.t (generator_count (plain_rows table.now.rows))) }
+    ensures { IfOk result (λ text. text.items
+        ≡ chart_text (bottom_of table.now.resolved) range.s range.t (generator_count (plain_rows table.now.rows))) }
 {
     let mut text = row_lines(alloc, table, range)?;
     let stems = stems_line(alloc, table.module().bottom(), range.t)?;

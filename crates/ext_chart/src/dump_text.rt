@@ -18,7 +18,8 @@ use std::alloc::Global;
 /// `Memory` if allocation fails.
 pub fn dump(alloc: Global, table: &Table, range: Range) -> Result<Vec<u8>, Memory>
     requires { IsThrough range table.now.rows }
-    ensures { IfOk result (λ text. text.items ≡ dump_text table.now.resolved.plain.generators range.s range.t (plain_rows table.now.rows)) }
+    ensures { IfOk result (λ text. text.items
+        ≡ dump_text table.now.resolved.plain.generators range.s range.t (plain_rows table.now.rows)) }
 {
     let mut text = Vec::new(alloc);
     for s in 0..=range.s {
@@ -31,7 +32,8 @@ pub fn dump(alloc: Global, table: &Table, range: Range) -> Result<Vec<u8>, Memor
 /// The lines of the generators of row `s`, through `t` degrees above the bottom.
 fn row_text(alloc: Global, table: &Table, s: u16, t: u16) -> Result<Vec<u8>, Memory>
     requires { t < length (row_in table.now.rows s) }
-    ensures { IfOk result (λ text. text.items ≡ row_text table.now.resolved.plain.generators (plain_rows table.now.rows) t s) }
+    ensures { IfOk result
+        (λ text. text.items ≡ row_text table.now.resolved.plain.generators (plain_rows table.now.rows) t s) }
 {
     let target = NamedTarget::of(alloc, table, s)?;
     squares_text(alloc, table, &target, s, t)
@@ -47,7 +49,8 @@ fn squares_text(
 ) -> Result<Vec<u8>, Memory>
     requires there { t < length (row_in table.now.rows s) }
     requires target { IsTargetOf table.now.resolved.plain.generators (plain_rows table.now.rows) s target.now }
-    ensures { IfOk result (λ text. text.items ≡ row_text table.now.resolved.plain.generators (plain_rows table.now.rows) t s) }
+    ensures { IfOk result
+        (λ text. text.items ≡ row_text table.now.resolved.plain.generators (plain_rows table.now.rows) t s) }
 {
     let mut text = Vec::new(alloc);
     for k in 0..=t {
@@ -67,7 +70,8 @@ fn square_text(
 ) -> Result<Vec<u8>, Memory>
     requires there { k < length (row_in table.now.rows s) }
     requires target { IsTargetOf table.now.resolved.plain.generators (plain_rows table.now.rows) s target.now }
-    ensures { IfOk result (λ text. text.items ≡ square_text table.now.resolved.plain.generators (plain_rows table.now.rows) s k) }
+    ensures { IfOk result
+        (λ text. text.items ≡ square_text table.now.resolved.plain.generators (plain_rows table.now.rows) s k) }
 {
     let images = images(table, s, k);
     square_lines(alloc, table.basis(), target, s, degree(table, k), images)

@@ -20,7 +20,10 @@ pub(crate) fn degree(table: &Table, k: u16) -> i32
 pub(crate) fn images(table: &Table, s: u16, k: u16) -> &[BitVec]
     requires { k < length (row_in table.now.rows s) }
     ensures images { result.now ≡ (content_at table.now.rows s k).images }
-    ensures widths { HaveWidth (image_width table.now.resolved.plain.generators (plain_rows table.now.rows) s (bottom_of table.now.resolved +ℤ pos k)) result.now }
+    ensures widths { HaveWidth
+        (image_width table.now.resolved.plain.generators (plain_rows table.now.rows) s
+        (bottom_of table.now.resolved +ℤ pos k))
+        result.now }
     ensures degree { k ≤ MAX_T }
 {
     match table.at(s, degree(table, k)) {

@@ -23,7 +23,8 @@ pub(crate) enum NamedTarget<'a> {
 impl<'a> NamedTarget<'a> {
     /// The target of d_s over the squares of a table.
     pub(crate) fn of(alloc: Global, table: &'a Table, s: u16) -> Result<NamedTarget<'a>, Memory>
-        ensures { IfOk result (λ target. IsTargetOf table.now.resolved.plain.generators (plain_rows table.now.rows) s target) }
+        ensures { IfOk result
+            (λ target. IsTargetOf table.now.resolved.plain.generators (plain_rows table.now.rows) s target) }
     {
         if s == 0 {
             return Ok(NamedTarget::Module(table.module()));

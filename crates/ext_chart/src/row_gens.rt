@@ -21,8 +21,10 @@ pub(crate) struct RowGens {
 
 /// The generators of row `s`.
 pub(crate) fn row_gens(alloc: Global, table: &Table, s: u16) -> Result<RowGens, Memory>
-    ensures gens { IfOk result (λ row. row.gens ≡ degrees_from (bottom_of table.now.resolved) (row_of (plain_rows table.now.rows) s)) }
-    ensures places { IfOk result (λ row. row.places.items ≡ places_from s (bottom_of table.now.resolved) (row_of (plain_rows table.now.rows) s)) }
+    ensures gens { IfOk result
+        (λ row. row.gens ≡ degrees_from (bottom_of table.now.resolved) (row_of (plain_rows table.now.rows) s)) }
+    ensures places { IfOk result (λ row. row.places.items
+        ≡ places_from s (bottom_of table.now.resolved) (row_of (plain_rows table.now.rows) s)) }
 {
     let n = table.front(s) as u16;
     let gens = table.generators(alloc, s, n)?;

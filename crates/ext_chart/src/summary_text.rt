@@ -32,7 +32,8 @@ fn row_total(table: &Table, s: u16, t: u16) -> Result<usize, Memory>
 /// How many generators each row of the range has, from row 0 up.
 fn row_totals(alloc: Global, table: &Table, range: Range) -> Result<Vec<usize>, Memory>
     requires { IsThrough range table.now.rows }
-    ensures { IfOk result (λ totals. totals.items ≡ row_totals (generator_count (plain_rows table.now.rows)) range.s range.t) }
+    ensures { IfOk result
+        (λ totals. totals.items ≡ row_totals (generator_count (plain_rows table.now.rows)) range.s range.t) }
 {
     let mut totals = Vec::new(alloc);
     for s in 0..=range.s {
@@ -124,7 +125,8 @@ fn total_lines(alloc: Global, totals: &[usize]) -> Result<Vec<u8>, Memory>
 /// `Memory` if allocation fails.
 pub fn summary(alloc: Global, table: &Table, range: Range) -> Result<Vec<u8>, Memory>
     requires { IsThrough range table.now.rows }
-    ensures { IfOk result (λ text. text.items ≡ summary_text (length table.now.resolved.plain.generators) (bottom_of table.now.resolved) range.s range.t (generator_count (plain_rows table.now.rows))) }
+    ensures { IfOk result (λ text. text.items ≡ summary_text (length table.now.resolved.plain.generators)
+        (bottom_of table.now.resolved) range.s range.t (generator_count (plain_rows table.now.rows))) }
 {
     let totals = row_totals(alloc, table, range)?;
     let module = table.module();

@@ -73,12 +73,21 @@ fn answer<W: Threads + Wait + Clock + Sync, S: Source, O: Sink, E: Sink, D: Disk
     err: &mut E,
     disk: D,
 ) -> Ended<D>
-    ensures status { IsStatusOf (map string_bytes arguments.now) (S.left source.old) (IsUsable (map string_bytes arguments.now) (S.left source.old) (D.now disk) (D.images disk)) result.status }
+    ensures status { IsStatusOf (map string_bytes arguments.now) (S.left source.old)
+        (IsUsable (map string_bytes arguments.now) (S.left source.old) (D.now disk) (D.images disk)) result.status }
     ensures read { HasRead S.left S.faults (map string_bytes arguments.now) result.status source.old source.new }
-    ensures answered { HasAnswered O.written O.faults (map string_bytes arguments.now) (S.left source.old) (IsUsable (map string_bytes arguments.now) (S.left source.old) (D.now disk) (D.images disk)) result.status out.old out.new }
-    ensures reported { HasReported E.written E.faults (map string_bytes arguments.now) (S.left source.old) (D.now disk) (IsUsable (map string_bytes arguments.now) (S.left source.old) (D.now disk) (D.images disk)) result.status err.old err.new }
-    ensures saved { HasSaved D.now D.moment D.images D.since D.faults (map string_bytes arguments.now) (S.left source.old) result.status disk result.disk }
-    ensures complete { IsUsable (map string_bytes arguments.now) (S.left source.old) (D.now disk) (D.images disk) → ¬ HasRisen (S.faults source.old) (S.faults source.new) → ¬ HasRisen (O.faults out.old) (O.faults out.new) → ¬ HasRisen (D.faults disk) (D.faults result.disk) → IsComplete (map string_bytes arguments.now) (S.left source.old) result.status }
+    ensures answered { HasAnswered O.written O.faults (map string_bytes arguments.now) (S.left source.old)
+        (IsUsable (map string_bytes arguments.now) (S.left source.old) (D.now disk) (D.images disk)) result.status
+        out.old out.new }
+    ensures reported { HasReported E.written E.faults (map string_bytes arguments.now) (S.left source.old) (D.now disk)
+        (IsUsable (map string_bytes arguments.now) (S.left source.old) (D.now disk) (D.images disk)) result.status
+        err.old err.new }
+    ensures saved { HasSaved D.now D.moment D.images D.since D.faults (map string_bytes arguments.now)
+        (S.left source.old) result.status disk result.disk }
+    ensures complete { IsUsable (map string_bytes arguments.now) (S.left source.old) (D.now disk) (D.images disk) →
+        ¬ HasRisen (S.faults source.old) (S.faults source.new) → ¬ HasRisen (O.faults out.old) (O.faults out.new) →
+        ¬ HasRisen (D.faults disk) (D.faults result.disk) →
+        IsComplete (map string_bytes arguments.now) (S.left source.old) result.status }
 {
     match words(rt.alloc(), arguments) {
         Ok(words) => run(
@@ -104,7 +113,8 @@ fn refused<E: Sink>(failure: &Failure, err: &mut E) -> u8
     ensures status { result ≡ status_of failure.now }
     ensures never_falls { E.faults err.old ≤ E.faults err.new }
     ensures line { HasPrefixMore (line_of failure.now) (E.written err.old) (E.written err.new) }
-    ensures whole_line { ¬ HasRisen (E.faults err.old) (E.faults err.new) → E.written err.new ≡ with_more (E.written err.old) (line_of failure.now) }
+    ensures whole_line { ¬ HasRisen (E.faults err.old) (E.faults err.new) →
+        E.written err.new ≡ with_more (E.written err.old) (line_of failure.now) }
 {
     report(failure, err);
     failure.status()

@@ -20,9 +20,13 @@ through range table = record { base = over table.resolved; table = cut range (pl
 -- what is told where there is no text, whatever the table is
 abbrev pub IsRefusalOver : Staircase → Range → Class → Refusal → Type 0
 IsRefusalOver table range by refusal =
-    (sphere : List (List Content)) → IsCanonicalTable (module_over (derived_module sphere_file)) range.s range.t sphere → IsProductsAnswer range by (through range table) (resolution (derived_module sphere_file) sphere) (Err refusal)
+    (sphere : List (List Content)) →
+    IsCanonicalTable (module_over (derived_module sphere_file)) range.s range.t sphere →
+    IsProductsAnswer range by (through range table) (resolution (derived_module sphere_file) sphere) (Err refusal)
 
 -- what is told is right, where the table is that of the canonical resolution
 abbrev pub IsAnswerOver : Staircase → Range → Class → Result (List ℕ) Refusal → Type 0
 IsAnswerOver table range by answer =
-    IsAllCanonical table → (sphere : List (List Content)) → IsCanonicalTable (module_over (derived_module sphere_file)) range.s range.t sphere → IsProductsAnswer range by (through range table) (resolution (derived_module sphere_file) sphere) answer
+    IsAllCanonical table → (sphere : List (List Content)) →
+    IsCanonicalTable (module_over (derived_module sphere_file)) range.s range.t sphere →
+    IsProductsAnswer range by (through range table) (resolution (derived_module sphere_file) sphere) answer

@@ -99,4 +99,5 @@ pub record IsProductsText (range : Range) (by : Class) (r q : Resolution) (text 
 -- What is told of the products with the class `by`, where r and q are the resolutions of the module and of the sphere through the
 -- range: the text, or that the sphere has no such class.
 abbrev pub IsProductsAnswer : Range → Class → Resolution → Resolution → Result (List ℕ) Refusal → Type 0
-IsProductsAnswer range by r q answer = MatchOption (missing_in q by) (IsOkAnd answer (IsProductsText range by r q)) (λ count. answer ≡ Err (NoClass By by count))
+IsProductsAnswer range by r q answer = MatchOption (missing_in q by) (IsOkAnd answer (IsProductsText range by r q))
+    (λ count. answer ≡ Err (NoClass By by count))

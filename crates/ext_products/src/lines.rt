@@ -34,7 +34,8 @@ pub(crate) fn lines(
     requires degrees { range.t ≤ MAX_T }
     requires row { a.s ≤ range.s }
     requires degree { a.above ≤ range.t }
-    ensures { IfOk result (λ lines. OneEach (IsLineOver table.now sphere.now a) (factors (resolution_of table.now) range (class_above a)) lines.items) }
+    ensures { IfOk result (λ lines. OneEach (IsLineOver table.now sphere.now a)
+        (factors (resolution_of table.now) range (class_above a)) lines.items) }
 {
     let mut lines = Vec::new(alloc);
     for s in 0..range.s - a.s + 1 {
@@ -60,7 +61,10 @@ fn add_row(
     requires degrees { range.t ≤ MAX_T }
     requires row { a.s + s ≤ range.s }
     requires degree { a.above ≤ range.t }
-    ensures { OnOk result ((before : List ClassAbove) → OneEach (IsLineOver table.now sphere.now a) before lines.old.items → OneEach (IsLineOver table.now sphere.now a) (before ++ classes_in_row (resolution_of table.now) (range.t + 1 - a.above) s) lines.new.items) }
+    ensures { OnOk result ((before : List ClassAbove) →
+        OneEach (IsLineOver table.now sphere.now a) before lines.old.items →
+        OneEach (IsLineOver table.now sphere.now a)
+        (before ++ classes_in_row (resolution_of table.now) (range.t + 1 - a.above) s) lines.new.items) }
 {
     for above in 0..range.t - a.above + 1 {
         let values = products(alloc, table, sphere, range, a, s, above)?;
@@ -84,7 +88,10 @@ fn add_square(
     requires products { AreProducts table.now sphere.now a s above values.now }
     requires row { s + a.s ≤ MAX_S }
     requires degree { a.above + above ≤ MAX_T }
-    ensures { OnOk result ((before : List ClassAbove) → OneEach (IsLineOver table.now sphere.now a) before lines.old.items → OneEach (IsLineOver table.now sphere.now a) (before ++ classes_of (resolution_of table.now) s above) lines.new.items) }
+    ensures { OnOk result ((before : List ClassAbove) →
+        OneEach (IsLineOver table.now sphere.now a) before lines.old.items →
+        OneEach (IsLineOver table.now sphere.now a) (before ++ classes_of (resolution_of table.now) s above)
+        lines.new.items) }
 {
     let t = degree(table, above);
     let target_t = degree(table, a.above + above);

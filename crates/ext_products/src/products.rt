@@ -32,8 +32,10 @@ pub fn products_text(
     requires degrees { range.t ≤ MAX_T }
     requires through { IsThrough range table.now.rows }
     ensures text { IfOk result (λ text. IsAnswerOver table.now range by (Ok text.items)) }
-    ensures refused { IfErr result (λ e. e ≢ OutOfMemory → (refusal : WhyNot) × (e ≡ Refused refusal) × IsAnswerOver table.now range by (Err refusal)) }
-    ensures sure { IfErr result (λ e. e ≢ OutOfMemory → (refusal : WhyNot) × (e ≡ Refused refusal) × IsRefusalOver table.now range by refusal) }
+    ensures refused { IfErr result (λ e. e ≢ OutOfMemory →
+        (refusal : WhyNot) × (e ≡ Refused refusal) × IsAnswerOver table.now range by (Err refusal)) }
+    ensures sure { IfErr result (λ e. e ≢ OutOfMemory →
+        (refusal : WhyNot) × (e ≡ Refused refusal) × IsRefusalOver table.now range by refusal) }
 {
     resolution_laws::canonical_table_is_minimal_resolution();
     finite_module::modules_are_graded_modules();

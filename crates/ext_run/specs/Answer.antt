@@ -69,7 +69,8 @@ told_of_classes (Ok text) = Ok text
 told_of_classes (Err refusal) = Err (Classes refusal)
 
 -- the answer is what is told, as IsToldOf says, of that table's classes and of those of the sphere's canonical resolution through the range
-pub record IsToldOfClasses (IsToldOf : Resolution → Resolution → Result (List ℕ) Refusal → Type 0) (range : Range) (m : SteenrodModule) (answer : Result (List ℕ) Failure) : Type 0 where
+pub record IsToldOfClasses (IsToldOf : Resolution → Resolution → Result (List ℕ) Refusal → Type 0) (range : Range)
+    (m : SteenrodModule) (answer : Result (List ℕ) Failure) : Type 0 where
   pub table : List (List Content)
   pub resolved : IsResolved range m table
   pub sphere : List (List Content)
@@ -111,10 +112,13 @@ pub record IsProduct (numbers : List ℕ) (text : List ℕ) : Type 0 where
 -- ---- the answer
 
 -- What a command answers that reads a module file: why there is no module, or what is right for the module.
-pub data IsModuleAnswer (IsAnswerOf : SteenrodModule → Result (List ℕ) Failure → Type 0) (bytes : List ℕ) : Result (List ℕ) Failure → Type 0 where
+pub data IsModuleAnswer (IsAnswerOf : SteenrodModule → Result (List ℕ) Failure → Type 0) (bytes : List ℕ)
+    : Result (List ℕ) Failure → Type 0 where
   no_file : (e : Malformed) → IsFileOf bytes (Err e) → IsModuleAnswer IsAnswerOf bytes (Err (NoModuleFile e))
-  no_module : (f : File) (e : CheckFault) → IsFileOf bytes (Ok f) → refusal_of f ≡ Some e → IsModuleAnswer IsAnswerOf bytes (Err (NotModule f e))
-  answer_of : (f : File) (answer : Result (List ℕ) Failure) → IsFileOf bytes (Ok f) → refusal_of f ≡ None → IsAnswerOf (derived_module f) answer → IsModuleAnswer IsAnswerOf bytes answer
+  no_module : (f : File) (e : CheckFault) → IsFileOf bytes (Ok f) → refusal_of f ≡ Some e →
+      IsModuleAnswer IsAnswerOf bytes (Err (NotModule f e))
+  answer_of : (f : File) (answer : Result (List ℕ) Failure) → IsFileOf bytes (Ok f) → refusal_of f ≡ None →
+      IsAnswerOf (derived_module f) answer → IsModuleAnswer IsAnswerOf bytes answer
 
 abbrev pub IsAnswerTo : Command → List ℕ → Result (List ℕ) Failure → Type 0
 IsAnswerTo (Sphere common) bytes answer = IsOkAnd answer (IsChart common.range (derived_module sphere_file))
@@ -130,10 +134,12 @@ IsAnswerTo (Sq numbers) bytes answer = IsOkAnd answer (IsProduct numbers)
 -- The answer to the words, where the input is these bytes: a text, or why there is none. (Devices that fail and want of
 -- memory are no part of it.)
 abbrev pub IsAnswer : List (List ℕ) → List ℕ → Result (List ℕ) Failure → Type 0
-IsAnswer words bytes answer = MatchOption (command_of words) (answer ≡ Err Words) (λ command. IsAnswerTo command bytes answer)
+IsAnswer words bytes answer =
+    MatchOption (command_of words) (answer ≡ Err Words) (λ command. IsAnswerTo command bytes answer)
 
 abbrev pub AnswerIsUnique : Type 0
-AnswerIsUnique = (words : List (List ℕ)) (bytes : List ℕ) (a b : Result (List ℕ) Failure) → IsAnswer words bytes a → IsAnswer words bytes b → a ≡ b
+AnswerIsUnique = (words : List (List ℕ)) (bytes : List ℕ) (a b : Result (List ℕ) Failure) → IsAnswer words bytes a →
+    IsAnswer words bytes b → a ≡ b
 
 -- ---- a source that may not tell what it has left
 
@@ -165,7 +171,8 @@ abbrev pub IsCauseFrom : List (List ℕ) → Option (List ℕ) → Failure → T
 IsCauseFrom words left failure = IsCauseOf (WordsRead words) ⊤ (λ f. IsAnswerFrom words left (Err f)) failure
 
 abbrev pub IsCommandCauseFrom : Command → Option (List ℕ) → Failure → Type 0
-IsCommandCauseFrom command left failure = IsCauseOf (Reads command) ⊥ (λ f. IsCommandAnswerFrom command left (Err f)) failure
+IsCommandCauseFrom command left failure =
+    IsCauseOf (Reads command) ⊥ (λ f. IsCommandAnswerFrom command left (Err f)) failure
 
 -- the answer to the command is a text
 abbrev pub HasText : Command → List ℕ → Type 0

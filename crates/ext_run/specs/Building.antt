@@ -47,14 +47,18 @@ pub record IsBuilt (made : Build) (files : List File) (m : SteenrodModule) : Typ
 
 -- The answer to files: the first that describes no module, or else the limit that the built module would pass, or else its file.
 pub data IsAnswerToFiles (made : Build) (files : List File) : Result (List ℕ) Failure → Type 0 where
-  no_module : (f : File) (e : CheckFault) → first_refused files ≡ Some (f, e) → IsAnswerToFiles made files (Err (NotModule f e))
-  past_limit : (m : SteenrodModule) (what : What) → IsBuilt made files m → limit_passed m.generators ≡ Some (Limit what) → IsAnswerToFiles made files (Err (PastLimit what))
-  file_of : (m : SteenrodModule) → IsBuilt made files m → limit_passed m.generators ≡ None → IsAnswerToFiles made files (Ok (file_text m))
+  no_module : (f : File) (e : CheckFault) → first_refused files ≡ Some (f, e) →
+      IsAnswerToFiles made files (Err (NotModule f e))
+  past_limit : (m : SteenrodModule) (what : What) → IsBuilt made files m →
+      limit_passed m.generators ≡ Some (Limit what) → IsAnswerToFiles made files (Err (PastLimit what))
+  file_of : (m : SteenrodModule) → IsBuilt made files m → limit_passed m.generators ≡ None →
+      IsAnswerToFiles made files (Ok (file_text m))
 
 -- The answer to bytes: what is wrong with them as so many modules, or the answer to these.
 pub data IsBuildAnswer (made : Build) (bytes : List ℕ) : Result (List ℕ) Failure → Type 0 where
   no_files : (e : Malformed) → ArePartsOf (wanted made) bytes (Err e) → IsBuildAnswer made bytes (Err (NoModuleFile e))
-  of_files : (files : List File) (answer : Result (List ℕ) Failure) → ArePartsOf (wanted made) bytes (Ok files) → IsAnswerToFiles made files answer → IsBuildAnswer made bytes answer
+  of_files : (files : List File) (answer : Result (List ℕ) Failure) → ArePartsOf (wanted made) bytes (Ok files) →
+      IsAnswerToFiles made files answer → IsBuildAnswer made bytes answer
 
 -- the bytes are so many modules, and what is built of them passes no limit
 pub record IsBuildable (made : Build) (bytes : List ℕ) : Type 0 where

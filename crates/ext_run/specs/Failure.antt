@@ -68,7 +68,8 @@ action_line index Syntax = codes "ext: module file: action " ++ (decimal index +
 action_line index SquareZero = codes "ext: module file: action " ++ (decimal index ++ codes ": square zero\n")
 action_line index Unknown = codes "ext: module file: action " ++ (decimal index ++ codes ": unknown name\n")
 action_line index WrongDegree = codes "ext: module file: action " ++ (decimal index ++ codes ": wrong degree\n")
-action_line index (Repeated first) = codes "ext: module file: action " ++ (decimal index ++ (codes ": differs from action " ++ (decimal first ++ newline)))
+action_line index (Repeated first) = codes "ext: module file: action "
+    ++ (decimal index ++ (codes ": differs from action " ++ (decimal first ++ newline)))
 
 abbrev pub malformed_line : Malformed → List ℕ
 malformed_line (Limit what) = codes "ext: module file: past the limit of " ++ (what_text what ++ newline)
@@ -79,13 +80,16 @@ malformed_line (Prime given) = codes "ext: module file: prime " ++ (decimal give
 malformed_line (Name generator) = codes "ext: module file: name of generator " ++ (decimal generator ++ newline)
 malformed_line (Degree generator) = codes "ext: module file: degree of generator " ++ (decimal generator ++ newline)
 malformed_line (Action index why) = action_line index why
-malformed_line (Parts want given) = codes "ext: module file: " ++ (decimal given ++ (codes " parts, wanted " ++ (decimal want ++ newline)))
+malformed_line (Parts want given) =
+    codes "ext: module file: " ++ (decimal given ++ (codes " parts, wanted " ++ (decimal want ++ newline)))
 malformed_line NoRoom = memory_line
 
 abbrev pub fault_line : List Generator → CheckFault → List ℕ
-fault_line generators (Listed index) = codes "ext: not a module: action " ++ (decimal index ++ codes " differs from its derived value\n")
+fault_line generators (Listed index) =
+    codes "ext: not a module: action " ++ (decimal index ++ codes " differs from its derived value\n")
 fault_line generators (Relation r s generator) =
-    codes "ext: not a module: " ++ (sq_text r ++ (codes " " ++ (sq_text s ++ (codes " on " ++ (name_at generators generator ++ newline)))))
+    codes "ext: not a module: "
+    ++ (sq_text r ++ (codes " " ++ (sq_text s ++ (codes " on " ++ (name_at generators generator ++ newline)))))
 fault_line generators NoMemory = memory_line
 
 -- the limit that a built module would pass
@@ -96,9 +100,13 @@ built_line what = codes "ext: built module: past the limit of " ++ (what_text wh
 abbrev pub open_line : OpenFault → List ℕ
 open_line OpenFailed = saving_line
 open_line NotSave = codes "ext: save file: not a save file\n"
-open_line (Other kept ours) = codes "ext: save file: of another module, kept " ++ (encode_lower kept ++ (codes ", ours " ++ (encode_lower ours ++ newline)))
+open_line (Other kept ours) = codes "ext: save file: of another module, kept "
+    ++ (encode_lower kept ++ (codes ", ours " ++ (encode_lower ours ++ newline)))
 open_line (Damaged number kept found) =
-    codes "ext: save file: record " ++ (decimal number ++ (codes " damaged, kept " ++ (encode_lower kept ++ (codes ", found " ++ (encode_lower found ++ newline)))))
+    codes "ext: save file: record "
+    ++ (decimal number
+    ++ (codes " damaged, kept "
+    ++ (encode_lower kept ++ (codes ", found " ++ (encode_lower found ++ newline)))))
 open_line (Short place) = codes "ext: save file: short at place " ++ (decimal place ++ newline)
 open_line OpenMemory = memory_line
 
@@ -125,9 +133,14 @@ target_text Bracket = codes "value"
 -- why there is nothing to tell of classes
 abbrev pub class_line : Refusal → List ℕ
 class_line (NoClass named class count) =
-    codes "ext: no class " ++ (named_text named ++ (codes " " ++ (class_text (pos class.s) class.t class.i ++ (codes ", " ++ (decimal count ++ codes " there\n")))))
-class_line (OutOfRange target s t) = codes "ext: out of range at " ++ (target_text target ++ (codes " " ++ (square_place s t ++ newline)))
-class_line (Nonzero pair s t product) = codes "ext: product " ++ (pair_text pair ++ (codes " is not zero: " ++ (class_sum_text s t product ++ newline)))
+    codes "ext: no class "
+    ++ (named_text named
+    ++ (codes " "
+    ++ (class_text (pos class.s) class.t class.i ++ (codes ", " ++ (decimal count ++ codes " there\n")))))
+class_line (OutOfRange target s t) =
+    codes "ext: out of range at " ++ (target_text target ++ (codes " " ++ (square_place s t ++ newline)))
+class_line (Nonzero pair s t product) =
+    codes "ext: product " ++ (pair_text pair ++ (codes " is not zero: " ++ (class_sum_text s t product ++ newline)))
 
 abbrev pub line_of : Failure → List ℕ
 line_of Saving = saving_line

@@ -15,13 +15,19 @@ pub record AsksFor (words : List (List ℕ)) (left : Option (List ℕ)) (m : Ste
   pub saved : IsSavedBy words bytes m range
 
 -- the disk has these bytes, and a crash leaves just them
-pub record IsFoundWith {D : Type 0} (now : D → Option (List ℕ)) (images : D → List ℕ → Type 0) (c : List ℕ) (disk : D) : Type 0 where
+pub record IsFoundWith {D : Type 0} (now : D → Option (List ℕ)) (images : D → List ℕ → Type 0) (c : List ℕ) (disk : D)
+    : Type 0 where
   pub now_is : now disk ≡ Some c
   pub only : Only c (images disk)
 
 -- A run for a module over a disk of its own ended, or was cut off. Whatever bytes it left, a run for the same module that finds them
 -- may use them, through whatever range.
-abbrev pub NextRunMayUse : {D : Type 0} → (D → Option (List ℕ)) → (D → ℕ) → (D → List ℕ → Type 0) → (D → ℕ → List ℕ → Type 0) → (D → ℕ) → Type 0
+abbrev pub NextRunMayUse : {D : Type 0} → (D → Option (List ℕ)) → (D → ℕ) → (D → List ℕ → Type 0) →
+    (D → ℕ → List ℕ → Type 0) → (D → ℕ) → Type 0
 NextRunMayUse {D} now moment images since faults =
-    (m : SteenrodModule) (words : List (List ℕ)) (left : Option (List ℕ)) → AsksFor words left m → (list : List Entry) (status : ℕ) (old new : D) → IsSome (now old) → IsOurs m list (images old) → HasSaved now moment images since faults words left status old new →
-    (c : List ℕ) → MayBeLeft moment images since old new c → (next_words : List (List ℕ)) (next_left : Option (List ℕ)) → AsksFor next_words next_left m → (next : D) → IsFoundWith now images c next → IsUsable next_words next_left (now next) (images next)
+    (m : SteenrodModule) (words : List (List ℕ)) (left : Option (List ℕ)) → AsksFor words left m →
+    (list : List Entry) (status : ℕ) (old new : D) → IsSome (now old) → IsOurs m list (images old) →
+    HasSaved now moment images since faults words left status old new →
+    (c : List ℕ) → MayBeLeft moment images since old new c →
+    (next_words : List (List ℕ)) (next_left : Option (List ℕ)) → AsksFor next_words next_left m → (next : D) →
+    IsFoundWith now images c next → IsUsable next_words next_left (now next) (images next)

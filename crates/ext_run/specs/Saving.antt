@@ -118,12 +118,15 @@ IsOurs m list images = (c : List ℕ) → images c → StandsWith m list c
 -- ---- a run
 
 -- Of the disk of a run, old and in the end new, a crash may have left these bytes at some moment of the run, or may leave them now.
-abbrev pub MayBeLeft : {D : Type 0} → (D → ℕ) → (D → List ℕ → Type 0) → (D → ℕ → List ℕ → Type 0) → D → D → List ℕ → Type 0
+abbrev pub MayBeLeft : {D : Type 0} → (D → ℕ) → (D → List ℕ → Type 0) → (D → ℕ → List ℕ → Type 0) → D → D → List ℕ →
+    Type 0
 MayBeLeft moment images since old new c = since new (moment old) c ⊎ images new c
 
 -- Nothing was written: the disk holds what it held, and where it tells, a crash leaves at each moment what it might have left before.
-abbrev pub IsUnwritten : {D : Type 0} → (D → Option (List ℕ)) → (D → ℕ) → (D → List ℕ → Type 0) → (D → ℕ → List ℕ → Type 0) → D → D → Type 0
-IsUnwritten now moment images since old new = (now new ≡ now old) × IfSome (now old) (λ _. (c : List ℕ) → MayBeLeft moment images since old new c → images old c)
+abbrev pub IsUnwritten : {D : Type 0} → (D → Option (List ℕ)) → (D → ℕ) → (D → List ℕ → Type 0) →
+    (D → ℕ → List ℕ → Type 0) → D → D → Type 0
+IsUnwritten now moment images since old new =
+    (now new ≡ now old) × IfSome (now old) (λ _. (c : List ℕ) → MayBeLeft moment images since old new c → images old c)
 
 -- the list has each square of the range
 abbrev pub HasRange : Range → List Entry → Type 0
@@ -136,7 +139,9 @@ HasRange range list = (s k : ℕ) → s ≤ range.s → k ≤ range.t → IsSome
 -- Unless the disk failed, there is no square more: at every moment an image stands for what one from before the run stood for, or for
 -- just what was taken up and a first part of what was given; and in the end each image has just all of them, or nothing was written. If
 -- there was an answer, each has just all of them, and each square of the range is among them.
-pub record HasLasted {D : Type 0} (now : D → Option (List ℕ)) (moment : D → ℕ) (images : D → List ℕ → Type 0) (since : D → ℕ → List ℕ → Type 0) (m : SteenrodModule) (range : Range) (list : List Entry) (had_answer unfailed : Type 0) (old new : D) : Type 0 where
+pub record HasLasted {D : Type 0} (now : D → Option (List ℕ)) (moment : D → ℕ) (images : D → List ℕ → Type 0)
+    (since : D → ℕ → List ℕ → Type 0) (m : SteenrodModule) (range : Range) (list : List Entry)
+    (had_answer unfailed : Type 0) (old new : D) : Type 0 where
   pub more : List Entry
   pub given : List Entry
   pub places : All (λ e. IsInRange range e.s e.above) given
@@ -144,14 +149,19 @@ pub record HasLasted {D : Type 0} (now : D → Option (List ℕ)) (moment : D �
   pub canonical : AreCanonical m ((list ++ more) ++ given)
   pub moments : (c : List ℕ) → since new (moment old) c → StandsWith m list c ⊎ StandsAmid m (list ++ more) given c
   pub ours : IsOurs m ((list ++ more) ++ given) (images new)
-  pub keeps : unfailed → (c : List ℕ) → since new (moment old) c → StandsAsOneOf m (images old) c ⊎ StandsAtPart m (list ++ more) given c
-  pub settled : unfailed → ((more ≡ []) × (given ≡ []) × IsUnwritten now moment images since old new) ⊎ ((c : List ℕ) → images new c → standing_for m c ≡ Ok ((list ++ more) ++ given))
+  pub keeps : unfailed → (c : List ℕ) → since new (moment old) c →
+      StandsAsOneOf m (images old) c ⊎ StandsAtPart m (list ++ more) given c
+  pub settled : unfailed →
+      ((more ≡ []) × (given ≡ []) × IsUnwritten now moment images since old new)
+      ⊎ ((c : List ℕ) → images new c → standing_for m c ≡ Ok ((list ++ more) ++ given))
   pub exact : had_answer → (c : List ℕ) → images new c → standing_for m c ≡ Ok ((list ++ more) ++ given)
   pub whole : had_answer → HasRange range ((list ++ more) ++ given)
 
 -- the file is refused, for the module of these words and this input
 abbrev pub IsRefusedFrom : List (List ℕ) → Option (List ℕ) → List ℕ → ResumeFault → Type 0
-IsRefusedFrom words left file e = IsOfInput (λ bytes. (m : SteenrodModule) × (range : Range) × IsSavedBy words bytes m range × (standing_for m file ≡ Err e)) left
+IsRefusedFrom words left file e = IsOfInput
+    (λ bytes. (m : SteenrodModule) × (range : Range) × IsSavedBy words bytes m range × (standing_for m file ≡ Err e))
+    left
 
 -- Why a run has no text, where the disk held this: what the words and the input have, a failed disk, a refused file, or what the classes
 -- have that are asked for, if what the save file has may be used.
@@ -162,7 +172,8 @@ IsRunCauseFrom words left now usable (Classes refusal) = usable → IsAnswerFrom
 IsRunCauseFrom words left now usable failure = IsCauseFrom words left failure
 
 -- the line on standard error for a status other than 0
-pub record IsLineFrom (words : List (List ℕ)) (left now : Option (List ℕ)) (usable : Type 0) (status : ℕ) (line : List ℕ) : Type 0 where
+pub record IsLineFrom (words : List (List ℕ)) (left now : Option (List ℕ)) (usable : Type 0) (status : ℕ)
+    (line : List ℕ) : Type 0 where
   pub failure : Failure
   pub cause : IsRunCauseFrom words left now usable failure
   pub status_is : status ≡ status_of failure
@@ -172,7 +183,8 @@ pub record IsLineFrom (words : List (List ℕ)) (left now : Option (List ℕ)) (
 -- far as it is told.
 abbrev pub IsUsable : List (List ℕ) → Option (List ℕ) → Option (List ℕ) → (List ℕ → Type 0) → Type 0
 IsUsable words left now images =
-    (bytes : List ℕ) (m : SteenrodModule) (range : Range) → IfSome left (λ l. bytes ≡ l) → IsSavedBy words bytes m range → IsSome now × ((list : List Entry) × IsOurs m list images)
+    (bytes : List ℕ) (m : SteenrodModule) (range : Range) → IfSome left (λ l. bytes ≡ l) →
+    IsSavedBy words bytes m range → IsSome now × ((list : List Entry) × IsOurs m list images)
 
 -- the statuses before the save file's turn
 abbrev pub IsEarly : ℕ → Type 0
@@ -183,7 +195,9 @@ abbrev pub IsAnswered : ℕ → Type 0
 IsAnswered status = (status ≡ 0) ⊎ (status ≡ 7) ⊎ (status ≡ 10) ⊎ (status ≡ 11)
 
 -- What becomes of the disk of a run, by its trait's now, moment, images, since and faults.
-pub record HasSaved {D : Type 0} (now : D → Option (List ℕ)) (moment : D → ℕ) (images : D → List ℕ → Type 0) (since : D → ℕ → List ℕ → Type 0) (faults : D → ℕ) (words : List (List ℕ)) (left : Option (List ℕ)) (status : ℕ) (old new : D) : Type 0 where
+pub record HasSaved {D : Type 0} (now : D → Option (List ℕ)) (moment : D → ℕ) (images : D → List ℕ → Type 0)
+    (since : D → ℕ → List ℕ → Type 0) (faults : D → ℕ) (words : List (List ℕ)) (left : Option (List ℕ)) (status : ℕ)
+    (old new : D) : Type 0 where
   -- no call is made unless the words ask for a save file, nor where there is no module
   pub unsaved : (WordsSave words → ⊥) → new ≡ old
   pub early : IsEarly status → new ≡ old
@@ -193,10 +207,16 @@ pub record HasSaved {D : Type 0} (now : D → Option (List ℕ)) (moment : D →
   pub never_falls : faults old ≤ faults new
   -- 9: the file is refused; nothing is written then
   pub refused : status ≡ 9 → IfSome (now old) (λ file. (e : ResumeFault) × IsRefusedFrom words left file e)
-  pub refuses : (bytes file : List ℕ) (m : SteenrodModule) (range : Range) (e : ResumeFault) → (WordsRead words → left ≡ Some bytes) → now old ≡ Some file → IsSavedBy words bytes m range → standing_for m file ≡ Err e →
+  pub refuses : (bytes file : List ℕ) (m : SteenrodModule) (range : Range) (e : ResumeFault) →
+      (WordsRead words → left ≡ Some bytes) → now old ≡ Some file → IsSavedBy words bytes m range →
+      standing_for m file ≡ Err e →
       (status ≡ 9) ⊎ (status ≡ 6) ⊎ (status ≡ 8) ⊎ (status ≡ 12)
   pub unwritten : status ≡ 9 → IsUnwritten now moment images since old new
-  pub spared : (bytes file : List ℕ) (m : SteenrodModule) (range : Range) (e : ResumeFault) → (WordsRead words → left ≡ Some bytes) → now old ≡ Some file → IsSavedBy words bytes m range → standing_for m file ≡ Err e → status ≢ 8 → IsUnwritten now moment images since old new
+  pub spared : (bytes file : List ℕ) (m : SteenrodModule) (range : Range) (e : ResumeFault) →
+      (WordsRead words → left ≡ Some bytes) → now old ≡ Some file → IsSavedBy words bytes m range →
+      standing_for m file ≡ Err e → status ≢ 8 → IsUnwritten now moment images since old new
   -- squares last
-  pub lasts : (bytes : List ℕ) (m : SteenrodModule) (range : Range) (list : List Entry) → (WordsRead words → left ≡ Some bytes) → IsSome (now old) → IsSavedBy words bytes m range → IsOurs m list (images old) →
+  pub lasts : (bytes : List ℕ) (m : SteenrodModule) (range : Range) (list : List Entry) →
+      (WordsRead words → left ≡ Some bytes) → IsSome (now old) → IsSavedBy words bytes m range →
+      IsOurs m list (images old) →
       HasLasted now moment images since m range list (IsAnswered status) (status ≢ 8) old new

@@ -46,7 +46,8 @@ TellsOfClasses (Bracket a b c) = ⊤
 
 -- each answer that does the task is one to the command, where this is the input
 abbrev pub IsTaskFor : Command → Option (List ℕ) → Task → Type 0
-IsTaskFor command left task = (answer : Result (List ℕ) Failure) → IsDoneBy task answer → IsCommandAnswerFrom command left answer
+IsTaskFor command left task = (answer : Result (List ℕ) Failure) → IsDoneBy task answer →
+    IsCommandAnswerFrom command left answer
 
 -- the same for words
 abbrev pub IsTaskFrom : List (List ℕ) → Option (List ℕ) → Task → Type 0
@@ -55,7 +56,8 @@ IsTaskFrom words left task = (answer : Result (List ℕ) Failure) → IsDoneBy t
 -- the task has the command's options, and the module that the command resolves, where this is the input
 abbrev pub IsSavedFor : Command → Option (List ℕ) → Task → Type 0
 IsSavedFor command left (Text made) = Saves command → ⊥
-IsSavedFor command left (Resolution r) = (options_of command ≡ Some r.common) × IsOfInput (λ bytes. IsModuleOf command bytes r.resolved.plain) left
+IsSavedFor command left (Resolution r) =
+    (options_of command ≡ Some r.common) × IsOfInput (λ bytes. IsModuleOf command bytes r.resolved.plain) left
 
 -- the same for words
 abbrev pub IsSavedAs : List (List ℕ) → Option (List ℕ) → Task → Type 0

@@ -36,8 +36,10 @@ answer_of (Err failure) = Err failure
 
 -- A table was continued through the range and told of, and the keeper got the new squares. If the table began with canonical squares,
 -- the answer is that of the canonical resolution.
-pub record HasContinued (range : Range) (form : Form) (table : Staircase) (text : Told) (old new : Keeper) : Type 0 where
-  pub told : HasAnswer text → IsCanonicalStart (over table.resolved) table.start → IsInForm form range table.resolved.plain (answer_of text)
+pub record HasContinued (range : Range) (form : Form) (table : Staircase) (text : Told) (old new : Keeper)
+    : Type 0 where
+  pub told : HasAnswer text → IsCanonicalStart (over table.resolved) table.start →
+      IsInForm form range table.resolved.plain (answer_of text)
   pub why : IfErr text (λ e. (e ≡ Saving) ⊎ (e ≡ Memory) ⊎ IsOfClasses e)
   pub failed : text ≡ Err Saving → HasRisen old.faults new.faults
   pub no_fault : text ≢ Err Saving → new.faults ≡ old.faults
@@ -58,19 +60,28 @@ abbrev pub IsRefusedFor : SteenrodModule → Option (List ℕ) → ResumeFault �
 IsRefusedFor m now fault = IfSome now (λ file. standing_for m file ≡ Err fault)
 
 -- A resolution was made over the save file on a disk, by its trait's now, moment, images, since and faults.
-pub record HasKeptOn {D : Type 0} (now : D → Option (List ℕ)) (moment : D → ℕ) (images : D → List ℕ → Type 0) (since : D → ℕ → List ℕ → Type 0) (faults : D → ℕ) (r : ToResolve) (text : Told) (old new : D) : Type 0 where
-  pub told : HasAnswer text → IsSome (now old) → (list : List Entry) → IsOurs r.resolved.plain list (images old) → IsDoneBy (Resolution r) (answer_of text)
-  pub why : IfErr text (λ e. (e ≡ Saving) ⊎ (e ≡ Memory) ⊎ IsOfClasses e ⊎ ((fault : ResumeFault) × (e ≡ SaveFile fault) × IsRefusedFor r.resolved.plain (now old) fault))
+pub record HasKeptOn {D : Type 0} (now : D → Option (List ℕ)) (moment : D → ℕ) (images : D → List ℕ → Type 0)
+    (since : D → ℕ → List ℕ → Type 0) (faults : D → ℕ) (r : ToResolve) (text : Told) (old new : D) : Type 0 where
+  pub told : HasAnswer text → IsSome (now old) → (list : List Entry) → IsOurs r.resolved.plain list (images old) →
+      IsDoneBy (Resolution r) (answer_of text)
+  pub why : IfErr text (λ e. (e ≡ Saving) ⊎ (e ≡ Memory) ⊎ IsOfClasses e
+      ⊎ ((fault : ResumeFault) × (e ≡ SaveFile fault) × IsRefusedFor r.resolved.plain (now old) fault))
   pub failed : text ≡ Err Saving → HasRisen (faults old) (faults new)
   pub no_fault : text ≢ Err Saving → faults new ≡ faults old
   pub never_falls : faults old ≤ faults new
-  pub accepted : HasAnswer text → (file : List ℕ) → now old ≡ Some file → (list : List Entry) × (standing_for r.resolved.plain file ≡ Ok list)
+  pub accepted : HasAnswer text → (file : List ℕ) → now old ≡ Some file →
+      (list : List Entry) × (standing_for r.resolved.plain file ≡ Ok list)
   pub unwritten : (fault : ResumeFault) → text ≡ Err (SaveFile fault) → IsUnwritten now moment images since old new
-  pub spared : (file : List ℕ) (fault : ResumeFault) → now old ≡ Some file → standing_for r.resolved.plain file ≡ Err fault → text ≢ Err Saving → IsUnwritten now moment images since old new
-  pub lasts : IsSome (now old) → (list : List Entry) → IsOurs r.resolved.plain list (images old) → HasLasted now moment images since r.resolved.plain r.common.range list (HasAnswer text) (text ≢ Err Saving) old new
+  pub spared : (file : List ℕ) (fault : ResumeFault) → now old ≡ Some file →
+      standing_for r.resolved.plain file ≡ Err fault → text ≢ Err Saving → IsUnwritten now moment images since old new
+  pub lasts : IsSome (now old) → (list : List Entry) → IsOurs r.resolved.plain list (images old) →
+      HasLasted now moment images since r.resolved.plain r.common.range list (HasAnswer text) (text ≢ Err Saving) old
+      new
 
 -- what became of the task and of the disk
-abbrev pub HasWorked : {D : Type 0} → (D → Option (List ℕ)) → (D → ℕ) → (D → List ℕ → Type 0) → (D → ℕ → List ℕ → Type 0) → (D → ℕ) → Task → Told → D → D → Type 0
+abbrev pub HasWorked : {D : Type 0} → (D → Option (List ℕ)) → (D → ℕ) → (D → List ℕ → Type 0) →
+    (D → ℕ → List ℕ → Type 0) → (D → ℕ) → Task → Told → D → D → Type 0
 HasWorked now moment images since faults (Text made) text old new = IsUnsaved (Text made) text old new
 HasWorked now moment images since faults (Resolution r) text old new =
-    (r.common.save ≡ false → IsUnsaved (Resolution r) text old new) × (r.common.save ≡ true → HasKeptOn now moment images since faults r text old new)
+    (r.common.save ≡ false → IsUnsaved (Resolution r) text old new)
+    × (r.common.save ≡ true → HasKeptOn now moment images since faults r text old new)

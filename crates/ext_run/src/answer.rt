@@ -62,12 +62,19 @@ pub fn run<
     disk: D,
     gate: &G,
 ) -> Ended<D>
-    ensures status { IsStatusOf (texts_of words.now) (S.left source.old) (IsUsable (texts_of words.now) (S.left source.old) (D.now disk) (D.images disk)) result.status }
+    ensures status { IsStatusOf (texts_of words.now) (S.left source.old)
+        (IsUsable (texts_of words.now) (S.left source.old) (D.now disk) (D.images disk)) result.status }
     ensures read { HasRead S.left S.faults (texts_of words.now) result.status source.old source.new }
-    ensures answered { HasAnswered O.written O.faults (texts_of words.now) (S.left source.old) (IsUsable (texts_of words.now) (S.left source.old) (D.now disk) (D.images disk)) result.status out.old out.new }
-    ensures reported { HasReported E.written E.faults (texts_of words.now) (S.left source.old) (D.now disk) (IsUsable (texts_of words.now) (S.left source.old) (D.now disk) (D.images disk)) result.status err.old err.new }
-    ensures saved { HasSaved D.now D.moment D.images D.since D.faults (texts_of words.now) (S.left source.old) result.status disk result.disk }
-    ensures complete { IsUsable (texts_of words.now) (S.left source.old) (D.now disk) (D.images disk) → ¬ HasRisen (S.faults source.old) (S.faults source.new) → ¬ HasRisen (O.faults out.old) (O.faults out.new) → ¬ HasRisen (D.faults disk) (D.faults result.disk) → IsComplete (texts_of words.now) (S.left source.old) result.status }
+    ensures answered { HasAnswered O.written O.faults (texts_of words.now) (S.left source.old)
+        (IsUsable (texts_of words.now) (S.left source.old) (D.now disk) (D.images disk)) result.status out.old out.new }
+    ensures reported { HasReported E.written E.faults (texts_of words.now) (S.left source.old) (D.now disk)
+        (IsUsable (texts_of words.now) (S.left source.old) (D.now disk) (D.images disk)) result.status err.old err.new }
+    ensures saved { HasSaved D.now D.moment D.images D.since D.faults (texts_of words.now) (S.left source.old)
+        result.status disk result.disk }
+    ensures complete { IsUsable (texts_of words.now) (S.left source.old) (D.now disk) (D.images disk) →
+        ¬ HasRisen (S.faults source.old) (S.faults source.new) → ¬ HasRisen (O.faults out.old) (O.faults out.new) →
+        ¬ HasRisen (D.faults disk) (D.faults result.disk) →
+        IsComplete (texts_of words.now) (S.left source.old) result.status }
 {
     match task_from(alloc, words, source) {
         Ok(task) => {
@@ -93,12 +100,19 @@ pub fn run_one<R, S: Source, O: Sink, E: Sink, D: Disk>(
     err: &mut E,
     disk: D,
 ) -> Ended<D>
-    ensures status { IsStatusOf (texts_of words.now) (S.left source.old) (IsUsable (texts_of words.now) (S.left source.old) (D.now disk) (D.images disk)) result.status }
+    ensures status { IsStatusOf (texts_of words.now) (S.left source.old)
+        (IsUsable (texts_of words.now) (S.left source.old) (D.now disk) (D.images disk)) result.status }
     ensures read { HasRead S.left S.faults (texts_of words.now) result.status source.old source.new }
-    ensures answered { HasAnswered O.written O.faults (texts_of words.now) (S.left source.old) (IsUsable (texts_of words.now) (S.left source.old) (D.now disk) (D.images disk)) result.status out.old out.new }
-    ensures reported { HasReported E.written E.faults (texts_of words.now) (S.left source.old) (D.now disk) (IsUsable (texts_of words.now) (S.left source.old) (D.now disk) (D.images disk)) result.status err.old err.new }
-    ensures saved { HasSaved D.now D.moment D.images D.since D.faults (texts_of words.now) (S.left source.old) result.status disk result.disk }
-    ensures complete { IsUsable (texts_of words.now) (S.left source.old) (D.now disk) (D.images disk) → ¬ HasRisen (S.faults source.old) (S.faults source.new) → ¬ HasRisen (O.faults out.old) (O.faults out.new) → ¬ HasRisen (D.faults disk) (D.faults result.disk) → IsComplete (texts_of words.now) (S.left source.old) result.status }
+    ensures answered { HasAnswered O.written O.faults (texts_of words.now) (S.left source.old)
+        (IsUsable (texts_of words.now) (S.left source.old) (D.now disk) (D.images disk)) result.status out.old out.new }
+    ensures reported { HasReported E.written E.faults (texts_of words.now) (S.left source.old) (D.now disk)
+        (IsUsable (texts_of words.now) (S.left source.old) (D.now disk) (D.images disk)) result.status err.old err.new }
+    ensures saved { HasSaved D.now D.moment D.images D.since D.faults (texts_of words.now) (S.left source.old)
+        result.status disk result.disk }
+    ensures complete { IsUsable (texts_of words.now) (S.left source.old) (D.now disk) (D.images disk) →
+        ¬ HasRisen (S.faults source.old) (S.faults source.new) → ¬ HasRisen (O.faults out.old) (O.faults out.new) →
+        ¬ HasRisen (D.faults disk) (D.faults result.disk) →
+        IsComplete (texts_of words.now) (S.left source.old) result.status }
 {
     match task_from(alloc, words, source) {
         Ok(task) => {
@@ -115,8 +129,12 @@ pub fn run_one<R, S: Source, O: Sink, E: Sink, D: Disk>(
 
 /// The status of a run that has a text, or a failure in its place. The text is written to `out`; the line of a failure goes to `err`.
 fn outcome<O: Sink, E: Sink>(text: Result<Vec<u8>, Failure>, out: &mut O, err: &mut E) -> u8
-    ensures text { IfOk text (λ t. (HasGotWhole O.written O.faults t.items out.old out.new × (result ≡ 0) × (err.new ≡ err.old)) ⊎ (HasGotPart O.written O.faults t.items out.old out.new × HasTold E.written E.faults Failure.Writing result err.old err.new)) }
-    ensures failed { IfErr text (λ failure. (out.new ≡ out.old) × HasTold E.written E.faults failure result err.old err.new) }
+    ensures text { IfOk text (λ t. (HasGotWhole O.written O.faults t.items out.old out.new × (result ≡ 0)
+        × (err.new ≡ err.old))
+        ⊎ (HasGotPart O.written O.faults t.items out.old out.new
+        × HasTold E.written E.faults Failure.Writing result err.old err.new)) }
+    ensures failed { IfErr text (λ failure. (out.new ≡ out.old)
+        × HasTold E.written E.faults failure result err.old err.new) }
 {
     match text {
         Ok(text) => match write_all(out, text.as_slice()) {

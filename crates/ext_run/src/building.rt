@@ -37,7 +37,8 @@ fn read_files<S: Source>(alloc: Global, made: Build, source: &mut S) -> Result<V
     ensures cause { IfErr result (IsBuildCauseFrom made (S.left source.old)) }
     ensures reading { result ≡ Err Failure.Reading → HasRisen (S.faults source.old) (S.faults source.new) }
     ensures given { HasGivenUpTo most_read (S.left source.old) (S.left source.new) }
-    ensures read { result ≢ Err Failure.Reading → result ≢ Err Failure.Memory → S.left source.new ≡ without_first (S.left source.old) most_read }
+    ensures read { result ≢ Err Failure.Reading → result ≢ Err Failure.Memory →
+        S.left source.new ≡ without_first (S.left source.old) most_read }
     ensures never_fall { S.faults source.old ≤ S.faults source.new }
     ensures no_fault { result ≢ Err Failure.Reading → S.faults source.new ≡ S.faults source.old }
 {
@@ -49,7 +50,8 @@ fn read_files<S: Source>(alloc: Global, made: Build, source: &mut S) -> Result<V
 fn modules_of(alloc: Global, mut files: Vec<Spec>) -> Result<Vec<Module>, Failure>
     ensures modules { IfOk result (λ modules. map (λ m. m.plain) modules.items ≡ map derived_module files.items) }
     ensures accepted { OnOk result (first_refused files.items ≡ None) }
-    ensures cause { IfErr result (λ failure. failure ≢ Failure.Memory → (f : File) × (e : Fault) × (failure ≡ Failure.NotModule f e) × (first_refused files.items ≡ Some (f, e))) }
+    ensures cause { IfErr result (λ failure. failure ≢ Failure.Memory →
+        (f : File) × (e : Fault) × (failure ≡ Failure.NotModule f e) × (first_refused files.items ≡ Some (f, e))) }
 {
     let mut modules = Vec::with_capacity(alloc, files.len())?;
     while !files.is_empty() {
@@ -64,7 +66,9 @@ fn built(alloc: Global, made: Build, modules: &[Module]) -> Result<Module, Build
     requires { length modules.now ≡ wanted made }
     ensures built { IfOk result (λ m. built_of made (map (λ m. m.plain) modules.now) ≡ Some m.plain) }
     ensures within { IfOk result (λ m. limit_passed m.plain.generators ≡ None) }
-    ensures refused { IfErr result (λ e. e ≢ BuildFault.Memory → (m : SteenrodModule) × (built_of made (map (λ m. m.plain) modules.now) ≡ Some m) × (limit_passed m.generators ≡ Some e)) }
+    ensures refused { IfErr result (λ e. e ≢ BuildFault.Memory →
+        (m : SteenrodModule) × (built_of made (map (λ m. m.plain) modules.now) ≡ Some m)
+        × (limit_passed m.generators ≡ Some e)) }
 {
     match (made, modules) {
         (Build::Sum, [left, right]) => sum(alloc, left, right),
@@ -79,7 +83,8 @@ fn built(alloc: Global, made: Build, modules: &[Module]) -> Result<Module, Build
 fn built_of_files(alloc: Global, made: Build, files: Vec<Spec>) -> Result<Vec<u8>, Failure>
     requires { length files.items ≡ wanted made }
     ensures text { IfOk result (λ text. IsAnswerToFiles made files.items (Ok text.items)) }
-    ensures cause { IfErr result (λ failure. failure ≢ Failure.Memory → IsAnswerToFiles made files.items (Err failure)) }
+    ensures cause { IfErr result (λ failure. failure ≢ Failure.Memory →
+        IsAnswerToFiles made files.items (Err failure)) }
 {
     let modules = modules_of(alloc, files)?;
     let module = built(alloc, made, modules.as_slice())?;
@@ -96,7 +101,8 @@ pub(crate) fn built_text<S: Source>(
     ensures cause { IfErr result (IsBuildCauseFrom made (S.left source.old)) }
     ensures reading { result ≡ Err Failure.Reading → HasRisen (S.faults source.old) (S.faults source.new) }
     ensures given { HasGivenUpTo most_read (S.left source.old) (S.left source.new) }
-    ensures read { result ≢ Err Failure.Reading → result ≢ Err Failure.Memory → S.left source.new ≡ without_first (S.left source.old) most_read }
+    ensures read { result ≢ Err Failure.Reading → result ≢ Err Failure.Memory →
+        S.left source.new ≡ without_first (S.left source.old) most_read }
     ensures never_fall { S.faults source.old ≤ S.faults source.new }
     ensures no_fault { result ≢ Err Failure.Reading → S.faults source.new ≡ S.faults source.old }
 {

@@ -477,7 +477,8 @@ fn write_line<E: Sink>(failure: &Failure, err: &mut E) -> Result<(), Failed>
 pub fn report<E: Sink>(failure: &Failure, err: &mut E)
     ensures never_fall { E.faults err.old ≤ E.faults err.new }
     ensures line { HasPrefixMore (line_of failure.now) (E.written err.old) (E.written err.new) }
-    ensures whole_line { ¬ HasRisen (E.faults err.old) (E.faults err.new) → E.written err.new ≡ with_more (E.written err.old) (line_of failure.now) }
+    ensures whole_line { ¬ HasRisen (E.faults err.old) (E.faults err.new) →
+        E.written err.new ≡ with_more (E.written err.old) (line_of failure.now) }
 {
     // The failure stays what it is where its line cannot be written.
     let _ = write_line(failure, err);

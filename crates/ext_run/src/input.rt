@@ -28,7 +28,8 @@ fn read_file<S: Source>(alloc: Global, source: &mut S) -> Result<Spec, Failure>
     ensures cause { IfErr result (IsFileCauseFrom (S.left source.old)) }
     ensures reading { result ≡ Err Failure.Reading → HasRisen (S.faults source.old) (S.faults source.new) }
     ensures given { HasGivenUpTo most_read (S.left source.old) (S.left source.new) }
-    ensures read { result ≢ Err Failure.Reading → result ≢ Err Failure.Memory → S.left source.new ≡ without_first (S.left source.old) most_read }
+    ensures read { result ≢ Err Failure.Reading → result ≢ Err Failure.Memory →
+        S.left source.new ≡ without_first (S.left source.old) most_read }
     ensures never_fall { S.faults source.old ≤ S.faults source.new }
     ensures no_fault { result ≢ Err Failure.Reading → S.faults source.new ≡ S.faults source.old }
 {
@@ -40,7 +41,8 @@ fn read_file<S: Source>(alloc: Global, source: &mut S) -> Result<Spec, Failure>
 pub(crate) fn module_of(alloc: Global, spec: Spec) -> Result<Module, Failure>
     ensures module { IfOk result (λ m. m.plain ≡ derived_module spec) }
     ensures accepted { OnOk result (refusal_of spec ≡ None) }
-    ensures cause { IfErr result (λ failure. failure ≢ Failure.Memory → (e : Fault) × (failure ≡ Failure.NotModule spec e) × (refusal_of spec ≡ Some e)) }
+    ensures cause { IfErr result (λ failure. failure ≢ Failure.Memory →
+        (e : Fault) × (failure ≡ Failure.NotModule spec e) × (refusal_of spec ≡ Some e)) }
 {
     match check(alloc, &spec) {
         Ok(module) => Ok(module),
@@ -55,7 +57,8 @@ pub(crate) fn read_module<S: Source>(alloc: Global, source: &mut S) -> Result<Mo
     ensures cause { IfErr result (IsFileCauseFrom (S.left source.old)) }
     ensures reading { result ≡ Err Failure.Reading → HasRisen (S.faults source.old) (S.faults source.new) }
     ensures given { HasGivenUpTo most_read (S.left source.old) (S.left source.new) }
-    ensures read { result ≢ Err Failure.Reading → result ≢ Err Failure.Memory → S.left source.new ≡ without_first (S.left source.old) most_read }
+    ensures read { result ≢ Err Failure.Reading → result ≢ Err Failure.Memory →
+        S.left source.new ≡ without_first (S.left source.old) most_read }
     ensures never_fall { S.faults source.old ≤ S.faults source.new }
     ensures no_fault { result ≢ Err Failure.Reading → S.faults source.new ≡ S.faults source.old }
 {

@@ -72,7 +72,8 @@ pub(crate) fn task_from<S: Source>(
     ensures reading { result ≡ Err Failure.Reading → HasRisen (S.faults source.old) (S.faults source.new) }
     ensures unread { ¬ WordsRead (texts_of words.now) → source.new ≡ source.old }
     ensures given { HasGivenUpTo most_read (S.left source.old) (S.left source.new) }
-    ensures read { WordsRead (texts_of words.now) → result ≢ Err Failure.Reading → result ≢ Err Failure.Memory → S.left source.new ≡ without_first (S.left source.old) most_read }
+    ensures read { WordsRead (texts_of words.now) → result ≢ Err Failure.Reading → result ≢ Err Failure.Memory →
+        S.left source.new ≡ without_first (S.left source.old) most_read }
     ensures never_fall { S.faults source.old ≤ S.faults source.new }
     ensures no_fault { result ≢ Err Failure.Reading → S.faults source.new ≡ S.faults source.old }
 {
@@ -96,7 +97,8 @@ fn task_for<S: Source>(alloc: Global, command: Command, source: &mut S) -> Resul
     ensures reading { result ≡ Err Failure.Reading → HasRisen (S.faults source.old) (S.faults source.new) }
     ensures unread { ¬ Reads command → source.new ≡ source.old }
     ensures given { HasGivenUpTo most_read (S.left source.old) (S.left source.new) }
-    ensures read { Reads command → result ≢ Err Failure.Reading → result ≢ Err Failure.Memory → S.left source.new ≡ without_first (S.left source.old) most_read }
+    ensures read { Reads command → result ≢ Err Failure.Reading → result ≢ Err Failure.Memory →
+        S.left source.new ≡ without_first (S.left source.old) most_read }
     ensures never_fall { S.faults source.old ≤ S.faults source.new }
     ensures no_fault { result ≢ Err Failure.Reading → S.faults source.new ≡ S.faults source.old }
 {

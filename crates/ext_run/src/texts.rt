@@ -76,7 +76,8 @@ pub(crate) fn text_by_workers<W: Threads + Wait + Clock + Sync, D: Disk + Send, 
 /// The text of a resolution, made on the caller's thread. Nothing is kept.
 fn unsaved_alone(alloc: Global, resolution: Resolution) -> Result<Vec<u8>, Failure>
     requires { IsWithin resolution.common }
-    ensures told { HasAnswer result → IsInForm resolution.form resolution.common.range resolution.resolved.plain (answer_of result) }
+    ensures told { HasAnswer result →
+        IsInForm resolution.form resolution.common.range resolution.resolved.plain (answer_of result) }
     ensures why { IfErr result (λ e. (e ≡ WantOfMemory) ⊎ IsOfClasses e) }
 {
     let range = resolution.common.range;
@@ -92,7 +93,8 @@ fn unsaved_by_workers<W: Threads + Wait + Clock + Sync, G: Gate + Sync>(
     gate: &G,
 ) -> Result<Vec<u8>, Failure>
     requires { IsWithin resolution.common }
-    ensures told { HasAnswer result → IsInForm resolution.form resolution.common.range resolution.resolved.plain (answer_of result) }
+    ensures told { HasAnswer result →
+        IsInForm resolution.form resolution.common.range resolution.resolved.plain (answer_of result) }
     ensures why { IfErr result (λ e. (e ≡ WantOfMemory) ⊎ IsOfClasses e) }
 {
     let Common { range, workers, .. } = resolution.common;
@@ -225,7 +227,9 @@ fn told(alloc: Global, form: Form, table: &Table, range: Range) -> Result<Vec<u8
     requires through { IsThrough range table.now.rows }
     requires rows { range.s ≤ MAX_S }
     requires degrees { range.t ≤ MAX_T }
-    ensures told { HasAnswer result → IsResolved range table.now.resolved.plain (cut range (plain_rows table.now.rows)) → IsAllCanonical table.now → IsInForm form range table.now.resolved.plain (answer_of result) }
+    ensures told { HasAnswer result →
+        IsResolved range table.now.resolved.plain (cut range (plain_rows table.now.rows)) → IsAllCanonical table.now →
+        IsInForm form range table.now.resolved.plain (answer_of result) }
     ensures why { IfErr result (λ e. (e ≡ WantOfMemory) ⊎ IsOfClasses e) }
     ensures named { IfErr result (λ e. IsOfClasses e → TellsOfClasses form) }
 {

@@ -65,7 +65,8 @@ fn write_number<S: Sink>(sink: &mut S, before: &[u8], number: u64) -> Result<(),
 
 /// Writes a text and behind it a number with its sign in decimal. After an error some first bytes are written.
 fn write_signed<S: Sink>(sink: &mut S, before: &[u8], number: i64) -> Result<(), Failed>
-    ensures whole { OnOk result (S.written sink.new ≡ with_more (S.written sink.old) (before.now ++ signed_decimal number)) }
+    ensures whole { OnOk result
+        (S.written sink.new ≡ with_more (S.written sink.old) (before.now ++ signed_decimal number)) }
     ensures never_fall { S.faults sink.old ≤ S.faults sink.new }
     ensures cause { OnErr result (HasRisen (S.faults sink.old) (S.faults sink.new)) }
     ensures prefix { HasPrefixMore (before.now ++ signed_decimal number) (S.written sink.old) (S.written sink.new) }
@@ -151,10 +152,12 @@ fn separator(i: usize) -> &'static [u8]
 
 /// Writes the exponents in decimal, with a comma between each two. After an error some first bytes are written.
 fn write_exponents<S: Sink>(sink: &mut S, r: &Exps) -> Result<(), Failed>
-    ensures whole { OnOk result (S.written sink.new ≡ with_more (S.written sink.old) (join_with_byte comma (map decimal r.now))) }
+    ensures whole { OnOk result
+        (S.written sink.new ≡ with_more (S.written sink.old) (join_with_byte comma (map decimal r.now))) }
     ensures never_fall { S.faults sink.old ≤ S.faults sink.new }
     ensures cause { OnErr result (HasRisen (S.faults sink.old) (S.faults sink.new)) }
-    ensures prefix { HasPrefixMore (join_with_byte comma (map decimal r.now)) (S.written sink.old) (S.written sink.new) }
+    ensures prefix { HasPrefixMore (join_with_byte comma (map decimal r.now)) (S.written sink.old)
+        (S.written sink.new) }
 {
     for i in 0..r.len() {
         write_number(sink, separator(i), u64::from(r.exponent(i)))?;

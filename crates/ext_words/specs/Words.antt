@@ -53,13 +53,18 @@ with_next name _ = None
 
 -- the parts with an option in front, whose value follows in the same word or in the next; or with a flag, which takes none
 abbrev pub with_option : Options → List ℕ → Option (List ℕ) → List Part → Option (List Part)
-with_option options name (Some value) parts = if is_in options.valued name then Some (option name value ∷ parts) else None
-with_option options name None parts = if is_in options.valued name then with_next name parts else if is_in options.flags name then Some (flag name ∷ parts) else None
+with_option options name (Some value) parts =
+    if is_in options.valued name then Some (option name value ∷ parts) else None
+with_option options name None parts =
+    if is_in options.valued name then with_next name parts
+    else if is_in options.flags name then Some (flag name ∷ parts)
+    else None
 
 -- `name=value` or `name`; no option is without a name
 abbrev pub with_text : Options → List ℕ → List Part → Option (List Part)
 with_text options [] parts = None
-with_text options (c ∷ rest) parts = with_option options (before_equals (c ∷ rest)) (if has_equals (c ∷ rest) then Some (after_equals (c ∷ rest)) else None) parts
+with_text options (c ∷ rest) parts = with_option options (before_equals (c ∷ rest))
+    (if has_equals (c ∷ rest) then Some (after_equals (c ∷ rest)) else None) parts
 
 -- the parts with one more word in front: behind two hyphens an option, and no other word begins with a hyphen
 abbrev pub with_word : Options → List ℕ → List Part → Option (List Part)
@@ -116,7 +121,9 @@ number_of most word = if are_digits most word then Some (decimal_value word) els
 -- the same, below 0 where a hyphen stands in front
 abbrev pub signed_number_of : ℕ → List ℕ → Option ℤ
 signed_number_of most [] = None
-signed_number_of most (c ∷ word) = if c == 45 then option_map (λ n. neg_ℤ (pos n)) (number_of most word) else option_map pos (number_of most (c ∷ word))
+signed_number_of most (c ∷ word) =
+    if c == 45 then option_map (λ n. neg_ℤ (pos n)) (number_of most word)
+    else option_map pos (number_of most (c ∷ word))
 
 -- the number of a word of at most three digits, where it is no greater than the limit
 abbrev pub number_up_to : ℕ → List ℕ → Option ℕ
@@ -132,7 +139,9 @@ seed_of word = option_and_then (λ n. if nat_le n 4294967295 then Some n else No
 
 -- the number of degrees of a shift
 abbrev pub shift_of : List ℕ → Option ℤ
-shift_of word = option_and_then (λ n. if int_le (neg_ℤ (pos MAX_SHIFT)) n && int_le n (pos MAX_SHIFT) then Some n else None) (signed_number_of 3 word)
+shift_of word = option_and_then
+    (λ n. if int_le (neg_ℤ (pos MAX_SHIFT)) n && int_le n (pos MAX_SHIFT) then Some n else None)
+    (signed_number_of 3 word)
 
 -- the texts between the commas of a word
 abbrev pub between_commas : List ℕ → List (List ℕ)
@@ -141,11 +150,13 @@ between_commas word = slice_split (λ c. c == 44) word
 -- the numbers of words, each from 1 to the limit
 abbrev pub positive_numbers : ℕ → List (List ℕ) → Option (List ℕ)
 positive_numbers limit [] = Some []
-positive_numbers limit (word ∷ words) = option_and_then (λ n. option_map (λ ns. n ∷ ns) (positive_numbers limit words)) (positive_up_to limit word)
+positive_numbers limit (word ∷ words) =
+    option_and_then (λ n. option_map (λ ns. n ∷ ns) (positive_numbers limit words)) (positive_up_to limit word)
 
 -- the numbers of a product of squares, where there are not too many, and their sum, which is its degree, is not too great
 abbrev pub within_degree : List ℕ → Option (List ℕ)
-within_degree numbers = if nat_le (length numbers) MAX_SQUARES && nat_le (sum numbers) MAX_DEGREE then Some numbers else None
+within_degree numbers =
+    if nat_le (length numbers) MAX_SQUARES && nat_le (sum numbers) MAX_DEGREE then Some numbers else None
 
 -- the numbers of a product of squares, which a word has between commas
 abbrev pub product_of : List ℕ → Option (List ℕ)
@@ -154,7 +165,11 @@ product_of word = option_and_then within_degree (positive_numbers MAX_DEGREE (be
 -- a class, by the texts of its row, its degree and its number: each has one to five digits, and the degree alone may have a hyphen in
 -- front of them
 abbrev pub class_from : List (List ℕ) → Option Class
-class_from (s ∷ t ∷ i ∷ []) = option_and_then (λ row. option_and_then (λ degree. option_map (λ number. record { s = row; t = degree; i = number }) (number_of 5 i)) (signed_number_of 5 t)) (number_of 5 s)
+class_from (s ∷ t ∷ i ∷ []) = option_and_then
+    (λ row. option_and_then
+    (λ degree. option_map (λ number. record { s = row; t = degree; i = number }) (number_of 5 i))
+    (signed_number_of 5 t))
+    (number_of 5 s)
 class_from _ = None
 
 -- the class whose row, degree and number a word has between commas
@@ -185,7 +200,8 @@ common_from None count saves = None
 
 -- the words S and T, and the options of all commands that resolve a module
 abbrev pub common_of : List (List ℕ) → List Part → Option Common
-common_of words parts = common_from (range_of words) (workers_of (value_of (codes "workers") parts)) (is_among (codes "save") parts)
+common_of words parts =
+    common_from (range_of words) (workers_of (value_of (codes "workers") parts)) (is_among (codes "save") parts)
 
 -- the command that makes something of S and T
 abbrev pub range_command_of : (Common → Command) → List Part → Option Command
@@ -197,7 +213,8 @@ class_given name parts = option_and_then class_of (value_of name parts)
 
 -- the words S and T, and the class that `--by` is given, which has to be there
 abbrev pub products_of : List Part → Option Command
-products_of parts = option_and_then (λ common. option_map (λ by. Products common by) (class_given (codes "by") parts)) (common_of (plain_words parts) parts)
+products_of parts = option_and_then (λ common. option_map (λ by. Products common by) (class_given (codes "by") parts))
+    (common_of (plain_words parts) parts)
 
 -- the words S and T, and the classes that `--a`, `--b` and `--c` are given, which all have to be there
 abbrev pub massey_of : List Part → Option Command
@@ -241,7 +258,11 @@ sq_of parts = sq_from (plain_words parts)
 
 -- what is built by the word OP, and by what `--degrees` is given: it stands with `shift`, and there alone
 abbrev pub built_by : List ℕ → Option (List ℕ) → Option Build
-built_by word None = if bytes_eq (codes "sum") word then Some build.Sum else if bytes_eq (codes "tensor") word then Some build.Tensor else if bytes_eq (codes "dual") word then Some build.Dual else None
+built_by word None =
+    if bytes_eq (codes "sum") word then Some build.Sum
+    else if bytes_eq (codes "tensor") word then Some build.Tensor
+    else if bytes_eq (codes "dual") word then Some build.Dual
+    else None
 built_by word (Some degrees) = if bytes_eq (codes "shift") word then option_map build.Shift (shift_of degrees) else None
 
 abbrev pub build_from : List (List ℕ) → Option (List ℕ) → Option Command
@@ -253,7 +274,8 @@ build_of parts = build_from (plain_words parts) (value_of (codes "degrees") part
 
 -- what a command makes of the parts of its words, where each of its options is among them at most once
 abbrev pub read_by : Options → (List Part → Option Command) → List (List ℕ) → Option Command
-read_by options make words = option_and_then (λ parts. if each_once parts then make parts else None) (parts_of options words)
+read_by options make words =
+    option_and_then (λ parts. if each_once parts then make parts else None) (parts_of options words)
 
 abbrev pub no_options : Options
 no_options = record { valued = []; flags = [] }
@@ -270,9 +292,11 @@ command_from name words =
     else if bytes_eq (codes "resolve") name then read_by (resolving []) (range_command_of Resolve) words
     else if bytes_eq (codes "dump") name then read_by (resolving []) (range_command_of Dump) words
     else if bytes_eq (codes "products") name then read_by (resolving (codes "by" ∷ [])) products_of words
-    else if bytes_eq (codes "massey") name then read_by (resolving (codes "a" ∷ codes "b" ∷ codes "c" ∷ [])) massey_of words
+    else if bytes_eq (codes "massey") name
+    then read_by (resolving (codes "a" ∷ codes "b" ∷ codes "c" ∷ [])) massey_of words
     else if bytes_eq (codes "check") name then read_by no_options check_of words
-    else if bytes_eq (codes "build") name then read_by (record { valued = codes "degrees" ∷ []; flags = [] }) build_of words
+    else if bytes_eq (codes "build") name
+    then read_by (record { valued = codes "degrees" ∷ []; flags = [] }) build_of words
     else if bytes_eq (codes "sample") name then read_by (resolving []) sample_of words
     else if bytes_eq (codes "sq") name then read_by no_options sq_of words else None
 
@@ -284,7 +308,8 @@ command_of (name ∷ words) = command_from name words
 -- ---- limits
 
 abbrev pub IsWithin : Common → Type 0
-IsWithin common = (common.range.s ≤ MAX_S) × (common.range.t ≤ MAX_T) × (1 ≤ common.workers) × (common.workers ≤ MAX_WORKERS)
+IsWithin common =
+    (common.range.s ≤ MAX_S) × (common.range.t ≤ MAX_T) × (1 ≤ common.workers) × (common.workers ≤ MAX_WORKERS)
 
 -- numbers of at most five digits
 abbrev pub IsShort : Class → Type 0

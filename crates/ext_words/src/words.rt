@@ -27,7 +27,8 @@ fn with_option<'a>(
     name: &'a str,
 ) -> Result<clap::Command<'a>, AllocError>
     ensures app { IfOk result (λ made. app_of made ≡ with_rule (app_of command.entry) (option_named name.now)) }
-    ensures local { (out-Command command.entry).has_globals ≡ false → IfOk result (λ made. (out-Command made).has_globals ≡ false) }
+    ensures local { (out-Command command.entry).has_globals ≡ false →
+        IfOk result (λ made. (out-Command made).has_globals ≡ false) }
 {
     command.arg(Arg::new(alloc, name).long(name))
 }
@@ -38,7 +39,8 @@ fn with_options<'a>(
     command: clap::Command<'a>,
 ) -> Result<clap::Command<'a>, AllocError>
     ensures app { IfOk result (λ made. app_of made ≡ with_options (app_of command.entry)) }
-    ensures local { (out-Command command.entry).has_globals ≡ false → IfOk result (λ made. (out-Command made).has_globals ≡ false) }
+    ensures local { (out-Command command.entry).has_globals ≡ false →
+        IfOk result (λ made. (out-Command made).has_globals ≡ false) }
 {
     let save = Arg::new(alloc, "save")
         .long("save")
@@ -142,7 +144,8 @@ fn command_line<'a>(alloc: Global) -> Result<clap::Command<'a>, AllocError>
 /// The matches of the words, none where `clap` refuses them.
 fn matches_of<'a>(alloc: Global, words: &'a [&'a str]) -> Result<Option<ArgMatches<'a>>, Memory>
     ensures taken { IfOk result (λ found. OnSome found (fault_of command_line (texts_of words.now) ≡ [])) }
-    ensures rows { IfOk result (λ found. IfSome found (λ matches. subcommand_rows_of matches ≡ subcommand_of command_line (texts_of words.now))) }
+    ensures rows { IfOk result (λ found. IfSome found
+        (λ matches. subcommand_rows_of matches ≡ subcommand_of command_line (texts_of words.now))) }
     ensures refused { IfOk result (λ found. IfNone found (fault_of command_line (texts_of words.now) ≢ [])) }
 {
     match command_line(alloc)?.try_get_matches_from(words) {
@@ -350,7 +353,8 @@ pub fn parse(alloc: Global, words: &[&str]) -> Result<Command, WordsFault>
     ensures ok { IfOk result (λ command. command_of (texts_of words.now) ≡ Some command) }
     ensures within { IfOk result IsWithinLimits }
     ensures refused { result ≡ Err WordsFault.Words → command_of (texts_of words.now) ≡ None }
-    ensures refuses { command_of (texts_of words.now) ≡ None → (result ≡ Err WordsFault.Words) ⊎ (result ≡ Err WordsFault.Memory) }
+    ensures refuses { command_of (texts_of words.now) ≡ None →
+        (result ≡ Err WordsFault.Words) ⊎ (result ≡ Err WordsFault.Memory) }
 {
     command_of(alloc, words)?.ok_or(WordsFault::Words)
 }

@@ -15,7 +15,12 @@ abbrev pub entry_of : Module → ℕ × ℕ → List Entry
 entry_of m k =
     let v = value_of m (k.1 ∷ []) k.0 in
     if list_any (λ b. b) v
-    then record { n = k.1; generator = k.0; sum = items_where_true v (generators_in m.generators (degree_at m.generators k.0 +ℤ pos k.1)) } ∷ []
+    then record {
+      n = k.1;
+      generator = k.0;
+      sum = items_where_true v (generators_in m.generators (degree_at m.generators k.0 +ℤ pos k.1));
+    }
+    ∷ []
     else []
 
 abbrev pub squares_of : Module → List (ℕ × ℕ)
@@ -26,4 +31,5 @@ file_of m = record { generators = m.generators; entries = flat_map (entry_of m) 
 
 -- the file of a module is accepted, and gives the module back
 abbrev pub FilesGiveBack : Type 0
-FilesGiveBack = (m : Module) → NeverFall m.generators → span m.generators ≤ 64 → IsModule m → (refusal_of (file_of m) ≡ None) × IsRenamed (derived_module (file_of m)) m
+FilesGiveBack = (m : Module) → NeverFall m.generators → span m.generators ≤ 64 → IsModule m →
+    (refusal_of (file_of m) ≡ None) × IsRenamed (derived_module (file_of m)) m

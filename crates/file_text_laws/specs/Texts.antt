@@ -29,7 +29,8 @@ AllBuiltAreNumbered = (m k : Module) (n : ℤ) → BuiltAreNumbered m k n
 
 -- The text of such a module describes its file: its generators, and the squares Sq^n, n a power of two, that are not zero.
 abbrev pub TextDescribesFile : Type 0
-TextDescribesFile = (m : Module) → AreByDegree m.generators → IsModule m → AreNumbered m.generators → IsFileOf (file_text m) (Ok (file_of m))
+TextDescribesFile = (m : Module) → AreByDegree m.generators → IsModule m → AreNumbered m.generators →
+    IsFileOf (file_text m) (Ok (file_of m))
 
 -- the file has the generators of the module, and is accepted, and each Sq(R) that is derived from it has the values of the module
 pub record GivesBack (m : Module) (f : File) : Type 0 where

@@ -40,7 +40,8 @@ adem_terms a b = filter (λ c. is_odd (choose (b - c - 1) (a - 2 * c))) (range_w
 -- Sq^n on generator i by the Adem relation for Sq^a Sq^b, b the greatest power of two below n = a + b, in which Sq^n has
 -- the coefficient 1
 abbrev pub by_adem : List Generator → List (List (List Bool)) → ℕ → ℕ → ℕ → List Bool
-by_adem gs operators a b i = total (width gs (degree_at gs i +ℤ pos (a + b))) (twice gs operators a b i ∷ map (λ c. twice gs operators (a + b - c) c i) (adem_terms a b))
+by_adem gs operators a b i = total (width gs (degree_at gs i +ℤ pos (a + b)))
+    (twice gs operators a b i ∷ map (λ c. twice gs operators (a + b - c) c i) (adem_terms a b))
 
 abbrev pub square_value : File → List (List (List Bool)) → ℕ → ℕ → List Bool
 square_value f operators n i =
@@ -56,7 +57,8 @@ other_terms r s = filter (λ t. not (pointwise nat_eq t (r ∷ s))) (product_ter
 abbrev pub by_product : List Generator → List (List (List Bool)) → ℕ → List ℕ → ℕ → List Bool
 by_product gs operators r s i =
     total (width gs (degree_at gs i +ℤ pos (degree_of (r ∷ s))))
-    (act_on gs operators (front (r ∷ s) ∷ []) (degree_at gs i +ℤ pos (degree_of s)) (value gs operators s i) ∷ map (λ t. value gs operators t i) (other_terms r s))
+    (act_on gs operators (front (r ∷ s) ∷ []) (degree_at gs i +ℤ pos (degree_of s)) (value gs operators s i)
+    ∷ map (λ t. value gs operators t i) (other_terms r s))
 
 -- the value of Sq(R) on generator i, from the operators before it
 abbrev pub derived_value : File → List (List (List Bool)) → List ℕ → ℕ → List Bool
@@ -88,4 +90,7 @@ span gs = nat_abs (top gs -ℤ bottom gs)
 
 -- the generators with the derived action
 abbrev pub derived_module : File → Module
-derived_module f = record { generators = f.generators; operators = derived_from f [] (elements (span f.generators + 1)) }
+derived_module f = record {
+  generators = f.generators;
+  operators = derived_from f [] (elements (span f.generators + 1));
+}

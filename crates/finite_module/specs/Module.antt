@@ -46,11 +46,13 @@ or_zeros n (Some v) = v
 -- the value of Sq(R) on generator i, and zero where the operators have none
 abbrev pub value : List Generator → List (List (List Bool)) → List ℕ → ℕ → List Bool
 value gs operators r i =
-    or_zeros (width gs (degree_at gs i +ℤ pos (degree_of r))) (option_and_then (λ p. option_and_then (λ values. slice_get values i) (slice_get operators p)) (place_of r))
+    or_zeros (width gs (degree_at gs i +ℤ pos (degree_of r)))
+    (option_and_then (λ p. option_and_then (λ values. slice_get values i) (slice_get operators p)) (place_of r))
 
 -- the value of Sq(R) on a vector of degree t
 abbrev pub act_on : List Generator → List (List (List Bool)) → List ℕ → ℤ → List Bool → List Bool
-act_on gs operators r t v = combination (width gs (t +ℤ pos (degree_of r))) v (map (value gs operators r) (generators_in gs t))
+act_on gs operators r t v =
+    combination (width gs (t +ℤ pos (degree_of r))) v (map (value gs operators r) (generators_in gs t))
 
 -- the sum of rows of length n
 abbrev pub total : ℕ → List (List Bool) → List Bool

@@ -25,7 +25,8 @@ pub record IsNumberFrom (i : ℕ) (gs : List Generator) (t : ℤ) (p n : ℕ) : 
   pub degree : degree_at gs place ≡ t
   pub before : length (numbers_from i (take place gs) t) ≡ p
 
-one_later : (i : ℕ) (g : Generator) (gs : List Generator) (t : ℤ) (b : Bool) (p n : ℕ) → int_eq g.degree t ≡ b → IsNumberFrom (suc i) gs t p n → IsNumberFrom i (g ∷ gs) t (cond b (suc p) p) n
+one_later : (i : ℕ) (g : Generator) (gs : List Generator) (t : ℤ) (b : Bool) (p n : ℕ) → int_eq g.degree t ≡ b →
+    IsNumberFrom (suc i) gs t p n → IsNumberFrom i (g ∷ gs) t (cond b (suc p) p) n
 one_later i g gs t b p n e m =
     record {
       place = suc m.place;
@@ -42,31 +43,39 @@ one_later i g gs t b p n e m =
     counted true = ap suc m.before
     counted false = m.before
 
-numbers_from-cons : (i : ℕ) (g : Generator) (gs : List Generator) (t : ℤ) (b : Bool) → int_eq g.degree t ≡ b → ((p : ℕ) → p < length (numbers_from (suc i) gs t) → IsNumberFrom (suc i) gs t p (get_or (numbers_from (suc i) gs t) p 0)) → (p : ℕ) → p < length (cond b (i ∷ numbers_from (suc i) gs t) (numbers_from (suc i) gs t)) → IsNumberFrom i (g ∷ gs) t p (get_or (cond b (i ∷ numbers_from (suc i) gs t) (numbers_from (suc i) gs t)) p 0)
+numbers_from-cons : (i : ℕ) (g : Generator) (gs : List Generator) (t : ℤ) (b : Bool) → int_eq g.degree t ≡ b →
+    ((p : ℕ) → p < length (numbers_from (suc i) gs t) →
+    IsNumberFrom (suc i) gs t p (get_or (numbers_from (suc i) gs t) p 0)) →
+    (p : ℕ) → p < length (cond b (i ∷ numbers_from (suc i) gs t) (numbers_from (suc i) gs t)) →
+    IsNumberFrom i (g ∷ gs) t p (get_or (cond b (i ∷ numbers_from (suc i) gs t) (numbers_from (suc i) gs t)) p 0)
 numbers_from-cons i g gs t true e ih zero h = record { place = 0; within = omega arith; number = omega arith; degree = grind (arith, ints); before = refl }
 numbers_from-cons i g gs t true e ih (suc p) h = one_later i g gs t true p _ e (ih p (omega arith))
 numbers_from-cons i g gs t false e ih p h = one_later i g gs t false p _ e (ih p h)
 
-pub numbers_from-member : (i : ℕ) (gs : List Generator) (t : ℤ) (p : ℕ) → p < length (numbers_from i gs t) → IsNumberFrom i gs t p (get_or (numbers_from i gs t) p 0)
+pub numbers_from-member : (i : ℕ) (gs : List Generator) (t : ℤ) (p : ℕ) → p < length (numbers_from i gs t) →
+    IsNumberFrom i gs t p (get_or (numbers_from i gs t) p 0)
 numbers_from-member i [] t p h = absurd (omega arith)
 numbers_from-member i (g ∷ gs) t p h = numbers_from-cons i g gs t (int_eq g.degree t) refl (numbers_from-member (suc i) gs t) p h
 
 -- the p-th generator of degree t is a generator, of that degree
-pub generators_in-member : (gs : List Generator) (t : ℤ) (p : ℕ) → p < width gs t → (get_or (generators_in gs t) p 0 < length gs) × (degree_at gs (get_or (generators_in gs t) p 0) ≡ t)
+pub generators_in-member : (gs : List Generator) (t : ℤ) (p : ℕ) → p < width gs t →
+    (get_or (generators_in gs t) p 0 < length gs) × (degree_at gs (get_or (generators_in gs t) p 0) ≡ t)
 generators_in-member gs t p h =
     let m = numbers_from-member 0 gs t p h in
     let e : get_or (generators_in gs t) p 0 ≡ m.place = omega (arith, m.number) in
     (omega (arith, m.within), ap (degree_at gs) e ∙ m.degree)
 
 -- and as a vector it has its 1 at place p
-unit-member : (gs : List Generator) (t : ℤ) (p : ℕ) → p < width gs t → unit gs (get_or (generators_in gs t) p 0) ≡ unit_vector (width gs t) p
+unit-member : (gs : List Generator) (t : ℤ) (p : ℕ) → p < width gs t →
+    unit gs (get_or (generators_in gs t) p 0) ≡ unit_vector (width gs t) p
 unit-member gs t p h =
     let m = numbers_from-member 0 gs t p h in
     let e : get_or (generators_in gs t) p 0 ≡ m.place = omega (arith, m.number) in
     ap (unit gs) e ∙ ap (λ s. unit_vector (width gs s) (width (take m.place gs) s)) m.degree ∙ ap (unit_vector (width gs t)) m.before
 
 -- Sq() acts as the identity
-pub act_on-unit : (m : Module) → IsModule m → (t : ℤ) (v : List Bool) → length v ≡ width m.generators t → act_on m.generators m.operators [] t v ≡ v
+pub act_on-unit : (m : Module) → IsModule m → (t : ℤ) (v : List Bool) → length v ≡ width m.generators t →
+    act_on m.generators m.operators [] t v ≡ v
 act_on-unit m is t v e =
     let gs = m.generators in
     let ns = generators_in gs t in
@@ -79,7 +88,8 @@ act_on-unit m is t v e =
     ap (λ s. combination (width gs s) v (map (value_of m []) ns)) z ∙ ap (combination n v) same ∙ combination-unit_vectors n v e
 
 -- Sq(R) takes the generators of degree t to vectors of degree t and R's
-pub HaveWidth-values : (m : Module) → IsModule m → (r : List ℕ) (t : ℤ) → HaveWidth (width m.generators (t +ℤ pos (degree_of r))) (map (value_of m r) (generators_in m.generators t))
+pub HaveWidth-values : (m : Module) → IsModule m → (r : List ℕ) (t : ℤ) →
+    HaveWidth (width m.generators (t +ℤ pos (degree_of r))) (map (value_of m r) (generators_in m.generators t))
 HaveWidth-values m is r t p h =
     let gs = m.generators in
     let ns = generators_in gs t in
@@ -88,16 +98,19 @@ HaveWidth-values m is r t p h =
     ap length (get_or-map (value_of m r) ns p 0 [] b) ∙ is.widths r (get_or ns p 0) ∙ ap (λ s. width gs (s +ℤ pos (degree_of r))) k.1
 
 -- and each vector of degree t to one of degree t and R's
-pub length-act_on : (m : Module) → IsModule m → (r : List ℕ) (t : ℤ) (v : List Bool) → length (act_on m.generators m.operators r t v) ≡ width m.generators (t +ℤ pos (degree_of r))
+pub length-act_on : (m : Module) → IsModule m → (r : List ℕ) (t : ℤ) (v : List Bool) →
+    length (act_on m.generators m.operators r t v) ≡ width m.generators (t +ℤ pos (degree_of r))
 length-act_on m is r t v =
     length-combination (width m.generators (t +ℤ pos (degree_of r))) v (map (value_of m r) (generators_in m.generators t)) (HaveWidth-values m is r t)
 
-numbers_from-none-cons : (g : Generator) (t : ℤ) (b : Bool) → int_eq g.degree t ≡ b → g.degree ≢ t → (i : ℕ) (rest : List ℕ) → rest ≡ [] → cond b (i ∷ rest) rest ≡ []
+numbers_from-none-cons : (g : Generator) (t : ℤ) (b : Bool) → int_eq g.degree t ≡ b → g.degree ≢ t →
+    (i : ℕ) (rest : List ℕ) → rest ≡ [] → cond b (i ∷ rest) rest ≡ []
 numbers_from-none-cons g t true e d i rest r = absurd (d ((Decides-int_eq g.degree t).0 e))
 numbers_from-none-cons g t false e d i rest r = r
 
 -- where no generator is of degree t there are no numbers
-pub numbers_from-none : (i : ℕ) (gs : List Generator) (t : ℤ) → ((k : ℕ) → k < length gs → degree_at gs k ≢ t) → numbers_from i gs t ≡ []
+pub numbers_from-none : (i : ℕ) (gs : List Generator) (t : ℤ) → ((k : ℕ) → k < length gs → degree_at gs k ≢ t) →
+    numbers_from i gs t ≡ []
 numbers_from-none i [] t h = refl
 numbers_from-none i (g ∷ gs) t h =
     numbers_from-none-cons g t (int_eq g.degree t) refl (h 0 (omega arith)) i (numbers_from (suc i) gs t) (numbers_from-none (suc i) gs t (λ k l. h (suc k) (omega arith)))

@@ -8,7 +8,8 @@ use Rattle.finite_module.specs.DerivedAction.{span}
 
 -- each Sq(R) raises degrees by its own
 abbrev pub HaveWidths : List Generator → List (List (List Bool)) → Type 0
-HaveWidths gs operators = (r : List ℕ) (i : ℕ) → length (value gs operators r i) ≡ width gs (degree_at gs i +ℤ pos (degree_of r))
+HaveWidths gs operators = (r : List ℕ) (i : ℕ) →
+    length (value gs operators r i) ≡ width gs (degree_at gs i +ℤ pos (degree_of r))
 
 -- Milnor's bases go through the span, `below` tells how many elements stand before those of each degree, and the
 -- operators are those of the first elements.

@@ -31,11 +31,16 @@ abbrev pub square_line : Module → ℕ → ℕ → List ℕ
 square_line m i n =
     let v = value m.generators m.operators (n ∷ []) i in
     if list_any (λ b. b) v
-    then codes "Sq" ++ (decimal n ++ (codes " " ++ (name_at m.generators i ++ (codes " = " ++ (sum_text m.generators (degree_at m.generators i +ℤ pos n) v ++ newline)))))
+    then codes "Sq"
+    ++ (decimal n
+    ++ (codes " "
+    ++ (name_at m.generators i
+    ++ (codes " = " ++ (sum_text m.generators (degree_at m.generators i +ℤ pos n) v ++ newline)))))
     else []
 
 abbrev pub powers : List ℕ
 powers = 1 ∷ 2 ∷ 4 ∷ 8 ∷ 16 ∷ 32 ∷ 64 ∷ []
 
 abbrev pub canonical_text : Module → List ℕ
-canonical_text m = flat_map generator_line m.generators ++ flat_map (λ i. flat_map (square_line m i) powers) (range_with_len 0 (length m.generators))
+canonical_text m = flat_map generator_line m.generators
+    ++ flat_map (λ i. flat_map (square_line m i) powers) (range_with_len 0 (length m.generators))

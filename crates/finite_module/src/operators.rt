@@ -66,7 +66,10 @@ impl Model for Operators {
 
     ghost view = { λ o. record { generators = o.generators; operators = o.list.items } };
 
-    ghost invariant = { λ o. AreOperators o.basis o.below.items (record { generators = o.generators; operators = o.list.items }) };
+    ghost invariant = { λ o. AreOperators o.basis o.below.items (record {
+      generators = o.generators;
+      operators = o.list.items;
+    }) };
 }
 
 impl Operators {
@@ -132,8 +135,10 @@ impl Operators {
     /// The value of Sq(R) on generator `i`. `None` if Sq(R) is beyond the last operator; its value is then zero.
     pub fn value_ref(&self, r: &Exps, i: usize) -> Option<&BitVec>
         ensures some { IfSome result (λ v. v.now ≡ value self.now.generators self.now.operators r.now i) }
-        ensures none { IfNone result (value self.now.generators self.now.operators r.now i ≡ zeros (width self.now.generators (degree_at self.now.generators i +ℤ pos (degree_of r.now)))) }
-        ensures width { length (value self.now.generators self.now.operators r.now i) ≡ width self.now.generators (degree_at self.now.generators i +ℤ pos (degree_of r.now)) }
+        ensures none { IfNone result (value self.now.generators self.now.operators r.now i
+            ≡ zeros (width self.now.generators (degree_at self.now.generators i +ℤ pos (degree_of r.now)))) }
+        ensures width { length (value self.now.generators self.now.operators r.now i)
+            ≡ width self.now.generators (degree_at self.now.generators i +ℤ pos (degree_of r.now)) }
     {
         let _ = &self.list;
         let place = self.place(r)?;
@@ -188,7 +193,8 @@ impl Operators {
     ) -> Result<BitVec, Memory>
         requires generator { i < length self.now.generators }
         requires degrees { All (λ r. degree_of r ≡ n) elements.now }
-        ensures { IfOk result (λ v. v ≡ total (width self.now.generators (degree_at self.now.generators i +ℤ pos n)) (map (λ r. value self.now.generators self.now.operators r i) elements.now)) }
+        ensures { IfOk result (λ v. v ≡ total (width self.now.generators (degree_at self.now.generators i +ℤ pos n))
+            (map (λ r. value self.now.generators self.now.operators r i) elements.now)) }
     {
         let degree = i64::from(self.generators.degree(i)) + i64::from(n);
         let mut sum = BitVec::zero(alloc, self.generators.dim_in(degree))?;
@@ -200,7 +206,8 @@ impl Operators {
 
     /// Adds the value of Sq(R) on generator `i` to a vector of its degree.
     pub fn add_value(&self, sum: &mut BitVec, r: &Exps, i: usize)
-        requires { length sum.old ≡ width self.now.generators (degree_at self.now.generators i +ℤ pos (degree_of r.now)) }
+        requires { length sum.old
+            ≡ width self.now.generators (degree_at self.now.generators i +ℤ pos (degree_of r.now)) }
         ensures sum { sum.new ≡ sum_of sum.old (value self.now.generators self.now.operators r.now i) }
         ensures width { length sum.new ≡ length sum.old }
     {
@@ -216,7 +223,8 @@ impl Operators {
     /// `Memory` if allocation fails.
     pub fn push(&mut self, r: &Exps, operator: Operator) -> Result<(), Memory>
         requires next { slice_get (elements (span self.old.generators + 1)) (length self.old.operators) ≡ Some r.now }
-        requires widths { EachIndex operator (λ i. length (slice_index_or operator i []) ≡ width self.old.generators (degree_at self.old.generators i +ℤ pos (degree_of r.now))) }
+        requires widths { EachIndex operator (λ i. length (slice_index_or operator i [])
+            ≡ width self.old.generators (degree_at self.old.generators i +ℤ pos (degree_of r.now))) }
         ensures generators { self.new.generators ≡ self.old.generators }
         ensures ok { OnOk result (self.new.operators ≡ self.old.operators ++ operator ∷ []) }
         ensures err { OnErr result (self.new ≡ self.old) }

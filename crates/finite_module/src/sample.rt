@@ -263,7 +263,8 @@ fn square_value(
     i: usize,
 ) -> Result<BitVec, Memory>
     requires { i < length generators.now }
-    ensures { IfOk result (λ v. v ≡ sum_vector generators.now (listed_sum actions.now n i) (degree_at generators.now i +ℤ pos n)) }
+    ensures { IfOk result
+        (λ v. v ≡ sum_vector generators.now (listed_sum actions.now n i) (degree_at generators.now i +ℤ pos n)) }
 {
     let t = i64::from(generators.degree(i)) + i64::from(n);
     match target(actions, n, i) {
@@ -300,7 +301,8 @@ fn operator(
     generators: &Generators,
     r: &Exps,
 ) -> Result<Operator, Memory>
-    ensures { IfOk result (λ operator. operator ≡ map (plain_value generators.now actions.now r.now) (range_with_len 0 (length generators.now))) }
+    ensures { IfOk result (λ operator. operator
+        ≡ map (plain_value generators.now actions.now r.now) (range_with_len 0 (length generators.now))) }
 {
     let mut values = Vec::with_capacity(alloc, generators.count())?;
     for i in 0..generators.count() {

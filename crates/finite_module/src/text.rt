@@ -53,7 +53,8 @@ fn generator_line(alloc: Global, name: &str, degree: i32) -> Result<Vec<u8>, Mem
 
 /// The lines of the squares on each generator.
 fn action_lines(alloc: Global, operators: &Operators) -> Result<Vec<u8>, Memory>
-    ensures { IfOk result (λ text. text.items ≡ flat_map (λ i. flat_map (square_line operators.now i) powers) (range_with_len 0 (length operators.now.generators))) }
+    ensures { IfOk result (λ text. text.items ≡ flat_map (λ i. flat_map (square_line operators.now i) powers)
+        (range_with_len 0 (length operators.now.generators))) }
 {
     let mut text = Vec::new(alloc);
     for i in 0..operators.generators().count() {
@@ -94,7 +95,8 @@ fn square_line(alloc: Global, operators: &Operators, i: usize, n: u16) -> Result
 
 /// The line that says what Sq^n on a generator is.
 fn equation(alloc: Global, n: u16, name: &str, sum: &[u8]) -> Result<Vec<u8>, Memory>
-    ensures { IfOk result (λ line. line.items ≡ codes "Sq" ++ (decimal n ++ (codes " " ++ (name.now ++ (codes " = " ++ (sum.now ++ newline)))))) }
+    ensures { IfOk result (λ line. line.items
+        ≡ codes "Sq" ++ (decimal n ++ (codes " " ++ (name.now ++ (codes " = " ++ (sum.now ++ newline)))))) }
 {
     let mut buffer = Buffer::new();
     let mut line = Vec::from_slice(alloc, b"Sq")?;
@@ -130,7 +132,8 @@ fn numbers_of(
 ) -> Result<Vec<usize>, Memory>
     requires { length v.now ≡ width generators.now t }
     ensures numbers { IfOk result (λ numbers. numbers.items ≡ items_where_true v.now (generators_in generators.now t)) }
-    ensures within { IfOk result (λ numbers. EachIndex numbers.items (λ k. slice_index numbers.items k < length generators.now)) }
+    ensures within { IfOk result
+        (λ numbers. EachIndex numbers.items (λ k. slice_index numbers.items k < length generators.now)) }
 {
     let mut numbers = Vec::new(alloc);
     let within = generators.within(t);

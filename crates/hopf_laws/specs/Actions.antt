@@ -21,8 +21,11 @@ pub record Action (X : Type 0) : Type 0 where
 -- mod 2.
 pub record IsAction {X : Type 0} (m : Action X) : Type 0 where
   pub unit : (x y : X) → m.coefficient [] x y ≡ m.same x y
-  pub homogeneous : (r : List ℕ) (x y : X) → IsTrimmed r → m.degree y ≢ m.degree x +ℤ pos (degree_of r) → m.coefficient r x y ≡ false
-  pub products : (r s : List ℕ) (x z : X) → IsTrimmed r → IsTrimmed s → odd_by (λ y. m.coefficient s x y && m.coefficient r y z) m.basis ≡ odd_by (λ t. m.coefficient t x z) (product_terms r s)
+  pub homogeneous : (r : List ℕ) (x y : X) → IsTrimmed r → m.degree y ≢ m.degree x +ℤ pos (degree_of r) →
+      m.coefficient r x y ≡ false
+  pub products : (r s : List ℕ) (x z : X) → IsTrimmed r → IsTrimmed s →
+      odd_by (λ y. m.coefficient s x y && m.coefficient r y z) m.basis
+      ≡ odd_by (λ t. m.coefficient t x z) (product_terms r s)
 
 -- the same coefficients, n degrees above
 abbrev pub shifted : {X : Type 0} → ℤ → Action X → Action X
@@ -41,7 +44,12 @@ blocks f g (inr y) (inr z) = g y z
 
 -- each of two modules on its own part
 abbrev pub sum : {X Y : Type 0} → Action X → Action Y → Action (X ⊎ Y)
-sum m k = record { basis = map inl m.basis ++ map inr k.basis; degree = either_degree m k; coefficient = λ r. blocks (m.coefficient r) (k.coefficient r); same = blocks m.same k.same }
+sum m k = record {
+  basis = map inl m.basis ++ map inr k.basis;
+  degree = either_degree m k;
+  coefficient = λ r. blocks (m.coefficient r) (k.coefficient r);
+  same = blocks m.same k.same;
+}
 
 -- by Cartan's formula: each way to write R as R1 + R2 lets Sq(R1) act on the left factor and Sq(R2) on the right one
 abbrev pub tensor : {X Y : Type 0} → Action X → Action Y → Action (X × Y)
@@ -54,21 +62,28 @@ tensor m k = record {
 
 -- on the dual basis, whose degrees are negated: Sq(R) on f is f after the conjugate of Sq(R)
 abbrev pub dual : {X : Type 0} → (List ℕ → List (List ℕ)) → Action X → Action X
-dual c m = record { basis = m.basis; degree = λ x. pos 0 -ℤ m.degree x; coefficient = λ r x y. odd_by (λ t. m.coefficient t y x) (c r); same = λ x y. m.same y x }
+dual c m = record {
+  basis = m.basis;
+  degree = λ x. pos 0 -ℤ m.degree x;
+  coefficient = λ r x y. odd_by (λ t. m.coefficient t y x) (c r);
+  same = λ x y. m.same y x;
+}
 
 -- the same module on a list of its basis in another order, numbered by it
 abbrev pub numbered : {X : Type 0} → X → List X → Action X → Action ℕ
 numbered d xs m = record {
   basis = range_with_len 0 (length xs);
   degree = λ i. m.degree (slice_index_or xs i d);
-  coefficient = λ r i j. (nat_lt i (length xs) && nat_lt j (length xs)) && m.coefficient r (slice_index_or xs i d) (slice_index_or xs j d);
+  coefficient = λ r i j. (nat_lt i (length xs) && nat_lt j (length xs))
+      && m.coefficient r (slice_index_or xs i d) (slice_index_or xs j d);
   same = λ i j. nat_eq i j && nat_lt i (length xs);
 }
 
 -- the list has each element of the basis once
 pub record IsOrder {X : Type 0} (d : X) (xs : List X) (m : Action X) : Type 0 where
   pub sums : (f : X → Bool) → odd_by f xs ≡ odd_by f m.basis
-  pub once : (i j : ℕ) → i < length xs → j < length xs → m.same (slice_index_or xs i d) (slice_index_or xs j d) ≡ nat_eq i j
+  pub once : (i j : ℕ) → i < length xs → j < length xs →
+      m.same (slice_index_or xs i d) (slice_index_or xs j d) ≡ nat_eq i j
 
 abbrev pub ShiftIsModule : Type 0
 ShiftIsModule = (n : ℤ) (m : Action ℕ) → IsAction m → IsAction (shifted n m)
@@ -84,7 +99,8 @@ DualIsModule = (c : List ℕ → List (List ℕ)) (m : Action ℕ) → IsConjuga
 
 -- the dual of the dual has the degrees and the coefficients of the module
 abbrev pub DualTwice : Type 0
-DualTwice = (c : List ℕ → List (List ℕ)) (m : Action ℕ) → IsConjugate c → (r : List ℕ) (x y : ℕ) → IsTrimmed r → ((dual c (dual c m)).coefficient r x y ≡ m.coefficient r x y) × ((dual c (dual c m)).degree x ≡ m.degree x)
+DualTwice = (c : List ℕ → List (List ℕ)) (m : Action ℕ) → IsConjugate c → (r : List ℕ) (x y : ℕ) → IsTrimmed r →
+    ((dual c (dual c m)).coefficient r x y ≡ m.coefficient r x y) × ((dual c (dual c m)).degree x ≡ m.degree x)
 
 abbrev pub NumberedIsModule : Type 0
 NumberedIsModule = (d : ℕ) (xs : List ℕ) (m : Action ℕ) → IsOrder d xs m → IsAction m → IsAction (numbered d xs m)

@@ -28,7 +28,10 @@ is_nothing (r ∷ rs) = false
 -- the conjugate of Sq(R), of degree n at most: minus the sum over all R1 but ()
 abbrev pub conjugate_within : ℕ → List ℕ → List (List ℕ)
 conjugate_within zero r = r ∷ []
-conjugate_within (suc n) r = if is_nothing r then [] ∷ [] else flat_map (λ p. flat_map (product_terms p.0) (conjugate_within n p.1)) (filter (λ p. not (is_nothing p.0)) (splittings r))
+conjugate_within (suc n) r =
+    if is_nothing r then [] ∷ []
+    else flat_map (λ p. flat_map (product_terms p.0) (conjugate_within n p.1))
+    (filter (λ p. not (is_nothing p.0)) (splittings r))
 
 abbrev pub conjugate : List ℕ → List (List ℕ)
 conjugate r = conjugate_within (degree_of r) r
@@ -38,13 +41,16 @@ ConjugateExists = IsConjugate conjugate
 
 -- two conjugates have the same coefficients
 abbrev pub ConjugateIsUnique : Type 0
-ConjugateIsUnique = (c d : List ℕ → List (List ℕ)) → IsConjugate c → IsConjugate d → (r t : List ℕ) → IsTrimmed r → coefficient_in (c r) t ≡ coefficient_in (d r) t
+ConjugateIsUnique = (c d : List ℕ → List (List ℕ)) → IsConjugate c → IsConjugate d → (r t : List ℕ) → IsTrimmed r →
+    coefficient_in (c r) t ≡ coefficient_in (d r) t
 
 -- it turns products round
 abbrev pub ConjugateTurnsProducts : Type 0
 ConjugateTurnsProducts = (c : List ℕ → List (List ℕ)) → IsConjugate c → (r s t : List ℕ) → IsTrimmed r → IsTrimmed s →
-    coefficient_in (flat_map c (product_terms r s)) t ≡ coefficient_in (flat_map (λ x. flat_map (product_terms x) (c r)) (c s)) t
+    coefficient_in (flat_map c (product_terms r s)) t
+    ≡ coefficient_in (flat_map (λ x. flat_map (product_terms x) (c r)) (c s)) t
 
 -- twice it is the identity
 abbrev pub ConjugateTwice : Type 0
-ConjugateTwice = (c : List ℕ → List (List ℕ)) → IsConjugate c → (r t : List ℕ) → IsTrimmed r → coefficient_in (flat_map c (c r)) t ≡ pointwise nat_eq t r
+ConjugateTwice = (c : List ℕ → List (List ℕ)) → IsConjugate c → (r t : List ℕ) → IsTrimmed r →
+    coefficient_in (flat_map c (c r)) t ≡ pointwise nat_eq t r

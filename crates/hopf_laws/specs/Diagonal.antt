@@ -8,7 +8,8 @@ use Rattle.milnor_basis.specs.Product.{is_odd, coefficient}
 -- the pairs (R1, R2) with R1 + R2 = R, without zeros at their ends
 abbrev pub splittings : List ℕ → List (List ℕ × List ℕ)
 splittings [] = ([], []) ∷ []
-splittings (r ∷ rs) = flat_map (λ i. map (λ p. (put_before i p.0, put_before (r - i) p.1)) (splittings rs)) (range_with_len 0 (suc r))
+splittings (r ∷ rs) =
+    flat_map (λ i. map (λ p. (put_before i p.0, put_before (r - i) p.1)) (splittings rs)) (range_with_len 0 (suc r))
 
 -- the sum of two lists, place by place
 abbrev pub added : List ℕ → List ℕ → List ℕ
@@ -18,8 +19,11 @@ added (x ∷ xs) (y ∷ ys) = (x + y) ∷ added xs ys
 
 -- the coefficient of Sq(T1) tensor Sq(T2) in the product of the diagonals of Sq(R) and Sq(S)
 abbrev pub diagonal_coefficient : List ℕ → List ℕ → List ℕ → List ℕ → Bool
-diagonal_coefficient r s t u = is_odd (count_by (λ (x : (List ℕ × List ℕ) × (List ℕ × List ℕ)). coefficient x.0.0 x.1.0 t && coefficient x.0.1 x.1.1 u) (flat_map (λ p. map (λ q. (p, q)) (splittings s)) (splittings r)))
+diagonal_coefficient r s t u = is_odd
+    (count_by (λ (x : (List ℕ × List ℕ) × (List ℕ × List ℕ)). coefficient x.0.0 x.1.0 t && coefficient x.0.1 x.1.1 u)
+    (flat_map (λ p. map (λ q. (p, q)) (splittings s)) (splittings r)))
 
 -- The diagonal is multiplicative: that coefficient is the one of Sq(T1 + T2) in Sq(R) Sq(S).
 abbrev pub DiagonalIsMultiplicative : Type 0
-DiagonalIsMultiplicative = (r s t u : List ℕ) → IsTrimmed t → IsTrimmed u → diagonal_coefficient r s t u ≡ coefficient r s (added t u)
+DiagonalIsMultiplicative = (r s t u : List ℕ) → IsTrimmed t → IsTrimmed u →
+    diagonal_coefficient r s t u ≡ coefficient r s (added t u)

@@ -52,10 +52,13 @@ lowered r i q k x f t v = extended (shifted x (free q k)) (gens r i) f t v
 -- Maps phi k from F_(s+k) of r to F_k of q, for k through upto, by their values on generators. They lower degrees by x and
 -- commute with d, and d_0 after phi 0 takes generator g to z g: they lift the cochain z. All is asked on generators of
 -- degree at most top.
-pub record IsLift (r q : Resolution) (s : ℕ) (x : ℤ) (z : ℕ → List Bool) (upto : ℕ) (top : ℤ) (phi : ℕ → ℕ → List Bool) : Type 0 where
+pub record IsLift (r q : Resolution) (s : ℕ) (x : ℤ) (z : ℕ → List Bool) (upto : ℕ) (top : ℤ) (phi : ℕ → ℕ → List Bool)
+    : Type 0 where
   pub fit : (k i : ℕ) → k ≤ upto → i ≡ s + k → FitThrough (shifted x (free q k)) (gens r i) top (phi k)
   pub start : (g : ℕ) → g < length (gens r s) → degree r s g ≤ℤ top → d q 0 (degree r s g -ℤ x) (phi 0 g) ≡ z g
-  pub commutes : (k i j : ℕ) → k < upto → j ≡ s + k → i ≡ suc j → (g : ℕ) → g < length (gens r i) → degree r i g ≤ℤ top → d q (suc k) (degree r i g -ℤ x) (phi (suc k) g) ≡ lowered r j q k x (phi k) (degree r i g) (image r i g)
+  pub commutes : (k i j : ℕ) → k < upto → j ≡ s + k → i ≡ suc j → (g : ℕ) → g < length (gens r i) →
+      degree r i g ≤ℤ top →
+      d q (suc k) (degree r i g -ℤ x) (phi (suc k) g) ≡ lowered r j q k x (phi k) (degree r i g) (image r i g)
 
 -- the class of generator n: 1 on it and 0 on the others of row s, where n is of degree x
 abbrev pub dual_of : Resolution → Resolution → ℕ → ℤ → ℕ → ℕ → List Bool
@@ -71,13 +74,15 @@ pub record HasLift (r q : Resolution) (s : ℕ) (x : ℤ) (z : ℕ → List Bool
 abbrev pub EachClassLifts : Type 0
 EachClassLifts =
     (r q : Resolution) (rs rt qs qt s m : ℕ) (x : ℤ) (upto : ℕ) (top : ℤ) →
-    IsCanonical r rs rt → IsCanonical q qs qt → IsSphere q → s + upto ≤ rs → upto ≤ qs → (top -ℤ x) ≤ℤ (q.base.bottom +ℤ pos qt) →
+    IsCanonical r rs rt → IsCanonical q qs qt → IsSphere q → s + upto ≤ rs → upto ≤ qs →
+    (top -ℤ x) ≤ℤ (q.base.bottom +ℤ pos qt) →
     m < length (gens r s) → degree r s m ≡ x → HasLift r q s x (dual_of r q s x m) upto top
 
 -- a chain map on all elements: maps of modules over the Steenrod algebra that commute with d on each vector
 pub record IsChainMap (r q : Resolution) (s : ℕ) (x : ℤ) (upto : ℕ) (top : ℤ) (phi : ℕ → ℕ → List Bool) : Type 0 where
   pub maps : (k i : ℕ) → k ≤ upto → i ≡ s + k → IsMap top (free r i) (shifted x (free q k)) (lowered r i q k x (phi k))
-  pub commutes : (k i j : ℕ) → k < upto → j ≡ s + k → i ≡ suc j → (t : ℤ) (v : List Bool) → t ≤ℤ top → d q (suc k) (t -ℤ x) (lowered r i q (suc k) x (phi (suc k)) t v) ≡ lowered r j q k x (phi k) t (d r i t v)
+  pub commutes : (k i j : ℕ) → k < upto → j ≡ s + k → i ≡ suc j → (t : ℤ) (v : List Bool) → t ≤ℤ top →
+      d q (suc k) (t -ℤ x) (lowered r i q (suc k) x (phi (suc k)) t v) ≡ lowered r j q k x (phi k) t (d r i t v)
 
 -- In rows from + 1 through from + rows, d takes each generator of degree at most top to a vector of the free module below, in the
 -- generator's degree.
@@ -88,8 +93,10 @@ pub record HasImages (r : Resolution) (from rows : ℕ) (top : ℤ) : Type 0 whe
 abbrev pub LiftsAreChainMaps : Type 0
 LiftsAreChainMaps =
     (r q : Resolution) (s : ℕ) (x : ℤ) (z : ℕ → List Bool) (upto : ℕ) (top : ℤ) (phi : ℕ → ℕ → List Bool) →
-    HasImages r s upto top → HasImages q 0 upto (top -ℤ x) → IsLift r q s x z upto top phi → IsChainMap r q s x upto top phi
+    HasImages r s upto top → HasImages q 0 upto (top -ℤ x) → IsLift r q s x z upto top phi →
+    IsChainMap r q s x upto top phi
 
 -- A canonical table has such images, in all degrees.
 abbrev pub CanonicalTablesHaveImages : Type 0
-CanonicalTablesHaveImages = (r : Resolution) (s t from rows : ℕ) (top : ℤ) → IsCanonicalTable r.base s t r.table → from + rows ≤ s → HasImages r from rows top
+CanonicalTablesHaveImages = (r : Resolution) (s t from rows : ℕ) (top : ℤ) → IsCanonicalTable r.base s t r.table →
+    from + rows ≤ s → HasImages r from rows top

@@ -28,7 +28,8 @@ degree_of_class r c = r.base.bottom +ℤ pos c.above
 
 -- a lift of the class c of r
 abbrev pub IsLiftOfClass : Resolution → Resolution → Class → ℕ → ℤ → (ℕ → ℕ → List Bool) → Type 0
-IsLiftOfClass r q c upto top phi = IsLift r q c.s (degree_of_class r c) (dual_of r q c.s (degree_of_class r c) (number_of r c)) upto top phi
+IsLiftOfClass r q c upto top phi =
+    IsLift r q c.s (degree_of_class r c) (dual_of r q c.s (degree_of_class r c) (number_of r c)) upto top phi
 
 -- the dimension of the part of F_k, in the degree of the square (k, n), on generators before that square: its own stand last
 abbrev pub old_width : Resolution → ℕ → ℕ → ℕ
@@ -54,7 +55,8 @@ product_by r q a phi k n = on_square r k n (λ g. coefficient_of q a (phi a.s g)
 abbrev pub LiftsGiveOneProduct : Type 0
 LiftsGiveOneProduct =
     (r q : Resolution) (rs rt qs qt s n : ℕ) (z : ℕ → List Bool) (a : Class) (top : ℤ) (phi psi : ℕ → ℕ → List Bool) →
-    IsCanonical r rs rt → IsCanonical q qs qt → IsSphere q → s + a.s ≤ rs → a.above + n ≤ rt → a.s ≤ qs → a.i < count_of q a.s a.above →
+    IsCanonical r rs rt → IsCanonical q qs qt → IsSphere q → s + a.s ≤ rs → a.above + n ≤ rt → a.s ≤ qs →
+    a.i < count_of q a.s a.above →
     (r.base.bottom +ℤ pos (a.above + n)) ≤ℤ top → (top -ℤ (r.base.bottom +ℤ pos n)) ≤ℤ (q.base.bottom +ℤ pos qt) →
     IsLift r q s (r.base.bottom +ℤ pos n) z a.s top phi → IsLift r q s (r.base.bottom +ℤ pos n) z a.s top psi →
     product_by r q a phi (s + a.s) (a.above + n) ≡ product_by r q a psi (s + a.s) (a.above + n)

@@ -23,7 +23,10 @@ use Rattle.massey.specs.Refusals.{refusal_of, AreFound, AreInside, AreSmall}
 
 -- the resolution of a table's module through the range
 abbrev pub through : Range → Staircase → Resolution
-through range table = record { base = over table.resolved; table = map (take (range.t + 1)) (take (range.s + 1) (plain_rows table.rows)) }
+through range table = record {
+  base = over table.resolved;
+  table = map (take (range.t + 1)) (take (range.s + 1) (plain_rows table.rows));
+}
 
 -- how many degrees the bracket is above the bottom, and ab, and bc
 abbrev pub above_of : Places → ℕ
@@ -38,7 +41,8 @@ above_bc p = p.b.above + p.c.above
 -- The bracket <a, b, c> of classes a and b of the sphere's resolution q and c of r, in the square of its degree in row n + a.s, where n is
 -- one row below that of bc and l one below that of ab: the value is one of its values, by lifts and a null homotopy; it is zero at the
 -- pivots of the rows, which are the reduced basis of the indeterminacy; and the values are just the value and the span of the rows.
-pub record IsBracketOf (r q : Resolution) (a b c : ClassAbove) (value : List Bool) (rows : List (List Bool)) : Type 0 where
+pub record IsBracketOf (r q : Resolution) (a b c : ClassAbove) (value : List Bool) (rows : List (List Bool))
+    : Type 0 where
   pub n : ℕ
   pub l : ℕ
   pub n_row : suc n ≡ c.s + b.s
@@ -48,11 +52,14 @@ pub record IsBracketOf (r q : Resolution) (a b c : ClassAbove) (value : List Boo
   pub spans : IsIndeterminacy r q a b c n l (top_of r a b c) spanning
   pub basis : IsRowBasis (count_of r (n + a.s) (a.above + b.above + c.above)) spanning rows
   pub clear : IsZeroAtPivots rows value
-  pub all : (v : List Bool) → length v ≡ count_of r (n + a.s) (a.above + b.above + c.above) → IsBracketMember r q a b c n l (top_of r a b c) v ↔ IsInSpan (count_of r (n + a.s) (a.above + b.above + c.above)) rows (sum_of v value)
+  pub all : (v : List Bool) → length v ≡ count_of r (n + a.s) (a.above + b.above + c.above) →
+      IsBracketMember r q a b c n l (top_of r a b c) v
+      ↔ IsInSpan (count_of r (n + a.s) (a.above + b.above + c.above)) rows (sum_of v value)
 
 -- the bracket of the classes at these places of two tables, through the range
 abbrev pub IsBracket : Staircase → Staircase → Range → Places → List Bool → List (List Bool) → Type 0
-IsBracket table sphere range p value rows = IsBracketOf (through range table) (through range sphere) (class_above p.a) (class_above p.b) (class_above p.c) value rows
+IsBracket table sphere range p value rows = IsBracketOf (through range table) (through range sphere) (class_above p.a)
+    (class_above p.b) (class_above p.c) value rows
 
 -- ---- answers
 
@@ -70,22 +77,28 @@ pub record IsBracketOver (table sphere : Staircase) (range : Range) (a b c : Cla
   pub s : bracket.s ≡ pos (places.a.s + places.b.s + places.c.s) -ℤ pos 1
   pub t : bracket.t ≡ bottom_of table.resolved +ℤ pos (above_of places)
   pub widths : bracket.indeterminacy.cols ≡ length bracket.value
-  pub one_each : (row : ℕ) → suc row ≡ places.a.s + places.b.s + places.c.s → length bracket.value ≡ count_of (resolution_of table) row (above_of places)
+  pub one_each : (row : ℕ) → suc row ≡ places.a.s + places.b.s + places.c.s →
+      length bracket.value ≡ count_of (resolution_of table) row (above_of places)
   pub ab_zero : HasZeroProduct sphere sphere range a b
   pub bc_zero : HasZeroProduct table sphere range b c
-  pub is_bracket : IsAllCanonical table → IsAllCanonical sphere → IsBracket table sphere range places bracket.value bracket.indeterminacy.rows
+  pub is_bracket : IsAllCanonical table → IsAllCanonical sphere →
+      IsBracket table sphere range places bracket.value bracket.indeterminacy.rows
 
 -- ab is not zero, for 0, or ab is zero and bc is not, for 1
 abbrev pub IsNonzero : Staircase → Staircase → Range → Class → Class → Class → ℕ → List Bool → Type 0
 IsNonzero table sphere range a b c zero product = IsProductOver sphere sphere range a b product × (IsZero product → ⊥)
-IsNonzero table sphere range a b c (suc zero) product = HasZeroProduct sphere sphere range a b × IsProductOver table sphere range b c product × (IsZero product → ⊥)
+IsNonzero table sphere range a b c (suc zero) product =
+    HasZeroProduct sphere sphere range a b × IsProductOver table sphere range b c product × (IsZero product → ⊥)
 IsNonzero table sphere range a b c (suc (suc n)) product = ⊥
 
 -- why there is no bracket; want of memory needs no cause
 abbrev pub IsCause : Staircase → Staircase → Range → Class → Class → Class → MasseyFault → Type 0
-IsCause table sphere range a b c (NoClass which count) = refusal_of table sphere range a b c ≡ Some (NoClass which count)
-IsCause table sphere range a b c (OutOfRange which s t) = refusal_of table sphere range a b c ≡ Some (OutOfRange which s t)
-IsCause table sphere range a b c (Nonzero which product) = (refusal_of table sphere range a b c ≡ None) × IsNonzero table sphere range a b c which product
+IsCause table sphere range a b c (NoClass which count) =
+    refusal_of table sphere range a b c ≡ Some (NoClass which count)
+IsCause table sphere range a b c (OutOfRange which s t) =
+    refusal_of table sphere range a b c ≡ Some (OutOfRange which s t)
+IsCause table sphere range a b c (Nonzero which product) =
+    (refusal_of table sphere range a b c ≡ None) × IsNonzero table sphere range a b c which product
 IsCause table sphere range a b c Memory = Unit {0}
 
 -- ---- what a bracket is made of
@@ -112,23 +125,36 @@ pub record AreLifts (table sphere : Staircase) (p : Places) (beta gamma : LiftVa
   pub a_row : p.a.s ≡ suc last
   pub beta_lift : IsLiftOver sphere sphere p.b.s p.b.above p.b.i p.a.s beta
   pub gamma_lift : IsLiftOver table sphere p.c.s p.c.above p.c.i (p.b.s + last) gamma
-  pub ab_zero : IsZero (product_by (resolution_of sphere) (resolution_of sphere) (class_above p.a) (map_of beta) (p.b.s + p.a.s) (above_ab p))
-  pub bc_zero : IsZero (product_by (resolution_of table) (resolution_of sphere) (class_above p.b) (map_of gamma) (p.c.s + p.b.s) (above_bc p))
+  pub ab_zero : IsZero (product_by (resolution_of sphere) (resolution_of sphere) (class_above p.a) (map_of beta)
+      (p.b.s + p.a.s) (above_ab p))
+  pub bc_zero : IsZero (product_by (resolution_of table) (resolution_of sphere) (class_above p.b) (map_of gamma)
+      (p.c.s + p.b.s) (above_bc p))
 
 -- maps H, and the values of the last of them
-pub record IsLastMap (table sphere : Staircase) (range : Range) (p : Places) (n : ℕ) (beta gamma : LiftValues) (last : List (List Bool)) : Type 0 where
+pub record IsLastMap (table sphere : Staircase) (range : Range) (p : Places) (n : ℕ) (beta gamma : LiftValues)
+    (last : List (List Bool)) : Type 0 where
   pub H : ℕ → ℕ → List Bool
-  pub homotopy : IsNullHomotopy (through range table) (through range sphere) n (degree_of_class (through range table) (class_above p.c) +ℤ degree_of_class (through range sphere) (class_above p.b)) (composed (through range sphere) p.b.s (degree_of_class (through range sphere) (class_above p.b)) (degree_of_class (through range table) (class_above p.c)) (map_of beta) (map_of gamma)) p.a.s (top_of (through range table) (class_above p.a) (class_above p.b) (class_above p.c)) H
+  pub homotopy : IsNullHomotopy (through range table) (through range sphere) n
+      (degree_of_class (through range table) (class_above p.c)
+      +ℤ degree_of_class (through range sphere) (class_above p.b))
+      (composed (through range sphere) p.b.s (degree_of_class (through range sphere) (class_above p.b))
+      (degree_of_class (through range table) (class_above p.c)) (map_of beta) (map_of gamma))
+      p.a.s (top_of (through range table) (class_above p.a) (class_above p.b) (class_above p.c)) H
   pub values : (g : ℕ) → row last g ≡ H p.a.s g
 
 -- v is a value of the bracket, by lifts and a null homotopy
 abbrev pub IsMemberBy : Staircase → Staircase → Range → Places → ℕ → List Bool → Type 0
-IsMemberBy table sphere range p n v = (l : ℕ) → suc l ≡ p.b.s + p.a.s → IsBracketMember (through range table) (through range sphere) (class_above p.a) (class_above p.b) (class_above p.c) n l (top_of (through range table) (class_above p.a) (class_above p.b) (class_above p.c)) v
+IsMemberBy table sphere range p n v = (l : ℕ) → suc l ≡ p.b.s + p.a.s →
+    IsBracketMember (through range table) (through range sphere) (class_above p.a) (class_above p.b) (class_above p.c) n
+    l (top_of (through range table) (class_above p.a) (class_above p.b) (class_above p.c)) v
 
 -- the product of number i of the square of ab one row lower, in row l of the sphere, with the class that the maps lift
 abbrev pub lower_product : Staircase → Staircase → Places → LiftValues → ℕ → ℕ → List Bool
-lower_product table sphere p gamma l i = on_square (resolution_of table) (p.c.s + l) (above_of p) (λ g. coefficient_of (resolution_of sphere) (record { s = l; above = above_ab p; i = i }) (map_of gamma l g))
+lower_product table sphere p gamma l i = on_square (resolution_of table) (p.c.s + l) (above_of p)
+    (λ g. coefficient_of (resolution_of sphere) (record { s = l; above = above_ab p; i = i }) (map_of gamma l g))
 
 -- the rows span the indeterminacy
 abbrev pub AreSpanning : Staircase → Staircase → Range → Places → ℕ → List (List Bool) → Type 0
-AreSpanning table sphere range p n rows = (l : ℕ) → suc l ≡ p.b.s + p.a.s → IsIndeterminacy (through range table) (through range sphere) (class_above p.a) (class_above p.b) (class_above p.c) n l (top_of (through range table) (class_above p.a) (class_above p.b) (class_above p.c)) rows
+AreSpanning table sphere range p n rows = (l : ℕ) → suc l ≡ p.b.s + p.a.s →
+    IsIndeterminacy (through range table) (through range sphere) (class_above p.a) (class_above p.b) (class_above p.c) n
+    l (top_of (through range table) (class_above p.a) (class_above p.b) (class_above p.c)) rows

@@ -19,7 +19,8 @@ out_of_range which table range s t = if passes table range s t then Some (OutOfR
 
 -- the first of: a or b is no class of the sphere's table through the range, or c of the module's
 abbrev pub class_refusal : Staircase → Staircase → Range → Class → Class → Class → Option MasseyFault
-class_refusal table sphere range a b c = option_or (no_class 0 sphere range a) (option_or (no_class 1 sphere range b) (no_class 2 table range c))
+class_refusal table sphere range a b c =
+    option_or (no_class 0 sphere range a) (option_or (no_class 1 sphere range b) (no_class 2 table range c))
 
 -- The first of: ab passes the range on the sphere's table, or bc, or the bracket, on the module's. The classes are in these rows, and
 -- the three degrees are those of ab, bc and the bracket.
@@ -32,7 +33,8 @@ range_refusal table sphere range sa sb sc ab bc abc =
 -- why there is no bracket in the range
 abbrev pub refusal_of : Staircase → Staircase → Range → Class → Class → Class → Option MasseyFault
 refusal_of table sphere range a b c =
-    option_or (class_refusal table sphere range a b c) (range_refusal table sphere range a.s b.s c.s (a.t +ℤ b.t) (b.t +ℤ c.t) (a.t +ℤ b.t +ℤ c.t))
+    option_or (class_refusal table sphere range a b c)
+    (range_refusal table sphere range a.s b.s c.s (a.t +ℤ b.t) (b.t +ℤ c.t) (a.t +ℤ b.t +ℤ c.t))
 
 -- where the classes stand
 pub record AreFound (table sphere : Staircase) (range : Range) (a b c : Class) (places : Places) : Type 0 where
@@ -61,4 +63,6 @@ pub record AreSmall (places : Places) : Type 0 where
 -- what the fault names of places
 abbrev pub place_refusal : Staircase → Staircase → Range → Places → Option MasseyFault
 place_refusal table sphere range p =
-    range_refusal table sphere range p.a.s p.b.s p.c.s (bottom_of sphere.resolved +ℤ pos (p.a.above + p.b.above)) (bottom_of table.resolved +ℤ pos (p.b.above + p.c.above)) (bottom_of table.resolved +ℤ pos (p.a.above + p.b.above + p.c.above))
+    range_refusal table sphere range p.a.s p.b.s p.c.s (bottom_of sphere.resolved +ℤ pos (p.a.above + p.b.above))
+    (bottom_of table.resolved +ℤ pos (p.b.above + p.c.above))
+    (bottom_of table.resolved +ℤ pos (p.a.above + p.b.above + p.c.above))

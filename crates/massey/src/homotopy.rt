@@ -38,8 +38,11 @@ pub(crate) fn last_map(
     requires setting { IsSetting setting.now.table.now setting.now.sphere.now setting.now.range setting.now.places }
     requires lifts { AreLifts setting.now.table.now setting.now.sphere.now setting.now.places beta.now gamma.now }
     requires n { suc n ≡ setting.now.places.c.s + setting.now.places.b.s }
-    ensures values { IfOk result (λ last. AreOnSquare setting.now.table.now setting.now.sphere.now setting.now.places.a (n + setting.now.places.a.s) (above_of setting.now.places) last.items) }
-    ensures map { IfOk result (λ last. IsAllCanonical setting.now.table.now → IsAllCanonical setting.now.sphere.now → IsLastMap setting.now.table.now setting.now.sphere.now setting.now.range setting.now.places n beta.now gamma.now last.items) }
+    ensures values { IfOk result (λ last. AreOnSquare setting.now.table.now setting.now.sphere.now setting.now.places.a
+        (n + setting.now.places.a.s) (above_of setting.now.places) last.items) }
+    ensures map { IfOk result (λ last. IsAllCanonical setting.now.table.now → IsAllCanonical setting.now.sphere.now →
+        IsLastMap setting.now.table.now setting.now.sphere.now setting.now.range setting.now.places n beta.now gamma.now
+        last.items) }
 {
     // Why there are such maps.
     canonical_table_is_minimal_resolution();
@@ -71,7 +74,8 @@ pub(crate) struct Composite<'a> {
 impl Composite<'_> {
     /// How many degrees the square that is `j` above the module's bottom is above bc.
     fn over(&self, j: u16) -> i32
-        requires { IsSetting self.now.setting.table.now self.now.setting.sphere.now self.now.setting.range self.now.setting.places }
+        requires { IsSetting self.now.setting.table.now self.now.setting.sphere.now self.now.setting.range
+            self.now.setting.places }
         ensures { result ≡ pos j -ℤ pos (above_bc self.now.setting.places) }
     {
         i32::from(j) - i32::from(self.setting.above_bc())
@@ -79,8 +83,10 @@ impl Composite<'_> {
 
     /// The values of H_0, which are zero.
     fn first_map(&self, alloc: Global) -> Result<Vec<BitVec>, Memory>
-        requires { IsComposite self.now.setting.table.now self.now.setting.sphere.now self.now.setting.range self.now.setting.places self.now.n self.now.beta.now self.now.gamma.now }
-        ensures { IfOk result (λ values. values.items ≡ zero_map self.now.setting.table.now self.now.setting.sphere.now self.now.setting.places self.now.n) }
+        requires { IsComposite self.now.setting.table.now self.now.setting.sphere.now self.now.setting.range
+            self.now.setting.places self.now.n self.now.beta.now self.now.gamma.now }
+        ensures { IfOk result (λ values. values.items
+            ≡ zero_map self.now.setting.table.now self.now.setting.sphere.now self.now.setting.places self.now.n) }
     {
         let setting = &self.setting;
         let far = setting.places.a.above + 1;
@@ -97,10 +103,16 @@ impl Composite<'_> {
 
     /// The values of H_(k+1), from those of H_k.
     fn next_map(&self, alloc: Global, k: u16, below: &[BitVec]) -> Result<Vec<BitVec>, Memory>
-        requires composite { IsComposite self.now.setting.table.now self.now.setting.sphere.now self.now.setting.range self.now.setting.places self.now.n self.now.beta.now self.now.gamma.now }
+        requires composite { IsComposite self.now.setting.table.now self.now.setting.sphere.now self.now.setting.range
+            self.now.setting.places self.now.n self.now.beta.now self.now.gamma.now }
         requires row { k < self.now.setting.places.a.s }
-        requires below { AreImages (free_graded (target_of self.now.setting.sphere.now k (self.now.setting.places.a.above + 1))) (lowered_row self.now.setting.table.now (self.now.n + k) (above_of self.now.setting.places + 1) (above_bc self.now.setting.places)) below.now }
-        ensures { IfOk result (λ values. AreNext self.now.setting.table.now self.now.setting.sphere.now self.now.setting.places self.now.n self.now.beta.now self.now.gamma.now k below.now values.items) }
+        requires below { AreImages
+            (free_graded (target_of self.now.setting.sphere.now k (self.now.setting.places.a.above + 1)))
+            (lowered_row self.now.setting.table.now (self.now.n + k) (above_of self.now.setting.places + 1)
+            (above_bc self.now.setting.places))
+            below.now }
+        ensures { IfOk result (λ values. AreNext self.now.setting.table.now self.now.setting.sphere.now
+            self.now.setting.places self.now.n self.now.beta.now self.now.gamma.now k below.now values.items) }
     {
         let setting = &self.setting;
         let places = setting.places;
@@ -141,12 +153,23 @@ impl Composite<'_> {
         map: &Hom<'_, Gens>,
         values: &mut Vec<BitVec>,
     ) -> Result<(), Memory>
-        requires composite { IsComposite self.now.setting.table.now self.now.setting.sphere.now self.now.setting.range self.now.setting.places self.now.n self.now.beta.now self.now.gamma.now }
+        requires composite { IsComposite self.now.setting.table.now self.now.setting.sphere.now self.now.setting.range
+            self.now.setting.places self.now.n self.now.beta.now self.now.gamma.now }
         requires row { k < self.now.setting.places.a.s }
         requires within { j < above_of self.now.setting.places + 1 }
-        requires maps { AreMapsOf self.now.setting.table.now self.now.setting.sphere.now self.now.setting.places self.now.n k beta.now.basis.now map.now.basis.now beta.now.source.now beta.now.target.now map.now.source.now map.now.target.now }
-        requires made { AreChosen self.now.setting.table.now self.now.setting.sphere.now (suc (self.now.n + k)) (suc k) (bottom_of self.now.setting.table.now.resolved +ℤ pos (above_bc self.now.setting.places)) (homotopy_goal self.now.setting.table.now self.now.setting.sphere.now self.now.setting.places self.now.n k beta.now.images.now self.now.gamma.now map.now.images.now) (first_of (resolution_of self.now.setting.table.now) (suc (self.now.n + k)) j) values.old.items }
-        ensures { OnOk result (AreChosen self.now.setting.table.now self.now.setting.sphere.now (suc (self.now.n + k)) (suc k) (bottom_of self.now.setting.table.now.resolved +ℤ pos (above_bc self.now.setting.places)) (homotopy_goal self.now.setting.table.now self.now.setting.sphere.now self.now.setting.places self.now.n k beta.now.images.now self.now.gamma.now map.now.images.now) (first_of (resolution_of self.now.setting.table.now) (suc (self.now.n + k)) (j + 1)) values.new.items) }
+        requires maps { AreMapsOf self.now.setting.table.now self.now.setting.sphere.now self.now.setting.places
+            self.now.n k beta.now.basis.now map.now.basis.now beta.now.source.now beta.now.target.now map.now.source.now
+            map.now.target.now }
+        requires made { AreChosen self.now.setting.table.now self.now.setting.sphere.now (suc (self.now.n + k)) (suc k)
+            (bottom_of self.now.setting.table.now.resolved +ℤ pos (above_bc self.now.setting.places))
+            (homotopy_goal self.now.setting.table.now self.now.setting.sphere.now self.now.setting.places self.now.n k
+            beta.now.images.now self.now.gamma.now map.now.images.now)
+            (first_of (resolution_of self.now.setting.table.now) (suc (self.now.n + k)) j) values.old.items }
+        ensures { OnOk result (AreChosen self.now.setting.table.now self.now.setting.sphere.now (suc (self.now.n + k))
+            (suc k) (bottom_of self.now.setting.table.now.resolved +ℤ pos (above_bc self.now.setting.places))
+            (homotopy_goal self.now.setting.table.now self.now.setting.sphere.now self.now.setting.places self.now.n k
+            beta.now.images.now self.now.gamma.now map.now.images.now)
+            (first_of (resolution_of self.now.setting.table.now) (suc (self.now.n + k)) (j + 1)) values.new.items) }
     {
         let images = images_at(self.setting.table, self.n + k + 1, j);
         if images.is_empty() {
@@ -179,7 +202,9 @@ fn goal(
     requires one_target { beta.now.target.now ≡ map.now.target.now }
     requires gamma { length gamma.now ≡ free_width beta.now.source.now u }
     requires image { length image.now ≡ free_width map.now.source.now u }
-    ensures goal { IfOk result (λ v. v ≡ sum_of (mapped (free_graded beta.now.target.now) beta.now.source.now beta.now.images.now u gamma.now) (mapped (free_graded map.now.target.now) map.now.source.now map.now.images.now u image.now)) }
+    ensures goal { IfOk result
+        (λ v. v ≡ sum_of (mapped (free_graded beta.now.target.now) beta.now.source.now beta.now.images.now u gamma.now)
+        (mapped (free_graded map.now.target.now) map.now.source.now map.now.images.now u image.now)) }
     ensures length { IfOk result (λ v. length v ≡ free_width map.now.target.now u) }
 {
     let mut goal = beta.apply(alloc, u, gamma)?;

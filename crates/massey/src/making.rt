@@ -89,7 +89,8 @@ pub fn bracket(
 fn lift_of_b(alloc: Global, setting: &Setting<'_>, b: Class) -> Result<Lift, Memory>
     requires setting { IsSetting setting.now.table.now setting.now.sphere.now setting.now.range setting.now.places }
     requires class { IsPlaceOf setting.now.sphere.now setting.now.range b setting.now.places.b }
-    ensures { IfOk result (IsLiftOver setting.now.sphere.now setting.now.sphere.now setting.now.places.b.s setting.now.places.b.above setting.now.places.b.i setting.now.places.a.s) }
+    ensures { IfOk result (IsLiftOver setting.now.sphere.now setting.now.sphere.now setting.now.places.b.s
+        setting.now.places.b.above setting.now.places.b.i setting.now.places.a.s) }
 {
     lift(alloc, setting.sphere, setting.sphere, b, setting.places.a.s)
 }
@@ -98,7 +99,8 @@ fn lift_of_b(alloc: Global, setting: &Setting<'_>, b: Class) -> Result<Lift, Mem
 fn lift_of_c(alloc: Global, setting: &Setting<'_>, c: Class) -> Result<Lift, Memory>
     requires setting { IsSetting setting.now.table.now setting.now.sphere.now setting.now.range setting.now.places }
     requires class { IsPlaceOf setting.now.table.now setting.now.range c setting.now.places.c }
-    ensures { IfOk result (IsLiftOver setting.now.table.now setting.now.sphere.now setting.now.places.c.s setting.now.places.c.above setting.now.places.c.i (setting.now.places.b.s + (setting.now.places.a.s - 1))) }
+    ensures { IfOk result (IsLiftOver setting.now.table.now setting.now.sphere.now setting.now.places.c.s
+        setting.now.places.c.above setting.now.places.c.i (setting.now.places.b.s + (setting.now.places.a.s - 1))) }
 {
     let places = setting.places;
     let last = places.b.s + places.a.s.saturating_sub(1);
@@ -113,15 +115,29 @@ fn by_lifts(
     gamma: &Lift,
 ) -> Result<Bracket, Memory>
     requires setting { IsSetting setting.now.table.now setting.now.sphere.now setting.now.range setting.now.places }
-    requires beta { IsLiftOver setting.now.sphere.now setting.now.sphere.now setting.now.places.b.s setting.now.places.b.above setting.now.places.b.i setting.now.places.a.s beta.now }
-    requires gamma { IsLiftOver setting.now.table.now setting.now.sphere.now setting.now.places.c.s setting.now.places.c.above setting.now.places.c.i (setting.now.places.b.s + (setting.now.places.a.s - 1)) gamma.now }
-    requires ab_zero { IsZero (product_by (resolution_of setting.now.sphere.now) (resolution_of setting.now.sphere.now) (class_above setting.now.places.a) (map_of beta.now) (setting.now.places.b.s + setting.now.places.a.s) (above_ab setting.now.places)) }
-    requires bc_zero { IsZero (product_by (resolution_of setting.now.table.now) (resolution_of setting.now.sphere.now) (class_above setting.now.places.b) (map_of gamma.now) (setting.now.places.c.s + setting.now.places.b.s) (above_bc setting.now.places)) }
-    ensures s { IfOk result (λ bracket. bracket.s ≡ pos (setting.now.places.a.s + setting.now.places.b.s + setting.now.places.c.s) -ℤ pos 1) }
-    ensures t { IfOk result (λ bracket. bracket.t ≡ bottom_of setting.now.table.now.resolved +ℤ pos (above_of setting.now.places)) }
+    requires beta { IsLiftOver setting.now.sphere.now setting.now.sphere.now setting.now.places.b.s
+        setting.now.places.b.above setting.now.places.b.i setting.now.places.a.s beta.now }
+    requires gamma { IsLiftOver setting.now.table.now setting.now.sphere.now setting.now.places.c.s
+        setting.now.places.c.above setting.now.places.c.i (setting.now.places.b.s + (setting.now.places.a.s - 1))
+        gamma.now }
+    requires ab_zero { IsZero (product_by (resolution_of setting.now.sphere.now) (resolution_of setting.now.sphere.now)
+        (class_above setting.now.places.a) (map_of beta.now) (setting.now.places.b.s + setting.now.places.a.s)
+        (above_ab setting.now.places)) }
+    requires bc_zero { IsZero (product_by (resolution_of setting.now.table.now) (resolution_of setting.now.sphere.now)
+        (class_above setting.now.places.b) (map_of gamma.now) (setting.now.places.c.s + setting.now.places.b.s)
+        (above_bc setting.now.places)) }
+    ensures s { IfOk result (λ bracket. bracket.s
+        ≡ pos (setting.now.places.a.s + setting.now.places.b.s + setting.now.places.c.s) -ℤ pos 1) }
+    ensures t { IfOk result
+        (λ bracket. bracket.t ≡ bottom_of setting.now.table.now.resolved +ℤ pos (above_of setting.now.places)) }
     ensures widths { IfOk result (λ bracket. bracket.indeterminacy.cols ≡ length bracket.value) }
-    ensures one_each { IfOk result (λ bracket. (row : ℕ) → suc row ≡ setting.now.places.a.s + setting.now.places.b.s + setting.now.places.c.s → length bracket.value ≡ count_of (resolution_of setting.now.table.now) row (above_of setting.now.places)) }
-    ensures bracket { IfOk result (λ bracket. IsAllCanonical setting.now.table.now → IsAllCanonical setting.now.sphere.now → IsBracket setting.now.table.now setting.now.sphere.now setting.now.range setting.now.places bracket.value bracket.indeterminacy.rows) }
+    ensures one_each { IfOk result (λ bracket. (row : ℕ) →
+        suc row ≡ setting.now.places.a.s + setting.now.places.b.s + setting.now.places.c.s →
+        length bracket.value ≡ count_of (resolution_of setting.now.table.now) row (above_of setting.now.places)) }
+    ensures bracket { IfOk result (λ bracket. IsAllCanonical setting.now.table.now →
+        IsAllCanonical setting.now.sphere.now →
+        IsBracket setting.now.table.now setting.now.sphere.now setting.now.range setting.now.places bracket.value
+        bracket.indeterminacy.rows) }
 {
     canonical_table_is_minimal_resolution();
     modules_are_graded_modules();
@@ -138,10 +154,14 @@ fn by_lifts(
 /// What is answered where a or b is in row 0. That is for tables alone that are no resolutions: else ab is not zero.
 fn empty(alloc: Global, setting: &Setting<'_>) -> Result<Bracket, Memory>
     requires setting { IsSetting setting.now.table.now setting.now.sphere.now setting.now.range setting.now.places }
-    ensures s { IfOk result (λ bracket. bracket.s ≡ pos (setting.now.places.a.s + setting.now.places.b.s + setting.now.places.c.s) -ℤ pos 1) }
-    ensures t { IfOk result (λ bracket. bracket.t ≡ bottom_of setting.now.table.now.resolved +ℤ pos (above_of setting.now.places)) }
+    ensures s { IfOk result (λ bracket. bracket.s
+        ≡ pos (setting.now.places.a.s + setting.now.places.b.s + setting.now.places.c.s) -ℤ pos 1) }
+    ensures t { IfOk result
+        (λ bracket. bracket.t ≡ bottom_of setting.now.table.now.resolved +ℤ pos (above_of setting.now.places)) }
     ensures widths { IfOk result (λ bracket. bracket.indeterminacy.cols ≡ length bracket.value) }
-    ensures one_each { IfOk result (λ bracket. (row : ℕ) → suc row ≡ setting.now.places.a.s + setting.now.places.b.s + setting.now.places.c.s → length bracket.value ≡ count_of (resolution_of setting.now.table.now) row (above_of setting.now.places)) }
+    ensures one_each { IfOk result (λ bracket. (row : ℕ) →
+        suc row ≡ setting.now.places.a.s + setting.now.places.b.s + setting.now.places.c.s →
+        length bracket.value ≡ count_of (resolution_of setting.now.table.now) row (above_of setting.now.places)) }
 {
     let places = setting.places;
     let count = match (places.a.s + places.b.s + places.c.s).checked_sub(1) {
@@ -159,8 +179,11 @@ fn empty(alloc: Global, setting: &Setting<'_>) -> Result<Bracket, Memory>
 /// ab, by a lift of b.
 fn first_product(alloc: Global, setting: &Setting<'_>, beta: &Lift) -> Result<BitVec, Memory>
     requires setting { IsSetting setting.now.table.now setting.now.sphere.now setting.now.range setting.now.places }
-    requires lift { IsLiftOver setting.now.sphere.now setting.now.sphere.now setting.now.places.b.s setting.now.places.b.above setting.now.places.b.i setting.now.places.a.s beta.now }
-    ensures { IfOk result (λ v. v ≡ product_by (resolution_of setting.now.sphere.now) (resolution_of setting.now.sphere.now) (class_above setting.now.places.a) (map_of beta.now) (setting.now.places.b.s + setting.now.places.a.s) (above_ab setting.now.places)) }
+    requires lift { IsLiftOver setting.now.sphere.now setting.now.sphere.now setting.now.places.b.s
+        setting.now.places.b.above setting.now.places.b.i setting.now.places.a.s beta.now }
+    ensures { IfOk result (λ v. v ≡ product_by (resolution_of setting.now.sphere.now)
+        (resolution_of setting.now.sphere.now) (class_above setting.now.places.a) (map_of beta.now)
+        (setting.now.places.b.s + setting.now.places.a.s) (above_ab setting.now.places)) }
 {
     let places = setting.places;
     coefficients(
@@ -177,8 +200,12 @@ fn first_product(alloc: Global, setting: &Setting<'_>, beta: &Lift) -> Result<Bi
 /// bc, by a lift of c.
 fn second_product(alloc: Global, setting: &Setting<'_>, gamma: &Lift) -> Result<BitVec, Memory>
     requires setting { IsSetting setting.now.table.now setting.now.sphere.now setting.now.range setting.now.places }
-    requires lift { IsLiftOver setting.now.table.now setting.now.sphere.now setting.now.places.c.s setting.now.places.c.above setting.now.places.c.i (setting.now.places.b.s + (setting.now.places.a.s - 1)) gamma.now }
-    ensures { IfOk result (λ v. v ≡ product_by (resolution_of setting.now.table.now) (resolution_of setting.now.sphere.now) (class_above setting.now.places.b) (map_of gamma.now) (setting.now.places.c.s + setting.now.places.b.s) (above_bc setting.now.places)) }
+    requires lift { IsLiftOver setting.now.table.now setting.now.sphere.now setting.now.places.c.s
+        setting.now.places.c.above setting.now.places.c.i (setting.now.places.b.s + (setting.now.places.a.s - 1))
+        gamma.now }
+    ensures { IfOk result (λ v. v ≡ product_by (resolution_of setting.now.table.now)
+        (resolution_of setting.now.sphere.now) (class_above setting.now.places.b) (map_of gamma.now)
+        (setting.now.places.c.s + setting.now.places.b.s) (above_bc setting.now.places)) }
 {
     let places = setting.places;
     coefficients(
@@ -203,11 +230,16 @@ fn coset(
     requires setting { IsSetting setting.now.table.now setting.now.sphere.now setting.now.range setting.now.places }
     requires lifts { AreLifts setting.now.table.now setting.now.sphere.now setting.now.places beta.now gamma.now }
     requires n { suc n ≡ setting.now.places.c.s + setting.now.places.b.s }
-    ensures one_each { IfOk result (λ bracket. length bracket.value ≡ count_of (resolution_of setting.now.table.now) (n + setting.now.places.a.s) (above_of setting.now.places)) }
+    ensures one_each { IfOk result (λ bracket. length bracket.value
+        ≡ count_of (resolution_of setting.now.table.now) (n + setting.now.places.a.s) (above_of setting.now.places)) }
     ensures s { IfOk result (λ bracket. bracket.s ≡ pos (n + setting.now.places.a.s)) }
-    ensures t { IfOk result (λ bracket. bracket.t ≡ bottom_of setting.now.table.now.resolved +ℤ pos (above_of setting.now.places)) }
+    ensures t { IfOk result
+        (λ bracket. bracket.t ≡ bottom_of setting.now.table.now.resolved +ℤ pos (above_of setting.now.places)) }
     ensures widths { IfOk result (λ bracket. bracket.indeterminacy.cols ≡ length bracket.value) }
-    ensures bracket { IfOk result (λ bracket. IsAllCanonical setting.now.table.now → IsAllCanonical setting.now.sphere.now → IsBracket setting.now.table.now setting.now.sphere.now setting.now.range setting.now.places bracket.value bracket.indeterminacy.rows) }
+    ensures bracket { IfOk result (λ bracket. IsAllCanonical setting.now.table.now →
+        IsAllCanonical setting.now.sphere.now →
+        IsBracket setting.now.table.now setting.now.sphere.now setting.now.range setting.now.places bracket.value
+        bracket.indeterminacy.rows) }
 {
     // Why the value and the indeterminacy are all values.
     canonical_table_is_minimal_resolution();
@@ -239,8 +271,10 @@ fn member(
     requires setting { IsSetting setting.now.table.now setting.now.sphere.now setting.now.range setting.now.places }
     requires lifts { AreLifts setting.now.table.now setting.now.sphere.now setting.now.places beta.now gamma.now }
     requires n { suc n ≡ setting.now.places.c.s + setting.now.places.b.s }
-    ensures length { IfOk result (λ v. length v ≡ count_of (resolution_of setting.now.table.now) (n + setting.now.places.a.s) (above_of setting.now.places)) }
-    ensures member { IfOk result (λ v. IsAllCanonical setting.now.table.now → IsAllCanonical setting.now.sphere.now → IsMemberBy setting.now.table.now setting.now.sphere.now setting.now.range setting.now.places n v) }
+    ensures length { IfOk result (λ v. length v
+        ≡ count_of (resolution_of setting.now.table.now) (n + setting.now.places.a.s) (above_of setting.now.places)) }
+    ensures member { IfOk result (λ v. IsAllCanonical setting.now.table.now → IsAllCanonical setting.now.sphere.now →
+        IsMemberBy setting.now.table.now setting.now.sphere.now setting.now.range setting.now.places n v) }
 {
     let last = last_map(alloc, setting, beta, gamma, n)?;
     let a = setting.places.a;
@@ -267,8 +301,12 @@ fn indeterminacy_rows(
     requires setting { IsSetting setting.now.table.now setting.now.sphere.now setting.now.range setting.now.places }
     requires lifts { AreLifts setting.now.table.now setting.now.sphere.now setting.now.places beta.now gamma.now }
     requires n { suc n ≡ setting.now.places.c.s + setting.now.places.b.s }
-    ensures widths { IfOk result (λ rows. HaveWidth (count_of (resolution_of setting.now.table.now) (n + setting.now.places.a.s) (above_of setting.now.places)) rows.items) }
-    ensures spanning { IfOk result (λ rows. IsAllCanonical setting.now.table.now → IsAllCanonical setting.now.sphere.now → AreSpanning setting.now.table.now setting.now.sphere.now setting.now.range setting.now.places n rows.items) }
+    ensures widths { IfOk result (λ rows. HaveWidth
+        (count_of (resolution_of setting.now.table.now) (n + setting.now.places.a.s) (above_of setting.now.places))
+        rows.items) }
+    ensures spanning { IfOk result (λ rows. IsAllCanonical setting.now.table.now →
+        IsAllCanonical setting.now.sphere.now →
+        AreSpanning setting.now.table.now setting.now.sphere.now setting.now.range setting.now.places n rows.items) }
 {
     let mut rows = products(
         alloc,
@@ -293,7 +331,10 @@ fn add_lower_rows(
 ) -> Result<(), Memory>
     requires setting { IsSetting setting.now.table.now setting.now.sphere.now setting.now.range setting.now.places }
     requires lifts { AreLifts setting.now.table.now setting.now.sphere.now setting.now.places beta.now gamma.now }
-    ensures { OnOk result ((l : ℕ) → suc l ≡ setting.now.places.b.s + setting.now.places.a.s → rows.new.items ≡ rows.old.items ++ map (lower_product setting.now.table.now setting.now.sphere.now setting.now.places gamma.now l) (range_with_len 0 (count_of (resolution_of setting.now.sphere.now) l (above_ab setting.now.places)))) }
+    ensures { OnOk result ((l : ℕ) → suc l ≡ setting.now.places.b.s + setting.now.places.a.s →
+        rows.new.items ≡ rows.old.items
+        ++ map (lower_product setting.now.table.now setting.now.sphere.now setting.now.places gamma.now l)
+        (range_with_len 0 (count_of (resolution_of setting.now.sphere.now) l (above_ab setting.now.places)))) }
 {
     let places = setting.places;
     let l = places.b.s + places.a.s - 1;
@@ -316,7 +357,8 @@ fn lower_row(
     requires lifts { AreLifts setting.now.table.now setting.now.sphere.now setting.now.places beta.now gamma.now }
     requires row { suc l ≡ setting.now.places.b.s + setting.now.places.a.s }
     requires class { i < count_of (resolution_of setting.now.sphere.now) l (above_ab setting.now.places) }
-    ensures { IfOk result (λ v. v ≡ lower_product setting.now.table.now setting.now.sphere.now setting.now.places gamma.now l i) }
+    ensures { IfOk result
+        (λ v. v ≡ lower_product setting.now.table.now setting.now.sphere.now setting.now.places gamma.now l i) }
 {
     let y = Place {
         s: l,

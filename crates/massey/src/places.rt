@@ -108,8 +108,11 @@ fn found(table: &Table, range: Range, class: Class, which: u8) -> Result<Place, 
 
 /// Checks that the square in row `rows - 1`, `above` degrees above the bottom, lies in the range.
 fn within(table: &Table, range: Range, which: u8, rows: u16, above: u16) -> Result<(), MasseyFault>
-    ensures within { OnOk result (out_of_range which table.now range (pos rows -ℤ pos 1) (bottom_of table.now.resolved +ℤ pos above) ≡ None) }
-    ensures past { IfErr result (λ e. out_of_range which table.now range (pos rows -ℤ pos 1) (bottom_of table.now.resolved +ℤ pos above) ≡ Some e) }
+    ensures within { OnOk result
+        (out_of_range which table.now range (pos rows -ℤ pos 1) (bottom_of table.now.resolved +ℤ pos above) ≡ None) }
+    ensures past { IfErr result
+        (λ e. out_of_range which table.now range (pos rows -ℤ pos 1) (bottom_of table.now.resolved +ℤ pos above)
+        ≡ Some e) }
     ensures row { OnOk result (rows ≤ range.s + 1) }
     ensures degree { OnOk result (above ≤ range.t) }
 {

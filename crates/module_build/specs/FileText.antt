@@ -27,7 +27,11 @@ member g = quoted g.name ++ (codes ":" ++ signed_decimal g.degree)
 
 -- `Sq2 x0 = x2`
 abbrev pub action_text : Module → ℕ → ℕ → List ℕ
-action_text m i n = codes "Sq" ++ (decimal n ++ (codes " " ++ (name_at m.generators i ++ (codes " = " ++ sum_text m.generators (degree_at m.generators i +ℤ pos n) (value_of m (n ∷ []) i)))))
+action_text m i n = codes "Sq"
+    ++ (decimal n
+    ++ (codes " "
+    ++ (name_at m.generators i
+    ++ (codes " = " ++ sum_text m.generators (degree_at m.generators i +ℤ pos n) (value_of m (n ∷ []) i)))))
 
 -- the action of Sq^n on generator i, where it is not zero
 abbrev pub action_of_square : Module → ℕ → ℕ → List (List ℕ)
@@ -38,4 +42,6 @@ abbrev pub actions : Module → List (List ℕ)
 actions m = flat_map (λ i. flat_map (action_of_square m i) powers) (range_with_len 0 (length m.generators))
 
 abbrev pub file_text : Module → List ℕ
-file_text m = codes "{\"type\":\"finite dimensional module\",\"p\":2,\"gens\":{" ++ (joined_by_comma (map member m.generators) ++ (codes "},\"actions\":[" ++ (joined_by_comma (actions m) ++ (codes "]}" ++ newline))))
+file_text m = codes "{\"type\":\"finite dimensional module\",\"p\":2,\"gens\":{"
+    ++ (joined_by_comma (map member m.generators)
+    ++ (codes "},\"actions\":[" ++ (joined_by_comma (actions m) ++ (codes "]}" ++ newline))))

@@ -19,7 +19,8 @@ unless b what = if b then None else Some (Limit what)
 -- The first limit that generators of these degrees pass: how many there may be, or else where a degree may lie, or else how far
 -- apart two may be.
 abbrev pub limit_of : List ℤ → Option BuildFault
-limit_of ds = option_or (unless (nat_le (length ds) MAX_GENERATORS) Gens) (option_or (unless (list_all within_limit ds) Degree) (unless (are_near ds) Span))
+limit_of ds = option_or (unless (nat_le (length ds) MAX_GENERATORS) Gens)
+    (option_or (unless (list_all within_limit ds) Degree) (unless (are_near ds) Span))
 
 abbrev pub limit_passed : List Generator → Option BuildFault
 limit_passed gs = limit_of (map (λ g. g.degree) gs)

@@ -24,7 +24,8 @@ use std::alloc::Global;
 pub fn shift(alloc: Global, given: &Module, n: i32) -> Result<Module, BuildFault>
     ensures module { IfOk result (λ made. made.plain ≡ shift_module numbered_name n given.now.plain) }
     ensures within { OnOk result (limit_passed (shift_module numbered_name n given.now.plain).generators ≡ None) }
-    ensures refused { IfErr result (λ e. e ≢ BuildFault.Memory → limit_passed (shift_module numbered_name n given.now.plain).generators ≡ Some e) }
+    ensures refused { IfErr result (λ e. e ≢ BuildFault.Memory →
+        limit_passed (shift_module numbered_name n given.now.plain).generators ≡ Some e) }
 {
     make(alloc, &Construction::Shift { given, by: n })
 }
@@ -36,8 +37,10 @@ pub fn shift(alloc: Global, given: &Module, n: i32) -> Result<Module, BuildFault
 /// allocation fails.
 pub fn sum(alloc: Global, left: &Module, right: &Module) -> Result<Module, BuildFault>
     ensures module { IfOk result (λ made. made.plain ≡ sum_module numbered_name left.now.plain right.now.plain) }
-    ensures within { OnOk result (limit_passed (sum_module numbered_name left.now.plain right.now.plain).generators ≡ None) }
-    ensures refused { IfErr result (λ e. e ≢ BuildFault.Memory → limit_passed (sum_module numbered_name left.now.plain right.now.plain).generators ≡ Some e) }
+    ensures within { OnOk result
+        (limit_passed (sum_module numbered_name left.now.plain right.now.plain).generators ≡ None) }
+    ensures refused { IfErr result (λ e. e ≢ BuildFault.Memory →
+        limit_passed (sum_module numbered_name left.now.plain right.now.plain).generators ≡ Some e) }
 {
     make(alloc, &Construction::Sum { left, right })
 }
@@ -49,8 +52,10 @@ pub fn sum(alloc: Global, left: &Module, right: &Module) -> Result<Module, Build
 /// allocation fails.
 pub fn tensor(alloc: Global, left: &Module, right: &Module) -> Result<Module, BuildFault>
     ensures module { IfOk result (λ made. made.plain ≡ tensor_module numbered_name left.now.plain right.now.plain) }
-    ensures within { OnOk result (limit_passed (tensor_module numbered_name left.now.plain right.now.plain).generators ≡ None) }
-    ensures refused { IfErr result (λ e. e ≢ BuildFault.Memory → limit_passed (tensor_module numbered_name left.now.plain right.now.plain).generators ≡ Some e) }
+    ensures within { OnOk result
+        (limit_passed (tensor_module numbered_name left.now.plain right.now.plain).generators ≡ None) }
+    ensures refused { IfErr result (λ e. e ≢ BuildFault.Memory →
+        limit_passed (tensor_module numbered_name left.now.plain right.now.plain).generators ≡ Some e) }
 {
     make(alloc, &Construction::Tensor { left, right })
 }
@@ -63,7 +68,8 @@ pub fn tensor(alloc: Global, left: &Module, right: &Module) -> Result<Module, Bu
 pub fn dual(alloc: Global, given: &Module) -> Result<Module, BuildFault>
     ensures module { IfOk result (λ made. made.plain ≡ dual_module numbered_name given.now.plain) }
     ensures within { OnOk result (limit_passed (dual_module numbered_name given.now.plain).generators ≡ None) }
-    ensures refused { IfErr result (λ e. e ≢ BuildFault.Memory → limit_passed (dual_module numbered_name given.now.plain).generators ≡ Some e) }
+    ensures refused { IfErr result (λ e. e ≢ BuildFault.Memory →
+        limit_passed (dual_module numbered_name given.now.plain).generators ≡ Some e) }
 {
     make(alloc, &Construction::Dual { given })
 }
@@ -73,7 +79,8 @@ fn make(alloc: Global, construction: &Construction) -> Result<Module, BuildFault
     requires { IsModule (made construction.now) }
     ensures module { IfOk result (λ m. m.plain ≡ made construction.now) }
     ensures within { OnOk result (limit_passed (made construction.now).generators ≡ None) }
-    ensures refused { IfErr result (λ e. e ≢ BuildFault.Memory → limit_passed (made construction.now).generators ≡ Some e) }
+    ensures refused { IfErr result (λ e. e ≢ BuildFault.Memory →
+        limit_passed (made construction.now).generators ≡ Some e) }
 {
     let order = in_order(alloc, construction)?;
     if let Some(fault) = limit_passed(order.as_slice()) {

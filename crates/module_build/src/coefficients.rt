@@ -71,7 +71,10 @@ impl Coefficients<'_> {
     ) -> Result<Operator, Memory>
         requires count { length order.now ≡ length generators.now }
         requires numbers { EachIndex order.now (λ i. number_at order.now i < width_of self.now) }
-        ensures { IfOk result (λ operator. operator ≡ map (λ i. map (λ j. entry_of self.now (number_at order.now i) (number_at order.now j)) (generators_in generators.now (degree_at generators.now i +ℤ pos n))) (range_with_len 0 (length generators.now))) }
+        ensures { IfOk result (λ operator. operator ≡ map
+            (λ i. map (λ j. entry_of self.now (number_at order.now i) (number_at order.now j))
+            (generators_in generators.now (degree_at generators.now i +ℤ pos n)))
+            (range_with_len 0 (length generators.now))) }
     {
         let count = generators.count();
         let mut values = Vec::with_capacity(alloc, count)?;
@@ -93,7 +96,9 @@ impl Coefficients<'_> {
         requires count { length order.now ≡ length generators.now }
         requires numbers { EachIndex order.now (λ i. number_at order.now i < width_of self.now) }
         requires generator { i < length generators.now }
-        ensures { IfOk result (λ value. value ≡ map (λ j. entry_of self.now (number_at order.now i) (number_at order.now j)) (generators_in generators.now (degree_at generators.now i +ℤ pos n))) }
+        ensures { IfOk result
+            (λ value. value ≡ map (λ j. entry_of self.now (number_at order.now i) (number_at order.now j))
+            (generators_in generators.now (degree_at generators.now i +ℤ pos n))) }
     {
         let t = i64::from(generators.degree(i)) + i64::from(n);
         let range = generators.within(t);

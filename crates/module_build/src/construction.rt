@@ -65,7 +65,8 @@ impl Construction<'_> {
         requires order { order.now ≡ order_of self.now }
         requires generators { before.now.generators ≡ generators_of (order_of self.now) }
         requires before { HasValuesBelow (degree_of r.now) (coefficient_by self.now) before.now }
-        ensures { IfOk result (λ operator. operator ≡ operator_on (generators_of (order_of self.now)) (coefficient_by self.now) r.now) }
+        ensures { IfOk result
+            (λ operator. operator ≡ operator_on (generators_of (order_of self.now)) (coefficient_by self.now) r.now) }
     {
         match self {
             Construction::Shift { given, .. } => {

@@ -32,7 +32,8 @@ pub(crate) fn dual_operator(
     requires order { IsDualOrder given.now.plain before.now.generators order.now }
     requires positive { 0 < degree_of r.now }
     requires before { HasValuesBelow (degree_of r.now) (dual_by given.now.plain order.now) before.now }
-    ensures { IfOk result (λ operator. operator ≡ operator_on before.now.generators (dual_by given.now.plain order.now) r.now) }
+    ensures { IfOk result
+        (λ operator. operator ≡ operator_on before.now.generators (dual_by given.now.plain order.now) r.now) }
 {
     let splittings = splittings_from(alloc, given.operators().basis(), r, 0)?;
     let count = before.generators().count();
@@ -87,10 +88,16 @@ fn add_splitting(
     i: usize,
 )
     requires order { IsDualOrder given.now.plain before.now.generators order.now }
-    requires before { (k : ℕ) → k < length before.now.generators → value before.now.generators before.now.operators splitting.now.right k ≡ values_on before.now.generators (dual_by given.now.plain order.now) splitting.now.right k }
+    requires before { (k : ℕ) → k < length before.now.generators →
+        value before.now.generators before.now.operators splitting.now.right k
+        ≡ values_on before.now.generators (dual_by given.now.plain order.now) splitting.now.right k }
     requires generator { i < length before.now.generators }
-    requires width { length sum.old ≡ width before.now.generators (degree_at before.now.generators i +ℤ pos (degree_of splitting.now.left + degree_of splitting.now.right)) }
-    ensures { sum.new ≡ sum_of sum.old (map (λ j. dual_term given.now.plain order.now i j (splitting.now.left, splitting.now.right)) (generators_in before.now.generators (degree_at before.now.generators i +ℤ pos (degree_of splitting.now.left + degree_of splitting.now.right)))) }
+    requires width { length sum.old ≡ width before.now.generators
+        (degree_at before.now.generators i +ℤ pos (degree_of splitting.now.left + degree_of splitting.now.right)) }
+    ensures { sum.new
+        ≡ sum_of sum.old (map (λ j. dual_term given.now.plain order.now i j (splitting.now.left, splitting.now.right))
+        (generators_in before.now.generators (degree_at before.now.generators i
+        +ℤ pos (degree_of splitting.now.left + degree_of splitting.now.right)))) }
 {
     let generators = before.generators();
     let t = i64::from(generators.degree(i)) + i64::from(splitting.left.degree());

@@ -70,7 +70,8 @@ fn actions(alloc: Global, given: &Module) -> Result<Vec<u8>, Memory>
 /// Writes the actions on generator `i` behind others.
 fn add_actions(alloc: Global, text: &mut Vec<u8>, given: &Module, i: usize) -> Result<(), Memory>
     requires { i < length given.now.plain.generators }
-    ensures { OnOk result (text.new.items ≡ written_after text.old.items (flat_map (action_of_square given.now.plain i) powers)) }
+    ensures { OnOk result
+        (text.new.items ≡ written_after text.old.items (flat_map (action_of_square given.now.plain i) powers)) }
 {
     for n in POWERS {
         add_action(alloc, text, given, i, n)?;
@@ -103,7 +104,8 @@ fn add_action(
 
 /// The action of Sq^n on a generator.
 fn action_text(alloc: Global, n: u16, name: &str, sum: &[u8]) -> Result<Vec<u8>, Memory>
-    ensures { IfOk result (λ text. text.items ≡ codes "Sq" ++ (decimal n ++ (codes " " ++ (name.now ++ (codes " = " ++ sum.now))))) }
+    ensures { IfOk result
+        (λ text. text.items ≡ codes "Sq" ++ (decimal n ++ (codes " " ++ (name.now ++ (codes " = " ++ sum.now))))) }
 {
     let mut buffer = Buffer::new();
     let mut text = Vec::from_slice(alloc, b"Sq")?;

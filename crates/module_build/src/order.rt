@@ -25,7 +25,8 @@ pub(crate) fn in_order(alloc: Global, construction: &Construction) -> Result<Vec
 
 /// The basis elements by number.
 fn numbered(alloc: Global, construction: &Construction) -> Result<Vec<Placed>, Memory>
-    ensures { IfOk result (λ order. order.items ≡ map (placed construction.now) (range_with_len 0 (size_of construction.now))) }
+    ensures { IfOk result
+        (λ order. order.items ≡ map (placed construction.now) (range_with_len 0 (size_of construction.now))) }
 {
     let size = construction.size();
     let mut order = Vec::with_capacity(alloc, size)?;

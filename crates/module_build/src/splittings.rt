@@ -76,7 +76,8 @@ fn add_degree(
 ) -> Result<(), Memory>
     requires { n ≤ basis.now }
     ensures sums { OnOk result (AddsDegree n r.now splittings.old.items splittings.new.items) }
-    ensures each { OnOk result (All (IsSplitting r.now) splittings.old.items → All (IsSplitting r.now) splittings.new.items) }
+    ensures each { OnOk result (All (IsSplitting r.now) splittings.old.items →
+        All (IsSplitting r.now) splittings.new.items) }
 {
     for left in basis.of_degree(n) {
         add_left(splittings, r, left)?;
@@ -87,7 +88,8 @@ fn add_degree(
 /// Puts the splitting of R with this left part behind others, where there is one.
 fn add_left(splittings: &mut Vec<Splitting>, r: &Exps, left: &Exps) -> Result<(), Memory>
     ensures sums { OnOk result (AddsLeft left.now r.now splittings.old.items splittings.new.items) }
-    ensures each { OnOk result (All (IsSplitting r.now) splittings.old.items → All (IsSplitting r.now) splittings.new.items) }
+    ensures each { OnOk result (All (IsSplitting r.now) splittings.old.items →
+        All (IsSplitting r.now) splittings.new.items) }
 {
     match difference(r, left) {
         None => Ok(()),

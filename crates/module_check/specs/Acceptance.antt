@@ -21,7 +21,9 @@ first_in f (x ∷ xs) = option_or (f x) (first_in f xs)
 
 -- whether an entry that is no power of two differs from the derived value
 abbrev pub is_as_derived : Module → Entry → Bool
-is_as_derived m e = is_power_of_two e.n || pointwise beq (value_of m (e.n ∷ []) e.generator) (sum_vector m.generators e.sum (degree_at m.generators e.generator +ℤ pos e.n))
+is_as_derived m e = is_power_of_two e.n
+    || pointwise beq (value_of m (e.n ∷ []) e.generator)
+    (sum_vector m.generators e.sum (degree_at m.generators e.generator +ℤ pos e.n))
 
 -- the first entry, counted from i on, that differs
 abbrev pub listed_from : Module → ℕ → List Entry → Option CheckFault
@@ -29,7 +31,8 @@ listed_from m i [] = None
 listed_from m i (e ∷ es) = if is_as_derived m e then listed_from m (suc i) es else Some (Listed i)
 
 abbrev pub relation_on : Module → List ℕ → List ℕ → ℕ → Option CheckFault
-relation_on m r s i = if pointwise beq (one_by_one m r s i) (by_their_product m r s i) then None else Some (Relation r s i)
+relation_on m r s i =
+    if pointwise beq (one_by_one m r s i) (by_their_product m r s i) then None else Some (Relation r s i)
 
 -- The first relation that fails, by the degree of the product, then the degree of R, R, S and the generator. Products of
 -- a degree above the span are zero on both sides.

@@ -58,7 +58,8 @@ fn is_as_derived(
     requires least { 0 < n }
     requires most { n < 2 ^ 16 }
     requires generator { i < length operators.now.generators }
-    ensures { IfOk result (λ same. same ≡ is_as_derived operators.now (record { n = n; generator = i; sum = sum.now })) }
+    ensures { IfOk result
+        (λ same. same ≡ is_as_derived operators.now (record { n = n; generator = i; sum = sum.now })) }
 {
     if n.is_power_of_two() {
         return Ok(true);

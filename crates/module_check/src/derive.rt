@@ -64,7 +64,8 @@ fn derived_operator(
     requires degree { degree_of r.now ≤ span spec.now.generators }
     requires small { degree_of r.now ≤ MAX_SPAN }
     ensures operator { IfOk result (λ operator. operator ≡ derived_operator spec.now operators.now.operators r.now) }
-    ensures widths { IfOk result (λ operator. EachIndex operator (λ i. length (slice_index_or operator i []) ≡ width spec.now.generators (degree_at spec.now.generators i +ℤ pos (degree_of r.now)))) }
+    ensures widths { IfOk result (λ operator. EachIndex operator (λ i. length (slice_index_or operator i [])
+        ≡ width spec.now.generators (degree_at spec.now.generators i +ℤ pos (degree_of r.now)))) }
 {
     let generators = operators.generators();
     match r.len() {
@@ -76,7 +77,8 @@ fn derived_operator(
 
 /// The identity: each generator.
 fn units(alloc: Global, generators: &Generators) -> Result<Operator, Memory>
-    ensures { IfOk result (λ operator. operator ≡ map (unit generators.now) (range_with_len 0 (length generators.now))) }
+    ensures { IfOk result
+        (λ operator. operator ≡ map (unit generators.now) (range_with_len 0 (length generators.now))) }
 {
     let mut values = Vec::with_capacity(alloc, generators.count())?;
     for i in 0..generators.count() {
@@ -89,7 +91,8 @@ fn units(alloc: Global, generators: &Generators) -> Result<Operator, Memory>
 fn squares(alloc: Global, spec: &Spec, operators: &Operators, n: u16) -> Result<Operator, Memory>
     requires generators { operators.now.generators ≡ spec.now.generators }
     requires number { 0 < n }
-    ensures { IfOk result (λ operator. operator ≡ map (square_value spec.now operators.now.operators n) (range_with_len 0 (length spec.now.generators))) }
+    ensures { IfOk result (λ operator. operator
+        ≡ map (square_value spec.now operators.now.operators n) (range_with_len 0 (length spec.now.generators))) }
 {
     let count = operators.generators().count();
     let mut values = Vec::with_capacity(alloc, count)?;
@@ -104,7 +107,9 @@ fn products(alloc: Global, operators: &Operators, r: &Exps) -> Result<Operator, 
     requires long { 1 < length r.now }
     requires degree { degree_of r.now ≤ span operators.now.generators }
     requires small { degree_of r.now ≤ MAX_SPAN }
-    ensures { IfOk result (λ operator. operator ≡ map (by_product operators.now.generators operators.now.operators (entry r.now 0) (drop 1 r.now)) (range_with_len 0 (length operators.now.generators))) }
+    ensures { IfOk result (λ operator. operator
+        ≡ map (by_product operators.now.generators operators.now.operators (entry r.now 0) (drop 1 r.now))
+        (range_with_len 0 (length operators.now.generators))) }
 {
     let count = operators.generators().count();
     let split = Split::of(alloc, operators.basis(), r)?;
@@ -158,7 +163,8 @@ impl Split {
     /// Sq(R) on generator `i`.
     fn value(&self, alloc: Global, operators: &Operators, i: usize) -> Result<BitVec, Memory>
         requires { i < length operators.now.generators }
-        ensures { IfOk result (λ v. v ≡ by_product operators.now.generators operators.now.operators self.now.exponent self.now.rest i) }
+        ensures { IfOk result
+            (λ v. v ≡ by_product operators.now.generators operators.now.operators self.now.exponent self.now.rest i) }
     {
         let value = operators.value(alloc, &self.rest, i)?;
         let t = i64::from(operators.generators().degree(i)) + i64::from(self.rest.degree());

@@ -64,7 +64,8 @@ impl Pair {
     /// The product on generator `i`.
     fn product(&self, alloc: Global, operators: &Operators, i: usize) -> Result<BitVec, Memory>
         requires { i < length operators.now.generators }
-        ensures width { IfOk result (λ v. length v ≡ width operators.now.generators (degree_at operators.now.generators i +ℤ pos (degree_of self.now.r + degree_of self.now.s))) }
+        ensures width { IfOk result (λ v. length v ≡ width operators.now.generators
+            (degree_at operators.now.generators i +ℤ pos (degree_of self.now.r + degree_of self.now.s))) }
         ensures value { IfOk result (λ v. v ≡ by_their_product operators.now self.now.r self.now.s i) }
     {
         let generators = operators.generators();
@@ -85,7 +86,8 @@ impl Pair {
         sum: &mut BitVec,
     ) -> Result<(), Memory>
         requires generator { i < length operators.now.generators }
-        requires width { length sum.old ≡ width operators.now.generators (degree_at operators.now.generators i +ℤ pos (degree_of self.now.r + degree_of self.now.s)) }
+        requires width { length sum.old ≡ width operators.now.generators
+            (degree_at operators.now.generators i +ℤ pos (degree_of self.now.r + degree_of self.now.s)) }
         ensures width { OnOk result (length sum.old ≡ length (one_by_one operators.now self.now.r self.now.s i)) }
         ensures sum { OnOk result (sum.new ≡ sum_of sum.old (one_by_one operators.now self.now.r self.now.s i)) }
     {
@@ -105,7 +107,8 @@ impl Pair {
     fn check_on(&self, alloc: Global, operators: &Operators, i: usize) -> Result<(), CheckFault>
         requires { i < length operators.now.generators }
         ensures holds { OnOk result (relation_on operators.now self.now.r self.now.s i ≡ None) }
-        ensures fails { IfErr result (λ e. e ≢ CheckFault.Memory → relation_on operators.now self.now.r self.now.s i ≡ Some e) }
+        ensures fails { IfErr result (λ e. e ≢ CheckFault.Memory →
+            relation_on operators.now self.now.r self.now.s i ≡ Some e) }
     {
         let mut sum = self.product(alloc, operators, i)?;
         self.add_one_by_one(alloc, operators, i, &mut sum)?;
@@ -204,7 +207,8 @@ fn check_left(
     requires degree { degree_of r.now + d ≤ span operators.now.generators }
     requires numbers { numbers.now ≡ reaching operators.now.generators (degree_of r.now + d) }
     ensures holds { OnOk result (first_in (relation_of operators.now r.now) (basis_of d) ≡ None) }
-    ensures fails { IfErr result (λ e. e ≢ CheckFault.Memory → first_in (relation_of operators.now r.now) (basis_of d) ≡ Some e) }
+    ensures fails { IfErr result (λ e. e ≢ CheckFault.Memory →
+        first_in (relation_of operators.now r.now) (basis_of d) ≡ Some e) }
 {
     for s in operators.basis().of_degree(d) {
         check_pair(alloc, operators, numbers, r, s)?;

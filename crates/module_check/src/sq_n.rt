@@ -84,7 +84,8 @@ fn twice(alloc: Global, operators: &Operators, p: u16, q: u16, i: usize) -> Resu
     requires first { 0 < p }
     requires second { 0 < q }
     ensures value { IfOk result (λ v. v ≡ twice operators.now.generators operators.now.operators p q i) }
-    ensures width { IfOk result (λ v. length v ≡ width operators.now.generators (degree_at operators.now.generators i +ℤ pos (p + q))) }
+    ensures width { IfOk result
+        (λ v. length v ≡ width operators.now.generators (degree_at operators.now.generators i +ℤ pos (p + q))) }
 {
     let value = operators.value(alloc, &sq(q), i)?;
     let t = i64::from(operators.generators().degree(i)) + i64::from(q);

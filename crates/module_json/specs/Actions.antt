@@ -25,7 +25,10 @@ number_after n (b ∷ bs) = number_after (10 * n + (b - 48)) bs
 
 -- one to three decimal digits, as a number
 abbrev pub number_of : List ℕ → Option ℕ
-number_of digits = if nat_le 1 (length digits) && nat_le (length digits) 3 && list_all is_digit digits then Some (number_after 0 digits) else None
+number_of digits =
+    if nat_le 1 (length digits) && nat_le (length digits) 3 && list_all is_digit digits
+    then Some (number_after 0 digits)
+    else None
 
 -- `Sq` and a number
 abbrev pub square_of : List ℕ → Option ℕ
@@ -95,7 +98,8 @@ pub record Written : Type 0 where
 
 -- what stands left and right of the one `=`
 abbrev pub sides : List (List ℕ) → Option Written
-sides (left ∷ right ∷ []) = option_and_then (λ a. option_map (λ s. record { n = a.0; name = a.1; sum = s }) (sum_names right)) (acting (words left))
+sides (left ∷ right ∷ []) = option_and_then
+    (λ a. option_map (λ s. record { n = a.0; name = a.1; sum = s }) (sum_names right)) (acting (words left))
 sides [] = None
 sides (left ∷ []) = None
 sides (left ∷ right ∷ more ∷ ws) = None

@@ -112,7 +112,8 @@ number_of gs name = position (λ g. bytes_eq g.name name) gs
 -- the numbers of the generators with these names, if each name has one
 abbrev pub numbers_of : List Generator → List (List ℕ) → Option (List ℕ)
 numbers_of gs [] = Some []
-numbers_of gs (name ∷ names) = option_and_then (λ j. option_map (λ js. j ∷ js) (numbers_of gs names)) (number_of gs name)
+numbers_of gs (name ∷ names) =
+    option_and_then (λ j. option_map (λ js. j ∷ js) (numbers_of gs names)) (number_of gs name)
 
 -- what stands for a generator where there is none
 abbrev pub no_generator : Generator
@@ -148,7 +149,10 @@ unless_repeated before e = by_first (position (differs e) before)
 
 -- The entry of Sq^n on generator i with the sum of the generators js, after the entries before it.
 abbrev pub numbered_entry : List Generator → List Entry → ℕ → ℕ → List ℕ → Result Entry Why
-numbered_entry gs before n i js = if are_in gs (degree_at gs i +ℤ pos n) js then unless_repeated before (record { n = n; generator = i; sum = sum_of (length gs) js }) else Err WrongDegree
+numbered_entry gs before n i js =
+    if are_in gs (degree_at gs i +ℤ pos n) js
+    then unless_repeated before (record { n = n; generator = i; sum = sum_of (length gs) js })
+    else Err WrongDegree
 
 abbrev pub named_entry : List Generator → List Entry → ℕ → Option ℕ → Option (List ℕ) → Result Entry Why
 named_entry gs before n None js = Err Unknown
@@ -158,7 +162,8 @@ named_entry gs before n (Some i) (Some js) = numbered_entry gs before n i js
 -- What an action gives after the entries before it: its entry, or the first thing wrong with it.
 abbrev pub entry_of : List Generator → List Entry → Option Written → Result Entry Why
 entry_of gs before None = Err Syntax
-entry_of gs before (Some w) = if w.n == 0 then Err SquareZero else named_entry gs before w.n (number_of gs w.name) (numbers_of gs w.sum)
+entry_of gs before (Some w) =
+    if w.n == 0 then Err SquareZero else named_entry gs before w.n (number_of gs w.name) (numbers_of gs w.sum)
 
 -- an answer for the action with index i
 abbrev pub at_index : ℕ → Result Entry Why → Result Entry Malformed
@@ -168,7 +173,8 @@ at_index i (Err why) = Err (Action i why)
 -- The entries of the actions, after those before them, or the first refusal.
 abbrev pub entries_from : List Generator → List Entry → Items → Result (List Entry) Malformed
 entries_from gs before no_items = Ok before
-entries_from gs before (item d ds) = and_then (λ e. entries_from gs (before ++ e ∷ []) ds) (at_index (length before) (entry_of gs before (written d)))
+entries_from gs before (item d ds) =
+    and_then (λ e. entries_from gs (before ++ e ∷ []) ds) (at_index (length before) (entry_of gs before (written d)))
   where
     and_then : (Entry → Result (List Entry) Malformed) → Result Entry Malformed → Result (List Entry) Malformed
     and_then later (Ok e) = later e
@@ -183,11 +189,13 @@ pub record File : Type 0 where
 
 -- The checks of a JSON value before its generators, in their order.
 abbrev pub header_refusal : Data → Option Malformed
-header_refusal d = first_of (whole_refusal d ∷ kind_refusal d ∷ cofiber_refusal d ∷ shift_refusal d ∷ prime_refusal d ∷ [])
+header_refusal d =
+    first_of (whole_refusal d ∷ kind_refusal d ∷ cofiber_refusal d ∷ shift_refusal d ∷ prime_refusal d ∷ [])
 
 -- The checks of a JSON value before its entries, in their order.
 abbrev pub first_refusal : Data → Option Malformed
-first_refusal d = first_of (header_refusal d ∷ gens_refusal d ∷ generators_refusal 0 (gens_of d) ∷ span_refusal (basis (gens_of d)) ∷ actions_refusal d ∷ [])
+first_refusal d = first_of (header_refusal d ∷ gens_refusal d ∷ generators_refusal 0 (gens_of d)
+    ∷ span_refusal (basis (gens_of d)) ∷ actions_refusal d ∷ [])
 
 -- the module with these entries
 abbrev pub with_entries : List Generator → Result (List Entry) Malformed → Result File Malformed
@@ -200,7 +208,8 @@ unless_refused (Some e) r = Err e
 
 -- What a value describes, or its first refusal.
 abbrev pub file_of : Data → Result File Malformed
-file_of d = unless_refused (first_refusal d) (with_entries (basis (gens_of d)) (entries_from (basis (gens_of d)) [] (actions_of d)))
+file_of d = unless_refused (first_refusal d)
+    (with_entries (basis (gens_of d)) (entries_from (basis (gens_of d)) [] (actions_of d)))
 
 -- What bytes describe: they have no value, or it is what their value describes.
 pub data IsFileOf (bytes : List ℕ) : Result File Malformed → Type 0 where

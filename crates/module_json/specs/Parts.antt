@@ -42,4 +42,5 @@ pub data ArePartsOf (want : ℕ) (bytes : List ℕ) : Result (List File) Malform
 
 -- Bytes describe one list of so many modules at most.
 abbrev pub PartsAreUnique : Type 0
-PartsAreUnique = (want : ℕ) (bytes : List ℕ) (r s : Result (List File) Malformed) → ArePartsOf want bytes r → ArePartsOf want bytes s → r ≡ s
+PartsAreUnique = (want : ℕ) (bytes : List ℕ) (r s : Result (List File) Malformed) → ArePartsOf want bytes r →
+    ArePartsOf want bytes s → r ≡ s

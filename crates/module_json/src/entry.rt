@@ -43,7 +43,8 @@ fn written(alloc: Global, value: &Value) -> Result<Option<ActionText<'_>>, Memor
 
 /// The numbers of the generators with these names, none where a name has no generator.
 fn numbers(alloc: Global, gens: &[Generator], names: &[&[u8]]) -> Result<Option<Vec<usize>>, Memory>
-    ensures numbers { IfOk result (λ o. option_map (λ v. v.items) o ≡ numbers_of gens.now (map (λ w. w.now) names.now)) }
+    ensures numbers { IfOk result
+        (λ o. option_map (λ v. v.items) o ≡ numbers_of gens.now (map (λ w. w.now) names.now)) }
     ensures bounds { IfOk result (λ o. IfSome o (λ v. All (λ j. j < length gens.now) v.items)) }
 {
     let mut numbers = Vec::with_capacity(alloc, names.len())?;
@@ -133,7 +134,8 @@ fn numbered(
     requires generator { generator < length gens.now }
     requires numbers { All (λ j. j < length gens.now) numbers.now }
     requires agree { AllPairs Agree before.now }
-    ensures { Answers result (at_index (length before.now) (numbered_entry gens.now before.now n generator numbers.now)) }
+    ensures { Answers result
+        (at_index (length before.now) (numbered_entry gens.now before.now n generator numbers.now)) }
 {
     let base = &gens[generator];
     let degree = i64::from(base.degree) + i64::from(n);
@@ -156,7 +158,8 @@ fn next(
     value: &Value,
 ) -> Result<Entry, Malformed>
     requires { AllPairs Agree before.now }
-    ensures { Answers result (at_index (length before.now) (entry_of gens.now before.now (written_in (view value.now)))) }
+    ensures { Answers result
+        (at_index (length before.now) (entry_of gens.now before.now (written_in (view value.now)))) }
 {
     let Some(action) = written(alloc, value)? else {
         return Err(refused(before, Why::Syntax));
@@ -180,7 +183,8 @@ pub(crate) fn entries(
     actions: &[Value],
 ) -> Result<Vec<Entry>, Malformed>
     ensures listed { IfOk result (λ es. entries_from gens.now [] (items_view actions.now) ≡ Ok es.items) }
-    ensures refused { IfErr result (λ e. e ≢ Malformed.Memory → entries_from gens.now [] (items_view actions.now) ≡ Err e) }
+    ensures refused { IfErr result (λ e. e ≢ Malformed.Memory →
+        entries_from gens.now [] (items_view actions.now) ≡ Err e) }
     ensures count { IfOk result (λ es. length es.items ≡ length actions.now) }
     ensures actions { IfOk result (λ es. All (IsEntryOf gens.now) es.items) }
     ensures agree { IfOk result (λ es. AllPairs Agree es.items) }

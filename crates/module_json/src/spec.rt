@@ -68,7 +68,8 @@ impl Spec {
     /// and each once.
     pub fn entry(&self, i: usize) -> (u32, usize, &[usize])
         requires { i < length self.now.entries }
-        ensures { slice_get self.now.entries i ≡ Some (record { n = result.0; generator = result.1; sum = result.2.now }) }
+        ensures { slice_get self.now.entries i
+            ≡ Some (record { n = result.0; generator = result.1; sum = result.2.now }) }
     {
         let entry = &self.entries[i];
         (entry.n, entry.generator, entry.sum.as_slice())

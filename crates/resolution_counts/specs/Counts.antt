@@ -14,7 +14,9 @@ abbrev pub HaveSameCounts : ℕ → ℕ → List (List Content) → List (List C
 HaveSameCounts s t a b = (i k : ℕ) → i ≤ s → k ≤ t → generator_count a i k ≡ generator_count b i k
 
 abbrev pub MinimalTablesHaveSameCounts : Type 0
-MinimalTablesHaveSameCounts = (m : Module) (s t : ℕ) (a b : List (List Content)) → IsSteenrodModule m.graded → IsMinimalTable m s t a → IsMinimalTable m s t b → HaveSameCounts s t a b
+MinimalTablesHaveSameCounts = (m : Module) (s t : ℕ) (a b : List (List Content)) → IsSteenrodModule m.graded →
+    IsMinimalTable m s t a → IsMinimalTable m s t b → HaveSameCounts s t a b
 
 abbrev pub MinimalResolutionsHaveSameCounts : Type 0
-MinimalResolutionsHaveSameCounts = (m : Module) (s t : ℕ) (a b : List (List Content)) → IsSteenrodModule m.graded → IsMinimalResolution m s t a → IsMinimalResolution m s t b → HaveSameCounts s t a b
+MinimalResolutionsHaveSameCounts = (m : Module) (s t : ℕ) (a b : List (List Content)) → IsSteenrodModule m.graded →
+    IsMinimalResolution m s t a → IsMinimalResolution m s t b → HaveSameCounts s t a b

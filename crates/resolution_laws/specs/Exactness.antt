@@ -30,16 +30,21 @@ boundary m table s t v = mapped (target_of m table s) (degrees_in m table s) (im
 -- the square's degree
 pub record IsTable (m : Module) (s t : ℕ) (table : List (List Content)) : Type 0 where
   pub squares : (i : ℕ) → i ≤ s → length (row_of table i) ≡ t + 1
-  pub widths : (i k : ℕ) → i ≤ s → k ≤ t → HaveWidth ((target_of m table i).width (m.bottom +ℤ pos k)) (square_in (row_of table i) k).images
+  pub widths : (i k : ℕ) → i ≤ s → k ≤ t →
+      HaveWidth ((target_of m table i).width (m.bottom +ℤ pos k)) (square_in (row_of table i) k).images
 
 -- d d = 0
 abbrev pub IsComplexAt : Module → List (List Content) → ℕ → ℤ → Type 0
-IsComplexAt m table s t = (v : List Bool) → length v ≡ free_width (degrees_in m table (suc s)) t → boundary m table s t (boundary m table (suc s) t v) ≡ zeros ((target_of m table s).width t)
+IsComplexAt m table s t = (v : List Bool) → length v ≡ free_width (degrees_in m table (suc s)) t →
+    boundary m table s t (boundary m table (suc s) t v) ≡ zeros ((target_of m table s).width t)
 
 -- the kernel of d_(s-1) in degree t is the span of d_s, and for s = 0 all of the module is
 abbrev pub IsExactAt : Module → List (List Content) → ℕ → ℤ → Type 0
-IsExactAt m table zero t = (v : List Bool) → length v ≡ m.graded.width t → IsInSpan (m.graded.width t) (differential m table zero t) v
-IsExactAt m table (suc s) t = (v : List Bool) → IsInKernel ((target_of m table s).width t) (differential m table s t) v ↔ IsInSpan (free_width (degrees_in m table s) t) (differential m table (suc s) t) v
+IsExactAt m table zero t = (v : List Bool) → length v ≡ m.graded.width t →
+    IsInSpan (m.graded.width t) (differential m table zero t) v
+IsExactAt m table (suc s) t = (v : List Bool) →
+    IsInKernel ((target_of m table s).width t) (differential m table s t) v
+    ↔ IsInSpan (free_width (degrees_in m table s) t) (differential m table (suc s) t) v
 
 -- ---- minimality
 
@@ -66,7 +71,8 @@ abbrev pub IsMinimalAt : Module → List (List Content) → ℕ → ℕ → Type
 IsMinimalAt m table zero k =
     let images = (square_in (row_of table zero) k).images in
     let t = m.bottom +ℤ pos k in
-    (c : List Bool) → length c ≡ length images → IsDecomposable m.graded t (combination (m.graded.width t) c images) → c ≡ zeros (length images)
+    (c : List Bool) → length c ≡ length images → IsDecomposable m.graded t (combination (m.graded.width t) c images) →
+    c ≡ zeros (length images)
 IsMinimalAt m table (suc s) k =
     let images = (square_in (row_of table (suc s)) k).images in
     let basis = free_basis (degrees_in m table s) (m.bottom +ℤ pos k) in
@@ -79,7 +85,8 @@ abbrev pub AreNeededAt : Module → List (List Content) → ℕ → ℕ → Type
 AreNeededAt m table s k =
     let u = m.bottom +ℤ pos k in
     let basis = free_basis (degrees_in m table s) u in
-    (v : List Bool) → IsInKernel ((target_of m table s).width u) (differential m table s u) v → (j : ℕ) → j < length basis → (element basis j).1 ≡ [] → bit v j ≡ false
+    (v : List Bool) → IsInKernel ((target_of m table s).width u) (differential m table s u) v → (j : ℕ) →
+    j < length basis → (element basis j).1 ≡ [] → bit v j ≡ false
 
 -- ---- the laws
 
@@ -98,4 +105,5 @@ pub record IsMinimalResolution (m : Module) (s t : ℕ) (table : List (List Cont
 -- The canonical resolution of a module over the Steenrod algebra is exact and minimal, each of its generators is needed, those
 -- of its last row too, and it has no generator of row s in degrees below s above the bottom.
 abbrev pub CanonicalTableIsMinimalResolution : Type 0
-CanonicalTableIsMinimalResolution = (m : Module) (s t : ℕ) (table : List (List Content)) → IsSteenrodModule m.graded → IsBoundedBelow m → IsCanonicalTable m s t table → IsMinimalResolution m s t table
+CanonicalTableIsMinimalResolution = (m : Module) (s t : ℕ) (table : List (List Content)) → IsSteenrodModule m.graded →
+    IsBoundedBelow m → IsCanonicalTable m s t table → IsMinimalResolution m s t table

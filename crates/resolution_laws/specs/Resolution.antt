@@ -45,14 +45,17 @@ candidates_over m (Some below) k = (square_in below k).kernel
 
 -- The step in degree t: over generators of these degrees and images, all below degree t, the candidates give the
 -- new generators, which stand last in the basis, and with them the kernel.
-pub record IsStepOver (target : GradedModule) (degrees : List ℤ) (images candidates : List (List Bool)) (t : ℤ) (content : Content) : Type 0 where
+pub record IsStepOver (target : GradedModule) (degrees : List ℤ) (images candidates : List (List Bool)) (t : ℤ)
+    (content : Content) : Type 0 where
   pub chosen : IsChosen (target.width t) (map_rows target degrees images t) candidates content.images
-  pub kernel : IsKernelBasis (target.width t) (map_rows target (degrees ++ replicate (length content.images) t) (images ++ content.images) t) content.kernel
+  pub kernel : IsKernelBasis (target.width t)
+      (map_rows target (degrees ++ replicate (length content.images) t) (images ++ content.images) t) content.kernel
 
 -- the content of the next square of a row, over the squares of that row so far and the row below
 abbrev pub IsStep : Module → Option (List Content) → List Content → Content → Type 0
 IsStep m below squares content =
-    IsStepOver (target_over m below) (degrees_from m.bottom squares) (images_of squares) (candidates_over m below (length squares)) (m.bottom +ℤ pos (length squares)) content
+    IsStepOver (target_over m below) (degrees_from m.bottom squares) (images_of squares)
+    (candidates_over m below (length squares)) (m.bottom +ℤ pos (length squares)) content
 
 -- row s of a table, and what of the row below it a square (s, k) stands on: its squares through k
 abbrev pub row_of : List (List Content) → ℕ → List Content
@@ -67,10 +70,12 @@ below_of table (suc s) k = Some (take (suc k) (row_of table s))
 pub record IsCanonicalTable (m : Module) (s t : ℕ) (table : List (List Content)) : Type 0 where
   pub rows : length table ≡ s + 1
   pub squares : (i : ℕ) → i ≤ s → length (row_of table i) ≡ t + 1
-  pub steps : (i k : ℕ) → i ≤ s → k ≤ t → IsStep m (below_of table i k) (take k (row_of table i)) (square_in (row_of table i) k)
+  pub steps : (i k : ℕ) → i ≤ s → k ≤ t →
+      IsStep m (below_of table i k) (take k (row_of table i)) (square_in (row_of table i) k)
 
 abbrev pub CanonicalTableIsUnique : Type 0
-CanonicalTableIsUnique = (m : Module) (s t : ℕ) (a b : List (List Content)) → IsCanonicalTable m s t a → IsCanonicalTable m s t b → a ≡ b
+CanonicalTableIsUnique = (m : Module) (s t : ℕ) (a b : List (List Content)) → IsCanonicalTable m s t a →
+    IsCanonicalTable m s t b → a ≡ b
 
 -- how many generators the square (s, k) has
 abbrev pub generator_count : List (List Content) → ℕ → ℕ → ℕ

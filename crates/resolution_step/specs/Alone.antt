@@ -16,7 +16,8 @@ cut range rows = map (take (range.t + 1)) (take (range.s + 1) rows)
 
 -- each square of the table is that of its start's table
 abbrev pub AreOfStart : Staircase → Type 0
-AreOfStart table = (s k : ℕ) (q : Placed) → slice_get (row_in table.rows s) k ≡ Some q → IsOf (over table.resolved) table.start s k q.content
+AreOfStart table = (s k : ℕ) (q : Placed) → slice_get (row_in table.rows s) k ≡ Some q →
+    IsOf (over table.resolved) table.start s k q.content
 
 -- each square of the new rows that the old ones have not is at such a place
 abbrev pub AreNewAt : (ℕ → ℕ → Type 0) → List (List Placed) → List (List Placed) → Type 0

@@ -8,9 +8,11 @@ use Rattle.square.specs.Squares.{Placed, IsQuasi, over}
 use Rattle.square.specs.Tables.{Footing}
 
 -- the step to a target, and the reduction of the matrix in degree t with the new generators
-pub record IsReducedStep (target : GradedModule) (degrees : List ℤ) (images candidates : List (List Bool)) (t : ℤ) (content : Content) (reduction : Reduction) : Type 0 where
+pub record IsReducedStep (target : GradedModule) (degrees : List ℤ) (images candidates : List (List Bool)) (t : ℤ)
+    (content : Content) (reduction : Reduction) : Type 0 where
   pub step : IsStepOver target degrees images candidates t content
-  pub quasi : IsReductionOf (target.width t) (map_rows target (degrees ++ replicate (length content.images) t) (images ++ content.images) t) reduction
+  pub quasi : IsReductionOf (target.width t)
+      (map_rows target (degrees ++ replicate (length content.images) t) (images ++ content.images) t) reduction
 
 -- the same over what a square is made from
 pub record IsStepWith (f : Footing) (content : Content) (reduction : Reduction) : Type 0 where

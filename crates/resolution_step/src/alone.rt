@@ -40,7 +40,9 @@ pub fn resolve_alone<K: Keep>(
     ensures only { IfOk result.0 (λ more. AreNewAt (IsInRange range) table.rows more.rows) }
     ensures grown { IfOk result.0 (HasGrown table) }
     ensures are_of_start { IfOk result.0 AreOfStart }
-    ensures canonical { IsCanonicalStart (over table.resolved) table.start → IfOk result.0 (λ more. IsCanonicalTable (over table.resolved) range.s range.t (cut range (plain_rows more.rows))) }
+    ensures canonical { IsCanonicalStart (over table.resolved) table.start →
+        IfOk result.0
+        (λ more. IsCanonicalTable (over table.resolved) range.s range.t (cut range (plain_rows more.rows))) }
     ensures live { OnOk result.0 (K.telling result.1).live }
     ensures no_fault { OnOk result.0 ((K.telling result.1).faults ≡ (K.telling keeper).faults) }
     ensures of_table { IfOk result.0 (IsKeeperOf (K.telling result.1)) }
@@ -48,7 +50,8 @@ pub fn resolve_alone<K: Keep>(
     ensures dead { result.0 ≡ Err KeepFault.Failed → (K.telling result.1).live → ⊥ }
     ensures memory { result.0 ≡ Err KeepFault.Memory → (K.telling result.1).faults ≡ (K.telling keeper).faults }
     ensures lives { result.0 ≡ Err KeepFault.Memory → (K.telling result.1).live }
-    ensures given { HasGiven (over table.resolved) table.start (IsInRange range) (K.telling keeper) (K.telling result.1) }
+    ensures given { HasGiven (over table.resolved) table.start (IsInRange range) (K.telling keeper)
+        (K.telling result.1) }
 {
     match add_rows(alloc, &mut table, range, &mut keeper) {
         Ok(()) => (Ok(table), keeper),
@@ -72,7 +75,8 @@ fn add_rows<K: Keep>(
     ensures live { OnOk result (K.telling keeper.new).live }
     ensures no_fault { OnOk result ((K.telling keeper.new).faults ≡ (K.telling keeper.old).faults) }
     ensures of_table { OnOk result (IsKeeperOf (K.telling keeper.new) table.new) }
-    ensures failed { result ≡ Err KeepFault.Failed → HasRisen (K.telling keeper.old).faults (K.telling keeper.new).faults }
+    ensures failed { result ≡ Err KeepFault.Failed →
+        HasRisen (K.telling keeper.old).faults (K.telling keeper.new).faults }
     ensures dead { result ≡ Err KeepFault.Failed → (K.telling keeper.new).live → ⊥ }
     ensures memory { result ≡ Err KeepFault.Memory → (K.telling keeper.new).faults ≡ (K.telling keeper.old).faults }
     ensures lives { result ≡ Err KeepFault.Memory → (K.telling keeper.new).live }
@@ -102,7 +106,8 @@ fn add_row<K: Keep>(
     ensures live { OnOk result (K.telling keeper.new).live }
     ensures no_fault { OnOk result ((K.telling keeper.new).faults ≡ (K.telling keeper.old).faults) }
     ensures of_table { OnOk result (IsKeeperOf (K.telling keeper.new) table.new) }
-    ensures failed { result ≡ Err KeepFault.Failed → HasRisen (K.telling keeper.old).faults (K.telling keeper.new).faults }
+    ensures failed { result ≡ Err KeepFault.Failed →
+        HasRisen (K.telling keeper.old).faults (K.telling keeper.new).faults }
     ensures dead { result ≡ Err KeepFault.Failed → (K.telling keeper.new).live → ⊥ }
     ensures memory { result ≡ Err KeepFault.Memory → (K.telling keeper.new).faults ≡ (K.telling keeper.old).faults }
     ensures lives { result ≡ Err KeepFault.Memory → (K.telling keeper.new).live }
@@ -131,7 +136,8 @@ fn add_square<K: Keep>(
     ensures live { OnOk result (K.telling keeper.new).live }
     ensures no_fault { OnOk result ((K.telling keeper.new).faults ≡ (K.telling keeper.old).faults) }
     ensures of_table { OnOk result (IsKeeperOf (K.telling keeper.new) table.new) }
-    ensures failed { result ≡ Err KeepFault.Failed → HasRisen (K.telling keeper.old).faults (K.telling keeper.new).faults }
+    ensures failed { result ≡ Err KeepFault.Failed →
+        HasRisen (K.telling keeper.old).faults (K.telling keeper.new).faults }
     ensures dead { result ≡ Err KeepFault.Failed → (K.telling keeper.new).live → ⊥ }
     ensures memory { result ≡ Err KeepFault.Memory → (K.telling keeper.new).faults ≡ (K.telling keeper.old).faults }
     ensures lives { result ≡ Err KeepFault.Memory → (K.telling keeper.new).live }

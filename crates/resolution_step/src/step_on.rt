@@ -42,7 +42,8 @@ struct Parts {
 /// or for row 0 all of the module.
 fn parts_on(alloc: Global, inputs: &Inputs) -> Result<Parts, Memory>
     ensures is_footing { IsFooting inputs.now }
-    ensures step { IfOk result (λ parts. IsStepWith inputs.now (record { images = parts.images.items; kernel = parts.quasi.kernel }) parts.quasi) }
+    ensures step { IfOk result (λ parts. IsStepWith inputs.now
+        (record { images = parts.images.items; kernel = parts.quasi.kernel }) parts.quasi) }
 {
     let t = inputs.t();
     match inputs.kernel_rows_below(alloc)? {
@@ -58,7 +59,8 @@ fn parts_on(alloc: Global, inputs: &Inputs) -> Result<Parts, Memory>
 fn parts_over(alloc: Global, inputs: &Inputs, candidates: &Rows) -> Result<Parts, Memory>
     requires { candidates.now ≡ candidates_over (over inputs.now.resolved) inputs.now.below inputs.now.above }
     ensures is_footing { IsFooting inputs.now }
-    ensures step { IfOk result (λ parts. IsStepWith inputs.now (record { images = parts.images.items; kernel = parts.quasi.kernel }) parts.quasi) }
+    ensures step { IfOk result (λ parts. IsStepWith inputs.now
+        (record { images = parts.images.items; kernel = parts.quasi.kernel }) parts.quasi) }
 {
     let t = inputs.t();
     let target = inputs.below(alloc)?;
@@ -92,7 +94,8 @@ fn reduced_step<T: Target>(
     requires nonzero { HasNoZeroRow candidates.now }
     requires source_reach { IsWithinReach basis.now source.now t }
     requires target_reach { T.reaches target.now basis.now t }
-    ensures { IfOk result (λ parts. IsReducedStep (T.graded target.now) source.now images.now candidates.now t (record { images = parts.images.items; kernel = parts.quasi.kernel }) parts.quasi) }
+    ensures { IfOk result (λ parts. IsReducedStep (T.graded target.now) source.now images.now candidates.now t
+        (record { images = parts.images.items; kernel = parts.quasi.kernel }) parts.quasi) }
 {
     let matrix = Hom::new(basis, source, target, images).matrix(alloc, t)?;
     let (images, quasi) = f2_dual::choose(alloc, matrix, candidates)?;

@@ -28,14 +28,20 @@ pub record Body : Type 0 where
 
 -- its bytes, numbers with their highest byte first
 abbrev pub body_bytes : Body → List ℕ
-body_bytes b = SQUARE ∷ (to_be_bytes w16 b.s ++ to_be_bytes w16 b.above ++ matrix_bytes b.images ++ matrix_bytes b.kernel)
+body_bytes b =
+    SQUARE ∷ (to_be_bytes w16 b.s ++ to_be_bytes w16 b.above ++ matrix_bytes b.images ++ matrix_bytes b.kernel)
 
 -- the square of a body, and the body of a square with these dimensions
 abbrev pub entry_in : Body → Entry
 entry_in b = record { s = b.s; above = b.above; content = record { images = b.images.rows; kernel = b.kernel.rows } }
 
 abbrev pub body_of : ℕ → ℕ → Entry → Body
-body_of w v e = record { s = e.s; above = e.above; images = record { cols = w; rows = e.content.images }; kernel = record { cols = v; rows = e.content.kernel } }
+body_of w v e = record {
+  s = e.s;
+  above = e.above;
+  images = record { cols = w; rows = e.content.images };
+  kernel = record { cols = v; rows = e.content.kernel };
+}
 
 -- ---- the shape of a square behind those of a list
 

@@ -23,16 +23,20 @@ pub record IsReading (m : Module) (list : List Entry) (bytes : List ℕ) (e : En
   pub square : e ≡ entry_in body
 
 abbrev pub WhatIsReadHasTheRules : Type 0
-WhatIsReadHasTheRules = (m : Module) (list : List Entry) (bytes : List ℕ) (e : Entry) → square_in m list bytes ≡ Some e → IsReading m list bytes e
+WhatIsReadHasTheRules = (m : Module) (list : List Entry) (bytes : List ℕ) (e : Entry) →
+    square_in m list bytes ≡ Some e → IsReading m list bytes e
 
 -- each body with the rules is read as its square
 abbrev pub EachBodyIsRead : Type 0
-EachBodyIsRead = (m : Module) (list : List Entry) (b : Body) → HasRules m list b → FitNumbers b → square_in m list (body_bytes b) ≡ Some (entry_in b)
+EachBodyIsRead = (m : Module) (list : List Entry) (b : Body) → HasRules m list b → FitNumbers b →
+    square_in m list (body_bytes b) ≡ Some (entry_in b)
 
 -- a square has one body
 abbrev pub BodyIsUnique : Type 0
-BodyIsUnique = (m : Module) (list : List Entry) (xs ys : List ℕ) (e : Entry) → square_in m list xs ≡ Some e → square_in m list ys ≡ Some e → xs ≡ ys
+BodyIsUnique = (m : Module) (list : List Entry) (xs ys : List ℕ) (e : Entry) → square_in m list xs ≡ Some e →
+    square_in m list ys ≡ Some e → xs ≡ ys
 
 -- the squares of a list of bodies stand behind those that they stand on
 abbrev pub SquaresAreClosed : Type 0
-SquaresAreClosed = (m : Module) (bodies : List (List ℕ)) (list : List Entry) → squares_of m bodies ≡ Ok list → IsClosed list
+SquaresAreClosed = (m : Module) (bodies : List (List ℕ)) (list : List Entry) → squares_of m bodies ≡ Ok list →
+    IsClosed list

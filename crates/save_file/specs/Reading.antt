@@ -29,7 +29,11 @@ packed_len n = div_ceil n 8
 abbrev pub matrix_at : ℕ → List ℕ → Rows
 matrix_at place bytes =
     let cols = number_at w64 (place + 8) bytes in
-    record { cols = cols; rows = map (λ i. unpacked cols (drop ((place + 16) + i * packed_len cols) bytes)) (range_with_len 0 (number_at w64 place bytes)) }
+    record {
+      cols = cols;
+      rows = map (λ i. unpacked cols (drop ((place + 16) + i * packed_len cols) bytes))
+          (range_with_len 0 (number_at w64 place bytes));
+    }
 
 abbrev pub matrix_len : Rows → ℕ
 matrix_len m = 16 + length m.rows * packed_len m.cols
@@ -49,7 +53,9 @@ body_at bytes = record {
 -- the first has a 0, and so on from the second row.
 abbrev pub is_row_basis : List (List Bool) → Bool
 is_row_basis [] = true
-is_row_basis (r ∷ rows) = (has_one r && list_all (λ x. nat_lt (pivot_of r) (pivot_of x) && not (bit r (pivot_of x))) rows) && is_row_basis rows
+is_row_basis (r ∷ rows) = (has_one r
+    && list_all (λ x. nat_lt (pivot_of r) (pivot_of x) && not (bit r (pivot_of x))) rows)
+    && is_row_basis rows
 
 abbrev pub has_before : List Entry → ℕ → ℕ → Bool
 has_before list s zero = true
@@ -65,16 +71,20 @@ is_next_place list s k = (is_none (entry_at list s k) && has_before list s k) &&
 abbrev pub has_dimensions : Module → List Entry → Body → Bool
 has_dimensions m list b =
     (nat_eq b.images.cols (target_dim m list b.s b.above) && nat_le (length b.images.rows) b.images.cols)
-    && (nat_eq b.kernel.cols (source_dim m list b.s b.above (length b.images.rows)) && nat_le (length b.kernel.rows) b.kernel.cols)
+    && (nat_eq b.kernel.cols (source_dim m list b.s b.above (length b.images.rows))
+    && nat_le (length b.kernel.rows) b.kernel.cols)
 
 abbrev pub has_rules : Module → List Entry → Body → Bool
-has_rules m list b = (((nat_le b.s MAX_S && nat_le b.above MAX_T) && is_next_place list b.s b.above) && has_dimensions m list b) && is_row_basis b.kernel.rows
+has_rules m list b = (((nat_le b.s MAX_S && nat_le b.above MAX_T) && is_next_place list b.s b.above)
+    && has_dimensions m list b)
+    && is_row_basis b.kernel.rows
 
 -- ---- reading
 
 -- The square that the bytes stand for behind those of the list: they are the body of what stands at its places, and the rules hold.
 unfoldable pub square_in : Module → List Entry → List ℕ → Option Entry
-square_in m list bytes = let b = body_at bytes in if bytes_eq bytes (body_bytes b) && has_rules m list b then Some (entry_in b) else None
+square_in m list bytes =
+    let b = body_at bytes in if bytes_eq bytes (body_bytes b) && has_rules m list b then Some (entry_in b) else None
 
 -- the list with the square that was read and those of the bodies behind it, or else the number of the body that is none
 abbrev pub and_then_squares : Option Entry → ℕ → (Entry → Result (List Entry) ℕ) → Result (List Entry) ℕ
@@ -83,7 +93,8 @@ and_then_squares (Some e) number rest = rest e
 
 abbrev pub squares_from : Module → List Entry → ℕ → List (List ℕ) → Result (List Entry) ℕ
 squares_from m list number [] = Ok list
-squares_from m list number (body ∷ bodies) = and_then_squares (square_in m list body) number (λ e. squares_from m (list ++ e ∷ []) (suc number) bodies)
+squares_from m list number (body ∷ bodies) =
+    and_then_squares (square_in m list body) number (λ e. squares_from m (list ++ e ∷ []) (suc number) bodies)
 
 -- The squares of these bodies, each read behind those before it, or else the number of the first body that is none.
 abbrev pub squares_of : Module → List (List ℕ) → Result (List Entry) ℕ

@@ -21,7 +21,8 @@ pub record IsClosed (list : List Entry) : Type 0 where
 
 -- Behind squares of the same start's table, those that the square stands on among them, the bytes are read as the square.
 abbrev pub IsReadAs : Placed → List ℕ → Type 0
-IsReadAs q bytes = (list : List Entry) → AreOf (over q.resolved) q.start list → IsClosed list → IsNextIn list q → square_in (over q.resolved) list bytes ≡ Some (entry_of q)
+IsReadAs q bytes = (list : List Entry) → AreOf (over q.resolved) q.start list → IsClosed list → IsNextIn list q →
+    square_in (over q.resolved) list bytes ≡ Some (entry_of q)
 
 -- the square was read from these bytes behind those of the table, whose squares were all read, and is the next of its row
 pub record IsDecoded (table : Staircase) (bytes : List ℕ) (q : Placed) : Type 0 where

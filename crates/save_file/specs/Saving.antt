@@ -29,7 +29,8 @@ pub record HasSquares (m : Checked) (start : List Entry) (count : ℕ) (file : L
 
 -- The save file takes squares: its journal takes records, which belong to its module, and where the disk tells, all records are
 -- counted and are squares. No more are counted than there are bytes.
-pub record TakesSquares {D : Type 0} (now : D → Option (List ℕ)) (images : D → List ℕ → Type 0) (k : SaveState D) : Type 0 where
+pub record TakesSquares {D : Type 0} (now : D → Option (List ℕ)) (images : D → List ℕ → Type 0) (k : SaveState D)
+    : Type 0 where
   pub live : IsLive now images k.journal
   pub digest : k.journal.digest ≡ digest_of k.resolved
   pub few : k.count ≤ k.journal.end
@@ -44,7 +45,8 @@ abbrev pub WasLeft : {D : Type 0} → (D → ℕ → List ℕ → Type 0) → Sa
 WasLeft since k t image = (c : List ℕ) × since k.journal.disk t c × (image ≡ squares_in k.resolved c)
 
 -- What contracts see of it as a keeper. Its faults and moments are its disk's.
-abbrev pub telling_of : {D : Type 0} → (D → Option (List ℕ)) → (D → ℕ) → (D → List ℕ → Type 0) → (D → ℕ → List ℕ → Type 0) → (D → ℕ) → SaveState D → Keeper
+abbrev pub telling_of : {D : Type 0} → (D → Option (List ℕ)) → (D → ℕ) → (D → List ℕ → Type 0) →
+    (D → ℕ → List ℕ → Type 0) → (D → ℕ) → SaveState D → Keeper
 telling_of now moment images since faults k = record {
   live = TakesSquares now images k;
   faults = faults k.journal.disk;

@@ -51,7 +51,8 @@ pub(crate) fn parts_of(body: &[u8]) -> Option<Parts<'_>>
 /// The rows of the matrix from this place on, none where the bytes end before it does.
 fn packed_rows(bytes: &[u8], place: usize) -> Option<PackedRows<'_>>
     requires { place ≤ length bytes.now }
-    ensures { MatchOption result (length bytes.now < end_of place bytes.now) (λ p. (end_of place bytes.now ≤ length bytes.now) × (packed_of p ≡ packed_at place bytes.now)) }
+    ensures { MatchOption result (length bytes.now < end_of place bytes.now)
+        (λ p. (end_of place bytes.now ≤ length bytes.now) × (packed_of p ≡ packed_at place bytes.now)) }
 {
     if bytes.len() - place < 16 {
         return None;

@@ -29,7 +29,8 @@ use std::alloc::Global;
 pub fn decode(alloc: Global, table: &Table, number: u64, body: &[u8]) -> Result<Square, DecodeFault>
     requires { AllRead table.now.rows }
     ensures decoded { IfOk result (λ q. IsDecoded table.now body.now q) }
-    ensures strange { (n : ℕ) → result ≡ Err (Strange n) → (n ≡ number) × (square_in (over table.now.resolved) table.now.start body.now ≡ None) }
+    ensures strange { (n : ℕ) → result ≡ Err (Strange n) →
+        (n ≡ number) × (square_in (over table.now.resolved) table.now.start body.now ≡ None) }
 {
     match read_square(alloc, table, body)? {
         Some(square) => Ok(square),
@@ -40,7 +41,8 @@ pub fn decode(alloc: Global, table: &Table, number: u64, body: &[u8]) -> Result<
 /// The square that the bytes are, or `None` if they are no square that may stand there.
 fn read_square(alloc: Global, table: &Table, body: &[u8]) -> Result<Option<Square>, Memory>
     requires { AllRead table.now.rows }
-    ensures { IfOk result (λ found. MatchOption found (square_in (over table.now.resolved) table.now.start body.now ≡ None) (λ q. IsDecoded table.now body.now q)) }
+    ensures { IfOk result (λ found. MatchOption found
+        (square_in (over table.now.resolved) table.now.start body.now ≡ None) (λ q. IsDecoded table.now body.now q)) }
 {
     let Some(parts) = parts_of(body) else {
         return Ok(None);
@@ -67,7 +69,8 @@ fn read_square(alloc: Global, table: &Table, body: &[u8]) -> Result<Option<Squar
 /// The degree of the square in row `s`, `above` degrees above the bottom, none where it is past the limits, or not the next of
 /// its row, or does not have those that it stands on.
 fn next_degree(table: &Table, s: u16, above: u16) -> Option<i32>
-    ensures place { MatchOption result (s ≤ MAX_S → above ≤ MAX_T → IsNext table.now.rows s above → ⊥) (λ t. IsPlaceFor table.now s above t) }
+    ensures place { MatchOption result (s ≤ MAX_S → above ≤ MAX_T → IsNext table.now.rows s above → ⊥)
+        (λ t. IsPlaceFor table.now s above t) }
     ensures is_table { IsTable table.now }
 {
     if !is_next(table, s, above) || s > MAX_S || above > MAX_T {

@@ -52,13 +52,19 @@ pub fn resume<D: Disk>(
     ensures keeper { IfOk result (λ r. IsKeeperOf (telling_of D.now D.moment D.images D.since D.faults r.1) r.0) }
     ensures kept { IfOk result (λ r. kept_in D.now r.1 ≡ option_map (λ _. r.0.start) (D.now disk)) }
     ensures file { IfOk result (λ r. D.now r.1.journal.disk ≡ option_map (opened (digest_of «module»)) (D.now disk)) }
-    ensures refused { IfErr result (λ e. (e.0 ≡ Open DiskFailed) ⊎ (e.0 ≡ OutOfMemory) ⊎ IfSome (D.now disk) (λ file. standing_of «module» file ≡ Err e.0)) }
+    ensures refused { IfErr result (λ e. (e.0 ≡ Open DiskFailed) ⊎ (e.0 ≡ OutOfMemory)
+        ⊎ IfSome (D.now disk) (λ file. standing_of «module» file ≡ Err e.0)) }
     ensures memory { IfErr result (λ e. e.0 ≢ Open OpenMemory) }
     ensures same { IfErr result (λ e. e.0 ≢ Open DiskFailed → D.now e.1 ≡ D.now disk) }
-    ensures unwritten { IfErr result (λ e. e.0 ≢ Open DiskFailed → IfSome (D.now disk) (λ _. LeavesOnly D.moment D.since disk e.1 (D.images disk))) }
-    ensures left_alone { IfOk result (λ r. IfSome (D.now disk) (λ file. opened (digest_of «module») file ≡ file → LeavesOnly D.moment D.since disk r.1.journal.disk (D.images disk))) }
-    ensures time { MatchResult result (λ r. LeavesOnly D.moment D.since disk r.1.journal.disk (λ _. Unit {0})) (λ e. LeavesOnly D.moment D.since disk e.1 (λ _. Unit {0})) }
-    ensures any_moment { IfSome (D.now disk) (λ _. MatchResult result (λ r. LeavesOnly D.moment D.since disk r.1.journal.disk (HasRecordsOf (digest_of «module») (D.images disk))) (λ e. LeavesOnly D.moment D.since disk e.1 (HasRecordsOf (digest_of «module») (D.images disk)))) }
+    ensures unwritten { IfErr result (λ e. e.0 ≢ Open DiskFailed →
+        IfSome (D.now disk) (λ _. LeavesOnly D.moment D.since disk e.1 (D.images disk))) }
+    ensures left_alone { IfOk result (λ r. IfSome (D.now disk) (λ file. opened (digest_of «module») file ≡ file →
+        LeavesOnly D.moment D.since disk r.1.journal.disk (D.images disk))) }
+    ensures time { MatchResult result (λ r. LeavesOnly D.moment D.since disk r.1.journal.disk (λ _. Unit {0}))
+        (λ e. LeavesOnly D.moment D.since disk e.1 (λ _. Unit {0})) }
+    ensures any_moment { IfSome (D.now disk) (λ _. MatchResult result
+        (λ r. LeavesOnly D.moment D.since disk r.1.journal.disk (HasRecordsOf (digest_of «module») (D.images disk)))
+        (λ e. LeavesOnly D.moment D.since disk e.1 (HasRecordsOf (digest_of «module») (D.images disk)))) }
     ensures no_fault { IfOk result (λ r. D.faults r.1.journal.disk ≡ D.faults disk) }
     ensures quiet { IfErr result (λ e. e.0 ≢ Open DiskFailed → D.faults e.1 ≡ D.faults disk) }
     ensures never_fall { IfErr result (λ e. D.faults disk ≤ D.faults e.1) }
@@ -109,11 +115,13 @@ fn prepared(alloc: Global, module: Module) -> Result<(Table, Vec<u8>), Memory>
 /// `Strange` exactly where one of them is no such square, with the number of the first, and `Memory` if allocation fails.
 fn read_bodies(alloc: Global, table: &mut Table, bodies: &[Vec<u8>]) -> Result<(), DecodeFault>
     requires { AllRead table.old.rows }
-    ensures read { OnOk result (squares_from (over table.old.resolved) table.old.start 0 (contents bodies.now) ≡ Ok table.new.start) }
+    ensures read { OnOk result
+        (squares_from (over table.old.resolved) table.old.start 0 (contents bodies.now) ≡ Ok table.new.start) }
     ensures resolved { table.new.resolved ≡ table.old.resolved }
     ensures all_read { AllRead table.new.rows }
     ensures is_table { OnOk result (IsTable table.new) }
-    ensures strange { (n : ℕ) → result ≡ Err (StrangeBody n) → squares_from (over table.old.resolved) table.old.start 0 (contents bodies.now) ≡ Err n }
+    ensures strange { (n : ℕ) → result ≡ Err (StrangeBody n) →
+        squares_from (over table.old.resolved) table.old.start 0 (contents bodies.now) ≡ Err n }
     ensures none { contents bodies.now ≡ [] → IsOk result }
 {
     for i in 0..bodies.len() {
@@ -132,10 +140,12 @@ fn read_bodies(alloc: Global, table: &mut Table, bodies: &[Vec<u8>]) -> Result<(
 /// `Strange` exactly where it is no such square, and `Memory` if allocation fails; the table is then as before.
 fn read_body(alloc: Global, table: &mut Table, number: u64, body: &[u8]) -> Result<(), DecodeFault>
     requires { AllRead table.old.rows }
-    ensures read { OnOk result ((e : Entry) × (square_in (over table.old.resolved) table.old.start body.now ≡ Some e) × (table.new.start ≡ table.old.start ++ e ∷ [])) }
+    ensures read { OnOk result ((e : Entry) × (square_in (over table.old.resolved) table.old.start body.now ≡ Some e)
+        × (table.new.start ≡ table.old.start ++ e ∷ [])) }
     ensures resolved { table.new.resolved ≡ table.old.resolved }
     ensures all_read { AllRead table.new.rows }
-    ensures strange { (n : ℕ) → result ≡ Err (StrangeBody n) → (n ≡ number) × (square_in (over table.old.resolved) table.old.start body.now ≡ None) }
+    ensures strange { (n : ℕ) → result ≡ Err (StrangeBody n) →
+        (n ≡ number) × (square_in (over table.old.resolved) table.old.start body.now ≡ None) }
     ensures err { OnErr result (table.new ≡ table.old) }
 {
     let square = decode(alloc, table, number, body)?;

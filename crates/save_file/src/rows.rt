@@ -16,7 +16,9 @@ use std::alloc::Global;
 /// `Memory` if allocation fails.
 pub(crate) fn unpack(alloc: Global, packed: &PackedRows<'_>) -> Result<Option<Vec<BitVec>>, Memory>
     requires { length packed.now.bytes.now ≡ packed.now.height * packed_len packed.now.cols }
-    ensures { IfOk result (λ found. MatchOption found ((rows : List (List Bool)) → AreUnpacked (packed_of packed.now) rows → ⊥) (λ rows. AreUnpacked (packed_of packed.now) rows.items)) }
+    ensures { IfOk result
+        (λ found. MatchOption found ((rows : List (List Bool)) → AreUnpacked (packed_of packed.now) rows → ⊥)
+        (λ rows. AreUnpacked (packed_of packed.now) rows.items)) }
 {
     let cols = packed.cols as usize;
     let len = cols.div_ceil(8);

@@ -31,7 +31,12 @@ impl<D: Disk> Model for SaveFile<D> {
 
     ghost Value = { SaveState D };
 
-    ghost view = { λ k. record { journal = k.journal; count = k.count; resolved = k.opened.value.resolved; start = k.opened.value.start } };
+    ghost view = { λ k. record {
+      journal = k.journal;
+      count = k.count;
+      resolved = k.opened.value.resolved;
+      start = k.opened.value.start;
+    } };
 }
 
 impl<D: Disk> SaveFile<D> {

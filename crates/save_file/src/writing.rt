@@ -33,7 +33,8 @@ pub fn encode(alloc: Global, square: &Square) -> Result<Vec<u8>, Memory>
 
 /// Puts a matrix with so many columns at the end of the bytes.
 fn append_matrix(cols: u64, rows: &[BitVec], bytes: &mut Vec<u8>) -> Result<(), Memory>
-    ensures { OnOk result (bytes.new.items ≡ bytes.old.items ++ matrix_bytes (record { cols = cols; rows = rows.now })) }
+    ensures { OnOk result
+        (bytes.new.items ≡ bytes.old.items ++ matrix_bytes (record { cols = cols; rows = rows.now })) }
 {
     bytes.extend_from_slice(&(rows.len() as u64).to_be_bytes())?;
     bytes.extend_from_slice(&cols.to_be_bytes())?;

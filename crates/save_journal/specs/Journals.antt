@@ -34,7 +34,8 @@ pub record IsSettled (digest : List ℕ) (end : ℕ) (file : List ℕ) (images :
   pub only : Only file images
 
 -- The journal takes records. Where its disk tells, that is settled.
-pub record IsLive {D : Type 0} (now : D → Option (List ℕ)) (images : D → List ℕ → Type 0) (journal : JournalState D) : Type 0 where
+pub record IsLive {D : Type 0} (now : D → Option (List ℕ)) (images : D → List ℕ → Type 0) (journal : JournalState D)
+    : Type 0 where
   pub flag : journal.live ≡ true
   pub limit : journal.end < 2 ^ 63
   pub settled : IfSome (now journal.disk) (λ file. IsSettled journal.digest journal.end file (images journal.disk))

@@ -65,7 +65,8 @@ abbrev pub records_from : ℕ → ℕ → ℕ → List ℕ → Records
 records_from number place skip [] = Ok []
 records_from number place (suc skip) (byte ∷ behind) = records_from number place skip behind
 records_from number place zero (gate ∷ behind) =
-    at_gate (nat_eq gate 0xA5) (is_whole behind) (bytes_eq (sha256 (body_of behind)) (kept_of behind)) number place behind
+    at_gate (nat_eq gate 0xA5) (is_whole behind) (bytes_eq (sha256 (body_of behind)) (kept_of behind)) number place
+    behind
     (records_from (number + 1) (place + 41 + body_length behind) (40 + body_length behind) behind)
 
 -- the records behind a header, whose first eight bytes are to be right, and then the next thirty-two
@@ -76,7 +77,8 @@ of_header true true digest file = records_from 0 40 0 (drop 40 file)
 
 -- The records of a file that are to belong to this digest. A file of at most 41 bytes has room for none, and has none.
 abbrev pub records_of : List ℕ → List ℕ → Records
-records_of digest file = cond (nat_le (length file) 41) (Ok []) (of_header (bytes_eq (take 8 file) magic) (bytes_eq (take 32 (drop 8 file)) digest) digest file)
+records_of digest file = cond (nat_le (length file) 41) (Ok [])
+    (of_header (bytes_eq (take 8 file) magic) (bytes_eq (take 32 (drop 8 file)) digest) digest file)
 
 -- what a file is once it was opened: one without room for a record is fresh
 abbrev pub opened : List ℕ → List ℕ → List ℕ

@@ -29,7 +29,8 @@ impl Model for Framed {
 
     ghost view = { λ f. take (length f.bytes.items - 41) (drop 8 f.bytes.items) };
 
-    ghost invariant = { λ f. (f.bytes.items ≡ framed (take (length f.bytes.items - 41) (drop 8 f.bytes.items))) × IsSayable (take (length f.bytes.items - 41) (drop 8 f.bytes.items)) };
+    ghost invariant = { λ f. (f.bytes.items ≡ framed (take (length f.bytes.items - 41) (drop 8 f.bytes.items)))
+        × IsSayable (take (length f.bytes.items - 41) (drop 8 f.bytes.items)) };
 }
 
 /// Makes a body ready to be appended.

@@ -47,16 +47,23 @@ impl<D: Disk> Journal<D> {
         digest: [u8; 32],
     ) -> Result<(Journal<D>, Vec<Vec<u8>>), (OpenFault, D)>
         ensures live { IfOk result (λ r. IsLive D.now D.images r.0) }
-        ensures bodies { IfOk result (λ r. IfSome (D.now r.0.disk) (λ file. records_of digest file ≡ Ok (contents r.1.items))) }
+        ensures bodies { IfOk result
+            (λ r. IfSome (D.now r.0.disk) (λ file. records_of digest file ≡ Ok (contents r.1.items))) }
         ensures count { IfOk result (λ r. length r.1.items ≤ r.0.end) }
         ensures digest { IfOk result (λ r. r.0.digest ≡ digest) }
         ensures file { IfOk result (λ r. D.now r.0.disk ≡ option_map (opened digest) (D.now disk)) }
-        ensures refused { IfErr result (λ e. (e.0 ≡ DiskFailed) ⊎ (e.0 ≡ WantOfMemory) ⊎ IfSome (D.now disk) (λ file. records_of digest file ≡ Err e.0)) }
+        ensures refused { IfErr result (λ e. (e.0 ≡ DiskFailed) ⊎ (e.0 ≡ WantOfMemory)
+            ⊎ IfSome (D.now disk) (λ file. records_of digest file ≡ Err e.0)) }
         ensures same { IfErr result (λ e. e.0 ≢ DiskFailed → D.now e.1 ≡ D.now disk) }
-        ensures unwritten { IfErr result (λ e. e.0 ≢ DiskFailed → LeavesOnly D.moment D.since disk e.1 (D.images disk)) }
-        ensures left_alone { IfOk result (λ r. IfSome (D.now disk) (λ file. opened digest file ≡ file → LeavesOnly D.moment D.since disk r.0.disk (D.images disk))) }
-        ensures time { MatchResult result (λ r. LeavesOnly D.moment D.since disk r.0.disk (λ _. Unit {0})) (λ e. LeavesOnly D.moment D.since disk e.1 (λ _. Unit {0})) }
-        ensures any_moment { IfSome (D.now disk) (λ _. MatchResult result (λ r. LeavesOnly D.moment D.since disk r.0.disk (HasRecordsOf digest (D.images disk))) (λ e. LeavesOnly D.moment D.since disk e.1 (HasRecordsOf digest (D.images disk)))) }
+        ensures unwritten { IfErr result (λ e. e.0 ≢ DiskFailed →
+            LeavesOnly D.moment D.since disk e.1 (D.images disk)) }
+        ensures left_alone { IfOk result (λ r. IfSome (D.now disk) (λ file. opened digest file ≡ file →
+            LeavesOnly D.moment D.since disk r.0.disk (D.images disk))) }
+        ensures time { MatchResult result (λ r. LeavesOnly D.moment D.since disk r.0.disk (λ _. Unit {0}))
+            (λ e. LeavesOnly D.moment D.since disk e.1 (λ _. Unit {0})) }
+        ensures any_moment { IfSome (D.now disk) (λ _. MatchResult result
+            (λ r. LeavesOnly D.moment D.since disk r.0.disk (HasRecordsOf digest (D.images disk)))
+            (λ e. LeavesOnly D.moment D.since disk e.1 (HasRecordsOf digest (D.images disk)))) }
         ensures no_fault { IfOk result (λ r. D.faults r.0.disk ≡ D.faults disk) }
         ensures quiet { IfErr result (λ e. e.0 ≢ DiskFailed → D.faults e.1 ≡ D.faults disk) }
         ensures never_fall { IfErr result (λ e. D.faults disk ≤ D.faults e.1) }
@@ -84,13 +91,18 @@ impl<D: Disk> Journal<D> {
     pub fn append(&mut self, framed: &Framed) -> Result<(), Failed>
         requires { IsLive D.now D.images self.old }
         ensures live { OnOk result (IsLive D.now D.images self.new) }
-        ensures appended { OnOk result (IfSome (D.now self.old.disk) (λ file. IsTold (D.now self.new.disk) (λ f. records_of self.old.digest f ≡ and_last (records_of self.old.digest file) framed.now))) }
-        ensures durable { OnOk result (IfSome (D.now self.old.disk) (λ file. (c : List ℕ) → D.images self.new.disk c → records_of self.old.digest c ≡ and_last (records_of self.old.digest file) framed.now)) }
+        ensures appended { OnOk result (IfSome (D.now self.old.disk) (λ file. IsTold (D.now self.new.disk)
+            (λ f. records_of self.old.digest f ≡ and_last (records_of self.old.digest file) framed.now))) }
+        ensures durable { OnOk result (IfSome (D.now self.old.disk) (λ file. (c : List ℕ) → D.images self.new.disk c →
+            records_of self.old.digest c ≡ and_last (records_of self.old.digest file) framed.now)) }
         ensures grown { OnOk result (self.old.end < self.new.end) }
         ensures dead { OnErr result (self.new.live ≡ false) }
-        ensures told { AreTold (λ file f. IsBeforeOrAfter self.old.digest (records_of self.old.digest file) framed.now f) (D.now self.old.disk) (D.now self.new.disk) }
+        ensures told { AreTold
+            (λ file f. IsBeforeOrAfter self.old.digest (records_of self.old.digest file) framed.now f)
+            (D.now self.old.disk) (D.now self.new.disk) }
         ensures time { LeavesOnly D.moment D.since self.old.disk self.new.disk (λ _. Unit {0}) }
-        ensures any_moment { IfSome (D.now self.old.disk) (λ file. LeavesOnly D.moment D.since self.old.disk self.new.disk (IsBeforeOrAfter self.old.digest (records_of self.old.digest file) framed.now)) }
+        ensures any_moment { IfSome (D.now self.old.disk) (λ file. LeavesOnly D.moment D.since self.old.disk
+            self.new.disk (IsBeforeOrAfter self.old.digest (records_of self.old.digest file) framed.now)) }
         ensures same { self.new.digest ≡ self.old.digest }
         ensures never_fall { D.faults self.old.disk ≤ D.faults self.new.disk }
         ensures no_fault { OnOk result (D.faults self.new.disk ≡ D.faults self.old.disk) }

@@ -20,16 +20,21 @@ pub fn open_on<D: Disk>(
     disk: &mut D,
     digest: &[u8; 32],
 ) -> Result<(u64, Vec<Vec<u8>>), OpenFault>
-    ensures held { IfOk result (λ r. IfSome (D.now disk.new) (λ file. IsHeld digest.now r.0 (contents r.1.items) file (D.images disk.new))) }
+    ensures held { IfOk result
+        (λ r. IfSome (D.now disk.new) (λ file. IsHeld digest.now r.0 (contents r.1.items) file (D.images disk.new))) }
     ensures limit { IfOk result (λ r. r.0 < 2 ^ 63) }
     ensures count { IfOk result (λ r. length r.1.items ≤ r.0) }
     ensures file { OnOk result (D.now disk.new ≡ option_map (opened digest.now) (D.now disk.old)) }
-    ensures refused { IfErr result (λ e. (e ≡ DiskFailed) ⊎ (e ≡ WantOfMemory) ⊎ IfSome (D.now disk.old) (λ file. records_of digest.now file ≡ Err e)) }
+    ensures refused { IfErr result (λ e. (e ≡ DiskFailed) ⊎ (e ≡ WantOfMemory)
+        ⊎ IfSome (D.now disk.old) (λ file. records_of digest.now file ≡ Err e)) }
     ensures same { IfErr result (λ e. e ≢ DiskFailed → D.now disk.new ≡ D.now disk.old) }
-    ensures unwritten { IfErr result (λ e. e ≢ DiskFailed → LeavesOnly D.moment D.since disk.old disk.new (D.images disk.old)) }
-    ensures left_alone { OnOk result (IfSome (D.now disk.old) (λ file. opened digest.now file ≡ file → LeavesOnly D.moment D.since disk.old disk.new (D.images disk.old))) }
+    ensures unwritten { IfErr result (λ e. e ≢ DiskFailed →
+        LeavesOnly D.moment D.since disk.old disk.new (D.images disk.old)) }
+    ensures left_alone { OnOk result (IfSome (D.now disk.old) (λ file. opened digest.now file ≡ file →
+        LeavesOnly D.moment D.since disk.old disk.new (D.images disk.old))) }
     ensures time { LeavesOnly D.moment D.since disk.old disk.new (λ _. Unit {0}) }
-    ensures any_moment { IfSome (D.now disk.old) (λ _. LeavesOnly D.moment D.since disk.old disk.new (HasRecordsOf digest.now (D.images disk.old))) }
+    ensures any_moment { IfSome (D.now disk.old)
+        (λ _. LeavesOnly D.moment D.since disk.old disk.new (HasRecordsOf digest.now (D.images disk.old))) }
     ensures never_fall { D.faults disk.old ≤ D.faults disk.new }
     ensures no_fault { OnOk result (D.faults disk.new ≡ D.faults disk.old) }
     ensures quiet { IfErr result (λ e. e ≢ DiskFailed → D.faults disk.new ≡ D.faults disk.old) }
@@ -59,7 +64,8 @@ fn read_all<D: Disk>(alloc: Global, disk: &mut D) -> Result<Vec<u8>, OpenFault>
     ensures never_fall { D.faults disk.old ≤ D.faults disk.new }
     ensures no_fault { OnOk result (D.faults disk.new ≡ D.faults disk.old) }
     ensures quiet { IfErr result (λ e. e ≢ DiskFailed → D.faults disk.new ≡ D.faults disk.old) }
-    ensures cause { IfErr result (λ e. (e ≡ WantOfMemory) ⊎ (e ≡ DiskFailed) × HasRisen (D.faults disk.old) (D.faults disk.new)) }
+    ensures cause { IfErr result (λ e. (e ≡ WantOfMemory)
+        ⊎ (e ≡ DiskFailed) × HasRisen (D.faults disk.old) (D.faults disk.new)) }
 {
     let len = disk.len()?;
     let mut bytes = vec![in alloc; 0u8; len as usize]?;

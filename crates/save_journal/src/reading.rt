@@ -66,7 +66,8 @@ fn read_record(alloc: Global, behind: &[u8], number: u64, place: u64) -> Result<
     ensures whole { OnOk result (41 + body_length behind.now ≤ length behind.now) }
     ensures body { IfOk result (λ v. v.items ≡ body_of behind.now) }
     ensures right { OnOk result (sha256 (body_of behind.now) ≡ kept_of behind.now) }
-    ensures refused { IfErr result (λ e. (e ≡ WantOfMemory) ⊎ (records_from number place 0 (0xA5 ∷ behind.now) ≡ Err e)) }
+    ensures refused { IfErr result (λ e. (e ≡ WantOfMemory)
+        ⊎ (records_from number place 0 (0xA5 ∷ behind.now) ≡ Err e)) }
     ensures no_disk { IfErr result (λ e. e ≢ DiskFailed) }
 {
     let Some(n) = whole_length(behind) else {
@@ -87,7 +88,8 @@ fn read_record(alloc: Global, behind: &[u8], number: u64, place: u64) -> Result<
 
 /// The length of the body behind an open gate, none where the record and the next gate are not whole.
 fn whole_length(behind: &[u8]) -> Option<usize>
-    ensures { MatchOption result (length behind.now < 41 + body_length behind.now) (λ n. (n ≡ body_length behind.now) × (41 + n ≤ length behind.now)) }
+    ensures { MatchOption result (length behind.now < 41 + body_length behind.now) (λ n. (n ≡ body_length behind.now)
+        × (41 + n ≤ length behind.now)) }
 {
     if behind.len() < 41 {
         return None;

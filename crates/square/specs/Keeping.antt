@@ -84,7 +84,12 @@ pub record HasKept (m : Module) (start : List Entry) (old new : Keeper) (given :
   pub never_fall : old.faults ≤ new.faults
   pub later : old.moment ≤ new.moment
   pub was_live : new.live → old.live
-  pub since : IfSome old.kept (λ list. (image : Option (List Entry)) → new.since old.moment image → IsImageAmid m start list given image)
-  pub now : IfSome old.kept (λ list. (image : Option (List Entry)) → new.since new.moment image → IsImageWith m start (list ++ given) image)
-  pub exact : new.live → IfSome old.kept (λ list. (image : Option (List Entry)) → new.since old.moment image → IsImagePart list given image)
-  pub earlier : IfSome old.kept (λ list. (m : ℕ) (image : Option (List Entry)) → m ≤ old.moment → new.since m image ↔ (old.since m image ⊎ new.since old.moment image))
+  pub since : IfSome old.kept (λ list. (image : Option (List Entry)) → new.since old.moment image →
+      IsImageAmid m start list given image)
+  pub now : IfSome old.kept (λ list. (image : Option (List Entry)) → new.since new.moment image →
+      IsImageWith m start (list ++ given) image)
+  pub exact : new.live →
+      IfSome old.kept (λ list. (image : Option (List Entry)) → new.since old.moment image →
+      IsImagePart list given image)
+  pub earlier : IfSome old.kept (λ list. (m : ℕ) (image : Option (List Entry)) → m ≤ old.moment →
+      new.since m image ↔ (old.since m image ⊎ new.since old.moment image))

@@ -25,7 +25,8 @@ bottom_of m = bottom m.plain.generators
 
 -- the degrees of the generators of the row with the new ones, which stand last
 abbrev pub degrees_with : Module → List Content → Content → List ℤ
-degrees_with m squares content = degrees_from m.bottom squares ++ replicate (length content.images) (m.bottom +ℤ pos (length squares))
+degrees_with m squares content =
+    degrees_from m.bottom squares ++ replicate (length content.images) (m.bottom +ℤ pos (length squares))
 
 -- the dimensions, in the degree of the square, of what d_s goes to, of F_s with `count` new generators, and of F_s with those of
 -- a content
@@ -33,7 +34,9 @@ abbrev pub target_width : Module → Option (List Content) → List Content → 
 target_width m below squares = (target_over m below).width (m.bottom +ℤ pos (length squares))
 
 abbrev pub width_with : Module → List Content → ℕ → ℕ
-width_with m squares count = free_width (degrees_from m.bottom squares ++ replicate count (m.bottom +ℤ pos (length squares))) (m.bottom +ℤ pos (length squares))
+width_with m squares count = free_width
+    (degrees_from m.bottom squares ++ replicate count (m.bottom +ℤ pos (length squares)))
+    (m.bottom +ℤ pos (length squares))
 
 abbrev pub source_width : Module → List Content → Content → ℕ
 source_width m squares content = width_with m squares (length content.images)
@@ -41,10 +44,12 @@ source_width m squares content = width_with m squares (length content.images)
 -- the matrix of d_s in the degree of the square, with the new generators, and its reduction
 abbrev pub square_matrix : Module → Option (List Content) → List Content → Content → List (List Bool)
 square_matrix m below squares content =
-    map_rows (target_over m below) (degrees_with m squares content) (images_of squares ++ content.images) (m.bottom +ℤ pos (length squares))
+    map_rows (target_over m below) (degrees_with m squares content) (images_of squares ++ content.images)
+    (m.bottom +ℤ pos (length squares))
 
 abbrev pub IsQuasi : Module → Option (List Content) → List Content → Content → Reduction → Type 0
-IsQuasi m below squares content reduction = IsReductionOf (target_width m below squares) (square_matrix m below squares content) reduction
+IsQuasi m below squares content reduction =
+    IsReductionOf (target_width m below squares) (square_matrix m below squares content) reduction
 
 -- ---- squares with their place
 

@@ -80,7 +80,8 @@ pub record IsNextAt (table : Staircase) (s : ℕ) (t : ℤ) : Type 0 where
 -- the dimensions, k degrees above the bottom, of what d_s goes to and of F_s with `count` new generators, where the next square
 -- of row s is
 abbrev pub next_target_width : Staircase → ℕ → ℕ → ℕ
-next_target_width table s k = target_width (over table.resolved) (below_of (plain_rows table.rows) s k) (take k (row_of (plain_rows table.rows) s))
+next_target_width table s k = target_width (over table.resolved) (below_of (plain_rows table.rows) s k)
+    (take k (row_of (plain_rows table.rows) s))
 
 abbrev pub next_width : Staircase → ℕ → ℕ → ℕ → ℕ
 next_width table s k count = width_with (over table.resolved) (take k (row_of (plain_rows table.rows) s)) count
@@ -97,9 +98,13 @@ FitWords w = (w.0 < 2 ^ 64) × (w.1 < 2 ^ 64)
 pub record IsReadable (table : Staircase) (s : ℕ) (t : ℤ) (content : Content) : Type 0 where
   pub all_read : AllRead table.rows
   pub place : IsNextAt table s t
-  pub shape : HasShape (over table.resolved) (below_of (plain_rows table.rows) s place.above) (take place.above (row_of (plain_rows table.rows) s)) content
-  pub target_fits : target_width (over table.resolved) (below_of (plain_rows table.rows) s place.above) (take place.above (row_of (plain_rows table.rows) s)) < 2 ^ 64
-  pub source_fits : source_width (over table.resolved) (take place.above (row_of (plain_rows table.rows) s)) content < 2 ^ 64
+  pub shape : HasShape (over table.resolved) (below_of (plain_rows table.rows) s place.above)
+      (take place.above (row_of (plain_rows table.rows) s)) content
+  pub target_fits : target_width (over table.resolved) (below_of (plain_rows table.rows) s place.above)
+      (take place.above (row_of (plain_rows table.rows) s))
+      < 2 ^ 64
+  pub source_fits : source_width (over table.resolved) (take place.above (row_of (plain_rows table.rows) s)) content
+      < 2 ^ 64
 
 -- The square continues the table's start: it has that start, or every square so far was read, and so was it.
 abbrev pub IsContinued : Staircase → Placed → Type 0
@@ -109,7 +114,8 @@ IsContinued table q = (q.start ≡ table.start) ⊎ (AllRead table.rows × (q.st
 pub record IsQuasiAt (table : Staircase) (s : ℕ) (t : ℤ) (reduction : Reduction) : Type 0 where
   pub above : ℕ
   pub degree : t ≡ bottom_of table.resolved +ℤ pos above
-  pub quasi : IsQuasi (over table.resolved) (below_of (plain_rows table.rows) s above) (take above (row_of (plain_rows table.rows) s)) (content_at table.rows s above) reduction
+  pub quasi : IsQuasi (over table.resolved) (below_of (plain_rows table.rows) s above)
+      (take above (row_of (plain_rows table.rows) s)) (content_at table.rows s above) reduction
 
 -- what is known of the square at (s, k) of a table: its place and its module, what it holds, that the table's start has the same
 -- at its place as its own, and that its own is the whole start where it was made
@@ -128,7 +134,8 @@ pub record IsTable (table : Staircase) : Type 0 where
   pub rows : length table.rows ≡ MAX_S + 1
   pub never_rise : (s : ℕ) → length (row_in table.rows (suc s)) ≤ length (row_in table.rows s)
   pub placed : (s k : ℕ) (q : Placed) → slice_get (row_in table.rows s) k ≡ Some q → IsIn table s k q
-  pub started : (s k : ℕ) (content : Content) → entry_at table.start s k ≡ Some content → k < length (row_in table.rows s)
+  pub started : (s k : ℕ) (content : Content) → entry_at table.start s k ≡ Some content →
+      k < length (row_in table.rows s)
 
 -- the square stands at (s, k) over this module, or in degree t
 pub record IsPlaced (resolved : Checked) (s k : ℕ) (q : Placed) : Type 0 where
@@ -181,7 +188,8 @@ pub record IsFooting (f : Footing) : Type 0 where
   pub has_below : (i : ℕ) → suc i ≡ f.s → (below : List Content) × (f.below ≡ Some below) × (length below ≡ f.above + 1)
   pub has_none : f.s ≡ 0 → f.below ≡ None
   pub before_are : (j : ℕ) → j < f.above → IsOf (over f.resolved) f.start f.s j (square_in f.squares j)
-  pub below_are : (i j : ℕ) → suc i ≡ f.s → j ≤ f.above → IfSome f.below (λ below. IsOf (over f.resolved) f.start i j (square_in below j))
+  pub below_are : (i j : ℕ) → suc i ≡ f.s → j ≤ f.above →
+      IfSome f.below (λ below. IsOf (over f.resolved) f.start i j (square_in below j))
 
 -- each row has room for so many squares more
 abbrev pub HaveRoom : List Shelf → ℕ → Type 0

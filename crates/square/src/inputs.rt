@@ -50,9 +50,26 @@ impl Model for Inputs {
     ghost use Rattle.square.specs.declared.range.TheConstants.{MAX_T};
     ghost use Rattle.square.specs.Tables.{IsFooting, AreOfRow, contents, under_row};
 
-    ghost view = { λ i. record { resolved = arc_value i.module; start = i.start; s = i.s; above = i.above; squares = contents i.row.squares; below = under_row i.s (contents i.below.squares) } };
+    ghost view = { λ i. record {
+      resolved = arc_value i.module;
+      start = i.start;
+      s = i.s;
+      above = i.above;
+      squares = contents i.row.squares;
+      below = under_row i.s (contents i.below.squares);
+    } };
 
-    ghost invariant = { λ i. IsFooting (record { resolved = arc_value i.module; start = i.start; s = i.s; above = i.above; squares = contents i.row.squares; below = under_row i.s (contents i.below.squares) }) × (i.t ≡ bottom (arc_value i.module).plain.generators +ℤ pos i.above) × (arc_value i.basis ≡ MAX_T) × AreOfRow (arc_value i.module) i.s i.row.squares × ((j : ℕ) → suc j ≡ i.s → AreOfRow (arc_value i.module) j i.below.squares) };
+    ghost invariant = { λ i. IsFooting (record {
+      resolved = arc_value i.module;
+      start = i.start;
+      s = i.s;
+      above = i.above;
+      squares = contents i.row.squares;
+      below = under_row i.s (contents i.below.squares);
+    })
+        × (i.t ≡ bottom (arc_value i.module).plain.generators +ℤ pos i.above) × (arc_value i.basis ≡ MAX_T)
+        × AreOfRow (arc_value i.module) i.s i.row.squares
+        × ((j : ℕ) → suc j ≡ i.s → AreOfRow (arc_value i.module) j i.below.squares) };
 }
 
 impl Inputs {
@@ -125,7 +142,8 @@ impl Inputs {
     /// `Memory` if allocation fails.
     pub fn below(&self, alloc: Global) -> Result<Below<'_>, Memory>
         ensures graded { IfOk result (λ below. graded_of below ≡ target_over (over self.now.resolved) self.now.below) }
-        ensures reaches { IfOk result (λ below. (max k : ℕ) → k ≤ max → reaches_of below max (bottom_of self.now.resolved +ℤ pos k)) }
+        ensures reaches { IfOk result (λ below. (max k : ℕ) → k ≤ max →
+            reaches_of below max (bottom_of self.now.resolved +ℤ pos k)) }
     {
         if self.s == 0 {
             return Ok(Below::Module(self.module()));
@@ -138,7 +156,8 @@ impl Inputs {
 
     /// The echelon rows of the kernel of the square below, which has the same degree, none for row 0.
     pub fn kernel_below(&self) -> Option<&[BitVec]>
-        ensures { option_map (λ rows. rows.now) result ≡ option_map (λ below. (square_in below self.now.above).kernel) self.now.below }
+        ensures { option_map (λ rows. rows.now) result
+            ≡ option_map (λ below. (square_in below self.now.above).kernel) self.now.below }
     {
         let square = self.square_below()?;
         Some(square.kernel())
@@ -149,7 +168,8 @@ impl Inputs {
     /// # Errors
     /// `Memory` if allocation fails, or if there are too many owners to count.
     pub fn kernel_rows_below(&self, alloc: Global) -> Result<Option<Rows>, Memory>
-        ensures { IfOk result (λ rows. rows ≡ option_map (λ below. (square_in below self.now.above).kernel) self.now.below) }
+        ensures { IfOk result
+            (λ rows. rows ≡ option_map (λ below. (square_in below self.now.above).kernel) self.now.below) }
     {
         match self.square_below() {
             Some(square) => Ok(Some(square.kernel_rows(alloc)?)),
@@ -159,7 +179,8 @@ impl Inputs {
 
     /// The square below, which has the same degree, none for row 0.
     fn square_below(&self) -> Option<&Arc<Square>>
-        ensures { option_map (λ a. content_of (arc_value a.now)) result ≡ option_map (λ below. square_in below self.now.above) self.now.below }
+        ensures { option_map (λ a. content_of (arc_value a.now)) result
+            ≡ option_map (λ below. square_in below self.now.above) self.now.below }
     {
         if self.s == 0 {
             return None;

@@ -55,7 +55,8 @@ pub trait Keep {
         requires start { IfSome (telling self.old).start (λ st. square.now.start ≡ st) }
         ensures live { OnOk result (telling self.new).live }
         ensures no_fault { OnOk result ((telling self.new).faults ≡ (telling self.old).faults) }
-        ensures put { OnOk result ((telling self.new).kept ≡ with_squares (telling self.old).kept (entry_of square.now ∷ [])) }
+        ensures put { OnOk result
+            ((telling self.new).kept ≡ with_squares (telling self.old).kept (entry_of square.now ∷ [])) }
         ensures failed { result ≡ Err KeepFault.Failed → HasRisen (telling self.old).faults (telling self.new).faults }
         ensures dead { result ≡ Err KeepFault.Failed → (telling self.new).live → ⊥ }
         ensures unput { result ≡ Err KeepFault.Failed → (telling self.new).kept ≡ (telling self.old).kept }
@@ -64,14 +65,21 @@ pub trait Keep {
         ensures same_module { (telling self.new).resolved ≡ (telling self.old).resolved }
         ensures same_start { (telling self.new).start ≡ (telling self.old).start }
         ensures later { (telling self.old).moment ≤ (telling self.new).moment }
-        ensures between { IfSome (telling self.old).kept (λ list. (image : Option (List Entry)) → (telling self.new).since (telling self.old).moment image → IsImageBetween list square.now image) }
-        ensures earlier { IfSome (telling self.old).kept (λ list. (m : ℕ) (image : Option (List Entry)) → m ≤ (telling self.old).moment → (telling self.new).since m image ↔ ((telling self.old).since m image ⊎ (telling self.new).since (telling self.old).moment image)) };
+        ensures between { IfSome (telling self.old).kept (λ list. (image : Option (List Entry)) →
+            (telling self.new).since (telling self.old).moment image → IsImageBetween list square.now image) }
+        ensures earlier { IfSome (telling self.old).kept (λ list. (m : ℕ) (image : Option (List Entry)) →
+            m ≤ (telling self.old).moment →
+            (telling self.new).since m image
+            ↔ ((telling self.old).since m image ⊎ (telling self.new).since (telling self.old).moment image)) };
 
     /// An image since a moment is one since each earlier moment.
-    ghost since_earlier: { (k : Self) (m n : ℕ) (image : Option (List Entry)) → m ≤ n → (telling k).since n image → (telling k).since m image };
+    ghost since_earlier: { (k : Self) (m n : ℕ) (image : Option (List Entry)) → m ≤ n → (telling k).since n image →
+        (telling k).since m image };
 
     /// While the keeper is live, every image now is what it has kept.
-    ghost image_is_kept: { (k : Self) → (telling k).live → IfSome (telling k).kept (λ list. (image : Option (List Entry)) → (telling k).since (telling k).moment image → image ≡ Some list) };
+    ghost image_is_kept: { (k : Self) → (telling k).live →
+        IfSome (telling k).kept (λ list. (image : Option (List Entry)) → (telling k).since (telling k).moment image →
+        image ≡ Some list) };
 }
 
 /// For runs without a save file: nothing is kept, and no memory is taken.
@@ -79,7 +87,15 @@ pub trait Keep {
 pub struct NoKeep;
 
 impl Keep for NoKeep {
-    ghost telling = { λ _. record { live = Unit {0}; faults = 0; kept = None; resolved = None; start = None; moment = 0; since = λ _ _. ⊥ } };
+    ghost telling = { λ _. record {
+      live = Unit {0};
+      faults = 0;
+      kept = None;
+      resolved = None;
+      start = None;
+      moment = 0;
+      since = λ _ _. ⊥;
+    } };
 
     fn keep(&mut self, _square: &Square) -> Result<(), KeepFault>
         ensures always { result ≡ Ok tt }
@@ -107,7 +123,13 @@ impl Model for MemKeep {
 
     ghost Value = { Kept };
 
-    ghost view = { λ k. record { list = k.list; failing = k.failing.items; calls = k.calls; faults = k.faults; live = k.live } };
+    ghost view = { λ k. record {
+      list = k.list;
+      failing = k.failing.items;
+      calls = k.calls;
+      faults = k.faults;
+      live = k.live;
+    } };
 }
 
 impl MemKeep {
@@ -116,7 +138,13 @@ impl MemKeep {
     /// # Errors
     /// None: it takes over the memory that it needs.
     pub fn new(_alloc: Global, failing: Vec<u64>) -> Result<MemKeep, Memory>
-        ensures { IsOkAnd result (λ keeper. keeper ≡ record { list = []; failing = failing.items; calls = 0; faults = 0; live = true }) }
+        ensures { IsOkAnd result (λ keeper. keeper ≡ record {
+          list = [];
+          failing = failing.items;
+          calls = 0;
+          faults = 0;
+          live = true;
+        }) }
     {
         Ok(MemKeep {
             list: Start::empty(),
@@ -144,7 +172,15 @@ impl MemKeep {
 }
 
 impl Keep for MemKeep {
-    ghost telling = { λ k. record { live = k.live ≡ true; faults = k.faults; kept = Some k.list; resolved = None; start = None; moment = length k.list; since = λ m image. IsFirstPart k.list m image } };
+    ghost telling = { λ k. record {
+      live = k.live ≡ true;
+      faults = k.faults;
+      kept = Some k.list;
+      resolved = None;
+      start = None;
+      moment = length k.list;
+      since = λ m image. IsFirstPart k.list m image;
+    } };
 
     fn keep(&mut self, square: &Square) -> Result<(), KeepFault>
         requires { self.old.live ≡ true }
@@ -157,10 +193,14 @@ impl Keep for MemKeep {
         ensures memory { result ≡ Err KeepFault.Memory → self.new ≡ self.old }
         ensures never_fall { self.old.faults ≤ self.new.faults }
         ensures later { length self.old.list ≤ length self.new.list }
-        ensures between { (image : Option (List Entry)) → IsFirstPart self.new.list (length self.old.list) image → IsImageBetween self.old.list square.now image }
-        ensures earlier { (m : ℕ) (image : Option (List Entry)) → m ≤ length self.old.list → IsFirstPart self.new.list m image ↔ (IsFirstPart self.old.list m image ⊎ IsFirstPart self.new.list (length self.old.list) image) }
+        ensures between { (image : Option (List Entry)) → IsFirstPart self.new.list (length self.old.list) image →
+            IsImageBetween self.old.list square.now image }
+        ensures earlier { (m : ℕ) (image : Option (List Entry)) → m ≤ length self.old.list →
+            IsFirstPart self.new.list m image
+            ↔ (IsFirstPart self.old.list m image ⊎ IsFirstPart self.new.list (length self.old.list) image) }
         ensures keeps { OnOk result ((keep_fails self.old ≡ false) × (self.new ≡ after_keep self.old square.now)) }
-        ensures fails { OnErr result ((keep_fails self.old ≡ true) × (result ≡ Err KeepFault.Failed) × (self.new ≡ after_failed_keep self.old)) }
+        ensures fails { OnErr result ((keep_fails self.old ≡ true) × (result ≡ Err KeepFault.Failed)
+            × (self.new ≡ after_failed_keep self.old)) }
     {
         let fails = self.fails_next();
         self.calls = self.calls.saturating_add(1);

@@ -27,7 +27,10 @@ impl Model for Row {
 
     ghost Value = { Shelf };
 
-    ghost view = { λ r. record { squares = map arc_value r.squares.items; room = vec_capacity r.squares - vec_len r.squares } };
+    ghost view = { λ r. record {
+      squares = map arc_value r.squares.items;
+      room = vec_capacity r.squares - vec_len r.squares;
+    } };
 }
 
 impl Row {
@@ -108,7 +111,8 @@ impl Row {
         requires within { n ≤ length self.now.squares }
         requires degree { n ≤ k + 1 }
         requires basis { k ≤ basis.now }
-        ensures { SomeIff result (row_width (take n (contents self.now.squares)) k < 2 ^ 64) (row_width (take n (contents self.now.squares)) k) }
+        ensures { SomeIff result (row_width (take n (contents self.now.squares)) k < 2 ^ 64)
+            (row_width (take n (contents self.now.squares)) k) }
     {
         let mut width: u64 = 0;
         for i in 0..n {

@@ -39,18 +39,43 @@ impl Model for Square {
     ghost use Rattle.square.specs.Squares.{IsMeasured};
     ghost use Rattle.square.specs.Inside.Kernel.{rows_of, quasi_of};
 
-    ghost view = { λ q. record { resolved = q.module.value; start = q.start; s = q.s; above = q.above; content = record { images = q.gens.items; kernel = rows_of q.kernel }; quasi = quasi_of q.kernel } };
+    ghost view = { λ q. record {
+      resolved = q.module.value;
+      start = q.start;
+      s = q.s;
+      above = q.above;
+      content = record { images = q.gens.items; kernel = rows_of q.kernel };
+      quasi = quasi_of q.kernel;
+    } };
 
-    ghost invariant = { λ q. IsMeasured (record { resolved = q.module.value; start = q.start; s = q.s; above = q.above; content = record { images = q.gens.items; kernel = rows_of q.kernel }; quasi = quasi_of q.kernel }) q.t q.target_width q.width };
+    ghost invariant = { λ q. IsMeasured
+        (record {
+          resolved = q.module.value;
+          start = q.start;
+          s = q.s;
+          above = q.above;
+          content = record { images = q.gens.items; kernel = rows_of q.kernel };
+          quasi = quasi_of q.kernel;
+        })
+        q.t q.target_width q.width };
 }
 
 impl Square {
     /// The square that is made from these inputs. `quasi` is the reduction of the matrix of d_s in its degree, with the new
     /// generators. The kernel is kept once, as a part of it.
     pub fn made(inputs: &Inputs, gens: Vec<BitVec>, kernel: Vec<BitVec>, quasi: Reduced) -> Square
-        requires step { IsStep (over inputs.now.resolved) inputs.now.below inputs.now.squares (record { images = gens.items; kernel = kernel.items }) }
-        requires quasi { IsQuasi (over inputs.now.resolved) inputs.now.below inputs.now.squares (record { images = gens.items; kernel = kernel.items }) quasi }
-        ensures { result ≡ record { resolved = inputs.now.resolved; start = inputs.now.start; s = inputs.now.s; above = inputs.now.above; content = record { images = gens.items; kernel = kernel.items }; quasi = Some quasi } }
+        requires step { IsStep (over inputs.now.resolved) inputs.now.below inputs.now.squares
+            (record { images = gens.items; kernel = kernel.items }) }
+        requires quasi { IsQuasi (over inputs.now.resolved) inputs.now.below inputs.now.squares
+            (record { images = gens.items; kernel = kernel.items }) quasi }
+        ensures { result ≡ record {
+          resolved = inputs.now.resolved;
+          start = inputs.now.start;
+          s = inputs.now.s;
+          above = inputs.now.above;
+          content = record { images = gens.items; kernel = kernel.items };
+          quasi = Some quasi;
+        } }
     {
         drop(kernel);
         Square::reduced(inputs, gens, quasi)
@@ -58,9 +83,18 @@ impl Square {
 
     /// The square that is made from these inputs, if nobody holds its kernel rows beside the reduction that has them.
     pub fn reduced(inputs: &Inputs, gens: Vec<BitVec>, quasi: Reduced) -> Square
-        requires step { IsStep (over inputs.now.resolved) inputs.now.below inputs.now.squares (record { images = gens.items; kernel = quasi.kernel }) }
-        requires quasi { IsQuasi (over inputs.now.resolved) inputs.now.below inputs.now.squares (record { images = gens.items; kernel = quasi.kernel }) quasi }
-        ensures { result ≡ record { resolved = inputs.now.resolved; start = inputs.now.start; s = inputs.now.s; above = inputs.now.above; content = record { images = gens.items; kernel = quasi.kernel }; quasi = Some quasi } }
+        requires step { IsStep (over inputs.now.resolved) inputs.now.below inputs.now.squares
+            (record { images = gens.items; kernel = quasi.kernel }) }
+        requires quasi { IsQuasi (over inputs.now.resolved) inputs.now.below inputs.now.squares
+            (record { images = gens.items; kernel = quasi.kernel }) quasi }
+        ensures { result ≡ record {
+          resolved = inputs.now.resolved;
+          start = inputs.now.start;
+          s = inputs.now.s;
+          above = inputs.now.above;
+          content = record { images = gens.items; kernel = quasi.kernel };
+          quasi = Some quasi;
+        } }
     {
         let target_width = quasi.cols() as u64;
         let width = quasi.height() as u64;

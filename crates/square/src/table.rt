@@ -50,9 +50,20 @@ impl Model for Table {
     ghost use Rattle.square.specs.declared.range.TheConstants.{MAX_T};
     ghost use Rattle.square.specs.Tables.{IsTable, HaveRoom};
 
-    ghost view = { λ t. record { resolved = arc_value t.module; start = t.start; rows = map (λ r. r.squares) t.rows.items; spare = t.spare } };
+    ghost view = { λ t. record {
+      resolved = arc_value t.module;
+      start = t.start;
+      rows = map (λ r. r.squares) t.rows.items;
+      spare = t.spare;
+    } };
 
-    ghost invariant = { λ t. IsTable (record { resolved = arc_value t.module; start = t.start; rows = map (λ r. r.squares) t.rows.items; spare = t.spare }) × (arc_value t.basis ≡ MAX_T) × HaveRoom t.rows.items t.spare };
+    ghost invariant = { λ t. IsTable (record {
+      resolved = arc_value t.module;
+      start = t.start;
+      rows = map (λ r. r.squares) t.rows.items;
+      spare = t.spare;
+    })
+        × (arc_value t.basis ≡ MAX_T) × HaveRoom t.rows.items t.spare };
 }
 
 impl Table {
@@ -61,7 +72,12 @@ impl Table {
     /// # Errors
     /// `Memory` if allocation fails.
     pub fn new(alloc: Global, module: Module) -> Result<Table, Memory>
-        ensures { IfOk result (λ table. table ≡ record { resolved = «module»; start = []; rows = replicate (MAX_S + 1) []; spare = 0 }) }
+        ensures { IfOk result (λ table. table ≡ record {
+          resolved = «module»;
+          start = [];
+          rows = replicate (MAX_S + 1) [];
+          spare = 0;
+        }) }
     {
         let module = Arc::new(alloc, module)?;
         let basis = Arc::new(alloc, Basis::new(alloc, MAX_T)?)?;
@@ -192,7 +208,8 @@ impl Table {
     /// `Memory` if allocation fails.
     pub fn generators(&self, alloc: Global, s: u16, n: u16) -> Result<Gens, Memory>
         requires { n ≤ length (row_in self.now.rows s) }
-        ensures { IfOk result (λ gens. gens ≡ degrees_from (bottom_of self.now.resolved) (take n (row_of (plain_rows self.now.rows) s))) }
+        ensures { IfOk result
+            (λ gens. gens ≡ degrees_from (bottom_of self.now.resolved) (take n (row_of (plain_rows self.now.rows) s))) }
     {
         if usize::from(s) >= self.rows.len() {
             return Ok(Gens::new(alloc));
@@ -221,8 +238,10 @@ impl Table {
     pub fn below(&self, alloc: Global, s: u16, above: u16) -> Result<Below<'_>, Memory>
         requires degree { above ≤ MAX_T }
         requires there { (i : ℕ) → suc i ≡ s → above < length (row_in self.now.rows i) }
-        ensures graded { IfOk result (λ below. graded_of below ≡ target_over (over self.now.resolved) (below_of (plain_rows self.now.rows) s above)) }
-        ensures reaches { IfOk result (λ below. (max k : ℕ) → k ≤ max → reaches_of below max (bottom_of self.now.resolved +ℤ pos k)) }
+        ensures graded { IfOk result (λ below. graded_of below
+            ≡ target_over (over self.now.resolved) (below_of (plain_rows self.now.rows) s above)) }
+        ensures reaches { IfOk result (λ below. (max k : ℕ) → k ≤ max →
+            reaches_of below max (bottom_of self.now.resolved +ℤ pos k)) }
     {
         if s == 0 {
             return Ok(Below::Module(self.module()));
@@ -235,7 +254,8 @@ impl Table {
     /// one of them does not fit 64 bits.
     pub fn next_widths(&self, s: u16, t: i32, count: usize) -> Option<(u64, u64)>
         requires { IsNextAt self.now s t }
-        ensures { (k : ℕ) → t ≡ bottom_of self.now.resolved +ℤ pos k → SomeIff result (FitWords (next_widths self.now s k count)) (next_widths self.now s k count) }
+        ensures { (k : ℕ) → t ≡ bottom_of self.now.resolved +ℤ pos k →
+            SomeIff result (FitWords (next_widths self.now s k count)) (next_widths self.now s k count) }
     {
         let above = self.above(t);
         let target_width = self.target_width(s, above)?;
@@ -276,7 +296,8 @@ impl Table {
         requires row { s ≤ MAX_S }
         requires degree { above ≤ MAX_T }
         requires there { above < length (row_in self.now.rows s) }
-        ensures { IfOk result (λ reduced. IsQuasi (over self.now.resolved) (below_of (plain_rows self.now.rows) s above) (take above (row_of (plain_rows self.now.rows) s)) (content_at self.now.rows s above) reduced) }
+        ensures { IfOk result (λ reduced. IsQuasi (over self.now.resolved) (below_of (plain_rows self.now.rows) s above)
+            (take above (row_of (plain_rows self.now.rows) s)) (content_at self.now.rows s above) reduced) }
     {
         let t = self.module.bottom() + i32::from(above);
         let target = self.below(alloc, s, above)?;
@@ -345,8 +366,10 @@ impl Table {
     fn share_below(&self, alloc: Global, s: u16, above: u16) -> Result<Row, Memory>
         requires s { s ≤ MAX_S }
         requires next { IsNext self.now.rows s above }
-        ensures below { IfOk result (λ row. under_row s (contents row.squares) ≡ below_of (plain_rows self.now.rows) s above) }
-        ensures squares { IfOk result (λ row. (j : ℕ) → suc j ≡ s → row.squares ≡ take (above + 1) (row_in self.now.rows j)) }
+        ensures below { IfOk result
+            (λ row. under_row s (contents row.squares) ≡ below_of (plain_rows self.now.rows) s above) }
+        ensures squares { IfOk result (λ row. (j : ℕ) → suc j ≡ s →
+            row.squares ≡ take (above + 1) (row_in self.now.rows j)) }
     {
         if s == 0 {
             return Ok(Row::new(alloc));
@@ -398,7 +421,8 @@ fn reduction<T: Target>(
     requires images { AreImages (T.graded target.now) gens.now images.now }
     requires source { IsWithinReach basis.now gens.now t }
     requires target { T.reaches target.now basis.now t }
-    ensures { IfOk result (λ reduced. IsReductionOf ((T.graded target.now).width t) (map_rows (T.graded target.now) gens.now images.now t) reduced) }
+    ensures { IfOk result (λ reduced. IsReductionOf ((T.graded target.now).width t)
+        (map_rows (T.graded target.now) gens.now images.now t) reduced) }
 {
     let matrix = Hom::new(basis, gens, target, images).matrix(alloc, t)?;
     Reduced::of(alloc, &matrix)

@@ -29,7 +29,8 @@ state_of course = after_all (opening course.bottom course.rows course.degrees co
 
 -- The start is one, and the machine accepts the events one after another.
 abbrev pub IsLegalCourse : Course → Type 0
-IsLegalCourse course = IsReachedByEntries course.bottom course.rows course.degrees course.start course.history (state_of course)
+IsLegalCourse course =
+    IsReachedByEntries course.bottom course.rows course.degrees course.start course.history (state_of course)
 
 -- ---- events with the number of who made them
 

@@ -73,7 +73,8 @@ has_fail (Back who s t ∷ events) = has_fail events
 has_fail (Fail who s t ∷ events) = true
 
 -- From the opening on the keeper was given the squares that the events give, in their order.
-pub record HasKeptGiven (m : Module) (start : List Entry) (low : ℤ) (before now : Keeper) (events : List Event) : Type 0 where
+pub record HasKeptGiven (m : Module) (start : List Entry) (low : ℤ) (before now : Keeper) (events : List Event)
+    : Type 0 where
   pub squares : List Entry
   pub places_are : places low squares ≡ given events
   pub kept : HasKept m start before now squares
@@ -87,7 +88,8 @@ pub record IsAsWell (before now : Keeper) (events : List Event) : Type 0 where
 
 -- What is so of each desk. The machine accepted the events of its course, one after another. The table has just the squares that are done,
 -- and it continues that of the opening. The keeper is that of the table, and was given what the events give.
-pub record IsDesk {K : Type 0} (before now : Keeper) (opening : Opening K) (course : Course) (table : Staircase) : Type 0 where
+pub record IsDesk {K : Type 0} (before now : Keeper) (opening : Opening K) (course : Course) (table : Staircase)
+    : Type 0 where
   pub course_is : course ≡ course_of opening course.history
   pub legal : IsLegalCourse course
   pub row : opening.range.s ≤ MAX_S
@@ -103,7 +105,8 @@ pub record IsDesk {K : Type 0} (before now : Keeper) (opening : Opening K) (cour
 
 -- what is so of a desk
 abbrev pub IsDeskState : {K : Type 0} → (K → Keeper) → DeskState K → Type 0
-IsDeskState telling desk = IsDesk (telling desk.opening.keeper.value) (telling desk.keeper) desk.opening desk.course desk.table
+IsDeskState telling desk =
+    IsDesk (telling desk.opening.keeper.value) (telling desk.keeper) desk.opening desk.course desk.table
 
 -- ---- takes
 

@@ -33,7 +33,13 @@ module _ {K : Type 0} where
 
   -- the course of the board through these events
   abbrev pub course_of : Opening K → List Event → Course
-  course_of opening history = record { rows = opening.range.s; degrees = opening.range.t; bottom = bottom_of opening; start = opening.start; history = history }
+  course_of opening history = record {
+    rows = opening.range.s;
+    degrees = opening.range.t;
+    bottom = bottom_of opening;
+    start = opening.start;
+    history = history;
+  }
 
   -- how many squares row i has after these events: those of the table at the opening, and those that were given since
   abbrev pub front_after : Opening K → List Event → ℕ → ℕ

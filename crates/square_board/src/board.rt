@@ -67,7 +67,8 @@ impl<K: Keep> Board<K> {
         ensures opened { IfOk result (λ made. IsOpenedWith made.0.name table range keeper) }
         ensures as_many { IfOk result (λ made. made.0.passes ≡ passes) }
         ensures count { IfOk result (λ made. length made.1.items ≡ passes) }
-        ensures passes { IfOk result (λ made. (i : ℕ) → i < passes → slice_get made.1.items i ≡ Some (new_pass made.0 i)) }
+        ensures passes { IfOk result (λ made. (i : ℕ) → i < passes →
+            slice_get made.1.items i ≡ Some (new_pass made.0 i)) }
         ensures err { IfErr result (λ refused. refused.1 ≡ keeper) }
     {
         let desk = match Desk::new(alloc, table, range, keeper) {
@@ -103,7 +104,8 @@ impl<K: Keep> Board<K> {
         ensures job { MatchTaken result (λ job. HasTakenJob pass.old pass.new job) (HasTurned pass.old pass.new []) }
         ensures idle { (result ≡ Ok Idle) ↔ ((pass.new.own ≡ pass.old.own) × IsIdle (state_seen pass.new)) }
         ensures over { (result ≡ Ok Over) ↔ IsOver (state_seen pass.new) }
-        ensures stopped { (cause : Cause) → (result ≡ Ok (Stopped cause)) ↔ (first_cause (events_of pass.new.seen) ≡ Some cause) }
+        ensures stopped { (cause : Cause) →
+            (result ≡ Ok (Stopped cause)) ↔ (first_cause (events_of pass.new.seen) ≡ Some cause) }
     {
         let mut held = self.turn.acquire(wait, pass);
         let taken = held.value.take(alloc, pass.number());
@@ -170,7 +172,8 @@ impl<K: Keep> Board<K> {
         ensures turned { HasTurned pass.old pass.new [] }
         ensures none { IfOk result (λ found. (found ≡ None) ↔ (is_done_at (state_seen pass.new) s t ≡ false)) }
         ensures square { IfOk result (λ found. IfSome found (λ a. IsSquareAt self.now.name s t (arc_value a))) }
-        ensures reached { IfOk result (λ found. (k : ℕ) → t ≡ bottom_of self.now.name +ℤ pos k → found ≡ None → front_after self.now.name (events_of pass.new.seen) s ≤ k) }
+        ensures reached { IfOk result (λ found. (k : ℕ) → t ≡ bottom_of self.now.name +ℤ pos k → found ≡ None →
+            front_after self.now.name (events_of pass.new.seen) s ≤ k) }
         ensures falling { AreFalling self.now.name (events_of pass.new.seen) }
     {
         let held = self.turn.acquire(wait, pass);
@@ -201,7 +204,8 @@ impl<K: Keep> Board<K> {
         ensures same { IsSamePass pass.old pass.new }
         ensures looked { pass.new ≡ after_front pass.old pass.new.latest s result }
         ensures continues { Continues pass.old pass.new.latest }
-        ensures exact { (result ≡ front_after self.now.name (events_of pass.new.latest) s) ⊎ ((e : ℕ × Entry) × (result ≡ front_after self.now.name (events_of (pass.new.latest ++ e ∷ [])) s)) }
+        ensures exact { (result ≡ front_after self.now.name (events_of pass.new.latest) s)
+            ⊎ ((e : ℕ × Entry) × (result ≡ front_after self.now.name (events_of (pass.new.latest ++ e ∷ [])) s)) }
         ensures seen { front_after self.now.name (events_of pass.old.seen) s ≤ result }
         ensures latest { front_after self.now.name (events_of pass.old.latest) s ≤ result }
         ensures told { All (λ t. t.0 ≡ s → t.1 ≤ result) pass.old.told }
@@ -241,7 +245,8 @@ impl<K: Keep> Board<K> {
         requires pass { IsPassOf self pass }
         requires joined { HasAll pass }
         ensures history { numbered result.2.items ≡ pass.seen }
-        ensures is_desk { IsDesk (K.telling self.name.keeper.value) (K.telling result.1) self.name (course_of self.name result.2.items) result.0 }
+        ensures is_desk { IsDesk (K.telling self.name.keeper.value) (K.telling result.1) self.name
+            (course_of self.name result.2.items) result.0 }
         ensures fronts { All (λ t. t.1 ≤ front_after self.name result.2.items t.0) pass.told }
     {
         let Board { turn } = self;

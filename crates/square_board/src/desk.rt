@@ -53,7 +53,8 @@ impl<K: Keep> Model for Desk<K> {
 
     ghost view = { λ d. record { opening = d.opening; course = d.schedule; table = d.table; keeper = d.keeper } };
 
-    ghost invariant = { λ d. IsDesk (K.telling d.opening.keeper.value) (K.telling d.keeper) d.opening d.schedule d.table };
+    ghost invariant = { λ d. IsDesk (K.telling d.opening.keeper.value) (K.telling d.keeper) d.opening d.schedule
+        d.table };
 }
 
 impl<K: Keep> Desk<K> {
@@ -104,10 +105,12 @@ impl<K: Keep> Desk<K> {
     /// `Memory` if allocation fails; nothing is taken then.
     pub(crate) fn take(&mut self, alloc: Global, who: u64) -> Result<Taken, Memory>
         ensures job { MatchTaken result (λ job. HasTaken self.old self.new who job) (self.new ≡ self.old) }
-        ensures lowest { IfOk result (λ taken. (job : Taking) → taken ≡ AJob job → (i k : ℕ) → i < job.inputs.s → IsReady (state_of self.old.course) i k → ⊥) }
+        ensures lowest { IfOk result (λ taken. (job : Taking) → taken ≡ AJob job → (i k : ℕ) → i < job.inputs.s →
+            IsReady (state_of self.old.course) i k → ⊥) }
         ensures idle { (result ≡ Ok Idle) ↔ IsIdle (state_of self.old.course) }
         ensures over { (result ≡ Ok Over) ↔ IsOver (state_of self.old.course) }
-        ensures stopped { (cause : Cause) → (result ≡ Ok (Stopped cause)) ↔ ((state_of self.old.course).cause ≡ Some cause) }
+        ensures stopped { (cause : Cause) →
+            (result ≡ Ok (Stopped cause)) ↔ ((state_of self.old.course).cause ≡ Some cause) }
         ensures is_desk { IsDeskState K.telling self.new }
     {
         if let Some(cause) = self.schedule.stopped() {
@@ -124,7 +127,9 @@ impl<K: Keep> Desk<K> {
 
     /// What a take answers where no square is ready and no cause stands.
     fn without_ready(&self) -> Taken
-        ensures idle { (result ≡ Idle) × HasUnfinished (state_of self.now.course) ⊎ (result ≡ Over) × ((s k : ℕ) → IsInRange (state_of self.now.course) s k → (state_of self.now.course).done s k ≡ true) }
+        ensures idle { (result ≡ Idle) × HasUnfinished (state_of self.now.course)
+            ⊎ (result ≡ Over)
+            × ((s k : ℕ) → IsInRange (state_of self.now.course) s k → (state_of self.now.course).done s k ≡ true) }
     {
         if self.table.front(self.opening.range.s) > usize::from(self.opening.range.t) {
             Taken::Over
@@ -156,9 +161,11 @@ impl<K: Keep> Desk<K> {
         requires made { IsMadeFrom job.inputs square }
         ensures opening { self.new.opening ≡ self.old.opening }
         ensures entered { self.new.course ≡ with_event self.old.course (entry_of_give result job) }
-        ensures stopped { (cause : Cause) → (result ≡ Err (HasStopped cause)) ↔ ((state_of self.old.course).cause ≡ Some cause) }
+        ensures stopped { (cause : Cause) →
+            (result ≡ Err (HasStopped cause)) ↔ ((state_of self.old.course).cause ≡ Some cause) }
         ensures uncalled { (cause : Cause) → result ≡ Err (HasStopped cause) → self.new.keeper ≡ self.old.keeper }
-        ensures risen { result ≡ Err Failed → HasRisen (K.telling self.old.keeper).faults (K.telling self.new.keeper).faults }
+        ensures risen { result ≡ Err Failed →
+            HasRisen (K.telling self.old.keeper).faults (K.telling self.new.keeper).faults }
         ensures unkept { result ≡ Err WantOfMemory → self.new.keeper ≡ self.old.keeper }
         ensures is_desk { IsDeskState K.telling self.new }
     {
@@ -269,9 +276,12 @@ fn put<K: Keep>(
     requires is_of { IsOf (module_over table.old.resolved.plain) table.old.start square.s square.above square.content }
     requires live { (K.telling keeper.old).live }
     requires of_table { IsKeeperOf (K.telling keeper.old) table.old }
-    ensures ok { OnOk result (HasPut (module_over table.old.resolved.plain) table.old.start (K.telling keeper.old) (K.telling keeper.new) table.old table.new square) }
-    ensures err { OnErr result (HasNotPut (module_over table.old.resolved.plain) table.old.start (K.telling keeper.old) (K.telling keeper.new) table.old table.new) }
-    ensures failed { result ≡ Err KeepFault.Failed → HasRisen (K.telling keeper.old).faults (K.telling keeper.new).faults }
+    ensures ok { OnOk result (HasPut (module_over table.old.resolved.plain) table.old.start (K.telling keeper.old)
+        (K.telling keeper.new) table.old table.new square) }
+    ensures err { OnErr result (HasNotPut (module_over table.old.resolved.plain) table.old.start (K.telling keeper.old)
+        (K.telling keeper.new) table.old table.new) }
+    ensures failed { result ≡ Err KeepFault.Failed →
+        HasRisen (K.telling keeper.old).faults (K.telling keeper.new).faults }
     ensures dead { result ≡ Err KeepFault.Failed → (K.telling keeper.new).live → ⊥ }
     ensures memory { result ≡ Err KeepFault.Memory → keeper.new ≡ keeper.old }
 {

@@ -32,9 +32,16 @@ impl Model for Schedule {
 
     ghost Value = { Course };
 
-    ghost view = { λ s. record { rows = s.core.rows; degrees = s.core.degrees; bottom = s.core.bottom; start = s.start; history = s.history.items } };
+    ghost view = { λ s. record {
+      rows = s.core.rows;
+      degrees = s.core.degrees;
+      bottom = s.core.bottom;
+      start = s.start;
+      history = s.history.items;
+    } };
 
-    ghost invariant = { λ s. IsScheduled s.core s.start s.history.items s.jobs (vec_capacity s.history - vec_len s.history) };
+    ghost invariant = { λ s. IsScheduled s.core s.start s.history.items s.jobs
+        (vec_capacity s.history - vec_len s.history) };
 }
 
 impl Schedule {
@@ -52,7 +59,13 @@ impl Schedule {
     ) -> Result<Schedule, Memory>
         requires fits { (m +ℤ pos t) ≤ℤ pos (2 ^ 31 - 1) }
         requires start { IsStart m start.now }
-        ensures { IfOk result (λ schedule. schedule ≡ record { rows = s; degrees = t; bottom = m; start = start.now; history = [] }) }
+        ensures { IfOk result (λ schedule. schedule ≡ record {
+          rows = s;
+          degrees = t;
+          bottom = m;
+          start = start.now;
+          history = [];
+        }) }
     {
         Ok(Schedule {
             core: Core::new(alloc, s, t, m, start)?,

@@ -51,7 +51,9 @@ pub fn resolve_with<R: Threads + Wait + Clock + Sync, K: Keep + Send, G: Gate + 
     ensures only { IfOk result.0 (λ more. AreNewAt (IsInRange range) table.rows more.rows) }
     ensures grown { IfOk result.0 (HasGrown table) }
     ensures are_of_start { IfOk result.0 AreOfStart }
-    ensures canonical { IsCanonicalStart (over table.resolved) table.start → IfOk result.0 (λ more. IsCanonicalTable (over table.resolved) range.s range.t (cut range (plain_rows more.rows))) }
+    ensures canonical { IsCanonicalStart (over table.resolved) table.start →
+        IfOk result.0
+        (λ more. IsCanonicalTable (over table.resolved) range.s range.t (cut range (plain_rows more.rows))) }
     ensures live { OnOk result.0 (K.telling result.1).live }
     ensures no_fault { OnOk result.0 ((K.telling result.1).faults ≡ (K.telling keeper).faults) }
     ensures of_table { IfOk result.0 (IsKeeperOf (K.telling result.1)) }
@@ -59,7 +61,8 @@ pub fn resolve_with<R: Threads + Wait + Clock + Sync, K: Keep + Send, G: Gate + 
     ensures dead { result.0 ≡ Err Cause.Failed → (K.telling result.1).live → ⊥ }
     ensures memory { result.0 ≡ Err Cause.Memory → (K.telling result.1).faults ≡ (K.telling keeper).faults }
     ensures lives { result.0 ≡ Err Cause.Memory → (K.telling result.1).live }
-    ensures given { HasGivenOnce (over table.resolved) table.start (IsInRange range) (K.telling keeper) (K.telling result.1) }
+    ensures given { HasGivenOnce (over table.resolved) table.start (IsInRange range) (K.telling keeper)
+        (K.telling result.1) }
 {
     let (board, mut passes) = match Board::new(alloc, table, range, keeper, workers) {
         Ok(made) => made,

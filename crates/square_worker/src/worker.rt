@@ -43,7 +43,8 @@ pub fn work<R: Wait + Clock, K: Keep, G: Gate>(
     ensures same { IsSamePass pass.old pass.new }
     ensures no_less { HasSeenNoLess pass.old pass.new }
     ensures over { (result ≡ Over) ↔ IsOver (state_seen pass.new) }
-    ensures stopped { (cause : Cause) → (result ≡ Stopped cause) ↔ (first_cause (events_of pass.new.seen) ≡ Some cause) }
+    ensures stopped { (cause : Cause) →
+        (result ≡ Stopped cause) ↔ (first_cause (events_of pass.new.seen) ≡ Some cause) }
 {
     for _ in wait.forever() {
         match board.take(wait, alloc, pass) {

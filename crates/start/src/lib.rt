@@ -21,7 +21,11 @@ impl Model for Read {
 
     ghost Value = { Entry };
 
-    ghost view = { λ r. record { s = r.s; above = r.above; content = record { images = r.images.items; kernel = r.kernel.items } } };
+    ghost view = { λ r. record {
+      s = r.s;
+      above = r.above;
+      content = record { images = r.images.items; kernel = r.kernel.items };
+    } };
 }
 
 /// A list of squares that were read: for each its place, the images of its generators and its kernel rows. It has no
@@ -61,7 +65,8 @@ impl Start {
 
     /// This start, and then the square in row `s` and `above` degrees above the bottom, with these images and kernel rows.
     pub fn then(&self, s: u16, above: u16, images: &[BitVec], kernel: &[BitVec]) -> Start
-        ensures { result ≡ self.now ++ record { s = s; above = above; content = record { images = images.now; kernel = kernel.now } } ∷ [] }
+        ensures { result ≡ self.now
+            ++ record { s = s; above = above; content = record { images = images.now; kernel = kernel.now } } ∷ [] }
     {
         Start {
             squares: GhostList::picked(&(self, s, above, images, kernel)),

@@ -12,7 +12,8 @@ abbrev pub IsNext : {E : Type 0} → ℕ → List (ℕ × E) → List (ℕ × E)
 IsNext {E} number history next = (next ≡ history) ⊎ ((e : E) × (next ≡ history ++ (number, e) ∷ []))
 
 -- What is known of a history: both lists begin it, and of the number, and of each that is listed with its entries, it has just these entries
-pub record IsKnown {E : Type 0} (number : ℕ) (first second : List (ℕ × E)) (mine : List E) (others : List (ℕ × List E)) (history : List (ℕ × E)) : Type 0 where
+pub record IsKnown {E : Type 0} (number : ℕ) (first second : List (ℕ × E)) (mine : List E) (others : List (ℕ × List E))
+    (history : List (ℕ × E)) : Type 0 where
   pub seen : IsPrefix first history
   pub latest : IsPrefix second history
   pub own : entries_by number history ≡ mine

@@ -24,7 +24,16 @@ pub record PassState (N E : Type 0) : Type 0 where
 module _ {N E : Type 0} where
   -- a pass that was just made
   abbrev pub new_pass : TurnId N → ℕ → PassState N E
-  new_pass turn number = record { turn = turn; number = number; seen = []; latest = []; own = []; joined = []; told = []; holds = false }
+  new_pass turn number = record {
+    turn = turn;
+    number = number;
+    seen = [];
+    latest = [];
+    own = [];
+    joined = [];
+    told = [];
+    holds = false;
+  }
 
   -- the pass while it holds the turn, which found this history
   abbrev pub with_turn : PassState N E → List (ℕ × E) → PassState N E
@@ -48,7 +57,12 @@ module _ {N E : Type 0} where
 
   -- the pass with all that the other had, which then saw this history
   abbrev pub after_join : PassState N E → PassState N E → List (ℕ × E) → PassState N E
-  after_join p other history = record p { seen = history; latest = history; joined = p.joined ++ ((other.number, other.own) ∷ other.joined); told = p.told ++ other.told }
+  after_join p other history = record p {
+    seen = history;
+    latest = history;
+    joined = p.joined ++ ((other.number, other.own) ∷ other.joined);
+    told = p.told ++ other.told;
+  }
 
   -- The history goes on from all that the pass has seen. Of the pass's own number, and of each that was joined, it has just the entries that the pass keeps
   abbrev pub Continues : PassState N E → List (ℕ × E) → Type 0

@@ -26,7 +26,20 @@ impl<T: Told> Model for Pass<T> {
 
     ghost Value = { PassState T.Name T.Entry };
 
-    ghost view = { λ p. record { turn = record { table = p.seat.table_id; name = T.name p.of.value.first.value; passes = p.of.value.passes }; number = p.number; seen = p.seat.me.0.seen; latest = p.seat.me.0.latest; own = p.seat.me.0.own; joined = p.seat.me.0.joined; told = p.seat.me.0.told; holds = p.seat.me.0.holds } };
+    ghost view = { λ p. record {
+      turn = record {
+        table = p.seat.table_id;
+        name = T.name p.of.value.first.value;
+        passes = p.of.value.passes;
+      };
+      number = p.number;
+      seen = p.seat.me.0.seen;
+      latest = p.seat.me.0.latest;
+      own = p.seat.me.0.own;
+      joined = p.seat.me.0.joined;
+      told = p.seat.me.0.told;
+      holds = p.seat.me.0.holds;
+    } };
 
     ghost invariant = { λ p. IsPass (T.name p.of.value.first.value) p.number p.count p.seat.me };
 }

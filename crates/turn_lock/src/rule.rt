@@ -28,7 +28,8 @@ pub struct OneHistory;
 impl<T: Told> TableRule<Option<T>, View<T::Name, T::Entry>, Opening<T>> for OneHistory {
     ghost use Rattle.turn_lock.specs.Inside.Rule.{Keeps, first_view};
 
-    ghost holds = { λ key s. Keeps T.entries T.name (T.front_of (T.name key.first.value)) (T.width (T.name key.first.value)) (T.name key.first.value) key.passes s };
+    ghost holds = { λ key s. Keeps T.entries T.name (T.front_of (T.name key.first.value))
+        (T.width (T.name key.first.value)) (T.name key.first.value) key.passes s };
 
     ghost first = { λ key. first_view (T.name key.first.value) };
 }

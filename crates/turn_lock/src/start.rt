@@ -31,7 +31,8 @@ impl<T: Told> Turn<T> {
         requires width { T.width (T.name state) ≡ fronts }
         ensures turn { IfOk result (λ made. (made.0.name ≡ T.name state) × (made.0.passes ≡ passes)) }
         ensures count { IfOk result (λ made. length made.1.items ≡ passes) }
-        ensures passes { IfOk result (λ made. (i : ℕ) → i < passes → slice_get made.1.items i ≡ Some (new_pass made.0 i)) }
+        ensures passes { IfOk result (λ made. (i : ℕ) → i < passes →
+            slice_get made.1.items i ≡ Some (new_pass made.0 i)) }
         ensures err { IfErr result (λ refused. refused.1 ≡ state) }
     {
         let Ok(words) = words_of(alloc, &state, fronts) else {
@@ -65,7 +66,8 @@ fn words_of<T: Told>(alloc: Global, state: &T, fronts: usize) -> Result<Vec<u64>
     requires { T.width (T.name state.now) ≡ fronts }
     ensures size { IfOk result (λ words. length words.items ≡ suc fronts) }
     ensures count { IfOk result (λ words. slice_index words.items 0 ≡ 0) }
-    ensures fronts { IfOk result (λ words. (i : ℕ) → i < fronts → slice_index words.items (suc i) ≡ T.front_of (T.name state.now) (T.entries state.now) i) }
+    ensures fronts { IfOk result (λ words. (i : ℕ) → i < fronts →
+        slice_index words.items (suc i) ≡ T.front_of (T.name state.now) (T.entries state.now) i) }
 {
     let mut words = Vec::new(alloc);
     words.push(0)?;
@@ -87,10 +89,13 @@ fn table_of<T: Told>(
     requires empty { T.entries state ≡ [] }
     requires size { length words.now ≡ suc (T.width (T.name state)) }
     requires count { slice_index words.now 0 ≡ 0 }
-    requires fronts { (i : ℕ) → i < T.width (T.name state) → slice_index words.now (suc i) ≡ T.front_of (T.name state) (T.entries state) i }
-    ensures counts { IfOk result (λ made. (made.0.shared.table_id.words ≡ length words.now) × (made.0.shared.table_id.slots ≡ 1)) }
+    requires fronts { (i : ℕ) → i < T.width (T.name state) →
+        slice_index words.now (suc i) ≡ T.front_of (T.name state) (T.entries state) i }
+    ensures counts { IfOk result (λ made. (made.0.shared.table_id.words ≡ length words.now)
+        × (made.0.shared.table_id.slots ≡ 1)) }
     ensures key { IfOk result (λ made. made.0.shared.key ≡ opening.now) }
-    ensures seat { IfOk result (λ made. (made.1.table_id ≡ made.0.shared.table_id) × (made.1.id ≡ 0) × (made.1.me ≡ (first_view (T.name state), []))) }
+    ensures seat { IfOk result (λ made. (made.1.table_id ≡ made.0.shared.table_id) × (made.1.id ≡ 0)
+        × (made.1.me ≡ (first_view (T.name state), []))) }
     ensures err { IfErr result (λ back. back ≡ state) }
 {
     let mut slot = Vec::new(alloc);

@@ -42,9 +42,14 @@ impl<T: Told> Model for Turn<T> {
 
     ghost Value = { TurnId T.Name };
 
-    ghost view = { λ t. record { table = t.table.shared.table_id; name = T.name t.table.shared.key.first.value; passes = t.table.shared.key.passes } };
+    ghost view = { λ t. record {
+      table = t.table.shared.table_id;
+      name = T.name t.table.shared.key.first.value;
+      passes = t.table.shared.key.passes;
+    } };
 
-    ghost invariant = { λ t. (t.table.shared.table_id.words ≡ suc t.fronts) × (t.table.shared.table_id.slots ≡ 1) × (t.fronts ≡ T.width (T.name t.table.shared.key.first.value)) × (suc t.fronts < 2 ^ 64) };
+    ghost invariant = { λ t. (t.table.shared.table_id.words ≡ suc t.fronts) × (t.table.shared.table_id.slots ≡ 1)
+        × (t.fronts ≡ T.width (T.name t.table.shared.key.first.value)) × (suc t.fronts < 2 ^ 64) };
 }
 
 impl<T: Told> Turn<T> {
@@ -75,7 +80,8 @@ impl<T: Told> Turn<T> {
         ensures pass { IfSome result (λ h. pass.new ≡ with_turn pass.old (T.entries h.value)) }
         ensures name { IfSome result (λ h. T.name h.value ≡ self.now.name) }
         ensures continues { IfSome result (λ h. Continues pass.old (T.entries h.value)) }
-        ensures fronts { IfSome result (λ h. All (λ t. t.1 ≤ T.front_of self.now.name (T.entries h.value) t.0) pass.old.told) }
+        ensures fronts { IfSome result
+            (λ h. All (λ t. t.1 ≤ T.front_of self.now.name (T.entries h.value) t.0) pass.old.told) }
         ensures none { IfNone result (pass.new ≡ pass.old) }
     {
         let shared = &self.table.shared;
@@ -106,11 +112,13 @@ impl<T: Told> Turn<T> {
         requires holds { pass.old.holds ≡ true }
         requires name { T.name held.value ≡ self.now.name }
         requires entries { IsNext pass.old.number pass.old.seen (T.entries held.value) }
-        requires fronts { (i : ℕ) → i < T.width self.now.name → T.front_of self.now.name pass.old.seen i ≤ T.front_of self.now.name (T.entries held.value) i }
+        requires fronts { (i : ℕ) → i < T.width self.now.name →
+            T.front_of self.now.name pass.old.seen i ≤ T.front_of self.now.name (T.entries held.value) i }
         requires room { length (T.entries held.value) < 2 ^ 62 }
         ensures pass { pass.new ≡ after_turn pass.old (T.entries held.value) }
         ensures no_entry { T.entries held.value ≡ pass.old.seen → pass.new.own ≡ pass.old.own }
-        ensures one_entry { (e : T.Entry) → T.entries held.value ≡ pass.old.seen ++ (pass.old.number, e) ∷ [] → pass.new.own ≡ pass.old.own ++ e ∷ [] }
+        ensures one_entry { (e : T.Entry) → T.entries held.value ≡ pass.old.seen ++ (pass.old.number, e) ∷ [] →
+            pass.new.own ≡ pass.old.own ++ e ∷ [] }
     {
         let Held {
             value,
@@ -134,10 +142,13 @@ impl<T: Told> Turn<T> {
         requires none { seat.old.me.0.stored ≡ [] }
         requires entries { IsNext seat.old.me.0.number seat.old.me.0.seen (T.entries value.now) }
         requires grown { grown ≡ false → T.entries value.now ≡ seat.old.me.0.seen }
-        requires fronts { (i : ℕ) → i < T.width self.now.name → T.front_of self.now.name seat.old.me.0.seen i ≤ T.front_of self.now.name (T.entries value.now) i }
+        requires fronts { (i : ℕ) → i < T.width self.now.name →
+            T.front_of self.now.name seat.old.me.0.seen i ≤ T.front_of self.now.name (T.entries value.now) i }
         ensures table { seat.new.table_id ≡ seat.old.table_id }
         ensures same { seat.new.me ≡ (having_stored seat.old.me.0 seat.new.me.0.stored, seat.old.me.1) }
-        ensures settled { (i : ℕ) → i < T.width self.now.name → slice_index_or seat.new.me.0.stored i (T.front_of self.now.name seat.old.me.0.seen i) ≡ T.front_of self.now.name (T.entries value.now) i }
+        ensures settled { (i : ℕ) → i < T.width self.now.name →
+            slice_index_or seat.new.me.0.stored i (T.front_of self.now.name seat.old.me.0.seen i)
+            ≡ T.front_of self.now.name (T.entries value.now) i }
     {
         if grown {
             self.store_fronts(seat, value);
@@ -152,7 +163,8 @@ impl<T: Told> Turn<T> {
         requires holds { seat.old.me.0.holds ≡ true }
         requires none { seat.old.me.0.stored ≡ [] }
         requires entries { IsNext seat.old.me.0.number seat.old.me.0.seen (T.entries value.now) }
-        requires fronts { (i : ℕ) → i < T.width self.now.name → T.front_of self.now.name seat.old.me.0.seen i ≤ T.front_of self.now.name (T.entries value.now) i }
+        requires fronts { (i : ℕ) → i < T.width self.now.name →
+            T.front_of self.now.name seat.old.me.0.seen i ≤ T.front_of self.now.name (T.entries value.now) i }
         ensures table { seat.new.table_id ≡ seat.old.table_id }
         ensures same { seat.new.me ≡ (having_stored seat.old.me.0 seat.new.me.0.stored, seat.old.me.1) }
         ensures all { length seat.new.me.0.stored ≡ T.width self.now.name }
@@ -172,7 +184,8 @@ impl<T: Told> Turn<T> {
         requires index { i < T.width self.now.name }
         ensures pass { pass.new ≡ after_front pass.old pass.new.latest i result }
         ensures continues { Continues pass.old pass.new.latest }
-        ensures exact { (result ≡ T.front_of self.now.name pass.new.latest i) ⊎ ((e : ℕ × T.Entry) × (result ≡ T.front_of self.now.name (pass.new.latest ++ e ∷ []) i)) }
+        ensures exact { (result ≡ T.front_of self.now.name pass.new.latest i)
+            ⊎ ((e : ℕ × T.Entry) × (result ≡ T.front_of self.now.name (pass.new.latest ++ e ∷ []) i)) }
         ensures seen { T.front_of self.now.name pass.old.seen i ≤ result }
         ensures latest { T.front_of self.now.name pass.old.latest i ≤ result }
         ensures told { All (λ t. t.0 ≡ i → t.1 ≤ result) pass.old.told }

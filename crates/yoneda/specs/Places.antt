@@ -12,14 +12,16 @@ use Rattle.yoneda.specs.declared.place.Place.{Place}
 -- How many classes there are at (s, t): the generators that the table has there, and none outside of the range
 abbrev pub classes_in : Staircase → Range → ℕ → Option ℕ → ℕ
 classes_in table range s None = 0
-classes_in table range s (Some k) = if nat_le s range.s && nat_le k range.t then length (content_at table.rows s k).images else 0
+classes_in table range s (Some k) =
+    if nat_le s range.s && nat_le k range.t then length (content_at table.rows s k).images else 0
 
 abbrev pub classes_at : Staircase → Range → ℕ → ℤ → ℕ
 classes_at table range s t = classes_in table range s (above_of (bottom_of table.resolved) t)
 
 -- how many classes there are in the class's square, where it is not one of them
 abbrev pub missing : Staircase → Range → Class → Option ℕ
-missing table range c = if nat_lt c.i (classes_at table range c.s c.t) then None else Some (classes_at table range c.s c.t)
+missing table range c =
+    if nat_lt c.i (classes_at table range c.s c.t) then None else Some (classes_at table range c.s c.t)
 
 -- whether row s and degree t are past the range: rows count from 0, and degrees from the bottom of the table's module
 abbrev pub passes : Staircase → Range → ℤ → ℤ → Bool

@@ -25,7 +25,9 @@ abbrev pub refusal_of : Staircase → Staircase → Range → Class → Class �
 refusal_of table sphere range a x =
     option_or (option_map (λ n. NoClass 0 n) (missing sphere range a))
     (option_or (option_map (λ n. NoClass 1 n) (missing table range x))
-    (if passes table range (pos (a.s + x.s)) (a.t +ℤ x.t) then Some (OutOfRange (pos (a.s + x.s)) (a.t +ℤ x.t)) else None))
+    (if passes table range (pos (a.s + x.s)) (a.t +ℤ x.t)
+    then Some (OutOfRange (pos (a.s + x.s)) (a.t +ℤ x.t))
+    else None))
 
 -- ---- products
 
@@ -33,7 +35,9 @@ refusal_of table sphere range a x =
 -- degree of the class of the sphere.
 pub record AreOnSquare (table sphere : Staircase) (a : Place) (s above : ℕ) (values : List (List Bool)) : Type 0 where
   pub enough : first_of (resolution_of table) s above + count_of (resolution_of table) s above ≤ length values
-  pub widths : (i : ℕ) → i < count_of (resolution_of table) s above → length (row values (first_of (resolution_of table) s above + i)) ≡ free_width (gens (resolution_of sphere) a.s) (bottom_of sphere.resolved +ℤ pos a.above)
+  pub widths : (i : ℕ) → i < count_of (resolution_of table) s above →
+      length (row values (first_of (resolution_of table) s above + i))
+      ≡ free_width (gens (resolution_of sphere) a.s) (bottom_of sphere.resolved +ℤ pos a.above)
 
 -- the coordinate so many places before the end
 abbrev pub coefficients_back : ℕ → List Bool → Bool
@@ -45,12 +49,15 @@ pub record HasLiftFor (table sphere : Staircase) (a x : Place) (v : List Bool) :
   pub phi : ℕ → ℕ → List Bool
   pub reaches : (bottom_of table.resolved +ℤ pos (a.above + x.above)) ≤ℤ top
   pub is_lift : IsLiftOfClass (resolution_of table) (resolution_of sphere) (class_above x) a.s top phi
-  pub gives : v ≡ product_by (resolution_of table) (resolution_of sphere) (class_above a) phi (x.s + a.s) (a.above + x.above)
+  pub gives : v ≡ product_by (resolution_of table) (resolution_of sphere) (class_above a) phi (x.s + a.s)
+      (a.above + x.above)
 
 -- v is the product of a and x: a lift of x gives it, and so does each
 pub record IsProduct (table sphere : Staircase) (a x : Place) (v : List Bool) : Type 0 where
   pub some : HasLiftFor table sphere a x v
-  pub each : (top : ℤ) (phi : ℕ → ℕ → List Bool) → (bottom_of table.resolved +ℤ pos (a.above + x.above)) ≤ℤ top → IsLiftOfClass (resolution_of table) (resolution_of sphere) (class_above x) a.s top phi → v ≡ product_by (resolution_of table) (resolution_of sphere) (class_above a) phi (x.s + a.s) (a.above + x.above)
+  pub each : (top : ℤ) (phi : ℕ → ℕ → List Bool) → (bottom_of table.resolved +ℤ pos (a.above + x.above)) ≤ℤ top →
+      IsLiftOfClass (resolution_of table) (resolution_of sphere) (class_above x) a.s top phi →
+      v ≡ product_by (resolution_of table) (resolution_of sphere) (class_above a) phi (x.s + a.s) (a.above + x.above)
 
 -- where the two classes stand, whose product is in the range
 pub record ArePlacesOf (table sphere : Staircase) (range : Range) (a x : Class) (a_place x_place : Place) : Type 0 where
@@ -61,7 +68,8 @@ pub record ArePlacesOf (table sphere : Staircase) (range : Range) (a x : Class) 
 
 -- each square of the table is that of the canonical resolution
 abbrev pub IsAllCanonical : Staircase → Type 0
-IsAllCanonical table = (i k : ℕ) → k < length (row_in table.rows i) → IsOf (over table.resolved) [] i k (content_at table.rows i k)
+IsAllCanonical table = (i k : ℕ) → k < length (row_in table.rows i) →
+    IsOf (over table.resolved) [] i k (content_at table.rows i k)
 
 -- The vector has a coordinate for each generator of the square, and where the tables are those of the canonical resolutions, it is
 -- the product.
@@ -79,4 +87,5 @@ pub record HasValuesOn (table sphere : Staircase) (a : Place) (s above : ℕ) (l
 
 -- the rows are the products of a with the classes of the square `above` above the bottom in row s, in their order
 abbrev pub AreProducts : Staircase → Staircase → Place → ℕ → ℕ → List (List Bool) → Type 0
-AreProducts table sphere a s above rows = IsAllCanonical table → IsAllCanonical sphere → (j : ℕ) → j < length rows → IsProduct table sphere a (record { s = s; above = above; i = j }) (row rows j)
+AreProducts table sphere a s above rows = IsAllCanonical table → IsAllCanonical sphere → (j : ℕ) → j < length rows →
+    IsProduct table sphere a (record { s = s; above = above; i = j }) (row rows j)

@@ -75,7 +75,8 @@ pub fn products(
     requires rows { a.s + s ≤ range.s }
     requires degrees { a.above + above ≤ range.t }
     ensures one_each { IfOk result (λ rows. length rows.items ≡ count_of (resolution_of table.now) s above) }
-    ensures widths { IfOk result (λ rows. HaveWidth (count_of (resolution_of table.now) (s + a.s) (a.above + above)) rows.items) }
+    ensures widths { IfOk result
+        (λ rows. HaveWidth (count_of (resolution_of table.now) (s + a.s) (a.above + above)) rows.items) }
     ensures products { IfOk result (λ rows. AreProducts table.now sphere.now a s above rows.items) }
 {
     canonical_table_is_minimal_resolution();
@@ -107,8 +108,11 @@ fn products_by(
 ) -> Result<Vec<BitVec>, Memory>
     requires class { IsThere sphere.now a }
     requires square { above < length (row_in table.now.rows s) }
-    requires lifts { (j : ℕ) → j < length lifts.now → HasValuesOn table.now sphere.now a s above (slice_index_or lifts.now j no_lift) }
-    ensures { IfOk result (λ rows. rows.items ≡ map (λ lift. product_by (resolution_of table.now) (resolution_of sphere.now) (class_above a) (map_of lift) s above) lifts.now) }
+    requires lifts { (j : ℕ) → j < length lifts.now →
+        HasValuesOn table.now sphere.now a s above (slice_index_or lifts.now j no_lift) }
+    ensures { IfOk result (λ rows. rows.items ≡ map
+        (λ lift. product_by (resolution_of table.now) (resolution_of sphere.now) (class_above a) (map_of lift) s above)
+        lifts.now) }
 {
     let mut rows = Vec::new(alloc);
     for lift in lifts {

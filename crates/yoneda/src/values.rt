@@ -34,7 +34,8 @@ pub fn coefficients(
     requires class { IsThere sphere.now a }
     requires square { above < length (row_in table.now.rows s) }
     requires values { AreOnSquare table.now sphere.now a s above values.now }
-    ensures { IfOk result (λ v. v ≡ on_square (resolution_of table.now) s above (λ g. coefficient_of (resolution_of sphere.now) (class_above a) (row values.now g))) }
+    ensures { IfOk result (λ v. v ≡ on_square (resolution_of table.now) s above
+        (λ g. coefficient_of (resolution_of sphere.now) (class_above a) (row values.now g))) }
 {
     let first = first_at(alloc, table, s, above)?;
     let count = generators_at(table, s, above);

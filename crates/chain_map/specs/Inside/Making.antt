@@ -25,21 +25,26 @@ pub record IsChosenFor (q : Staircase) (k : ℕ) (u : ℤ) (goal v : List Bool) 
 -- the quasi-inverses of d_k in the degrees of the first n squares of row i, `above` lower, where the square has generators
 pub record AreInverses (table sphere : Staircase) (i k above n : ℕ) (list : List (Option Reduction)) : Type 0 where
   pub one_each : length list ≡ n
-  pub each : (m : ℕ) → m < n → 0 < count_of (resolution_of table) i m → IsInverseAt sphere k (pos m -ℤ pos above) (slice_index_or list m None)
+  pub each : (m : ℕ) → m < n → 0 < count_of (resolution_of table) i m →
+      IsInverseAt sphere k (pos m -ℤ pos above) (slice_index_or list m None)
 
 -- ---- the values of one row
 
 -- The values on the generators of the first n squares of row i, and on the first h of the square behind them.
-pub record AreMadeTo (table sphere : Staircase) (i k : ℕ) (x : ℤ) (goal : ℕ → List Bool) (n h : ℕ) (v : RowValues) : Type 0 where
+pub record AreMadeTo (table sphere : Staircase) (i k : ℕ) (x : ℤ) (goal : ℕ → List Bool) (n h : ℕ) (v : RowValues)
+    : Type 0 where
   pub firsts : v.firsts ≡ map (λ j. first_of (resolution_of table) i j) (range_with_len 0 (n + 1))
   pub one_each : length v.vectors ≡ first_of (resolution_of table) i n + h
-  pub each : (g : ℕ) → g < length v.vectors → IsChosenFor sphere k (degree (resolution_of table) i g -ℤ x) (goal g) (row v.vectors g)
+  pub each : (g : ℕ) → g < length v.vectors →
+      IsChosenFor sphere k (degree (resolution_of table) i g -ℤ x) (goal g) (row v.vectors g)
 
 -- the same of the first n squares
-pub record AreMade (table sphere : Staircase) (i k : ℕ) (x : ℤ) (goal : ℕ → List Bool) (n : ℕ) (v : RowValues) : Type 0 where
+pub record AreMade (table sphere : Staircase) (i k : ℕ) (x : ℤ) (goal : ℕ → List Bool) (n : ℕ) (v : RowValues)
+    : Type 0 where
   pub firsts : v.firsts ≡ map (λ j. first_of (resolution_of table) i j) (range_with_len 0 n)
   pub one_each : length v.vectors ≡ first_of (resolution_of table) i n
-  pub each : (g : ℕ) → g < length v.vectors → IsChosenFor sphere k (degree (resolution_of table) i g -ℤ x) (goal g) (row v.vectors g)
+  pub each : (g : ℕ) → g < length v.vectors →
+      IsChosenFor sphere k (degree (resolution_of table) i g -ℤ x) (goal g) (row v.vectors g)
 
 -- ---- the rows of a lift
 
@@ -49,7 +54,8 @@ target_of table k n = degrees_from (bottom_of table.resolved) (take n (row_of (p
 
 -- number c of the square (s, above), as a cochain
 abbrev pub class_of : Staircase → Staircase → ℕ → ℕ → ℕ → ℕ → List Bool
-class_of table sphere s above c = dual_of (resolution_of table) (resolution_of sphere) s (bottom_of table.resolved +ℤ pos above) (first_of (resolution_of table) s above + c)
+class_of table sphere s above c = dual_of (resolution_of table) (resolution_of sphere) s
+    (bottom_of table.resolved +ℤ pos above) (first_of (resolution_of table) s above + c)
 
 -- its value where the field has this width, on its own generator and on others
 abbrev pub class_value : ℕ → Bool → List Bool
@@ -60,22 +66,27 @@ class_value width own = if own then unit_vector width 0 else zeros width
 abbrev pub next_goal : Staircase → Staircase → ℕ → ℕ → ℕ → ℕ → ℕ → List (List Bool) → ℕ → List Bool
 next_goal table sphere i k above n far below g =
     let x = bottom_of table.resolved +ℤ pos above in
-    mapped (free_graded (target_of sphere k far)) (lowered_row table i n above) below (degree (resolution_of table) (suc i) g -ℤ x) (image (resolution_of table) (suc i) g)
+    mapped (free_graded (target_of sphere k far)) (lowered_row table i n above) below
+    (degree (resolution_of table) (suc i) g -ℤ x) (image (resolution_of table) (suc i) g)
 
 -- what d_k has to take the value of map k on generator g to, for number c of the square (s, above)
 abbrev pub goal_of : Staircase → Staircase → ℕ → ℕ → ℕ → ℕ → ℕ → LiftValues → ℕ → ℕ → List Bool
 goal_of table sphere s above n far c lift zero g = class_of table sphere s above c g
-goal_of table sphere s above n far c lift (suc k) g = next_goal table sphere (s + k) k above n far (row_values lift k).vectors g
+goal_of table sphere s above n far c lift (suc k) g =
+    next_goal table sphere (s + k) k above n far (row_values lift k).vectors g
 
 -- the rows below `count` are made
 pub record IsMade (table sphere : Staircase) (s above n far c count : ℕ) (lift : LiftValues) : Type 0 where
   pub bottom : lift.bottom ≡ bottom_of table.resolved
   pub rows : length lift.rows ≡ count
-  pub values : (k : ℕ) → k < count → AreMade table sphere (s + k) k (bottom_of table.resolved +ℤ pos above) (goal_of table sphere s above n far c lift k) n (row_values lift k)
+  pub values : (k : ℕ) → k < count →
+      AreMade table sphere (s + k) k (bottom_of table.resolved +ℤ pos above)
+      (goal_of table sphere s above n far c lift k) n (row_values lift k)
 
 -- number `from` and those behind it, one for each lift, have their rows below `count`
 abbrev pub AreMadeLifts : Staircase → Staircase → ℕ → ℕ → ℕ → ℕ → ℕ → ℕ → List LiftValues → Type 0
-AreMadeLifts table sphere s above n far from count lifts = (j : ℕ) → j < length lifts → IsMade table sphere s above n far (from + j) count (slice_index_or lifts j no_lift)
+AreMadeLifts table sphere s above n far from count lifts = (j : ℕ) → j < length lifts →
+    IsMade table sphere s above n far (from + j) count (slice_index_or lifts j no_lift)
 
 -- the tables have so many squares for map k: n in row s + k of the first, at least one, and `far` in row k of the sphere's
 pub record Reaches (table sphere : Staircase) (s above k n far : ℕ) : Type 0 where

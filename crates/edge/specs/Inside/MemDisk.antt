@@ -39,7 +39,8 @@ last_synced f (None ∷ h) = content f h
 -- which places were written since then
 abbrev pub marked : List ℕ → List (Option Write) → List Bool
 marked f [] = replicate (length f) false
-marked f (Some w ∷ h) = take w.at (marked f h) ++ replicate (length w.bytes) true ++ drop (w.at + length w.bytes) (marked f h)
+marked f (Some w ∷ h) =
+    take w.at (marked f h) ++ replicate (length w.bytes) true ++ drop (w.at + length w.bytes) (marked f h)
 marked f (None ∷ h) = replicate (length (content f h)) false
 
 -- each write began within the file
@@ -51,7 +52,8 @@ IsSound f (None ∷ h) = IsSound f h
 -- What a crash may leave: after a sync what was written, and behind each write since then that, cut short or whole.
 abbrev pub IsImage : List ℕ → List (Option Write) → List ℕ → Type 0
 IsImage f [] c = c ≡ f
-IsImage f (Some w ∷ h) c = (c ≡ written w.at w.bytes (content f h)) ⊎ ((d : List ℕ) × IsImage f h d × Torn w.at (length w.bytes) d c)
+IsImage f (Some w ∷ h) c =
+    (c ≡ written w.at w.bytes (content f h)) ⊎ ((d : List ℕ) × IsImage f h d × Torn w.at (length w.bytes) d c)
 IsImage f (None ∷ h) c = c ≡ content f h
 
 -- how many writes and syncs there were
@@ -90,7 +92,8 @@ only_now_in f (Some w ∷ h) c (inr past) = let before = within_age f h (suc (ag
 only_now_in f (None ∷ h) c (inl now) = now.1
 only_now_in f (None ∷ h) c (inr past) = let before = within_age f h (suc (age f h)) c past in absurd (omega arith)
 
-pub since_earlier_in : (f : List ℕ) (h : List (Option Write)) (t u : ℕ) (c : List ℕ) → t ≤ u → Since f h u c → Since f h t c
+pub since_earlier_in : (f : List ℕ) (h : List (Option Write)) (t u : ℕ) (c : List ℕ) → t ≤ u → Since f h u c →
+    Since f h t c
 since_earlier_in f [] t u c le s = let l = s.0 in (omega arith, s.1)
 since_earlier_in f (Some w ∷ h) t u c le (inl now) = let l = now.0 in inl (omega arith, now.1)
 since_earlier_in f (Some w ∷ h) t u c le (inr past) = inr (since_earlier_in f h t u c le past)
@@ -127,7 +130,8 @@ passes_room disk n = nat_lt disk.room (disk.used + one_up disk.calls + n)
 
 -- the next call fails, where it has n bytes to write
 abbrev pub call_fails : Stored → ℕ → Bool
-call_fails disk n = is_listed disk.failing (one_up disk.calls) || nat_lt disk.stop_after (one_up disk.calls) || passes_room disk n
+call_fails disk n =
+    is_listed disk.failing (one_up disk.calls) || nat_lt disk.stop_after (one_up disk.calls) || passes_room disk n
 
 abbrev pub after_failed_call : Stored → Stored
 after_failed_call disk = record disk { calls = one_up disk.calls; faults = one_up disk.faults }
@@ -136,7 +140,11 @@ abbrev pub after_look : Stored → Stored
 after_look disk = record disk { calls = one_up disk.calls }
 
 abbrev pub after_write : Stored → ℕ → List ℕ → Stored
-after_write disk at bytes = record disk { history = wrote at bytes disk.history; used = disk.used + length bytes; calls = one_up disk.calls }
+after_write disk at bytes = record disk {
+  history = wrote at bytes disk.history;
+  used = disk.used + length bytes;
+  calls = one_up disk.calls;
+}
 
 abbrev pub after_sync : Stored → Stored
 after_sync disk = record disk { history = synced disk.history; calls = one_up disk.calls }

@@ -37,7 +37,11 @@ option_named name = record (new_rule name) { long = Some name }
 
 -- an option without a value
 abbrev pub flag_named : Text → Rule
-flag_named name = record (new_rule name) { long = Some name; action = Some Set; range = Some (record { start_inclusive = 0; end_inclusive = 0 }) }
+flag_named name = record (new_rule name) {
+  long = Some name;
+  action = Some Set;
+  range = Some (record { start_inclusive = 0; end_inclusive = 0 });
+}
 
 -- the command with the options that all commands have that resolve a module
 abbrev pub with_options : App → App
@@ -45,7 +49,8 @@ with_options app = with_rule (with_rule app (option_named (codes "workers"))) (f
 
 -- a command with the words S and T, and with the options
 abbrev pub range_command : Text → App
-range_command name = with_options (with_rule (with_rule (new_app name) (word_named (codes "S"))) (word_named (codes "T")))
+range_command name =
+    with_options (with_rule (with_rule (new_app name) (word_named (codes "S"))) (word_named (codes "T")))
 
 -- the command with the words S and T, and with a class
 abbrev pub products_command : App
@@ -53,31 +58,53 @@ products_command = with_rule (range_command (codes "products")) (option_named (c
 
 -- the command with the words S and T, and with three classes
 abbrev pub massey_command : App
-massey_command = with_rule (with_rule (with_rule (range_command (codes "massey")) (option_named (codes "a"))) (option_named (codes "b"))) (option_named (codes "c"))
+massey_command = with_rule
+    (with_rule (with_rule (range_command (codes "massey")) (option_named (codes "a"))) (option_named (codes "b")))
+    (option_named (codes "c"))
 
 -- the command with the word OP, and with a number of degrees
 abbrev pub build_command : App
-build_command = with_rule (with_rule (new_app (codes "build")) (word_named (codes "OP"))) (option_named (codes "degrees"))
+build_command =
+    with_rule (with_rule (new_app (codes "build")) (word_named (codes "OP"))) (option_named (codes "degrees"))
 
 -- the command with the words N, S and T, and with the options
 abbrev pub sample_command : App
-sample_command = with_options (with_rule (with_rule (with_rule (new_app (codes "sample")) (word_named (codes "N"))) (word_named (codes "S"))) (word_named (codes "T")))
+sample_command = with_options
+    (with_rule (with_rule (with_rule (new_app (codes "sample")) (word_named (codes "N"))) (word_named (codes "S")))
+    (word_named (codes "T")))
 
 -- the command with the word W, and without options
 abbrev pub sq_command : App
 sq_command = with_rule (new_app (codes "sq")) (word_named (codes "W"))
 
 abbrev pub no_command : App
-no_command = on_top (λ top. record top { no_binary_name = true; disable_help_flag = true; disable_help_subcommand = true; subcommand_required = true }) (new_app (codes "ext"))
+no_command = on_top
+    (λ top. record top {
+      no_binary_name = true;
+      disable_help_flag = true;
+      disable_help_subcommand = true;
+      subcommand_required = true;
+    })
+    (new_app (codes "ext"))
 
 -- the commands that resolve a module on standard input, or the sphere
 abbrev pub module_commands : App
 module_commands =
-    with_subcommand (with_subcommand (with_subcommand (with_subcommand (with_subcommand no_command (range_command (codes "sphere")).top) (range_command (codes "resolve")).top) (range_command (codes "dump")).top) products_command.top) massey_command.top
+    with_subcommand (with_subcommand (with_subcommand (with_subcommand (with_subcommand no_command
+    (range_command (codes "sphere")).top)
+    (range_command (codes "resolve")).top)
+    (range_command (codes "dump")).top)
+    products_command.top)
+    massey_command.top
 
 -- all commands, without help
 abbrev pub command_line : App
-command_line = with_subcommand (with_subcommand (with_subcommand (with_subcommand module_commands (new_app (codes "check")).top) build_command.top) sample_command.top) sq_command.top
+command_line =
+    with_subcommand (with_subcommand (with_subcommand (with_subcommand module_commands
+    (new_app (codes "check")).top)
+    build_command.top)
+    sample_command.top)
+    sq_command.top
 
 -- ---- what is read from the matches
 
@@ -95,7 +122,8 @@ saves_in rows = has_row (codes "save") rows
 
 -- the numbers S and T of a command's matches, and its options
 abbrev pub common_in : List Row → Option Common
-common_in rows = common_from (range_from (number_in rows (codes "S") MAX_S) (number_in rows (codes "T") MAX_T)) (workers_in rows) (saves_in rows)
+common_in rows = common_from (range_from (number_in rows (codes "S") MAX_S) (number_in rows (codes "T") MAX_T))
+    (workers_in rows) (saves_in rows)
 
 -- the class of an option
 abbrev pub class_in : List Row → Text → Option Class
@@ -103,11 +131,17 @@ class_in rows name = option_and_then class_of (first_of name rows)
 
 -- the numbers S and T of a command's matches, and a class
 abbrev pub products_in : List Row → Option Command
-products_in rows = option_and_then (λ common. option_map (λ by. Products common by) (class_in rows (codes "by"))) (common_in rows)
+products_in rows =
+    option_and_then (λ common. option_map (λ by. Products common by) (class_in rows (codes "by"))) (common_in rows)
 
 -- the numbers S and T of a command's matches, and three classes
 abbrev pub massey_in : List Row → Option Command
-massey_in rows = option_and_then (λ common. option_and_then (λ a. option_and_then (λ b. option_map (λ c. Massey common a b c) (class_in rows (codes "c"))) (class_in rows (codes "b"))) (class_in rows (codes "a"))) (common_in rows)
+massey_in rows = option_and_then
+    (λ common. option_and_then
+    (λ a. option_and_then (λ b. option_map (λ c. Massey common a b c) (class_in rows (codes "c")))
+    (class_in rows (codes "b")))
+    (class_in rows (codes "a")))
+    (common_in rows)
 
 -- what is built by the word OP of a command's matches, and by its number of degrees
 abbrev pub build_in : List Row → Option Build

@@ -32,7 +32,8 @@ pair_at n x = (x / n, x % n)
 -- ---- coefficients
 
 abbrev pub blocks_at : Module → Module → List ℕ → ℕ → ℕ → Bool
-blocks_at m k r x y = (sum (action_of m) (action_of k)).coefficient r (part_at (length m.generators) x) (part_at (length m.generators) y)
+blocks_at m k r x y =
+    (sum (action_of m) (action_of k)).coefficient r (part_at (length m.generators) x) (part_at (length m.generators) y)
 
 -- the term of a splitting
 abbrev pub pairs_at : Module → Module → ℕ → ℕ → List ℕ × List ℕ → Bool
@@ -66,13 +67,15 @@ degree_in_sum m k x = (sum (action_of m) (action_of k)).degree (part_at (length 
 abbrev pub degree_in : Construction → ℕ → ℤ
 degree_in (Shift m n) x = (shifted n (action_of m.now.plain)).degree x
 degree_in (Sum m k) x = degree_in_sum m.now.plain k.now.plain x
-degree_in (Tensor m k) x = (tensor (action_of m.now.plain) (action_of k.now.plain)).degree (pair_at (length k.now.plain.generators) x)
+degree_in (Tensor m k) x =
+    (tensor (action_of m.now.plain) (action_of k.now.plain)).degree (pair_at (length k.now.plain.generators) x)
 degree_in (Dual m) x = (dual conjugate (action_of m.now.plain)).degree x
 
 abbrev pub coefficient_in : Construction → List ℕ → ℕ → ℕ → Bool
 coefficient_in (Shift m n) r x y = (action_of m.now.plain).coefficient r x y
 coefficient_in (Sum m k) r x y = blocks_at m.now.plain k.now.plain r x y
-coefficient_in (Tensor m k) r x y = (tensor (action_of m.now.plain) (action_of k.now.plain)).coefficient r (pair_at (length k.now.plain.generators) x) (pair_at (length k.now.plain.generators) y)
+coefficient_in (Tensor m k) r x y = (tensor (action_of m.now.plain) (action_of k.now.plain)).coefficient r
+    (pair_at (length k.now.plain.generators) x) (pair_at (length k.now.plain.generators) y)
 coefficient_in (Dual m) r x y = (dual conjugate (action_of m.now.plain)).coefficient r x y
 
 -- ---- in the order of degree
@@ -114,7 +117,9 @@ dual_by m order r i j = (dual conjugate (action_of m)).coefficient r (number_at 
 
 -- what the splitting p gives to the coefficient of generator j in Sq(R) on generator i of the dual
 abbrev pub dual_term : Module → List Placed → ℕ → ℕ → List ℕ × List ℕ → Bool
-dual_term m order i j p = odd_by (λ k. (action_of m).coefficient p.0 (number_at order k) (number_at order i) && dual_by m order p.1 k j) (range_with_len 0 (length order))
+dual_term m order i j p = odd_by
+    (λ k. (action_of m).coefficient p.0 (number_at order k) (number_at order i) && dual_by m order p.1 k j)
+    (range_with_len 0 (length order))
 
 -- the same, and nothing for the splitting whose left part is ()
 abbrev pub proper_term : Module → List Placed → ℕ → ℕ → List ℕ × List ℕ → Bool
@@ -125,8 +130,11 @@ pub record IsDualOrder (m : Module) (gs : List Generator) (order : List Placed) 
   pub count : length order ≡ length gs
   pub numbers : (i : ℕ) → i < length gs → number_at order i < length m.generators
   pub degrees : (i : ℕ) → i < length gs → degree_at gs i ≡ pos 0 -ℤ degree_at m.generators (number_at order i)
-  pub sums : (f : ℕ → Bool) → odd_by (λ i. f (number_at order i)) (range_with_len 0 (length gs)) ≡ odd_by f (range_with_len 0 (length m.generators))
+  pub sums : (f : ℕ → Bool) →
+      odd_by (λ i. f (number_at order i)) (range_with_len 0 (length gs))
+      ≡ odd_by f (range_with_len 0 (length m.generators))
 
 -- the operators of lower degrees than n have the values that they should
 abbrev pub HasValuesBelow : ℕ → (List ℕ → ℕ → ℕ → Bool) → Module → Type 0
-HasValuesBelow n c m = (r : List ℕ) (i : ℕ) → IsTrimmed r → degree_of r < n → i < length m.generators → value m.generators m.operators r i ≡ values_on m.generators c r i
+HasValuesBelow n c m = (r : List ℕ) (i : ℕ) → IsTrimmed r → degree_of r < n → i < length m.generators →
+    value m.generators m.operators r i ≡ values_on m.generators c r i

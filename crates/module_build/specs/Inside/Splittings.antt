@@ -19,12 +19,15 @@ sum_over f xs = odd_by (λ s. f (s.left, s.right)) xs
 
 -- they are the splittings of R whose left part is of degree min at least and max at most
 abbrev pub AreSplittings : ℕ → ℕ → List ℕ → List Splitting → Type 0
-AreSplittings min max r xs = (f : List ℕ × List ℕ → Bool) → sum_over f xs ≡ odd_by (λ p. nat_le (degree_of p.0) max && (nat_le min (degree_of p.0) && f p)) (splittings r)
+AreSplittings min max r xs = (f : List ℕ × List ℕ → Bool) →
+    sum_over f xs ≡ odd_by (λ p. nat_le (degree_of p.0) max && (nat_le min (degree_of p.0) && f p)) (splittings r)
 
 -- the second list has, beside those of the first, the splittings of R whose left part is of degree n
 abbrev pub AddsDegree : ℕ → List ℕ → List Splitting → List Splitting → Type 0
-AddsDegree n r xs ys = (f : List ℕ × List ℕ → Bool) → sum_over f ys ≡ plus (sum_over f xs) (odd_by (λ p. nat_eq (degree_of p.0) n && f p) (splittings r))
+AddsDegree n r xs ys = (f : List ℕ × List ℕ → Bool) →
+    sum_over f ys ≡ plus (sum_over f xs) (odd_by (λ p. nat_eq (degree_of p.0) n && f p) (splittings r))
 
 -- the splitting of R with the left part a, if there is one
 abbrev pub AddsLeft : List ℕ → List ℕ → List Splitting → List Splitting → Type 0
-AddsLeft a r xs ys = (f : List ℕ × List ℕ → Bool) → sum_over f ys ≡ plus (sum_over f xs) (odd_by (λ p. pointwise nat_eq a p.0 && f p) (splittings r))
+AddsLeft a r xs ys = (f : List ℕ × List ℕ → Bool) →
+    sum_over f ys ≡ plus (sum_over f xs) (odd_by (λ p. pointwise nat_eq a p.0 && f p) (splittings r))

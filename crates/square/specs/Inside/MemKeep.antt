@@ -31,9 +31,11 @@ pub record IsFirstPart (list : List Entry) (least : ℕ) (image : Option (List E
   pub part : image ≡ Some (take len list)
 
 -- a first part as long as the list is the list
-pub whole_part : (list : List Entry) (image : Option (List Entry)) → IsFirstPart list (length list) image → image ≡ Some list
+pub whole_part : (list : List Entry) (image : Option (List Entry)) → IsFirstPart list (length list) image →
+    image ≡ Some list
 whole_part list image p = p.part ∙ ap (λ (x : List Entry). Some x) (take_all p.len list p.at_least)
 
 -- a first part at least so long is at least as long as less
-pub longer_part : (list : List Entry) (m n : ℕ) (image : Option (List Entry)) → m ≤ n → IsFirstPart list n image → IsFirstPart list m image
+pub longer_part : (list : List Entry) (m n : ℕ) (image : Option (List Entry)) → m ≤ n → IsFirstPart list n image →
+    IsFirstPart list m image
 longer_part list m n image before p = let least = p.at_least in record { len = p.len; at_least = omega arith; at_most = p.at_most; part = p.part }

@@ -13,7 +13,8 @@ pub record HaveSameSquares (before after : Staircase) : Type 0 where
   pub rows : after.rows ≡ before.rows
 
 -- the square was kept, and is in the table
-pub record HasPut (m : Module) (start : List Entry) (old new : Keeper) (before after : Staircase) (q : Placed) : Type 0 where
+pub record HasPut (m : Module) (start : List Entry) (old new : Keeper) (before after : Staircase) (q : Placed)
+    : Type 0 where
   pub resolved : after.resolved ≡ before.resolved
   pub start_is : after.start ≡ before.start
   pub rows : after.rows ≡ with_square before.rows q.s q

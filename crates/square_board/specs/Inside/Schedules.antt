@@ -6,7 +6,13 @@ use Rattle.square_board.specs.Courses.{Course, state_of as state_of_course, IsLe
 
 -- where the machine began, and its history
 abbrev pub course_of : Board → List (ℕ × ℤ) → List Event → Course
-course_of core start history = record { rows = core.rows; degrees = core.degrees; bottom = core.bottom; start = start; history = history }
+course_of core start history = record {
+  rows = core.rows;
+  degrees = core.degrees;
+  bottom = core.bottom;
+  start = start;
+  history = history;
+}
 
 -- The history led the machine to its state. There is room for the event that ends each square that is out.
 pub record IsScheduled (core : Board) (start : List (ℕ × ℤ)) (history : List Event) (jobs room : ℕ) : Type 0 where

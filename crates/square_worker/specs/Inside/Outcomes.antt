@@ -9,7 +9,8 @@ use Rattle.square.specs.Squares.{Placed}
 use Rattle.square.specs.Tables.{IsThrough}
 
 -- no cause stands after the history, and squares of the range are not there
-pub record IsUnfinished (range : Range) (rows : List (List Placed)) (history : List Event) (cause : Cause) : Type 0 where
+pub record IsUnfinished (range : Range) (rows : List (List Placed)) (history : List Event) (cause : Cause)
+    : Type 0 where
   pub no_cause : first_cause history ≡ None
   pub unfinished : IsThrough range rows → ⊥
   pub memory : cause ≡ Memory
