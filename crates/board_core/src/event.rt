@@ -6,7 +6,8 @@ ghost use Rattle.board_core.specs.declared.event.CoreFault.TheVariants.{Memory a
 use memory::Memory;
 use thiserror::Error;
 
-/// Why no more squares are given out.
+/// Why no more squares are given out. A cause that stands bars that a square is taken, given or failed at. It does not bar
+/// that one is handed back, which can always be done, and which leaves the cause as it is.
 #[derive(Clone, Copy, Debug, PartialEq, Eq, Drop)]
 pub enum Cause {
     /// A square failed.
@@ -15,7 +16,7 @@ pub enum Cause {
     Memory,
 }
 
-/// A square that is out: who has it, its row, and its degree above the bottom.
+/// A square that is out: who has it, its row, and its degree above the bottom. What happens to it in a run is an `Entry`.
 #[derive(Clone, Copy, Debug, PartialEq, Eq, Drop)]
 pub struct Out {
     pub who: u64,

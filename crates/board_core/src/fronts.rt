@@ -8,7 +8,8 @@ use std::alloc::Global;
 use std::marker::Model;
 
 /// The squares that are done. In each row they are those below a front, and no front is greater than that of the row below,
-/// so the fronts are all that is kept. A row that has no front here has no square done.
+/// so the fronts are all that is kept. A row that has no front here has no square done. Fronts have 64 bits, so a start may
+/// hold any degree.
 #[derive(Drop)]
 pub(crate) struct Fronts {
     fronts: Vec<u64>,

@@ -20,6 +20,9 @@ use std::mem::swap;
 
 /// The board of the squares of a range: which are done, which are out and who has them, and why no more are given out.
 /// Each event changes it as the machine's definition says.
+///
+/// Contracts see the fronts of its rows, and `state_of` is the state that these stand for: there the squares that are done
+/// are a function, which is no value of a model.
 #[derive(Drop)]
 pub struct Core {
     rows: u16,
@@ -27,7 +30,8 @@ pub struct Core {
     bottom: i32,
     fronts: Fronts,
     out: Vec<Out>,
-    /// Which rows of the range have a square that is out.
+    /// Which rows of the range have a square that is out. It is the only one of its row, the first that is not done, so
+    /// `ready` looks once at each row.
     busy: Vec<bool>,
     failed: Option<Out>,
     /// The squares that the save file has, each by its row and its degree, in their order.
@@ -75,11 +79,14 @@ impl Model for Core {
 
 impl Core {
     /// The board before the first event. Its range is the rows through `s`, in the degrees from `m` through `m + t`. The
-    /// squares of `start`, each given by its row and its degree, are done; they need not lie in the range.
+    /// squares of `start`, each given by its row and its degree, are done; they need not lie in the range. None of them
+    /// lies below the bottom: of row 0 this does not follow from each standing after its parents, since a square there has
+    /// none.
     ///
     /// # Errors
     /// `Memory` if allocation fails: there are two fronts for each row through the last of the range and of `start`, that of
-    /// the done squares and that of the file's, and a mark for each row of the range.
+    /// the done squares and that of the file's, and a mark for each row of the range. No front is added later, since the
+    /// square of an event lies in the range.
     pub fn new(alloc: Global, s: u16, t: u16, m: i32, start: &[(u16, i32)]) -> Result<Core, Memory>
         requires fits { (m +ℤ pos t) ≤ℤ pos (2 ^ 31 - 1) }
         requires start { IsStart m start.now }

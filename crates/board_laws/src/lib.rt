@@ -1,4 +1,7 @@
 //! What every run of the board with contents gives, as contracts of functions that do nothing.
+//!
+//! The board with contents stands apart from the machine, which looks at no contents, and from the crate of squares, which
+//! so need not be checked again with it.
 #![tactic(auto)]
 
 ghost use Rattle.board_laws.specs.Schedules.{EveryScheduleIsCanonical, EveryScheduleContinuesItsStart, EveryHistoryHasARun, EveryHistoryFromItsStartHasARun};

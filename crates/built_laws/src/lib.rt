@@ -1,4 +1,7 @@
 //! Modules of generators and operators, made from coefficients, as contracts of functions that do nothing.
+//!
+//! On a basis of pairs, or of elements of two kinds, an action is a function of two basis elements. The definitions here
+//! number such a basis by degree, and make the operators.
 #![tactic(auto)]
 
 ghost use Rattle.built_laws.specs.Built.{BuiltHasCoefficients, BuiltIsModule, ModulesAreActions};

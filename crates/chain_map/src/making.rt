@@ -54,7 +54,8 @@ pub fn lift(
 }
 
 /// A lift of each class of the square in row `s` and of degree `t`, in their order, as `lift` makes it. Each square of the
-/// sphere's resolution is inverted once for all of them.
+/// sphere's resolution is inverted once for all of them. The row is `u16`, as `Table::at` takes it; that of a `Class` is
+/// `u32`, as words give it.
 ///
 /// # Errors
 /// `Memory` if allocation fails.
@@ -213,7 +214,8 @@ fn add_rows(
     Ok(())
 }
 
-/// The row of map `k`, of each lift.
+/// The row of map `k`, of each lift. The quasi-inverses of the row are held while it is made; if a square kept its
+/// reduction, its quasi-inverse is a copy of that.
 fn add_row(
     alloc: Global,
     course: &Course<'_>,

@@ -1,4 +1,6 @@
 //! What a module file says of an action determines it, as the contract of a function that does nothing.
+//!
+//! The crate stands above `module_check`, since it speaks of its refusals.
 #![tactic(auto)]
 
 ghost use Rattle.derived_laws.specs.Unique.{DerivedActionIsUnique, RefusedHasNoModule};

@@ -10,10 +10,12 @@ use crate::faults::Failed;
 ///
 /// What was written since the last sync is not settled yet: an image may have anything there and behind the old end, and may
 /// end wherever lies from the old end to the new. All other bytes are in every image as they are. A sync that succeeds settles
-/// everything: from then until the next write the file, as a read gives it, is the only image. It is one at any time.
+/// everything: from then until the next write the file, as a read gives it, is the only image. It is one at any time. Whether
+/// a call succeeds or fails, a sync adds no image, and a write changes the images by the one step of writing its bytes.
 ///
-/// A disk that tells nothing of its bytes has contracts on faults, lengths and moments alone; whether it tells them never
-/// changes.
+/// A disk that tells nothing of its bytes has contracts on faults, lengths and moments alone; without the lengths a caller
+/// could not bound the sum of a place and a length. Whether a disk tells its bytes never changes, not even in a call that
+/// fails: else no clause could say that its bytes are as before.
 pub trait Disk {
     /// What a read gives, none where it does not tell.
     ghost now: { Self → Option (List ℕ) };

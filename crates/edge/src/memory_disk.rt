@@ -11,7 +11,8 @@ use memory::Memory;
 use std::alloc::{AllocError, Global};
 use std::marker::Model;
 
-/// A disk of tests, which holds its bytes in memory, and tells what a crash may leave of them. Its calls take no memory.
+/// A disk of tests, which holds its bytes in memory, and tells what a crash may leave of them. Its calls take no memory. All
+/// room is taken when it is made: for the bytes, for those of the last sync, and for a mark at each place.
 #[derive(Drop)]
 pub struct MemDisk {
     bytes: Vec<u8>,
@@ -114,7 +115,8 @@ fn shift(bytes: &mut [u8], marked: &[bool], by: u8)
 
 impl MemDisk {
     /// A disk that holds these bytes. The calls in `failing`, counted from 1, and those after the first `stop_after` ones
-    /// fail; and so does a call with which the bytes here, the bytes written and the calls would be more than `room`.
+    /// fail; and so does a call with which the bytes here, the bytes written and the calls would be more than `room`. Calls
+    /// that fail are counted too. If `room` is not above the number of bytes here, each call fails.
     ///
     /// # Errors
     /// `Memory` if allocation fails.
@@ -185,7 +187,7 @@ impl MemDisk {
     }
 
     /// One of the images now: for 0 the file as it was last synced, for 1 the file as it has been written since, and for any other
-    /// number the latter, where each byte that is not settled is greater by that number, mod 256.
+    /// number the latter, where each byte that is not settled is greater by that number, mod 256; so 256 gives what 1 gives.
     ///
     /// # Errors
     /// `Memory` if allocation fails.

@@ -62,7 +62,8 @@ impl Model for MemSource {
 }
 
 impl MemSource {
-    /// A source of `bytes` that gives at most `piece` of them a call. The calls in `failing` fail, counted from 1.
+    /// A source of `bytes` that gives at most `piece` of them a call. The calls in `failing` fail, counted from 1. It needs
+    /// no allocator, and takes one so that it is made as the sinks and disks of tests are.
     ///
     /// # Errors
     /// None: it takes over the memory that it needs.

@@ -120,7 +120,8 @@ fn refused<E: Sink>(failure: &Failure, err: &mut E) -> u8
     failure.status()
 }
 
-/// The failure where there are no arguments: one of them is no text, and so no word of the grammar, or memory ended.
+/// The failure where there are no arguments: one of them is no text, and so no word of the grammar, or memory ended. The
+/// status is 2 for the one, and 12 for the other.
 fn failure_of(kind: ErrorKind) -> Failure
     ensures outside { kind ≡ ErrorKind.InvalidData → result ≡ OutsideGrammar }
     ensures memory { kind ≢ ErrorKind.InvalidData → result ≡ OutOfMemory }

@@ -1,4 +1,4 @@
-//! Why there is nothing to tell of classes.
+//! Why there is nothing to tell of classes: one refusal serves products and brackets.
 ghost use Rattle.std.specs.Prelude.{◌≡◌};
 ghost use Rattle.ext_products.specs.declared.refusal.ClassesFault.TheVariants.{Memory as OutOfMemory};
 

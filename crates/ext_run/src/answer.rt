@@ -38,6 +38,9 @@ pub struct Ended<D> {
 ///
 /// The squares stay in memory until the process ends.
 ///
+/// The first argument is the runtime, without any bound, since no command asks anything of it. The second starts threads,
+/// waits and tells the time; a program passes its runtime for both.
+///
 /// The status is 0 where the answer is written whole, 2 for words outside the grammar, 3 where what was read is no module
 /// file, 4 where it describes no module, 6 where reading failed, 7 where writing failed, 8 where the disk failed, 9 where what it
 /// holds is no save file of the module, 10 where a product of the classes that the words name has to be zero and is not, 11 where

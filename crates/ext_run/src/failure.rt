@@ -21,7 +21,8 @@ use save_file::ResumeFault;
 use save_journal::OpenFault;
 use std::alloc::{AllocError, AllocFailed};
 
-/// Why a run has no answer.
+/// Why a run has no answer. It is public beside `run`, as `report` is, since a program needs both for arguments that cannot
+/// be read.
 #[derive(Drop)]
 pub enum Failure {
     /// The words are outside the grammar.
@@ -38,7 +39,8 @@ pub enum Failure {
     Writing,
     /// The save file could not be read or written.
     Saving,
-    /// What is in the save file's place is none of the module.
+    /// What is in the save file's place is none of the module. A disk that failed is `Saving`, and memory that ran out is
+    /// `Memory`.
     SaveFile(ResumeFault),
     /// There is nothing to tell of the classes that the words name.
     Classes(Refusal),

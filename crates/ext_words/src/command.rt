@@ -43,7 +43,8 @@ pub enum Build {
     Shift(i32),
 }
 
-/// What the words of a command line ask for.
+/// What the words of a command line ask for. It is no `Copy` type, since the numbers of `sq` are a `Mono`, which has memory.
+/// The contract of `parse` hands on the bounds of the numbers.
 #[derive(Debug, PartialEq, Eq, Drop)]
 pub enum Command {
     /// `sphere S T`: the chart of the sphere.

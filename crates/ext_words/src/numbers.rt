@@ -155,7 +155,8 @@ fn class_from(texts: &[&str]) -> Option<Class>
     })
 }
 
-/// The class that a word says: its row, its degree and its number, joined by commas.
+/// The class that a word says: its row, its degree and its number, joined by commas. A row or a number has no hyphen in
+/// front of it, not even before 0, and a degree has one at most: `1,-0,0` is `1,0,0`, and `-1,1,0` is no class.
 ///
 /// # Errors
 /// `Memory` if allocation fails.

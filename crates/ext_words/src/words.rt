@@ -33,7 +33,8 @@ fn with_option<'a>(
     command.arg(Arg::new(alloc, name).long(name))
 }
 
-/// The command with the options that all commands have that resolve a module.
+/// The command with the options that all commands have that resolve a module. For `clap`, `--save` is an option with 0
+/// values, and not a flag that is set: it leaves no match where it is not given, and its matches are those of its uses.
 fn with_options<'a>(
     alloc: Global,
     command: clap::Command<'a>,

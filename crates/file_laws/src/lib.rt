@@ -1,4 +1,7 @@
 //! The file of a module gives the module back, as the contract of a function that does nothing.
+//!
+//! The crate stands above `derived_laws`, since a module is the one that its squares determine; `built_laws` does not wait
+//! for that.
 #![tactic(auto)]
 
 ghost use Rattle.file_laws.specs.Files.{FilesGiveBack};

@@ -11,7 +11,8 @@ use Rattle.milnor_basis.specs.Product.{choose, is_odd, product_terms}
 use Rattle.module_json.specs.ModuleFile.{Generator, Entry, File, degree_at}
 use Rattle.finite_module.specs.Module.{Module, generators_in, width, unit, value, act_on, total, bottom}
 
--- the sum that is listed for Sq^n on generator i, empty where none is
+-- the sum that is listed for Sq^n on generator i, empty where none is. If a square of a generator is listed twice, it is
+-- the first; a file that lists two different sums is refused
 abbrev pub listed_sum : List Entry → ℕ → ℕ → List ℕ
 listed_sum [] n i = []
 listed_sum (e ∷ es) n i = if e.n == n && e.generator == i then e.sum else listed_sum es n i

@@ -17,7 +17,7 @@ use std::alloc::Global;
 use std::marker::Model;
 use std::ops::Range;
 
-/// A generator of a module.
+/// A generator of a module. Contracts see it as the definition `Generator` of module files.
 #[derive(Debug, Drop)]
 pub struct Generator {
     name: String,

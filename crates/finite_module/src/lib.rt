@@ -1,4 +1,7 @@
 //! Finite modules over the mod 2 Steenrod algebra: a basis, and the value of each Sq(R) on it.
+//!
+//! `Generators` and `Operators` are public, so that a module can be put together of them: what stands on modules alone does
+//! not wait for the check of module files.
 #![tactic(auto)]
 
 mod exponents;

@@ -63,7 +63,11 @@ impl Module {
     /// k, counted from 0, comes from v = v_(k+1). Its lower cell is called `x` with the number k, and its degree is
     /// (v div 256) mod 8. What (v div 65536) mod 5 is tells whether there is a second cell: at 0 there is none, and at 1 to 4
     /// it is called `y` with the number k, and Sq1, Sq2, Sq4 or Sq8 takes the lower cell to it. The generators stand as those
-    /// of a module file do, by degree and in one degree by name.
+    /// of a module file do, by degree and in one degree by name. So in one degree `x10` stands before `x2`, and each `x`
+    /// before each `y`.
+    ///
+    /// The operators are made directly, and not derived from a file. Both agree for each file whose actions are those of
+    /// powers of two, none of which starts where one ends.
     ///
     /// # Errors
     /// `Memory` if allocation fails.

@@ -151,7 +151,8 @@ fn by_lifts(
     coset(alloc, setting, beta, gamma, places.c.s + places.b.s - 1)
 }
 
-/// What is answered where a or b is in row 0. That is for tables alone that are no resolutions: else ab is not zero.
+/// What is answered where a or b is in row 0. That is for tables alone that are no resolutions: else ab is not zero. Row 0
+/// of the sphere's resolution has the unit alone.
 fn empty(alloc: Global, setting: &Setting<'_>) -> Result<Bracket, Memory>
     requires setting { IsSetting setting.now.table.now setting.now.sphere.now setting.now.range setting.now.places }
     ensures s { IfOk result (λ bracket. bracket.s

@@ -106,7 +106,8 @@ fn found(table: &Table, range: Range, class: Class, which: u8) -> Result<Place, 
     }
 }
 
-/// Checks that the square in row `rows - 1`, `above` degrees above the bottom, lies in the range.
+/// Checks that the square in row `rows - 1`, `above` degrees above the bottom, lies in the range. Rows are compared as
+/// signed numbers, so classes that are all in row 0 are refused for ab, which is not zero, and not for the row -1.
 fn within(table: &Table, range: Range, which: u8, rows: u16, above: u16) -> Result<(), MasseyFault>
     ensures within { OnOk result
         (out_of_range which table.now range (pos rows -ℤ pos 1) (bottom_of table.now.resolved +ℤ pos above) ≡ None) }

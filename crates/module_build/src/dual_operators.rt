@@ -78,7 +78,8 @@ fn dual_value(
     Ok(value)
 }
 
-/// Adds Sq(B) on the sum of the generators of the dual that Sq(A) of the module takes to the one that is dual to generator `i`.
+/// Adds Sq(B) on the sum of the generators of the dual that Sq(A) of the module takes to the one that is dual to generator
+/// `i`. Only generators of the degree that is met are looked at.
 fn add_splitting(
     sum: &mut BitVec,
     given: &Module,

@@ -10,7 +10,8 @@ use crate::fault::BuildFault;
 use crate::order::Placed;
 use module_json::{MAX_DEGREE, MAX_GENERATORS, MAX_SPAN, What};
 
-/// The first limit that a basis passes: how many elements it has, or else a degree, or else how far apart degrees lie.
+/// The first limit that a basis passes: how many elements it has, or else a degree, or else how far apart degrees lie. The
+/// limits are looked at before any operator is made, on degrees of 64 bits.
 pub(crate) fn limit_passed(basis: &[Placed]) -> Option<BuildFault>
     ensures { result ≡ limit_of (degrees_of basis.now) }
 {

@@ -33,7 +33,8 @@ fn difference(r: &Exps, a: &Exps) -> Option<Exps>
     Some(Exps::of(numbers))
 }
 
-/// The splittings of R whose parts are of degrees of these bases.
+/// The splittings of R whose parts are of degrees of these bases. For a tensor product no others are needed: each of them is
+/// zero on one of the factors.
 pub(crate) fn splittings(
     alloc: Global,
     left: &Basis,

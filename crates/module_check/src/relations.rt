@@ -253,7 +253,8 @@ fn check_degree(alloc: Global, operators: &Operators, n: u16) -> Result<(), Chec
 }
 
 /// Whether each relation holds. The first that fails, by the degree of the product, the degree of R, R, S and the
-/// generator, is the fault.
+/// generator, is the fault. Generators that have no others as far above them are passed over: there both sides are vectors
+/// without a coordinate.
 pub(crate) fn check_relations(alloc: Global, operators: &Operators) -> Result<(), CheckFault>
     ensures holds { OnOk result (first_relation operators.now ≡ None) }
     ensures fails { IfErr result (λ e. e ≢ CheckFault.Memory → first_relation operators.now ≡ Some e) }

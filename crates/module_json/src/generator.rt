@@ -13,7 +13,7 @@ use serde_json::{Map, Value};
 use std::alloc::Global;
 use std::marker::Model;
 
-/// A generator of a module.
+/// A generator of a module. Contracts see it as the definition `Generator`; a public type would add what no caller asks for.
 #[derive(Drop)]
 pub(crate) struct Generator {
     pub(crate) name: String,

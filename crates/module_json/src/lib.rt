@@ -1,5 +1,8 @@
 //! Module files: a finite module over the mod 2 Steenrod algebra, written as JSON, is read, or the first thing
 //! wrong with it is named.
+//!
+//! Numbers are those that `serde_json` answers, so `2.0` is no whole number, and `Sq004` is `Sq4`. Two actions of one square
+//! on one generator are compared after names that stand twice in a sum have cancelled.
 #![tactic(auto)]
 
 mod action;

@@ -120,7 +120,8 @@ fn add_row<K: Keep>(
     Ok(())
 }
 
-/// Makes the square in row `s` and of degree `t`, the next of its row.
+/// Makes the square in row `s` and of degree `t`, the next of its row. No clause says whether it is kept or put into the
+/// table first: after a failure the table is lost.
 fn add_square<K: Keep>(
     alloc: Global,
     table: &mut Table,

@@ -17,7 +17,8 @@ use square::{MAX_S, MAX_T, Square, Table};
 use std::alloc::Global;
 
 /// The square that these bytes are behind those of the table, all of which were read. `number` is that of the record they stand
-/// in, from 0, and is told where the bytes are strange.
+/// in, from 0, and is told where the bytes are strange. The list of the squares that were read is the table's start; the
+/// table has them at their places, so it is asked.
 ///
 /// The bytes are a square's if they are its body, byte by byte, and the square may stand there: its kind is 1 and its place within
 /// the limits of a range; it is not in the table, and those that it stands on are; the dimensions are those of the target of d_s and of F_s with the
@@ -95,7 +96,8 @@ fn is_next(table: &Table, s: u16, above: u16) -> bool
 }
 
 /// Whether the matrices have as many columns as the modules have dimensions, where the next square of the row is, in degree `t`,
-/// and no more rows.
+/// and no more rows. For kernel rows in reduced echelon form without a zero row the last adds nothing. It is tested first,
+/// so that a body of rows without a coordinate is refused at once.
 fn has_dimensions(table: &Table, t: i32, parts: &Parts<'_>) -> bool
     requires { IsPlaceFor table.now parts.now.s parts.now.above t }
     ensures { IsTrue result ↔ HasDimensions table.now (outline_of parts.now) }

@@ -39,7 +39,8 @@ use std::sync::Arc;
 /// # Errors
 /// Each comes with the disk, on which a refusal writes nothing. `Open` with `Failed` if the disk failed, `Memory` if allocation fails,
 /// and otherwise the refusal of the file: `Open` with that of its records, or `Strange` with the number of the first record whose body
-/// is no square that may stand behind those before it.
+/// is no square that may stand behind those before it. If the journal could not be opened for lack of memory, that is
+/// `Memory`, and never `Open` with it.
 pub fn resume<D: Disk>(
     alloc: Global,
     module: Module,

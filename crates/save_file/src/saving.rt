@@ -17,7 +17,11 @@ use std::snapshot::Snapshot;
 /// The keeper of a save file: each square that it keeps stands in the file, as a record of its own.
 ///
 /// What it has kept are the squares of as many first records of the file as were read when it was taken up, or appended since. An
-/// image is what a file that a crash may leave stands for.
+/// image is what a file that a crash may leave stands for. After an append that failed the file may have one record more,
+/// which does not count.
+///
+/// It holds the allocator that it was taken up with, since `keep` is given none, and its table as a value without bytes,
+/// which tells its module and its start.
 #[derive(Drop)]
 pub struct SaveFile<D: Disk> {
     pub(crate) alloc: Global,

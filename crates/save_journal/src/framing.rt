@@ -33,7 +33,7 @@ impl Model for Framed {
         × IsSayable (take (length f.bytes.items - 41) (drop 8 f.bytes.items)) };
 }
 
-/// Makes a body ready to be appended.
+/// Makes a body ready to be appended. It takes all the memory, so `Journal::append` fails only if the disk does.
 ///
 /// # Errors
 /// `Memory` if allocation fails, with the body.

@@ -15,7 +15,8 @@ use edge::{Disk, Failed};
 use std::alloc::Global;
 use std::marker::Model;
 
-/// A journal over a disk: bodies of records, in order, each of which a crash leaves whole or not at all.
+/// A journal over a disk: bodies of records, in order, each of which a crash leaves whole or not at all. Contracts see its
+/// disk, its digest, the place of its last gate, and whether it is live.
 #[derive(Drop)]
 pub struct Journal<D: Disk> {
     disk: D,

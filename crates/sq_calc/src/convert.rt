@@ -59,7 +59,9 @@ pub fn to_admissible(alloc: Global, basis: &Basis, deg: u16, v: &BitVec) -> Resu
 }
 
 /// The monomials of that sum, in the order in which they are found: the last basis element of what is left is the leading term of one
-/// admissible monomial, whose value is taken off.
+/// admissible monomial, whose value is taken off. They are found in the right lexicographic order of their leading terms, in
+/// which the system is triangular, and not in their own order: in degree 12 Sq8 Sq4 is found before Sq9 Sq2 Sq1. Each value
+/// is made once.
 fn leading_monomials(
     alloc: Global,
     basis: &Basis,

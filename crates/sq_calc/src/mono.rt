@@ -14,7 +14,9 @@ use std::cmp::Ordering;
 use std::marker::Model;
 
 /// A product of squares Sq^i1 Sq^i2 .., seen as the list of the numbers i1, i2, .. in that order. The empty one is the unit.
-/// Monomials are ordered as lists: the first number that differs decides, and a list comes before those that it begins.
+/// Monomials are ordered as lists: the first number that differs decides, and a list comes before those that it begins. A
+/// number may be 0, since Sq0 is the unit, so each product of squares is a monomial and has a value; an admissible one has
+/// no 0.
 #[derive(Debug, Drop)]
 pub struct Mono {
     numbers: Vec<u16>,

@@ -40,7 +40,8 @@ impl From<Memory> for KeepFault {
 /// none where it stands for no list, as torn bytes do: so a clause that says which lists an image may be also says that it is
 /// not torn.
 pub trait Keep {
-    /// What contracts see of the keeper.
+    /// What contracts see of the keeper. It is one record, so that a fact on a keeper at two moments is one relation,
+    /// `HasKept`, which is closed under composition.
     ghost telling: { Self → Keeper };
 
     /// Puts a square at the end of what is kept.

@@ -17,7 +17,8 @@ use std::marker::Model;
 use std::snapshot::Snapshot;
 
 /// A square (s, t) of a resolution: the images of its new generators, and the reduced basis of the kernel of d_s in degree
-/// t. It was made from the squares before it, or else it was read from a save file.
+/// t. It was made from the squares before it, or else it was read from a save file. It was read exactly if its start has a
+/// square at its place, whether or not it has kept a reduction.
 #[derive(Drop)]
 pub struct Square {
     module: Snapshot<Module>,

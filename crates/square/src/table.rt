@@ -30,7 +30,8 @@ use std::marker::Model;
 use std::sync::Arc;
 
 /// The squares of a resolution of one module that are there: row s has the squares (s, bottom), (s, bottom + 1), .., and no
-/// row is longer than the one below it, s - 1. Those that were read from a save file stand before all others.
+/// row is longer than the one below it, s - 1. Those that were read from a save file stand before all others. Contracts do
+/// not see that a table shares its module and its Milnor bases with the inputs that it lends.
 #[derive(Drop)]
 pub struct Table {
     module: Arc<Module>,

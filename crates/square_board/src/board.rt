@@ -88,7 +88,8 @@ impl<K: Keep> Board<K> {
     ///
     /// `Stopped` comes exactly if a square was handed back or failed before, with the cause of the first of these; else `Over`
     /// exactly if all squares of the range are done, `Idle` exactly if some are not and none may be taken, and a job
-    /// or `Memory` if one may be.
+    /// or `Memory` if one may be. `Idle` is judged by the history as the take found it: with a job the pass has seen its own
+    /// entry too, so the clause on `Idle` asks that it has no new one.
     ///
     /// # Errors
     /// `Memory` if allocation fails; nothing is taken then.
@@ -114,7 +115,8 @@ impl<K: Keep> Board<K> {
     }
 
     /// Gives the square of a job, which was made from the job's inputs. All memory is taken first, then the keeper is called, and
-    /// then the square is done.
+    /// then the square is done. The square has the module, the start and the place of the job, and its content is the step
+    /// on the job's inputs; whether it has kept a reduction does not matter.
     ///
     /// # Errors
     /// `Stopped` exactly if a square was handed back or failed before, with the cause of the first of these; then the keeper

@@ -19,7 +19,9 @@ pub enum Taken {
     Stopped(Cause),
 }
 
-/// A square that was taken, with what it is made from. It has to be given or handed back, at its own board, by the pass that took it.
+/// A square that was taken, with what it is made from. It has to be given or handed back, at its own board, by the pass that
+/// took it. No type ties it to its board: its pass, the board's module and start, and the open take among the pass's entries
+/// are conditions of `give` and `back`. It cannot be dropped, so it has to be spent.
 pub struct Job {
     pub(crate) who: u64,
     pub(crate) inputs: Inputs,

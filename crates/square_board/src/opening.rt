@@ -11,7 +11,8 @@ use square::{MAX_S, Range, Table};
 use std::alloc::Global;
 use std::snapshot::Snapshot;
 
-/// What a board was made with. It exists in contracts, but for the range.
+/// What a board was made with. It exists in contracts, but for the range. It is the board's name, of values without bytes:
+/// what the keeper had kept, and how often it had failed, is read off the keeper itself, if it tells.
 pub struct Opening<K> {
     /// The table, with the squares that were done.
     pub table: Snapshot<Table>,

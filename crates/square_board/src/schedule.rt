@@ -14,12 +14,14 @@ use std::marker::Model;
 
 /// The machine with its history: each event that it accepts is written down. Contracts see where it began, and the history.
 ///
-/// There is room for the event that ends each square that is out, so that none of these events takes memory.
+/// There is room for the event that ends each square that is out, so that none of these events takes memory. The room is
+/// made with each take, and not for the whole range at the opening.
 #[derive(Drop)]
 pub(crate) struct Schedule {
     core: Core,
     /// The squares that were done at the opening, each by its row and its degree.
     start: GhostList<(u16, i32)>,
+    /// Each entry says who; the number that the turn puts beside it is the same.
     history: Vec<Entry>,
     /// How many squares are out.
     jobs: usize,

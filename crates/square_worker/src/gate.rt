@@ -1,6 +1,7 @@
 //! What a worker passes on its way to a square.
 
-/// What is called with each square that a worker has taken, before the worker makes it.
+/// What is called with each square that a worker has taken, before the worker makes it. It is called outside of the turn,
+/// and what it does is in no contract.
 pub trait Gate {
     /// A worker has taken the square in row `s` and of degree `t`, and goes on to make it when this returns.
     fn entered(&self, s: u16, t: i32);

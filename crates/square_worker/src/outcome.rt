@@ -11,7 +11,7 @@ use square_board::Entry;
 /// The table, if all squares of the range are done and no cause stands after this history.
 ///
 /// # Errors
-/// The cause that stands, or `Memory` if none does.
+/// The cause that stands, or `Memory` if none does. Then every worker stopped for lack of memory before it had a square.
 pub(crate) fn outcome(table: Table, range: Range, history: &[Entry]) -> Result<Table, Cause>
     ensures same { IfOk result (λ more. more ≡ table) }
     ensures is_table { IsTable table }

@@ -11,6 +11,9 @@ use std::snapshot::Snapshot;
 /// A pass of a turn. It has a number, and what it has seen of the turn's history. It may go to any thread where the state may.
 ///
 /// A pass that is dropped keeps its number: then the turn cannot be closed.
+///
+/// What it has seen is two beginnings of the history: as of its last turn, rest or join, and as of its last look by `count`
+/// or `front`. A look leaves the first as it is, so `Turn::rest` waits for more entries than that one has.
 #[derive(Drop)]
 pub struct Pass<T: Told> {
     pub(crate) seat: Seat<Option<T>, View<T::Name, T::Entry>>,

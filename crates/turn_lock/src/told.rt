@@ -2,6 +2,9 @@
 ghost use Rattle.std.specs.Prelude.{◌≡◌, ℕ, ◌<◌, List, length};
 
 /// A state that tells its history: a list of entries, each with the number of the pass that made it.
+///
+/// Its name and its entries need no bound, since they exist in contracts. Only where a turn or a pass is let go the state
+/// has to be `Drop`; otherwise all passes are joined, and the turn is closed.
 pub trait Told {
     /// What stays the same of the state, from its first moment on. It exists in contracts alone.
     type Name;

@@ -74,7 +74,9 @@ impl<T: Told> Turn<T> {
         unreachable!()
     }
 
-    /// Takes the turn if it is free and no other pass is faster; else nothing changes.
+    /// Takes the turn if it is free and no other pass is faster; else nothing changes. It looks first whether the turn is
+    /// free, by a load that tells the pass nothing, and tries the exchange only then. An exchange that was lost tells the
+    /// pass nothing either.
     fn try_acquire(&self, pass: &mut Pass<T>) -> Option<Held<T>>
         requires { pass.old.turn ≡ self.now }
         ensures pass { IfSome result (λ h. pass.new ≡ with_turn pass.old (T.entries h.value)) }
@@ -272,6 +274,7 @@ impl<T: Told> Turn<T> {
         } = other;
         let shared = &self.table.shared;
         shared.join_seat::<TakeIn>(&mut pass.seat, seat);
+        // Joining alone tells the seat nothing of the words.
         pass.count = shared.load::<See>(&mut pass.seat, 0) / 2;
     }
 

@@ -56,7 +56,8 @@ pub fn product(
 }
 
 /// The products of the class a of the sphere with each class of the module's square in row `s`, `above` degrees above the bottom, in
-/// their order. All classes of the square are lifted in one pass.
+/// their order. All classes of the square are lifted in one pass. The squares of a table have all their classes, so there is
+/// nothing to refuse; the sphere's table is asked for the class a, and for no range.
 ///
 /// # Errors
 /// `Memory` if allocation fails.
