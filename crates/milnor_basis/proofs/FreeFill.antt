@@ -1,5 +1,5 @@
 -- The loop over the numbers at one place, for all R of a degree.
-use Rattle.std.proofs.Common.{◌≡◌, ℕ, zero, suc, ◌+◌, ◌-◌, ◌*◌, ◌<◌, ◌≤◌, ◌^◌, ◌≢◌, ◌⊎◌, inl, inr, Bool, true, false, ◌&&◌, nat_eq, nat_lt, nat_le, List, map, length, refl, sym, ◌∙◌, ap, subst, arith, slice_index, slice_index_or, slice_set, bit_and, bit_or}
+use Rattle.std.proofs.Common.{◌≡◌, ℕ, zero, suc, ◌+◌, ◌-◌, ◌*◌, ◌<◌, ◌≤◌, ◌^◌, ◌≢◌, ◌⊎◌, inl, inr, Bool, true, false, ◌&&◌, nat_eq, nat_lt, nat_le, List, map, length, refl, sym, ◌∙◌, ap, subst, arith, slice_index, slice_set, bit_and, bit_or}
 use Rattle.std.specs.List.{sum, range_with_len, list_all}
 use Rattle.std.specs.Int.Bits.{and_zero_l}
 use Rattle.std.proofs.lemmas.Bool.{eq-eqb, ne_eqb, eqb-true, ltb-true, ltb-false, leb-true, leb-false, cases_Bool, cases_eq}
@@ -11,6 +11,7 @@ use Rattle.f2_vec.specs.Vectors.{plus}
 use Rattle.f2_vec.proofs.Sums.{plus-assoc}
 use Rattle.milnor_basis.specs.Exponents.{entry, degree_of, trimmed}
 use Rattle.milnor_basis.specs.Basis.{basis_of}
+use Rattle.milnor_basis.specs.Product.{is_odd_at}
 use Rattle.milnor_basis.specs.Inside.Padding.{padded}
 use Rattle.milnor_basis.specs.Inside.Walk.{is_odd_below, Sums, add_at, add, are_sums_of, taken, next_row, next_column}
 use Rattle.milnor_basis.specs.Inside.FreeRows.{IsFree, least_free, greatest_free, number_above, added, element, IsTurnedOver, are_elements, leads_to, TurnsOverAll}
@@ -43,11 +44,11 @@ abbrev pub goes_on_to : ℕ → ℕ → List ℕ → ℕ → ℕ → Sums → �
 goes_on_to degree product s row column sums p k v = leads_to degree product s (next_row row column) (next_column (length s) row column) (add row column v sums) p k
 
 -- the bits once the numbers below `number` have had their turn
-abbrev pub TurnsOverAllBelow : ℕ → ℕ → ℕ → ℕ → ℕ → ℕ → List ℕ → List ℕ → List ℕ → ℕ → List Bool → List Bool → Type 0
+abbrev pub TurnsOverAllBelow : ℕ → ℕ → ℕ → ℕ → ℕ → ℕ → List ℕ → List ℕ → List ℕ → ℕ → List (ℕ × ℕ) → List (ℕ × ℕ) → Type 0
 TurnsOverAllBelow degree product w row column room rows columns diagonals number before after = (s : List ℕ) (sums : Sums) → w ≡ length s → length s ≤ 8 → IsFree degree s row column room rows columns diagonals sums
     → IsTurnedOver degree product (λ p k. is_odd_below (goes_on_to degree product s row column sums p k) number) before after
 
-module _ (degree product w row column room : ℕ) (rows columns diagonals : List ℕ) (small : degree ≤ 255) (high : row ≤ 8) (above : 0 < row + column) (right : column ≤ w) (many : length rows ≡ 8) (before : List Bool) where
+module _ (degree product w row column room : ℕ) (rows columns diagonals : List ℕ) (small : degree ≤ 255) (high : row ≤ 8) (above : 0 < row + column) (right : column ≤ w) (many : length rows ≡ 8) (before : List (ℕ × ℕ)) where
   none_outside : (s : List ℕ) (sums : Sums) → w ≡ length s → IsFree degree s row column room rows columns diagonals sums → (p k : ℕ) → p < length (basis_of degree)
       → (v : ℕ) → v < least_free row column room columns ⊎ greatest_free row column room columns < v → goes_on_to degree product s row column sums p k v ≡ false
   none_outside s sums e is p k l v o =
@@ -59,7 +60,7 @@ module _ (degree product w row column room : ℕ) (rows columns diagonals : List
       let none = is_odd_below-none (goes_on_to degree product s row column sums p k) (least_free row column room columns) (λ v h. none_outside s sums e is p k l v (inl h)) in
       rw none refl
 
-  pub free_end : (number : ℕ) (after : List Bool) → greatest_free row column room columns < number → TurnsOverAllBelow degree product w row column room rows columns diagonals number before after → TurnsOverAll degree product w row column room rows columns diagonals before after
+  pub free_end : (number : ℕ) (after : List (ℕ × ℕ)) → greatest_free row column room columns < number → TurnsOverAllBelow degree product w row column room rows columns diagonals number before after → TurnsOverAll degree product w row column room rows columns diagonals before after
   free_end number after past inv s sums e wide is p k l m =
       let r = padded 8 (element degree p) in
       let bound = suc (sum r + sum s) in
@@ -75,10 +76,10 @@ module _ (degree product w row column room : ℕ) (rows columns diagonals : List
             ap (is_odd_below goes) whole ∙ is_odd_below-up_to goes bound (number - bound) beyond
       ] in
       inv s sums e wide is p k l m
-      ∙ ap (λ b. plus b (slice_index_or before (p * length (basis_of product) + k) false))
+      ∙ ap (λ b. plus b (is_odd_at before p k))
       (same ∙ sym (fillings_step add bound (length s) row column (are_sums_of r s (element product k)) sums above))
 
-  free_skip : (number : ℕ) (after : List Bool) → bit_and number (slice_index diagonals (row + column - 1)) ≢ 0
+  free_skip : (number : ℕ) (after : List (ℕ × ℕ)) → bit_and number (slice_index diagonals (row + column - 1)) ≢ 0
       → TurnsOverAllBelow degree product w row column room rows columns diagonals number before after → TurnsOverAllBelow degree product w row column room rows columns diagonals (suc number) before after
   free_skip number after shares inv s sums e wide is p k l m =
       let at : suc (row + column - 1) ≡ row + column = omega arith in
@@ -87,10 +88,10 @@ module _ (degree product w row column room : ℕ) (rows columns diagonals : List
       let apart : (sums.apart && nat_eq (bit_and number (sums.diagonals (row + column))) 0) ≡ false = rw (is.is_apart, fails) refl in
       let r = padded 8 (element degree p) in
       let none = not_apart r s (element product k) (suc (sum r + sum s)) (length s) (next_row row column) (next_column (length s) row column) (add row column number sums) apart in
-      inv s sums e wide is p k l m ∙ ap (λ b. plus (plus b (is_odd_below (goes_on_to degree product s row column sums p k) number)) (slice_index_or before (p * length (basis_of product) + k) false)) (sym none)
+      inv s sums e wide is p k l m ∙ ap (λ b. plus (plus b (is_odd_below (goes_on_to degree product s row column sums p k) number)) (is_odd_at before p k)) (sym none)
 
   -- a number that leaves no room for what row 0 has to put on the diagonal
-  free_crowd : (number : ℕ) (after : List Bool) → bit_and number (slice_index diagonals (row + column - 1)) ≡ 0
+  free_crowd : (number : ℕ) (after : List (ℕ × ℕ)) → bit_and number (slice_index diagonals (row + column - 1)) ≡ 0
       → bit_and (number_above w row column columns) (bit_or (slice_index diagonals (row + column - 1)) number) ≢ 0
       → TurnsOverAllBelow degree product w row column room rows columns diagonals number before after → TurnsOverAllBelow degree product w row column room rows columns diagonals (suc number) before after
   free_crowd number after apart crowded inv = elim (cases_Bool (nat_eq row 1)) [
@@ -121,12 +122,12 @@ module _ (degree product w row column room : ℕ) (rows columns diagonals : List
           crowded_row r s (element product k) (suc (sum r + sum s)) (length s) column (omega arith) column (omega arith) (omega arith) (add 1 column number sums) crowd
           in
           let there : goes_on_to degree product s row column sums p k number ≡ false = ap (λ i. goes_on_to degree product s i column sums p k number) first ∙ none in
-          inv s sums e wide is p k l m ∙ ap (λ b. plus (plus b (is_odd_below (goes_on_to degree product s row column sums p k) number)) (slice_index_or before (p * length (basis_of product) + k) false)) (sym there)
+          inv s sums e wide is p k l m ∙ ap (λ b. plus (plus b (is_odd_below (goes_on_to degree product s row column sums p k) number)) (is_odd_at before p k)) (sym there)
     ]
   ]
 
   -- a number that shares a digit with its diagonal or with what row 0 has to put there; none is left if these share one
-  pub free_shut : (number : ℕ) (after : List Bool)
+  pub free_shut : (number : ℕ) (after : List (ℕ × ℕ))
       → bit_and number (bit_or (slice_index diagonals (row + column - 1)) (number_above w row column columns)) ≢ 0 ⊎ bit_and (number_above w row column columns) (slice_index diagonals (row + column - 1)) ≢ 0
       → TurnsOverAllBelow degree product w row column room rows columns diagonals number before after → TurnsOverAllBelow degree product w row column room rows columns diagonals (suc number) before after
   free_shut number after shut inv = elim (cases_eq (bit_and number (slice_index diagonals (row + column - 1))) 0) [
@@ -134,7 +135,7 @@ module _ (degree product w row column room : ℕ) (rows columns diagonals : List
     | inl apart ↦ free_crowd number after apart (crowds number (slice_index diagonals (row + column - 1)) (number_above w row column columns) apart shut) inv
   ]
 
-  pub free_shuts : (more number : ℕ) (after : List Bool)
+  pub free_shuts : (more number : ℕ) (after : List (ℕ × ℕ))
       → ((v : ℕ) → number ≤ v → v < more + number → bit_and v (bit_or (slice_index diagonals (row + column - 1)) (number_above w row column columns)) ≢ 0 ⊎ bit_and (number_above w row column columns) (slice_index diagonals (row + column - 1)) ≢ 0)
       → TurnsOverAllBelow degree product w row column room rows columns diagonals number before after → TurnsOverAllBelow degree product w row column room rows columns diagonals (more + number) before after
   free_shuts zero number after shut inv = let e : number ≡ 0 + number = omega arith in subst (λ n. TurnsOverAllBelow degree product w row column room rows columns diagonals n before after) e inv
@@ -148,7 +149,7 @@ module _ (degree product w row column room : ℕ) (rows columns diagonals : List
       free_end (suc (greatest_free row column room columns) + least_free row column room columns) before (omega arith)
       (free_shuts (suc (greatest_free row column room columns)) (least_free row column room columns) before (λ v a b. inr shares) free_start)
 
-  free_turned : (number : ℕ) (middle after : List Bool) → length columns ≡ 8 → length diagonals ≡ 16
+  free_turned : (number : ℕ) (middle after : List (ℕ × ℕ)) → length columns ≡ 8 → length diagonals ≡ 16
       → least_free row column room columns ≤ number → number ≤ greatest_free row column room columns → bit_and number (slice_index diagonals (row + column - 1)) ≡ 0
       → TurnsOverAllBelow degree product w row column room rows columns diagonals number before middle
       → TurnsOverAll degree product w (next_row row column) (next_column w row column) (room - number * 2 ^ column * (2 ^ row - 1)) (added row (number * 2 ^ column) rows) (taken column number columns) (slice_set diagonals (row + column - 1) (bit_or (slice_index diagonals (row + column - 1)) number)) middle after
@@ -157,11 +158,11 @@ module _ (degree product w row column room : ℕ) (rows columns diagonals : List
       let next = free_after s rows columns diagonals degree w row column room number sums is e high right above many (omega arith) (omega arith) low le apart in
       let same : next_column w row column ≡ next_column (length s) row column = ap (λ a. next_column a row column) e in
       turns s (add row column number sums) e eight next p k l m
-      ∙ ap (λ j. plus (leads_to degree product s (next_row row column) j (add row column number sums) p k) (slice_index_or middle (p * length (basis_of product) + k) false)) same
+      ∙ ap (λ j. plus (leads_to degree product s (next_row row column) j (add row column number sums) p k) (is_odd_at middle p k)) same
       ∙ ap (plus (goes_on_to degree product s row column sums p k number)) (inv s sums e eight is p k l m)
-      ∙ sym (plus-assoc (goes_on_to degree product s row column sums p k number) (is_odd_below (goes_on_to degree product s row column sums p k) number) (slice_index_or before (p * length (basis_of product) + k) false))
+      ∙ sym (plus-assoc (goes_on_to degree product s row column sums p k number) (is_odd_below (goes_on_to degree product s row column sums p k) number) (is_odd_at before p k))
 
-  pub free_turn : (number i j room' : ℕ) (middle after : List Bool) (rows' columns' diagonals' : List ℕ) → i ≡ next_row row column → j ≡ next_column w row column
+  pub free_turn : (number i j room' : ℕ) (middle after : List (ℕ × ℕ)) (rows' columns' diagonals' : List ℕ) → i ≡ next_row row column → j ≡ next_column w row column
       → room' ≡ room - number * 2 ^ column * (2 ^ row - 1) → rows' ≡ added row (number * 2 ^ column) rows → columns' ≡ taken column number columns → diagonals' ≡ slice_set diagonals (row + column - 1) (bit_or (slice_index diagonals (row + column - 1)) number)
       → length columns ≡ 8 → length diagonals ≡ 16
       → least_free row column room columns ≤ number → number ≤ greatest_free row column room columns → bit_and number (slice_index diagonals (row + column - 1)) ≡ 0
@@ -177,7 +178,7 @@ module _ (degree product w row column room : ℕ) (rows columns diagonals : List
       free_turned number middle after wide long low le apart inv with_diagonals
 
 -- In row 0 a place takes all that is left of its column, and leads to nothing if that shares a digit with its diagonal.
-module _ (degree product w c room : ℕ) (rows columns diagonals : List ℕ) (small : degree ≤ 255) (right : suc c ≤ w) (many : length rows ≡ 8) (before : List Bool) where
+module _ (degree product w c room : ℕ) (rows columns diagonals : List ℕ) (small : degree ≤ 255) (right : suc c ≤ w) (many : length rows ≡ 8) (before : List (ℕ × ℕ)) where
   pub top_none : bit_and (slice_index columns c) (slice_index diagonals c) ≢ 0 → TurnsOverAll degree product w 0 (suc c) room rows columns diagonals before before
   top_none shares =
       let at : c ≡ 0 + suc c - 1 = omega arith in
@@ -187,7 +188,7 @@ module _ (degree product w c room : ℕ) (rows columns diagonals : List ℕ) (sm
       (free_skip degree product w 0 (suc c) room rows columns diagonals small low above right many before (slice_index columns c) before (subst (λ k. bit_and (slice_index columns c) (slice_index diagonals k) ≢ 0) at shares)
       (free_start degree product w 0 (suc c) room rows columns diagonals small low above right many before))
 
-  pub top_turn : (after : List Bool) → length columns ≡ 8 → length diagonals ≡ 16 → bit_and (slice_index columns c) (slice_index diagonals c) ≡ 0
+  pub top_turn : (after : List (ℕ × ℕ)) → length columns ≡ 8 → length diagonals ≡ 16 → bit_and (slice_index columns c) (slice_index diagonals c) ≡ 0
       → TurnsOverAll degree product w 0 c room rows (slice_set columns c 0) (slice_set diagonals c (bit_or (slice_index diagonals c) (slice_index columns c))) before after
       → TurnsOverAll degree product w 0 (suc c) room rows columns diagonals before after
   top_turn after wide long apart turns =
@@ -231,7 +232,7 @@ passed : (a d : Bool) → (a && true && true && d) ≡ (a && d)
 passed true d = refl
 passed false d = refl
 
-pub free_at_end : (degree product w room : ℕ) (rows columns diagonals : List ℕ) (before after : List Bool) → degree ≤ 255 → length rows ≡ 8
+pub free_at_end : (degree product w room : ℕ) (rows columns diagonals : List ℕ) (before after : List (ℕ × ℕ)) → degree ≤ 255 → length rows ≡ 8
     → IsTurnedOver degree product (are_elements degree product rows diagonals) before after → TurnsOverAll degree product w 0 0 room rows columns diagonals before after
 free_at_end degree product w room rows columns diagonals before after small many turns s sums e wide is p k l m =
     let r = padded 8 (element degree p) in
@@ -252,4 +253,4 @@ free_at_end degree product w room rows columns diagonals before after small many
     ∙ ap (λ xs. list_all (λ i. nat_eq (sums.rows i) (entry r (i - 1))) (range_with_len 1 (length r)) && pointwise nat_eq xs t) same
     ∙ sym (rw (whole_columns, is.is_apart) (passed (list_all (λ i. nat_eq (sums.rows i) (entry r (i - 1))) (range_with_len 1 (length r))) (pointwise nat_eq (trimmed (map sums.diagonals (range_with_len 1 (length r + length s)))) t)))
     in
-    turns p k l m ∙ ap (λ b. plus b (slice_index_or before (p * length (basis_of product) + k) false)) answer
+    turns p k l m ∙ ap (λ b. plus b (is_odd_at before p k)) answer

@@ -16,7 +16,7 @@ mod Fill
 mod FreeRows
 mod RowZero
 mod FreeFill
-mod FreeTable
+pub mod FreeTable
 mod FreeStart
 pub mod Matrices
 pub mod Parity
@@ -26,6 +26,6 @@ mod Steps
 mod Sums
 mod Walk
 pub mod Places
-pub mod KeptProducts
+pub mod Pairs
 pub mod TextLemmas
 pub mod Crossing

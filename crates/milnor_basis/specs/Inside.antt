@@ -3,4 +3,3 @@ pub mod Counted
 pub mod FreeRows
 pub mod Padding
 pub mod Walk
-pub mod Kept

@@ -1,7 +1,8 @@
 -- The product of two elements of Milnor's basis, as he states it: a sum over matrices.
-use Rattle.std.specs.Prelude.{◌≡◌, ℕ, zero, suc, ◌+◌, ◌-◌, ◌*◌, ◌%◌, ◌^◌, Bool, true, false, ◌&&◌, nat_eq, if◌then◌else◌, List, [], ◌∷◌, ◌++◌, length, map}
-use Rattle.std.specs.List.{filter, fold, flat_map, list_all, count_by, sum, range_with_len}
+use Rattle.std.specs.Prelude.{◌≡◌, ℕ, zero, suc, ◌+◌, ◌-◌, ◌*◌, ◌%◌, ◌^◌, ◌<◌, Bool, true, false, ◌&&◌, nat_eq, if◌then◌else◌, List, [], ◌∷◌, ◌++◌, length, map, slice_index_or}
+use Rattle.std.specs.List.{All, filter, fold, flat_map, list_all, count_by, sum, range_with_len}
 use Rattle.std.specs.Cmp.Lexicographic.{pointwise}
+use Rattle.f2_vec.specs.Vectors.{plus}
 use Rattle.milnor_basis.specs.Exponents.{entry, degree_of, trimmed, IsTrimmed}
 use Rattle.milnor_basis.specs.Basis.{basis_of}
 
@@ -85,15 +86,21 @@ product_terms r s = filter (coefficient r s) (basis_of (degree_of r + degree_of 
 abbrev pub product_bits : List ℕ → List ℕ → List Bool
 product_bits r s = map (coefficient r s) (basis_of (degree_of r + degree_of s))
 
--- the places of the bits that are set, rising, where the first stands at place i
-abbrev pub places_from : ℕ → List Bool → List ℕ
-places_from i [] = []
-places_from i (true ∷ bits) = i ∷ places_from (suc i) bits
-places_from i (false ∷ bits) = places_from (suc i) bits
+-- whether an odd number of these pairs is (p, k)
+abbrev pub is_odd_at : List (ℕ × ℕ) → ℕ → ℕ → Bool
+is_odd_at [] p k = false
+is_odd_at (x ∷ xs) p k = plus (nat_eq x.0 p && nat_eq x.1 k) (is_odd_at xs p k)
 
--- the places of the product's terms in the basis of its degree, rising
-abbrev pub product_places : List ℕ → List ℕ → List ℕ
-product_places r s = places_from 0 (product_bits r s)
+-- the first of each pair is a place in the basis of degree n, and the second one in that of degree m
+abbrev pub AreWithin : ℕ → ℕ → List (ℕ × ℕ) → Type 0
+AreWithin n m pairs = All (λ x. (x.0 < length (basis_of n)) × (x.1 < length (basis_of m))) pairs
+
+-- Pairs of a place of R in the basis of a degree and a place of T in the basis of the products' degree, such as the matrices of Milnor's
+-- formula give: the coefficient of Sq(T) in the product of Sq(R) and Sq(S) is 1 where an odd number of them is that of R and T.
+pub record ArePairs (degree : ℕ) (s : List ℕ) (pairs : List (ℕ × ℕ)) : Type 0 where
+  pub within : AreWithin degree (degree + degree_of s) pairs
+  pub odd : (p k : ℕ) → p < length (basis_of degree) → k < length (basis_of (degree + degree_of s))
+      → is_odd_at pairs p k ≡ coefficient (slice_index_or (basis_of degree) p []) s (slice_index_or (basis_of (degree + degree_of s)) k [])
 
 -- the factors of products that are kept together: each element of a degree from the left, one element from the right
 pub record Factors : Type 0 where

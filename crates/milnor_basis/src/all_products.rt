@@ -1,10 +1,8 @@
 //! The products of all elements of a degree with one element: one walk fills the matrices of all of them.
-ghost use Rattle.std.specs.Prelude.{◌≡◌, ℕ, ◌≤◌, ◌<◌, ◌+◌, ◌-◌, ◌*◌, ◌/◌, ◌^◌, ◌≢◌, ◌++◌, [], IfOk, IfSome, IsNone, Some, length, replicate, slice_index, slice_index_or, slice_set, slice_get, bit_or};
-ghost use Rattle.f2_vec.specs.Vectors.{zeros};
+ghost use Rattle.std.specs.Prelude.{◌≡◌, ℕ, ◌≤◌, ◌<◌, ◌+◌, ◌-◌, ◌*◌, ◌/◌, ◌^◌, ◌≢◌, ◌++◌, [], IfOk, OnOk, IfSome, IsNone, Some, length, replicate, slice_index, slice_index_or, slice_set, slice_get, bit_or};
 ghost use Rattle.milnor_basis.specs.Exponents.{degree_of, entry, trimmed};
 ghost use Rattle.milnor_basis.specs.Basis.{basis_of};
-ghost use Rattle.milnor_basis.specs.Product.{places_from};
-ghost use Rattle.milnor_basis.specs.Inside.Kept.{row_at, HaveProducts};
+ghost use Rattle.milnor_basis.specs.Product.{AreWithin, ArePairs};
 ghost use Rattle.milnor_basis.specs.Inside.Walk.{next_row, next_column, taken};
 ghost use Rattle.milnor_basis.specs.Inside.FreeRows.{least_free, greatest_free, number_above, added, element, are_elements, IsTurnedOver, TurnsOverAll};
 
@@ -13,9 +11,11 @@ use crate::exps::Exps;
 use crate::product::{
     degree_of_products, next_apart, next_place, numbers_of, place_in, place_of_diagonals,
 };
-use f2_vec::BitVec;
 use memory::Memory;
 use std::alloc::Global;
+
+/// How many places a number of 16 bits can tell. The basis of degree 255 has 42,987 elements.
+const MOST_PLACES: usize = 1 << 16;
 
 /// What is left to fill of a matrix whose rows make up any element of a degree.
 #[derive(Clone, Copy, Drop)]
@@ -115,42 +115,51 @@ impl Open {
     }
 }
 
-/// Turns over the bit of R, which the rows make up, and of T, which the diagonals make up, if they are of these degrees.
-fn turn_over_both(
+/// Puts down the places of R, which the rows make up, and of T, which the diagonals make up, if they are of these degrees.
+fn put_down(
     basis: &Basis,
     degrees: (u16, u16),
     rows: [u16; 8],
     diagonals: &[u16; 16],
-    table: &mut BitVec,
-)
+    pairs: &mut Vec<(u16, u16)>,
+) -> Result<(), Memory>
     requires degree { degrees.0 ≤ basis.now }
     requires product { degrees.1 ≤ basis.now }
     requires small { degrees.1 ≤ 255 }
-    requires table { length table.old ≡ length (basis_of degrees.0) * length (basis_of degrees.1) }
-    ensures turned { IsTurnedOver degrees.0 degrees.1 (are_elements degrees.0 degrees.1 rows diagonals.now) table.old table.new }
-    ensures size { length table.new ≡ length table.old }
+    requires few { length (basis_of degrees.0) ≤ 2 ^ 16 }
+    requires many { length (basis_of degrees.1) ≤ 2 ^ 16 }
+    requires within { AreWithin degrees.0 degrees.1 pairs.old.items }
+    ensures turned { OnOk result (IsTurnedOver degrees.0 degrees.1 (are_elements degrees.0 degrees.1 rows diagonals.now) pairs.old.items pairs.new.items) }
+    ensures within { OnOk result (AreWithin degrees.0 degrees.1 pairs.new.items) }
 {
-    let Some(row) = place_in(basis, degrees.0, &Exps::of(rows)) else {
-        return;
+    let Some(left) = place_in(basis, degrees.0, &Exps::of(rows)) else {
+        return Ok(());
     };
-    let Some(column) = place_of_diagonals(basis, degrees.1, diagonals) else {
-        return;
+    let Some(term) = place_of_diagonals(basis, degrees.1, diagonals) else {
+        return Ok(());
     };
-    // The table's length fits `usize`, so each place in it does.
-    let _len = table.len();
-    table.flip(row * basis.of_degree(degrees.1).len() + column);
+    pairs.push((left as u16, term as u16))?;
+    Ok(())
 }
 
-/// Turns over the bit to which row 0 leads, where each place up to `column` takes all that is left of its column.
-fn fill_top(basis: &Basis, degrees: (u16, u16), column: usize, open: &Open, table: &mut BitVec)
+/// Puts down the pair to which row 0 leads, where each place up to `column` takes all that is left of its column.
+fn fill_top(
+    basis: &Basis,
+    degrees: (u16, u16),
+    column: usize,
+    open: &Open,
+    pairs: &mut Vec<(u16, u16)>,
+) -> Result<(), Memory>
     requires degree { degrees.0 ≤ basis.now }
     requires product { degrees.1 ≤ basis.now }
     requires small { degrees.0 ≤ degrees.1 }
     requires smaller { degrees.1 ≤ 255 }
-    requires table { length table.old ≡ length (basis_of degrees.0) * length (basis_of degrees.1) }
+    requires few { length (basis_of degrees.0) ≤ 2 ^ 16 }
+    requires many { length (basis_of degrees.1) ≤ 2 ^ 16 }
+    requires within { AreWithin degrees.0 degrees.1 pairs.old.items }
     requires column { column ≤ 8 }
-    ensures turned { (width : ℕ) → column ≤ width → TurnsOverAll degrees.0 degrees.1 width 0 column open.now.room open.now.rows open.now.columns open.now.diagonals table.old table.new }
-    ensures size { length table.new ≡ length table.old }
+    ensures turned { OnOk result ((width : ℕ) → column ≤ width → TurnsOverAll degrees.0 degrees.1 width 0 column open.now.room open.now.rows open.now.columns open.now.diagonals pairs.old.items pairs.new.items) }
+    ensures within { OnOk result (AreWithin degrees.0 degrees.1 pairs.new.items) }
 {
     let mut columns = open.columns;
     let mut diagonals = open.diagonals;
@@ -159,15 +168,15 @@ fn fill_top(basis: &Basis, degrees: (u16, u16), column: usize, open: &Open, tabl
         left -= 1;
         let number = columns[left];
         if number & diagonals[left] != 0 {
-            return;
+            return Ok(());
         }
         columns[left] = 0;
         diagonals[left] |= number;
     }
-    turn_over_both(basis, degrees, open.rows, &diagonals, table);
+    put_down(basis, degrees, open.rows, &diagonals, pairs)
 }
 
-/// Turns over, for each way to fill the places up to (row, column), the bit of R and T. `degrees` are those of R and of
+/// Puts down, for each way to fill the places up to (row, column), the places of R and T. `degrees` are those of R and of
 /// the products.
 fn fill_all(
     basis: &Basis,
@@ -176,29 +185,30 @@ fn fill_all(
     row: usize,
     column: usize,
     open: &Open,
-    table: &mut BitVec,
-)
+    pairs: &mut Vec<(u16, u16)>,
+) -> Result<(), Memory>
     requires degree { degrees.0 ≤ basis.now }
     requires product { degrees.1 ≤ basis.now }
     requires small { degrees.0 ≤ degrees.1 }
     requires smaller { degrees.1 ≤ 255 }
     requires room { open.now.room + degree_of open.now.rows ≤ 255 }
-    requires table { length table.old ≡ length (basis_of degrees.0) * length (basis_of degrees.1) }
+    requires few { length (basis_of degrees.0) ≤ 2 ^ 16 }
+    requires many { length (basis_of degrees.1) ≤ 2 ^ 16 }
+    requires within { AreWithin degrees.0 degrees.1 pairs.old.items }
     requires row { row ≤ 8 }
     requires width { width ≤ 8 }
     requires column { column ≤ width }
-    ensures turned { TurnsOverAll degrees.0 degrees.1 width row column open.now.room open.now.rows open.now.columns open.now.diagonals table.old table.new }
-    ensures size { length table.new ≡ length table.old }
+    ensures turned { OnOk result (TurnsOverAll degrees.0 degrees.1 width row column open.now.room open.now.rows open.now.columns open.now.diagonals pairs.old.items pairs.new.items) }
+    ensures within { OnOk result (AreWithin degrees.0 degrees.1 pairs.new.items) }
 {
     if row == 0 {
-        fill_top(basis, degrees, column, open, table);
-        return;
+        return fill_top(basis, degrees, column, open, pairs);
     }
     let (next_row, next_column) = next_place(width, row, column);
     let sum = open.diagonals[row + column - 1];
     let above = open.number_above(width, row, column);
     if above & sum != 0 {
-        return;
+        return Ok(());
     }
     let digits = sum | above;
     let (least, greatest) = open.range(row, column);
@@ -213,13 +223,14 @@ fn fill_all(
                 next_row,
                 next_column,
                 &open.put(row, column, put),
-                table,
-            );
+                pairs,
+            )?;
             number = next_apart(put, digits);
         } else {
             number += 1;
         }
     }
+    Ok(())
 }
 
 /// The number of exponents of the longest of these elements, or 1 if none has one.
@@ -237,67 +248,26 @@ fn greatest_len(elements: &[Exps]) -> usize
     longest
 }
 
-/// A table of zeros with this many rows and columns.
-fn cleared(alloc: Global, rows: usize, columns: usize) -> Result<BitVec, Memory>
-    ensures { IfOk result (λ table. table ≡ zeros (rows * columns)) }
-{
-    let Some(count) = rows.checked_mul(columns) else {
-        return Err(Memory);
-    };
-    BitVec::zero(alloc, count)
-}
-
-/// The products of all elements of a degree, in basis order, with one element.
-#[derive(Drop)]
-pub(crate) struct Products {
-    /// How many elements the basis of the products' degree has.
-    width: usize,
-    /// The coefficients mod 2 of each product, one product behind the other.
-    bits: BitVec,
-}
-
-impl Products {
-    /// The numbers, and behind them the places of the terms of the product with the element at place `p`.
-    pub(crate) fn with_places(&self, p: usize, mut numbers: Vec<u16>) -> Result<Vec<u16>, Memory>
-        requires { (p + 1) * self.now.width ≤ length self.now.bits }
-        ensures { IfOk result (λ v. v.items ≡ numbers.items ++ places_from 0 (row_at self.now.width p self.now.bits)) }
-    {
-        // The length fits `usize`, so the end of each row does.
-        let _len = self.bits.len();
-        let start = p * self.width;
-        let end = start + self.width;
-        let mut from = start;
-        while let Some(bit) = self.bits.next_one(from) {
-            if bit >= end {
-                break;
-            }
-            let Ok(place) = u16::try_from(bit - start) else {
-                return Err(Memory);
-            };
-            numbers.push(place)?;
-            from = bit + 1;
-        }
-        Ok(numbers)
-    }
-}
-
-/// The products of the elements of this degree with Sq(S).
+/// The pairs of the products of the elements of this degree with Sq(S): the places of R and of T for each matrix that
+/// counts in Milnor's formula.
 ///
 /// # Errors
 /// `Memory` if allocation fails.
-pub(crate) fn products_of(
+pub(crate) fn pairs_of(
     alloc: Global,
     basis: &Basis,
     degree: u16,
     s: &Exps,
-) -> Result<Products, Memory>
+) -> Result<Vec<(u16, u16)>, Memory>
     requires { degree + degree_of s.now ≤ basis.now }
-    ensures { IfOk result (λ products. HaveProducts degree s.now products.width products.bits) }
+    ensures { IfOk result (λ pairs. ArePairs degree s.now pairs.items) }
 {
     let product = degree_of_products(basis, degree, s);
     let elements = basis.of_degree(degree);
-    let width = basis.of_degree(product).len();
-    let mut bits = cleared(alloc, elements.len(), width)?;
+    if elements.len() > MOST_PLACES || basis.of_degree(product).len() > MOST_PLACES {
+        return Err(Memory);
+    }
+    let mut pairs = Vec::new(alloc);
     fill_all(
         basis,
         (degree, product),
@@ -305,7 +275,8 @@ pub(crate) fn products_of(
         greatest_len(elements),
         s.len(),
         &Open::of(degree, s),
-        &mut bits,
-    );
-    Ok(Products { width, bits })
+        &mut pairs,
+    )?;
+    pairs.shrink_to_fit();
+    Ok(pairs)
 }

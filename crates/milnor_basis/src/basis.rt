@@ -90,6 +90,7 @@ impl Model for Basis {
     ghost invariant = { λ b. (b.max ≤ 255) × (b.levels.items ≡ map basis_of (range_with_len 0 (b.max + 1))) × (b.counts ≡ b.max) × (b.kept ≡ b.max + 1) };
 }
 
+// It is written by hand, since the cells of the products that are kept have no `Debug`.
 impl fmt::Debug for Basis {
     fn fmt<W: fmt::Write>(&self, f: &mut fmt::Formatter<W>) -> fmt::Result {
         let max = self.max;

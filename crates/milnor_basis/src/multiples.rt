@@ -1,11 +1,12 @@
 //! The products of one element with all elements of a degree, which a basis keeps as they are made.
-ghost use Rattle.std.specs.Prelude.{◌≡◌, ◌≤◌, ◌<◌, ◌+◌, [], length, slice_index, slice_index_or, EachIndex, IfOk, IsTrue, ◌↔◌};
+ghost use Rattle.std.specs.Prelude.{◌≡◌, ◌≤◌, ◌<◌, ◌+◌, ℕ, length, IfOk, IsTrue, ◌↔◌};
+ghost use Rattle.std.specs.List.{All};
+ghost use Rattle.f2_vec.specs.Vectors.{bit, plus};
 ghost use Rattle.milnor_basis.specs.Exponents.{degree_of};
 ghost use Rattle.milnor_basis.specs.Basis.{basis_of};
-ghost use Rattle.milnor_basis.specs.Product.{product_bits, product_places, Factors};
-ghost use Rattle.milnor_basis.specs.Inside.Kept.{set_at};
+ghost use Rattle.milnor_basis.specs.Product.{product_bits, is_odd_at, ArePairs, Factors};
 
-use crate::all_products::products_of;
+use crate::all_products::pairs_of;
 use crate::basis::Basis;
 use crate::exps::Exps;
 use crate::product::{coefficients, product_degree};
@@ -18,26 +19,25 @@ use std::marker::Model;
 /// The greatest degree of single products that are answered from those that are kept.
 const MAX_KEPT: u16 = 32;
 
-/// The products Sq(R) Sq(S) of one S with each R of a degree, seen as that degree and S.
+/// The products Sq(R) Sq(S) of one S with each R of a degree, seen as that degree and S. They tell which products they are,
+/// and that is looked at when they are found.
 #[derive(Drop)]
 pub struct Multiples {
     degree: u16,
     right: Exps,
-    /// Where the places of each product begin, and where the last end.
-    offsets: Vec<u32>,
-    /// The places of the terms, product by product.
-    places: Vec<u16>,
+    /// The places of R and of T for each matrix that counts in Milnor's formula, in no order: a place of R with one of T
+    /// is a term of the product where it is there an odd number of times.
+    pairs: Vec<(u16, u16)>,
 }
 
 impl Model for Multiples {
-    ghost use Rattle.milnor_basis.specs.Product.{Factors};
-    ghost use Rattle.milnor_basis.specs.Inside.Kept.{HoldProducts};
+    ghost use Rattle.milnor_basis.specs.Product.{ArePairs, Factors};
 
     ghost Value = { Factors };
 
     ghost view = { λ m. record { degree = m.degree; right = m.right } };
 
-    ghost invariant = { λ m. HoldProducts m.degree m.right m.offsets.items m.places.items };
+    ghost invariant = { λ m. ArePairs m.degree m.right m.pairs.items };
 }
 
 impl Multiples {
@@ -46,35 +46,21 @@ impl Multiples {
         requires { degree + degree_of s.now ≤ basis.now }
         ensures { IfOk result (λ m. m ≡ record { degree = degree; right = s.now }) }
     {
-        let mut offsets = Vec::new(alloc);
-        let mut places = Vec::new(alloc);
-        offsets.push(0)?;
-        let products = products_of(alloc, basis, degree, s)?;
-        for p in 0..basis.of_degree(degree).len() {
-            places = products.with_places(p, places)?;
-            let Ok(end) = u32::try_from(places.len()) else {
-                return Err(Memory);
-            };
-            offsets.push(end)?;
-        }
-        places.shrink_to_fit();
+        let pairs = pairs_of(alloc, basis, degree, s)?;
         Ok(Multiples {
             degree,
             right: *s,
-            offsets,
-            places,
+            pairs,
         })
     }
 
-    /// The places of the terms of the product with the element at place `i` of the basis of R's degree, in rising
-    /// order: places in the basis of the product's degree.
-    pub fn of(&self, i: usize) -> &[u16]
-        requires { i < length (basis_of self.now.degree) }
-        ensures { result.now ≡ product_places (slice_index_or (basis_of self.now.degree) i []) self.now.right }
+    /// The places of R and of T of the terms, in no order: the place of R in the basis of its degree, and the place of T
+    /// in the basis of the product's degree. The coefficient of Sq(T) in Sq(R) Sq(S) is 1 where their pair is there an odd
+    /// number of times.
+    pub fn pairs(&self) -> &[(u16, u16)]
+        ensures { ArePairs self.now.degree self.now.right result.now }
     {
-        let start = self.offsets[i] as usize;
-        let end = self.offsets[i + 1] as usize;
-        &self.places[start..end]
+        self.pairs.as_slice()
     }
 
     /// Whether these are the products with Sq(S) of the elements of this degree.
@@ -85,13 +71,16 @@ impl Multiples {
     }
 }
 
-/// Sets the bits at these places.
-fn set_places(bits: &mut BitVec, places: &[u16])
-    requires { EachIndex places.now (λ k. slice_index places.now k < length bits.old) }
-    ensures { bits.new ≡ set_at bits.old places.now }
+/// Turns over the bits of those pairs whose first place is `left`, at their second.
+fn turn_over(bits: &mut BitVec, left: usize, pairs: &[(u16, u16)])
+    requires { All (λ x. x.1 < length bits.old) pairs.now }
+    ensures size { length bits.new ≡ length bits.old }
+    ensures turned { (k : ℕ) → bit bits.new k ≡ plus (is_odd_at pairs.now left k) (bit bits.old k) }
 {
-    for place in places {
-        bits.set(usize::from(*place), true);
+    for pair in pairs {
+        if usize::from(pair.0) == left {
+            bits.flip(usize::from(pair.1));
+        }
     }
 }
 
@@ -186,7 +175,8 @@ impl Basis {
 
     /// The coefficients mod 2 of the product of Sq(R) and Sq(S): for each element of the basis of the product's degree,
     /// in basis order, whether its coefficient in Milnor's formula is odd. Where the product is of degree 32 at most,
-    /// they come from the products that are kept.
+    /// they come from the products that are kept. Above that degree the matrices of the one product are filled; `multiples`
+    /// keeps products of every degree.
     ///
     /// # Errors
     /// `Memory` if allocation fails.
@@ -203,7 +193,7 @@ impl Basis {
         };
         let multiples = self.multiples(alloc, left, s)?;
         let mut bits = BitVec::zero(alloc, self.of_degree(degree).len())?;
-        set_places(&mut bits, multiples.of(place));
+        turn_over(&mut bits, place, multiples.pairs());
         Ok(bits)
     }
 }

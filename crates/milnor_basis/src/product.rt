@@ -150,7 +150,8 @@ pub(crate) fn place_of_diagonals(basis: &Basis, n: u16, diagonals: &[u16; 16]) -
     place_in(basis, n, &Exps::of(exponents))
 }
 
-/// Turns over the bit of the basis element of this degree whose exponents these are, if there is one.
+/// Turns over the bit of the basis element of this degree whose exponents these are, if there is one. In a product there
+/// always is one, but the code does not rest on that law.
 fn turn_over(basis: &Basis, degree: u16, diagonals: &[u16; 16], bits: &mut BitVec)
     requires degree { degree ≤ basis.now }
     requires small { degree ≤ 255 }

@@ -1,11 +1,12 @@
 -- The matrices of Milnor's product whose columns are S and whose rows make up any R of one degree, filled place by place
 -- from the last to the first.
-use Rattle.std.specs.Prelude.{◌≡◌, ℕ, zero, suc, ◌+◌, ◌-◌, ◌*◌, ◌<◌, ◌≤◌, ◌^◌, Bool, true, false, ◌&&◌, nat_eq, nat_lt, if◌then◌else◌, List, [], length, min, ◌/◌, slice_index, slice_index_or, slice_set}
+use Rattle.std.specs.Prelude.{◌≡◌, ℕ, zero, suc, ◌+◌, ◌-◌, ◌<◌, ◌≤◌, ◌^◌, Bool, true, ◌&&◌, nat_eq, nat_lt, if◌then◌else◌, List, [], length, min, ◌/◌, slice_index, slice_index_or, slice_set}
 use Rattle.std.specs.List.{sum}
 use Rattle.std.specs.Cmp.Lexicographic.{pointwise}
 use Rattle.f2_vec.specs.Vectors.{plus}
 use Rattle.milnor_basis.specs.Exponents.{entry, degree_of, trimmed}
 use Rattle.milnor_basis.specs.Basis.{basis_of}
+use Rattle.milnor_basis.specs.Product.{is_odd_at}
 use Rattle.milnor_basis.specs.Inside.Padding.{padded}
 use Rattle.milnor_basis.specs.Inside.Walk.{fillings, places_to, Sums, add, are_sums_of}
 
@@ -53,13 +54,12 @@ added (suc i) v xs = slice_set xs i (slice_index xs i + v)
 abbrev pub element : ℕ → ℕ → List ℕ
 element n k = slice_index_or (basis_of n) k []
 
--- A table has a row for each R of a degree, with a bit for each T of the degree of the products. Two tables of which the
--- second has those bits turned over at which `turns` holds of the places of R and T.
-abbrev pub IsTurnedOver : ℕ → ℕ → (ℕ → ℕ → Bool) → List Bool → List Bool → Type 0
+-- Pairs of places of R and T. Two lists of them of which the second has those pairs once more, mod 2, at which `turns` holds.
+abbrev pub IsTurnedOver : ℕ → ℕ → (ℕ → ℕ → Bool) → List (ℕ × ℕ) → List (ℕ × ℕ) → Type 0
 IsTurnedOver degree product turns before after = (p k : ℕ) → p < length (basis_of degree) → k < length (basis_of product)
-    → slice_index_or after (p * length (basis_of product) + k) false ≡ plus (turns p k) (slice_index_or before (p * length (basis_of product) + k) false)
+    → is_odd_at after p k ≡ plus (turns p k) (is_odd_at before p k)
 
--- the bit of R and T alone
+-- the pair of R and T alone
 abbrev pub are_elements : ℕ → ℕ → List ℕ → List ℕ → ℕ → ℕ → Bool
 are_elements degree product r t p k = pointwise nat_eq (trimmed r) (element degree p) && pointwise nat_eq (trimmed t) (element product k)
 
@@ -67,7 +67,7 @@ are_elements degree product r t p k = pointwise nat_eq (trimmed r) (element degr
 abbrev pub leads_to : ℕ → ℕ → List ℕ → ℕ → ℕ → Sums → ℕ → ℕ → Bool
 leads_to degree product s row column sums p k = fillings add (suc (sum (padded 8 (element degree p)) + sum s)) (places_to (length s) row column) (are_sums_of (padded 8 (element degree p)) s (element product k)) sums
 
--- the bits to which the ways to fill the places up to (row, column) lead, whatever S asks and whatever is filled already
-abbrev pub TurnsOverAll : ℕ → ℕ → ℕ → ℕ → ℕ → ℕ → List ℕ → List ℕ → List ℕ → List Bool → List Bool → Type 0
+-- the pairs to which the ways to fill the places up to (row, column) lead, whatever S asks and whatever is filled already
+abbrev pub TurnsOverAll : ℕ → ℕ → ℕ → ℕ → ℕ → ℕ → List ℕ → List ℕ → List ℕ → List (ℕ × ℕ) → List (ℕ × ℕ) → Type 0
 TurnsOverAll degree product width row column room rows columns diagonals before after = (s : List ℕ) (sums : Sums) → width ≡ length s → length s ≤ 8 → IsFree degree s row column room rows columns diagonals sums
     → IsTurnedOver degree product (leads_to degree product s row column sums) before after

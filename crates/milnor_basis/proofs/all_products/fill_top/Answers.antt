@@ -1,6 +1,7 @@
 use Rattle.std.proofs.Common.{◌≡◌, suc, ◌-◌, slice_index, bit_and, bit_or, sym, subst, ◌∙◌, arith, rules}
 use Rattle.std.proofs.lemmas.List.{length-set}
-use Rattle.milnor_basis.specs.Inside.FreeRows.{TurnsOverAll}
+use Rattle.std.proofs.lemmas.Result.{on_ok_weaker}
+use Rattle.milnor_basis.specs.Inside.FreeRows.{TurnsOverAll, IsTurnedOver, are_elements}
 use Rattle.milnor_basis.proofs.FreeFill.{top_none, top_turn, free_at_end}
 use Rattle.milnor_basis.proofs.all_products.fill_top.Goals as goal
 
@@ -9,9 +10,9 @@ returns-then-number-diagonals-ne0-clause-turned c width fits =
     let left = c.loop-left.left in
     let inv = c.loop-left.invariant in
     let at : suc (left - 1) ≡ left = omega (arith, c.loop-left-test.true) in
-    inv.leads width fits c.args.table.now
-    (subst (λ n. TurnsOverAll c.args.degrees.0 c.args.degrees.1 width 0 n c.args.open.now.room c.args.open.now.rows c.loop-left.columns c.loop-left.diagonals c.args.table.now c.args.table.now) at
-    (top_none c.args.degrees.0 c.args.degrees.1 width (left - 1) c.args.open.now.room c.args.open.now.rows c.loop-left.columns c.loop-left.diagonals (omega (arith, c.requires.small, c.requires.smaller)) (omega (arith, inv.within)) (search rules) c.args.table.now c.if-number-diagonals-ne0.true))
+    inv.leads width fits c.args.pairs.now.items
+    (subst (λ n. TurnsOverAll c.args.degrees.0 c.args.degrees.1 width 0 n c.args.open.now.room c.args.open.now.rows c.loop-left.columns c.loop-left.diagonals c.args.pairs.now.items c.args.pairs.now.items) at
+    (top_none c.args.degrees.0 c.args.degrees.1 width (left - 1) c.args.open.now.room c.args.open.now.rows c.loop-left.columns c.loop-left.diagonals (omega (arith, c.requires.small, c.requires.smaller)) (omega (arith, inv.within)) (search rules) c.args.pairs.now.items c.if-number-diagonals-ne0.true))
 
 pub loop-left-preserved : goal.loop-left-preserved
 loop-left-preserved c =
@@ -26,15 +27,18 @@ loop-left-preserved c =
       long = length-set diagonals (left - 1) (bit_or (slice_index diagonals (left - 1)) (slice_index columns (left - 1))) ∙ inv.long;
       within = omega (arith, inv.within);
       leads = λ width fits after turns. inv.leads width fits after
-          (subst (λ n. TurnsOverAll c.args.degrees.0 c.args.degrees.1 width 0 n c.args.open.now.room c.args.open.now.rows columns diagonals c.args.table.now after) at
-          (top_turn c.args.degrees.0 c.args.degrees.1 width (left - 1) c.args.open.now.room c.args.open.now.rows columns diagonals (omega (arith, c.requires.small, c.requires.smaller)) (omega (arith, inv.within)) (search rules) c.args.table.now after inv.wide inv.long apart turns));
+          (subst (λ n. TurnsOverAll c.args.degrees.0 c.args.degrees.1 width 0 n c.args.open.now.room c.args.open.now.rows columns diagonals c.args.pairs.now.items after) at
+          (top_turn c.args.degrees.0 c.args.degrees.1 width (left - 1) c.args.open.now.room c.args.open.now.rows columns diagonals (omega (arith, c.requires.small, c.requires.smaller)) (omega (arith, inv.within)) (search rules) c.args.pairs.now.items after inv.wide inv.long apart turns));
     }
 
 pub returns-clause-turned : goal.returns-clause-turned
-returns-clause-turned c width fits =
+returns-clause-turned c =
     let left = c.loop-left.left in
     let inv = c.loop-left.invariant in
     let none : left ≡ 0 = omega (arith, c.loop-left-test.false) in
-    inv.leads width fits c.turn_over_both.new.table
-    (subst (λ n. TurnsOverAll c.args.degrees.0 c.args.degrees.1 width 0 n c.args.open.now.room c.args.open.now.rows c.loop-left.columns c.loop-left.diagonals c.args.table.now c.turn_over_both.new.table) (sym none)
-    (free_at_end c.args.degrees.0 c.args.degrees.1 width c.args.open.now.room c.args.open.now.rows c.loop-left.columns c.loop-left.diagonals c.args.table.now c.turn_over_both.new.table (omega (arith, c.requires.small, c.requires.smaller)) (search rules) c.turn_over_both.ensures.turned))
+    on_ok_weaker c.put_down.result
+    (λ (turns : IsTurnedOver c.args.degrees.0 c.args.degrees.1 (are_elements c.args.degrees.0 c.args.degrees.1 c.args.open.now.rows c.loop-left.diagonals) c.args.pairs.now.items c.put_down.new.pairs.items). λ width fits.
+    inv.leads width fits c.put_down.new.pairs.items
+    (subst (λ n. TurnsOverAll c.args.degrees.0 c.args.degrees.1 width 0 n c.args.open.now.room c.args.open.now.rows c.loop-left.columns c.loop-left.diagonals c.args.pairs.now.items c.put_down.new.pairs.items) (sym none)
+    (free_at_end c.args.degrees.0 c.args.degrees.1 width c.args.open.now.room c.args.open.now.rows c.loop-left.columns c.loop-left.diagonals c.args.pairs.now.items c.put_down.new.pairs.items (omega (arith, c.requires.small, c.requires.smaller)) (search rules) turns)))
+    c.put_down.ensures.turned
