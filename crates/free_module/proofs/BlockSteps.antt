@@ -1,14 +1,12 @@
 -- The steps of the loops over the generators of a free module.
-use Rattle.std.proofs.Common.{◌≡◌, ℕ, suc, ◌+◌, ◌<◌, ◌≤◌, Bool, List, [], ◌∷◌, ◌++◌, length, take, drop, get_or, ℤ, pos, negsuc, ◌+ℤ◌, ◌-ℤ◌, ◌<ℤ◌, refl, ap, sym, ◌∙◌, arith}
-use Rattle.std.proofs.lemmas.List.{drop_more, append_assoc, drop-drop, append-nil, drop_all}
+use Rattle.std.proofs.Common.{◌≡◌, ℕ, suc, ◌+◌, ◌<◌, List, ◌∷◌, length, drop, get_or, ℤ, pos, ◌-ℤ◌, ap, ◌∙◌, arith}
+use Rattle.std.proofs.lemmas.List.{drop_more}
 use Rattle.std.proofs.lemmas.Int.{ints}
 use mir.Val.{SFits, to_z, of_z}
 use mir.Syntax.{w32, w64}
-use Rattle.f2_vec.specs.Vectors.{zeros}
-use Rattle.milnor_basis.specs.Exponents.{degree_of}
-use Rattle.milnor_product.specs.Times.{basis_at, times_at}
+use Rattle.milnor_product.specs.Times.{basis_at}
 use Rattle.free_module.specs.FreeModule.{free_basis_from}
-use Rattle.free_module.specs.Inside.FreeLaws.{blocks, length-free_basis_from}
+use Rattle.free_module.specs.Inside.FreeLaws.{length-free_basis_from}
 
 -- the generators from k on, and those after it
 pub length-rest : (ds : List ℤ) (t : ℤ) (k : ℕ) → k < length ds → length (free_basis_from k (drop k ds) t) ≡ length (basis_at (t -ℤ get_or ds k (pos 0))) + length (free_basis_from (k + 1) (drop (k + 1) ds) t)

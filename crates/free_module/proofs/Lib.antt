@@ -3,3 +3,4 @@ pub mod FreeBasis
 pub mod Generators
 pub mod MapRows
 pub mod TermSums
+mod PairSums

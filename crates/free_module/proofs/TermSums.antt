@@ -1,107 +1,28 @@
 -- The terms of a vector, and the sums of their products.
-use Rattle.std.proofs.Common.{◌≡◌, ◌≢◌, ℕ, zero, suc, ◌+◌, ◌-◌, ◌<◌, ◌≤◌, Bool, true, false, cond, nat_eq, Some, slice_get, List, [], ◌∷◌, ◌++◌, length, map, replicate, set, take, drop, get_or, get_or-set_same, get_or-set_other, ℤ, pos, ◌+ℤ◌, ◌-ℤ◌, ◌≤ℤ◌, refl, subst, ap, sym, ◌∙◌, arith, inl, inr, length-append}
+use Rattle.std.proofs.Common.{◌≡◌, ℕ, zero, suc, ◌+◌, ◌-◌, ◌<◌, ◌≤◌, Bool, true, false, cond, Some, slice_get, List, [], ◌∷◌, ◌++◌, length, map, replicate, take, drop, get_or, ℤ, pos, ◌+ℤ◌, ◌-ℤ◌, refl, subst, ap, sym, ◌∙◌, arith, length-append}
 use Rattle.std.specs.List.{All, items_where_true}
-use Rattle.std.proofs.lemmas.Bool.{cases_lt}
-use Rattle.std.proofs.lemmas.Bool.Decides.{nat_tests}
 use Rattle.std.proofs.lemmas.Int.{ints}
 use Rattle.std.proofs.lemmas.List.{append_assoc, append-nil, drop_more, drop_all, take_all, ext_get_or, get_or-map, length-map, length-take-le, map-append, get_or-replicate, length-replicate}
 use Rattle.std.proofs.lemmas.List.Elements.{All-push, All-nil, All-get_or}
 use Rattle.std.proofs.lemmas.Option.{slice_get_within, get_or_from_slice_get, slice_get-get_or}
-use Rattle.f2_vec.specs.Vectors.{plus, zeros, bit, sum_of, placed, IsNextOne}
-use Rattle.f2_vec.specs.Spans.{row, HaveWidth, combination, unit_vector}
-use Rattle.f2_vec.proofs.Sums.{length-sum_of, length-zeros, bit-zeros, bit-sum_of, sum_of-assoc, sum_of-zeros_left, sum_of-zeros_right, plus-false}
+use Rattle.f2_vec.specs.Vectors.{zeros, bit, sum_of, placed, IsNextOne}
+use Rattle.f2_vec.specs.Spans.{row, HaveWidth, combination}
+use Rattle.f2_vec.proofs.Sums.{length-sum_of, length-zeros}
 use Rattle.f2_vec.proofs.Spans.{length-combination}
-use Rattle.f2_vec.proofs.Split.{zeros-append, length-unit_vector, bit-unit_vector}
-use Rattle.f2_vec.proofs.Moved.{length-placed, bit-placed_below, bit-placed_above}
+use Rattle.f2_vec.proofs.Split.{zeros-append}
+use Rattle.f2_vec.proofs.Moved.{length-placed}
 use Rattle.f2_vec.proofs.Combinations.{HaveWidth-map, HaveWidth-take, combination_more}
 use Rattle.milnor_basis.specs.Exponents.{degree_of}
 use Rattle.milnor_basis.specs.Basis.{basis_of}
-use Rattle.milnor_basis.specs.Product.{coefficient, product_bits, product_places, places_from}
+use Rattle.milnor_basis.specs.Product.{coefficient, product_bits}
 use Rattle.milnor_basis.proofs.Places.{basis_of-member}
 use Rattle.milnor_product.specs.Times.{basis_at}
 use Rattle.milnor_product.proofs.Multiples.{degree_of-basis_at}
 use Rattle.free_module.specs.FreeModule.{IsWithinReach, degree_at, free_basis_from, free_basis, free_width, acted, free_action}
-use Rattle.free_module.specs.Inside.FreeLaws.{on, coefficient_at, own_part, other_part, later_parts, length-free_basis_from}
-use Rattle.free_module.specs.Inside.Terms.{term_at, turned, added_to, acted_through, HasRoom, AreTerms}
+use Rattle.free_module.specs.Inside.FreeLaws.{on, coefficient_at, own_part, other_part, later_parts}
+use Rattle.free_module.specs.Inside.Terms.{term_at, added_to, acted_through, HasRoom, AreTerms}
 use Rattle.free_module.specs.declared.terms.Term.{Term}
 use Rattle.free_module.proofs.FreeBasis.{free_basis-at, start_within, free_basis-place}
-
--- a vector moved up, by its first coordinate
-placed-none : (n o : ℕ) → o ≤ n → placed n o [] ≡ zeros n
-placed-none n o h =
-    let whole : n ≡ o + (n - (o + 0)) = omega arith in
-    ap (λ xs. xs ++ zeros (n - (o + 0))) (append-nil (zeros o)) ∙ sym (zeros-append o (n - (o + 0))) ∙ ap zeros (sym whole)
-
-abbrev unit_where : Bool → ℕ → ℕ → List Bool
-unit_where b n o = cond b (unit_vector n o) (zeros n)
-
-length-unit_where : (b : Bool) (n o : ℕ) → length (unit_where b n o) ≡ n
-length-unit_where true n o = length-unit_vector n o
-length-unit_where false n o = length-zeros n
-
-unit_where-here : (b : Bool) (n o : ℕ) → o < n → bit (unit_where b n o) o ≡ b
-unit_where-here true n o l = bit-unit_vector n o o l ∙ grind (arith, nat_tests)
-unit_where-here false n o l = bit-zeros n o
-
-unit_where-other : (b : Bool) (n o k : ℕ) → o < n → k ≢ o → bit (unit_where b n o) k ≡ false
-unit_where-other true n o k l d = bit-unit_vector n o k l ∙ grind (arith, nat_tests)
-unit_where-other false n o k l d = bit-zeros n k
-
-placed-cons : (n o : ℕ) (b : Bool) (bits : List Bool) → o + suc (length bits) ≤ n → placed n o (b ∷ bits) ≡ sum_of (unit_where b n o) (placed n (o + 1) bits)
-placed-cons n o b bits h =
-    let unit = unit_where b n o in
-    let rest = placed n (o + 1) bits in
-    let lu : length unit ≡ n = length-unit_where b n o in
-    let lr : length rest ≡ n = length-placed n (o + 1) bits (omega arith) in
-    let same : length unit ≡ length rest = lu ∙ sym lr in
-    let l : length (placed n o (b ∷ bits)) ≡ n = length-placed n o (b ∷ bits) h in
-    ext_get_or false (placed n o (b ∷ bits)) (sum_of unit rest) (l ∙ sym (length-sum_of unit rest same ∙ lu)) (λ k w.
-    let sum : bit (sum_of unit rest) k ≡ plus (bit unit k) (bit rest k) = bit-sum_of unit rest k same in
-    elim (cases_lt k o) [
-      | inl a ↦
-          let d : k ≢ o = omega arith in
-          bit-placed_below n o (b ∷ bits) k a
-          ∙ sym (sum ∙ ap (λ x. plus x (bit rest k)) (unit_where-other b n o k (omega arith) d) ∙ bit-placed_below n (o + 1) bits k (omega arith))
-      | inr a ↦ elim (cases_lt o k) [
-        | inl c ↦
-            let d : k ≢ o = omega arith in
-            let e : k - o ≡ suc (k - (o + 1)) = omega arith in
-            bit-placed_above n o (b ∷ bits) k a ∙ ap (bit (b ∷ bits)) e
-            ∙ sym (sum ∙ ap (λ x. plus x (bit rest k)) (unit_where-other b n o k (omega arith) d) ∙ bit-placed_above n (o + 1) bits k (omega arith))
-        | inr c ↦
-            let d : k ≡ o = omega arith in
-            let e : k - o ≡ 0 = omega arith in
-            bit-placed_above n o (b ∷ bits) k a ∙ ap (bit (b ∷ bits)) e
-            ∙ sym (sum ∙ ap (λ j. plus (bit unit j) (bit rest j)) d ∙ ap (plus (bit unit o)) (bit-placed_below n (o + 1) bits o (omega arith)) ∙ plus-false (bit unit o) ∙ unit_where-here b n o (omega arith))
-      ]
-    ])
-
--- the places of some bits turned over: the bits are added
-pub turned-places : (bits : List Bool) (i : ℕ) (v : List Bool) (offset : ℕ) → (offset + i) + length bits ≤ length v → turned v offset (places_from i bits) ≡ sum_of v (placed (length v) (offset + i) bits)
-turned-places [] i v offset h =
-    sym (ap (sum_of v) (placed-none (length v) (offset + i) (omega arith)) ∙ sum_of-zeros_right (length v) v refl)
-turned-places (false ∷ bits) i v offset h =
-    let n = length v in
-    let e : offset + suc i ≡ (offset + i) + 1 = omega arith in
-    let rest = placed n ((offset + i) + 1) bits in
-    let l : length rest ≡ n = length-placed n ((offset + i) + 1) bits (omega arith) in
-    turned-places bits (suc i) v offset (omega arith)
-    ∙ ap (λ o. sum_of v (placed n o bits)) e
-    ∙ ap (sum_of v) (sym (placed-cons n (offset + i) false bits (omega arith) ∙ sum_of-zeros_left n rest l))
-turned-places (true ∷ bits) i v offset h =
-    let n = length v in
-    let unit = unit_vector n (offset + i) in
-    let w = sum_of v unit in
-    let lw : length w ≡ n = length-sum_of v unit (sym (length-unit_vector n (offset + i))) in
-    let e : offset + suc i ≡ (offset + i) + 1 = omega arith in
-    turned-places bits (suc i) w offset (omega arith)
-    ∙ ap (λ m. sum_of w (placed m (offset + suc i) bits)) lw
-    ∙ ap (λ o. sum_of w (placed n o bits)) e
-    ∙ sum_of-assoc v unit (placed n ((offset + i) + 1) bits)
-    ∙ ap (sum_of v) (sym (placed-cons n (offset + i) true bits (omega arith)))
-
-pub turned-more : (v : List Bool) (offset : ℕ) (places : List ℕ) (i : ℕ) → i < length places → turned v offset (drop i places) ≡ turned (sum_of v (unit_vector (length v) (offset + get_or places i 0))) offset (drop (i + 1) places)
-turned-more v offset places i l = ap (turned v offset) (drop_more places i 0 l)
 
 -- Sq(R) on one basis element is the product, at the place of its generator
 earlier_parts : (k : ℕ) (ds : List ℤ) (h : ℕ) (r s : List ℕ) (t : ℤ) → k + length ds ≤ h → map (coefficient_at h r s) (free_basis_from k ds t) ≡ zeros (length (free_basis_from k ds t))
@@ -310,24 +231,6 @@ length-product r s a e = length-map (basis_of (degree_of r + degree_of s)) (coef
 -- a vector with a product added
 pub length-with : (v bits : List Bool) (o : ℕ) → o + length bits ≤ length v → length (sum_of v (placed (length v) o bits)) ≡ length v
 length-with v bits o h = length-sum_of v (placed (length v) o bits) (sym (length-placed (length v) o bits h))
-
-pub length-turned : (v : List Bool) (i : ℕ) → length (sum_of v (unit_vector (length v) i)) ≡ length v
-length-turned v i = length-sum_of v (unit_vector (length v) i) (sym (length-unit_vector (length v) i))
-
-pub product_added : (x w : List Bool) (offset : ℕ) (r s places : List ℕ) → w ≡ turned x offset places → places ≡ product_places r s → offset + length (product_bits r s) ≤ length x → w ≡ sum_of x (placed (length x) offset (product_bits r s))
-product_added x w offset r s places e p h =
-    let z : offset + 0 ≡ offset = omega arith in
-    e ∙ ap (turned x offset) p ∙ turned-places (product_bits r s) 0 x offset (omega arith) ∙ ap (λ o. sum_of x (placed (length x) o (product_bits r s))) z
-
--- one row more
-pub rows_done : (rows : List (List Bool)) (k : ℕ) (w : List Bool) (f : ℕ → List Bool) → k < length rows → w ≡ f k → ((j : ℕ) → j < k → row rows j ≡ f j) → (j : ℕ) → j < k + 1 → row (set rows k w) j ≡ f j
-rows_done rows k w f l e h j m = elim (cases_lt j k) [
-  | inl a ↦ let other : j ≢ k = omega arith in rw get_or-set_other (h j a)
-  | inr b ↦ let same : k ≡ j = omega arith in subst (λ i. row (set rows k w) i ≡ f i) same (rw get_or-set_same e)
-]
-
-pub rows_left : (rows before : List (List Bool)) (k : ℕ) (w : List Bool) → ((j : ℕ) → k ≤ j → row rows j ≡ row before j) → (j : ℕ) → k + 1 ≤ j → row (set rows k w) j ≡ row before j
-rows_left rows before k w h j m = let other : j ≢ k = omega arith in rw get_or-set_other (h j (omega arith))
 
 -- the rows of a degree's elements, to which the terms from i on are left to add
 pub record RowsAre (degree width : ℕ) (terms : List Term) (i : ℕ) (rows : List (List Bool)) : Type 0 where

@@ -6,7 +6,7 @@ ghost use Rattle.f2_vec.specs.Spans.{row};
 ghost use Rattle.milnor_basis.specs.Basis.{basis_of};
 ghost use Rattle.milnor_basis.specs.Exponents.{degree_of};
 ghost use Rattle.milnor_basis.specs.Product.{product_bits};
-ghost use Rattle.free_module.specs.Inside.Terms.{term_at, turned};
+ghost use Rattle.free_module.specs.Inside.Terms.{term_at};
 
 use f2_vec::BitVec;
 use memory::Memory;
@@ -63,19 +63,10 @@ pub(crate) fn add_products(rows: &mut [BitVec], offset: usize, multiples: &Multi
     requires room { EachIndex rows.old (λ k. offset + length (basis_of (multiples.now.degree + degree_of multiples.now.right)) ≤ length (row rows.old k)) }
     ensures { EachIndex rows.old (λ k. row rows.new k ≡ sum_of (row rows.old k) (placed (length (row rows.old k)) offset (product_bits (slice_index_or (basis_of multiples.now.degree) k []) multiples.now.right))) }
 {
-    for k in 0..rows.len() {
-        turn_over(&mut rows[k], offset, multiples.of(k));
-    }
-}
-
-/// Turns over the coordinates of `v` at these places, counted from `offset` on.
-fn turn_over(v: &mut BitVec, offset: usize, places: &[u16])
-    requires { EachIndex places.now (λ k. offset + slice_index places.now k < length v.old) }
-    ensures { v.new ≡ turned v.old offset places.now }
-{
-    // The length fits `usize`, so each place does.
-    let _len = v.len();
-    for place in places {
-        v.flip(offset + usize::from(*place));
+    for pair in multiples.pairs() {
+        let row = &mut rows[usize::from(pair.0)];
+        // The length fits `usize`, so each place does.
+        let _len = row.len();
+        row.flip(offset + usize::from(pair.1));
     }
 }

@@ -1,7 +1,7 @@
 -- The terms of a vector of a free module, and what Sq(R) makes of them.
 use Rattle.std.specs.Prelude.{◌≡◌, ℕ, ◌+◌, ◌≤◌, ℤ, pos, ◌+ℤ◌, Bool, List, [], ◌∷◌, length, map, take, All}
 use Rattle.f2_vec.specs.Vectors.{zeros, sum_of, placed}
-use Rattle.f2_vec.specs.Spans.{unit_vector, combination}
+use Rattle.f2_vec.specs.Spans.{combination}
 use Rattle.milnor_basis.specs.Exponents.{degree_of}
 use Rattle.milnor_basis.specs.Basis.{basis_of}
 use Rattle.milnor_basis.specs.Product.{product_bits}
@@ -10,11 +10,6 @@ use Rattle.free_module.specs.declared.terms.Term.{Term}
 
 abbrev pub term_at : ℕ → List ℕ → Term
 term_at offset s = record { right = s; offset = offset }
-
--- v with the coordinates at these places, counted from `offset` on, turned over one after the other
-abbrev pub turned : List Bool → ℕ → List ℕ → List Bool
-turned v offset [] = v
-turned v offset (p ∷ ps) = turned (sum_of v (unit_vector (length v) (offset + p))) offset ps
 
 -- v with the product of Sq(R) and each of these terms added at the term's offset
 abbrev pub added_to : List Bool → List ℕ → List Term → List Bool

@@ -1,4 +1,4 @@
-use Rattle.std.proofs.Common.{◌≡◌, ◌+ℤ◌, ◌-ℤ◌, ◌≤ℤ◌, ◌<◌, ◌≤◌, ◌+◌, pos, length, take, slice_index_or, to_z, of_z, w32, w64, refl, subst, ap, sym, ◌∙◌, arith, rules}
+use Rattle.std.proofs.Common.{◌≡◌, ◌+ℤ◌, ◌-ℤ◌, ◌<◌, ◌≤◌, pos, length, take, slice_index_or, to_z, of_z, w32, w64, refl, subst, ap, sym, ◌∙◌, arith, rules}
 use Rattle.std.proofs.lemmas.Int.{ints}
 use Rattle.milnor_product.specs.Times.{basis_at}
 use Rattle.free_module.specs.FreeModule.{degree_at, free_width}

@@ -1,8 +1,7 @@
-use Rattle.std.proofs.Common.{◌≡◌, ◌+ℤ◌, ◌+◌, ◌≤◌, ℕ, List, Bool, [], pos, length, drop, to_z, of_z, w32, ap, sym, ◌∙◌, arith}
+use Rattle.std.proofs.Common.{◌≡◌, ◌+ℤ◌, ◌+◌, ℕ, List, Bool, pos, length, drop, to_z, of_z, w32, ap, sym, ◌∙◌, arith}
 use Rattle.std.proofs.lemmas.Int.{ints}
 use Rattle.std.proofs.lemmas.List.{drop_all}
 use Rattle.f2_vec.specs.Vectors.{zeros, sum_of, placed}
-use Rattle.milnor_basis.specs.Exponents.{degree_of}
 use Rattle.milnor_basis.specs.Product.{product_bits}
 use Rattle.free_module.specs.FreeModule.{free_width}
 use Rattle.free_module.specs.Inside.Terms.{AreTerms, added_to}

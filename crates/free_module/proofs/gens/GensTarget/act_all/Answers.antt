@@ -1,4 +1,4 @@
-use Rattle.std.proofs.Common.{◌≡◌, ◌+ℤ◌, ◌+◌, ◌<◌, ◌≤◌, ℕ, List, Bool, [], pos, length, take, drop, get_or, ◌++◌, to_z, of_z, w32, subst, ap, sym, ◌∙◌, arith}
+use Rattle.std.proofs.Common.{◌≡◌, ◌+ℤ◌, ◌+◌, ◌<◌, ℕ, List, Bool, [], pos, length, take, drop, get_or, ◌++◌, to_z, of_z, w32, subst, ap, sym, ◌∙◌, arith}
 use Rattle.std.proofs.lemmas.Int.{ints}
 use Rattle.std.proofs.lemmas.List.{take_at}
 use Rattle.f2_vec.specs.Vectors.{zeros, sum_of, placed}
