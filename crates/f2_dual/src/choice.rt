@@ -75,7 +75,8 @@ fn choose_covered(
     ))
 }
 
-/// Makes the choice for any rows, one candidate after the other.
+/// Makes the choice for any rows, one candidate after the other. Only the candidates that were picked are looked at: with
+/// the rows they span what all candidates before do.
 pub(crate) fn choose_any(
     alloc: Global,
     matrix: &Matrix,

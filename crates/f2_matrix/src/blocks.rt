@@ -11,7 +11,8 @@ use crate::matrix::clear_by;
 use f2_vec::BitVec;
 
 /// Brings the rows to row reduced echelon form, in place, by blocks of up to eight pivots. The table is room for the
-/// sums of the rows of a block.
+/// sums of the rows of a block. It goes column by column; once the pivots of a block are taken, every row outside of it is
+/// cleared by one of the 256 sums of its rows.
 pub fn reduce_blocks(cols: usize, rows: &mut [BitVec], table: &mut [BitVec])
     requires rows { HaveWidth cols rows.old }
     requires table { IsRoomForSums cols 8 table.old }

@@ -231,7 +231,7 @@ fn add_at_pivots(sum: &mut BitVec, v: &BitVec, pivots: &[usize], rows: &[BitVec]
 }
 
 /// Keeps of the echelon form of [D | I], D the matrix, both parts where there is a 1 left of the bar, and else
-/// what is right of it.
+/// what is right of it. The form has no zero row, but that is not used.
 fn parts_of(alloc: Global, matrix: &Matrix, form: &Matrix) -> Result<Reduced, Memory>
     requires cols { form.now.cols ≡ matrix.now.cols + length matrix.now.rows }
     requires form { IsEchelonForm (matrix.now.cols + length matrix.now.rows) (augmented matrix.now.rows) form.now.rows }

@@ -1,5 +1,6 @@
 //! Gauss and Jordan's elimination row by row: rows find their pivots in order, and the others are cleared by several
-//! tables of sums at once.
+//! tables of sums at once. The proofs are of the elimination row by row, and speak of the rows as they would be once the
+//! sums are added.
 ghost use Rattle.std.specs.Prelude.{◌≡◌, ◌≢◌, ℕ, ◌+◌, ◌*◌, ◌<◌, ◌≤◌, Bool, false, slice_index_or, List, map, length, take, drop, IfOk, IfSome, IfNone, OnOk, OnErr};
 ghost use Rattle.std.specs.List.{All};
 ghost use Rattle.f2_vec.specs.Vectors.{bit, IsFirstOne};

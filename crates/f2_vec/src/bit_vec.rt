@@ -319,7 +319,8 @@ impl BitVec {
     /// `n` coordinates take, and the bits of the last byte that are no coordinate have to be 0.
     ///
     /// # Errors
-    /// `Length` where there are more or fewer bytes, `SpareBits` where one of the last bits is 1, and `Memory` if allocation fails.
+    /// `Length` where there are more or fewer bytes, `SpareBits` where one of the last bits is 1, and `Memory` if allocation
+    /// fails. `Length` comes first: where the number of bytes is wrong the bits do not matter.
     pub fn from_bytes(alloc: Global, n: usize, bytes: &[u8]) -> Result<Self, BitsFault>
         ensures len { IfOk result (λ v. length v ≡ n) }
         ensures bytes { IfOk result (λ v. packed v ≡ bytes.now) }
