@@ -1,4 +1,4 @@
-//! Tests of disks.
+//! Tests of disks, and of sources and sinks.
 #![tactic(auto)]
 
 #[cfg(test)]
@@ -7,3 +7,5 @@ mod calls;
 mod files;
 #[cfg(test)]
 mod memory_disks;
+#[cfg(test)]
+mod streams;

@@ -1,11 +1,16 @@
-//! Tests of whole runs.
+//! Tests of whole runs that no data shows: each call of a stream or a disk fails in turn, each byte of a file is changed in turn, two
+//! workers have to work at once, and `run_one` answers in place of `run`. The cases of `ext_cases` have all others.
 #![tactic(auto)]
 
 #[cfg(test)]
-mod builds;
+mod alone;
 #[cfg(test)]
-mod classes;
+mod bytes;
 #[cfg(test)]
 mod runs;
+#[cfg(test)]
+mod stops;
+#[cfg(test)]
+mod streams;
 #[cfg(test)]
 mod workers;

@@ -1,7 +1,5 @@
-//! Tests of module files, and of the modules that they describe.
+//! Tests of modules that files describe.
 #![tactic(auto)]
 
-#[cfg(test)]
-mod files;
 #[cfg(test)]
 mod modules;

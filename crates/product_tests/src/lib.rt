@@ -1,11 +1,7 @@
-//! Tests of lifts, products and brackets.
+//! Tests of lifts.
 #![tactic(auto)]
 
 #[cfg(test)]
-mod brackets;
-#[cfg(test)]
 mod lifts;
-#[cfg(test)]
-mod products;
 #[cfg(test)]
 mod tables;

@@ -22,8 +22,7 @@ fn value_on<'a>(
 ) -> Option<&'a BitVec>
     requires through { IsThrough range table.now.rows }
     requires sphere { IsThrough range sphere.now.rows }
-    requires lift { (above : ℕ) → class.t ≡ bottom_of table.now.resolved +ℤ pos above →
-        IsLiftOver table.now sphere.now class.s above class.i 1 lift.now }
+    requires lift { (above : ℕ) → class.t ≡ bottom_of table.now.resolved +ℤ pos above → IsLiftOver table.now sphere.now class.s above class.i 1 lift.now }
     requires row { generator.s ≡ class.s + 1 }
 {
     let Ok(_) = place_of(table, range, class) else {

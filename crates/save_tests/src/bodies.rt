@@ -1,5 +1,4 @@
-//! The body of the sphere's first square, byte by byte; those of a small resolution, written and read again; and bodies that break
-//! one rule each.
+//! The body of the sphere's first square, byte by byte, and those of a small resolution, written and read again.
 ghost use Rattle.std.specs.Prelude.{◌≤◌, IfOk};
 ghost use Rattle.square.specs.declared.range.TheConstants.{MAX_S, MAX_T};
 ghost use Rattle.square.specs.Tables.{AllRead};
@@ -126,16 +125,6 @@ fn are_same_through(alloc: Global, a: &Table, b: &Table, range: Range) -> Result
     Ok(true)
 }
 
-// Whether a body is strange behind the squares of the table, with its number.
-fn is_strange(alloc: Global, table: &Table, number: u64, body: &[u8]) -> bool
-    requires { AllRead table.now.rows }
-{
-    match decode(alloc, table, number, body) {
-        Err(DecodeFault::Strange { number: told }) => told == number,
-        _ => false,
-    }
-}
-
 #[test]
 fn the_first_body(rt: HostRuntime) -> Result<(), Fail> {
     let alloc = rt.alloc();
@@ -158,92 +147,5 @@ fn there_and_back(rt: HostRuntime) -> Result<(), Fail> {
     let table = resolved(alloc, nothing_read(alloc)?, range)?;
     let again = read_all(alloc, bodies_of(alloc, &table, range)?.as_slice())?;
     assert!(rt; are_same_through(alloc, &table, &again, range)?);
-    Ok(())
-}
-
-// Bodies behind no square: each breaks one rule, and the last none, since its kernel row, which the canonical square does not
-// have, is of the right shape.
-#[test]
-fn rules(rt: HostRuntime) -> Result<(), Fail> {
-    let alloc = rt.alloc();
-    let table = nothing_read(alloc)?;
-    let cases: [([&str; 3], bool); 17] = [
-        (["", "", ""], false),
-        (["0200000000", IMAGES, KERNEL], false),
-        // Past the last row, and no square below.
-        (["0100400000", IMAGES, KERNEL], false),
-        (["0100010000", IMAGES, KERNEL], false),
-        // Past the greatest degree, and no square before.
-        (["0100000080", IMAGES, KERNEL], false),
-        (["0100000001", IMAGES, KERNEL], false),
-        // So many images that their bytes cannot be counted, and two without the bytes of the second.
-        ([PLACE, "ff00000000000001000000000000000101", KERNEL], false),
-        ([PLACE, "0000000000000002000000000000000101", KERNEL], false),
-        // Two images, and one of two coordinates, where the module has one dimension.
-        (
-            [
-                PLACE,
-                "000000000000000200000000000000010101",
-                "00000000000000000000000000000002",
-            ],
-            false,
-        ),
-        ([PLACE, "0000000000000001000000000000000201", KERNEL], false),
-        // A spare bit.
-        ([PLACE, "0000000000000001000000000000000103", KERNEL], false),
-        // F_0 has one dimension.
-        ([PLACE, IMAGES, "00000000000000000000000000000002"], false),
-        // A byte too few, and one too many.
-        ([PLACE, IMAGES, "000000000000000000000000000000"], false),
-        ([PLACE, IMAGES, "0000000000000000000000000000000100"], false),
-        // More kernel rows than dimensions, and one that is zero.
-        (
-            [PLACE, IMAGES, "000000000000000200000000000000010101"],
-            false,
-        ),
-        ([PLACE, IMAGES, "0000000000000001000000000000000100"], false),
-        ([PLACE, IMAGES, "0000000000000001000000000000000101"], true),
-    ];
-    for (i, (parts, fits)) in cases.iter().enumerate() {
-        let body = bytes(alloc, parts)?;
-        let strange = is_strange(alloc, &table, i as u64, body.as_slice());
-        assert_eq!(rt; strange, !*fits, "case {i}");
-    }
-    Ok(())
-}
-
-#[test]
-fn a_square_that_is_there(rt: HostRuntime) -> Result<(), Fail> {
-    let alloc = rt.alloc();
-    let first = bytes(alloc, &[PLACE, IMAGES, KERNEL])?;
-    let table = with_body(alloc, nothing_read(alloc)?, 0, first.as_slice())?;
-    assert!(rt; is_strange(alloc, &table, 1, first.as_slice()));
-    Ok(())
-}
-
-// In degree 3 the sphere's F_0 has the basis Sq(3), Sq(0,1), and the module has no dimension: the kernel may have two rows of two
-// coordinates, each in a byte.
-#[test]
-fn forms_of_two_rows(rt: HostRuntime) -> Result<(), Fail> {
-    let alloc = rt.alloc();
-    let range = Range { s: 0, t: 2 };
-    let made = resolved(alloc, nothing_read(alloc)?, range)?;
-    let table = read_all(alloc, bodies_of(alloc, &made, range)?.as_slice())?;
-    let no_images = "010000000300000000000000000000000000000000";
-    let two = "00000000000000020000000000000002";
-    let cases: [([&str; 2], bool); 7] = [
-        ([two, "0102"], true), // 10, 01
-        ([two, "0302"], false), // 11, 01
-        ([two, "0201"], false), // 01, 10
-        ([two, "0101"], false), // 10, 10
-        ([two, "0100"], false), // 10, 00
-        ([two, "0502"], false), // a spare bit
-        (["00000000000000030000000000000002", "010200"], false),
-    ];
-    for (i, ([kernel, rows], fits)) in cases.iter().enumerate() {
-        let body = bytes(alloc, &[no_images, kernel, rows])?;
-        let strange = is_strange(alloc, &table, i as u64, body.as_slice());
-        assert_eq!(rt; strange, !*fits, "case {i}");
-    }
     Ok(())
 }

@@ -17,22 +17,6 @@ pub(crate) const THEIRS: &str = "5b01a2fd981bf610268cc97171b55385829b01d2e57240e
 pub(crate) const SQUARE: &str =
     "0000000000000026010000000000000000000000010000000000000001010000000000000000000000000000000169b7c844de9a6419754dc7e857dbba1a6f8b2f2ddeaefedb344ea3bea60d3953";
 
-/// The body 08 with the digest of 07 behind its gate, and the next gate.
-pub(crate) const DAMAGED: &str =
-    "000000000000000108ca358758f6d27e6cf45272937977a748fd88391db679ceda7dc7bf1f005ee87900";
-
-/// The digest of the body 07.
-pub(crate) const SEVEN_DIGEST: &str =
-    "ca358758f6d27e6cf45272937977a748fd88391db679ceda7dc7bf1f005ee879";
-
-/// The digest of the body 08.
-pub(crate) const EIGHT_DIGEST: &str =
-    "beead77994cf573341ec17b58bbf7eb34d2711c993c1d976b128b3188dc1829a";
-
-/// Fifty zeros.
-pub(crate) const ZEROS: &str =
-    "0000000000000000000000000000000000000000000000000000000000000000000000000000000000000000000000000000";
-
 /// The bytes of a text of these parts.
 pub(crate) fn bytes(alloc: Global, parts: &[&str]) -> Result<Vec<u8>, Fail> {
     let mut text = String::new(alloc);

@@ -1,10 +1,7 @@
-//! Save files on disks in memory: which are taken up, which are written anew, and which are refused.
+//! Save files on disks in memory that are cut or changed.
 ghost use Rattle.std.specs.Prelude.{◌<◌};
 
-use crate::files::{
-    DAMAGED, EIGHT_DIGEST, MAGIC, OURS, SEVEN_DIGEST, SQUARE, THEIRS, ZEROS, bytes, digest,
-    sound_disk,
-};
+use crate::files::{MAGIC, OURS, SQUARE, bytes, digest, sound_disk};
 use edge::MemDisk;
 use finite_module::Module;
 use save_file::{ResumeFault, resume};
@@ -18,10 +15,6 @@ const SQUARE_DIGEST: &str = "69b7c844de9a6419754dc7e857dbba1a6f8b2f2ddeaefedb344
 /// The record of the sphere's second square, that in degree 1, behind its gate.
 const SECOND: &str =
     "0000000000000026010000000100000000000000000000000000000000000000000000000100000000000000010129f0f4d54ee5bc71a09ea6a1d93483428b8bd0fadfbd3f1b31d0df4678f61123";
-
-/// The record of the body 09, a kind that there is not, behind its gate.
-const NINE: &str =
-    "0000000000000001092b4c342f5433ebe591a1da77e013d1b72475562d48578dca8b84bac6651c3cb9";
 
 /// How many bytes the sphere's file of one square has.
 const ONE: usize = 120;
@@ -53,27 +46,6 @@ fn refused(fault: OpenFault) -> Result<usize, ResumeFault> {
     Err(ResumeFault::Open(fault))
 }
 
-/// A file of at most 41 bytes is taken up as one without squares. It is written anew unless it is as it would be then.
-#[test]
-fn fresh_files(rt: HostRuntime) -> Result<(), Fail> {
-    let alloc = rt.alloc();
-    let cases: [([&str; 3], u64); 5] = [
-        // An empty file is not read.
-        (["", "", ""], 4),
-        (["a5a5a5a5a5a5a5a5a5a5a5a5a5a5a5a5a5", "", ""], 5),
-        ([MAGIC, OURS, "a5"], 5),
-        ([MAGIC, THEIRS, "00"], 5),
-        ([MAGIC, OURS, "00"], 3),
-    ];
-    for (parts, calls) in cases {
-        let file = bytes(alloc, &parts)?;
-        assert!(rt; is_answer(alloc, file.as_slice(), Ok(0))?);
-        let (_, disk) = taken_up(alloc, file)?;
-        assert_eq!(rt; disk.calls(), calls);
-    }
-    Ok(())
-}
-
 #[test]
 fn zeros(rt: HostRuntime) -> Result<(), Fail> {
     let alloc = rt.alloc();
@@ -85,60 +57,6 @@ fn zeros(rt: HostRuntime) -> Result<(), Fail> {
             Ok(0)
         };
         assert!(rt; is_answer(alloc, file.as_slice(), want)?, "{len} bytes");
-    }
-    Ok(())
-}
-
-/// What has to hold of the records, in the order in which it is looked at.
-#[test]
-fn refusals(rt: HostRuntime) -> Result<(), Fail> {
-    let alloc = rt.alloc();
-    let (kept, ours) = (digest(THEIRS)?, digest(OURS)?);
-    let damaged = OpenFault::Damaged {
-        number: 1,
-        kept: digest(SEVEN_DIGEST)?,
-        found: digest(EIGHT_DIGEST)?,
-    };
-    let cases: [([&str; 9], Result<usize, ResumeFault>); 8] = [
-        (
-            [ZEROS, OURS, "a5", SQUARE, "00", "", "", "", ""],
-            refused(OpenFault::NotSave),
-        ),
-        (
-            [MAGIC, THEIRS, "a5", SQUARE, "00", "", "", "", ""],
-            refused(OpenFault::Other { kept, ours }),
-        ),
-        (
-            [MAGIC, OURS, "a5", SQUARE, "a5", "", "", "", ""],
-            refused(OpenFault::Short { place: 119 }),
-        ),
-        (
-            [MAGIC, OURS, "a5", NINE, "00", "", "", "", ""],
-            Err(ResumeFault::Strange { number: 0 }),
-        ),
-        // The square before it is not there.
-        (
-            [MAGIC, OURS, "a5", SECOND, "00", "", "", "", ""],
-            Err(ResumeFault::Strange { number: 0 }),
-        ),
-        // The same square twice.
-        (
-            [MAGIC, OURS, "a5", SQUARE, "a5", SQUARE, "00", "", ""],
-            Err(ResumeFault::Strange { number: 1 }),
-        ),
-        (
-            [MAGIC, OURS, "a5", SQUARE, "a5", SECOND, "a5", NINE, "00"],
-            Err(ResumeFault::Strange { number: 2 }),
-        ),
-        // All records are looked at before the first square is.
-        (
-            [MAGIC, OURS, "a5", NINE, "a5", DAMAGED, "", "", ""],
-            refused(damaged),
-        ),
-    ];
-    for (i, (parts, want)) in cases.iter().enumerate() {
-        let file = bytes(alloc, parts)?;
-        assert!(rt; is_answer(alloc, file.as_slice(), *want)?, "file {i}");
     }
     Ok(())
 }

@@ -1,0 +1,81 @@
+//! What the words of a command line ask for.
+use cases::{Case, Differences, Fault};
+use chain_map::Class;
+use ext_words::{Build, Command, Common, WordsFault, parse};
+use std::alloc::Global;
+
+/// What differs between what the words of a case ask for and its field `asks`, which is `nothing` if they are outside the grammar.
+pub(crate) fn asked_difference(alloc: Global, case: &Case) -> Result<Option<String>, Fault> {
+    case.check_keys(&["asks"])?;
+    let words = case.split_words(alloc)?;
+    let asked = match parse(alloc, words.as_slice()) {
+        Ok(command) => told(alloc, &command)?,
+        Err(WordsFault::Words) => String::from_str(alloc, "nothing")?,
+        Err(WordsFault::Memory) => return Err(Fault::Memory),
+    };
+    let mut all = Differences::none(alloc);
+    all.compare_texts("asks", asked.as_str(), case.answer("asks")?)?;
+    Ok(all.into_line())
+}
+
+/// A command: its name, then what it has of a seed, the greatest row and degree, the number of workers, whether squares are kept,
+/// and its classes.
+fn told(alloc: Global, command: &Command) -> Result<String, Fault> {
+    let mut text = String::new(alloc);
+    match command {
+        Command::Sphere(common) => tell(&mut text, "sphere", common)?,
+        Command::Resolve(common) => tell(&mut text, "resolve", common)?,
+        Command::Dump(common) => tell(&mut text, "dump", common)?,
+        Command::Products { common, by } => {
+            tell(&mut text, "products", common)?;
+            tell_class(&mut text, "by", by)?;
+        }
+        Command::Massey { common, a, b, c } => {
+            tell(&mut text, "massey", common)?;
+            tell_class(&mut text, "a", a)?;
+            tell_class(&mut text, "b", b)?;
+            tell_class(&mut text, "c", c)?;
+        }
+        Command::Check => text.push_str("check")?,
+        Command::Build(Build::Sum) => text.push_str("build sum")?,
+        Command::Build(Build::Tensor) => text.push_str("build tensor")?,
+        Command::Build(Build::Dual) => text.push_str("build dual")?,
+        Command::Build(Build::Shift(degrees)) => write!(text, "build shift {degrees}")?,
+        Command::Sample(seed, common) => {
+            write!(text, "sample {seed}")?;
+            tell(&mut text, "", common)?;
+        }
+        Command::Sq(product) => {
+            text.push_str("sq")?;
+            for number in product.numbers() {
+                write!(text, " {number}")?;
+            }
+        }
+    }
+    Ok(text)
+}
+
+/// Tells the name of a command and what it has in common with others.
+fn tell(text: &mut String, name: &str, common: &Common) -> Result<(), Fault> {
+    let Common {
+        range,
+        workers,
+        save,
+    } = *common;
+    write!(
+        text,
+        "{name}, through {} {}, workers {workers}",
+        range.s, range.t
+    )?;
+    if save {
+        text.push_str(", saved")?;
+    }
+    Ok(())
+}
+
+/// Tells a class and what it is to the command.
+fn tell_class(text: &mut String, name: &str, class: &Class) -> Result<(), Fault> {
+    let Class { s, t, i } = *class;
+    write!(text, ", {name} ({s},{t},{i})")?;
+    Ok(())
+}
