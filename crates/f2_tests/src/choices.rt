@@ -1,4 +1,4 @@
-//! The choice of new rows and a plain one against each other.
+//! Small choices by hand, and both ways against each other.
 ghost use Rattle.std.specs.Prelude.{◌≡◌};
 ghost use Rattle.f2_vec.specs.Spans.{HaveWidth};
 ghost use Rattle.f2_matrix.specs.Echelon.{IsReduced, HasNoZeroRow};
@@ -10,6 +10,93 @@ use f2_vec::BitVec;
 use memory::Memory;
 use std::alloc::Global;
 use std::test::Fail;
+
+/// The rows of length `cols` that these texts are, written as 0 and 1.
+fn written(alloc: Global, cols: usize, texts: &[&str]) -> Result<Matrix, Memory> {
+    let mut matrix = Matrix::from_rows(cols, Vec::new(alloc));
+    for text in texts {
+        let mut row = BitVec::zero(alloc, 0)?;
+        for byte in text.as_bytes() {
+            row.push(*byte == b'1')?;
+        }
+        if row.len() == matrix.cols() {
+            matrix.push_row(row)?;
+        }
+    }
+    Ok(matrix)
+}
+
+/// What is chosen from the reduced rows that the texts `candidates` give, for these rows, and the reduction then.
+fn chosen_for(
+    alloc: Global,
+    cols: usize,
+    rows: &[&str],
+    candidates: &[&str],
+) -> Result<Option<(Vec<BitVec>, Reduced)>, Memory> {
+    let matrix = written(alloc, cols, rows)?;
+    let given = Reduced::of(alloc, &written(alloc, cols, candidates)?)?;
+    if given.cols() != matrix.cols() {
+        return Ok(None);
+    }
+    // So it is known that they are of the matrix's width.
+    let _rows = matrix.rows();
+    Ok(Some(choose(alloc, matrix, given.image_rows())?))
+}
+
+/// Whether from the candidates these new ones are chosen, and these are the chosen preimages and the kernel.
+fn is_chosen(
+    alloc: Global,
+    rows: &[&str],
+    candidates: &[&str],
+    new: &[&str],
+    preimages: &[&str],
+    kernel: &[&str],
+) -> Result<bool, Memory> {
+    let Some((chosen, reduced)) = chosen_for(alloc, 3, rows, candidates)? else {
+        return Ok(false);
+    };
+    let height = reduced.height();
+    Ok(
+        are_same(chosen.as_slice(), written(alloc, 3, new)?.rows())
+            && are_same(reduced.chosen(), written(alloc, height, preimages)?.rows())
+            && are_same(reduced.kernel(), written(alloc, height, kernel)?.rows()),
+    )
+}
+
+#[test]
+fn choices_by_hand(rt: HostRuntime) -> Result<(), Fail> {
+    let alloc = rt.alloc();
+    let units = ["100", "010", "001"];
+    // 100 is new; 010 and 001 are sums then.
+    assert!(rt;
+        is_chosen(
+            alloc,
+            &["110", "011"],
+            &units,
+            &["100"],
+            &["001", "101", "111"],
+            &[]
+        )?
+    );
+    // A row twice: the preimages have no row at the place where the relation begins.
+    assert!(rt;
+        is_chosen(
+            alloc,
+            &["110", "110"],
+            &units,
+            &["100", "001"],
+            &["0010", "0110", "0001"],
+            &["1100"]
+        )?
+    );
+    // No rows: all candidates are new.
+    assert!(rt; is_chosen(alloc, &[], &units, &units, &units, &[])?);
+    // No candidates, and a row of zeros.
+    assert!(rt; is_chosen(alloc, &["000"], &[], &[], &[], &["1"])?);
+    // A row that is no sum of candidates.
+    assert!(rt; is_chosen(alloc, &["001"], &["110"], &["110"], &["01", "10"], &[])?);
+    Ok(())
+}
 
 /// Sums of these rows, as many as there are coefficient vectors.
 fn sums(

@@ -1,4 +1,4 @@
-//! Tests of Milnor's basis, of free modules and of maps from them.
+//! Tests of Milnor's basis and product, of free modules and of maps from them.
 #![tactic(auto)]
 
 #[cfg(test)]
@@ -7,5 +7,7 @@ mod bases;
 mod free_modules;
 #[cfg(test)]
 mod maps;
+#[cfg(test)]
+mod products;
 #[cfg(test)]
 mod written;
