@@ -177,17 +177,8 @@ module _ (degree product w row column room : ℕ) (rows columns diagonals : List
       let with_diagonals = subst (λ (xs : List ℕ). TurnsOverAll degree product w (next_row row column) (next_column w row column) (room - number * 2 ^ column * (2 ^ row - 1)) (added row (number * 2 ^ column) rows) (taken column number columns) xs middle after) ed with_columns in
       free_turned number middle after wide long low le apart inv with_diagonals
 
--- In row 0 a place takes all that is left of its column, and leads to nothing if that shares a digit with its diagonal.
+-- In row 0 a place takes all that is left of its column.
 module _ (degree product w c room : ℕ) (rows columns diagonals : List ℕ) (small : degree ≤ 255) (right : suc c ≤ w) (many : length rows ≡ 8) (before : List (ℕ × ℕ)) where
-  pub top_none : bit_and (slice_index columns c) (slice_index diagonals c) ≢ 0 → TurnsOverAll degree product w 0 (suc c) room rows columns diagonals before before
-  top_none shares =
-      let at : c ≡ 0 + suc c - 1 = omega arith in
-      let above : 0 < 0 + suc c = omega arith in
-      let low : 0 ≤ 8 = omega arith in
-      free_end degree product w 0 (suc c) room rows columns diagonals small low above right many before (suc (slice_index columns c)) before (omega arith)
-      (free_skip degree product w 0 (suc c) room rows columns diagonals small low above right many before (slice_index columns c) before (subst (λ k. bit_and (slice_index columns c) (slice_index diagonals k) ≢ 0) at shares)
-      (free_start degree product w 0 (suc c) room rows columns diagonals small low above right many before))
-
   pub top_turn : (after : List (ℕ × ℕ)) → length columns ≡ 8 → length diagonals ≡ 16 → bit_and (slice_index columns c) (slice_index diagonals c) ≡ 0
       → TurnsOverAll degree product w 0 c room rows (slice_set columns c 0) (slice_set diagonals c (bit_or (slice_index diagonals c) (slice_index columns c))) before after
       → TurnsOverAll degree product w 0 (suc c) room rows columns diagonals before after

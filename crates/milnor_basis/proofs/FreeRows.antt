@@ -16,7 +16,7 @@ use Rattle.milnor_basis.proofs.ExponentLemmas.{entry_within}
 use Rattle.milnor_basis.proofs.MatrixList.{map-range_same}
 
 -- Degrees of rows.
-degree_set : (j : ℕ) (xs : List ℕ) (i v : ℕ) → i < length xs → degree_from j (slice_set xs i (slice_index xs i + v)) ≡ degree_from j xs + v * (2 ^ (j + i) - 1)
+pub degree_set : (j : ℕ) (xs : List ℕ) (i v : ℕ) → i < length xs → degree_from j (slice_set xs i (slice_index xs i + v)) ≡ degree_from j xs + v * (2 ^ (j + i) - 1)
 degree_set j [] i v l = absurd (omega arith)
 degree_set j (x ∷ xs) zero v l =
     let e : j + 0 ≡ j = omega arith in
@@ -29,7 +29,7 @@ degree_set j (x ∷ xs) (suc i) v l =
     in
     omega arith
 
-degree_added : (xs : List ℕ) (row v : ℕ) → row ≤ length xs → degree_of (added row v xs) ≡ degree_of xs + v * (2 ^ row - 1)
+pub degree_added : (xs : List ℕ) (row v : ℕ) → row ≤ length xs → degree_of (added row v xs) ≡ degree_of xs + v * (2 ^ row - 1)
 degree_added xs zero v l = let none : v * (2 ^ 0 - 1) ≡ 0 = omega arith in omega arith
 degree_added xs (suc i) v l = let e : 1 + i ≡ suc i = omega arith in degree_set 1 xs i v (omega arith) ∙ ap (λ k. degree_of xs + v * (2 ^ k - 1)) e
 
@@ -203,9 +203,9 @@ put_row room rows columns (suc i) column v above l high small =
     (omega (arith, row_fits room rows columns i column v high small), omega (arith, fits_room room columns (suc i) column v high), same)
 
 -- what is left and what is taken make up the same degree
-pub put_degree : (room room' : ℕ) (rows rows' columns : List ℕ) (row column v : ℕ) → length rows ≡ 8 → row ≤ 8 → v ≤ greatest_free row column room columns → room + degree_of rows ≤ 255
-    → room' ≡ room - v * 2 ^ column * (2 ^ row - 1) → rows' ≡ added row (v * 2 ^ column) rows → room' + degree_of rows' ≤ 255
-put_degree room room' rows rows' columns row column v many l high small eo er =
+pub put_degree : (degree room room' : ℕ) (rows rows' columns : List ℕ) (row column v : ℕ) → length rows ≡ 8 → row ≤ 8 → v ≤ greatest_free row column room columns → room + degree_of rows ≡ degree
+    → room' ≡ room - v * 2 ^ column * (2 ^ row - 1) → rows' ≡ added row (v * 2 ^ column) rows → room' + degree_of rows' ≡ degree
+put_degree degree room room' rows rows' columns row column v many l high whole eo er =
     let fits = fits_room room columns row column v high in
     let more : degree_of rows' ≡ degree_of rows + v * 2 ^ column * (2 ^ row - 1) = ap degree_of er ∙ degree_added rows row (v * 2 ^ column) (omega arith) in
     omega arith

@@ -51,15 +51,6 @@ front_tells diagonals zeros = trimmed_take 8 diagonals (λ i l. elim (cases_lt i
 ])
 
 module _ (degree product : ℕ) (rows diagonals : List ℕ) (pairs : List (ℕ × ℕ)) where
-  none_turned : ((p k : ℕ) → p < length (basis_of degree) → k < length (basis_of product) → are_elements degree product rows diagonals p k ≡ false) → IsTurnedOver degree product (are_elements degree product rows diagonals) pairs pairs
-  none_turned none p k l m = sym (ap (λ b. plus b (is_odd_at pairs p k)) (none p k l m))
-
-  pub no_row : ((p : ℕ) → p < length (basis_of degree) → trimmed rows ≢ element degree p) → IsTurnedOver degree product (are_elements degree product rows diagonals) pairs pairs
-  no_row none = none_turned (λ p k l m. rw (other_exponents (trimmed rows) (element degree p) (none p l)) refl)
-
-  pub no_column : ((k : ℕ) → k < length (basis_of product) → trimmed diagonals ≢ element product k) → IsTurnedOver degree product (are_elements degree product rows diagonals) pairs pairs
-  no_column none = none_turned (λ p k l m. second_false (pointwise nat_eq (trimmed rows) (element degree p)) (pointwise nat_eq (trimmed diagonals) (element product k)) (other_exponents (trimmed diagonals) (element product k) (none k m)))
-
   -- places are those of an element where they are equal to its place
   is_theirs : (n a : ℕ) (r : List ℕ) → slice_get (basis_of n) a ≡ Some (trimmed r) → (p : ℕ) → p < length (basis_of n) → nat_eq a p ≡ pointwise nat_eq (trimmed r) (element n p)
   is_theirs n a r ra p l =

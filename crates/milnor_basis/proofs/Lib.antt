@@ -17,6 +17,9 @@ mod FreeRows
 mod RowZero
 mod FreeFill
 pub mod FreeTable
+mod PlacesLeft
+mod Weights
+mod FirstRow
 mod FreeStart
 pub mod Matrices
 pub mod Parity

@@ -12,7 +12,7 @@ use Rattle.milnor_basis.proofs.Prune.{add_at-other, add_at-same, not_apart, colu
 -- Digits.
 
 -- a number that shares no digit with a | b shares none with b, nor with a
-or_apart : (a b n : ℕ) → bit_and (bit_or a b) n ≡ 0 → bit_and b n ≡ 0
+pub or_apart : (a b n : ℕ) → bit_and (bit_or a b) n ≡ 0 → bit_and b n ≡ 0
 or_apart a b n h =
     ap (λ x. bit_and x n) (sym (and_or_self b a)) ∙ and_assoc n (bit_or a b) b ∙ ap (bit_and (bit_or a b)) (and_comm b n)
     ∙ sym (and_assoc b (bit_or a b) n) ∙ ap (λ x. bit_and x b) h

@@ -1,16 +1,15 @@
 //! The products of all elements of a degree with one element: one walk fills the matrices of all of them.
-ghost use Rattle.std.specs.Prelude.{◌≡◌, ℕ, ◌≤◌, ◌<◌, ◌+◌, ◌-◌, ◌*◌, ◌/◌, ◌^◌, ◌≢◌, ◌++◌, [], IfOk, OnOk, IfSome, IsNone, Some, length, replicate, slice_index, slice_index_or, slice_set, slice_get, bit_or};
+ghost use Rattle.std.specs.Prelude.{◌≡◌, ℕ, ◌≤◌, ◌<◌, ◌+◌, ◌-◌, ◌*◌, ◌/◌, ◌^◌, ◌≢◌, ◌++◌, [], List, take, IfOk, OnOk, IfSome, IsNone, Some, length, replicate, slice_index, slice_index_or, slice_set, slice_get, bit_or};
 ghost use Rattle.milnor_basis.specs.Exponents.{degree_of, entry, trimmed};
-ghost use Rattle.milnor_basis.specs.Basis.{basis_of};
+ghost use Rattle.milnor_basis.specs.Basis.{lists_of, basis_of};
 ghost use Rattle.milnor_basis.specs.Product.{AreWithin, ArePairs};
 ghost use Rattle.milnor_basis.specs.Inside.Walk.{next_row, next_column, taken};
-ghost use Rattle.milnor_basis.specs.Inside.FreeRows.{least_free, greatest_free, number_above, added, element, are_elements, IsTurnedOver, TurnsOverAll};
+ghost use Rattle.milnor_basis.specs.Inside.FreeRows.{greatest_free, added, element, TurnsOverAll, IsInFirstRow};
 
 use crate::basis::Basis;
-use crate::exps::Exps;
-use crate::product::{
-    degree_of_products, next_apart, next_place, numbers_of, place_in, place_of_diagonals,
-};
+use crate::counts::{Counts, Rest};
+use crate::exps::{Exps, MAX_EXPONENTS};
+use crate::product::{degree_of_products, less, next_apart, next_place, numbers_of};
 use memory::Memory;
 use std::alloc::Global;
 
@@ -46,48 +45,18 @@ impl Open {
         }
     }
 
-    /// The greatest sum of this row that the degree has room for.
-    fn most(&self, row: usize) -> u16
-        requires first { 0 < row }
-        requires row { row ≤ 8 }
-        ensures { result ≡ self.now.room / (2 ^ row - 1) }
-    {
-        // Most places are in row 1, where no division is needed.
-        if row == 1 {
-            self.room
-        } else {
-            self.room / ((1 << row) - 1)
-        }
-    }
-
-    /// The least and the greatest number that can stand at this place, which is not in row 0.
-    fn range(&self, row: usize, column: usize) -> (u16, u16)
-        requires first { 0 < row }
+    /// The greatest number that can stand at this place, which is in none of the rows 0 and 1.
+    fn greatest(&self, row: usize, column: usize) -> u16
+        requires past { 1 < row }
         requires row { row ≤ 8 }
         requires column { column ≤ 8 }
-        ensures least { result.0 ≡ least_free row column self.now.room self.now.columns }
-        ensures greatest { result.1 ≡ greatest_free row column self.now.room self.now.columns }
+        ensures { result ≡ greatest_free row column self.now.room self.now.columns }
     {
-        let most = self.most(row);
+        let most = self.room / ((1 << row) - 1);
         if column > 0 {
-            (0, (most >> column).min(self.columns[column - 1]))
-        } else if row == 1 {
-            (most, most)
+            (most >> column).min(self.columns[column - 1])
         } else {
-            (0, most)
-        }
-    }
-
-    /// What row 0 has to put on the diagonal of this place: what is left of the next column, once only its place in row 0
-    /// is to fill. 0 where more of its places are, or none.
-    fn number_above(&self, width: usize, row: usize, column: usize) -> u16
-        requires width { width ≤ 8 }
-        ensures { result ≡ number_above width row column self.now.columns }
-    {
-        if row == 1 && column < width {
-            self.columns[column]
-        } else {
-            0
+            most
         }
     }
 
@@ -115,38 +84,87 @@ impl Open {
     }
 }
 
-/// Puts down the places of R, which the rows make up, and of T, which the diagonals make up, if they are of these degrees.
-fn put_down(
-    basis: &Basis,
+/// Row 1 of a matrix, and row 0, where all other rows are filled.
+#[derive(Drop)]
+struct FirstRow {
+    /// The degrees of R and of the products.
     degrees: (u16, u16),
-    rows: [u16; 8],
-    diagonals: &[u16; 16],
+    /// The last column.
+    width: usize,
+    /// The place of R.
+    left: usize,
+    /// What is left of the sum of each column, from column 1 on.
+    columns: [u16; 8],
+    /// The sum of each diagonal so far, from diagonal 1 on.
+    diagonals: [u16; 16],
+}
+
+/// Puts down, for each way to fill row 1 up to `column` and row 0, the places of R and T: `room` is left of the row's
+/// sum, row 0 puts `above` in the next column, and `term` is left of T, up to this place's diagonal.
+fn fill_first(
+    counts: &Counts,
+    first: &FirstRow,
+    column: usize,
+    room: u16,
+    above: u16,
+    term: Rest,
     pairs: &mut Vec<(u16, u16)>,
 ) -> Result<(), Memory>
-    requires degree { degrees.0 ≤ basis.now }
-    requires product { degrees.1 ≤ basis.now }
-    requires small { degrees.1 ≤ 255 }
-    requires few { length (basis_of degrees.0) ≤ 2 ^ 16 }
-    requires many { length (basis_of degrees.1) ≤ 2 ^ 16 }
-    requires within { AreWithin degrees.0 degrees.1 pairs.old.items }
-    ensures turned { OnOk result (IsTurnedOver degrees.0 degrees.1 (are_elements degrees.0 degrees.1 rows diagonals.now) pairs.old.items pairs.new.items) }
-    ensures within { OnOk result (AreWithin degrees.0 degrees.1 pairs.new.items) }
+    requires degree { first.now.degrees.0 ≤ 255 }
+    requires product { first.now.degrees.1 ≤ counts.now }
+    requires width { first.now.width ≤ 8 }
+    requires column { column ≤ first.now.width }
+    requires left { first.now.left < length (basis_of first.now.degrees.0) }
+    requires few { length (basis_of first.now.degrees.0) ≤ 2 ^ 16 }
+    requires many { length (basis_of first.now.degrees.1) ≤ 2 ^ 16 }
+    requires small { term.degree ≤ 255 }
+    requires reach { term.degree ≤ counts.now }
+    requires weight { term.degree ≡ degree_of (take (column + 1) first.now.diagonals) + (above * (2 ^ (column + 1) - 1) + (degree_of (take column first.now.columns) + room)) }
+    requires place { term.place + length (lists_of (column + 1) term.degree) ≤ length (basis_of first.now.degrees.1) }
+    requires within { AreWithin first.now.degrees.0 first.now.degrees.1 pairs.old.items }
+    ensures turned { OnOk result ((rows columns diagonals : List ℕ) → IsInFirstRow first.now.degrees.0 first.now.degrees.1 first.now.width column room above term.degree term.place first.now.left first.now.columns first.now.diagonals rows columns diagonals → TurnsOverAll first.now.degrees.0 first.now.degrees.1 first.now.width 1 column room rows columns diagonals pairs.old.items pairs.new.items) }
+    ensures within { OnOk result (AreWithin first.now.degrees.0 first.now.degrees.1 pairs.new.items) }
 {
-    let Some(left) = place_in(basis, degrees.0, &Exps::of(rows)) else {
+    let sum = first.diagonals[column];
+    if above & sum != 0 {
         return Ok(());
-    };
-    let Some(term) = place_of_diagonals(basis, degrees.1, diagonals) else {
+    }
+    let digits = sum | above;
+    if column == 0 {
+        if room & digits != 0 {
+            return Ok(());
+        }
+        pairs.push((first.left as u16, term.place as u16))?;
         return Ok(());
-    };
-    pairs.push((left as u16, term as u16))?;
+    }
+    let left = first.columns[column - 1];
+    let greatest = (room >> column).min(left);
+    let mut number = 0;
+    while number <= u32::from(greatest) {
+        let put = number as u16;
+        if put & digits == 0 {
+            fill_first(
+                counts,
+                first,
+                column - 1,
+                less(room, put, column),
+                left - put,
+                counts.chosen(term, column + 1, digits | put),
+                pairs,
+            )?;
+            number = next_apart(put, digits);
+        } else {
+            number += 1;
+        }
+    }
     Ok(())
 }
 
-/// Puts down the pair to which row 0 leads, where each place up to `column` takes all that is left of its column.
-fn fill_top(
+/// Puts down, for each way to fill row 1 and row 0, the places of R and T, where all other rows are filled.
+fn fill_last(
     basis: &Basis,
     degrees: (u16, u16),
-    column: usize,
+    width: usize,
     open: &Open,
     pairs: &mut Vec<(u16, u16)>,
 ) -> Result<(), Memory>
@@ -156,24 +174,37 @@ fn fill_top(
     requires smaller { degrees.1 ≤ 255 }
     requires few { length (basis_of degrees.0) ≤ 2 ^ 16 }
     requires many { length (basis_of degrees.1) ≤ 2 ^ 16 }
+    requires room { open.now.room + degree_of open.now.rows ≡ degrees.0 }
+    requires weight { degree_of open.now.diagonals + (degree_of (take width open.now.columns) + open.now.room) ≡ degrees.1 }
+    requires width { width ≤ 8 }
     requires within { AreWithin degrees.0 degrees.1 pairs.old.items }
-    requires column { column ≤ 8 }
-    ensures turned { OnOk result ((width : ℕ) → column ≤ width → TurnsOverAll degrees.0 degrees.1 width 0 column open.now.room open.now.rows open.now.columns open.now.diagonals pairs.old.items pairs.new.items) }
+    ensures turned { OnOk result (TurnsOverAll degrees.0 degrees.1 width 1 width open.now.room open.now.rows open.now.columns open.now.diagonals pairs.old.items pairs.new.items) }
     ensures within { OnOk result (AreWithin degrees.0 degrees.1 pairs.new.items) }
 {
-    let mut columns = open.columns;
-    let mut diagonals = open.diagonals;
-    let mut left = column;
-    while left > 0 {
-        left -= 1;
-        let number = columns[left];
-        if number & diagonals[left] != 0 {
-            return Ok(());
-        }
-        columns[left] = 0;
-        diagonals[left] |= number;
+    let mut rows = open.rows;
+    rows[0] += open.room;
+    let Some((_, left)) = basis.place(&Exps::of(rows)) else {
+        unreachable!()
+    };
+    // T's exponents past the diagonals of row 1 are known.
+    let counts = basis.counts();
+    let mut term = Rest {
+        degree: degrees.1,
+        place: 0,
+    };
+    let mut k = MAX_EXPONENTS + 1;
+    while k > width + 1 {
+        term = counts.chosen(term, k, open.diagonals[k - 1]);
+        k -= 1;
     }
-    put_down(basis, degrees, open.rows, &diagonals, pairs)
+    let first = FirstRow {
+        degrees,
+        width,
+        left,
+        columns: open.columns,
+        diagonals: open.diagonals,
+    };
+    fill_first(counts, &first, width, open.room, 0, term, pairs)
 }
 
 /// Puts down, for each way to fill the places up to (row, column), the places of R and T. `degrees` are those of R and of
@@ -191,31 +222,29 @@ fn fill_all(
     requires product { degrees.1 ≤ basis.now }
     requires small { degrees.0 ≤ degrees.1 }
     requires smaller { degrees.1 ≤ 255 }
-    requires room { open.now.room + degree_of open.now.rows ≤ 255 }
     requires few { length (basis_of degrees.0) ≤ 2 ^ 16 }
     requires many { length (basis_of degrees.1) ≤ 2 ^ 16 }
-    requires within { AreWithin degrees.0 degrees.1 pairs.old.items }
+    requires room { open.now.room + degree_of open.now.rows ≡ degrees.0 }
+    requires weight { degree_of open.now.diagonals + (degree_of (take width open.now.columns) + open.now.room) ≡ degrees.1 }
+    requires some { 0 < row }
     requires row { row ≤ 8 }
     requires width { width ≤ 8 }
     requires column { column ≤ width }
+    requires first { row ≡ 1 → column ≡ width }
+    requires within { AreWithin degrees.0 degrees.1 pairs.old.items }
     ensures turned { OnOk result (TurnsOverAll degrees.0 degrees.1 width row column open.now.room open.now.rows open.now.columns open.now.diagonals pairs.old.items pairs.new.items) }
     ensures within { OnOk result (AreWithin degrees.0 degrees.1 pairs.new.items) }
 {
-    if row == 0 {
-        return fill_top(basis, degrees, column, open, pairs);
+    if row == 1 {
+        return fill_last(basis, degrees, width, open, pairs);
     }
     let (next_row, next_column) = next_place(width, row, column);
     let sum = open.diagonals[row + column - 1];
-    let above = open.number_above(width, row, column);
-    if above & sum != 0 {
-        return Ok(());
-    }
-    let digits = sum | above;
-    let (least, greatest) = open.range(row, column);
-    let mut number = u32::from(least);
+    let greatest = open.greatest(row, column);
+    let mut number = 0;
     while number <= u32::from(greatest) {
         let put = number as u16;
-        if put & digits == 0 {
+        if put & sum == 0 {
             fill_all(
                 basis,
                 degrees,
@@ -225,7 +254,7 @@ fn fill_all(
                 &open.put(row, column, put),
                 pairs,
             )?;
-            number = next_apart(put, digits);
+            number = next_apart(put, sum);
         } else {
             number += 1;
         }

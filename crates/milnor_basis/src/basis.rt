@@ -128,6 +128,13 @@ impl Basis {
         self.max
     }
 
+    /// How many exponent lists there are.
+    pub(crate) fn counts(&self) -> &Counts
+        ensures { result.now ≡ self.now }
+    {
+        &self.counts
+    }
+
     /// The products that were made so far.
     pub(crate) fn kept(&self) -> &Kept
         ensures { result.now ≡ self.now + 1 }

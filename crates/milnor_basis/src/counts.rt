@@ -1,5 +1,5 @@
 //! How many exponent lists there are of each degree and length, by which places in a basis are counted.
-ghost use Rattle.std.specs.Prelude.{◌≡◌, ℕ, ◌+◌, ◌*◌, ◌≤◌, ◌<◌, IfOk, length, slice_index};
+ghost use Rattle.std.specs.Prelude.{◌≡◌, ℕ, ◌+◌, ◌-◌, ◌*◌, ◌^◌, ◌≤◌, ◌<◌, IfOk, length, slice_index};
 ghost use Rattle.milnor_basis.specs.Basis.{lists_of};
 ghost use Rattle.milnor_basis.specs.Inside.Counted.{IsCounted};
 
@@ -30,6 +30,15 @@ impl Model for Counts {
     ghost invariant = { λ c. (c.max ≤ 255) × (length c.numbers.items ≡ 9 * (c.max + 1)) × IsCounted c.numbers.items };
 }
 
+/// The first exponents of an element, which are still to choose where those after them are chosen.
+#[derive(Clone, Copy, Drop)]
+pub(crate) struct Rest {
+    /// The degree that is left for them.
+    pub(crate) degree: u16,
+    /// The place of the first element with the chosen exponents in the basis of its degree.
+    pub(crate) place: usize,
+}
+
 impl Counts {
     /// The counts of the degrees 0 to `max`.
     pub(crate) fn new(alloc: Global, max: u16) -> Result<Self, Memory>
@@ -50,6 +59,29 @@ impl Counts {
         ensures { result ≡ length (lists_of k n) }
     {
         self.numbers[LENGTHS * usize::from(n) + k]
+    }
+
+    /// What is left once the k-th exponent, the last that is to choose, is this one. In right lexicographic order, the
+    /// elements with a smaller one come first.
+    pub(crate) fn chosen(&self, rest: Rest, k: usize, exponent: u16) -> Rest
+        requires degree { rest.degree ≤ self.now }
+        requires small { rest.degree ≤ 255 }
+        requires some { 0 < k }
+        requires few { k ≤ 9 }
+        requires fits { exponent * (2 ^ k - 1) ≤ rest.degree }
+        requires room { rest.place + length (lists_of k rest.degree) ≤ 2 ^ 16 }
+        ensures degree { result.degree ≡ rest.degree - exponent * (2 ^ k - 1) }
+        ensures place { result.place ≡ rest.place + (length (lists_of k rest.degree) - length (lists_of k result.degree)) }
+    {
+        if exponent == 0 {
+            return rest;
+        }
+        let degree = rest.degree - exponent * ((1 << k) - 1);
+        let passed = self.of(rest.degree, k) - self.of(degree, k);
+        Rest {
+            degree,
+            place: rest.place + passed,
+        }
     }
 }
 

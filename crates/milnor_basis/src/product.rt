@@ -85,7 +85,7 @@ impl Left {
 }
 
 /// What is left of a row's sum once `number` stands in this column.
-fn less(left: u16, number: u16, column: usize) -> u16
+pub(crate) fn less(left: u16, number: u16, column: usize) -> u16
     requires column { column ≤ 8 }
     requires number { number * 2 ^ column ≤ left }
     ensures { result ≡ left - number * 2 ^ column }

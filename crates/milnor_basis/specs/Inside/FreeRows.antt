@@ -1,11 +1,11 @@
 -- The matrices of Milnor's product whose columns are S and whose rows make up any R of one degree, filled place by place
 -- from the last to the first.
-use Rattle.std.specs.Prelude.{◌≡◌, ℕ, zero, suc, ◌+◌, ◌-◌, ◌<◌, ◌≤◌, ◌^◌, Bool, true, ◌&&◌, nat_eq, nat_lt, if◌then◌else◌, List, [], length, min, ◌/◌, slice_index, slice_index_or, slice_set}
+use Rattle.std.specs.Prelude.{◌≡◌, ℕ, zero, suc, ◌+◌, ◌-◌, ◌<◌, ◌≤◌, ◌^◌, Bool, true, ◌&&◌, nat_eq, nat_lt, if◌then◌else◌, Some, List, [], ◌++◌, length, drop, min, ◌/◌, slice_index, slice_index_or, slice_set, slice_get, bit_and, bit_or}
 use Rattle.std.specs.List.{sum}
 use Rattle.std.specs.Cmp.Lexicographic.{pointwise}
 use Rattle.f2_vec.specs.Vectors.{plus}
 use Rattle.milnor_basis.specs.Exponents.{entry, degree_of, trimmed}
-use Rattle.milnor_basis.specs.Basis.{basis_of}
+use Rattle.milnor_basis.specs.Basis.{lists_of, basis_of}
 use Rattle.milnor_basis.specs.Product.{is_odd_at}
 use Rattle.milnor_basis.specs.Inside.Padding.{padded}
 use Rattle.milnor_basis.specs.Inside.Walk.{fillings, places_to, Sums, add, are_sums_of}
@@ -71,3 +71,26 @@ leads_to degree product s row column sums p k = fillings add (suc (sum (padded 8
 abbrev pub TurnsOverAll : ℕ → ℕ → ℕ → ℕ → ℕ → ℕ → List ℕ → List ℕ → List ℕ → List (ℕ × ℕ) → List (ℕ × ℕ) → Type 0
 TurnsOverAll degree product width row column room rows columns diagonals before after = (s : List ℕ) (sums : Sums) → width ≡ length s → length s ≤ 8 → IsFree degree s row column room rows columns diagonals sums
     → IsTurnedOver degree product (leads_to degree product s row column sums) before after
+
+-- Elements whose last exponents are chosen stand side by side in a basis: those of degree n whose exponents from the k-th on are `others`,
+-- and whose first k have degree m, stand from `place` on, in the order of these.
+abbrev pub ArePlaced : ℕ → ℕ → ℕ → ℕ → List ℕ → Type 0
+ArePlaced n k m place others = (q : ℕ) (front : List ℕ) → slice_get (lists_of k m) q ≡ Some front → slice_get (basis_of n) (q + place) ≡ Some (trimmed (front ++ others))
+
+-- the sums of the diagonals once row 0 takes what is left of the first n columns
+abbrev pub topped : ℕ → List ℕ → List ℕ → List ℕ
+topped zero columns diagonals = diagonals
+topped (suc c) columns diagonals = topped c columns (slice_set diagonals c (bit_or (slice_index diagonals c) (slice_index columns c)))
+
+-- A filling that has come to (1, column). Of rows, columns and diagonals only those parts are at hand that are still to change: what is left of the
+-- columns up to this one and of the next, and the sums of the diagonals up to this place's. The others tell the places of R and of T.
+pub record IsInFirstRow (degree product width column room above below place left : ℕ) (own_columns own_diagonals rows columns diagonals : List ℕ) : Type 0 where
+  pub high : length rows ≡ 8
+  pub wide : length columns ≡ 8
+  pub long : length diagonals ≡ 16
+  pub left_placed : slice_get (basis_of degree) left ≡ Some (trimmed (added 1 room rows))
+  pub columns_left : (i : ℕ) → i < column → slice_index columns i ≡ slice_index own_columns i
+  pub above_left : number_above width 1 column columns ≡ above
+  pub diagonals_so_far : (i : ℕ) → i ≤ column → slice_index diagonals i ≡ slice_index own_diagonals i
+  pub apart : (i : ℕ) → column < i → i < width → bit_and (slice_index columns i) (slice_index diagonals i) ≡ 0
+  pub term_placed : ArePlaced product (suc column) below place (drop (suc column) (topped width columns diagonals))

@@ -1,7 +1,6 @@
 -- The numbers below `number` have had their turn.
-use Rattle.std.proofs.Common.{◌+◌, ◌*◌, ◌-◌, ◌≤◌, suc}
+use Rattle.std.proofs.Common.{◌+◌, ◌*◌, ◌-◌, suc}
 use Rattle.milnor_basis.specs.Product.{AreWithin}
-use Rattle.milnor_basis.specs.Inside.FreeRows.{least_free}
 use Rattle.milnor_basis.proofs.FreeFill.{TurnsOverAllBelow}
 use Rattle.milnor_basis.proofs.all_products.+fill_all.Given as goal
 
@@ -10,7 +9,6 @@ decreases-fill_all l = l.row * 9 + l.column
 
 abbrev pub invariant-loop-number : goal.invariant-loop-number
 invariant-loop-number l = record {
-  from : least_free l.row l.column l.open.room l.open.columns ≤ l.number;
   turned : TurnsOverAllBelow l.degrees.0 l.degrees.1 l.width l.row l.column l.open.room l.open.rows l.open.columns l.open.diagonals l.number l.initial.pairs.items l.pairs.items;
   within : AreWithin l.degrees.0 l.degrees.1 l.pairs.items;
 }

@@ -1,11 +1,23 @@
 -- There is no pair at first, so that those at the end are the pairs of the products.
-use Rattle.std.proofs.Common.{◌≤◌, ◌<◌, ℕ, List, [], length, replicate, slice_index_or, sym, subst, arith}
+use Rattle.std.proofs.Common.{◌≡◌, ◌≤◌, ◌<◌, ℕ, List, [], length, replicate, take, slice_index_or, refl, ap, sym, rules, ◌+◌, subst, arith}
 use Rattle.milnor_basis.specs.Basis.{basis_of}
 use Rattle.milnor_basis.specs.Product.{ArePairs}
 use Rattle.milnor_basis.specs.Inside.Walk.{no_sums}
 use Rattle.milnor_basis.specs.Inside.FreeRows.{IsFree, IsTurnedOver, leads_to, element}
+use Rattle.milnor_basis.specs.Exponents.{degree_of}
+use Rattle.milnor_basis.proofs.Weights.{start_weight}
 use Rattle.milnor_basis.proofs.FreeTable.{all_free, pairs_are}
 use Rattle.milnor_basis.proofs.all_products.pairs_of.Goals as goal
+
+pub fill_all-requires : goal.fill_all-requires
+fill_all-requires c =
+    let s : List ℕ = c.args.s.now in
+    let none : degree_of (replicate 8 0) ≡ 0 = refl in
+    let room : c.of.result.room + degree_of c.of.result.rows ≡ c.args.degree = omega (arith, c.of.ensures.room, ap degree_of c.of.ensures.rows) in
+    let start = start_weight c.args.degree s c.of.result.columns c.of.result.diagonals c.len.ensures.short (search rules) c.of.ensures.columns c.of.ensures.diagonals in
+    let taken : degree_of (take c.len.result c.of.result.columns) ≡ degree_of (take (length s) c.of.result.columns) = ap (λ n. degree_of (take n c.of.result.columns)) c.len.ensures.length in
+    let weight : degree_of c.of.result.diagonals + (degree_of (take c.len.result c.of.result.columns) + c.of.result.room) ≡ c.degree_of_products-product.result = omega (arith, c.of.ensures.room, c.degree_of_products-product.ensures.sum) in
+    search rules
 
 pub returns : goal.returns
 returns c =
