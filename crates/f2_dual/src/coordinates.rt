@@ -30,9 +30,11 @@ pub fn coordinates(
     requires widths { HaveWidth matrix.now.cols candidates.now }
     requires reduced { IsReduced candidates.now }
     requires nonzero { HasNoZeroRow candidates.now }
-    ensures covered { IfOk result (λ found. IsSome found ↔ ((i : ℕ) → i < length matrix.now.rows → IsInSpan matrix.now.cols candidates.now (row matrix.now.rows i))) }
+    ensures covered { IfOk result (λ found. IsSome found
+        ↔ ((i : ℕ) → i < length matrix.now.rows → IsInSpan matrix.now.cols candidates.now (row matrix.now.rows i))) }
     ensures cols { IfOk result (λ found. IfSome found (λ m. m.cols ≡ length matrix.now.rows + length candidates.now)) }
-    ensures rows { IfOk result (λ found. IfSome found (λ m. m.rows ≡ augmented (coordinates_of candidates.now matrix.now.rows))) }
+    ensures rows { IfOk result
+        (λ found. IfSome found (λ m. m.rows ≡ augmented (coordinates_of candidates.now matrix.now.rows))) }
 {
     let n = matrix.cols();
     let table = table_of_pivots(alloc, n, candidates)?;

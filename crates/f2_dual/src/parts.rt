@@ -90,8 +90,10 @@ pub fn preimages_and_relations(
     requires image { IsReducedBasis n (map (take n) image.now) }
     requires widths { HaveWidth width image.now }
     requires kernel { (i : ℕ) → has_one (take n (row kernel.now i)) ≡ false }
-    ensures preimages { IfOk result (λ parts. parts.0.items ≡ preimages_of (reduction_of n (width - n) image.now kernel.now)) }
-    ensures relations { IfOk result (λ parts. parts.1.items ≡ relations_of (reduction_of n (width - n) image.now kernel.now)) }
+    ensures preimages { IfOk result
+        (λ parts. parts.0.items ≡ preimages_of (reduction_of n (width - n) image.now kernel.now)) }
+    ensures relations { IfOk result
+        (λ parts. parts.1.items ≡ relations_of (reduction_of n (width - n) image.now kernel.now)) }
 {
     let table = table_of_pivots(alloc, n, image)?;
     let places = wanted_places(alloc, table.as_slice(), width)?;
@@ -147,7 +149,8 @@ fn columns_of_form(
     kernel: &[BitVec],
 ) -> Result<Vec<BitVec>, Memory>
     requires { (p t : ℕ) → entry_at table.now p ≡ Some t → t < length image.now }
-    ensures { IfOk result (λ columns. columns.items ≡ columns_at_of places.now (spread_by table.now width image.now ++ kernel.now)) }
+    ensures { IfOk result
+        (λ columns. columns.items ≡ columns_at_of places.now (spread_by table.now width image.now ++ kernel.now)) }
 {
     let zero = BitVec::zero(alloc, width)?;
     let mut rows = spread(alloc, table, &zero, image)?;
@@ -161,7 +164,8 @@ fn add_elements(columns: &mut [BitVec], n: usize, places: &[usize])
     requires within { (k : ℕ) → k < length columns.old → slice_index places.now k < n }
     requires lengths { (k : ℕ) → k < length columns.old → n ≤ length (row columns.old k) }
     ensures as_many { length columns.new ≡ length columns.old }
-    ensures turned { (k : ℕ) → k < length columns.old → row columns.new k ≡ with_element n (slice_index places.now k) (row columns.old k) }
+    ensures turned { (k : ℕ) → k < length columns.old →
+        row columns.new k ≡ with_element n (slice_index places.now k) (row columns.old k) }
 {
     for k in 0..columns.len() {
         columns[k].flip(n - 1 - places[k]);

@@ -8,5 +8,6 @@ use Rattle.f2_vec.specs.Spans.{row, IsInSpan}
 pub record IsChosen (n : ℕ) (old candidates chosen : List (List Bool)) : Type 0 where
   pub kept : List Bool
   pub one_each : length kept ≡ length candidates
-  pub dropped : (i : ℕ) → i < length candidates → (bit kept i ≡ false) ↔ IsInSpan n (old ++ take i candidates) (row candidates i)
+  pub dropped : (i : ℕ) → i < length candidates →
+      (bit kept i ≡ false) ↔ IsInSpan n (old ++ take i candidates) (row candidates i)
   pub chosen_are : chosen ≡ items_where_true kept candidates

@@ -80,8 +80,10 @@ fn row_to_take(
     requires col { col < cols }
     ensures behind { IfSome result (λ i. settled + length places.now ≤ i) }
     ensures within { IfSome result (λ i. i < length rows.now) }
-    ensures one { IfSome result (λ i. bit (cleared_at cols places.now (block_rows settled places.now rows.now) (row rows.now i)) col ≡ true) }
-    ensures none { IfNone result ((i : ℕ) → settled + length places.now ≤ i → bit (cleared_at cols places.now (block_rows settled places.now rows.now) (row rows.now i)) col ≡ false) }
+    ensures one { IfSome result
+        (λ i. bit (cleared_at cols places.now (block_rows settled places.now rows.now) (row rows.now i)) col ≡ true) }
+    ensures none { IfNone result ((i : ℕ) → settled + length places.now ≤ i →
+        bit (cleared_at cols places.now (block_rows settled places.now rows.now) (row rows.now i)) col ≡ false) }
 {
     let end = settled + places.len();
     let block = &rows[settled..end];

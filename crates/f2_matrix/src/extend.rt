@@ -23,7 +23,8 @@ impl Reduced {
         requires { HaveWidth self.old.cols rows.now }
         ensures cols { self.new.cols ≡ self.old.cols }
         ensures height { OnOk result (self.new.height ≡ self.old.height + length rows.now) }
-        ensures ok { OnOk result ((old : List (List Bool)) → IsReductionOf self.old.cols old self.old → IsReductionOf self.old.cols (old ++ rows.now) self.new) }
+        ensures ok { OnOk result ((old : List (List Bool)) → IsReductionOf self.old.cols old self.old →
+            IsReductionOf self.old.cols (old ++ rows.now) self.new) }
         ensures err { OnErr result (self.new ≡ self.old) }
     {
         let mut next = self.try_copy(alloc)?;
@@ -39,7 +40,8 @@ impl Reduced {
         requires { length v.now ≡ self.now.cols }
         ensures cols { IfOk result (λ r. r.cols ≡ self.now.cols) }
         ensures height { IfOk result (λ r. r.height ≡ self.now.height + 1) }
-        ensures reduction { IfOk result (λ r. (rows : List (List Bool)) → IsReductionOf self.now.cols rows self.now → IsReductionOf self.now.cols (rows ++ v.now ∷ []) r) }
+        ensures reduction { IfOk result (λ r. (rows : List (List Bool)) → IsReductionOf self.now.cols rows self.now →
+            IsReductionOf self.now.cols (rows ++ v.now ∷ []) r) }
     {
         let rest = self.rest(alloc, v)?;
         let mut coefficients = self.quasi(alloc, v)?;

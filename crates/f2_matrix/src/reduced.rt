@@ -31,7 +31,13 @@ impl Model for Reduced {
 
     ghost Value = { Reduction };
 
-    ghost view = { λ r. record { cols = r.cols; height = r.height; image = r.image; chosen = r.chosen.items; kernel = r.kernel } };
+    ghost view = { λ r. record {
+      cols = r.cols;
+      height = r.height;
+      image = r.image;
+      chosen = r.chosen.items;
+      kernel = r.kernel;
+    } };
 
     ghost invariant = { λ r. AreParts r.cols r.height r.image r.chosen.items r.kernel };
 }
@@ -69,7 +75,13 @@ impl Reduced {
         requires chosen { HaveWidth height chosen.items }
         requires as_many { length chosen.items ≡ length image }
         requires kernel { HaveWidth height kernel }
-        ensures { result ≡ record { cols = cols; height = height; image = image; chosen = chosen.items; kernel = kernel } }
+        ensures { result ≡ record {
+          cols = cols;
+          height = height;
+          image = image;
+          chosen = chosen.items;
+          kernel = kernel;
+        } }
     {
         Reduced {
             cols,
@@ -158,7 +170,8 @@ impl Reduced {
         requires { length v.now ≡ self.now.cols }
         ensures inside { IfOk result (λ found. IsSome found ↔ IsInSpan self.now.cols self.now.image v.now) }
         ensures preimage { IfOk result (λ found. IfSome found (IsPreimageUnder self.now v.now)) }
-        ensures quasi { IfOk result (λ found. IfSome found (λ c. c ≡ quasi_of self.now.height self.now.image self.now.chosen v.now)) }
+        ensures quasi { IfOk result
+            (λ found. IfSome found (λ c. c ≡ quasi_of self.now.height self.now.image self.now.chosen v.now)) }
     {
         if !self.contains(alloc, v)? {
             return Ok(None);
@@ -176,7 +189,8 @@ impl Reduced {
         requires { length v.now ≡ self.now.cols }
         ensures sum { IfOk result (λ c. c ≡ quasi_of self.now.height self.now.image self.now.chosen v.now) }
         ensures length { IfOk result (λ c. length c ≡ self.now.height) }
-        ensures preimage { IfOk result (λ c. IsInSpan self.now.cols self.now.image v.now → IsPreimageUnder self.now v.now c) }
+        ensures preimage { IfOk result (λ c. IsInSpan self.now.cols self.now.image v.now →
+            IsPreimageUnder self.now v.now c) }
     {
         let mut quasi = BitVec::zero(alloc, self.height)?;
         add_at_pivots(&mut quasi, v, self.image.pivots(), self.chosen.as_slice());

@@ -85,7 +85,8 @@ fn find_pivots(cols: usize, rows: &mut [BitVec], bits: usize, tables: &mut Table
     requires rows { HaveWidth cols rows.old }
     requires least { 1 ≤ bits }
     requires most { bits ≤ 8 }
-    requires tables { AreRooms cols bits tables.old.first.items tables.old.second.items tables.old.third.items tables.old.fourth.items }
+    requires tables { AreRooms cols bits tables.old.first.items tables.old.second.items tables.old.third.items
+        tables.old.fourth.items }
     ensures { HavePivots cols result result rows.old rows.new }
 {
     let mut settled = 0;
@@ -120,7 +121,8 @@ fn take_next(cols: usize, rows: &mut [BitVec], settled: usize, places: &[usize])
     requires within { settled + length places.now < length rows.old }
     requires places { All (λ p. p < cols) places.now }
     requires few { length places.now ≤ 32 }
-    ensures pivot { IfSome result (λ col. IsPivotTaken cols settled places.now col (settled + length places.now) rows.old rows.new) }
+    ensures pivot { IfSome result
+        (λ col. IsPivotTaken cols settled places.now col (settled + length places.now) rows.old rows.new) }
     ensures first { IfSome result (λ col. IsFirstOne (row rows.new (settled + length places.now)) col) }
     ensures within { IfSome result (λ col. col < cols) }
     ensures zero { IfNone result (IsNextCleared cols settled places.now rows.old rows.new) }
@@ -149,9 +151,11 @@ fn clear_others(
     requires places { All (λ p. p < cols) places.now }
     requires few { length places.now ≤ 4 * bits }
     requires most { bits ≤ 8 }
-    requires tables { AreRooms cols bits tables.old.first.items tables.old.second.items tables.old.third.items tables.old.fourth.items }
+    requires tables { AreRooms cols bits tables.old.first.items tables.old.second.items tables.old.third.items
+        tables.old.fourth.items }
     ensures rows { IsClearedByBlock cols settled places.now rows.old rows.new }
-    ensures tables { AreRooms cols bits tables.new.first.items tables.new.second.items tables.new.third.items tables.new.fourth.items }
+    ensures tables { AreRooms cols bits tables.new.first.items tables.new.second.items tables.new.third.items
+        tables.new.fourth.items }
 {
     let (above, rest) = rows.split_at_mut(settled);
     let (block, below) = rest.split_at_mut(places.len());
@@ -189,12 +193,15 @@ fn quarters_of(places: &[usize], bits: usize) -> Quarters<'_>
 
 /// Makes the tables those of the sums of the four quarters of the block.
 fn fill_tables(cols: usize, bits: usize, tables: &mut Tables, block: &[BitVec])
-    requires rooms { AreRooms cols bits tables.old.first.items tables.old.second.items tables.old.third.items tables.old.fourth.items }
+    requires rooms { AreRooms cols bits tables.old.first.items tables.old.second.items tables.old.third.items
+        tables.old.fourth.items }
     requires block { HaveWidth cols block.now }
     requires few { length block.now ≤ 4 * bits }
     requires most { bits ≤ 8 }
-    ensures rooms { AreRooms cols bits tables.new.first.items tables.new.second.items tables.new.third.items tables.new.fourth.items }
-    ensures sums { HoldSumsOfParts cols bits block.now tables.new.first.items tables.new.second.items tables.new.third.items tables.new.fourth.items }
+    ensures rooms { AreRooms cols bits tables.new.first.items tables.new.second.items tables.new.third.items
+        tables.new.fourth.items }
+    ensures sums { HoldSumsOfParts cols bits block.now tables.new.first.items tables.new.second.items
+        tables.new.third.items tables.new.fourth.items }
 {
     let (first, rest) = split_up_to(block, bits);
     let (second, rest) = split_up_to(rest, bits);
@@ -208,10 +215,15 @@ fn fill_tables(cols: usize, bits: usize, tables: &mut Tables, block: &[BitVec])
 /// Clears each of the rows by the sums of the tables.
 fn clear_rows(cols: usize, bits: usize, rows: &mut [BitVec], quarters: &Quarters, tables: &Tables)
     requires rows { HaveWidth cols rows.old }
-    requires quarters { AreQuarters cols bits quarters.now.first.now quarters.now.second.now quarters.now.third.now quarters.now.fourth.now }
+    requires quarters { AreQuarters cols bits quarters.now.first.now quarters.now.second.now quarters.now.third.now
+        quarters.now.fourth.now }
     requires most { bits ≤ 8 }
-    requires tables { AreRooms cols bits tables.now.first.items tables.now.second.items tables.now.third.items tables.now.fourth.items }
-    ensures { rows.new ≡ map (with_sums quarters.now.first.now quarters.now.second.now quarters.now.third.now quarters.now.fourth.now tables.now.first.items tables.now.second.items tables.now.third.items tables.now.fourth.items) rows.old }
+    requires tables { AreRooms cols bits tables.now.first.items tables.now.second.items tables.now.third.items
+        tables.now.fourth.items }
+    ensures { rows.new ≡ map
+        (with_sums quarters.now.first.now quarters.now.second.now quarters.now.third.now quarters.now.fourth.now
+        tables.now.first.items tables.now.second.items tables.now.third.items tables.now.fourth.items)
+        rows.old }
 {
     for row in rows.iter_mut() {
         clear_row(cols, bits, row, quarters, tables);
@@ -221,10 +233,14 @@ fn clear_rows(cols: usize, bits: usize, rows: &mut [BitVec], quarters: &Quarters
 /// Clears the row by one sum of each table.
 fn clear_row(cols: usize, bits: usize, row: &mut BitVec, quarters: &Quarters, tables: &Tables)
     requires row { length row.old ≡ cols }
-    requires quarters { AreQuarters cols bits quarters.now.first.now quarters.now.second.now quarters.now.third.now quarters.now.fourth.now }
+    requires quarters { AreQuarters cols bits quarters.now.first.now quarters.now.second.now quarters.now.third.now
+        quarters.now.fourth.now }
     requires most { bits ≤ 8 }
-    requires tables { AreRooms cols bits tables.now.first.items tables.now.second.items tables.now.third.items tables.now.fourth.items }
-    ensures { row.new ≡ with_sums quarters.now.first.now quarters.now.second.now quarters.now.third.now quarters.now.fourth.now tables.now.first.items tables.now.second.items tables.now.third.items tables.now.fourth.items row.old }
+    requires tables { AreRooms cols bits tables.now.first.items tables.now.second.items tables.now.third.items
+        tables.now.fourth.items }
+    ensures { row.new
+        ≡ with_sums quarters.now.first.now quarters.now.second.now quarters.now.third.now quarters.now.fourth.now
+        tables.now.first.items tables.now.second.items tables.now.third.items tables.now.fourth.items row.old }
 {
     let first = index_at(cols, row, quarters.first);
     let second = index_at(cols, row, quarters.second);

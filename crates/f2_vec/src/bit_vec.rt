@@ -151,7 +151,8 @@ impl BitVec {
     pub fn set_word(&mut self, i: usize, word: u64)
         requires { 64 * i < length self.old }
         ensures length { length self.new ≡ length self.old }
-        ensures inside { (b : ℕ) → b < 64 → 64 * i + b < length self.old → bit self.new (64 * i + b) ≡ (bit_at word b == 1) }
+        ensures inside { (b : ℕ) → b < 64 → 64 * i + b < length self.old →
+            bit self.new (64 * i + b) ≡ (bit_at word b == 1) }
         ensures others { (k : ℕ) → k / 64 ≢ i → bit self.new k ≡ bit self.old k }
     {
         let len = self.len;
@@ -261,7 +262,8 @@ impl BitVec {
     /// # Errors
     /// `Memory` if allocation fails.
     pub fn ones(&self, alloc: Global) -> Result<Vec<usize>, Memory>
-        ensures places { IfOk result (λ ones. ones.items ≡ items_where_true self.now (range_with_len 0 (length self.now))) }
+        ensures places { IfOk result
+            (λ ones. ones.items ≡ items_where_true self.now (range_with_len 0 (length self.now))) }
         ensures within { IfOk result (λ ones. EachIndex ones.items (λ k. slice_index ones.items k < length self.now)) }
     {
         let mut ones = Vec::new(alloc);
@@ -324,9 +326,12 @@ impl BitVec {
     pub fn from_bytes(alloc: Global, n: usize, bytes: &[u8]) -> Result<Self, BitsFault>
         ensures len { IfOk result (λ v. length v ≡ n) }
         ensures bytes { IfOk result (λ v. packed v ≡ bytes.now) }
-        ensures back { (v : List Bool) → length v ≡ n → packed v ≡ bytes.now → MatchResult result (λ w. w ≡ v) (λ e. e ≡ BitsFault.Memory) }
-        ensures wrong_length { (want given : ℕ) → (result ≡ Err (Length want given)) ↔ ((want ≡ div_ceil n 8) × (given ≡ length bytes.now) × (given ≢ want)) }
-        ensures spare_bits { (result ≡ Err SpareBits) ↔ ((length bytes.now ≡ div_ceil n 8) × (ArePacked n bytes.now → ⊥)) }
+        ensures back { (v : List Bool) → length v ≡ n → packed v ≡ bytes.now →
+            MatchResult result (λ w. w ≡ v) (λ e. e ≡ BitsFault.Memory) }
+        ensures wrong_length { (want given : ℕ) →
+            (result ≡ Err (Length want given)) ↔ ((want ≡ div_ceil n 8) × (given ≡ length bytes.now) × (given ≢ want)) }
+        ensures spare_bits { (result ≡ Err SpareBits)
+            ↔ ((length bytes.now ≡ div_ceil n 8) × (ArePacked n bytes.now → ⊥)) }
     {
         let want = n.div_ceil(8);
         if bytes.len() != want {

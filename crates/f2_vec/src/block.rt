@@ -6,7 +6,8 @@ ghost use Rattle.f2_vec.specs.Inside.Blocks.{with_digit, IsHalfMask, AreExchange
 /// The block whose bit c of word r is bit r of word c. The six binary digits of the places of rows and columns are exchanged
 /// one after the other, for all words at once (after Warren, Hacker's Delight, 7-3).
 pub fn transposed_block(block: &[u64; 64]) -> [u64; 64]
-    ensures { (r c : ℕ) → r < 64 → c < 64 → bit_at (slice_index_or result r 0) c ≡ bit_at (slice_index_or block.now c 0) r }
+    ensures { (r c : ℕ) → r < 64 → c < 64 →
+        bit_at (slice_index_or result r 0) c ≡ bit_at (slice_index_or block.now c 0) r }
 {
     let halves = exchanged(block, 5, 0x0000_0000_ffff_ffff);
     let quarters = exchanged(&halves, 4, 0x0000_ffff_0000_ffff);
@@ -37,7 +38,8 @@ fn word_of_zeros(block: &[u64; 64], k: usize, s: usize, mask: u64) -> u64
     requires row { k < 32 }
     requires digit { s < 6 }
     requires mask { IsHalfMask s mask }
-    ensures { (c : ℕ) → c < 64 → bit_at result c ≡ bit_at (slice_index_or block.now (k + bit_at c s * 32) 0) (with_digit s c 0) }
+    ensures { (c : ℕ) → c < 64 →
+        bit_at result c ≡ bit_at (slice_index_or block.now (k + bit_at c s * 32) 0) (with_digit s c 0) }
 {
     let apart: usize = 1 << s;
     (block[k] & mask) | ((block[k + 32] & mask) << apart)
@@ -48,7 +50,8 @@ fn word_of_ones(block: &[u64; 64], k: usize, s: usize, mask: u64) -> u64
     requires row { k < 32 }
     requires digit { s < 6 }
     requires mask { IsHalfMask s mask }
-    ensures { (c : ℕ) → c < 64 → bit_at result c ≡ bit_at (slice_index_or block.now (k + bit_at c s * 32) 0) (with_digit s c 1) }
+    ensures { (c : ℕ) → c < 64 →
+        bit_at result c ≡ bit_at (slice_index_or block.now (k + bit_at c s * 32) 0) (with_digit s c 1) }
 {
     let apart: usize = 1 << s;
     ((block[k] >> apart) & mask) | (block[k + 32] & !mask)

@@ -10,7 +10,8 @@ use std::simd::prelude::*;
 pub fn xor_words(words: &mut [u64], other: &[u64])
     requires { length words.old ≡ length other.now }
     ensures length { length words.new ≡ length words.old }
-    ensures words { (k : ℕ) → slice_index_or words.new k 0 ≡ bit_xor (slice_index_or words.old k 0) (slice_index_or other.now k 0) }
+    ensures words { (k : ℕ) →
+        slice_index_or words.new k 0 ≡ bit_xor (slice_index_or words.old k 0) (slice_index_or other.now k 0) }
 {
     let mut i = 0;
     while words.len() - i >= 4 {
@@ -30,7 +31,10 @@ pub fn xor_four_words(words: &mut [u64], a: &[u64], b: &[u64], c: &[u64], d: &[u
     requires third { length c.now ≡ length words.old }
     requires fourth { length d.now ≡ length words.old }
     ensures length { length words.new ≡ length words.old }
-    ensures words { (k : ℕ) → slice_index_or words.new k 0 ≡ bit_xor (slice_index_or words.old k 0) (bit_xor (bit_xor (bit_xor (slice_index_or a.now k 0) (slice_index_or b.now k 0)) (slice_index_or c.now k 0)) (slice_index_or d.now k 0)) }
+    ensures words { (k : ℕ) →
+        slice_index_or words.new k 0 ≡ bit_xor (slice_index_or words.old k 0) (bit_xor
+        (bit_xor (bit_xor (slice_index_or a.now k 0) (slice_index_or b.now k 0)) (slice_index_or c.now k 0))
+        (slice_index_or d.now k 0)) }
 {
     for k in 0..words.len() {
         words[k] ^= a[k] ^ b[k] ^ c[k] ^ d[k];
@@ -42,7 +46,8 @@ pub fn sum_words(words: &mut [u64], a: &[u64], b: &[u64])
     requires left { length a.now ≡ length words.old }
     requires right { length b.now ≡ length words.old }
     ensures length { length words.new ≡ length words.old }
-    ensures words { (k : ℕ) → slice_index_or words.new k 0 ≡ bit_xor (slice_index_or a.now k 0) (slice_index_or b.now k 0) }
+    ensures words { (k : ℕ) →
+        slice_index_or words.new k 0 ≡ bit_xor (slice_index_or a.now k 0) (slice_index_or b.now k 0) }
 {
     for k in 0..words.len() {
         words[k] = a[k] ^ b[k];
@@ -52,7 +57,8 @@ pub fn sum_words(words: &mut [u64], a: &[u64], b: &[u64])
 /// Adds the words of `other`, moved up by `shift` bits. Bits moved past the end are left out.
 pub fn xor_moved(words: &mut [u64], shift: usize, other: &[u64])
     ensures length { length words.new ≡ length words.old }
-    ensures bits { (k : ℕ) → k < 64 * length words.old → unit_bit 64 words.new k ≡ plus (unit_bit 64 words.old k) (moved_bit shift other.now k) }
+    ensures bits { (k : ℕ) → k < 64 * length words.old →
+        unit_bit 64 words.new k ≡ plus (unit_bit 64 words.old k) (moved_bit shift other.now k) }
 {
     let whole = shift / 64;
     for i in whole..words.len() {
@@ -109,7 +115,8 @@ pub fn word_without(words: &[u64], at: usize, from: usize) -> u64
     requires within { at < length words.now }
     requires reached { from / 64 ≤ at }
     ensures before { (b : ℕ) → b < 64 → 64 * at + b < from → bit_at result b ≡ 0 }
-    ensures others { (b : ℕ) → b < 64 → from ≤ 64 * at + b → (bit_at result b == 1) ≡ unit_bit 64 words.now (64 * at + b) }
+    ensures others { (b : ℕ) → b < 64 → from ≤ 64 * at + b →
+        (bit_at result b == 1) ≡ unit_bit 64 words.now (64 * at + b) }
 {
     let word = words[at];
     if at == from / 64 {

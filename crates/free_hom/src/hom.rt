@@ -47,7 +47,8 @@ impl<'a, T: Target> Hom<'a, T> {
         requires source { IsWithinReach self.now.basis.now self.now.source.now t }
         requires target { T.reaches self.now.target.now self.now.basis.now t }
         ensures cols { IfOk result (λ m. m.cols ≡ (T.graded self.now.target.now).width t) }
-        ensures rows { IfOk result (λ m. m.rows ≡ map_rows (T.graded self.now.target.now) self.now.source.now self.now.images.now t) }
+        ensures rows { IfOk result
+            (λ m. m.rows ≡ map_rows (T.graded self.now.target.now) self.now.source.now self.now.images.now t) }
     {
         let Ok(cols) = usize::try_from(self.target.dim(self.basis, t)) else {
             return Err(Memory);
@@ -68,7 +69,8 @@ impl<'a, T: Target> Hom<'a, T> {
         requires width { length v.now ≡ free_width self.now.source.now t }
         requires source { IsWithinReach self.now.basis.now self.now.source.now t }
         requires target { T.reaches self.now.target.now self.now.basis.now t }
-        ensures { IfOk result (λ w. w ≡ mapped (T.graded self.now.target.now) self.now.source.now self.now.images.now t v.now) }
+        ensures { IfOk result
+            (λ w. w ≡ mapped (T.graded self.now.target.now) self.now.source.now self.now.images.now t v.now) }
     {
         let Ok(width) = usize::try_from(self.target.dim(self.basis, t)) else {
             return Err(Memory);
@@ -89,7 +91,8 @@ impl<'a, T: Target> Hom<'a, T> {
         requires within { i < free_width self.now.source.now t }
         requires source { IsWithinReach self.now.basis.now self.now.source.now t }
         requires target { T.reaches self.now.target.now self.now.basis.now t }
-        ensures { IfOk result (λ w. w ≡ row (map_rows (T.graded self.now.target.now) self.now.source.now self.now.images.now t) i) }
+        ensures { IfOk result
+            (λ w. w ≡ row (map_rows (T.graded self.now.target.now) self.now.source.now self.now.images.now t) i) }
     {
         let (generator, r) = self.source.at(self.basis, t, i);
         let degree = self.source.degrees()[generator];
@@ -110,7 +113,8 @@ impl<'a, T: Target> Hom<'a, T> {
         requires within { above ≤ℤ pos self.now.basis.now }
         requires width { length image.now ≡ (T.graded self.now.target.now).width degree }
         requires reach { T.reaches self.now.target.now self.now.basis.now (degree +ℤ above) }
-        ensures { IfOk result (λ v. v.items ≡ rows.items ++ map (λ r. (T.graded self.now.target.now).action r degree image.now) (basis_at above)) }
+        ensures { IfOk result (λ v. v.items
+            ≡ rows.items ++ map (λ r. (T.graded self.now.target.now).action r degree image.now) (basis_at above)) }
     {
         // A degree of the basis fits `u16`, so `above` does where it is not negative.
         prove!(above <= i64::from(self.basis.max()));

@@ -22,16 +22,20 @@ HasUnit m = (t : ℤ) (v : List Bool) → length v ≡ m.width t → m.action []
 
 -- Sq(R) takes a vector of degree t to one of degree t and R's
 abbrev pub KeepsWidths : GradedModule → Type 0
-KeepsWidths m = (r : List ℕ) (t : ℤ) (v : List Bool) → length v ≡ m.width t → length (m.action r t v) ≡ m.width (t +ℤ pos (degree_of r))
+KeepsWidths m = (r : List ℕ) (t : ℤ) (v : List Bool) → length v ≡ m.width t →
+    length (m.action r t v) ≡ m.width (t +ℤ pos (degree_of r))
 
 -- Sq(R) on a sum of vectors is the sum of Sq(R) on them
 abbrev pub IsLinear : GradedModule → Type 0
-IsLinear m = (r : List ℕ) (t : ℤ) (c : List Bool) (rows : List (List Bool)) → HaveWidth (m.width t) rows → m.action r t (combination (m.width t) c rows) ≡ combination (m.width (t +ℤ pos (degree_of r))) c (map (m.action r t) rows)
+IsLinear m = (r : List ℕ) (t : ℤ) (c : List Bool) (rows : List (List Bool)) → HaveWidth (m.width t) rows →
+    m.action r t (combination (m.width t) c rows)
+    ≡ combination (m.width (t +ℤ pos (degree_of r))) c (map (m.action r t) rows)
 
 -- Sq(R) on Sq(S) is their product: the sum of Sq(Q) over the elements Sq(Q) that Sq(R) Sq(S) has
 abbrev pub ActsByProducts : GradedModule → Type 0
 ActsByProducts m = (r s : List ℕ) (t : ℤ) (v : List Bool) → IsTrimmed r → IsTrimmed s → length v ≡ m.width t →
-    m.action r (t +ℤ pos (degree_of s)) (m.action s t v) ≡ combination (m.width (t +ℤ pos (degree_of r + degree_of s))) (product_bits r s) (map (λ q. m.action q t v) (basis_of (degree_of r + degree_of s)))
+    m.action r (t +ℤ pos (degree_of s)) (m.action s t v) ≡ combination (m.width (t +ℤ pos (degree_of r + degree_of s)))
+    (product_bits r s) (map (λ q. m.action q t v) (basis_of (degree_of r + degree_of s)))
 
 -- a graded module over the Steenrod algebra
 pub record IsSteenrodModule (m : GradedModule) : Type 0 where

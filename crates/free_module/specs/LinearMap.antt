@@ -24,6 +24,8 @@ mapped target degrees images t v = combination (target.width t) v (map_rows targ
 
 -- A linear map to a module over the Steenrod algebra commutes with each Sq(R): Sq(R) on the image is the image of Sq(R).
 abbrev pub MapsCommute : Type 0
-MapsCommute = (target : GradedModule) (degrees : List ℤ) (images : List (List Bool)) → IsSteenrodModule target → AreImages target degrees images →
+MapsCommute = (target : GradedModule) (degrees : List ℤ) (images : List (List Bool)) → IsSteenrodModule target →
+    AreImages target degrees images →
     (r : List ℕ) (t : ℤ) (v : List Bool) → IsTrimmed r → length v ≡ free_width degrees t →
-    target.action r t (mapped target degrees images t v) ≡ mapped target degrees images (t +ℤ pos (degree_of r)) (free_action degrees r t v)
+    target.action r t (mapped target degrees images t v)
+    ≡ mapped target degrees images (t +ℤ pos (degree_of r)) (free_action degrees r t v)

@@ -31,7 +31,8 @@ pub(crate) fn with_block(
     offset: usize,
 ) -> Result<Vec<Term>, Memory>
     requires { start + length elements.now ≤ length v.now }
-    ensures { IfOk result (λ all. all.items ≡ terms.items ++ map (term_at offset) (items_where_true (drop start v.now) elements.now)) }
+    ensures { IfOk result
+        (λ all. all.items ≡ terms.items ++ map (term_at offset) (items_where_true (drop start v.now) elements.now)) }
 {
     // A length fits `usize`, so the end of the block does.
     prove!(start <= v.len());
@@ -60,8 +61,11 @@ fn one_between(v: &BitVec, from: usize, end: usize) -> Option<usize>
 /// Adds to each row the product with the element at its place, moved up to place `offset`.
 pub(crate) fn add_products(rows: &mut [BitVec], offset: usize, multiples: &Multiples)
     requires count { length rows.old ≡ length (basis_of multiples.now.degree) }
-    requires room { EachIndex rows.old (λ k. offset + length (basis_of (multiples.now.degree + degree_of multiples.now.right)) ≤ length (row rows.old k)) }
-    ensures { EachIndex rows.old (λ k. row rows.new k ≡ sum_of (row rows.old k) (placed (length (row rows.old k)) offset (product_bits (slice_index_or (basis_of multiples.now.degree) k []) multiples.now.right))) }
+    requires room { EachIndex rows.old
+        (λ k. offset + length (basis_of (multiples.now.degree + degree_of multiples.now.right))
+        ≤ length (row rows.old k)) }
+    ensures { EachIndex rows.old (λ k. row rows.new k ≡ sum_of (row rows.old k) (placed (length (row rows.old k)) offset
+        (product_bits (slice_index_or (basis_of multiples.now.degree) k []) multiples.now.right))) }
 {
     for pair in multiples.pairs() {
         let row = &mut rows[usize::from(pair.0)];

@@ -19,7 +19,8 @@ put i j v x = λ a b. if nat_eq a i && nat_eq b j then v else x a b
 
 -- the places of rows 0 to m and columns 0 to n, all but (0, 0)
 abbrev pub places : ℕ → ℕ → List (ℕ × ℕ)
-places m n = map (λ j. (0, j)) (range_with_len 1 n) ++ flat_map (λ i. map (λ j. (i, j)) (range_with_len 0 (n + 1))) (range_with_len 1 m)
+places m n = map (λ j. (0, j)) (range_with_len 1 n)
+    ++ flat_map (λ i. map (λ j. (i, j)) (range_with_len 0 (n + 1))) (range_with_len 1 m)
 
 -- the matrices with numbers below bound at these places, and zeros elsewhere
 abbrev pub matrices : List (ℕ × ℕ) → ℕ → List Matrix
@@ -72,7 +73,8 @@ counts r s x = has_rows r s x && has_columns r s x && is_odd (matrix_coefficient
 -- The exponent lists of those matrices, one for each. A matrix with these sums has x_ij ≤ r_i for i ≥ 1 and x_0j ≤ s_j,
 -- and zeros past row m and column n, so that none is left out.
 abbrev pub product_diagonals : List ℕ → List ℕ → List (List ℕ)
-product_diagonals r s = map (diagonal_sums (length r + length s)) (filter (counts r s) (matrices (places (length r) (length s)) (suc (sum r + sum s))))
+product_diagonals r s = map (diagonal_sums (length r + length s))
+    (filter (counts r s) (matrices (places (length r) (length s)) (suc (sum r + sum s))))
 
 -- the coefficient, mod 2, of Sq(T) in the product of Sq(R) and Sq(S)
 abbrev pub coefficient : List ℕ → List ℕ → List ℕ → Bool
@@ -100,7 +102,8 @@ AreWithin n m pairs = All (λ x. (x.0 < length (basis_of n)) × (x.1 < length (b
 pub record ArePairs (degree : ℕ) (s : List ℕ) (pairs : List (ℕ × ℕ)) : Type 0 where
   pub within : AreWithin degree (degree + degree_of s) pairs
   pub odd : (p k : ℕ) → p < length (basis_of degree) → k < length (basis_of (degree + degree_of s))
-      → is_odd_at pairs p k ≡ coefficient (slice_index_or (basis_of degree) p []) s (slice_index_or (basis_of (degree + degree_of s)) k [])
+      → is_odd_at pairs p k ≡ coefficient (slice_index_or (basis_of degree) p []) s
+      (slice_index_or (basis_of (degree + degree_of s)) k [])
 
 -- the factors of products that are kept together: each element of a degree from the left, one element from the right
 pub record Factors : Type 0 where
@@ -109,4 +112,5 @@ pub record Factors : Type 0 where
 
 -- a product's terms are of the degree of the product
 abbrev pub ProductIsHomogeneous : Type 0
-ProductIsHomogeneous = (r s t : List ℕ) → coefficient r s t ≡ true → IsTrimmed t × (degree_of t ≡ degree_of r + degree_of s)
+ProductIsHomogeneous = (r s t : List ℕ) → coefficient r s t ≡ true →
+    IsTrimmed t × (degree_of t ≡ degree_of r + degree_of s)

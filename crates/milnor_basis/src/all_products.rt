@@ -70,7 +70,8 @@ impl Open {
         ensures room { result.room ≡ self.room - number * 2 ^ column * (2 ^ row - 1) }
         ensures rows { result.rows ≡ added row (number * 2 ^ column) self.rows }
         ensures columns { result.columns ≡ taken column number self.columns }
-        ensures diagonals { result.diagonals ≡ slice_set self.diagonals (row + column - 1) (bit_or (slice_index self.diagonals (row + column - 1)) number) }
+        ensures diagonals { result.diagonals ≡ slice_set self.diagonals (row + column - 1)
+            (bit_or (slice_index self.diagonals (row + column - 1)) number) }
     {
         let weighed = number << column;
         self.rows[row - 1] += weighed;
@@ -119,10 +120,15 @@ fn fill_first(
     requires many { length (basis_of first.now.degrees.1) ≤ 2 ^ 16 }
     requires small { term.degree ≤ 255 }
     requires reach { term.degree ≤ counts.now }
-    requires weight { term.degree ≡ degree_of (take (column + 1) first.now.diagonals) + (above * (2 ^ (column + 1) - 1) + (degree_of (take column first.now.columns) + room)) }
+    requires weight { term.degree ≡ degree_of (take (column + 1) first.now.diagonals)
+        + (above * (2 ^ (column + 1) - 1) + (degree_of (take column first.now.columns) + room)) }
     requires place { term.place + length (lists_of (column + 1) term.degree) ≤ length (basis_of first.now.degrees.1) }
     requires within { AreWithin first.now.degrees.0 first.now.degrees.1 pairs.old.items }
-    ensures turned { OnOk result ((rows columns diagonals : List ℕ) → IsInFirstRow first.now.degrees.0 first.now.degrees.1 first.now.width column room above term.degree term.place first.now.left first.now.columns first.now.diagonals rows columns diagonals → TurnsOverAll first.now.degrees.0 first.now.degrees.1 first.now.width 1 column room rows columns diagonals pairs.old.items pairs.new.items) }
+    ensures turned { OnOk result ((rows columns diagonals : List ℕ) →
+        IsInFirstRow first.now.degrees.0 first.now.degrees.1 first.now.width column room above term.degree term.place
+        first.now.left first.now.columns first.now.diagonals rows columns diagonals →
+        TurnsOverAll first.now.degrees.0 first.now.degrees.1 first.now.width 1 column room rows columns diagonals
+        pairs.old.items pairs.new.items) }
     ensures within { OnOk result (AreWithin first.now.degrees.0 first.now.degrees.1 pairs.new.items) }
 {
     let sum = first.diagonals[column];
@@ -175,10 +181,12 @@ fn fill_last(
     requires few { length (basis_of degrees.0) ≤ 2 ^ 16 }
     requires many { length (basis_of degrees.1) ≤ 2 ^ 16 }
     requires room { open.now.room + degree_of open.now.rows ≡ degrees.0 }
-    requires weight { degree_of open.now.diagonals + (degree_of (take width open.now.columns) + open.now.room) ≡ degrees.1 }
+    requires weight { degree_of open.now.diagonals + (degree_of (take width open.now.columns) + open.now.room)
+        ≡ degrees.1 }
     requires width { width ≤ 8 }
     requires within { AreWithin degrees.0 degrees.1 pairs.old.items }
-    ensures turned { OnOk result (TurnsOverAll degrees.0 degrees.1 width 1 width open.now.room open.now.rows open.now.columns open.now.diagonals pairs.old.items pairs.new.items) }
+    ensures turned { OnOk result (TurnsOverAll degrees.0 degrees.1 width 1 width open.now.room open.now.rows
+        open.now.columns open.now.diagonals pairs.old.items pairs.new.items) }
     ensures within { OnOk result (AreWithin degrees.0 degrees.1 pairs.new.items) }
 {
     let mut rows = open.rows;
@@ -225,14 +233,16 @@ fn fill_all(
     requires few { length (basis_of degrees.0) ≤ 2 ^ 16 }
     requires many { length (basis_of degrees.1) ≤ 2 ^ 16 }
     requires room { open.now.room + degree_of open.now.rows ≡ degrees.0 }
-    requires weight { degree_of open.now.diagonals + (degree_of (take width open.now.columns) + open.now.room) ≡ degrees.1 }
+    requires weight { degree_of open.now.diagonals + (degree_of (take width open.now.columns) + open.now.room)
+        ≡ degrees.1 }
     requires some { 0 < row }
     requires row { row ≤ 8 }
     requires width { width ≤ 8 }
     requires column { column ≤ width }
     requires first { row ≡ 1 → column ≡ width }
     requires within { AreWithin degrees.0 degrees.1 pairs.old.items }
-    ensures turned { OnOk result (TurnsOverAll degrees.0 degrees.1 width row column open.now.room open.now.rows open.now.columns open.now.diagonals pairs.old.items pairs.new.items) }
+    ensures turned { OnOk result (TurnsOverAll degrees.0 degrees.1 width row column open.now.room open.now.rows
+        open.now.columns open.now.diagonals pairs.old.items pairs.new.items) }
     ensures within { OnOk result (AreWithin degrees.0 degrees.1 pairs.new.items) }
 {
     if row == 1 {

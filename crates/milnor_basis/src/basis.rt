@@ -42,7 +42,8 @@ impl Level {
     fn with_lists(self, k: usize, n: u16, numbers: [u16; 8]) -> Result<Level, Memory>
         requires first { 0 < k }
         requires last { k ≤ 8 }
-        ensures { IfOk result (λ level. level ≡ self ++ map (λ front. trimmed (front ++ drop k numbers)) (lists_of k n)) }
+        ensures { IfOk result
+            (λ level. level ≡ self ++ map (λ front. trimmed (front ++ drop k numbers)) (lists_of k n)) }
     {
         if k == 1 {
             return self.with_element(n, numbers);
@@ -87,7 +88,8 @@ impl Model for Basis {
 
     ghost view = { λ b. b.max };
 
-    ghost invariant = { λ b. (b.max ≤ 255) × (b.levels.items ≡ map basis_of (range_with_len 0 (b.max + 1))) × (b.counts ≡ b.max) × (b.kept ≡ b.max + 1) };
+    ghost invariant = { λ b. (b.max ≤ 255) × (b.levels.items ≡ map basis_of (range_with_len 0 (b.max + 1)))
+        × (b.counts ≡ b.max) × (b.kept ≡ b.max + 1) };
 }
 
 // It is written by hand, since the cells of the products that are kept have no `Debug`.

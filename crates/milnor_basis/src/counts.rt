@@ -71,7 +71,8 @@ impl Counts {
         requires fits { exponent * (2 ^ k - 1) ≤ rest.degree }
         requires room { rest.place + length (lists_of k rest.degree) ≤ 2 ^ 16 }
         ensures degree { result.degree ≡ rest.degree - exponent * (2 ^ k - 1) }
-        ensures place { result.place ≡ rest.place + (length (lists_of k rest.degree) - length (lists_of k result.degree)) }
+        ensures place { result.place
+            ≡ rest.place + (length (lists_of k rest.degree) - length (lists_of k result.degree)) }
     {
         if exponent == 0 {
             return rest;

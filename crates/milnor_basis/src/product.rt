@@ -70,7 +70,8 @@ impl Left {
         requires greatest { number ≤ greatest row column self.rows self.columns }
         ensures rows { result.rows ≡ taken row (number * 2 ^ column) self.rows }
         ensures columns { result.columns ≡ taken column number self.columns }
-        ensures diagonals { result.diagonals ≡ slice_set self.diagonals (row + column - 1) (bit_or (slice_index self.diagonals (row + column - 1)) number) }
+        ensures diagonals { result.diagonals ≡ slice_set self.diagonals (row + column - 1)
+            (bit_or (slice_index self.diagonals (row + column - 1)) number) }
     {
         if row > 0 {
             self.rows[row - 1] = less(self.rows[row - 1], number, column);

@@ -15,14 +15,16 @@ with_element n p v = sum_of v (unit_vector (length v) (n - 1 - p))
 
 -- the words are word i of the 64 columns from place 64 j on
 abbrev pub IsTurnedBlock : ℕ → ℕ → List (List Bool) → List ℕ → Type 0
-IsTurnedBlock i j rows words = (c b : ℕ) → c < 64 → b < 64 → (bit_at (slice_index_or words c 0) b == 1) ≡ bit (row rows (64 * i + b)) (64 * j + c)
+IsTurnedBlock i j rows words = (c b : ℕ) → c < 64 → b < 64 →
+    (bit_at (slice_index_or words c 0) b == 1) ≡ bit (row rows (64 * i + b)) (64 * j + c)
 
 -- the new columns are as long as the old ones; in word i of those from number `from` up to number `to` stand the bits of the rows at
 -- their places, and no other word has changed, nor a column before these
 pub record AreFilledAt (i from to : ℕ) (places : List ℕ) (rows old new : List (List Bool)) : Type 0 where
   pub as_many : length new ≡ length old
   pub lengths : (k : ℕ) → length (row new k) ≡ length (row old k)
-  pub filled : (k t : ℕ) → from ≤ k → k < to → k < length old → t < length rows → t / 64 ≡ i → bit (row new k) t ≡ bit (row rows t) (slice_index_or places k 0)
+  pub filled : (k t : ℕ) → from ≤ k → k < to → k < length old → t < length rows → t / 64 ≡ i →
+      bit (row new k) t ≡ bit (row rows t) (slice_index_or places k 0)
   pub others : (k t : ℕ) → t / 64 ≢ i → bit (row new k) t ≡ bit (row old k) t
   pub kept : (k : ℕ) → k < from → row new k ≡ row old k
 
@@ -30,7 +32,8 @@ pub record AreFilledAt (i from to : ℕ) (places : List ℕ) (rows old new : Lis
 pub record AreFilledTo (n : ℕ) (places : List ℕ) (rows columns : List (List Bool)) : Type 0 where
   pub as_many : length columns ≡ length places
   pub lengths : HaveWidth (length rows) columns
-  pub filled : (k t : ℕ) → k < length places → t < length rows → t < n → bit (row columns k) t ≡ bit (row rows t) (slice_index_or places k 0)
+  pub filled : (k t : ℕ) → k < length places → t < length rows → t < n →
+      bit (row columns k) t ≡ bit (row rows t) (slice_index_or places k 0)
 
 -- as many rows, each as long as it was, and the same outside column `at`
 pub record ChangesOnlyColumn (at : ℕ) (old new : List (List Bool)) : Type 0 where

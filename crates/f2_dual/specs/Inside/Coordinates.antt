@@ -49,7 +49,13 @@ preimages_of r = map (preimage_at r) (range_with_len 0 r.height)
 
 -- what the rows, of length w, with the new ones behind them are reduced to, where r is the reduction of the coordinates
 abbrev pub reduction_over : ℕ → List (List Bool) → Reduction → Reduction
-reduction_over w candidates r = record { cols = w; height = r.cols + length r.kernel; image = candidates; chosen = preimages_of r; kernel = relations_of r }
+reduction_over w candidates r = record {
+  cols = w;
+  height = r.cols + length r.kernel;
+  image = candidates;
+  chosen = preimages_of r;
+  kernel = relations_of r;
+}
 
 -- the new rows are those that are chosen, and that reduction is the one with them behind the rows
 pub record IsChoiceBy (w : ℕ) (rows candidates : List (List Bool)) (r : Reduction) : Type 0 where

@@ -12,4 +12,10 @@ is_right n r = not (has_one (take n r)) && has_one r
 
 -- what is kept of the reduction of D, which has `height` rows, where these are the rows of the form for the image and the kernel
 abbrev pub parts_of : ℕ → ℕ → List (List Bool) → List (List Bool) → Reduction
-parts_of n height image kernel = record { cols = n; height = height; image = map (take n) image; chosen = map (drop n) image; kernel = map (drop n) kernel }
+parts_of n height image kernel = record {
+  cols = n;
+  height = height;
+  image = map (take n) image;
+  chosen = map (drop n) image;
+  kernel = map (drop n) kernel;
+}

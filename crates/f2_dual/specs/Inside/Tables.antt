@@ -41,7 +41,8 @@ row_or_zero w rows (Some t) = row rows t
 
 -- these for each place of a table, the last place first
 abbrev pub spread_by : List (Option ℕ) → ℕ → List (List Bool) → List (List Bool)
-spread_by table w rows = map (λ e. row_or_zero w rows (entry_at table (length table - 1 - e))) (range_with_len 0 (length table))
+spread_by table w rows =
+    map (λ e. row_or_zero w rows (entry_at table (length table - 1 - e))) (range_with_len 0 (length table))
 
 -- rows of length n that are the reduced basis of their span
 pub record IsReducedBasis (n : ℕ) (rows : List (List Bool)) : Type 0 where
@@ -52,4 +53,6 @@ pub record IsReducedBasis (n : ℕ) (rows : List (List Bool)) : Type 0 where
 -- n rows, of which each is the row of `rows` beside the image row of its element, or zero where there is no such image row
 pub record IsSpread (n : ℕ) (image rows spread : List (List Bool)) : Type 0 where
   pub size : length spread ≡ n
-  pub each : (e : ℕ) → e < n → ((t : ℕ) × (t < length image) × (element_of n (row image t) ≡ e) × (row spread e ≡ row rows t)) ⊎ (IsZero (row spread e) × ((t : ℕ) → t < length image → element_of n (row image t) ≢ e))
+  pub each : (e : ℕ) → e < n →
+      ((t : ℕ) × (t < length image) × (element_of n (row image t) ≡ e) × (row spread e ≡ row rows t))
+      ⊎ (IsZero (row spread e) × ((t : ℕ) → t < length image → element_of n (row image t) ≢ e))

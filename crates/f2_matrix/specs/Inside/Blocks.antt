@@ -25,7 +25,8 @@ pub record IsClearedByBlock (n r : ℕ) (ps : List ℕ) (xs ys : List (List Bool
 pub record IsPivotTaken (n r : ℕ) (ps : List ℕ) (col a : ℕ) (xs ys : List (List Bool)) : Type 0 where
   pub as_many : length ys ≡ length xs
   pub pivot : row ys (r + length ps) ≡ cleared_at n ps (block_rows r ps xs) (row xs a)
-  pub block : (i : ℕ) → r ≤ i → i < r + length ps → row ys i ≡ cleared (cleared_at n ps (block_rows r ps xs) (row xs a)) col (row xs i)
+  pub block : (i : ℕ) → r ≤ i → i < r + length ps →
+      row ys i ≡ cleared (cleared_at n ps (block_rows r ps xs) (row xs a)) col (row xs i)
   pub above : (i : ℕ) → i < r → row ys i ≡ row xs i
   pub below : (i : ℕ) → r + length ps < i → row ys i ≡ row (swap xs (r + length ps) a) i
 

@@ -6,12 +6,14 @@ use Rattle.f2_vec.specs.Spans.{row, HaveWidth}
 
 -- the words are those at place j of the 64 rows from row 64 i on
 abbrev pub IsBlockOf : ℕ → ℕ → List (List Bool) → List ℕ → Type 0
-IsBlockOf i j rows words = (r b : ℕ) → r < 64 → b < 64 → (bit_at (slice_index_or words r 0) b == 1) ≡ bit (row rows (64 * i + r)) (64 * j + b)
+IsBlockOf i j rows words = (r b : ℕ) → r < 64 → b < 64 →
+    (bit_at (slice_index_or words r 0) b == 1) ≡ bit (row rows (64 * i + r)) (64 * j + b)
 
 -- the same of the first n words, and the others are 0
 pub record IsBlockUpTo (n i j : ℕ) (rows : List (List Bool)) (words : List ℕ) : Type 0 where
   pub size : length words ≡ 64
-  pub holds : (r b : ℕ) → r < 64 → b < 64 → r < n → (bit_at (slice_index_or words r 0) b == 1) ≡ bit (row rows (64 * i + r)) (64 * j + b)
+  pub holds : (r b : ℕ) → r < 64 → b < 64 → r < n →
+      (bit_at (slice_index_or words r 0) b == 1) ≡ bit (row rows (64 * i + r)) (64 * j + b)
   pub rest : (r : ℕ) → n ≤ r → r < 64 → slice_index_or words r 0 ≡ 0
 
 -- word i of the columns from place `from` on is zero
@@ -23,7 +25,8 @@ IsBlankAt i from columns = (k t : ℕ) → from ≤ k → k < length columns →
 pub record AreFilledAt (i from to : ℕ) (rows old new : List (List Bool)) : Type 0 where
   pub as_many : length new ≡ length old
   pub lengths : (k : ℕ) → length (row new k) ≡ length (row old k)
-  pub filled : (k t : ℕ) → from ≤ k → k < to → k < length old → t < length rows → t / 64 ≡ i → bit (row new k) t ≡ bit (row rows t) k
+  pub filled : (k t : ℕ) → from ≤ k → k < to → k < length old → t < length rows → t / 64 ≡ i →
+      bit (row new k) t ≡ bit (row rows t) k
   pub others : (k t : ℕ) → t / 64 ≢ i → bit (row new k) t ≡ bit (row old k) t
   pub kept : (k : ℕ) → k < from → row new k ≡ row old k
   pub behind : (k : ℕ) → to ≤ k → k < length old → row new k ≡ row old k

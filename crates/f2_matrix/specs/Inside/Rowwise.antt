@@ -51,7 +51,8 @@ sum_at ps table v = row table (mask_l (map (bit v) ps))
 
 -- v with one sum of each of four tables added
 abbrev pub with_sums : (a b c d : List ℕ) → (s t u w : List (List Bool)) → List Bool → List Bool
-with_sums a b c d s t u w v = sum_of (sum_of (sum_of (sum_of v (sum_at a s v)) (sum_at b t v)) (sum_at c u v)) (sum_at d w v)
+with_sums a b c d s t u w v =
+    sum_of (sum_of (sum_of (sum_of v (sum_at a s v)) (sum_at b t v)) (sum_at c u v)) (sum_at d w v)
 
 -- ys is xs with the row behind the block cleared by it, which has left nothing of that row
 pub record IsNextCleared (n r : ℕ) (ps : List ℕ) (xs ys : List (List Bool)) : Type 0 where

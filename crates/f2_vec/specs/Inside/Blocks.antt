@@ -13,4 +13,5 @@ IsHalfMask s mask = (b : ℕ) → b < 64 → bit_at mask b ≡ 1 - bit_at b s
 -- the old block's digit 5 of the places of rows stands in the new one at digit s of the places of columns, whose digit s has become the
 -- lowest of the places of rows, below the other five
 abbrev pub AreExchangedAt : ℕ → List ℕ → List ℕ → Type 0
-AreExchangedAt s old new = (r c : ℕ) → r < 64 → c < 64 → bit_at (slice_index_or new r 0) c ≡ bit_at (slice_index_or old (r / 2 + bit_at c s * 32) 0) (with_digit s c (r % 2))
+AreExchangedAt s old new = (r c : ℕ) → r < 64 → c < 64 →
+    bit_at (slice_index_or new r 0) c ≡ bit_at (slice_index_or old (r / 2 + bit_at c s * 32) 0) (with_digit s c (r % 2))

@@ -41,15 +41,18 @@ nat_eq-other : (g h : ℕ) → g ≢ h → nat_eq g h ≡ false
 nat_eq-other g h l = grind (arith, nat_tests)
 
 -- Sq(R) on (g, S) at the elements of its own generator, and at those of another
-pub own_part : (g : ℕ) (r s : List ℕ) (xs : List (List ℕ)) → map (coefficient_at g r s) (on g xs) ≡ map (coefficient r s) xs
+pub own_part : (g : ℕ) (r s : List ℕ) (xs : List (List ℕ)) →
+    map (coefficient_at g r s) (on g xs) ≡ map (coefficient r s) xs
 own_part g r s [] = refl
 own_part g r s (x ∷ xs) = cc (ap (λ b. b && coefficient r s x) (nat_eq-refl g), own_part g r s xs)
 
-pub other_part : (g h : ℕ) (r s : List ℕ) (xs : List (List ℕ)) → g ≢ h → map (coefficient_at h r s) (on g xs) ≡ zeros (length xs)
+pub other_part : (g h : ℕ) (r s : List ℕ) (xs : List (List ℕ)) → g ≢ h →
+    map (coefficient_at h r s) (on g xs) ≡ zeros (length xs)
 other_part g h r s [] e = refl
 other_part g h r s (x ∷ xs) e = cc (ap (λ b. b && coefficient r s x) (nat_eq-other g h e), other_part g h r s xs e)
 
-pub later_parts : (g : ℕ) (ds : List ℤ) (h : ℕ) (r s : List ℕ) (t : ℤ) → h < g → map (coefficient_at h r s) (free_basis_from g ds t) ≡ zeros (length (free_basis_from g ds t))
+pub later_parts : (g : ℕ) (ds : List ℤ) (h : ℕ) (r s : List ℕ) (t : ℤ) → h < g →
+    map (coefficient_at h r s) (free_basis_from g ds t) ≡ zeros (length (free_basis_from g ds t))
 later_parts g [] h r s t l = refl
 later_parts g (d ∷ ds) h r s t l =
     let b = basis_at (t -ℤ d) in
@@ -60,18 +63,23 @@ later_parts g (d ∷ ds) h r s t l =
     cc (map-append (coefficient_at h r s) (on g b) rest, zeros-append (length b) (length rest))
 
 -- the rows of the elements of g: their own columns, and zeros at the columns of later generators
-own_rows : (g : ℕ) (r : List ℕ) (xs ys : List (List ℕ)) (k : ℕ) (ds : List ℤ) (t : ℤ) → g < k → map (acted_on (on g xs ++ free_basis_from k ds t) r) (on g ys) ≡ map (λ x. x ++ zeros (length (free_basis_from k ds t))) (map (λ s. map (coefficient r s) xs) ys)
+own_rows : (g : ℕ) (r : List ℕ) (xs ys : List (List ℕ)) (k : ℕ) (ds : List ℤ) (t : ℤ) → g < k →
+    map (acted_on (on g xs ++ free_basis_from k ds t) r) (on g ys)
+    ≡ map (λ x. x ++ zeros (length (free_basis_from k ds t))) (map (λ s. map (coefficient r s) xs) ys)
 own_rows g r xs [] k ds t l = refl
 own_rows g r xs (y ∷ ys) k ds t l =
     cc (map-append (coefficient_at g r y) (on g xs) (free_basis_from k ds t), own_part g r y xs, later_parts k ds g r y t l, own_rows g r xs ys k ds t l)
 
 -- the rows of a later generator have zeros at the columns of g
-later_block : (g k : ℕ) (r : List ℕ) (xs ys : List (List ℕ)) (basis : List (ℕ × List ℕ)) → g < k → map (acted_on (on g xs ++ basis) r) (on k ys) ≡ map (λ e. zeros (length xs) ++ acted_on basis r e) (on k ys)
+later_block : (g k : ℕ) (r : List ℕ) (xs ys : List (List ℕ)) (basis : List (ℕ × List ℕ)) → g < k →
+    map (acted_on (on g xs ++ basis) r) (on k ys) ≡ map (λ e. zeros (length xs) ++ acted_on basis r e) (on k ys)
 later_block g k r xs [] basis l = refl
 later_block g k r xs (y ∷ ys) basis l =
     cc (map-append (coefficient_at k r y) (on g xs) basis, other_part g k r y xs (omega arith), later_block g k r xs ys basis l)
 
-later_rows : (g k : ℕ) (r : List ℕ) (xs : List (List ℕ)) (basis : List (ℕ × List ℕ)) (ds : List ℤ) (t : ℤ) → g < k → map (acted_on (on g xs ++ basis) r) (free_basis_from k ds t) ≡ map (λ x. zeros (length xs) ++ x) (map (acted_on basis r) (free_basis_from k ds t))
+later_rows : (g k : ℕ) (r : List ℕ) (xs : List (List ℕ)) (basis : List (ℕ × List ℕ)) (ds : List ℤ) (t : ℤ) → g < k →
+    map (acted_on (on g xs ++ basis) r) (free_basis_from k ds t)
+    ≡ map (λ x. zeros (length xs) ++ x) (map (acted_on basis r) (free_basis_from k ds t))
 later_rows g k r xs basis [] t l = refl
 later_rows g k r xs basis (d ∷ ds) t l =
     let b = on k (basis_at (t -ℤ d)) in
@@ -81,7 +89,11 @@ later_rows g k r xs basis (d ∷ ds) t l =
     let f : map (λ x. zeros (length xs) ++ x) (map (acted_on basis r) b) ≡ map (λ e. zeros (length xs) ++ acted_on basis r e) b = map-map (λ x. zeros (length xs) ++ x) (acted_on basis r) b in
     cc (map-append (acted_on (on g xs ++ basis) r) b rest, map-append (acted_on basis r) b rest, map-append (λ x. zeros (length xs) ++ x) (map (acted_on basis r) b) (map (acted_on basis r) rest))
 
-pub free_action_from : (g : ℕ) (ds : List ℤ) (r : List ℕ) (t : ℤ) (v : List Bool) → length v ≡ length (free_basis_from g ds t) → combination (length (free_basis_from g ds (t +ℤ pos (degree_of r)))) v (map (acted_on (free_basis_from g ds (t +ℤ pos (degree_of r))) r) (free_basis_from g ds t)) ≡ blocks r ds t v
+pub free_action_from : (g : ℕ) (ds : List ℤ) (r : List ℕ) (t : ℤ) (v : List Bool) →
+    length v ≡ length (free_basis_from g ds t) →
+    combination (length (free_basis_from g ds (t +ℤ pos (degree_of r)))) v
+    (map (acted_on (free_basis_from g ds (t +ℤ pos (degree_of r))) r) (free_basis_from g ds t))
+    ≡ blocks r ds t v
 free_action_from g [] r t [] e = refl
 free_action_from g [] r t (x ∷ v) e = cc
 free_action_from g (d ∷ ds) r t v e =
@@ -104,7 +116,8 @@ free_action_from g (d ∷ ds) r t v e =
     let own : combination (length a) c p ≡ times_at r (t -ℤ d) c = cc (ap (λ i. length (basis_at i)) z, products r (t -ℤ d) (above -ℤ d) z) in
     cc (width, rows, take-append-drop (length b) v, two, own, ih)
 
-pub free_action_is_blocks : (ds : List ℤ) (r : List ℕ) (t : ℤ) (v : List Bool) → length v ≡ free_width ds t → free_action ds r t v ≡ blocks r ds t v
+pub free_action_is_blocks : (ds : List ℤ) (r : List ℕ) (t : ℤ) (v : List Bool) → length v ≡ free_width ds t →
+    free_action ds r t v ≡ blocks r ds t v
 free_action_is_blocks ds r t v e = free_action_from 0 ds r t v e
 
 pub free_KeepsWidths : (degrees : List ℤ) → KeepsWidths (free_graded degrees)
@@ -113,13 +126,15 @@ free_KeepsWidths degrees r t v e =
     length-combination (free_width degrees above) v (map (acted degrees r above) (free_basis degrees t)) (HaveWidth-map (free_width degrees above) (acted degrees r above) (free_basis degrees t) (λ x. length-map (free_basis degrees above) (coefficient_at x.0 r x.1)))
 
 -- how many coordinates each block takes
-pub length-free_basis_from : (g : ℕ) (d : ℤ) (ds : List ℤ) (t : ℤ) → length (free_basis_from g (d ∷ ds) t) ≡ length (basis_at (t -ℤ d)) + length (free_basis_from (suc g) ds t)
+pub length-free_basis_from : (g : ℕ) (d : ℤ) (ds : List ℤ) (t : ℤ) →
+    length (free_basis_from g (d ∷ ds) t) ≡ length (basis_at (t -ℤ d)) + length (free_basis_from (suc g) ds t)
 length-free_basis_from g d ds t =
     let b = basis_at (t -ℤ d) in
     let rest = free_basis_from (suc g) ds t in
     length-append (on g b) rest ∙ ap (λ n. n + length rest) (length-map b (λ x. (g, x)))
 
-blocks-unit : (g : ℕ) (ds : List ℤ) (t : ℤ) (v : List Bool) → length v ≡ length (free_basis_from g ds t) → blocks [] ds t v ≡ v
+blocks-unit : (g : ℕ) (ds : List ℤ) (t : ℤ) (v : List Bool) → length v ≡ length (free_basis_from g ds t) →
+    blocks [] ds t v ≡ v
 blocks-unit g [] t [] e = refl
 blocks-unit g [] t (x ∷ v) e = cc
 blocks-unit g (d ∷ ds) t v e =

@@ -18,7 +18,8 @@ added_to v r (x ∷ xs) = added_to (sum_of v (placed (length v) x.offset (produc
 
 -- Sq(R) on the first i coordinates of a vector of degree t
 abbrev pub acted_through : List ℤ → List ℕ → ℤ → List Bool → ℕ → List Bool
-acted_through degrees r t v i = combination (free_width degrees (t +ℤ pos (degree_of r))) (take i v) (take i (map (acted degrees r (t +ℤ pos (degree_of r))) (free_basis degrees t)))
+acted_through degrees r t v i = combination (free_width degrees (t +ℤ pos (degree_of r))) (take i v)
+    (take i (map (acted degrees r (t +ℤ pos (degree_of r))) (free_basis degrees t)))
 
 -- the bases through max reach the product of a term and elements of degree a, and it has room among `width` coordinates
 pub record HasRoom (max width a : ℕ) (x : Term) : Type 0 where
@@ -26,6 +27,8 @@ pub record HasRoom (max width a : ℕ) (x : Term) : Type 0 where
   pub within : x.offset + length (basis_of (a + degree_of x.right)) ≤ width
 
 -- they are the terms of the first i coordinates of v, for the products with elements of degree a
-pub record AreTerms (max : ℕ) (degrees : List ℤ) (a : ℕ) (t : ℤ) (v : List Bool) (i : ℕ) (terms : List Term) : Type 0 where
-  pub sum : (r : List ℕ) → degree_of r ≡ a → added_to (zeros (free_width degrees (t +ℤ pos a))) r terms ≡ acted_through degrees r t v i
+pub record AreTerms (max : ℕ) (degrees : List ℤ) (a : ℕ) (t : ℤ) (v : List Bool) (i : ℕ) (terms : List Term)
+    : Type 0 where
+  pub sum : (r : List ℕ) → degree_of r ≡ a →
+      added_to (zeros (free_width degrees (t +ℤ pos a))) r terms ≡ acted_through degrees r t v i
   pub room : All (HasRoom max (free_width degrees (t +ℤ pos a)) a) terms

@@ -12,7 +12,8 @@ use Rattle.milnor_basis.specs.Inside.Walk.{fillings, places_to, Sums, add, are_s
 
 -- What a filling that has come to (row, column) knows: the sums of rows 1 to 8 so far and the degree that is left for them,
 -- what is left of columns 1 to 8, and the sums of diagonals 1 to 16 so far.
-pub record IsFree (degree : ℕ) (s : List ℕ) (row column room : ℕ) (rows columns diagonals : List ℕ) (sums : Sums) : Type 0 where
+pub record IsFree (degree : ℕ) (s : List ℕ) (row column room : ℕ) (rows columns diagonals : List ℕ) (sums : Sums)
+    : Type 0 where
   pub rows_so_far : (i : ℕ) → i < 8 → slice_index rows i ≡ sums.rows (suc i)
   pub room_left : room + degree_of rows ≡ degree
   pub room_done : row ≡ 0 → room ≡ 0
@@ -56,35 +57,42 @@ element n k = slice_index_or (basis_of n) k []
 
 -- Pairs of places of R and T. Two lists of them of which the second has those pairs once more, mod 2, at which `turns` holds.
 abbrev pub IsTurnedOver : ℕ → ℕ → (ℕ → ℕ → Bool) → List (ℕ × ℕ) → List (ℕ × ℕ) → Type 0
-IsTurnedOver degree product turns before after = (p k : ℕ) → p < length (basis_of degree) → k < length (basis_of product)
+IsTurnedOver degree product turns before after = (p k : ℕ) → p < length (basis_of degree) →
+    k < length (basis_of product)
     → is_odd_at after p k ≡ plus (turns p k) (is_odd_at before p k)
 
 -- the pair of R and T alone
 abbrev pub are_elements : ℕ → ℕ → List ℕ → List ℕ → ℕ → ℕ → Bool
-are_elements degree product r t p k = pointwise nat_eq (trimmed r) (element degree p) && pointwise nat_eq (trimmed t) (element product k)
+are_elements degree product r t p k =
+    pointwise nat_eq (trimmed r) (element degree p) && pointwise nat_eq (trimmed t) (element product k)
 
 -- whether an odd number of ways to fill the places up to (row, column) leads to the R and the T at these places
 abbrev pub leads_to : ℕ → ℕ → List ℕ → ℕ → ℕ → Sums → ℕ → ℕ → Bool
-leads_to degree product s row column sums p k = fillings add (suc (sum (padded 8 (element degree p)) + sum s)) (places_to (length s) row column) (are_sums_of (padded 8 (element degree p)) s (element product k)) sums
+leads_to degree product s row column sums p k = fillings add (suc (sum (padded 8 (element degree p)) + sum s))
+    (places_to (length s) row column) (are_sums_of (padded 8 (element degree p)) s (element product k)) sums
 
 -- the pairs to which the ways to fill the places up to (row, column) lead, whatever S asks and whatever is filled already
 abbrev pub TurnsOverAll : ℕ → ℕ → ℕ → ℕ → ℕ → ℕ → List ℕ → List ℕ → List ℕ → List (ℕ × ℕ) → List (ℕ × ℕ) → Type 0
-TurnsOverAll degree product width row column room rows columns diagonals before after = (s : List ℕ) (sums : Sums) → width ≡ length s → length s ≤ 8 → IsFree degree s row column room rows columns diagonals sums
+TurnsOverAll degree product width row column room rows columns diagonals before after = (s : List ℕ) (sums : Sums) →
+    width ≡ length s → length s ≤ 8 → IsFree degree s row column room rows columns diagonals sums
     → IsTurnedOver degree product (leads_to degree product s row column sums) before after
 
 -- Elements whose last exponents are chosen stand side by side in a basis: those of degree n whose exponents from the k-th on are `others`,
 -- and whose first k have degree m, stand from `place` on, in the order of these.
 abbrev pub ArePlaced : ℕ → ℕ → ℕ → ℕ → List ℕ → Type 0
-ArePlaced n k m place others = (q : ℕ) (front : List ℕ) → slice_get (lists_of k m) q ≡ Some front → slice_get (basis_of n) (q + place) ≡ Some (trimmed (front ++ others))
+ArePlaced n k m place others = (q : ℕ) (front : List ℕ) → slice_get (lists_of k m) q ≡ Some front →
+    slice_get (basis_of n) (q + place) ≡ Some (trimmed (front ++ others))
 
 -- the sums of the diagonals once row 0 takes what is left of the first n columns
 abbrev pub topped : ℕ → List ℕ → List ℕ → List ℕ
 topped zero columns diagonals = diagonals
-topped (suc c) columns diagonals = topped c columns (slice_set diagonals c (bit_or (slice_index diagonals c) (slice_index columns c)))
+topped (suc c) columns diagonals =
+    topped c columns (slice_set diagonals c (bit_or (slice_index diagonals c) (slice_index columns c)))
 
 -- A filling that has come to (1, column). Of rows, columns and diagonals only those parts are at hand that are still to change: what is left of the
 -- columns up to this one and of the next, and the sums of the diagonals up to this place's. The others tell the places of R and of T.
-pub record IsInFirstRow (degree product width column room above below place left : ℕ) (own_columns own_diagonals rows columns diagonals : List ℕ) : Type 0 where
+pub record IsInFirstRow (degree product width column room above below place left : ℕ)
+    (own_columns own_diagonals rows columns diagonals : List ℕ) : Type 0 where
   pub high : length rows ≡ 8
   pub wide : length columns ≡ 8
   pub long : length diagonals ≡ 16

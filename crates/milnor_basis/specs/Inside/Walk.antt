@@ -38,11 +38,18 @@ add_at i v f a = if nat_eq a i then f a + v else f a
 
 -- the sums once v is put at row i and column j, where there was 0
 abbrev pub add : ℕ → ℕ → ℕ → Sums → Sums
-add i j v s = record { rows = add_at i (2 ^ j * v) s.rows; columns = add_at j v s.columns; diagonals = add_at (i + j) v s.diagonals; apart = s.apart && nat_eq (bit_and v (s.diagonals (i + j))) 0 }
+add i j v s = record {
+  rows = add_at i (2 ^ j * v) s.rows;
+  columns = add_at j v s.columns;
+  diagonals = add_at (i + j) v s.diagonals;
+  apart = s.apart && nat_eq (bit_and v (s.diagonals (i + j))) 0;
+}
 
 -- whether they are the sums of a matrix that counts for R and S, with the exponent list T
 abbrev pub are_sums_of : List ℕ → List ℕ → List ℕ → Sums → Bool
-are_sums_of r s t sums = list_all (λ i. nat_eq (sums.rows i) (entry r (i - 1))) (range_with_len 1 (length r)) && list_all (λ j. nat_eq (sums.columns j) (entry s (j - 1))) (range_with_len 1 (length s)) && sums.apart && pointwise nat_eq (trimmed (map sums.diagonals (range_with_len 1 (length r + length s)))) t
+are_sums_of r s t sums = list_all (λ i. nat_eq (sums.rows i) (entry r (i - 1))) (range_with_len 1 (length r))
+    && list_all (λ j. nat_eq (sums.columns j) (entry s (j - 1))) (range_with_len 1 (length s)) && sums.apart
+    && pointwise nat_eq (trimmed (map sums.diagonals (range_with_len 1 (length r + length s)))) t
 
 -- What a filling that has come to (row, column) knows: what is left of rows 1 to 8 and of columns 1 to 8, and the sums
 -- of diagonals 1 to 16 so far. They belong to the sums of a matrix whose places past (row, column) are filled as R and S ask.
@@ -83,14 +90,23 @@ next_column w row zero = w
 
 -- the bits of a degree's basis, with that of the element of these exponents turned over
 abbrev pub TurnsOverEqual : ℕ → List ℕ → List Bool → List Bool → Type 0
-TurnsOverEqual degree exponents before after = (k : ℕ) → k < length before → slice_index_or after k false ≡ plus (pointwise nat_eq (trimmed exponents) (slice_index_or (basis_of degree) k [])) (slice_index_or before k false)
+TurnsOverEqual degree exponents before after = (k : ℕ) → k < length before →
+    slice_index_or after k false ≡ plus (pointwise nat_eq (trimmed exponents) (slice_index_or (basis_of degree) k []))
+    (slice_index_or before k false)
 
 -- the bits of a degree's basis, with that of T turned over where an odd number of ways to fill the places up to
 -- (row, column) leads to T, whatever R and S ask and whatever is filled already
 abbrev pub TurnsOver : ℕ → ℕ → ℕ → ℕ → List ℕ → List ℕ → List ℕ → List Bool → List Bool → Type 0
-TurnsOver degree width row column rows columns diagonals before after = (r s : List ℕ) (sums : Sums) → width ≡ length s → length s ≤ 8 → length r ≤ 8 → row ≤ length r → IsLeft r s row column rows columns diagonals sums
-    → (k : ℕ) → k < length before → slice_index_or after k false ≡ plus (fillings add (suc (sum r + sum s)) (places_to width row column) (are_sums_of r s (slice_index_or (basis_of degree) k [])) sums) (slice_index_or before k false)
+TurnsOver degree width row column rows columns diagonals before after = (r s : List ℕ) (sums : Sums) →
+    width ≡ length s → length s ≤ 8 → length r ≤ 8 → row ≤ length r → IsLeft r s row column rows columns diagonals sums
+    → (k : ℕ) → k < length before →
+    slice_index_or after k false ≡ plus
+    (fillings add (suc (sum r + sum s)) (places_to width row column)
+    (are_sums_of r s (slice_index_or (basis_of degree) k [])) sums)
+    (slice_index_or before k false)
 
 -- chosen are the elements at which a test holds, where the bits are what the test says of each
 abbrev pub AreChosen : List (List ℕ) → List Bool → List (List ℕ) → Type 0
-AreChosen elements bits chosen = (test : List ℕ → Bool) → ((k : ℕ) → k < length elements → slice_index_or bits k false ≡ test (slice_index_or elements k [])) → chosen ≡ filter test elements
+AreChosen elements bits chosen = (test : List ℕ → Bool) →
+    ((k : ℕ) → k < length elements → slice_index_or bits k false ≡ test (slice_index_or elements k [])) →
+    chosen ≡ filter test elements
