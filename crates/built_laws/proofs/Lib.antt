@@ -3,4 +3,3 @@ pub mod Coordinates
 pub mod Sorted
 pub mod Making
 pub mod Renamed
-pub mod Stable

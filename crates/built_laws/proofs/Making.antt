@@ -17,10 +17,12 @@ use Rattle.finite_module.specs.Module.{Module}
 use Rattle.finite_module.specs.Axioms.{IsModule}
 use Rattle.module_json.specs.WellFormed.{NeverFall}
 use Rattle.built_laws.specs.Built.{action_of, IsNumbered}
-use Rattle.built_laws.specs.Constructed.{by_degree, generators_from, module_of, ShiftMakesModule, SumMakesModule, TensorMakesModule, DualMakesModule}
+use Rattle.module_json.specs.Sorting.{sorted_by}
+use Rattle.built_laws.specs.Constructed.{generators_from, module_of, ShiftMakesModule, SumMakesModule, TensorMakesModule, DualMakesModule}
 use Rattle.built_laws.proofs.Values.{built_is_module}
 use Rattle.built_laws.proofs.Coordinates.{modules_are_actions, built_has_coefficients}
-use Rattle.built_laws.proofs.Sorted.{AllPairs-append, AllPairs-head, AllPairs-tail, AllPairs-nil, AllPairs-map, odd_by-by_degree, length-by_degree, All-by_degree, AllPairs-by_degree, rises}
+use Rattle.module_json.proofs.Sorting.{AllPairs-head, AllPairs-tail, AllPairs-nil, length-sorted_by, sorted_by_rises}
+use Rattle.built_laws.proofs.Sorted.{AllPairs-append, AllPairs-map, odd_by-sorted_by, All-sorted_by, AllPairs-sorted_by}
 
 abbrev pub Differ : {X : Type 0} → Action X → X → X → Type 0
 Differ a x y = (a.same x y ≡ false) × (a.same y x ≡ false)
@@ -32,7 +34,7 @@ pub record IsBasis {X : Type 0} (a : Action X) : Type 0 where
 
 module _ {X : Type 0} (names : ℕ → List ℕ) (d : X) (a : Action X) (is : IsAction a) (basis : IsBasis a) where
   abbrev order : List X
-  order = by_degree a.degree a.basis
+  order = sorted_by a.degree a.basis
 
   abbrev generators : List Generator
   generators = generators_from names a.degree 0 order
@@ -42,12 +44,12 @@ module _ {X : Type 0} (names : ℕ → List ℕ) (d : X) (a : Action X) (is : Is
 
   is_order : IsOrder d order a
   is_order = record {
-    sums = λ f. odd_by-by_degree a.degree f a.basis;
+    sums = λ f. odd_by-sorted_by a.degree f a.basis;
     once = λ i j l k. elim (cases_eq i j) [
-      | inl e ↦ ap (λ b. a.same (get_or order i d) (get_or order b d)) (sym e) ∙ All-get_or (λ x. a.same x x ≡ true) order i d l (All-by_degree a.degree (λ x. a.same x x ≡ true) a.basis basis.own) ∙ sym (eq-eqb i j e)
+      | inl e ↦ ap (λ b. a.same (get_or order i d) (get_or order b d)) (sym e) ∙ All-get_or (λ x. a.same x x ≡ true) order i d l (All-sorted_by a.degree (λ x. a.same x x ≡ true) a.basis basis.own) ∙ sym (eq-eqb i j e)
       | inr n ↦ elim (cases_lt i j) [
-        | inl m ↦ (AllPairs-by_degree a.degree (Differ a) turn a.basis basis.apart i j d m k).0 ∙ sym (ne_eqb i j n)
-        | inr m ↦ (AllPairs-by_degree a.degree (Differ a) turn a.basis basis.apart j i d (omega arith) l).1 ∙ sym (ne_eqb i j n)
+        | inl m ↦ (AllPairs-sorted_by a.degree (Differ a) turn a.basis basis.apart i j d m k).0 ∙ sym (ne_eqb i j n)
+        | inr m ↦ (AllPairs-sorted_by a.degree (Differ a) turn a.basis basis.apart j i d (omega arith) l).1 ∙ sym (ne_eqb i j n)
       ]
     ];
   }
@@ -69,7 +71,7 @@ module _ {X : Type 0} (names : ℕ → List ℕ) (d : X) (a : Action X) (is : Is
   pub falls : NeverFall generators
   falls i j g l m =
       let k : j < length order = omega (arith, length-generators 0 order) in
-      let r : a.degree (get_or order i d) ≤ℤ a.degree (get_or order j d) = rises a.degree a.basis i j d l k in
+      let r : a.degree (get_or order i d) ≤ℤ a.degree (get_or order j d) = sorted_by_rises a.degree a.basis i j d l k in
       let e = degree-or 0 order i g (omega arith) in let f = degree-or 0 order j g k in omega (arith, ints)
 
   is_numbered : IsNumbered generators (numbered d order a)
@@ -83,16 +85,16 @@ module _ {X : Type 0} (names : ℕ → List ℕ) (d : X) (a : Action X) (is : Is
   made_is_module = built_is_module generators (numbered d order a) falls is_numbered (numbered_is_module d order a is_order is)
 
   pub made_count : length (module_of names d a).generators ≡ length a.basis
-  made_count = length-generators 0 order ∙ length-by_degree a.degree a.basis
+  made_count = length-generators 0 order ∙ length-sorted_by a.degree a.basis
 
   pub made_degree : (k : ℕ) → k < length a.basis → degree_at (module_of names d a).generators k ≡ a.degree (get_or order k d)
-  made_degree k l = degree-generators 0 order k (omega (arith, length-by_degree a.degree a.basis))
+  made_degree k l = degree-generators 0 order k (omega (arith, length-sorted_by a.degree a.basis))
 
   pub made_coefficient : (r : List ℕ) (k l : ℕ) → IsTrimmed r → k < length a.basis → l < length a.basis → (action_of (module_of names d a)).coefficient r k l ≡ a.coefficient r (get_or order k d) (get_or order l d)
   made_coefficient r k l h p q =
       built_has_coefficients generators (numbered d order a) falls is_numbered (numbered_is_module d order a is_order is) r k l h (omega (arith, made_count)) (omega (arith, made_count))
-      ∙ ap (λ b. (b && nat_lt l (length order)) && a.coefficient r (get_or order k d) (get_or order l d)) (lt-ltb k (length order) (omega (arith, length-by_degree a.degree a.basis)))
-      ∙ ap (λ b. b && a.coefficient r (get_or order k d) (get_or order l d)) (lt-ltb l (length order) (omega (arith, length-by_degree a.degree a.basis)))
+      ∙ ap (λ b. (b && nat_lt l (length order)) && a.coefficient r (get_or order k d) (get_or order l d)) (lt-ltb k (length order) (omega (arith, length-sorted_by a.degree a.basis)))
+      ∙ ap (λ b. b && a.coefficient r (get_or order k d) (get_or order l d)) (lt-ltb l (length order) (omega (arith, length-sorted_by a.degree a.basis)))
 
 -- The bases.
 

@@ -20,10 +20,12 @@ use Rattle.finite_module.specs.Axioms.{IsModule}
 use Rattle.module_json.specs.WellFormed.{NeverFall}
 use Rattle.finite_module.specs.ModuleLaws.{generators_in-member}
 use Rattle.built_laws.specs.Built.{action_of}
-use Rattle.built_laws.specs.Constructed.{by_degree, dual_module, shift_module, IsRenamed, DualTwiceIsModule, ShiftBackIsModule}
+use Rattle.module_json.specs.Sorting.{sorted_by}
+use Rattle.built_laws.specs.Constructed.{dual_module, shift_module, IsRenamed, DualTwiceIsModule, ShiftBackIsModule}
 use Rattle.built_laws.proofs.Coordinates.{values_are, modules_are_actions}
 use Rattle.built_laws.proofs.Making.{IsBasis, falls, made_count, made_degree, made_coefficient, numbers_basis, dual_basis, dual_makes_module, shift_makes_module, range_at}
-use Rattle.built_laws.proofs.Sorted.{Rises, All-by_degree, length-by_degree, by_degree-rising, by_degree-same, by_degree-map, again}
+use Rattle.module_json.proofs.Sorting.{IsRising, length-sorted_by, sorted_by-rising}
+use Rattle.built_laws.proofs.Sorted.{All-sorted_by, sorted_by-same, sorted_by-map, again}
 
 -- lists of generators of the same degrees have the same in each degree
 numbers-same : (i : ℕ) (gs hs : List Generator) (t : ℤ) → length gs ≡ length hs → ((k : ℕ) → k < length hs → degree_at gs k ≡ degree_at hs k) → numbers_from i gs t ≡ numbers_from i hs t
@@ -89,10 +91,10 @@ module _ (names names' : ℕ → List ℕ) (m : Module) (in_order : NeverFall m.
   once = dual_module names m
 
   abbrev xs : List ℕ
-  xs = by_degree first.degree numbers
+  xs = sorted_by first.degree numbers
 
   length-xs : length xs ≡ size
-  length-xs = length-by_degree first.degree numbers ∙ length-numbers
+  length-xs = length-sorted_by first.degree numbers ∙ length-numbers
 
   once_count : length once.generators ≡ size
   once_count = made_count names 0 first first_is first_basis ∙ length-numbers
@@ -107,7 +109,7 @@ module _ (names names' : ℕ → List ℕ) (m : Module) (in_order : NeverFall m.
   second_basis = dual_basis conjugate (action_of once) (numbers_basis once)
 
   abbrev ys : List ℕ
-  ys = by_degree second.degree second.basis
+  ys = sorted_by second.degree second.basis
 
   second_count : length second.basis ≡ size
   second_count = length-range_with_len 0 (length once.generators) ∙ once_count
@@ -119,17 +121,17 @@ module _ (names names' : ℕ → List ℕ) (m : Module) (in_order : NeverFall m.
   composed =
       let f : ℕ → ℕ = λ k. get_or xs k 0 in
       let d : ℕ → ℤ = degree_at m.generators in
-      ap (λ n. map f (by_degree second.degree (range_with_len 0 n))) once_count
-      ∙ ap (map f) (by_degree-same second.degree (λ k. d (f k)) numbers (All-from_get_or (λ k. second.degree k ≡ d (f k)) numbers 0
+      ap (λ n. map f (sorted_by second.degree (range_with_len 0 n))) once_count
+      ∙ ap (map f) (sorted_by-same second.degree (λ k. d (f k)) numbers (All-from_get_or (λ k. second.degree k ≡ d (f k)) numbers 0
       (λ i l. let k : i < size = omega (arith, length-numbers) in
       subst (λ j. second.degree j ≡ d (f j)) (sym (range_at size i 0 k)) (let e = once_degree i k in omega (arith, ints)))))
-      ∙ by_degree-map d f numbers
-      ∙ ap (by_degree d) (ap (λ n. map f (range_with_len 0 n)) (sym length-xs) ∙ places xs)
+      ∙ sorted_by-map d f numbers
+      ∙ ap (sorted_by d) (ap (λ n. map f (range_with_len 0 n)) (sym length-xs) ∙ places xs)
       ∙ again d numbers
-      ∙ by_degree-rising d numbers rising
+      ∙ sorted_by-rising d numbers rising
 
   length-ys : length ys ≡ size
-  length-ys = length-by_degree second.degree second.basis ∙ second_count
+  length-ys = length-sorted_by second.degree second.basis ∙ second_count
 
   back : (k : ℕ) → k < size → get_or xs (get_or ys k 0) 0 ≡ k
   back k l = sym (get_or-map (λ j. get_or xs j 0) ys k 0 0 (omega (arith, length-ys))) ∙ ap (λ ns. get_or ns k 0) composed ∙ range_at size k 0 l
@@ -137,7 +139,7 @@ module _ (names names' : ℕ → List ℕ) (m : Module) (in_order : NeverFall m.
   within : (k : ℕ) → k < size → get_or ys k 0 < size
   within k l =
       All-get_or (λ i. i < size) ys k 0 (omega (arith, length-ys))
-      (All-by_degree second.degree (λ i. i < size) second.basis (All-from_get_or (λ i. i < size) second.basis 0 (λ i q. let e = range_at (length once.generators) i 0 (omega (arith, length-range_with_len 0 (length once.generators))) in omega (arith, second_count))))
+      (All-sorted_by second.degree (λ i. i < size) second.basis (All-from_get_or (λ i. i < size) second.basis 0 (λ i q. let e = range_at (length once.generators) i 0 (omega (arith, length-range_with_len 0 (length once.generators))) in omega (arith, second_count))))
 
   twice_coefficient : (r : List ℕ) (i j : ℕ) → IsTrimmed r → i < size → j < size → (action_of (dual_module names' once)).coefficient r i j ≡ (action_of m).coefficient r i j
   twice_coefficient r i j h l k =
@@ -175,13 +177,13 @@ module _ (names names' : ℕ → List ℕ) (m : Module) (in_order : NeverFall m.
     moved_is : IsModule moved
     moved_is = shift_makes_module names n m is
 
-    there_order : by_degree there.degree numbers ≡ numbers
-    there_order = by_degree-rising there.degree numbers (λ i j d l k. let r = rising i j d l k in omega (arith, ints))
+    there_order : sorted_by there.degree numbers ≡ numbers
+    there_order = sorted_by-rising there.degree numbers (λ i j d l k. let r = rising i j d l k in omega (arith, ints))
 
     moved_count : length moved.generators ≡ size
     moved_count = made_count names 0 there there_is there_basis ∙ length-numbers
 
-    there_at : (k : ℕ) → k < size → get_or (by_degree there.degree numbers) k 0 ≡ k
+    there_at : (k : ℕ) → k < size → get_or (sorted_by there.degree numbers) k 0 ≡ k
     there_at k l = ap (λ ns. get_or ns k 0) there_order ∙ range_at size k 0 l
 
     moved_falls : NeverFall moved.generators
@@ -193,7 +195,7 @@ module _ (names names' : ℕ → List ℕ) (m : Module) (in_order : NeverFall m.
     moved_coefficient : (r : List ℕ) (i j : ℕ) → IsTrimmed r → i < size → j < size → (action_of moved).coefficient r i j ≡ (action_of m).coefficient r i j
     moved_coefficient r i j h l k =
         made_coefficient names 0 there there_is there_basis r i j h (omega (arith, length-numbers)) (omega (arith, length-numbers))
-        ∙ ap (λ a. there.coefficient r a (get_or (by_degree there.degree numbers) j 0)) (there_at i l)
+        ∙ ap (λ a. there.coefficient r a (get_or (sorted_by there.degree numbers) j 0)) (there_at i l)
         ∙ ap (there.coefficient r i) (there_at j k)
 
 pub dual_twice_is_module : DualTwiceIsModule

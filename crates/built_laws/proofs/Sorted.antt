@@ -8,16 +8,8 @@ use Rattle.f2_vec.specs.Vectors.{plus}
 use Rattle.milnor_basis.proofs.Parity.{odd_by}
 use Rattle.milnor_laws.proofs.SumsModTwo.{plus-swap}
 use Rattle.hopf_laws.proofs.Splittings.{All-of_all}
-use Rattle.built_laws.specs.Constructed.{inserted, by_degree}
-
-pub AllPairs-tail : {X : Type 0} → (R : X → X → Type 0) (x : X) (xs : List X) → AllPairs R (x ∷ xs) → AllPairs R xs
-AllPairs-tail R x xs h i j d l m = h (suc i) (suc j) d (omega arith) (omega arith)
-
-pub AllPairs-head : {X : Type 0} → (R : X → X → Type 0) (x : X) (xs : List X) → AllPairs R (x ∷ xs) → All (R x) xs
-AllPairs-head R x xs h = All-from_get_or (R x) xs x (λ i l. h 0 (suc i) x (omega arith) (omega arith))
-
-pub AllPairs-nil : {X : Type 0} → (R : X → X → Type 0) → AllPairs R []
-AllPairs-nil R i j d l m = absurd (omega arith)
+use Rattle.module_json.specs.Sorting.{inserted, sorted_by}
+use Rattle.module_json.proofs.Sorting.{AllPairs-tail, AllPairs-head, AllPairs-nil}
 
 pub AllPairs-append : {X : Type 0} → (R : X → X → Type 0) (xs ys : List X) → AllPairs R xs → AllPairs R ys → All (λ x. All (R x) ys) xs → AllPairs R (xs ++ ys)
 AllPairs-append R [] ys h g k = g
@@ -37,9 +29,9 @@ module _ {X : Type 0} (degree : X → ℤ) where
       at true e = refl
       at false e = ap (plus (f y)) e ∙ plus-swap (f y) (f x) (odd_by f ys)
 
-  pub odd_by-by_degree : (f : X → Bool) (xs : List X) → odd_by f (by_degree degree xs) ≡ odd_by f xs
-  odd_by-by_degree f [] = refl
-  odd_by-by_degree f (x ∷ xs) = odd_by-inserted f x (by_degree degree xs) ∙ ap (plus (f x)) (odd_by-by_degree f xs)
+  pub odd_by-sorted_by : (f : X → Bool) (xs : List X) → odd_by f (sorted_by degree xs) ≡ odd_by f xs
+  odd_by-sorted_by f [] = refl
+  odd_by-sorted_by f (x ∷ xs) = odd_by-inserted f x (sorted_by degree xs) ∙ ap (plus (f x)) (odd_by-sorted_by f xs)
 
   All-inserted : (P : X → Type 0) (x : X) (ys : List X) → P x → All P ys → All P (inserted degree x ys)
   All-inserted P x [] p h = All-cons P x [] p h
@@ -49,9 +41,9 @@ module _ {X : Type 0} (degree : X → ℤ) where
       at true g = All-cons P x (y ∷ ys) p h
       at false g = All-cons P y (inserted degree x ys) (All-head P y ys h) g
 
-  pub All-by_degree : (P : X → Type 0) (xs : List X) → All P xs → All P (by_degree degree xs)
-  All-by_degree P [] h = h
-  All-by_degree P (x ∷ xs) h = All-inserted P x (by_degree degree xs) (All-head P x xs h) (All-by_degree P xs (All-tail P x xs h))
+  pub All-sorted_by : (P : X → Type 0) (xs : List X) → All P xs → All P (sorted_by degree xs)
+  All-sorted_by P [] h = h
+  All-sorted_by P (x ∷ xs) h = All-inserted P x (sorted_by degree xs) (All-head P x xs h) (All-sorted_by P xs (All-tail P x xs h))
 
   -- pairs that stand both ways
   AllPairs-inserted : (R : X → X → Type 0) → ((a b : X) → R a b → R b a) → (x : X) (ys : List X) → All (R x) ys → AllPairs R ys → AllPairs R (inserted degree x ys)
@@ -63,49 +55,9 @@ module _ {X : Type 0} (degree : X → ℤ) where
       at true k = AllPairs-cons R x (y ∷ ys) h g
       at false k = AllPairs-cons R y (inserted degree x ys) (All-inserted (R y) x ys (turn x y (All-head (R x) y ys h)) (AllPairs-head R y ys g)) k
 
-  pub AllPairs-by_degree : (R : X → X → Type 0) → ((a b : X) → R a b → R b a) → (xs : List X) → AllPairs R xs → AllPairs R (by_degree degree xs)
-  AllPairs-by_degree R turn [] h = h
-  AllPairs-by_degree R turn (x ∷ xs) h = AllPairs-inserted R turn x (by_degree degree xs) (All-by_degree (R x) xs (AllPairs-head R x xs h)) (AllPairs-by_degree R turn xs (AllPairs-tail R x xs h))
-
-  abbrev pub Rises : X → X → Type 0
-  Rises a b = degree a ≤ℤ degree b
-
-  rises-inserted : (x : X) (ys : List X) → AllPairs Rises ys → AllPairs Rises (inserted degree x ys)
-  rises-inserted x [] g = AllPairs-cons Rises x [] (All-nil (Rises x)) g
-  rises-inserted x (y ∷ ys) g = at (int_le (degree x) (degree y)) refl (rises-inserted x ys (AllPairs-tail Rises y ys g))
-    where
-      at : (b : Bool) → int_le (degree x) (degree y) ≡ b → AllPairs Rises (inserted degree x ys) → AllPairs Rises (if b then x ∷ y ∷ ys else y ∷ inserted degree x ys)
-      at true e k =
-          let l : degree x ≤ℤ degree y = grind (arith, ints) in
-          AllPairs-cons Rises x (y ∷ ys) (All-cons (Rises x) y ys l (All-of_all (Rises y) (Rises x) ys (AllPairs-head Rises y ys g) (λ z h. omega (arith, ints)))) g
-      at false e k =
-          let l : degree y ≤ℤ degree x = grind (arith, ints) in
-          AllPairs-cons Rises y (inserted degree x ys) (All-inserted (Rises y) x ys l (AllPairs-head Rises y ys g)) k
-
-  pub rises : (xs : List X) → AllPairs Rises (by_degree degree xs)
-  rises [] = AllPairs-nil Rises
-  rises (x ∷ xs) = rises-inserted x (by_degree degree xs) (rises xs)
-
-  length-inserted : (x : X) (ys : List X) → length (inserted degree x ys) ≡ suc (length ys)
-  length-inserted x [] = refl
-  length-inserted x (y ∷ ys) = at (int_le (degree x) (degree y)) (length-inserted x ys)
-    where
-      at : (b : Bool) → length (inserted degree x ys) ≡ suc (length ys) → length (if b then x ∷ y ∷ ys else y ∷ inserted degree x ys) ≡ suc (suc (length ys))
-      at true e = refl
-      at false e = ap suc e
-
-  pub length-by_degree : (xs : List X) → length (by_degree degree xs) ≡ length xs
-  length-by_degree [] = refl
-  length-by_degree (x ∷ xs) = length-inserted x (by_degree degree xs) ∙ ap suc (length-by_degree xs)
-
-  -- what rises stays
-  inserted-first : (x : X) (ys : List X) → All (Rises x) ys → inserted degree x ys ≡ x ∷ ys
-  inserted-first x [] h = refl
-  inserted-first x (y ∷ ys) h = let l : degree x ≤ℤ degree y = All-head (Rises x) y ys h in let e : int_le (degree x) (degree y) ≡ true = grind (arith, ints) in ap (λ b. if b then x ∷ y ∷ ys else y ∷ inserted degree x ys) e
-
-  pub by_degree-rising : (xs : List X) → AllPairs Rises xs → by_degree degree xs ≡ xs
-  by_degree-rising [] h = refl
-  by_degree-rising (x ∷ xs) h = ap (inserted degree x) (by_degree-rising xs (AllPairs-tail Rises x xs h)) ∙ inserted-first x xs (AllPairs-head Rises x xs h)
+  pub AllPairs-sorted_by : (R : X → X → Type 0) → ((a b : X) → R a b → R b a) → (xs : List X) → AllPairs R xs → AllPairs R (sorted_by degree xs)
+  AllPairs-sorted_by R turn [] h = h
+  AllPairs-sorted_by R turn (x ∷ xs) h = AllPairs-inserted R turn x (sorted_by degree xs) (All-sorted_by (R x) xs (AllPairs-head R x xs h)) (AllPairs-sorted_by R turn xs (AllPairs-tail R x xs h))
 
   inserted-yes : (x z : X) (zs : List X) → int_le (degree x) (degree z) ≡ true → inserted degree x (z ∷ zs) ≡ x ∷ z ∷ zs
   inserted-yes x z zs e = ap (λ b. if b then x ∷ z ∷ zs else z ∷ inserted degree x zs) e
@@ -138,25 +90,25 @@ module _ {X : Type 0} (degree : X → ℤ) where
   abbrev negated : X → ℤ
   negated x = pos 0 -ℤ degree x
 
-  again-inserted : (x : X) (ys : List X) → by_degree degree (inserted negated x ys) ≡ inserted degree x (by_degree degree ys)
+  again-inserted : (x : X) (ys : List X) → sorted_by degree (inserted negated x ys) ≡ inserted degree x (sorted_by degree ys)
   again-inserted x [] = refl
   again-inserted x (y ∷ ys) = at (int_le (negated x) (negated y)) refl (again-inserted x ys)
     where
-      at : (b : Bool) → int_le (negated x) (negated y) ≡ b → by_degree degree (inserted negated x ys) ≡ inserted degree x (by_degree degree ys)
-          → by_degree degree (if b then x ∷ y ∷ ys else y ∷ inserted negated x ys) ≡ inserted degree x (inserted degree y (by_degree degree ys))
+      at : (b : Bool) → int_le (negated x) (negated y) ≡ b → sorted_by degree (inserted negated x ys) ≡ inserted degree x (sorted_by degree ys)
+          → sorted_by degree (if b then x ∷ y ∷ ys else y ∷ inserted negated x ys) ≡ inserted degree x (inserted degree y (sorted_by degree ys))
       at true e ih = refl
-      at false e ih = let l : degree x <ℤ degree y = grind (arith, ints) in ap (inserted degree y) ih ∙ sym (inserted-swap degree x y (by_degree degree ys) l)
+      at false e ih = let l : degree x <ℤ degree y = grind (arith, ints) in ap (inserted degree y) ih ∙ sym (inserted-swap degree x y (sorted_by degree ys) l)
 
-  pub again : (xs : List X) → by_degree degree (by_degree negated xs) ≡ by_degree degree xs
+  pub again : (xs : List X) → sorted_by degree (sorted_by negated xs) ≡ sorted_by degree xs
   again [] = refl
-  again (x ∷ xs) = again-inserted x (by_degree negated xs) ∙ ap (inserted degree x) (again xs)
+  again (x ∷ xs) = again-inserted x (sorted_by negated xs) ∙ ap (inserted degree x) (again xs)
 
 -- degrees that agree on a list, and those of images
-pub by_degree-same : {X : Type 0} → (f g : X → ℤ) (xs : List X) → All (λ x. f x ≡ g x) xs → by_degree f xs ≡ by_degree g xs
-by_degree-same f g [] h = refl
-by_degree-same {X = X} f g (x ∷ xs) h =
-    ap (inserted f x) (by_degree-same f g xs (All-tail (λ z. f z ≡ g z) x xs h))
-    ∙ inserted-same x (by_degree g xs) (All-head (λ z. f z ≡ g z) x xs h) (All-by_degree g (λ z. f z ≡ g z) xs (All-tail (λ z. f z ≡ g z) x xs h))
+pub sorted_by-same : {X : Type 0} → (f g : X → ℤ) (xs : List X) → All (λ x. f x ≡ g x) xs → sorted_by f xs ≡ sorted_by g xs
+sorted_by-same f g [] h = refl
+sorted_by-same {X = X} f g (x ∷ xs) h =
+    ap (inserted f x) (sorted_by-same f g xs (All-tail (λ z. f z ≡ g z) x xs h))
+    ∙ inserted-same x (sorted_by g xs) (All-head (λ z. f z ≡ g z) x xs h) (All-sorted_by g (λ z. f z ≡ g z) xs (All-tail (λ z. f z ≡ g z) x xs h))
   where
     inserted-same : (x : X) (ys : List X) → f x ≡ g x → All (λ z. f z ≡ g z) ys → inserted f x ys ≡ inserted g x ys
     inserted-same x [] e h = refl
@@ -165,9 +117,9 @@ by_degree-same {X = X} f g (x ∷ xs) h =
         ∙ ap (λ d. if int_le (g x) d then x ∷ y ∷ ys else y ∷ inserted f x ys) (All-head (λ z. f z ≡ g z) y ys h)
         ∙ ap (λ zs. if int_le (g x) (g y) then x ∷ y ∷ ys else y ∷ zs) (inserted-same x ys e (All-tail (λ z. f z ≡ g z) y ys h))
 
-pub by_degree-map : {X Y : Type 0} → (degree : Y → ℤ) (f : X → Y) (xs : List X) → map f (by_degree (λ x. degree (f x)) xs) ≡ by_degree degree (map f xs)
-by_degree-map degree f [] = refl
-by_degree-map {X = X} degree f (x ∷ xs) = inserted-map x (by_degree (λ z. degree (f z)) xs) ∙ ap (inserted degree (f x)) (by_degree-map degree f xs)
+pub sorted_by-map : {X Y : Type 0} → (degree : Y → ℤ) (f : X → Y) (xs : List X) → map f (sorted_by (λ x. degree (f x)) xs) ≡ sorted_by degree (map f xs)
+sorted_by-map degree f [] = refl
+sorted_by-map {X = X} degree f (x ∷ xs) = inserted-map x (sorted_by (λ z. degree (f z)) xs) ∙ ap (inserted degree (f x)) (sorted_by-map degree f xs)
   where
     inserted-map : (x : X) (ys : List X) → map f (inserted (λ z. degree (f z)) x ys) ≡ inserted degree (f x) (map f ys)
     inserted-map x [] = refl

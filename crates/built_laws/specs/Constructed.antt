@@ -1,24 +1,15 @@
 -- The shift, the sum, the tensor product and the dual of modules of generators and operators.
-use Rattle.std.specs.Prelude.{◌≡◌, ℕ, suc, ◌<◌, ℤ, pos, ◌-ℤ◌, int_le, if◌then◌else◌, List, [], ◌∷◌, length}
+use Rattle.std.specs.Prelude.{◌≡◌, ℕ, suc, ◌<◌, ℤ, pos, ◌-ℤ◌, List, [], ◌∷◌, length}
 use Rattle.std.proofs.Common.{inl}
 use Rattle.milnor_basis.specs.Exponents.{IsTrimmed}
 use Rattle.hopf_laws.specs.Actions.{Action, shifted, sum, tensor, dual, numbered}
 use Rattle.hopf_laws.specs.Conjugate.{conjugate}
+use Rattle.module_json.specs.Sorting.{sorted_by}
 use Rattle.module_json.specs.ModuleFile.{Generator, degree_at}
 use Rattle.finite_module.specs.Module.{Module}
 use Rattle.finite_module.specs.Axioms.{IsModule, value_of}
 use Rattle.module_json.specs.WellFormed.{NeverFall}
 use Rattle.built_laws.specs.Built.{action_of, built}
-
--- x before the first that is not of a lower degree
-abbrev pub inserted : {X : Type 0} → (X → ℤ) → X → List X → List X
-inserted degree x [] = x ∷ []
-inserted degree x (y ∷ ys) = if int_le (degree x) (degree y) then x ∷ y ∷ ys else y ∷ inserted degree x ys
-
--- in the order of degree, and in one degree as they stood
-abbrev pub by_degree : {X : Type 0} → (X → ℤ) → List X → List X
-by_degree degree [] = []
-by_degree degree (x ∷ xs) = inserted degree x (by_degree degree xs)
 
 -- generators of these degrees, named by their numbers, from i on
 abbrev pub generators_from : {X : Type 0} → (ℕ → List ℕ) → (X → ℤ) → ℕ → List X → List Generator
@@ -28,8 +19,8 @@ generators_from names degree i (x ∷ xs) =
 
 -- the module of an action: its basis in the order of degree
 abbrev pub module_of : {X : Type 0} → (ℕ → List ℕ) → X → Action X → Module
-module_of names d a = built (generators_from names a.degree 0 (by_degree a.degree a.basis))
-    (numbered d (by_degree a.degree a.basis) a).coefficient
+module_of names d a = built (generators_from names a.degree 0 (sorted_by a.degree a.basis))
+    (numbered d (sorted_by a.degree a.basis) a).coefficient
 
 abbrev pub shift_module : (ℕ → List ℕ) → ℤ → Module → Module
 shift_module names n m = module_of names 0 (shifted n (action_of m))

@@ -1,17 +1,16 @@
 -- There is a bracket of classes whose products are zero.
 use Rattle.std.proofs.Common.{◌≡◌, inl, inr, ℕ, zero, suc, ◌+◌, ◌-◌, ◌<◌, ◌≤◌, ℤ, pos, ◌+ℤ◌, ◌-ℤ◌, ◌≤ℤ◌, Bool, false, List, [], ◌++◌, length, map, refl, ap, sym, subst, ◌∙◌, arith}
 use Rattle.std.specs.List.{range_with_len}
-use Rattle.std.proofs.lemmas.Bool.{cases_lt, cases_Bool}
+use Rattle.std.proofs.lemmas.Bool.{cases_lt}
 use Rattle.std.proofs.lemmas.Int.{ints}
 use Rattle.f2_vec.specs.Vectors.{sum_of, bit, zeros, IsZero}
 use Rattle.f2_vec.specs.Spans.{row, HaveWidth, IsInSpan}
 use Rattle.f2_vec.proofs.Sums.{length-zeros, sum_of-comm}
 use Rattle.f2_vec.proofs.Spans.{HaveWidth-append}
 use Rattle.f2_vec.proofs.Combinations.{HaveWidth-map}
-use Rattle.f2_matrix.specs.Echelon.{IsReduced, HasNoZeroRow}
 use Rattle.f2_matrix.specs.Existence.{RowBasisExists}
-use Rattle.f2_matrix.proofs.Unique.{first_one}
-use Rattle.f2_matrix.proofs.Pivots.{first_within, pivot_first}
+use Rattle.f2_matrix.specs.Preimages.{rest_of}
+use Rattle.f2_matrix.proofs.Pivots.{rest_length, rest_apart, rest_coset}
 use Rattle.resolution_laws.specs.Exactness.{CanonicalTableIsMinimalResolution}
 use Rattle.square.specs.declared.range.Range.{Range}
 use Rattle.lift_laws.specs.Lifts.{Resolution, IsCanonical, IsSphere, IsLift, EachClassLifts, dual_of}
@@ -22,40 +21,9 @@ use Rattle.bracket_laws.specs.Brackets.{HasRoom, HasZeroProduct, HasZeroLower, I
 use Rattle.bracket_laws.proofs.Vectors.{length-on_square, bit-on_square}
 use Rattle.chain_map.proofs.Generators.{is_number}
 use Rattle.massey.specs.Brackets.{IsBracketOf}
-use Rattle.massey.proofs.Clearing.{IsCleared, cleared_none, cleared_more, cleared_there}
 use Rattle.massey.proofs.Units.{unit_times_class}
 use Rattle.ext_products.specs.Products.{IsYonedaProduct}
 use Rattle.ext_brackets.proofs.Members.{length-member}
-
--- ---- a vector, cleared at the pivots of a reduced basis
-
-record IsClearedBy (n : ℕ) (rows : List (List Bool)) (k : ℕ) (start : List Bool) : Type 0 where
-  pub now : List Bool
-  pub cleared : IsCleared n rows k start now
-
-cleared_row : (n : ℕ) (rows : List (List Bool)) (k : ℕ) (start : List Bool) → HaveWidth n rows → IsReduced rows → HasNoZeroRow rows → length start ≡ n → k < length rows → IsClearedBy n rows k start → IsClearedBy n rows (k + 1) start
-cleared_row n rows k start wide reduced nonzero e h c =
-    let r = row rows k in
-    let first = first_one r (nonzero k h) in
-    let same : length c.now ≡ length r = c.cleared.width ∙ (e ∙ sym (wide k h)) in
-    elim (cases_Bool (bit c.now first.0)) [
-      | inl one ↦ record {
-        now = sum_of c.now r;
-        cleared = cleared_more n rows k start c.now (sum_of c.now r) wide reduced e h c.cleared (inr refl) (cleared_there c.now r first.0 same first.1 one);
-      }
-      | inr none ↦ record {
-        now = c.now;
-        cleared = cleared_more n rows k start c.now c.now wide reduced e h c.cleared (inl refl) (λ p other.
-            let pivots : first.0 ≡ p = sym (pivot_first r first.0 first.1) ∙ pivot_first r p other in
-            subst (λ (i : ℕ). bit c.now i ≡ false) pivots none);
-      }
-    ]
-
-cleared_rows : (n : ℕ) (rows : List (List Bool)) (k : ℕ) (start : List Bool) → HaveWidth n rows → IsReduced rows → HasNoZeroRow rows → length start ≡ n → k ≤ length rows → IsClearedBy n rows k start
-cleared_rows n rows zero start wide reduced nonzero e h = record { now = start; cleared = cleared_none n rows start wide e }
-cleared_rows n rows (suc k) start wide reduced nonzero e h =
-    let next : k + 1 ≡ suc k = omega arith in
-    subst (λ (i : ℕ). IsClearedBy n rows i start) next (cleared_row n rows k start wide reduced nonzero e (omega arith) (cleared_rows n rows k start wide reduced nonzero e (omega arith)))
 
 -- ---- lifts
 
@@ -252,12 +220,11 @@ module _ (laws : AreLaws) (r q : Resolution) (range : Range) (canonical : IsCano
         let is_basis = found.1 in
         let start = first.value in
         let len = length-member r q x y z n l top start first.is_member in
-        let clear = cleared_rows size basis (length basis) start is_basis.widths is_basis.reduced is_basis.nonzero len (omega arith) in
-        let value = clear.now in
-        let len_value : length value ≡ size = clear.cleared.width ∙ len in
+        let value = rest_of size basis start in
+        let len_value : length value ≡ size = rest_length size basis start is_basis.widths len in
         let law = λ (w : List Bool) (is : IsBracketMember r q x y z n l top w).
         laws.coset r q range.s range.t range.s range.t x y z n l top rows w canonical canonical_q sphere room (omega (arith, ints)) low_top inside.x_there product_zero indeterminacy is in
-        let reached : IsInSpan size rows (sum_of value start) = (is_basis.same_span (sum_of value start)).1 (subst (IsInSpan size basis) (sum_of-comm start value) clear.cleared.coset) in
+        let reached : IsInSpan size rows (sum_of value start) = (is_basis.same_span (sum_of value start)).1 (subst (IsInSpan size basis) (sum_of-comm start value) (rest_coset size basis start is_basis.widths len)) in
         let member : IsBracketMember r q x y z n l top value = (law start first.is_member value len_value).1 reached in
         record {
           value = value;
@@ -271,7 +238,7 @@ module _ (laws : AreLaws) (r q : Resolution) (range : Range) (canonical : IsCano
             spanning = rows;
             spans = indeterminacy;
             basis = is_basis;
-            clear = λ i p f. clear.cleared.clear i p (first_within basis i p f) f;
+            clear = λ i p f. rest_apart size basis start i p is_basis.widths is_basis.reduced is_basis.nonzero len f;
             all = λ v h. (λ w. (is_basis.same_span (sum_of v value)).0 ((law value member v h).0 w), λ w. (law value member v h).1 ((is_basis.same_span (sum_of v value)).1 w));
           };
         }

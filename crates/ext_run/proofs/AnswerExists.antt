@@ -14,7 +14,7 @@ use Rattle.module_json.specs.ModuleFile.{Generator, Entry, File, IsFileOf, file_
 use Rattle.module_json.specs.ModuleFile.IsFileOf.{no_value, described}
 use Rattle.module_json.specs.WellFormed.{NeverFall}
 use Rattle.module_json.specs.declared.malformed.Malformed.{Malformed}
-use Rattle.module_json.proofs.Order.{EachPair, Rises-by_degree}
+use Rattle.module_json.proofs.Sorting.{EachPair-by_place, Rises-sorted_by}
 use Rattle.finite_module.specs.Module.{Module as SteenrodModule, bottom, width}
 use Rattle.finite_module.specs.DerivedAction.{derived_module, top}
 use Rattle.finite_module.specs.Axioms.{IsModule}
@@ -116,15 +116,11 @@ accepted_generators (Some e) gs es f p = cc
 accepted_generators None gs (Err e) f p = cc
 accepted_generators None gs (Ok es) f p = let made : File = record { generators = gs; entries = es } in let same : made ≡ f = cc in ap (λ (x : File). x.generators) same
 
-pairs_by_place : (R : Generator → Generator → Type 0) (gs : List Generator) → EachPair R gs → AllPairs R gs
-pairs_by_place R [] h = λ i j d l m. absurd (omega (arith, m))
-pairs_by_place R (g ∷ gs) h = AllPairs-cons R g gs (All-from_recursion (R g) gs h.0) (pairs_by_place R gs h.1)
-
 in_order : (bytes : List ℕ) (r : Result File Malformed) → IsFileOf bytes r → (f : File) → r ≡ Ok f → NeverFall f.generators
 in_order bytes r (no_value e is) f p = cc
 in_order bytes r (described d is) f p =
     let gs = basis (gens_of d) in
-    subst NeverFall (accepted_generators (first_refusal d) gs (entries_from gs [] (actions_of d)) f p) (pairs_by_place (λ g h. g.degree ≤ℤ h.degree) gs (Rises-by_degree (listed (gens_of d))))
+    subst NeverFall (accepted_generators (first_refusal d) gs (entries_from gs [] (actions_of d)) f p) (EachPair-by_place (λ g h. g.degree ≤ℤ h.degree) gs (Rises-sorted_by (λ (g : Generator). g.degree) (listed (gens_of d))))
 
 -- ---- the answer
 

@@ -8,9 +8,7 @@ use Rattle.std.proofs.lemmas.List.{get_or_read, ext_get_or, get_or-map, get_or_p
 use Rattle.std.proofs.lemmas.Nat.Bits.{bit_at-zero}
 use Rattle.f2_vec.specs.Vectors.{bit}
 use Rattle.f2_vec.specs.Spans.{row, HaveWidth}
-use Rattle.f2_matrix.specs.Transpose.{column}
-use Rattle.f2_matrix.specs.Inside.Columns.{IsBlockOf, IsBlockUpTo}
-use Rattle.f2_dual.specs.Inside.Columns.{columns_at, IsTurnedBlock, AreFilledAt, AreFilledTo}
+use Rattle.f2_dual.specs.Inside.Columns.{column, IsBlockOf, columns_at, IsTurnedBlock, AreFilledAt, AreFilledTo}
 
 -- ---- rows behind references
 
@@ -24,6 +22,12 @@ pub row-read : (rows : List (Bor (List Bool))) (n : ℕ) (v : Bor (List Bool)) �
 row-read rows n v l e = ap (λ b. b.now) e ∙ sym (get_or-map (λ b. b.now) rows n v [] l)
 
 -- ---- a block
+
+-- the first n words are those at place j of the rows from row 64 i on, and the others are 0
+pub record IsBlockUpTo (n i j : ℕ) (rows : List (List Bool)) (words : List ℕ) : Type 0 where
+  pub size : length words ≡ 64
+  pub holds : (r b : ℕ) → r < 64 → b < 64 → r < n → (bit_at (get_or words r 0) b == 1) ≡ bit (row rows (64 * i + r)) (64 * j + b)
+  pub rest : (r : ℕ) → n ≤ r → r < 64 → get_or words r 0 ≡ 0
 
 pub IsBlockUpTo-start : (i j : ℕ) (rows : List (List Bool)) → IsBlockUpTo 0 i j rows (replicate {A = ℕ} 64 0)
 IsBlockUpTo-start i j rows = record {

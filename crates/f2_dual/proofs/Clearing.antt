@@ -10,11 +10,11 @@ use Rattle.f2_vec.proofs.Combinations.{combination-unit_vector}
 use Rattle.f2_vec.proofs.Split.{length-unit_vector}
 use Rattle.f2_matrix.specs.Echelon.{IsReduced, HasNoZeroRow}
 use Rattle.f2_matrix.specs.Preimages.{pivot_of, at_pivots}
-use Rattle.f2_matrix.specs.Transpose.{column}
-use Rattle.f2_matrix.proofs.Pivots.{length-at_pivots, bit-at_pivots, at_pivots-combination, sum_at_pivots}
+use Rattle.f2_dual.specs.Inside.Columns.{column}
+use Rattle.f2_matrix.proofs.Pivots.{length-at_pivots, bit-at_pivots, at_pivots-combination, sum_at_pivots, is_pivot}
 use Rattle.f2_dual.specs.Inside.Tables.{entry_at, IsTableOfPivots}
 use Rattle.f2_dual.proofs.Dots.{dot_none, bit-combination-dot}
-use Rattle.f2_dual.proofs.OnCandidates.{is_pivot, row-column}
+use Rattle.f2_dual.proofs.OnCandidates.{row-column}
 
 -- rest is v with the rows of the coefficients c added, and has zeros before a place
 pub record IsCleared (from : ℕ) (rows : List (List Bool)) (v rest c : List Bool) : Type 0 where

@@ -8,7 +8,7 @@ use Rattle.f2_vec.specs.Spans.{row, HaveWidth, combination, unit_vector, IsInSpa
 use Rattle.f2_vec.proofs.Spans.{HaveWidth-tail, HaveWidth-head, length-combination, bit-combination-cons}
 use Rattle.f2_vec.proofs.Split.{bit-unit_vector}
 use Rattle.f2_matrix.specs.Preimages.{pivot_of, at_pivots}
-use Rattle.f2_matrix.specs.Transpose.{column}
+use Rattle.f2_dual.specs.Inside.Columns.{column}
 
 abbrev pub dot : List Bool → List Bool → Bool
 dot [] ys = false

@@ -10,10 +10,9 @@ use Rattle.f2_vec.proofs.Sums.{bit-sum_of, bit-zeros, length-sum_of, length-zero
 use Rattle.f2_vec.proofs.Split.{length-unit_vector, bit-unit_vector}
 use Rattle.f2_matrix.specs.Preimages.{pivot_of, at_pivots}
 use Rattle.f2_matrix.specs.Reduction.{augmented}
-use Rattle.f2_matrix.specs.Transpose.{column}
 use Rattle.f2_matrix.proofs.Split.{length-augmented, row-augmented}
 use Rattle.f2_matrix.proofs.Pivots.{bit-at_pivots}
-use Rattle.f2_dual.specs.Inside.Columns.{ChangesOnlyColumn}
+use Rattle.f2_dual.specs.Inside.Columns.{column, ChangesOnlyColumn}
 use Rattle.f2_dual.specs.Inside.Coordinates.{coordinates}
 use Rattle.f2_dual.proofs.OnCandidates.{row-column}
 

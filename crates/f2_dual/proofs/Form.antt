@@ -13,15 +13,15 @@ use Rattle.f2_vec.proofs.Combinations.{map-map, map_same, HaveWidth-map}
 use Rattle.f2_matrix.specs.Echelon.{IsReduced, HasNoZeroRow, IsEchelonForm}
 use Rattle.f2_matrix.specs.Preimages.{pivot_of}
 use Rattle.f2_matrix.specs.Reduction.{Reduction, augmented, has_one, image_part, chosen_part, kernel_part, IsReductionOf}
-use Rattle.f2_matrix.specs.Transpose.{column, columns}
+use Rattle.f2_dual.specs.Inside.Columns.{column, columns}
 use Rattle.f2_matrix.proofs.Kept.{place_of, kept_at}
 use Rattle.f2_matrix.proofs.Parts.{has_one-zero, has_one-nonzero, left_first, has_left, has_no_left, zero_has_none, zero_below, row-map_take}
-use Rattle.f2_matrix.proofs.Pivots.{pivot_first}
+use Rattle.f2_matrix.proofs.Pivots.{pivot_first, is_pivot}
 use Rattle.f2_matrix.proofs.Unique.{zero_or_first}
 use Rattle.f2_dual.specs.Inside.Coordinates.{coordinates, pivot_units, relation_of, preimage_at, preimages_of}
 use Rattle.f2_dual.specs.Inside.Form.{is_left, is_right, parts_of}
 use Rattle.f2_dual.specs.Inside.Tables.{entry_at, spread_by, IsTableOfPivots, IsReducedBasis}
-use Rattle.f2_dual.proofs.OnCandidates.{is_pivot, row-column, HaveWidth-units}
+use Rattle.f2_dual.proofs.OnCandidates.{row-column, HaveWidth-units}
 use Rattle.f2_dual.proofs.Tables.{column-spread}
 
 -- ---- the rows with a 1 before a place are the first ones

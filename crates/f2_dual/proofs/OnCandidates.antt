@@ -4,30 +4,18 @@ use Rattle.std.proofs.Common.{◌≡◌, ℕ, ◌-◌, ◌<◌, nat_eq, Bool, fa
 use Rattle.std.proofs.lemmas.Bool.{cases_lt, cases_eq, eq-eqb, ne_eqb}
 use Rattle.std.proofs.lemmas.List.{ext_get_or, get_or-map, length-map, length-reverse, get_or-reverse, length-append, get_or_append_left, get_or-append_right}
 use Rattle.f2_vec.specs.Vectors.{plus, sum_of, zeros, bit, IsZero, IsFirstOne}
-use Rattle.f2_vec.proofs.Sums.{one_within, bit-zeros, bit-sum_of, length-sum_of, plus-false, sum_of-comm, sum_of-self, sum_of-cancel}
+use Rattle.f2_vec.proofs.Sums.{bit-zeros, bit-sum_of, length-sum_of, plus-false, sum_of-comm, sum_of-self, sum_of-cancel}
 use Rattle.f2_vec.specs.Spans.{row, HaveWidth, combination, unit_vector, IsInSpan}
 use Rattle.f2_vec.proofs.Spans.{length-combination, length-IsInSpan, combination-sum_of, combination-append, row-IsInSpan, combination-IsInSpan, HaveWidth-append}
 use Rattle.f2_vec.proofs.Split.{bit-unit_vector, length-unit_vector}
 use Rattle.f2_vec.proofs.Combinations.{map-map, map_same, HaveWidth-map, combination-combination, combination-unit_vector}
 use Rattle.f2_matrix.specs.Echelon.{IsReduced, HasNoZeroRow, IsRowBasis, IsKernelBasis}
 use Rattle.f2_matrix.specs.Preimages.{IsPreimage, ArePreimages, pivot_of, at_pivots, quasi_of}
-use Rattle.f2_matrix.proofs.Unique.{first_one}
-use Rattle.f2_matrix.proofs.Pivots.{pivot_first, length-at_pivots, bit-at_pivots, sum_at_pivots}
+use Rattle.f2_dual.specs.Inside.Columns.{column}
+use Rattle.f2_matrix.proofs.Pivots.{length-at_pivots, bit-at_pivots, sum_at_pivots, is_pivot, pivot_within}
 use Rattle.f2_matrix.proofs.Preimages.{quasi_of-IsPreimage}
-use Rattle.f2_matrix.specs.Transpose.{column}
 use Rattle.f2_dual.specs.Inside.Coordinates.{coordinates, element_of, pivot_units, new_rows, relation_of}
 use Rattle.f2_dual.proofs.Dots.{dot, dot-comm, dot-unit, bit-combination-dot, pairing}
-
--- ---- pivots of rows that are not zero
-
-pub is_pivot : (v : List Bool) → (IsZero v → ⊥) → IsFirstOne v (pivot_of v)
-is_pivot v nonzero = let f = first_one v nonzero in subst (IsFirstOne v) (sym (pivot_first v f.0 f.1)) f.1
-
-pub pivot_within : (n : ℕ) (rows : List (List Bool)) (i : ℕ) → HaveWidth n rows → HasNoZeroRow rows → i < length rows → pivot_of (row rows i) < n
-pivot_within n rows i w nz l =
-    let v = row rows i in
-    let m : pivot_of v < length v = one_within v (pivot_of v) (is_pivot v (nz i l)).one in
-    omega (arith, w i l)
 
 -- the value of a row at the pivot of another
 pub bit_at_pivot : (n : ℕ) (rows : List (List Bool)) (i j : ℕ) → IsReduced rows → HasNoZeroRow rows → i < length rows → j < length rows → bit (row rows j) (pivot_of (row rows i)) ≡ nat_eq i j

@@ -13,14 +13,14 @@ use Rattle.f2_vec.proofs.Split.{bit-unit_vector, length-unit_vector}
 use Rattle.f2_vec.proofs.Combinations.{map-map, map_same, HaveWidth-map, combination-combination, combination-zero_rows}
 use Rattle.f2_matrix.specs.Echelon.{IsReduced, HasNoZeroRow, IsKernelBasis}
 use Rattle.f2_matrix.specs.Preimages.{pivot_of, at_pivots}
+use Rattle.f2_dual.specs.Inside.Columns.{column}
 use Rattle.f2_matrix.proofs.Elimination.{IsFirstOne-unique}
 use Rattle.f2_matrix.proofs.Unique.{zero_without_first}
 use Rattle.f2_matrix.proofs.Kept.{place_of, kept_at, place_of-rises, kept_somewhere}
-use Rattle.f2_matrix.proofs.Pivots.{first_within, pivot_first, length-at_pivots, bit-at_pivots, zero_left}
-use Rattle.f2_matrix.specs.Transpose.{column}
+use Rattle.f2_matrix.proofs.Pivots.{first_within, pivot_first, length-at_pivots, bit-at_pivots, zero_left, is_pivot}
 use Rattle.f2_dual.specs.Inside.Coordinates.{element_of, pivot_units, is_free, free_elements, new_rows, relation_of}
 use Rattle.f2_dual.proofs.Dots.{dot, dot_at, dot_none, bit-combination-dot, pairing, pairing-zeros, pairing-combination}
-use Rattle.f2_dual.proofs.OnCandidates.{AreParts, is_pivot, row-column, HaveWidth-units, element_within, wide_rows, wide_new, wide_all, length-new, relation-vanishes, pairing-row_kernel, pairing-row_chosen, pairing-new_kernel, pairing-new_chosen}
+use Rattle.f2_dual.proofs.OnCandidates.{AreParts, row-column, HaveWidth-units, element_within, wide_rows, wide_new, wide_all, length-new, relation-vanishes, pairing-row_kernel, pairing-row_chosen, pairing-new_kernel, pairing-new_chosen}
 
 -- ---- rows known by their first ones
 

@@ -4,9 +4,9 @@ use Rattle.std.proofs.lemmas.Bool.{cases_lt, eq-eqb, ne_eqb}
 use Rattle.std.proofs.lemmas.List.{ext_get_or, get_or-map, get_or_past, length-map}
 use Rattle.f2_vec.specs.Vectors.{bit}
 use Rattle.f2_vec.specs.Spans.{row, combination, unit_vector}
+use Rattle.f2_dual.specs.Inside.Columns.{column}
 use Rattle.f2_vec.proofs.Spans.{length-combination}
 use Rattle.f2_vec.proofs.Split.{bit-unit_vector}
-use Rattle.f2_matrix.specs.Transpose.{column}
 use Rattle.f2_dual.specs.Inside.Coordinates.{element_of, pivot_units}
 use Rattle.f2_dual.specs.Inside.Tables.{IsSpread}
 use Rattle.f2_dual.proofs.Dots.{dot, dot_zero, dot_only, bit-combination-dot}

@@ -16,11 +16,12 @@ use Rattle.f2_matrix.specs.Preimages.{IsPreimage, ArePreimages, pivot_of}
 use Rattle.f2_matrix.proofs.Elimination.{IsFirstOne-unique}
 use Rattle.f2_matrix.proofs.Parts.{combination_where-IsInSpan, image_is_row_basis, kernel_is_kernel_basis, chosen_are_preimages}
 use Rattle.f2_matrix.specs.Choice.{IsChosen}
-use Rattle.f2_matrix.specs.Transpose.{column}
+use Rattle.f2_dual.specs.Inside.Columns.{column}
 use Rattle.f2_dual.specs.Inside.Coordinates.{coordinates, element_of, pivot_units, is_free, free_elements, new_rows, relation_of, relations_of, preimages_of, reduction_over, IsChoiceBy}
+use Rattle.f2_matrix.proofs.Pivots.{is_pivot}
 use Rattle.f2_dual.proofs.Dots.{pairing, pairing_none}
 use Rattle.f2_matrix.proofs.FromParts.{reduction_from_parts}
-use Rattle.f2_dual.proofs.OnCandidates.{AreParts, is_pivot, row-column, HaveWidth-units, each_row-append, element_within, wide_rows, wide_all, length-coordinates, row-new, kernel_pivot, preimage, preimage-gives, all-IsInSpan, pairing-row_kernel, pairing-candidate}
+use Rattle.f2_dual.proofs.OnCandidates.{AreParts, row-column, HaveWidth-units, each_row-append, element_within, wide_rows, wide_all, length-coordinates, row-new, kernel_pivot, preimage, preimage-gives, all-IsInSpan, pairing-row_kernel, pairing-candidate}
 use Rattle.f2_dual.proofs.Relations.{found, free_at, free_at-is, free_no_pivot, whole, made, length-whole, length-made, made_firsts, made-IsKernelBasis}
 
 -- ---- the rows at rising pivots are those that a test over all places picks

@@ -9,11 +9,10 @@ use Rattle.f2_vec.proofs.Sums.{bit-zeros}
 use Rattle.f2_vec.specs.Spans.{row, HaveWidth, combination}
 use Rattle.f2_vec.proofs.Combinations.{map-map, map_same, HaveWidth-map}
 use Rattle.f2_matrix.specs.Preimages.{pivot_of, at_pivots}
-use Rattle.f2_matrix.specs.Transpose.{column, columns}
-use Rattle.f2_matrix.proofs.Pivots.{pivot_first, length-at_pivots, bit-at_pivots}
+use Rattle.f2_dual.specs.Inside.Columns.{column, columns}
+use Rattle.f2_matrix.proofs.Pivots.{pivot_first, length-at_pivots, bit-at_pivots, pivot_within, is_pivot}
 use Rattle.f2_dual.specs.Inside.Coordinates.{element_of, is_free, pivot_units}
 use Rattle.f2_dual.specs.Inside.Tables.{entry_at, row_or_zero, spread_by, IsTableOfPivots, IsReducedBasis, IsSpread}
-use Rattle.f2_dual.proofs.OnCandidates.{pivot_within, is_pivot}
 use Rattle.f2_dual.proofs.Relations.{free_or_pivot, free_no_pivot}
 use Rattle.f2_dual.proofs.Spread.{AreApart, AreWithin, combination-spread}
 

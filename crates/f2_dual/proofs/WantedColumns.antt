@@ -8,9 +8,8 @@ use Rattle.std.proofs.lemmas.List.FromFn.{length-range_with_len, get_or-range_wi
 use Rattle.f2_vec.specs.Vectors.{sum_of, zeros}
 use Rattle.f2_vec.specs.Spans.{row, unit_vector}
 use Rattle.f2_matrix.specs.Reduction.{has_one}
-use Rattle.f2_matrix.specs.Transpose.{column, columns}
 use Rattle.f2_matrix.proofs.Kept.{place_of, kept_at}
-use Rattle.f2_dual.specs.Inside.Columns.{columns_at, with_element}
+use Rattle.f2_dual.specs.Inside.Columns.{column, columns, columns_at, with_element}
 use Rattle.f2_dual.specs.Inside.Coordinates.{is_free, free_elements, relation_of, relations_of, preimage_at, preimages_of}
 use Rattle.f2_dual.specs.Inside.Form.{parts_of}
 use Rattle.f2_dual.specs.Inside.Tables.{entry_at, place_in, is_vacant, vacant_places, wanted_places, spread_by, IsTableOfPivots, IsReducedBasis}

@@ -71,7 +71,7 @@ fn choose_covered(
     let kernel = Rows::of(alloc, kernel)?;
     Ok((
         new,
-        Reduced::from_parts(cols, height, image, chosen, kernel),
+        Reduced::from_shared_rows(cols, height, image, chosen, kernel),
     ))
 }
 

@@ -1,8 +1,7 @@
 //! Columns of rows at some places, and of no others.
 ghost use Rattle.std.specs.Prelude.{◌≡◌, ℕ, ◌+◌, ◌*◌, ◌<◌, ◌≤◌, map, length, IfOk};
 ghost use Rattle.f2_vec.specs.Spans.{HaveWidth};
-ghost use Rattle.f2_matrix.specs.Inside.Columns.{IsBlockOf};
-ghost use Rattle.f2_dual.specs.Inside.Columns.{columns_at as columns_at_of, IsTurnedBlock, AreFilledAt};
+ghost use Rattle.f2_dual.specs.Inside.Columns.{IsBlockOf, columns_at as columns_at_of, IsTurnedBlock, AreFilledAt};
 
 use f2_vec::{BitVec, transposed_block};
 use memory::Memory;

@@ -7,9 +7,8 @@ ghost use Rattle.f2_matrix.specs.Echelon.{IsReduced, HasNoZeroRow};
 ghost use Rattle.f2_matrix.specs.Preimages.{at_pivots};
 ghost use Rattle.f2_matrix.specs.Reduction.{augmented};
 ghost use Rattle.f2_dual.specs.Inside.Coordinates.{coordinates as coordinates_of};
-ghost use Rattle.f2_matrix.specs.Transpose.{column};
 ghost use Rattle.f2_dual.specs.Inside.Tables.{IsTableOfPivots};
-ghost use Rattle.f2_dual.specs.Inside.Columns.{ChangesOnlyColumn};
+ghost use Rattle.f2_dual.specs.Inside.Columns.{column, ChangesOnlyColumn};
 
 use crate::pivots::table_of_pivots;
 use f2_matrix::Matrix;

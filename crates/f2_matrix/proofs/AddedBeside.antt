@@ -9,20 +9,6 @@ use Rattle.f2_vec.proofs.Spans.{HaveWidth-set}
 use Rattle.f2_matrix.specs.Preimages.{pivot_of}
 use Rattle.f2_matrix.specs.Inside.Extend.{IsPlaceFor, IsAddedBeside}
 
--- the first pivot behind p, or the end
-pub place_found : (p k : ℕ) (rows : List (List Bool)) (pivots : List ℕ) → pivots ≡ map pivot_of rows → k ≤ length pivots → ((j : ℕ) → j < k → get_or pivots j 0 ≤ p) → (k < length pivots → p < get_or pivots k 0) → IsPlaceFor p rows k
-place_found p k rows pivots e l before after = record {
-  within = omega (arith, len);
-  before = λ j m. let b = before j m in let s = at j (omega (arith, len)) in omega arith;
-  after = λ m. let a = after (omega (arith, len)) in let s = at k m in omega arith;
-}
-  where
-    len : length pivots ≡ length rows
-    len = ap length e ∙ length-map rows pivot_of
-
-    at : (j : ℕ) → j < length rows → get_or pivots j 0 ≡ pivot_of (row rows j)
-    at j m = ap (λ ps. get_or ps j 0) e ∙ get_or-map pivot_of rows j [] 0 m
-
 -- ys is xs with c added beside the ones, below place i
 pub record IsAddedUpTo (c : List Bool) (q i : ℕ) (beside xs ys : List (List Bool)) : Type 0 where
   pub as_many : length ys ≡ length xs

@@ -12,7 +12,7 @@ use Rattle.f2_vec.proofs.Combinations.{HaveWidth-take}
 use Rattle.f2_vec.proofs.Spans.{HaveWidth-drop}
 use Rattle.f2_matrix.specs.Inside.RowOperations.{cleared, IsClearedBy}
 use Rattle.f2_matrix.specs.Inside.Blocks.{cleared_at, block_rows, IsClearedByBlock, IsPivotTaken}
-use Rattle.f2_matrix.proofs.RowOperations.{row-swap_left, row-swap_right, row-swap_other, IsClearedBy_parts, length-cleared, row-map_cleared, IsRearranged, IsRearranged-swap, HaveWidth-rearranged}
+use Rattle.f2_matrix.proofs.RowOperations.{row-swap_left, row-swap_right, row-swap_other, IsClearedBy_parts, length-cleared, row-map_cleared, IsRearranged, IsRearranged-swap, HaveWidth-rearranged, HaveWidth-cleared}
 use Rattle.f2_matrix.proofs.Elimination.{IsEliminated, IsEliminated-skip, IsEliminated-settle}
 
 -- ---- sums of cleared rows
@@ -56,11 +56,6 @@ one_row_more n false true q u v e f g = ap (sum_of v) (sum_of-zeros_right n (sum
 one_row_more n true false q u v e f g = ap (λ z. sum_of v (sum_of u z)) (sum_of-zeros_right n q e) ∙ sym (sum_of-assoc v u q)
 one_row_more n true true q u v e f g = ap (λ z. sum_of v (sum_of (sum_of u q) z)) (sum_of-zeros_right n q e) ∙ ap (sum_of v) (twice n u q f e)
 
-HaveWidth-map_cleared : (n col : ℕ) (q : List Bool) (b : List (List Bool)) → HaveWidth n b → length q ≡ n → HaveWidth n (map (cleared q col) b)
-HaveWidth-map_cleared n col q b w e = λ i l.
-    let m : i < length b = omega (arith, length-map b (cleared q col)) in
-    ap length (row-map_cleared q col b i) ∙ length-cleared n q (row b i) col (w i m) e
-
 -- to clear by a block of one row more, itself cleared by it, is to clear by the block and then by that row
 pub cleared_at_more : (n col : ℕ) (ps : List ℕ) (b : List (List Bool)) (q v : List Bool) → HaveWidth n b → length b ≡ length ps → length q ≡ n → length v ≡ n → cleared_at n (ps ++ col ∷ []) (map (cleared q col) b ++ q ∷ []) v ≡ cleared q col (cleared_at n ps b v)
 cleared_at_more n col ps b q v w e lq lv =
@@ -71,7 +66,7 @@ cleared_at_more n col ps b q v w e lq lv =
     let wq : HaveWidth n (q ∷ []) = HaveWidth-cons n q [] lq (HaveWidth-nil n) in
     let lc : length cs ≡ length (map (cleared q col) b) = length-map ps (bit v) ∙ sym e ∙ sym (length-map b (cleared q col)) in
     ap (λ c. sum_of v (combination n c (map (cleared q col) b ++ q ∷ []))) (map_push (bit v) ps col)
-    ∙ ap (sum_of v) (combination-append n cs (x ∷ []) (map (cleared q col) b) (q ∷ []) (HaveWidth-map_cleared n col q b w lq) wq lc)
+    ∙ ap (sum_of v) (combination-append n cs (x ∷ []) (map (cleared q col) b) (q ∷ []) (HaveWidth-cleared n q col b lq w) wq lc)
     ∙ ap (λ z. sum_of v (sum_of z (combination n (x ∷ []) (q ∷ [])))) (combination-cleared n col cs b q w lq)
     ∙ one_row_more n x (bit u col) q u v lq lu lv
     ∙ ap (λ t. with_if t q (sum_of v u)) (sym (bit-sum_of v u col (lv ∙ sym lu)))

@@ -14,7 +14,7 @@ use Rattle.f2_matrix.proofs.Elimination.{IsEliminated, IsEliminated-start, IsEli
 use Rattle.f2_matrix.proofs.RowOperations.{IsClearedBy_parts}
 use Rattle.f2_matrix.proofs.Split.{HaveWidth-augmented}
 use Rattle.f2_matrix.proofs.Parts.{has_one-zero, has_one-nonzero, image_is_row_basis, kernel_is_kernel_basis}
-use Rattle.f2_matrix.proofs.Pivots.{zero_left, span_left}
+use Rattle.f2_matrix.proofs.Pivots.{one_inside, zero_left, span_left}
 use Rattle.f2_matrix.specs.Existence.{EchelonFormExists, ReductionExists, RowBasisExists, KernelBasisExists, SpanIsDecidable}
 
 -- a row with a 1 in the column, at or after place r
@@ -45,9 +45,6 @@ row_with_one rows r col (suc n) =
 bit_past : (rows : List (List Bool)) (col i : ℕ) → length rows ≤ i → bit (row rows i) col ≡ false
 bit_past rows col i h = ap (λ (v : List Bool). bit v col) (get_or_past rows i [] h)
 
-within_rows : (rows : List (List Bool)) (col i : ℕ) → bit (row rows i) col ≡ true → i < length rows
-within_rows rows col i one = elim (cases_lt i (length rows)) [ inl l ↦ l | inr l ↦ absurd (both_ways (bit (row rows i) col) (bit_past rows col i l) one) ]
-
 -- the rows eliminated through a column
 record AreEliminated (n : ℕ) (xs : List (List Bool)) (col : ℕ) : Type 0 where
   settled : ℕ
@@ -64,7 +61,7 @@ one_column_more n xs col p =
         are = IsEliminated-skip n r col xs p.rows p.are (λ i l. elim (cases_lt i (length p.rows)) [ inl b ↦ none i l b | inr b ↦ bit_past p.rows col i b ]);
       }
       | inl found ↦
-          let there = within_rows p.rows col found.place found.one in
+          let there = one_inside p.rows found.place col found.one in
           let from = found.from in
           let swapped = swap p.rows r found.place in
           let len : r < length swapped = omega (arith, length-swap p.rows r found.place) in

@@ -12,15 +12,14 @@ use Rattle.f2_vec.proofs.Spans.{HaveWidth-head, HaveWidth-tail, HaveWidth-nil, H
 use Rattle.f2_vec.proofs.Split.{sum_of-append}
 use Rattle.f2_vec.proofs.Combinations.{combination-padded_right}
 use Rattle.f2_matrix.specs.Echelon.{IsReduced, HasNoZeroRow, IsRowBasis, IsKernelBasis}
-use Rattle.f2_matrix.specs.Preimages.{IsPreimage, ArePreimages, pivot_of, at_pivots, quasi_of}
-use Rattle.f2_matrix.specs.Inside.Parts.{rest_of}
+use Rattle.f2_matrix.specs.Preimages.{IsPreimage, ArePreimages, pivot_of, at_pivots, quasi_of, rest_of}
 use Rattle.f2_matrix.specs.Inside.RowOperations.{cleared}
 use Rattle.f2_matrix.specs.Inside.Extend.{longer, with_pivot, IsPlaceFor, IsAddedBeside}
-use Rattle.f2_matrix.proofs.RowOperations.{HaveSameSpan-trans, bit-cleared_other, bit-cleared_same, length-cleared}
+use Rattle.f2_matrix.proofs.RowOperations.{HaveSameSpan-trans, bit-cleared_other, bit-cleared_same, length-cleared, HaveWidth-cleared}
 use Rattle.f2_matrix.proofs.Unique.{first_one}
-use Rattle.f2_matrix.proofs.Pivots.{pivot_first, length-at_pivots, bit-at_pivots, at_pivots-combination, zero_left, span_left}
+use Rattle.f2_matrix.proofs.Pivots.{one_inside, pivot_first, length-at_pivots, bit-at_pivots, at_pivots-combination, zero_left, span_left, rest_apart, rest_length}
 use Rattle.f2_matrix.proofs.Preimages.{combination_of_preimages}
-use Rattle.f2_matrix.proofs.Inserted.{MayJoin, one_inside, HaveWidth-cleared, HaveWidth-insert, came_from, row_new, first_of_old, first_of_new, joined_nonzero, joined_reduced, joined_widths, both_widths, new_in_both, old_in_both, joined_span, length_all, length_both}
+use Rattle.f2_matrix.proofs.Inserted.{MayJoin, HaveWidth-insert, came_from, row_new, first_of_old, first_of_new, joined_nonzero, joined_reduced, joined_widths, both_widths, new_in_both, old_in_both, joined_span, length_all, length_both}
 
 -- ---- a 0 behind each row
 
@@ -87,21 +86,6 @@ ended m c e = record {
   is = sym (take_all (m + 1) c (omega arith)) ∙ take_more c m false (omega arith);
   width = length-take-le m c (omega arith);
 }
-
--- ---- what is left of a vector
-
-pub rest_apart : (n : ℕ) (image : List (List Bool)) (v : List Bool) (i a : ℕ) → HaveWidth n image → IsReduced image → HasNoZeroRow image → length v ≡ n → IsFirstOne (row image i) a → bit (rest_of n image v) a ≡ false
-rest_apart n image v i a w reduced nonzero e f =
-    let c = at_pivots image v in
-    let u = combination n c image in
-    let l : i < length image = one_inside image i a f.one in
-    let p = pivot_first (row image i) a f in
-    let same : at_pivots image u ≡ c = at_pivots-combination n c image w reduced nonzero (length-at_pivots image v) in
-    let in_u : bit u a ≡ bit v a = sym (bit-at_pivots image u i l ∙ ap (bit u) p) ∙ ap (λ b. bit b i) same ∙ bit-at_pivots image v i l ∙ ap (bit v) p in
-    bit-sum_of v u a (e ∙ sym (length-combination n c image w)) ∙ ap (plus (bit v a)) in_u ∙ plus-self (bit v a)
-
-pub rest_length : (n : ℕ) (image : List (List Bool)) (v : List Bool) → HaveWidth n image → length v ≡ n → length (rest_of n image v) ≡ n
-rest_length n image v w e = length-sum_of v (combination n (at_pivots image v) image) (e ∙ sym (length-combination n (at_pivots image v) image w)) ∙ e
 
 -- combinations of vectors of a kernel are in it
 kernel_combination : (n m : ℕ) (c : List Bool) (xs rows : List (List Bool)) → HaveWidth n rows → length rows ≡ m → HaveWidth m xs → ((i : ℕ) → i < length xs → IsInKernel n rows (row xs i)) → IsInKernel n rows (combination m c xs)

@@ -14,9 +14,9 @@ use Rattle.f2_matrix.specs.Echelon.{IsReduced, HasNoZeroRow}
 use Rattle.f2_matrix.specs.Inside.RowOperations.{cleared}
 use Rattle.f2_matrix.specs.Inside.Extend.{IsPlaceFor, with_pivot}
 use Rattle.f2_matrix.proofs.Elimination.{IsFirstOne-unique}
-use Rattle.f2_matrix.proofs.RowOperations.{length-row_with_one, bit-cleared_other, bit-cleared_same, length-cleared}
+use Rattle.f2_matrix.proofs.RowOperations.{length-row_with_one, bit-cleared_other, bit-cleared_same, length-cleared, HaveWidth-cleared}
 use Rattle.f2_matrix.proofs.Unique.{first_one}
-use Rattle.f2_matrix.proofs.Pivots.{pivot_first}
+use Rattle.f2_matrix.proofs.Pivots.{one_inside, pivot_first}
 
 -- w, whose first one is at p, has a 0 at each pivot of these reduced rows, and k of them stand before it
 pub record MayJoin (n : ℕ) (w : List Bool) (p k : ℕ) (rows : List (List Bool)) : Type 0 where
@@ -44,19 +44,6 @@ IsInSpan-uncleared n w v p xs h lw lv sw sc =
           subst (IsInSpan n xs) (ap (sum_of w) (sum_of-comm v w) ∙ sum_of-cancel n w v lw lv) (sum-IsInSpan n xs w (sum_of v w) h sw s)
       | inr f ↦ let s : IsInSpan n xs v = rw f at sc in s
     ]
-
--- a row with a 1 is no row past the end
-pub one_inside : (xs : List (List Bool)) (i a : ℕ) → bit (row xs i) a ≡ true → i < length xs
-one_inside xs i a one =
-    elim (cases_lt i (length xs)) [
-      | inl l ↦ l
-      | inr l ↦ absurd (both_ways (bit (row xs i) a) (ap (λ v. bit v a) (get_or_past xs i [] l)) one)
-    ]
-
-pub HaveWidth-cleared : (n : ℕ) (w : List Bool) (p : ℕ) (rows : List (List Bool)) → length w ≡ n → HaveWidth n rows → HaveWidth n (map (cleared w p) rows)
-HaveWidth-cleared n w p rows e h i l =
-    let m : i < length rows = omega (arith, length-map rows (cleared w p)) in
-    ap length (get_or-map (cleared w p) rows i [] [] m) ∙ length-cleared n w (row rows i) p (h i m) e
 
 pub HaveWidth-insert : (n k : ℕ) (w : List Bool) (rows : List (List Bool)) → length w ≡ n → HaveWidth n rows → HaveWidth n (insert rows k w)
 HaveWidth-insert n k w rows e h =

@@ -4,6 +4,7 @@ mod BlockSteps
 mod BlockSums
 mod BlockParts
 mod Quarters
+mod Words
 mod RowBlocks
 mod NextParts
 mod SortSteps
@@ -20,6 +21,7 @@ pub mod FromParts
 mod OneRowMore
 mod AddedBeside
 pub mod Spanning
+mod Within
+mod Determined
 pub mod Crossing
 pub mod Choice
-mod Columns

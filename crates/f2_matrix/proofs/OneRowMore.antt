@@ -8,8 +8,7 @@ use Rattle.f2_vec.specs.Vectors.{bit, IsZero, IsFirstOne}
 use Rattle.f2_vec.specs.Spans.{HaveWidth}
 use Rattle.f2_matrix.specs.Echelon.{IsRowBasis, IsKernelBasis}
 use Rattle.f2_matrix.specs.Reduction.{Reduction, IsReductionOf}
-use Rattle.f2_matrix.specs.Preimages.{ArePreimages, pivot_of, quasi_of}
-use Rattle.f2_matrix.specs.Inside.Parts.{rest_of}
+use Rattle.f2_matrix.specs.Preimages.{ArePreimages, pivot_of, quasi_of, rest_of}
 use Rattle.f2_matrix.specs.Inside.RowOperations.{cleared}
 use Rattle.f2_matrix.specs.Inside.Extend.{longer, with_pivot, IsWithRelation, IsWithPivot}
 use Rattle.f2_matrix.proofs.Parts.{image_is_row_basis, kernel_is_kernel_basis, chosen_are_preimages}

@@ -11,7 +11,7 @@ use Rattle.f2_vec.proofs.Split.{combination-split, HaveWidth-left, HaveWidth-rig
 use Rattle.f2_matrix.specs.Echelon.{IsReduced, HasNoZeroRow, IsEchelonForm, IsRowBasis, IsKernelBasis}
 use Rattle.f2_matrix.specs.Reduction.{augmented, has_one, image_part, chosen_part, kernel_part}
 use Rattle.f2_matrix.specs.Preimages.{IsPreimage, ArePreimages}
-use Rattle.f2_matrix.proofs.Unique.{zero_or_first}
+use Rattle.f2_matrix.proofs.Unique.{zero_or_first, IsZero-cons}
 use Rattle.f2_matrix.proofs.Split.{combination-augmented, length-augmented}
 use Rattle.f2_matrix.proofs.Kept.{place_of, kept_at, place_of-rises, kept_somewhere}
 
@@ -19,11 +19,7 @@ use Rattle.f2_matrix.proofs.Kept.{place_of, kept_at, place_of-rises, kept_somewh
 pub has_one-zero : (v : List Bool) → has_one v ≡ false → IsZero v
 has_one-zero [] e = λ k. refl
 has_one-zero (true ∷ v) e = cc
-has_one-zero (false ∷ v) e = by_place v (has_one-zero v e)
-  where
-    by_place : (v : List Bool) → IsZero v → IsZero (false ∷ v)
-    by_place v z zero = refl
-    by_place v z (suc k) = z k
+has_one-zero (false ∷ v) e = IsZero-cons v (has_one-zero v e)
 
 pub has_one-nonzero : (v : List Bool) → has_one v ≡ true → IsZero v → ⊥
 has_one-nonzero [] e z = both_ways false refl e
@@ -208,7 +204,7 @@ pub row-map_drop : (n : ℕ) (rows : List (List Bool)) (i : ℕ) → i < length 
 row-map_drop n rows i l = get_or-map (drop n) rows i [] [] l
 
 -- two vectors of two parts
-same_parts : (n : ℕ) (a b c d : List Bool) → length a ≡ n → length c ≡ n → a ++ b ≡ c ++ d → (a ≡ c) × (b ≡ d)
+pub same_parts : (n : ℕ) (a b c d : List Bool) → length a ≡ n → length c ≡ n → a ++ b ≡ c ++ d → (a ≡ c) × (b ≡ d)
 same_parts n a b c d e f h =
     (sym (take_at a b n e) ∙ ap (take n) h ∙ take_at c d n f, sym (drop_at a b n e) ∙ ap (drop n) h ∙ drop_at c d n f)
 
@@ -306,7 +302,7 @@ module _ (n m : ℕ) (form : List (List Bool)) (w : HaveWidth (n + m) form) (red
       subst (IsInSpan m (kernel_part n form)) both.1 (combination_where-IsInSpan m d (map (drop n) form) (kernel_part n form) kernel_widths (right_row d c s.one_each s.sum))
 
 -- a combination of the rows of D, beside its coefficients, is in the span of the form
-whole_in_form : (n : ℕ) (xs form : List (List Bool)) (c : List Bool) → HaveWidth n xs → IsEchelonForm (n + length xs) (augmented xs) form → length c ≡ length xs → IsInSpan (n + length xs) form (combination n c xs ++ c)
+pub whole_in_form : (n : ℕ) (xs form : List (List Bool)) (c : List Bool) → HaveWidth n xs → IsEchelonForm (n + length xs) (augmented xs) form → length c ≡ length xs → IsInSpan (n + length xs) form (combination n c xs ++ c)
 whole_in_form n xs form c w h e =
     (h.same_span (combination n c xs ++ c)).0 (record { coefficients = c; one_each = e ∙ sym (length-augmented xs); sum = combination-augmented n c xs w e })
 

@@ -22,10 +22,10 @@ split_sum n m f ps rows w e =
     ∙ ap (λ c. combination n c (take m rows ++ drop m rows)) (map-append f (take m ps) (drop m ps))
     ∙ combination-append n (map f (take m ps)) (map f (drop m ps)) (take m rows) (drop m rows) (HaveWidth-take n m rows w) (HaveWidth-drop n m rows w) front
 
-fewer : (m : ℕ) (ps : List ℕ) (rows : List (List Bool)) → length rows ≡ length ps → length (drop m rows) ≡ length (drop m ps)
+pub fewer : (m : ℕ) (ps : List ℕ) (rows : List (List Bool)) → length rows ≡ length ps → length (drop m rows) ≡ length (drop m ps)
 fewer m ps rows e = omega (arith, length-drop m rows, length-drop m ps)
 
-part_length : (m : ℕ) (ps : List ℕ) (rows : List (List Bool)) → length rows ≡ length ps → length (take m rows) ≡ length (take m ps)
+pub part_length : (m : ℕ) (ps : List ℕ) (rows : List (List Bool)) → length rows ≡ length ps → length (take m rows) ≡ length (take m ps)
 part_length m ps rows e = length-take m rows ∙ ap (min m) e ∙ sym (length-take m ps)
 
 regroup : (v a b c d : List Bool) → sum_of v (sum_of a (sum_of b (sum_of c d))) ≡ sum_of (sum_of (sum_of (sum_of v a) b) c) d
@@ -35,7 +35,7 @@ regroup v a b c d =
     ∙ sym (sum_of-assoc (sum_of (sum_of v a) b) c d)
 
 -- one sum of a table is the combination that the coordinates at the places make
-held : (n : ℕ) (ps : List ℕ) (rows table : List (List Bool)) (v : List Bool) → HoldsSums n rows table → length rows ≡ length ps → sum_at ps table v ≡ combination n (map (bit v) ps) rows
+pub held : (n : ℕ) (ps : List ℕ) (rows table : List (List Bool)) (v : List Bool) → HoldsSums n rows table → length rows ≡ length ps → sum_at ps table v ≡ combination n (map (bit v) ps) rows
 held n ps rows table v h e = h.sums (map (bit v) ps) (length-map ps (bit v) ∙ sym e)
 
 -- four sums clear the vector by the block

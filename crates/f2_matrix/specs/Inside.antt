@@ -2,6 +2,6 @@
 pub mod RowOperations
 pub mod Blocks
 pub mod Rowwise
+pub mod Held
 pub mod Parts
-pub mod Columns
 pub mod Extend

@@ -8,7 +8,7 @@ ghost use Rattle.f2_matrix.specs.Inside.Extend.{longer, with_pivot, IsWithRelati
 
 use crate::matrix::clear_by;
 use crate::reduced::Reduced;
-use crate::rows::{Rows, first_or_length};
+use crate::rows::{Rows, first_or_length, place_for};
 use f2_vec::BitVec;
 use memory::Memory;
 use std::alloc::Global;
@@ -64,11 +64,11 @@ impl Reduced {
         let mut chosen = longer_rows(alloc, self.chosen())?;
         clear_by(chosen.as_mut_slice(), &relation, pivot);
         let mut relations = longer_rows(alloc, self.kernel())?;
-        let place = self.kernel_rows().place_for(pivot);
+        let place = place_for(self.kernel(), pivot);
         put_pivot(&mut relations, relation, pivot, place)?;
         let kernel = Rows::of(alloc, relations)?;
-        let image = self.image_rows().share()?;
-        Ok(Reduced::from_parts(self.cols(), height, image, chosen, kernel))
+        let image = self.image_rows(alloc)?;
+        Ok(Reduced::from_shared_rows(self.cols(), height, image, chosen, kernel))
     }
 
     /// With one row more at the end of the matrix, `rest` put among the image rows by its pivot, with `preimage` as its
@@ -87,16 +87,17 @@ impl Reduced {
         ensures { IfOk result (λ r. IsWithPivot rest pivot preimage self.now r) }
     {
         let height = preimage.len();
-        let place = self.image_rows().place_for(pivot);
+        let old = self.image();
+        let place = place_for(old, pivot);
         let mut chosen = longer_rows(alloc, self.chosen())?;
-        add_beside(chosen.as_mut_slice(), &preimage, self.image(), pivot);
+        add_beside(chosen.as_mut_slice(), &preimage, old, pivot);
         chosen.insert(place, preimage)?;
-        let mut rows = Vec::from_clones(alloc, self.image())?;
+        let mut rows = Vec::from_clones(alloc, old)?;
         put_pivot(&mut rows, rest, pivot, place)?;
         let image = Rows::of(alloc, rows)?;
         let relations = longer_rows(alloc, self.kernel())?;
         let kernel = Rows::of(alloc, relations)?;
-        Ok(Reduced::from_parts(self.cols(), height, image, chosen, kernel))
+        Ok(Reduced::from_shared_rows(self.cols(), height, image, chosen, kernel))
     }
 }
 

@@ -4,6 +4,7 @@
 mod blocks;
 mod existence;
 mod extend;
+mod held;
 mod laws;
 mod matrix;
 mod rank;
@@ -11,17 +12,16 @@ mod reduced;
 mod rows;
 mod rowwise;
 mod scratch;
-mod transpose;
 
 pub use existence::{
     echelon_form_exists, kernel_basis_exists, reduction_exists, row_basis_exists, span_is_decidable,
 };
 pub use laws::{
-    echelon_form_is_unique, kernel_basis_is_unique, preimage_is_unique, row_basis_is_unique,
+    echelon_form_is_unique, kernel_basis_is_unique, parts_are_reduction, preimage_is_unique,
+    row_basis_is_unique,
 };
 pub use matrix::Matrix;
 pub use rank::spanning_rows_are_full;
 pub use reduced::Reduced;
 pub use rows::Rows;
 pub use scratch::Scratch;
-pub use transpose::transposed_rows;

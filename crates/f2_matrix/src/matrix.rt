@@ -1,5 +1,5 @@
 //! Matrices, and their elimination row by row.
-ghost use Rattle.std.specs.Prelude.{◌≡◌, ℕ, ◌+◌, ◌<◌, ◌≤◌, Bool, true, false, [], ◌∷◌, ◌++◌, map, length, IfOk, IfSome, IfNone, OnOk, OnErr};
+ghost use Rattle.std.specs.Prelude.{◌≡◌, ℕ, ◌+◌, ◌<◌, ◌≤◌, Bool, true, false, ◌++◌, map, length, IfOk, IfSome, IfNone, OnOk, OnErr};
 ghost use Rattle.f2_vec.specs.Vectors.{bit};
 ghost use Rattle.f2_vec.specs.Spans.{row, HaveWidth, unit_vector};
 ghost use Rattle.f2_matrix.specs.Echelon.{IsEchelonForm};
@@ -55,27 +55,6 @@ impl Matrix {
         ensures widths { HaveWidth self.now.cols self.now.rows }
     {
         self.rows.as_slice()
-    }
-
-    /// The rows, in order, out of the matrix.
-    pub fn into_rows(self) -> Vec<BitVec>
-        ensures { result.items ≡ self.rows }
-    {
-        self.rows
-    }
-
-    /// Puts one more row at the end.
-    ///
-    /// # Errors
-    /// `Memory` if allocation fails.
-    pub fn push_row(&mut self, row: BitVec) -> Result<(), Memory>
-        requires { length row ≡ self.old.cols }
-        ensures cols { self.new.cols ≡ self.old.cols }
-        ensures ok { OnOk result (self.new.rows ≡ self.old.rows ++ row ∷ []) }
-        ensures err { OnErr result (self.new ≡ self.old) }
-    {
-        self.rows.push(row)?;
-        Ok(())
     }
 
     /// Brings the rows to row reduced echelon form, in place.

@@ -1,12 +1,14 @@
 //! What is kept of the reduction of a matrix, and the questions that it answers.
-ghost use Rattle.std.specs.Prelude.{◌≡◌, ℕ, ◌<◌, false, map, slice_index_or, ◌↔◌, ◌+◌, ◌≤◌, [], ◌∷◌, ◌++◌, length, IsTrue, IsSome, IfSome, IfOk, OnOk};
+ghost use Rattle.std.specs.Prelude.{◌≡◌, ℕ, false, ◌↔◌, ◌+◌, ◌≤◌, Bool, List, [], ◌∷◌, ◌++◌, length, IsTrue, IsSome, IfSome, IfOk, OnOk};
 ghost use Rattle.f2_vec.specs.Vectors.{sum_of, bit, IsZero, IsFirstOne};
 ghost use Rattle.f2_vec.specs.Spans.{row, HaveWidth, combination, IsInSpan};
 ghost use Rattle.f2_matrix.specs.Echelon.{IsReduced, HasNoZeroRow, IsEchelonForm, IsRowBasis, IsKernelBasis};
 ghost use Rattle.f2_matrix.specs.Reduction.{augmented, image_part, chosen_part, kernel_part, IsReductionOf};
-ghost use Rattle.f2_matrix.specs.Inside.Parts.{rest_of};
-ghost use Rattle.f2_matrix.specs.Preimages.{IsPreimageUnder, ArePreimages, quasi_of};
+ghost use Rattle.f2_matrix.specs.Preimages.{IsPreimageUnder, ArePreimages, at_pivots, quasi_of, rest_of};
+ghost use Rattle.f2_matrix.specs.Parts.{AreReductionParts};
+ghost use Rattle.f2_matrix.specs.Inside.Held.{rows_of};
 
+use crate::held::Held;
 use crate::matrix::Matrix;
 use crate::rows::Rows;
 use f2_vec::BitVec;
@@ -20,13 +22,14 @@ use std::marker::Model;
 pub struct Reduced {
     cols: usize,
     height: usize,
-    image: Rows,
+    image: Held,
     chosen: Vec<BitVec>,
-    kernel: Rows,
+    kernel: Held,
 }
 
 impl Model for Reduced {
     ghost use Rattle.f2_matrix.specs.Reduction.{Reduction};
+    ghost use Rattle.f2_matrix.specs.Inside.Held.{rows_of};
     ghost use Rattle.f2_matrix.specs.Inside.Parts.{AreParts};
 
     ghost Value = { Reduction };
@@ -34,12 +37,12 @@ impl Model for Reduced {
     ghost view = { λ r. record {
       cols = r.cols;
       height = r.height;
-      image = r.image;
+      image = rows_of r.image;
       chosen = r.chosen.items;
-      kernel = r.kernel;
+      kernel = rows_of r.kernel;
     } };
 
-    ghost invariant = { λ r. AreParts r.cols r.height r.image r.chosen.items r.kernel };
+    ghost invariant = { λ r. AreParts r.cols r.height (rows_of r.image) r.chosen.items (rows_of r.kernel) };
 }
 
 impl Reduced {
@@ -60,9 +63,42 @@ impl Reduced {
         parts_of(alloc, matrix, &form)
     }
 
-    /// The reduction with these parts, of a matrix with `height` rows of length `cols`: the echelon rows of their span, a
-    /// chosen preimage for each, and the echelon rows of the kernel. Nothing is reduced.
+    /// The reduction of the matrix, which has these parts. Nothing is reduced, and no memory is taken.
+    ///
+    /// The image rows, of the matrix's width, and the kernel rows, with one coefficient for each row of the matrix, are
+    /// reduced without zero rows, and together they are as many as the matrix has rows. Each kernel row is a vector of the
+    /// kernel, and each chosen row is the preimage of its image row that is zero at the pivots of the kernel rows.
     pub fn from_parts(
+        matrix: &Matrix,
+        image: Vec<BitVec>,
+        chosen: Vec<BitVec>,
+        kernel: Vec<BitVec>,
+    ) -> Reduced
+        requires { AreReductionParts matrix.now.cols matrix.now.rows image.items chosen.items kernel.items }
+        ensures parts { result
+            ≡ record {
+              cols = matrix.now.cols;
+              height = length matrix.now.rows;
+              image = image.items;
+              chosen = chosen.items;
+              kernel = kernel.items;
+            } }
+        ensures reduction { IsReductionOf matrix.now.cols matrix.now.rows result }
+    {
+        // The rows of a matrix have its width.
+        let height = matrix.rows().len();
+        Reduced {
+            cols: matrix.cols(),
+            height,
+            image: Held::Given(image),
+            chosen,
+            kernel: Held::Given(kernel),
+        }
+    }
+
+    /// The parts of a matrix with `height` rows of length `cols`, of which the image rows and the kernel rows are shared
+    /// already: the echelon rows of a span, a chosen preimage for each, and the echelon rows of a kernel. Nothing is reduced.
+    pub fn from_shared_rows(
         cols: usize,
         height: usize,
         image: Rows,
@@ -86,9 +122,9 @@ impl Reduced {
         Reduced {
             cols,
             height,
-            image,
+            image: Held::Shared(image),
             chosen,
-            kernel,
+            kernel: Held::Shared(kernel),
         }
     }
 
@@ -110,6 +146,8 @@ impl Reduced {
     pub fn image(&self) -> &[BitVec]
         ensures rows { result.now ≡ self.now.image }
         ensures widths { HaveWidth self.now.cols self.now.image }
+        ensures reduced { IsReduced self.now.image }
+        ensures nonzero { HasNoZeroRow self.now.image }
     {
         self.image.as_slice()
     }
@@ -132,22 +170,28 @@ impl Reduced {
         self.kernel.as_slice()
     }
 
-    /// The image rows, to be shared.
-    pub fn image_rows(&self) -> &Rows
-        ensures rows { result.now ≡ self.now.image }
+    /// The image rows for one more owner. They are copied only where the reduction was made from parts.
+    ///
+    /// # Errors
+    /// `Memory` if allocation fails, or if there are too many owners to count.
+    pub fn image_rows(&self, alloc: Global) -> Result<Rows, Memory>
+        ensures rows { IfOk result (λ rows. rows ≡ self.now.image) }
         ensures widths { HaveWidth self.now.cols self.now.image }
         ensures reduced { IsReduced self.now.image }
         ensures nonzero { HasNoZeroRow self.now.image }
     {
-        &self.image
+        self.image.share(alloc)
     }
 
-    /// The kernel rows, to be shared.
-    pub fn kernel_rows(&self) -> &Rows
-        ensures rows { result.now ≡ self.now.kernel }
+    /// The kernel rows for one more owner. They are copied only where the reduction was made from parts.
+    ///
+    /// # Errors
+    /// `Memory` if allocation fails, or if there are too many owners to count.
+    pub fn kernel_rows(&self, alloc: Global) -> Result<Rows, Memory>
+        ensures rows { IfOk result (λ rows. rows ≡ self.now.kernel) }
         ensures widths { HaveWidth self.now.height self.now.kernel }
     {
-        &self.kernel
+        self.kernel.share(alloc)
     }
 
     /// Whether `v` is a sum of rows of the matrix.
@@ -193,59 +237,79 @@ impl Reduced {
             IsPreimageUnder self.now v.now c) }
     {
         let mut quasi = BitVec::zero(alloc, self.height)?;
-        add_at_pivots(&mut quasi, v, self.image.pivots(), self.chosen.as_slice());
+        add_at_pivots(&mut quasi, v, &self.image, self.chosen.as_slice());
         Ok(quasi)
     }
 
-    /// A copy of the reduction, which shares the image and kernel rows.
+    /// The same reduction. Its image and kernel rows are shared, and copied only where this one was made from parts.
     ///
     /// # Errors
-    /// `Memory` if allocation fails.
+    /// `Memory` if allocation fails, or if there are too many owners to count.
     pub fn try_copy(&self, alloc: Global) -> Result<Reduced, Memory>
         ensures { IfOk result (λ copy. copy ≡ self.now) }
     {
         let chosen = Vec::from_clones(alloc, self.chosen.as_slice())?;
-        let image = self.image.share()?;
-        let kernel = self.kernel.share()?;
+        let image = self.image.share(alloc)?;
+        let kernel = self.kernel.share(alloc)?;
         Ok(Reduced {
             cols: self.cols,
             height: self.height,
-            image,
+            image: Held::Shared(image),
             chosen,
-            kernel,
+            kernel: Held::Shared(kernel),
         })
     }
 
-    /// `v` with its ones at the pivots of the image rows cleared: something is left just where `v` is outside their span.
-    pub(crate) fn rest(&self, alloc: Global, v: &BitVec) -> Result<BitVec, Memory>
+    /// The image rows as a matrix: the reduced basis of the span of the matrix's rows.
+    ///
+    /// # Errors
+    /// `Memory` if allocation fails.
+    pub fn row_basis(&self, alloc: Global) -> Result<Matrix, Memory>
+        ensures cols { IfOk result (λ basis. basis.cols ≡ self.now.cols) }
+        ensures rows { IfOk result (λ basis. basis.rows ≡ self.now.image) }
+        ensures basis { IfOk result (λ basis. (rows : List (List Bool)) → IsReductionOf self.now.cols rows self.now →
+            IsRowBasis self.now.cols rows basis.rows) }
+    {
+        let rows = Vec::from_clones(alloc, self.image())?;
+        Ok(Matrix::from_rows(self.cols, rows))
+    }
+
+    /// The representative of `v` modulo the span of the matrix's rows: the one vector of `v`'s coset that is zero at the
+    /// pivots of the image rows. It is zero exactly where `v` is in the span.
+    ///
+    /// # Errors
+    /// `Memory` if allocation fails.
+    pub fn rest(&self, alloc: Global, v: &BitVec) -> Result<BitVec, Memory>
         requires { length v.now ≡ self.now.cols }
         ensures rest { IfOk result (λ rest. rest ≡ rest_of self.now.cols self.now.image v.now) }
         ensures length { IfOk result (λ rest. length rest ≡ self.now.cols) }
+        ensures coset { IfOk result (λ rest. IsInSpan self.now.cols self.now.image (sum_of v.now rest)) }
         ensures apart { IfOk result (λ rest. (i p : ℕ) → IsFirstOne (row self.now.image i) p → bit rest p ≡ false) }
         ensures zero { IfOk result (λ rest. IsZero rest ↔ IsInSpan self.now.cols self.now.image v.now) }
     {
         let mut rest = v.try_copy(alloc)?;
-        add_at_pivots(&mut rest, v, self.image.pivots(), self.image.as_slice());
+        add_at_pivots(&mut rest, v, &self.image, self.image.as_slice());
         Ok(rest)
     }
 }
 
-/// Adds to `sum` those of the rows at whose pivots `v` has a 1.
-fn add_at_pivots(sum: &mut BitVec, v: &BitVec, pivots: &[usize], rows: &[BitVec])
-    requires as_many { length rows.now ≡ length pivots.now }
-    requires within { (i : ℕ) → i < length pivots.now → slice_index_or pivots.now i 0 < length v.now }
+/// Adds to `sum` those of the rows beside which there is an image row at whose pivot `v` has a 1.
+fn add_at_pivots(sum: &mut BitVec, v: &BitVec, image: &Held, rows: &[BitVec])
+    requires as_many { length rows.now ≡ length (rows_of image.now) }
+    requires image { HaveWidth (length v.now) (rows_of image.now) }
+    requires nonzero { HasNoZeroRow (rows_of image.now) }
     requires widths { HaveWidth (length sum.old) rows.now }
-    ensures { sum.new ≡ sum_of sum.old (combination (length sum.old) (map (bit v.now) pivots.now) rows.now) }
+    ensures { sum.new ≡ sum_of sum.old (combination (length sum.old) (at_pivots (rows_of image.now) v.now) rows.now) }
 {
-    for i in 0..pivots.len() {
-        if v.get(pivots[i]) {
+    for i in 0..rows.len() {
+        if v.get(image.pivot(i)) {
             sum.xor_with(&rows[i]);
         }
     }
 }
 
 /// Keeps of the echelon form of [D | I], D the matrix, both parts where there is a 1 left of the bar, and else
-/// what is right of it. The form has no zero row, but that is not used.
+/// what is right of it.
 fn parts_of(alloc: Global, matrix: &Matrix, form: &Matrix) -> Result<Reduced, Memory>
     requires cols { form.now.cols ≡ matrix.now.cols + length matrix.now.rows }
     requires form { IsEchelonForm (matrix.now.cols + length matrix.now.rows) (augmented matrix.now.rows) form.now.rows }
@@ -267,9 +331,9 @@ fn parts_of(alloc: Global, matrix: &Matrix, form: &Matrix) -> Result<Reduced, Me
     Ok(Reduced {
         cols,
         height,
-        image,
+        image: Held::Shared(image),
         chosen,
-        kernel,
+        kernel: Held::Shared(kernel),
     })
 }
 

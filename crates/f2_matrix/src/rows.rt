@@ -61,19 +61,6 @@ impl Rows {
     {
         self.held.pivots.as_slice()
     }
-
-    /// How many of the rows, whose pivots rise, a row with its pivot at `pivot` stands behind.
-    pub(crate) fn place_for(&self, pivot: usize) -> usize
-        ensures { IsPlaceFor pivot self.now result }
-    {
-        let pivots = self.pivots();
-        for i in 0..pivots.len() {
-            if pivot < pivots[i] {
-                return i;
-            }
-        }
-        pivots.len()
-    }
 }
 
 /// Rows, seen as the list of them, and beside them the pivot of each.
@@ -113,4 +100,16 @@ pub(crate) fn first_or_length(row: &BitVec) -> usize
         Some(pivot) => pivot,
         None => row.len(),
     }
+}
+
+/// How many of the rows, whose pivots rise, a row with its pivot at `pivot` stands behind.
+pub(crate) fn place_for(rows: &[BitVec], pivot: usize) -> usize
+    ensures { IsPlaceFor pivot rows.now result }
+{
+    for i in 0..rows.len() {
+        if pivot < first_or_length(&rows[i]) {
+            return i;
+        }
+    }
+    rows.len()
 }

@@ -1,16 +1,16 @@
 //! Gauss and Jordan's elimination row by row: rows find their pivots in order, and the others are cleared by several
-//! tables of sums at once. The proofs are of the elimination row by row, and speak of the rows as they would be once the
-//! sums are added.
+//! tables of sums at once.
 ghost use Rattle.std.specs.Prelude.{◌≡◌, ◌≢◌, ℕ, ◌+◌, ◌*◌, ◌<◌, ◌≤◌, Bool, false, slice_index_or, List, map, length, take, drop, IfOk, IfSome, IfNone, OnOk, OnErr};
 ghost use Rattle.std.specs.List.{All};
-ghost use Rattle.f2_vec.specs.Vectors.{bit, IsFirstOne};
+ghost use Rattle.f2_vec.specs.Vectors.{bit, IsFirstOne, IsWithinWords};
 ghost use Rattle.f2_vec.specs.Spans.{row, HaveWidth};
 ghost use Rattle.f2_matrix.specs.Echelon.{IsEchelonForm};
 ghost use Rattle.f2_matrix.specs.Inside.Blocks.{cleared_at, IsClearedByBlock, IsPivotTaken};
-ghost use Rattle.f2_matrix.specs.Inside.Rowwise.{first_part, second_part, third_part, fourth_part, AreQuarters, AreRooms, HoldSumsOfParts, with_sums, IsNextCleared, HavePivots};
+ghost use Rattle.f2_matrix.specs.Inside.Rowwise.{first_part, second_part, third_part, fourth_part, AreQuarters, AreRooms, HoldSumsOfParts, AreSumsWithin, with_sums, IsNextCleared, HavePivots};
 
 use crate::blocks::{clear_at, fill_table, index_at};
 use crate::matrix::clear_by;
+use crate::rows::first_or_length;
 use crate::scratch::room_for_sums;
 use f2_vec::BitVec;
 use memory::Memory;
@@ -32,6 +32,13 @@ pub struct Quarters<'a> {
     pub second: &'a [usize],
     pub third: &'a [usize],
     pub fourth: &'a [usize],
+}
+
+/// Words of rows, of 64 coordinates each: from the first up to one past the last.
+#[derive(Drop)]
+pub struct Words {
+    pub from: usize,
+    pub to: usize,
 }
 
 /// Brings the rows to row reduced echelon form.
@@ -161,8 +168,25 @@ fn clear_others(
     let (block, below) = rest.split_at_mut(places.len());
     let quarters = quarters_of(places, bits);
     fill_tables(cols, bits, tables, block);
-    clear_rows(cols, bits, above, &quarters, tables);
-    clear_rows(cols, bits, below, &quarters, tables);
+    let words = words_of(block);
+    clear_rows(cols, bits, above, &quarters, tables, &words);
+    clear_rows(cols, bits, below, &quarters, tables, &words);
+}
+
+/// The words from the first up to the last in which one of the rows is not zero.
+fn words_of(rows: &[BitVec]) -> Words
+    ensures { (i : ℕ) → i < length rows.now → IsWithinWords result.from result.to (row rows.now i) }
+{
+    let mut from = usize::MAX;
+    let mut to = 0;
+    for row in rows {
+        from = from.min(first_or_length(row) / 64);
+        let end = row.words_up_to_last();
+        if to < end {
+            to = end;
+        }
+    }
+    Words { from, to }
 }
 
 /// The first `count` items, or all where there are fewer, and the others.
@@ -212,32 +236,52 @@ fn fill_tables(cols: usize, bits: usize, tables: &mut Tables, block: &[BitVec])
     fill_table(cols, bits, tables.fourth.as_mut_slice(), fourth);
 }
 
-/// Clears each of the rows by the sums of the tables.
-fn clear_rows(cols: usize, bits: usize, rows: &mut [BitVec], quarters: &Quarters, tables: &Tables)
+/// Clears each of the rows by the sums of the tables, which are zero outside of these words.
+fn clear_rows(
+    cols: usize,
+    bits: usize,
+    rows: &mut [BitVec],
+    quarters: &Quarters,
+    tables: &Tables,
+    words: &Words,
+)
     requires rows { HaveWidth cols rows.old }
     requires quarters { AreQuarters cols bits quarters.now.first.now quarters.now.second.now quarters.now.third.now
         quarters.now.fourth.now }
     requires most { bits ≤ 8 }
     requires tables { AreRooms cols bits tables.now.first.items tables.now.second.items tables.now.third.items
         tables.now.fourth.items }
+    requires within { AreSumsWithin words.now.from words.now.to
+        quarters.now.first.now quarters.now.second.now quarters.now.third.now quarters.now.fourth.now
+        tables.now.first.items tables.now.second.items tables.now.third.items tables.now.fourth.items }
     ensures { rows.new ≡ map
         (with_sums quarters.now.first.now quarters.now.second.now quarters.now.third.now quarters.now.fourth.now
         tables.now.first.items tables.now.second.items tables.now.third.items tables.now.fourth.items)
         rows.old }
 {
     for row in rows.iter_mut() {
-        clear_row(cols, bits, row, quarters, tables);
+        clear_row(cols, bits, row, quarters, tables, words);
     }
 }
 
-/// Clears the row by one sum of each table.
-fn clear_row(cols: usize, bits: usize, row: &mut BitVec, quarters: &Quarters, tables: &Tables)
+/// Clears the row by one sum of each table. These are zero outside of the words.
+fn clear_row(
+    cols: usize,
+    bits: usize,
+    row: &mut BitVec,
+    quarters: &Quarters,
+    tables: &Tables,
+    words: &Words,
+)
     requires row { length row.old ≡ cols }
     requires quarters { AreQuarters cols bits quarters.now.first.now quarters.now.second.now quarters.now.third.now
         quarters.now.fourth.now }
     requires most { bits ≤ 8 }
     requires tables { AreRooms cols bits tables.now.first.items tables.now.second.items tables.now.third.items
         tables.now.fourth.items }
+    requires within { AreSumsWithin words.now.from words.now.to
+        quarters.now.first.now quarters.now.second.now quarters.now.third.now quarters.now.fourth.now
+        tables.now.first.items tables.now.second.items tables.now.third.items tables.now.fourth.items }
     ensures { row.new
         ≡ with_sums quarters.now.first.now quarters.now.second.now quarters.now.third.now quarters.now.fourth.now
         tables.now.first.items tables.now.second.items tables.now.third.items tables.now.fourth.items row.old }
@@ -249,6 +293,8 @@ fn clear_row(cols: usize, bits: usize, row: &mut BitVec, quarters: &Quarters, ta
     // The sum at number 0 is zero.
     if first + second + third + fourth > 0 {
         row.xor_with_four(
+            words.from,
+            words.to,
             &tables.first[first],
             &tables.second[second],
             &tables.third[third],

@@ -3,7 +3,7 @@ ghost use Rattle.std.specs.Prelude.{◌≡◌};
 ghost use Rattle.f2_vec.specs.Spans.{HaveWidth};
 ghost use Rattle.f2_matrix.specs.Echelon.{IsReduced, HasNoZeroRow};
 
-use crate::samples::{SEED, are_same, next, seeded};
+use crate::samples::{SEED, are_same, matrix_of, next, seeded};
 use f2_dual::choose;
 use f2_matrix::{Matrix, Reduced, Rows};
 use f2_vec::BitVec;
@@ -13,17 +13,15 @@ use std::test::Fail;
 
 /// The rows of length `cols` that these texts are, written as 0 and 1.
 fn written(alloc: Global, cols: usize, texts: &[&str]) -> Result<Matrix, Memory> {
-    let mut matrix = Matrix::from_rows(cols, Vec::new(alloc));
+    let mut rows = Vec::new(alloc);
     for text in texts {
         let mut row = BitVec::zero(alloc, 0)?;
         for byte in text.as_bytes() {
             row.push(*byte == b'1')?;
         }
-        if row.len() == matrix.cols() {
-            matrix.push_row(row)?;
-        }
+        rows.push(row)?;
     }
-    Ok(matrix)
+    Ok(matrix_of(cols, rows))
 }
 
 /// What is chosen from the reduced rows that the texts `candidates` give, for these rows, and the reduction then.
@@ -40,7 +38,7 @@ fn chosen_for(
     }
     // So it is known that they are of the matrix's width.
     let _rows = matrix.rows();
-    Ok(Some(choose(alloc, matrix, given.image_rows())?))
+    Ok(Some(choose(alloc, matrix, &given.image_rows(alloc)?)?))
 }
 
 /// Whether from the candidates these new ones are chosen, and these are the chosen preimages and the kernel.
@@ -105,7 +103,7 @@ fn sums(
     rows: &[BitVec],
     coefficients: &[BitVec],
 ) -> Result<Matrix, Memory> {
-    let mut matrix = Matrix::from_rows(cols, Vec::new(alloc));
+    let mut sums = Vec::new(alloc);
     for c in coefficients {
         let mut sum = BitVec::zero(alloc, cols)?;
         for i in 0..rows.len() {
@@ -113,11 +111,18 @@ fn sums(
                 sum.xor_with(&rows[i]);
             }
         }
-        if sum.len() == matrix.cols() {
-            matrix.push_row(sum)?;
-        }
+        sums.push(sum)?;
     }
-    Ok(matrix)
+    Ok(matrix_of(cols, sums))
+}
+
+/// The matrix with these rows behind its own.
+fn rows_with(alloc: Global, matrix: &Matrix, others: &[BitVec]) -> Result<Matrix, Memory> {
+    let mut rows = Vec::from_clones(alloc, matrix.rows())?;
+    for row in others {
+        rows.push(row.try_copy(alloc)?)?;
+    }
+    Ok(matrix_of(matrix.cols(), rows))
 }
 
 /// The candidates outside the span of the rows and the candidates before them, and the reduction of the rows and these, one
@@ -127,15 +132,12 @@ fn plain_choice(
     rows: Matrix,
     candidates: &[BitVec],
 ) -> Result<(Vec<BitVec>, Reduced), Memory> {
-    let mut matrix = rows;
-    let mut reduced = Reduced::of(alloc, &matrix)?;
     let mut new = Vec::new(alloc);
+    let mut reduced = Reduced::of(alloc, &rows)?;
     for candidate in candidates {
-        let has_its_width = candidate.len() == reduced.cols() && candidate.len() == matrix.cols();
-        if has_its_width && !reduced.contains(alloc, candidate)? {
+        if candidate.len() == reduced.cols() && !reduced.contains(alloc, candidate)? {
             new.push(candidate.try_copy(alloc)?)?;
-            matrix.push_row(candidate.try_copy(alloc)?)?;
-            reduced = Reduced::of(alloc, &matrix)?;
+            reduced = Reduced::of(alloc, &rows_with(alloc, &rows, new.as_slice())?)?;
         }
     }
     Ok((new, reduced))
@@ -159,7 +161,7 @@ fn is_plain_choice(alloc: Global, matrix: Matrix, candidates: &Rows) -> Result<b
     )
 }
 
-/// The same for sums of candidates, with one more row that need not be a sum if `other` is given.
+/// Whether this holds for sums of candidates, with one more row that need not be a sum if `other` is given.
 fn agree_at(
     alloc: Global,
     height: usize,
@@ -172,18 +174,15 @@ fn agree_at(
     let coefficients = seeded(alloc, height, count, 64, next(seed))?;
     let mut matrix = sums(alloc, given.cols(), given.image(), coefficients.rows())?;
     if other {
-        for row in seeded(alloc, 1, matrix.cols(), 64, next(next(seed)))?.into_rows() {
-            if row.len() == matrix.cols() {
-                matrix.push_row(row)?;
-            }
-        }
+        let row = seeded(alloc, 1, matrix.cols(), 64, next(next(seed)))?;
+        matrix = rows_with(alloc, &matrix, row.rows())?;
     }
     if matrix.cols() != given.cols() {
         return Ok(false);
     }
     // So it is known that they are of the matrix's width.
     let _rows = matrix.rows();
-    is_plain_choice(alloc, matrix, given.image_rows())
+    is_plain_choice(alloc, matrix, &given.image_rows(alloc)?)
 }
 
 #[test]

@@ -16,6 +16,12 @@ pub(crate) fn next(seed: u64) -> u64 {
     x
 }
 
+/// The matrix of those of the rows that have this width, which all rows of a test have.
+pub(crate) fn matrix_of(cols: usize, mut rows: Vec<BitVec>) -> Matrix {
+    rows.retain(|row| row.len() == cols);
+    Matrix::from_rows(cols, rows)
+}
+
 /// `height` rows of length `cols` that look random, in which about `ones` of 256 coordinates are 1.
 pub(crate) fn seeded(
     alloc: Global,
@@ -24,7 +30,7 @@ pub(crate) fn seeded(
     ones: u64,
     seed: u64,
 ) -> Result<Matrix, Memory> {
-    let mut matrix = Matrix::from_rows(cols, Vec::new(alloc));
+    let mut rows = Vec::new(alloc);
     let mut seed = seed;
     for _ in 0..height {
         let mut row = BitVec::zero(alloc, 0)?;
@@ -32,11 +38,9 @@ pub(crate) fn seeded(
             seed = next(seed);
             row.push((seed >> 20) & 255 < ones)?;
         }
-        if row.len() == matrix.cols() {
-            matrix.push_row(row)?;
-        }
+        rows.push(row)?;
     }
-    Ok(matrix)
+    Ok(matrix_of(cols, rows))
 }
 
 /// Whether two vectors are the same.

@@ -120,3 +120,31 @@ ones_end v i n ones l h z e =
     let g : i + (n - i) ≡ n = omega arith in
     let all : take n v ≡ v = take_all n v (omega arith) in
     e ∙ sym (ones_over_zeros v i (n - i) (omega arith) (λ k a b. z k a)) ∙ ap (ones_below v) g ∙ ap (λ w. items_where_true w (range_with_len 0 n)) all
+
+-- ---- the last word that is not zero
+
+-- past the words there is no coordinate
+pub zero_past : (n end : ℕ) (us : List ℕ) (v : List Bool) → HasRoom 64 n us → unit_bits 64 n us ≡ v → end ≡ length us → IsZeroFrom v (64 * end)
+zero_past n end us v r e h = λ k l. ap (λ u. bit u k) (sym e) ∙ bit-unit_bits 64 n us k r ∙ none_past us k (omega arith)
+
+-- a word more that is zero
+pub zero_before : (end x : ℕ) (v : List Bool) → 0 < end → ((b : ℕ) → b < 64 → (bit_at x b == 1) ≡ bit v (64 * (end - 1) + b)) → x ≡ 0 → IsZeroFrom v (64 * end) → IsZeroFrom v (64 * (end - 1))
+zero_before end x v some word none behind = λ k l. elim (cases_lt k (64 * end)) [
+  | inr m ↦ behind k m
+  | inl m ↦
+      let b = k - 64 * (end - 1) in
+      let place : 64 * (end - 1) + b ≡ k = omega arith in
+      ap (bit v) (sym place) ∙ sym (word b (omega arith)) ∙ ap (λ y. bit_at y b == 1) none ∙ ap (λ y. y == 1) (bit_at-zero b)
+]
+
+-- a word with a 1, so that no fewer words hold all ones
+pub least_end : (end m x : ℕ) (v : List Bool) → 0 < end → ((b : ℕ) → b < 64 → (bit_at x b == 1) ≡ bit v (64 * (end - 1) + b)) → (x ≡ 0 → ⊥) → x < 2 ^ 64 → IsZeroFrom v (64 * m) → end ≤ m
+least_end end m x v at_least word some fits z =
+    elim (cases_lt m end) [
+      | inr l ↦ l
+      | inl l ↦
+          let t = bit_at-trailing_zeros w64 x (omega (arith, some)) fits in
+          let b = trailing_zeros w64 x in
+          let one : bit v (64 * (end - 1) + b) ≡ true = sym (word b t.0) ∙ ap (λ y. y == 1) t.1 in
+          absurd (false≢true (sym (z (64 * (end - 1) + b) (omega arith)) ∙ one))
+    ]

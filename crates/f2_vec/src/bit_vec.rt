@@ -2,7 +2,7 @@
 ghost use Rattle.std.specs.Prelude.{◌≡◌, ◌≢◌, ℕ, ◌+◌, ◌*◌, ◌/◌, ◌<◌, ◌≤◌, ◌↔◌, ◌==◌, [], ◌∷◌, ◌++◌, length, take, drop, replicate, IsTrue, IsNone, IfOk, IfSome, MatchResult, if◌then◌else◌, Bool, List, OnOk, OnErr, EachIndex, slice_index, slice_set};
 ghost use Rattle.std.specs.Int.{bit_at, div_ceil};
 ghost use Rattle.std.specs.List.{range_with_len, items_where_true};
-ghost use Rattle.f2_vec.specs.Vectors.{sum_of, zeros, placed, bit, IsZero, IsZeroFrom, IsFirstOne, IsNextOne};
+ghost use Rattle.f2_vec.specs.Vectors.{sum_of, zeros, placed, bit, IsZero, IsZeroFrom, IsFirstOne, IsNextOne, IsWithinWords};
 ghost use Rattle.f2_vec.specs.Spans.{unit_vector};
 ghost use Rattle.f2_vec.specs.Bytes.{packed, ArePacked};
 ghost use Rattle.f2_vec.specs.Inside.Packed.{unit_bits, HasRoom};
@@ -167,16 +167,33 @@ impl BitVec {
         xor_words(self.words.as_mut_slice(), other.words.as_slice());
     }
 
-    /// Adds the four vectors, of the same length, to this vector in one pass over its words.
-    pub fn xor_with_four(&mut self, a: &BitVec, b: &BitVec, c: &BitVec, d: &BitVec)
+    /// Adds the four vectors, of the same length, to this vector in one pass over its words from word `from` up to word `to`,
+    /// of 64 coordinates each. Outside of these words the four have to be zero.
+    pub fn xor_with_four(
+        &mut self,
+        from: usize,
+        to: usize,
+        a: &BitVec,
+        b: &BitVec,
+        c: &BitVec,
+        d: &BitVec,
+    )
         requires first { length a.now ≡ length self.old }
         requires second { length b.now ≡ length self.old }
         requires third { length c.now ≡ length self.old }
         requires fourth { length d.now ≡ length self.old }
+        requires first_within { IsWithinWords from to a.now }
+        requires second_within { IsWithinWords from to b.now }
+        requires third_within { IsWithinWords from to c.now }
+        requires fourth_within { IsWithinWords from to d.now }
         ensures { self.new ≡ sum_of (sum_of (sum_of (sum_of self.old a.now) b.now) c.now) d.now }
     {
+        let end = to.min(self.words.len());
+        let start = from.min(end);
         xor_four_words(
             self.words.as_mut_slice(),
+            start,
+            end,
             a.words.as_slice(),
             b.words.as_slice(),
             c.words.as_slice(),
@@ -248,6 +265,18 @@ impl BitVec {
             }
         }
         None
+    }
+
+    /// How many words, of 64 coordinates each, there are up to the last one that is not zero.
+    pub fn words_up_to_last(&self) -> usize
+        ensures zero { IsZeroFrom self.now (64 * result) }
+        ensures least { (n : ℕ) → IsZeroFrom self.now (64 * n) → result ≤ n }
+    {
+        let mut end = self.words.len();
+        while end > 0 && self.word(end - 1) == 0 {
+            end -= 1;
+        }
+        end
     }
 
     /// Whether each coordinate is 0.

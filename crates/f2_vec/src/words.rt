@@ -24,19 +24,34 @@ pub fn xor_words(words: &mut [u64], other: &[u64])
     }
 }
 
-/// Adds the words of the four slices, place by place.
-pub fn xor_four_words(words: &mut [u64], a: &[u64], b: &[u64], c: &[u64], d: &[u64])
+/// Adds the words of the four slices from place `from` up to place `to`, place by place.
+pub fn xor_four_words(
+    words: &mut [u64],
+    from: usize,
+    to: usize,
+    a: &[u64],
+    b: &[u64],
+    c: &[u64],
+    d: &[u64],
+)
+    requires start { from ≤ to }
+    requires end { to ≤ length words.old }
     requires first { length a.now ≡ length words.old }
     requires second { length b.now ≡ length words.old }
     requires third { length c.now ≡ length words.old }
     requires fourth { length d.now ≡ length words.old }
     ensures length { length words.new ≡ length words.old }
-    ensures words { (k : ℕ) →
-        slice_index_or words.new k 0 ≡ bit_xor (slice_index_or words.old k 0) (bit_xor
+    ensures sums { (k : ℕ) → from ≤ k → k < to
+        → slice_index_or words.new k 0
+        ≡ bit_xor
+        (slice_index_or words.old k 0)
+        (bit_xor
         (bit_xor (bit_xor (slice_index_or a.now k 0) (slice_index_or b.now k 0)) (slice_index_or c.now k 0))
         (slice_index_or d.now k 0)) }
+    ensures before { (k : ℕ) → k < from → slice_index_or words.new k 0 ≡ slice_index_or words.old k 0 }
+    ensures behind { (k : ℕ) → to ≤ k → slice_index_or words.new k 0 ≡ slice_index_or words.old k 0 }
 {
-    for k in 0..words.len() {
+    for k in from..to {
         words[k] ^= a[k] ^ b[k] ^ c[k] ^ d[k];
     }
 }

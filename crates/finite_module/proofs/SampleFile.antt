@@ -16,8 +16,7 @@ use Rattle.f2_vec.proofs.Ones.{range_more}
 use Rattle.milnor_basis.specs.Exponents.{IsTrimmed}
 use Rattle.module_json.specs.ModuleFile.{Generator, Entry, no_generator, by_degree, number_of}
 use Rattle.module_json.specs.WellFormed.{AreByDegree}
-use Rattle.module_json.proofs.Basis.{length-by_degree}
-use Rattle.module_json.proofs.Order.{EachPair, Rises-by_degree, All-by_degree}
+use Rattle.module_json.proofs.Sorting.{EachPair-by_place, length-sorted_by, Rises-sorted_by, All-sorted_by}
 use Rattle.finite_module.specs.DerivedAction.{derived_operator, derived_module}
 use Rattle.finite_module.specs.Text.{name_at}
 use Rattle.finite_module.specs.Axioms.{IsModule}
@@ -164,10 +163,6 @@ next_operator n degree k r operators gs entries operator a b e tight is =
 
 -- ---- the generators stand by degree
 
-pairs_by_place : (R : Generator → Generator → Type 0) (gs : List Generator) → EachPair R gs → AllPairs R gs
-pairs_by_place R [] h = λ i j d l m. absurd (omega (arith, m))
-pairs_by_place R (g ∷ gs) h = AllPairs-cons R g gs (All-from_recursion (R g) gs h.0) (pairs_by_place R gs h.1)
-
 -- a degree of a cell
 pub record IsLow (g : Generator) : Type 0 where
   pub degree : ℕ
@@ -203,14 +198,14 @@ pub named_by_degree : (n : ℕ) → AreByDegree (by_degree (named n))
 unfolding named
 named_by_degree n =
     let gs : List Generator = by_degree (named n) in
-    let low : AllByRecursion IsLow gs = All-by_degree IsLow (named n) (recursion_from_All IsLow (named n) (All-append IsLow (filter_map (cell_of n Bottom) by_text) (filter_map (cell_of n Top) by_text) (low_cells n Bottom) (low_cells n Top))) in
+    let low : AllByRecursion IsLow gs = All-sorted_by (λ (g : Generator). g.degree) IsLow (named n) (recursion_from_All IsLow (named n) (All-append IsLow (filter_map (cell_of n Bottom) by_text) (filter_map (cell_of n Top) by_text) (low_cells n Bottom) (low_cells n Top))) in
     let each = All-from_recursion IsLow gs low in
-    let count : length gs ≡ length (filter_map (cell_of n Bottom) by_text) + length (filter_map (cell_of n Top) by_text) = length-by_degree (named n) ∙ length-append (filter_map (cell_of n Bottom) by_text) (filter_map (cell_of n Top) by_text) in
+    let count : length gs ≡ length (filter_map (cell_of n Bottom) by_text) + length (filter_map (cell_of n Top) by_text) = length-sorted_by (λ (g : Generator). g.degree) (named n) ∙ length-append (filter_map (cell_of n Bottom) by_text) (filter_map (cell_of n Top) by_text) in
     record {
       few = omega (arith, filter_map_short (cell_of n Bottom) by_text, filter_map_short (cell_of n Top) by_text);
       lowest = λ k d l. let g = each k d l in omega (arith, ints, g.is);
       highest = λ k d l. let g = each k d l in omega (arith, ints, g.is, g.low);
-      ordered = pairs_by_place (λ g h. g.degree ≤ℤ h.degree) gs (Rises-by_degree (named n));
+      ordered = EachPair-by_place (λ g h. g.degree ≤ℤ h.degree) gs (Rises-sorted_by (λ (g : Generator). g.degree) (named n));
       span = λ i j d l m. let g = each i d (omega (arith, m)) in let h = each j d m in omega (arith, ints, g.is, h.is, h.low);
     }
 

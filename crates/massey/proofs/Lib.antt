@@ -1,4 +1,3 @@
-pub mod Clearing
 mod Refusals
 mod Through
 mod Values

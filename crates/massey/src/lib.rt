@@ -2,7 +2,6 @@
 #![tactic(auto)]
 
 mod answer;
-mod coset;
 mod fault;
 mod homotopy;
 mod making;

@@ -14,14 +14,13 @@ ghost use Rattle.massey.specs.Refusals.{refusal_of};
 ghost use Rattle.massey.specs.Brackets.{above_of, above_ab, above_bc, IsSetting, AreLifts, IsBracketOver, IsCause, IsMemberBy, AreSpanning, IsBracket, lower_product};
 
 use crate::answer::Bracket;
-use crate::coset::{clear_at_pivots, row_basis};
 use crate::fault::MasseyFault;
 use crate::homotopy::last_map;
 use crate::places::places_of;
 use crate::setting::Setting;
 use bracket_laws::bracket_is_coset;
 use chain_map::{Class, Lift, lift};
-use f2_matrix::Matrix;
+use f2_matrix::{Matrix, Reduced};
 use f2_vec::BitVec;
 use finite_module::modules_are_graded_modules;
 use lift_laws::lifts_give_one_product;
@@ -248,11 +247,12 @@ fn coset(
     bracket_is_coset();
     let s = i32::from(n + setting.places.a.s);
     let t = degree(setting.table, setting.above());
-    let mut value = member(alloc, setting, beta, gamma, n)?;
+    let first = member(alloc, setting, beta, gamma, n)?;
     let rows = indeterminacy_rows(alloc, setting, beta, gamma, n)?;
-    let rows = Matrix::from_rows(value.len(), rows);
-    let indeterminacy = row_basis(alloc, &rows)?;
-    clear_at_pivots(&mut value, &indeterminacy);
+    let rows = Matrix::from_rows(first.len(), rows);
+    let reduced = Reduced::of(alloc, &rows)?;
+    let value = reduced.rest(alloc, &first)?;
+    let indeterminacy = reduced.row_basis(alloc)?;
     Ok(Bracket {
         s,
         t,

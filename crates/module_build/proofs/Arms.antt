@@ -21,9 +21,9 @@ use Rattle.finite_module.specs.DerivedAction.{span}
 use Rattle.finite_module.specs.Checked.{Checked}
 use Rattle.finite_module.specs.ModuleLaws.{generators_in-member}
 use Rattle.built_laws.specs.Built.{action_of, values_on, operator_on}
-use Rattle.built_laws.specs.Constructed.{by_degree}
+use Rattle.module_json.specs.Sorting.{sorted_by}
 use Rattle.built_laws.proofs.Renamed.{places}
-use Rattle.built_laws.proofs.Sorted.{odd_by-by_degree}
+use Rattle.built_laws.proofs.Sorted.{odd_by-sorted_by}
 use Rattle.module_build.specs.declared.order.Placed.{Placed}
 use Rattle.module_build.specs.declared.splittings.Splitting.{Splitting}
 use Rattle.module_build.specs.declared.coefficients.Coefficients.{Coefficients}
@@ -110,7 +110,7 @@ dual_order m = record {
   sums = λ f. ap (λ n. odd_by (λ i. f (number_at (order_of c) i)) (range_with_len 0 n)) (length-generators c ∙ sym (length-numbers c))
       ∙ sym (odd_by-map f (number_at (order_of c)) (range_with_len 0 (length (numbers c))))
       ∙ ap (odd_by f) (map_same 0 (number_at (order_of c)) (λ i. get_or (numbers c) i 0) (range_with_len 0 (length (numbers c))) (λ p l. number-order c (get_or (range_with_len 0 (length (numbers c))) p 0) (below p l)) ∙ places (numbers c))
-      ∙ odd_by-by_degree (degree_in c) f (range_with_len 0 (size_of c));
+      ∙ odd_by-sorted_by (degree_in c) f (range_with_len 0 (size_of c));
 }
   where
     c : Construction

@@ -21,8 +21,10 @@ use Rattle.finite_module.specs.DerivedAction.{elements, span}
 use Rattle.finite_module.specs.Checked.{Checked}
 use Rattle.finite_module.specs.ModuleLaws.{generators_in-member}
 use Rattle.built_laws.specs.Built.{action_of, built, values_on, operator_on}
-use Rattle.built_laws.specs.Constructed.{by_degree, generators_from, module_of, shift_module, sum_module, tensor_module, dual_module}
-use Rattle.built_laws.proofs.Sorted.{All-by_degree, length-by_degree, by_degree-same, by_degree-map, rises}
+use Rattle.module_json.specs.Sorting.{sorted_by}
+use Rattle.built_laws.specs.Constructed.{generators_from, module_of, shift_module, sum_module, tensor_module, dual_module}
+use Rattle.module_json.proofs.Sorting.{length-sorted_by, sorted_by_rises}
+use Rattle.built_laws.proofs.Sorted.{All-sorted_by, sorted_by-same, sorted_by-map}
 use Rattle.module_build.specs.Names.{numbered_name}
 use Rattle.module_build.specs.declared.order.Placed.{Placed}
 use Rattle.module_build.specs.declared.construction.Construction.{Construction}
@@ -64,10 +66,10 @@ range_below n = All-from_get_or (λ k. k < n) (range_with_len 0 n) 0 (λ p l. le
 
 module _ (c : Construction) where
   abbrev pub numbers : List ℕ
-  numbers = by_degree (degree_in c) (range_with_len 0 (size_of c))
+  numbers = sorted_by (degree_in c) (range_with_len 0 (size_of c))
 
   pub length-numbers : length numbers ≡ size_of c
-  length-numbers = length-by_degree (degree_in c) (range_with_len 0 (size_of c)) ∙ length-range_with_len 0 (size_of c)
+  length-numbers = length-sorted_by (degree_in c) (range_with_len 0 (size_of c)) ∙ length-range_with_len 0 (size_of c)
 
   pub length-order : length (order_of c) ≡ size_of c
   length-order = length-map numbers (placed c) ∙ length-numbers
@@ -76,7 +78,7 @@ module _ (c : Construction) where
   number-order i l = ap (λ (p : Placed). p.number) (get_or-map (placed c) numbers i 0 nowhere (omega (arith, length-numbers)))
 
   pub number_within : (i : ℕ) → i < size_of c → number_at (order_of c) i < size_of c
-  number_within i l = let below : get_or numbers i 0 < size_of c = All-get_or (λ k. k < size_of c) numbers i 0 (omega (arith, length-numbers)) (All-by_degree (degree_in c) (λ k. k < size_of c) (range_with_len 0 (size_of c)) (range_below (size_of c))) in omega (arith, number-order i l)
+  number_within i l = let below : get_or numbers i 0 < size_of c = All-get_or (λ k. k < size_of c) numbers i 0 (omega (arith, length-numbers)) (All-sorted_by (degree_in c) (λ k. k < size_of c) (range_with_len 0 (size_of c)) (range_below (size_of c))) in omega (arith, number-order i l)
 
   pub generators-order : generators_of (order_of c) ≡ generators_from numbered_name (degree_in c) 0 numbers
   generators-order = generators-map numbered_name (λ (p : Placed). p.degree) (placed c) 0 numbers
@@ -95,7 +97,7 @@ module _ (c : Construction) where
   pub stands_by_degree : NeverFall (generators_of (order_of c))
   stands_by_degree i j g l m =
       let k : j < length numbers = omega (arith, length-generators, length-numbers) in
-      let r : degree_in c (get_or numbers i 0) ≤ℤ degree_in c (get_or numbers j 0) = rises (degree_in c) (range_with_len 0 (size_of c)) i j 0 l k in
+      let r : degree_in c (get_or numbers i 0) ≤ℤ degree_in c (get_or numbers j 0) = sorted_by_rises (degree_in c) (range_with_len 0 (size_of c)) i j 0 l k in
       let e : (get_or (generators_of (order_of c)) i g).degree ≡ degree_in c (get_or numbers i 0) = degree_of_made i g (omega (arith, length-generators)) ∙ ap (degree_in c) (number-order i (omega (arith, length-generators))) in
       let f : (get_or (generators_of (order_of c)) j g).degree ≡ degree_in c (get_or numbers j 0) = degree_of_made j g (omega (arith, length-generators)) ∙ ap (degree_in c) (number-order j (omega (arith, length-generators))) in
       omega (arith, ints)
@@ -104,21 +106,21 @@ module _ (c : Construction) where
 
 module _ {X : Type 0} (c : Construction) (d : X) (a : Action X) (at : ℕ → X) (basis : a.basis ≡ map at (range_with_len 0 (size_of c))) (degrees : (k : ℕ) → k < size_of c → degree_in c k ≡ a.degree (at k)) (same : (r : List ℕ) (k l : ℕ) → IsTrimmed r → k < size_of c → l < size_of c → coefficient_in c r k l ≡ a.coefficient r (at k) (at l)) where
   abbrev elements_of : List X
-  elements_of = by_degree a.degree a.basis
+  elements_of = sorted_by a.degree a.basis
 
   degrees_all : All (λ k. degree_in c k ≡ a.degree (at k)) (range_with_len 0 (size_of c))
   degrees_all = All-of_all (λ k. k < size_of c) (λ k. degree_in c k ≡ a.degree (at k)) (range_with_len 0 (size_of c)) (range_below (size_of c)) (λ k l. degrees k l)
 
   elements_are : elements_of ≡ map at (numbers c)
   elements_are =
-      ap (by_degree a.degree) basis
-      ∙ sym (by_degree-map a.degree at (range_with_len 0 (size_of c)))
-      ∙ ap (map at) (sym (by_degree-same (degree_in c) (λ k. a.degree (at k)) (range_with_len 0 (size_of c)) degrees_all))
+      ap (sorted_by a.degree) basis
+      ∙ sym (sorted_by-map a.degree at (range_with_len 0 (size_of c)))
+      ∙ ap (map at) (sym (sorted_by-same (degree_in c) (λ k. a.degree (at k)) (range_with_len 0 (size_of c)) degrees_all))
 
   generators_are : generators_of (order_of c) ≡ generators_from numbered_name a.degree 0 elements_of
   generators_are =
       generators-order c
-      ∙ generators-same numbered_name (degree_in c) (λ k. a.degree (at k)) 0 (numbers c) (All-by_degree (degree_in c) (λ k. degree_in c k ≡ a.degree (at k)) (range_with_len 0 (size_of c)) degrees_all)
+      ∙ generators-same numbered_name (degree_in c) (λ k. a.degree (at k)) 0 (numbers c) (All-sorted_by (degree_in c) (λ k. degree_in c k ≡ a.degree (at k)) (range_with_len 0 (size_of c)) degrees_all)
       ∙ sym (generators-map numbered_name a.degree at 0 (numbers c))
       ∙ ap (generators_from numbered_name a.degree 0) (sym elements_are)
 

@@ -6,7 +6,8 @@ use Rattle.std.proofs.lemmas.Bool.{and_parts}
 use Rattle.std.proofs.lemmas.Int.{ints}
 use Rattle.std.proofs.lemmas.List.{length-map, get_or-map, take_more, length-take-le}
 use Rattle.std.proofs.lemmas.List.Folds.{list_all-map}
-use Rattle.module_json.specs.ModuleFile.{Generator, no_generator, placed, by_degree, within_limit}
+use Rattle.module_json.specs.ModuleFile.{Generator, no_generator, by_degree, within_limit}
+use Rattle.module_json.proofs.Sorting.{sorted_by-rising}
 use Rattle.module_json.specs.WellFormed.{NeverFall, AreByDegree}
 use Rattle.module_json.specs.declared.limits.TheConstants.{MAX_GENERATORS, MAX_DEGREE, MAX_SPAN}
 use Rattle.module_json.specs.declared.malformed.What.{What}
@@ -129,12 +130,7 @@ are_by_degree ps falls e =
 
 -- generators that stand by degree stay
 pub by_degree-standing : (gs : List Generator) → NeverFall gs → by_degree gs ≡ gs
-by_degree-standing [] h = refl
-by_degree-standing (g ∷ gs) h = ap (placed g) (by_degree-standing gs (NeverFall-tail g gs h)) ∙ first g gs h
-  where
-    first : (g : Generator) (gs : List Generator) → NeverFall (g ∷ gs) → placed g gs ≡ g ∷ gs
-    first g [] h = refl
-    first g (k ∷ ks) h = let l : g.degree ≤ℤ k.degree = h 0 1 no_generator (omega arith) (omega arith) in let e : int_le g.degree k.degree ≡ true = grind (arith, ints) in ap (λ b. if b then g ∷ k ∷ ks else k ∷ placed g ks) e
+by_degree-standing gs h = sorted_by-rising (λ (g : Generator). g.degree) gs h
 
 -- one generator more
 pub generators_more : (ps : List Placed) (i : ℕ) → i < length ps → generators_of (take (i + 1) ps) ≡ generators_of (take i ps) ++ record { name = numbered_name i; degree = (get_or ps i nowhere).degree } ∷ []

@@ -22,10 +22,11 @@ use Rattle.module_json.specs.Actions.{is_name}
 use Rattle.module_json.specs.Checks.{unless, members_count}
 use Rattle.module_json.specs.WellFormed.{IsEntryOf, Agree, IsWellFormed}
 use Rattle.module_json.proofs.Counts.{members_counted}
-use Rattle.module_json.specs.ModuleFile.{Generator, Entry, within_limit, degree_of, degree_refusal, generator_refusal, generators_refusal, placed, by_degree, listed, basis, spans, span_refusal}
+use Rattle.module_json.specs.ModuleFile.{Generator, Entry, within_limit, degree_of, degree_refusal, generator_refusal, generators_refusal, by_degree, listed, basis, spans, span_refusal}
 use Rattle.module_json.specs.declared.malformed.Malformed.{Malformed}
 use Rattle.module_json.specs.declared.malformed.Malformed.TheVariants.{Name}
-use Rattle.module_json.proofs.Order.{EachPair, Rises, Rises-by_degree, All-placed, All-by_degree}
+use Rattle.module_json.specs.Sorting.{inserted}
+use Rattle.module_json.proofs.Sorting.{EachPair, EachPair-by_place, Rises, Rises-sorted_by, All-inserted, All-sorted_by, length-sorted_by}
 
 -- ---- each generator
 
@@ -66,34 +67,22 @@ listed_few (member name d ms) = by (degree_of d) refl (listed_few ms)
     by None e few = rw e (omega (arith, few))
     by (Some z) e few = rw e (omega (arith, few))
 
-length-placed : (g : Generator) (hs : List Generator) → length (placed g hs) ≡ suc (length hs)
-length-placed g [] = refl
-length-placed g (h ∷ hs) = by (int_le g.degree h.degree) (length-placed g hs)
-  where
-    by : (b : Bool) → length (placed g hs) ≡ suc (length hs) → length (cond b (g ∷ h ∷ hs) (h ∷ placed g hs)) ≡ suc (length (h ∷ hs))
-    by true later = refl
-    by false later = ap suc later
-
-pub length-by_degree : (gs : List Generator) → length (by_degree gs) ≡ length gs
-length-by_degree [] = refl
-length-by_degree (g ∷ gs) = length-placed g (by_degree gs) ∙ ap suc (length-by_degree gs)
-
 -- ---- the names differ
 
 abbrev Apart : List Generator → Type 0
 Apart = EachPair (λ g h. g.name ≢ h.name)
 
-Apart-placed : (g : Generator) (hs : List Generator) → AllByRecursion (λ h. g.name ≢ h.name) hs → Apart hs → Apart (placed g hs)
-Apart-placed g [] other apart = (tt, tt)
-Apart-placed g (h ∷ hs) other apart = by (int_le g.degree h.degree) (Apart-placed g hs other.1 apart.1)
+Apart-inserted : (g : Generator) (hs : List Generator) → AllByRecursion (λ h. g.name ≢ h.name) hs → Apart hs → Apart (inserted (λ k. k.degree) g hs)
+Apart-inserted g [] other apart = (tt, tt)
+Apart-inserted g (h ∷ hs) other apart = by (int_le g.degree h.degree) (Apart-inserted g hs other.1 apart.1)
   where
-    by : (b : Bool) → Apart (placed g hs) → Apart (cond b (g ∷ h ∷ hs) (h ∷ placed g hs))
+    by : (b : Bool) → Apart (inserted (λ k. k.degree) g hs) → Apart (cond b (g ∷ h ∷ hs) (h ∷ inserted (λ k. k.degree) g hs))
     by true later = (other, apart)
-    by false later = (All-placed (λ k. h.name ≢ k.name) g hs (λ e. other.0 (sym e)) apart.0, later)
+    by false later = (All-inserted (λ (k : Generator). k.degree) (λ k. h.name ≢ k.name) g hs (λ e. other.0 (sym e)) apart.0, later)
 
 Apart-by_degree : (gs : List Generator) → Apart gs → Apart (by_degree gs)
 Apart-by_degree [] apart = tt
-Apart-by_degree (g ∷ gs) apart = Apart-placed g (by_degree gs) (All-by_degree (λ h. g.name ≢ h.name) gs apart.0) (Apart-by_degree gs apart.1)
+Apart-by_degree (g ∷ gs) apart = Apart-inserted g (by_degree gs) (All-sorted_by (λ (k : Generator). k.degree) (λ h. g.name ≢ h.name) gs apart.0) (Apart-by_degree gs apart.1)
 
 below_differs : (x y : String Global) → string_cmp x y ≡ Less → string_bytes x ≢ string_bytes y
 below_differs x y below = λ same. let tied : slice_cmp nat_cmp (string_bytes x) (string_bytes y) ≡ Equal = rw same (tied_itself nat_list_cmp_total (string_bytes y)) in absurd (cc)
@@ -117,10 +106,6 @@ listed_apart (e ∷ es) up = by (degree_of (view e.1)) refl (listed_apart es up.
 
 -- ---- pairs by their places
 
-pairs_by_place : (R : Generator → Generator → Type 0) (gs : List Generator) → EachPair R gs → AllPairs R gs
-pairs_by_place R [] h = λ i j d l m. absurd (omega (arith, m))
-pairs_by_place R (g ∷ gs) h = AllPairs-cons R g gs (All-from_recursion (R g) gs h.0) (pairs_by_place R gs h.1)
-
 near : (z y : ℤ) → int_le z (y +ℤ pos MAX_SPAN) ≡ true → z ≤ℤ (y +ℤ pos MAX_SPAN)
 near z y h = grind (arith, ints)
 
@@ -136,21 +121,21 @@ spans_pairs gs all i j d l m =
 -- A module whose generators and entries are not refused is well formed.
 pub accepted : (es : List (String Global × Value)) (gs : List Generator) (entries : List Entry) → gs ≡ basis (members_view es) → IsStrictlySortedBy string_cmp (keys_of es) → length es ≤ MAX_GENERATORS → generators_refusal 0 (members_view es) ≡ None → span_refusal gs ≡ None → length entries ≤ MAX_ACTIONS → All (IsEntryOf gs) entries → AllPairs Agree entries → IsWellFormed (record { generators = gs; entries = entries })
 accepted es gs entries is up few fine spanned few_entries actions agree =
-    let each : AllByRecursion IsFine gs = rw is (All-by_degree IsFine (listed (members_view es)) (listed_fine 0 (members_view es) fine)) in
+    let each : AllByRecursion IsFine gs = rw is (All-sorted_by (λ (g : Generator). g.degree) IsFine (listed (members_view es)) (listed_fine 0 (members_view es) fine)) in
     let all = All-from_recursion IsFine gs each in
     let apart : Apart gs = rw is (Apart-by_degree (listed (members_view es)) (listed_apart es up)) in
-    let rises : Rises gs = rw is (Rises-by_degree (listed (members_view es))) in
-    let count : length gs ≡ length (listed (members_view es)) = rw is (length-by_degree (listed (members_view es))) in
+    let rises : Rises (λ (g : Generator). g.degree) gs = rw is (Rises-sorted_by (λ (g : Generator). g.degree) (listed (members_view es))) in
+    let count : length gs ≡ length (listed (members_view es)) = rw is (length-sorted_by (λ (g : Generator). g.degree) (listed (members_view es))) in
     record {
       by_degree = record {
         few = omega (arith, count, listed_few (members_view es), members_counted es);
         lowest = λ k d l. (all k d l).lowest;
         highest = λ k d l. (all k d l).highest;
-        ordered = pairs_by_place (λ g h. g.degree ≤ℤ h.degree) gs rises;
+        ordered = EachPair-by_place (λ g h. g.degree ≤ℤ h.degree) gs rises;
         span = spans_pairs gs (unless_none (spans gs) _ spanned);
       };
       names = λ k d l. (all k d l).name;
-      distinct = pairs_by_place (λ g h. g.name ≢ h.name) gs apart;
+      distinct = EachPair-by_place (λ g h. g.name ≢ h.name) gs apart;
       few_entries = few_entries;
       actions = actions;
       agree = agree;

@@ -1,7 +1,7 @@
 pub mod Counts
 pub mod Pieces
 pub mod Listing
-pub mod Order
+pub mod Sorting
 pub mod Basis
 pub mod Reading
 pub mod Sizes

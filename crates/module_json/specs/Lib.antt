@@ -2,5 +2,6 @@ pub mod Actions
 pub mod Checks
 pub mod ModuleFile
 pub mod Parts
+pub mod Sorting
 pub mod WellFormed
 pub mod Inside

@@ -7,6 +7,7 @@ use Rattle.std.specs.Option.{option_or}
 use Rattle.serde_json.specs.Data.{Data, Items, no_items, item, Members, no_members, member}
 use Rattle.serde_json.specs.Find.{as_number, as_str, as_array, as_object, as_i64, get}
 use Rattle.module_json.specs.Actions.{is_name, Written, action_of}
+use Rattle.module_json.specs.Sorting.{sorted_by}
 use Rattle.module_json.specs.Checks.{IsValueOf, unless, whole_refusal, kind_refusal, cofiber_refusal, shift_refusal, prime_refusal, gens_refusal, actions_refusal}
 use Rattle.module_json.specs.declared.limits.TheConstants.{MAX_DEGREE, MAX_SPAN}
 use Rattle.module_json.specs.declared.malformed.Malformed.{Malformed}
@@ -54,15 +55,9 @@ abbrev pub generators_refusal : ℕ → Members → Option Malformed
 generators_refusal i no_members = None
 generators_refusal i (member name d ms) = option_or (generator_refusal i name d) (generators_refusal (suc i) ms)
 
--- A generator stands before the first one of those that has no smaller degree.
-abbrev pub placed : Generator → List Generator → List Generator
-placed g [] = g ∷ []
-placed g (h ∷ hs) = if int_le g.degree h.degree then g ∷ h ∷ hs else h ∷ placed g hs
-
 -- the generators by degree; those of one degree keep their order
 abbrev pub by_degree : List Generator → List Generator
-by_degree [] = []
-by_degree (g ∷ gs) = placed g (by_degree gs)
+by_degree gs = sorted_by (λ g. g.degree) gs
 
 -- the generators as they are listed, which is in the order of the bytes of their names
 abbrev pub listed : Members → List Generator

@@ -31,7 +31,7 @@ impl Kernel {
         ensures { IfOk result (λ rows. rows ≡ rows_of self.now) }
     {
         match self {
-            Kernel::Made(quasi) => quasi.kernel_rows().share(),
+            Kernel::Made(quasi) => quasi.kernel_rows(alloc),
             Kernel::Read(rows) => Rows::of(alloc, Vec::from_clones(alloc, rows.as_slice())?),
         }
     }

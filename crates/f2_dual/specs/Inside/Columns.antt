@@ -1,9 +1,17 @@
 -- Columns of rows at some places, filled word by word; and rows of which one column changes.
 use Rattle.std.specs.Prelude.{◌≡◌, ◌≢◌, ◌==◌, ℕ, ◌+◌, ◌-◌, ◌*◌, ◌/◌, ◌<◌, ◌≤◌, Bool, List, length, map, slice_index_or}
 use Rattle.std.specs.Int.{bit_at}
+use Rattle.std.specs.List.{range_with_len}
 use Rattle.f2_vec.specs.Vectors.{sum_of, bit}
 use Rattle.f2_vec.specs.Spans.{row, unit_vector, HaveWidth}
-use Rattle.f2_matrix.specs.Transpose.{column}
+
+-- what the rows have at place k, in order
+abbrev pub column : ℕ → List (List Bool) → List Bool
+column k rows = map (λ v. bit v k) rows
+
+-- the columns of rows of length n, in order
+abbrev pub columns : ℕ → List (List Bool) → List (List Bool)
+columns n rows = map (λ k. column k rows) (range_with_len 0 n)
 
 -- the columns at these places
 abbrev pub columns_at : List ℕ → List (List Bool) → List (List Bool)
@@ -12,6 +20,11 @@ columns_at places rows = map (λ p. column p rows) places
 -- v with the coordinate of the element turned over that goes with place p: of n elements the last one goes with place 0
 abbrev pub with_element : ℕ → ℕ → List Bool → List Bool
 with_element n p v = sum_of v (unit_vector (length v) (n - 1 - p))
+
+-- the words are those at place j of the 64 rows from row 64 i on
+abbrev pub IsBlockOf : ℕ → ℕ → List (List Bool) → List ℕ → Type 0
+IsBlockOf i j rows words =
+    (r b : ℕ) → r < 64 → b < 64 → (bit_at (slice_index_or words r 0) b == 1) ≡ bit (row rows (64 * i + r)) (64 * j + b)
 
 -- the words are word i of the 64 columns from place 64 j on
 abbrev pub IsTurnedBlock : ℕ → ℕ → List (List Bool) → List ℕ → Type 0

@@ -6,7 +6,7 @@ use Rattle.f2_vec.specs.Spans.{row, unit_vector, combination}
 use Rattle.f2_matrix.specs.Reduction.{Reduction, IsReductionOf}
 use Rattle.f2_matrix.specs.Preimages.{pivot_of}
 use Rattle.f2_matrix.specs.Choice.{IsChosen}
-use Rattle.f2_matrix.specs.Transpose.{column}
+use Rattle.f2_dual.specs.Inside.Columns.{column}
 
 -- For each candidate what the rows have at its pivot, the last row first. Where the rows are sums of reduced candidates these
 -- are their coefficients.

@@ -1,9 +1,7 @@
--- What holds of the parts that are kept of a reduction, and what they leave of a vector.
+-- What holds of the parts that are kept of a reduction.
 use Rattle.std.specs.Prelude.{◌≡◌, ℕ, Bool, List, length}
-use Rattle.f2_vec.specs.Vectors.{sum_of}
-use Rattle.f2_vec.specs.Spans.{HaveWidth, combination}
+use Rattle.f2_vec.specs.Spans.{HaveWidth}
 use Rattle.f2_matrix.specs.Echelon.{IsReduced, HasNoZeroRow}
-use Rattle.f2_matrix.specs.Preimages.{at_pivots}
 
 -- the image rows are reduced, of length `cols` and none zero; each has a chosen preimage; preimages and kernel rows
 -- are of length `height`
@@ -14,7 +12,3 @@ pub record AreParts (cols height : ℕ) (image chosen kernel : List (List Bool))
   pub chosen_widths : HaveWidth height chosen
   pub as_many : length chosen ≡ length image
   pub kernel_widths : HaveWidth height kernel
-
--- v with those of the rows, of length n, added at whose pivots it has a 1
-abbrev pub rest_of : ℕ → List (List Bool) → List Bool → List Bool
-rest_of n rows v = sum_of v (combination n (at_pivots rows v) rows)

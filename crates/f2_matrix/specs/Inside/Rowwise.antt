@@ -2,7 +2,7 @@
 use Rattle.std.specs.Prelude.{◌≡◌, ◌≢◌, ℕ, ◌+◌, ◌<◌, ◌≤◌, Bool, false, List, length, map, take, drop}
 use Rattle.std.specs.List.{All}
 use Rattle.std.specs.Simd.Lanes.{mask_l}
-use Rattle.f2_vec.specs.Vectors.{sum_of, bit, IsZero, IsFirstOne}
+use Rattle.f2_vec.specs.Vectors.{sum_of, bit, IsZero, IsFirstOne, IsWithinWords}
 use Rattle.f2_vec.specs.Spans.{row, HaveWidth, HaveSameSpan}
 use Rattle.f2_matrix.specs.Inside.Blocks.{cleared_at, block_rows, HoldsSums, IsRoomForSums}
 
@@ -48,6 +48,13 @@ pub record HoldSumsOfParts (n m : ℕ) (rows a b c d : List (List Bool)) : Type 
 -- the sum of the table at the number that the coordinates of v at these places make
 abbrev pub sum_at : List ℕ → List (List Bool) → List Bool → List Bool
 sum_at ps table v = row table (mask_l (map (bit v) ps))
+
+-- each sum of four tables is zero outside of words `from` up to `to`
+pub record AreSumsWithin (from to : ℕ) (a b c d : List ℕ) (s t u w : List (List Bool)) : Type 0 where
+  pub first : (v : List Bool) → IsWithinWords from to (sum_at a s v)
+  pub second : (v : List Bool) → IsWithinWords from to (sum_at b t v)
+  pub third : (v : List Bool) → IsWithinWords from to (sum_at c u v)
+  pub fourth : (v : List Bool) → IsWithinWords from to (sum_at d w v)
 
 -- v with one sum of each of four tables added
 abbrev pub with_sums : (a b c d : List ℕ) → (s t u w : List (List Bool)) → List Bool → List Bool

@@ -10,7 +10,8 @@ use Rattle.module_json.specs.ModuleFile.{Generator, degree_at}
 use Rattle.finite_module.specs.Module.{Module, value}
 use Rattle.finite_module.specs.DerivedAction.{elements}
 use Rattle.built_laws.specs.Built.{action_of, built, values_on, operator_on}
-use Rattle.built_laws.specs.Constructed.{by_degree, generators_from}
+use Rattle.module_json.specs.Sorting.{sorted_by}
+use Rattle.built_laws.specs.Constructed.{generators_from}
 use Rattle.module_build.specs.Names.{numbered_name}
 use Rattle.module_build.specs.Inside.Splittings.{sum_over}
 use Rattle.module_build.specs.declared.coefficients.Coefficients.{Coefficients}
@@ -87,7 +88,7 @@ abbrev pub nowhere : Placed
 nowhere = record { degree = pos 0; number = 0 }
 
 abbrev pub order_of : Construction → List Placed
-order_of c = map (placed c) (by_degree (degree_in c) (range_with_len 0 (size_of c)))
+order_of c = map (placed c) (sorted_by (degree_in c) (range_with_len 0 (size_of c)))
 
 abbrev pub number_at : List Placed → ℕ → ℕ
 number_at order i = (slice_index_or order i nowhere).number

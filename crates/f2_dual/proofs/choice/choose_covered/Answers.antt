@@ -111,8 +111,8 @@ preimages_and_relations-requires-clause-kernel c =
     let is_form : IsEchelonForm w (augmented (coordinates candidates rows)) c.reduce_rowwise.new.self.rows = subst (λ z. IsEchelonForm w z c.reduce_rowwise.new.self.rows) c.requires.form c.in_ok-reduce_rowwise.ensures.ok in
     rw c.rows_of.ensures.kernel (none_left n c.reduce_rowwise.new.self.rows)
 
-pub from_parts-requires-clause-chosen : goal.from_parts-requires-clause-chosen
-from_parts-requires-clause-chosen c =
+pub from_shared_rows-requires-clause-chosen : goal.from_shared_rows-requires-clause-chosen
+from_shared_rows-requires-clause-chosen c =
     let rows = c.args.matrix.rows in
     let candidates = c.args.candidates.now in
     let n = length c.rows-n.result.now in
@@ -131,8 +131,8 @@ from_parts-requires-clause-chosen c =
     let b = built c.args.matrix.cols c.in-Some.height rows candidates c.in_ok-new.new.items c.in_ok-chosen.chosen.items c.in_ok-chosen.kernel.items r h c.requires.widths c.requires.reduced c.requires.nonzero c.requires.covered new whole chosen relations in
     b.chosen_widths
 
-pub from_parts-requires-clause-as_many : goal.from_parts-requires-clause-as_many
-from_parts-requires-clause-as_many c =
+pub from_shared_rows-requires-clause-as_many : goal.from_shared_rows-requires-clause-as_many
+from_shared_rows-requires-clause-as_many c =
     let rows = c.args.matrix.rows in
     let candidates = c.args.candidates.now in
     let n = length c.rows-n.result.now in
@@ -151,8 +151,8 @@ from_parts-requires-clause-as_many c =
     let b = built c.args.matrix.cols c.in-Some.height rows candidates c.in_ok-new.new.items c.in_ok-chosen.chosen.items c.in_ok-chosen.kernel.items r h c.requires.widths c.requires.reduced c.requires.nonzero c.requires.covered new whole chosen relations in
     b.as_many ∙ sym (ap length c.in_ok-image.ensures)
 
-pub from_parts-requires-clause-kernel : goal.from_parts-requires-clause-kernel
-from_parts-requires-clause-kernel c =
+pub from_shared_rows-requires-clause-kernel : goal.from_shared_rows-requires-clause-kernel
+from_shared_rows-requires-clause-kernel c =
     let rows = c.args.matrix.rows in
     let candidates = c.args.candidates.now in
     let n = length c.rows-n.result.now in
@@ -209,7 +209,7 @@ returns-clause-kernel c =
     let chosen : c.in_ok-chosen.chosen.items ≡ preimages_of r = c.in_ok-chosen.ensures.preimages ∙ ap (λ k. preimages_of (parts_of n (k - n) image kernel)) wide in
     let relations : c.in_ok-chosen.kernel.items ≡ relations_of r = c.in_ok-chosen.ensures.relations ∙ ap (λ k. relations_of (parts_of n (k - n) image kernel)) wide in
     let b = built c.args.matrix.cols c.in-Some.height rows candidates c.in_ok-new.new.items c.in_ok-chosen.chosen.items c.in_ok-chosen.kernel.items r h c.requires.widths c.requires.reduced c.requires.nonzero c.requires.covered new whole chosen relations in
-    rw (c.from_parts.ensures, c.in_ok-kernel.ensures) b.is_kernel
+    rw (c.from_shared_rows.ensures, c.in_ok-kernel.ensures) b.is_kernel
 
 pub returns-clause-reduction : goal.returns-clause-reduction
 returns-clause-reduction c =
@@ -229,4 +229,4 @@ returns-clause-reduction c =
     let chosen : c.in_ok-chosen.chosen.items ≡ preimages_of r = c.in_ok-chosen.ensures.preimages ∙ ap (λ k. preimages_of (parts_of n (k - n) image kernel)) wide in
     let relations : c.in_ok-chosen.kernel.items ≡ relations_of r = c.in_ok-chosen.ensures.relations ∙ ap (λ k. relations_of (parts_of n (k - n) image kernel)) wide in
     let b = built c.args.matrix.cols c.in-Some.height rows candidates c.in_ok-new.new.items c.in_ok-chosen.chosen.items c.in_ok-chosen.kernel.items r h c.requires.widths c.requires.reduced c.requires.nonzero c.requires.covered new whole chosen relations in
-    rw (c.from_parts.ensures, c.in_ok-image.ensures, c.cols-cols.ensures, c.in_ok-kernel.ensures) b.reduction
+    rw (c.from_shared_rows.ensures, c.in_ok-image.ensures, c.cols-cols.ensures, c.in_ok-kernel.ensures) b.reduction

@@ -1,5 +1,4 @@
-use Rattle.f2_matrix.specs.Inside.Columns.{IsBlockUpTo}
-use Rattle.f2_dual.proofs.AtPlaces.{read}
+use Rattle.f2_dual.proofs.AtPlaces.{IsBlockUpTo, read}
 use Rattle.f2_dual.proofs.columns.block_of.Given as goal
 
 abbrev pub invariant-loop-r : goal.invariant-loop-r

@@ -1,7 +1,7 @@
 use Rattle.std.proofs.Common.{◌≡◌, length, ap, sym, ◌∙◌, arith}
 use Rattle.std.proofs.lemmas.List.{length-map, length-replicate}
 use Rattle.f2_vec.specs.Vectors.{zeros}
-use Rattle.f2_matrix.specs.Transpose.{column}
+use Rattle.f2_dual.specs.Inside.Columns.{column}
 use Rattle.f2_dual.proofs.AtPlaces.{read, as_written}
 use Rattle.f2_dual.proofs.columns.columns_at.Goals as goal
 

@@ -3,8 +3,8 @@ use Rattle.std.proofs.lemmas.Bool.{true≢false}
 use Rattle.std.proofs.lemmas.List.{get_or_read}
 use Rattle.f2_vec.specs.Vectors.{sum_of}
 use Rattle.f2_vec.specs.Spans.{row, unit_vector}
+use Rattle.f2_dual.specs.Inside.Columns.{column}
 use Rattle.f2_vec.proofs.Sums.{length-zeros, sum_of-zeros_left}
-use Rattle.f2_matrix.specs.Transpose.{column}
 use Rattle.f2_dual.specs.Inside.Tables.{entry_at}
 use Rattle.f2_dual.proofs.Clearing.{IsCleared-start, IsCleared-more, length-cleared, cleared-zeros, cleared-IsInSpan, cleared-at_pivots, left-outside, none_from_not_some}
 use Rattle.f2_dual.proofs.Filling.{ChangesOnlyColumn-start, ChangesOnlyColumn-more, column-more}

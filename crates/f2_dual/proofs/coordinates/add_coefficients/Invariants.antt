@@ -1,6 +1,5 @@
 use Rattle.std.proofs.Common.{◌-◌, length}
-use Rattle.f2_matrix.specs.Transpose.{column}
-use Rattle.f2_dual.specs.Inside.Columns.{ChangesOnlyColumn}
+use Rattle.f2_dual.specs.Inside.Columns.{column, ChangesOnlyColumn}
 use Rattle.f2_dual.proofs.Clearing.{IsCleared}
 use Rattle.f2_dual.proofs.coordinates.add_coefficients.Given as goal
 

@@ -1,4 +1,5 @@
-use Rattle.std.proofs.Common.{sym, ◌∙◌, arith}
+use Rattle.std.proofs.Common.{sym, ◌∙◌, subst, arith}
+use Rattle.f2_vec.specs.Vectors.{IsWithinWords}
 use Rattle.f2_matrix.proofs.Quarters.{place_of_sum, sum_read, length_read, zero_at, nothing_added}
 use Rattle.f2_matrix.proofs.rowwise.clear_row.Goals as goal
 
@@ -65,6 +66,30 @@ pub xor_with_four-requires-clause-fourth : goal.xor_with_four-requires-clause-fo
 xor_with_four-requires-clause-fourth c =
     let p = place_of_sum c.args.cols c.args.bits c.index_at-fourth.result c.args.quarters.now.fourth.now c.args.row.now c.args.tables.now.fourth.items c.requires.quarters.fourth c.requires.most c.requires.tables.fourth c.index_at-fourth.ensures in
     length_read c.args.cols c.args.bits c.index_at-fourth.result c.index-then-first-second-gt0-3.result.now c.args.tables.now.fourth.items c.requires.tables.fourth p.within c.index-then-first-second-gt0-3.ensures ∙ sym c.requires.row
+
+pub xor_with_four-requires-clause-first_within : goal.xor_with_four-requires-clause-first_within
+xor_with_four-requires-clause-first_within c =
+    let p = place_of_sum c.args.cols c.args.bits c.index_at-first.result c.args.quarters.now.first.now c.args.row.now c.args.tables.now.first.items c.requires.quarters.first c.requires.most c.requires.tables.first c.index_at-first.ensures in
+    let e = sum_read c.args.cols c.args.bits c.index_at-first.result c.args.quarters.now.first.now c.args.row.now c.index.result.now c.args.tables.now.first.items p.within c.index.ensures c.index_at-first.ensures in
+    subst (IsWithinWords c.args.words.now.from c.args.words.now.to) (sym e) (c.requires.within.first c.args.row.now)
+
+pub xor_with_four-requires-clause-second_within : goal.xor_with_four-requires-clause-second_within
+xor_with_four-requires-clause-second_within c =
+    let p = place_of_sum c.args.cols c.args.bits c.index_at-second.result c.args.quarters.now.second.now c.args.row.now c.args.tables.now.second.items c.requires.quarters.second c.requires.most c.requires.tables.second c.index_at-second.ensures in
+    let e = sum_read c.args.cols c.args.bits c.index_at-second.result c.args.quarters.now.second.now c.args.row.now c.index-then-first-second-gt0.result.now c.args.tables.now.second.items p.within c.index-then-first-second-gt0.ensures c.index_at-second.ensures in
+    subst (IsWithinWords c.args.words.now.from c.args.words.now.to) (sym e) (c.requires.within.second c.args.row.now)
+
+pub xor_with_four-requires-clause-third_within : goal.xor_with_four-requires-clause-third_within
+xor_with_four-requires-clause-third_within c =
+    let p = place_of_sum c.args.cols c.args.bits c.index_at-third.result c.args.quarters.now.third.now c.args.row.now c.args.tables.now.third.items c.requires.quarters.third c.requires.most c.requires.tables.third c.index_at-third.ensures in
+    let e = sum_read c.args.cols c.args.bits c.index_at-third.result c.args.quarters.now.third.now c.args.row.now c.index-then-first-second-gt0-2.result.now c.args.tables.now.third.items p.within c.index-then-first-second-gt0-2.ensures c.index_at-third.ensures in
+    subst (IsWithinWords c.args.words.now.from c.args.words.now.to) (sym e) (c.requires.within.third c.args.row.now)
+
+pub xor_with_four-requires-clause-fourth_within : goal.xor_with_four-requires-clause-fourth_within
+xor_with_four-requires-clause-fourth_within c =
+    let p = place_of_sum c.args.cols c.args.bits c.index_at-fourth.result c.args.quarters.now.fourth.now c.args.row.now c.args.tables.now.fourth.items c.requires.quarters.fourth c.requires.most c.requires.tables.fourth c.index_at-fourth.ensures in
+    let e = sum_read c.args.cols c.args.bits c.index_at-fourth.result c.args.quarters.now.fourth.now c.args.row.now c.index-then-first-second-gt0-3.result.now c.args.tables.now.fourth.items p.within c.index-then-first-second-gt0-3.ensures c.index_at-fourth.ensures in
+    subst (IsWithinWords c.args.words.now.from c.args.words.now.to) (sym e) (c.requires.within.fourth c.args.row.now)
 
 pub returns-then-first-second-gt0 : goal.returns-then-first-second-gt0
 returns-then-first-second-gt0 c =

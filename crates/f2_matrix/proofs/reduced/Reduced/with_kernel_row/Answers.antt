@@ -3,7 +3,8 @@ use Rattle.std.proofs.lemmas.List.{with_items_is, length-map}
 use Rattle.f2_vec.specs.Spans.{HaveWidth}
 use Rattle.f2_matrix.specs.Inside.RowOperations.{cleared}
 use Rattle.f2_matrix.specs.Inside.Extend.{longer, with_pivot}
-use Rattle.f2_matrix.proofs.Inserted.{HaveWidth-cleared, HaveWidth-insert}
+use Rattle.f2_matrix.proofs.RowOperations.{HaveWidth-cleared}
+use Rattle.f2_matrix.proofs.Inserted.{HaveWidth-insert}
 use Rattle.f2_matrix.proofs.Extended.{widths_longer}
 use Rattle.f2_matrix.proofs.reduced.Reduced.with_kernel_row.Goals as goal
 
@@ -20,8 +21,8 @@ put_pivot-requires-clause-widths c =
     let is : c.in_ok-relations.relations.items ≡ map longer self.kernel = c.in_ok-relations.ensures ∙ ap (map longer) c.kernel.ensures.rows in
     subst (λ rows. HaveWidth (length c.args.relation) rows) (sym is) (subst (λ m. HaveWidth m (map longer self.kernel)) (sym c.requires.length) (widths_longer self.height self.kernel c.kernel.ensures.widths))
 
-pub from_parts-requires-clause-chosen : goal.from_parts-requires-clause-chosen
-from_parts-requires-clause-chosen c =
+pub from_shared_rows-requires-clause-chosen : goal.from_shared_rows-requires-clause-chosen
+from_shared_rows-requires-clause-chosen c =
     let self = c.args.self.now in
     let m = self.height + 1 in
     let items = c.in_ok-chosen.chosen.items in
@@ -32,8 +33,8 @@ from_parts-requires-clause-chosen c =
     subst (λ h. HaveWidth h (take c.in_ok-chosen.chosen.len (c.clear_by.new.rows ++ drop (length c.clear_by.new.rows) items))) (sym (c.len-height.ensures ∙ c.requires.length))
     (subst (HaveWidth m) (sym (with_items_is c.in_ok-chosen.chosen c.clear_by.new.rows same)) wide)
 
-pub from_parts-requires-clause-kernel : goal.from_parts-requires-clause-kernel
-from_parts-requires-clause-kernel c =
+pub from_shared_rows-requires-clause-kernel : goal.from_shared_rows-requires-clause-kernel
+from_shared_rows-requires-clause-kernel c =
     let self = c.args.self.now in
     let m = self.height + 1 in
     let is : c.in_ok-relations.relations.items ≡ map longer self.kernel = c.in_ok-relations.ensures ∙ ap (map longer) c.kernel.ensures.rows in

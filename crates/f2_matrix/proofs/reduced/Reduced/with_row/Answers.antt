@@ -1,8 +1,7 @@
 use Rattle.std.proofs.Common.{true, [], ◌∷◌, ◌++◌, refl, ap, sym, subst, ◌∙◌}
 use Rattle.std.proofs.lemmas.Result.{IfOk-weaker}
 use Rattle.f2_vec.specs.Vectors.{IsZero, IsFirstOne}
-use Rattle.f2_matrix.specs.Preimages.{pivot_of, quasi_of}
-use Rattle.f2_matrix.specs.Inside.Parts.{rest_of}
+use Rattle.f2_matrix.specs.Preimages.{pivot_of, quasi_of, rest_of}
 use Rattle.f2_matrix.specs.Inside.Extend.{IsWithRelation, IsWithPivot}
 use Rattle.f2_matrix.proofs.OneRowMore.{ends_with_one, relation_extends, pivot_extends}
 use Rattle.f2_matrix.proofs.reduced.Reduced.with_row.Goals as goal

@@ -1,6 +1,0 @@
-use Rattle.f2_matrix.specs.Inside.Columns.{IsBlockUpTo}
-use Rattle.f2_matrix.proofs.Columns.{read}
-use Rattle.f2_matrix.proofs.transpose.block_of.Given as goal
-
-abbrev pub invariant-loop-r : goal.invariant-loop-r
-invariant-loop-r l = IsBlockUpTo l.r l.i l.j (read l.rows) l.block
