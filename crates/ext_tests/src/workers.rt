@@ -1,4 +1,4 @@
-//! What no clause says: that two workers work at once.
+//! What no clause says: that two workers work at once, and pass the gate before they make a square.
 use crate::runs::{SOUND, assert_outcome, narrow_devices, ran, sound_disk};
 use square_worker::Gate;
 use std::sync::atomic::{AtomicU64, Ordering};
@@ -8,9 +8,15 @@ use std::thread;
 /// How often a worker looks whether the other has come.
 const MOST_TURNS: u64 = 200_000_000;
 
-/// A gate that holds each of the squares (0, 1) and (1, 0) until the other was entered, and counts who came for nothing.
+/// How often the worker of the first square looks whether a later one was entered.
+const FIRST_TURNS: u64 = 100_000;
+
+/// A gate that holds each of the squares (0, 1) and (1, 0) until the other was entered, and counts who came for nothing. It
+/// also holds the square (0, 0) for a while, and tells whether another was entered meanwhile, which none may be before it is
+/// made.
 #[derive(Drop)]
 struct Meeting {
+    early: AtomicU64,
     left: AtomicU64,
     right: AtomicU64,
     missed: AtomicU64,
@@ -28,11 +34,22 @@ impl Meeting {
         }
         self.missed.store(1, Ordering::SeqCst);
     }
+
+    // Looks for a while whether one of the two was entered.
+    fn waits_alone(&self) {
+        for _ in 0..FIRST_TURNS {
+            if self.left.load(Ordering::SeqCst) == 1 || self.right.load(Ordering::SeqCst) == 1 {
+                self.early.store(1, Ordering::SeqCst);
+            }
+            thread::yield_now();
+        }
+    }
 }
 
 impl Gate for Meeting {
     fn entered(&self, s: u16, t: i32) {
         match (s, t) {
+            (0, 0) => self.waits_alone(),
             (0, 1) => self.meets(&self.left, &self.right),
             (1, 0) => self.meets(&self.right, &self.left),
             _ => {}
@@ -40,11 +57,12 @@ impl Gate for Meeting {
     }
 }
 
-// One worker after another would miss each other here.
+// One worker after another would miss each other here, and a gate that is passed after a square was given would be early.
 #[test]
 fn two_workers_work_at_once(rt: HostRuntime) -> Result<(), Fail> {
     let alloc = rt.alloc();
     let meeting = Meeting {
+        early: AtomicU64::new(0),
         left: AtomicU64::new(0),
         right: AtomicU64::new(0),
         missed: AtomicU64::new(0),
@@ -64,5 +82,6 @@ fn two_workers_work_at_once(rt: HostRuntime) -> Result<(), Fail> {
     );
     assert_eq!(rt; entered, (1, 1));
     assert_eq!(rt; meeting.missed.load(Ordering::SeqCst), 0);
+    assert_eq!(rt; meeting.early.load(Ordering::SeqCst), 0);
     Ok(())
 }

@@ -1,8 +1,10 @@
-//! Tests of Milnor's basis and product, of free modules and of maps from them.
+//! Tests of Milnor's basis and product, of free modules and maps from them, and of Steenrod's squares.
 #![tactic(auto)]
 
 #[cfg(test)]
 mod bases;
+#[cfg(test)]
+mod conversions;
 #[cfg(test)]
 mod free_modules;
 #[cfg(test)]

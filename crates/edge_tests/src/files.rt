@@ -6,7 +6,7 @@ use std::{env, fs, process};
 
 /// A path of its own for a test, by the process and a name, in the system's folder for such files.
 fn test_path(rt: &HostRuntime, name: &str) -> Result<String, Fail> {
-    let name = format!(in rt.alloc(); "disk-tests-{}-{name}", process::id(rt.process()))?;
+    let name = format!(in rt.alloc(); "edge-tests-{}-{name}", process::id(rt.process()))?;
     Ok(
         env::temp_dir(rt)?
             .join(rt.alloc(), name.as_str())?

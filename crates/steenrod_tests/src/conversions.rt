@@ -1,5 +1,5 @@
 //! Monomials in Milnor's basis and as sums of admissible ones, by Adem's relations and Milnor's formula.
-use f2_vec::BitVec;
+use crate::written::is_written;
 use memory::Memory;
 use milnor_basis::Basis;
 use sq_calc::{Mono, Sum, to_admissible, to_milnor};
@@ -27,13 +27,6 @@ fn text(alloc: Global, sum: &Sum) -> Result<String, Memory> {
         }
     }
     Ok(text)
-}
-
-/// Whether the vector has these coordinates, written as 0 and 1.
-fn is_written(vector: &BitVec, want: &str) -> bool {
-    vector.len() == want.len()
-        && want.bytes().enumerate().all(|(i, digit)| i < vector.len()
-            && vector.get(i) == (digit == b'1'))
 }
 
 /// Whether a monomial has this value in Milnor's basis, and that is this sum of admissible monomials.
