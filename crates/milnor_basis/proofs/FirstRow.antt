@@ -87,7 +87,7 @@ added_twice : (rows : List ℕ) (a b n : ℕ) → b + a ≡ n → added 1 a (add
 added_twice [] a b n e = refl
 added_twice (x ∷ rows) a b n e = let sum : x + b + a ≡ x + n = omega arith in ap (λ y. y ∷ rows) sum
 
-drop_agree : (n : ℕ) (xs ys : List ℕ) → length xs ≡ length ys → ((i : ℕ) → n ≤ i → slice_index xs i ≡ slice_index ys i) → drop n xs ≡ drop n ys
+pub drop_agree : (n : ℕ) (xs ys : List ℕ) → length xs ≡ length ys → ((i : ℕ) → n ≤ i → slice_index xs i ≡ slice_index ys i) → drop n xs ≡ drop n ys
 drop_agree n xs ys e h = ext_get_or 0 (drop n xs) (drop n ys) (length-drop n xs ∙ ap (λ m. m - n) e ∙ sym (length-drop n ys)) (λ i l.
     get_or-drop n xs i 0 ∙ h (n + i) (omega arith) ∙ sym (get_or-drop n ys i 0))
 

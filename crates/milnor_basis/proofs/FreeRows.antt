@@ -1,8 +1,7 @@
 -- Fillings whose rows make up any R of a degree: which numbers lead to no matrix that counts, and what a number leaves.
-use Rattle.std.proofs.Common.{◌≡◌, ℕ, zero, suc, ◌+◌, ◌-◌, ◌*◌, ◌/◌, ◌%◌, ◌<◌, ◌≤◌, ◌^◌, ◌≢◌, ◌⊎◌, inl, inr, Bool, true, false, nat_eq, nat_le, List, [], ◌∷◌, map, length, refl, sym, ◌∙◌, ap, arith, slice_index, slice_set, bit_and, bit_or}
+use Rattle.std.proofs.Common.{◌≡◌, ℕ, zero, suc, ◌+◌, ◌-◌, ◌*◌, ◌/◌, ◌<◌, ◌≤◌, ◌^◌, ◌≢◌, ◌⊎◌, inl, inr, Bool, true, false, nat_eq, nat_le, List, [], ◌∷◌, map, length, refl, sym, ◌∙◌, ap, arith, slice_index, slice_set, bit_and, bit_or}
 use Rattle.std.specs.List.{sum, range_with_len, list_all}
-use Rattle.std.proofs.Math.Nat.{mod-eq_of_lt}
-use Rattle.std.proofs.lemmas.Nat.{or_disjoint, and_comm, pow_pos, mul-le, one_shl}
+use Rattle.std.proofs.lemmas.Nat.{or_disjoint, and_comm, pow_pos, mul-le}
 use Rattle.std.proofs.lemmas.Bool.{eq-eqb, eqb-true, eqb-false, leb-true, leb-false, cases_Bool}
 use Rattle.std.proofs.lemmas.List.{get_or-set_same, get_or-set_other, ext_get_or, length-set}
 use Rattle.std.proofs.lemmas.List.FromFn.{length-map-range_with_len, get_or-map-range_with_len}
@@ -12,7 +11,6 @@ use Rattle.milnor_basis.specs.Inside.FreeRows.{IsFree, least_free, greatest_free
 use Rattle.milnor_basis.proofs.Prune.{dead_rows, list_all-fails, add_at-le, add_at-other, add_at-same, over_quotient, row_too_large, column_too_large, column_not_full}
 use Rattle.milnor_basis.proofs.Steps.{taken_sum, taken-same, taken-other, under_quotient, entry-sum}
 use Rattle.milnor_basis.proofs.BasisLemmas.{weight_above}
-use Rattle.milnor_basis.proofs.ExponentLemmas.{entry_within}
 use Rattle.milnor_basis.proofs.MatrixList.{map-range_same}
 
 -- Degrees of rows.
@@ -171,44 +169,6 @@ fits_room room columns (suc i) (suc j) v h =
     let below : v ≤ room / (2 ^ suc i - 1) / 2 ^ suc j = omega arith in
     let part : v * 2 ^ suc j ≤ room / (2 ^ suc i - 1) = under_quotient (room / (2 ^ suc i - 1)) (2 ^ suc j) v (pow_pos (suc j)) below in
     under_quotient room (2 ^ suc i - 1) (v * 2 ^ suc j) (weight_above i) part
-
--- what a row takes is within its degree, which is at most 255
-module _ (room : ℕ) (rows columns : List ℕ) (i column v : ℕ) (high : v ≤ greatest_free (suc i) column room columns) (small : room + degree_of rows ≤ 255) where
-  pub weighed_fits : v * 2 ^ column ≤ room
-  weighed_fits =
-      let most = fits_room room columns (suc i) column v high in
-      let least : v * 2 ^ column * 1 ≤ v * 2 ^ column * (2 ^ suc i - 1) = mul-le (v * 2 ^ column) 1 (v * 2 ^ column) (2 ^ suc i - 1) (omega arith) (weight_above i) in
-      omega arith
-
-  pub row_fits : slice_index rows i + v * 2 ^ column ≤ 255
-  row_fits =
-      let part : entry rows i * (2 ^ (1 + i) - 1) ≤ degree_of rows = entry_within 1 rows i in
-      let e : 1 + i ≡ suc i = omega arith in
-      let power : 2 ^ (1 + i) ≡ 2 ^ suc i = ap (λ k. 2 ^ k) e in
-      let above : 1 ≤ 2 ^ (1 + i) - 1 = omega (arith, weight_above i) in
-      let least : entry rows i * 1 ≤ entry rows i * (2 ^ (1 + i) - 1) = mul-le (entry rows i) 1 (entry rows i) (2 ^ (1 + i) - 1) (omega arith) above in
-      omega (arith, weighed_fits)
-
-pub put_row : (room : ℕ) (rows columns : List ℕ) (row column v : ℕ) → 0 < row → row ≤ 8 → v ≤ greatest_free row column room columns → room + degree_of rows ≤ 255
-    → (slice_index rows (row - 1) + v * 2 ^ column % 2 ^ 16 ≤ 255) × (v * 2 ^ column % 2 ^ 16 * (1 * 2 ^ row % 2 ^ 16 - 1) ≤ room) × (v * 2 ^ column % 2 ^ 16 * (1 * 2 ^ row % 2 ^ 16 - 1) ≡ v * 2 ^ column * (2 ^ row - 1))
-put_row room rows columns zero column v above l high small = absurd (omega arith)
-put_row room rows columns (suc i) column v above l high small =
-    let back : suc i - 1 ≡ i = omega arith in
-    let at : slice_index rows (suc i - 1) ≡ slice_index rows i = ap (slice_index rows) back in
-    let within : v * 2 ^ column ≤ room = weighed_fits room rows columns i column v high small in
-    let fits : v * 2 ^ column < 2 ^ 16 = omega arith in
-    let whole : v * 2 ^ column % 2 ^ 16 ≡ v * 2 ^ column = mod-eq_of_lt fits in
-    let weight : 1 * 2 ^ suc i % 2 ^ 16 ≡ 2 ^ suc i = one_shl (suc i) 16 (omega arith) in
-    let same : v * 2 ^ column % 2 ^ 16 * (1 * 2 ^ suc i % 2 ^ 16 - 1) ≡ v * 2 ^ column * (2 ^ suc i - 1) = ap (λ a. a * (1 * 2 ^ suc i % 2 ^ 16 - 1)) whole ∙ ap (λ b. v * 2 ^ column * (b - 1)) weight in
-    (omega (arith, row_fits room rows columns i column v high small), omega (arith, fits_room room columns (suc i) column v high), same)
-
--- what is left and what is taken make up the same degree
-pub put_degree : (degree room room' : ℕ) (rows rows' columns : List ℕ) (row column v : ℕ) → length rows ≡ 8 → row ≤ 8 → v ≤ greatest_free row column room columns → room + degree_of rows ≡ degree
-    → room' ≡ room - v * 2 ^ column * (2 ^ row - 1) → rows' ≡ added row (v * 2 ^ column) rows → room' + degree_of rows' ≡ degree
-put_degree degree room room' rows rows' columns row column v many l high whole eo er =
-    let fits = fits_room room columns row column v high in
-    let more : degree_of rows' ≡ degree_of rows + v * 2 ^ column * (2 ^ row - 1) = ap degree_of er ∙ degree_added rows row (v * 2 ^ column) (omega arith) in
-    omega arith
 
 pub fits_column_free : (room : ℕ) (columns : List ℕ) (row column v : ℕ) → v ≤ greatest_free row column room columns → (j : ℕ) → column ≡ suc j → v ≤ slice_index columns j
 fits_column_free room columns row zero v h j f = absurd (omega arith)

@@ -59,7 +59,7 @@ placed_last_one n m place others placed =
     let first : place ≡ 0 + place = omega arith in
     ap (slice_get (basis_of n)) first ∙ placed 0 (m ∷ []) (ap (λ ls. slice_get ls 0) (lists_of_one m))
 
--- Nothing is chosen: no exponent past the eighth fits a degree up to 255.
+-- No exponent past the eighth fits a degree up to 255.
 pub no_ninth : (xs : List ℕ) (i : ℕ) → degree_of xs ≤ 255 → 8 ≤ i → entry xs i ≡ 0
 no_ninth xs i small past = elim (cases_eq (entry xs i) 0) [
   | inl z ↦ z
@@ -75,11 +75,21 @@ trimmed_behind : (front zs : List ℕ) → ((i : ℕ) → entry zs i ≡ 0) → 
 trimmed_behind [] zs h = trimmed-zeros zs h
 trimmed_behind (x ∷ front) zs h = ap (put_before x) (trimmed_behind front zs h)
 
-pub none_chosen : (n : ℕ) (xs : List ℕ) → degree_of xs ≤ 255 → ArePlaced n 9 n 0 (drop 9 xs)
-none_chosen n xs small q front at =
+-- nothing is chosen
+pub none_chosen : (n k : ℕ) (others : List ℕ) → ((i : ℕ) → entry others i ≡ 0) → ArePlaced n k n 0 others
+none_chosen n k others blank q front at =
     let none : q + 0 ≡ q = omega arith in
-    ap (slice_get (basis_of n)) none ∙ place_in_basis 9 n q front at
-    ∙ ap Some (sym (trimmed_behind front (drop 9 xs) (λ i. get_or-drop 9 xs i 0 ∙ no_ninth xs (9 + i) small (omega arith))))
+    ap (slice_get (basis_of n)) none ∙ place_in_basis k n q front at ∙ ap Some (sym (trimmed_behind front others blank))
+
+pub past_eighth : (xs : List ℕ) → degree_of xs ≤ 255 → (i : ℕ) → entry (drop 9 xs) i ≡ 0
+past_eighth xs small i = get_or-drop 9 xs i 0 ∙ no_ninth xs (9 + i) small (omega arith)
+
+-- a greater number of exponents makes for no fewer lists
+pub no_fewer : (d k n : ℕ) → length (lists_of k n) ≤ length (lists_of (d + k) n)
+no_fewer zero k n = let e : 0 + k ≡ k = omega arith in subst (λ j. length (lists_of k n) ≤ length (lists_of j n)) (sym e) (omega arith)
+no_fewer (suc d) k n =
+    let e : suc d + k ≡ suc (d + k) = omega arith in
+    subst (λ j. length (lists_of k n) ≤ length (lists_of j n)) (sym e) (omega (arith, no_fewer d k n, shorter (d + k) n))
 
 pub all_of_nine : (n : ℕ) → n ≤ 255 → length (lists_of 9 n) ≡ length (basis_of n)
 all_of_nine n small = sym (length-map (lists_of 9 n) (λ front. trimmed (front ++ []))) ∙ ap length (placed_basis 9 n (omega arith))

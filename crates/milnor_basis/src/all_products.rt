@@ -4,7 +4,7 @@ ghost use Rattle.milnor_basis.specs.Exponents.{degree_of, entry, trimmed};
 ghost use Rattle.milnor_basis.specs.Basis.{lists_of, basis_of};
 ghost use Rattle.milnor_basis.specs.Product.{AreWithin, ArePairs};
 ghost use Rattle.milnor_basis.specs.Inside.Walk.{next_row, next_column, taken};
-ghost use Rattle.milnor_basis.specs.Inside.FreeRows.{greatest_free, added, element, TurnsOverAll, IsInFirstRow};
+ghost use Rattle.milnor_basis.specs.Inside.FreeRows.{greatest_of, added, element, TurnsOverAll, IsInRow, IsInFirstRow};
 
 use crate::basis::Basis;
 use crate::counts::{Counts, Rest};
@@ -19,10 +19,6 @@ const MOST_PLACES: usize = 1 << 16;
 /// What is left to fill of a matrix whose rows make up any element of a degree.
 #[derive(Clone, Copy, Drop)]
 struct Open {
-    /// The degree that is left for the rows.
-    room: u16,
-    /// The sum of each row so far, from row 1 on.
-    rows: [u16; 8],
     /// What is left of the sum of each column, from column 1 on.
     columns: [u16; 8],
     /// The sum of each diagonal so far, from diagonal 1 on.
@@ -30,29 +26,23 @@ struct Open {
 }
 
 impl Open {
-    /// All the places to fill, for rows that make up an element of this degree, and the columns S.
-    fn of(degree: u16, s: &Exps) -> Self
-        ensures room { result.room ≡ degree }
-        ensures rows { result.rows ≡ replicate 8 0 }
+    /// All the places to fill, for the columns S.
+    fn of(s: &Exps) -> Self
         ensures columns { (j : ℕ) → j < 8 → slice_index result.columns j ≡ entry s.now j }
         ensures diagonals { (k : ℕ) → slice_index result.diagonals k ≡ 0 }
     {
         Open {
-            room: degree,
-            rows: [0; 8],
             columns: numbers_of(s),
             diagonals: [0; 16],
         }
     }
 
-    /// The greatest number that can stand at this place, which is in none of the rows 0 and 1.
-    fn greatest(&self, row: usize, column: usize) -> u16
-        requires past { 1 < row }
-        requires row { row ≤ 8 }
-        requires column { column ≤ 8 }
-        ensures { result ≡ greatest_free row column self.now.room self.now.columns }
+    /// The greatest number that can stand at this place, which is in none of the rows 0 and 1, where `most` is left of the
+    /// row's sum.
+    fn greatest(&self, column: usize, most: u16) -> u16
+        requires { column ≤ 8 }
+        ensures { result ≡ greatest_of column most self.now.columns }
     {
-        let most = self.room / ((1 << row) - 1);
         if column > 0 {
             (most >> column).min(self.columns[column - 1])
         } else {
@@ -65,23 +55,86 @@ impl Open {
         requires first { 0 < row }
         requires row { row ≤ 8 }
         requires column { column ≤ 8 }
-        requires greatest { number ≤ greatest_free row column self.room self.columns }
-        requires degree { self.room + degree_of self.rows ≤ 255 }
-        ensures room { result.room ≡ self.room - number * 2 ^ column * (2 ^ row - 1) }
-        ensures rows { result.rows ≡ added row (number * 2 ^ column) self.rows }
+        requires fits { 0 < column → number ≤ slice_index self.columns (column - 1) }
         ensures columns { result.columns ≡ taken column number self.columns }
         ensures diagonals { result.diagonals ≡ slice_set self.diagonals (row + column - 1)
             (bit_or (slice_index self.diagonals (row + column - 1)) number) }
     {
-        let weighed = number << column;
-        self.rows[row - 1] += weighed;
-        self.room -= weighed * ((1 << row) - 1);
         if column > 0 {
             self.columns[column - 1] -= number;
         }
         // With no digit in common this is the sum, and it cannot overflow.
         self.diagonals[row + column - 1] |= number;
         self
+    }
+}
+
+/// A row's sum with `number` in this column.
+fn more(sum: u16, number: u16, column: usize) -> u16
+    requires column { column ≤ 8 }
+    requires small { sum + number * 2 ^ column < 2 ^ 16 }
+    ensures { result ≡ sum + number * 2 ^ column }
+{
+    sum + (number << column)
+}
+
+/// A row of a matrix that is being filled, from row 1 on. The rows behind it are filled.
+#[derive(Clone, Copy, Drop)]
+struct Row {
+    /// R's exponents up to this row's, which are still to choose.
+    left: Rest,
+    /// The row's sum so far.
+    sum: u16,
+    /// By how much the sum can still grow.
+    most: u16,
+}
+
+impl Row {
+    /// Nothing in this row yet, where these exponents are still to choose.
+    fn begun(left: Rest, row: usize) -> Self
+        requires some { 0 < row }
+        requires row { row ≤ 8 }
+        ensures left { result.left ≡ left }
+        ensures sum { result.sum ≡ 0 }
+        ensures most { result.most ≡ left.degree / (2 ^ row - 1) }
+    {
+        Row {
+            left,
+            sum: 0,
+            most: left.degree / ((1 << row) - 1),
+        }
+    }
+
+    /// The row of the next place, once `number` is put at this one. The first place of a row, which is filled last, makes the
+    /// row's sum R's exponent.
+    fn after(self, counts: &Counts, row: usize, column: usize, number: u16) -> Self
+        requires past { 1 < row }
+        requires row { row ≤ 8 }
+        requires column { column ≤ 8 }
+        requires small { self.left.degree ≤ 255 }
+        requires reach { self.left.degree ≤ counts.now }
+        requires fits { (self.sum + self.most) * (2 ^ row - 1) ≤ self.left.degree }
+        requires greatest { number * 2 ^ column ≤ self.most }
+        requires place { self.left.place + length (lists_of row self.left.degree) ≤ 2 ^ 16 }
+        ensures same { 0 < column → result.left ≡ self.left }
+        ensures grown { 0 < column → result.sum ≡ self.sum + number * 2 ^ column }
+        ensures less { 0 < column → result.most ≡ self.most - number * 2 ^ column }
+        ensures begun { column ≡ 0 → result.sum ≡ 0 }
+        ensures most { column ≡ 0 → result.most ≡ result.left.degree / (2 ^ (row - 1) - 1) }
+        ensures degree { column ≡ 0 → result.left.degree
+            ≡ self.left.degree - (self.sum + number * 2 ^ column) * (2 ^ row - 1) }
+        ensures place { column ≡ 0 → result.left.place ≡ self.left.place
+            + (length (lists_of row self.left.degree) - length (lists_of row result.left.degree)) }
+    {
+        let sum = more(self.sum, number, column);
+        if column > 0 {
+            return Row {
+                left: self.left,
+                sum,
+                most: less(self.most, number, column),
+            };
+        }
+        Row::begun(counts.chosen(self.left, row, sum), row - 1)
     }
 }
 
@@ -166,36 +219,33 @@ fn fill_first(
     Ok(())
 }
 
-/// Puts down, for each way to fill row 1 and row 0, the places of R and T, where all other rows are filled.
+/// Puts down, for each way to fill row 1 and row 0, the places of R and T, where all other rows are filled: `room` is the sum
+/// of row 1, and `left` the place of R.
 fn fill_last(
-    basis: &Basis,
+    counts: &Counts,
     degrees: (u16, u16),
     width: usize,
+    room: u16,
+    left: usize,
     open: &Open,
     pairs: &mut Vec<(u16, u16)>,
 ) -> Result<(), Memory>
-    requires degree { degrees.0 ≤ basis.now }
-    requires product { degrees.1 ≤ basis.now }
+    requires product { degrees.1 ≤ counts.now }
     requires small { degrees.0 ≤ degrees.1 }
     requires smaller { degrees.1 ≤ 255 }
     requires few { length (basis_of degrees.0) ≤ 2 ^ 16 }
     requires many { length (basis_of degrees.1) ≤ 2 ^ 16 }
-    requires room { open.now.room + degree_of open.now.rows ≡ degrees.0 }
-    requires weight { degree_of open.now.diagonals + (degree_of (take width open.now.columns) + open.now.room)
-        ≡ degrees.1 }
+    requires left { left < length (basis_of degrees.0) }
+    requires weight { degree_of open.now.diagonals + (degree_of (take width open.now.columns) + room) ≡ degrees.1 }
     requires width { width ≤ 8 }
     requires within { AreWithin degrees.0 degrees.1 pairs.old.items }
-    ensures turned { OnOk result (TurnsOverAll degrees.0 degrees.1 width 1 width open.now.room open.now.rows
-        open.now.columns open.now.diagonals pairs.old.items pairs.new.items) }
+    ensures turned { OnOk result ((rows : List ℕ) → length rows ≡ 8 →
+        slice_get (basis_of degrees.0) left ≡ Some (trimmed (added 1 room rows)) →
+        TurnsOverAll degrees.0 degrees.1 width 1 width room rows open.now.columns open.now.diagonals
+        pairs.old.items pairs.new.items) }
     ensures within { OnOk result (AreWithin degrees.0 degrees.1 pairs.new.items) }
 {
-    let mut rows = open.rows;
-    rows[0] += open.room;
-    let Some((_, left)) = basis.place(&Exps::of(rows)) else {
-        unreachable!()
-    };
     // T's exponents past the diagonals of row 1 are known.
-    let counts = basis.counts();
     let mut term = Rest {
         degree: degrees.1,
         place: 0,
@@ -212,55 +262,62 @@ fn fill_last(
         columns: open.columns,
         diagonals: open.diagonals,
     };
-    fill_first(counts, &first, width, open.room, 0, term, pairs)
+    fill_first(counts, &first, width, room, 0, term, pairs)
 }
 
 /// Puts down, for each way to fill the places up to (row, column), the places of R and T. `degrees` are those of R and of
-/// the products.
+/// the products, and `own` is what is known of this row.
 fn fill_all(
-    basis: &Basis,
+    counts: &Counts,
     degrees: (u16, u16),
     width: usize,
     row: usize,
     column: usize,
+    own: Row,
     open: &Open,
     pairs: &mut Vec<(u16, u16)>,
 ) -> Result<(), Memory>
-    requires degree { degrees.0 ≤ basis.now }
-    requires product { degrees.1 ≤ basis.now }
+    requires product { degrees.1 ≤ counts.now }
     requires small { degrees.0 ≤ degrees.1 }
     requires smaller { degrees.1 ≤ 255 }
     requires few { length (basis_of degrees.0) ≤ 2 ^ 16 }
     requires many { length (basis_of degrees.1) ≤ 2 ^ 16 }
-    requires room { open.now.room + degree_of open.now.rows ≡ degrees.0 }
-    requires weight { degree_of open.now.diagonals + (degree_of (take width open.now.columns) + open.now.room)
-        ≡ degrees.1 }
+    requires below { own.left.degree ≤ degrees.0 }
+    requires place { own.left.place + length (lists_of row own.left.degree) ≤ length (basis_of degrees.0) }
+    requires fits { own.sum * (2 ^ row - 1) ≤ own.left.degree }
+    requires most { own.most ≡ (own.left.degree - own.sum * (2 ^ row - 1)) / (2 ^ row - 1) }
+    requires weight { degree_of open.now.diagonals
+        + (degree_of (take width open.now.columns) + (own.left.degree - own.sum * (2 ^ row - 1))) ≡ degrees.1 }
     requires some { 0 < row }
     requires row { row ≤ 8 }
     requires width { width ≤ 8 }
     requires column { column ≤ width }
     requires first { row ≡ 1 → column ≡ width }
+    requires begun { row ≡ 1 → own.sum ≡ 0 }
     requires within { AreWithin degrees.0 degrees.1 pairs.old.items }
-    ensures turned { OnOk result (TurnsOverAll degrees.0 degrees.1 width row column open.now.room open.now.rows
+    ensures turned { OnOk result ((rows : List ℕ) → IsInRow degrees.0 row own.sum own.left.degree own.left.place rows →
+        TurnsOverAll degrees.0 degrees.1 width row column (own.left.degree - own.sum * (2 ^ row - 1)) rows
         open.now.columns open.now.diagonals pairs.old.items pairs.new.items) }
     ensures within { OnOk result (AreWithin degrees.0 degrees.1 pairs.new.items) }
 {
     if row == 1 {
-        return fill_last(basis, degrees, width, open, pairs);
+        let left = own.left;
+        return fill_last(counts, degrees, width, left.degree, left.place, open, pairs);
     }
     let (next_row, next_column) = next_place(width, row, column);
     let sum = open.diagonals[row + column - 1];
-    let greatest = open.greatest(row, column);
+    let greatest = open.greatest(column, own.most);
     let mut number = 0;
     while number <= u32::from(greatest) {
         let put = number as u16;
         if put & sum == 0 {
             fill_all(
-                basis,
+                counts,
                 degrees,
                 width,
                 next_row,
                 next_column,
+                own.after(counts, row, column, put),
                 &open.put(row, column, put),
                 pairs,
             )?;
@@ -306,14 +363,17 @@ pub(crate) fn pairs_of(
     if elements.len() > MOST_PLACES || basis.of_degree(product).len() > MOST_PLACES {
         return Err(Memory);
     }
+    let height = greatest_len(elements);
+    let left = Rest { degree, place: 0 };
     let mut pairs = Vec::new(alloc);
     fill_all(
-        basis,
+        basis.counts(),
         (degree, product),
         s.len(),
-        greatest_len(elements),
+        height,
         s.len(),
-        &Open::of(degree, s),
+        Row::begun(left, height),
+        &Open::of(s),
         &mut pairs,
     )?;
     pairs.shrink_to_fit();

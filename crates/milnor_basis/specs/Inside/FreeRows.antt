@@ -41,6 +41,11 @@ greatest_free zero (suc j) room columns = slice_index columns j
 greatest_free (suc i) zero room columns = room / (2 ^ suc i - 1)
 greatest_free (suc i) (suc j) room columns = min (room / (2 ^ suc i - 1) / 2 ^ suc j) (slice_index columns j)
 
+-- The greatest number that can stand in a column of a row past row 1, where `most` is left of the row's sum.
+abbrev pub greatest_of : ℕ → ℕ → List ℕ → ℕ
+greatest_of zero most columns = most
+greatest_of (suc j) most columns = min (most / 2 ^ suc j) (slice_index columns j)
+
 -- What row 0 puts on the diagonal of (row, column), where that is known: while row 1 is filled, of the next column only the place
 -- in row 0 is left. Elsewhere 0.
 abbrev pub number_above : ℕ → ℕ → ℕ → List ℕ → ℕ
@@ -82,6 +87,14 @@ TurnsOverAll degree product width row column room rows columns diagonals before 
 abbrev pub ArePlaced : ℕ → ℕ → ℕ → ℕ → List ℕ → Type 0
 ArePlaced n k m place others = (q : ℕ) (front : List ℕ) → slice_get (lists_of k m) q ≡ Some front →
     slice_get (basis_of n) (q + place) ≡ Some (trimmed (front ++ others))
+
+-- A filling that is in a row, of which `sum` is filled: R's exponents up to this row's have degree `below` and are still to choose,
+-- the first element of R's degree with those behind them stands at place `left`, and nothing is in the rows up to row 1 that come next.
+pub record IsInRow (degree row sum below left : ℕ) (rows : List ℕ) : Type 0 where
+  pub high : length rows ≡ 8
+  pub own : slice_index rows (row - 1) ≡ sum
+  pub blank : (i : ℕ) → suc i < row → slice_index rows i ≡ 0
+  pub placed : ArePlaced degree row below left (drop row rows)
 
 -- the sums of the diagonals once row 0 takes what is left of the first n columns
 abbrev pub topped : ℕ → List ℕ → List ℕ → List ℕ

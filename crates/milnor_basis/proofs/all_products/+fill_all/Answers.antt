@@ -1,13 +1,15 @@
 -- Each number has its turn.
-use Rattle.std.proofs.Common.{◌≡◌, ℕ, ◌<◌, ◌≤◌, ◌-◌, ◌+◌, suc, inl, sym, subst, ap, ◌∙◌, arith, add-one, rules, List, take, slice_index, slice_set, bit_or}
+use Rattle.std.proofs.Common.{◌≡◌, ℕ, ◌<◌, ◌≤◌, ◌-◌, ◌+◌, ◌*◌, ◌/◌, ◌^◌, suc, inl, sym, subst, ap, ◌∙◌, arith, add-one, rules, refl, List, length, take, slice_index, slice_set, slice_get, Some, bit_or}
 use Rattle.std.proofs.lemmas.Result.{on_ok_weaker}
-use Rattle.milnor_basis.specs.Exponents.{degree_of}
+use Rattle.milnor_basis.specs.Exponents.{degree_of, trimmed}
+use Rattle.milnor_basis.specs.Basis.{lists_of, basis_of}
 use Rattle.milnor_basis.specs.Inside.Walk.{taken}
-use Rattle.milnor_basis.specs.Inside.FreeRows.{least_free, greatest_free, number_above, TurnsOverAll}
-use Rattle.milnor_basis.proofs.FreeRows.{put_degree}
+use Rattle.milnor_basis.specs.Inside.FreeRows.{least_free, greatest_free, greatest_of, number_above, added, TurnsOverAll}
+use Rattle.milnor_basis.proofs.BasisLemmas.{lists_of_one}
 use Rattle.milnor_basis.proofs.RowZero.{apart_both}
 use Rattle.milnor_basis.proofs.Weights.{put_weight}
 use Rattle.milnor_basis.proofs.FirstRow.{least_none, next_some, next_first}
+use Rattle.milnor_basis.proofs.RowPlaces.{greatest_same, greatest_fits, greatest_column, sum_fits, nothing_taken, first_placed, next_is}
 use Rattle.milnor_basis.proofs.FreeFill.{TurnsOverAllBelow, free_start, free_end, free_shut, free_shuts, free_turn}
 use Rattle.milnor_basis.proofs.all_products.+fill_all.Goals as goal
 
@@ -15,88 +17,146 @@ use Rattle.milnor_basis.proofs.all_products.+fill_all.Goals as goal
 abbrev with_number : ℕ → ℕ → List ℕ → ℕ → List ℕ
 with_number row column diagonals v = slice_set diagonals (row + column - 1) (bit_or (slice_index diagonals (row + column - 1)) v)
 
+-- row 1, before anything is in it
+whole_room : (row sum below : ℕ) → sum ≡ 0 → below - sum * (2 ^ row - 1) ≡ below
+whole_room row sum below none = ap (λ n. below - n * (2 ^ row - 1)) none ∙ nothing_taken below (2 ^ row - 1)
+
+pub fill_last-requires-clause-left : goal.fill_last-requires-clause-left
+fill_last-requires-clause-left t c =
+    let one : length (lists_of c.args.row c.args.own.left.degree) ≡ 1 = ap (λ k. length (lists_of k c.args.own.left.degree)) c.if-row-eq1.true ∙ ap length (lists_of_one c.args.own.left.degree) in
+    omega (arith, c.requires.place)
+
+pub fill_last-requires-clause-weight : goal.fill_last-requires-clause-weight
+fill_last-requires-clause-weight t c = omega (arith, c.requires.weight, whole_room c.args.row c.args.own.sum c.args.own.left.degree (c.requires.begun c.if-row-eq1.true))
+
 pub returns-then-row-eq1 : goal.returns-then-row-eq1
 returns-then-row-eq1 t c =
+    let below : ℕ = c.args.own.left.degree in
+    let left : ℕ = c.args.own.left.place in
+    let room : ℕ = below - c.args.own.sum * (2 ^ c.args.row - 1) in
+    let one = c.if-row-eq1.true in
+    let none = c.requires.begun one in
     record {
       turned = on_ok_weaker c.fill_last.result
-          (λ (turns : TurnsOverAll c.args.degrees.0 c.args.degrees.1 c.args.width 1 c.args.width c.args.open.now.room c.args.open.now.rows c.args.open.now.columns c.args.open.now.diagonals c.args.pairs.now.items c.fill_last.new.pairs.items).
-          subst (λ (n : ℕ). TurnsOverAll c.args.degrees.0 c.args.degrees.1 c.args.width n c.args.column c.args.open.now.room c.args.open.now.rows c.args.open.now.columns c.args.open.now.diagonals c.args.pairs.now.items c.fill_last.new.pairs.items) (sym c.if-row-eq1.true)
-          (subst (λ (n : ℕ). TurnsOverAll c.args.degrees.0 c.args.degrees.1 c.args.width 1 n c.args.open.now.room c.args.open.now.rows c.args.open.now.columns c.args.open.now.diagonals c.args.pairs.now.items c.fill_last.new.pairs.items) (sym (c.requires.first c.if-row-eq1.true)) turns)) c.fill_last.ensures.turned;
+          (λ (turns : (rows : List ℕ) → length rows ≡ 8 → slice_get (basis_of c.args.degrees.0) left ≡ Some (trimmed (added 1 below rows))
+          → TurnsOverAll c.args.degrees.0 c.args.degrees.1 c.args.width 1 c.args.width below rows c.args.open.now.columns c.args.open.now.diagonals c.args.pairs.now.items c.fill_last.new.pairs.items). λ rows is.
+          let at_last = turns rows is.high (first_placed c.args.degrees.0 c.args.row c.args.own.sum below left rows one none is) in
+          let with_room = subst (λ (n : ℕ). TurnsOverAll c.args.degrees.0 c.args.degrees.1 c.args.width 1 c.args.width n rows c.args.open.now.columns c.args.open.now.diagonals c.args.pairs.now.items c.fill_last.new.pairs.items) (sym (whole_room c.args.row c.args.own.sum below none)) at_last in
+          subst (λ (n : ℕ). TurnsOverAll c.args.degrees.0 c.args.degrees.1 c.args.width n c.args.column room rows c.args.open.now.columns c.args.open.now.diagonals c.args.pairs.now.items c.fill_last.new.pairs.items) (sym one)
+          (subst (λ (n : ℕ). TurnsOverAll c.args.degrees.0 c.args.degrees.1 c.args.width 1 n room rows c.args.open.now.columns c.args.open.now.diagonals c.args.pairs.now.items c.fill_last.new.pairs.items) (sym (c.requires.first one)) with_room)) c.fill_last.ensures.turned;
       within = c.fill_last.ensures.within;
     }
 
 pub loop-number-init : goal.loop-number-init
 loop-number-init t c =
     let past : 1 < c.args.row = omega (arith, c.requires.some, c.if-row-eq1.false) in
-    let base = free_start c.args.degrees.0 c.args.degrees.1 c.args.width c.args.row c.args.column c.args.open.now.room c.args.open.now.rows c.args.open.now.columns c.args.open.now.diagonals
-    (omega (arith, c.requires.small, c.requires.smaller)) c.requires.row (omega arith) c.requires.column (search rules) c.args.pairs.now.items
-    in
+    let room : ℕ = c.args.own.left.degree - c.args.own.sum * (2 ^ c.args.row - 1) in
     record {
-      turned = subst (λ (n : ℕ). TurnsOverAllBelow c.args.degrees.0 c.args.degrees.1 c.args.width c.args.row c.args.column c.args.open.now.room c.args.open.now.rows c.args.open.now.columns c.args.open.now.diagonals n c.args.pairs.now.items c.args.pairs.now.items) (least_none c.args.row c.args.column c.args.open.now.room c.args.open.now.columns past) base;
+      turned = λ rows is.
+          subst (λ (n : ℕ). TurnsOverAllBelow c.args.degrees.0 c.args.degrees.1 c.args.width c.args.row c.args.column room rows c.args.open.now.columns c.args.open.now.diagonals n c.args.pairs.now.items c.args.pairs.now.items) (least_none c.args.row c.args.column room c.args.open.now.columns past)
+          (free_start c.args.degrees.0 c.args.degrees.1 c.args.width c.args.row c.args.column room rows c.args.open.now.columns c.args.open.now.diagonals
+          (omega (arith, c.requires.small, c.requires.smaller)) c.requires.row (omega arith) c.requires.column is.high c.args.pairs.now.items);
       within = c.requires.within;
     }
+
+pub after-requires-clause-fits : goal.after-requires-clause-fits
+after-requires-clause-fits t c = sum_fits c.args.row c.args.own.sum c.args.own.most c.args.own.left.degree c.requires.some c.requires.fits c.requires.most
+
+pub after-requires-clause-greatest : goal.after-requires-clause-greatest
+after-requires-clause-greatest t c = greatest_fits c.args.column c.args.own.most c.loop-number.number c.args.open.now.columns (omega (arith, c.loop-number-test.true, c.from.ensures, c.greatest-greatest.ensures))
+
+pub put-requires-clause-fits : goal.put-requires-clause-fits
+put-requires-clause-fits t c = greatest_column c.args.column c.args.own.most c.loop-number.number c.args.open.now.columns (omega (arith, c.loop-number-test.true, c.from.ensures, c.greatest-greatest.ensures))
 
 pub fill_all-requires : goal.fill_all-requires
 fill_all-requires t c =
     let past : 1 < c.args.row = omega (arith, c.requires.some, c.if-row-eq1.false) in
-    let to : c.loop-number.number ≤ greatest_free c.args.row c.args.column c.args.open.now.room c.args.open.now.columns = omega (arith, c.loop-number-test.true, c.from.ensures, c.greatest-greatest.ensures) in
-    let room : c.put.result.room + degree_of c.put.result.rows ≡ c.args.degrees.0 =
-    put_degree c.args.degrees.0 c.args.open.now.room c.put.result.room c.args.open.now.rows c.put.result.rows c.args.open.now.columns c.args.row c.args.column c.loop-number.number (search rules) c.requires.row to c.requires.room c.put.ensures.room c.put.ensures.rows
+    let row : ℕ = c.args.row in
+    let column : ℕ = c.args.column in
+    let v : ℕ = c.loop-number.number in
+    let own = c.args.own in
+    let new = c.after.result in
+    let next : ℕ = c.next_place-next_row.result.0 in
+    let room : ℕ = own.left.degree - own.sum * (2 ^ row - 1) in
+    let to : c.loop-number.number ≤ greatest_of c.args.column c.args.own.most c.args.open.now.columns = omega (arith, c.loop-number-test.true, c.from.ensures, c.greatest-greatest.ensures) in
+    let within : v * 2 ^ column ≤ own.most = greatest_fits column own.most v c.args.open.now.columns to in
+    let least : v ≤ greatest_free row column room c.args.open.now.columns = subst (λ n. v ≤ n) (greatest_same row column room own.most c.args.open.now.columns c.requires.some c.requires.most) to in
+    let e = c.after.ensures in
+    let known = next_is row column v own.sum own.most own.left.degree own.left.place new.sum new.most new.left.degree new.left.place next past c.requires.row c.requires.fits c.requires.most within c.next_place-next_row.ensures.row (λ l. ap (λ r. r.degree) (e.same l)) (λ l. ap (λ r. r.place) (e.same l)) e.grown e.less e.begun e.most e.degree e.place in
+    let fits : new.sum * (2 ^ next - 1) ≤ new.left.degree = known.fits in
+    let most : new.most ≡ (new.left.degree - new.sum * (2 ^ next - 1)) / (2 ^ next - 1) = known.most in
+    let below : new.left.degree ≤ c.args.degrees.0 = omega (arith, known.less, c.requires.below) in
+    let place : new.left.place + length (lists_of next new.left.degree) ≤ length (basis_of c.args.degrees.0) = omega (arith, known.place, c.requires.place) in
+    let begun : next ≡ 1 → new.sum ≡ 0 = known.begun in
+    let weight : degree_of c.put.result.diagonals + (degree_of (take c.args.width c.put.result.columns) + (new.left.degree - new.sum * (2 ^ next - 1))) ≡ c.args.degrees.1 =
+    ap (λ xs. degree_of xs + (degree_of (take c.args.width c.put.result.columns) + (new.left.degree - new.sum * (2 ^ next - 1)))) c.put.ensures.diagonals
+    ∙ ap (λ xs. degree_of (with_number row column c.args.open.now.diagonals v) + (degree_of (take c.args.width xs) + (new.left.degree - new.sum * (2 ^ next - 1)))) c.put.ensures.columns
+    ∙ ap (λ n. degree_of (with_number row column c.args.open.now.diagonals v) + (degree_of (take c.args.width (taken column v c.args.open.now.columns)) + n)) known.room
+    ∙ put_weight c.args.degrees.1 room c.args.width c.args.open.now.columns c.args.open.now.diagonals row column v (omega arith) c.requires.row c.requires.column c.requires.width (search rules) (search rules) least c.if-put-sum-eq0.true c.requires.weight
     in
-    let weight : degree_of c.put.result.diagonals + (degree_of (take c.args.width c.put.result.columns) + c.put.result.room) ≡ c.args.degrees.1 =
-    ap (λ xs. degree_of xs + (degree_of (take c.args.width c.put.result.columns) + c.put.result.room)) c.put.ensures.diagonals
-    ∙ ap (λ xs. degree_of (with_number c.args.row c.args.column c.args.open.now.diagonals c.loop-number.number) + (degree_of (take c.args.width xs) + c.put.result.room)) c.put.ensures.columns
-    ∙ ap (λ n. degree_of (with_number c.args.row c.args.column c.args.open.now.diagonals c.loop-number.number) + (degree_of (take c.args.width (taken c.args.column c.loop-number.number c.args.open.now.columns)) + n)) c.put.ensures.room
-    ∙ put_weight c.args.degrees.1 c.args.open.now.room c.args.width c.args.open.now.columns c.args.open.now.diagonals c.args.row c.args.column c.loop-number.number (omega arith) c.requires.row c.requires.column c.requires.width (search rules) (search rules) to c.if-put-sum-eq0.true c.requires.weight
-    in
-    let some : 0 < c.next_place-next_row.result.0 = subst (λ n. 0 < n) (sym c.next_place-next_row.ensures.row) (next_some c.args.row c.args.column past) in
-    let first : c.next_place-next_row.result.0 ≡ 1 → c.next_place-next_row.result.1 ≡ c.args.width = λ e. c.next_place-next_row.ensures.column ∙ next_first c.args.width c.args.row c.args.column past (sym c.next_place-next_row.ensures.row ∙ e) in
+    let some : 0 < next = subst (λ n. 0 < n) (sym c.next_place-next_row.ensures.row) (next_some row column past) in
+    let first : next ≡ 1 → c.next_place-next_row.result.1 ≡ c.args.width = λ one. c.next_place-next_row.ensures.column ∙ next_first c.args.width row column past (sym c.next_place-next_row.ensures.row ∙ one) in
     search rules
 
 pub loop-number-preserved-then-put-sum-eq0 : goal.loop-number-preserved-then-put-sum-eq0
 loop-number-preserved-then-put-sum-eq0 t c =
     let past : 1 < c.args.row = omega (arith, c.requires.some, c.if-row-eq1.false) in
     let higher : 0 < c.args.row + c.args.column = omega arith in
-    let n = c.loop-number.number in
+    let row : ℕ = c.args.row in
+    let column : ℕ = c.args.column in
+    let own = c.args.own in
+    let new = c.after.result in
+    let i : ℕ = c.next_place-next_row.result.0 in
+    let room : ℕ = own.left.degree - own.sum * (2 ^ row - 1) in
+    let n : ℕ = c.loop-number.number in
     let next = c.next_apart-number.result in
     let after : n < next = c.next_apart-number.ensures.above in
-    let from : least_free c.args.row c.args.column c.args.open.now.room c.args.open.now.columns ≤ n = omega (arith, least_none c.args.row c.args.column c.args.open.now.room c.args.open.now.columns past) in
-    let to : n ≤ greatest_free c.args.row c.args.column c.args.open.now.room c.args.open.now.columns = omega (arith, c.loop-number-test.true, c.from.ensures, c.greatest-greatest.ensures) in
-    let sum : ℕ = slice_index c.args.open.now.diagonals (c.args.row + c.args.column - 1) in
-    let above : ℕ = number_above c.args.width c.args.row c.args.column c.args.open.now.columns in
-    let turned = free_turn c.args.degrees.0 c.args.degrees.1 c.args.width c.args.row c.args.column c.args.open.now.room c.args.open.now.rows c.args.open.now.columns c.args.open.now.diagonals
-    (omega (arith, c.requires.small, c.requires.smaller)) c.requires.row higher c.requires.column (search rules) c.args.pairs.now.items n
-    c.next_place-next_row.result.0 c.next_place-next_row.result.1 c.put.result.room c.loop-number.pairs.items c.fill_all.new.pairs.items c.put.result.rows c.put.result.columns c.put.result.diagonals
-    c.next_place-next_row.ensures.row c.next_place-next_row.ensures.column c.put.ensures.room c.put.ensures.rows c.put.ensures.columns c.put.ensures.diagonals
-    (search rules) (search rules) from to c.if-put-sum-eq0.true c.loop-number.invariant.turned c.in_ok-fill_all.ensures.turned
-    in
-    let skipped = free_shuts c.args.degrees.0 c.args.degrees.1 c.args.width c.args.row c.args.column c.args.open.now.room c.args.open.now.rows c.args.open.now.columns c.args.open.now.diagonals
-    (omega (arith, c.requires.small, c.requires.smaller)) c.requires.row higher c.requires.column (search rules) c.args.pairs.now.items (next - suc n) (suc n) c.fill_all.new.pairs.items
-    (λ v l m. inl (λ e. c.next_apart-number.ensures.least v (omega arith) (omega arith) (apart_both v sum above e))) turned
-    in
+    let to : c.loop-number.number ≤ greatest_of c.args.column c.args.own.most c.args.open.now.columns = omega (arith, c.loop-number-test.true, c.from.ensures, c.greatest-greatest.ensures) in
+    let within : n * 2 ^ column ≤ own.most = greatest_fits column own.most n c.args.open.now.columns to in
+    let least : n ≤ greatest_free row column room c.args.open.now.columns = subst (λ m. n ≤ m) (greatest_same row column room own.most c.args.open.now.columns c.requires.some c.requires.most) to in
+    let from : least_free row column room c.args.open.now.columns ≤ n = omega (arith, least_none row column room c.args.open.now.columns past) in
+    let e = c.after.ensures in
+    let known = next_is row column n own.sum own.most own.left.degree own.left.place new.sum new.most new.left.degree new.left.place i past c.requires.row c.requires.fits c.requires.most within c.next_place-next_row.ensures.row (λ l. ap (λ r. r.degree) (e.same l)) (λ l. ap (λ r. r.place) (e.same l)) e.grown e.less e.begun e.most e.degree e.place in
+    let sum : ℕ = slice_index c.args.open.now.diagonals (row + column - 1) in
+    let above : ℕ = number_above c.args.width row column c.args.open.now.columns in
     let whole : next - suc n + suc n ≡ next = omega arith in
     record {
-      turned = subst (λ (m : ℕ). TurnsOverAllBelow c.args.degrees.0 c.args.degrees.1 c.args.width c.args.row c.args.column c.args.open.now.room c.args.open.now.rows c.args.open.now.columns c.args.open.now.diagonals m c.args.pairs.now.items c.fill_all.new.pairs.items) whole skipped;
+      turned = λ rows is.
+          let turned = free_turn c.args.degrees.0 c.args.degrees.1 c.args.width row column room rows c.args.open.now.columns c.args.open.now.diagonals
+          (omega (arith, c.requires.small, c.requires.smaller)) c.requires.row higher c.requires.column is.high c.args.pairs.now.items n
+          i c.next_place-next_row.result.1 (new.left.degree - new.sum * (2 ^ i - 1)) c.loop-number.pairs.items c.fill_all.new.pairs.items (added row (n * 2 ^ column) rows) c.put.result.columns c.put.result.diagonals
+          c.next_place-next_row.ensures.row c.next_place-next_row.ensures.column known.room refl c.put.ensures.columns c.put.ensures.diagonals
+          (search rules) (search rules) from least c.if-put-sum-eq0.true (c.loop-number.invariant.turned rows is) (c.in_ok-fill_all.ensures.turned (added row (n * 2 ^ column) rows) (known.in_row c.args.degrees.0 rows is))
+          in
+          let skipped = free_shuts c.args.degrees.0 c.args.degrees.1 c.args.width row column room rows c.args.open.now.columns c.args.open.now.diagonals
+          (omega (arith, c.requires.small, c.requires.smaller)) c.requires.row higher c.requires.column is.high c.args.pairs.now.items (next - suc n) (suc n) c.fill_all.new.pairs.items
+          (λ v l m. inl (λ shared. c.next_apart-number.ensures.least v (omega arith) (omega arith) (apart_both v sum above shared))) turned
+          in
+          subst (λ (m : ℕ). TurnsOverAllBelow c.args.degrees.0 c.args.degrees.1 c.args.width row column room rows c.args.open.now.columns c.args.open.now.diagonals m c.args.pairs.now.items c.fill_all.new.pairs.items) whole skipped;
       within = c.in_ok-fill_all.ensures.within;
     }
 
 pub loop-number-preserved : goal.loop-number-preserved
 loop-number-preserved t c =
+    let room : ℕ = c.args.own.left.degree - c.args.own.sum * (2 ^ c.args.row - 1) in
     let sum : ℕ = slice_index c.args.open.now.diagonals (c.args.row + c.args.column - 1) in
     let above : ℕ = number_above c.args.width c.args.row c.args.column c.args.open.now.columns in
-    let skipped = free_shut c.args.degrees.0 c.args.degrees.1 c.args.width c.args.row c.args.column c.args.open.now.room c.args.open.now.rows c.args.open.now.columns c.args.open.now.diagonals
-    (omega (arith, c.requires.small, c.requires.smaller)) c.requires.row (omega (arith, c.requires.some)) c.requires.column (search rules) c.args.pairs.now.items c.loop-number.number c.loop-number.pairs.items
-    (inl (λ e. c.if-put-sum-eq0.false (apart_both c.loop-number.number sum above e))) c.loop-number.invariant.turned
-    in
     record {
-      turned = subst (λ (n : ℕ). TurnsOverAllBelow c.args.degrees.0 c.args.degrees.1 c.args.width c.args.row c.args.column c.args.open.now.room c.args.open.now.rows c.args.open.now.columns c.args.open.now.diagonals n c.args.pairs.now.items c.loop-number.pairs.items) (sym (add-one c.loop-number.number)) skipped;
+      turned = λ rows is.
+          subst (λ (n : ℕ). TurnsOverAllBelow c.args.degrees.0 c.args.degrees.1 c.args.width c.args.row c.args.column room rows c.args.open.now.columns c.args.open.now.diagonals n c.args.pairs.now.items c.loop-number.pairs.items) (sym (add-one c.loop-number.number))
+          (free_shut c.args.degrees.0 c.args.degrees.1 c.args.width c.args.row c.args.column room rows c.args.open.now.columns c.args.open.now.diagonals
+          (omega (arith, c.requires.small, c.requires.smaller)) c.requires.row (omega (arith, c.requires.some)) c.requires.column is.high c.args.pairs.now.items c.loop-number.number c.loop-number.pairs.items
+          (inl (λ e. c.if-put-sum-eq0.false (apart_both c.loop-number.number sum above e))) (c.loop-number.invariant.turned rows is));
       within = c.loop-number.invariant.within;
     }
 
 pub returns : goal.returns
 returns t c =
-    let turned = free_end c.args.degrees.0 c.args.degrees.1 c.args.width c.args.row c.args.column c.args.open.now.room c.args.open.now.rows c.args.open.now.columns c.args.open.now.diagonals
-    (omega (arith, c.requires.small, c.requires.smaller)) c.requires.row (omega (arith, c.requires.some)) c.requires.column (search rules) c.args.pairs.now.items c.loop-number.number c.loop-number.pairs.items
-    (omega (arith, c.loop-number-test.false, c.from.ensures, c.greatest-greatest.ensures)) c.loop-number.invariant.turned
-    in
-    record { turned = turned; within = c.loop-number.invariant.within }
+    let room : ℕ = c.args.own.left.degree - c.args.own.sum * (2 ^ c.args.row - 1) in
+    let same = greatest_same c.args.row c.args.column room c.args.own.most c.args.open.now.columns c.requires.some c.requires.most in
+    record {
+      turned = λ rows is. free_end c.args.degrees.0 c.args.degrees.1 c.args.width c.args.row c.args.column room rows c.args.open.now.columns c.args.open.now.diagonals
+          (omega (arith, c.requires.small, c.requires.smaller)) c.requires.row (omega (arith, c.requires.some)) c.requires.column is.high c.args.pairs.now.items c.loop-number.number c.loop-number.pairs.items
+          (omega (arith, same, c.loop-number-test.false, c.from.ensures, c.greatest-greatest.ensures)) (c.loop-number.invariant.turned rows is);
+      within = c.loop-number.invariant.within;
+    }

@@ -1,6 +1,7 @@
 -- The numbers below `number` have had their turn.
-use Rattle.std.proofs.Common.{◌+◌, ◌*◌, ◌-◌, suc}
+use Rattle.std.proofs.Common.{◌+◌, ◌*◌, ◌-◌, ◌^◌, suc, ℕ, List}
 use Rattle.milnor_basis.specs.Product.{AreWithin}
+use Rattle.milnor_basis.specs.Inside.FreeRows.{IsInRow}
 use Rattle.milnor_basis.proofs.FreeFill.{TurnsOverAllBelow}
 use Rattle.milnor_basis.proofs.all_products.+fill_all.Given as goal
 
@@ -9,7 +10,8 @@ decreases-fill_all l = l.row * 9 + l.column
 
 abbrev pub invariant-loop-number : goal.invariant-loop-number
 invariant-loop-number l = record {
-  turned : TurnsOverAllBelow l.degrees.0 l.degrees.1 l.width l.row l.column l.open.room l.open.rows l.open.columns l.open.diagonals l.number l.initial.pairs.items l.pairs.items;
+  turned : (rows : List ℕ) → IsInRow l.degrees.0 l.row l.own.sum l.own.left.degree l.own.left.place rows
+      → TurnsOverAllBelow l.degrees.0 l.degrees.1 l.width l.row l.column (l.own.left.degree - l.own.sum * (2 ^ l.row - 1)) rows l.open.columns l.open.diagonals l.number l.initial.pairs.items l.pairs.items;
   within : AreWithin l.degrees.0 l.degrees.1 l.pairs.items;
 }
 

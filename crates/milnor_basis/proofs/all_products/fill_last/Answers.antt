@@ -1,33 +1,10 @@
-use Rattle.std.proofs.Common.{◌≡◌, ℕ, ◌<◌, ◌≤◌, ◌-◌, ◌+◌, ◌*◌, ◌^◌, Some, List, length, drop, refl, subst, ap, ◌∙◌, arith, rules, slice_index, slice_get}
-use Rattle.std.proofs.lemmas.Option.{slice_get_within}
+use Rattle.std.proofs.Common.{◌≡◌, ℕ, ◌<◌, ◌≤◌, ◌-◌, ◌+◌, ◌*◌, ◌^◌, List, length, drop, subst, arith, rules, slice_index}
 use Rattle.std.proofs.lemmas.Result.{on_ok_weaker}
-use Rattle.milnor_basis.specs.Exponents.{degree_of, trimmed}
-use Rattle.milnor_basis.specs.Basis.{basis_of}
-use Rattle.milnor_basis.specs.Inside.FreeRows.{added, ArePlaced, IsInFirstRow, TurnsOverAll}
-use Rattle.milnor_basis.proofs.ExponentLemmas.{degree_of-trimmed}
-use Rattle.milnor_basis.proofs.FreeRows.{degree_added}
-use Rattle.milnor_basis.proofs.PlacesLeft.{none_chosen, all_of_nine, degree_of_nine, last_left, chosen_placed, chosen_room}
+use Rattle.milnor_basis.specs.Exponents.{degree_of}
+use Rattle.milnor_basis.specs.Inside.FreeRows.{ArePlaced, IsInFirstRow, TurnsOverAll}
+use Rattle.milnor_basis.proofs.PlacesLeft.{none_chosen, past_eighth, all_of_nine, degree_of_nine, last_left, chosen_placed, chosen_room}
 use Rattle.milnor_basis.proofs.FirstRow.{first_begin}
 use Rattle.milnor_basis.proofs.all_products.fill_last.Goals as goal
-
--- R has the degree that it is to have
-r_degree : (degree room : ℕ) (rows : List ℕ) → length rows ≡ 8 → room + degree_of rows ≡ degree → degree_of (trimmed (added 1 room rows)) ≡ degree
-r_degree degree room rows many whole =
-    let one : room * (2 ^ 1 - 1) ≡ room = omega arith in
-    let sum : degree_of rows + room * (2 ^ 1 - 1) ≡ degree = omega arith in
-    degree_of-trimmed (added 1 room rows) ∙ degree_added rows 1 room (omega arith) ∙ sum
-
-r_placed : (degree found left room : ℕ) (rows r : List ℕ) → length rows ≡ 8 → room + degree_of rows ≡ degree → r ≡ trimmed (added 1 room rows) → found ≡ degree_of r → slice_get (basis_of found) left ≡ Some r
-    → slice_get (basis_of degree) left ≡ Some (trimmed (added 1 room rows))
-r_placed degree found left room rows r many whole is of at =
-    let same : found ≡ degree = of ∙ ap degree_of is ∙ r_degree degree room rows many whole in
-    subst (λ n. slice_get (basis_of n) left ≡ Some (trimmed (added 1 room rows))) same (at ∙ ap Some is)
-
-pub unreachable-requires : goal.unreachable-requires
-unreachable-requires c =
-    let past : c.args.basis.now < degree_of c.of.result = c.in_default.ensures.past.0 refl in
-    let degree : degree_of c.of.result ≡ c.args.degrees.0 = ap degree_of c.of.ensures ∙ r_degree c.args.degrees.0 c.args.open.now.room c.args.open.now.rows (search rules) c.requires.room in
-    omega (arith, c.requires.degree)
 
 pub chosen-term-requires-clause-fits : goal.chosen-term-requires-clause-fits
 chosen-term-requires-clause-fits c =
@@ -61,25 +38,17 @@ loop-k-preserved c =
           (chosen_placed k m left e c.loop-k.term.place c.chosen-term.result.place some is c.chosen-term.ensures.place c.args.degrees.1 (drop k ds) inv.placed);
     }
 
-pub fill_first-requires-clause-left : goal.fill_first-requires-clause-left
-fill_first-requires-clause-left c =
-    slice_get_within (basis_of c.args.degrees.0) c.in-Some.left (trimmed (added 1 c.args.open.now.room c.args.open.now.rows))
-    (r_placed c.args.degrees.0 c.in-Some.field-0-0 c.in-Some.left c.args.open.now.room c.args.open.now.rows c.of.result (search rules) c.requires.room c.of.ensures c.in-Some.ensures.degree c.in-Some.ensures.place)
-
 pub returns-clause-turned : goal.returns-clause-turned
 returns-clause-turned c =
-    let rows = c.args.open.now.rows in
-    let columns = c.args.open.now.columns in
     let diagonals = c.args.open.now.diagonals in
     let all : c.loop-k.k ≡ c.args.width + 1 = omega (arith, c.loop-k-test.false, c.loop-k.invariant.low) in
     let placed : ArePlaced c.args.degrees.1 (c.args.width + 1) c.loop-k.term.degree c.loop-k.term.place (drop (c.args.width + 1) diagonals) =
     subst (λ k. ArePlaced c.args.degrees.1 k c.loop-k.term.degree c.loop-k.term.place (drop k diagonals)) all c.loop-k.invariant.placed
     in
-    let at = r_placed c.args.degrees.0 c.in-Some.field-0-0 c.in-Some.left c.args.open.now.room rows c.of.result (search rules) c.requires.room c.of.ensures c.in-Some.ensures.degree c.in-Some.ensures.place in
     on_ok_weaker c.fill_first.result
-    (λ (turns : (rows columns diagonals : List ℕ) → IsInFirstRow c.args.degrees.0 c.args.degrees.1 c.args.width c.args.width c.args.open.now.room 0 c.loop-k.term.degree c.loop-k.term.place c.in-Some.left c.args.open.now.columns c.args.open.now.diagonals rows columns diagonals
-    → TurnsOverAll c.args.degrees.0 c.args.degrees.1 c.args.width 1 c.args.width c.args.open.now.room rows columns diagonals c.args.pairs.now.items c.fill_first.new.pairs.items).
-    turns rows columns diagonals (first_begin c.args.degrees.0 c.args.degrees.1 c.args.width c.args.open.now.room c.loop-k.term.degree c.loop-k.term.place c.in-Some.left rows columns diagonals (search rules) (search rules) (search rules) at placed))
+    (λ (turns : (rows columns diagonals : List ℕ) → IsInFirstRow c.args.degrees.0 c.args.degrees.1 c.args.width c.args.width c.args.room 0 c.loop-k.term.degree c.loop-k.term.place c.args.left c.args.open.now.columns c.args.open.now.diagonals rows columns diagonals
+    → TurnsOverAll c.args.degrees.0 c.args.degrees.1 c.args.width 1 c.args.width c.args.room rows columns diagonals c.args.pairs.now.items c.fill_first.new.pairs.items).
+    λ rows high at. turns rows c.args.open.now.columns diagonals (first_begin c.args.degrees.0 c.args.degrees.1 c.args.width c.args.room c.loop-k.term.degree c.loop-k.term.place c.args.left rows c.args.open.now.columns diagonals high (search rules) (search rules) at placed))
     c.fill_first.ensures.turned
 
 pub loop-k-init : goal.loop-k-init
@@ -91,5 +60,5 @@ loop-k-init c =
       small = omega arith;
       weight = omega (arith, c.requires.weight, degree_of_nine c.args.open.now.diagonals small);
       room = omega (arith, all_of_nine c.args.degrees.1 c.requires.smaller);
-      placed = none_chosen c.args.degrees.1 c.args.open.now.diagonals small;
+      placed = none_chosen c.args.degrees.1 9 (drop 9 c.args.open.now.diagonals) (past_eighth c.args.open.now.diagonals small);
     }

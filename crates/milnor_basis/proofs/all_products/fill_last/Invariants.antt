@@ -10,7 +10,7 @@ invariant-loop-k l = record {
   low : l.width + 1 ≤ l.k;
   high : l.k ≤ 9;
   small : l.term.degree ≤ l.degrees.1;
-  weight : l.term.degree ≡ degree_of (take l.k l.open.diagonals) + (degree_of (take l.width l.open.columns) + l.open.room);
+  weight : l.term.degree ≡ degree_of (take l.k l.open.diagonals) + (degree_of (take l.width l.open.columns) + l.room);
   room : l.term.place + length (lists_of l.k l.term.degree) ≤ length (basis_of l.degrees.1);
   placed : ArePlaced l.degrees.1 l.k l.term.degree l.term.place (drop l.k l.open.diagonals);
 }
