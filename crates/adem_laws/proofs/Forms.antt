@@ -17,8 +17,8 @@ use Rattle.f2_vec.specs.Spans.{combination}
 use Rattle.f2_vec.proofs.Sums.{sum_of-swap}
 use Rattle.f2_vec.proofs.Combinations.{map_same_all}
 use Rattle.milnor_basis.specs.Basis.{basis_of}
-use Rattle.milnor_basis.specs.Product.{is_odd}
-use Rattle.milnor_basis.proofs.Parity.{is_odd-count_by, odd_by, odd_by-same}
+use Rattle.milnor_basis.specs.Product.{is_odd, odd_by}
+use Rattle.milnor_basis.proofs.Parity.{is_odd-count_by, odd_by-same}
 use Rattle.milnor_laws.proofs.SumsModTwo.{plus-cancel, plus-and, odd_by-plus, odd_by-none, is_odd_below-one}
 use Rattle.adem_laws.specs.Admissible.{value, IsAdmissible, admissible_of, IsAdmissibleSum, sum_of_values, AdmissibleFormIsUnique}
 use Rattle.adem_laws.proofs.Monomials.{admissibles_are}

@@ -11,12 +11,11 @@ use Rattle.f2_vec.specs.Vectors.{plus}
 use Rattle.f2_vec.proofs.Combinations.{map_same_all}
 use Rattle.milnor_basis.specs.Exponents.{entry, degree_from, degree_of, IsTrimmed}
 use Rattle.milnor_basis.specs.Basis.{basis_of}
-use Rattle.milnor_basis.specs.Product.{coefficient, product_bits}
+use Rattle.milnor_basis.specs.Product.{coefficient, product_bits, odd_by}
 use Rattle.milnor_basis.proofs.BasisLemmas.{All-basis_of}
 use Rattle.milnor_basis.proofs.ExponentLemmas.{degree_from-trimmed, IsTrimmed-tail, same_answers, trimmed-same}
 use Rattle.milnor_basis.proofs.Homogeneous.{product_is_homogeneous}
 use Rattle.milnor_basis.proofs.Kummer.{sum-cons}
-use Rattle.milnor_basis.proofs.Parity.{odd_by}
 use Rattle.milnor_product.specs.Times.{times_at}
 use Rattle.milnor_laws.proofs.Associative.{odd_by-same_all, once_in_basis}
 use Rattle.milnor_laws.proofs.Vectors.{combination-map}

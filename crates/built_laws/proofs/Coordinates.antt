@@ -9,11 +9,12 @@ use Rattle.std.proofs.lemmas.Int.{ints}
 use Rattle.std.proofs.lemmas.List.Elements.{All-from_get_or}
 use Rattle.f2_vec.proofs.Combinations.{map_same}
 use Rattle.milnor_basis.specs.Exponents.{degree_of, IsTrimmed}
-use Rattle.milnor_basis.specs.Product.{product_terms}
-use Rattle.milnor_basis.proofs.Parity.{odd_by, odd_by-range, is_odd_below-same, is_odd_below-none}
+use Rattle.milnor_basis.specs.Product.{product_terms, odd_by}
+use Rattle.milnor_basis.proofs.Parity.{odd_by-range, is_odd_below-same, is_odd_below-none}
 use Rattle.milnor_laws.proofs.SumsModTwo.{odd_by-none, is_odd_below-one}
 use Rattle.milnor_laws.proofs.Associative.{odd_by-same_all}
-use Rattle.hopf_laws.proofs.Antipode.{nothing_or_positive, over-unit_left, over-unit_right}
+use Rattle.milnor_laws.proofs.UnitActs.{empty_or_positive}
+use Rattle.hopf_laws.proofs.Antipode.{over-unit_left, over-unit_right}
 use Rattle.module_json.specs.ModuleFile.{Generator, degree_at}
 use Rattle.finite_module.specs.Module.{Module, numbers_from, generators_in}
 use Rattle.finite_module.specs.Axioms.{IsModule, value_of}
@@ -194,9 +195,9 @@ module _ (m : Module) (is : IsModule m) where
     positive = sym summed ∙ by_bits (among k (generators_in gs above)) refl
 
   products_are : (r s : List ℕ) (i k : ℕ) → IsTrimmed r → IsTrimmed s → ProductsAt r s i k
-  products_are r s i k hr hs = elim (nothing_or_positive r hr) [
+  products_are r s i k hr hs = elim (empty_or_positive r hr) [
     | inl e ↦ subst (λ x. ProductsAt x s i k) (sym e) (unit_first s i k hs)
-    | inr pr ↦ elim (nothing_or_positive s hs) [
+    | inr pr ↦ elim (empty_or_positive s hs) [
       | inl e ↦ subst (λ x. ProductsAt r x i k) (sym e) (unit_second r i k hr)
       | inr ps ↦ elim (cases_lt i size) [
         | inl l ↦ positive r s i k hr hs pr ps l

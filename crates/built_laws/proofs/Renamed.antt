@@ -1,5 +1,5 @@
 -- The dual of the dual, and the shift back, are the module with other names.
-use Rattle.std.specs.List.{AllPairs, range_with_len}
+use Rattle.std.specs.List.{range_with_len}
 use Rattle.std.specs.Ordering.{int_eq}
 use Rattle.std.proofs.Common.{◌≡◌, ℕ, suc, ◌<◌, ℤ, pos, ◌+ℤ◌, ◌-ℤ◌, ◌≤ℤ◌, cond, List, [], ◌∷◌, length, map, get_or, refl, ap, sym, subst, ◌∙◌, arith}
 use Rattle.std.proofs.lemmas.Int.{ints}
@@ -69,7 +69,7 @@ module _ (names names' : ℕ → List ℕ) (m : Module) (in_order : NeverFall m.
   length-numbers : length numbers ≡ size
   length-numbers = length-range_with_len 0 size
 
-  rising : AllPairs (Rises (degree_at m.generators)) numbers
+  rising : IsRising (degree_at m.generators) numbers
   rising i j d l k =
       let q : j < size = omega (arith, length-numbers) in
       let a = range_at size i d (omega arith) in let b = range_at size j d q in

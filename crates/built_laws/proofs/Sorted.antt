@@ -1,13 +1,12 @@
 -- A list in the order of degree: its elements, their sums, and that it rises.
 use Rattle.std.specs.List.{All, AllPairs}
-use Rattle.std.proofs.Common.{◌≡◌, suc, ℤ, pos, ◌-ℤ◌, ◌≤ℤ◌, ◌<ℤ◌, int_le, Bool, true, false, if◌then◌else◌, List, [], ◌∷◌, ◌++◌, length, map, refl, ap, sym, ◌∙◌, arith}
+use Rattle.std.proofs.Common.{◌≡◌, ℤ, pos, ◌-ℤ◌, ◌≤ℤ◌, ◌<ℤ◌, int_le, Bool, true, false, if◌then◌else◌, List, [], ◌∷◌, ◌++◌, map, refl, ap, sym, ◌∙◌, arith}
 use Rattle.std.proofs.lemmas.Int.{ints}
-use Rattle.std.proofs.lemmas.List.Elements.{All-append, All-cons, All-from_get_or, All-head, All-map, All-nil, All-tail}
+use Rattle.std.proofs.lemmas.List.Elements.{All-append, All-cons, All-head, All-map, All-tail}
 use Rattle.std.proofs.lemmas.List.Kept.{AllPairs-cons}
 use Rattle.f2_vec.specs.Vectors.{plus}
-use Rattle.milnor_basis.proofs.Parity.{odd_by}
+use Rattle.milnor_basis.specs.Product.{odd_by}
 use Rattle.milnor_laws.proofs.SumsModTwo.{plus-swap}
-use Rattle.hopf_laws.proofs.Splittings.{All-of_all}
 use Rattle.module_json.specs.Sorting.{inserted, sorted_by}
 use Rattle.module_json.proofs.Sorting.{AllPairs-tail, AllPairs-head, AllPairs-nil}
 

@@ -7,7 +7,7 @@ use Rattle.std.proofs.lemmas.Bool.{cases_lt, eq-eqb, ne_eqb, false≢true}
 use Rattle.std.proofs.lemmas.Bool.Decides.{Decides-int_eq}
 use Rattle.std.proofs.lemmas.Int.{ints}
 use Rattle.std.proofs.lemmas.List.{length-map}
-use Rattle.std.proofs.lemmas.List.FromFn.{get_or-range_with_len, length-range_with_len}
+use Rattle.std.proofs.lemmas.List.FromFn.{length-range_with_len}
 use Rattle.std.proofs.lemmas.Option.{slice_get-map, slice_get-get_or, slice_get_past, none-some}
 use Rattle.f2_vec.specs.Vectors.{zeros, plus}
 use Rattle.f2_vec.specs.Spans.{combination, unit_vector}
@@ -15,10 +15,10 @@ use Rattle.f2_vec.proofs.Sums.{length-zeros}
 use Rattle.f2_vec.proofs.Combinations.{map-map, map_same, map_same_all}
 use Rattle.milnor_basis.specs.Exponents.{degree_of, IsTrimmed}
 use Rattle.milnor_basis.specs.Basis.{basis_of}
-use Rattle.milnor_basis.specs.Product.{product_terms}
+use Rattle.milnor_basis.specs.Product.{product_terms, odd_by}
 use Rattle.milnor_basis.specs.Inside.Walk.{is_odd_below}
 use Rattle.milnor_basis.proofs.BasisLemmas.{Contains-basis_of}
-use Rattle.milnor_basis.proofs.Parity.{odd_by, odd_by-range, is_odd_below-same}
+use Rattle.milnor_basis.proofs.Parity.{odd_by-range, is_odd_below-same}
 use Rattle.milnor_laws.proofs.SumsModTwo.{is_odd_below-first}
 use Rattle.milnor_laws.proofs.Vectors.{zeros-map, combination-map}
 use Rattle.hopf_laws.specs.Actions.{Action, IsAction}
@@ -30,7 +30,7 @@ use Rattle.finite_module.specs.Axioms.{value_of, one_by_one, by_their_product}
 use Rattle.finite_module.specs.ModuleLaws.{generators_in-member, numbers_from-member}
 use Rattle.finite_module.proofs.AboveSpan.{width_above_span}
 use Rattle.finite_module.proofs.Elements.{length-elements, place_is, elements_at, element_at_place, place_past, place_found}
-use Rattle.finite_module.proofs.Values.{by_place, value_at_none, value_at_some, value_none}
+use Rattle.finite_module.proofs.Values.{by_place, value_at_none, value_at_some, value_none, both_empty, slice_get-range}
 use Rattle.finite_module.proofs.Widths.{terms_of_degree}
 use Rattle.built_laws.specs.Built.{values_on, operator_on, built, IsNumbered, BuiltIsModule}
 
@@ -38,11 +38,6 @@ use Rattle.built_laws.specs.Built.{values_on, operator_on, built, IsNumbered, Bu
 pub total-map : {X Y : Type 0} → (n : ℕ) (f : X → Y → Bool) (xs : List X) (ys : List Y) → length ys ≡ n → total n (map (λ x. map (f x) ys) xs) ≡ map (λ y. odd_by (λ x. f x y) xs) ys
 total-map n f xs ys e =
     ap (λ c. combination n c (map (λ x. map (f x) ys) xs)) (map-map (λ row. true) (λ x. map (f x) ys) xs) ∙ combination-map n (λ x. true) f xs ys e
-
-pub both_empty : (v w : List Bool) → length v ≡ 0 → length w ≡ 0 → v ≡ w
-both_empty [] [] a b = refl
-both_empty [] (y ∷ w) a b = cc
-both_empty (x ∷ v) w a b = cc
 
 -- the numbers of the generators of one degree rise
 pub numbers_from-rising : (i : ℕ) (gs : List Generator) (t : ℤ) (p q : ℕ) → p < q → q < length (numbers_from i gs t) → get_or (numbers_from i gs t) p 0 < get_or (numbers_from i gs t) q 0
@@ -94,9 +89,6 @@ numbers-sum f i (g ∷ gs) t =
     at : (b : Bool) → odd_by f (cond b (i ∷ numbers_from (suc i) gs t) (numbers_from (suc i) gs t)) ≡ plus (b && f (i + 0)) (odd_by f (numbers_from (suc i) gs t))
     at true = ap (λ k. plus (f k) (odd_by f (numbers_from (suc i) gs t))) (omega arith)
     at false = refl
-
-slice_get-range : (n i : ℕ) → i < n → slice_get (range_with_len 0 n) i ≡ Some i
-slice_get-range n i l = slice_get-get_or (range_with_len 0 n) i 0 (omega (arith, length-range_with_len 0 n)) ∙ ap Some (get_or-range_with_len 0 n i 0 l ∙ omega arith)
 
 -- the value of Sq(R) where the operators are those of a list of elements that has R at its place
 pub value_listed : (gs : List Generator) (c : List ℕ → ℕ → ℕ → Bool) (xs : List (List ℕ)) (r : List ℕ) (i p : ℕ) → place_of r ≡ Some p → slice_get xs p ≡ Some r → i < length gs → value gs (map (operator_on gs c) xs) r i ≡ values_on gs c r i

@@ -11,14 +11,14 @@ use Rattle.std.proofs.lemmas.Bool.{ltb-true, ltb-false, false≢true}
 use Rattle.std.proofs.lemmas.List.Elements.{All-filter, All-from_get_or}
 use Rattle.std.proofs.lemmas.List.FromFn.{length-range_with_len, get_or-range_with_len}
 use Rattle.std.proofs.lemmas.Nat.{and-not, and_comm, ones_cat, pow_pos}
-use Rattle.milnor_basis.specs.Exponents.{IsTrimmed}
-use Rattle.milnor_basis.specs.Product.{choose, is_odd, coefficient}
+use Rattle.milnor_basis.specs.Product.{choose, is_odd, coefficient, odd_by}
 use Rattle.f2_vec.specs.Vectors.{plus}
 use Rattle.milnor_basis.proofs.ExponentLemmas.{below_power}
 use Rattle.milnor_basis.proofs.Kummer.{choose_odd}
-use Rattle.milnor_basis.proofs.Parity.{odd_by, odd_by-filter, is_odd-count_by}
+use Rattle.milnor_basis.proofs.Parity.{odd_by-filter, is_odd-count_by}
 use Rattle.milnor_laws.proofs.Associative.{odd_by-same_all}
 use Rattle.milnor_laws.proofs.RightUnit.{product_has_unit}
+use Rattle.milnor_laws.proofs.Indecomposables.{single_trimmed}
 use Rattle.adem_laws.specs.Adem.{square, is_term}
 use Rattle.adem_laws.proofs.Products.{adem_relations}
 use Rattle.finite_module.specs.DerivedAction.{doubled_below, power_below, adem_terms}
@@ -98,7 +98,7 @@ adem_coefficient a b k power above below t =
     ap (λ x. x && f 0) odd
     ∙ ap (λ x. coefficient (square x) [] t) whole
     ∙ ap (λ x. coefficient x [] t) (square_positive (a + b) (omega arith))
-    ∙ (product_has_unit ((a + b) ∷ []) t (trimmed_positive (a + b) (omega arith))).1 in
+    ∙ (product_has_unit ((a + b) ∷ []) t (single_trimmed (a + b) (omega arith))).1 in
     let others : odd_by (λ c. is_term a b c && f c) (range_with_len 1 (a / 2)) ≡ odd_by g (adem_terms a b) =
     sym (odd_by-filter f (is_term a b) (range_with_len 1 (a / 2)))
     ∙ odd_by-same_all (λ c. (0 < c) × (2 * c ≤ a)) f g (adem_terms a b) (adem_terms_within a b) (λ c h.
@@ -112,7 +112,3 @@ adem_coefficient a b k power above below t =
     ∙ ap (λ x. plus x (odd_by (λ c. is_term a b c && f c) (range_with_len 1 (a / 2)))) first
     ∙ ap (plus (pointwise nat_eq ((a + b) ∷ []) t)) others in
     ap (λ x. plus x (odd_by g (adem_terms a b))) relation ∙ plus_back (pointwise nat_eq ((a + b) ∷ []) t) (odd_by g (adem_terms a b))
-  where
-    trimmed_positive : (n : ℕ) → 0 < n → IsTrimmed (n ∷ [])
-    trimmed_positive zero l = absurd (omega arith)
-    trimmed_positive (suc n) l = refl

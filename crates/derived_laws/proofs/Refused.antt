@@ -5,8 +5,7 @@ use Rattle.std.specs.Int.{is_power_of_two}
 use Rattle.std.specs.List.{range_with_len}
 use Rattle.std.specs.Option.{option_or}
 use Rattle.std.proofs.Common.{◌≡◌, ℕ, suc, ◌+◌, ◌-◌, ◌<◌, ◌≤◌, ℤ, pos, ◌+ℤ◌, Bool, true, false, ◌||◌, Option, Some, None, List, [], ◌∷◌, All, length, get_or, if◌then◌else◌, refl, sym, ◌∙◌, ap, arith}
-use Rattle.std.proofs.lemmas.List.Elements.{All-head, All-tail, All-from_get_or}
-use Rattle.std.proofs.lemmas.List.FromFn.{length-range_with_len, get_or-range_with_len}
+use Rattle.std.proofs.lemmas.List.Elements.{All-head, All-tail}
 use Rattle.f2_vec.specs.Spans.{combination}
 use Rattle.f2_vec.proofs.Combinations.{map_same, map_same_all}
 use Rattle.milnor_laws.proofs.Indecomposables.{single_trimmed}
@@ -14,6 +13,7 @@ use Rattle.milnor_basis.specs.Exponents.{degree_of, IsTrimmed}
 use Rattle.milnor_basis.specs.Basis.{basis_of}
 use Rattle.milnor_basis.specs.Product.{product_terms}
 use Rattle.milnor_basis.proofs.BasisLemmas.{All-basis_of}
+use Rattle.milnor_basis.proofs.Ranges.{All-range}
 use Rattle.module_json.specs.ModuleFile.{Generator, Entry, File, degree_at}
 use Rattle.module_json.specs.WellFormed.{IsEntryOf, NeverFall}
 use Rattle.finite_module.specs.Module.{generators_in, width, value, act_on, total}
@@ -26,18 +26,11 @@ use Rattle.finite_module.proofs.Widths.{terms_of_degree}
 use Rattle.derived_laws.specs.Unique.{with_operators, ActsAsListed, RefusedHasNoModule}
 use Rattle.derived_laws.proofs.UniqueDerived.{derived_is_unique}
 
-first_in_all : {A B : Type 0} → (P : A → Type 0) (f : A → Option B) (xs : List A) → All P xs → ((x : A) → P x → f x ≡ None) → first_in f xs ≡ None
-first_in_all P f [] all h = refl
-first_in_all P f (x ∷ xs) all h = ap (λ o. option_or o (first_in f xs)) (h x (All-head P x xs all)) ∙ first_in_all P f xs (All-tail P x xs all) h
+pub first_in-none : {A B : Type 0} → (P : A → Type 0) (f : A → Option B) (xs : List A) → All P xs → ((x : A) → P x → f x ≡ None) → first_in f xs ≡ None
+first_in-none P f [] all h = refl
+first_in-none P f (x ∷ xs) all h = ap (λ o. option_or o (first_in f xs)) (h x (All-head P x xs all)) ∙ first_in-none P f xs (All-tail P x xs all) h
 
-All-range : (a n : ℕ) → All (λ k. (a ≤ k) × (k < a + n)) (range_with_len a n)
-All-range a n =
-    All-from_get_or (λ k. (a ≤ k) × (k < a + n)) (range_with_len a n) 0 (λ i l.
-    let h : i < n = omega (arith, length-range_with_len a n) in
-    let e : get_or (range_with_len a n) i 0 ≡ a + i = get_or-range_with_len a n i 0 h in
-    (omega arith, omega arith))
-
-same_bits : (v : List Bool) → pointwise beq v v ≡ true
+pub same_bits : (v : List Bool) → pointwise beq v v ≡ true
 same_bits [] = refl
 same_bits (true ∷ v) = same_bits v
 same_bits (false ∷ v) = same_bits v
@@ -74,13 +67,13 @@ module _ (f : File) (order : NeverFall f.generators) (operators : List (List (Li
   pub first_relation-none : first_relation (derived_module f) ≡ None
   first_relation-none =
       let m = derived_module f in
-      first_in_all (λ n. (2 ≤ n) × (n < 2 + (span gs - 1))) (relation_in_degree m) (range_with_len 2 (span gs - 1)) (All-range 2 (span gs - 1)) (λ n hn.
-      first_in_all (λ d. (1 ≤ d) × (d < 1 + (n - 1))) (relation_in_degrees m n) (range_with_len 1 (n - 1)) (All-range 1 (n - 1)) (λ d hd.
+      first_in-none (λ n. (2 ≤ n) × (n < 2 + (span gs - 1))) (relation_in_degree m) (range_with_len 2 (span gs - 1)) (All-range 2 (span gs - 1)) (λ n hn.
+      first_in-none (λ d. (1 ≤ d) × (d < 1 + (n - 1))) (relation_in_degrees m n) (range_with_len 1 (n - 1)) (All-range 1 (n - 1)) (λ d hd.
       let low = hd.0 in let high = hd.1 in
-      first_in_all (λ r. IsTrimmed r × (degree_of r ≡ d)) (λ r. first_in (relation_of m r) (basis_of (n - d))) (basis_of d) (All-basis_of d) (λ r hr.
-      first_in_all (λ s. IsTrimmed s × (degree_of s ≡ n - d)) (relation_of m r) (basis_of (n - d)) (All-basis_of (n - d)) (λ s hs.
+      first_in-none (λ r. IsTrimmed r × (degree_of r ≡ d)) (λ r. first_in (relation_of m r) (basis_of (n - d))) (basis_of d) (All-basis_of d) (λ r hr.
+      first_in-none (λ s. IsTrimmed s × (degree_of s ≡ n - d)) (relation_of m r) (basis_of (n - d)) (All-basis_of (n - d)) (λ s hs.
       let dr = hr.1 in let ds = hs.1 in
-      first_in_all (λ i. (0 ≤ i) × (i < 0 + length gs)) (relation_on m r s) (range_with_len 0 (length gs)) (All-range 0 (length gs)) (λ i hi.
+      first_in-none (λ i. (0 ≤ i) × (i < 0 + length gs)) (relation_on m r s) (range_with_len 0 (length gs)) (All-range 0 (length gs)) (λ i hi.
       let inside = hi.1 in
       relation_on-none r s i hr.0 hs.0 (omega arith) (omega arith) (omega arith))))))
 

@@ -11,10 +11,9 @@ use Rattle.f2_vec.proofs.Combinations.{HaveWidth-map_where, map_same_all, combin
 use Rattle.milnor_laws.proofs.Indecomposables.{single_trimmed}
 use Rattle.milnor_basis.specs.Exponents.{degree_of, IsTrimmed}
 use Rattle.milnor_basis.specs.Basis.{basis_of}
-use Rattle.milnor_basis.specs.Product.{coefficient}
+use Rattle.milnor_basis.specs.Product.{coefficient, odd_by}
 use Rattle.milnor_basis.proofs.BasisLemmas.{All-basis_of}
 use Rattle.milnor_basis.proofs.ExponentLemmas.{IsTrimmed-tail}
-use Rattle.milnor_basis.proofs.Parity.{odd_by}
 use Rattle.milnor_basis.specs.Front.{front as front_of, front}
 use Rattle.adem_laws.proofs.Leading.{leading_term}
 use Rattle.module_json.specs.ModuleFile.{Generator, File, degree_at}

@@ -13,7 +13,7 @@ use Rattle.milnor_laws.proofs.Vectors.{sum_of-map, zeros-map}
 use Rattle.milnor_basis.specs.Exponents.{degree_of, IsTrimmed}
 use Rattle.milnor_basis.specs.Basis.{basis_of}
 use Rattle.milnor_basis.proofs.BasisLemmas.{All-basis_of, Contains-basis_of}
-use Rattle.milnor_basis.proofs.Parity.{odd_by}
+use Rattle.milnor_basis.specs.Product.{odd_by}
 use Rattle.milnor_basis.proofs.Places.{basis_of-once}
 use Rattle.finite_module.specs.Module.{total}
 

@@ -15,9 +15,10 @@ use Rattle.finite_module.specs.Axioms.{IsModule}
 use Rattle.module_json.specs.WellFormed.{NeverFall}
 use Rattle.finite_module.specs.DerivedAction.{derived_value, derived_operator, derived_from, elements, span, derived_module}
 use Rattle.finite_module.proofs.AboveSpan.{width_above_span}
-use Rattle.finite_module.proofs.Derived.{derived_widths}
+use Rattle.finite_module.proofs.Derived.{derived_widths, derived_from_kept}
 use Rattle.finite_module.proofs.Elements.{slice_get-append_left, slice_get-append_right, elements_below_grow, elements_at, place_is, place_found}
 use Rattle.finite_module.proofs.Values.{by_place, value_at_some, width_of}
+use Rattle.finite_module.proofs.Derivation.{derived_from-append, length-derived_from}
 use Rattle.derived_laws.specs.Unique.{with_operators, ActsAsListed, DerivedActionIsUnique}
 use Rattle.derived_laws.proofs.Before.{Before, derived_value-same}
 use Rattle.derived_laws.proofs.Steps.{derived_value_is}
@@ -73,21 +74,6 @@ number_below s r hs hr (inr b) =
 
 -- the derived operators up to an element
 
-kept : (f : File) (operators : Operators) (rs : List (List ℕ)) (p : ℕ) → p < length operators → slice_get (derived_from f operators rs) p ≡ slice_get operators p
-kept f operators [] p h = refl
-kept f operators (r ∷ rs) p h =
-    kept f (operators ++ derived_operator f operators r ∷ []) rs p (omega (arith, length_push operators (derived_operator f operators r)))
-    ∙ slice_get-append_left operators (derived_operator f operators r ∷ []) p h
-
-from-append : (f : File) (operators : Operators) (rs ss : List (List ℕ)) → derived_from f operators (rs ++ ss) ≡ derived_from f (derived_from f operators rs) ss
-from-append f operators [] ss = refl
-from-append f operators (r ∷ rs) ss = from-append f (operators ++ derived_operator f operators r ∷ []) rs ss
-
-length-from : (f : File) (operators : Operators) (rs : List (List ℕ)) → length (derived_from f operators rs) ≡ length operators + length rs
-length-from f operators [] = omega arith
-length-from f operators (r ∷ rs) =
-    omega (arith, length-from f (operators ++ derived_operator f operators r ∷ []) rs, length_push operators (derived_operator f operators r))
-
 module _ (f : File) (r : List ℕ) (h : IsTrimmed r) (within : degree_of r < span f.generators + 1) where
   abbrev all : List (List ℕ)
   all = elements (span f.generators + 1)
@@ -107,13 +93,13 @@ module _ (f : File) (r : List ℕ) (h : IsTrimmed r) (within : degree_of r < spa
   length-prefix : length prefix ≡ p
   length-prefix =
       let l : p < length all = slice_get_within all p r there in
-      omega (arith, length-from f [] (take p all), length-take-le p all (omega arith))
+      omega (arith, length-derived_from f [] (take p all), length-take-le p all (omega arith))
 
   whole : (derived_module f).operators ≡ derived_from f (prefix ++ last ∷ []) (drop (p + 1) all)
   whole =
       let l : p < length all = slice_get_within all p r there in
       ap (derived_from f []) (sym (take-append-drop p all) ∙ ap (λ xs. take p all ++ xs) (drop_more all p [] l ∙ ap (λ x. x ∷ drop (p + 1) all) (get_or_from_slice_get all p r [] there)))
-      ∙ from-append f [] (take p all) (r ∷ drop (p + 1) all)
+      ∙ derived_from-append f [] (take p all) (r ∷ drop (p + 1) all)
 
   -- what stands before the element is kept
   same_before : (s : List ℕ) → (k : IsTrimmed s) → number s k < p → (j : ℕ) → value f.generators prefix s j ≡ value f.generators (derived_module f).operators s j
@@ -121,7 +107,7 @@ module _ (f : File) (r : List ℕ) (h : IsTrimmed r) (within : degree_of r < spa
       let q = number s k in
       let e : slice_get (derived_module f).operators q ≡ slice_get prefix q =
       ap (λ o. slice_get o q) whole
-      ∙ kept f (prefix ++ last ∷ []) (drop (p + 1) all) q (omega (arith, length_push prefix last, length-prefix))
+      ∙ derived_from_kept f (prefix ++ last ∷ []) (drop (p + 1) all) q (omega (arith, length_push prefix last, length-prefix))
       ∙ slice_get-append_left prefix (last ∷ []) q (omega (arith, length-prefix)) in
       by_place f.generators prefix s j q (placed_at s k)
       ∙ ap (λ o. or_zeros (width_of f.generators s j) (option_and_then (λ values. slice_get values j) o)) (sym e)
@@ -131,7 +117,7 @@ module _ (f : File) (r : List ℕ) (h : IsTrimmed r) (within : degree_of r < spa
   value_there i l =
       let e : slice_get (derived_module f).operators p ≡ Some last =
       ap (λ o. slice_get o p) whole
-      ∙ kept f (prefix ++ last ∷ []) (drop (p + 1) all) p (omega (arith, length_push prefix last, length-prefix))
+      ∙ derived_from_kept f (prefix ++ last ∷ []) (drop (p + 1) all) p (omega (arith, length_push prefix last, length-prefix))
       ∙ slice_get-append_right prefix (last ∷ []) p 0 (omega (arith, length-prefix)) in
       let inside : i < length (range_with_len 0 (length f.generators)) = omega (arith, length-range_with_len 0 (length f.generators)) in
       let at : slice_get last i ≡ Some (derived_value f prefix r i) =

@@ -1,20 +1,18 @@
 -- The answer: for a module that a file describes there is a canonical table through each range, and the texts are made of it.
-use Rattle.std.proofs.Common.{◌≡◌, ℕ, ℤ, pos, ◌<ℤ◌, ◌≤ℤ◌, List, [], ◌∷◌, length, Option, Some, None, refl, sym, ◌∙◌, ap, subst, arith, inl, inr}
-use Rattle.std.specs.Prelude.{Result, Ok, Err, IfOk, MatchOption, AllPairs}
+use Rattle.std.proofs.Common.{◌≡◌, ℕ, ℤ, pos, ◌<ℤ◌, ◌≤ℤ◌, List, [], ◌∷◌, length, Option, Some, None, refl, sym, ◌∙◌, ap, arith, inl, inr}
+use Rattle.std.specs.Prelude.{Result, Ok, Err, IfOk, MatchOption}
 use Rattle.std.specs.List.{sum}
-use Rattle.std.proofs.lemmas.List.Elements.{All-from_recursion}
-use Rattle.std.proofs.lemmas.List.Kept.{AllPairs-cons}
 use Rattle.std.proofs.lemmas.Bool.{cases_eq}
 use Rattle.std.proofs.lemmas.Int.{ints}
 use Rattle.adem_laws.specs.Admissible.{value as value_of, AdmissibleFormIsUnique}
 use Rattle.adem_laws.proofs.Values.{length-value}
 use Rattle.serde_json.specs.Data.{Data}
 use Rattle.module_json.specs.Checks.{IsValueOf}
-use Rattle.module_json.specs.ModuleFile.{Generator, Entry, File, IsFileOf, file_of, basis, degree_at, listed, unless_refused, with_entries, first_refusal, gens_of, entries_from, actions_of}
+use Rattle.module_json.specs.ModuleFile.{Generator, File, IsFileOf, file_of, degree_at}
 use Rattle.module_json.specs.ModuleFile.IsFileOf.{no_value, described}
 use Rattle.module_json.specs.WellFormed.{NeverFall}
 use Rattle.module_json.specs.declared.malformed.Malformed.{Malformed}
-use Rattle.module_json.proofs.Sorting.{EachPair-by_place, Rises-sorted_by}
+use Rattle.module_json.proofs.Basis.{file_in_order}
 use Rattle.finite_module.specs.Module.{Module as SteenrodModule, bottom, width}
 use Rattle.finite_module.specs.DerivedAction.{derived_module, top}
 use Rattle.finite_module.specs.Axioms.{IsModule}
@@ -109,19 +107,6 @@ product_exists forms numbers =
     let form = forms (sum numbers) (value_of numbers) (length-value numbers) in
     (product_text (sum numbers) (value_of numbers) form.0, record { monomials = form.0; admissible = form.1; product = refl })
 
--- ---- the generators of a file stand by degree
-
-accepted_generators : (refusal : Option Malformed) (gs : List Generator) (es : Result (List Entry) Malformed) (f : File) → unless_refused refusal (with_entries gs es) ≡ Ok f → gs ≡ f.generators
-accepted_generators (Some e) gs es f p = cc
-accepted_generators None gs (Err e) f p = cc
-accepted_generators None gs (Ok es) f p = let made : File = record { generators = gs; entries = es } in let same : made ≡ f = cc in ap (λ (x : File). x.generators) same
-
-in_order : (bytes : List ℕ) (r : Result File Malformed) → IsFileOf bytes r → (f : File) → r ≡ Ok f → NeverFall f.generators
-in_order bytes r (no_value e is) f p = cc
-in_order bytes r (described d is) f p =
-    let gs = basis (gens_of d) in
-    subst NeverFall (accepted_generators (first_refusal d) gs (entries_from gs [] (actions_of d)) f p) (EachPair-by_place (λ g h. g.degree ≤ℤ h.degree) gs (Rises-sorted_by (λ (g : Generator). g.degree) (listed (gens_of d))))
-
 -- ---- the answer
 
 pub one_alone : NeverFall sphere_file.generators
@@ -159,7 +144,7 @@ module _ (accepted : AcceptedIsModule) (IsAnswerOf : SteenrodModule → Result (
   of_file : (f : File) → IsFileOf bytes (Ok f) → (found : Option CheckFault) → refusal_of f ≡ found → (answer : Result (List ℕ) Failure) × IsModuleAnswer IsAnswerOf bytes answer
   of_file f is (Some e) h = (Err (NotModule f e), no_module f e is h)
   of_file f is None h =
-      let order : NeverFall f.generators = in_order bytes (Ok f) is f refl in
+      let order : NeverFall f.generators = file_in_order bytes (Ok f) is f refl in
       let x = made (derived_module f) (accepted f order h) order in
       (x.0, answer_of f x.0 is h x.1)
 

@@ -4,7 +4,7 @@ use Rattle.std.specs.Int.{is_power_of_two}
 use Rattle.std.specs.Bool.{beq}
 use Rattle.std.specs.Option.{option_or}
 use Rattle.std.specs.Cmp.Lexicographic.{pointwise}
-use Rattle.std.proofs.Common.{◌≡◌, ◌≢◌, ℕ, zero, suc, ◌+◌, ◌-◌, ◌<◌, ◌≤◌, ℤ, pos, ◌+ℤ◌, inl, inr, Bool, true, false, not, ◌&&◌, ◌||◌, ◌==◌, nat_eq, if◌then◌else◌, List, [], ◌∷◌, ◌++◌, length, map, get_or, Option, Some, None, refl, ap, sym, subst, ◌∙◌, arith}
+use Rattle.std.proofs.Common.{◌≡◌, ◌≢◌, ℕ, zero, suc, ◌+◌, ◌-◌, ◌<◌, ◌≤◌, ℤ, pos, ◌+ℤ◌, inl, inr, Bool, true, false, not, ◌&&◌, ◌||◌, ◌==◌, nat_eq, if◌then◌else◌, List, [], ◌∷◌, ◌++◌, length, map, get_or, Some, None, refl, ap, sym, subst, ◌∙◌, arith}
 use Rattle.std.proofs.Math.Bool as Booleans
 use Rattle.std.proofs.lemmas.Bool.{cases_eq, cases_lt, and_from, and_parts, eq-eqb, eqb-true, ne_eqb, false≢true}
 use Rattle.std.proofs.lemmas.Bool.Decides.{Decides-eqb}
@@ -16,7 +16,8 @@ use Rattle.milnor_basis.specs.Exponents.{degree_of, IsTrimmed}
 use Rattle.milnor_basis.specs.Basis.{basis_of}
 use Rattle.milnor_basis.specs.Product.{product_terms}
 use Rattle.milnor_basis.proofs.BasisLemmas.{All-basis_of}
-use Rattle.hopf_laws.proofs.Splittings.{All-flat_map, All-of_all}
+use Rattle.milnor_basis.proofs.Ranges.{All-range, list_all-holds}
+use Rattle.hopf_laws.proofs.Splittings.{All-flat_map}
 use Rattle.module_json.specs.ModuleFile.{Generator, Entry, degree_at}
 use Rattle.finite_module.specs.Module.{Module, generators_in, width, total}
 use Rattle.finite_module.specs.ModuleLaws.{generators_in-member}
@@ -28,9 +29,11 @@ use Rattle.finite_module.specs.Text.{powers}
 use Rattle.module_check.specs.declared.fault.CheckFault.TheVariants.{Listed, Relation}
 use Rattle.finite_module.proofs.AboveSpan.{width_above_span}
 use Rattle.finite_module.proofs.Widths.{terms_of_degree}
+use Rattle.finite_module.proofs.Values.{both_empty}
 use Rattle.derived_laws.specs.Unique.{ActsAsListed}
 use Rattle.derived_laws.proofs.UniqueDerived.{derived_is_unique}
-use Rattle.built_laws.proofs.Values.{both_empty, numbers_from-rising}
+use Rattle.derived_laws.proofs.Refused.{first_in-none, same_bits}
+use Rattle.built_laws.proofs.Values.{numbers_from-rising}
 use Rattle.file_laws.specs.Files.{entry_of, squares_of, file_of, FilesGiveBack}
 
 -- A vector by the names of its elements.
@@ -70,17 +73,8 @@ all_listed : list_all (λ n. not (is_power_of_two n) || list_any (nat_eq n) powe
 unfolding lib.Count.ones
 all_listed = refl
 
-all_at : (p : ℕ → Bool) (a n : ℕ) → list_all p (range_with_len a n) ≡ true → (k : ℕ) → a ≤ k → k < a + n → p k ≡ true
-all_at p a zero h k l m = absurd (omega arith)
-all_at p a (suc n) h k l m =
-    let both = and_parts (p a) (list_all p (range_with_len (a + 1) n)) h in
-    elim (cases_eq k a) [
-      | inl same ↦ ap p same ∙ both.0
-      | inr other ↦ all_at p (a + 1) n both.1 k (omega arith) (omega arith)
-    ]
-
 power_listed : (n : ℕ) → is_power_of_two n ≡ true → n ≤ 64 → list_any (nat_eq n) powers ≡ true
-power_listed n e l = at (is_power_of_two n) e (all_at (λ k. not (is_power_of_two k) || list_any (nat_eq k) powers) 0 65 all_listed n (omega arith) (omega arith))
+power_listed n e l = at (is_power_of_two n) e (list_all-holds (λ k. not (is_power_of_two k) || list_any (nat_eq k) powers) 0 65 n (omega arith) (omega arith) all_listed)
   where
     at : (b : Bool) → b ≡ true → (not b || list_any (nat_eq n) powers) ≡ true → list_any (nat_eq n) powers ≡ true
     at true g h = h
@@ -174,21 +168,6 @@ powers_are =
     let P : ℕ → Type 0 = λ n. is_power_of_two n ≡ true in
     All-cons P 1 (2 ∷ 4 ∷ 8 ∷ 16 ∷ 32 ∷ 64 ∷ []) refl (All-cons P 2 (4 ∷ 8 ∷ 16 ∷ 32 ∷ 64 ∷ []) refl (All-cons P 4 (8 ∷ 16 ∷ 32 ∷ 64 ∷ []) refl (All-cons P 8 (16 ∷ 32 ∷ 64 ∷ []) refl (All-cons P 16 (32 ∷ 64 ∷ []) refl (All-cons P 32 (64 ∷ []) refl (All-cons P 64 [] refl (All-nil P)))))))
 
-first_in-none : {A B : Type 0} → (P : A → Type 0) (f : A → Option B) (xs : List A) → All P xs → ((x : A) → P x → f x ≡ None) → first_in f xs ≡ None
-first_in-none P f [] all h = refl
-first_in-none P f (x ∷ xs) all h = ap (λ o. option_or o (first_in f xs)) (h x (All-head P x xs all)) ∙ first_in-none P f xs (All-tail P x xs all) h
-
-same_bits_of : (v : List Bool) → pointwise beq v v ≡ true
-same_bits_of [] = refl
-same_bits_of (true ∷ v) = same_bits_of v
-same_bits_of (false ∷ v) = same_bits_of v
-
-All-between : (a n : ℕ) → All (λ i. a ≤ i × (i < a + n)) (range_with_len a n)
-All-between a zero = All-nil (λ i. a ≤ i × (i < a + 0))
-All-between a (suc n) =
-    All-cons (λ i. a ≤ i × (i < a + suc n)) a (range_with_len (a + 1) n) (omega arith, omega arith)
-    (All-of_all (λ i. a + 1 ≤ i × (i < a + 1 + n)) (λ i. a ≤ i × (i < a + suc n)) (range_with_len (a + 1) n) (All-between (a + 1) n) (λ i h. let l = h.0 in let k = h.1 in (omega arith, omega arith)))
-
 -- A module with the values of another has its relations.
 module _ (d m : Module) (one : d.generators ≡ m.generators) (same : (r : List ℕ) (i : ℕ) → IsTrimmed r → i < length m.generators → value_of d r i ≡ value_of m r i) (is : IsModule m) where
   relations_too : (r s : List ℕ) (i : ℕ) → IsTrimmed r → IsTrimmed s → 0 < degree_of r → 0 < degree_of s → i < length m.generators → one_by_one d r s i ≡ by_their_product d r s i
@@ -205,20 +184,20 @@ module _ (d m : Module) (one : d.generators ≡ m.generators) (same : (r : List 
 
   no_relation : first_relation d ≡ None
   no_relation =
-      first_in-none (λ n. 2 ≤ n × (n < 2 + (span d.generators - 1))) (relation_in_degree d) (range_with_len 2 (span d.generators - 1)) (All-between 2 (span d.generators - 1)) (λ n hn.
+      first_in-none (λ n. 2 ≤ n × (n < 2 + (span d.generators - 1))) (relation_in_degree d) (range_with_len 2 (span d.generators - 1)) (All-range 2 (span d.generators - 1)) (λ n hn.
       let two = hn.0 in
-      first_in-none (λ e. 1 ≤ e × (e < 1 + (n - 1))) (relation_in_degrees d n) (range_with_len 1 (n - 1)) (All-between 1 (n - 1)) (λ e he.
+      first_in-none (λ e. 1 ≤ e × (e < 1 + (n - 1))) (relation_in_degrees d n) (range_with_len 1 (n - 1)) (All-range 1 (n - 1)) (λ e he.
       let lo = he.0 in let hi = he.1 in
       first_in-none (λ r. IsTrimmed r × (degree_of r ≡ e)) (λ r. first_in (relation_of d r) (basis_of (n - e))) (basis_of e) (All-basis_of e) (λ r hr.
       let dr = hr.1 in
       first_in-none (λ s. IsTrimmed s × (degree_of s ≡ n - e)) (relation_of d r) (basis_of (n - e)) (All-basis_of (n - e)) (λ s hs.
       let ds = hs.1 in
-      first_in-none (λ i. 0 ≤ i × (i < 0 + length d.generators)) (relation_on d r s) (range_with_len 0 (length d.generators)) (All-between 0 (length d.generators)) (λ i hi'.
+      first_in-none (λ i. 0 ≤ i × (i < 0 + length d.generators)) (relation_on d r s) (range_with_len 0 (length d.generators)) (All-range 0 (length d.generators)) (λ i hi'.
       let k = hi'.1 in
       none_where r s i (relations_too r s i hr.0 hs.0 (omega arith) (omega arith) (omega (arith, ap length one))))))))
     where
       none_where : (r s : List ℕ) (i : ℕ) → one_by_one d r s i ≡ by_their_product d r s i → relation_on d r s i ≡ None
-      none_where r s i e = ap (λ b. if b then None else Some (Relation r s i)) (ap (λ v. pointwise beq v (by_their_product d r s i)) e ∙ same_bits_of (by_their_product d r s i))
+      none_where r s i e = ap (λ b. if b then None else Some (Relation r s i)) (ap (λ v. pointwise beq v (by_their_product d r s i)) e ∙ same_bits (by_their_product d r s i))
 
   no_entry : (k : ℕ) (es : List Entry) → All (λ e. is_power_of_two e.n ≡ true) es → listed_from d k es ≡ None
   no_entry k [] h = refl
@@ -242,7 +221,7 @@ files_give_back m in_order near is = (
     entries : All (λ (e : Entry). is_power_of_two e.n ≡ true) (file_of m).entries
     entries =
         All-flat_map (λ (e : Entry). is_power_of_two e.n ≡ true) (entry_of m) (λ k. is_power_of_two k.1 ≡ true) (squares_of m)
-        (All-flat_map (λ (k : ℕ × ℕ). is_power_of_two k.1 ≡ true) (λ i. map (λ n. (i, n)) powers) (λ i. 0 ≤ i × (i < 0 + length m.generators)) (range_with_len 0 (length m.generators)) (All-between 0 (length m.generators))
+        (All-flat_map (λ (k : ℕ × ℕ). is_power_of_two k.1 ≡ true) (λ i. map (λ n. (i, n)) powers) (λ i. 0 ≤ i × (i < 0 + length m.generators)) (range_with_len 0 (length m.generators)) (All-range 0 (length m.generators))
         (λ i h. All-map (λ (k : ℕ × ℕ). is_power_of_two k.1 ≡ true) (λ n. (i, n)) powers powers_are))
         (λ k h. at k h (list_any (λ b. b) (value_of m (k.1 ∷ []) k.0)))
       where

@@ -3,7 +3,7 @@ use Rattle.std.specs.Prelude.{nat_le, nat_lt, int_le}
 use Rattle.std.specs.Fmt.{digits, signed_decimal}
 use Rattle.std.specs.List.{AllByRecursion, flat_map, list_all, range_with_len}
 use Rattle.std.proofs.Common.{◌≡◌, ℕ, zero, suc, ◌+◌, ◌*◌, ◌<◌, ◌≤◌, ℤ, pos, neg_ℤ, negsuc, Bool, true, false, ◌&&◌, ◌||◌, ◌==◌, if◌then◌else◌, List, [], ◌∷◌, ◌++◌, length, map, codes, decimal, refl, sym, ap, subst, ◌∙◌, arith, append_assoc}
-use Rattle.std.proofs.lemmas.Bool.{and_parts, and_from}
+use Rattle.std.proofs.lemmas.Bool.{and_parts, and_from, leb-true}
 use Rattle.std.proofs.lemmas.Int.{ints}
 use Rattle.std.proofs.lemmas.List.{length-append, length-map}
 use Rattle.std.proofs.lemmas.List.Folds.{list_all-append}
@@ -17,13 +17,11 @@ use Rattle.file_laws.specs.Files.{squares_of}
 use Rattle.module_build.specs.Names.{numbered_name}
 use Rattle.module_build.specs.FileText.{escaped, quoted, joined_by_comma, member}
 use Rattle.file_text_laws.proofs.Written.{is_plain, are_plain, have_plain_names, text_of}
-use Rattle.file_text_laws.proofs.Header.{Numbered, all_at}
+use Rattle.file_text_laws.proofs.Header.{Numbered}
 use Rattle.file_text_laws.proofs.Lines.{is_visible, IsSquare, line}
 use Rattle.file_text_laws.proofs.Sums.{RisesFrom}
 use Rattle.file_text_laws.proofs.Described.{numbers, line_of, lines_of, is_there, IsKey, keys, below, rising}
-
-leb_true : (a b : ℕ) → nat_le a b ≡ true → a ≤ b
-leb_true a b e = grind arith
+use Rattle.milnor_basis.proofs.Ranges.{list_all-holds}
 
 -- ---- characters
 
@@ -105,8 +103,8 @@ all_short = refl
 
 decimal_short : (n : ℕ) → n < 130 → (is_visible (decimal n) ≡ true) × (length (decimal n) ≤ 3)
 decimal_short n l =
-    let both = and_parts (is_visible (decimal n)) (nat_le (length (decimal n)) 3) (all_at is_short 0 130 all_short n (omega arith) (omega arith)) in
-    (both.0, leb_true (length (decimal n)) 3 both.1)
+    let both = and_parts (is_visible (decimal n)) (nat_le (length (decimal n)) 3) (list_all-holds is_short 0 130 n (omega arith) (omega arith) all_short) in
+    (both.0, leb-true (length (decimal n)) 3 both.1)
 
 degree_fits : (z : ℤ) → within_limit z ≡ true → Fits 4 (signed_decimal z)
 degree_fits (pos n) h =
@@ -134,8 +132,8 @@ pub record IsSmallName (w : List ℕ) : Type 0 where
 
 small_name : (i : ℕ) → i < 64 → IsSmallName (numbered_name i)
 small_name i l =
-    let both = and_parts (is_visible (numbered_name i)) (nat_le (length (numbered_name i)) 4) (all_at is_small_name 0 64 all_small_names i (omega arith) (omega arith)) in
-    record { visible = both.0; short = leb_true (length (numbered_name i)) 4 both.1 }
+    let both = and_parts (is_visible (numbered_name i)) (nat_le (length (numbered_name i)) 4) (list_all-holds is_small_name 0 64 i (omega arith) (omega arith) all_small_names) in
+    record { visible = both.0; short = leb-true (length (numbered_name i)) 4 both.1 }
 
 members_fit : (i : ℕ) (gs : List Generator) → Numbered i gs → i + length gs ≤ 64 → AllFit 15 (map member gs)
 members_fit i [] h few = tt
@@ -181,7 +179,7 @@ line_visible n name ws s small h few =
     let sum = sum_visible ws h in
     let right : List ℕ = 32 ∷ 61 ∷ 32 ∷ joined_by_plus ws in
     let same : line n name ws ≡ square ++ 32 ∷ (name ++ right) = sym (append_assoc (codes "Sq") (decimal n) (32 ∷ (name ++ right))) in
-    let a = leb_true (length square) 4 s.short in
+    let a = leb-true (length square) 4 s.short in
     let b = small.short in
     let c = sum.short in
     record {

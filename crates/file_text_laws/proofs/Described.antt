@@ -11,7 +11,7 @@ use Rattle.std.proofs.lemmas.List.{map-append}
 use Rattle.std.proofs.lemmas.List.Elements.{All-head, All-tail}
 use Rattle.milnor_basis.specs.Exponents.{degree_of}
 use Rattle.serde_json.specs.Data.{string, item}
-use Rattle.module_json.specs.ModuleFile.{Generator, Entry, no_generator, degree_at, within_limit, spans, entry_of, entries_from, unless_repeated, written}
+use Rattle.module_json.specs.ModuleFile.{Generator, Entry, no_generator, degree_at, within_limit, spans, entry_of, entries_from, unless_repeated, written, is_near}
 use Rattle.module_json.specs.WellFormed.{AreByDegree}
 use Rattle.module_json.specs.declared.limits.TheConstants.{MAX_DEGREE, MAX_SPAN}
 use Rattle.finite_module.specs.Module.{Module, generators_in, width, numbers_from}
@@ -25,6 +25,7 @@ use Rattle.file_text_laws.proofs.Written.{items_of}
 use Rattle.file_text_laws.proofs.Header.{Numbered}
 use Rattle.file_text_laws.proofs.Lines.{IsSquare, line, squares_read}
 use Rattle.file_text_laws.proofs.Sums.{RisesFrom, later, some_rise, some_have, all_by_index, entry_is, HasSum, not_repeated}
+use Rattle.finite_module.proofs.Degrees.{le_yes}
 
 -- ---- limits
 
@@ -44,11 +45,8 @@ list_all_by_index : (p : Generator → Bool) (xs : List Generator) → ((i : ℕ
 list_all_by_index p [] h = refl
 list_all_by_index p (x ∷ xs) h = and_from (p x) (list_all p xs) (h 0 (omega arith)) (list_all_by_index p xs (λ i l. h (suc i) (omega arith)))
 
-le_is : (x y : ℤ) → x ≤ℤ y → int_le x y ≡ true
-le_is x y l = grind (arith, ints)
-
 pub near : (gs : List Generator) → AreByDegree gs → spans gs ≡ true
-near gs h = list_all_by_index (λ g. list_all (λ h. int_le g.degree (h.degree +ℤ pos MAX_SPAN)) gs) gs (λ i l. list_all_by_index (λ h. int_le (get_or gs i no_generator).degree (h.degree +ℤ pos MAX_SPAN)) gs (λ j m. le_is (degree_at gs i) (degree_at gs j +ℤ pos MAX_SPAN) (at i j l m)))
+near gs h = list_all_by_index (λ g. list_all (λ h. is_near g.degree h.degree) gs) gs (λ i l. list_all_by_index (λ h. is_near (get_or gs i no_generator).degree h.degree) gs (λ j m. le_yes (degree_at gs i) (degree_at gs j +ℤ pos MAX_SPAN) (at i j l m)))
   where
     at : (i j : ℕ) → i < length gs → j < length gs → degree_at gs i ≤ℤ (degree_at gs j +ℤ pos MAX_SPAN)
     at i j l m = elim (cases_lt i j) [

@@ -4,8 +4,8 @@ use Rattle.std.specs.Cmp.Lexicographic.{slice_cmp}
 use Rattle.std.specs.List.{list_all, range_with_len}
 use Rattle.std.specs.Option.{option_or}
 use Rattle.std.specs.Ordering.{nat_cmp}
-use Rattle.std.proofs.Common.{◌≡◌, ℕ, zero, suc, ◌+◌, ◌<◌, ◌≤◌, ◌^◌, ℤ, pos, neg_ℤ, negsuc, inl, inr, Bool, true, false, not, ◌||◌, if◌then◌else◌, Ordering, Less, Equal, Greater, List, [], ◌∷◌, ◌++◌, length, codes, Option, Some, None, option_map, option_and_then, refl, sym, ap, subst, ◌∙◌, arith}
-use Rattle.std.proofs.lemmas.Bool.{and_parts, cases_eq, lt-ltb, false≢true}
+use Rattle.std.proofs.Common.{◌≡◌, ℕ, suc, ◌+◌, ◌<◌, ◌≤◌, ◌^◌, ℤ, pos, neg_ℤ, negsuc, Bool, true, false, not, ◌||◌, if◌then◌else◌, Ordering, Less, Equal, Greater, List, [], ◌∷◌, ◌++◌, length, codes, Option, Some, None, option_map, option_and_then, refl, sym, ap, subst, ◌∙◌, arith}
+use Rattle.std.proofs.lemmas.Bool.{and_parts, lt-ltb, false≢true}
 use Rattle.std.proofs.lemmas.Int.{ints}
 use Rattle.std.proofs.lemmas.List.{length-append}
 use lib.Signed.{mag}
@@ -14,8 +14,8 @@ use Rattle.serde_json.specs.Read.{of_json, of_items, of_members}
 use Rattle.serde_json.specs.Written.{outline, items_outline, members_outline}
 use Rattle.serde_json.proofs.Numbers.{number_of-decimal}
 use Rattle.module_json.specs.Actions.{is_name}
-use Rattle.module_json.specs.Checks.{unless, members_count, items_count}
-use Rattle.module_json.specs.ModuleFile.{Generator, degree_of, within_limit, degree_refusal, generators_refusal, listed, by_degree, spans, first_of, file_of, unless_refused, with_entries, entries_from}
+use Rattle.module_json.specs.Checks.{unless, members_count, items_count, first_of}
+use Rattle.module_json.specs.ModuleFile.{Generator, degree_of, within_limit, degree_refusal, generators_refusal, listed, by_degree, spans, file_of, unless_refused, with_entries, entries_from}
 use Rattle.module_json.specs.declared.malformed.Malformed.{Malformed}
 use Rattle.module_json.specs.declared.malformed.Malformed.TheVariants.{Limit, Name}
 use Rattle.module_json.specs.declared.malformed.What.TheVariants.{Gens as ManyGens, Actions as ManyActions, Degree, Span}
@@ -23,6 +23,7 @@ use Rattle.module_json.specs.declared.limits.TheConstants.{MAX_ACTIONS, MAX_DEGR
 use Rattle.module_build.specs.Names.{numbered_name}
 use Rattle.file_text_laws.proofs.Written.{number_from, members_of, items_of, data_of}
 use Rattle.file_text_laws.proofs.Members.{Behind, BehindAll, Rise, members_read, items_read}
+use Rattle.milnor_basis.proofs.Ranges.{list_all-holds}
 
 -- ---- names rise with the number
 
@@ -45,17 +46,8 @@ are_in_order i = list_all (in_order i) (range_with_len 0 64)
 all_in_order : list_all are_in_order (range_with_len 0 64) ≡ true
 all_in_order = refl
 
-pub all_at : (p : ℕ → Bool) (a n : ℕ) → list_all p (range_with_len a n) ≡ true → (k : ℕ) → a ≤ k → k < a + n → p k ≡ true
-all_at p a zero h k l m = absurd (omega arith)
-all_at p a (suc n) h k l m =
-    let both = and_parts (p a) (list_all p (range_with_len (a + 1) n)) h in
-    elim (cases_eq k a) [
-      | inl same ↦ ap p same ∙ both.0
-      | inr other ↦ all_at p (a + 1) n both.1 k (omega arith) (omega arith)
-    ]
-
 name_behind : (i j : ℕ) → j < i → i < 64 → Behind (numbered_name i) (numbered_name j)
-name_behind i j l few = behind_is (slice_cmp nat_cmp (numbered_name i) (numbered_name j)) (at (nat_lt j i) (lt-ltb j i l) (all_at (in_order i) 0 64 (all_at are_in_order 0 64 all_in_order i (omega arith) few) j (omega arith) (omega arith)))
+name_behind i j l few = behind_is (slice_cmp nat_cmp (numbered_name i) (numbered_name j)) (at (nat_lt j i) (lt-ltb j i l) (list_all-holds (in_order i) 0 64 j (omega arith) (omega arith) (list_all-holds are_in_order 0 64 i (omega arith) few all_in_order)))
   where
     at : (b : Bool) → b ≡ true → (not b || is_behind (slice_cmp nat_cmp (numbered_name i) (numbered_name j))) ≡ true → is_behind (slice_cmp nat_cmp (numbered_name i) (numbered_name j)) ≡ true
     at true e h = h
@@ -122,7 +114,7 @@ degree_read (negsuc n) h = refl
 none_refused : (i : ℕ) (gs : List Generator) → Numbered i gs → i + length gs ≤ 64 → generators_refusal i (members_of gs) ≡ None
 none_refused i [] h few = refl
 none_refused i (g ∷ gs) h few =
-    ap (λ b. option_or (first_of (unless b (Name i) ∷ after (degree_of (number (number_from g.degree))) ∷ [])) rest) (ap is_name h.0 ∙ all_at (λ i. is_name (numbered_name i)) 0 64 all_named i (omega arith) (omega arith))
+    ap (λ b. option_or (first_of (unless b (Name i) ∷ after (degree_of (number (number_from g.degree))) ∷ [])) rest) (ap is_name h.0 ∙ list_all-holds (λ i. is_name (numbered_name i)) 0 64 i (omega arith) (omega arith) all_named)
     ∙ ap (λ o. option_or (first_of (after o ∷ [])) rest) (degree_read g.degree (small g.degree h.1))
     ∙ ap (λ b. option_or (first_of (unless b (Limit Degree) ∷ [])) rest) h.1
     ∙ none_refused (suc i) gs h.2 (omega arith)

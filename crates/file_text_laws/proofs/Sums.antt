@@ -14,8 +14,9 @@ use Rattle.module_json.proofs.Entries.{entry_of-known}
 use Rattle.module_json.proofs.Repeats.{position_is, position_none}
 use Rattle.finite_module.specs.Text.{name_at}
 use Rattle.module_build.specs.Names.{numbered_name}
-use Rattle.file_text_laws.proofs.Header.{Numbered, all_at}
+use Rattle.file_text_laws.proofs.Header.{Numbered}
 use Rattle.file_text_laws.proofs.Lines.{IsSquare, IsWord, AreWords, is_word, word_is, line, line_read}
+use Rattle.milnor_basis.proofs.Ranges.{list_all-holds}
 
 -- ---- lists that rise
 
@@ -117,7 +118,7 @@ all_apart : list_all are_apart (range_with_len 0 64) ≡ true
 all_apart = refl
 
 apart : (i j : ℕ) → i < 64 → j < 64 → i ≢ j → bytes_eq (numbered_name j) (numbered_name i) ≡ false
-apart i j l m d = at (nat_eq i j) (bytes_eq (numbered_name j) (numbered_name i)) (ne_eqb i j d) (all_at (is_apart i) 0 64 (all_at are_apart 0 64 all_apart i (omega arith) (omega arith)) j (omega arith) (omega arith))
+apart i j l m d = at (nat_eq i j) (bytes_eq (numbered_name j) (numbered_name i)) (ne_eqb i j d) (list_all-holds (is_apart i) 0 64 j (omega arith) (omega arith) (list_all-holds are_apart 0 64 i (omega arith) (omega arith) all_apart))
   where
     at : (b c : Bool) → b ≡ false → (b || not c) ≡ true → c ≡ false
     at true c e h = absurd (false≢true (sym e))
@@ -137,7 +138,7 @@ module _ (gs : List Generator) (numbered : Numbered 0 gs) (few : length gs ≤ 6
   name_is i l = let z : 0 + i ≡ i = omega arith in name_from 0 gs i numbered l ∙ ap numbered_name z
 
   pub word : (i : ℕ) → i < length gs → IsWord (name_at gs i)
-  word i l = subst IsWord (sym (name_is i l)) (word_is (numbered_name i) (all_at (λ i. is_word (numbered_name i)) 0 64 all_words i (omega arith) (omega arith)))
+  word i l = subst IsWord (sym (name_is i l)) (word_is (numbered_name i) (list_all-holds (λ i. is_word (numbered_name i)) 0 64 i (omega arith) (omega arith) all_words))
 
   pub words : (js : List ℕ) → AllByRecursion (λ j. j < length gs) js → AreWords (map (name_at gs) js)
   words [] h = tt

@@ -2,8 +2,8 @@
 use Rattle.std.specs.Prelude.{nat_le}
 use Rattle.std.specs.Fmt.{signed_decimal, digits}
 use Rattle.std.specs.List.{flat_map, list_all}
-use Rattle.std.proofs.Common.{◌≡◌, ℕ, ◌≤◌, ℤ, pos, negsuc, inl, inr, Bool, true, false, ◌||◌, ◌==◌, if◌then◌else◌, List, [], ◌∷◌, ◌++◌, map, codes, refl, sym, ap, ◌∙◌, arith, append_assoc}
-use Rattle.std.proofs.lemmas.Bool.{cases_eq, and_parts, ne_eqb}
+use Rattle.std.proofs.Common.{◌≡◌, ℕ, ◌≤◌, ℤ, pos, negsuc, inl, inr, Bool, true, false, ◌||◌, ◌==◌, if◌then◌else◌, List, [], ◌∷◌, ◌++◌, map, codes, refl, sym, ap, ◌∙◌, append_assoc}
+use Rattle.std.proofs.lemmas.Bool.{cases_eq, and_parts, ne_eqb, leb-true}
 use Rattle.json.specs.Print as json
 use Rattle.json.specs.Print.{escape_byte}
 use Rattle.json.proofs.Printed.Strings.{escape_byte_plain}
@@ -18,9 +18,6 @@ use Rattle.module_build.specs.FileText.{escaped, quoted, joined_by_comma, member
 abbrev pub is_plain : List ℕ → Bool
 is_plain = list_all (nat_le 32)
 
-leb_true : (a b : ℕ) → nat_le a b ≡ true → a ≤ b
-leb_true a b e = grind arith
-
 escaped_same : (x : ℕ) → 32 ≤ x → escape_byte x ≡ escaped x
 unfolding escape_byte
 escaped_same x l = elim (cases_eq x 34) [
@@ -33,7 +30,7 @@ escaped_same x l = elim (cases_eq x 34) [
 
 all_escaped : (s : List ℕ) → is_plain s ≡ true → json.escape s ≡ flat_map escaped s
 all_escaped [] h = refl
-all_escaped (x ∷ xs) h = let both = and_parts (nat_le 32 x) (is_plain xs) h in ap (λ l. l ++ json.escape xs) (escaped_same x (leb_true 32 x both.0)) ∙ ap (λ l. escaped x ++ l) (all_escaped xs both.1)
+all_escaped (x ∷ xs) h = let both = and_parts (nat_le 32 x) (is_plain xs) h in ap (λ l. l ++ json.escape xs) (escaped_same x (leb-true 32 x both.0)) ∙ ap (λ l. escaped x ++ l) (all_escaped xs both.1)
 
 pub quoted_same : (s : List ℕ) → is_plain s ≡ true → json.quoted s ≡ quoted s
 quoted_same s h = ap (λ l. 34 ∷ (l ++ 34 ∷ [])) (all_escaped s h)

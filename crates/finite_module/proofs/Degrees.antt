@@ -67,7 +67,7 @@ lt_yes x y h = grind (arith, ints)
 lt_no : (x y : ℤ) → y ≤ℤ x → int_lt x y ≡ false
 lt_no x y h = grind (arith, ints)
 
-le_yes : (x y : ℤ) → x ≤ℤ y → int_le x y ≡ true
+pub le_yes : (x y : ℤ) → x ≤ℤ y → int_le x y ≡ true
 le_yes x y h = grind (arith, ints)
 
 le_no : (x y : ℤ) → y <ℤ x → int_le x y ≡ false

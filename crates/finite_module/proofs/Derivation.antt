@@ -16,12 +16,12 @@ use Rattle.finite_module.proofs.Derived.{length-derived_value}
 use Rattle.finite_module.proofs.Values.{width_of}
 
 -- the operators of two lists, one behind the other
-derived_from-append : (f : File) (operators : List (List (List Bool))) (rs ss : List (List ℕ)) → derived_from f operators (rs ++ ss) ≡ derived_from f (derived_from f operators rs) ss
+pub derived_from-append : (f : File) (operators : List (List (List Bool))) (rs ss : List (List ℕ)) → derived_from f operators (rs ++ ss) ≡ derived_from f (derived_from f operators rs) ss
 derived_from-append f operators [] ss = refl
 derived_from-append f operators (r ∷ rs) ss =
     derived_from-append f (operators ++ derived_operator f operators r ∷ []) rs ss
 
-length-derived_from : (f : File) (operators : List (List (List Bool))) (rs : List (List ℕ)) → length (derived_from f operators rs) ≡ length operators + length rs
+pub length-derived_from : (f : File) (operators : List (List (List Bool))) (rs : List (List ℕ)) → length (derived_from f operators rs) ≡ length operators + length rs
 length-derived_from f operators [] = omega arith
 length-derived_from f operators (r ∷ rs) =
     omega (arith, length-derived_from f (operators ++ derived_operator f operators r ∷ []) rs, length_push operators (derived_operator f operators r))

@@ -133,7 +133,7 @@ pub derived_widths : (f : File) → HaveWidths f.generators (derived_module f).o
 derived_widths f = HaveWidths-derived_from f (span f.generators + 1) [] (elements (span f.generators + 1)) [] refl refl (widths_nil f.generators)
 
 -- what the operators have is kept
-derived_from_kept : (f : File) (operators : List (List (List Bool))) (rs : List (List ℕ)) (p : ℕ) → p < length operators → slice_get (derived_from f operators rs) p ≡ slice_get operators p
+pub derived_from_kept : (f : File) (operators : List (List (List Bool))) (rs : List (List ℕ)) (p : ℕ) → p < length operators → slice_get (derived_from f operators rs) p ≡ slice_get operators p
 derived_from_kept f operators [] p h = refl
 derived_from_kept f operators (r ∷ rs) p h =
     derived_from_kept f (operators ++ derived_operator f operators r ∷ []) rs p (omega (arith, length_push operators (derived_operator f operators r)))

@@ -7,7 +7,7 @@ use Rattle.std.proofs.lemmas.Bool.{cases_lt, cases_eq}
 use Rattle.std.proofs.lemmas.Int.{ints}
 use Rattle.std.proofs.lemmas.List.{length_push, append-nil, append_assoc, take-append-drop}
 use Rattle.std.proofs.lemmas.List.Elements.{All-weaker, filter_passes}
-use Rattle.std.proofs.lemmas.List.FromFn.{get_or-range_with_len, length-range_with_len, length-map-range_with_len}
+use Rattle.std.proofs.lemmas.List.FromFn.{length-map-range_with_len}
 use Rattle.std.proofs.lemmas.Option.{slice_get-map, slice_get-get_or, slice_get_past, none-some}
 use Rattle.f2_vec.specs.Vectors.{zeros}
 use Rattle.milnor_basis.specs.Exponents.{degree_of, IsTrimmed}
@@ -19,7 +19,7 @@ use Rattle.finite_module.specs.DerivedAction.{derived_operator, derived_from, el
 use Rattle.finite_module.specs.Axioms.{IsModule, one_by_one, by_their_product}
 use Rattle.finite_module.specs.Inside.Plain.{plain_value}
 use Rattle.finite_module.proofs.Elements.{element_at_place, elements_more, slice_get-append_right}
-use Rattle.finite_module.proofs.Values.{width_of, value_none, value_before, value_at_none, value_at_some, by_place}
+use Rattle.finite_module.proofs.Values.{width_of, value_none, value_before, value_at_none, value_at_some, by_place, slice_get-range}
 use Rattle.finite_module.proofs.Derived.{All-elements, derived_widths, derived_identity}
 use Rattle.finite_module.proofs.Derivation.{derived_to}
 use Rattle.finite_module.proofs.Widths.{terms_of_degree}
@@ -32,9 +32,6 @@ plain_operator gs entries r = map (plain_value gs entries r) (range_with_len 0 (
 
 part_nil : (gs : List Generator) (entries : List Entry) → IsPart gs entries []
 part_nil gs entries r i = inl (value_none gs [] r i (λ p e. omega arith))
-
-slice_get-range : (n i : ℕ) → i < n → slice_get (range_with_len 0 n) i ≡ Some i
-slice_get-range n i l = slice_get-get_or (range_with_len 0 n) i 0 (omega (arith, length-range_with_len 0 n)) ∙ ap Some (get_or-range_with_len 0 n i 0 l ∙ omega arith)
 
 part_more : (gs : List Generator) (entries : List Entry) (operators : List (List (List Bool))) (n : ℕ) (r : List ℕ) → slice_get (elements n) (length operators) ≡ Some r → IsPart gs entries operators → IsPart gs entries (operators ++ plain_operator gs entries r ∷ [])
 part_more gs entries operators n r next part s i = by (place_of s) refl

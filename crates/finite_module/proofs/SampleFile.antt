@@ -1,5 +1,5 @@
 -- The module file of a sample: its generators stand by degree, and its actions are plain.
-use Rattle.std.proofs.Common.{◌≡◌, ℕ, zero, suc, ◌+◌, ◌/◌, ◌%◌, ◌^◌, ◌<◌, ◌≤◌, pos, ◌≤ℤ◌, Bool, true, false, cond, nat_eq, nat_lt, List, [], ◌∷◌, ◌++◌, length, take, get_or, All, AllPairs, Option, Some, None, option_map, option_and_then, option_to_list, filter_map, refl, ap, sym, subst, ◌∙◌, arith, length-append}
+use Rattle.std.proofs.Common.{◌≡◌, ℕ, zero, suc, ◌+◌, ◌/◌, ◌%◌, ◌^◌, ◌<◌, ◌≤◌, pos, ◌≤ℤ◌, Bool, true, false, cond, nat_eq, nat_lt, List, [], ◌∷◌, ◌++◌, length, take, get_or, All, Option, Some, None, option_map, option_and_then, option_to_list, filter_map, refl, ap, sym, subst, ◌∙◌, arith, length-append}
 use Rattle.std.specs.Int.{is_power_of_two}
 use lib.Count.{ones}
 use Rattle.std.specs.List.{range_with_len, cons_option, AllByRecursion}
@@ -8,7 +8,6 @@ use Rattle.std.specs.Cmp.Lexicographic.{bytes_decides}
 use Rattle.std.proofs.lemmas.Int.{ints}
 use Rattle.std.proofs.lemmas.List.{take_more, append-nil, append_assoc}
 use Rattle.std.proofs.lemmas.List.Elements.{All-cons, All-nil, All-append, filter_map-append, recursion_from_All, All-from_recursion}
-use Rattle.std.proofs.lemmas.List.Kept.{AllPairs-cons}
 use Rattle.std.proofs.lemmas.List.Quantifiers.{position-Some}
 use Rattle.std.proofs.Math.Nat.{mod-lt}
 use Rattle.std.proofs.lemmas.Option.{same_Some}
@@ -29,21 +28,17 @@ use Rattle.finite_module.proofs.PlainModule.{plain_operator, next_plain, plain_i
 
 -- ---- lists of what there is
 
+cons_option-nil : {Y : Type 0} (o : Option Y) → cons_option o [] ≡ option_to_list o
+cons_option-nil None = refl
+cons_option-nil (Some y) = refl
+
 pub filter_map_take : {X Y : Type 0} (h : X → Option Y) (xs : List X) (i : ℕ) (d : X) → i < length xs → filter_map h (take (i + 1) xs) ≡ filter_map h (take i xs) ++ option_to_list (h (get_or xs i d))
 filter_map_take h xs i d l =
-    ap (filter_map h) (take_more xs i d l) ∙ filter_map-append h (take i xs) (get_or xs i d ∷ []) ∙ ap (λ ys. filter_map h (take i xs) ++ ys) (one (h (get_or xs i d)))
-  where
-    one : {Y : Type 0} (o : Option Y) → cons_option o [] ≡ option_to_list o
-    one None = refl
-    one (Some y) = refl
+    ap (filter_map h) (take_more xs i d l) ∙ filter_map-append h (take i xs) (get_or xs i d ∷ []) ∙ ap (λ ys. filter_map h (take i xs) ++ ys) (cons_option-nil (h (get_or xs i d)))
 
 pub filter_map_range : {Y : Type 0} (h : ℕ → Option Y) (k : ℕ) → filter_map h (range_with_len 0 (k + 1)) ≡ filter_map h (range_with_len 0 k) ++ option_to_list (h k)
 filter_map_range h k =
-    ap (filter_map h) (range_more 0 k k (omega arith)) ∙ filter_map-append h (range_with_len 0 k) (k ∷ []) ∙ ap (λ ys. filter_map h (range_with_len 0 k) ++ ys) (one (h k))
-  where
-    one : {Y : Type 0} (o : Option Y) → cons_option o [] ≡ option_to_list o
-    one None = refl
-    one (Some y) = refl
+    ap (filter_map h) (range_more 0 k k (omega arith)) ∙ filter_map-append h (range_with_len 0 k) (k ∷ []) ∙ ap (λ ys. filter_map h (range_with_len 0 k) ++ ys) (cons_option-nil (h k))
 
 -- one more in a loop over a list, after those that stand before
 module _ {X Y : Type 0} (h : X → Option Y) (xs : List X) (i : ℕ) (d : X) (l : i < length xs) (front items : List Y) (before : items ≡ front ++ filter_map h (take i xs)) where

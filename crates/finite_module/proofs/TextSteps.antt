@@ -67,12 +67,12 @@ zero_before : (v : List Bool) → IsZero v → IsZero (false ∷ v)
 zero_before v z zero = refl
 zero_before v z (suc k) = z k
 
-any_none : (v : List Bool) → IsZero v → list_any (λ b. b) v ≡ false
+pub any_none : (v : List Bool) → IsZero v → list_any (λ b. b) v ≡ false
 any_none [] z = refl
 any_none (true ∷ v) z = z 0
 any_none (false ∷ v) z = any_none v (λ k. z (suc k))
 
-any_some : (v : List Bool) → ¬ IsZero v → list_any (λ b. b) v ≡ true
+pub any_some : (v : List Bool) → ¬ IsZero v → list_any (λ b. b) v ≡ true
 any_some [] h = absurd (h (λ k. refl))
 any_some (true ∷ v) h = refl
 any_some (false ∷ v) h = any_some v (λ z. h (zero_before v z))

@@ -1,5 +1,5 @@
 -- The value of an operator by its place.
-use Rattle.std.proofs.Common.{◌≡◌, ℕ, ◌+◌, ◌^◌, ◌<◌, ◌≤◌, pos, ◌+ℤ◌, Bool, Option, Some, None, option_and_then, option_copied, List, [], ◌∷◌, ◌++◌, length, map, take, get_or, refl, sym, subst, ap, ◌∙◌, inl, inr, arith, cond, ℤ, false, slice_get, EachIndex, IfSome, IfNone, Bor}
+use Rattle.std.proofs.Common.{◌≡◌, ℕ, ◌+◌, ◌-◌, ◌^◌, ◌<◌, ◌≤◌, pos, ◌+ℤ◌, Bool, Option, Some, None, option_and_then, option_copied, List, [], ◌∷◌, ◌++◌, length, map, take, get_or, refl, sym, subst, ap, ◌∙◌, inl, inr, arith, cond, ℤ, false, slice_get, EachIndex, IfSome, IfNone, Bor}
 use Rattle.std.specs.List.{range_with_len}
 use Rattle.std.proofs.lemmas.List.FromFn.{length-range_with_len, get_or-range_with_len, map-range_with_len_more}
 use Rattle.std.proofs.lemmas.Bool.{cases_lt, cases_eq}
@@ -203,3 +203,20 @@ module _ (gs : List Generator) (operators : List (List (List Bool))) (widths : H
 pub one_value_more : {X : Type 0} (f : ℕ → X) (values values' : List X) (v : X) (i : ℕ) → values ≡ map f (range_with_len 0 i) → v ≡ f i → values' ≡ values ++ v ∷ [] → values' ≡ map f (range_with_len 0 (i + 1))
 one_value_more f values values' v i before here pushed =
     pushed ∙ ap (λ xs. xs ++ v ∷ []) before ∙ ap (λ x. map f (range_with_len 0 i) ++ x ∷ []) here ∙ sym (map-range_with_len_more f 0 i i (omega arith))
+
+-- ---- lists
+
+pub both_empty : (v w : List Bool) → length v ≡ 0 → length w ≡ 0 → v ≡ w
+both_empty [] [] a b = refl
+both_empty [] (y ∷ w) a b = cc
+both_empty (x ∷ v) w a b = cc
+
+pub slice_get-range : (n i : ℕ) → i < n → slice_get (range_with_len 0 n) i ≡ Some i
+slice_get-range n i l = slice_get-get_or (range_with_len 0 n) i 0 (omega (arith, length-range_with_len 0 n)) ∙ ap Some (get_or-range_with_len 0 n i 0 l ∙ omega arith)
+
+-- one coordinate more
+pub map_more : (f : ℕ → Bool) (start j : ℕ) (v w : List Bool) (b : Bool) → start ≤ j → v ≡ map f (range_with_len start (j - start)) → b ≡ f j → w ≡ v ++ b ∷ [] → w ≡ map f (range_with_len start (j + 1 - start))
+map_more f start j v w b l before here pushed =
+    let e : j - start + 1 ≡ j + 1 - start = omega arith in
+    pushed ∙ ap (λ xs. xs ++ b ∷ []) before ∙ ap (λ x. map f (range_with_len start (j - start)) ++ x ∷ []) here
+    ∙ sym (map-range_with_len_more f start (j - start) j (omega arith)) ∙ ap (λ n. map f (range_with_len start n)) e

@@ -13,8 +13,8 @@ use itoa::Buffer;
 use memory::Memory;
 use std::alloc::Global;
 
-/// The powers of two that a difference of two degrees can be.
-const POWERS: [u16; 7] = [1, 2, 4, 8, 16, 32, 64];
+/// The powers of two that a difference of two degrees of a module can be: each n for which its texts have Sq^n.
+pub const POWERS: [u16; 7] = [1, 2, 4, 8, 16, 32, 64];
 
 /// A line for each generator, and one for each Sq^n of a generator, n a power of two, that is not zero.
 pub(crate) fn canonical_text(alloc: Global, operators: &Operators) -> Result<Vec<u8>, Memory>

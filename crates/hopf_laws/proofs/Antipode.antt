@@ -3,23 +3,22 @@
 use Rattle.std.specs.Prelude.{nat_eq}
 use Rattle.std.specs.Cmp.Lexicographic.{bytes_decides, pointwise}
 use Rattle.std.specs.List.{All, flat_map, filter}
-use Rattle.std.proofs.Common.{◌≡◌, ◌≢◌, ◌⊎◌, ℕ, zero, suc, ◌+◌, ◌<◌, ◌≤◌, inl, inr, Bool, true, false, not, cond, ◌&&◌, List, [], ◌∷◌, get_or, refl, sym, ◌∙◌, ap, arith}
+use Rattle.std.proofs.Common.{◌≡◌, ◌≢◌, ◌⊎◌, ℕ, zero, suc, ◌+◌, ◌<◌, ◌≤◌, inl, inr, Bool, true, false, not, cond, ◌&&◌, List, [], ◌∷◌, refl, sym, ◌∙◌, ap, arith}
 use Rattle.std.proofs.lemmas.Bool.{cases_lt, false≢true}
 use Rattle.std.proofs.lemmas.List.Elements.{All-cons, All-head, All-nil, All-tail}
 use Rattle.milnor_basis.specs.Exponents.{degree_of, IsTrimmed}
-use Rattle.milnor_basis.specs.Basis.{basis_of}
-use Rattle.milnor_basis.specs.Product.{coefficient, product_terms}
+use Rattle.milnor_basis.specs.Product.{coefficient, product_terms, odd_by}
 use Rattle.f2_vec.specs.Vectors.{plus}
-use Rattle.milnor_basis.proofs.BasisLemmas.{Contains-basis_of}
-use Rattle.f2_vec.proofs.Sums.{plus-false}
+use Rattle.f2_vec.proofs.Sums.{plus-false, plus-self}
 use Rattle.milnor_basis.proofs.ExponentLemmas.{same_answers}
-use Rattle.milnor_basis.proofs.Parity.{odd_by, is_odd-count_by, odd_by-filter, odd_by-flat_map, odd_by-same}
+use Rattle.milnor_basis.proofs.Parity.{odd_by-filter, odd_by-flat_map, odd_by-same}
 use Rattle.milnor_laws.proofs.SumsModTwo.{odd_by-none, odd_by-plus, odd_by-swap}
 use Rattle.milnor_laws.proofs.Associative.{associative, odd_by-same_all}
 use Rattle.milnor_laws.proofs.RightUnit.{product_has_unit}
+use Rattle.milnor_laws.proofs.UnitActs.{empty_or_positive}
 use Rattle.hopf_laws.specs.Diagonal.{splittings}
 use Rattle.hopf_laws.specs.Conjugate.{convolved, IsConjugate, is_nothing, conjugate_within, conjugate, ConjugateExists, ConjugateIsUnique, ConjugateTurnsProducts, ConjugateTwice}
-use Rattle.hopf_laws.proofs.SameCounts.{plus_self, plus_zero, same_counts}
+use Rattle.hopf_laws.proofs.SameCounts.{plus_zero, same_counts}
 use Rattle.hopf_laws.proofs.Splittings.{Pair, IsSplit, All-splittings, All-flat_map, All-of_all, splittings-exchanged, splittings-nothing}
 use Rattle.hopf_laws.proofs.Cartan.{HasDegree, term_count, All-product_terms, cartan}
 
@@ -45,7 +44,7 @@ over-associative r s q f =
     ∙ sym (odd_by-flat_map (pointwise nat_eq u) (product_terms r) (product_terms s q))) f
     ∙ odd_by-flat_map f (product_terms r) (product_terms s q)
 
-pointwise-turned : (a b : List ℕ) → pointwise nat_eq a b ≡ pointwise nat_eq b a
+pub pointwise-turned : (a b : List ℕ) → pointwise nat_eq a b ≡ pointwise nat_eq b a
 pointwise-turned a b = same_answers (pointwise nat_eq a b) (pointwise nat_eq b a) (λ h. (bytes_decides b a).1 (sym ((bytes_decides a b).0 h))) (λ h. (bytes_decides a b).1 (sym ((bytes_decides b a).0 h)))
 
 pub over-unit_left : (s : List ℕ) (f : Value) → IsTrimmed s → over [] s f ≡ f s
@@ -56,17 +55,8 @@ pub over-unit_right : (s : List ℕ) (f : Value) → IsTrimmed s → over s [] f
 over-unit_right s f h =
     same_sums (product_terms s []) (s ∷ []) (λ t. term_count s [] t ∙ (product_has_unit s t h).1 ∙ pointwise-turned s t ∙ sym (plus-false (pointwise nat_eq t s))) f ∙ plus-false (f s)
 
--- Sq() is the one element of degree 0
-pub nothing_or_positive : (r : List ℕ) → IsTrimmed r → (r ≡ []) ⊎ (0 < degree_of r)
-nothing_or_positive r h = elim (cases_lt 0 (degree_of r)) [
-  | inl l ↦ inr l
-  | inr l ↦ let c = Contains-basis_of 0 r h (omega arith) in
-      let first : c.0 ≡ 0 = omega (arith, c.1) in
-      inl (sym c.2 ∙ ap (λ i. get_or (basis_of 0) i r) first)
-]
-
 some_positive : (r : List ℕ) → IsTrimmed r → r ≢ [] → 0 < degree_of r
-some_positive r h d = elim (nothing_or_positive r h) [
+some_positive r h d = elim (empty_or_positive r h) [
   | inl e ↦ absurd (d e)
   | inr l ↦ l
 ]
@@ -91,7 +81,7 @@ pub conjugates_from : (c : List ℕ → List (List ℕ)) → IsConjugate c → C
 conjugates_from c is = record {
   unit = λ f. ap (odd_by f) is.nothing ∙ plus-false (f []);
   terms = is.degrees;
-  cancel = λ r f h l. sym (odd_by-convolved c r f) ∙ same_sums (convolved c r) [] (λ t. sym (is_odd-count_by (pointwise nat_eq t) (convolved c r)) ∙ is.cancels r t h l) f;
+  cancel = λ r f h l. sym (odd_by-convolved c r f) ∙ same_sums (convolved c r) [] (λ t. is.cancels r t h l) f;
 }
 
 -- sums of a function over elements without zeros at their ends
@@ -160,7 +150,7 @@ module _ (c : List ℕ → List (List ℕ)) (is : Conjugates c) where
         ∙ over-unit_right p.0 after h
 
   factors_convolution : (r s : List ℕ) (f : Value) → IsTrimmed r → IsTrimmed s → 0 < degree_of r + degree_of s → convolution r s of_factors f ≡ false
-  factors_convolution r s f hr hs l = elim (nothing_or_positive s hs) [
+  factors_convolution r s f hr hs l = elim (empty_or_positive s hs) [
     | inl e ↦ let zero_s : degree_of s ≡ 0 = ap degree_of e in
         ap (λ x. convolution r x of_factors f) e
         ∙ odd_by-same_all (IsSplit 1 r) (λ p. odd_by (λ q. odd_by (λ t. of_factors p.1 q.1 (λ x. over t x f)) (product_terms p.0 q.0)) (splittings [])) (λ p. odd_by (λ y. over p.0 y f) (c p.1)) (splittings r) (All-splittings 1 r) (λ p k. factor_none p f k.left)
@@ -196,11 +186,11 @@ module _ (c : List ℕ → List (List ℕ)) (is : Conjugates c) where
   differ_nothing f =
       ap (λ b. plus b (of_factors [] [] f)) (over-unit_left [] (λ t. odd_by f (c t)) refl ∙ is.unit f)
       ∙ ap (plus (f [])) (is.unit (λ x. odd_by (λ y. over x y f) (c [])) ∙ is.unit (λ y. over [] y f) ∙ over-unit_left [] f refl)
-      ∙ plus_self (f [])
+      ∙ plus-self (f [])
 
   differ_zero : (r s : List ℕ) (f : Value) → IsTrimmed r → IsTrimmed s → degree_of r + degree_of s ≡ 0 → differ r s f ≡ false
-  differ_zero r s f hr hs z = elim (nothing_or_positive r hr) [
-    | inl e ↦ elim (nothing_or_positive s hs) [
+  differ_zero r s f hr hs z = elim (empty_or_positive r hr) [
+    | inl e ↦ elim (empty_or_positive s hs) [
       | inl g ↦ ap (λ x. differ x s f) e ∙ ap (λ y. differ [] y f) g ∙ differ_nothing f
       | inr m ↦ absurd (omega arith)
     ]
@@ -249,10 +239,10 @@ module _ (c : List ℕ → List (List ℕ)) (is : Conjugates c) where
       ∙ ap (plus (f r)) (same_over (degree_of r) (λ x. odd_by (by_conjugate [] f) (c x)) (λ x. odd_by f (c x)) (c r) (is.terms r h) (λ x k. same_over (degree_of x) (by_conjugate [] f) f (c x) (is.terms x k) at))
 
   moved_zero : (r : List ℕ) (f : Value) → r ≡ [] → moved r f ≡ false
-  moved_zero r f e = ap (λ x. moved x f) e ∙ ap (plus (f [])) (is.unit (λ x. odd_by f (c x)) ∙ is.unit f) ∙ plus_self (f [])
+  moved_zero r f e = ap (λ x. moved x f) e ∙ ap (plus (f [])) (is.unit (λ x. odd_by f (c x)) ∙ is.unit f) ∙ plus-self (f [])
 
   moved_step : (r : List ℕ) (f : Value) → IsTrimmed r → ((a : List ℕ) (g : Value) → IsTrimmed a → degree_of a < degree_of r → moved a g ≡ false) → moved r f ≡ false
-  moved_step r f h below = elim (nothing_or_positive r h) [
+  moved_step r f h below = elim (empty_or_positive r h) [
     | inl e ↦ moved_zero r f e
     | inr l ↦ sym (moved-unit r f h)
         ∙ sym (first_alone (λ p. moved p.1 (by_conjugate p.0 f)) r h (λ p k m. let d = k.degree in below p.1 (by_conjugate p.0 f) k.right (omega arith)))
@@ -272,8 +262,8 @@ module _ (c d : List ℕ → List (List ℕ)) (is : Conjugates c) (also : Conjug
   apart r f = plus (odd_by f (c r)) (odd_by f (d r))
 
   apart_step : (r : List ℕ) (f : Value) → IsTrimmed r → ((a : List ℕ) (g : Value) → IsTrimmed a → degree_of a < degree_of r → apart a g ≡ false) → apart r f ≡ false
-  apart_step r f h below = elim (nothing_or_positive r h) [
-    | inl e ↦ ap (λ x. apart x f) e ∙ ap (λ b. plus b (odd_by f (d []))) (is.unit f) ∙ ap (plus (f [])) (also.unit f) ∙ plus_self (f [])
+  apart_step r f h below = elim (empty_or_positive r h) [
+    | inl e ↦ ap (λ x. apart x f) e ∙ ap (λ b. plus b (odd_by f (d []))) (is.unit f) ∙ ap (plus (f [])) (also.unit f) ∙ plus-self (f [])
     | inr l ↦ sym (ap (λ b. plus b (odd_by (λ t. over [] t f) (d r))) (same_over (degree_of r) (λ t. over [] t f) f (c r) (is.terms r h) (λ t k. over-unit_left t f k))
         ∙ ap (plus (odd_by f (c r))) (same_over (degree_of r) (λ t. over [] t f) f (d r) (also.terms r h) (λ t k. over-unit_left t f k)))
         ∙ sym (first_alone (λ p. apart p.1 (λ t. over p.0 t f)) r h (λ p k m. let e = k.degree in below p.1 (λ t. over p.0 t f) k.right (omega arith)))
@@ -372,7 +362,7 @@ cancels r f h l =
     (first_alone (λ p. not (proper p) && g p) r h (λ p k m. not_proper p (g p) m)
     ∙ same_over (degree_of r) (λ t. over [] t f) f (conjugate r) (HasDegree-within (degree_of r) r h) (λ t k. over-unit_left t f k)
     ∙ conjugate-unfolded r f h l)
-    ∙ plus_self (odd_by (λ p. proper p && g p) (splittings r))
+    ∙ plus-self (odd_by (λ p. proper p && g p) (splittings r))
   where
     not_proper : (p : Pair) (b : Bool) → 0 < degree_of p.0 → (not (proper p) && b) ≡ false
     not_proper ([], s) b m = absurd (omega arith)
@@ -384,24 +374,19 @@ pub conjugate_exists : ConjugateExists
 conjugate_exists = record {
   nothing = refl;
   degrees = λ r h. HasDegree-within (degree_of r) r h;
-  cancels = λ r t h l. is_odd-count_by (pointwise nat_eq t) (convolved conjugate r) ∙ odd_by-convolved conjugate r (pointwise nat_eq t) ∙ cancels r (pointwise nat_eq t) h l;
+  cancels = λ r t h l. odd_by-convolved conjugate r (pointwise nat_eq t) ∙ cancels r (pointwise nat_eq t) h l;
 }
 
 pub conjugate_is_unique : ConjugateIsUnique
-conjugate_is_unique c d is also r t h =
-    is_odd-count_by (pointwise nat_eq t) (c r)
-    ∙ conjugate_once c d (conjugates_from c is) (conjugates_from d also) r (pointwise nat_eq t) h
-    ∙ sym (is_odd-count_by (pointwise nat_eq t) (d r))
+conjugate_is_unique c d is also r t h = conjugate_once c d (conjugates_from c is) (conjugates_from d also) r (pointwise nat_eq t) h
 
 pub conjugate_turns_products : ConjugateTurnsProducts
 conjugate_turns_products c is r s t hr hs =
-    is_odd-count_by (pointwise nat_eq t) (flat_map c (product_terms r s))
-    ∙ odd_by-flat_map (pointwise nat_eq t) c (product_terms r s)
+    odd_by-flat_map (pointwise nat_eq t) c (product_terms r s)
     ∙ conjugate_product c (conjugates_from c is) r s (pointwise nat_eq t) hr hs
-    ∙ sym (is_odd-count_by (pointwise nat_eq t) (flat_map (λ x. flat_map (product_terms x) (c r)) (c s))
-    ∙ odd_by-flat_map (pointwise nat_eq t) (λ x. flat_map (product_terms x) (c r)) (c s)
+    ∙ sym (odd_by-flat_map (pointwise nat_eq t) (λ x. flat_map (product_terms x) (c r)) (c s)
     ∙ odd_by-same (λ x. odd_by (pointwise nat_eq t) (flat_map (product_terms x) (c r))) (λ x. odd_by (λ y. over x y (pointwise nat_eq t)) (c r)) (c s) (λ x. odd_by-flat_map (pointwise nat_eq t) (product_terms x) (c r)))
 
 pub conjugate_twice_is : ConjugateTwice
 conjugate_twice_is c is r t h =
-    is_odd-count_by (pointwise nat_eq t) (flat_map c (c r)) ∙ odd_by-flat_map (pointwise nat_eq t) c (c r) ∙ conjugate_twice c (conjugates_from c is) r (pointwise nat_eq t) h
+    odd_by-flat_map (pointwise nat_eq t) c (c r) ∙ conjugate_twice c (conjugates_from c is) r (pointwise nat_eq t) h

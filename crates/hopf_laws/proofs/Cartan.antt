@@ -9,11 +9,11 @@ use Rattle.std.proofs.lemmas.Bool.{and_from, and_left, and_right, and_parts, cas
 use Rattle.std.proofs.lemmas.List.Elements.{All-cons, All-head, All-nil, All-tail}
 use Rattle.milnor_basis.specs.Exponents.{entry, degree_of, put_before, trimmed, IsTrimmed}
 use Rattle.milnor_basis.specs.Basis.{basis_of}
-use Rattle.milnor_basis.specs.Product.{coefficient, product_terms}
+use Rattle.milnor_basis.specs.Product.{coefficient, product_terms, odd_by}
 use Rattle.milnor_basis.proofs.BasisLemmas.{All-basis_of}
 use Rattle.milnor_basis.proofs.Homogeneous.{product_is_homogeneous}
-use Rattle.milnor_basis.proofs.ExponentLemmas.{IsTrimmed-tail, length_within, same_answers}
-use Rattle.milnor_basis.proofs.Parity.{odd_by, is_odd-count_by, odd_by-filter, odd_by-flat_map, odd_by-map, odd_by-same}
+use Rattle.milnor_basis.proofs.ExponentLemmas.{IsTrimmed-tail, same_answers}
+use Rattle.milnor_basis.proofs.Parity.{odd_by-filter, odd_by-flat_map, odd_by-map, odd_by-same}
 use Rattle.milnor_laws.proofs.SumsModTwo.{odd_by-and, odd_by-none}
 use Rattle.milnor_laws.proofs.Powers.{Monomial, agree, agree_from, Term, odd_terms-same}
 use Rattle.milnor_laws.proofs.Coproduct.{term, triangle, coproduct}
@@ -22,7 +22,7 @@ use Rattle.milnor_laws.proofs.Associative.{odd_by-same_all, once_in_basis, coeff
 use Rattle.hopf_laws.specs.Diagonal.{splittings, added, diagonal_coefficient, DiagonalIsMultiplicative}
 use Rattle.hopf_laws.proofs.SameCounts.{same_counts}
 use Rattle.hopf_laws.proofs.CoproductSums.{times, product_test, coproduct-times, odd_terms-two}
-use Rattle.hopf_laws.proofs.Splittings.{Pair, IsSplit, All-splittings, agree-splittings}
+use Rattle.hopf_laws.proofs.Splittings.{Pair, IsSplit, All-splittings, agree-splittings, and-exchanged}
 
 -- a product of two sums
 pub odd_by-product : {X Y : Type 0} → (p : X → Bool) (q : Y → Bool) (xs : List X) (ys : List Y) → (odd_by p xs && odd_by q ys) ≡ odd_by (λ x. odd_by (λ y. p x && q y) ys) xs
@@ -30,12 +30,6 @@ odd_by-product p q xs ys =
     Booleans.and_comm (odd_by p xs) (odd_by q ys)
     ∙ sym (odd_by-and (odd_by q ys) p xs)
     ∙ odd_by-same (λ x. odd_by q ys && p x) (λ x. odd_by (λ y. p x && q y) ys) xs (λ x. Booleans.and_comm (odd_by q ys) (p x) ∙ sym (odd_by-and (p x) q ys))
-
-both : (a b c d : Bool) → ((a && b) && (c && d)) ≡ ((a && c) && (b && d))
-both true true c d = refl
-both true false true d = refl
-both true false false d = refl
-both false b c d = refl
 
 -- the sum over the splittings of R and of S
 abbrev pub diagonal_sum : List ℕ → List ℕ → List ℕ → List ℕ → Bool
@@ -49,7 +43,7 @@ module _ (n : ℕ) (r s : List ℕ) (fits : length r + length s ≤ n) where
       ∙ odd_by-product (λ p. agree n a (exponents p.0) && agree n c (exponents p.1)) (λ q. agree n b (exponents q.0) && agree n d (exponents q.1)) (splittings r) (splittings s)
       ∙ odd_by-same (λ p. odd_by (λ q. (agree n a (exponents p.0) && agree n c (exponents p.1)) && (agree n b (exponents q.0) && agree n d (exponents q.1))) (splittings s)) (λ p. odd_by (λ q. is_pair n p.0 q.0 a b && is_pair n p.1 q.1 c d) (splittings s)) (splittings r)
       (λ p. odd_by-same (λ q. (agree n a (exponents p.0) && agree n c (exponents p.1)) && (agree n b (exponents q.0) && agree n d (exponents q.1))) (λ q. is_pair n p.0 q.0 a b && is_pair n p.1 q.1 c d) (splittings s)
-      (λ q. both (agree n a (exponents p.0)) (agree n c (exponents p.1)) (agree n b (exponents q.0)) (agree n d (exponents q.1))))
+      (λ q. and-exchanged (agree n a (exponents p.0)) (agree n c (exponents p.1)) (agree n b (exponents q.0)) (agree n d (exponents q.1))))
 
   -- the coefficient of a product of monomials
   pub coproduct-diagonal : (t u : List ℕ) → IsTrimmed t → IsTrimmed u → length t ≤ n → length u ≤ n → coproduct n (times (exponents t) (exponents u)) (is_pair n r s) ≡ diagonal_sum r s t u
@@ -109,8 +103,7 @@ IsTrimmed-added (x ∷ xs) (y ∷ ys) ht hu =
 diagonal_is : (r s t u : List ℕ) → diagonal_coefficient r s t u ≡ diagonal_sum r s t u
 diagonal_is r s t u =
     let test : Pair × Pair → Bool = λ x. coefficient x.0.0 x.1.0 t && coefficient x.0.1 x.1.1 u in
-    is_odd-count_by test (flat_map (λ p. map (λ q. (p, q)) (splittings s)) (splittings r))
-    ∙ odd_by-flat_map test (λ p. map (λ q. (p, q)) (splittings s)) (splittings r)
+    odd_by-flat_map test (λ p. map (λ q. (p, q)) (splittings s)) (splittings r)
     ∙ odd_by-same (λ p. odd_by test (map (λ q. (p, q)) (splittings s))) (λ p. odd_by (λ q. test (p, q)) (splittings s)) (splittings r) (λ p. odd_by-map test (λ q. (p, q)) (splittings s))
 
 exponents-added : (t u : List ℕ) → exponents (added t u) ≡ times (exponents t) (exponents u)

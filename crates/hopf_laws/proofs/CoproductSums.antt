@@ -1,7 +1,8 @@
 -- The coproduct takes products to products.
 use Rattle.std.proofs.Common.{◌≡◌, ℕ, ◌+◌, ◌*◌, ◌<◌, Bool, ◌&&◌, List, map, sym, ◌∙◌, ap, arith}
 use Rattle.std.proofs.Math.Path.{fun_ext}
-use Rattle.milnor_basis.proofs.Parity.{odd_by, odd_by-same}
+use Rattle.milnor_basis.specs.Product.{odd_by}
+use Rattle.milnor_basis.proofs.Parity.{odd_by-same}
 use Rattle.milnor_laws.proofs.SumsModTwo.{splits}
 use Rattle.milnor_laws.proofs.Powers.{Monomial, Test, variable, Term, shift, odd_terms, odd_terms-one, odd_terms-same, odd_terms-and, odd_terms-odd_by}
 use Rattle.milnor_laws.proofs.Coproduct.{term, triangle, coproduct, coproduct_raised, by_factors}

@@ -4,13 +4,12 @@ use Rattle.std.proofs.Math.Bool as Booleans
 use Rattle.std.proofs.lemmas.Bool.{and_right, false≢true, cases_lt, lt-ltb, le-ltb, ne_eqb}
 use Rattle.std.proofs.lemmas.Int.{ints}
 use Rattle.milnor_basis.specs.Exponents.{degree_of, IsTrimmed}
-use Rattle.milnor_basis.specs.Product.{product_terms}
+use Rattle.milnor_basis.specs.Product.{product_terms, odd_by}
 use Rattle.f2_vec.specs.Vectors.{plus}
-use Rattle.milnor_basis.specs.Inside.Walk.{is_odd_below}
 use Rattle.f2_vec.proofs.Sums.{plus-false}
-use Rattle.milnor_basis.proofs.Parity.{odd_by, odd_by-append, odd_by-flat_map, odd_by-map, odd_by-range, is_odd_below-same, odd_by-same}
-use Rattle.milnor_laws.proofs.SumsModTwo.{odd_by-none, odd_by-swap, odd_by-and, is_odd_below-first}
-use Rattle.milnor_laws.proofs.Associative.{odd_by-same_all}
+use Rattle.milnor_basis.proofs.Parity.{odd_by-append, odd_by-flat_map, odd_by-map, odd_by-range, is_odd_below-same, odd_by-same}
+use Rattle.milnor_laws.proofs.SumsModTwo.{odd_by-none, odd_by-swap, odd_by-and}
+use Rattle.milnor_laws.proofs.Associative.{odd_by-same_all, odd_by-places}
 use Rattle.hopf_laws.specs.Diagonal.{splittings}
 use Rattle.hopf_laws.specs.Conjugate.{IsConjugate}
 use Rattle.hopf_laws.specs.Actions.{Action, IsAction, shifted, sum, tensor, dual, either_degree, blocks, numbered, IsOrder}
@@ -155,10 +154,6 @@ pub dual_twice : {X : Type 0} → (c : List ℕ → List (List ℕ)) (m : Action
 dual_twice c m conjugate r x y h = (conjugate_twice c (conjugates_from c conjugate) r (λ t. m.coefficient t x y) h, omega (arith, ints))
 
 -- The same module, numbered.
-
-odd_by-places : {X : Type 0} → (p : X → Bool) (xs : List X) (d : X) → odd_by p xs ≡ is_odd_below (λ i. p (get_or xs i d)) (length xs)
-odd_by-places p [] d = refl
-odd_by-places p (x ∷ xs) d = ap (plus (p x)) (odd_by-places p xs d) ∙ sym (is_odd_below-first (λ i. p (get_or (x ∷ xs) i d)) (length xs))
 
 module _ {X : Type 0} (d : X) (xs : List X) (m : Action X) (order : IsOrder d xs m) (is : IsAction m) where
   abbrev size : ℕ

@@ -8,8 +8,10 @@ use Rattle.milnor_basis.specs.Exponents.{entry, degree_from, put_before, trimmed
 use Rattle.f2_vec.specs.Vectors.{plus}
 use Rattle.milnor_basis.specs.Inside.Walk.{is_odd_below}
 use Rattle.f2_vec.proofs.Sums.{plus-false}
-use Rattle.milnor_basis.proofs.ExponentLemmas.{same_answers}
-use Rattle.milnor_basis.proofs.Parity.{odd_by, odd_by-flat_map, odd_by-map, odd_by-range, is_odd_below-same, is_odd_below-none, odd_by-same}
+use Rattle.milnor_basis.proofs.ExponentLemmas.{same_answers, degree_from-put_before, entry-put_before-zero, entry-put_before-suc, trimmed-put_before, length-put_before}
+use Rattle.milnor_basis.specs.Product.{odd_by}
+use Rattle.milnor_basis.proofs.Parity.{odd_by-flat_map, odd_by-map, odd_by-range, is_odd_below-same, is_odd_below-none, odd_by-same}
+use Rattle.milnor_basis.proofs.Ranges.{All-range}
 use Rattle.milnor_laws.proofs.SumsModTwo.{odd_by-and, odd_by-none, is_odd_below-one, is_odd_below-first, plus-and}
 use Rattle.milnor_laws.proofs.Powers.{Monomial, agree, agree_at, agree_from}
 use Rattle.milnor_laws.proofs.Coefficients.{exponents, exponents-past}
@@ -30,38 +32,6 @@ splittings-below g r rs =
     ∙ odd_by-range (λ i. odd_by g (map (before i (r - i)) (splittings rs))) (suc r)
     ∙ is_odd_below-same (λ i. odd_by g (map (before i (r - i)) (splittings rs))) (λ i. odd_by (λ p. g (before i (r - i) p)) (splittings rs)) (suc r) (λ i l. odd_by-map g (before i (r - i)) (splittings rs))
 
--- the entries and the degree of a list with a number in front
-
-pub degree_from-put_before : (k r : ℕ) (rs : List ℕ) → degree_from k (put_before r rs) ≡ r * (2 ^ k - 1) + degree_from (suc k) rs
-degree_from-put_before k zero [] = omega arith
-degree_from-put_before k (suc r) [] = refl
-degree_from-put_before k zero (x ∷ xs) = refl
-degree_from-put_before k (suc r) (x ∷ xs) = refl
-
-pub entry-put_before : (r : ℕ) (rs : List ℕ) → entry (put_before r rs) 0 ≡ r
-entry-put_before zero [] = refl
-entry-put_before (suc r) [] = refl
-entry-put_before zero (x ∷ xs) = refl
-entry-put_before (suc r) (x ∷ xs) = refl
-
-pub entry-put_before_suc : (r : ℕ) (rs : List ℕ) (j : ℕ) → entry (put_before r rs) (suc j) ≡ entry rs j
-entry-put_before_suc zero [] j = refl
-entry-put_before_suc (suc r) [] j = refl
-entry-put_before_suc zero (x ∷ xs) j = refl
-entry-put_before_suc (suc r) (x ∷ xs) j = refl
-
-length-put_before : (r : ℕ) (rs : List ℕ) → length (put_before r rs) ≤ suc (length rs)
-length-put_before zero [] = omega arith
-length-put_before (suc r) [] = omega arith
-length-put_before zero (x ∷ xs) = omega arith
-length-put_before (suc r) (x ∷ xs) = omega arith
-
-IsTrimmed-put_before : (r : ℕ) (rs : List ℕ) → IsTrimmed rs → IsTrimmed (put_before r rs)
-IsTrimmed-put_before zero [] h = refl
-IsTrimmed-put_before (suc r) [] h = refl
-IsTrimmed-put_before zero (x ∷ xs) h = ap (put_before 0) h
-IsTrimmed-put_before (suc r) (x ∷ xs) h = ap (put_before (suc r)) h
-
 -- what holds of the two parts
 pub record IsSplit (k : ℕ) (r : List ℕ) (p : Pair) : Type 0 where
   pub left : IsTrimmed p.0
@@ -78,19 +48,13 @@ pub All-of_all : {X : Type 0} → (P Q : X → Type 0) (xs : List X) → All P x
 All-of_all P Q [] all h = All-nil Q
 All-of_all P Q (x ∷ xs) all h = All-cons Q x xs (h x (All-head P x xs all)) (All-of_all P Q xs (All-tail P x xs all) h)
 
-All-below : (a n : ℕ) → All (λ i. a ≤ i × (i < a + n)) (range_with_len a n)
-All-below a zero = All-nil (λ i. a ≤ i × (i < a + 0))
-All-below a (suc n) =
-    All-cons (λ i. a ≤ i × (i < a + suc n)) a (range_with_len (a + 1) n) (omega arith, omega arith)
-    (All-of_all (λ i. a + 1 ≤ i × (i < a + 1 + n)) (λ i. a ≤ i × (i < a + suc n)) (range_with_len (a + 1) n) (All-below (a + 1) n) (λ i h. let l = h.0 in let m = h.1 in (omega arith, omega arith)))
-
 split_degrees : (i j r w a b c : ℕ) → i + j ≡ r → a + b ≡ c → (i * w + a) + (j * w + b) ≡ r * w + c
 split_degrees i j r w a b c e f = let g : r * w ≡ (i + j) * w = ap (λ x. x * w) (sym e) in omega arith
 
 pub IsSplit-before : (k r : ℕ) (rs : List ℕ) (i : ℕ) (p : Pair) → i ≤ r → IsSplit (suc k) rs p → IsSplit k (r ∷ rs) (before i (r - i) p)
 IsSplit-before k r rs i p few h = let ll = h.left_length in let rl = h.right_length in record {
-  left = IsTrimmed-put_before i p.0 h.left;
-  right = IsTrimmed-put_before (r - i) p.1 h.right;
+  left = trimmed-put_before i p.0 h.left;
+  right = trimmed-put_before (r - i) p.1 h.right;
   left_length = omega (arith, length-put_before i p.0);
   right_length = omega (arith, length-put_before (r - i) p.1);
   degree = ap (λ d. d + degree_from k (put_before (r - i) p.1)) (degree_from-put_before k i p.0)
@@ -101,7 +65,7 @@ IsSplit-before k r rs i p few h = let ll = h.left_length in let rl = h.right_len
 pub All-splittings : (k : ℕ) (r : List ℕ) → All (IsSplit k r) (splittings r)
 All-splittings k [] = All-cons (IsSplit k []) ([], []) [] (record { left = refl; right = refl; left_length = omega arith; right_length = omega arith; degree = refl }) (All-nil (IsSplit k []))
 All-splittings k (r ∷ rs) =
-    All-flat_map (IsSplit k (r ∷ rs)) (λ i. map (before i (r - i)) (splittings rs)) (λ i. 0 ≤ i × (i < 0 + suc r)) (range_with_len 0 (suc r)) (All-below 0 (suc r))
+    All-flat_map (IsSplit k (r ∷ rs)) (λ i. map (before i (r - i)) (splittings rs)) (λ i. 0 ≤ i × (i < 0 + suc r)) (range_with_len 0 (suc r)) (All-range 0 (suc r))
     (λ i l. All-map (IsSplit k (r ∷ rs)) (before i (r - i)) (splittings rs)
     (All-of_all (IsSplit (suc k) rs) (λ p. IsSplit k (r ∷ rs) (before i (r - i) p)) (splittings rs) (All-splittings (suc k) rs)
     (λ p h. let few = l.1 in IsSplit-before k r rs i p (omega arith) h)))
@@ -110,15 +74,15 @@ All-splittings k (r ∷ rs) =
 pub All-whole : (r : List ℕ) → All (λ p. (j : ℕ) → entry p.0 j + entry p.1 j ≡ entry r j) (splittings r)
 All-whole [] = All-cons (λ p. (j : ℕ) → entry p.0 j + entry p.1 j ≡ entry [] j) ([], []) [] (λ j. omega arith) (All-nil (λ p. (j : ℕ) → entry p.0 j + entry p.1 j ≡ entry [] j))
 All-whole (r ∷ rs) =
-    All-flat_map (Whole (r ∷ rs)) (λ i. map (before i (r - i)) (splittings rs)) (λ i. 0 ≤ i × (i < 0 + suc r)) (range_with_len 0 (suc r)) (All-below 0 (suc r))
+    All-flat_map (Whole (r ∷ rs)) (λ i. map (before i (r - i)) (splittings rs)) (λ i. 0 ≤ i × (i < 0 + suc r)) (range_with_len 0 (suc r)) (All-range 0 (suc r))
     (λ i l. All-map (Whole (r ∷ rs)) (before i (r - i)) (splittings rs) (All-of_all (Whole rs) (λ p. Whole (r ∷ rs) (before i (r - i) p)) (splittings rs) (All-whole rs) (λ p h. let few = l.1 in at i p (omega arith) h)))
   where
     Whole : List ℕ → Pair → Type 0
     Whole s p = (j : ℕ) → entry p.0 j + entry p.1 j ≡ entry s j
 
     at : (i : ℕ) (p : Pair) → i ≤ r → Whole rs p → Whole (r ∷ rs) (before i (r - i) p)
-    at i p few h zero = ap (λ n. n + entry (put_before (r - i) p.1) 0) (entry-put_before i p.0) ∙ ap (λ n. i + n) (entry-put_before (r - i) p.1) ∙ omega arith
-    at i p few h (suc j) = ap (λ n. n + entry (put_before (r - i) p.1) (suc j)) (entry-put_before_suc i p.0 j) ∙ ap (λ n. entry p.0 j + n) (entry-put_before_suc (r - i) p.1 j) ∙ h j
+    at i p few h zero = ap (λ n. n + entry (put_before (r - i) p.1) 0) (entry-put_before-zero i p.0) ∙ ap (λ n. i + n) (entry-put_before-zero (r - i) p.1) ∙ omega arith
+    at i p few h (suc j) = ap (λ n. n + entry (put_before (r - i) p.1) (suc j)) (entry-put_before-suc i p.0 j) ∙ ap (λ n. entry p.0 j + n) (entry-put_before-suc (r - i) p.1 j) ∙ h j
 
 -- Agreement, place by place from the first.
 
@@ -166,11 +130,11 @@ is_odd_below-and : (p : ℕ → Bool) (c : Bool) (n : ℕ) → is_odd_below (λ 
 is_odd_below-and p c zero = refl
 is_odd_below-and p c (suc n) = ap (plus (p n && c)) (is_odd_below-and p c n) ∙ sym (plus-and (p n) (is_odd_below p n) c)
 
-both : (a b c d : Bool) → ((a && b) && (c && d)) ≡ ((a && c) && (b && d))
-both true true c d = refl
-both true false true d = refl
-both true false false d = refl
-both false b c d = refl
+pub and-exchanged : (a b c d : Bool) → ((a && b) && (c && d)) ≡ ((a && c) && (b && d))
+and-exchanged true true c d = refl
+and-exchanged true false true d = refl
+and-exchanged true false false d = refl
+and-exchanged false b c d = refl
 
 -- A product of two monomials is x^R exactly where they are x^R1 and x^R2 for one of the splittings.
 pub agree-splittings : (n : ℕ) (a c : Monomial) (r : List ℕ) → length r ≤ n → agree n (times a c) (exponents r) ≡ odd_by (λ p. agree n a (exponents p.0) && agree n c (exponents p.1)) (splittings r)
@@ -194,9 +158,9 @@ agree-splittings (suc n) a c (r ∷ rs) l =
     ∙ is_odd_below-same (λ i. here i && sums) (λ i. odd_by (λ p. agree (suc n) a (exponents (put_before i p.0)) && agree (suc n) c (exponents (put_before (r - i) p.1))) (splittings rs)) (suc r)
     (λ i m. sym (odd_by-and (here i) rest (splittings rs))
     ∙ odd_by-same (λ p. here i && rest p) (λ p. agree (suc n) a (exponents (put_before i p.0)) && agree (suc n) c (exponents (put_before (r - i) p.1))) (splittings rs)
-    (λ p. both (nat_eq (a 1) i) (nat_eq (c 1) (r - i)) (agree n (later a) (exponents p.0)) (agree n (later c) (exponents p.1))
-    ∙ ap (λ b. b && (nat_eq (c 1) (r - i) && agree n (later c) (exponents p.1))) (sym (agree-list n a i p.0 (put_before i p.0) (entry-put_before i p.0) (entry-put_before_suc i p.0)))
-    ∙ ap (λ b. agree (suc n) a (exponents (put_before i p.0)) && b) (sym (agree-list n c (r - i) p.1 (put_before (r - i) p.1) (entry-put_before (r - i) p.1) (entry-put_before_suc (r - i) p.1)))))
+    (λ p. and-exchanged (nat_eq (a 1) i) (nat_eq (c 1) (r - i)) (agree n (later a) (exponents p.0)) (agree n (later c) (exponents p.1))
+    ∙ ap (λ b. b && (nat_eq (c 1) (r - i) && agree n (later c) (exponents p.1))) (sym (agree-list n a i p.0 (put_before i p.0) (entry-put_before-zero i p.0) (entry-put_before-suc i p.0)))
+    ∙ ap (λ b. agree (suc n) a (exponents (put_before i p.0)) && b) (sym (agree-list n c (r - i) p.1 (put_before (r - i) p.1) (entry-put_before-zero (r - i) p.1) (entry-put_before-suc (r - i) p.1)))))
     ∙ sym (splittings-below (λ p. agree (suc n) a (exponents p.0) && agree (suc n) c (exponents p.1)) r rs)
 
 -- The two parts of a splitting can be exchanged.

@@ -4,8 +4,7 @@ use Rattle.std.specs.Prelude.{◌≡◌, ◌⊎◌, ℕ, ◌<◌, nat_eq, nat_lt
 use Rattle.std.proofs.Common.{◌≢◌, inl, inr}
 use Rattle.std.specs.List.{flat_map, range_with_len}
 use Rattle.milnor_basis.specs.Exponents.{degree_of, IsTrimmed}
-use Rattle.milnor_basis.specs.Product.{product_terms}
-use Rattle.milnor_basis.proofs.Parity.{odd_by}
+use Rattle.milnor_basis.specs.Product.{product_terms, odd_by}
 use Rattle.hopf_laws.specs.Diagonal.{splittings}
 use Rattle.hopf_laws.specs.Conjugate.{IsConjugate}
 
@@ -17,8 +16,7 @@ pub record Action (X : Type 0) : Type 0 where
   pub coefficient : List ℕ → X → X → Bool
   pub same : X → X → Bool
 
--- It is a module: Sq() is the identity, Sq(R) raises degrees by its own, and Sq(R) on Sq(S) is their product. `odd_by` is a sum over a list,
--- mod 2.
+-- It is a module: Sq() is the identity, Sq(R) raises degrees by its own, and Sq(R) on Sq(S) is their product.
 pub record IsAction {X : Type 0} (m : Action X) : Type 0 where
   pub unit : (x y : X) → m.coefficient [] x y ≡ m.same x y
   pub homogeneous : (r : List ℕ) (x y : X) → IsTrimmed r → m.degree y ≢ m.degree x +ℤ pos (degree_of r) →

@@ -1,15 +1,15 @@
 -- The conjugate of the Steenrod algebra on Milnor's basis (Milnor, as for the diagonal). A sum of elements is a list of them, in which two
 -- of the same cancel.
 use Rattle.std.specs.Prelude.{◌≡◌, ℕ, zero, suc, ◌<◌, Bool, true, false, not, nat_eq, if◌then◌else◌, List, [], ◌∷◌}
-use Rattle.std.specs.List.{All, count_by, filter, flat_map}
+use Rattle.std.specs.List.{All, filter, flat_map}
 use Rattle.std.specs.Cmp.Lexicographic.{pointwise}
 use Rattle.milnor_basis.specs.Exponents.{degree_of, IsTrimmed}
-use Rattle.milnor_basis.specs.Product.{is_odd, product_terms}
+use Rattle.milnor_basis.specs.Product.{product_terms, odd_by}
 use Rattle.hopf_laws.specs.Diagonal.{splittings}
 
 -- the coefficient of Sq(T) in a sum
 abbrev pub coefficient_in : List (List ℕ) → List ℕ → Bool
-coefficient_in terms t = is_odd (count_by (pointwise nat_eq t) terms)
+coefficient_in terms t = odd_by (pointwise nat_eq t) terms
 
 -- the sum over R1 + R2 = R of Sq(R1) times what a map gives at R2
 abbrev pub convolved : (List ℕ → List (List ℕ)) → List ℕ → List (List ℕ)

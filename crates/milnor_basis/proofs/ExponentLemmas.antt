@@ -11,7 +11,7 @@ use Rattle.milnor_basis.specs.Exponents.{entry, degree_from, degree_of, put_befo
 use Rattle.milnor_basis.specs.Inside.Padding.{padded, padded-trimmed}
 
 -- what `put_before` does to a degree, to entries and to trimming
-degree_from-put_before : (i r : ℕ) (t : List ℕ) → degree_from i (put_before r t) ≡ r * (2 ^ i - 1) + degree_from (suc i) t
+pub degree_from-put_before : (i r : ℕ) (t : List ℕ) → degree_from i (put_before r t) ≡ r * (2 ^ i - 1) + degree_from (suc i) t
 degree_from-put_before i zero [] = omega arith
 degree_from-put_before i (suc r) [] = refl
 degree_from-put_before i zero (x ∷ xs) = refl
@@ -24,13 +24,13 @@ degree_from-trimmed i (r ∷ rs) = degree_from-put_before i r (trimmed rs) ∙ a
 pub degree_of-trimmed : (rs : List ℕ) → degree_of (trimmed rs) ≡ degree_of rs
 degree_of-trimmed rs = degree_from-trimmed 1 rs
 
-entry-put_before-zero : (r : ℕ) (t : List ℕ) → entry (put_before r t) zero ≡ r
+pub entry-put_before-zero : (r : ℕ) (t : List ℕ) → entry (put_before r t) zero ≡ r
 entry-put_before-zero zero [] = refl
 entry-put_before-zero (suc r) [] = refl
 entry-put_before-zero zero (x ∷ xs) = refl
 entry-put_before-zero (suc r) (x ∷ xs) = refl
 
-entry-put_before-suc : (r : ℕ) (t : List ℕ) (j : ℕ) → entry (put_before r t) (suc j) ≡ entry t j
+pub entry-put_before-suc : (r : ℕ) (t : List ℕ) (j : ℕ) → entry (put_before r t) (suc j) ≡ entry t j
 entry-put_before-suc zero [] j = refl
 entry-put_before-suc (suc r) [] j = refl
 entry-put_before-suc zero (x ∷ xs) j = refl
@@ -41,7 +41,7 @@ entry-trimmed [] j = refl
 entry-trimmed (r ∷ rs) zero = entry-put_before-zero r (trimmed rs)
 entry-trimmed (r ∷ rs) (suc j) = entry-put_before-suc r (trimmed rs) j ∙ entry-trimmed rs j
 
-trimmed-put_before : (r : ℕ) (t : List ℕ) → IsTrimmed t → IsTrimmed (put_before r t)
+pub trimmed-put_before : (r : ℕ) (t : List ℕ) → IsTrimmed t → IsTrimmed (put_before r t)
 trimmed-put_before zero [] h = refl
 trimmed-put_before (suc r) [] h = refl
 trimmed-put_before zero (x ∷ xs) h = ap (put_before zero) h
@@ -51,7 +51,7 @@ pub IsTrimmed-trimmed : (rs : List ℕ) → IsTrimmed (trimmed rs)
 IsTrimmed-trimmed [] = refl
 IsTrimmed-trimmed (r ∷ rs) = trimmed-put_before r (trimmed rs) (IsTrimmed-trimmed rs)
 
-length-put_before : (r : ℕ) (t : List ℕ) → length (put_before r t) ≤ suc (length t)
+pub length-put_before : (r : ℕ) (t : List ℕ) → length (put_before r t) ≤ suc (length t)
 length-put_before zero [] = omega arith
 length-put_before (suc r) [] = omega arith
 length-put_before zero (x ∷ xs) = omega arith

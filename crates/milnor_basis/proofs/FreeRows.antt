@@ -8,10 +8,11 @@ use Rattle.std.proofs.lemmas.List.FromFn.{length-map-range_with_len, get_or-map-
 use Rattle.milnor_basis.specs.Exponents.{entry, degree_from, degree_of}
 use Rattle.milnor_basis.specs.Inside.Walk.{fillings, places_to, Sums, add_at, add, are_sums_of, taken, next_row, next_column}
 use Rattle.milnor_basis.specs.Inside.FreeRows.{IsFree, least_free, greatest_free, added}
-use Rattle.milnor_basis.proofs.Prune.{dead_rows, list_all-fails, add_at-le, add_at-other, add_at-same, over_quotient, row_too_large, column_too_large, column_not_full}
+use Rattle.milnor_basis.proofs.Prune.{dead_rows, add_at-le, add_at-other, add_at-same, over_quotient, row_too_large, column_too_large, column_not_full}
 use Rattle.milnor_basis.proofs.Steps.{taken_sum, taken-same, taken-other, under_quotient, entry-sum}
 use Rattle.milnor_basis.proofs.BasisLemmas.{weight_above}
 use Rattle.milnor_basis.proofs.MatrixList.{map-range_same}
+use Rattle.milnor_basis.proofs.Ranges.{list_all-holds}
 
 -- Degrees of rows.
 pub degree_set : (j : ℕ) (xs : List ℕ) (i v : ℕ) → i < length xs → degree_from j (slice_set xs i (slice_index xs i + v)) ≡ degree_from j xs + v * (2 ^ (j + i) - 1)
@@ -40,12 +41,6 @@ degree_less f g j a (suc m) h =
 -- the degree of the R that the sums of 8 rows make up
 abbrev degree_so_far : Sums → ℕ
 degree_so_far x = degree_of (map x.rows (range_with_len 1 8))
-
-pub list_all-holds : (p : ℕ → Bool) (a n i : ℕ) → a ≤ i → i < a + n → list_all p (range_with_len a n) ≡ true → p i ≡ true
-list_all-holds p a n i l m h = elim (cases_Bool (p i)) [
-  | inl t ↦ t
-  | inr f ↦ let no = list_all-fails p a n i l m f in absurd (cc (h, no))
-]
 
 -- rows that R asks for make up R
 pub rows_make : (f : ℕ → ℕ) (r : List ℕ) → list_all (λ i. nat_eq (f i) (entry r (i - 1))) (range_with_len 1 (length r)) ≡ true → map f (range_with_len 1 (length r)) ≡ r

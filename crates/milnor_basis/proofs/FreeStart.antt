@@ -16,10 +16,9 @@ use Rattle.milnor_basis.specs.Inside.Walk.{is_odd_below, fillings, places_to, Su
 use Rattle.milnor_basis.proofs.Parity.{is_odd_below-same, is_odd_below-up_to}
 use Rattle.milnor_basis.proofs.Walk.{fillings_step, along}
 use Rattle.milnor_basis.proofs.Prune.{row_too_large, add_at-other, add_at-same}
-use Rattle.milnor_basis.proofs.Ranges.{list_all-range}
+use Rattle.milnor_basis.proofs.Ranges.{list_all-range, list_all-holds}
 use Rattle.milnor_basis.proofs.ExponentLemmas.{entry-trimmed, entry_past, length-padded, trimmed-padded, trimmed-same, same_answers}
 use Rattle.milnor_basis.proofs.Matrices.{next_fits, coefficient-fillings}
-use Rattle.milnor_basis.proofs.FreeRows.{list_all-holds}
 
 sum-padded : (n : ℕ) (r : List ℕ) → length r ≤ n → sum (padded n r) ≡ sum r
 sum-padded zero [] h = refl

@@ -7,10 +7,10 @@ use Rattle.std.proofs.lemmas.List.{append-nil}
 use Rattle.std.proofs.lemmas.List.Sums.{sum_by-cons}
 use Rattle.f2_vec.proofs.Sums.{plus-false}
 use Rattle.milnor_basis.specs.Exponents.{entry}
-use Rattle.milnor_basis.specs.Product.{Matrix, zero_matrix, put, places, matrices, row_sum, column_sum, diagonal, diagonal_sums, multinomial, is_odd, counts, product_diagonals, coefficient}
+use Rattle.milnor_basis.specs.Product.{Matrix, zero_matrix, put, places, matrices, row_sum, column_sum, diagonal, diagonal_sums, multinomial, is_odd, counts, product_diagonals, coefficient, odd_by}
 use Rattle.milnor_basis.specs.Inside.Walk.{is_odd_below, fillings, places_to, Sums, no_sums, add, are_sums_of, next_row, next_column}
 use Rattle.milnor_basis.proofs.Kummer.{multinomial-odd_cons, odd-times}
-use Rattle.milnor_basis.proofs.Parity.{odd_by, is_odd-count_by, odd_by-map, odd_by-filter, odd_by-flat_map, odd_by-range, odd_by-same, is_odd_below-same}
+use Rattle.milnor_basis.proofs.Parity.{is_odd-count_by, odd_by-map, odd_by-filter, odd_by-flat_map, odd_by-range, odd_by-same, is_odd_below-same}
 use Rattle.milnor_basis.proofs.Ranges.{range-suc}
 use Rattle.milnor_basis.proofs.Walk.{fillings_step, along}
 use Rattle.milnor_basis.proofs.MatrixList.{put-column}

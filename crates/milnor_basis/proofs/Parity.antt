@@ -4,14 +4,9 @@ use Rattle.std.specs.List.{count_by, filter, flat_map, range_with_len}
 use Rattle.std.proofs.lemmas.List.Sums.{sum_by-cons}
 use Rattle.f2_vec.specs.Vectors.{plus}
 use Rattle.f2_vec.proofs.Sums.{plus-assoc, plus-comm, plus-false}
-use Rattle.milnor_basis.specs.Product.{is_odd}
+use Rattle.milnor_basis.specs.Product.{is_odd, odd_by}
 use Rattle.milnor_basis.specs.Inside.Walk.{is_odd_below}
 use Rattle.milnor_basis.proofs.Ranges.{range-suc}
-
--- whether p holds for an odd number of elements
-abbrev pub odd_by : {X : Type 0} → (X → Bool) → List X → Bool
-odd_by p [] = false
-odd_by p (x ∷ xs) = plus (p x) (odd_by p xs)
 
 odd-suc : (n : ℕ) → is_odd (1 + n) ≡ not (is_odd n)
 odd-suc n = elim-mod n (n % 2) refl where

@@ -62,6 +62,11 @@ multinomial (x ∷ xs) = choose (x + sum xs) x * multinomial xs
 abbrev pub is_odd : ℕ → Bool
 is_odd n = nat_eq (n % 2) 1
 
+-- whether p holds for an odd number of the elements: the sum of p over a list, mod 2
+abbrev pub odd_by : {X : Type 0} → (X → Bool) → List X → Bool
+odd_by p [] = false
+odd_by p (x ∷ xs) = plus (p x) (odd_by p xs)
+
 -- the product of the multinomials of diagonals 1 to n
 abbrev pub matrix_coefficient : ℕ → Matrix → ℕ
 matrix_coefficient n x = fold ◌*◌ 1 (map (λ k. multinomial (diagonal x k)) (range_with_len 1 n))

@@ -11,12 +11,12 @@ use Rattle.std.proofs.lemmas.List.FromFn.{length-map-range_with_len}
 use Rattle.f2_vec.specs.Vectors.{plus}
 use Rattle.milnor_basis.specs.Exponents.{degree_of, trimmed, IsTrimmed}
 use Rattle.milnor_basis.specs.Basis.{basis_of}
-use Rattle.milnor_basis.specs.Product.{coefficient, product_terms}
+use Rattle.milnor_basis.specs.Product.{coefficient, product_terms, odd_by}
 use Rattle.milnor_basis.specs.Inside.Walk.{is_odd_below}
 use Rattle.milnor_basis.proofs.BasisLemmas.{All-basis_of, Contains-basis_of}
 use Rattle.milnor_basis.proofs.ExponentLemmas.{same_answers, IsTrimmed-trimmed, length-trimmed, length_within}
 use Rattle.milnor_basis.proofs.Homogeneous.{product_is_homogeneous}
-use Rattle.milnor_basis.proofs.Parity.{odd_by, odd_by-same, is_odd-count_by, odd_by-filter}
+use Rattle.milnor_basis.proofs.Parity.{odd_by-same, is_odd-count_by, odd_by-filter}
 use Rattle.milnor_basis.proofs.Places.{basis_of-once}
 use Rattle.milnor_laws.specs.Laws.{ProductIsAssociative}
 use Rattle.milnor_laws.proofs.SumsModTwo.{odd_by-none, odd_by-and, is_odd_below-first, is_odd_below-one, splits, one_lower}

@@ -2,10 +2,10 @@
 use Rattle.std.proofs.Common.{◌≡◌, ℕ, zero, suc, ◌+◌, ◌≤◌, ◌%◌, Bool, true, false, not, ◌&&◌, List, [], ◌∷◌, refl, sym, ◌∙◌, ap, arith, zero-add}
 use Rattle.f2_vec.specs.Vectors.{plus}
 use Rattle.f2_vec.proofs.Sums.{plus-assoc, plus-comm, plus-false}
-use Rattle.milnor_basis.specs.Product.{choose, is_odd}
+use Rattle.milnor_basis.specs.Product.{choose, is_odd, odd_by}
 use Rattle.milnor_basis.specs.Inside.Walk.{is_odd_below}
 use Rattle.milnor_basis.proofs.Kummer.{choose-past}
-use Rattle.milnor_basis.proofs.Parity.{odd_by, is_odd_below-same}
+use Rattle.milnor_basis.proofs.Parity.{is_odd_below-same}
 use Rattle.milnor_laws.proofs.SumsModTwo.{plus-four, plus-and, is_odd_below-plus, is_odd_below-first}
 
 -- the sum of h v, as often as v of n things can be chosen: the last of the n is left, or it is taken

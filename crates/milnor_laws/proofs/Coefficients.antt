@@ -3,7 +3,7 @@ use Rattle.std.specs.Prelude.{nat_eq}
 use Rattle.std.specs.Cmp.Lexicographic.{bytes_decides, pointwise}
 use Rattle.std.specs.List.{list_all, range_with_len, sum}
 use Rattle.std.proofs.Common.{◌≡◌, ◌≢◌, ◌⊎◌, ℕ, zero, suc, ◌+◌, ◌-◌, ◌*◌, ◌^◌, ◌<◌, ◌≤◌, inl, inr, Bool, true, false, ◌&&◌, List, map, length, refl, sym, ◌∙◌, ap, arith}
-use Rattle.std.proofs.lemmas.Bool.{cases_eq, cases_lt, and_left, and_parts, and_right, eq-eqb, eqb-true}
+use Rattle.std.proofs.lemmas.Bool.{cases_lt, and_left, and_right, eq-eqb, eqb-true}
 use Rattle.std.proofs.lemmas.List.FromFn.{get_or-map-range_with_len, length-map-range_with_len}
 use Rattle.std.proofs.lemmas.List.Sums.{get_or-le-sum_by}
 use Rattle.std.proofs.lemmas.Nat.{mul-le, pow_pos}
@@ -13,7 +13,7 @@ use Rattle.milnor_basis.specs.Inside.Walk.{places_to, Sums, no_sums, are_sums_of
 use Rattle.milnor_basis.proofs.ExponentLemmas.{entry-trimmed, entry_past, same_answers, trimmed-same}
 use Rattle.milnor_basis.proofs.Matrices.{coefficient-fillings}
 use Rattle.milnor_basis.proofs.Parity.{odd_by-same}
-use Rattle.milnor_basis.proofs.Ranges.{list_all-range}
+use Rattle.milnor_basis.proofs.Ranges.{list_all-range, list_all-holds}
 use Rattle.milnor_laws.proofs.SumsModTwo.{splits}
 use Rattle.milnor_laws.proofs.Powers.{Monomial, Test, variable, variable-same, agree, agree_at, agree_from, agree_not, shift, shift-shift, odd_terms-one}
 use Rattle.milnor_laws.proofs.Coproduct.{term, triangle, in_box, coproduct, in_box_raised, coproduct_raised, by_factors}
@@ -82,15 +82,6 @@ is_pair-bounded n r s v (suc i) j l p q above a b =
 
 -- what the definition asks of a matrix's sums, in other words
 
-all_at : (p : ℕ → Bool) (a n : ℕ) → list_all p (range_with_len a n) ≡ true → (k : ℕ) → a ≤ k → k < a + n → p k ≡ true
-all_at p a zero h k l m = absurd (omega arith)
-all_at p a (suc n) h k l m =
-    let both = and_parts (p a) (list_all p (range_with_len (a + 1) n)) h in
-    elim (cases_eq k a) [
-      | inl same ↦ ap p same ∙ both.0
-      | inr other ↦ all_at p (a + 1) n both.1 k (omega arith) (omega arith)
-    ]
-
 module _ (n : ℕ) (g : ℕ → ℕ) (r : List ℕ) (short : length r ≤ n) (past : (k : ℕ) → length r < k → g k ≡ 0) where
   -- whether the sum i is as the definition asks
   abbrev asked : ℕ → Bool
@@ -99,7 +90,7 @@ module _ (n : ℕ) (g : ℕ → ℕ) (r : List ℕ) (short : length r ≤ n) (pa
   asked-agree : list_all asked (range_with_len 1 (length r)) ≡ true → (k : ℕ) → 0 < k → from_one g k ≡ exponents r k
   asked-agree h zero l = refl
   asked-agree h (suc k) l = elim (cases_lt k (length r)) [
-    | inl within ↦ let at : g (suc k) ≡ entry r (suc k - 1) = eqb-true (g (suc k)) (entry r (suc k - 1)) (all_at asked 1 (length r) h (suc k) (omega arith) (omega arith)) in
+    | inl within ↦ let at : g (suc k) ≡ entry r (suc k - 1) = eqb-true (g (suc k)) (entry r (suc k - 1)) (list_all-holds asked 1 (length r) (suc k) (omega arith) (omega arith) h) in
         at ∙ ap (entry r) (omega arith)
     | inr beyond ↦ past (suc k) (omega arith) ∙ sym (entry_past r k beyond)
   ]

@@ -9,7 +9,8 @@ use Rattle.std.proofs.lemmas.Bool.{cases_eq, cases_lt, eq-eqb, ne_eqb}
 use Rattle.f2_vec.specs.Vectors.{plus}
 use Rattle.f2_vec.proofs.Sums.{plus-comm, plus-false}
 use Rattle.milnor_basis.specs.Inside.Walk.{is_odd_below, places_to}
-use Rattle.milnor_basis.proofs.Parity.{odd_by, odd_by-append, odd_by-map, odd_by-range, odd_by-same, is_odd_below-same, is_odd_below-none}
+use Rattle.milnor_basis.specs.Product.{odd_by}
+use Rattle.milnor_basis.proofs.Parity.{odd_by-append, odd_by-map, odd_by-range, odd_by-same, is_odd_below-same, is_odd_below-none}
 use Rattle.milnor_laws.proofs.SumsModTwo.{odd_by-none, odd_by-symmetric, is_odd_below-one, is_odd_below-ends, splits, splits-same, splits-below, splits-twice}
 use Rattle.milnor_laws.proofs.Powers.{Monomial, Test, variable, variable-same, variable-other, Term, shift, shift-shift, shift-add, odd_terms, odd_terms-same, odd_terms-fails, odd_terms-odd_by, odd_terms-one, odd_terms-raised}
 

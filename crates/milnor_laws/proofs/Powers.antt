@@ -5,7 +5,8 @@ use Rattle.std.proofs.Math.Bool as Booleans
 use Rattle.std.proofs.lemmas.Bool.{cases_eq, eq-eqb, ne_eqb, eqb-true, and_from, and_parts}
 use Rattle.f2_vec.specs.Vectors.{plus}
 use Rattle.f2_vec.proofs.Sums.{plus-comm}
-use Rattle.milnor_basis.proofs.Parity.{odd_by, odd_by-same}
+use Rattle.milnor_basis.specs.Product.{odd_by}
+use Rattle.milnor_basis.proofs.Parity.{odd_by-same}
 use Rattle.milnor_laws.proofs.SumsModTwo.{and-plus}
 use Rattle.milnor_laws.proofs.BinomialSums.{binomial_sum, binomial_sum-same, binomial_sum-plus, binomial_sum-none, binomial_sum-and, binomial_sum-odd_by}
 

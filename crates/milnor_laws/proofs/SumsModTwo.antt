@@ -4,7 +4,8 @@ use Rattle.std.proofs.lemmas.Bool.{cases_eq}
 use Rattle.f2_vec.specs.Vectors.{plus}
 use Rattle.f2_vec.proofs.Sums.{plus-assoc, plus-false}
 use Rattle.milnor_basis.specs.Inside.Walk.{is_odd_below}
-use Rattle.milnor_basis.proofs.Parity.{odd_by, odd_by-map, odd_by-same, is_odd_below-same, is_odd_below-none, is_odd_below-up_to}
+use Rattle.milnor_basis.specs.Product.{odd_by}
+use Rattle.milnor_basis.proofs.Parity.{odd_by-map, odd_by-same, is_odd_below-same, is_odd_below-none, is_odd_below-up_to}
 
 pub plus-swap : (a b c : Bool) → plus a (plus b c) ≡ plus b (plus a c)
 plus-swap true true c = refl

@@ -17,7 +17,7 @@ use Rattle.free_module.specs.Graded.{GradedModule, HasUnit, KeepsWidths, ActsByP
 use Rattle.milnor_laws.proofs.RightUnit.{product_has_unit}
 
 -- Sq() is the one element of degree 0
-empty_or_positive : (r : List ℕ) → IsTrimmed r → (r ≡ []) ⊎ (0 < degree_of r)
+pub empty_or_positive : (r : List ℕ) → IsTrimmed r → (r ≡ []) ⊎ (0 < degree_of r)
 empty_or_positive r h = elim (cases_lt 0 (degree_of r)) [
   | inl l ↦ inr l
   | inr l ↦

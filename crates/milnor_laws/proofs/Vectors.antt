@@ -11,9 +11,9 @@ use Rattle.f2_vec.proofs.Combinations.{map_same_all, combination-zero_rows}
 use Rattle.f2_vec.proofs.Spans.{combination-zeros}
 use Rattle.milnor_basis.specs.Exponents.{degree_of, IsTrimmed}
 use Rattle.milnor_basis.specs.Basis.{basis_of}
-use Rattle.milnor_basis.specs.Product.{coefficient, product_bits}
+use Rattle.milnor_basis.specs.Product.{coefficient, product_bits, odd_by}
 use Rattle.milnor_basis.proofs.BasisLemmas.{All-basis_of}
-use Rattle.milnor_basis.proofs.Parity.{odd_by, odd_by-filter, odd_by-same}
+use Rattle.milnor_basis.proofs.Parity.{odd_by-filter, odd_by-same}
 use Rattle.milnor_product.specs.Times.{basis_at, times_at}
 use Rattle.milnor_laws.specs.Laws.{ProductActs, ProductIsAssociativeInVectors}
 use Rattle.milnor_laws.proofs.Associative.{associative, odd_by-same_all}

@@ -1,36 +1,33 @@
 -- The operators of each construction are those that it should have.
 use Rattle.std.specs.Prelude.{nat_le}
 use Rattle.std.specs.List.{range_with_len}
-use Rattle.std.proofs.Common.{Bor, ◌≡◌, ℕ, zero, suc, ◌+◌, ◌-◌, ◌*◌, ◌/◌, ◌%◌, ◌<◌, ◌≤◌, ℤ, pos, ◌+ℤ◌, ◌-ℤ◌, Bool, true, false, ◌&&◌, List, [], ◌∷◌, length, map, get_or, EachIndex, refl, ap, sym, subst, ◌∙◌, arith}
+use Rattle.std.proofs.Common.{Bor, ◌≡◌, ℕ, zero, suc, ◌+◌, ◌-◌, ◌*◌, ◌/◌, ◌%◌, ◌<◌, ◌≤◌, ℤ, pos, ◌+ℤ◌, ◌-ℤ◌, Bool, true, false, ◌&&◌, List, [], ◌∷◌, length, map, get_or, EachIndex, refl, ap, sym, ◌∙◌, arith}
 use Rattle.std.proofs.Math.Nat.{div-lt_iff_lt-mul, mod-lt}
 use Rattle.std.proofs.lemmas.Bool.{and_right}
-use Rattle.std.proofs.lemmas.Int.{ints}
-use Rattle.std.proofs.lemmas.List.{length-map}
 use Rattle.std.proofs.lemmas.List.FromFn.{length-range_with_len, get_or-range_with_len}
 use Rattle.f2_vec.proofs.Sums.{plus-false}
 use Rattle.f2_vec.proofs.Combinations.{map_same}
 use Rattle.milnor_basis.specs.Exponents.{degree_of, IsTrimmed}
-use Rattle.milnor_basis.proofs.Parity.{odd_by, odd_by-map}
+use Rattle.milnor_basis.specs.Product.{odd_by}
+use Rattle.milnor_basis.proofs.Parity.{odd_by-map}
 use Rattle.milnor_laws.proofs.Associative.{odd_by-same_all}
 use Rattle.hopf_laws.specs.Diagonal.{splittings}
 use Rattle.hopf_laws.proofs.Splittings.{Pair, IsSplit, All-splittings}
 use Rattle.module_json.specs.ModuleFile.{Generator, degree_at, no_generator}
-use Rattle.module_json.specs.WellFormed.{NeverFall}
-use Rattle.finite_module.specs.Module.{Module, generators_in}
+use Rattle.finite_module.specs.Module.{generators_in}
 use Rattle.finite_module.specs.DerivedAction.{span}
 use Rattle.finite_module.specs.Checked.{Checked}
 use Rattle.finite_module.specs.ModuleLaws.{generators_in-member}
 use Rattle.built_laws.specs.Built.{action_of, values_on, operator_on}
-use Rattle.module_json.specs.Sorting.{sorted_by}
 use Rattle.built_laws.proofs.Renamed.{places}
 use Rattle.built_laws.proofs.Sorted.{odd_by-sorted_by}
 use Rattle.module_build.specs.declared.order.Placed.{Placed}
 use Rattle.module_build.specs.declared.splittings.Splitting.{Splitting}
 use Rattle.module_build.specs.declared.coefficients.Coefficients.{Coefficients}
 use Rattle.module_build.specs.declared.construction.Construction.{Construction}
-use Rattle.module_build.specs.declared.construction.Construction.TheVariants.{Shift, Sum, Tensor, Dual}
+use Rattle.module_build.specs.declared.construction.Construction.TheVariants.{Tensor, Dual}
 use Rattle.module_build.specs.Inside.Splittings.{sum_over, AreSplittings}
-use Rattle.module_build.specs.Inside.Construction.{entry_of, width_of, pairs_at, size_of, degree_in, coefficient_in, order_of, number_at, generators_of, coefficient_by, IsDualOrder}
+use Rattle.module_build.specs.Inside.Construction.{entry_of, pairs_at, size_of, degree_in, coefficient_in, order_of, number_at, generators_of, coefficient_by, IsDualOrder}
 use Rattle.module_build.proofs.Entries.{none_above_span}
 use Rattle.module_build.proofs.Constructed.{numbers, length-numbers, length-order, number-order, number_within, length-generators, degree_of_made}
 

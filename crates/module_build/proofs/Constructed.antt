@@ -1,22 +1,21 @@
 -- What is made is the module of the definition.
-use Rattle.std.specs.List.{All, AllPairs, flat_map, range_with_len}
-use Rattle.std.proofs.Common.{Bor, ◌≡◌, ◌⊎◌, ℕ, zero, suc, ◌+◌, ◌-◌, ◌*◌, ◌/◌, ◌%◌, ◌<◌, ◌≤◌, ℤ, pos, ◌+ℤ◌, ◌≤ℤ◌, inl, inr, Bool, true, false, ◌&&◌, nat_lt, if◌then◌else◌, List, [], ◌∷◌, ◌++◌, length, map, get_or, refl, ap, sym, subst, ◌∙◌, arith}
+use Rattle.std.specs.List.{All, flat_map, range_with_len}
+use Rattle.std.proofs.Common.{Bor, ◌≡◌, ◌⊎◌, ℕ, zero, suc, ◌+◌, ◌-◌, ◌*◌, ◌/◌, ◌%◌, ◌<◌, ◌≤◌, ℤ, pos, ◌+ℤ◌, ◌≤ℤ◌, inl, inr, Bool, ◌&&◌, nat_lt, if◌then◌else◌, List, [], ◌∷◌, ◌++◌, length, map, get_or, refl, ap, sym, ◌∙◌, arith}
 use Rattle.std.proofs.lemmas.Bool.{lt-ltb, le-ltb}
 use Rattle.std.proofs.lemmas.Int.{ints}
 use Rattle.std.proofs.lemmas.List.{length-map, get_or-map, map-append}
 use Rattle.std.proofs.lemmas.Nat.{div-mul-add, mod-mul-add}
 use Rattle.std.proofs.lemmas.List.Elements.{All-from_get_or, All-get_or}
 use Rattle.std.proofs.lemmas.List.FromFn.{length-range_with_len, get_or-range_with_len}
-use Rattle.f2_vec.proofs.Combinations.{map-map, map_same, map_same_all}
+use Rattle.f2_vec.proofs.Combinations.{map_same, map_same_all}
 use Rattle.milnor_basis.specs.Exponents.{degree_of, IsTrimmed}
-use Rattle.milnor_basis.specs.Basis.{basis_of}
-use Rattle.milnor_basis.proofs.BasisLemmas.{All-basis_of}
+use Rattle.milnor_basis.proofs.Ranges.{range-split}
 use Rattle.hopf_laws.specs.Actions.{Action, shifted, sum, tensor, dual}
 use Rattle.hopf_laws.specs.Conjugate.{conjugate}
-use Rattle.hopf_laws.proofs.Splittings.{All-flat_map, All-of_all}
+use Rattle.hopf_laws.proofs.Splittings.{All-of_all}
 use Rattle.module_json.specs.ModuleFile.{Generator, degree_at}
 use Rattle.module_json.specs.WellFormed.{NeverFall}
-use Rattle.finite_module.specs.Module.{Module, generators_in}
+use Rattle.finite_module.specs.Module.{generators_in}
 use Rattle.finite_module.specs.DerivedAction.{elements, span}
 use Rattle.finite_module.specs.Checked.{Checked}
 use Rattle.finite_module.specs.ModuleLaws.{generators_in-member}
@@ -29,20 +28,16 @@ use Rattle.module_build.specs.Names.{numbered_name}
 use Rattle.module_build.specs.declared.order.Placed.{Placed}
 use Rattle.module_build.specs.declared.construction.Construction.{Construction}
 use Rattle.module_build.specs.declared.construction.Construction.TheVariants.{Shift, Sum, Tensor, Dual}
-use Rattle.module_build.specs.Inside.Construction.{part_at, pair_at, size_of, degree_in, coefficient_in, placed, nowhere, order_of, number_at, degrees_of, generators_of, coefficient_by, made}
+use Rattle.module_build.specs.Inside.Construction.{part_at, pair_at, size_of, degree_in, coefficient_in, placed, nowhere, order_of, number_at, generators_of, coefficient_by, made}
 use Rattle.module_build.proofs.LimitCases.{length-generators_of}
+use Rattle.finite_module.proofs.Derived.{All-elements}
 
 -- ---- modules with the same coefficients
-
-elements_trimmed : (n : ℕ) → All IsTrimmed (elements n)
-elements_trimmed n =
-    All-flat_map IsTrimmed basis_of (λ k. 0 ≤ k) (range_with_len 0 n) (All-from_get_or (λ k. 0 ≤ k) (range_with_len 0 n) 0 (λ p l. omega arith))
-    (λ k l. All-of_all (λ r. IsTrimmed r × (degree_of r ≡ k)) IsTrimmed (basis_of k) (All-basis_of k) (λ r h. h.0))
 
 pub built-same : (gs : List Generator) (c d : List ℕ → ℕ → ℕ → Bool) → ((r : List ℕ) (i j : ℕ) → IsTrimmed r → i < length gs → j < length gs → c r i j ≡ d r i j) → built gs c ≡ built gs d
 built-same gs c d same =
     ap (λ operators. record { generators = gs; operators = operators })
-    (map_same_all IsTrimmed (operator_on gs c) (operator_on gs d) (elements (span gs + 1)) (elements_trimmed (span gs + 1)) (λ r h.
+    (map_same_all IsTrimmed (operator_on gs c) (operator_on gs d) (elements (span gs + 1)) (All-elements (span gs + 1)) (λ r h.
     map_same 0 (values_on gs c r) (values_on gs d r) (range_with_len 0 (length gs)) (λ p l.
     let i : ℕ = get_or (range_with_len 0 (length gs)) p 0 in
     let at : i ≡ p = get_or-range_with_len 0 (length gs) p 0 (omega (arith, length-range_with_len 0 (length gs))) ∙ omega arith in
@@ -150,16 +145,6 @@ module _ {X : Type 0} (c : Construction) (d : X) (a : Action X) (at : ℕ → X)
 map-itself : (xs : List ℕ) → xs ≡ map (λ k. k) xs
 map-itself [] = refl
 map-itself (x ∷ xs) = ap (λ ys. x ∷ ys) (map-itself xs)
-
-pub range-split : (a m n : ℕ) → range_with_len a (m + n) ≡ range_with_len a m ++ range_with_len (a + m) n
-range-split a zero n =
-    let e : 0 + n ≡ n = omega arith in
-    let f : a ≡ a + 0 = omega arith in
-    ap (range_with_len a) e ∙ ap (λ k. range_with_len k n) f
-range-split a (suc m) n =
-    let e : suc m + n ≡ suc (m + n) = omega arith in
-    let f : a + 1 + m ≡ a + suc m = omega arith in
-    ap (range_with_len a) e ∙ ap (λ xs. a ∷ xs) (range-split (a + 1) m n ∙ ap (λ k. range_with_len (a + 1) m ++ range_with_len k n) f)
 
 range-moved : {X : Type 0} (f : ℕ → X) (a b n : ℕ) → map f (range_with_len (a + b) n) ≡ map (λ k. f (a + k)) (range_with_len b n)
 range-moved f a b zero = refl

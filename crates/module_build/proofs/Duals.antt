@@ -1,12 +1,10 @@
 -- The operators of a dual, by those of lower degrees.
 use Rattle.std.specs.Prelude.{nat_le}
-use Rattle.std.specs.Cmp.Lexicographic.{pointwise}
 use Rattle.std.specs.List.{All, range_with_len}
 use Rattle.std.specs.Ordering.{int_eq}
-use Rattle.std.proofs.Common.{Bor, ◌≡◌, ◌≢◌, ℕ, zero, suc, ◌+◌, ◌-◌, ◌<◌, ◌≤◌, ℤ, pos, ◌+ℤ◌, ◌-ℤ◌, inl, inr, Bool, true, false, not, ◌&&◌, List, [], ◌∷◌, ◌++◌, length, map, take, get_or, refl, ap, sym, subst, ◌∙◌, arith}
-use Rattle.std.proofs.Math.Path.{fun_ext}
+use Rattle.std.proofs.Common.{◌≡◌, ◌≢◌, ℕ, ◌+◌, ◌-◌, ◌<◌, ◌≤◌, ℤ, pos, ◌+ℤ◌, ◌-ℤ◌, inl, inr, Bool, true, false, not, ◌&&◌, List, [], ◌∷◌, ◌++◌, length, map, take, get_or, refl, ap, sym, subst, ◌∙◌, arith}
 use Rattle.std.proofs.Math.Bool as Booleans
-use Rattle.std.proofs.lemmas.Bool.{cases_lt, and_right, false≢true}
+use Rattle.std.proofs.lemmas.Bool.{and_right, false≢true}
 use Rattle.std.proofs.lemmas.Bool.Decides.{Decides-int_eq}
 use Rattle.std.proofs.lemmas.Int.{ints}
 use Rattle.std.proofs.lemmas.List.FromFn.{length-range_with_len, get_or-range_with_len}
@@ -14,17 +12,18 @@ use Rattle.f2_vec.specs.Vectors.{plus, sum_of}
 use Rattle.f2_vec.proofs.Sums.{plus-false, sum_of-assoc, sum_of-zeros_right}
 use Rattle.f2_vec.proofs.Combinations.{map_same}
 use Rattle.milnor_basis.specs.Exponents.{degree_of, IsTrimmed}
-use Rattle.milnor_basis.specs.Product.{product_terms}
-use Rattle.milnor_basis.specs.Inside.Walk.{is_odd_below}
-use Rattle.milnor_basis.proofs.Parity.{odd_by, odd_by-append, odd_by-range, odd_by-same, is_odd_below-same}
+use Rattle.milnor_basis.specs.Product.{odd_by}
+use Rattle.milnor_basis.proofs.Parity.{odd_by-append, odd_by-range, odd_by-same, is_odd_below-same}
+use Rattle.milnor_basis.proofs.Ranges.{range-split}
 use Rattle.milnor_laws.proofs.SumsModTwo.{odd_by-and, odd_by-swap}
 use Rattle.milnor_laws.proofs.Associative.{odd_by-same_all}
 use Rattle.milnor_laws.proofs.Vectors.{zeros-map, sum_of-map}
+use Rattle.milnor_laws.proofs.UnitActs.{empty_or_positive}
 use Rattle.hopf_laws.specs.Actions.{Action, IsAction, dual}
 use Rattle.hopf_laws.specs.Conjugate.{conjugate, is_nothing}
 use Rattle.hopf_laws.specs.Diagonal.{splittings}
 use Rattle.hopf_laws.proofs.Splittings.{Pair, IsSplit, All-splittings}
-use Rattle.hopf_laws.proofs.Antipode.{Value, over, conjugate_exists, conjugate-unfolded, nothing_or_positive}
+use Rattle.hopf_laws.proofs.Antipode.{Value, over, conjugate_exists, conjugate-unfolded}
 use Rattle.hopf_laws.proofs.Cartan.{HasDegree}
 use Rattle.module_json.specs.ModuleFile.{Generator, degree_at}
 use Rattle.module_json.specs.WellFormed.{NeverFall}
@@ -32,7 +31,7 @@ use Rattle.finite_module.specs.Module.{Module, generators_in}
 use Rattle.finite_module.specs.DerivedAction.{span}
 use Rattle.finite_module.specs.ModuleLaws.{generators_in-member}
 use Rattle.finite_module.specs.Axioms.{IsModule}
-use Rattle.built_laws.specs.Built.{action_of, values_on}
+use Rattle.built_laws.specs.Built.{action_of}
 use Rattle.built_laws.proofs.Coordinates.{modules_are_actions, coefficient_elsewhere}
 use Rattle.built_laws.proofs.Values.{numbers-sum}
 use Rattle.module_build.specs.declared.order.Placed.{Placed}
@@ -40,7 +39,7 @@ use Rattle.module_build.specs.declared.splittings.Splitting.{Splitting}
 use Rattle.module_build.specs.Inside.Splittings.{sum_over, AreSplittings, IsSplitting}
 use Rattle.module_build.specs.Inside.Construction.{number_at, dual_by, dual_term, proper_term, IsDualOrder}
 use Rattle.module_build.proofs.SplittingLists.{degree-splitting}
-use Rattle.module_build.proofs.Constructed.{range_below, range-split}
+use Rattle.module_build.proofs.Constructed.{range_below}
 use Rattle.module_build.proofs.Entries.{none_above_span, sum_more}
 
 -- ---- the equation of the conjugate, on a module
@@ -190,7 +189,7 @@ no_left a e = ap is_nothing e
 
 -- the right part of a splitting with something on the left is of a lower degree
 pub right_below : (r : List ℕ) (s : Splitting) → IsSplitting r s → s.left ≢ [] → degree_of s.right < degree_of r
-right_below r s h d = elim (nothing_or_positive s.left h.left) [
+right_below r s h d = elim (empty_or_positive s.left h.left) [
   | inl e ↦ absurd (d e)
   | inr l ↦ omega (arith, degree-splitting r s.left s.right h.whole)
 ]

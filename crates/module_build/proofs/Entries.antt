@@ -1,15 +1,15 @@
 -- The coefficients of Sq(R) on generators, as the program finds them.
 use Rattle.std.specs.Prelude.{nat_eq, nat_lt}
 use Rattle.std.specs.List.{range_with_len}
-use Rattle.std.proofs.Common.{◌≡◌, ◌≢◌, ℕ, zero, suc, ◌+◌, ◌-◌, ◌<◌, ◌≤◌, ℤ, pos, ◌+ℤ◌, inl, inr, Bool, true, false, ◌&&◌, if◌then◌else◌, List, [], ◌∷◌, ◌++◌, length, map, take, get_or, refl, sym, ◌∙◌, ap, arith}
-use Rattle.std.proofs.lemmas.Bool.{cases_eq, eq-eqb, ne_eqb, lt-ltb, and_left}
-use Rattle.std.proofs.lemmas.Int.{ints}
-use Rattle.std.proofs.lemmas.List.{take_more, take_all}
-use Rattle.std.proofs.lemmas.List.FromFn.{length-range_with_len, map-range_with_len_more}
+use Rattle.std.proofs.Common.{◌≡◌, ◌≢◌, ℕ, zero, suc, ◌+◌, ◌-◌, ◌<◌, ◌≤◌, ℤ, pos, ◌+ℤ◌, inl, inr, Bool, true, false, ◌&&◌, if◌then◌else◌, List, [], ◌∷◌, ◌++◌, length, take, get_or, refl, sym, ◌∙◌, ap, arith}
+use Rattle.std.proofs.lemmas.Bool.{cases_eq, eq-eqb, ne_eqb, lt-ltb}
+use Rattle.std.proofs.lemmas.List.{take_more}
+use Rattle.std.proofs.lemmas.List.FromFn.{length-range_with_len}
 use Rattle.f2_vec.specs.Vectors.{plus, zeros}
 use Rattle.f2_vec.proofs.Sums.{plus-false}
-use Rattle.milnor_basis.specs.Exponents.{degree_of, IsTrimmed}
-use Rattle.milnor_basis.proofs.Parity.{odd_by, odd_by-append}
+use Rattle.milnor_basis.specs.Exponents.{degree_of}
+use Rattle.milnor_basis.specs.Product.{odd_by}
+use Rattle.milnor_basis.proofs.Parity.{odd_by-append}
 use Rattle.module_json.specs.ModuleFile.{Generator, degree_at}
 use Rattle.module_json.specs.WellFormed.{NeverFall}
 use Rattle.finite_module.specs.Module.{Module, generators_in, width}
@@ -96,10 +96,3 @@ sum_more f xs k s odd l e is =
     ∙ ap (plus (sum_over f (take k xs))) (sym (plus-false (f (s.left, s.right))))
     ∙ sym (odd_by-append (λ s. f (s.left, s.right)) (take k xs) (s ∷ []))
     ∙ ap (λ ys. odd_by (λ s. f (s.left, s.right)) ys) (ap (λ z. take k xs ++ z ∷ []) e ∙ sym (take_more xs k s l))
-
--- one coordinate more
-pub map_more : (f : ℕ → Bool) (start j : ℕ) (v w : List Bool) (b : Bool) → start ≤ j → v ≡ map f (range_with_len start (j - start)) → b ≡ f j → w ≡ v ++ b ∷ [] → w ≡ map f (range_with_len start (j + 1 - start))
-map_more f start j v w b l before here pushed =
-    let e : j - start + 1 ≡ j + 1 - start = omega arith in
-    pushed ∙ ap (λ xs. xs ++ b ∷ []) before ∙ ap (λ x. map f (range_with_len start (j - start)) ++ x ∷ []) here
-    ∙ sym (map-range_with_len_more f start (j - start) j (omega arith)) ∙ ap (λ n. map f (range_with_len start n)) e

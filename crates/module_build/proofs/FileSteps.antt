@@ -1,6 +1,6 @@
 -- The file of a module as it is written, item by item.
 use Rattle.std.specs.List.{All, flat_map, range_with_len, list_any}
-use Rattle.std.proofs.Common.{◌≡◌, ℕ, zero, suc, ◌+◌, ◌<◌, pos, ◌+ℤ◌, Bool, true, false, if◌then◌else◌, List, [], ◌∷◌, ◌++◌, length, map, take, get_or, codes, decimal, append_assoc, append-nil, refl, ap, sym, ◌∙◌, arith}
+use Rattle.std.proofs.Common.{◌≡◌, ℕ, suc, ◌+◌, ◌<◌, pos, ◌+ℤ◌, Bool, true, false, if◌then◌else◌, List, [], ◌∷◌, ◌++◌, length, map, take, get_or, codes, decimal, append_assoc, append-nil, refl, ap, sym, ◌∙◌, arith}
 use Rattle.std.proofs.lemmas.Grind.{flat_map-append}
 use Rattle.std.proofs.lemmas.List.{take_more, map-append}
 use Rattle.std.proofs.lemmas.List.Elements.{All-cons, All-nil, All-from_get_or}
@@ -13,6 +13,7 @@ use Rattle.finite_module.specs.Axioms.{value_of}
 use Rattle.finite_module.specs.Text.{name_at, sum_text, powers}
 use Rattle.module_build.specs.FileText.{quoted, joined_by_comma, member, action_text, action_of_square, actions}
 use Rattle.module_build.specs.Inside.Written.{after_comma, written_after}
+use Rattle.finite_module.proofs.TextSteps.{any_none, any_some}
 
 -- ---- items
 
@@ -77,20 +78,6 @@ joined_actions m =
     at i n false = All-nil IsSome
 
 -- ---- one square
-
-any_none : (v : List Bool) → IsZero v → list_any (λ b. b) v ≡ false
-any_none [] z = refl
-any_none (true ∷ v) z = z 0
-any_none (false ∷ v) z = any_none v (λ k. z (suc k))
-
-any_some : (v : List Bool) → ¬ IsZero v → list_any (λ b. b) v ≡ true
-any_some [] h = absurd (h (λ k. refl))
-any_some (true ∷ v) h = refl
-any_some (false ∷ v) h = any_some v (λ z. h (before z))
-  where
-    before : IsZero v → IsZero (false ∷ v)
-    before z zero = refl
-    before z (suc k) = z k
 
 pub action_none : (m : Module) (i n : ℕ) (r : List ℕ) (v : List Bool) → r ≡ n ∷ [] → v ≡ value_of m r i → IsZero v → action_of_square m i n ≡ []
 action_none m i n r v f e z =

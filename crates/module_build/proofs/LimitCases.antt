@@ -6,7 +6,7 @@ use Rattle.std.proofs.lemmas.Bool.{and_parts}
 use Rattle.std.proofs.lemmas.Int.{ints}
 use Rattle.std.proofs.lemmas.List.{length-map, get_or-map, take_more, length-take-le}
 use Rattle.std.proofs.lemmas.List.Folds.{list_all-map}
-use Rattle.module_json.specs.ModuleFile.{Generator, no_generator, by_degree, within_limit}
+use Rattle.module_json.specs.ModuleFile.{Generator, no_generator, by_degree, within_limit, is_near}
 use Rattle.module_json.proofs.Sorting.{sorted_by-rising}
 use Rattle.module_json.specs.WellFormed.{NeverFall, AreByDegree}
 use Rattle.module_json.specs.declared.limits.TheConstants.{MAX_GENERATORS, MAX_DEGREE, MAX_SPAN}
@@ -27,19 +27,19 @@ abbrev pub within_of : List Placed → Bool
 within_of ps = list_all (λ p. within_limit p.degree) ps
 
 abbrev pub near_of : List Placed → Bool
-near_of ps = list_all (λ p. list_all (λ q. int_le p.degree (q.degree +ℤ pos MAX_SPAN)) ps) ps
+near_of ps = list_all (λ p. list_all (λ q. is_near p.degree q.degree) ps) ps
 
 le_true : (a b : ℕ) → a ≤ b → nat_le a b ≡ true
 le_true a b l = grind arith
 
 near_is : (ps : List Placed) → are_near (degrees_of ps) ≡ near_of ps
 near_is ps =
-    list_all-map (λ d. list_all (λ e. int_le d (e +ℤ pos MAX_SPAN)) (degrees_of ps)) (λ p. p.degree) ps
+    list_all-map (λ d. list_all (λ e. is_near d e) (degrees_of ps)) (λ p. p.degree) ps
     ∙ same ps
   where
-    same : (qs : List Placed) → list_all (λ p. list_all (λ e. int_le p.degree (e +ℤ pos MAX_SPAN)) (degrees_of ps)) qs ≡ list_all (λ p. list_all (λ q. int_le p.degree (q.degree +ℤ pos MAX_SPAN)) ps) qs
+    same : (qs : List Placed) → list_all (λ p. list_all (λ e. is_near p.degree e) (degrees_of ps)) qs ≡ list_all (λ p. list_all (λ q. is_near p.degree q.degree) ps) qs
     same [] = refl
-    same (q ∷ qs) = ap (λ b. b && list_all (λ p. list_all (λ e. int_le p.degree (e +ℤ pos MAX_SPAN)) (degrees_of ps)) qs) (list_all-map (λ e. int_le q.degree (e +ℤ pos MAX_SPAN)) (λ p. p.degree) ps) ∙ ap (λ b. list_all (λ r. int_le q.degree (r.degree +ℤ pos MAX_SPAN)) ps && b) (same qs)
+    same (q ∷ qs) = ap (λ b. b && list_all (λ p. list_all (λ e. is_near p.degree e) (degrees_of ps)) qs) (list_all-map (λ e. is_near q.degree e) (λ p. p.degree) ps) ∙ ap (λ b. list_all (λ r. is_near q.degree r.degree) ps && b) (same qs)
 
 few : (ps : List Placed) → length ps ≤ MAX_GENERATORS → limit_of (degrees_of ps) ≡ option_or (unless (within_of ps) Degree) (unless (near_of ps) Span)
 few ps l =
@@ -98,7 +98,7 @@ pub placed_within : (ps : List Placed) (i : ℕ) → limit_of (degrees_of ps) �
 placed_within ps i e l = subst IsWithin (get_or-map (λ (p : Placed). p.degree) ps i nowhere (pos 0) l) (degree_within (degrees_of ps) i (pos 0) (keeps_limits (degrees_of ps) e) (omega (arith, length-map ps (λ (p : Placed). p.degree))))
 
 near_at : (ds : List ℤ) (i j : ℕ) (d : ℤ) → KeepsLimits ds → i < length ds → j < length ds → get_or ds j d ≤ℤ (get_or ds i d +ℤ pos MAX_SPAN)
-near_at ds i j d k l m = at (get_or ds j d) (get_or ds i d +ℤ pos MAX_SPAN) (all_at (λ e. int_le (get_or ds j d) (e +ℤ pos MAX_SPAN)) ds i d (all_at (λ c. list_all (λ e. int_le c (e +ℤ pos MAX_SPAN)) ds) ds j d k.near m) l)
+near_at ds i j d k l m = at (get_or ds j d) (get_or ds i d +ℤ pos MAX_SPAN) (all_at (is_near (get_or ds j d)) ds i d (all_at (λ c. list_all (is_near c) ds) ds j d k.near m) l)
   where
     at : (a b : ℤ) → int_le a b ≡ true → a ≤ℤ b
     at a b e = grind (arith, ints)

@@ -2,10 +2,10 @@
 use Rattle.std.specs.Prelude.{◌⊎◌, nat_eq, nat_le, nat_lt, slice_set}
 use Rattle.std.specs.Cmp.Lexicographic.{bytes_decides, pointwise}
 use Rattle.std.specs.List.{All}
-use Rattle.std.proofs.Common.{◌≡◌, ◌≢◌, ℕ, zero, suc, ◌+◌, ◌-◌, ◌*◌, ◌^◌, ◌<◌, ◌≤◌, inl, inr, Bool, true, false, ◌&&◌, List, [], ◌∷◌, ◌++◌, length, map, take, get_or, refl, sym, ◌∙◌, ap, subst, arith}
+use Rattle.std.proofs.Common.{◌≡◌, ◌≢◌, ℕ, suc, ◌+◌, ◌-◌, ◌*◌, ◌^◌, ◌<◌, ◌≤◌, inl, inr, Bool, true, false, ◌&&◌, List, [], ◌∷◌, ◌++◌, length, take, get_or, refl, sym, ◌∙◌, ap, subst, arith}
 use Rattle.std.proofs.lemmas.List.{take_more, take_all, get_or-set_same, get_or-set_other}
 use Rattle.std.proofs.lemmas.List.Elements.{All-append, All-cons, All-nil}
-use Rattle.std.proofs.lemmas.Bool.{cases_eq, cases_lt, and_from, and_left, and_parts, cases_Bool, eq-eqb, eqb-true, ne_eqb, false_from_ne_true, lt-ltb, le-ltb}
+use Rattle.std.proofs.lemmas.Bool.{cases_eq, cases_lt, and_left, eq-eqb, eqb-true, ne_eqb, false_from_ne_true, lt-ltb, le-ltb, leb-true}
 use Rattle.std.proofs.Math.Bool as Booleans
 use Rattle.f2_vec.specs.Vectors.{plus}
 use Rattle.f2_vec.proofs.Sums.{plus-assoc, plus-false}
@@ -13,12 +13,14 @@ use Rattle.milnor_basis.specs.Exponents.{entry, degree_from, degree_of, trimmed,
 use Rattle.milnor_basis.specs.Basis.{basis_of}
 use Rattle.milnor_basis.proofs.BasisLemmas.{All-basis_of}
 use Rattle.milnor_basis.proofs.ExponentLemmas.{entry_past, entry-trimmed, IsTrimmed-trimmed, same_answers, trimmed-same}
-use Rattle.milnor_basis.proofs.Parity.{odd_by, odd_by-append, odd_by-same}
+use Rattle.milnor_basis.specs.Product.{odd_by}
+use Rattle.milnor_basis.proofs.Parity.{odd_by-append, odd_by-same}
 use Rattle.milnor_laws.proofs.SumsModTwo.{odd_by-and, odd_by-none, odd_by-plus, odd_by-swap}
 use Rattle.milnor_laws.proofs.Associative.{odd_by-same_all, once_in_basis}
 use Rattle.hopf_laws.specs.Diagonal.{splittings, added}
 use Rattle.hopf_laws.proofs.Splittings.{Pair, IsSplit, All-splittings, All-whole}
-use Rattle.hopf_laws.proofs.Cartan.{same_pair, same_pair-sound, splitting_count, entry-added, IsTrimmed-added, length-left}
+use Rattle.hopf_laws.proofs.Cartan.{same_pair, splitting_count, entry-added, IsTrimmed-added, length-left}
+use Rattle.hopf_laws.proofs.Antipode.{pointwise-turned}
 use Rattle.module_build.specs.declared.splittings.Splitting.{Splitting}
 use Rattle.module_build.specs.Inside.Splittings.{sum_over, AddsDegree, AddsLeft}
 
@@ -78,17 +80,18 @@ no_splittings P = All-nil P
 abbrev pub with_left : List ℕ → (Pair → Bool) → List ℕ → Bool
 with_left r f a = odd_by (λ p. pointwise nat_eq a p.0 && f p) (splittings r)
 
+-- the parts of splittings and their sums
+All-parts : (r : List ℕ) → All (λ p. IsSplit 1 r p × ((j : ℕ) → entry p.0 j + entry p.1 j ≡ entry r j)) (splittings r)
+All-parts r i d l = (All-splittings 1 r i d l, All-whole r i d l)
+
 pub with_left-one : (r a b : List ℕ) (f : Pair → Bool) → IsTrimmed r → IsTrimmed a → IsTrimmed b → added a b ≡ r → with_left r f a ≡ f (a, b)
 with_left-one r a b f hr ha hb e =
-    odd_by-same_all (λ p. IsSplit 1 r p × ((j : ℕ) → entry p.0 j + entry p.1 j ≡ entry r j)) (λ p. pointwise nat_eq a p.0 && f p) (λ p. f (a, b) && same_pair (a, b) p) (splittings r) (All-both (splittings r) (All-splittings 1 r) (All-whole r))
+    odd_by-same_all (λ p. IsSplit 1 r p × ((j : ℕ) → entry p.0 j + entry p.1 j ≡ entry r j)) (λ p. pointwise nat_eq a p.0 && f p) (λ p. f (a, b) && same_pair (a, b) p) (splittings r) (All-parts r)
     (λ p h. at p h.0 h.1 (pointwise nat_eq a p.0) refl)
     ∙ odd_by-and (f (a, b)) (same_pair (a, b)) (splittings r)
     ∙ ap (λ x. f (a, b) && x) (splitting_count (a, b) ha hb r hr ∙ (bytes_decides (added a b) r).1 e)
     ∙ Booleans.and-true (f (a, b))
   where
-    All-both : (xs : List Pair) → All (IsSplit 1 r) xs → All (λ p. (j : ℕ) → entry p.0 j + entry p.1 j ≡ entry r j) xs → All (λ p. IsSplit 1 r p × ((j : ℕ) → entry p.0 j + entry p.1 j ≡ entry r j)) xs
-    All-both xs h k i d l = (h i d l, k i d l)
-
     at : (p : Pair) → IsSplit 1 r p → ((j : ℕ) → entry p.0 j + entry p.1 j ≡ entry r j) → (c : Bool) → pointwise nat_eq a p.0 ≡ c → (c && f p) ≡ (f (a, b) && (c && pointwise nat_eq b p.1))
     at p h k true g =
         let first : a ≡ p.0 = (bytes_decides a p.0).0 g in
@@ -98,19 +101,13 @@ with_left-one r a b f hr ha hb e =
 
 pub with_left-none : (r a : List ℕ) (f : Pair → Bool) → IsTrimmed r → IsTrimmed a → ((b : List ℕ) → added a b ≢ r) → with_left r f a ≡ false
 with_left-none r a f hr ha none =
-    odd_by-same_all (λ p. IsSplit 1 r p × ((j : ℕ) → entry p.0 j + entry p.1 j ≡ entry r j)) (λ p. pointwise nat_eq a p.0 && f p) (λ p. false) (splittings r) (All-both (splittings r) (All-splittings 1 r) (All-whole r))
+    odd_by-same_all (λ p. IsSplit 1 r p × ((j : ℕ) → entry p.0 j + entry p.1 j ≡ entry r j)) (λ p. pointwise nat_eq a p.0 && f p) (λ p. false) (splittings r) (All-parts r)
     (λ p h. let left = h.0 in and_left (pointwise nat_eq a p.0) (f p) (false_from_ne_true (pointwise nat_eq a p.0) (λ g.
     let first : a ≡ p.0 = (bytes_decides a p.0).0 g in
     none p.1 (sym (IsTrimmed-added a p.1 ha left.right) ∙ trimmed-same (added a p.1) r (λ j. entry-added a p.1 j ∙ ap (λ z. entry z j + entry p.1 j) first ∙ h.1 j) ∙ hr))))
     ∙ odd_by-none (λ p. false) (splittings r) (λ p. refl)
-  where
-    All-both : (xs : List Pair) → All (IsSplit 1 r) xs → All (λ p. (j : ℕ) → entry p.0 j + entry p.1 j ≡ entry r j) xs → All (λ p. IsSplit 1 r p × ((j : ℕ) → entry p.0 j + entry p.1 j ≡ entry r j)) xs
-    All-both xs h k i d l = (h i d l, k i d l)
 
 -- ---- one degree
-
-pointwise-turned : (a b : List ℕ) → pointwise nat_eq a b ≡ pointwise nat_eq b a
-pointwise-turned a b = same_answers (pointwise nat_eq a b) (pointwise nat_eq b a) (λ h. (bytes_decides b a).1 (sym ((bytes_decides a b).0 h))) (λ h. (bytes_decides a b).1 (sym ((bytes_decides b a).0 h)))
 
 in_basis : (n : ℕ) (r : List ℕ) → IsTrimmed r → odd_by (λ a. pointwise nat_eq a r) (basis_of n) ≡ nat_eq (degree_of r) n
 in_basis n r h = at (nat_eq (degree_of r) n) refl
@@ -153,9 +150,6 @@ from first f p = nat_le first (degree_of p.0) && f p
 leb : (a b : ℕ) → a ≤ b → nat_le a b ≡ true
 leb a b l = grind arith
 
-leb_true : (a b : ℕ) → nat_le a b ≡ true → a ≤ b
-leb_true a b e = grind arith
-
 not_leb : (a b : ℕ) → b < a → nat_le a b ≡ false
 not_leb a b l = grind arith
 
@@ -188,8 +182,8 @@ degrees_all n first last max r f lo few hi low high =
     at : (p : Pair) → IsSplit 1 r p → (b : Bool) → nat_le first (degree_of p.0) ≡ b → (nat_lt (degree_of p.0) n && (b && f p)) ≡ (nat_le (degree_of p.0) max && (b && f p))
     at p h false g = Booleans.and-false (nat_lt (degree_of p.0) n) ∙ sym (Booleans.and-false (nat_le (degree_of p.0) max))
     at p h true g =
-        ap (λ x. x && f p) (same_answers (nat_lt (degree_of p.0) n) (nat_le (degree_of p.0) max) (λ e. leb (degree_of p.0) max (within p (leb_true first (degree_of p.0) g) (ltb_true (degree_of p.0) n e)))
-        (λ e. let l = leb_true (degree_of p.0) max e in let d = h.degree in lt-ltb (degree_of p.0) n (elim (cases_lt max (degree_of r)) [ inl past ↦ let g = high (omega arith) in omega arith | inr within ↦ let g = low within in omega arith ])))
+        ap (λ x. x && f p) (same_answers (nat_lt (degree_of p.0) n) (nat_le (degree_of p.0) max) (λ e. leb (degree_of p.0) max (within p (leb-true first (degree_of p.0) g) (ltb_true (degree_of p.0) n e)))
+        (λ e. let l = leb-true (degree_of p.0) max e in let d = h.degree in lt-ltb (degree_of p.0) n (elim (cases_lt max (degree_of r)) [ inl past ↦ let g = high (omega arith) in omega arith | inr within ↦ let g = low within in omega arith ])))
 
 -- ---- lists
 

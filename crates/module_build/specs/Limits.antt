@@ -1,9 +1,9 @@
 -- The limits that a module which is made must keep: those of module files.
-use Rattle.std.specs.Prelude.{ℕ, ℤ, pos, ◌+ℤ◌, int_le, nat_le, Bool, if◌then◌else◌, List, length, map, Option, Some, None}
+use Rattle.std.specs.Prelude.{ℕ, ℤ, nat_le, Bool, if◌then◌else◌, List, length, map, Option, Some, None}
 use Rattle.std.specs.List.{list_all}
 use Rattle.std.specs.Option.{option_or}
-use Rattle.module_json.specs.ModuleFile.{Generator, within_limit}
-use Rattle.module_json.specs.declared.limits.TheConstants.{MAX_GENERATORS, MAX_SPAN}
+use Rattle.module_json.specs.ModuleFile.{Generator, within_limit, is_near}
+use Rattle.module_json.specs.declared.limits.TheConstants.{MAX_GENERATORS}
 use Rattle.module_json.specs.declared.malformed.What.{What}
 use Rattle.module_json.specs.declared.malformed.What.TheVariants.{Gens, Degree, Span}
 use Rattle.module_build.specs.declared.fault.BuildFault.{BuildFault}
@@ -11,7 +11,7 @@ use Rattle.module_build.specs.declared.fault.BuildFault.TheVariants.{Limit}
 
 -- no degree lies more than the greatest span above another
 abbrev pub are_near : List ℤ → Bool
-are_near ds = list_all (λ d. list_all (λ e. int_le d (e +ℤ pos MAX_SPAN)) ds) ds
+are_near ds = list_all (λ d. list_all (λ e. is_near d e) ds) ds
 
 abbrev pub unless : Bool → What → Option BuildFault
 unless b what = if b then None else Some (Limit what)

@@ -5,13 +5,10 @@ ghost use Rattle.finite_module.specs.Text.{powers};
 ghost use Rattle.module_build.specs.FileText.{escaped, quoted, member, action_text, action_of_square, actions, file_text};
 ghost use Rattle.module_build.specs.Inside.Written.{after_comma, written_after};
 
-use finite_module::{Module, sq};
+use finite_module::{Module, POWERS, sq};
 use itoa::Buffer;
 use memory::Memory;
 use std::alloc::Global;
-
-/// The powers of two that a difference of two degrees can be.
-const POWERS: [u16; 7] = [1, 2, 4, 8, 16, 32, 64];
 
 /// The module file that describes a module: its generators, and the squares Sq^n, n a power of two, that are not zero, in one line.
 ///

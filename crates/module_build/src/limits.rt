@@ -1,14 +1,13 @@
 //! The limits that a module which is made must keep.
-ghost use Rattle.std.specs.Prelude.{◌≡◌, ◌+ℤ◌, pos, int_le};
+ghost use Rattle.std.specs.Prelude.{◌≡◌};
 ghost use Rattle.std.specs.List.{list_all};
-ghost use Rattle.module_json.specs.ModuleFile.{within_limit};
-ghost use Rattle.module_json.specs.declared.limits.TheConstants.{MAX_SPAN};
+ghost use Rattle.module_json.specs.ModuleFile.{within_limit, is_near};
 ghost use Rattle.module_build.specs.Limits.{limit_of};
 ghost use Rattle.module_build.specs.Inside.Construction.{degrees_of};
 
 use crate::fault::BuildFault;
 use crate::order::Placed;
-use module_json::{MAX_DEGREE, MAX_GENERATORS, MAX_SPAN, What};
+use module_json::{MAX_GENERATORS, What, is_degree, is_near};
 
 /// The first limit that a basis passes: how many elements it has, or else a degree, or else how far apart degrees lie. The
 /// limits are looked at before any operator is made, on degrees of 64 bits.
@@ -33,28 +32,21 @@ pub(crate) fn limit_passed(basis: &[Placed]) -> Option<BuildFault>
 fn are_within(basis: &[Placed]) -> bool
     ensures { result ≡ list_all (λ p. within_limit p.degree) basis.now }
 {
-    basis.iter().all(|placed| is_within(placed.degree))
-}
-
-/// Whether a generator may have this degree.
-fn is_within(degree: i64) -> bool
-    ensures { result ≡ within_limit degree }
-{
-    let greatest = i64::from(MAX_DEGREE);
-    -greatest <= degree && degree <= greatest
+    basis.iter().all(|placed| is_degree(placed.degree))
 }
 
 /// Whether no degree of a basis lies more than the greatest span above another.
 fn are_near(basis: &[Placed]) -> bool
-    ensures { result ≡ list_all (λ p. list_all (λ q. int_le p.degree (q.degree +ℤ pos MAX_SPAN)) basis.now) basis.now }
+    ensures { result ≡ list_all (λ p. list_all (λ q. is_near p.degree q.degree) basis.now) basis.now }
 {
-    basis.iter().all(|placed| is_near(basis, placed.degree))
+    basis
+        .iter()
+        .all(|placed| is_near_each(basis, placed.degree))
 }
 
 /// Whether a degree lies at most the greatest span above each one of a basis.
-fn is_near(basis: &[Placed], degree: i64) -> bool
-    ensures { result ≡ list_all (λ q. int_le degree (q.degree +ℤ pos MAX_SPAN)) basis.now }
+fn is_near_each(basis: &[Placed], degree: i64) -> bool
+    ensures { result ≡ list_all (λ q. is_near degree q.degree) basis.now }
 {
-    basis.iter().all(|placed| i128::from(degree)
-        <= i128::from(placed.degree) + i128::from(MAX_SPAN))
+    basis.iter().all(|placed| is_near(degree, placed.degree))
 }

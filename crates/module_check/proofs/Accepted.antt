@@ -18,8 +18,9 @@ use Rattle.module_check.specs.Acceptance.{first_in, relation_on, relation_of, re
 use Rattle.module_check.specs.declared.fault.CheckFault.TheVariants.{Relation}
 use Rattle.finite_module.proofs.AboveSpan.{width_above_span}
 use Rattle.finite_module.proofs.Derived.{derived_widths, derived_identity}
+use Rattle.finite_module.proofs.Values.{both_empty}
 use Rattle.module_check.proofs.FirstIn.{option_or_none}
-use Rattle.module_check.proofs.Sides.{same_vectors, length-one_by_one, length-by_their_product, both_empty}
+use Rattle.module_check.proofs.Sides.{same_vectors, length-one_by_one, length-by_their_product}
 
 -- a function that gives no answer on a list gives none at an element
 pub first_in_none : {A B : Type 0} (f : A → Option B) (xs : List A) → first_in f xs ≡ None → (k : ℕ) (d : A) → k < length xs → f (get_or xs k d) ≡ None

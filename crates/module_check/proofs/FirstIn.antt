@@ -1,5 +1,5 @@
 -- The first answer of a function on a list, element by element.
-use Rattle.std.proofs.Common.{◌≡◌, ℕ, zero, suc, ◌+◌, ◌-◌, ◌<◌, ◌≤◌, Bool, true, false, cond, List, [], ◌∷◌, ◌++◌, length, take, drop, get_or, filter, All, Option, Some, None, refl, ap, sym, ◌∙◌, arith}
+use Rattle.std.proofs.Common.{◌≡◌, ℕ, suc, ◌+◌, ◌-◌, ◌<◌, ◌≤◌, Bool, true, false, cond, List, [], ◌∷◌, ◌++◌, length, take, drop, get_or, filter, All, Option, Some, None, refl, ap, sym, ◌∙◌, arith}
 use Rattle.std.specs.Option.{option_or}
 use Rattle.std.specs.List.{range_with_len}
 use Rattle.std.proofs.Math.Seq.{drop-cons}
@@ -7,6 +7,7 @@ use Rattle.std.proofs.lemmas.List.{take_more, take_all, take-append-drop}
 use Rattle.std.proofs.lemmas.List.Elements.{All-head, All-tail}
 use Rattle.f2_vec.proofs.Ones.{range_more}
 use Rattle.module_check.specs.Acceptance.{first_in}
+use Rattle.milnor_basis.proofs.Ranges.{range-split}
 
 pub option_or_none : {A : Type 0} (o p : Option A) → option_or o p ≡ None → (o ≡ None) × (p ≡ None)
 option_or_none None p h = (refl, h)
@@ -55,21 +56,11 @@ pub first_in_range_more : {B : Type 0} (f : ℕ → Option B) (a k j : ℕ) → 
 first_in_range_more f a k j e before here =
     ap (first_in f) (range_more a k j e) ∙ first_in-append f (range_with_len a k) (j ∷ []) ∙ ap (λ o. option_or o (option_or (f j) None)) before ∙ ap (λ o. option_or o None) here
 
-range_split : (a k m : ℕ) → range_with_len a (k + m) ≡ range_with_len a k ++ range_with_len (a + k) m
-range_split a zero m =
-    let e : 0 + m ≡ m = omega arith in
-    let g : a ≡ a + 0 = omega arith in
-    ap (range_with_len a) e ∙ ap (λ b. range_with_len b m) g
-range_split a (suc k) m =
-    let e : suc k + m ≡ suc (k + m) = omega arith in
-    let g : a + 1 + k ≡ a + suc k = omega arith in
-    ap (range_with_len a) e ∙ ap (λ xs. a ∷ xs) (range_split (a + 1) k m) ∙ ap (λ b. a ∷ (range_with_len (a + 1) k ++ range_with_len b m)) g
-
 pub first_in_range_found : {B : Type 0} (f : ℕ → Option B) (a n k j : ℕ) (b : B) → k < n → a + k ≡ j → first_in f (range_with_len a k) ≡ None → f j ≡ Some b → first_in f (range_with_len a n) ≡ Some b
 first_in_range_found f a n k j b l e before here =
     let whole : n ≡ k + suc (n - k - 1) = omega arith in
     let rest = range_with_len (j + 1) (n - k - 1) in
-    let split : range_with_len a n ≡ range_with_len a k ++ (j ∷ rest) = ap (range_with_len a) whole ∙ range_split a k (suc (n - k - 1)) ∙ ap (λ c. range_with_len a k ++ range_with_len c (suc (n - k - 1))) e in
+    let split : range_with_len a n ≡ range_with_len a k ++ (j ∷ rest) = ap (range_with_len a) whole ∙ range-split a k (suc (n - k - 1)) ∙ ap (λ c. range_with_len a k ++ range_with_len c (suc (n - k - 1))) e in
     ap (first_in f) split ∙ first_in-append f (range_with_len a k) (j ∷ rest) ∙ ap (λ o. option_or o (option_or (f j) (first_in f rest))) before ∙ ap (λ o. option_or o (first_in f rest)) here
 
 -- elements that a test leaves out, where there is no answer

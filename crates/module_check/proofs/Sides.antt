@@ -28,7 +28,7 @@ use Rattle.finite_module.specs.Operators.{HaveWidths}
 use Rattle.finite_module.specs.Operators.{value_at}
 use Rattle.module_check.specs.Inside.Relations.{reaches, reaching, added}
 use Rattle.module_check.specs.declared.fault.CheckFault.TheVariants.{Relation}
-use Rattle.finite_module.proofs.Values.{total_push}
+use Rattle.finite_module.proofs.Values.{total_push, both_empty}
 use Rattle.module_check.proofs.FirstIn.{first_in-filter, first_in_nothing}
 use Rattle.finite_module.proofs.Widths.{length-total, length-act_on, terms_of_degree}
 
@@ -48,11 +48,6 @@ length-by_their_product m r s i n h e =
     (HaveWidth-map_where (λ t. IsTrimmed t × (degree_of t ≡ degree_of r + degree_of s)) w (λ t. value m.generators m.operators t i) (product_terms r s)
     (λ t own. h t i ∙ ap (λ k. width m.generators (degree_at m.generators i +ℤ pos k)) own.1) (terms_of_degree r s))
     ∙ ap (λ k. width m.generators (degree_at m.generators i +ℤ pos k)) e
-
-pub both_empty : (v w : List Bool) → length v ≡ 0 → length w ≡ 0 → v ≡ w
-both_empty [] [] a b = refl
-both_empty [] (y ∷ w) a b = cc
-both_empty (x ∷ v) w a b = cc
 
 -- ---- one term more
 

@@ -1,5 +1,5 @@
 -- What holds of the basis of generators that are not refused.
-use Rattle.std.specs.Prelude.{◌≡◌, ◌≢◌, ℕ, suc, ◌≤◌, ℤ, pos, neg_ℤ, ◌+ℤ◌, ◌≤ℤ◌, int_le, Bool, true, false, cond, List, [], ◌∷◌, length, All, AllPairs, IsTrue, Option, Some, None, String, string_bytes}
+use Rattle.std.specs.Prelude.{◌≡◌, ◌≢◌, ℕ, suc, ◌≤◌, ℤ, pos, neg_ℤ, ◌+ℤ◌, ◌≤ℤ◌, int_le, Bool, true, false, cond, List, [], ◌∷◌, length, All, AllPairs, IsTrue, Option, Some, None, String, string_bytes, Result, Ok, Err}
 use Rattle.std.specs.List.{list_all, AllByRecursion}
 use Rattle.std.specs.List.Sorted.{IsStrictlySortedBy}
 use Rattle.std.specs.Option.{option_or}
@@ -8,21 +8,20 @@ use Rattle.std.specs.String.{string_cmp}
 use Rattle.std.specs.declared.alloc.Global.{Global}
 use Rattle.std.specs.Ordering.{nat_cmp}
 use Rattle.std.specs.Cmp.Lexicographic.{slice_cmp}
-use Rattle.std.proofs.Common.{Less, Equal, get_or, refl, sym, ap, ◌∙◌, arith}
+use Rattle.std.proofs.Common.{Less, Equal, get_or, refl, sym, ap, ◌∙◌, arith, subst}
 use Rattle.std.proofs.lemmas.Int.{ints}
 use Rattle.std.proofs.lemmas.Cmp.{nat_list_cmp_total, tied_itself}
 use Rattle.std.proofs.lemmas.List.Elements.{All-from_recursion}
-use Rattle.std.proofs.lemmas.List.Kept.{AllPairs-cons}
 use Rattle.std.proofs.lemmas.List.Sums.{AllPass-from_list_all}
-use Rattle.serde_json.specs.Data.{Members, no_members, member}
+use Rattle.serde_json.specs.Data.{Members, no_members, member, Data}
 use Rattle.serde_json.specs.View.{view, members_view}
 use Rattle.serde_json.specs.declared.value.Value.{Value}
 use Rattle.module_json.specs.declared.limits.TheConstants.{MAX_GENERATORS, MAX_ACTIONS, MAX_DEGREE, MAX_SPAN}
 use Rattle.module_json.specs.Actions.{is_name}
-use Rattle.module_json.specs.Checks.{unless, members_count}
-use Rattle.module_json.specs.WellFormed.{IsEntryOf, Agree, IsWellFormed}
+use Rattle.module_json.specs.Checks.{unless, members_count, header_refusal}
+use Rattle.module_json.specs.WellFormed.{IsEntryOf, Agree, IsWellFormed, NeverFall}
 use Rattle.module_json.proofs.Counts.{members_counted}
-use Rattle.module_json.specs.ModuleFile.{Generator, Entry, within_limit, degree_of, degree_refusal, generator_refusal, generators_refusal, by_degree, listed, basis, spans, span_refusal}
+use Rattle.module_json.specs.ModuleFile.{Generator, Entry, within_limit, degree_of, degree_refusal, generator_refusal, generators_refusal, by_degree, listed, basis, spans, span_refusal, File, IsFileOf, no_value, described, gens_of, actions_of, entries_from, with_entries, unless_refused, listed_refusal, listed_of, is_near}
 use Rattle.module_json.specs.declared.malformed.Malformed.{Malformed}
 use Rattle.module_json.specs.declared.malformed.Malformed.TheVariants.{Name}
 use Rattle.module_json.specs.Sorting.{inserted}
@@ -106,15 +105,15 @@ listed_apart (e ∷ es) up = by (degree_of (view e.1)) refl (listed_apart es up.
 
 -- ---- pairs by their places
 
-near : (z y : ℤ) → int_le z (y +ℤ pos MAX_SPAN) ≡ true → z ≤ℤ (y +ℤ pos MAX_SPAN)
+near : (z y : ℤ) → is_near z y ≡ true → z ≤ℤ (y +ℤ pos MAX_SPAN)
 near z y h = grind (arith, ints)
 
 spans_pairs : (gs : List Generator) → spans gs ≡ true → AllPairs (λ g h. h.degree ≤ℤ (g.degree +ℤ pos MAX_SPAN)) gs
 spans_pairs gs all i j d l m =
     let g = get_or gs i d in
     let h = get_or gs j d in
-    let one : list_all (λ k. int_le h.degree (k.degree +ℤ pos MAX_SPAN)) gs ≡ true = AllPass-from_list_all (λ k. list_all (λ n. int_le k.degree (n.degree +ℤ pos MAX_SPAN)) gs) gs all j d m in
-    near h.degree g.degree (AllPass-from_list_all (λ k. int_le h.degree (k.degree +ℤ pos MAX_SPAN)) gs one i d (omega arith))
+    let one : list_all (λ k. is_near h.degree k.degree) gs ≡ true = AllPass-from_list_all (λ k. list_all (λ n. is_near k.degree n.degree) gs) gs all j d m in
+    near h.degree g.degree (AllPass-from_list_all (λ k. is_near h.degree k.degree) gs one i d (omega arith))
 
 -- ---- the module
 
@@ -140,3 +139,23 @@ accepted es gs entries is up few fine spanned few_entries actions agree =
       actions = actions;
       agree = agree;
     }
+
+-- ---- the generators of a file stand by degree
+
+pub not_refused : {A : Type 0} (refusal : Option Malformed) (r : Result A Malformed) (a : A) → unless_refused refusal r ≡ Ok a → r ≡ Ok a
+not_refused (Some e) r a h = cc
+not_refused None r a h = h
+
+generators_same : (gs : List Generator) (es : Result (List Entry) Malformed) (f : File) → with_entries gs es ≡ Ok f → gs ≡ f.generators
+generators_same gs (Err e) f h = cc
+generators_same gs (Ok es) f h = let made : File = record { generators = gs; entries = es } in let same : made ≡ f = cc in ap (λ (x : File). x.generators) same
+
+listed_in_order : (d : Data) (f : File) → listed_of d ≡ Ok f → NeverFall f.generators
+listed_in_order d f h =
+    let gs = basis (gens_of d) in
+    let es = entries_from gs [] (actions_of d) in
+    subst NeverFall (generators_same gs es f (not_refused (listed_refusal d) (with_entries gs es) f h)) (EachPair-by_place (λ g h. g.degree ≤ℤ h.degree) gs (Rises-sorted_by (λ (g : Generator). g.degree) (listed (gens_of d))))
+
+pub file_in_order : (bytes : List ℕ) (r : Result File Malformed) → IsFileOf bytes r → (f : File) → r ≡ Ok f → NeverFall f.generators
+file_in_order bytes r (no_value e is) f h = cc
+file_in_order bytes r (described d is) f h = listed_in_order d f (not_refused (header_refusal d) (listed_of d) f h)

@@ -1,5 +1,6 @@
 -- The checks of a module file before its generators and actions: what each one refuses.
-use Rattle.std.specs.Prelude.{ℕ, ◌==◌, ◌≡◌, ◌≢◌, Bool, true, false, nat_le, ◌+◌, List, length, Option, Some, None, option_and_then, codes, bytes_eq, IsUtf8, Result, Ok, Err}
+use Rattle.std.specs.Prelude.{ℕ, ◌==◌, ◌≡◌, ◌≢◌, Bool, true, false, nat_le, ◌+◌, List, [], ◌∷◌, length, Option, Some, None, option_and_then, codes, bytes_eq, IsUtf8, Result, Ok, Err}
+use Rattle.std.specs.Option.{option_or}
 use Rattle.serde_json.specs.Data.{Data, Items, no_items, item, Members, no_members, member}
 use Rattle.serde_json.specs.Find.{as_number, as_str, as_array, as_object, as_u64, get}
 use Rattle.serde_json.specs.Read.{read}
@@ -36,6 +37,11 @@ unless_absent e (Some a) = Some e
 abbrev pub unless : Bool → Malformed → Option Malformed
 unless true e = None
 unless false e = Some e
+
+-- the first refusal of a list
+abbrev pub first_of : List (Option Malformed) → Option Malformed
+first_of [] = None
+first_of (r ∷ rs) = option_or r (first_of rs)
 
 abbrev pub size_refusal : List ℕ → Option Malformed
 size_refusal bytes = unless (nat_le (length bytes) MAX_FILE_BYTES) (Limit Bytes)
@@ -77,6 +83,11 @@ prime_of_value (Some d) = prime_of_number (option_and_then as_u64 (as_number d))
 -- The prime may be left out.
 abbrev pub prime_refusal : Data → Option Malformed
 prime_refusal d = prime_of_value (get (codes "p") d)
+
+-- The header of a module file, whatever its type: a JSON object, its type, the refused keys, and the prime, in this order.
+abbrev pub header_refusal : Data → Option Malformed
+header_refusal d =
+    first_of (whole_refusal d ∷ kind_refusal d ∷ cofiber_refusal d ∷ shift_refusal d ∷ prime_refusal d ∷ [])
 
 abbrev pub members_count : Members → ℕ
 members_count no_members = 0

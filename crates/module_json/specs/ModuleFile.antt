@@ -8,18 +8,13 @@ use Rattle.serde_json.specs.Data.{Data, Items, no_items, item, Members, no_membe
 use Rattle.serde_json.specs.Find.{as_number, as_str, as_array, as_object, as_i64, get}
 use Rattle.module_json.specs.Actions.{is_name, Written, action_of}
 use Rattle.module_json.specs.Sorting.{sorted_by}
-use Rattle.module_json.specs.Checks.{IsValueOf, unless, whole_refusal, kind_refusal, cofiber_refusal, shift_refusal, prime_refusal, gens_refusal, actions_refusal}
+use Rattle.module_json.specs.Checks.{IsValueOf, unless, gens_refusal, actions_refusal, first_of, header_refusal}
 use Rattle.module_json.specs.declared.limits.TheConstants.{MAX_DEGREE, MAX_SPAN}
 use Rattle.module_json.specs.declared.malformed.Malformed.{Malformed}
 use Rattle.module_json.specs.declared.malformed.Malformed.TheVariants.{Limit, Name, Degree as NoDegree, Action}
 use Rattle.module_json.specs.declared.malformed.What.TheVariants.{Degree, Span}
 use Rattle.module_json.specs.declared.malformed.Why.{Why}
 use Rattle.module_json.specs.declared.malformed.Why.TheVariants.{Syntax, SquareZero, Unknown, WrongDegree, Repeated}
-
--- the first refusal of a list
-abbrev pub first_of : List (Option Malformed) → Option Malformed
-first_of [] = None
-first_of (r ∷ rs) = option_or r (first_of rs)
 
 -- ---- generators
 
@@ -72,9 +67,13 @@ listed (member name d ms) = onto (degree_of d) (listed ms)
 abbrev pub basis : Members → List Generator
 basis ms = by_degree (listed ms)
 
+-- z lies at most the greatest span above y
+abbrev pub is_near : ℤ → ℤ → Bool
+is_near z y = int_le z (y +ℤ pos MAX_SPAN)
+
 -- no degree lies more than the greatest span above another
 abbrev pub spans : List Generator → Bool
-spans gs = list_all (λ g. list_all (λ h. int_le g.degree (h.degree +ℤ pos MAX_SPAN)) gs) gs
+spans gs = list_all (λ g. list_all (λ h. is_near g.degree h.degree) gs) gs
 
 abbrev pub span_refusal : List Generator → Option Malformed
 span_refusal gs = unless (spans gs) (Limit Span)
@@ -175,21 +174,16 @@ entries_from gs before (item d ds) =
     and_then later (Ok e) = later e
     and_then later (Err e) = Err e
 
--- ---- the file
+-- ---- a type of module file: one that lists generators and actions
 
 -- A module by its generators, in basis order, and its actions, as listed.
 pub record File : Type 0 where
   pub generators : List Generator
   pub entries : List Entry
 
--- The checks of a JSON value before its generators, in their order.
-abbrev pub header_refusal : Data → Option Malformed
-header_refusal d =
-    first_of (whole_refusal d ∷ kind_refusal d ∷ cofiber_refusal d ∷ shift_refusal d ∷ prime_refusal d ∷ [])
-
--- The checks of a JSON value before its entries, in their order.
-abbrev pub first_refusal : Data → Option Malformed
-first_refusal d = first_of (header_refusal d ∷ gens_refusal d ∷ generators_refusal 0 (gens_of d)
+-- The checks behind the header and before the entries, in their order.
+abbrev pub listed_refusal : Data → Option Malformed
+listed_refusal d = first_of (gens_refusal d ∷ generators_refusal 0 (gens_of d)
     ∷ span_refusal (basis (gens_of d)) ∷ actions_refusal d ∷ [])
 
 -- the module with these entries
@@ -201,10 +195,17 @@ abbrev pub unless_refused : {A : Type 0} → Option Malformed → Result A Malfo
 unless_refused None r = r
 unless_refused (Some e) r = Err e
 
--- What a value describes, or its first refusal.
-abbrev pub file_of : Data → Result File Malformed
-file_of d = unless_refused (first_refusal d)
+-- What a value of this type describes behind its header, or its first refusal there.
+abbrev pub listed_of : Data → Result File Malformed
+listed_of d = unless_refused (listed_refusal d)
     (with_entries (basis (gens_of d)) (entries_from (basis (gens_of d)) [] (actions_of d)))
+
+-- ---- the file
+
+-- What a value describes, or its first refusal: its header is looked at first, and then what its type asks for. There is one
+-- type of module file.
+abbrev pub file_of : Data → Result File Malformed
+file_of d = unless_refused (header_refusal d) (listed_of d)
 
 -- What bytes describe: they have no value, or it is what their value describes.
 pub data IsFileOf (bytes : List ℕ) : Result File Malformed → Type 0 where

@@ -5,12 +5,12 @@ ghost use Rattle.std.specs.String.{string_cmp};
 ghost use Rattle.std.specs.BTreeMap.{IsOrdered};
 ghost use Rattle.serde_json.specs.Data.{Data};
 ghost use Rattle.serde_json.specs.View.{view, members_view, items_view};
-ghost use Rattle.module_json.specs.Checks.{IsJson, IsValueOf, size_refusal, whole_refusal, kind_refusal, cofiber_refusal, shift_refusal, prime_refusal, gens_refusal, actions_refusal};
+ghost use Rattle.module_json.specs.Checks.{IsJson, IsValueOf, size_refusal, whole_refusal, kind_refusal, cofiber_refusal, shift_refusal, prime_refusal, header_refusal, gens_refusal, actions_refusal};
 ghost use Rattle.module_json.specs.Parts.{parts_refusal, parts_of};
-ghost use Rattle.module_json.specs.ModuleFile.{gens_of, actions_of, degree_of, generator_refusal, header_refusal};
+ghost use Rattle.module_json.specs.ModuleFile.{gens_of, actions_of, degree_of, generator_refusal};
 
 use crate::action::names;
-use crate::limits::{MAX_ACTIONS, MAX_DEGREE, MAX_FILE_BYTES, MAX_GENERATORS};
+use crate::limits::{MAX_ACTIONS, MAX_FILE_BYTES, MAX_GENERATORS, is_degree};
 use crate::malformed::{Malformed, Place, What};
 use serde_json::{Map, Value};
 use std::alloc::Global;
@@ -125,6 +125,17 @@ fn check_prime(file: &Value) -> Result<(), Malformed>
     }
 }
 
+/// The checks of a value's header, which are those of every type of module file.
+pub(crate) fn check_header(file: &Value) -> Result<(), Malformed>
+    ensures { result_err result ≡ header_refusal (view file.now) }
+{
+    check_whole(file)?;
+    check_kind(file)?;
+    check_cofiber(file)?;
+    check_shift(file)?;
+    check_prime(file)
+}
+
 /// The generators with their degrees, in the order of the bytes of their names.
 #[tactic(auto, using(crate::proofs::Counts::members_counted))]
 pub(crate) fn gens(file: &Value) -> Result<&Map<String, Value>, Malformed>
@@ -174,20 +185,8 @@ pub(crate) fn degree(i: usize, name: &str, value: &Value) -> Result<i32, Malform
     let Some(degree) = value.as_i64() else {
         return Err(Malformed::Degree { generator: i });
     };
-    let greatest = i64::from(MAX_DEGREE);
-    if degree < -greatest || greatest < degree {
+    if !is_degree(degree) {
         return Err(Malformed::Limit { what: What::Degree });
     }
     Ok(degree as i32)
-}
-
-/// The checks of a file's value before its generators.
-pub(crate) fn check_header(file: &Value) -> Result<(), Malformed>
-    ensures { result_err result ≡ header_refusal (view file.now) }
-{
-    check_whole(file)?;
-    check_kind(file)?;
-    check_cofiber(file)?;
-    check_shift(file)?;
-    check_prime(file)
 }

@@ -1,13 +1,13 @@
 //! The generators of a module file, in basis order.
-ghost use Rattle.std.specs.Prelude.{◌≡◌, ◌<◌, ◌+ℤ◌, pos, int_le, length, Some, IfSome, IfOk};
+ghost use Rattle.std.specs.Prelude.{◌≡◌, ◌<◌, length, Some, IfSome, IfOk};
 ghost use Rattle.std.specs.List.{list_all};
 ghost use Rattle.std.specs.Result.{result_err};
 ghost use Rattle.serde_json.specs.View.{view, members_view};
 ghost use Rattle.module_json.specs.Checks.{RefusesBy};
-ghost use Rattle.module_json.specs.ModuleFile.{generator_refusal, generators_refusal, degree_of, listed, basis, spans, span_refusal, number_of};
+ghost use Rattle.module_json.specs.ModuleFile.{generator_refusal, generators_refusal, degree_of, listed, basis, is_near, spans, span_refusal, number_of};
 
 use crate::checks::degree;
-use crate::limits::MAX_SPAN;
+use crate::limits::is_near;
 use crate::malformed::{Malformed, What};
 use serde_json::{Map, Value};
 use std::alloc::Global;
@@ -85,14 +85,15 @@ pub(crate) fn check_span(gens: &[Generator]) -> Result<(), Malformed>
 fn are_near(gens: &[Generator]) -> bool
     ensures { result ≡ spans gens.now }
 {
-    gens.iter().all(|g| is_near(gens, g.degree))
+    gens.iter().all(|g| is_near_each(gens, g.degree))
 }
 
 /// Whether a degree lies at most the greatest span above each one of the generators.
-fn is_near(gens: &[Generator], degree: i32) -> bool
-    ensures { result ≡ list_all (λ h. int_le degree (h.degree +ℤ pos MAX_SPAN)) gens.now }
+fn is_near_each(gens: &[Generator], degree: i32) -> bool
+    ensures { result ≡ list_all (λ h. is_near degree h.degree) gens.now }
 {
-    gens.iter().all(|h| i64::from(degree) <= i64::from(h.degree) + i64::from(MAX_SPAN))
+    gens.iter()
+        .all(|h| is_near(i64::from(degree), i64::from(h.degree)))
 }
 
 /// The number of the generator with a name.

@@ -1,4 +1,6 @@
 //! The limits of module files.
+ghost use Rattle.std.specs.Prelude.{◌≡◌};
+ghost use Rattle.module_json.specs.ModuleFile.{within_limit, is_near};
 
 /// The greatest size of a module file, in bytes.
 pub const MAX_FILE_BYTES: usize = 1 << 20;
@@ -14,3 +16,18 @@ pub const MAX_DEGREE: i32 = 128;
 
 /// How far the internal degree of one generator may lie above that of another.
 pub const MAX_SPAN: u16 = 64;
+
+/// Whether a generator may have this internal degree.
+pub fn is_degree(degree: i64) -> bool
+    ensures { result ≡ within_limit degree }
+{
+    let greatest = i64::from(MAX_DEGREE);
+    -greatest <= degree && degree <= greatest
+}
+
+/// Whether a degree lies at most [`MAX_SPAN`] above another.
+pub fn is_near(degree: i64, other: i64) -> bool
+    ensures { result ≡ is_near degree other }
+{
+    i128::from(degree) <= i128::from(other) + i128::from(MAX_SPAN)
+}

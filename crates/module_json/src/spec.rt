@@ -1,7 +1,7 @@
 //! A module as a file describes it.
 ghost use Rattle.std.specs.Prelude.{◌≡◌, ◌≢◌, ◌<◌, length, Some, Ok, Err, IfOk, IfErr, option_map, slice_get};
 ghost use Rattle.serde_json.specs.View.{view, items_view};
-ghost use Rattle.module_json.specs.ModuleFile.{file_of, IsFileOf};
+ghost use Rattle.module_json.specs.ModuleFile.{listed_of, file_of, IsFileOf};
 ghost use Rattle.module_json.specs.Parts.{files_of, modules_of, ArePartsOf};
 ghost use Rattle.module_json.specs.WellFormed.{IsWellFormed};
 
@@ -76,12 +76,11 @@ impl Spec {
     }
 }
 
-/// The module that a value describes, or the first thing wrong with it.
-fn describe(alloc: Global, file: &Value) -> Result<Spec, Malformed>
-    ensures module { IfOk result (λ s. file_of (view file.now) ≡ Ok s) }
-    ensures refused { IfErr result (λ e. e ≢ Malformed.Memory → file_of (view file.now) ≡ Err e) }
+/// The module that a value describes behind its header if it lists generators and actions, or the first thing wrong there.
+fn describe_listed(alloc: Global, file: &Value) -> Result<Spec, Malformed>
+    ensures module { IfOk result (λ s. listed_of (view file.now) ≡ Ok s) }
+    ensures refused { IfErr result (λ e. e ≢ Malformed.Memory → listed_of (view file.now) ≡ Err e) }
 {
-    check_header(file)?;
     let members = gens(file)?;
     let generators = generators(alloc, members)?;
     check_span(generators.as_slice())?;
@@ -91,6 +90,15 @@ fn describe(alloc: Global, file: &Value) -> Result<Spec, Malformed>
         generators,
         entries,
     })
+}
+
+/// The module that a value describes, or the first thing wrong with it.
+fn describe(alloc: Global, file: &Value) -> Result<Spec, Malformed>
+    ensures module { IfOk result (λ s. file_of (view file.now) ≡ Ok s) }
+    ensures refused { IfErr result (λ e. e ≢ Malformed.Memory → file_of (view file.now) ≡ Err e) }
+{
+    check_header(file)?;
+    describe_listed(alloc, file)
 }
 
 /// The module that a file describes, or the first thing wrong with it.

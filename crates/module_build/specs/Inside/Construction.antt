@@ -3,7 +3,7 @@ use Rattle.std.specs.Prelude.{◌≡◌, ◌⊎◌, ℕ, ◌+◌, ◌-◌, ◌*�
 use Rattle.std.proofs.Common.{inl, inr}
 use Rattle.std.specs.List.{range_with_len}
 use Rattle.milnor_basis.specs.Exponents.{degree_of, IsTrimmed}
-use Rattle.milnor_basis.proofs.Parity.{odd_by}
+use Rattle.milnor_basis.specs.Product.{odd_by}
 use Rattle.hopf_laws.specs.Actions.{shifted, sum, tensor, dual}
 use Rattle.hopf_laws.specs.Conjugate.{conjugate, is_nothing}
 use Rattle.module_json.specs.ModuleFile.{Generator, degree_at}

@@ -3,7 +3,7 @@ use Rattle.std.specs.Prelude.{◌≡◌, ℕ, Bool, ◌&&◌, nat_eq, nat_le, Li
 use Rattle.std.specs.Cmp.Lexicographic.{pointwise}
 use Rattle.f2_vec.specs.Vectors.{plus}
 use Rattle.milnor_basis.specs.Exponents.{degree_of, IsTrimmed}
-use Rattle.milnor_basis.proofs.Parity.{odd_by}
+use Rattle.milnor_basis.specs.Product.{odd_by}
 use Rattle.hopf_laws.specs.Diagonal.{splittings, added}
 use Rattle.module_build.specs.declared.splittings.Splitting.{Splitting}
 

@@ -4,7 +4,7 @@ use Rattle.std.proofs.Math.Path.{fun_ext}
 use Rattle.std.proofs.lemmas.Int.{ints}
 use Rattle.f2_vec.specs.Vectors.{sum_of}
 use Rattle.milnor_basis.specs.Exponents.{degree_of}
-use Rattle.milnor_basis.proofs.Parity.{odd_by}
+use Rattle.milnor_basis.specs.Product.{odd_by}
 use Rattle.module_json.specs.ModuleFile.{degree_at}
 use Rattle.finite_module.specs.Module.{Module, generators_in, width, value}
 use Rattle.built_laws.specs.Built.{action_of}

@@ -3,7 +3,7 @@ use Rattle.std.proofs.Common.{◌≡◌, ◌-◌, ◌+◌, ◌&&◌, pos, ◌+�
 use Rattle.std.specs.List.{range_with_len}
 use Rattle.f2_vec.specs.Vectors.{sum_of}
 use Rattle.milnor_basis.specs.Exponents.{degree_of}
-use Rattle.milnor_basis.proofs.Parity.{odd_by}
+use Rattle.milnor_basis.specs.Product.{odd_by}
 use Rattle.module_json.specs.ModuleFile.{degree_at}
 use Rattle.finite_module.specs.Module.{generators_in, width}
 use Rattle.built_laws.specs.Built.{action_of}

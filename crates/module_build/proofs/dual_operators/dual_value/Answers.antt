@@ -1,4 +1,4 @@
-use Rattle.std.proofs.Common.{◌≡◌, ◌≢◌, ◌+◌, ◌<◌, ◌&&◌, ℕ, Bool, true, false, not, List, [], pos, ◌+ℤ◌, length, map, take, to_z, of_z, w64, refl, ap, sym, subst, ◌∙◌, arith}
+use Rattle.std.proofs.Common.{◌≡◌, ◌≢◌, ◌+◌, ◌<◌, ◌&&◌, ℕ, Bool, true, not, List, [], pos, ◌+ℤ◌, length, map, take, to_z, of_z, w64, ap, sym, subst, ◌∙◌, arith}
 use Rattle.std.proofs.Math.Path.{fun_ext}
 use Rattle.std.proofs.lemmas.Int.{ints}
 use Rattle.std.proofs.lemmas.List.{length-map, take_all}
@@ -10,13 +10,13 @@ use Rattle.hopf_laws.proofs.Splittings.{Pair}
 use Rattle.module_json.specs.ModuleFile.{degree_at}
 use Rattle.finite_module.specs.Module.{generators_in, width}
 use Rattle.built_laws.specs.Built.{values_on}
-use Rattle.built_laws.proofs.Values.{both_empty}
 use Rattle.module_build.specs.Inside.Splittings.{sum_over, IsSplitting}
 use Rattle.module_build.specs.Inside.Construction.{dual_by, dual_term, proper_term}
 use Rattle.module_build.proofs.SplittingLists.{degree-splitting}
 use Rattle.module_build.proofs.Duals.{dual_by_splittings, one_splitting_more, no_splitting_more, some_left, no_left, right_below}
 use Rattle.module_build.proofs.dual_operators.dual_value.Goals as goal
 use Rattle.module_build.proofs.dual_operators.dual_value.Goals.{then-not-is_empty, else-not-is_empty}
+use Rattle.finite_module.proofs.Values.{both_empty}
 
 pub degree-requires : goal.degree-requires
 degree-requires c = omega (arith, ap length c.generators-generators.ensures.generators)

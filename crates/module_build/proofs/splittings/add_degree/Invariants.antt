@@ -1,7 +1,7 @@
 -- Those with the first left parts.
 use Rattle.std.proofs.Common.{◌≡◌, All, Bool, List, ℕ, take}
 use Rattle.f2_vec.specs.Vectors.{plus}
-use Rattle.milnor_basis.proofs.Parity.{odd_by}
+use Rattle.milnor_basis.specs.Product.{odd_by}
 use Rattle.milnor_basis.specs.Basis.{basis_of}
 use Rattle.module_build.specs.Inside.Splittings.{sum_over, IsSplitting}
 use Rattle.module_build.proofs.SplittingLists.{with_left}

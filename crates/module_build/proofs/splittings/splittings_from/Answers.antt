@@ -1,6 +1,4 @@
-use Rattle.std.proofs.Common.{◌≡◌, inl, inr, ◌+◌, ◌≤◌, ◌&&◌, All, List, ℕ, Bool, nat_eq, ap, sym, subst, ◌∙◌, arith}
-use Rattle.milnor_basis.proofs.Parity.{odd_by}
-use Rattle.milnor_basis.specs.Exponents.{degree_of}
+use Rattle.std.proofs.Common.{◌≡◌, inl, inr, ◌+◌, ◌≤◌, ◌&&◌, All, ap, sym, subst, ◌∙◌, arith}
 use Rattle.hopf_laws.specs.Diagonal.{splittings}
 use Rattle.module_build.specs.Inside.Splittings.{sum_over, IsSplitting}
 use Rattle.module_build.proofs.SplittingLists.{degrees_none, degree_more, degrees_all, no_splittings}

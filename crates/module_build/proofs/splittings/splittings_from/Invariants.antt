@@ -1,6 +1,6 @@
 -- Those of lower degrees.
 use Rattle.std.proofs.Common.{◌≡◌, ◌&&◌, All, Bool, List, ℕ, nat_lt}
-use Rattle.milnor_basis.proofs.Parity.{odd_by}
+use Rattle.milnor_basis.specs.Product.{odd_by}
 use Rattle.milnor_basis.specs.Exponents.{degree_of}
 use Rattle.hopf_laws.specs.Diagonal.{splittings}
 use Rattle.module_build.specs.Inside.Splittings.{sum_over, IsSplitting}

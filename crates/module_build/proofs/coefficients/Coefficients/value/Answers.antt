@@ -4,8 +4,8 @@ use Rattle.std.proofs.lemmas.Int.{ints}
 use Rattle.module_json.specs.ModuleFile.{degree_at}
 use Rattle.finite_module.specs.Module.{generators_in}
 use Rattle.module_build.specs.Inside.Construction.{entry_of, number_at}
-use Rattle.module_build.proofs.Entries.{map_more}
 use Rattle.module_build.proofs.coefficients.Coefficients.value.Goals as goal
+use Rattle.finite_module.proofs.Values.{map_more}
 
 pub loop-j-preserved : goal.loop-j-preserved
 loop-j-preserved c =

@@ -1,11 +1,8 @@
-use Rattle.std.proofs.Common.{Bor, ◌≡◌, ◌<◌, ◌+◌, ◌-◌, ◌*◌, ℕ, List, [], length, IfOk, refl, ap, sym, subst, ◌∙◌, inl, inr, arith}
-use Rattle.milnor_basis.specs.Exponents.{degree_of, IsTrimmed}
-use Rattle.hopf_laws.proofs.Antipode.{nothing_or_positive}
-use Rattle.module_json.specs.ModuleFile.{Generator}
+use Rattle.std.proofs.Common.{◌≡◌, ◌<◌, ◌+◌, ◌-◌, ◌*◌, [], length, IfOk, ap, sym, subst, ◌∙◌, inl, inr, arith}
+use Rattle.milnor_basis.specs.Exponents.{degree_of}
 use Rattle.finite_module.specs.Module.{Module}
 use Rattle.finite_module.specs.DerivedAction.{span}
 use Rattle.built_laws.specs.Built.{action_of, values_on, operator_on}
-use Rattle.module_build.specs.declared.order.Placed.{Placed}
 use Rattle.module_build.specs.declared.coefficients.Coefficients.{Coefficients}
 use Rattle.module_build.specs.declared.coefficients.Coefficients.TheVariants.{Same, Turned, Blocks, Pairs}
 use Rattle.module_build.specs.declared.construction.Construction.TheVariants.{Dual}
@@ -13,6 +10,7 @@ use Rattle.module_build.specs.Inside.Splittings.{sum_over, AreSplittings}
 use Rattle.module_build.specs.Inside.Construction.{blocks_at, pairs_at, size_of, coefficient_in, coefficient_by, order_of, generators_of, dual_by, IsDualOrder}
 use Rattle.module_build.proofs.Arms.{operator_is, counts_are, numbers_are, tensor_entry, turned_entry, dual_order}
 use Rattle.module_build.proofs.construction.Construction.operator.Goals as goal
+use Rattle.milnor_laws.proofs.UnitActs.{empty_or_positive}
 
 pub operator-requires-clause-count : goal.operator-requires-clause-count
 operator-requires-clause-count c = counts_are c.args.self.now c.generators.result.now c.args.order.now (c.generators.ensures.generators ∙ c.requires.generators) c.requires.order
@@ -83,7 +81,7 @@ pub returns-else-degree-gt-UNIT_DEGREE : goal.returns-else-degree-gt-UNIT_DEGREE
 returns-else-degree-gt-UNIT_DEGREE c =
     let self = c.args.self.now in
     let k : Coefficients = Turned c.operators-in-Dual.result c.args.r.now in
-    let none : c.args.r.now ≡ [] = elim (nothing_or_positive c.args.r.now c.degree-in-Dual.ensures.trimmed) [
+    let none : c.args.r.now ≡ [] = elim (empty_or_positive c.args.r.now c.degree-in-Dual.ensures.trimmed) [
       | inl e ↦ e
       | inr l ↦ absurd (omega (arith, c.degree-in-Dual.ensures.degree))
     ] in

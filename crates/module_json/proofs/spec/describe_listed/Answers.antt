@@ -4,7 +4,7 @@ use Rattle.module_json.specs.declared.limits.TheConstants.{MAX_ACTIONS}
 use Rattle.module_json.specs.ModuleFile.{span_refusal}
 use Rattle.module_json.specs.WellFormed.{IsEntryOf}
 use Rattle.module_json.proofs.Basis.{accepted}
-use Rattle.module_json.proofs.spec.describe.Goals as goal
+use Rattle.module_json.proofs.spec.describe_listed.Goals as goal
 
 pub invariant_of-result : goal.invariant_of-result
 invariant_of-result c =
