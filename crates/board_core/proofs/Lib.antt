@@ -5,7 +5,7 @@ pub mod Filed
 pub mod Given
 mod Growth
 pub mod Histories
-pub mod Lengths
+mod Lengths
 pub mod OpenTakes
 pub mod Places
 mod Progress

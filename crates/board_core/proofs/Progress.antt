@@ -7,6 +7,7 @@ use Rattle.std.proofs.lemmas.Bool.Decides.{nat_tests, eqb_tells}
 use Rattle.std.proofs.lemmas.List.Folds.{list_any-append}
 use Rattle.std.proofs.lemmas.List.{length-map}
 use Rattle.std.proofs.lemmas.Map.Views.{any-filter_same}
+use Rattle.std.proofs.Math.Bool.{or-false}
 use Rattle.board_core.specs.declared.event.Out.{Out}
 use Rattle.board_core.specs.declared.event.Entry.{Entry}
 use Rattle.board_core.specs.declared.event.Entry.TheVariants.{Take, Give, Back, Fail}
@@ -203,13 +204,9 @@ all_steps first (Fail who s t ∷ events) last history kind sound = absurd kind
 
 -- ---- the law
 
-plain_or : (b : Bool) → (b || false) ≡ b
-plain_or true = refl
-plain_or false = refl
-
 pub steps_at_opening : (bottom : ℤ) (s t : ℕ) (start : List (ℕ × ℤ)) → steps (opening bottom s t start) ≡ 2 * unfinished (opening bottom s t start)
 steps_at_opening bottom s t start =
-    let same : busy (opening bottom s t start) ≡ squares_of bottom start = fun_ext (λ i. fun_ext (λ j. plain_or (squares_of bottom start i j))) in
+    let same : busy (opening bottom s t start) ≡ squares_of bottom start = fun_ext (λ i. fun_ext (λ j. or-false (squares_of bottom start i j))) in
     let count = ap (λ (f : Squares). count_missing f (suc s) (suc t)) same in
     omega arith
 
@@ -221,7 +218,7 @@ no_steps state e i k within =
     let none : length state.out ≡ 0 = omega arith in
     let here = none_missing (busy state) (suc state.rows) (suc state.degrees) i k (omega arith) (omega arith) (omega arith) in
     let free : is_out state.out i k ≡ false = no_out state.out none in
-    sym (plain_or (state.done i k)) ∙ ap (λ b. state.done i k || b) (sym free) ∙ here
+    sym (or-false (state.done i k)) ∙ ap (λ b. state.done i k || b) (sym free) ∙ here
   where
     no_out : (out : List Out) → length out ≡ 0 → is_out out i k ≡ false
     no_out [] e = refl

@@ -2,7 +2,7 @@
 use Rattle.std.proofs.Common.{◌≡◌, ℕ, zero, suc, ◌+◌, ◌<◌, ◌≤◌, ℤ, ◌+ℤ◌, ◌-ℤ◌, ◌≤ℤ◌, Bool, List, length, refl, ap, sym, subst, ◌∙◌, arith}
 use Rattle.std.proofs.lemmas.Int.{ints}
 use Rattle.f2_vec.specs.Vectors.{sum_of, zeros}
-use Rattle.f2_vec.proofs.Sums.{length-zeros, sum_of-self, sum_of-assoc, sum_of-zeros_right}
+use Rattle.f2_vec.proofs.Sums.{length-zeros, sum_of-zeros_right, sum_of-cancel_right}
 use Rattle.free_module.specs.FreeModule.{free_width}
 use Rattle.free_module.specs.Graded.{GradedModule, IsSteenrodModule}
 use Rattle.lift_laws.specs.Maps.{shifted, extended, FitThrough}
@@ -18,8 +18,6 @@ use Rattle.milnor_laws.proofs.FreeModules.{free_modules_are_modules}
 use Rattle.lift_laws.proofs.Resolved.{IsResolved}
 
 -- b twice
-pub cancel-right : (n : ℕ) (a b : List Bool) → length a ≡ n → length b ≡ n → sum_of (sum_of a b) b ≡ a
-cancel-right n a b e f = sum_of-assoc a b b ∙ (ap (sum_of a) (sum_of-self n b f) ∙ sum_of-zeros_right n a e)
 
 module _ (r q : Resolution) (rs rt qs qt : ℕ) (p : IsResolved r rs rt) (o : IsResolved q qs qt)
     (s b n : ℕ) (x y top topq : ℤ) (rows : suc n ≡ s + b) (reach : (top -ℤ x) ≤ℤ topq) where
@@ -120,7 +118,7 @@ module _ (r q : Resolution) (rs rt qs qt : ℕ) (p : IsResolved r rs rt) (o : Is
         let len_theta : length theta ≡ free_width (gens q (suc k)) (u -ℤ y) = length-extended target (under (suc k)) (gens q bs) topq (psi (suc k)) fit_psi u v small in
         let len_rest : length rest ≡ free_width (gens q (suc k)) (u -ℤ y) = length-extended target (under (suc k)) (gens q bs) topq back fit_back u v small in
         ap (λ (w : List Bool). sum_of w (lowered r j q (suc k) (x +ℤ y) (K (suc k)) t (image r i g))) one
-        ∙ (ap (sum_of (sum_of theta rest)) (sym whole) ∙ cancel-right (free_width (gens q (suc k)) (u -ℤ y)) theta rest len_theta len_rest)
+        ∙ (ap (sum_of (sum_of theta rest)) (sym whole) ∙ sum_of-cancel_right (free_width (gens q (suc k)) (u -ℤ y)) theta rest len_theta len_rest)
 
     pub K-IsNull : IsNullHomotopy r q n (x +ℤ y) (composed q b y x psi gamma) (suc last) top K
     K-IsNull = record { fit = K-fit; bounds = K-bounds }
@@ -178,7 +176,7 @@ module _ (r q : Resolution) (rs rt qs qt : ℕ) (p : IsResolved r rs rt) (o : Is
         ap (λ (z : ℤ). d q (suc k) z (L (suc k) g)) (sym (across t)) ∙ (ap (d q (suc k) (u -ℤ y)) at ∙ (commutes ∙ (ap (bk a k u) gives ∙ split))) in
         ap (λ (z : List Bool). sum_of z (lowered r j q k (x +ℤ y) (L k) t (image r i g))) whole
         ∙ (ap (sum_of (sum_of (bk a k u (psi (suc a) g)) (bk a k u back))) (sym (through ∙ named))
-        ∙ (cancel-right (free_width (gens q k) (u -ℤ y)) (bk a k u (psi (suc a) g)) (bk a k u back) len1 len2 ∙ told))
+        ∙ (sum_of-cancel_right (free_width (gens q k) (u -ℤ y)) (bk a k u (psi (suc a) g)) (bk a k u back) len1 len2 ∙ told))
 
     pub L-IsNull : IsNullHomotopy r q n (x +ℤ y) (composed q b y x beta psi) upto top L
     L-IsNull = record { fit = L-fit; bounds = L-bounds }

@@ -2,17 +2,18 @@
 use Rattle.std.proofs.Common.{◌≡◌, inl, inr, ℕ, suc, ◌+◌, ◌<◌, ◌≤◌, ℤ, pos, ◌+ℤ◌, ◌-ℤ◌, ◌≤ℤ◌, Bool, true, false, nat_eq, List, [], ◌∷◌, ◌++◌, length, map, take, drop, if◌then◌else◌, refl, ap, sym, subst, ◌∙◌, arith}
 use Rattle.std.specs.List.{range_with_len}
 use Rattle.std.proofs.lemmas.Int.{ints}
-use Rattle.std.proofs.lemmas.Bool.{cases_eq, eq-eqb, ne_eqb}
+use Rattle.std.proofs.lemmas.Bool.{cases_eq}
 use Rattle.std.proofs.lemmas.List.FromFn.{length-map-range_with_len, get_or-map-range_with_len}
 use Rattle.std.proofs.lemmas.List.{nil_from_length, ext_get_or, length-append, length-drop, length-take-le, take-append-drop}
 use Rattle.f2_vec.specs.Vectors.{plus, bit, sum_of, zeros}
 use Rattle.f2_vec.specs.Spans.{HaveWidth, combination, IsInSpan}
-use Rattle.f2_vec.proofs.Sums.{length-zeros, bit-zeros, length-sum_of, bit-sum_of, sum_of-self, sum_of-comm, sum_of-cancel, sum_of-zeros_right}
+use Rattle.f2_vec.proofs.Sums.{length-zeros, bit-zeros, length-sum_of, bit-sum_of, sum_of-self, sum_of-comm, sum_of-cancel, sum_of-zeros_right, sum_of-cancel_right}
 use Rattle.f2_vec.proofs.Spans.{combination-append}
 use Rattle.f2_vec.proofs.Combinations.{map-map, HaveWidth-map}
 use Rattle.free_module.specs.FreeModule.{free_basis, free_width}
 use Rattle.free_module.specs.FreeBasis.{element}
 use Rattle.free_module.specs.Graded.{IsSteenrodModule}
+use Rattle.free_module.proofs.PairSums.{nat_eq-moved}
 use Rattle.resolution_laws.specs.Resolution.{row_of}
 use Rattle.resolution_laws.specs.Exactness.{CanonicalTableIsMinimalResolution}
 use Rattle.lift_laws.specs.Maps.{shifted, FitThrough}
@@ -26,7 +27,7 @@ use Rattle.lift_laws.proofs.Remainder.{IsContraction, homotopy, homotopy-IsContr
 use Rattle.lift_laws.proofs.Sums.{IsLift-start}
 use Rattle.lift_laws.proofs.ChainMaps.{IsLift-less}
 use Rattle.bracket_laws.proofs.Null.{IsNull-same, IsNull-sum, IsLift_from_IsNull, IsNull_from_IsLift}
-use Rattle.bracket_laws.proofs.Contracted.{cancel-right, K, K-IsNull, L, L-IsNull}
+use Rattle.bracket_laws.proofs.Contracted.{K, K-IsNull, L, L-IsNull}
 use Rattle.bracket_laws.proofs.Combined.{IsLift-combined}
 use Rattle.lift_laws.proofs.Coefficients.{IsNew, is_new, width-parts, map_range}
 use Rattle.bracket_laws.proofs.Dots.{dot-zeros, dot-sum, bit-combination_dot}
@@ -34,6 +35,7 @@ use Rattle.bracket_laws.proofs.Vectors.{dot-comm, dot-one, bits_of, length-on_sq
 use Rattle.lift_laws.proofs.OneProduct.{length-start, IsLift-difference, bits-agree, coefficient-agrees, coefficients-agree}
 use Rattle.bracket_laws.proofs.Dots.{bit-lowered}
 use Rattle.milnor_laws.proofs.FreeModules.{free_modules_are_modules}
+use Rattle.milnor_laws.proofs.SumsModTwo.{plus-four}
 use Rattle.lift_laws.proofs.Resolved.{IsResolved, is_resolved}
 
 -- two sums of bits
@@ -70,24 +72,6 @@ rearranged false false false true true = refl
 rearranged false false false true false = refl
 rearranged false false false false true = refl
 rearranged false false false false false = refl
-
-regrouped : (h s e f : Bool) → plus (plus h s) (plus e f) ≡ plus (plus h e) (plus s f)
-regrouped true true true true = refl
-regrouped true true true false = refl
-regrouped true true false true = refl
-regrouped true true false false = refl
-regrouped true false true true = refl
-regrouped true false true false = refl
-regrouped true false false true = refl
-regrouped true false false false = refl
-regrouped false true true true = refl
-regrouped false true true false = refl
-regrouped false true false true = refl
-regrouped false true false false = refl
-regrouped false false true true = refl
-regrouped false false true false = refl
-regrouped false false false true = refl
-regrouped false false false false = refl
 
 module _ (r q : Resolution) (rs rt qs qt : ℕ) (p : IsResolved r rs rt) (o : IsResolved q qs qt)
     (a b c : Class) (n l : ℕ) (sphere : IsSphere q) (room : HasRoom rs rt qs qt a b c n l) (a_there : a.i < count_of q a.s a.above) (top : ℤ) (reaches : top_of r a b c ≤ℤ top) (reach : (top -ℤ degree_of_class r c) ≤ℤ (q.base.bottom +ℤ pos qt)) where
@@ -453,12 +437,6 @@ module _ (r q : Resolution) (rs rt qs qt : ℕ) (p : IsResolved r rs rt) (o : Is
     length-dual wide true e = sym e
     length-dual wide false e = length-zeros wide
 
-    same_test : (m i j : ℕ) → nat_eq (m + i) (m + j) ≡ nat_eq i j
-    same_test m i j = elim (cases_eq i j) [
-      | inl e ↦ eq-eqb (m + i) (m + j) (omega arith) ∙ sym (eq-eqb i j e)
-      | inr f ↦ ne_eqb (m + i) (m + j) (λ e. f (omega arith)) ∙ sym (ne_eqb i j f)
-    ]
-
     module _ (z : ℕ → List Bool) (phi : ℕ → ℕ → List Bool) (lift : IsLift r q n w z a.s top phi) where
       abbrev zeta : List Bool
       zeta = on_square r n nbc (λ g. bit (z g) 0)
@@ -475,7 +453,7 @@ module _ (r q : Resolution) (rs rt qs qt : ℕ) (p : IsResolved r rs rt) (o : Is
           map-map (λ v. bit v 0) (λ j. dual_of r q n w (first + j) g) (range_with_len 0 (length zeta))
           ∙ (map_range (λ j. bit (dual_of r q n w (first + j) g) 0) (λ j. nat_eq (0 + i) j) 0 (length zeta) (λ j l.
           let e : i ≡ 0 + i = omega arith in
-          dual-bit wide (nat_eq g (first + (0 + j))) one ∙ (ap (λ (k : ℕ). nat_eq k (first + (0 + j))) same ∙ (same_test first i (0 + j) ∙ ap (λ (k : ℕ). nat_eq k (0 + j)) e)))
+          dual-bit wide (nat_eq g (first + (0 + j))) one ∙ (ap (λ (k : ℕ). nat_eq k (first + (0 + j))) same ∙ (nat_eq-moved first i (0 + j) ∙ ap (λ (k : ℕ). nat_eq k (0 + j)) e)))
           ∙ ap (λ (k : ℕ). map (λ j. nat_eq (0 + i) j) (range_with_len 0 k)) length-zeta) in
           let value : bit (z_S zeta g) 0 ≡ bit (z g) 0 =
           bit-combination_dot wide zeta duals 0 fits
@@ -632,7 +610,7 @@ module _ (r q : Resolution) (rs rt qs qt : ℕ) (p : IsResolved r rs rt) (o : Is
           let sum : sum_of v v0 ≡ on_square r i0 nt (G cs es) = sym s.sum ∙ (ap (λ (z : List Bool). combination W z rows) (sym parts) ∙ combination-rows cs es len_cs) in
           let len0 : length v0 ≡ W = ap length (value_of_member v0 m0) ∙ length-on_square r i0 nt (V m0.H m0.e) in
           let back : v ≡ sum_of (on_square r i0 nt (V m0.H m0.e)) (on_square r i0 nt (G cs es)) =
-          sym (cancel-right W v v0 len len0) ∙ (sum_of-comm (sum_of v v0) v0 ∙ (ap (sum_of v0) sum ∙ ap (λ (z : List Bool). sum_of z (on_square r i0 nt (G cs es))) (value_of_member v0 m0))) in
+          sym (sum_of-cancel_right W v v0 len len0) ∙ (sum_of-comm (sum_of v v0) v0 ∙ (ap (sum_of v0) sum ∙ ap (λ (z : List Bool). sum_of z (on_square r i0 nt (G cs es))) (value_of_member v0 m0))) in
           let each : (k : ℕ) → k < W → plus (V m0.H m0.e (first_of r i0 nt + k)) (G cs es (first_of r i0 nt + k)) ≡ plus (coefficient_of q a (H a.s (first_of r i0 nt + k))) (dot e (coefficients q l nab (m0.gamma l (first_of r i0 nt + k)))) = λ k h.
           let g = first_of r i0 nt + k in
           let t = target k h in
@@ -645,7 +623,7 @@ module _ (r q : Resolution) (rs rt qs qt : ℕ) (p : IsResolved r rs rt) (o : Is
           let d1 = dot (map (λ j. F1 j g) (range_with_len 0 N1)) cs in
           let whole : coefficient_of q a (H a.s g) ≡ plus h0 d1 = split ∙ ap (plus h0) read in
           let dots : dot e (coefficients q l nab (m0.gamma l g)) ≡ plus (dot m0.e x) (dot es x) = ap (dot e) (X-agrees m0.gamma m0.gamma_lift g t) ∙ dot-sum m0.e es x same_e in
-          sym (regrouped h0 d1 (dot m0.e x) (dot es x)) ∙ (ap (λ (z : Bool). plus z (plus (dot m0.e x) (dot es x))) (sym whole) ∙ ap (plus (coefficient_of q a (H a.s g))) (sym dots)) in
+          sym (plus-four h0 d1 (dot m0.e x) (dot es x)) ∙ (ap (λ (z : Bool). plus z (plus (dot m0.e x) (dot es x))) (sym whole) ∙ ap (plus (coefficient_of q a (H a.s g))) (sym dots)) in
           record {
             gamma = m0.gamma;
             beta = m0.beta;

@@ -1,9 +1,9 @@
-pub mod Null
-pub mod Contracted
+mod Null
+mod Contracted
 pub mod Dots
-pub mod Combined
+mod Combined
 pub mod Vectors
-pub mod Coset
+mod Coset
 pub mod Members
 pub mod HasMember
 pub mod UnitRow

@@ -3,7 +3,7 @@ use Rattle.std.proofs.Common.{◌≡◌, ◌⊎◌, inl, inr, ℕ, zero, suc, �
 use Rattle.std.proofs.lemmas.Int.{ints}
 use Rattle.std.proofs.lemmas.Bool.{cases_lt}
 use Rattle.f2_vec.specs.Vectors.{sum_of, zeros}
-use Rattle.f2_vec.proofs.Sums.{length-zeros, length-sum_of, sum_of-self, sum_of-zeros_right}
+use Rattle.f2_vec.proofs.Sums.{length-zeros, length-sum_of, sum_of-self, sum_of-zeros_right, sum_of-cancel_right}
 use Rattle.free_module.specs.FreeModule.{free_width}
 use Rattle.free_module.specs.Graded.{GradedModule, IsSteenrodModule}
 use Rattle.resolution_laws.specs.Exactness.{target_of}
@@ -16,7 +16,6 @@ use Rattle.lift_laws.proofs.Facts.{IsMap-d, fit-image, preimage}
 use Rattle.lift_laws.proofs.Remainder.{d-image, pick, is_there, IsThere}
 use Rattle.lift_laws.proofs.ChainMaps.{lift-commutes}
 use Rattle.bracket_laws.proofs.Null.{shifted-shifted}
-use Rattle.bracket_laws.proofs.Contracted.{cancel-right}
 use Rattle.milnor_laws.proofs.FreeModules.{free_modules_are_modules}
 use Rattle.lift_laws.proofs.Resolved.{IsResolved}
 
@@ -154,7 +153,7 @@ module _ (r q : Resolution) (rs rt qs qt : ℕ) (p : IsResolved r rs rt) (o : Is
         let low = lowered r (up k) q k w (H k) t (image r (suc (up k)) g) in
         let lt = length-theta k (omega arith) (suc (up k)) g c in
         let lb = length-extended (shifted w (free q k)) (good k) (gens r (up k)) top (H k) (parts k (omega arith)).fit t (image r (suc (up k)) g) c in
-        ap (λ (z : List Bool). sum_of z low) (gives k h g a c) ∙ cancel-right (free_width (gens q k) (t -ℤ w)) (theta k t g) low lt lb in
+        ap (λ (z : List Bool). sum_of z low) (gives k h g a c) ∙ sum_of-cancel_right (free_width (gens q k) (t -ℤ w)) (theta k t g) low lt lb in
         let Q : ℕ → Type 0 = λ j. P (suc j) j in
         subst (λ (i : ℕ). P i j) (sym f) (subst Q (up-is k ∙ sym e) at);
   }

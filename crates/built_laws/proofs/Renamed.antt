@@ -174,9 +174,6 @@ module _ (names names' : ℕ → List ℕ) (m : Module) (in_order : NeverFall m.
     abbrev moved : Module
     moved = shift_module names n m
 
-    moved_is : IsModule moved
-    moved_is = shift_makes_module names n m is
-
     there_order : sorted_by there.degree numbers ≡ numbers
     there_order = sorted_by-rising there.degree numbers (λ i j d l k. let r = rising i j d l k in omega (arith, ints))
 

@@ -1,6 +1,6 @@
-pub mod Sums
-pub mod Coefficients
-pub mod Before
-pub mod Steps
+mod Sums
+mod Coefficients
+mod Before
+mod Steps
 pub mod UniqueDerived
-pub mod Refused
+mod Refused

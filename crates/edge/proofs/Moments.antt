@@ -27,10 +27,6 @@ pub is_told : (o : Option (List ℕ)) (P : List ℕ → Type 0) (x : List ℕ) �
 is_told None P x is p = absurd (cc)
 is_told (Some y) P x is p = let same : y ≡ x = cc in rw same p
 
-pub told_then : (o : Option (List ℕ)) (P Q : List ℕ → Type 0) → IsTold o P → ((x : List ℕ) → o ≡ Some x → P x → Q x) → IsTold o Q
-told_then None P Q p f = p
-told_then (Some x) P Q p f = f x refl p
-
 pub where_some : (o : Option (List ℕ)) (Q : List ℕ → Type 0) → ((x : List ℕ) → o ≡ Some x → Q x) → IfSome o Q
 where_some None Q f = tt
 where_some (Some x) Q f = f x refl
@@ -52,12 +48,6 @@ both_mapped None None g is = tt
 both_mapped None (Some y) g is = absurd (cc)
 both_mapped (Some x) None g is = absurd (cc)
 both_mapped (Some x) (Some y) g is = tt
-
-pub both_same : (o p : Option (List ℕ)) → p ≡ o → AreTold (λ _ _. Unit {0}) o p
-both_same None None is = tt
-both_same None (Some y) is = absurd (cc)
-both_same (Some x) None is = absurd (cc)
-both_same (Some x) (Some y) is = tt
 
 pub both_along : (o p q : Option (List ℕ)) → AreTold (λ _ _. Unit {0}) o p → AreTold (λ _ _. Unit {0}) p q → AreTold (λ _ _. Unit {0}) o q
 both_along None None q t u = u

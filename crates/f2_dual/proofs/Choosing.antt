@@ -1,12 +1,11 @@
 -- The choice of candidates one by one, with the reduction extended by each that is chosen.
-use Rattle.std.proofs.Common.{◌≡◌, ℕ, zero, suc, ◌+◌, ◌<◌, ◌≤◌, Bool, List, [], ◌∷◌, ◌++◌, length, take, drop, refl, sym, ap, subst, ◌∙◌, arith}
-use Rattle.std.proofs.lemmas.List.{append_assoc, append-nil}
+use Rattle.std.proofs.Common.{◌≡◌, ℕ, zero, suc, ◌+◌, ◌<◌, Bool, List, [], ◌∷◌, ◌++◌, length, take, drop, refl, sym, ap, subst, ◌∙◌, arith}
+use Rattle.std.proofs.lemmas.List.{append_assoc}
 use Rattle.f2_vec.specs.Spans.{row, HaveWidth, IsInSpan}
 use Rattle.f2_matrix.specs.Echelon.{IsRowBasis}
 use Rattle.f2_matrix.specs.Reduction.{Rows, Reduction, IsReductionOf}
-use Rattle.f2_matrix.specs.Choice.{IsChosen}
 use Rattle.f2_matrix.proofs.Parts.{image_is_row_basis}
-use Rattle.f2_matrix.proofs.Choice.{IsChoosing, IsChoosing-none, IsChoosing-drop, IsChoosing-keep, IsChosen_from_IsChoosing}
+use Rattle.f2_matrix.proofs.Choice.{IsChoosing, IsChoosing-drop, IsChoosing-keep}
 use Rattle.f2_dual.proofs.Step.{reduction_kernel}
 
 reduction_image : (n : ℕ) (rows : List (List Bool)) (r : Reduction) → IsReductionOf n rows r → IsRowBasis n rows r.image
@@ -19,15 +18,6 @@ matrix_of n rows = record { cols = n; rows = rows }
 pub record IsChosenTo (n : ℕ) (old candidates : List (List Bool)) (i : ℕ) (chosen : List (List Bool)) (r : Reduction) : Type 0 where
   pub choosing : IsChoosing n old candidates i chosen (matrix_of n (old ++ chosen)) r
   pub reduction : IsReductionOf n (old ++ chosen) r
-
-pub IsChosenTo-none : (n : ℕ) (old candidates chosen : List (List Bool)) (r : Reduction) → HaveWidth n old → chosen ≡ [] → IsReductionOf n old r → IsChosenTo n old candidates 0 chosen r
-IsChosenTo-none n old candidates chosen r w e h =
-    let same : old ++ chosen ≡ old = ap (λ z. old ++ z) e ∙ append-nil old in
-    let g : IsReductionOf n (old ++ chosen) r = subst (λ z. IsReductionOf n z r) (sym same) h in
-    record {
-      choosing = IsChoosing-none n old candidates chosen (matrix_of n (old ++ chosen)) r w refl same e h.cols (reduction_image n (old ++ chosen) r g) (reduction_kernel n (old ++ chosen) r g);
-      reduction = g;
-    }
 
 pub IsChosenTo-drop : (n : ℕ) (old candidates : List (List Bool)) (i : ℕ) (chosen : List (List Bool)) (r : Reduction) (x : List Bool) → IsChosenTo n old candidates i chosen r → HaveWidth n candidates → i < length candidates → x ≡ row candidates i → IsInSpan r.cols r.image x → IsChosenTo n old candidates (i + 1) chosen r
 IsChosenTo-drop n old candidates i chosen r x p w l e s = record {
@@ -45,9 +35,6 @@ IsChosenTo-keep n old candidates i chosen more r next x p w l e outside m extend
       choosing = IsChoosing-keep n old candidates i chosen more (matrix_of n (old ++ chosen)) (matrix_of n (old ++ more)) r next x p.choosing w l e outside refl rows h.cols (reduction_image n (old ++ more) next h) (reduction_kernel n (old ++ more) next h) m;
       reduction = h;
     }
-
-pub IsChosenTo-chosen : (n : ℕ) (old candidates : List (List Bool)) (i : ℕ) (chosen : List (List Bool)) (r : Reduction) → IsChosenTo n old candidates i chosen r → length candidates ≤ i → IsChosen n old candidates chosen
-IsChosenTo-chosen n old candidates i chosen r p h = IsChosen_from_IsChoosing n old candidates i chosen (matrix_of n (old ++ chosen)) r p.choosing h
 
 -- one row of a list, as a list
 pub row_alone : (rows : List (List Bool)) (i : ℕ) → i < length rows → take 1 (drop i rows) ≡ row rows i ∷ []

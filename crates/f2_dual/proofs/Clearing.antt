@@ -2,6 +2,7 @@
 use Rattle.std.proofs.Common.{◌≡◌, ◌≢◌, ℕ, ◌+◌, ◌<◌, Bool, true, false, ◌&&◌, Option, Some, None, List, length, refl, ap, sym, ◌∙◌, arith, subst, inl, inr}
 use Rattle.std.proofs.lemmas.Bool.{cases_lt, cases_eq, both_ways}
 use Rattle.std.proofs.lemmas.List.{get_or_past}
+use Rattle.std.proofs.Math.Bool.{and-false}
 use Rattle.f2_vec.specs.Vectors.{plus, sum_of, zeros, bit, IsZero, IsZeroFrom, IsNextOne, IsFirstOne}
 use Rattle.f2_vec.proofs.Sums.{bit-sum_of, length-sum_of, length-zeros, sum_of-assoc, sum_of-cancel, sum_of-zeros_right, zeros_from_bits}
 use Rattle.f2_vec.specs.Spans.{row, HaveWidth, combination, unit_vector, IsInSpan}
@@ -99,14 +100,10 @@ left-outside from p rows table v rest c w reduced nz t h next none s =
             | inl b ↦ ap (λ x. x && bit (column p rows) j) (bit-at_pivots rows rest j l ∙ next_first from p rest h.before next q b)
             | inr b ↦
                 let other : p ≢ q = λ e. t.none j l (ap (entry_at table) (sym e) ∙ none) in
-                ap (λ x. bit d j && x) (row-column p rows j l ∙ (is_pivot (row rows j) (nz j l)).zeros_before p (omega (arith, other))) ∙ and_false (bit d j)
+                ap (λ x. bit d j && x) (row-column p rows j l ∙ (is_pivot (row rows j) (nz j l)).zeros_before p (omega (arith, other))) ∙ and-false (bit d j)
           ]
     ]) in
     both_ways (bit rest p) off next.one
-  where
-    and_false : (x : Bool) → (x && false) ≡ false
-    and_false true = refl
-    and_false false = refl
 
 pub none_from_not_some : (entry : Option ℕ) → ((i : ℕ) → entry ≡ Some i → ⊥) → entry ≡ None
 none_from_not_some None h = refl

@@ -2,6 +2,7 @@
 use Rattle.std.proofs.Common.{◌≡◌, ◌≢◌, ℕ, zero, suc, ◌<◌, Bool, true, false, ◌&&◌, List, [], ◌∷◌, length, map, refl, ap, sym, ◌∙◌, arith}
 use Rattle.std.proofs.lemmas.Bool.{eq-eqb, ne_eqb}
 use Rattle.std.proofs.lemmas.List.{length-map}
+use Rattle.std.proofs.Math.Bool.{and-false, and-true, and_comm}
 use Rattle.f2_vec.specs.Vectors.{plus, sum_of, zeros, bit, IsZero}
 use Rattle.f2_vec.proofs.Sums.{bit-zeros, bit-sum_of, plus-assoc, plus-comm, plus-false}
 use Rattle.f2_vec.specs.Spans.{row, HaveWidth, combination, unit_vector, IsInSpan}
@@ -15,21 +16,11 @@ dot [] ys = false
 dot (x ∷ xs) [] = false
 dot (x ∷ xs) (y ∷ ys) = plus (x && y) (dot xs ys)
 
-and_false : (x : Bool) → (x && false) ≡ false
-and_false true = refl
-and_false false = refl
-
-and-comm : (x y : Bool) → (x && y) ≡ (y && x)
-and-comm true true = refl
-and-comm true false = refl
-and-comm false true = refl
-and-comm false false = refl
-
 pub dot-comm : (xs ys : List Bool) → dot xs ys ≡ dot ys xs
 dot-comm [] [] = refl
 dot-comm [] (y ∷ ys) = refl
 dot-comm (x ∷ xs) [] = refl
-dot-comm (x ∷ xs) (y ∷ ys) = cc (and-comm x y, dot-comm xs ys)
+dot-comm (x ∷ xs) (y ∷ ys) = cc (and_comm x y, dot-comm xs ys)
 
 -- a combination at a place
 pub bit-combination-dot : (n : ℕ) (c : List Bool) (rows : List (List Bool)) (k : ℕ) → HaveWidth n rows → bit (combination n c rows) k ≡ dot c (column k rows)
@@ -46,12 +37,12 @@ dot_none (c ∷ cs) [] h = refl
 dot_none (c ∷ cs) (y ∷ ys) h = ap (λ b. plus b (dot cs ys)) (h zero) ∙ dot_none cs ys (λ j. h (suc j))
 
 pub dot_zero : (c ys : List Bool) → IsZero ys → dot c ys ≡ false
-dot_zero c ys z = dot_none c ys (λ j. ap (λ b. bit c j && b) (z j) ∙ and_false (bit c j))
+dot_zero c ys z = dot_none c ys (λ j. ap (λ b. bit c j && b) (z j) ∙ and-false (bit c j))
 
 -- where no place but i has
 pub dot_at : (c ys : List Bool) (i : ℕ) → ((j : ℕ) → j ≢ i → (bit c j && bit ys j) ≡ false) → dot c ys ≡ (bit c i && bit ys i)
 dot_at [] ys i h = refl
-dot_at (c ∷ cs) [] i h = sym (and_false (bit (c ∷ cs) i))
+dot_at (c ∷ cs) [] i h = sym (and-false (bit (c ∷ cs) i))
 dot_at (c ∷ cs) (y ∷ ys) zero h =
     ap (plus (c && y)) (dot_none cs ys (λ j. h (suc j) (λ e. omega arith))) ∙ plus-false (c && y)
 dot_at (c ∷ cs) (y ∷ ys) (suc i) h =
@@ -60,11 +51,7 @@ dot_at (c ∷ cs) (y ∷ ys) (suc i) h =
 -- no place where the second has a 1 but i
 pub dot_only : (c ys : List Bool) (i : ℕ) → ((j : ℕ) → j ≢ i → bit ys j ≡ false) → bit ys i ≡ true → dot c ys ≡ bit c i
 dot_only c ys i h one =
-    dot_at c ys i (λ j d. ap (λ b. bit c j && b) (h j d) ∙ and_false (bit c j)) ∙ ap (λ b. bit c i && b) one ∙ and_true (bit c i)
-  where
-    and_true : (x : Bool) → (x && true) ≡ x
-    and_true true = refl
-    and_true false = refl
+    dot_at c ys i (λ j d. ap (λ b. bit c j && b) (h j d) ∙ and-false (bit c j)) ∙ ap (λ b. bit c i && b) one ∙ and-true (bit c i)
 
 pub dot-unit : (c : List Bool) (n i : ℕ) → i < n → dot c (unit_vector n i) ≡ bit c i
 dot-unit c n i l =

@@ -1,7 +1,8 @@
 -- One step of each loop that builds the parts.
-use Rattle.std.proofs.Common.{◌≡◌, ℕ, suc, zero, ◌+◌, ◌<◌, ◌≤◌, Bool, true, false, cond, List, [], ◌∷◌, ◌++◌, length, map, take, get_or, refl, ap, sym, ◌∙◌, arith}
+use Rattle.std.proofs.Common.{◌≡◌, ℕ, suc, zero, ◌+◌, ◌<◌, Bool, true, false, cond, List, [], ◌∷◌, ◌++◌, length, map, take, get_or, ap, sym, ◌∙◌, arith}
 use Rattle.std.specs.List.{range_with_len, filter}
-use Rattle.std.proofs.lemmas.List.{map-append, append-nil, take_more, take-take, take-append-le, take_all, get_or-take, get_or_push, length-append}
+use Rattle.std.proofs.lemmas.List.{map-append, append-nil, take_more}
+use Rattle.std.proofs.lemmas.List.Elements.{filter-append}
 
 -- one element more
 pub map_more : {A B : Type 0} (f : A → B) (xs : List A) (i : ℕ) (d x : A) (old new : List B) (y : B) → i < length xs → x ≡ get_or xs i d → old ≡ map f (take i xs) → new ≡ old ++ y ∷ [] → y ≡ f x → new ≡ map f (take (i + 1) xs)
@@ -16,23 +17,16 @@ range_push a (suc n) =
     let f : suc n + 1 ≡ suc (n + 1) = omega arith in
     ap (range_with_len a) f ∙ ap (λ xs. a ∷ xs) (range_push (a + 1) n ∙ ap (λ x. range_with_len (a + 1) n ++ x ∷ []) e)
 
-filter-push : (p : ℕ → Bool) (xs : List ℕ) (x : ℕ) → filter p (xs ++ x ∷ []) ≡ filter p xs ++ cond (p x) (x ∷ []) []
-filter-push p [] x = refl
-filter-push p (y ∷ xs) x = at (p y) (filter-push p xs x) where
-  at : (b : Bool) → filter p (xs ++ x ∷ []) ≡ filter p xs ++ cond (p x) (x ∷ []) [] → cond b (y ∷ filter p (xs ++ x ∷ [])) (filter p (xs ++ x ∷ [])) ≡ cond b (y ∷ filter p xs) (filter p xs) ++ cond (p x) (x ∷ []) []
-  at true h = ap (λ zs. y ∷ zs) h
-  at false h = h
-
 pub filter_more_true : {B : Type 0} (f : ℕ → B) (p : ℕ → Bool) (k : ℕ) (old new : List B) (y : B) → old ≡ map f (filter p (range_with_len 0 k)) → p k ≡ true → new ≡ old ++ y ∷ [] → y ≡ f k → new ≡ map f (filter p (range_with_len 0 (k + 1)))
 filter_more_true f p k old new y o t n v =
     let e : 0 + k ≡ k = omega arith in
     let whole : filter p (range_with_len 0 (k + 1)) ≡ filter p (range_with_len 0 k) ++ k ∷ [] =
-    ap (filter p) (range_push 0 k ∙ ap (λ x. range_with_len 0 k ++ x ∷ []) e) ∙ filter-push p (range_with_len 0 k) k ∙ ap (λ b. filter p (range_with_len 0 k) ++ cond b (k ∷ []) []) t in
+    ap (filter p) (range_push 0 k ∙ ap (λ x. range_with_len 0 k ++ x ∷ []) e) ∙ filter-append p (range_with_len 0 k) (k ∷ []) ∙ ap (λ b. filter p (range_with_len 0 k) ++ cond b (k ∷ []) []) t in
     n ∙ ap (λ z. z ++ y ∷ []) o ∙ ap (λ z. map f (filter p (range_with_len 0 k)) ++ z ∷ []) v ∙ sym (map-append f (filter p (range_with_len 0 k)) (k ∷ [])) ∙ ap (map f) (sym whole)
 
 pub filter_more_false : {B : Type 0} (f : ℕ → B) (p : ℕ → Bool) (k : ℕ) (old : List B) → old ≡ map f (filter p (range_with_len 0 k)) → p k ≡ false → old ≡ map f (filter p (range_with_len 0 (k + 1)))
 filter_more_false f p k old o t =
     let e : 0 + k ≡ k = omega arith in
     let whole : filter p (range_with_len 0 (k + 1)) ≡ filter p (range_with_len 0 k) =
-    ap (filter p) (range_push 0 k ∙ ap (λ x. range_with_len 0 k ++ x ∷ []) e) ∙ filter-push p (range_with_len 0 k) k ∙ ap (λ b. filter p (range_with_len 0 k) ++ cond b (k ∷ []) []) t ∙ append-nil (filter p (range_with_len 0 k)) in
+    ap (filter p) (range_push 0 k ∙ ap (λ x. range_with_len 0 k ++ x ∷ []) e) ∙ filter-append p (range_with_len 0 k) (k ∷ []) ∙ ap (λ b. filter p (range_with_len 0 k) ++ cond b (k ∷ []) []) t ∙ append-nil (filter p (range_with_len 0 k)) in
     o ∙ ap (map f) (sym whole)

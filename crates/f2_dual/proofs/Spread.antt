@@ -1,14 +1,13 @@
 -- Sums of the unit vectors of elements are columns of rows that stand at these places.
-use Rattle.std.proofs.Common.{◌≡◌, ◌≢◌, inl, inr, ℕ, ◌<◌, ◌≤◌, nat_eq, Bool, false, List, [], length, ap, sym, ◌∙◌, arith}
+use Rattle.std.proofs.Common.{◌≡◌, ◌≢◌, ◌⊎◌, inl, inr, ℕ, ◌<◌, ◌≤◌, nat_eq, Bool, false, List, [], length, ap, sym, ◌∙◌, arith}
 use Rattle.std.proofs.lemmas.Bool.{cases_lt, eq-eqb, ne_eqb}
 use Rattle.std.proofs.lemmas.List.{ext_get_or, get_or-map, get_or_past, length-map}
-use Rattle.f2_vec.specs.Vectors.{bit}
+use Rattle.f2_vec.specs.Vectors.{bit, IsZero}
 use Rattle.f2_vec.specs.Spans.{row, combination, unit_vector}
 use Rattle.f2_dual.specs.Inside.Columns.{column}
 use Rattle.f2_vec.proofs.Spans.{length-combination}
 use Rattle.f2_vec.proofs.Split.{bit-unit_vector}
 use Rattle.f2_dual.specs.Inside.Coordinates.{element_of, pivot_units}
-use Rattle.f2_dual.specs.Inside.Tables.{IsSpread}
 use Rattle.f2_dual.proofs.Dots.{dot, dot_zero, dot_only, bit-combination-dot}
 use Rattle.f2_dual.proofs.OnCandidates.{HaveWidth-units, row-column}
 
@@ -29,6 +28,13 @@ AreApart n image = (s t : ℕ) → s ≢ t → s < length image → t < length i
 
 abbrev pub AreWithin : ℕ → List (List Bool) → Type 0
 AreWithin n image = (t : ℕ) → t < length image → element_of n (row image t) < n
+
+-- n rows, of which each is the row of `rows` beside the image row of its element, or zero where there is no such image row
+pub record IsSpread (n : ℕ) (image rows spread : List (List Bool)) : Type 0 where
+  pub size : length spread ≡ n
+  pub each : (e : ℕ) → e < n →
+      ((t : ℕ) × (t < length image) × (element_of n (row image t) ≡ e) × (row spread e ≡ row rows t))
+      ⊎ (IsZero (row spread e) × ((t : ℕ) → t < length image → element_of n (row image t) ≢ e))
 
 pub combination-spread : (n i : ℕ) (image rows spread : List (List Bool)) → length rows ≡ length image → AreWithin n image → AreApart n image → IsSpread n image rows spread → combination n (column i rows) (pivot_units n image) ≡ column i spread
 combination-spread n i image rows spread e w a s =

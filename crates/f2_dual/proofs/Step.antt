@@ -17,7 +17,7 @@ use Rattle.f2_matrix.proofs.Elimination.{IsFirstOne-unique}
 use Rattle.f2_matrix.proofs.Parts.{combination_where-IsInSpan, image_is_row_basis, kernel_is_kernel_basis, chosen_are_preimages}
 use Rattle.f2_matrix.specs.Choice.{IsChosen}
 use Rattle.f2_dual.specs.Inside.Columns.{column}
-use Rattle.f2_dual.specs.Inside.Coordinates.{coordinates, element_of, pivot_units, is_free, free_elements, new_rows, relation_of, relations_of, preimages_of, reduction_over, IsChoiceBy}
+use Rattle.f2_dual.specs.Inside.Coordinates.{coordinates, element_of, pivot_units, is_free, free_elements, new_rows, relation_of, relations_of, preimages_of, reduction_over}
 use Rattle.f2_matrix.proofs.Pivots.{is_pivot}
 use Rattle.f2_dual.proofs.Dots.{pairing, pairing_none}
 use Rattle.f2_matrix.proofs.FromParts.{reduction_from_parts}
@@ -253,6 +253,11 @@ parts_of w rows candidates r wc hc nz inside h =
       relations = subst (λ (z : List (List Bool)). IsKernelBasis n xs z) (sym h.kernel) (kernel_is_kernel_basis n xs h.form h.widths h.is_form);
       preimages = rw (h.image, h.chosen, h.kernel) (chosen_are_preimages n xs h.form h.widths h.is_form);
     }
+
+-- the new rows are those that are chosen, and that reduction is the one with them behind the rows
+pub record IsChoiceBy (w : ℕ) (rows candidates : List (List Bool)) (r : Reduction) : Type 0 where
+  pub chosen : IsChosen w rows candidates (new_rows candidates r.kernel)
+  pub reduction : IsReductionOf w (rows ++ new_rows candidates r.kernel) (reduction_over w candidates r)
 
 pub covered_choice : (w : ℕ) (rows candidates : List (List Bool)) (r : Reduction) → HaveWidth w candidates → IsReduced candidates → HasNoZeroRow candidates → ((i : ℕ) → i < length rows → IsInSpan w candidates (row rows i)) → IsReductionOf (length rows) (coordinates candidates rows) r → IsChoiceBy w rows candidates r
 covered_choice w rows candidates r wc hc nz inside h =

@@ -1,20 +1,19 @@
 -- Tables of pivots, and what they spread.
-use Rattle.std.proofs.Common.{◌≡◌, ◌≢◌, ◌⊎◌, inl, inr, ℕ, ◌+◌, ◌-◌, ◌<◌, ◌≤◌, Bool, true, false, Option, Some, None, List, [], length, map, set, replicate, refl, ap, sym, ◌∙◌, arith, subst}
+use Rattle.std.proofs.Common.{◌≡◌, ◌≢◌, ◌⊎◌, inl, inr, ℕ, ◌+◌, ◌-◌, ◌<◌, Bool, true, false, Option, Some, None, List, [], length, set, refl, ap, sym, ◌∙◌, arith, subst}
 use Rattle.std.specs.Option.{is_some}
 use Rattle.std.proofs.lemmas.Bool.{cases_lt, cases_eq, false_from_ne_true, true≢false}
-use Rattle.std.proofs.lemmas.List.{ext_get_or, get_or-map, get_or_past, length-map, length-set, get_or-set_same, get_or-set_other, length-replicate, get_or-replicate}
+use Rattle.std.proofs.lemmas.List.{length-set, get_or-set_same, get_or-set_other}
 use Rattle.std.proofs.lemmas.List.FromFn.{length-map-range_with_len, get_or-map-range_with_len}
 use Rattle.f2_vec.specs.Vectors.{bit, zeros, IsZero, IsFirstOne}
 use Rattle.f2_vec.proofs.Sums.{bit-zeros}
-use Rattle.f2_vec.specs.Spans.{row, HaveWidth, combination}
-use Rattle.f2_vec.proofs.Combinations.{map-map, map_same, HaveWidth-map}
-use Rattle.f2_matrix.specs.Preimages.{pivot_of, at_pivots}
+use Rattle.f2_vec.specs.Spans.{row, combination}
+use Rattle.f2_matrix.specs.Preimages.{pivot_of}
 use Rattle.f2_dual.specs.Inside.Columns.{column, columns}
-use Rattle.f2_matrix.proofs.Pivots.{pivot_first, length-at_pivots, bit-at_pivots, pivot_within, is_pivot}
+use Rattle.f2_matrix.proofs.Pivots.{pivot_first, pivot_within, is_pivot}
 use Rattle.f2_dual.specs.Inside.Coordinates.{element_of, is_free, pivot_units}
-use Rattle.f2_dual.specs.Inside.Tables.{entry_at, row_or_zero, spread_by, IsTableOfPivots, IsReducedBasis, IsSpread}
+use Rattle.f2_dual.specs.Inside.Tables.{entry_at, row_or_zero, spread_by, IsTableOfPivots, IsReducedBasis}
 use Rattle.f2_dual.proofs.Relations.{free_or_pivot, free_no_pivot}
-use Rattle.f2_dual.proofs.Spread.{AreApart, AreWithin, combination-spread}
+use Rattle.f2_dual.proofs.Spread.{AreApart, AreWithin, combination-spread, IsSpread}
 
 -- ---- filling a table
 
@@ -26,16 +25,6 @@ pub record IsTableTo (i n : ℕ) (rows : List (List Bool)) (table : List (Option
   pub size : length table ≡ n
   pub found : (p t : ℕ) → entry_at table p ≡ Some t → (t < length rows) × (pivot_of (row rows t) ≡ p)
   pub none : (j : ℕ) → j < i → entry_at table (pivot_of (row rows j)) ≢ None
-
-pub IsTableTo-start : (n : ℕ) (rows : List (List Bool)) (table : List (Option ℕ)) → table ≡ replicate n None → IsTableTo 0 n rows table
-IsTableTo-start n rows table e = record {
-  size = ap length e ∙ length-replicate n None;
-  found = λ p t f. absurd (some_none t (sym f ∙ ap (λ (z : List (Option ℕ)). entry_at z p) e ∙ empty p));
-  none = λ j l. absurd (omega arith);
-}
-  where
-    empty : (p : ℕ) → entry_at (replicate n None) p ≡ None
-    empty p = elim (cases_lt p n) [ inl l ↦ get_or-replicate n p None None l | inr l ↦ get_or_past (replicate n None) p None (omega (arith, length-replicate {A = Option ℕ} n None)) ]
 
 pub IsTableTo-more : (i n p : ℕ) (rows : List (List Bool)) (table : List (Option ℕ)) → IsTableTo i n rows table → i < length rows → p < n → IsFirstOne (row rows i) p → IsTableTo (i + 1) n rows (set table p (Some i))
 IsTableTo-more i n p rows table h l b first = record {
@@ -64,26 +53,7 @@ IsTableTo-more i n p rows table h l b first = record {
     below : (j : ℕ) → j < i + 1 → pivot_of (row rows j) ≢ p → j < i
     below j m d = elim (cases_eq j i) [ inl o ↦ absurd (d (ap (λ k. pivot_of (row rows k)) o ∙ is)) | inr o ↦ omega arith ]
 
-pub IsTableOfPivots-filled : (i n : ℕ) (rows : List (List Bool)) (table : List (Option ℕ)) → IsTableTo i n rows table → length rows ≤ i → IsTableOfPivots n rows table
-IsTableOfPivots-filled i n rows table h l = record { size = h.size; found = h.found; none = λ j m. h.none j (omega arith) }
-
 -- ---- coordinates as columns
-
--- the columns of what each vector has at the pivots
-pub columns-at_pivots : (candidates vs : List (List Bool)) → columns (length candidates) (map (at_pivots candidates) vs) ≡ map (λ c. column (pivot_of c) vs) candidates
-columns-at_pivots candidates vs =
-    let k = length candidates in
-    let given = map (at_pivots candidates) vs in
-    ext_get_or [] (columns k given) (map (λ c. column (pivot_of c) vs) candidates) (length-map-range_with_len (λ i. column i given) 0 k ∙ sym (length-map candidates (λ c. column (pivot_of c) vs)))
-    (λ i l.
-    let m : i < k = omega (arith, length-map-range_with_len (λ j. column j given) 0 k) in
-    get_or-map-range_with_len (λ j. column j given) 0 k i i [] m (omega arith)
-    ∙ map-map (λ v. bit v i) (at_pivots candidates) vs
-    ∙ map_same [] (λ v. bit (at_pivots candidates v) i) (λ v. bit v (pivot_of (row candidates i))) vs (λ j b. bit-at_pivots candidates (row vs j) i m)
-    ∙ sym (get_or-map (λ c. column (pivot_of c) vs) candidates i [] [] m))
-
-pub HaveWidth-at_pivots : (candidates vs : List (List Bool)) → HaveWidth (length candidates) (map (at_pivots candidates) vs)
-HaveWidth-at_pivots candidates vs = HaveWidth-map (length candidates) (at_pivots candidates) vs (length-at_pivots candidates)
 
 -- ---- spreading
 

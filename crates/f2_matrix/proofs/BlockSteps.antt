@@ -6,7 +6,7 @@ use Rattle.std.proofs.lemmas.List.Edits.{length-swap}
 use Rattle.std.proofs.lemmas.Bool.{cases_lt, cases_eq}
 use Rattle.f2_vec.specs.Vectors.{plus, sum_of, zeros, bit}
 use Rattle.f2_vec.specs.Spans.{row, HaveWidth, combination}
-use Rattle.f2_vec.proofs.Sums.{bit-sum_of, length-sum_of, bit-zeros, sum_of-assoc, sum_of-comm, sum_of-self, sum_of-zeros_right}
+use Rattle.f2_vec.proofs.Sums.{bit-sum_of, length-sum_of, bit-zeros, sum_of-assoc, sum_of-comm, sum_of-zeros_right, sum_of-cancel_right}
 use Rattle.f2_vec.proofs.Spans.{HaveWidth-head, HaveWidth-tail, HaveWidth-cons, HaveWidth-nil, length-combination, combination-append}
 use Rattle.f2_vec.proofs.Combinations.{HaveWidth-take}
 use Rattle.f2_vec.proofs.Spans.{HaveWidth-drop}
@@ -21,15 +21,12 @@ use Rattle.f2_matrix.proofs.Elimination.{IsEliminated, IsEliminated-skip, IsElim
 abbrev with_if : Bool → List Bool → List Bool → List Bool
 with_if b q v = if b then sum_of v q else v
 
-twice : (n : ℕ) (v q : List Bool) → length v ≡ n → length q ≡ n → sum_of (sum_of v q) q ≡ v
-twice n v q e f = sum_of-assoc v q q ∙ ap (sum_of v) (sum_of-self n q f) ∙ sum_of-zeros_right n v e
-
 with_if-sum : (n : ℕ) (a b : Bool) (q u v : List Bool) → length q ≡ n → length u ≡ n → length v ≡ n → with_if (plus a b) q (sum_of u v) ≡ sum_of (with_if a q u) (with_if b q v)
 with_if-sum n false false q u v e f g = refl
 with_if-sum n false true q u v e f g = sum_of-assoc u v q
 with_if-sum n true false q u v e f g = sum_of-assoc u v q ∙ ap (sum_of u) (sum_of-comm v q) ∙ sym (sum_of-assoc u q v)
 with_if-sum n true true q u v e f g =
-    ap (sum_of u) (sym (twice n v q g e))
+    ap (sum_of u) (sym (sum_of-cancel_right n v q g e))
     ∙ ap (sum_of u) (sum_of-comm (sum_of v q) q)
     ∙ sym (sum_of-assoc u q (sum_of v q))
 
@@ -54,7 +51,7 @@ one_row_more : (n : ℕ) (x y : Bool) (q u v : List Bool) → length q ≡ n →
 one_row_more n false false q u v e f g = ap (sum_of v) (sum_of-zeros_right n u f)
 one_row_more n false true q u v e f g = ap (sum_of v) (sum_of-zeros_right n (sum_of u q) (length-sum_of u q (f ∙ sym e) ∙ f)) ∙ sym (sum_of-assoc v u q)
 one_row_more n true false q u v e f g = ap (λ z. sum_of v (sum_of u z)) (sum_of-zeros_right n q e) ∙ sym (sum_of-assoc v u q)
-one_row_more n true true q u v e f g = ap (λ z. sum_of v (sum_of (sum_of u q) z)) (sum_of-zeros_right n q e) ∙ ap (sum_of v) (twice n u q f e)
+one_row_more n true true q u v e f g = ap (λ z. sum_of v (sum_of (sum_of u q) z)) (sum_of-zeros_right n q e) ∙ ap (sum_of v) (sum_of-cancel_right n u q f e)
 
 -- to clear by a block of one row more, itself cleared by it, is to clear by the block and then by that row
 pub cleared_at_more : (n col : ℕ) (ps : List ℕ) (b : List (List Bool)) (q v : List Bool) → HaveWidth n b → length b ≡ length ps → length q ≡ n → length v ≡ n → cleared_at n (ps ++ col ∷ []) (map (cleared q col) b ++ q ∷ []) v ≡ cleared q col (cleared_at n ps b v)

@@ -1,6 +1,6 @@
 -- The choice of candidates, one candidate more at a time.
-use Rattle.std.proofs.Common.{◌≡◌, ◌↔◌, ◌⊎◌, inl, inr, ℕ, ◌+◌, ◌<◌, ◌≤◌, Bool, true, false, if◌then◌else◌, List, [], ◌∷◌, ◌++◌, length, take, refl, sym, ◌∙◌, ap, subst, arith}
-use Rattle.std.proofs.lemmas.List.{append-nil, append_assoc, get_or_append_left, get_or_push, length_push, take-append-le, take_at, take_all, take_more}
+use Rattle.std.proofs.Common.{◌≡◌, ◌↔◌, ◌⊎◌, inl, inr, ℕ, ◌+◌, ◌<◌, Bool, true, false, if◌then◌else◌, List, [], ◌∷◌, ◌++◌, length, take, refl, sym, ◌∙◌, ap, subst, arith}
+use Rattle.std.proofs.lemmas.List.{append-nil, append_assoc, get_or_append_left, get_or_push, length_push, take-append-le, take_at, take_more}
 use Rattle.std.proofs.lemmas.Bool.{cases_lt, true≢false}
 use Rattle.f2_vec.specs.Spans.{row, HaveWidth, IsInSpan, HaveSameSpan}
 use Rattle.f2_vec.proofs.Spans.{HaveWidth-append, HaveWidth-cons, HaveWidth-nil, row-IsInSpan, span_within, HaveSameSpan_from_rows}
@@ -125,26 +125,6 @@ pub record IsChoosing (n : ℕ) (old candidates : List (List Bool)) (i : ℕ) (c
   pub image : IsRowBasis matrix.cols matrix.rows reduced.image
   pub kernel : IsKernelBasis matrix.cols matrix.rows reduced.kernel
 
-IsChoice-none : (n : ℕ) (old : List (List Bool)) → HaveWidth n old → IsChoice n old [] []
-IsChoice-none n old w = record {
-  is_chosen = record { kept = []; one_each = refl; dropped = λ i l. absurd (omega arith); chosen_are = refl };
-  old_widths = w;
-  candidate_widths = HaveWidth-nil n;
-  chosen_widths = HaveWidth-nil n;
-  same_span = λ v. (λ s. s, λ s. s);
-}
-
--- before the first candidate none is chosen
-pub IsChoosing-none : (n : ℕ) (old candidates chosen : List (List Bool)) (matrix : Rows) (reduced : Reduction) → HaveWidth n old → matrix.cols ≡ n → matrix.rows ≡ old → chosen ≡ [] → reduced.cols ≡ matrix.cols → IsRowBasis matrix.cols matrix.rows reduced.image → IsKernelBasis matrix.cols matrix.rows reduced.kernel → IsChoosing n old candidates 0 chosen matrix reduced
-IsChoosing-none n old candidates chosen matrix reduced w e f none g image kernel = record {
-  choice = subst (IsChoice n old []) (sym none) (IsChoice-none n old w);
-  cols = e;
-  rows = f ∙ (sym (append-nil old) ∙ ap (λ (z : List (List Bool)). old ++ z) (sym none));
-  reduced_cols = g;
-  image = image;
-  kernel = kernel;
-}
-
 -- the span of old and chosen is that of the reduction's image
 IsInSpan-IsChoosing : (n : ℕ) (old candidates : List (List Bool)) (i : ℕ) (chosen : List (List Bool)) (matrix : Rows) (reduced : Reduction) → IsChoosing n old candidates i chosen matrix reduced → (x : List Bool) → IsInSpan n (old ++ chosen) x ↔ IsInSpan reduced.cols reduced.image x
 IsInSpan-IsChoosing n old candidates i chosen matrix reduced p x =
@@ -176,13 +156,3 @@ IsChoosing-keep n old candidates i chosen more matrix wider reduced next x p w l
       image = image;
       kernel = kernel;
     }
-
--- the choice among all candidates
-pub IsChosen_from_IsChoosing : (n : ℕ) (old candidates : List (List Bool)) (i : ℕ) (chosen : List (List Bool)) (matrix : Rows) (reduced : Reduction) → IsChoosing n old candidates i chosen matrix reduced → length candidates ≤ i → IsChosen n old candidates chosen
-IsChosen_from_IsChoosing n old candidates i chosen matrix reduced p h = subst (λ (z : List (List Bool)). IsChosen n old z chosen) (take_all i candidates h) p.choice.is_chosen
-
-pub IsKernelBasis_from_IsChoosing : (n : ℕ) (old candidates : List (List Bool)) (i : ℕ) (chosen : List (List Bool)) (matrix : Rows) (reduced : Reduction) → IsChoosing n old candidates i chosen matrix reduced → IsKernelBasis n (old ++ chosen) reduced.kernel
-IsKernelBasis_from_IsChoosing n old candidates i chosen matrix reduced p =
-    let P : List (List Bool) → Type 0 = λ z. IsKernelBasis n z reduced.kernel in
-    let Q : ℕ → Type 0 = λ k. IsKernelBasis k matrix.rows reduced.kernel in
-    subst P p.rows (subst Q p.cols p.kernel)

@@ -4,14 +4,14 @@ use Rattle.std.specs.List.{filter}
 use Rattle.std.proofs.lemmas.Bool.{cases_Bool, cases_lt, cases_order, both_ways, false_from_ne_true, and_from, and_parts, not_from_false, not-true}
 use Rattle.std.proofs.lemmas.List.{get_or-take, get_or-take, get_or-drop, get_or-map, get_or_past, length-map, length-take-le, length-drop, take_at, drop_at, get_or_append_left, take-append-drop, take_rest, take_all}
 use Rattle.f2_vec.specs.Vectors.{zeros, bit, IsZero, IsFirstOne}
-use Rattle.f2_vec.proofs.Sums.{length-zeros, bit-zeros, zeros_from_bits}
+use Rattle.f2_vec.proofs.Sums.{length-zeros, bit-zeros, zeros_from_bits, IsZero-cons}
 use Rattle.f2_vec.specs.Spans.{row, HaveWidth, combination, IsInSpan}
 use Rattle.f2_vec.proofs.Spans.{length-combination, sum-IsInSpan, zeros-IsInSpan, row-IsInSpan, combination-IsInSpan, bit-combination_alone, bit-combination_zero, length-IsInSpan}
 use Rattle.f2_vec.proofs.Split.{combination-split, HaveWidth-left, HaveWidth-right}
 use Rattle.f2_matrix.specs.Echelon.{IsReduced, HasNoZeroRow, IsEchelonForm, IsRowBasis, IsKernelBasis}
 use Rattle.f2_matrix.specs.Reduction.{augmented, has_one, image_part, chosen_part, kernel_part}
 use Rattle.f2_matrix.specs.Preimages.{IsPreimage, ArePreimages}
-use Rattle.f2_matrix.proofs.Unique.{zero_or_first, IsZero-cons}
+use Rattle.f2_matrix.proofs.Unique.{zero_or_first}
 use Rattle.f2_matrix.proofs.Split.{combination-augmented, length-augmented}
 use Rattle.f2_matrix.proofs.Kept.{place_of, kept_at, place_of-rises, kept_somewhere}
 

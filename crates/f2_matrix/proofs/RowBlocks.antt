@@ -1,7 +1,7 @@
 -- Rows that find their pivots in order, by blocks: what is true of the rows so far, and the steps.
 use Rattle.std.proofs.Common.{◌≡◌, ◌≢◌, ℕ, ◌+◌, ◌-◌, ◌<◌, ◌≤◌, Bool, true, false, if◌then◌else◌, List, [], ◌∷◌, ◌++◌, length, map, refl, subst, ap, sym, ◌∙◌, arith, inl, inr}
 use Rattle.std.specs.List.{swap}
-use Rattle.std.proofs.lemmas.List.{ext_get_or, get_or_past, length_push}
+use Rattle.std.proofs.lemmas.List.{ext_get_or, length_push}
 use Rattle.std.proofs.lemmas.List.Edits.{length-swap}
 use Rattle.std.proofs.lemmas.Bool.{cases_lt, cases_eq, cases_order, both_ways}
 use Rattle.f2_vec.specs.Vectors.{sum_of, zeros, bit, IsZero, IsFirstOne}
@@ -12,7 +12,7 @@ use Rattle.f2_matrix.specs.Inside.RowOperations.{cleared, IsClearedBy}
 use Rattle.f2_matrix.specs.Inside.Blocks.{cleared_at, block_rows, IsClearedByBlock, IsPivotTaken}
 use Rattle.f2_matrix.specs.Inside.Rowwise.{IsNextCleared, HavePivots}
 use Rattle.f2_matrix.proofs.Elimination.{IsFirstOne-unique}
-use Rattle.f2_matrix.proofs.RowOperations.{row-swap_left, row-swap_right, row-swap_other, IsRearranged, IsRearranged-swap, HaveWidth-rearranged, HaveSameSpan-rearranged, HaveSameSpan-trans, HaveSameSpan-refl, HaveWidth-IsClearedBy, HaveSameSpan-IsClearedBy, length-row_with_one, bit-cleared_other, bit-cleared_same}
+use Rattle.f2_matrix.proofs.RowOperations.{row-swap_left, row-swap_right, row-swap_other, IsRearranged, IsRearranged-swap, HaveWidth-rearranged, HaveSameSpan-rearranged, HaveSameSpan-trans, HaveWidth-IsClearedBy, HaveSameSpan-IsClearedBy, length-row_with_one, bit-cleared_other, bit-cleared_same}
 use Rattle.f2_matrix.proofs.BlockSteps.{row-block, length-block, HaveWidth-block, length-cleared_at, cleared_at_none, IsClearedByBlock-same, seen_more, cleared_more, widths_more, carried_more}
 
 -- two equal places exchanged
@@ -26,18 +26,6 @@ swap_same xs a l =
 -- a row without a 1 at the place stays
 cleared_nothing : (q v : List Bool) (col : ℕ) → bit v col ≡ false → cleared q col v ≡ v
 cleared_nothing q v col z = ap (λ b. if b then sum_of v q else v) z
-
-pub HavePivots-start : (n : ℕ) (xs : List (List Bool)) → HaveWidth n xs → HavePivots n 0 (length xs) xs xs
-HavePivots-start n xs w = record {
-  widths = w;
-  as_many = refl;
-  same_span = HaveSameSpan-refl n xs;
-  within = omega arith;
-  end = omega arith;
-  pivots = λ i l. absurd (omega arith);
-  alone = λ i j p d l f. absurd (omega arith);
-  zero = λ i l k. ap (λ v. bit v k) (get_or_past xs i [] l);
-}
 
 -- the row at place r has its first 1 in the column col, and clears it
 pub HavePivots-more : (n r e col : ℕ) (xs rows new : List (List Bool)) → HavePivots n r e xs rows → r < e → IsFirstOne (row rows r) col → IsClearedBy r col rows new → HavePivots n (r + 1) e xs new

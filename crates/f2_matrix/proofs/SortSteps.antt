@@ -6,7 +6,6 @@ use Rattle.std.proofs.lemmas.Bool.{cases_lt, cases_eq, cases_order, cases_Bool, 
 use Rattle.f2_vec.specs.Vectors.{sum_of, bit, IsZero, IsFirstOne}
 use Rattle.f2_vec.specs.Spans.{row}
 use Rattle.f2_matrix.specs.Inside.RowOperations.{IsClearedBy}
-use Rattle.f2_matrix.specs.Inside.Rowwise.{HavePivots}
 use Rattle.f2_matrix.proofs.Elimination.{IsFirstOne-unique, IsEliminated, IsEliminated-settle}
 use Rattle.f2_matrix.proofs.RowOperations.{row-swap_left, row-swap_right, row-swap_other}
 
@@ -20,14 +19,6 @@ pub record AreUnsorted (r k : ℕ) (rows : List (List Bool)) : Type 0 where
 -- at the pivot of each of these rows stands its place
 abbrev pub AreNoted : ℕ → ℕ → List (List Bool) → List ℕ → Type 0
 AreNoted r k rows places = (i p : ℕ) → k ≤ i → i < r → IsFirstOne (row rows i) p → get_or places p 0 ≡ i
-
-pub AreUnsorted-start : (n r : ℕ) (xs rows : List (List Bool)) → HavePivots n r r xs rows → AreUnsorted r 0 rows
-AreUnsorted-start n r xs rows s = record {
-  within = omega arith;
-  pivots = λ i _ l. s.pivots i l;
-  alone = λ i j p d _ l f. s.alone i j p d l f;
-  zero = s.zero;
-}
 
 -- ---- a column in which none of these rows has its pivot
 

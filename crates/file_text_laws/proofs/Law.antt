@@ -1,6 +1,6 @@
 -- The text of a module's file describes its file, and gives the module back.
 use Rattle.std.specs.List.{flat_map}
-use Rattle.std.proofs.Common.{◌≡◌, ℕ, zero, suc, ◌+◌, ◌<◌, ◌≤◌, max, ℤ, List, [], ◌∷◌, ◌++◌, length, map, codes, None, Some, Ok, Err, Result, IsUtf8, refl, sym, ap, subst, ◌∙◌, arith}
+use Rattle.std.proofs.Common.{◌≡◌, ℕ, zero, suc, ◌+◌, ◌<◌, ◌≤◌, max, ℤ, List, [], ◌∷◌, ◌++◌, length, map, codes, None, Some, Ok, Err, IsUtf8, refl, sym, ap, subst, ◌∙◌, arith}
 use Rattle.std.proofs.lemmas.Int.{ints}
 use Rattle.json.specs.Print.{IsNumber}
 use Rattle.json.specs.Tree.{depth, items_depth, members_depth}
@@ -9,9 +9,8 @@ use Rattle.json.proofs.Printed.Utf8.{IsUtf8-are_ascii}
 use Rattle.serde_json.specs.Read.{read}
 use Rattle.serde_json.specs.Written.{outline, items_outline, members_outline}
 use Rattle.module_json.specs.Checks.{unless, size_refusal, value}
-use Rattle.module_json.specs.ModuleFile.{Generator, File, IsFileOf, described as described_by, file_of, with_entries}
+use Rattle.module_json.specs.ModuleFile.{Generator, IsFileOf, described as described_by, file_of, with_entries}
 use Rattle.module_json.specs.WellFormed.{AreByDegree}
-use Rattle.module_json.specs.declared.malformed.Malformed.{Malformed}
 use Rattle.module_json.specs.declared.malformed.Malformed.TheVariants.{Limit}
 use Rattle.module_json.specs.declared.malformed.What.TheVariants.{Bytes}
 use Rattle.module_json.proofs.Reading.{file_unique}
@@ -106,13 +105,11 @@ module _ (m : Module) (limits : AreByDegree m.generators) (is : IsModule m) (nam
 pub text_describes : TextDescribesFile
 text_describes m limits is names = describes m limits is names
 
-same_file : (f g : File) (r : Result File Malformed) → r ≡ Ok f → r ≡ Ok g → f ≡ g
-same_file f g r e h = cc
-
 pub text_gives_back : TextGivesBack
 text_gives_back m limits is names = record {
   given = λ f h.
-      let same : f ≡ file_of_module m = same_file f (file_of_module m) (Ok f) refl (file_unique (file_text m) (Ok f) (Ok (file_of_module m)) h (describes m limits is names)) in
+      let one : Ok f ≡ Ok (file_of_module m) = file_unique (file_text m) (Ok f) (Ok (file_of_module m)) h (describes m limits is names) in
+      let same : f ≡ file_of_module m = cc in
       let back = files_give_back m limits.ordered (span_small m.generators limits) is in
       subst (GivesBack m) (sym same) (record { generators = refl; accepted = back.0; values = back.1 });
   read = λ e h. let two : Err e ≡ Ok (file_of_module m) = file_unique (file_text m) (Err e) (Ok (file_of_module m)) h (describes m limits is names) in absurd cc;

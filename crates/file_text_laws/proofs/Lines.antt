@@ -3,7 +3,7 @@ use Rattle.std.specs.Prelude.{nat_le, nat_lt}
 use Rattle.std.specs.Fmt.{digits}
 use Rattle.std.specs.List.{list_all}
 use Rattle.std.proofs.Common.{◌≡◌, ℕ, Bool, true, false, not, ◌&&◌, ◌==◌, if◌then◌else◌, List, [], ◌∷◌, ◌++◌, length, codes, decimal, Some, None, option_map, option_and_then, refl, sym, ap, ◌∙◌, append_assoc}
-use Rattle.std.proofs.lemmas.Bool.{and_parts, eq-eqb, false≢true}
+use Rattle.std.proofs.lemmas.Bool.{and_parts, eq-eqb, false≢true, not-true}
 use Rattle.std.proofs.lemmas.List.Folds.{list_all-append}
 use Rattle.serde_json.specs.Data.{string}
 use Rattle.module_json.specs.Actions.{is_name, square_of, pieces, onto_first, some_word, without_empty, words, only, one_name, with_names, is_zero_word, sum_names, acting, sides, action_of}
@@ -159,11 +159,7 @@ word_is w h =
     let b = and_parts (is_without 32 w) (is_without 43 w && (is_without 61 w && not (is_zero_word (Some w)))) a.1 in
     let c = and_parts (is_without 43 w) (is_without 61 w && not (is_zero_word (Some w))) b.1 in
     let d = and_parts (is_without 61 w) (not (is_zero_word (Some w))) c.1 in
-    record { name = a.0; spaces = b.0; pluses = c.0; equals = d.0; long = at (is_zero_word (Some w)) d.1 }
-  where
-    at : (b : Bool) → not b ≡ true → b ≡ false
-    at true e = absurd (false≢true e)
-    at false e = refl
+    record { name = a.0; spaces = b.0; pluses = c.0; equals = d.0; long = not-true (is_zero_word (Some w)) d.1 }
 
 pub squares_read : IsSquare 1 × (IsSquare 2 × (IsSquare 4 × (IsSquare 8 × (IsSquare 16 × (IsSquare 32 × IsSquare 64)))))
 unfolding digits

@@ -109,9 +109,6 @@ module _ (f : File) (is_end : ℕ → Bool) (plain : ArePlain is_end f.entries) 
       part : IsPart f.generators f.entries (derived_from f [] (elements (span f.generators + 1)))
       part = part_derived (span f.generators + 1) [] (elements (span f.generators + 1)) [] [] (sym (append-nil (elements (span f.generators + 1)))) refl (part_nil f.generators f.entries)
 
-      top_width : List ℕ → List ℕ → ℕ → ℕ
-      top_width r s i = width f.generators (degree_at f.generators i +ℤ pos (degree_of r + degree_of s))
-
       none_first : (r s : List ℕ) (i : ℕ) → 0 < degree_of r → 0 < degree_of s → one_by_one (derived_module f) r s i ≡ zeros (width f.generators (degree_at f.generators i +ℤ pos (degree_of r + degree_of s)))
       none_first r s i pr ps =
           let up : (degree_at f.generators i +ℤ pos (degree_of s)) +ℤ pos (degree_of r) ≡ degree_at f.generators i +ℤ pos (degree_of r + degree_of s) = omega (arith, ints) in

@@ -6,6 +6,7 @@ use Rattle.std.proofs.lemmas.List.{take_more, map-append, append-nil, length-tak
 use Rattle.std.proofs.lemmas.List.FromFn.{length-range_with_len}
 use Rattle.f2_vec.specs.Vectors.{IsZero}
 use Rattle.f2_vec.proofs.Ones.{range_more, items_where_true-push}
+use Rattle.f2_vec.proofs.Sums.{IsZero-cons}
 use Rattle.milnor_basis.specs.Exponents.{degree_of, trimmed}
 use Rattle.module_json.specs.ModuleFile.{degree_at}
 use Rattle.finite_module.specs.Module.{Module, width, value}
@@ -63,10 +64,6 @@ items_where_true-all v start end i numbers generators h z w g e =
     let all : take (end - start) v ≡ v = take_all (end - start) v (omega arith) in
     e ∙ ap (λ j. items_where_true (take (j - start) v) (range_with_len start (j - start))) z ∙ ap (λ u. items_where_true u (range_with_len start (end - start))) all ∙ ap (items_where_true v) (sym g)
 
-zero_before : (v : List Bool) → IsZero v → IsZero (false ∷ v)
-zero_before v z zero = refl
-zero_before v z (suc k) = z k
-
 pub any_none : (v : List Bool) → IsZero v → list_any (λ b. b) v ≡ false
 any_none [] z = refl
 any_none (true ∷ v) z = z 0
@@ -75,7 +72,7 @@ any_none (false ∷ v) z = any_none v (λ k. z (suc k))
 pub any_some : (v : List Bool) → ¬ IsZero v → list_any (λ b. b) v ≡ true
 any_some [] h = absurd (h (λ k. refl))
 any_some (true ∷ v) h = refl
-any_some (false ∷ v) h = any_some v (λ z. h (zero_before v z))
+any_some (false ∷ v) h = any_some v (λ z. h (IsZero-cons v z))
 
 -- what square_line makes of a value
 abbrev written : Module → ℕ → ℕ → Bool → List Bool → List ℕ

@@ -1,6 +1,6 @@
 pub mod BlockSteps
 pub mod FreeBasis
-pub mod Generators
+mod Generators
 pub mod MapRows
-pub mod TermSums
-mod PairSums
+mod TermSums
+pub mod PairSums

@@ -58,8 +58,8 @@ module _ (rows : List (List Bool)) (r at : ℕ) (w : List Bool) (there : r < len
         | inr d ↦ ne_eqb i at d ∙ sym (ne_eqb at i (λ s. d (sym s)))
       ]
 
-moved : (o i j : ℕ) → nat_eq (o + i) (o + j) ≡ nat_eq i j
-moved o i j = elim (cases_eq i j) [
+pub nat_eq-moved : (o i j : ℕ) → nat_eq (o + i) (o + j) ≡ nat_eq i j
+nat_eq-moved o i j = elim (cases_eq i j) [
   | inl e ↦ let s : o + i ≡ o + j = omega arith in eq-eqb (o + i) (o + j) s ∙ sym (eq-eqb i j e)
   | inr d ↦ let s : o + i ≢ o + j = (λ e. d (omega arith)) in ne_eqb (o + i) (o + j) s ∙ sym (ne_eqb i j d)
 ]
@@ -84,7 +84,7 @@ adds_more offset pairs n before rows r t w so_far within er et there room is = r
       odd_at-take pairs n k j within ∙ ap (λ i. plus (nat_eq i k && nat_eq (get_or pairs n (0, 0)).1 j) rest) (sym er) ∙ ap (λ i. plus (nat_eq r k && nat_eq i j) rest) (sym et)
       in
       bit-flipped rows r (offset + t) w there room is k (offset + j)
-      ∙ ap (λ b. plus (nat_eq r k && b) (bit (row rows k) (offset + j))) (moved offset t j)
+      ∙ ap (λ b. plus (nat_eq r k && b) (bit (row rows k) (offset + j))) (nat_eq-moved offset t j)
       ∙ ap (plus here) (so_far.above k j)
       ∙ sym (plus-assoc here rest old)
       ∙ ap (λ b. plus b old) (sym new);

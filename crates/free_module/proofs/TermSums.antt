@@ -136,9 +136,6 @@ terms_more max ds a t v i xs g s h w l at deg reach are =
       room = by (bit v i);
     }
   where
-    HasRoomHere : Term → Type 0
-    HasRoomHere = HasRoom max (free_width ds (t +ℤ pos a)) a
-
     by : (b : Bool) → All (HasRoom max (free_width ds (t +ℤ pos a)) a) (xs ++ if_one b (term_at (free_width (take g ds) (t +ℤ pos a)) s))
     by false = subst (All (HasRoom max (free_width ds (t +ℤ pos a)) a)) (sym (append-nil xs)) are.room
     by true =

@@ -2,15 +2,15 @@
 use Rattle.std.proofs.Common.{◌≡◌, ◌⊎◌, inl, inr, ℕ, zero, suc, ◌<◌, ℤ, pos, ◌+ℤ◌, ◌-ℤ◌, Bool, true, false, ◌&&◌, nat_eq, List, [], ◌∷◌, length, map, ap, subst, ◌∙◌, arith}
 use Rattle.std.proofs.lemmas.Int.{ints}
 use Rattle.std.proofs.lemmas.Bool.{cases_lt, ne_eqb}
-use Rattle.std.proofs.lemmas.List.{length-map, get_or-map, nil_from_length}
+use Rattle.std.proofs.lemmas.List.{length-map, get_or-map}
 use Rattle.f2_vec.specs.Vectors.{bit, plus}
 use Rattle.f2_vec.specs.Spans.{row, HaveWidth, combination}
 use Rattle.f2_vec.proofs.Sums.{bit-zeros}
 use Rattle.f2_vec.proofs.Spans.{HaveWidth-tail, bit-combination-cons, bit-combination_zero}
 use Rattle.f2_vec.proofs.Combinations.{HaveWidth-map}
-use Rattle.milnor_basis.specs.Exponents.{degree_of, IsTrimmed}
+use Rattle.milnor_basis.specs.Exponents.{degree_of}
 use Rattle.milnor_basis.specs.Product.{coefficient}
-use Rattle.milnor_basis.proofs.ExponentLemmas.{length_within}
+use Rattle.milnor_basis.proofs.ExponentLemmas.{of_degree_zero}
 use Rattle.free_module.specs.FreeModule.{degree_at, free_basis, free_width, acted, free_action}
 use Rattle.free_module.specs.FreeBasis.{element}
 use Rattle.free_module.specs.Inside.FreeLaws.{coefficient_at}
@@ -20,8 +20,6 @@ use Rattle.lift_laws.specs.Maps.{shifted, value_of, extended}
 use Rattle.lift_laws.proofs.Facts.{HasNoBare}
 
 -- Sq() is the one operation of degree 0
-pub of_degree_zero : (r : List ℕ) → IsTrimmed r → degree_of r ≡ 0 → r ≡ []
-of_degree_zero r trimmed e = nil_from_length r (let n = length_within r trimmed in omega arith)
 
 -- where each row with the coefficient 1 has a 0, so has the combination
 pub bit-combination_where : (n : ℕ) (c : List Bool) (rows : List (List Bool)) (k : ℕ) → HaveWidth n rows → ((i : ℕ) → i < length rows → (bit c i ≡ false) ⊎ (bit (row rows i) k ≡ false)) → bit (combination n c rows) k ≡ false

@@ -1,8 +1,8 @@
 -- A lift over tables is a lift over the tables cut to fewer degrees, as far as these go.
-use Rattle.std.proofs.Common.{◌≡◌, ◌-◌, inr, inl, ℕ, zero, suc, ◌+◌, ◌<◌, ◌≤◌, ℤ, pos, ◌+ℤ◌, ◌-ℤ◌, ◌≤ℤ◌, ◌<ℤ◌, Bool, List, [], ◌∷◌, ◌++◌, length, map, take, drop, refl, ap, sym, subst, ◌∙◌, arith}
+use Rattle.std.proofs.Common.{◌≡◌, ◌-◌, inr, inl, ℕ, zero, suc, ◌+◌, ◌<◌, ◌≤◌, ℤ, pos, ◌+ℤ◌, ◌-ℤ◌, ◌≤ℤ◌, ◌<ℤ◌, Bool, List, [], ◌++◌, length, map, take, drop, refl, ap, sym, subst, ◌∙◌, arith}
 use Rattle.std.proofs.lemmas.Int.{ints}
 use Rattle.std.proofs.lemmas.Bool.{cases_lt}
-use Rattle.std.proofs.lemmas.List.{append_assoc, get_or_append_left, length-append, get_or-append_right}
+use Rattle.std.proofs.lemmas.List.{get_or_append_left, length-append, get_or-append_right}
 use Rattle.f2_vec.specs.Spans.{row, combination}
 use Rattle.f2_vec.proofs.Combinations.{map_same_all}
 use Rattle.free_module.specs.FreeModule.{degree_at, free_basis, free_width}
@@ -12,15 +12,9 @@ use Rattle.free_module.proofs.FreeBasis.{All-free_basis}
 use Rattle.resolution_laws.specs.Resolution.{Module, Content, degrees_from, images_of, row_of}
 use Rattle.resolution_laws.specs.Exactness.{target_of}
 use Rattle.resolution_laws.proofs.Rows.{degrees_from-between, degrees_from-split, free_basis-take}
-use Rattle.resolution_laws.proofs.Generators.{length-images_of, AgreeIn, AgreeIn-take}
+use Rattle.resolution_laws.proofs.Generators.{length-images_of, AgreeIn, AgreeIn-take, images_of-split}
 use Rattle.lift_laws.specs.Maps.{shifted, value_of, extended}
 use Rattle.lift_laws.specs.Lifts.{Resolution, gens, degree, free, image, d, lowered, IsLift}
-
-images_of-split : (squares : List Content) (n : ℕ) → images_of squares ≡ images_of (take n squares) ++ images_of (drop n squares)
-images_of-split squares zero = refl
-images_of-split [] (suc n) = refl
-images_of-split (x ∷ squares) (suc n) =
-    ap (λ (z : List (List Bool)). x.images ++ z) (images_of-split squares n) ∙ sym (append_assoc x.images (images_of (take n squares)) (images_of (drop n squares)))
 
 pub AgreeIn-shifted : (x t : ℤ) (m n : GradedModule) → AgreeIn (t -ℤ x) m n → AgreeIn t (shifted x m) (shifted x n)
 AgreeIn-shifted x t m n a = record { width = a.width; action = λ r u v e. a.action r (u -ℤ x) v (omega (arith, ints)) }

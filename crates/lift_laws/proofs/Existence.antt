@@ -8,6 +8,7 @@ use Rattle.f2_vec.specs.Spans.{row, HaveWidth, IsInSpan}
 use Rattle.f2_vec.proofs.Sums.{length-zeros, bit-zeros, zeros_from_bits}
 use Rattle.f2_vec.proofs.Spans.{length-combination}
 use Rattle.milnor_basis.specs.Exponents.{degree_of}
+use Rattle.milnor_basis.proofs.ExponentLemmas.{of_degree_zero}
 use Rattle.free_module.specs.FreeModule.{degree_at, free_basis, free_width}
 use Rattle.free_module.specs.FreeBasis.{element}
 use Rattle.free_module.specs.Graded.{IsSteenrodModule}
@@ -18,7 +19,7 @@ use Rattle.lift_laws.specs.Maps.{shifted, value_of, extended, FitThrough}
 use Rattle.lift_laws.specs.Lifts.{Resolution, gens, degree, free, image, d, lowered, IsLift, dual_of, IsSphere, HasLift, EachClassLifts}
 use Rattle.lift_laws.proofs.Linear.{IsMap-shifted, IsMap-extended, map-zeros, HaveWidth-extended, length-extended, extended-same, extended-after, IsSteenrodModule-shifted}
 use Rattle.lift_laws.proofs.Facts.{HasNoBare, below, above, placed, IsMap-d, preimage, image-HasNoBare}
-use Rattle.lift_laws.proofs.Bare.{bit-combination_where, of_degree_zero}
+use Rattle.lift_laws.proofs.Bare.{bit-combination_where}
 use Rattle.lift_laws.proofs.Remainder.{d-image, pick, is_there, IsThere}
 use Rattle.lift_laws.proofs.ChainMaps.{lift-commutes}
 use Rattle.milnor_laws.proofs.FreeModules.{free_modules_are_modules}

@@ -3,7 +3,7 @@ use Rattle.std.proofs.Common.{◌≡◌, ℕ, ◌+◌, ◌<◌, ◌≤◌, ℤ, 
 use Rattle.std.proofs.lemmas.Int.{ints}
 use Rattle.std.proofs.lemmas.List.{ext_get_or, get_or-drop, length-drop}
 use Rattle.f2_vec.specs.Vectors.{bit, sum_of, zeros}
-use Rattle.f2_vec.proofs.Sums.{bit-sum_of, sum_of-self}
+use Rattle.f2_vec.proofs.Sums.{bit-sum_of, sum_of-self, same_from_plus}
 use Rattle.free_module.specs.FreeModule.{free_basis, free_width}
 use Rattle.free_module.specs.FreeBasis.{element}
 use Rattle.resolution_laws.specs.Resolution.{row_of}
@@ -12,7 +12,7 @@ use Rattle.lift_laws.specs.Lifts.{Resolution, gens, degree, IsLift}
 use Rattle.lift_laws.specs.Products.{first_of, count_of, old_width, coefficients, coefficient_of, LiftsGiveOneProduct}
 use Rattle.lift_laws.proofs.Facts.{IsMap-d}
 use Rattle.lift_laws.proofs.Remainder.{null-HasNoBare}
-use Rattle.lift_laws.proofs.Sums.{plus-same, IsLift-sum, IsLift-start}
+use Rattle.lift_laws.proofs.Sums.{IsLift-sum, IsLift-start}
 use Rattle.lift_laws.proofs.Coefficients.{map_range, width-parts, is_new}
 use Rattle.lift_laws.proofs.Resolved.{IsResolved, is_resolved}
 
@@ -36,7 +36,7 @@ module _ (r q : Resolution) (rs rt qs qt : ℕ) (p : IsResolved r rs rt) (o : Is
         let fa = a.fit upto i (omega arith) row g there low in
         let fb = b.fit upto i (omega arith) row g there low in
         let none : bit (sum_of (phi upto g) (psi upto g)) j ≡ false = null-HasNoBare r q rs rt qs qt p o s x upto top (λ k g. sum_of (phi k g) (psi k g)) inside within reach (IsLift-difference z phi psi a b) i g row there low j h bare in
-        plus-same (bit (phi upto g) j) (bit (psi upto g) j) (sym (bit-sum_of (phi upto g) (psi upto g) j (fa ∙ sym fb)) ∙ none)
+        same_from_plus (bit (phi upto g) j) (bit (psi upto g) j) (sym (bit-sum_of (phi upto g) (psi upto g) j (fa ∙ sym fb)) ∙ none)
 
     pub coefficient-agrees : (m k : ℕ) → m < length (row_of q.table upto) → degree r i g -ℤ x ≡ q.base.bottom +ℤ pos m → k < count_of q upto m → bit (phi upto g) (old_width q upto m + k) ≡ bit (psi upto g) (old_width q upto m + k)
     coefficient-agrees m k h deg l =

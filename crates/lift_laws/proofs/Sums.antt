@@ -1,7 +1,7 @@
 -- Sums of lifts.
-use Rattle.std.proofs.Common.{◌≡◌, ℕ, suc, ◌+◌, ◌<◌, ◌≤◌, ℤ, ◌-ℤ◌, ◌≤ℤ◌, Bool, true, false, List, length, refl, ap, sym, ◌∙◌, arith}
+use Rattle.std.proofs.Common.{◌≡◌, ℕ, suc, ◌+◌, ◌<◌, ◌≤◌, ℤ, ◌-ℤ◌, ◌≤ℤ◌, Bool, List, length, ap, sym, ◌∙◌, arith}
 use Rattle.std.proofs.lemmas.Int.{ints}
-use Rattle.f2_vec.specs.Vectors.{plus, sum_of}
+use Rattle.f2_vec.specs.Vectors.{sum_of}
 use Rattle.f2_vec.proofs.Sums.{length-sum_of}
 use Rattle.free_module.specs.Graded.{IsSteenrodModule}
 use Rattle.lift_laws.specs.Maps.{shifted}
@@ -12,11 +12,6 @@ use Rattle.milnor_laws.proofs.FreeModules.{free_modules_are_modules}
 use Rattle.lift_laws.proofs.Resolved.{IsResolved}
 
 -- a sum of bits that is zero: the bits are equal
-pub plus-same : (a b : Bool) → plus a b ≡ false → a ≡ b
-plus-same true true e = refl
-plus-same true false e = cc
-plus-same false true e = cc
-plus-same false false e = refl
 
 module _ (r q : Resolution) (qs qt : ℕ) (o : IsResolved q qs qt)
     (s : ℕ) (x : ℤ) (upto : ℕ) (top : ℤ) (within : upto ≤ qs) where

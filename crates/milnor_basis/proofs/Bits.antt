@@ -60,10 +60,6 @@ flipped bits at k b l e =
     ∙ ap (plus (bit bits k)) (bit-unit_vector (length bits) at k l ∙ e)
     ∙ plus-comm (bit bits k) b
 
--- no bit is turned over for a list that is no element
-pub turns_none : (degree : ℕ) (xs : List ℕ) (bits : List Bool) → length bits ≡ length (basis_of degree) → ((k : ℕ) → k < length (basis_of degree) → trimmed xs ≢ element degree k) → TurnsOverEqual degree xs bits bits
-turns_none degree xs bits e none k l = let off = other_exponents (trimmed xs) (element degree k) (none k (omega arith)) in rw off refl
-
 -- the bit of the element at `place` is turned over
 pub turns_one : (degree place : ℕ) (xs : List ℕ) (bits : List Bool) → length bits ≡ length (basis_of degree) → slice_get (basis_of degree) place ≡ Some (trimmed xs) → TurnsOverEqual degree xs bits (sum_of bits (unit_vector (length bits) place))
 turns_one degree place xs bits e at k l =

@@ -6,7 +6,7 @@ use Rattle.std.proofs.lemmas.Bool.{cases_eq}
 use Rattle.std.proofs.lemmas.Slice.Eq.{bytes_eq-Decides}
 use Rattle.std.proofs.Math.Nat.{pow-suc}
 use Rattle.std.proofs.lemmas.Nat.{mul-le}
-use Rattle.std.proofs.lemmas.List.{get_or_past, drop_more}
+use Rattle.std.proofs.lemmas.List.{get_or_past, drop_more, nil_from_length}
 use Rattle.milnor_basis.specs.Exponents.{entry, degree_from, degree_of, put_before, trimmed, IsTrimmed}
 use Rattle.milnor_basis.specs.Inside.Padding.{padded, padded-trimmed}
 
@@ -214,6 +214,10 @@ length_within rs h = by (length rs) refl
         let power : 1 + j < 2 ^ (1 + j) = below_power (1 + j) in
         let least : 1 * (2 ^ (1 + j) - 1) ≤ entry rs j * (2 ^ (1 + j) - 1) = mul-le 1 (2 ^ (1 + j) - 1) (entry rs j) (2 ^ (1 + j) - 1) last (omega arith) in
         omega arith
+
+-- Sq() is the one basis element of degree 0
+pub of_degree_zero : (rs : List ℕ) → IsTrimmed rs → degree_of rs ≡ 0 → rs ≡ []
+of_degree_zero rs h e = nil_from_length rs (let few = length_within rs h in omega arith)
 
 -- zeros at the end may be cut off
 pub trimmed-zeros : (xs : List ℕ) → ((i : ℕ) → entry xs i ≡ 0) → trimmed xs ≡ []

@@ -45,12 +45,6 @@ front_of_degree (x ∷ r) = omega (arith, degree_of-front x r)
 pub front_small : (r : List ℕ) (i : ℕ) → front (drop i r) ≤ degree_of r
 front_small r i = omega (arith, front_within r i, front_of_degree r)
 
-pub front_end : (r : List ℕ) (i : ℕ) → length r ≤ i → front (drop i r) ≡ 0
-front_end [] zero l = refl
-front_end [] (suc i) l = refl
-front_end (x ∷ r) zero l = absurd (omega arith)
-front_end (x ∷ r) (suc i) l = front_end r i (omega arith)
-
 -- the last number of a list without zeros at its end is not 0, so its front is not
 front_positive : (n : ℕ) (r : List ℕ) → length r ≡ suc n → IsTrimmed r → 0 < front r
 front_positive n r e t =

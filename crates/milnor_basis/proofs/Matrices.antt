@@ -5,6 +5,7 @@ use Rattle.std.specs.List.{range_with_len, list_all, sum, fold, filter, flat_map
 use Rattle.std.specs.Cmp.Lexicographic.{pointwise}
 use Rattle.std.proofs.lemmas.List.{append-nil}
 use Rattle.std.proofs.lemmas.List.Sums.{sum_by-cons}
+use Rattle.std.proofs.Math.Bool.{and_assoc}
 use Rattle.f2_vec.proofs.Sums.{plus-false}
 use Rattle.milnor_basis.specs.Exponents.{entry}
 use Rattle.milnor_basis.specs.Product.{Matrix, zero_matrix, put, places, matrices, row_sum, column_sum, diagonal, diagonal_sums, multinomial, is_odd, counts, product_diagonals, coefficient, odd_by}
@@ -105,10 +106,7 @@ odd_product f a [] = and-true (is_odd a) where
   and-true : (b : Bool) → b ≡ (b && true)
   and-true true = refl
   and-true false = refl
-odd_product f a (k ∷ ks) = odd_product f (a * f k) ks ∙ ap (λ b. b && list_all (λ k. is_odd (f k)) ks) (odd-times a (f k)) ∙ assoc (is_odd a) (is_odd (f k)) (list_all (λ k. is_odd (f k)) ks) where
-  assoc : (a b c : Bool) → ((a && b) && c) ≡ (a && (b && c))
-  assoc true b c = refl
-  assoc false b c = refl
+odd_product f a (k ∷ ks) = odd_product f (a * f k) ks ∙ ap (λ b. b && list_all (λ k. is_odd (f k)) ks) (odd-times a (f k)) ∙ and_assoc (is_odd a) (is_odd (f k)) (list_all (λ k. is_odd (f k)) ks)
 
 -- the coefficient of Sq(T)
 pub coefficient-fillings : (r s t : List ℕ) → coefficient r s t ≡ fillings add (suc (sum r + sum s)) (places_to (length s) (length r) (length s)) (are_sums_of r s t) no_sums

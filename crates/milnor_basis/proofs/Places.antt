@@ -1,7 +1,7 @@
 -- The places of a basis: what stands there, that it stands there once, and Sq() on it.
-use Rattle.std.proofs.Common.{◌≡◌, ◌≢◌, true, false, nat_eq, ℕ, ◌<◌, Bool, List, [], length, get_or, refl, ap, sym, arith}
+use Rattle.std.proofs.Common.{◌≡◌, ◌≢◌, true, false, nat_eq, ℕ, ◌<◌, Bool, List, [], length, get_or, refl, ap, sym, ◌∙◌, arith}
 use Rattle.std.specs.Cmp.Lexicographic.{pointwise, same_text, other_text}
-use Rattle.std.proofs.lemmas.List.{get_or_default}
+use Rattle.std.proofs.lemmas.List.{get_or_default, get_or_read}
 use Rattle.milnor_basis.specs.Exponents.{entry, degree_of, IsTrimmed, IsRightLexBelow}
 use Rattle.milnor_basis.specs.Basis.{basis_of}
 use Rattle.milnor_basis.specs.Product.{coefficient}
@@ -10,6 +10,13 @@ use Rattle.milnor_basis.proofs.LeftUnit.{product_has_left_unit}
 
 pub basis_of-member : (n i : ℕ) → i < length (basis_of n) → IsTrimmed (get_or (basis_of n) i []) × (degree_of (get_or (basis_of n) i []) ≡ n)
 basis_of-member n i h = ((basis_is_milnors n).members (get_or (basis_of n) i [])).0 (i, h, get_or_default (basis_of n) i (get_or (basis_of n) i []) [] h)
+
+-- x is read at place k of the items
+pub degree_of-read : (n k : ℕ) (items : List (List ℕ)) (x : List ℕ) → items ≡ basis_of n → k < length items → x ≡ get_or items k x → degree_of x ≡ n
+degree_of-read n k items x e l i =
+    let w : k < length (basis_of n) = omega (arith, ap length e) in
+    let y : x ≡ get_or (basis_of n) k [] = get_or_read items k x l i [] ∙ ap (λ xs. get_or xs k []) e in
+    ap degree_of y ∙ (basis_of-member n k w).1
 
 below_itself : (r s : List ℕ) → r ≡ s → IsRightLexBelow r s → ⊥
 below_itself r s e b =

@@ -2,6 +2,7 @@
 use Rattle.std.proofs.Common.{◌≡◌, ℕ, ◌+◌, ◌<◌, ◌≤◌, Bool, true, false, List, [], ◌∷◌, ◌++◌, length, map, take, cond, refl, sym, ◌∙◌, ap, arith, slice_index, slice_index_or}
 use Rattle.std.specs.List.{filter}
 use Rattle.std.proofs.lemmas.List.{append-nil, ext_get_or, get_or-map, length-map, take_more, take_all}
+use Rattle.std.proofs.lemmas.List.Elements.{filter-append}
 use Rattle.f2_vec.specs.Vectors.{plus}
 use Rattle.f2_vec.proofs.Sums.{plus-false}
 use Rattle.milnor_basis.specs.Exponents.{entry, degree_of}
@@ -52,25 +53,18 @@ terms_are r s degree elements terms bits d e b chosen =
 abbrev pub ChosenSoFar : List (List ℕ) → List Bool → ℕ → List (List ℕ) → Type 0
 ChosenSoFar elements bits i chosen = (test : List ℕ → Bool) → ((k : ℕ) → k < length elements → slice_index_or bits k false ≡ test (slice_index_or elements k [])) → chosen ≡ filter test (take i elements)
 
-filter_push : (test : List ℕ → Bool) (xs : List (List ℕ)) (y : List ℕ) → filter test (xs ++ y ∷ []) ≡ filter test xs ++ cond (test y) (y ∷ []) []
-filter_push test [] y = refl
-filter_push test (x ∷ xs) y = at (test x) (filter_push test xs y) where
-  at : (b : Bool) → filter test (xs ++ y ∷ []) ≡ filter test xs ++ cond (test y) (y ∷ []) [] → cond b (x ∷ filter test (xs ++ y ∷ [])) (filter test (xs ++ y ∷ [])) ≡ cond b (x ∷ filter test xs) (filter test xs) ++ cond (test y) (y ∷ []) []
-  at true e = ap (λ ys. x ∷ ys) e
-  at false e = e
-
 module _ (elements : List (List ℕ)) (bits : List Bool) (i : ℕ) (chosen : List (List ℕ)) (within : i < length elements) (so_far : ChosenSoFar elements bits i chosen) where
   pub chosen_more : slice_index_or bits i false ≡ true → ChosenSoFar elements bits (i + 1) (chosen ++ slice_index_or elements i [] ∷ [])
   chosen_more set test is =
       let yes : test (slice_index_or elements i []) ≡ true = sym (is i within) ∙ set in
-      let step : filter test (take (i + 1) elements) ≡ filter test (take i elements) ++ cond (test (slice_index_or elements i [])) (slice_index_or elements i [] ∷ []) [] = ap (filter test) (take_more elements i [] within) ∙ filter_push test (take i elements) (slice_index_or elements i []) in
+      let step : filter test (take (i + 1) elements) ≡ filter test (take i elements) ++ cond (test (slice_index_or elements i [])) (slice_index_or elements i [] ∷ []) [] = ap (filter test) (take_more elements i [] within) ∙ filter-append test (take i elements) (slice_index_or elements i [] ∷ []) in
       ap (λ xs. xs ++ slice_index_or elements i [] ∷ []) (so_far test is)
       ∙ sym (step ∙ ap (λ b. filter test (take i elements) ++ cond b (slice_index_or elements i [] ∷ []) []) yes)
 
   pub chosen_skip : slice_index_or bits i false ≡ false → ChosenSoFar elements bits (i + 1) chosen
   chosen_skip clear test is =
       let no : test (slice_index_or elements i []) ≡ false = sym (is i within) ∙ clear in
-      let step : filter test (take (i + 1) elements) ≡ filter test (take i elements) ++ cond (test (slice_index_or elements i [])) (slice_index_or elements i [] ∷ []) [] = ap (filter test) (take_more elements i [] within) ∙ filter_push test (take i elements) (slice_index_or elements i []) in
+      let step : filter test (take (i + 1) elements) ≡ filter test (take i elements) ++ cond (test (slice_index_or elements i [])) (slice_index_or elements i [] ∷ []) [] = ap (filter test) (take_more elements i [] within) ∙ filter-append test (take i elements) (slice_index_or elements i [] ∷ []) in
       so_far test is ∙ sym (step ∙ ap (λ b. filter test (take i elements) ++ cond b (slice_index_or elements i [] ∷ []) []) no ∙ append-nil (filter test (take i elements)))
 
 pub all_chosen : (elements : List (List ℕ)) (bits : List Bool) (i : ℕ) (chosen : List (List ℕ)) → length elements ≤ i → ChosenSoFar elements bits i chosen → AreChosen elements bits chosen

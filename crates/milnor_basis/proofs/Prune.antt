@@ -5,6 +5,7 @@ use Rattle.std.proofs.lemmas.Nat.{pow_pos}
 use Rattle.std.specs.List.{range_with_len, list_all}
 use Rattle.std.proofs.lemmas.Bool.{eq-eqb, ne_eqb, eqb-true, eqb-false, leb-true, leb-false, cases_Bool}
 use Rattle.std.specs.Cmp.Lexicographic.{pointwise}
+use Rattle.std.proofs.Math.Bool.{and-false}
 use Rattle.milnor_basis.specs.Exponents.{entry, trimmed}
 use Rattle.milnor_basis.specs.Inside.Walk.{fillings, places_to, Sums, add_at, add, are_sums_of, IsLeft, least, greatest, next_row, next_column}
 use Rattle.milnor_basis.proofs.Parity.{is_odd_below-none}
@@ -41,12 +42,8 @@ list_all-fails p a zero i l m h = absurd (omega arith)
 list_all-fails p a (suc n) i l m h = elim (cases_Bool (nat_eq a i)) [
   | inl e ↦ let pa : p a ≡ false = ap p (eqb-true a i e) ∙ h in rw pa refl
   | inr e ↦ let other : a ≢ i = eqb-false a i e in
-      rw (list_all-fails p (a + 1) n i (omega arith) (omega arith) h) (none (p a))
+      rw (list_all-fails p (a + 1) n i (omega arith) (omega arith) h) (and-false (p a))
 ]
-  where
-    none : (b : Bool) → (b && false) ≡ false
-    none true = refl
-    none false = refl
 
 -- sums that differ from what R and S ask do not pass
 module _ (r s t : List ℕ) (x : Sums) where

@@ -8,15 +8,7 @@ use Rattle.f2_vec.proofs.Combinations.{HaveWidth-take, combination_more}
 use Rattle.milnor_basis.specs.Exponents.{degree_of}
 use Rattle.milnor_basis.specs.Basis.{basis_of}
 use Rattle.milnor_basis.specs.Product.{coefficient, product_bits}
-use Rattle.milnor_basis.proofs.Places.{basis_of-member}
 use Rattle.milnor_product.proofs.Multiples.{HaveWidth-products}
-
--- x is read at place k of the items
-pub degree_of-read : (n k : ℕ) (items : List (List ℕ)) (x : List ℕ) → items ≡ basis_of n → k < length items → x ≡ get_or items k x → degree_of x ≡ n
-degree_of-read n k items x e l i =
-    let w : k < length (basis_of n) = omega (arith, ap length e) in
-    let y : x ≡ get_or (basis_of n) k [] = get_or_read items k x l i [] ∙ ap (λ xs. get_or xs k []) e in
-    ap degree_of y ∙ (basis_of-member n k w).1
 
 -- the sum of the first i multiples
 abbrev pub partial : List ℕ → ℕ → List Bool → ℕ → List Bool

@@ -1,8 +1,8 @@
-pub mod SplittingLists
-pub mod Entries
+mod SplittingLists
+mod Entries
 pub mod LimitCases
-pub mod Constructed
-pub mod OperatorLists
-pub mod Duals
-pub mod Arms
-pub mod FileSteps
+mod Constructed
+mod OperatorLists
+mod Duals
+mod Arms
+mod FileSteps

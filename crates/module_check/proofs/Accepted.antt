@@ -13,20 +13,20 @@ use Rattle.module_json.specs.ModuleFile.{File, degree_at}
 use Rattle.finite_module.specs.Module.{Module, width}
 use Rattle.finite_module.specs.DerivedAction.{span, derived_module}
 use Rattle.module_json.specs.WellFormed.{NeverFall}
+use Rattle.module_json.proofs.Basis.{option_or-none}
 use Rattle.finite_module.specs.Axioms.{IsModule, one_by_one, by_their_product}
 use Rattle.module_check.specs.Acceptance.{first_in, relation_on, relation_of, relation_in_degrees, relation_in_degree, first_relation, listed_from, refusal_of, AcceptedIsModule}
 use Rattle.module_check.specs.declared.fault.CheckFault.TheVariants.{Relation}
 use Rattle.finite_module.proofs.AboveSpan.{width_above_span}
 use Rattle.finite_module.proofs.Derived.{derived_widths, derived_identity}
 use Rattle.finite_module.proofs.Values.{both_empty}
-use Rattle.module_check.proofs.FirstIn.{option_or_none}
 use Rattle.module_check.proofs.Sides.{same_vectors, length-one_by_one, length-by_their_product}
 
 -- a function that gives no answer on a list gives none at an element
 pub first_in_none : {A B : Type 0} (f : A → Option B) (xs : List A) → first_in f xs ≡ None → (k : ℕ) (d : A) → k < length xs → f (get_or xs k d) ≡ None
 first_in_none f [] h k d l = absurd (omega arith)
-first_in_none f (x ∷ xs) h zero d l = (option_or_none (f x) (first_in f xs) h).0
-first_in_none f (x ∷ xs) h (suc k) d l = first_in_none f xs (option_or_none (f x) (first_in f xs) h).1 k d (omega arith)
+first_in_none f (x ∷ xs) h zero d l = (option_or-none (f x) (first_in f xs) h).0
+first_in_none f (x ∷ xs) h (suc k) d l = first_in_none f xs (option_or-none (f x) (first_in f xs) h).1 k d (omega arith)
 
 pub first_in_none_at : {A B : Type 0} (f : A → Option B) (xs : List A) (x : A) → first_in f xs ≡ None → Contains xs x → f x ≡ None
 first_in_none_at f xs x h (k, l, e) = subst (λ y. f y ≡ None) e (first_in_none f xs h k x l)
@@ -69,7 +69,7 @@ accepted_is_module f o h =
       widths = λ r i. derived_widths f r i;
       relations = λ r s i tr ts pr ps l. elim (cases_lt (span f.generators) (degree_of r + degree_of s)) [
         | inl past ↦ relation_past f r s i o past l
-        | inr within ↦ relation_within (derived_module f) r s i (option_or_none (listed_from (derived_module f) 0 f.entries) (first_relation (derived_module f)) h).1 tr ts pr ps within l
+        | inr within ↦ relation_within (derived_module f) r s i (option_or-none (listed_from (derived_module f) 0 f.entries) (first_relation (derived_module f)) h).1 tr ts pr ps within l
       ];
     }
 

@@ -1,5 +1,5 @@
 -- Squares by the Adem relations: binomials mod 2, the power of two in the relation, what a file lists, and the sum of terms.
-use Rattle.std.proofs.Common.{◌≡◌, ℕ, zero, suc, ◌+◌, ◌-◌, ◌*◌, ◌/◌, ◌<◌, ◌≤◌, pos, ◌+ℤ◌, Bool, true, false, ◌&&◌, ◌==◌, cond, Some, List, [], ◌∷◌, ◌++◌, map, drop, nat_eq, bit_and, slice_get, refl, sym, ap, ◌∙◌, arith}
+use Rattle.std.proofs.Common.{◌≡◌, ℕ, zero, suc, ◌+◌, ◌-◌, ◌*◌, ◌/◌, ◌<◌, ◌≤◌, pos, ◌+ℤ◌, Bool, true, false, ◌&&◌, ◌==◌, cond, Some, List, [], ◌∷◌, ◌++◌, map, drop, nat_eq, bit_and, slice_get, sym, ap, ◌∙◌, arith}
 use Rattle.std.specs.Prelude.{nat_lt}
 use Rattle.std.specs.List.{filter, range_with_len}
 use Rattle.std.proofs.Math.Bool as Booleans
@@ -37,10 +37,6 @@ pub doubled_step : (n b : ℕ) → 0 < b → 2 * b < n → doubled_below n (2 * 
 doubled_step zero b p l = absurd (omega arith)
 doubled_step (suc m) b p l =
     doubled_enough m (2 * b) (suc m) (omega arith) (omega arith) ∙ sym (ap (λ t. cond t (doubled_below m (2 * b) (suc m)) b) (lt-ltb (2 * b) (suc m) l))
-
-pub doubled_end : (n b : ℕ) → n ≤ 2 * b → doubled_below n b n ≡ b
-doubled_end zero b l = refl
-doubled_end (suc m) b l = ap (λ t. cond t (doubled_below m (2 * b) (suc m)) b) (le-ltb (2 * b) (suc m) l)
 
 -- ---- the sums that a file lists
 

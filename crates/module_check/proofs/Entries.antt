@@ -1,12 +1,11 @@
 -- The entries of a file, one after another, against their derived values.
-use Rattle.std.proofs.Common.{◌≡◌, ℕ, suc, ◌+◌, ◌≤◌, pos, ◌+ℤ◌, Bool, true, false, cond, List, [], ◌∷◌, length, drop, IsTrue, ◌||◌, slice_get, Some, None, refl, ap, sym, subst, ◌∙◌}
+use Rattle.std.proofs.Common.{◌≡◌, ℕ, suc, ◌+◌, pos, ◌+ℤ◌, Bool, true, false, cond, List, [], ◌∷◌, length, drop, IsTrue, ◌||◌, slice_get, Some, refl, ap, sym, subst, ◌∙◌}
 use Rattle.std.specs.Bool.{beq}
 use Rattle.std.specs.Int.{is_power_of_two}
 use Rattle.std.specs.Cmp.{booleans_Decides}
 use Rattle.std.specs.Cmp.Lexicographic.{pointwise, pointwise_decides}
 use Rattle.std.proofs.Math.Numerals.{add-one}
 use Rattle.std.proofs.Math.Seq.{drop-cons}
-use Rattle.std.proofs.lemmas.List.{drop_all}
 use Rattle.std.proofs.lemmas.Option.{get_or_from_slice_get, slice_get_within}
 use Rattle.f2_vec.specs.Vectors.{sum_of, IsZero}
 use Rattle.module_json.specs.ModuleFile.{Entry, degree_at}
@@ -30,9 +29,6 @@ listed_more m es k e at h = listed_at m es k e at ∙ ap (λ b. cond b (listed_f
 
 pub listed_found : (m : Module) (es : List Entry) (k : ℕ) (e : Entry) → slice_get es k ≡ Some e → is_as_derived m e ≡ false → listed_from m k (drop k es) ≡ Some (Listed k)
 listed_found m es k e at h = listed_at m es k e at ∙ ap (λ b. cond b (listed_from m (k + 1) (drop (k + 1) es)) (Some (Listed k))) h
-
-pub listed_all : (m : Module) (es : List Entry) (k : ℕ) → length es ≤ k → listed_from m k (drop k es) ≡ None
-listed_all m es k h = ap (listed_from m k) (drop_all k es h)
 
 -- what the test of a sum against a value tells, where their sum is compared with zero
 module _ (m : Module) (n i : ℕ) (numbers : List ℕ) (vector sum : List Bool) (widths : HaveWidths m.generators m.operators) (made : vector ≡ sum_vector m.generators numbers (degree_at m.generators i +ℤ pos n)) (added : sum ≡ sum_of vector (value m.generators m.operators (n ∷ []) i)) where

@@ -9,10 +9,6 @@ use Rattle.f2_vec.proofs.Ones.{range_more}
 use Rattle.module_check.specs.Acceptance.{first_in}
 use Rattle.milnor_basis.proofs.Ranges.{range-split}
 
-pub option_or_none : {A : Type 0} (o p : Option A) → option_or o p ≡ None → (o ≡ None) × (p ≡ None)
-option_or_none None p h = (refl, h)
-option_or_none (Some x) p h = cc
-
 option_or-assoc : {A : Type 0} (o p q : Option A) → option_or o (option_or p q) ≡ option_or (option_or o p) q
 option_or-assoc None p q = refl
 option_or-assoc (Some x) p q = refl

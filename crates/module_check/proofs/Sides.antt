@@ -6,13 +6,13 @@ use Rattle.std.specs.Cmp.{booleans_Decides}
 use Rattle.std.specs.Cmp.Lexicographic.{pointwise, pointwise_decides}
 use Rattle.std.specs.List.{range_with_len}
 use Rattle.std.proofs.lemmas.List.{take_more, take_all, map-append, length-map, ext_get_or}
-use Rattle.std.proofs.lemmas.List.Elements.{All-get_or, All-same, All-take, All-weaker, All-filter, All-from_get_or, filter-append}
+use Rattle.std.proofs.lemmas.List.Elements.{All-get_or, All-take, All-weaker, All-filter, All-from_get_or, filter-append}
 use Rattle.std.proofs.lemmas.List.FromFn.{length-range_with_len, get_or-range_with_len}
 use Rattle.std.proofs.lemmas.Int.{ints}
 use Rattle.std.proofs.lemmas.Option.{same_Some, none-some}
 use borrow.Author.Tests.{ltb-false}
-use Rattle.f2_vec.specs.Vectors.{plus, sum_of, zeros, bit, IsZero}
-use Rattle.f2_vec.proofs.Sums.{length-zeros, bit-sum_of, bit-zeros, sum_of-self, sum_of-zeros_right, zeros_from_bits}
+use Rattle.f2_vec.specs.Vectors.{sum_of, zeros, bit, IsZero}
+use Rattle.f2_vec.proofs.Sums.{length-zeros, bit-sum_of, bit-zeros, sum_of-self, sum_of-zeros_right, zeros_from_bits, same_from_plus}
 use Rattle.f2_vec.proofs.Spans.{combination-zeros}
 use Rattle.f2_vec.proofs.Combinations.{HaveWidth-map_where}
 use Rattle.f2_vec.proofs.Ones.{range_more}
@@ -163,14 +163,8 @@ module _ (m : Module) (r s : List ℕ) (i p : ℕ) (sum : List Bool) (widths : H
 
 -- ---- the verdict
 
-plus_none : (x y : Bool) → plus x y ≡ false → x ≡ y
-plus_none true true h = refl
-plus_none true false h = cc
-plus_none false true h = cc
-plus_none false false h = refl
-
 pub same_bits : (v w : List Bool) → length v ≡ length w → IsZero (sum_of v w) → v ≡ w
-same_bits v w e h = ext_get_or false v w e (λ k l. plus_none (bit v k) (bit w k) (sym (bit-sum_of v w k e) ∙ h k))
+same_bits v w e h = ext_get_or false v w e (λ k l. same_from_plus (bit v k) (bit w k) (sym (bit-sum_of v w k e) ∙ h k))
 
 pub IsZero-sum_of_same : (v w : List Bool) → v ≡ w → IsZero (sum_of v w)
 IsZero-sum_of_same v w e k =
@@ -237,9 +231,3 @@ nothing_reached m n h e =
         (λ s also. let whole : degree_of r + degree_of s ≡ n = omega (arith, own.1, also.1) in sym (relation_of-reaching m r s [] h (sym (ap (reaching m.generators) whole ∙ e))))
         (basis_of (n - d)) (All-basis_of (n - d))))
         (basis_of d) (All-basis_of d))
-
--- what a loop reads of the basis of degree d is of degree d
-pub degree_in_basis : (d : ℕ) (xs : List (List ℕ)) (k : ℕ) (x : List ℕ) → xs ≡ basis_of d → k < length xs → x ≡ get_or xs k x → degree_of x ≡ d
-degree_in_basis d xs k x e l at =
-    let own = All-get_or (λ r. IsTrimmed r × (degree_of r ≡ d)) xs k x l (All-same (λ r. IsTrimmed r × (degree_of r ≡ d)) xs (basis_of d) e (All-basis_of d)) in
-    ap degree_of at ∙ own.1

@@ -35,9 +35,9 @@ pub record IsFine (g : Generator) : Type 0 where
   pub lowest : neg_ℤ MAX_DEGREE ≤ℤ g.degree
   pub highest : g.degree ≤ℤ MAX_DEGREE
 
-none_first : (p q : Option Malformed) → option_or p q ≡ None → (p ≡ None) × (q ≡ None)
-none_first None q h = (refl, h)
-none_first (Some e) q h = absurd (cc)
+pub option_or-none : {A : Type 0} (p q : Option A) → option_or p q ≡ None → (p ≡ None) × (q ≡ None)
+option_or-none None q h = (refl, h)
+option_or-none (Some x) q h = cc
 
 unless_none : (b : Bool) (e : Malformed) → unless b e ≡ None → b ≡ true
 unless_none true e h = refl
@@ -53,9 +53,9 @@ degree_fine i (Some z) h = (z, refl, limits z (unless_none (within_limit z) _ h)
 listed_fine : (i : ℕ) (ms : Members) → generators_refusal i ms ≡ None → AllByRecursion IsFine (listed ms)
 listed_fine i no_members h = tt
 listed_fine i (member name d ms) h =
-    let parts = none_first (generator_refusal i name d) (generators_refusal (suc i) ms) h in
-    let own = none_first (unless (is_name name) (Name i)) (option_or (degree_refusal i (degree_of d)) None) parts.0 in
-    let fine = degree_fine i (degree_of d) (none_first (degree_refusal i (degree_of d)) None own.1).0 in
+    let parts = option_or-none (generator_refusal i name d) (generators_refusal (suc i) ms) h in
+    let own = option_or-none (unless (is_name name) (Name i)) (option_or (degree_refusal i (degree_of d)) None) parts.0 in
+    let fine = degree_fine i (degree_of d) (option_or-none (degree_refusal i (degree_of d)) None own.1).0 in
     rw fine.1 (record { name = unless_none (is_name name) (Name i) own.0; lowest = fine.2.0; highest = fine.2.1 }, listed_fine (suc i) ms parts.1)
 
 listed_few : (ms : Members) → length (listed ms) ≤ members_count ms

@@ -1,13 +1,13 @@
 pub mod Counts
 pub mod Pieces
-pub mod Listing
+mod Listing
 pub mod Sorting
 pub mod Basis
 pub mod Reading
 pub mod Sizes
 mod Parts
-pub mod Squares
+mod Squares
 pub mod Entries
-pub mod Numbering
+mod Numbering
 pub mod Repeats
-pub mod Examples
+mod Examples

@@ -2,7 +2,7 @@
 use Rattle.std.proofs.Common.{◌≡◌, inl, inr, ℕ, ◌+◌, ◌<◌, Bool, ℤ, pos, ◌+ℤ◌, if◌then◌else◌, List, [], length, map, refl, sym, ◌∙◌, ap, subst, arith}
 use Rattle.std.proofs.lemmas.Bool.Decides.{eqb_tells}
 use Rattle.std.proofs.lemmas.Int.{ints}
-use Rattle.std.proofs.lemmas.List.{length-map, map-id, nil_from_length}
+use Rattle.std.proofs.lemmas.List.{length-map, map-id}
 use Rattle.f2_vec.specs.Vectors.{zeros}
 use Rattle.f2_vec.specs.Spans.{row, HaveWidth, combination}
 use Rattle.f2_vec.proofs.Combinations.{combination-combination, combination-zero_rows, map_same, map_same_all}
@@ -12,7 +12,7 @@ use Rattle.milnor_basis.specs.Basis.{basis_of}
 use Rattle.milnor_basis.specs.Exponents.{degree_of, IsTrimmed}
 use Rattle.milnor_basis.specs.Product.{product_bits}
 use Rattle.milnor_basis.proofs.BasisLemmas.{All-basis_of}
-use Rattle.milnor_basis.proofs.ExponentLemmas.{length_within}
+use Rattle.milnor_basis.proofs.ExponentLemmas.{of_degree_zero}
 use Rattle.milnor_laws.proofs.LinearMaps.{maps_commute}
 use Rattle.free_module.specs.FreeModule.{free_basis, free_width}
 use Rattle.free_module.specs.Graded.{GradedModule, free_graded, IsSteenrodModule, IsLinear, KeepsWidths, ActsByProducts}
@@ -82,9 +82,6 @@ module _ (u : ℤ) where
   IsProduct r s d v =
       (field_in u).action r (d +ℤ pos (degree_of s)) ((field_in u).action s d v) ≡ combination (field_width u (d +ℤ pos (degree_of r + degree_of s))) (product_bits r s) (map (λ q. (field_in u).action q d v) (basis_of (degree_of r + degree_of s)))
 
-  no_exponents : (r : List ℕ) → IsTrimmed r → degree_of r ≡ 0 → r ≡ []
-  no_exponents r trimmed h = nil_from_length r (let n = length_within r trimmed in omega arith)
-
   -- products of positive degree
   zero_products : (r s : List ℕ) (d : ℤ) (v : List Bool) → 0 < degree_of r + degree_of s → IsProduct r s d v
   zero_products r s d v h =
@@ -110,8 +107,8 @@ module _ (u : ℤ) where
       elim (eqb_tells (degree_of r + degree_of s) 0) [
         | inl p ↦
             let none = p.1 in
-            let nil_r : r ≡ [] = no_exponents r trimmed_r (omega arith) in
-            let nil_s : s ≡ [] = no_exponents s trimmed_s (omega arith) in
+            let nil_r : r ≡ [] = of_degree_zero r trimmed_r (omega arith) in
+            let nil_s : s ≡ [] = of_degree_zero s trimmed_s (omega arith) in
             let P : List ℕ → Type 0 = λ x. IsProduct x [] d v in
             let Q : List ℕ → Type 0 = λ x. IsProduct r x d v in
             subst Q (sym nil_s) (subst P (sym nil_r) (unit_products d v e))

@@ -73,7 +73,7 @@ AreImages-row target b squares w = record {
       ap length p.image ∙ (w p.k p.square p.h p.within ∙ ap target.width (sym p.degree));
 }
 
-images_of-split : (squares : List Content) (n : ℕ) → images_of squares ≡ images_of (take n squares) ++ images_of (drop n squares)
+pub images_of-split : (squares : List Content) (n : ℕ) → images_of squares ≡ images_of (take n squares) ++ images_of (drop n squares)
 images_of-split squares zero = refl
 images_of-split [] (suc n) = refl
 images_of-split (x ∷ squares) (suc n) =

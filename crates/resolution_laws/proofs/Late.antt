@@ -1,12 +1,11 @@
 -- Row i has no generator in degrees below i above the bottom: its images would have terms without operations alone.
-use Rattle.std.proofs.Common.{◌≡◌, inl, inr, ℕ, zero, suc, ◌+◌, ◌<◌, ◌≤◌, false, pos, ◌+ℤ◌, List, [], ◌∷◌, length, get_or, sym, ap, arith}
+use Rattle.std.proofs.Common.{◌≡◌, inl, inr, ℕ, zero, suc, ◌+◌, ◌<◌, ◌≤◌, false, pos, ◌+ℤ◌, List, [], length, ap, arith}
 use Rattle.std.proofs.lemmas.Int.{ints}
 use Rattle.std.proofs.lemmas.Bool.{cases_lt}
 use Rattle.std.proofs.lemmas.List.{get_or_past}
 use Rattle.f2_vec.specs.Spans.{row}
 use Rattle.f2_vec.proofs.Sums.{zeros_from_bits}
-use Rattle.milnor_basis.specs.Exponents.{degree_of, IsTrimmed}
-use Rattle.milnor_basis.proofs.BasisLemmas.{basis_is_milnors}
+use Rattle.milnor_basis.proofs.ExponentLemmas.{of_degree_zero}
 use Rattle.free_module.specs.FreeModule.{free_basis}
 use Rattle.free_module.specs.FreeBasis.{element}
 use Rattle.resolution_laws.specs.Resolution.{Module, Content, no_content, square_in, row_of}
@@ -16,16 +15,6 @@ use Rattle.resolution_laws.proofs.Chosen.{none_chosen}
 use Rattle.resolution_laws.proofs.Generators.{generator_at, element-IsOfDegree}
 use Rattle.resolution_laws.proofs.Squares.{IsResolved, old_rows, candidates_of, square_at}
 use Rattle.resolution_laws.proofs.Minimal.{is_minimal}
-
--- Sq() is the one basis element of degree 0
-of_degree_zero : (r : List ℕ) → IsTrimmed r → degree_of r ≡ 0 → r ≡ []
-of_degree_zero r trimmed d =
-    let held = ((basis_is_milnors 0).members r).1 (trimmed, d) in
-    first held.0 held.1 held.2
-  where
-    first : (i : ℕ) → i < 1 → get_or ([] ∷ []) i r ≡ r → r ≡ []
-    first zero h e = sym e
-    first (suc i) h e = absurd (omega arith)
 
 -- row i has no generator in degrees below i above the bottom
 abbrev StartsLate : List (List Content) → ℕ → Type 0

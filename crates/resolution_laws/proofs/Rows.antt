@@ -2,7 +2,7 @@
 use Rattle.std.proofs.Common.{◌≡◌, inl, inr, ℕ, zero, suc, ◌+◌, ◌<◌, ◌≤◌, ℤ, pos, ◌-◌, ◌+ℤ◌, ◌-ℤ◌, ◌≤ℤ◌, ◌<ℤ◌, Bool, List, [], ◌∷◌, ◌++◌, length, map, take, drop, replicate, Option, refl, sym, ◌∙◌, ap, subst, arith}
 use Rattle.std.proofs.lemmas.Int.{ints}
 use Rattle.std.proofs.lemmas.Bool.{cases_lt}
-use Rattle.std.proofs.lemmas.List.{length-take-le, append-nil, append_assoc, get_or_append_left, get_or-append_right, get_or-replicate, take_at, take_more, get_or_push, length_push, flat_map_more, length-append, length-replicate, length-map}
+use Rattle.std.proofs.lemmas.List.{length-take-le, append-nil, append_assoc, get_or_append_left, get_or-append_right, get_or-replicate, take_more, flat_map_more, length-append, length-replicate, length-map}
 use Rattle.f2_vec.specs.Spans.{row, HaveWidth}
 use Rattle.milnor_product.specs.Times.{basis_at}
 use Rattle.free_module.specs.FreeModule.{free_basis_from, free_basis, free_width, degree_at, IsWithinReach}
@@ -11,7 +11,6 @@ use Rattle.milnor_product.proofs.Multiples.{basis_at-negative}
 use Rattle.free_module.proofs.FreeBasis.{free_basis_from-append}
 use Rattle.free_module.specs.LinearMap.{map_rows, AreImages}
 use Rattle.resolution_laws.specs.Resolution.{Module, Content, no_content, square_in, target_over, degrees_from, images_of, IsStepOver, IsStep, row_of, IsCanonicalTable, below_of}
-use Rattle.resolution_laws.proofs.NewGenerators.{HaveWidth-IsChosen}
 
 -- each square of a row is the step over those before it and what it has below it
 abbrev pub IsRowOver : Module → (ℕ → Option (List Content)) → List Content → Type 0
@@ -160,23 +159,3 @@ pub record IsExtended (target : GradedModule) (b : ℤ) (squares : List Content)
   pub len : length more ≡ k + 1
   pub step : IsStepOver target (degrees_from b squares) (images_of squares) candidates (b +ℤ pos k) (square_in more k)
   pub images : AreImages target (degrees_from b more) (images_of more)
-
-pub IsExtended-push : (target : GradedModule) (b : ℤ) (squares more : List Content) (c : Content) (candidates images : List (List Bool)) (k : ℕ) (gens : List ℤ) (t : ℤ) → more ≡ squares ++ c ∷ [] → length squares ≡ k → t ≡ b +ℤ pos k → gens ≡ degrees_from b squares → images ≡ images_of squares → AreImages target (degrees_from b squares) (images_of squares) → HaveWidth (target.width (b +ℤ pos k)) candidates → IsStepOver target gens images candidates t c → IsExtended target b squares candidates k more
-IsExtended-push target b squares more c candidates images k gens t m len e f h are w step =
-    let P : ℤ → Type 0 = λ u. IsStepOver target gens images candidates u c in
-    let Q : List ℤ → Type 0 = λ z. IsStepOver target z images candidates (b +ℤ pos k) c in
-    let R : List (List Bool) → Type 0 = λ z. IsStepOver target (degrees_from b squares) z candidates (b +ℤ pos k) c in
-    let is_step : IsStepOver target (degrees_from b squares) (images_of squares) candidates (b +ℤ pos k) c = subst R h (subst Q f (subst P e step)) in
-    let last : c ≡ square_in more k = sym (get_or_push squares c no_content k len) ∙ ap (λ (z : List Content). square_in z k) (sym m) in
-    let S : Content → Type 0 = λ x. IsStepOver target (degrees_from b squares) (images_of squares) candidates (b +ℤ pos k) x in
-    let degrees : degrees_from b squares ++ replicate (length c.images) (b +ℤ pos k) ≡ degrees_from b more = degrees_from-more b squares more c k (degrees_from b squares) _ (b +ℤ pos k) m len refl refl refl in
-    let all : images_of squares ++ c.images ≡ images_of more = images_of-more squares more c (images_of squares) _ m refl refl in
-    let wide = HaveWidth-IsChosen (target.width (b +ℤ pos k)) _ candidates c.images w is_step.chosen in
-    let A : List ℤ → Type 0 = λ z. AreImages target z (images_of squares ++ c.images) in
-    let B : List (List Bool) → Type 0 = λ z. AreImages target (degrees_from b more) z in
-    record {
-      before = ap (take k) m ∙ take_at squares (c ∷ []) k len;
-      len = ap length m ∙ (length_push squares c ∙ ap (λ i. i + 1) len);
-      step = subst S last is_step;
-      images = subst B all (subst A degrees (AreImages-more target (degrees_from b squares) (images_of squares) c.images (b +ℤ pos k) are wide));
-    }

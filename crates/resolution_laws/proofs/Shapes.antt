@@ -3,12 +3,12 @@ use Rattle.std.proofs.Common.{◌≡◌, ℕ, zero, suc, ◌<◌, ◌≤◌, pos
 use Rattle.std.specs.List.{items_where_true}
 use Rattle.std.proofs.lemmas.List.{length-map}
 use Rattle.std.proofs.lemmas.List.FromFn.{map-range_with_len_more}
-use Rattle.f2_vec.specs.Vectors.{IsFirstOne}
 use Rattle.f2_vec.specs.Spans.{row, HaveWidth}
 use Rattle.f2_vec.proofs.Split.{length-unit_vectors, HaveWidth-unit_vectors}
 use Rattle.f2_vec.proofs.Sums.{one_within}
 use Rattle.f2_matrix.specs.Echelon.{IsReduced, HasNoZeroRow, KernelBasisIsUnique}
 use Rattle.f2_matrix.proofs.Unique.{first_one}
+use Rattle.f2_matrix.proofs.Pivots.{late_pivot}
 use Rattle.free_module.specs.FreeModule.{free_basis, free_width}
 use Rattle.resolution_laws.specs.Resolution.{Module, Content, degrees_from, target_over, candidates_over, IsStep}
 use Rattle.resolution_laws.specs.Start.{Entry, entry_at, HasShape, squares_below, row_below, IsOf, is_of}
@@ -17,15 +17,6 @@ use Rattle.resolution_laws.proofs.Rows.{degrees_from-push}
 use Rattle.resolution_laws.proofs.StartLaws.{IsOver, content_is_unique, length-squares_below, square_in-squares_below, squares_below-same}
 
 -- ---- reduced rows of length n are at most n
-
--- the pivot of row i is at or after place i
-late_pivot : (rows : List (List Bool)) → IsReduced rows → HasNoZeroRow rows → (i p : ℕ) → i < length rows → IsFirstOne (row rows i) p → i ≤ p
-late_pivot rows h nonzero zero p l f = omega arith
-late_pivot rows h nonzero (suc i) p l f =
-    let q = first_one (row rows i) (nonzero i (omega arith)) in
-    let before = late_pivot rows h nonzero i q.0 (omega arith) q.1 in
-    let rises = h.pivots_rise i (suc i) q.0 p (omega arith) q.1 f in
-    omega arith
 
 few_rows : (n : ℕ) (rows : List (List Bool)) → HaveWidth n rows → IsReduced rows → HasNoZeroRow rows → (count : ℕ) → length rows ≡ count → count ≤ n
 few_rows n rows w h nonzero zero e = omega arith

@@ -24,7 +24,7 @@ placed_there (Some x) f resolved resolved' i i' k t b u at row seen are e1 e2 e3
     let above = is.above_is in
     record { resolved_is = is.resolved_is ∙ e1; s_is = is.s_is ∙ e2; degree = omega (arith, ints) }
 
-twice : {X : Type 0} (o : Option X) (f : X → Placed) → option_map (λ a. content_of (f a)) o ≡ option_map content_of (option_map f o)
+pub twice : {X : Type 0} (o : Option X) (f : X → Placed) → option_map (λ a. content_of (f a)) o ≡ option_map content_of (option_map f o)
 twice None f = refl
 twice (Some x) f = refl
 

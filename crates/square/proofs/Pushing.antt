@@ -1,9 +1,9 @@
 -- A table with one square more.
 use Rattle.std.proofs.Common.{◌≡◌, ◌≢◌, ◌⊎◌, true, false, Option, ℕ, zero, suc, ◌+◌, ◌-◌, ◌<◌, ◌≤◌, List, [], ◌∷◌, ◌++◌, length, map, set, get_or, Some, None, IsSome, refl, sym, ◌∙◌, ap, subst, arith, inl, inr}
 use Rattle.std.specs.List.{slice_get}
-use Rattle.std.proofs.lemmas.Bool.Decides.{eqb_tells}
 use Rattle.std.proofs.lemmas.List.{length_push, length-map}
 use Rattle.std.proofs.lemmas.Option.{slice_get_within, slice_get_read}
+use Rattle.std.proofs.lemmas.Bool.{cases_eq}
 use Rattle.finite_module.specs.Checked.{Checked}
 use Rattle.resolution_laws.specs.Resolution.{Content}
 use Rattle.resolution_laws.specs.Start.{Entry, entry_at, IsOf}
@@ -14,9 +14,6 @@ use Rattle.square.specs.Tables.{Shelf, Staircase, row_in, with_square, IsNext, I
 use Rattle.square.proofs.Places.{next_length}
 
 -- ---- rows
-
-cases_same : (i s : ℕ) → (i ≡ s) ⊎ (i ≢ s)
-cases_same i s = elim (eqb_tells i s) [ inl p ↦ inl p.1 | inr p ↦ inr p.1 ]
 
 pub length-with_square : (rows : List (List Placed)) (s : ℕ) (q : Placed) → length (with_square rows s q) ≡ length rows
 length-with_square [] s q = refl
@@ -101,7 +98,7 @@ module _ (table : Staircase) (q : Placed) (spare : ℕ) (h : IsTable table) (squ
 
   grows : (i : ℕ) → length (row_in table.rows i) ≤ length (row_in more.rows i)
   grows i =
-      elim (cases_same i q.s) [
+      elim (cases_eq i q.s) [
         | inl e ↦
             let same = ap (λ n. length (row_in table.rows n)) e in
             let new = ap (λ n. length (row_in more.rows n)) e ∙ ap length (row_in-same table.rows q.s q row_there) ∙ length_push (row_in table.rows q.s) q in
@@ -113,7 +110,7 @@ module _ (table : Staircase) (q : Placed) (spare : ℕ) (h : IsTable table) (squ
   falls i =
       let low = grows i in
       let old = h.never_rise i in
-      elim (cases_same (suc i) q.s) [
+      elim (cases_eq (suc i) q.s) [
         | inl e ↦
             let new = ap (λ n. length (row_in more.rows n)) e ∙ ap length (row_in-same table.rows q.s q row_there) ∙ length_push (row_in table.rows q.s) q in
             let under = next.below i e in
@@ -164,7 +161,7 @@ module _ (table : Staircase) (q : Placed) (spare : ℕ) (h : IsTable table) (squ
 
   placed : IsContinued table q → (i j : ℕ) (p : Placed) → slice_get (row_in more.rows i) j ≡ Some p → IsIn more i j p
   placed continued i j p e =
-      elim (cases_same i q.s) [
+      elim (cases_eq i q.s) [
         | inr d ↦ old_in continued i j p (ap (λ (row : List Placed). slice_get row j) (sym (row_in-other table.rows q.s i q d)) ∙ e)
         | inl same ↦
             let row : row_in more.rows i ≡ row_in table.rows q.s ++ q ∷ [] = ap (row_in more.rows) same ∙ row_in-same table.rows q.s q row_there in
@@ -184,10 +181,10 @@ module _ (table : Staircase) (q : Placed) (spare : ℕ) (h : IsTable table) (squ
         | inl same ↦ let old = h.started i j c (ap (λ (st : List Entry). entry_at st i j) (sym same) ∙ e) in omega arith
         | inr same ↦
             let there : entry_at (table.start ++ entry_of q ∷ []) i j ≡ Some c = ap (λ (st : List Entry). entry_at st i j) (sym same.1) ∙ e in
-            elim (cases_same i q.s) [
+            elim (cases_eq i q.s) [
               | inr d ↦ let old = h.started i j c (sym (entry_at-other table.start (entry_of q) i j (λ a b. d (sym a))) ∙ there) in omega arith
               | inl row ↦
-                  elim (cases_same j q.above) [
+                  elim (cases_eq j q.above) [
                     | inr d ↦ let old = h.started i j c (sym (entry_at-other table.start (entry_of q) i j (λ a b. d (sym b))) ∙ there) in omega arith
                     | inl at ↦
                         let new = ap (λ n. length (row_in more.rows n)) row ∙ ap length (row_in-same table.rows q.s q row_there) ∙ length_push (row_in table.rows q.s) q in

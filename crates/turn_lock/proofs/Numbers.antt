@@ -41,14 +41,6 @@ module _ {N E : Type 0} where
       (λ e. inr (others_number p other history n (is ∙ sym e)))
       (λ ne. joined_has p other history (suc low) high n has (omega arith) less)
 
-  -- a pass that took turns since has the numbers that it had
-  pub has_still : (p q : PassState N E) (low high : ℕ) → q.number ≡ p.number → q.joined ≡ p.joined → HasBetween p low high → HasBetween q low high
-  has_still p q low high number joined has n more less =
-      ⊎_elim
-      (λ e. inl (e ∙ sym number))
-      (λ t. inr (t.0, subst (λ (js : List (ℕ × List E)). Contains js (n, t.0)) (sym joined) t.1))
-      (has n more less)
-
   -- all numbers below that of passes are all passes
   pub has_all : (p : PassState N E) (k : ℕ) → HasBetween p 0 k → p.turn.passes ≡ k → HasAll p
   has_all p k has is = subst (λ (m : ℕ). HasBetween p 0 m) (sym is) has

@@ -3,9 +3,8 @@ use Rattle.std.specs.Prelude.{ℕ, ◌+◌, ◌-◌, nat_eq, Bool, not, List, �
 use Rattle.std.specs.List.{range_with_len, filter, list_any}
 use Rattle.f2_vec.specs.Vectors.{sum_of, zeros}
 use Rattle.f2_vec.specs.Spans.{row, unit_vector, combination}
-use Rattle.f2_matrix.specs.Reduction.{Reduction, IsReductionOf}
+use Rattle.f2_matrix.specs.Reduction.{Reduction}
 use Rattle.f2_matrix.specs.Preimages.{pivot_of}
-use Rattle.f2_matrix.specs.Choice.{IsChosen}
 use Rattle.f2_dual.specs.Inside.Columns.{column}
 
 -- For each candidate what the rows have at its pivot, the last row first. Where the rows are sums of reduced candidates these
@@ -56,8 +55,3 @@ reduction_over w candidates r = record {
   chosen = preimages_of r;
   kernel = relations_of r;
 }
-
--- the new rows are those that are chosen, and that reduction is the one with them behind the rows
-pub record IsChoiceBy (w : ℕ) (rows candidates : List (List Bool)) (r : Reduction) : Type 0 where
-  pub chosen : IsChosen w rows candidates (new_rows candidates r.kernel)
-  pub reduction : IsReductionOf w (rows ++ new_rows candidates r.kernel) (reduction_over w candidates r)

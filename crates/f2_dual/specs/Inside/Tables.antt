@@ -1,12 +1,11 @@
 -- Tables of the pivots of rows, and rows that stand at the places of such.
-use Rattle.std.specs.Prelude.{◌≡◌, ◌≢◌, ◌⊎◌, ℕ, ◌-◌, ◌<◌, Bool, not, Option, Some, None, List, ◌++◌, length, map, slice_index_or}
+use Rattle.std.specs.Prelude.{◌≡◌, ◌≢◌, ℕ, ◌-◌, ◌<◌, Bool, not, Option, Some, None, List, ◌++◌, length, map, slice_index_or}
 use Rattle.std.specs.List.{range_with_len, filter}
 use Rattle.std.specs.Option.{is_some}
-use Rattle.f2_vec.specs.Vectors.{IsZero, zeros}
+use Rattle.f2_vec.specs.Vectors.{zeros}
 use Rattle.f2_vec.specs.Spans.{row, HaveWidth}
 use Rattle.f2_matrix.specs.Echelon.{IsReduced, HasNoZeroRow}
 use Rattle.f2_matrix.specs.Preimages.{pivot_of}
-use Rattle.f2_dual.specs.Inside.Coordinates.{element_of}
 
 -- what a table has at place p, and nothing past its end
 abbrev pub entry_at : List (Option ℕ) → ℕ → Option ℕ
@@ -49,10 +48,3 @@ pub record IsReducedBasis (n : ℕ) (rows : List (List Bool)) : Type 0 where
   pub widths : HaveWidth n rows
   pub reduced : IsReduced rows
   pub nonzero : HasNoZeroRow rows
-
--- n rows, of which each is the row of `rows` beside the image row of its element, or zero where there is no such image row
-pub record IsSpread (n : ℕ) (image rows spread : List (List Bool)) : Type 0 where
-  pub size : length spread ≡ n
-  pub each : (e : ℕ) → e < n →
-      ((t : ℕ) × (t < length image) × (element_of n (row image t) ≡ e) × (row spread e ≡ row rows t))
-      ⊎ (IsZero (row spread e) × ((t : ℕ) → t < length image → element_of n (row image t) ≢ e))

@@ -1,19 +1,12 @@
-use mathlib.Core.Bool.{not, beq}
-use Rattle.std.proofs.Common.{[], ◌≡◌, ◌<◌, Bool, true, false, cond, map, take, length, get_or, ap, sym, ◌∙◌, arith, refl}
+use Rattle.std.proofs.Common.{[], ◌≡◌, ◌<◌, true, false, cond, map, take, length, get_or, ap, sym, ◌∙◌, arith}
 use Rattle.std.proofs.lemmas.List.{take_all, length-map, get_or-map, get_or_read}
 use Rattle.f2_vec.specs.Vectors.{plus, bit}
 use Rattle.f2_vec.specs.Spans.{combination, row}
-use Rattle.f2_vec.proofs.Sums.{bit-sum_of, plus-false}
+use Rattle.f2_vec.proofs.Sums.{bit-sum_of, plus-false, differ-plus}
 use Rattle.f2_vec.proofs.Spans.{length-combination}
 use Rattle.f2_matrix.proofs.BlockSums.{bit_more}
 use Rattle.f2_matrix.proofs.blocks.cleared_bit.Goals.{then-get, else-get}
 use Rattle.f2_matrix.proofs.blocks.cleared_bit.Goals as goal
-
-differ : (x y : Bool) → not (beq x y) ≡ plus x y
-differ true true = refl
-differ true false = refl
-differ false true = refl
-differ false false = refl
 
 pub loop-j-preserved : goal.loop-j-preserved
 loop-j-preserved c =
@@ -30,7 +23,7 @@ loop-j-preserved c =
     let z = cond (get_or cs j false) (bit (row b j) col) false in
     let new : c.if-get.bit ≡ plus c.loop-j.bit z = elim c.if-get.branch [
       | then-get w ↦
-          w.bit-is ∙ differ c.loop-j.bit w.get-bit-then-get.result
+          w.bit-is ∙ differ-plus c.loop-j.bit w.get-bit-then-get.result
           ∙ ap (plus c.loop-j.bit) (w.get-bit-then-get.ensures ∙ ap (λ r. bit r col) (get_or_read b j w.index-block-j.result hb w.index-block-j.is []))
           ∙ ap (λ t. plus c.loop-j.bit (cond t (bit (row b j) col) false)) (sym w.if-get.true ∙ here)
       | else-get w ↦

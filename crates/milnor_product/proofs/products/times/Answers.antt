@@ -1,6 +1,7 @@
 use Rattle.std.proofs.Common.{◌≡◌, ◌<◌, true, false, length, slice_index_or, arith}
 use Rattle.milnor_basis.specs.Basis.{basis_of}
-use Rattle.milnor_product.proofs.ProductSteps.{degree_of-read, length-partial, length-product_bits, partial-more}
+use Rattle.milnor_basis.proofs.Places.{degree_of-read}
+use Rattle.milnor_product.proofs.ProductSteps.{length-partial, length-product_bits, partial-more}
 use Rattle.milnor_product.proofs.products.times.Goals as goal
 use Rattle.milnor_product.proofs.products.times.Goals.{then-get+in_ok-product, else-get}
 

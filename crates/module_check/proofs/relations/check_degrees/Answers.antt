@@ -2,15 +2,15 @@ use Rattle.std.proofs.Common.{◌≡◌, ◌+◌, ◌-◌, ℕ, List, ap, sym, �
 use Rattle.std.proofs.lemmas.Result.{err_from_is_err_and}
 use Rattle.milnor_basis.specs.Exponents.{degree_of}
 use Rattle.milnor_basis.specs.Basis.{basis_of}
+use Rattle.milnor_basis.proofs.Places.{degree_of-read}
 use Rattle.module_check.specs.Acceptance.{first_in, relation_of}
 use Rattle.module_check.specs.Inside.Relations.{reaching}
 use Rattle.module_check.proofs.FirstIn.{first_in_more_at, first_in_found_at, first_in_all}
-use Rattle.module_check.proofs.Sides.{degree_in_basis}
 use Rattle.module_check.proofs.relations.check_degrees.Goals.{After-r-item}
 use Rattle.module_check.proofs.relations.check_degrees.Goals as goal
 
 degree_is : (c : After-r-item) → degree_of c.r-item.result ≡ c.args.d
-degree_is c = degree_in_basis c.args.d c.of_degree-r-items.result.now c.loop-r.r-index c.r-item.result c.of_degree-r-items.ensures c.loop-r-test.true c.r-item.is
+degree_is c = degree_of-read c.args.d c.loop-r.r-index c.of_degree-r-items.result.now c.r-item.result c.of_degree-r-items.ensures c.loop-r-test.true c.r-item.is
 
 pub check_left-requires-clause-degree : goal.check_left-requires-clause-degree
 check_left-requires-clause-degree c = omega (arith, degree_is (goal.at.check_left-requires-clause-degree c).After-r-item, c.requires.left, c.requires.degree)

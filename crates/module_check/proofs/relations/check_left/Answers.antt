@@ -2,15 +2,15 @@ use Rattle.std.proofs.Common.{◌≡◌, ◌+◌, ap, sym, ◌∙◌, arith}
 use Rattle.std.proofs.lemmas.Result.{err_from_is_err_and}
 use Rattle.milnor_basis.specs.Exponents.{degree_of}
 use Rattle.milnor_basis.specs.Basis.{basis_of}
+use Rattle.milnor_basis.proofs.Places.{degree_of-read}
 use Rattle.module_check.specs.Acceptance.{relation_of}
 use Rattle.module_check.specs.Inside.Relations.{reaching}
 use Rattle.module_check.proofs.FirstIn.{first_in_more_at, first_in_found_at}
-use Rattle.module_check.proofs.Sides.{degree_in_basis}
 use Rattle.module_check.proofs.relations.check_left.Goals.{After-s-item}
 use Rattle.module_check.proofs.relations.check_left.Goals as goal
 
 degree_is : (c : After-s-item) → degree_of c.s-item.result ≡ c.args.d
-degree_is c = degree_in_basis c.args.d c.of_degree-s-items.result.now c.loop-s.s-index c.s-item.result c.of_degree-s-items.ensures c.loop-s-test.true c.s-item.is
+degree_is c = degree_of-read c.args.d c.loop-s.s-index c.of_degree-s-items.result.now c.s-item.result c.of_degree-s-items.ensures c.loop-s-test.true c.s-item.is
 
 pub check_pair-requires-clause-degree : goal.check_pair-requires-clause-degree
 check_pair-requires-clause-degree c = omega (arith, degree_is (goal.at.check_pair-requires-clause-degree c).After-s-item, c.requires.degree)
