@@ -2,7 +2,7 @@
 use Rattle.std.proofs.Common.{◌≡◌, ◌≢◌, ◌⊎◌, ℕ, zero, suc, ◌<◌, ◌≤◌, Bool, true, false, not, ◌&&◌, List, [], ◌∷◌, length, slice_set, refl, sym, ◌∙◌, ap, subst, arith, inl, inr}
 use Rattle.std.specs.Prelude.{nat_lt}
 use Rattle.std.specs.List.{list_all}
-use Rattle.std.proofs.lemmas.Bool.{cases_lt, both_ways, ltb-true, lt-ltb, and_parts, and_from, not-true, not_from_false, true_from_ne_false, false_from_ne_true}
+use Rattle.std.proofs.lemmas.Bool.{cases_lt, cases_eq, both_ways, ltb-true, lt-ltb, and_parts, and_from, not-true, not_from_false, true_from_ne_false, false_from_ne_true}
 use Rattle.std.proofs.lemmas.List.{length-set, get_or-set_other}
 use Rattle.std.proofs.lemmas.Grind.{get_or-set_at}
 use Rattle.f2_vec.specs.Vectors.{bit, zeros, IsZero, IsFirstOne}
@@ -133,15 +133,6 @@ at_or_behind i j l = elim (cases_lt i j) [
   | inr b ↦ inl (omega arith)
 ]
 
-same_or_not : (p q : ℕ) → (p ≡ q) ⊎ (p ≢ q)
-same_or_not p q = elim (cases_lt p q) [
-  | inl b ↦ inr (λ e. omega arith)
-  | inr b ↦ elim (cases_lt q p) [
-    | inl c ↦ inr (λ e. omega arith)
-    | inr c ↦ inl (omega arith)
-  ]
-]
-
 past_end : (rows : List (List Bool)) (j : ℕ) → length rows ≤ j → row rows j ≡ []
 past_end [] j l = refl
 past_end (r ∷ rows) zero l = absurd (omega arith)
@@ -191,11 +182,11 @@ one_more_in_form n i next pivot marks rows h first within less apart = record {
   ];
   first = λ p f. sym (same i p refl f);
   none = λ l. absurd (no_first_past rows i pivot l first);
-  marked = λ q e. elim (same_or_not q pivot) [
+  marked = λ q e. elim (cases_eq q pivot) [
     | inl at ↦ (i, omega arith, subst (IsFirstOne (row rows i)) (sym at) first)
     | inr off ↦ let found = h.marked q (sym (set_other marks pivot q off) ∙ e) in (found.0, omega (arith, found.1), found.2)
   ];
-  marks_all = λ k q l g. elim (same_or_not q pivot) [
+  marks_all = λ k q l g. elim (cases_eq q pivot) [
     | inl at ↦ set_same marks pivot q (omega (arith, h.width)) at
     | inr off ↦ elim (at_or_behind i k l) [
       | inl e ↦ absurd (off (same k q e g))

@@ -1,10 +1,9 @@
 -- What stands at the places of a body.
-use Rattle.std.proofs.Common.{◌≡◌, ℕ, ◌+◌, ◌*◌, ◌^◌, ◌<◌, ◌≤◌, Bool, List, [], ◌∷◌, ◌++◌, length, map, take, drop, get_or, refl, sym, ◌∙◌, ap, subst, append_assoc, arith, inl, inr}
-use Rattle.std.proofs.lemmas.Bool.{cases_lt}
+use Rattle.std.proofs.Common.{◌≡◌, ℕ, ◌+◌, ◌*◌, ◌^◌, ◌<◌, ◌≤◌, Bool, List, [], ◌∷◌, ◌++◌, length, map, take, drop, refl, sym, ◌∙◌, ap, subst, append_assoc, arith}
 use Rattle.std.specs.Prelude.{slice_index}
 use Rattle.std.specs.Int.{w16, w64, to_be_bytes, from_be_bytes}
 use Rattle.std.specs.List.{flat_map, range_with_len}
-use Rattle.std.proofs.lemmas.List.{append-nil, length-append, length-take, length-drop, take-append-drop, take_at, drop_at, drop-drop, get_or-drop, get_or-take, get_or_past, ext_get_or, drop_all}
+use Rattle.std.proofs.lemmas.List.{append-nil, length-append, length-take, length-drop, take-append-drop, take_at, drop_at, drop-drop, ext_get_or, drop_all}
 use Rattle.std.proofs.lemmas.List.FromFn.{length-map-range_with_len, get_or-map-range_with_len}
 use Rattle.std.proofs.lemmas.Nat.{be_bytes_2, be_bytes_8, from_be_bytes-to_be_bytes_2, from_be_bytes-to_be_bytes_8}
 use Rattle.f2_vec.specs.Spans.{HaveWidth}
@@ -14,6 +13,8 @@ use Rattle.f2_vec.specs.Bytes.{packed}
 use Rattle.save_file.specs.Bodies.{Body, matrix_bytes, body_bytes}
 use Rattle.save_file.specs.Reading.{number_at, unpacked, packed_len, matrix_at, matrix_len, body_at}
 use Rattle.save_file.specs.Inside.Outline.{packed_at, end_of, outline_at, IsWhole, AreUnpacked}
+use Rattle.save_journal.specs.Laws.{AreBytes}
+use Rattle.save_journal.proofs.Bytes.{AreBytes-part}
 use Rattle.save_file.proofs.Unpacking.{length-unpacked, length-rows, unpacked_row}
 
 -- ---- a matrix behind other bytes
@@ -171,15 +172,6 @@ of_itself bytes e =
 
 -- ---- whole bytes, with the rows that are packed in them, are a body
 
-abbrev pub AreBytes : List ℕ → Type 0
-AreBytes bytes = (i : ℕ) → get_or bytes i 0 < 256
-
-AreBytes-part : (place n : ℕ) (bytes : List ℕ) → AreBytes bytes → AreBytes (take n (drop place bytes))
-AreBytes-part place n bytes h i = elim (cases_lt i n) [
-  | inl l ↦ rw (get_or-take n (drop place bytes) i 0 l, get_or-drop) (h (place + i))
-  | inr l ↦ rw (get_or_past (take n (drop place bytes)) i 0 (omega (arith, length-take n (drop place bytes)))) (omega arith)
-]
-
 number_there : (place : ℕ) (bytes : List ℕ) → place + 8 ≤ length bytes → AreBytes bytes → drop place bytes ≡ to_be_bytes w64 (number_at w64 place bytes) ++ drop (place + 8) bytes
 number_there place bytes long h =
     let len = length-drop place bytes in
@@ -201,11 +193,6 @@ matrix_there place bytes rows long h are =
     ∙ ap (λ (x : List ℕ). to_be_bytes w64 height ++ x) second
     ∙ ap (λ (x : List ℕ). to_be_bytes w64 height ++ (to_be_bytes w64 cols ++ x)) third
     ∙ ap (λ k. to_be_bytes w64 k ++ (to_be_bytes w64 cols ++ (flat_map packed rows ++ drop (end_of place bytes) bytes))) (sym are.as_many)
-
-pub number_below : (place : ℕ) (bytes : List ℕ) → AreBytes bytes → number_at w64 place bytes < 2 ^ 64
-number_below place bytes h =
-    let fits = AreBytes-part place 8 bytes h in
-    omega (arith, fits 0, fits 1, fits 2, fits 3, fits 4, fits 5, fits 6, fits 7)
 
 head_there : (bytes : List ℕ) → 5 ≤ length bytes → AreBytes bytes → slice_index bytes 0 ≡ SQUARE → take 5 bytes ≡ SQUARE ∷ (to_be_bytes w16 (number_at w16 1 bytes) ++ to_be_bytes w16 (number_at w16 3 bytes))
 head_there [] long h kind = absurd (omega arith)

@@ -13,7 +13,9 @@ use Rattle.save_file.specs.Bodies.{Body, body_bytes, HasRules}
 use Rattle.save_file.specs.Reading.{number_at, body_at, square_in}
 use Rattle.save_file.specs.Saved.{IsDecoded}
 use Rattle.save_file.specs.Inside.Outline.{end_of, Outline, outline_at, IsWhole, AreUnpacked, IsPlaceFor, HasDimensions}
-use Rattle.save_file.proofs.Bodies.{FitsBytes, AreBytes, of_itself, body_again, body_with, whole_body, end_at, number_below}
+use Rattle.save_journal.specs.Laws.{AreBytes}
+use Rattle.save_journal.proofs.Bytes.{number_below}
+use Rattle.save_file.proofs.Bodies.{FitsBytes, of_itself, body_again, body_with, whole_body, end_at}
 use Rattle.save_file.proofs.Rules.{nothing_read, each_is_read}
 use Rattle.save_file.proofs.Entries.{next_place, place_next, target_dim_is, source_dim_is}
 

@@ -4,7 +4,7 @@ use Rattle.std.specs.Prelude.{Result, Err, Vec}
 use Rattle.std.specs.List.{AllByRecursion, slice_get}
 use Rattle.std.specs.Option.{option_map, is_some}
 use Rattle.std.proofs.lemmas.Bool.{cases_lt, false≢true}
-use Rattle.std.proofs.lemmas.Option.{slice_get_past}
+use Rattle.std.proofs.lemmas.Option.{same_Some, slice_get_past}
 use Rattle.std.proofs.lemmas.List.{length-map, drop_all}
 use Rattle.finite_module.specs.Checked.{Checked}
 use Rattle.std.proofs.lemmas.List.Elements.{All-from_recursion}
@@ -44,16 +44,13 @@ holds_start table h read s k = elim (cases_lt k (length (row_in table.rows s))) 
 abbrev pub IsFirst : List Entry → Entry → Type 0
 IsFirst list e = entry_at list e.s e.above ≡ Some e.content
 
-some_same : (c d : Content) → Some c ≡ Some d → c ≡ d
-some_same c d e = cc
-
 start_is_of : (table : Staircase) → IsTable table → AllRead table.rows → (e : Entry) → IsFirst table.start e → IsOf (over table.resolved) table.start e.s e.above e.content
 start_is_of table h read e first =
     let l = h.started e.s e.above e.content first in
     let there = slice_get-there (row_in table.rows e.s) e.above l in
     let is = h.placed e.s e.above there.0 there.1 in
     let held : Some e.content ≡ Some there.0.content = sym first ∙ held_there table h read e.s e.above l ∙ ap (option_map (λ (q : Placed). q.content)) there.1 in
-    subst (IsOf (over table.resolved) table.start e.s e.above) (sym (some_same e.content there.0.content held)) is.is_of
+    subst (IsOf (over table.resolved) table.start e.s e.above) (sym (same_Some e.content there.0.content held)) is.is_of
 
 are_of_list : (table : Staircase) → IsTable table → AllRead table.rows → (list : List Entry) → AllByRecursion (IsFirst table.start) list → AllByRecursion (λ (e : Entry). IsOf (over table.resolved) table.start e.s e.above e.content) list
 are_of_list table h read [] first = tt

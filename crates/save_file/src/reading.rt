@@ -74,25 +74,10 @@ fn next_degree(table: &Table, s: u16, above: u16) -> Option<i32>
         (λ t. IsPlaceFor table.now s above t) }
     ensures is_table { IsTable table.now }
 {
-    if !is_next(table, s, above) || s > MAX_S || above > MAX_T {
+    if !table.is_next(s, above) || s > MAX_S || above > MAX_T {
         return None;
     }
-    Some(table.module().bottom() + i32::from(above))
-}
-
-/// Whether the square in row `s`, `above` degrees above the bottom, is the next of its row, and those that it stands on are there.
-fn is_next(table: &Table, s: u16, above: u16) -> bool
-    ensures next { IsTrue result ↔ IsNext table.now.rows s above }
-    ensures is_table { IsTable table.now }
-{
-    let k = usize::from(above);
-    if table.front(s) != k {
-        return false;
-    }
-    if s == 0 {
-        return true;
-    }
-    k < table.front(s - 1)
+    Some(table.degree(above))
 }
 
 /// Whether the matrices have as many columns as the modules have dimensions, where the next square of the row is, in degree `t`,

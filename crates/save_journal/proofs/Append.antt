@@ -2,6 +2,7 @@
 use Rattle.std.proofs.Common.{◌≡◌, ◌⊎◌, inl, ℕ, ◌+◌, ◌≤◌, List, [], ◌∷◌, ◌++◌, length, drop, Option, Some, sym, ◌∙◌, ap, subst, arith}
 use Rattle.std.specs.Prelude.{IfSome}
 use Rattle.std.specs.Option.{option_map}
+use Rattle.std.proofs.lemmas.Option.{same_Some}
 use Rattle.edge.specs.Disk.{written, Torn, Follows, Only, IsTold, AreTold, Elapses, LeavesOnly}
 use Rattle.edge.proofs.Moments.{Lawful}
 use Rattle.edge.proofs.Moments.{where_told, at_told, is_told, both_told, told_before, where_some, started, goes_on}
@@ -10,9 +11,6 @@ use Rattle.save_journal.specs.Journals.{IsSayable, IsAtRest, IsSettled, IsBefore
 use Rattle.save_journal.proofs.Frames.{length-framed}
 use Rattle.save_journal.proofs.Walk.{at_rest_records}
 use Rattle.save_journal.proofs.Torn.{length-at_rest, torn_behind, staged, with_gate, length-with_gate, open_gate, torn_gate, written_gate}
-
-pub same_some : (x y : List ℕ) → Some x ≡ Some y → x ≡ y
-same_some x y e = cc
 
 module _ {D : Type 0} {now : D → Option (List ℕ)} {moment : D → ℕ} {images : D → List ℕ → Type 0} {since : D → ℕ → List ℕ → Type 0} (laws : Lawful now moment images since) (digest : List ℕ) (end : ℕ) (body bytes : List ℕ) (is : bytes ≡ framed body) (says : IsSayable body) (d0 : D) where
   abbrev Settled : List ℕ → Type 0
@@ -80,7 +78,7 @@ module _ {D : Type 0} {now : D → Option (List ℕ)} {moment : D → ℕ} {imag
               let back0 = told_before (now d0) (written (end + 1) bytes) f (sym written1 ∙ sym same2 ∙ there) in
               let file = back0.0 in
               let s : Settled file = at_told (now d0) Settled file back0.1 settled in
-              let same : f ≡ gated file s s.at_rest.gate = same_some f (gated file s s.at_rest.gate) (sym there ∙ now2 file s back0.1) in
+              let same : f ≡ gated file s s.at_rest.gate = same_Some f (gated file s s.at_rest.gate) (sym there ∙ now2 file s back0.1) in
               omega (arith, ap length same, length-with_gate digest end s.list body (rest file) s.at_rest.place s.at_rest.width s.at_rest.sayable says s.at_rest.gate))
 
           module _ (d3 : D) (follows3 : Follows (Torn end 1) (images d2) (images d3)) (time3 : Elapses (moment d2) (moment d3) (since d2) (since d3) (images d3)) where
@@ -134,7 +132,7 @@ module _ {D : Type 0} {now : D → Option (List ℕ)} {moment : D → ℕ} {imag
                     let file = back0.0 in
                     let s : Settled file = at_told (now d0) Settled file back0.1 settled in
                     let is3 = now3 file s back0.1 in
-                    let same : gated file s 0xA5 ≡ f = same_some (gated file s 0xA5) f (sym is3 ∙ sym same4 ∙ there) in
+                    let same : gated file s 0xA5 ≡ f = same_Some (gated file s 0xA5) f (sym is3 ∙ sym same4 ∙ there) in
                     subst (λ x. IsSettled digest (end + length bytes) x (images d4)) same (record {
                       list = s.list ++ body ∷ [];
                       at_rest = after file s;

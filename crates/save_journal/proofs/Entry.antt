@@ -2,6 +2,8 @@
 use Rattle.std.proofs.Common.{◌≡◌, ℕ, ◌+◌, ◌≤◌, List, [], ◌∷◌, ◌++◌, length, drop, Option, None, Some, cond, refl, sym, ◌∙◌, ap, subst, arith, length-append}
 use Rattle.std.specs.Prelude.{IfSome}
 use Rattle.std.specs.Option.{option_map}
+use Rattle.std.proofs.lemmas.Bool.{le-leb}
+use Rattle.std.proofs.lemmas.Option.{same_Some}
 use Rattle.std.proofs.lemmas.List.{append-nil, drop_all}
 use Rattle.std.proofs.lemmas.List.Elements.{All-nil}
 use Rattle.edge.specs.Disk.{written, Torn, Follows, Only, Elapses, LeavesOnly}
@@ -10,8 +12,7 @@ use Rattle.edge.proofs.Moments.{where_some, at_told, told_before, started, goes_
 use Rattle.save_journal.specs.Records.{Records, records_of, header, fresh, opened}
 use Rattle.save_journal.specs.Journals.{IsSayable, IsAtRest, HasRecordsOf}
 use Rattle.save_journal.specs.Inside.Held.{IsHeld}
-use Rattle.save_journal.proofs.Append.{same_some}
-use Rattle.save_journal.proofs.Walk.{records_few, le_true}
+use Rattle.save_journal.proofs.Walk.{records_few}
 
 -- our header and a closed gate
 pub fresh_at_rest : (digest file : List ℕ) → length digest ≡ 32 → file ≡ fresh digest → IsAtRest digest 40 [] file
@@ -35,7 +36,7 @@ written_fresh digest file width few =
 
 -- what is written into a file without room for a record
 pub opened_few : (digest file : List ℕ) → length file ≤ 41 → opened digest file ≡ fresh digest
-opened_few digest file few = ap (λ b. cond b (fresh digest) file) (le_true (length file) 41 few)
+opened_few digest file few = ap (λ b. cond b (fresh digest) file) (le-leb (length file) 41 few)
 
 written_told : (o : Option (List ℕ)) (digest bytes : List ℕ) → length digest ≡ 32 → length bytes ≤ 41 → IfSome o (λ f. bytes ≡ f) → option_map (written 0 (fresh digest)) o ≡ option_map (opened digest) o
 written_told None digest bytes width few read = refl
@@ -100,7 +101,7 @@ module _ {D : Type 0} {now : D → Option (List ℕ)} {moment : D → ℕ} {imag
                 let file = back.0 in
                 let short : length file ≤ 41 = omega (arith, ap length (read_is file (told0 file back.1))) in
                 let is3 : now d3 ≡ Some (fresh digest) = written3 ∙ ap (option_map (written 0 (fresh digest))) back.1 ∙ ap (λ (x : List ℕ). Some x) (written_fresh digest file width short) in
-                let same : f ≡ fresh digest = same_some f (fresh digest) (sym there ∙ same4 ∙ is3) in
+                let same : f ≡ fresh digest = same_Some f (fresh digest) (sym there ∙ same4 ∙ is3) in
                 record {
                   at_rest = fresh_at_rest digest f width same;
                   only = subst (λ x. Only x (images d4)) (sym same) (at_told (now d3) (λ x. Only x (images d4)) (fresh digest) is3 durable4);

@@ -1,8 +1,10 @@
 mod Append
+pub mod Bytes
 mod Entry
 mod Examples
 mod Frames
 pub mod Opened
 mod ReadTo
+mod Standing
 mod Torn
 mod Walk

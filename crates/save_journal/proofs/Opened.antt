@@ -2,13 +2,13 @@
 use Rattle.std.proofs.Common.{◌≡◌, inl, inr, ℕ, ◌<◌, List, [], length, Option, None, Some, cond, refl, sym, ◌∙◌, ap, subst, arith}
 use Rattle.std.specs.Prelude.{IfSome, Ok}
 use Rattle.std.specs.Option.{option_map}
-use Rattle.std.proofs.lemmas.Bool.{cases_lt}
-use Rattle.save_journal.specs.Records.{Records, records_of, fresh, opened}
+use Rattle.std.proofs.lemmas.Bool.{cases_lt, lt-leb}
+use Rattle.save_journal.specs.Records.{records_of, fresh, opened}
 use Rattle.save_journal.proofs.Entry.{length-fresh, opened_few}
-use Rattle.save_journal.proofs.Walk.{records_few, le_false}
+use Rattle.save_journal.proofs.Walk.{records_few}
 
 opened_many : (digest file : List ℕ) → 41 < length file → opened digest file ≡ file
-opened_many digest file many = ap (λ b. cond b (fresh digest) file) (le_false (length file) 41 many)
+opened_many digest file many = ap (λ b. cond b (fresh digest) file) (lt-leb (length file) 41 many)
 
 -- it has the records that it had
 opened_records : (digest file : List ℕ) → length digest ≡ 32 → records_of digest (opened digest file) ≡ records_of digest file
@@ -28,12 +28,9 @@ records_before digest bodies width (Some file) p e is =
     sym (opened_records digest file width) ∙ here
 
 -- one that has a record is as it was
-same_bodies : (xs ys : List (List ℕ)) (r : Records) → r ≡ Ok xs → r ≡ Ok ys → xs ≡ ys
-same_bodies xs ys r e f = cc
-
 pub kept_file : (digest file : List ℕ) (bodies : List (List ℕ)) → records_of digest file ≡ Ok bodies → (bodies ≡ [] → ⊥) → opened digest file ≡ file
 kept_file digest file bodies is some = elim (cases_lt (length file) 42) [
-  | inl few ↦ absurd (some (same_bodies bodies [] (records_of digest file) is (records_few digest file (omega arith))))
+  | inl few ↦ let none = records_few digest file (omega arith) in let empty : bodies ≡ [] = cc in absurd (some empty)
   | inr many ↦ opened_many digest file (omega arith)
 ]
 

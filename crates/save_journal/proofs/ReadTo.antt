@@ -4,9 +4,9 @@ use Rattle.std.specs.Prelude.{All, Vec, Err}
 use Rattle.std.specs.declared.alloc.Global.{Global}
 use Rattle.std.specs.Str.{bytes_eq}
 use Rattle.std.specs.Int.{w64, to_be_bytes}
-use Rattle.std.proofs.lemmas.List.{append-nil, drop-drop, drop_more, length-take-le, length-drop, length-take, get_or-take, get_or-drop, get_or_past, map_push}
+use Rattle.std.proofs.lemmas.List.{append-nil, drop-drop, drop_more, length-take-le, length-drop, get_or-drop, map_push}
 use Rattle.std.proofs.lemmas.List.Elements.{All-nil, All-cons, All-append}
-use Rattle.std.proofs.lemmas.Bool.{cases_lt, cases_Bool}
+use Rattle.std.proofs.lemmas.Bool.{cases_Bool}
 use Rattle.std.proofs.lemmas.Slice.Eq.{bytes_eq-Decides}
 use Rattle.std.proofs.lemmas.Nat.{be_bytes_8}
 use Rattle.sha2.specs.Sha256.{sha256}
@@ -14,6 +14,8 @@ use Rattle.save_journal.specs.Records.{Records, magic, body_length, body_of, kep
 use Rattle.save_journal.specs.Journals.{IsSayable, IsAtRest, contents}
 use Rattle.save_journal.specs.declared.fault.OpenFault.{OpenFault}
 use Rattle.save_journal.specs.declared.fault.OpenFault.TheVariants.{Memory}
+use Rattle.save_journal.specs.Laws.{AreBytes}
+use Rattle.save_journal.proofs.Bytes.{AreBytes-part}
 use Rattle.save_journal.proofs.Walk.{record_of, with_bodies, with_bodies-Err, records_split, encoded_cons, encoded-append, length-encoded}
 
 -- the file is our header, these records_of, and what stands from this place on
@@ -38,21 +40,15 @@ at_start digest file width long first second = record {
   sayable = All-nil IsSayable;
 }
 
-module _ (behind : List ℕ) (fits : (k : ℕ) → get_or behind k 0 < 256) (whole : 41 + body_length behind ≤ length behind) where
+module _ (behind : List ℕ) (fits : AreBytes behind) (whole : 41 + body_length behind ≤ length behind) where
   abbrev n : ℕ
   n = body_length behind
 
   pub length-body : length (body_of behind) ≡ body_length behind
   length-body = length-take-le (body_length behind) (drop 8 behind) (omega (arith, length-drop 8 behind))
 
-  first_fits : (k : ℕ) → get_or (take 8 behind) k 0 < 256
-  first_fits k = elim (cases_lt k 8) [
-    | inl low ↦ rw (get_or-take 8 behind k 0 low) (fits k)
-    | inr high ↦ let past : get_or (take 8 behind) k 0 ≡ 0 = get_or_past (take 8 behind) k 0 (omega (arith, length-take 8 behind)) in omega arith
-  ]
-
   says : to_be_bytes w64 (length (body_of behind)) ≡ take 8 behind
-  says = be_bytes_8 (take 8 behind) (length (body_of behind)) (length-take-le 8 behind (omega arith)) first_fits length-body
+  says = be_bytes_8 (take 8 behind) (length (body_of behind)) (length-take-le 8 behind (omega arith)) (AreBytes-part 0 8 behind fits) length-body
 
   pub is_record : sha256 (body_of behind) ≡ kept_of behind → behind ≡ record_of (body_of behind) (drop (40 + body_length behind) behind)
   is_record same =
@@ -66,14 +62,14 @@ module _ (behind : List ℕ) (fits : (k : ℕ) → get_or behind k 0 < 256) (who
       sym (take-append-drop k (drop 8 behind)) ∙ ap (λ (l : List ℕ). body ++ l) (drop-drop k 8 behind ∙ third) in
       sym (take-append-drop 8 behind) ∙ ap (λ (l : List ℕ). l ++ drop 8 behind) (sym says) ∙ ap (λ (l : List ℕ). to_be_bytes w64 (length body) ++ l) second
 
-module _ (digest file : List ℕ) (list : List (List ℕ)) (place : ℕ) (r : IsReadTo digest file list place) (gate : get_or file place 0 ≡ 0xA5) (fits : (k : ℕ) → get_or file k 0 < 256) where
+module _ (digest file : List ℕ) (list : List (List ℕ)) (place : ℕ) (r : IsReadTo digest file list place) (gate : get_or file place 0 ≡ 0xA5) (fits : AreBytes file) where
   abbrev behind : List ℕ
   behind = drop (place + 1) file
 
   here : drop place file ≡ 0xA5 ∷ behind
   here = drop_more file place 0 r.inside ∙ ap (λ (g : ℕ). g ∷ drop (place + 1) file) gate
 
-  fits_behind : (k : ℕ) → get_or (drop (place + 1) file) k 0 < 256
+  fits_behind : AreBytes (drop (place + 1) file)
   fits_behind k = rw (get_or-drop (place + 1) file k 0) (fits (place + 1 + k))
 
   long : 41 + body_length (drop (place + 1) file) ≤ length (drop (place + 1) file) → 41 < length file

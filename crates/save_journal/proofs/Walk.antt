@@ -1,11 +1,11 @@
 -- What the records_of of a file are, by its parts.
 use Rattle.std.proofs.Common.{◌≡◌, ◌≢◌, inl, inr, ℕ, zero, suc, ◌+◌, ◌<◌, ◌≤◌, Bool, true, false, cond, List, [], ◌∷◌, ◌++◌, length, take, drop, refl, sym, ◌∙◌, ap, arith, length-append, append_assoc}
-use Rattle.std.specs.Prelude.{nat_eq, nat_le, All, Ok, Err}
+use Rattle.std.specs.Prelude.{nat_eq, All, Ok, Err}
 use Rattle.std.specs.Str.{bytes_eq}
 use Rattle.std.specs.Int.{w64, from_be_bytes, to_be_bytes}
 use Rattle.std.proofs.lemmas.List.{take_at, drop_at, append-nil, drop-drop}
 use Rattle.std.proofs.lemmas.List.Elements.{All-head, All-tail}
-use Rattle.std.proofs.lemmas.Bool.{cases_lt}
+use Rattle.std.proofs.lemmas.Bool.{cases_lt, le-leb, lt-leb}
 use Rattle.std.proofs.lemmas.Bool.Decides.{nat_tests}
 use Rattle.std.proofs.lemmas.Slice.Eq.{bytes_eq-Decides}
 use Rattle.std.proofs.lemmas.Nat.{from_be_bytes-to_be_bytes_8}
@@ -41,12 +41,6 @@ records_skip number place (suc skip) (byte ∷ file) = records_skip number place
 not_open : (gate : ℕ) → gate ≢ 0xA5 → nat_eq gate 0xA5 ≡ false
 not_open gate shut = grind (arith, nat_tests)
 
-pub le_true : (m n : ℕ) → m ≤ n → nat_le m n ≡ true
-le_true m n e = grind (arith, nat_tests)
-
-pub le_false : (m n : ℕ) → n < m → nat_le m n ≡ false
-le_false m n e = grind (arith, nat_tests)
-
 -- a gate that isn't open ends them
 pub at_closed : (number place gate : ℕ) (behind : List ℕ) → gate ≢ 0xA5 → records_from number place 0 (gate ∷ behind) ≡ Ok []
 at_closed number place gate behind shut =
@@ -54,7 +48,7 @@ at_closed number place gate behind shut =
 
 pub at_short : (number place : ℕ) (behind : List ℕ) → length behind < 41 + body_length behind → records_from number place 0 (0xA5 ∷ behind) ≡ Err (Short place)
 at_short number place behind less =
-    ap (λ (b : Bool). at_gate true b (bytes_eq (sha256 (body_of behind)) (kept_of behind)) number place behind (records_from (number + 1) (place + 41 + body_length behind) (40 + body_length behind) behind)) (le_false _ _ less)
+    ap (λ (b : Bool). at_gate true b (bytes_eq (sha256 (body_of behind)) (kept_of behind)) number place behind (records_from (number + 1) (place + 41 + body_length behind) (40 + body_length behind) behind)) (lt-leb _ _ less)
 
 gate_true : (whole right : Bool) (number place : ℕ) (behind : List ℕ) (rest : Records) → whole ≡ true → right ≡ true → at_gate true whole right number place behind rest ≡ with_body (body_of behind) rest
 gate_true whole right number place behind rest w r = ap (λ (b : Bool). at_gate true b right number place behind rest) w ∙ ap (λ (b : Bool). at_gate true true b number place behind rest) r
@@ -63,12 +57,12 @@ gate_damaged : (whole right : Bool) (number place : ℕ) (behind : List ℕ) (re
 gate_damaged whole right number place behind rest w r = ap (λ (b : Bool). at_gate true b right number place behind rest) w ∙ ap (λ (b : Bool). at_gate true true b number place behind rest) r
 
 pub at_damaged : (number place : ℕ) (behind : List ℕ) → 41 + body_length behind ≤ length behind → bytes_eq (sha256 (body_of behind)) (kept_of behind) ≡ false → records_from number place 0 (0xA5 ∷ behind) ≡ Err (Damaged number (kept_of behind) (sha256 (body_of behind)))
-at_damaged number place behind whole wrong = gate_damaged _ _ number place behind _ (le_true _ _ whole) wrong
+at_damaged number place behind whole wrong = gate_damaged _ _ number place behind _ (le-leb _ _ whole) wrong
 
 -- a whole record
 pub at_whole : (number place : ℕ) (behind : List ℕ) → 41 + body_length behind ≤ length behind → bytes_eq (sha256 (body_of behind)) (kept_of behind) ≡ true → records_from number place 0 (0xA5 ∷ behind) ≡ with_body (body_of behind) (records_from (number + 1) (place + 41 + body_length behind) 0 (drop (40 + body_length behind) behind))
 at_whole number place behind whole right =
-    gate_true _ _ number place behind (records_from (number + 1) (place + 41 + body_length behind) (40 + body_length behind) behind) (le_true _ _ whole) right
+    gate_true _ _ number place behind (records_from (number + 1) (place + 41 + body_length behind) (40 + body_length behind) behind) (le-leb _ _ whole) right
     ∙ ap (with_body (body_of behind)) (records_skip (number + 1) (place + 41 + body_length behind) (40 + body_length behind) behind)
 
 -- a body behind its gate, and what comes then
@@ -179,14 +173,14 @@ module _ (digest file rest : List ℕ) (list : List (List ℕ)) (width : length 
   pub records_split : All IsSayable list → 41 < length file → 0 < length rest → records_of digest file ≡ with_bodies list (records_from (length list) (40 + length (encoded list)) 0 rest)
   records_split all long some =
       let n : 0 + length list ≡ length list = omega arith in
-      ap (λ (b : Bool). cond b (Ok []) (of_header (bytes_eq (take 8 file) magic) (bytes_eq (take 32 (drop 8 file)) digest) digest file)) (le_false _ _ long)
+      ap (λ (b : Bool). cond b (Ok []) (of_header (bytes_eq (take 8 file) magic) (bytes_eq (take 32 (drop 8 file)) digest) digest file)) (lt-leb _ _ long)
       ∙ header_true _ _ ((bytes_eq-Decides (take 8 file) magic).1 magic_is) ((bytes_eq-Decides (take 32 (drop 8 file)) digest).1 digest_is)
       ∙ ap (records_from 0 40 0) after_header
       ∙ records_encoded 0 40 list rest all some
       ∙ ap (λ (k : ℕ). with_bodies list (records_from k (40 + length (encoded list)) 0 rest)) n
 
 pub records_few : (digest file : List ℕ) → length file ≤ 41 → records_of digest file ≡ Ok []
-records_few digest file few = ap (λ (b : Bool). cond b (Ok []) (of_header (bytes_eq (take 8 file) magic) (bytes_eq (take 32 (drop 8 file)) digest) digest file)) (le_true _ _ few)
+records_few digest file few = ap (λ (b : Bool). cond b (Ok []) (of_header (bytes_eq (take 8 file) magic) (bytes_eq (take 32 (drop 8 file)) digest) digest file)) (le-leb _ _ few)
 
 none_encoded : (list : List (List ℕ)) → length (encoded list) ≤ 0 → list ≡ []
 none_encoded [] few = refl

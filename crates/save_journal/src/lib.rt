@@ -10,9 +10,11 @@
 mod fault;
 mod framing;
 mod journal;
+mod laws;
 mod opening;
 mod reading;
 
 pub use fault::OpenFault;
 pub use framing::{Framed, frame};
 pub use journal::Journal;
+pub use laws::{records_are_read, refusals_are_read};

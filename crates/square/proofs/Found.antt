@@ -12,7 +12,7 @@ use Rattle.resolution_laws.proofs.StartLaws.{content_is_unique, squares_below-sa
 use Rattle.square.specs.Squares.{Placed, AreUnder, IsQuasi, IsKeptOf, KeptWhereMade, IsSquare, over, bottom_of}
 use Rattle.degrees.specs.Above.{above_of}
 use Rattle.square.specs.Tables.{Staircase, row_in, plain_rows, content_at, square_at, IsQuasiAt, IsTable}
-use Rattle.square.proofs.Looking.{natural-is}
+use Rattle.square.proofs.ByDegree.{natural-is}
 use Rattle.square.proofs.Places.{content_at-is, table_before, table_below, table_under}
 
 -- a square found at a degree, and its place

@@ -1,6 +1,7 @@
 mod RowWidths
 pub mod Footings
 pub mod Places
+pub mod ByDegree
 pub mod Pushing
 pub mod Growing
 mod FirstParts

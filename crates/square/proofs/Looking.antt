@@ -1,5 +1,5 @@
 -- What is found at a place of a footing.
-use Rattle.std.proofs.Common.{◌≡◌, ℕ, suc, ℤ, pos, negsuc, ◌-ℤ◌, false, nat_eq, if◌then◌else◌, List, Option, Some, None, IfSome, option_and_then, option_map, refl, sym, ◌∙◌, ap, arith, inl, inr}
+use Rattle.std.proofs.Common.{◌≡◌, ℕ, suc, ℤ, pos, ◌-ℤ◌, false, nat_eq, if◌then◌else◌, List, Option, Some, None, IfSome, option_and_then, option_map, refl, sym, ◌∙◌, ap, arith, inl, inr}
 use Rattle.std.specs.List.{slice_get}
 use Rattle.std.proofs.lemmas.Int.{ints}
 use Rattle.std.proofs.lemmas.Bool.{eq-eqb}
@@ -8,12 +8,9 @@ use Rattle.std.proofs.lemmas.Option.{slice_get-map}
 use Rattle.finite_module.specs.Checked.{Checked}
 use Rattle.resolution_laws.specs.Resolution.{Content}
 use Rattle.square.specs.Squares.{Placed, content_of, bottom_of}
-use Rattle.degrees.specs.Above.{natural, above_of}
+use Rattle.degrees.specs.Above.{above_of}
 use Rattle.square.specs.Tables.{Footing, contents, IsPlacedAt, AreOfRow, content_in, footing_at, under_row}
-
-pub natural-is : (z : ℤ) (k : ℕ) → natural z ≡ Some k → z ≡ pos k
-natural-is (pos n) k e = let same : n ≡ k = cc in ap (λ i. pos i) same
-natural-is (negsuc n) k e = cc
+use Rattle.square.proofs.ByDegree.{natural-is}
 
 -- what a row has at the place of a degree stands there
 pub placed_there : {X : Type 0} (o : Option X) (f : X → Placed) (resolved resolved' : Checked) (i i' k : ℕ) (t b u : ℤ) (at : Option ℕ) (row : List Placed) → option_map f o ≡ slice_get row k → AreOfRow resolved' i' row → resolved' ≡ resolved → i' ≡ i → at ≡ above_of b u → at ≡ Some k → b ≡ bottom_of resolved → u ≡ t → IfSome o (λ x. IsPlacedAt resolved i t (f x))

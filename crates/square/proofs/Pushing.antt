@@ -53,7 +53,7 @@ map-with_square (r ∷ rows) (suc s) old new q l e h = ap (λ (x : List (List Pl
 -- ---- the table
 
 -- rows do not rise
-never_rises_by : (table : Staircase) → IsTable table → (s d : ℕ) → length (row_in table.rows (s + d)) ≤ length (row_in table.rows s)
+pub never_rises_by : (table : Staircase) → IsTable table → (s d : ℕ) → length (row_in table.rows (s + d)) ≤ length (row_in table.rows s)
 never_rises_by table h s zero = let e : s + 0 ≡ s = omega arith in let same = ap (λ n. length (row_in table.rows n)) e in omega arith
 never_rises_by table h s (suc d) =
     let e : s + suc d ≡ suc (s + d) = omega arith in

@@ -31,6 +31,18 @@ take_none zero squares e = refl
 take_none (suc n) [] e = refl
 take_none (suc n) (c ∷ squares) e = absurd (omega arith)
 
+-- the limits of a table
+pub record IsSmall (s k : ℕ) : Type 0 where
+  pub row : s ≤ MAX_S
+  pub degree : k ≤ MAX_T
+
+pub square_small : (table : Staircase) → IsTable table → (s k : ℕ) → k < length (row_in table.rows s) → IsSmall s k
+square_small table h s k l =
+    let within = row_within table.rows s k l in
+    let short = row_short table h s in
+    let rows = h.rows in
+    record { row = omega arith; degree = omega arith }
+
 -- and there is no row above the greatest
 pub no_row : (table : Staircase) → IsTable table → (s n : ℕ) → MAX_S < s → take n (row_of (plain_rows table.rows) s) ≡ []
 no_row table h s n above =

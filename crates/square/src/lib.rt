@@ -2,6 +2,7 @@
 #![tactic(auto)]
 
 mod below;
+mod by_place;
 mod inputs;
 mod keep;
 mod kernel;

@@ -1,5 +1,5 @@
 //! The squares of a resolution, row by row, and what is read off them.
-ghost use Rattle.std.specs.Prelude.{◌≡◌, ℕ, suc, ◌≤◌, ◌<◌, ◌+◌, ◌^◌, ◌+ℤ◌, ◌≤ℤ◌, pos, [], map, take, length, replicate, Some, option_map, SomeIff, IsSome, IfOk, IfErr, OnOk, OnErr, IsOk};
+ghost use Rattle.std.specs.Prelude.{◌≡◌, ℕ, suc, ◌≤◌, ◌<◌, ◌+◌, ◌^◌, ◌+ℤ◌, ◌≤ℤ◌, pos, [], map, take, length, replicate, slice_get, Some, option_map, SomeIff, IsSome, IfOk, IfErr, OnOk, OnErr, IsOk};
 ghost use Rattle.std.specs.Arc.{arc_value};
 ghost use Rattle.finite_module.specs.Module.{bottom};
 ghost use Rattle.f2_matrix.specs.Reduction.{IsReductionOf};
@@ -124,6 +124,14 @@ impl Table {
     {
         let k = above_of(self.module.bottom(), t)?;
         self.rows.get(usize::from(s))?.get(k)
+    }
+
+    /// The square in row `s`, `above` degrees above the bottom, none where it is not there.
+    pub fn square(&self, s: u16, above: u16) -> Option<&Arc<Square>>
+        ensures square { option_map (λ a. arc_value a.now) result ≡ slice_get (row_in self.now.rows s) above }
+        ensures is_table { IsTable self.now }
+    {
+        self.rows.get(usize::from(s))?.get(usize::from(above))
     }
 
     /// Reserves room for `n` more squares, so that the next `n` pushes cannot fail. Room that is there stays.

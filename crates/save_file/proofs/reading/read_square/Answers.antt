@@ -5,7 +5,7 @@ use Rattle.f2_vec.specs.Spans.{HaveWidth}
 use Rattle.f2_matrix.specs.Echelon.{IsReduced, HasNoZeroRow}
 use Rattle.square.specs.Squares.{over}
 use Rattle.save_file.specs.Inside.Outline.{outline_of, IsPlaceFor, AreUnpacked}
-use Rattle.save_file.proofs.Bodies.{AreBytes}
+use Rattle.save_journal.specs.Laws.{AreBytes}
 use Rattle.save_file.proofs.Outlines.{images_length}
 use Rattle.save_file.proofs.Decoding.{not_whole, not_next, not_fitting, no_images, no_kernel, not_basis, is_readable, decoded, IsFound}
 use Rattle.save_file.proofs.reading.read_square.Goals as goal
