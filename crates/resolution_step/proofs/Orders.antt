@@ -14,7 +14,7 @@ use Rattle.resolution_step.specs.Alone.{AreNewAt, IsBefore}
 
 -- ---- lists of which each element stands so to each later one
 
-AllPairs-nil : {X : Type 0} (R : X → X → Type 0) → AllPairs R []
+pub AllPairs-nil : {X : Type 0} (R : X → X → Type 0) → AllPairs R []
 AllPairs-nil R i j d l within = absurd (omega arith)
 
 pub AllPairs-append : {X : Type 0} (R : X → X → Type 0) (xs ys : List X) → AllPairs R xs → AllPairs R ys → All (λ x. All (R x) ys) xs → AllPairs R (xs ++ ys)
@@ -24,11 +24,8 @@ AllPairs-append {X} R (x ∷ xs) ys h k apart =
     let head : All (R x) xs = λ j d l. h zero (suc j) d (omega arith) (omega arith) in
     AllPairs-cons R x (xs ++ ys) (All-append (R x) xs ys head (All-head Q x xs apart)) (AllPairs-append R xs ys (λ i j d l within. h (suc i) (suc j) d (omega arith) (omega arith)) k (All-tail Q x xs apart))
 
-pub in_order_none : AllPairs IsBefore []
-in_order_none = AllPairs-nil IsBefore
-
 pub in_order_one : (e : Entry) → AllPairs IsBefore (e ∷ [])
-in_order_one e = AllPairs-cons IsBefore e [] (All-nil (IsBefore e)) in_order_none
+in_order_one e = AllPairs-cons IsBefore e [] (All-nil (IsBefore e)) (AllPairs-nil IsBefore)
 
 -- squares at places that all stand before the others
 pub in_order_both : (at then : ℕ → ℕ → Type 0) (a b : List Entry) → ((i j k l : ℕ) → at i j → then k l → (i < k) ⊎ ((i ≡ k) × (j < l))) → All (λ e. at e.s e.above) a → All (λ e. then e.s e.above) b → AllPairs IsBefore a → AllPairs IsBefore b → AllPairs IsBefore (a ++ b)

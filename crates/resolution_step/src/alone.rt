@@ -1,24 +1,19 @@
 //! A range resolved on one thread.
-ghost use Rattle.std.specs.Prelude.{◌≡◌, ◌+◌, ◌<◌, ◌≤◌, ℕ, suc, length, Err, IfOk, OnOk};
-ghost use Rattle.std.specs.Arc.{arc_value};
-ghost use Rattle.edge.specs.Faults.{HasRisen};
+ghost use Rattle.std.specs.Prelude.{◌≡◌, ◌+◌, ◌<◌, ◌≤◌, ℕ, suc, [], length, IfOk, OnOk};
 ghost use Rattle.resolution_laws.specs.Resolution.{IsCanonicalTable};
-ghost use Rattle.resolution_laws.specs.Start.{IsCanonicalStart};
 ghost use Rattle.square.specs.declared.keep.KeepFault as KeepFault;
-ghost use Rattle.square.specs.declared.keep.KeepFault.TheVariants.{Failed, Memory as WantOfMemory};
 ghost use Rattle.square.specs.declared.range.TheConstants.{MAX_S, MAX_T};
 ghost use Rattle.square.specs.Squares.{over};
 ghost use Rattle.square.specs.Tables.{row_in, plain_rows, IsThrough, IsNextAt};
-ghost use Rattle.square.specs.Growing.{HasGrown};
-ghost use Rattle.square.specs.Keeping.{IsKeeperOf};
-ghost use Rattle.resolution_step.specs.Alone.{cut, AreOfStart, AreNewAt, IsInRange, HasGiven};
+ghost use Rattle.square.specs.Keeping.{IsKeeperOf, HasFared};
+ghost use Rattle.resolution_step.specs.Alone.{cut, AreOfStart, IsInRange, IsBefore, HasResolved};
 ghost use Rattle.resolution_step.specs.Inside.Adding.{IsNewAt, IsEndOf, IsInRow, HasAdded};
 
 use crate::step_on::step;
+use finite_module::Module;
 use memory::Memory;
-use square::{Keep, KeepFault, Range, Square, Table};
+use square::{Keep, KeepFault, NoKeep, Range, Square, Table, put};
 use std::alloc::Global;
-use std::sync::Arc;
 
 /// The table with each square of the range. Those that are not there yet are made, and no others, row by row from row 0 on and
 /// each row from its bottom degree on, and each is given to the keeper.
@@ -36,26 +31,36 @@ pub fn resolve_alone<K: Keep>(
     requires degrees { range.t ≤ MAX_T }
     requires live { (K.telling keeper).live }
     requires of_table { IsKeeperOf (K.telling keeper) table }
-    ensures through { IfOk result.0 (λ more. IsThrough range more.rows) }
-    ensures only { IfOk result.0 (λ more. AreNewAt (IsInRange range) table.rows more.rows) }
-    ensures grown { IfOk result.0 (HasGrown table) }
-    ensures are_of_start { IfOk result.0 AreOfStart }
-    ensures canonical { IsCanonicalStart (over table.resolved) table.start →
-        IfOk result.0
-        (λ more. IsCanonicalTable (over table.resolved) range.s range.t (cut range (plain_rows more.rows))) }
-    ensures live { OnOk result.0 (K.telling result.1).live }
-    ensures no_fault { OnOk result.0 ((K.telling result.1).faults ≡ (K.telling keeper).faults) }
-    ensures of_table { IfOk result.0 (IsKeeperOf (K.telling result.1)) }
-    ensures failed { result.0 ≡ Err KeepFault.Failed → HasRisen (K.telling keeper).faults (K.telling result.1).faults }
-    ensures dead { result.0 ≡ Err KeepFault.Failed → (K.telling result.1).live → ⊥ }
-    ensures memory { result.0 ≡ Err KeepFault.Memory → (K.telling result.1).faults ≡ (K.telling keeper).faults }
-    ensures lives { result.0 ≡ Err KeepFault.Memory → (K.telling result.1).live }
-    ensures given { HasGiven (over table.resolved) table.start (IsInRange range) (K.telling keeper)
+    ensures { HasResolved KeepFault.Failed KeepFault.Memory IsBefore range table result.0 (K.telling keeper)
         (K.telling result.1) }
 {
     match add_rows(alloc, &mut table, range, &mut keeper) {
         Ok(()) => (Ok(table), keeper),
         Err(fault) => (Err(fault), keeper),
+    }
+}
+
+/// The canonical table of a module through the range, made from nothing on the caller's thread. Nothing of it is kept.
+///
+/// # Errors
+/// `Memory` if allocation fails.
+pub fn resolved(alloc: Global, module: Module, range: Range) -> Result<Table, Memory>
+    requires rows { range.s ≤ MAX_S }
+    requires degrees { range.t ≤ MAX_T }
+    ensures module_is { IfOk result (λ table. table.resolved ≡ «module») }
+    ensures unread { IfOk result (λ table. table.start ≡ []) }
+    ensures through { IfOk result (λ table. IsThrough range table.rows) }
+    ensures only { IfOk result (λ table. (s k : ℕ) → k < length (row_in table.rows s) → IsInRange range s k) }
+    ensures are_of_start { IfOk result AreOfStart }
+    ensures canonical { IfOk result (λ table. IsCanonicalTable (over «module») range.s range.t
+        (cut range (plain_rows table.rows))) }
+{
+    let table = Table::new(alloc, module)?;
+    let (made, _) = resolve_alone(alloc, table, range, NoKeep);
+    match made {
+        Ok(table) => Ok(table),
+        Err(KeepFault::Memory) => Err(Memory),
+        Err(KeepFault::Failed) => unreachable!(),
     }
 }
 
@@ -72,14 +77,8 @@ fn add_rows<K: Keep>(
     requires of_table { IsKeeperOf (K.telling keeper.old) table.old }
     ensures through { OnOk result (IsThrough range table.new.rows) }
     ensures are_of_start { OnOk result (AreOfStart table.new) }
-    ensures live { OnOk result (K.telling keeper.new).live }
-    ensures no_fault { OnOk result ((K.telling keeper.new).faults ≡ (K.telling keeper.old).faults) }
-    ensures of_table { OnOk result (IsKeeperOf (K.telling keeper.new) table.new) }
-    ensures failed { result ≡ Err KeepFault.Failed →
-        HasRisen (K.telling keeper.old).faults (K.telling keeper.new).faults }
-    ensures dead { result ≡ Err KeepFault.Failed → (K.telling keeper.new).live → ⊥ }
-    ensures memory { result ≡ Err KeepFault.Memory → (K.telling keeper.new).faults ≡ (K.telling keeper.old).faults }
-    ensures lives { result ≡ Err KeepFault.Memory → (K.telling keeper.new).live }
+    ensures keeper { HasFared KeepFault.Failed KeepFault.Memory (λ _. table.new) result (K.telling keeper.old)
+        (K.telling keeper.new) }
     ensures added { HasAdded (IsInRange range) (K.telling keeper.old) (K.telling keeper.new) table.old table.new }
 {
     for s in 0..range.s + 1 {
@@ -103,14 +102,8 @@ fn add_row<K: Keep>(
     requires of_table { IsKeeperOf (K.telling keeper.old) table.old }
     ensures through { OnOk result (t < length (row_in table.new.rows s)) }
     ensures are_of_start { OnOk result (AreOfStart table.new) }
-    ensures live { OnOk result (K.telling keeper.new).live }
-    ensures no_fault { OnOk result ((K.telling keeper.new).faults ≡ (K.telling keeper.old).faults) }
-    ensures of_table { OnOk result (IsKeeperOf (K.telling keeper.new) table.new) }
-    ensures failed { result ≡ Err KeepFault.Failed →
-        HasRisen (K.telling keeper.old).faults (K.telling keeper.new).faults }
-    ensures dead { result ≡ Err KeepFault.Failed → (K.telling keeper.new).live → ⊥ }
-    ensures memory { result ≡ Err KeepFault.Memory → (K.telling keeper.new).faults ≡ (K.telling keeper.old).faults }
-    ensures lives { result ≡ Err KeepFault.Memory → (K.telling keeper.new).live }
+    ensures keeper { HasFared KeepFault.Failed KeepFault.Memory (λ _. table.new) result (K.telling keeper.old)
+        (K.telling keeper.new) }
     ensures added { HasAdded (IsInRow s t) (K.telling keeper.old) (K.telling keeper.new) table.old table.new }
 {
     let bottom = table.module().bottom();
@@ -134,32 +127,19 @@ fn add_square<K: Keep>(
     requires live { (K.telling keeper.old).live }
     requires of_table { IsKeeperOf (K.telling keeper.old) table.old }
     ensures longer { OnOk result (length (row_in table.new.rows s) ≡ length (row_in table.old.rows s) + 1) }
-    ensures live { OnOk result (K.telling keeper.new).live }
-    ensures no_fault { OnOk result ((K.telling keeper.new).faults ≡ (K.telling keeper.old).faults) }
-    ensures of_table { OnOk result (IsKeeperOf (K.telling keeper.new) table.new) }
-    ensures failed { result ≡ Err KeepFault.Failed →
-        HasRisen (K.telling keeper.old).faults (K.telling keeper.new).faults }
-    ensures dead { result ≡ Err KeepFault.Failed → (K.telling keeper.new).live → ⊥ }
-    ensures memory { result ≡ Err KeepFault.Memory → (K.telling keeper.new).faults ≡ (K.telling keeper.old).faults }
-    ensures lives { result ≡ Err KeepFault.Memory → (K.telling keeper.new).live }
+    ensures keeper { HasFared KeepFault.Failed KeepFault.Memory (λ _. table.new) result (K.telling keeper.old)
+        (K.telling keeper.new) }
     ensures added { HasAdded (IsEndOf table.old s) (K.telling keeper.old) (K.telling keeper.new) table.old table.new }
 {
     let square = next_square(alloc, table, s, t)?;
-    // A square that was kept also finds its place in the table.
-    table.reserve(1)?;
-    keeper.keep(&square)?;
-    match table.push(square) {
-        Ok(()) => Ok(()),
-        Err(_) => unreachable!(),
-    }
+    put(alloc, table, keeper, square)
 }
 
 /// The square in row `s` and of degree `t`, the next of its row.
-fn next_square(alloc: Global, table: &Table, s: u16, t: i32) -> Result<Arc<Square>, Memory>
+fn next_square(alloc: Global, table: &Table, s: u16, t: i32) -> Result<Square, Memory>
     requires { IsNextAt table.now s t }
-    ensures { IfOk result (λ square. IsNewAt table.now s t (arc_value square)) }
+    ensures { IfOk result (IsNewAt table.now s t) }
 {
     let inputs = table.inputs(alloc, s, t)?;
-    let square = Arc::new(alloc, step(alloc, &inputs)?)?;
-    Ok(square)
+    step(alloc, &inputs)
 }

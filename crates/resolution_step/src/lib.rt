@@ -5,5 +5,5 @@ mod alone;
 mod step_on;
 mod units;
 
-pub use alone::resolve_alone;
+pub use alone::{resolve_alone, resolved};
 pub use step_on::step;

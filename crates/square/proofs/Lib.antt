@@ -6,6 +6,7 @@ pub mod Pushing
 pub mod Growing
 mod FirstParts
 pub mod Kept
+pub mod Puts
 mod Rows
 mod Looking
 mod Matrices

@@ -1,11 +1,12 @@
 -- Keepers of squares: what is kept, and what may be left of it where a run is cut off.
-use Rattle.std.specs.Prelude.{◌≡◌, ℕ, suc, ◌≤◌, ◌⊎◌, ◌↔◌, List, [], ◌∷◌, ◌++◌, length, slice_get, Option, Some, None, IsSome, IfSome}
+use Rattle.std.specs.Prelude.{◌≡◌, ℕ, suc, ◌≤◌, ◌⊎◌, ◌↔◌, List, [], ◌∷◌, ◌++◌, length, slice_get, Option, Some, None, IsSome, IfSome, Result, Err, IfOk, OnOk}
 use Rattle.std.specs.Option.{option_map}
+use Rattle.edge.specs.Faults.{HasRisen}
 use Rattle.finite_module.specs.Checked.{Checked}
 use Rattle.resolution_laws.specs.Resolution.{Module}
 use Rattle.resolution_laws.specs.Start.{Entry, entry_at, AreOf}
 use Rattle.square.specs.Squares.{Placed, entry_of}
-use Rattle.square.specs.Tables.{Staircase, row_in}
+use Rattle.square.specs.Tables.{Staircase, row_in, with_square}
 
 -- ---- a keeper
 
@@ -93,3 +94,42 @@ pub record HasKept (m : Module) (start : List Entry) (old new : Keeper) (given :
       IsImagePart list given image)
   pub earlier : IfSome old.kept (λ list. (m : ℕ) (image : Option (List Entry)) → m ≤ old.moment →
       new.since m image ↔ (old.since m image ⊎ new.since old.moment image))
+
+-- ---- a call that gives squares to a keeper
+
+-- How the keeper fared in a call whose result holds such a table: it failed exactly if the call says so, and is live no more
+-- then. Else its count of faults stands, and the call's table is its own.
+pub record HasFared {T E : Type 0} (failing wanting : E) (table_of : T → Staircase) (result : Result T E)
+    (old new : Keeper) : Type 0 where
+  pub live : OnOk result new.live
+  pub no_fault : OnOk result (new.faults ≡ old.faults)
+  pub of_table : IfOk result (λ x. IsKeeperOf new (table_of x))
+  pub failed : result ≡ Err failing → HasRisen old.faults new.faults
+  pub dead : result ≡ Err failing → new.live → ⊥
+  pub memory : result ≡ Err wanting → new.faults ≡ old.faults
+  pub lives : result ≡ Err wanting → new.live
+
+-- ---- a square that is put into a table and kept
+
+-- the tables have the same squares, whatever their room
+pub record HaveSameSquares (before after : Staircase) : Type 0 where
+  pub resolved : after.resolved ≡ before.resolved
+  pub start : after.start ≡ before.start
+  pub rows : after.rows ≡ before.rows
+
+-- the square was kept, and is in the table
+pub record HasPut (m : Module) (start : List Entry) (old new : Keeper) (before after : Staircase) (q : Placed)
+    : Type 0 where
+  pub resolved : after.resolved ≡ before.resolved
+  pub start_is : after.start ≡ before.start
+  pub rows : after.rows ≡ with_square before.rows q.s q
+  pub live : new.live
+  pub no_fault : new.faults ≡ old.faults
+  pub of_table : IsKeeperOf new after
+  pub kept : HasKept m start old new (entry_of q ∷ [])
+
+-- it was neither kept nor put there
+pub record HasNotPut (m : Module) (start : List Entry) (old new : Keeper) (before after : Staircase) : Type 0 where
+  pub same : HaveSameSquares before after
+  pub of_table : IsKeeperOf new after
+  pub kept : HasKept m start old new []

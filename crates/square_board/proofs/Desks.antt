@@ -30,7 +30,7 @@ use Rattle.square_board.specs.declared.opening.Opening.{Opening}
 use Rattle.square_board.specs.Courses.{Course, state_of, with_event}
 use Rattle.square_board.specs.Openings.{first_table, bottom_of, module_of, low_of, course_of, ListsSquares}
 use Rattle.square_board.specs.Desks.{has_fail, HasKeptGiven, IsAsWell, IsDesk}
-use Rattle.square_board.specs.Inside.Putting.{HaveSameSquares, HasPut}
+use Rattle.square.specs.Keeping.{HaveSameSquares, HasPut}
 use Rattle.square_board.proofs.Courses.{state_of-then, legal-then}
 use Rattle.square_board.proofs.Failing.{none_fails}
 use Rattle.square_board.proofs.Ranges.{desk_range, next_of}

@@ -20,9 +20,9 @@ use Rattle.square_board.specs.Courses.{Course, state_of, with_event}
 use Rattle.square_board.specs.Openings.{first_table, module_of, low_of}
 use Rattle.square_board.specs.Jobs.{Taking, degree_of}
 use Rattle.square_board.specs.Desks.{DeskState, IsDesk, IsJobOf, IsMadeFrom}
-use Rattle.square_board.specs.Inside.Putting.{HaveSameSquares, HasPut, HasNotPut}
+use Rattle.square.specs.Keeping.{HaveSameSquares, HasPut, HasNotPut}
 use Rattle.square_board.proofs.Desks.{desk_given, desk_failed, desk_same}
-use Rattle.square_board.proofs.Putting.{keeper_same}
+use Rattle.square.proofs.Puts.{keeper_same}
 use Rattle.square_board.proofs.Ranges.{desk_range, next_of}
 
 pub held_as : (state : State) (who holder s row : ℕ) (t degree : ℤ) → holder ≡ who → row ≡ s → degree ≡ t → IsHeld state who s t → IsHeld state holder row degree

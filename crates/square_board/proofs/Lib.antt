@@ -3,7 +3,6 @@ mod Schedules
 mod Starts
 mod Desks
 mod Ranges
-mod Putting
 mod Held
 mod Turning
 mod Answered

@@ -1,4 +1,3 @@
 -- What private contracts and the invariants cite.
 pub mod Schedules
 pub mod Starts
-pub mod Putting

@@ -1,28 +1,25 @@
 //! What lies behind the turn of a board: one plain value, in which every call of the board is a method.
-ghost use Rattle.std.specs.Prelude.{◌≡◌, ◌⊎◌, ℕ, suc, ◌+◌, ◌*◌, ◌<◌, ◌≤◌, ◌^◌, ◌↔◌, Ok, Err, None, Some, true, false, [], ◌∷◌, ◌++◌, length, option_map, IfOk, IfErr, IfSome, OnOk, OnErr};
+ghost use Rattle.std.specs.Prelude.{◌≡◌, ◌⊎◌, ℕ, ◌+◌, ◌<◌, ◌≤◌, ◌↔◌, Ok, Err, None, Some, true, [], length, option_map, IfOk, IfErr};
 ghost use Rattle.std.specs.Arc.{arc_value};
 ghost use Rattle.edge.specs.Faults.{HasRisen};
 ghost use Rattle.board_core.specs.declared.event.Cause.{Cause};
-ghost use Rattle.board_core.specs.declared.event.Entry.TheVariants.{Take, Give, Back, Fail};
+ghost use Rattle.board_core.specs.declared.event.Entry.TheVariants.{Back};
 ghost use Rattle.board_core.specs.Entries.{events_by};
-ghost use Rattle.board_core.specs.Laws.{first_cause, HasUnfinished};
+ghost use Rattle.board_core.specs.Laws.{HasUnfinished};
 ghost use Rattle.board_core.specs.Machine.{IsInRange, IsReady, IsRowNumber, IsRowNumberBelow};
 ghost use Rattle.square_board.specs.Jobs.{Taking};
-ghost use Rattle.resolution_laws.specs.Start.{IsOf};
 ghost use Rattle.square.specs.declared.range.TheConstants.{MAX_S, MAX_T};
-ghost use Rattle.square.specs.Squares.{module_over};
-ghost use Rattle.square.specs.Tables.{IsTable, IsNext, square_at};
+ghost use Rattle.square.specs.Tables.{IsTable, square_at};
 ghost use Rattle.square.specs.declared.keep.KeepFault as KeepFault;
 ghost use Rattle.square.specs.Keeping.{IsKeeperOf};
 ghost use Rattle.square_board.specs.declared.job.GiveFault as GiveFault;
 ghost use Rattle.square_board.specs.declared.job.GiveFault.TheVariants.{Failed, Memory as WantOfMemory, Stopped as HasStopped};
 ghost use Rattle.square_board.specs.declared.job.Taken.TheVariants.{Job as AJob, Idle, Over, Stopped};
-ghost use Rattle.square_board.specs.Courses.{Course, state_of, with_event, numbered, events_of};
+ghost use Rattle.square_board.specs.Courses.{state_of, with_event, numbered, events_of};
 ghost use Rattle.square_board.specs.Openings.{IsOpenedWith, front_after};
 ghost use Rattle.square_board.specs.Desks.{DeskState, IsDesk, IsOver, IsIdle, IsJobOf, IsMadeFrom, MatchTaken, HasTaken, IsDeskState, having_entered};
 ghost use Rattle.square_board.specs.Jobs.{degree_of};
 ghost use Rattle.square_board.specs.Boards.{entry_of_give};
-ghost use Rattle.square_board.specs.Inside.Putting.{HasPut, HasNotPut};
 
 use crate::job::{GiveFault, Job, Taken};
 use crate::opening::{Opening, squares_of};
@@ -30,7 +27,7 @@ use crate::schedule::Schedule;
 use board_core::Entry;
 use ghost_list::GhostList;
 use memory::Memory;
-use square::{Keep, KeepFault, Range, Square, Table};
+use square::{Keep, KeepFault, Range, Square, Table, put};
 use std::alloc::Global;
 use std::marker::Model;
 use std::snapshot::Snapshot;
@@ -256,42 +253,5 @@ impl<K: Keep> Told for Desk<K> {
 
     fn front(&self, i: usize) -> u64 {
         self.table.front(i as u16) as u64
-    }
-}
-
-/// Keeps a square that is the next of its row, and puts it into the table. What is kept also finds its place there.
-///
-/// # Errors
-/// `Failed` if the keeper failed, and `Memory` if there is no memory, before the keeper is called or in it.
-fn put<K: Keep>(
-    alloc: Global,
-    table: &mut Table,
-    keeper: &mut K,
-    square: Square,
-) -> Result<(), KeepFault>
-    requires row { square.s < length table.old.rows }
-    requires next { IsNext table.old.rows square.s square.above }
-    requires resolved { square.resolved ≡ table.old.resolved }
-    requires start { square.start ≡ table.old.start }
-    requires is_of { IsOf (module_over table.old.resolved.plain) table.old.start square.s square.above square.content }
-    requires live { (K.telling keeper.old).live }
-    requires of_table { IsKeeperOf (K.telling keeper.old) table.old }
-    ensures ok { OnOk result (HasPut (module_over table.old.resolved.plain) table.old.start (K.telling keeper.old)
-        (K.telling keeper.new) table.old table.new square) }
-    ensures err { OnErr result (HasNotPut (module_over table.old.resolved.plain) table.old.start (K.telling keeper.old)
-        (K.telling keeper.new) table.old table.new) }
-    ensures failed { result ≡ Err KeepFault.Failed →
-        HasRisen (K.telling keeper.old).faults (K.telling keeper.new).faults }
-    ensures dead { result ≡ Err KeepFault.Failed → (K.telling keeper.new).live → ⊥ }
-    ensures memory { result ≡ Err KeepFault.Memory → keeper.new ≡ keeper.old }
-{
-    let Ok(square) = Arc::new(alloc, square) else {
-        return Err(KeepFault::Memory);
-    };
-    table.reserve(1)?;
-    keeper.keep(&square)?;
-    match table.push(square) {
-        Ok(()) => Ok(()),
-        Err(_) => unreachable!(),
     }
 }

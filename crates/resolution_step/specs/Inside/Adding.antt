@@ -5,7 +5,7 @@ use Rattle.square.specs.Squares.{Placed, over, bottom_of}
 use Rattle.square.specs.Tables.{Staircase, row_in}
 use Rattle.square.specs.Keeping.{Keeper}
 use Rattle.square.specs.Growing.{HasGrown}
-use Rattle.resolution_step.specs.Alone.{AreOfStart, AreNewAt, HasGiven}
+use Rattle.resolution_step.specs.Alone.{AreOfStart, AreNewAt, IsBefore, HasGiven}
 
 -- the square is new at (s, t), and continues the table's start without having been read
 pub record IsNewAt (table : Staircase) (s : ℕ) (t : ℤ) (q : Placed) : Type 0 where
@@ -29,4 +29,4 @@ pub record HasAdded (at : ℕ → ℕ → Type 0) (old new : Keeper) (before aft
   pub count : length after.rows ≡ length before.rows
   pub are_of_start : AreOfStart before → AreOfStart after
   pub places : AreNewAt at before.rows after.rows
-  pub given : HasGiven (over before.resolved) before.start at old new
+  pub given : HasGiven IsBefore (over before.resolved) before.start at old new

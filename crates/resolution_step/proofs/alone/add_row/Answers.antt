@@ -6,6 +6,7 @@ use Rattle.square.specs.Tables.{row_in}
 use Rattle.resolution_step.specs.Inside.Adding.{IsEndOf, IsInRow}
 use Rattle.square.proofs.Growing.{length-IsMore}
 use Rattle.resolution_step.proofs.Progress.{HasAdded-start, HasAdded-weaker, HasAdded-then}
+use Rattle.square.proofs.Puts.{fared_at, fared_ok}
 use Rattle.resolution_step.proofs.alone.add_row.Goals as goal
 use Rattle.square.specs.Squares.{bottom_of}
 
@@ -64,6 +65,7 @@ pub loop-k-preserved : goal.loop-k-preserved
 loop-k-preserved g c =
     let before = c.loop-k.invariant in
     let made = c.in_ok-add_square.ensures in
+    let fared = fared_at _ _ _ c.add_square.result _ _ _ c.in_ok-add_square.was c.add_square.ensures.keeper in
     let s = c.args.s in
     let t = c.args.t in
     let k = c.loop-k.k in
@@ -73,15 +75,18 @@ loop-k-preserved g c =
     record {
       len = made.longer ∙ ap (λ n. n + 1) before.len;
       are_of_start = c.add_square.ensures.added.are_of_start before.are_of_start;
-      live = made.live;
-      no_fault = made.no_fault ∙ before.no_fault;
-      of_table = made.of_table;
+      live = fared.live;
+      no_fault = fared.no_fault ∙ before.no_fault;
+      of_table = fared.of_table;
       added = HasAdded-then (IsSoFar s t k) (IsEndOf table s) (IsSoFar s t (k + 1))
           (λ i j h. (h.0, (let l = h.1 in omega arith), h.2))
           (λ i j h. (h.0, (let e = h.1 in omega (arith, len)), let e = h.1 in omega (arith, len)))
           (λ i j a b h e. inr (h.0 ∙ sym e.0, let l = h.1 in let f = e.1 in omega (arith, len)))
           _ _ _ c.args.table.now table c.add_square.new.table before.added c.add_square.ensures.added;
     }
+
+pub returns-clause-keeper : goal.returns-clause-keeper
+returns-clause-keeper g c = fared_ok _ _ _ _ _ _ c.loop-k.invariant.live c.loop-k.invariant.no_fault c.loop-k.invariant.of_table
 
 pub returns-clause-added : goal.returns-clause-added
 returns-clause-added g c =

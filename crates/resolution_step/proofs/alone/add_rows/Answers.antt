@@ -6,6 +6,7 @@ use Rattle.resolution_step.specs.Alone.{IsInRange}
 use Rattle.resolution_step.specs.Inside.Adding.{IsInRow}
 use Rattle.square.proofs.Growing.{length-IsMore}
 use Rattle.resolution_step.proofs.Progress.{HasAdded-start, HasAdded-weaker, HasAdded-then}
+use Rattle.square.proofs.Puts.{fared_at, fared_ok}
 use Rattle.resolution_step.proofs.alone.add_rows.Goals as goal
 
 -- the places of the range before row s
@@ -39,6 +40,7 @@ pub loop-s-preserved : goal.loop-s-preserved
 loop-s-preserved g c =
     let before = c.loop-s.invariant in
     let made = c.in_ok-add_row.ensures in
+    let fared = fared_at _ _ _ c.add_row.result _ _ _ c.in_ok-add_row.was c.add_row.ensures.keeper in
     let new = c.add_row.new.table in
     let s = c.loop-s.s in
     let range = c.args.range in
@@ -51,15 +53,18 @@ loop-s-preserved g c =
             subst (λ (x : ℕ). c.args.range.t < length (row_in new.rows x)) same made.through
       ];
       are_of_start = λ _. made.are_of_start;
-      live = made.live;
-      no_fault = made.no_fault ∙ before.no_fault;
-      of_table = made.of_table;
+      live = fared.live;
+      no_fault = fared.no_fault ∙ before.no_fault;
+      of_table = fared.of_table;
       added = HasAdded-then (IsSoFar s range) (IsInRow s range.t) (IsSoFar (s + 1) range)
           (λ i j h. ((let l = h.0 in omega arith), h.1))
           (λ i j h. ((let e = h.0 in omega arith), ((let e = h.0 in omega arith), h.1)))
           (λ i j a b h e. inl (let l = h.0 in let f = e.0 in omega arith))
           _ _ _ c.args.table.now c.loop-s.table new before.added c.add_row.ensures.added;
     }
+
+pub returns-clause-keeper : goal.returns-clause-keeper
+returns-clause-keeper g c = fared_ok _ _ _ _ _ _ c.loop-s.invariant.live c.loop-s.invariant.no_fault c.loop-s.invariant.of_table
 
 pub returns-clause-added : goal.returns-clause-added
 returns-clause-added g c = HasAdded-weaker (IsSoFar c.loop-s.s c.args.range) (IsInRange c.args.range) (λ i j h. h.1) _ _ c.args.table.now c.loop-s.table c.loop-s.invariant.added

@@ -1,5 +1,31 @@
+use Rattle.std.proofs.Common.{refl}
+use Rattle.square.specs.declared.keep.KeepFault.TheVariants.{Failed, Memory}
+use Rattle.square.proofs.Puts.{fared_at, fared_err, fared_ok}
 use Rattle.resolution_step.proofs.Canonical.{IsCanonicalTable-cut}
 use Rattle.resolution_step.proofs.alone.resolve_alone.Goals as goal
 
-pub returns-in-Ok-clause-canonical : goal.returns-in-Ok-clause-canonical
-returns-in-Ok-clause-canonical g c = IsCanonicalTable-cut c.args.range c.args.table c.add_rows.new.table c.add_rows.ensures.added.grown c.in-Ok.ensures.through c.in-Ok.ensures.are_of_start
+pub returns-in-Ok : goal.returns-in-Ok
+returns-in-Ok g c =
+    let added = c.add_rows.ensures.added in
+    let made = c.in-Ok.ensures in
+    let fared = fared_at _ _ _ c.add_rows.result _ _ _ c.in-Ok.is c.add_rows.ensures.keeper in
+    record {
+      through = made.through;
+      only = added.places;
+      grown = added.grown;
+      are_of_start = made.are_of_start;
+      canonical = IsCanonicalTable-cut c.args.range c.args.table c.add_rows.new.table added.grown made.through made.are_of_start;
+      keeper = fared_ok Failed Memory (λ more. more) c.add_rows.new.table _ _ fared.live fared.no_fault fared.of_table;
+      given = added.given;
+    }
+
+pub returns-in-Err : goal.returns-in-Err
+returns-in-Err g c = record {
+  through = tt;
+  only = tt;
+  grown = tt;
+  are_of_start = tt;
+  canonical = λ _. tt;
+  keeper = fared_err _ _ _ _ c.add_rows.result _ _ _ _ c.in-Err.is refl c.add_rows.ensures.keeper;
+  given = c.add_rows.ensures.added.given;
+}

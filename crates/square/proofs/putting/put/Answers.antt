@@ -4,15 +4,15 @@ use Rattle.std.proofs.lemmas.Option.{IfSome_then}
 use Rattle.resolution_laws.specs.Start.{IsOf}
 use Rattle.square.specs.declared.keep.KeepFault.{KeepFault}
 use Rattle.square.specs.declared.keep.KeepFault.TheVariants.{Failed, Memory}
-use Rattle.square.specs.Squares.{Placed, module_over, entry_of}
+use Rattle.square.specs.Squares.{Placed, over, entry_of}
 use Rattle.square.specs.Tables.{Staircase, with_square}
 use Rattle.square.specs.Keeping.{IsNextIn, HasKept}
 use Rattle.square.proofs.Growing.{IsNextIn-table, IsKeeperOf-more}
 use Rattle.square.proofs.Kept.{IsUnmoved, IsUnmoved-same, HasKept-one}
-use Rattle.square_board.proofs.Putting.{on_err, same_self, same_room, not_put, not_kept}
-use Rattle.square_board.proofs.desk.put.Given.{Over}
-use Rattle.square_board.proofs.desk.put.Goals as goal
-use Rattle.square_board.proofs.desk.put.Goals.{After-drop-square-in_err-keep}
+use Rattle.square.proofs.Puts.{on_err, same_self, same_room, not_put, not_kept}
+use Rattle.square.proofs.putting.put.Given.{Over}
+use Rattle.square.proofs.putting.put.Goals as goal
+use Rattle.square.proofs.putting.put.Goals.{After-drop-square-in_err-keep}
 
 pub returns-in_default-clause-err : goal.returns-in_default-clause-err
 returns-in_default-clause-err g c =
@@ -43,7 +43,7 @@ returns-in_err-keep-clause-err g c =
     let table = c.args.table.now in
     let tried = c.keep.ensures in
     let is : c.deref.result.now ≡ c.args.square = c.deref.ensures ∙ c.in-Ok.ensures.ok in
-    let P : Placed → Type 0 = λ q. IsOf (module_over table.resolved.plain) table.start q.s q.above q.content in
+    let P : Placed → Type 0 = λ q. IsOf (over table.resolved) table.start q.s q.above q.content in
     on_err _ _ (not_kept _ _ _ _ table c.reserve.new.self c.deref.result.now (same_room _ _ _ c.reserve.ensures.same) (subst P (sym is) c.requires.is_of)
     (record { never_fall = tried.never_fall; same_module = tried.same_module; same_start = tried.same_start; later = tried.later; between = tried.between; earlier = tried.earlier })
     c.requires.live
@@ -62,14 +62,14 @@ returns-clause-ok g c =
     let tried = c.keep.ensures in
     let made : arc_value c.in-Ok.square ≡ q = c.in-Ok.ensures.ok in
     let is : a ≡ q = c.deref.ensures ∙ made in
-    let P : Placed → Type 0 = λ x. IsOf (module_over table.resolved.plain) table.start x.s x.above x.content in
+    let P : Placed → Type 0 = λ x. IsOf (over table.resolved) table.start x.s x.above x.content in
     let same = c.reserve.ensures.same in
     let rows : after.rows ≡ with_square table.rows q.s q = c.in-Ok-push.ensures.rows ∙ (ap (λ (t : Staircase). with_square t.rows (arc_value c.in-Ok.square).s (arc_value c.in-Ok.square)) same ∙ ap (λ (x : Placed). with_square table.rows x.s x) made) in
     let resolved : after.resolved ≡ table.resolved = c.push.ensures.resolved ∙ ap (λ (t : Staircase). t.resolved) same in
     let start : after.start ≡ table.start = c.in-Ok-push.ensures.start ∙ (ap (λ (x : Placed). x.start) made ∙ c.requires.start) in
     let old = g.K.Keep.telling c.args.keeper.now in
     let new = g.K.Keep.telling keeper in
-    let m = module_over table.resolved.plain in
+    let m = over table.resolved in
     let kept : HasKept m table.start old new (entry_of a ∷ []) = HasKept-one m table.start old new a (subst P (sym is) c.requires.is_of)
     (record { never_fall = tried.never_fall; same_module = tried.same_module; same_start = tried.same_start; later = tried.later; between = tried.between; earlier = tried.earlier })
     c.requires.live
