@@ -7,8 +7,8 @@ use cases::{Case, Fault};
 use ext_products::sphere_table;
 use module_check::check;
 use module_json::read;
-use resolution_step::resolve_alone;
-use square::{KeepFault, MAX_S, MAX_T, NoKeep, Range, Table};
+use resolution_step::resolved;
+use square::{MAX_S, MAX_T, Range, Table};
 use std::alloc::Global;
 use std::str::FromStr;
 
@@ -56,11 +56,5 @@ pub(crate) fn table_of(alloc: Global, case: &Case, range: Range) -> Result<Table
     let Ok(module) = check(alloc, &spec) else {
         return Err(case.refused("no module"));
     };
-    let table = Table::new(alloc, module)?;
-    match resolve_alone(alloc, table, range, NoKeep).0 {
-        Ok(table) => Ok(table),
-        Err(KeepFault::Memory) => Err(Fault::Memory),
-        // A keeper that keeps nothing does not fail.
-        Err(KeepFault::Failed) => unreachable!(),
-    }
+    Ok(resolved(alloc, module, range)?)
 }

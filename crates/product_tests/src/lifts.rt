@@ -4,9 +4,10 @@ ghost use Rattle.square.specs.Squares.{bottom_of};
 ghost use Rattle.square.specs.Tables.{IsThrough};
 ghost use Rattle.chain_map.specs.Lifting.{IsLiftOver};
 
-use crate::tables::{resolved, sphere_table, two_cells};
+use crate::tables::{sphere_table, two_cells};
 use chain_map::{Class, Lift, lift, lifts};
 use f2_vec::BitVec;
+use resolution_step::resolved;
 use square::{Range, Table};
 use std::test::Fail;
 use yoneda::place_of;
@@ -22,7 +23,8 @@ fn value_on<'a>(
 ) -> Option<&'a BitVec>
     requires through { IsThrough range table.now.rows }
     requires sphere { IsThrough range sphere.now.rows }
-    requires lift { (above : ℕ) → class.t ≡ bottom_of table.now.resolved +ℤ pos above → IsLiftOver table.now sphere.now class.s above class.i 1 lift.now }
+    requires lift { (above : ℕ) → class.t ≡ bottom_of table.now.resolved +ℤ pos above →
+        IsLiftOver table.now sphere.now class.s above class.i 1 lift.now }
     requires row { generator.s ≡ class.s + 1 }
 {
     let Ok(_) = place_of(table, range, class) else {

@@ -1,5 +1,5 @@
 //! Tables of the sphere and of the module of two cells that Sq1 joins.
-ghost use Rattle.std.specs.Prelude.{◌≡◌, ◌≤◌, IfOk};
+ghost use Rattle.std.specs.Prelude.{◌≤◌, IfOk};
 ghost use Rattle.square.specs.declared.range.TheConstants.{MAX_S, MAX_T};
 ghost use Rattle.square.specs.Tables.{IsThrough};
 ghost use Rattle.lift_laws.specs.Lifts.{IsSphere};
@@ -10,25 +10,9 @@ use finite_module::Module;
 use memory::Memory;
 use module_check::check;
 use module_json::read;
-use resolution_step::resolve_alone;
-use square::{KeepFault, NoKeep, Range, Table};
+use resolution_step::resolved;
+use square::{Range, Table};
 use std::alloc::Global;
-
-/// The table of a module through the range.
-pub fn resolved(alloc: Global, module: Module, range: Range) -> Result<Table, Memory>
-    requires rows { range.s ≤ MAX_S }
-    requires degrees { range.t ≤ MAX_T }
-    ensures through { IfOk result (λ table. IsThrough range table.rows) }
-    ensures resolved { IfOk result (λ table. table.resolved ≡ «module») }
-{
-    let table = Table::new(alloc, module)?;
-    match resolve_alone(alloc, table, range, NoKeep).0 {
-        Ok(table) => Ok(table),
-        Err(KeepFault::Memory) => Err(Memory),
-        // A keeper that keeps nothing does not fail.
-        Err(KeepFault::Failed) => unreachable!(),
-    }
-}
 
 /// The table of the sphere through the range.
 pub fn sphere_table(alloc: Global, range: Range) -> Result<Table, Memory>

@@ -1,13 +1,9 @@
 //! What no clause says: that there is memory for each call. The sphere's chart is known.
-ghost use Rattle.std.specs.Prelude.{◌≤◌};
-ghost use Rattle.square.specs.declared.range.TheConstants.{MAX_S, MAX_T};
-
 use crate::squares::is_one_row;
 use finite_module::Module;
 use memory::Memory;
-use resolution_step::{resolve_alone, step};
+use resolution_step::{resolve_alone, resolved, step};
 use square::{KeepFault, MemKeep, NoKeep, Range, Table};
-use std::alloc::Global;
 use std::test::Fail;
 
 // How many generators a square has, none where the square is not there.
@@ -28,19 +24,6 @@ fn is_row(table: &Table, s: u16, row: &str) -> bool {
         == Some(if digit == b'1' { 1 } else { 0 }))
 }
 
-// The table through the range; nothing is kept.
-fn resolved(alloc: Global, table: Table, range: Range) -> Result<Table, Memory>
-    requires rows { range.s ≤ MAX_S }
-    requires degrees { range.t ≤ MAX_T }
-{
-    match resolve_alone(alloc, table, range, NoKeep).0 {
-        Ok(table) => Ok(table),
-        Err(KeepFault::Memory) => Err(Memory),
-        // A keeper that keeps nothing does not fail.
-        Err(KeepFault::Failed) => unreachable!(),
-    }
-}
-
 #[test]
 fn the_first_square_of_the_sphere(rt: HostRuntime) -> Result<(), Fail> {
     let alloc = rt.alloc();
@@ -59,9 +42,10 @@ fn the_first_square_of_the_sphere(rt: HostRuntime) -> Result<(), Fail> {
 #[test]
 fn the_sphere(rt: HostRuntime) -> Result<(), Fail> {
     let alloc = rt.alloc();
-    let table = Table::new(alloc, Module::sphere(alloc)?)?;
-    let table = resolved(alloc, table, Range { s: 2, t: 3 })?;
-    let table = resolved(alloc, table, Range { s: 4, t: 8 })?;
+    let table = resolved(alloc, Module::sphere(alloc)?, Range { s: 2, t: 3 })?;
+    let Ok(table) = resolve_alone(alloc, table, Range { s: 4, t: 8 }, NoKeep).0 else {
+        return Err(Memory)?;
+    };
     for (s, row) in [
         (0, "1........"),
         (1, "11.1...1"),

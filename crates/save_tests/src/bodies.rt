@@ -1,15 +1,14 @@
 //! The body of the sphere's first square, byte by byte, and those of a small resolution, written and read again.
-ghost use Rattle.std.specs.Prelude.{◌≤◌, IfOk};
-ghost use Rattle.square.specs.declared.range.TheConstants.{MAX_S, MAX_T};
+ghost use Rattle.std.specs.Prelude.{IfOk};
 ghost use Rattle.square.specs.Tables.{AllRead};
 
 use crate::files::bytes;
 use f2_vec::BitVec;
 use finite_module::Module;
 use memory::Memory;
-use resolution_step::resolve_alone;
+use resolution_step::resolved;
 use save_file::{DecodeFault, decode, encode};
-use square::{KeepFault, NoKeep, Range, Square, Table};
+use square::{Range, Square, Table};
 use std::alloc::Global;
 use std::sync::Arc;
 use std::test::Fail;
@@ -60,19 +59,6 @@ fn read_all(alloc: Global, bodies: &[Vec<u8>]) -> Result<Table, DecodeFault>
         table = with_body(alloc, table, i as u64, bodies[i].as_slice())?;
     }
     Ok(table)
-}
-
-// The table through the range; nothing is kept.
-fn resolved(alloc: Global, table: Table, range: Range) -> Result<Table, Memory>
-    requires rows { range.s ≤ MAX_S }
-    requires degrees { range.t ≤ MAX_T }
-{
-    match resolve_alone(alloc, table, range, NoKeep).0 {
-        Ok(table) => Ok(table),
-        Err(KeepFault::Memory) => Err(Memory),
-        // A keeper that keeps nothing does not fail.
-        Err(KeepFault::Failed) => unreachable!(),
-    }
 }
 
 // The bodies of the table's squares through the range, row by row.
@@ -130,7 +116,7 @@ fn the_first_body(rt: HostRuntime) -> Result<(), Fail> {
     let alloc = rt.alloc();
     let first = bytes(alloc, &[PLACE, IMAGES, KERNEL])?;
     let table = nothing_read(alloc)?;
-    let whole = resolved(alloc, nothing_read(alloc)?, Range { s: 0, t: 0 })?;
+    let whole = resolved(alloc, Module::sphere(alloc)?, Range { s: 0, t: 0 })?;
     let made = whole.at(0, 0).ok_or("the square was made")?;
     assert_eq!(rt; encode(alloc, made)?, first);
     let read = decode(alloc, &table, 0, first.as_slice())?;
@@ -144,7 +130,7 @@ fn the_first_body(rt: HostRuntime) -> Result<(), Fail> {
 fn there_and_back(rt: HostRuntime) -> Result<(), Fail> {
     let alloc = rt.alloc();
     let range = Range { s: 3, t: 9 };
-    let table = resolved(alloc, nothing_read(alloc)?, range)?;
+    let table = resolved(alloc, Module::sphere(alloc)?, range)?;
     let again = read_all(alloc, bodies_of(alloc, &table, range)?.as_slice())?;
     assert!(rt; are_same_through(alloc, &table, &again, range)?);
     Ok(())
