@@ -2,7 +2,7 @@
 ghost use Rattle.std.specs.Prelude.{◌≡◌, IfOk};
 ghost use Rattle.ext_chart.specs.Classes.{class_text, class_sum_text};
 
-use crate::product_text::ZERO;
+use crate::squares_text::ZERO;
 use f2_vec::BitVec;
 use itoa::Buffer;
 use memory::Memory;

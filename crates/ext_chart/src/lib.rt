@@ -11,8 +11,8 @@ mod images;
 mod lines;
 mod named_target;
 mod place;
-mod product_text;
 mod row_gens;
+mod squares_text;
 mod summary_text;
 mod terms;
 
@@ -22,5 +22,5 @@ pub use check_text::check_line;
 pub use class_products::{ProductLine, product_lines};
 pub use dump_text::dump;
 pub use place::Place;
-pub use product_text::product;
+pub use squares_text::product;
 pub use summary_text::summary;

@@ -3,7 +3,7 @@ ghost use Rattle.std.specs.Prelude.{◌≡◌, ◌≢◌, ◌≤◌, Err, IfOk, 
 ghost use Rattle.std.specs.List.{sum};
 ghost use Rattle.edge.specs.Faults.{HasRisen};
 ghost use Rattle.edge.specs.Source.{without_first, HasGivenUpTo};
-ghost use Rattle.ext_words.specs.declared.command.TheConstants.{MAX_DEGREE};
+ghost use Rattle.ext_words.specs.declared.command.TheConstants.{MAX_SQUARES_DEGREE};
 ghost use Rattle.ext_words.specs.Words.{texts_of, IsWithinLimits};
 ghost use Rattle.ext_run.specs.Input.{most_read};
 ghost use Rattle.ext_run.specs.Answer.{IsLineOn, IsProduct, IsCauseFrom, IsCommandCauseFrom, Reads, WordsRead};
@@ -156,7 +156,7 @@ fn module_line(alloc: Global, module: &Module) -> Result<Vec<u8>, Memory>
 
 /// The lines on a product of squares.
 fn product_lines(alloc: Global, squares: &Mono) -> Result<Vec<u8>, Memory>
-    requires { sum squares.now ≤ MAX_DEGREE }
+    requires { sum squares.now ≤ MAX_SQUARES_DEGREE }
     ensures { IfOk result (λ text. IsProduct squares.now text.items) }
 {
     let Some(degree) = squares.degree() else {

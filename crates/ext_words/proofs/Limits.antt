@@ -19,7 +19,7 @@ use Rattle.ext_words.specs.declared.command.Common.{Common}
 use Rattle.ext_words.specs.declared.command.Command.{Command}
 use Rattle.ext_words.specs.declared.command.Command.TheVariants.{Sphere, Resolve, Dump, Products, Massey, Build as Built, Sq}
 use Rattle.ext_words.specs.Words.{Part, Options, parts_of, plain_words, value_of, is_among, each_once, are_digits, number_of, signed_number_of, number_up_to, decimal_value, range_from, range_of, workers_of, common_from, common_of, range_command_of, between_commas, class_from, class_of, class_given, products_of, massey_of, check_from, check_of, shift_of, built_by, build_from, build_of, sample_from, sample_by, sample_of, seed_of, positive_up_to, positive_numbers, within_degree, sq_from, sq_of, no_options, resolving, read_by, command_from, command_of, IsWithin, IsShort, IsWithinShift, IsWithinLimits}
-use Rattle.ext_words.specs.declared.command.TheConstants.{MAX_WORKERS, MAX_SQUARES, MAX_DEGREE, MAX_SHIFT}
+use Rattle.ext_words.specs.declared.command.TheConstants.{MAX_WORKERS, MAX_SQUARES, MAX_SQUARES_DEGREE, MAX_SHIFT}
 
 -- ---- numbers
 
@@ -230,18 +230,18 @@ every-positive limit (word ∷ words) = one-more (positive_up_to limit word) (po
     one-more (Some n) None h hs = tt
     one-more (Some n) (Some ns) h hs = All-cons (λ m. 1 ≤ m) n ns h.0 hs
 
-within-degree : (few small : Bool) (numbers : List ℕ) → nat_le (length numbers) MAX_SQUARES ≡ few → nat_le (sum numbers) MAX_DEGREE ≡ small → All (λ n. 1 ≤ n) numbers → IfSome (option_map Sq (if few && small then Some numbers else None)) IsWithinLimits
+within-degree : (few small : Bool) (numbers : List ℕ) → nat_le (length numbers) MAX_SQUARES ≡ few → nat_le (sum numbers) MAX_SQUARES_DEGREE ≡ small → All (λ n. 1 ≤ n) numbers → IfSome (option_map Sq (if few && small then Some numbers else None)) IsWithinLimits
 within-degree true true numbers few small positive = (positive, leb-true _ _ few, leb-true _ _ small)
 within-degree true false numbers few small positive = tt
 within-degree false small numbers few is positive = tt
 
 factors-within : (numbers : Option (List ℕ)) → IfSome numbers (All (λ n. 1 ≤ n)) → IfSome (option_map Sq (option_and_then within_degree numbers)) IsWithinLimits
 factors-within None h = tt
-factors-within (Some numbers) h = within-degree (nat_le (length numbers) MAX_SQUARES) (nat_le (sum numbers) MAX_DEGREE) numbers refl refl h
+factors-within (Some numbers) h = within-degree (nat_le (length numbers) MAX_SQUARES) (nat_le (sum numbers) MAX_SQUARES_DEGREE) numbers refl refl h
 
 sq-within : (words : List (List ℕ)) → IfSome (sq_from words) IsWithinLimits
 sq-within [] = tt
-sq-within (word ∷ []) = factors-within (positive_numbers MAX_DEGREE (between_commas word)) (every-positive MAX_DEGREE (between_commas word))
+sq-within (word ∷ []) = factors-within (positive_numbers MAX_SQUARES_DEGREE (between_commas word)) (every-positive MAX_SQUARES_DEGREE (between_commas word))
 sq-within (word ∷ more ∷ words) = tt
 
 -- ---- commands

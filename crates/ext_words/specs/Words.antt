@@ -7,7 +7,7 @@ use Rattle.std.specs.Char.{is_ascii_digit}
 use Rattle.chain_map.specs.declared.class.Class.{Class}
 use Rattle.square.specs.declared.range.Range.{Range}
 use Rattle.square.specs.declared.range.TheConstants.{MAX_S, MAX_T}
-use Rattle.ext_words.specs.declared.command.TheConstants.{MAX_WORKERS, MAX_SQUARES, MAX_DEGREE, MAX_SHIFT}
+use Rattle.ext_words.specs.declared.command.TheConstants.{MAX_WORKERS, MAX_SQUARES, MAX_SQUARES_DEGREE, MAX_SHIFT}
 use Rattle.ext_words.specs.declared.command.Build.{Build}
 use Rattle.ext_words.specs.declared.command.Build.TheVariants as build
 use Rattle.ext_words.specs.declared.command.Command.{Command}
@@ -156,11 +156,11 @@ positive_numbers limit (word ∷ words) =
 -- the numbers of a product of squares, where there are not too many, and their sum, which is its degree, is not too great
 abbrev pub within_degree : List ℕ → Option (List ℕ)
 within_degree numbers =
-    if nat_le (length numbers) MAX_SQUARES && nat_le (sum numbers) MAX_DEGREE then Some numbers else None
+    if nat_le (length numbers) MAX_SQUARES && nat_le (sum numbers) MAX_SQUARES_DEGREE then Some numbers else None
 
 -- the numbers of a product of squares, which a word has between commas
 abbrev pub product_of : List ℕ → Option (List ℕ)
-product_of word = option_and_then within_degree (positive_numbers MAX_DEGREE (between_commas word))
+product_of word = option_and_then within_degree (positive_numbers MAX_SQUARES_DEGREE (between_commas word))
 
 -- a class, by the texts of its row, its degree and its number: each has one to five digits, and the degree alone may have a hyphen in
 -- front of them
@@ -329,4 +329,5 @@ IsWithinLimits (Massey common a b c) = IsWithin common × IsShort a × IsShort b
 IsWithinLimits Check = ⊤
 IsWithinLimits (Built made) = IsWithinShift made
 IsWithinLimits (Sample n common) = IsWithin common
-IsWithinLimits (Sq numbers) = All (λ n. 1 ≤ n) numbers × (length numbers ≤ MAX_SQUARES) × (sum numbers ≤ MAX_DEGREE)
+IsWithinLimits (Sq numbers) =
+    All (λ n. 1 ≤ n) numbers × (length numbers ≤ MAX_SQUARES) × (sum numbers ≤ MAX_SQUARES_DEGREE)

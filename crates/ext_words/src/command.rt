@@ -15,7 +15,7 @@ pub const MAX_WORKERS: u16 = 64;
 pub const MAX_SQUARES: usize = 16;
 
 /// The greatest degree of a product of squares, which is the sum of their numbers.
-pub const MAX_DEGREE: u16 = 127;
+pub const MAX_SQUARES_DEGREE: u16 = 127;
 
 /// The greatest number of degrees that a module is shifted by, up or down.
 pub const MAX_SHIFT: u16 = 256;

@@ -7,7 +7,7 @@ mod numbers;
 mod words;
 
 pub use command::{
-    Build, Command, Common, MAX_DEGREE, MAX_SHIFT, MAX_SQUARES, MAX_WORKERS, WordsFault,
+    Build, Command, Common, MAX_SHIFT, MAX_SQUARES, MAX_SQUARES_DEGREE, MAX_WORKERS, WordsFault,
 };
 pub use constants::limits_are_these;
 pub use words::parse;

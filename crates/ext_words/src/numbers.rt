@@ -4,7 +4,7 @@ ghost use Rattle.std.specs.List.{list_all};
 ghost use Rattle.std.specs.Char.{is_ascii_digit};
 ghost use Rattle.ext_words.specs.Words.{are_digits, decimal_value, number_of, signed_number_of, number_up_to, positive_up_to, shift_of, seed_of, between_commas, class_from, class_of, positive_numbers, product_of, texts_of};
 
-use crate::command::{MAX_DEGREE, MAX_SHIFT, MAX_SQUARES};
+use crate::command::{MAX_SHIFT, MAX_SQUARES, MAX_SQUARES_DEGREE};
 use chain_map::Class;
 use memory::Memory;
 use sq_calc::Mono;
@@ -190,13 +190,13 @@ pub fn product_of(alloc: Global, word: &str) -> Result<Option<Mono>, Memory>
     ensures { IfOk result (λ product. product ≡ product_of word.now) }
 {
     let texts = between_commas(alloc, word)?;
-    let Some(numbers) = positive_numbers(alloc, MAX_DEGREE, texts.as_slice())? else {
+    let Some(numbers) = positive_numbers(alloc, MAX_SQUARES_DEGREE, texts.as_slice())? else {
         return Ok(None);
     };
     let is_short = numbers.len() <= MAX_SQUARES;
     let product = Mono::of(numbers);
     match product.degree() {
-        Some(degree) if is_short && degree <= MAX_DEGREE => Ok(Some(product)),
+        Some(degree) if is_short && degree <= MAX_SQUARES_DEGREE => Ok(Some(product)),
         _ => Ok(None),
     }
 }

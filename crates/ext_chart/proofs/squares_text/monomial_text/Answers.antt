@@ -1,8 +1,8 @@
 use Rattle.std.proofs.Common.{◌≡◌, ◌++◌, ◌<◌, length, get_or, List, ℕ, Vec, Global, ap, ap₂, ◌∙◌}
 use Rattle.std.specs.Prelude.{codes, decimal}
 use Rattle.ext_chart.proofs.ProductSteps.{monomial-first, monomial-later}
-use Rattle.ext_chart.proofs.product_text.monomial_text.Goals as goal
-use Rattle.ext_chart.proofs.product_text.monomial_text.Goals.{then-i-gt0+in_ok-push, else-i-gt0}
+use Rattle.ext_chart.proofs.squares_text.monomial_text.Goals as goal
+use Rattle.ext_chart.proofs.squares_text.monomial_text.Goals.{then-i-gt0+in_ok-push, else-i-gt0}
 
 pub loop-i-preserved : goal.loop-i-preserved
 loop-i-preserved c =

@@ -4,8 +4,8 @@ use Rattle.milnor_basis.specs.Basis.{basis_of}
 use Rattle.milnor_basis.specs.Text.{sq_text}
 use Rattle.finite_module.proofs.TextSteps.{joined_by_plus-first, joined_by_plus-next}
 use Rattle.ext_chart.proofs.ProductSteps.{element_text, no-elements, joined-elements}
-use Rattle.ext_chart.proofs.product_text.milnor_text.Goals as goal
-use Rattle.ext_chart.proofs.product_text.milnor_text.Goals.{then-k-gt0+in_ok-extend_from_slice, else-k-gt0}
+use Rattle.ext_chart.proofs.squares_text.milnor_text.Goals as goal
+use Rattle.ext_chart.proofs.squares_text.milnor_text.Goals.{then-k-gt0+in_ok-extend_from_slice, else-k-gt0}
 
 pub returns-then-is_empty : goal.returns-then-is_empty
 returns-then-is_empty c =

@@ -2,8 +2,8 @@ use Rattle.std.proofs.Common.{rules, ◌≡◌, ◌++◌, ◌<◌, [], length, g
 use Rattle.std.proofs.lemmas.List.{get_or_default}
 use Rattle.ext_chart.specs.Product.{monomial_text, admissible_text}
 use Rattle.ext_chart.proofs.ProductSteps.{monomial_at, monomials-first, monomials-next, joined-monomials}
-use Rattle.ext_chart.proofs.product_text.admissible_text.Goals as goal
-use Rattle.ext_chart.proofs.product_text.admissible_text.Goals.{then-k-gt0+in_ok-extend_from_slice, else-k-gt0}
+use Rattle.ext_chart.proofs.squares_text.admissible_text.Goals as goal
+use Rattle.ext_chart.proofs.squares_text.admissible_text.Goals.{then-k-gt0+in_ok-extend_from_slice, else-k-gt0}
 
 pub loop-k-preserved : goal.loop-k-preserved
 loop-k-preserved c =

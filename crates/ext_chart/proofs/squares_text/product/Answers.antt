@@ -2,7 +2,7 @@ use Rattle.std.proofs.Common.{◌++◌, ◌∷◌, [], List, ℕ, ap, ap₂, ◌
 use Rattle.std.specs.Prelude.{codes}
 use Rattle.ext_chart.specs.Product.{milnor_text, admissible_text}
 use Rattle.ext_chart.proofs.ProductSteps.{two-lines}
-use Rattle.ext_chart.proofs.product_text.product.Goals as goal
+use Rattle.ext_chart.proofs.squares_text.product.Goals as goal
 
 pub returns : goal.returns
 returns c =
