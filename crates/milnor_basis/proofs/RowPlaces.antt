@@ -1,15 +1,18 @@
 -- A row of a matrix that is being filled: what a number there leaves of R's exponents, and of the row's sum.
-use Rattle.std.proofs.Common.{◌≡◌, ℕ, zero, suc, ◌+◌, ◌-◌, ◌*◌, ◌/◌, ◌^◌, ◌<◌, ◌≤◌, min, Some, List, [], ◌∷◌, length, drop, refl, sym, subst, ap, ◌∙◌, arith, slice_index, slice_get, slice_set}
+use Rattle.std.proofs.Common.{◌≡◌, ℕ, zero, suc, ◌+◌, ◌-◌, ◌*◌, ◌/◌, ◌^◌, ◌<◌, ◌≤◌, min, Some, List, [], ◌∷◌, length, drop, refl, sym, subst, ap, ◌∙◌, arith, slice_index, slice_get, slice_set, ◌≢◌, inl, bit_and, bit_or}
 use Rattle.std.proofs.Math.Nat.{div-mul-le_self, lt-div-mul-add}
 use Rattle.std.proofs.lemmas.Nat.{div-mul-add, mul-le, pow_pos}
-use Rattle.std.proofs.lemmas.List.{get_or-set_same, get_or-set_other, length-set, drop_more}
+use Rattle.std.specs.Int.Bits.{or_zero_r}
+use Rattle.std.proofs.lemmas.List.{get_or-set_same, get_or-set_other, length-set, set-get_or, drop_more}
 use Rattle.milnor_basis.specs.Exponents.{trimmed}
 use Rattle.milnor_basis.specs.Basis.{lists_of, basis_of}
-use Rattle.milnor_basis.specs.Inside.Walk.{next_row}
-use Rattle.milnor_basis.specs.Inside.FreeRows.{added, greatest_of, greatest_free, ArePlaced, IsInRow}
+use Rattle.milnor_basis.specs.Inside.Walk.{taken, next_row, next_column}
+use Rattle.milnor_basis.specs.Inside.FreeRows.{added, greatest_of, least_free, greatest_free, number_above, ArePlaced, IsInRow, TurnsOverAll}
 use Rattle.milnor_basis.proofs.BasisLemmas.{weight_above}
 use Rattle.milnor_basis.proofs.Steps.{under_quotient}
-use Rattle.milnor_basis.proofs.FirstRow.{drop_agree}
+use Rattle.milnor_basis.proofs.RowZero.{apart_both}
+use Rattle.milnor_basis.proofs.FirstRow.{drop_agree, least_none}
+use Rattle.milnor_basis.proofs.FreeFill.{TurnsOverAllBelow, free_turn, free_shuts}
 use Rattle.milnor_basis.proofs.PlacesLeft.{chosen_placed, chosen_room, placed_last_one}
 
 -- Numbers.
@@ -195,3 +198,35 @@ next_is row zero v sum most below left sum' most' below' left' next past high fi
 next_is row (suc j) v sum most below left sum' most' below' left' next past high fits is_most within is_next same same_place grown fewer none full ends at =
     let some : 0 < suc j = omega arith in
     row_goes_on row (suc j) v sum most below left sum' most' below' left' next past high fits is_most within is_next (same some) (same_place some) (grown some) (fewer some)
+
+-- A number that has its turn, and those up to the next one that shares no digit with the diagonal.
+module _ (degree product w row column v sum below left sum' most' below' left' i j next : ℕ) (columns diagonals columns' diagonals' : List ℕ) (before middle after : List (ℕ × ℕ))
+    (small : degree ≤ 255) (past : 1 < row) (high : row ≤ 8) (right : column ≤ w) (known : IsNextRow row column v sum below left sum' most' below' left' i) where
+  pub row_turn : i ≡ next_row row column → j ≡ next_column w row column → columns' ≡ taken column v columns
+      → diagonals' ≡ slice_set diagonals (row + column - 1) (bit_or (slice_index diagonals (row + column - 1)) v) → length columns ≡ 8 → length diagonals ≡ 16
+      → v ≤ greatest_free row column (below - sum * (2 ^ row - 1)) columns → bit_and v (slice_index diagonals (row + column - 1)) ≡ 0
+      → v < next → ((u : ℕ) → v < u → u < next → bit_and u (slice_index diagonals (row + column - 1)) ≢ 0)
+      → ((rows : List ℕ) → IsInRow degree i sum' below' left' rows → TurnsOverAll degree product w i j (below' - sum' * (2 ^ i - 1)) rows columns' diagonals' middle after)
+      → (rows : List ℕ) → IsInRow degree row sum below left rows → TurnsOverAllBelow degree product w row column (below - sum * (2 ^ row - 1)) rows columns diagonals v before middle
+      → TurnsOverAllBelow degree product w row column (below - sum * (2 ^ row - 1)) rows columns diagonals next before after
+  row_turn at_row at_column is_columns is_diagonals wide long most apart above least turns rows is inv =
+      let room = below - sum * (2 ^ row - 1) in
+      let d = slice_index diagonals (row + column - 1) in
+      let from : least_free row column room columns ≤ v = omega (arith, least_none row column room columns past) in
+      let turned = free_turn degree product w row column room rows columns diagonals small high (omega arith) right is.high before v
+      i j (below' - sum' * (2 ^ i - 1)) middle after (added row (v * 2 ^ column) rows) columns' diagonals' at_row at_column known.room refl is_columns is_diagonals
+      wide long from most apart inv (turns (added row (v * 2 ^ column) rows) (known.in_row degree rows is))
+      in
+      let skipped = free_shuts degree product w row column room rows columns diagonals small high (omega arith) right is.high before (next - suc v) (suc v) after
+      (λ u l m. inl (λ shared. least u (omega arith) (omega arith) (apart_both u d (number_above w row column columns) shared))) turned
+      in
+      let whole : next - suc v + suc v ≡ next = omega arith in
+      subst (λ (m : ℕ). TurnsOverAllBelow degree product w row column room rows columns diagonals m before after) whole skipped
+
+-- Nothing at a place.
+pub taken_none : (column : ℕ) (columns : List ℕ) → columns ≡ taken column 0 columns
+taken_none zero columns = refl
+taken_none (suc j) columns = let same : slice_index columns j ≡ slice_index columns j - 0 = omega arith in sym (set-get_or columns j 0) ∙ ap (slice_set columns j) same
+
+pub with_none : (k : ℕ) (diagonals : List ℕ) → diagonals ≡ slice_set diagonals k (bit_or (slice_index diagonals k) 0)
+with_none k diagonals = sym (set-get_or diagonals k 0) ∙ ap (slice_set diagonals k) (sym (or_zero_r (slice_index diagonals k)))

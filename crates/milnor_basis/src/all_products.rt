@@ -307,7 +307,19 @@ fn fill_all(
     let (next_row, next_column) = next_place(width, row, column);
     let sum = open.diagonals[row + column - 1];
     let greatest = open.greatest(column, own.most);
-    let mut number = 0;
+    // Nothing there leaves what is open as it is.
+    let blank = own.after(counts, row, column, 0);
+    fill_all(
+        counts,
+        degrees,
+        width,
+        next_row,
+        next_column,
+        blank,
+        open,
+        pairs,
+    )?;
+    let mut number = next_apart(0, sum);
     while number <= u32::from(greatest) {
         let put = number as u16;
         if put & sum == 0 {

@@ -1,21 +1,41 @@
 -- Each number has its turn.
-use Rattle.std.proofs.Common.{◌≡◌, ℕ, ◌<◌, ◌≤◌, ◌-◌, ◌+◌, ◌*◌, ◌/◌, ◌^◌, suc, inl, sym, subst, ap, ◌∙◌, arith, add-one, rules, refl, List, length, take, slice_index, slice_set, slice_get, Some, bit_or}
+use Rattle.std.proofs.Common.{◌≡◌, ℕ, ◌<◌, ◌≤◌, ◌-◌, ◌+◌, ◌*◌, ◌/◌, ◌^◌, suc, inl, sym, subst, ap, ◌∙◌, arith, add-one, rules, List, length, take, slice_index, slice_set, slice_get, Some, bit_or, zero}
+use Rattle.std.specs.Int.Bits.{and_zero_l}
 use Rattle.std.proofs.lemmas.Result.{on_ok_weaker}
 use Rattle.milnor_basis.specs.Exponents.{degree_of, trimmed}
 use Rattle.milnor_basis.specs.Basis.{lists_of, basis_of}
-use Rattle.milnor_basis.specs.Inside.Walk.{taken}
-use Rattle.milnor_basis.specs.Inside.FreeRows.{least_free, greatest_free, greatest_of, number_above, added, TurnsOverAll}
+use Rattle.milnor_basis.specs.Inside.Walk.{taken, next_row, next_column}
+use Rattle.milnor_basis.specs.Inside.FreeRows.{greatest_free, greatest_of, number_above, added, TurnsOverAll}
 use Rattle.milnor_basis.proofs.BasisLemmas.{lists_of_one}
 use Rattle.milnor_basis.proofs.RowZero.{apart_both}
 use Rattle.milnor_basis.proofs.Weights.{put_weight}
 use Rattle.milnor_basis.proofs.FirstRow.{least_none, next_some, next_first}
-use Rattle.milnor_basis.proofs.RowPlaces.{greatest_same, greatest_fits, greatest_column, sum_fits, nothing_taken, first_placed, next_is}
-use Rattle.milnor_basis.proofs.FreeFill.{TurnsOverAllBelow, free_start, free_end, free_shut, free_shuts, free_turn}
+use Rattle.milnor_basis.proofs.RowPlaces.{greatest_same, greatest_fits, greatest_column, sum_fits, nothing_taken, first_placed, next_is, row_turn, taken_none, with_none}
+use Rattle.milnor_basis.proofs.FreeFill.{TurnsOverAllBelow, free_start, free_end, free_shut}
 use Rattle.milnor_basis.proofs.all_products.+fill_all.Goals as goal
 
 -- the diagonals with a number at a place
 abbrev with_number : ℕ → ℕ → List ℕ → ℕ → List ℕ
 with_number row column diagonals v = slice_set diagonals (row + column - 1) (bit_or (slice_index diagonals (row + column - 1)) v)
+
+-- the next place is nearer to the end
+next_falls : (w row column : ℕ) → 1 < row → w ≤ 8 → next_row row column * 9 + next_column w row column < row * 9 + column
+next_falls w zero column past few = absurd (omega arith)
+next_falls w (suc i) zero past few = omega arith
+next_falls w (suc i) (suc c) past few = omega arith
+
+next_high : (row column next : ℕ) → next ≡ next_row row column → row ≤ 8 → next ≤ 8
+next_high zero zero next e high = omega arith
+next_high (suc i) zero next e high = omega arith
+next_high row (suc c) next e high = omega arith
+
+next_right : (w row column next : ℕ) → next ≡ next_column w row column → column ≤ w → next ≤ w
+next_right w row zero next e right = omega arith
+next_right w row (suc c) next e right = omega arith
+
+-- nothing is put there
+nothing_there : (room a b : ℕ) → room - 0 * a * b ≡ room
+nothing_there room a b = omega arith
 
 -- row 1, before anything is in it
 whole_room : (row sum below : ℕ) → sum ≡ 0 → below - sum * (2 ^ row - 1) ≡ below
@@ -50,14 +70,53 @@ returns-then-row-eq1 t c =
 pub loop-number-init : goal.loop-number-init
 loop-number-init t c =
     let past : 1 < c.args.row = omega (arith, c.requires.some, c.if-row-eq1.false) in
-    let room : ℕ = c.args.own.left.degree - c.args.own.sum * (2 ^ c.args.row - 1) in
+    let row : ℕ = c.args.row in
+    let column : ℕ = c.args.column in
+    let own = c.args.own in
+    let new = c.after-blank.result in
+    let i : ℕ = c.next_place-next_row.result.0 in
+    let room : ℕ = own.left.degree - own.sum * (2 ^ row - 1) in
+    let e = c.after-blank.ensures in
+    let least : 0 ≤ greatest_free row column room c.args.open.now.columns = omega arith in
+    let known = next_is row column 0 own.sum own.most own.left.degree own.left.place new.sum new.most new.left.degree new.left.place i past c.requires.row c.requires.fits c.requires.most (omega arith) c.next_place-next_row.ensures.row (λ l. ap (λ r. r.degree) (e.same l)) (λ l. ap (λ r. r.place) (e.same l)) e.grown e.less e.begun e.most e.degree e.place in
     record {
       turned = λ rows is.
-          subst (λ (n : ℕ). TurnsOverAllBelow c.args.degrees.0 c.args.degrees.1 c.args.width c.args.row c.args.column room rows c.args.open.now.columns c.args.open.now.diagonals n c.args.pairs.now.items c.args.pairs.now.items) (least_none c.args.row c.args.column room c.args.open.now.columns past)
-          (free_start c.args.degrees.0 c.args.degrees.1 c.args.width c.args.row c.args.column room rows c.args.open.now.columns c.args.open.now.diagonals
-          (omega (arith, c.requires.small, c.requires.smaller)) c.requires.row (omega arith) c.requires.column is.high c.args.pairs.now.items);
-      within = c.requires.within;
+          row_turn c.args.degrees.0 c.args.degrees.1 c.args.width row column 0 own.sum own.left.degree own.left.place new.sum new.most new.left.degree new.left.place i c.next_place-next_row.result.1 c.next_apart-number.result
+          c.args.open.now.columns c.args.open.now.diagonals c.args.open.now.columns c.args.open.now.diagonals c.args.pairs.now.items c.args.pairs.now.items c.fill_all.new.pairs.items
+          (omega (arith, c.requires.small, c.requires.smaller)) past c.requires.row c.requires.column known c.next_place-next_row.ensures.row c.next_place-next_row.ensures.column
+          (taken_none column c.args.open.now.columns) (with_none (row + column - 1) c.args.open.now.diagonals) (search rules) (search rules) least (and_zero_l (slice_index c.args.open.now.diagonals (row + column - 1)))
+          c.next_apart-number.ensures.above c.next_apart-number.ensures.least c.in_ok-fill_all.ensures.turned rows is
+          (subst (λ (n : ℕ). TurnsOverAllBelow c.args.degrees.0 c.args.degrees.1 c.args.width row column room rows c.args.open.now.columns c.args.open.now.diagonals n c.args.pairs.now.items c.args.pairs.now.items) (least_none row column room c.args.open.now.columns past)
+          (free_start c.args.degrees.0 c.args.degrees.1 c.args.width row column room rows c.args.open.now.columns c.args.open.now.diagonals
+          (omega (arith, c.requires.small, c.requires.smaller)) c.requires.row (omega arith) c.requires.column is.high c.args.pairs.now.items));
+      within = c.in_ok-fill_all.ensures.within;
     }
+
+-- nothing at the place
+pub after-blank-requires-clause-fits : goal.after-blank-requires-clause-fits
+after-blank-requires-clause-fits t c = sum_fits c.args.row c.args.own.sum c.args.own.most c.args.own.left.degree c.requires.some c.requires.fits c.requires.most
+
+pub fill_all-requires : goal.fill_all-requires
+fill_all-requires t c =
+    let past : 1 < c.args.row = omega (arith, c.requires.some, c.if-row-eq1.false) in
+    let row : ℕ = c.args.row in
+    let column : ℕ = c.args.column in
+    let own = c.args.own in
+    let new = c.after-blank.result in
+    let i : ℕ = c.next_place-next_row.result.0 in
+    let room : ℕ = own.left.degree - own.sum * (2 ^ row - 1) in
+    let e = c.after-blank.ensures in
+    let known = next_is row column 0 own.sum own.most own.left.degree own.left.place new.sum new.most new.left.degree new.left.place i past c.requires.row c.requires.fits c.requires.most (omega arith) c.next_place-next_row.ensures.row (λ l. ap (λ r. r.degree) (e.same l)) (λ l. ap (λ r. r.place) (e.same l)) e.grown e.less e.begun e.most e.degree e.place in
+    let none : room - 0 * 2 ^ column * (2 ^ row - 1) ≡ room = nothing_there room (2 ^ column) (2 ^ row - 1) in
+    let fits : new.sum * (2 ^ i - 1) ≤ new.left.degree = known.fits in
+    let most : new.most ≡ (new.left.degree - new.sum * (2 ^ i - 1)) / (2 ^ i - 1) = known.most in
+    let below : new.left.degree ≤ c.args.degrees.0 = omega (arith, known.less, c.requires.below) in
+    let place : new.left.place + length (lists_of i new.left.degree) ≤ length (basis_of c.args.degrees.0) = omega (arith, known.place, c.requires.place) in
+    let begun : i ≡ 1 → new.sum ≡ 0 = known.begun in
+    let weight : degree_of c.args.open.now.diagonals + (degree_of (take c.args.width c.args.open.now.columns) + (new.left.degree - new.sum * (2 ^ i - 1))) ≡ c.args.degrees.1 = omega (arith, known.room, none, c.requires.weight) in
+    let some : 0 < i = subst (λ n. 0 < n) (sym c.next_place-next_row.ensures.row) (next_some row column past) in
+    let first : i ≡ 1 → c.next_place-next_row.result.1 ≡ c.args.width = λ one. c.next_place-next_row.ensures.column ∙ next_first c.args.width row column past (sym c.next_place-next_row.ensures.row ∙ one) in
+    search rules
 
 pub after-requires-clause-fits : goal.after-requires-clause-fits
 after-requires-clause-fits t c = sum_fits c.args.row c.args.own.sum c.args.own.most c.args.own.left.degree c.requires.some c.requires.fits c.requires.most
@@ -68,8 +127,8 @@ after-requires-clause-greatest t c = greatest_fits c.args.column c.args.own.most
 pub put-requires-clause-fits : goal.put-requires-clause-fits
 put-requires-clause-fits t c = greatest_column c.args.column c.args.own.most c.loop-number.number c.args.open.now.columns (omega (arith, c.loop-number-test.true, c.from.ensures, c.greatest-greatest.ensures))
 
-pub fill_all-requires : goal.fill_all-requires
-fill_all-requires t c =
+pub fill_all-requires-then-put-sum-eq0 : goal.fill_all-requires-then-put-sum-eq0
+fill_all-requires-then-put-sum-eq0 t c =
     let past : 1 < c.args.row = omega (arith, c.requires.some, c.if-row-eq1.false) in
     let row : ℕ = c.args.row in
     let column : ℕ = c.args.column in
@@ -96,12 +155,17 @@ fill_all-requires t c =
     in
     let some : 0 < next = subst (λ n. 0 < n) (sym c.next_place-next_row.ensures.row) (next_some row column past) in
     let first : next ≡ 1 → c.next_place-next_row.result.1 ≡ c.args.width = λ one. c.next_place-next_row.ensures.column ∙ next_first c.args.width row column past (sym c.next_place-next_row.ensures.row ∙ one) in
-    search rules
+    let falls : next * 9 + c.next_place-next_row.result.1 < row * 9 + column =
+    subst (λ n. n * 9 + c.next_place-next_row.result.1 < row * 9 + column) (sym c.next_place-next_row.ensures.row)
+    (subst (λ n. next_row row column * 9 + n < row * 9 + column) (sym c.next_place-next_row.ensures.column) (next_falls c.args.width row column past c.requires.width))
+    in
+    let high : next ≤ 8 = next_high row column next c.next_place-next_row.ensures.row c.requires.row in
+    let right : c.next_place-next_row.result.1 ≤ c.args.width = next_right c.args.width row column c.next_place-next_row.result.1 c.next_place-next_row.ensures.column c.requires.column in
+    (omega (arith, falls, c.decreases), search rules)
 
 pub loop-number-preserved-then-put-sum-eq0 : goal.loop-number-preserved-then-put-sum-eq0
 loop-number-preserved-then-put-sum-eq0 t c =
     let past : 1 < c.args.row = omega (arith, c.requires.some, c.if-row-eq1.false) in
-    let higher : 0 < c.args.row + c.args.column = omega arith in
     let row : ℕ = c.args.row in
     let column : ℕ = c.args.column in
     let own = c.args.own in
@@ -109,31 +173,19 @@ loop-number-preserved-then-put-sum-eq0 t c =
     let i : ℕ = c.next_place-next_row.result.0 in
     let room : ℕ = own.left.degree - own.sum * (2 ^ row - 1) in
     let n : ℕ = c.loop-number.number in
-    let next = c.next_apart-number.result in
-    let after : n < next = c.next_apart-number.ensures.above in
-    let to : c.loop-number.number ≤ greatest_of c.args.column c.args.own.most c.args.open.now.columns = omega (arith, c.loop-number-test.true, c.from.ensures, c.greatest-greatest.ensures) in
+    let to : n ≤ greatest_of column own.most c.args.open.now.columns = omega (arith, c.loop-number-test.true, c.from.ensures, c.greatest-greatest.ensures) in
     let within : n * 2 ^ column ≤ own.most = greatest_fits column own.most n c.args.open.now.columns to in
-    let least : n ≤ greatest_free row column room c.args.open.now.columns = subst (λ m. n ≤ m) (greatest_same row column room own.most c.args.open.now.columns c.requires.some c.requires.most) to in
-    let from : least_free row column room c.args.open.now.columns ≤ n = omega (arith, least_none row column room c.args.open.now.columns past) in
+    let most : n ≤ greatest_free row column room c.args.open.now.columns = subst (λ m. n ≤ m) (greatest_same row column room own.most c.args.open.now.columns c.requires.some c.requires.most) to in
     let e = c.after.ensures in
     let known = next_is row column n own.sum own.most own.left.degree own.left.place new.sum new.most new.left.degree new.left.place i past c.requires.row c.requires.fits c.requires.most within c.next_place-next_row.ensures.row (λ l. ap (λ r. r.degree) (e.same l)) (λ l. ap (λ r. r.place) (e.same l)) e.grown e.less e.begun e.most e.degree e.place in
-    let sum : ℕ = slice_index c.args.open.now.diagonals (row + column - 1) in
-    let above : ℕ = number_above c.args.width row column c.args.open.now.columns in
-    let whole : next - suc n + suc n ≡ next = omega arith in
     record {
       turned = λ rows is.
-          let turned = free_turn c.args.degrees.0 c.args.degrees.1 c.args.width row column room rows c.args.open.now.columns c.args.open.now.diagonals
-          (omega (arith, c.requires.small, c.requires.smaller)) c.requires.row higher c.requires.column is.high c.args.pairs.now.items n
-          i c.next_place-next_row.result.1 (new.left.degree - new.sum * (2 ^ i - 1)) c.loop-number.pairs.items c.fill_all.new.pairs.items (added row (n * 2 ^ column) rows) c.put.result.columns c.put.result.diagonals
-          c.next_place-next_row.ensures.row c.next_place-next_row.ensures.column known.room refl c.put.ensures.columns c.put.ensures.diagonals
-          (search rules) (search rules) from least c.if-put-sum-eq0.true (c.loop-number.invariant.turned rows is) (c.in_ok-fill_all.ensures.turned (added row (n * 2 ^ column) rows) (known.in_row c.args.degrees.0 rows is))
-          in
-          let skipped = free_shuts c.args.degrees.0 c.args.degrees.1 c.args.width row column room rows c.args.open.now.columns c.args.open.now.diagonals
-          (omega (arith, c.requires.small, c.requires.smaller)) c.requires.row higher c.requires.column is.high c.args.pairs.now.items (next - suc n) (suc n) c.fill_all.new.pairs.items
-          (λ v l m. inl (λ shared. c.next_apart-number.ensures.least v (omega arith) (omega arith) (apart_both v sum above shared))) turned
-          in
-          subst (λ (m : ℕ). TurnsOverAllBelow c.args.degrees.0 c.args.degrees.1 c.args.width row column room rows c.args.open.now.columns c.args.open.now.diagonals m c.args.pairs.now.items c.fill_all.new.pairs.items) whole skipped;
-      within = c.in_ok-fill_all.ensures.within;
+          row_turn c.args.degrees.0 c.args.degrees.1 c.args.width row column n own.sum own.left.degree own.left.place new.sum new.most new.left.degree new.left.place i c.next_place-next_row.result.1 c.next_apart-number-then-put-sum-eq0.result
+          c.args.open.now.columns c.args.open.now.diagonals c.put.result.columns c.put.result.diagonals c.args.pairs.now.items c.loop-number.pairs.items c.fill_all-then-put-sum-eq0.new.pairs.items
+          (omega (arith, c.requires.small, c.requires.smaller)) past c.requires.row c.requires.column known c.next_place-next_row.ensures.row c.next_place-next_row.ensures.column
+          c.put.ensures.columns c.put.ensures.diagonals (search rules) (search rules) most c.if-put-sum-eq0.true
+          c.next_apart-number-then-put-sum-eq0.ensures.above c.next_apart-number-then-put-sum-eq0.ensures.least c.in_ok-fill_all-2.ensures.turned rows is (c.loop-number.invariant.turned rows is);
+      within = c.in_ok-fill_all-2.ensures.within;
     }
 
 pub loop-number-preserved : goal.loop-number-preserved
