@@ -8,6 +8,7 @@ use Rattle.std.proofs.lemmas.Int.{ints, by_lt_z}
 use Rattle.f2_vec.specs.Vectors.{IsZero}
 use Rattle.f2_matrix.proofs.Unique.{zero_or_first}
 use Rattle.degrees.specs.Above.{above_of}
+use Rattle.module_json.proofs.Basis.{option_or-none}
 use Rattle.square.specs.declared.range.Range.{Range}
 use Rattle.lift_laws.specs.Lifts.{Resolution, IsCanonical, IsSphere}
 use Rattle.lift_laws.specs.Products.{Class as ClassAbove, LiftsGiveOneProduct}
@@ -27,10 +28,6 @@ use Rattle.ext_brackets.specs.Laws.{BracketAnswerExists}
 use Rattle.ext_brackets.proofs.Exists.{AreLaws, AreInRange, bracket_exists}
 
 -- ---- what no refusal says
-
-or_none : (o p : Option Refusal) → option_or o p ≡ None → (o ≡ None) × (p ≡ None)
-or_none None p e = (refl, e)
-or_none (Some f) p e = absurd (cc)
 
 count_of-none : (found : Bool) (n : ℕ) (f : ℕ → Refusal) → option_map f (if found then None else Some n) ≡ None → found ≡ true
 count_of-none true n f e = refl
@@ -67,20 +64,20 @@ pub record AreThere (a b c : Class) (r q : Resolution) : Type 0 where
 
 pub classes_there : (a b c : Class) (r q : Resolution) → class_refusal a b c r q ≡ None → AreThere a b c r q
 classes_there a b c r q none =
-    let first = or_none (no_class A a q) (option_or (no_class B b q) (no_class C c r)) none in
-    let second = or_none (no_class B b q) (no_class C c r) first.1 in
+    let first = option_or-none (no_class A a q) (option_or (no_class B b q) (no_class C c r)) none in
+    let second = option_or-none (no_class B b q) (no_class C c r) first.1 in
     record { a_is = class_there A a q first.0; b_is = class_there B b q second.0; c_is = class_there C c r second.1 }
 
 pub parts_none : (range : Range) (a b c : Class) (r q : Resolution) → refusal_of range a b c r q ≡ None → (class_refusal a b c r q ≡ None) × (range_refusal range a b c r q ≡ None)
-parts_none range a b c r q none = or_none (class_refusal a b c r q) (range_refusal range a b c r q) none
+parts_none range a b c r q none = option_or-none (class_refusal a b c r q) (range_refusal range a b c r q) none
 
 in_range : (range : Range) (a b c : Class) (r q : Resolution) → IsSphere q → (there : AreThere a b c r q) → range_refusal range a b c r q ≡ None → AreInRange range r q there.a_is.class there.b_is.class there.c_is.class
 in_range range a b c r q sphere there none =
     let ab = out_of_range (Product Ab) range q (product_row a b) (product_degree a b) in
     let bc = out_of_range (Product Bc) range r (product_row b c) (product_degree b c) in
     let abc = out_of_range Bracket range r (bracket_row a b c) (bracket_degree a b c) in
-    let first = or_none ab (option_or bc abc) none in
-    let second = or_none bc abc first.1 in
+    let first = option_or-none ab (option_or bc abc) none in
+    let second = option_or-none bc abc first.1 in
     let near_ab = square_near (Product Ab) range q (product_row a b) (product_degree a b) first.0 in
     let near_bc = square_near (Product Bc) range r (product_row b c) (product_degree b c) second.0 in
     let near = square_near Bracket range r (bracket_row a b c) (bracket_degree a b c) second.1 in

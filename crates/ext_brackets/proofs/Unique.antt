@@ -4,14 +4,13 @@ use Rattle.std.specs.Prelude.{◌↔◌, Option, Some, None, MatchOption, Result
 use Rattle.std.proofs.lemmas.Bool.{true≢false}
 use Rattle.f2_vec.specs.Vectors.{sum_of, bit, plus, zeros, IsZero}
 use Rattle.f2_vec.specs.Spans.{HaveWidth, IsInSpan, HaveSameSpan}
-use Rattle.f2_vec.proofs.Sums.{bit-sum_of, length-sum_of, sum_of-assoc, sum_of-swap, sum_of-self, sum_of-zeros_left, sum_of-zeros_right, zeros_from_bits}
+use Rattle.f2_vec.proofs.Sums.{bit-sum_of, length-sum_of, sum_of-assoc, sum_of-swap, sum_of-self, sum_of-zeros_left, sum_of-zeros_right, zeros_from_bits, sum_of-cancel_right}
 use Rattle.f2_vec.proofs.Spans.{length-IsInSpan, sum-IsInSpan}
 use Rattle.f2_matrix.specs.Echelon.{IsReduced, IsRowBasis, RowBasisIsUnique}
 use Rattle.f2_matrix.proofs.Unique.{zero_or_first, zero_without_first, span_first-IsPivot}
 use Rattle.lift_laws.specs.Lifts.{Resolution}
 use Rattle.lift_laws.specs.Products.{Class as ClassAbove, count_of}
 use Rattle.bracket_laws.specs.Brackets.{top_of, IsBracketMember}
-use Rattle.bracket_laws.proofs.Contracted.{cancel-right}
 use Rattle.chain_map.specs.declared.class.Class.{Class}
 use Rattle.massey.specs.Cosets.{IsZeroAtPivots}
 use Rattle.massey.specs.Brackets.{IsBracketOf}
@@ -65,7 +64,7 @@ module _ (unique : RowBasisIsUnique) (r q : Resolution) (a b c : ClassAbove) whe
         let len = length-IsInSpan (size n) es x p.basis.widths span in
         let u = sum_of x v in
         let len_u : length u ≡ size n = length-sum_of x v (len ∙ sym len_v) ∙ len in
-        let back : sum_of u v ≡ x = cancel-right (size n) x v len len_v in
+        let back : sum_of u v ≡ x = sum_of-cancel_right (size n) x v len len_v in
         let member = (p.all u len_u).1 (subst (IsInSpan (size n) es) (sym back) span) in
         let one = (k.all u len_u).0 member in
         let two = (k.all v len_v).0 p.member in
@@ -92,7 +91,7 @@ module _ (unique : RowBasisIsUnique) (r q : Resolution) (a b c : ClassAbove) whe
         bit-sum_of v w z alike ∙ (ap (λ (x : Bool). plus x (bit w z)) (subst (λ (rows : List (List Bool)). IsZeroAtPivots rows v) rows_same p.clear i z first) ∙ ap (plus false) (k.clear i z first)) in
         let none = clear_is_zero (size n) fs (sum_of v w) k.basis.widths k.basis.reduced span clear in
         let zero : sum_of v w ≡ zeros (size n) = zeros_from_bits (size n) (sum_of v w) (length-sum_of v w alike ∙ len_v) none in
-        sym (cancel-right (size n) v w len_v len_w) ∙ (ap (λ (x : List Bool). sum_of x w) zero ∙ sum_of-zeros_left (size n) w len_w)
+        sym (sum_of-cancel_right (size n) v w len_v len_w) ∙ (ap (λ (x : List Bool). sum_of x w) zero ∙ sum_of-zeros_left (size n) w len_w)
 
   module _ (v w : List Bool) (es fs : List (List Bool)) (p : IsBracketOf r q a b c v es) (k : IsBracketOf r q a b c w fs) where
     other : IsCoset p.n p.l w fs
