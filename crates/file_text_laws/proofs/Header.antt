@@ -5,7 +5,7 @@ use Rattle.std.specs.List.{list_all, range_with_len}
 use Rattle.std.specs.Option.{option_or}
 use Rattle.std.specs.Ordering.{nat_cmp}
 use Rattle.std.proofs.Common.{◌≡◌, ℕ, suc, ◌+◌, ◌<◌, ◌≤◌, ◌^◌, ℤ, pos, neg_ℤ, negsuc, Bool, true, false, not, ◌||◌, if◌then◌else◌, Ordering, Less, Equal, Greater, List, [], ◌∷◌, ◌++◌, length, codes, Option, Some, None, option_map, option_and_then, refl, sym, ap, subst, ◌∙◌, arith}
-use Rattle.std.proofs.lemmas.Bool.{and_parts, lt-ltb, false≢true}
+use Rattle.std.proofs.lemmas.Bool.{and_parts, lt-ltb, le-leb, false≢true}
 use Rattle.std.proofs.lemmas.Int.{ints}
 use Rattle.std.proofs.lemmas.List.{length-append}
 use lib.Signed.{mag}
@@ -132,14 +132,11 @@ all_listed i (g ∷ gs) h = onto (degree_of (number (number_from g.degree))) (de
     onto : (o : Option ℤ) → o ≡ Some g.degree → listed (members_of gs) ≡ gs → listed (members_of (g ∷ gs)) ≡ g ∷ gs
     onto o e ih = rw (degree_read g.degree (small g.degree h.1), ih)
 
-pub le_true : (a b : ℕ) → a ≤ b → nat_le a b ≡ true
-le_true a b l = grind arith
-
 pub described : (gs : List Generator) (ts : List (List ℕ)) → Numbered 0 gs → length gs ≤ 64 → length ts ≤ 4096 → by_degree gs ≡ gs → spans gs ≡ true → file_of (value_of_file gs ts) ≡ with_entries gs (entries_from gs [] (items_of ts))
 described gs ts h few few_actions stand near =
     let bs : listed (members_of gs) ≡ gs = all_listed 0 gs h in
-    ap (λ b. unless_refused (first_of (unless b (Limit ManyGens) ∷ generators_refusal 0 (members_of gs) ∷ unless (spans (by_degree (listed (members_of gs)))) (Limit Span) ∷ unless (nat_le (items_count (items_of ts)) MAX_ACTIONS) (Limit ManyActions) ∷ [])) (with_entries (by_degree (listed (members_of gs))) (entries_from (by_degree (listed (members_of gs))) [] (items_of ts)))) (ap (λ n. nat_le n 64) (members_are gs) ∙ le_true (length gs) 64 few)
+    ap (λ b. unless_refused (first_of (unless b (Limit ManyGens) ∷ generators_refusal 0 (members_of gs) ∷ unless (spans (by_degree (listed (members_of gs)))) (Limit Span) ∷ unless (nat_le (items_count (items_of ts)) MAX_ACTIONS) (Limit ManyActions) ∷ [])) (with_entries (by_degree (listed (members_of gs))) (entries_from (by_degree (listed (members_of gs))) [] (items_of ts)))) (ap (λ n. nat_le n 64) (members_are gs) ∙ le-leb (length gs) 64 few)
     ∙ ap (λ o. unless_refused (first_of (o ∷ unless (spans (by_degree (listed (members_of gs)))) (Limit Span) ∷ unless (nat_le (items_count (items_of ts)) MAX_ACTIONS) (Limit ManyActions) ∷ [])) (with_entries (by_degree (listed (members_of gs))) (entries_from (by_degree (listed (members_of gs))) [] (items_of ts)))) (none_refused 0 gs h (omega arith))
     ∙ ap (λ xs. unless_refused (first_of (unless (spans xs) (Limit Span) ∷ unless (nat_le (items_count (items_of ts)) MAX_ACTIONS) (Limit ManyActions) ∷ [])) (with_entries xs (entries_from xs [] (items_of ts)))) (ap by_degree bs ∙ stand)
     ∙ ap (λ b. unless_refused (first_of (unless b (Limit Span) ∷ unless (nat_le (items_count (items_of ts)) MAX_ACTIONS) (Limit ManyActions) ∷ [])) (with_entries gs (entries_from gs [] (items_of ts)))) near
-    ∙ ap (λ b. unless_refused (first_of (unless b (Limit ManyActions) ∷ [])) (with_entries gs (entries_from gs [] (items_of ts)))) (ap (λ n. nat_le n 4096) (items_are ts) ∙ le_true (length ts) 4096 few_actions)
+    ∙ ap (λ b. unless_refused (first_of (unless b (Limit ManyActions) ∷ [])) (with_entries gs (entries_from gs [] (items_of ts)))) (ap (λ n. nat_le n 4096) (items_are ts) ∙ le-leb (length ts) 4096 few_actions)

@@ -1,5 +1,6 @@
 -- The text of a module's file describes its file, and gives the module back.
 use Rattle.std.specs.List.{flat_map}
+use Rattle.std.proofs.lemmas.Bool.{le-leb}
 use Rattle.std.proofs.Common.{◌≡◌, ℕ, zero, suc, ◌+◌, ◌<◌, ◌≤◌, max, ℤ, List, [], ◌∷◌, ◌++◌, length, map, codes, None, Some, Ok, Err, IsUtf8, refl, sym, ap, subst, ◌∙◌, arith}
 use Rattle.std.proofs.lemmas.Int.{ints}
 use Rattle.json.specs.Print.{IsNumber}
@@ -28,7 +29,7 @@ use Rattle.module_build.proofs.LimitCases.{by_degree-standing}
 use Rattle.file_text_laws.specs.Texts.{AreNumbered, AllBuiltAreNumbered, TextDescribesFile, GivesBack, TextGivesBack}
 use Rattle.file_text_laws.proofs.Values.{IsWritten, AreWritten, HasWritten, read_text}
 use Rattle.file_text_laws.proofs.Written.{members_of, items_of, data_of, text_of, text_written, degree_text}
-use Rattle.file_text_laws.proofs.Header.{Numbered, rise, small, le_true, value_of_file, data_read, described}
+use Rattle.file_text_laws.proofs.Header.{Numbered, rise, small, value_of_file, data_read, described}
 use Rattle.file_text_laws.proofs.Described.{numbered_from, near, lines_of, actions_written, entries_read}
 use Rattle.file_text_laws.proofs.Bounds.{ascii_is, plain_names, plain_texts, few_lines, few_squares, text_fits}
 
@@ -94,7 +95,7 @@ module _ (m : Module) (limits : AreByDegree m.generators) (is : IsModule m) (nam
   size_is =
       let fits = text_fits m is numbered few in
       let short = fits.short in
-      ap (λ b. unless b (Limit Bytes)) (le_true (length (file_text m)) 1048576 (omega (arith, ap length text_is)))
+      ap (λ b. unless b (Limit Bytes)) (le-leb (length (file_text m)) 1048576 (omega (arith, ap length text_is)))
 
   text_ascii : IsUtf8 (file_text m)
   text_ascii = subst IsUtf8 (sym text_is) (IsUtf8-are_ascii (text_of gs ts) (ascii_is (text_of gs ts) (text_fits m is numbered few).ascii))

@@ -9,7 +9,7 @@ use Rattle.std.proofs.lemmas.List.Elements.{All-cons, All-head, All-nil, All-tai
 use Rattle.milnor_basis.specs.Exponents.{degree_of, IsTrimmed}
 use Rattle.milnor_basis.specs.Product.{coefficient, product_terms, odd_by}
 use Rattle.f2_vec.specs.Vectors.{plus}
-use Rattle.f2_vec.proofs.Sums.{plus-false, plus-self}
+use Rattle.f2_vec.proofs.Sums.{plus-false, plus-self, same_from_plus}
 use Rattle.milnor_basis.proofs.ExponentLemmas.{same_answers}
 use Rattle.milnor_basis.proofs.Parity.{odd_by-filter, odd_by-flat_map, odd_by-same}
 use Rattle.milnor_laws.proofs.SumsModTwo.{odd_by-none, odd_by-plus, odd_by-swap}
@@ -18,7 +18,7 @@ use Rattle.milnor_laws.proofs.RightUnit.{product_has_unit}
 use Rattle.milnor_laws.proofs.UnitActs.{empty_or_positive}
 use Rattle.hopf_laws.specs.Diagonal.{splittings}
 use Rattle.hopf_laws.specs.Conjugate.{convolved, IsConjugate, is_nothing, conjugate_within, conjugate, ConjugateExists, ConjugateIsUnique, ConjugateTurnsProducts, ConjugateTwice}
-use Rattle.hopf_laws.proofs.SameCounts.{plus_zero, same_counts}
+use Rattle.hopf_laws.proofs.SameCounts.{same_counts}
 use Rattle.hopf_laws.proofs.Splittings.{Pair, IsSplit, All-splittings, All-flat_map, All-of_all, splittings-exchanged, splittings-nothing}
 use Rattle.hopf_laws.proofs.Cartan.{HasDegree, term_count, All-product_terms, cartan}
 
@@ -212,7 +212,7 @@ module _ (c : List ℕ → List (List ℕ)) (is : Conjugates c) where
 
   -- the conjugate of a product is the product of the conjugates, turned round
   pub conjugate_product : (r s : List ℕ) (f : Value) → IsTrimmed r → IsTrimmed s → of_product r s f ≡ of_factors r s f
-  conjugate_product r s f hr hs = plus_zero (of_product r s f) (of_factors r s f) (differ_none (degree_of r + degree_of s) r s f hr hs (omega arith))
+  conjugate_product r s f hr hs = same_from_plus (of_product r s f) (of_factors r s f) (differ_none (degree_of r + degree_of s) r s f hr hs (omega arith))
 
   -- Twice it is the identity.
 
@@ -254,7 +254,7 @@ module _ (c : List ℕ → List (List ℕ)) (is : Conjugates c) where
   moved_none (suc n) r f h l = moved_step r f h (λ a g k m. moved_none n a g k (omega arith))
 
   pub conjugate_twice : (r : List ℕ) (f : Value) → IsTrimmed r → odd_by (λ x. odd_by f (c x)) (c r) ≡ f r
-  conjugate_twice r f h = sym (plus_zero (f r) (odd_by (λ x. odd_by f (c x)) (c r)) (moved_none (degree_of r) r f h (omega arith)))
+  conjugate_twice r f h = sym (same_from_plus (f r) (odd_by (λ x. odd_by f (c x)) (c r)) (moved_none (degree_of r) r f h (omega arith)))
 
 -- Two conjugates are the same.
 module _ (c d : List ℕ → List (List ℕ)) (is : Conjugates c) (also : Conjugates d) where
@@ -277,7 +277,7 @@ module _ (c d : List ℕ → List (List ℕ)) (is : Conjugates c) (also : Conjug
   apart_none (suc n) r f h l = apart_step r f h (λ a g k m. apart_none n a g k (omega arith))
 
   pub conjugate_once : (r : List ℕ) (f : Value) → IsTrimmed r → odd_by f (c r) ≡ odd_by f (d r)
-  conjugate_once r f h = plus_zero (odd_by f (c r)) (odd_by f (d r)) (apart_none (degree_of r) r f h (omega arith))
+  conjugate_once r f h = same_from_plus (odd_by f (c r)) (odd_by f (d r)) (apart_none (degree_of r) r f h (omega arith))
 
 -- There is one.
 

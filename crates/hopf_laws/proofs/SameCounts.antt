@@ -6,14 +6,7 @@ use Rattle.f2_vec.specs.Vectors.{plus}
 use Rattle.milnor_basis.specs.Product.{odd_by}
 use Rattle.milnor_basis.proofs.Parity.{odd_by-append}
 use Rattle.milnor_laws.proofs.SumsModTwo.{plus-swap}
-use Rattle.f2_vec.proofs.Sums.{plus-self}
-
--- the sum is 0 only of two that are the same
-pub plus_zero : (a b : Bool) → plus a b ≡ false → a ≡ b
-plus_zero true true e = refl
-plus_zero true false e = e
-plus_zero false true e = sym e
-plus_zero false false e = refl
+use Rattle.f2_vec.proofs.Sums.{plus-self, same_from_plus}
 
 module _ {X : Type 0} (eq : X → X → Bool) (sound : (x y : X) → eq x y ≡ true → x ≡ y) (same : (x : X) → eq x x ≡ true) where
   abbrev others : X → List X → List X
@@ -54,7 +47,7 @@ module _ {X : Type 0} (eq : X → X → Bool) (sound : (x y : X) → eq x y ≡ 
 
   pub same_counts : (f : X → Bool) (xs ys : List X) → ((x : X) → odd_by (eq x) xs ≡ odd_by (eq x) ys) → odd_by f xs ≡ odd_by f ys
   same_counts f xs ys h =
-      plus_zero (odd_by f xs) (odd_by f ys)
+      same_from_plus (odd_by f xs) (odd_by f ys)
       (sym (odd_by-append f xs ys)
       ∙ vanishes f (length (xs ++ ys)) (xs ++ ys) (omega arith)
       (λ x. odd_by-append (eq x) xs ys ∙ ap (λ b. plus b (odd_by (eq x) ys)) (h x) ∙ plus-self (odd_by (eq x) ys)))

@@ -2,7 +2,7 @@
 use Rattle.std.specs.List.{All, AllPairs, list_all}
 use Rattle.std.proofs.Common.{◌≡◌, ◌≢◌, ℕ, zero, suc, ◌<◌, ◌≤◌, ℤ, pos, neg_ℤ, ◌+ℤ◌, ◌≤ℤ◌, int_le, nat_le, Bool, true, false, ◌&&◌, if◌then◌else◌, List, [], ◌∷◌, ◌+◌, ◌++◌, length, map, take, get_or, None, Some, Option, refl, ap, sym, subst, ◌∙◌, arith}
 use Rattle.std.specs.Option.{option_or}
-use Rattle.std.proofs.lemmas.Bool.{and_parts}
+use Rattle.std.proofs.lemmas.Bool.{and_parts, le-leb}
 use Rattle.std.proofs.lemmas.Int.{ints}
 use Rattle.std.proofs.lemmas.List.{length-map, get_or-map, take_more, length-take-le}
 use Rattle.std.proofs.lemmas.List.Folds.{list_all-map}
@@ -29,9 +29,6 @@ within_of ps = list_all (λ p. within_limit p.degree) ps
 abbrev pub near_of : List Placed → Bool
 near_of ps = list_all (λ p. list_all (λ q. is_near p.degree q.degree) ps) ps
 
-le_true : (a b : ℕ) → a ≤ b → nat_le a b ≡ true
-le_true a b l = grind arith
-
 near_is : (ps : List Placed) → are_near (degrees_of ps) ≡ near_of ps
 near_is ps =
     list_all-map (λ d. list_all (λ e. is_near d e) (degrees_of ps)) (λ p. p.degree) ps
@@ -43,7 +40,7 @@ near_is ps =
 
 few : (ps : List Placed) → length ps ≤ MAX_GENERATORS → limit_of (degrees_of ps) ≡ option_or (unless (within_of ps) Degree) (unless (near_of ps) Span)
 few ps l =
-    ap (λ b. option_or (unless b Gens) (option_or (unless (list_all within_limit (degrees_of ps)) Degree) (unless (are_near (degrees_of ps)) Span))) (le_true (length (degrees_of ps)) MAX_GENERATORS (omega (arith, length-map ps (λ (p : Placed). p.degree))))
+    ap (λ b. option_or (unless b Gens) (option_or (unless (list_all within_limit (degrees_of ps)) Degree) (unless (are_near (degrees_of ps)) Span))) (le-leb (length (degrees_of ps)) MAX_GENERATORS (omega (arith, length-map ps (λ (p : Placed). p.degree))))
     ∙ ap (λ b. option_or (unless b Degree) (unless (are_near (degrees_of ps)) Span)) (list_all-map within_limit (λ p. p.degree) ps)
     ∙ ap (λ b. option_or (unless (within_of ps) Degree) (unless b Span)) (near_is ps)
 
@@ -85,11 +82,11 @@ pub record IsWithin (z : ℤ) : Type 0 where
   pub low : neg_ℤ MAX_DEGREE ≤ℤ z
   pub high : z ≤ℤ MAX_DEGREE
 
+int-le : (a b : ℤ) → int_le a b ≡ true → a ≤ℤ b
+int-le a b e = grind (arith, ints)
+
 is_within : (z : ℤ) → within_limit z ≡ true → IsWithin z
-is_within z h = let two = and_parts (int_le (neg_ℤ MAX_DEGREE) z) (int_le z MAX_DEGREE) h in record { low = at (neg_ℤ MAX_DEGREE) z two.0; high = at z MAX_DEGREE two.1 }
-  where
-    at : (a b : ℤ) → int_le a b ≡ true → a ≤ℤ b
-    at a b e = grind (arith, ints)
+is_within z h = let two = and_parts (int_le (neg_ℤ MAX_DEGREE) z) (int_le z MAX_DEGREE) h in record { low = int-le (neg_ℤ MAX_DEGREE) z two.0; high = int-le z MAX_DEGREE two.1 }
 
 pub degree_within : (ds : List ℤ) (i : ℕ) (d : ℤ) → KeepsLimits ds → i < length ds → IsWithin (get_or ds i d)
 degree_within ds i d k l = is_within (get_or ds i d) (all_at within_limit ds i d k.within l)
@@ -98,10 +95,7 @@ pub placed_within : (ps : List Placed) (i : ℕ) → limit_of (degrees_of ps) �
 placed_within ps i e l = subst IsWithin (get_or-map (λ (p : Placed). p.degree) ps i nowhere (pos 0) l) (degree_within (degrees_of ps) i (pos 0) (keeps_limits (degrees_of ps) e) (omega (arith, length-map ps (λ (p : Placed). p.degree))))
 
 near_at : (ds : List ℤ) (i j : ℕ) (d : ℤ) → KeepsLimits ds → i < length ds → j < length ds → get_or ds j d ≤ℤ (get_or ds i d +ℤ pos MAX_SPAN)
-near_at ds i j d k l m = at (get_or ds j d) (get_or ds i d +ℤ pos MAX_SPAN) (all_at (is_near (get_or ds j d)) ds i d (all_at (λ c. list_all (is_near c) ds) ds j d k.near m) l)
-  where
-    at : (a b : ℤ) → int_le a b ≡ true → a ≤ℤ b
-    at a b e = grind (arith, ints)
+near_at ds i j d k l m = int-le (get_or ds j d) (get_or ds i d +ℤ pos MAX_SPAN) (all_at (is_near (get_or ds j d)) ds i d (all_at (λ c. list_all (is_near c) ds) ds j d k.near m) l)
 
 -- ---- the generators
 

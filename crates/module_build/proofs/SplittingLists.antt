@@ -5,7 +5,7 @@ use Rattle.std.specs.List.{All}
 use Rattle.std.proofs.Common.{◌≡◌, ◌≢◌, ℕ, suc, ◌+◌, ◌-◌, ◌*◌, ◌^◌, ◌<◌, ◌≤◌, inl, inr, Bool, true, false, ◌&&◌, List, [], ◌∷◌, ◌++◌, length, take, get_or, refl, sym, ◌∙◌, ap, subst, arith}
 use Rattle.std.proofs.lemmas.List.{take_more, take_all, get_or-set_same, get_or-set_other}
 use Rattle.std.proofs.lemmas.List.Elements.{All-append, All-cons, All-nil}
-use Rattle.std.proofs.lemmas.Bool.{cases_eq, cases_lt, and_left, eq-eqb, eqb-true, ne_eqb, false_from_ne_true, lt-ltb, le-ltb, leb-true}
+use Rattle.std.proofs.lemmas.Bool.{cases_eq, cases_lt, and_left, eq-eqb, eqb-true, ne_eqb, false_from_ne_true, lt-ltb, le-ltb, le-leb, leb-true}
 use Rattle.std.proofs.Math.Bool as Booleans
 use Rattle.f2_vec.specs.Vectors.{plus}
 use Rattle.f2_vec.proofs.Sums.{plus-assoc, plus-false}
@@ -147,9 +147,6 @@ both_degrees d n b = elim (cases_lt d n) [
 abbrev pub from : ℕ → (Pair → Bool) → Pair → Bool
 from first f p = nat_le first (degree_of p.0) && f p
 
-leb : (a b : ℕ) → a ≤ b → nat_le a b ≡ true
-leb a b l = grind arith
-
 not_leb : (a b : ℕ) → b < a → nat_le a b ≡ false
 not_leb a b l = grind arith
 
@@ -182,7 +179,7 @@ degrees_all n first last max r f lo few hi low high =
     at : (p : Pair) → IsSplit 1 r p → (b : Bool) → nat_le first (degree_of p.0) ≡ b → (nat_lt (degree_of p.0) n && (b && f p)) ≡ (nat_le (degree_of p.0) max && (b && f p))
     at p h false g = Booleans.and-false (nat_lt (degree_of p.0) n) ∙ sym (Booleans.and-false (nat_le (degree_of p.0) max))
     at p h true g =
-        ap (λ x. x && f p) (same_answers (nat_lt (degree_of p.0) n) (nat_le (degree_of p.0) max) (λ e. leb (degree_of p.0) max (within p (leb-true first (degree_of p.0) g) (ltb_true (degree_of p.0) n e)))
+        ap (λ x. x && f p) (same_answers (nat_lt (degree_of p.0) n) (nat_le (degree_of p.0) max) (λ e. le-leb (degree_of p.0) max (within p (leb-true first (degree_of p.0) g) (ltb_true (degree_of p.0) n e)))
         (λ e. let l = leb-true (degree_of p.0) max e in let d = h.degree in lt-ltb (degree_of p.0) n (elim (cases_lt max (degree_of r)) [ inl past ↦ let g = high (omega arith) in omega arith | inr within ↦ let g = low within in omega arith ])))
 
 -- ---- lists
@@ -225,5 +222,5 @@ degree_more r first n xs ys l before more f =
     ∙ degrees_more n r (from first f)
   where
     here : (d : ℕ) (b c : Bool) → nat_eq d n ≡ c → (c && b) ≡ (c && (nat_le first d && b))
-    here d b true e = let g : d ≡ n = eqb-true d n e in ap (λ x. x && b) (sym (leb first d (omega arith)))
+    here d b true e = let g : d ≡ n = eqb-true d n e in ap (λ x. x && b) (sym (le-leb first d (omega arith)))
     here d b false e = refl
