@@ -1,6 +1,6 @@
 //! How many exponent lists there are of each degree and length, by which places in a basis are counted.
 ghost use Rattle.std.specs.Prelude.{◌≡◌, ℕ, ◌+◌, ◌-◌, ◌*◌, ◌^◌, ◌≤◌, ◌<◌, IfOk, length, slice_index};
-ghost use Rattle.milnor_basis.specs.Basis.{lists_of};
+ghost use Rattle.milnor_basis.specs.Basis.{lists_of, basis_of};
 ghost use Rattle.milnor_basis.specs.Inside.Counted.{IsCounted};
 
 use crate::exps::MAX_EXPONENTS;
@@ -14,7 +14,7 @@ const LENGTHS: usize = MAX_EXPONENTS + 1;
 /// For each degree from 0 to a greatest one, which is all that contracts see, and each k from 0 to 8, how many lists
 /// of k exponents have that degree.
 #[derive(Debug, Drop)]
-pub(crate) struct Counts {
+pub struct Counts {
     max: u16,
     numbers: Vec<usize>,
 }
@@ -41,7 +41,10 @@ pub(crate) struct Rest {
 
 impl Counts {
     /// The counts of the degrees 0 to `max`.
-    pub(crate) fn new(alloc: Global, max: u16) -> Result<Self, Memory>
+    ///
+    /// # Errors
+    /// `Memory` if allocation fails.
+    pub fn new(alloc: Global, max: u16) -> Result<Self, Memory>
         requires { max ≤ 255 }
         ensures { IfOk result (λ counts. counts ≡ max) }
     {
@@ -50,6 +53,15 @@ impl Counts {
             numbers = with_degree(numbers, n)?;
         }
         Ok(Counts { max, numbers })
+    }
+
+    /// How many elements the basis of degree `n` has.
+    pub fn elements(&self, n: u16) -> usize
+        requires { n ≤ self.now }
+        ensures { result ≡ length (basis_of n) }
+    {
+        let _max = self.max;
+        self.of(n, MAX_EXPONENTS)
     }
 
     /// How many lists of `k` exponents have degree `n`.

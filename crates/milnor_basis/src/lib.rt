@@ -11,6 +11,7 @@ mod product;
 mod text;
 
 pub use basis::Basis;
+pub use counts::Counts;
 pub use exps::Exps;
 pub use laws::{basis_is_milnors, product_is_homogeneous};
 pub use multiples::Multiples;
