@@ -32,7 +32,7 @@ entry_there table h read s k l =
     let was : IsSome (entry_at q.start q.s q.above) = read s k q there.1 in
     let at_s = subst (λ n. IsSome (entry_at q.start n q.above)) is.s_is was in
     let at_k = subst (λ n. IsSome (entry_at q.start s n)) is.above_is at_s in
-    let here : IsSome (entry_at table.start s k) = subst IsSome is.entry_is at_k in
+    let here : IsSome (entry_at table.start s k) = subst IsSome (is.beneath s k (omega arith) (omega arith)) at_k in
     let o = IsOf-over (over table.resolved) table.start s k q.content is.is_of in
     read_content (entry_at table.start s k) _ _ q.content here o.here ∙ ap (λ (x : Content). Some x) (sym (content_at-is table.rows s k q there.1))
 

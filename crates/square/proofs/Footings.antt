@@ -9,9 +9,9 @@ use Rattle.f2_matrix.proofs.Unique.{kernel_basis_unique}
 use Rattle.free_module.specs.FreeModule.{free_basis}
 use Rattle.finite_module.specs.Checked.{Checked}
 use Rattle.resolution_laws.specs.Resolution.{Module, Content, square_in, IsStep}
-use Rattle.resolution_laws.specs.Start.{Entry, entry_at, HasShape, squares_below, row_below, IsOf, is_of}
+use Rattle.resolution_laws.specs.Start.{Entry, entry_at, HasShape, squares_below, row_below, IsOf, is_of, AreBefore}
 use Rattle.resolution_laws.proofs.StartLaws.{squares_below-take}
-use Rattle.square.specs.Squares.{Placed, degrees_with, target_width, square_matrix, AreUnder, IsQuasi, IsMeasured, over, bottom_of}
+use Rattle.square.specs.Squares.{Placed, degrees_with, target_width, square_matrix, IsQuasi, IsMeasured, over, bottom_of}
 use Rattle.square.specs.Tables.{Footing, IsFooting}
 
 below_list : Option (List Content) → List Content
@@ -39,7 +39,7 @@ given_below f i j e =
 -- a footing as a function of places
 pub record IsFounded (f : Footing) : Type 0 where
   pub at : ℕ → ℕ → Content
-  pub under : AreUnder (over f.resolved) f.start f.s f.above at
+  pub under : AreBefore (over f.resolved) f.start f.s f.above at
   pub before : squares_below at f.s f.above ≡ f.squares
   pub below : row_below at f.s f.above ≡ f.below
 
@@ -69,9 +69,13 @@ footing_founded f h = record {
         squares_below-take (given f) i (suc f.above) b.0 (omega arith) (λ j l. given_below f i j e ∙ ap (λ x. square_in (below_list x) j) b.1) ∙ take_all (suc f.above) b.0 (omega arith) in
         ap (λ (x : List Content). Some x) all ∙ sym b.1
 
-kept_unread : {X Y : Type 0} (o : Option X) (y : Y) → o ≡ None → (Some y ≡ None) ↔ IsSome o
-kept_unread None y e = (λ f. let same : Some y ≡ None = f in cc, λ some. let same : false ≡ true = some in cc)
-kept_unread (Some x) y e = cc
+-- the kernel of a step is that of the reduction of its matrix
+pub kernel_of_reduction : (m : Module) (below : Option (List Content)) (squares : List Content) (c : Content) (r : Reduction) → IsStep m below squares c → IsQuasi m below squares c r → r.kernel ≡ c.kernel
+kernel_of_reduction m below squares c r step quasi =
+    let n = target_width m below squares in
+    let xs = square_matrix m below squares c in
+    let basis : IsKernelBasis n xs r.kernel = subst (IsKernelBasis n xs) (sym quasi.kernel) (kernel_is_kernel_basis n xs quasi.form quasi.widths quasi.is_form) in
+    kernel_basis_unique n xs r.kernel c.kernel basis step.kernel
 
 made_square : (f : Footing) (c : Content) (r : Reduction) → IsFooting f → IsStep (over f.resolved) f.below f.squares c → IsQuasi (over f.resolved) f.below f.squares c r → (t : ℤ) → t ≡ bottom_of f.resolved +ℤ pos f.above → IsMeasured (record { resolved = f.resolved; start = f.start; s = f.s; above = f.above; content = c; quasi = Some r }) t r.cols r.height
 made_square f c r h step quasi t degree =
@@ -89,7 +93,7 @@ made_square f c r h step quasi t degree =
         is_of = is_of f.s f.above o.at c o.under.before o.under.below (subst T (sym h.absent) is_step);
         row = h.row;
         degree = h.degree;
-        kept = record { at = o.at; under = o.under; quasi = is_quasi };
+        kept = record { at = o.at; under = o.under; quasi = is_quasi; kernel = kernel_of_reduction m f.below f.squares c r step quasi };
       };
       degree = degree;
       widths = record {
@@ -98,16 +102,8 @@ made_square f c r h step quasi t degree =
         target = is_quasi.cols;
         source = is_quasi.height ∙ length-map (free_basis (degrees_with m (squares_below o.at f.s f.above) c) (m.bottom +ℤ pos (length (squares_below o.at f.s f.above)))) _;
       };
-      where_made = kept_unread (entry_at f.start f.s f.above) r h.absent;
+      where_made = λ unread. refl;
     }
-
--- the kernel of a step is that of the reduction of its matrix
-pub kernel_of_reduction : (m : Module) (below : Option (List Content)) (squares : List Content) (c : Content) (r : Reduction) → IsStep m below squares c → IsQuasi m below squares c r → r.kernel ≡ c.kernel
-kernel_of_reduction m below squares c r step quasi =
-    let n = target_width m below squares in
-    let xs = square_matrix m below squares c in
-    let basis : IsKernelBasis n xs r.kernel = subst (IsKernelBasis n xs) (sym quasi.kernel) (kernel_is_kernel_basis n xs quasi.form quasi.widths quasi.is_form) in
-    kernel_basis_unique n xs r.kernel c.kernel basis step.kernel
 
 -- the same for the parts of a square
 pub IsMeasured-made : (f : Footing) (c : Content) (r : Reduction) (resolved : Checked) (start : List Entry) (s above : ℕ) (t : ℤ) (w v : ℕ) → IsFooting f → IsStep (over f.resolved) f.below f.squares c → IsQuasi (over f.resolved) f.below f.squares c r

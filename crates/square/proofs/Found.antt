@@ -1,15 +1,15 @@
 -- A square that is found in a table, and the reduction that it kept.
-use Rattle.std.proofs.Common.{◌≡◌, ℕ, zero, suc, ◌<◌, ℤ, pos, ◌+ℤ◌, ◌-ℤ◌, List, [], ◌∷◌, length, take, Option, Some, None, option_and_then, IfSome, IsSome, refl, sym, ◌∙◌, ap, subst, arith}
+use Rattle.std.proofs.Common.{◌≡◌, ℕ, zero, suc, ◌<◌, ◌≤◌, ℤ, pos, ◌+ℤ◌, ◌-ℤ◌, List, [], ◌∷◌, length, take, Option, Some, None, MatchOption, option_and_then, IfSome, refl, sym, ◌∙◌, ap, subst, arith}
 use Rattle.std.specs.List.{slice_get}
 use Rattle.std.proofs.lemmas.Int.{ints}
 use Rattle.std.proofs.lemmas.Option.{slice_get_within}
 use Rattle.f2_matrix.specs.Reduction.{Reduction}
 use Rattle.f2_matrix.proofs.Unique.{kernel_basis_unique}
 use Rattle.finite_module.specs.Checked.{Checked}
-use Rattle.resolution_laws.specs.Resolution.{Module, Content, row_of, below_of}
-use Rattle.resolution_laws.specs.Start.{Entry, entry_at, squares_below, row_below}
+use Rattle.resolution_laws.specs.Resolution.{Module, Content, row_of, below_of, IsStep}
+use Rattle.resolution_laws.specs.Start.{Entry, entry_at, squares_below, row_below, HasShape, IsOf, is_of, AreBefore}
 use Rattle.resolution_laws.proofs.StartLaws.{content_is_unique, squares_below-same, row_below-same}
-use Rattle.square.specs.Squares.{Placed, AreUnder, IsQuasi, IsKeptOf, KeptWhereMade, IsSquare, over, bottom_of}
+use Rattle.square.specs.Squares.{Placed, IsQuasi, IsKeptOf, IsSquare, over, bottom_of}
 use Rattle.degrees.specs.Above.{above_of}
 use Rattle.square.specs.Tables.{Staircase, row_in, plain_rows, content_at, square_at, IsQuasiAt, IsTable}
 use Rattle.square.proofs.ByDegree.{natural-is}
@@ -39,33 +39,34 @@ row_within (row ∷ rows) (suc s) k l = let rest = row_within rows s k l in omeg
 
 -- ---- what it kept
 
-none_unless : {X : Type 0} (o : Option X) → (IsSome o → ⊥) → o ≡ None
-none_unless None h = refl
-none_unless (Some x) h = absurd (h refl)
-
--- a square that has kept a reduction was not read
-unread : (q : Placed) (r : Reduction) → KeptWhereMade q → q.quasi ≡ Some r → entry_at q.start q.s q.above ≡ None
-unread q r where_made kept = none_unless (entry_at q.start q.s q.above) (λ read. let none = where_made.1 read in cc)
+-- what a start's table has at a place is that of each start with the same squares there and beneath
+is_of-beneath : (m : Module) (start start' : List Entry) (s k : ℕ) (c : Content) → ((i j : ℕ) → i ≤ s → j ≤ k → entry_at start i j ≡ entry_at start' i j) → IsOf m start s k c → IsOf m start' s k c
+is_of-beneath m start start' s k c same (is_of _ _ at _ before below here) =
+    let P : Option Content → Type 0 = λ found. MatchOption found (IsStep m (row_below at s k) (squares_below at s k) c) (λ read. (c ≡ read) × HasShape m (row_below at s k) (squares_below at s k) c) in
+    is_of s k at c
+    (λ j l. is_of-beneath m start start' s j (at s j) (λ a b p q. same a b p (omega arith)) (before j l))
+    (λ i j e l. is_of-beneath m start start' i j (at i j) (λ a b p q. same a b (omega arith) (omega arith)) (below i j e l))
+    (subst P (same s k (omega arith) (omega arith)) here)
 
 module _ (table : Staircase) (h : IsTable table) (s k : ℕ) (q : Placed) (r : Reduction) (there : slice_get (row_in table.rows s) k ≡ Some q) where
   m : Module
   m = over table.resolved
 
-  pub kept_here : IsSquare q → KeptWhereMade q → q.quasi ≡ Some r → IsQuasi (over table.resolved) (below_of (plain_rows table.rows) s k) (take k (row_of (plain_rows table.rows) s)) (content_at table.rows s k) r
+  pub kept_here : IsSquare q → q.quasi ≡ Some r → IsQuasi (over table.resolved) (below_of (plain_rows table.rows) s k) (take k (row_of (plain_rows table.rows) s)) (content_at table.rows s k) r
   unfolding m
-  kept_here square where_made kept =
+  kept_here square kept =
       let is = h.placed s k q there in
       let within = slice_get_within (row_in table.rows s) k q there in
       let P : Option Reduction → Type 0 = λ o. IfSome o (IsKeptOf q) in
       let made : IsKeptOf q r = subst P kept square.kept in
-      let absent : entry_at table.start s k ≡ None =
-      sym is.entry_is ∙ ap (λ n. entry_at q.start n k) (sym is.s_is) ∙ ap (entry_at q.start q.s) (sym is.above_is) ∙ unread q r where_made kept in
-      let start : q.start ≡ table.start = is.start_is absent in
       let at = made.at in
-      let under1 = subst (λ (x : Checked). AreUnder (over x) q.start q.s q.above at) is.resolved_is made.under in
-      let under2 = subst (λ (x : List Entry). AreUnder m x q.s q.above at) start under1 in
-      let under3 = subst (λ x. AreUnder m table.start x q.above at) is.s_is under2 in
-      let under : AreUnder m table.start s k at = subst (λ x. AreUnder m table.start s x at) is.above_is under3 in
+      let under1 = subst (λ (x : Checked). AreBefore (over x) q.start q.s q.above at) is.resolved_is made.under in
+      let under2 = subst (λ x. AreBefore m q.start x q.above at) is.s_is under1 in
+      let under3 = subst (λ x. AreBefore m q.start s x at) is.above_is under2 in
+      let under : AreBefore m table.start s k at = record {
+        before = λ j l. is_of-beneath m q.start table.start s j (at s j) (λ a b p r. is.beneath a b p (omega arith)) (under3.before j l);
+        below = λ i j e l. is_of-beneath m q.start table.start i j (at i j) (λ a b p r. is.beneath a b (omega arith) (omega arith)) (under3.below i j e l);
+      } in
       let quasi1 = subst (λ (x : Checked). IsQuasi (over x) (row_below at q.s q.above) (squares_below at q.s q.above) q.content r) is.resolved_is made.quasi in
       let quasi2 = subst (λ x. IsQuasi m (row_below at x q.above) (squares_below at x q.above) q.content r) is.s_is quasi1 in
       let quasi3 = subst (λ x. IsQuasi m (row_below at s x) (squares_below at s x) q.content r) is.above_is quasi2 in
@@ -79,5 +80,5 @@ module _ (table : Staircase) (h : IsTable table) (s k : ℕ) (q : Placed) (r : R
       let quasi5 = subst (λ (x : Option (List Content)). IsQuasi m x (squares_below at s k) (content_at table.rows s k) r) below quasi4 in
       subst (λ (x : List Content). IsQuasi m (below_of (plain_rows table.rows) s k) x (content_at table.rows s k) r) before quasi5
 
-pub kept_found : (table : Staircase) → IsTable table → (s : ℕ) (t : ℤ) (q : Placed) (r : Reduction) → IsFound table s t q → IsSquare q → KeptWhereMade q → q.quasi ≡ Some r → IsQuasiAt table s t r
-kept_found table h s t q r f square where_made kept = record { above = f.above; degree = f.degree; quasi = kept_here table h s f.above q r f.there square where_made kept }
+pub kept_found : (table : Staircase) → IsTable table → (s : ℕ) (t : ℤ) (q : Placed) (r : Reduction) → IsFound table s t q → IsSquare q → q.quasi ≡ Some r → IsQuasiAt table s t r
+kept_found table h s t q r f square kept = record { above = f.above; degree = f.degree; quasi = kept_here table h s f.above q r f.there square kept }

@@ -6,10 +6,10 @@ use Rattle.std.proofs.lemmas.List.{length-map, length-take-le, get_or-take, take
 use Rattle.finite_module.specs.Module.{width}
 use Rattle.finite_module.specs.Checked.{Checked}
 use Rattle.resolution_laws.specs.Resolution.{Content, square_in, row_of, below_of, degrees_from, IsStep}
-use Rattle.resolution_laws.specs.Start.{Entry, entry_at, HasShape, squares_below, row_below, IsOf, is_of}
+use Rattle.resolution_laws.specs.Start.{Entry, entry_at, HasShape, squares_below, row_below, IsOf, is_of, AreBefore}
 use Rattle.resolution_laws.proofs.StartLaws.{squares_below-take, grown_content, entry_at-new}
 use Rattle.square.specs.declared.range.TheConstants.{MAX_S, MAX_T}
-use Rattle.square.specs.Squares.{Placed, content_of, AreUnder, IsMeasured, target_width, source_width, over, bottom_of}
+use Rattle.square.specs.Squares.{Placed, content_of, IsMeasured, target_width, source_width, over, bottom_of}
 use Rattle.square.specs.Tables.{Staircase, Footing, contents, row_in, plain_rows, content_at, row_width, next_width, under_row, AreOfRow, IsNext, IsTable, IsFooting, IsReadable}
 use Rattle.square.proofs.RowWidths.{free_width-more, free_width-row}
 
@@ -55,7 +55,7 @@ table_below rows (suc i) k l =
     let more = l i refl in
     ap (λ (x : List Content). Some x) (squares_below-take (content_at rows) i (suc k) (row_of (plain_rows rows) i) (omega arith) (λ j b. refl))
 
-pub table_under : (table : Staircase) → IsTable table → (s k : ℕ) → k ≤ length (row_in table.rows s) → ((i : ℕ) → suc i ≡ s → k < length (row_in table.rows i)) → AreUnder (over table.resolved) table.start s k (content_at table.rows)
+pub table_under : (table : Staircase) → IsTable table → (s k : ℕ) → k ≤ length (row_in table.rows s) → ((i : ℕ) → suc i ≡ s → k < length (row_in table.rows i)) → AreBefore (over table.resolved) table.start s k (content_at table.rows)
 table_under table h s k l below = record {
   before = λ j b. table_content table h s j (omega arith);
   below = λ i j e b. let more = below i e in table_content table h i j (omega arith);
@@ -114,7 +114,7 @@ read_square table s k c h row degree next shape t at_t =
     let before = table_before table.rows s k (omega arith) in
     let below = table_below table.rows s k next.below in
     let under = table_under table h s k (omega arith) next.below in
-    let grown : AreUnder m (table.start ++ e ∷ []) s k at = record {
+    let grown : AreBefore m (table.start ++ e ∷ []) s k at = record {
       before = λ j l. grown_content m table.start e s j (at s j) (λ p q. omega arith) (under.before j l);
       below = λ i j d l. grown_content m table.start e i j (at i j) (λ p q. omega arith) (under.below i j d l);
     } in
@@ -134,7 +134,7 @@ read_square table s k c h row degree next shape t at_t =
       };
       degree = at_t;
       widths = record { at = at; under = grown; target = w; source = ap (λ x. source_width m x c) (sym before) };
-      where_made = (λ e. subst IsSome (sym new) refl, λ read. refl);
+      where_made = λ unread. absurd (unread (subst IsSome (sym new) refl));
     }
 
 -- the same for the parts of a square

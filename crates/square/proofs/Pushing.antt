@@ -121,32 +121,42 @@ module _ (table : Staircase) (q : Placed) (spare : ℕ) (h : IsTable table) (squ
 
   -- what was there stays as it was
   abbrev Stands : ℕ → ℕ → Content → Type 0
-  Stands i j c = IsOf (over table.resolved) q.start i j c × (entry_at q.start i j ≡ entry_at table.start i j)
+  Stands i j c = IsOf (over table.resolved) q.start i j c × ((a b : ℕ) → a ≤ i → b ≤ j → entry_at q.start a b ≡ entry_at table.start a b)
 
   stands : IsContinued table q → (i j : ℕ) (c : Content) → j < length (row_in table.rows i) → IsOf (over table.resolved) table.start i j c → Stands i j c
   stands continued i j c there is =
       elim continued [
-        | inl e ↦ (subst (λ st. IsOf (over table.resolved) st i j c) (sym e) is, ap (λ (st : List Entry). entry_at st i j) e)
+        | inl e ↦ (subst (λ st. IsOf (over table.resolved) st i j c) (sym e) is, λ a b p l. ap (λ (st : List Entry). entry_at st a b) e)
         | inr e ↦
             let off = off_next table h q.s q.above i j row_end there in
-            let P : List Entry → Type 0 = λ st. IsOf (over table.resolved) st i j c in
-            let other = entry_at-other table.start (entry_of q) i j (λ a b. off (omega arith) (omega arith)) in
-            (subst P (sym e.1) (grown_content (over table.resolved) table.start (entry_of q) i j c off is), ap (λ (st : List Entry). entry_at st i j) e.1 ∙ other)
+            let P : List Entry → Type 0 = λ st. IsOf (over table.resolved) st i j c in (
+              subst P (sym e.1) (grown_content (over table.resolved) table.start (entry_of q) i j c off is),
+              λ a b p l. ap (λ (st : List Entry). entry_at st a b) e.1 ∙ entry_at-other table.start (entry_of q) a b (λ x y. off (omega arith) (omega arith)),
+            )
       ]
 
   still : IsContinued table q → (i j : ℕ) (p : Placed) → slice_get (row_in table.rows i) j ≡ Some p → entry_at q.start i j ≡ entry_at table.start i j → entry_at q.start i j ≡ None → p.start ≡ q.start
   still continued i j p e same none =
       let is = h.placed i j p e in
+      let here = is.beneath i j (omega arith) (omega arith) in
       elim continued [
         | inl st ↦ is.start_is (sym same ∙ none) ∙ sym st
-        | inr st ↦ absurd (not_absent p q.start i j (st.0 i j p e) is.s_is is.above_is (is.entry_is ∙ sym same) none)
+        | inr st ↦ absurd (not_absent p q.start i j (st.0 i j p e) is.s_is is.above_is (here ∙ sym same) none)
       ]
 
   old_in : IsContinued table q → (i j : ℕ) (p : Placed) → slice_get (row_in table.rows i) j ≡ Some p → IsIn more i j p
   old_in continued i j p e =
       let is = h.placed i j p e in
       let s = stands continued i j p.content (slice_get_within (row_in table.rows i) j p e) is.is_of in
-      record { s_is = is.s_is; above_is = is.above_is; within = is.within; resolved_is = is.resolved_is; is_of = s.0; entry_is = is.entry_is ∙ sym s.1; start_is = still continued i j p e s.1 }
+      record {
+        s_is = is.s_is;
+        above_is = is.above_is;
+        within = is.within;
+        resolved_is = is.resolved_is;
+        is_of = s.0;
+        beneath = λ a b p l. is.beneath a b p l ∙ sym (s.1 a b p l);
+        start_is = still continued i j p e (s.1 i j (omega arith) (omega arith));
+      }
 
   new_in : IsIn more q.s q.above q
   new_in = record {
@@ -155,7 +165,7 @@ module _ (table : Staircase) (q : Placed) (spare : ℕ) (h : IsTable table) (squ
     within = square.degree;
     resolved_is = resolved;
     is_of = subst (λ (m : Checked). IsOf (over m) q.start q.s q.above q.content) resolved square.is_of;
-    entry_is = refl;
+    beneath = λ i j p l. refl;
     start_is = λ none. refl;
   }
 
@@ -259,6 +269,6 @@ IsTable-room resolved start rows rows' spare spare' e h =
     subst P (sym e) (record {
       rows = h.rows;
       never_rise = h.never_rise;
-      placed = λ s k q there. let is = h.placed s k q there in record { s_is = is.s_is; above_is = is.above_is; within = is.within; resolved_is = is.resolved_is; is_of = is.is_of; entry_is = is.entry_is; start_is = is.start_is };
+      placed = λ s k q there. let is = h.placed s k q there in record { s_is = is.s_is; above_is = is.above_is; within = is.within; resolved_is = is.resolved_is; is_of = is.is_of; beneath = is.beneath; start_is = is.start_is };
       started = h.started;
     })

@@ -1,5 +1,5 @@
 -- A square of a resolution: its module, its place, what it holds, and what is known of it.
-use Rattle.std.specs.Prelude.{◌≡◌, ℕ, suc, ◌<◌, ◌≤◌, ℤ, pos, ◌+ℤ◌, Bool, List, ◌++◌, length, replicate, Option, None, IfSome, IsSome, ◌↔◌}
+use Rattle.std.specs.Prelude.{◌≡◌, ℕ, ◌≤◌, ℤ, pos, ◌+ℤ◌, Bool, List, ◌++◌, length, replicate, Option, IfSome, IsSome}
 use Rattle.f2_matrix.specs.Reduction.{Reduction, IsReductionOf}
 use Rattle.free_module.specs.FreeModule.{free_width}
 use Rattle.free_module.specs.LinearMap.{map_rows}
@@ -7,7 +7,7 @@ use Rattle.finite_module.specs.Module.{Module as SteenrodModule, bottom}
 use Rattle.finite_module.specs.Graded.{module_graded}
 use Rattle.finite_module.specs.Checked.{Checked}
 use Rattle.resolution_laws.specs.Resolution.{Module, Content, degrees_from, images_of, target_over}
-use Rattle.resolution_laws.specs.Start.{Entry, entry_at, squares_below, row_below, IsOf}
+use Rattle.resolution_laws.specs.Start.{Entry, entry_at, squares_below, row_below, IsOf, AreBefore}
 use Rattle.square.specs.declared.range.TheConstants.{MAX_S, MAX_T}
 
 -- what is resolved of a module
@@ -70,16 +70,10 @@ content_of q = q.content
 abbrev pub entry_of : Placed → Entry
 entry_of q = record { s = q.s; above = q.above; content = q.content }
 
--- at gives the squares of the start's table that (s, k) stands on: those of its row before it, and those of the row below
--- through k
-pub record AreUnder (m : Module) (start : List Entry) (s k : ℕ) (at : ℕ → ℕ → Content) : Type 0 where
-  pub before : (j : ℕ) → j < k → IsOf m start s j (at s j)
-  pub below : (i j : ℕ) → suc i ≡ s → j ≤ k → IsOf m start i j (at i j)
-
 -- the dimensions, in the square's degree, of what d_s goes to and of F_s with its generators
 pub record AreWidths (q : Placed) (w v : ℕ) : Type 0 where
   pub at : ℕ → ℕ → Content
-  pub under : AreUnder (over q.resolved) q.start q.s q.above at
+  pub under : AreBefore (over q.resolved) q.start q.s q.above at
   pub target : w ≡ target_width (over q.resolved) (row_below at q.s q.above) (squares_below at q.s q.above)
   pub source : v ≡ source_width (over q.resolved) (squares_below at q.s q.above) q.content
 
@@ -87,11 +81,12 @@ pub record AreWidths (q : Placed) (w v : ℕ) : Type 0 where
 abbrev pub WasRead : Placed → Type 0
 WasRead q = IsSome (entry_at q.start q.s q.above)
 
--- reduction is that of the square's matrix
+-- reduction is that of the square's matrix, and its kernel rows are the square's
 pub record IsKeptOf (q : Placed) (reduction : Reduction) : Type 0 where
   pub at : ℕ → ℕ → Content
-  pub under : AreUnder (over q.resolved) q.start q.s q.above at
+  pub under : AreBefore (over q.resolved) q.start q.s q.above at
   pub quasi : IsQuasi (over q.resolved) (row_below at q.s q.above) (squares_below at q.s q.above) q.content reduction
+  pub kernel : reduction.kernel ≡ q.content.kernel
 
 -- What is known of each square: it holds what its start's table has there, which is what the start has where it was read; it is
 -- within the limits; and the reduction that it kept, if any, is that of its matrix.
@@ -101,11 +96,11 @@ pub record IsSquare (q : Placed) : Type 0 where
   pub degree : q.above ≤ MAX_T
   pub kept : IfSome q.quasi (IsKeptOf q)
 
--- the square has kept a reduction exactly where it was made
+-- a square that was made, not read, has kept a reduction
 abbrev pub KeptWhereMade : Placed → Type 0
-KeptWhereMade q = (q.quasi ≡ None) ↔ WasRead q
+KeptWhereMade q = (WasRead q → ⊥) → IsSome q.quasi
 
--- the same, with the square's degree and its widths, and where it has kept its reduction
+-- the same, with the square's degree and its widths, and that it has kept a reduction where it was made
 pub record IsMeasured (q : Placed) (t : ℤ) (w v : ℕ) : Type 0 where
   pub square : IsSquare q
   pub degree : t ≡ bottom_of q.resolved +ℤ pos q.above

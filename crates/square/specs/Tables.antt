@@ -118,14 +118,14 @@ pub record IsQuasiAt (table : Staircase) (s : ℕ) (t : ℤ) (reduction : Reduct
       (take above (row_of (plain_rows table.rows) s)) (content_at table.rows s above) reduction
 
 -- what is known of the square at (s, k) of a table: its place and its module, what it holds, that the table's start has the same
--- at its place as its own, and that its own is the whole start where it was made
+-- as its own at its place and at each place beneath it, and that its own is the whole start where it was made
 pub record IsIn (table : Staircase) (s k : ℕ) (q : Placed) : Type 0 where
   pub s_is : q.s ≡ s
   pub above_is : q.above ≡ k
   pub within : k ≤ MAX_T
   pub resolved_is : q.resolved ≡ table.resolved
   pub is_of : IsOf (over table.resolved) table.start s k q.content
-  pub entry_is : entry_at q.start s k ≡ entry_at table.start s k
+  pub beneath : (i j : ℕ) → i ≤ s → j ≤ k → entry_at q.start i j ≡ entry_at table.start i j
   pub start_is : entry_at table.start s k ≡ None → q.start ≡ table.start
 
 -- What is known of each table: it has a row for each s, of lengths that never rise, squares stand at their places, and each that was

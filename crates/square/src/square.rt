@@ -196,7 +196,7 @@ impl Square {
         self.kernel.shared(alloc)
     }
 
-    /// The reduction of the matrix of d_s in its degree, where it was made.
+    /// The reduction of the matrix of d_s in its degree, if it has kept it. A square that was made always has.
     pub fn kept_quasi(&self) -> Option<&Reduced>
         ensures kept { option_map (λ r. r.now) result ≡ self.now.quasi }
         ensures where_made { KeptWhereMade self.now }

@@ -80,8 +80,40 @@ impl Table {
           spare = 0;
         }) }
     {
-        let module = Arc::new(alloc, module)?;
         let basis = Arc::new(alloc, Basis::new(alloc, MAX_T)?)?;
+        Table::over(alloc, module, basis)
+    }
+
+    /// The table of no square of another module, which shares the Milnor bases of this one and the products that are
+    /// kept with them.
+    ///
+    /// # Errors
+    /// `Memory` if allocation fails, or if there are too many owners to count.
+    pub fn beside(&self, alloc: Global, module: Module) -> Result<Table, Memory>
+        ensures { IfOk result (λ table. table ≡ record {
+          resolved = «module»;
+          start = [];
+          rows = replicate (MAX_S + 1) [];
+          spare = 0;
+        }) }
+    {
+        let Ok(basis) = Arc::try_clone(&self.basis) else {
+            return Err(Memory);
+        };
+        Table::over(alloc, module, basis)
+    }
+
+    /// The table of no square of this module, with these bases.
+    fn over(alloc: Global, module: Module, basis: Arc<Basis>) -> Result<Table, Memory>
+        requires { arc_value basis ≡ MAX_T }
+        ensures { IfOk result (λ table. table ≡ record {
+          resolved = «module»;
+          start = [];
+          rows = replicate (MAX_S + 1) [];
+          spare = 0;
+        }) }
+    {
+        let module = Arc::new(alloc, module)?;
         let rows = empty_rows(alloc)?;
         Ok(Table {
             module,

@@ -5,7 +5,7 @@ use Rattle.std.proofs.lemmas.Result.{IfOk-weaker}
 use Rattle.std.specs.Arc.{arc_value}
 use Rattle.f2_matrix.specs.Reduction.{Reduction}
 use Rattle.resolution_laws.specs.Resolution.{row_of, below_of}
-use Rattle.square.specs.Squares.{Placed, IsQuasi, IsSquare, KeptWhereMade, over, bottom_of}
+use Rattle.square.specs.Squares.{Placed, IsQuasi, IsSquare, over, bottom_of}
 use Rattle.square.specs.Tables.{row_in, plain_rows, content_at, IsQuasiAt}
 use Rattle.square.proofs.Found.{IsFound, square_found, row_within, kept_found}
 use Rattle.square.proofs.table.Table.quasi.Goals as goal
@@ -32,9 +32,8 @@ returns-in-Some c =
     let q = arc_value c.there-square.result.now in
     let found : IsFound c.args.self.now c.args.s c.args.t q = subst (λ x. IsFound c.args.self.now c.args.s x q) (to_z-of_z w32 c.args.t c.ranges.t) (square_found c.args.self.now c.args.s _ q c.there-square.ensures.square) in
     let square : IsSquare q = subst IsSquare c.deref.ensures c.kept_quasi.ensures.is_square in
-    let where_made : KeptWhereMade q = subst KeptWhereMade c.deref.ensures c.kept_quasi.ensures.where_made in
     let kept = ap (λ (x : Placed). x.quasi) (sym c.deref.ensures) ∙ sym c.in-Some.ensures.kept in
-    let quasi = kept_found c.args.self.now c.there-square.ensures.is_table c.args.s c.args.t q c.in-Some.kept.now found square where_made kept in
+    let quasi = kept_found c.args.self.now c.there-square.ensures.is_table c.args.s c.args.t q c.in-Some.kept.now found square kept in
     IfOk-weaker c.try_copy.result (λ (r : Reduction). r ≡ c.in-Some.kept.now) (IsQuasiAt c.args.self.now c.args.s c.args.t) (λ r e. subst (IsQuasiAt c.args.self.now c.args.s c.args.t) (sym e) quasi) c.try_copy.ensures
 
 pub returns-in-None : goal.returns-in-None
