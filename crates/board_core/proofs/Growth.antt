@@ -3,7 +3,7 @@ use Rattle.std.proofs.Common.{◌≡◌, ℕ, zero, suc, ◌+◌, ◌≤◌, Boo
 use Rattle.std.proofs.lemmas.Bool.{cases_Bool}
 use Rattle.board_core.specs.declared.event.Entry.{Entry}
 use Rattle.board_core.specs.declared.event.Entry.TheVariants.{Take, Give, Back, Fail}
-use Rattle.board_core.specs.Laws.{HasGrown}
+use Rattle.board_core.specs.Laws.{HasMoreDone}
 use Rattle.board_core.specs.Entries.{IsEntryHistory, after_entry}
 use Rattle.board_core.specs.Machine.{State, IsNumber, count_below, height}
 use Rattle.board_core.specs.Machine.IsHistory.{nothing, then}
@@ -45,7 +45,7 @@ number_grows p q m n h at more =
     let count_more = more.count in
     omega arith
 
-pub grown : (first : State) (events : List Entry) (last : State) → IsEntryHistory first events last → HasGrown first last
+pub grown : (first : State) (events : List Entry) (last : State) → IsEntryHistory first events last → HasMoreDone first last
 grown first events last history =
     let stays = stays_done first events last history in
     record { stays = stays; rows = λ s m n at more. number_grows (first.done s) (last.done s) m n (stays s) at more }

@@ -158,14 +158,14 @@ CauseIsTheFirst = (bottom : ℤ) (s t : ℕ) (start : List (ℕ × ℤ)) (events
     IsReachedByEntries bottom s t start events state → state.cause ≡ first_cause events
 
 -- what was done is done still, and no row has fewer squares done
-pub record HasGrown (first last : State) : Type 0 where
+pub record HasMoreDone (first last : State) : Type 0 where
   pub stays : (s k : ℕ) → first.done s k ≡ true → last.done s k ≡ true
   pub rows : (s m n : ℕ) → IsRowNumber first.done s m → IsRowNumber last.done s n → m ≤ n
 
 -- No event takes a square from those that are done.
 abbrev pub DoneSquaresGrow : Type 0
 DoneSquaresGrow = (first : State) (events : List Entry) (last : State) → IsEntryHistory first events last →
-    HasGrown first last
+    HasMoreDone first last
 
 -- A history has at most two events for each square of the range that the opening leaves unfinished.
 abbrev pub HistoryIsShort : Type 0

@@ -12,10 +12,9 @@ use Rattle.finite_module.specs.DerivedAction.{derived_module}
 use Rattle.finite_module.specs.Graded.{ModulesAreSteenrodModules}
 use Rattle.resolution_laws.specs.Resolution.{Content, IsCanonicalTable, CanonicalTableIsUnique}
 use Rattle.resolution_laws.specs.Exactness.{CanonicalTableIsMinimalResolution}
-use Rattle.resolution_step.specs.Alone.{cut}
 use Rattle.square.specs.declared.range.Range.{Range}
 use Rattle.square.specs.Squares.{over, bottom_of, module_over}
-use Rattle.square.specs.Tables.{Staircase, plain_rows, content_at, IsTable, IsThrough}
+use Rattle.square.specs.Tables.{Staircase, plain_rows, content_at, IsTable, IsThrough, cut}
 use Rattle.lift_laws.specs.Lifts.{IsCanonical, IsSphere}
 use Rattle.lift_laws.specs.Products.{Class as ClassAbove, count_of, LiftsGiveOneProduct}
 use Rattle.chain_map.specs.declared.class.Class.{Class}

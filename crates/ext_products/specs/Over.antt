@@ -3,10 +3,9 @@ use Rattle.std.specs.Prelude.{ℕ, List, Result, Err}
 use Rattle.finite_module.specs.Checked.{sphere_file}
 use Rattle.finite_module.specs.DerivedAction.{derived_module}
 use Rattle.resolution_laws.specs.Resolution.{Content, IsCanonicalTable}
-use Rattle.resolution_step.specs.Alone.{cut}
 use Rattle.square.specs.declared.range.Range.{Range}
 use Rattle.square.specs.Squares.{over, module_over}
-use Rattle.square.specs.Tables.{Staircase, plain_rows}
+use Rattle.square.specs.Tables.{Staircase, plain_rows, cut}
 use Rattle.lift_laws.specs.Lifts.{Resolution}
 use Rattle.chain_map.specs.declared.class.Class.{Class}
 use Rattle.yoneda.specs.Products.{IsAllCanonical}

@@ -12,12 +12,12 @@ use Rattle.resolution_laws.specs.Start.{Entry, entry_at, IsOf, IsCanonicalStart}
 use Rattle.resolution_laws.proofs.StartLaws.{canonical_content}
 use Rattle.square.specs.declared.range.Range.{Range}
 use Rattle.square.specs.Squares.{Placed, over}
-use Rattle.square.specs.Tables.{Staircase, row_in, plain_rows, IsThrough}
+use Rattle.square.specs.Tables.{Staircase, row_in, plain_rows, IsThrough, cut}
 use Rattle.square.specs.Growing.{HasGrown}
 use Rattle.square.proofs.Places.{slice_get-there, content_at-is}
 use Rattle.square.specs.Keeping.{Keeper, HoldsTable, IsKeeperOf, HasKept}
 use Rattle.std.specs.List.{All}
-use Rattle.resolution_step.specs.Alone.{cut, AreOfStart, IsInRange}
+use Rattle.resolution_step.specs.Alone.{AreOfStart, IsInRange}
 use Rattle.yoneda.specs.Products.{IsAllCanonical}
 use Rattle.ext_run.specs.declared.failure.Failure.{Failure}
 use Rattle.ext_run.specs.declared.failure.Failure.TheVariants.{Saving, Memory}

@@ -5,8 +5,7 @@ use Rattle.resolution_laws.specs.Resolution.{Content, IsCanonicalTable, row_of, 
 use Rattle.square.specs.declared.range.Range.{Range}
 use Rattle.lift_laws.specs.Lifts.{Resolution}
 use Rattle.square.specs.Squares.{bottom_of, module_over}
-use Rattle.square.specs.Tables.{Staircase, plain_rows, IsThrough}
-use Rattle.resolution_step.specs.Alone.{cut}
+use Rattle.square.specs.Tables.{Staircase, plain_rows, IsThrough, cut}
 use Rattle.resolution_step.proofs.Canonical.{row_of-cut}
 use Rattle.ext_chart.specs.Chart.{chart_text}
 use Rattle.ext_chart.specs.Dump.{dump_text}

@@ -2,8 +2,7 @@
 ghost use Rattle.std.specs.Prelude.{◌≡◌, ◌≤◌, ◌<◌, ◌⊎◌, IfErr};
 ghost use Rattle.square.specs.declared.range.TheConstants.{MAX_S, MAX_T};
 ghost use Rattle.square.specs.Keeping.{IsKeeperOf};
-ghost use Rattle.square.specs.Tables.{plain_rows, IsThrough};
-ghost use Rattle.resolution_step.specs.Alone.{cut};
+ghost use Rattle.square.specs.Tables.{plain_rows, IsThrough, cut};
 ghost use Rattle.ext_run.specs.Answer.{IsResolved, IsOfClasses};
 ghost use Rattle.yoneda.specs.Products.{IsAllCanonical};
 ghost use Rattle.ext_words.specs.Words.{IsWithin};

@@ -6,7 +6,7 @@ use Rattle.f2_vec.specs.Spans.{row, IsInSpan}
 use Rattle.f2_matrix.specs.Echelon.{IsRowBasis}
 use Rattle.square.specs.declared.range.Range.{Range}
 use Rattle.square.specs.Squares.{over, bottom_of}
-use Rattle.square.specs.Tables.{Staircase, plain_rows, content_at, IsTable, IsThrough}
+use Rattle.square.specs.Tables.{Staircase, plain_rows, content_at, cut, IsTable, IsThrough}
 use Rattle.lift_laws.specs.Lifts.{Resolution, IsSphere}
 use Rattle.lift_laws.specs.Products.{Class as ClassAbove, count_of, degree_of_class, coefficient_of, on_square, product_by}
 use Rattle.bracket_laws.specs.Brackets.{IsNullHomotopy, composed, top_of, IsBracketMember, IsIndeterminacy}
@@ -23,10 +23,7 @@ use Rattle.massey.specs.Refusals.{refusal_of, AreFound, AreInside, AreSmall}
 
 -- the resolution of a table's module through the range
 abbrev pub through : Range → Staircase → Resolution
-through range table = record {
-  base = over table.resolved;
-  table = map (take (range.t + 1)) (take (range.s + 1) (plain_rows table.rows));
-}
+through range table = record { base = over table.resolved; table = cut range (plain_rows table.rows) }
 
 -- how many degrees the bracket is above the bottom, and ab, and bc
 abbrev pub above_of : Places → ℕ

@@ -7,11 +7,11 @@ use Rattle.resolution_laws.specs.Start.{Entry, IsOf, IsCanonicalStart}
 use Rattle.resolution_laws.proofs.StartLaws.{canonical_content, canonical_from_contents}
 use Rattle.square.specs.declared.range.Range.{Range}
 use Rattle.square.specs.Squares.{Placed, over}
-use Rattle.square.specs.Tables.{Staircase, contents, row_in, plain_rows, content_at, IsThrough}
+use Rattle.square.specs.Tables.{Staircase, contents, row_in, plain_rows, content_at, IsThrough, cut}
 use Rattle.square.proofs.Places.{length-row_of, slice_get-there, content_at-is}
 use Rattle.square.proofs.Found.{row_within}
 use Rattle.square.specs.Growing.{HasGrown}
-use Rattle.resolution_step.specs.Alone.{cut, AreOfStart}
+use Rattle.resolution_step.specs.Alone.{AreOfStart}
 
 -- the rows of the range
 module _ (range : Range) (rows : List (List Placed)) (through : IsThrough range rows) where

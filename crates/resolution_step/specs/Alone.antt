@@ -5,15 +5,11 @@ use Rattle.resolution_laws.specs.Resolution.{Module, Content, IsCanonicalTable}
 use Rattle.resolution_laws.specs.Start.{Entry, IsOf, IsCanonicalStart}
 use Rattle.square.specs.declared.range.Range.{Range}
 use Rattle.square.specs.Squares.{Placed, over}
-use Rattle.square.specs.Tables.{Staircase, row_in, plain_rows, IsThrough}
+use Rattle.square.specs.Tables.{Staircase, row_in, plain_rows, cut, IsThrough}
 use Rattle.square.specs.Growing.{HasGrown}
 use Rattle.square.specs.Keeping.{Keeper, HasKept, HasFared}
 
 -- ---- tables
-
--- the contents of the squares of the range
-abbrev pub cut : Range → List (List Content) → List (List Content)
-cut range rows = map (take (range.t + 1)) (take (range.s + 1) rows)
 
 -- each square of the table is that of its start's table
 abbrev pub AreOfStart : Staircase → Type 0

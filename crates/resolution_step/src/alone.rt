@@ -4,9 +4,9 @@ ghost use Rattle.resolution_laws.specs.Resolution.{IsCanonicalTable};
 ghost use Rattle.square.specs.declared.keep.KeepFault as KeepFault;
 ghost use Rattle.square.specs.declared.range.TheConstants.{MAX_S, MAX_T};
 ghost use Rattle.square.specs.Squares.{over};
-ghost use Rattle.square.specs.Tables.{row_in, plain_rows, IsThrough, IsNextAt};
+ghost use Rattle.square.specs.Tables.{row_in, plain_rows, cut, IsThrough, IsNextAt};
 ghost use Rattle.square.specs.Keeping.{IsKeeperOf, HasFared};
-ghost use Rattle.resolution_step.specs.Alone.{cut, AreOfStart, IsInRange, IsBefore, HasResolved};
+ghost use Rattle.resolution_step.specs.Alone.{AreOfStart, IsInRange, IsBefore, HasResolved};
 ghost use Rattle.resolution_step.specs.Inside.Adding.{IsNewAt, IsEndOf, IsInRow, HasAdded};
 
 use crate::step_on::step;

@@ -4,7 +4,7 @@ use Rattle.std.specs.Option.{unwrap_or}
 use Rattle.f2_vec.specs.Spans.{HaveWidth}
 use Rattle.f2_matrix.proofs.Unique.{kernel_basis_unique}
 use Rattle.resolution_laws.specs.Resolution.{Module, no_content}
-use Rattle.resolution_laws.specs.Start.{Entry, entry_at, HasShape, squares_below, row_below, IsOf, AreOf, AreBefore}
+use Rattle.resolution_laws.specs.Start.{Entry, entry_at, HasShape, squares_below, row_below, IsOf, AreOf}
 use Rattle.resolution_laws.proofs.StartLaws.{content_is_unique, squares_below-same, row_below-same, listed_is_of}
 use Rattle.resolution_laws.proofs.StartTables.{start_table_shape}
 use Rattle.square.specs.Squares.{Placed, entry_of, target_width, width_with, over, AreWidths, IsSquare}
@@ -54,8 +54,7 @@ read_as q w v bytes square widths narrow narrow' is list are closed next =
     squares_below-same at (content_in list) q.s q.above (λ j l. content_is_unique kernel_basis_unique m q.start q.s j _ _ (widths.under.before j l) (there_of m q.start list are q.s j (before_there list q closed next j l))) in
     let under : row_below at q.s q.above ≡ row_below (content_in list) q.s q.above =
     row_below-same at (content_in list) q.s q.above (λ i j e l. content_is_unique kernel_basis_unique m q.start i j _ _ (widths.under.below i j e l) (there_of m q.start list are i j (below_there list q closed next i j e l))) in
-    let before : AreBefore m q.start q.s q.above at = record { before = widths.under.before; below = widths.under.below } in
-    let shape : HasShape m (row_below at q.s q.above) (squares_below at q.s q.above) q.content = start_table_shape kernel_basis_unique m q.start q.s q.above at q.content before square.is_of in
+    let shape : HasShape m (row_below at q.s q.above) (squares_below at q.s q.above) q.content = start_table_shape kernel_basis_unique m q.start q.s q.above at q.content widths.under square.is_of in
     let target : w ≡ target_dim m list q.s q.above = widths.target ∙ ap (λ x. target_width m x (squares_below at q.s q.above)) under ∙ ap (λ x. target_width m (row_below (content_in list) q.s q.above) x) left in
     let source : v ≡ source_dim m list q.s q.above (length q.content.images) = widths.source ∙ ap (λ x. width_with m x (length q.content.images)) left in
     let wide : HaveWidth w q.content.images = subst (λ n. HaveWidth n q.content.images) (sym widths.target) shape.image_widths in

@@ -63,6 +63,10 @@ AllRead rows = (s k : ℕ) (q : Placed) → slice_get (row_in rows s) k ≡ Some
 abbrev pub IsThrough : Range → List (List Placed) → Type 0
 IsThrough range rows = (s : ℕ) → s ≤ range.s → range.t < length (row_in rows s)
 
+-- the part of a table in a range
+abbrev pub cut : Range → List (List Content) → List (List Content)
+cut range rows = map (take (range.t + 1)) (take (range.s + 1) rows)
+
 -- the square (s, k) is not there, and those that it stands on, (s, k - 1) and (s - 1, k), are
 pub record IsNext (rows : List (List Placed)) (s k : ℕ) : Type 0 where
   pub absent : length (row_in rows s) ≤ k

@@ -19,10 +19,10 @@ use Rattle.resolution_laws.specs.Resolution.{IsCanonicalTable}
 use Rattle.resolution_laws.specs.Start.{Entry, IsCanonicalStart}
 use Rattle.square.specs.declared.range.Range.{Range}
 use Rattle.square.specs.Squares.{over}
-use Rattle.square.specs.Tables.{Staircase, IsTable, IsThrough, row_in, plain_rows}
+use Rattle.square.specs.Tables.{Staircase, IsTable, IsThrough, row_in, plain_rows, cut}
 use Rattle.square.specs.Growing.{HasGrown}
 use Rattle.square.specs.Keeping.{Keeper}
-use Rattle.resolution_step.specs.Alone.{cut, AreNewAt, IsInRange}
+use Rattle.resolution_step.specs.Alone.{AreNewAt, IsInRange}
 use Rattle.resolution_step.proofs.Canonical.{IsCanonicalTable-cut}
 use Rattle.square_board.specs.declared.opening.Opening.{Opening}
 use Rattle.square_board.specs.Courses.{state_of}

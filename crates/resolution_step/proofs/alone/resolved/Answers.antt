@@ -7,9 +7,9 @@ use Rattle.resolution_laws.specs.Resolution.{IsCanonicalTable}
 use Rattle.resolution_laws.specs.Start.{Entry, IsCanonicalStart}
 use Rattle.square.specs.declared.range.TheConstants.{MAX_S}
 use Rattle.square.specs.Squares.{Placed, over}
-use Rattle.square.specs.Tables.{Staircase, row_in, plain_rows, IsThrough}
+use Rattle.square.specs.Tables.{Staircase, row_in, plain_rows, cut, IsThrough}
 use Rattle.square.specs.Growing.{HasGrown}
-use Rattle.resolution_step.specs.Alone.{cut, AreOfStart, AreNewAt, IsInRange}
+use Rattle.resolution_step.specs.Alone.{AreOfStart, AreNewAt, IsInRange}
 use Rattle.resolution_step.proofs.alone.resolved.Goals as goal
 
 pub returns-in-Ok-clause-module_is : goal.returns-in-Ok-clause-module_is

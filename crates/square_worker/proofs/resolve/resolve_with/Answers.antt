@@ -5,9 +5,9 @@ use Rattle.board_core.specs.declared.event.Cause.{Cause}
 use Rattle.board_core.specs.declared.event.Cause.TheVariants.{Failed, Memory}
 use Rattle.board_core.specs.declared.event.Entry.{Entry as Event}
 use Rattle.resolution_laws.specs.Resolution.{IsCanonicalTable}
-use Rattle.resolution_step.specs.Alone.{cut, AreNewAt, IsInRange}
+use Rattle.resolution_step.specs.Alone.{AreNewAt, IsInRange}
 use Rattle.square.specs.Squares.{over}
-use Rattle.square.specs.Tables.{Staircase, plain_rows}
+use Rattle.square.specs.Tables.{Staircase, plain_rows, cut}
 use Rattle.square.proofs.Kept.{IsSettled, HasKept-none}
 use Rattle.turn_lock.specs.Turns.{PassState}
 use Rattle.square_board.specs.declared.opening.Opening.{Opening}
