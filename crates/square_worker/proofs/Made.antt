@@ -6,7 +6,7 @@ use Rattle.std.proofs.lemmas.Option.{get_or_from_slice_get}
 use Rattle.board_core.specs.declared.event.Entry.{Entry as Event}
 use Rattle.turn_lock.specs.Turns.{TurnId, PassState, new_pass}
 use Rattle.square_board.specs.declared.opening.Opening.{Opening}
-use Rattle.square_worker.specs.Inside.Passes.{IsPassAt, AreItsPasses}
+use Rattle.square_worker.specs.Passes.{IsPassAt, AreItsPasses}
 
 module _ {K : Type 0} (board : TurnId (Opening K)) where
   new_at : (i : ℕ) → IsPassAt board i (new_pass board i)

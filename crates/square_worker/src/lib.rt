@@ -8,5 +8,7 @@ mod resolve;
 mod worker;
 
 pub use gate::{Gate, OpenGate};
+pub use joining::join_all;
+pub use outcome::conclude;
 pub use resolve::resolve_with;
 pub use worker::{WorkEnd, work};

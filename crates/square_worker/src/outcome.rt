@@ -1,18 +1,44 @@
 //! What a board came to, by its table and its history.
-ghost use Rattle.std.specs.Prelude.{◌≡◌, Some, None, OnOk, IfOk, IfErr};
+ghost use Rattle.std.specs.Prelude.{◌≡◌, OnOk, IfOk, IfErr, None};
 ghost use Rattle.board_core.specs.Laws.{first_cause};
+ghost use Rattle.board_core.specs.declared.event.Cause as Cause;
+ghost use Rattle.resolution_step.specs.Alone.{AreApart, HasResolved};
 ghost use Rattle.square.specs.Tables.{IsTable, IsThrough};
+ghost use Rattle.square_board.specs.Boards.{IsPassOf};
+ghost use Rattle.square_board.specs.Openings.{first_table};
 ghost use Rattle.square_worker.specs.Inside.Outcomes.{IsWhy};
+ghost use Rattle.turn_lock.specs.Turns.{HasAll};
 
 use board_core::Cause;
-use square::{Range, Table};
-use square_board::Entry;
+use square::{Keep, Range, Table};
+use square_board::{Board, BoardPass, Entry};
+
+/// Ends a board with the pass that all others were joined into. It gives the table, if all squares of the range are done, and the
+/// keeper.
+///
+/// # Errors
+/// `Failed` if the keeper failed; it is then no longer live. `Memory` if there was no memory for a square; the keeper is then
+/// live. The squares that were given are kept.
+pub fn conclude<K: Keep>(
+    board: Board<K>,
+    pass: BoardPass<K>,
+    range: Range,
+) -> (Result<Table, Cause>, K)
+    requires pass { IsPassOf board pass }
+    requires joined { HasAll pass }
+    requires range { board.name.range ≡ range }
+    ensures { HasResolved Cause.Failed Cause.Memory AreApart range (first_table board.name) result.0
+        (K.telling board.name.keeper.value) (K.telling result.1) }
+{
+    let (table, keeper, history) = board.close(pass);
+    (outcome(table, range, history.as_slice()), keeper)
+}
 
 /// The table, if all squares of the range are done and no cause stands after this history.
 ///
 /// # Errors
 /// The cause that stands, or `Memory` if none does. Then every worker stopped for lack of memory before it had a square.
-pub(crate) fn outcome(table: Table, range: Range, history: &[Entry]) -> Result<Table, Cause>
+fn outcome(table: Table, range: Range, history: &[Entry]) -> Result<Table, Cause>
     ensures same { IfOk result (λ more. more ≡ table) }
     ensures is_table { IsTable table }
     ensures through { OnOk result (IsThrough range table.rows) }

@@ -1,22 +1,15 @@
 //! A range resolved by several workers.
-ghost use Rattle.std.specs.Prelude.{◌≡◌, ℕ, ◌<◌, ◌≤◌, length, Err, IfOk, OnOk};
-ghost use Rattle.edge.specs.Faults.{HasRisen};
+ghost use Rattle.std.specs.Prelude.{◌≡◌, ◌<◌, ◌≤◌, length};
 ghost use Rattle.board_core.specs.declared.event.Cause as Cause;
-ghost use Rattle.resolution_laws.specs.Resolution.{IsCanonicalTable};
-ghost use Rattle.resolution_laws.specs.Start.{IsCanonicalStart};
-ghost use Rattle.resolution_step.specs.Alone.{AreOfStart, AreNewAt, IsInRange};
+ghost use Rattle.resolution_step.specs.Alone.{AreApart, HasResolved};
 ghost use Rattle.square.specs.declared.range.TheConstants.{MAX_S, MAX_T};
-ghost use Rattle.square.specs.Squares.{over};
-ghost use Rattle.square.specs.Tables.{plain_rows, IsThrough, cut};
-ghost use Rattle.square.specs.Growing.{HasGrown};
 ghost use Rattle.square.specs.Keeping.{IsKeeperOf};
 ghost use Rattle.square_board.specs.Boards.{IsPassOf};
-ghost use Rattle.square_worker.specs.Workers.{HasGivenOnce};
-ghost use Rattle.square_worker.specs.Inside.Passes.{AreItsPasses};
+ghost use Rattle.square_worker.specs.Passes.{AreItsPasses};
 
 use crate::gate::Gate;
-use crate::joining::joined;
-use crate::outcome::outcome;
+use crate::joining::join_all;
+use crate::outcome::conclude;
 use crate::worker::work;
 use board_core::Cause;
 use square::{Keep, Range, Table};
@@ -47,21 +40,7 @@ pub fn resolve_with<R: Threads + Wait + Clock + Sync, K: Keep + Send, G: Gate + 
     requires degrees { range.t ≤ MAX_T }
     requires live { (K.telling keeper).live }
     requires of_table { IsKeeperOf (K.telling keeper) table }
-    ensures through { IfOk result.0 (λ more. IsThrough range more.rows) }
-    ensures only { IfOk result.0 (λ more. AreNewAt (IsInRange range) table.rows more.rows) }
-    ensures grown { IfOk result.0 (HasGrown table) }
-    ensures are_of_start { IfOk result.0 AreOfStart }
-    ensures canonical { IsCanonicalStart (over table.resolved) table.start →
-        IfOk result.0
-        (λ more. IsCanonicalTable (over table.resolved) range.s range.t (cut range (plain_rows more.rows))) }
-    ensures live { OnOk result.0 (K.telling result.1).live }
-    ensures no_fault { OnOk result.0 ((K.telling result.1).faults ≡ (K.telling keeper).faults) }
-    ensures of_table { IfOk result.0 (IsKeeperOf (K.telling result.1)) }
-    ensures failed { result.0 ≡ Err Cause.Failed → HasRisen (K.telling keeper).faults (K.telling result.1).faults }
-    ensures dead { result.0 ≡ Err Cause.Failed → (K.telling result.1).live → ⊥ }
-    ensures memory { result.0 ≡ Err Cause.Memory → (K.telling result.1).faults ≡ (K.telling keeper).faults }
-    ensures lives { result.0 ≡ Err Cause.Memory → (K.telling result.1).live }
-    ensures given { HasGivenOnce (over table.resolved) table.start (IsInRange range) (K.telling keeper)
+    ensures { HasResolved Cause.Failed Cause.Memory AreApart range table result.0 (K.telling keeper)
         (K.telling result.1) }
 {
     let (board, mut passes) = match Board::new(alloc, table, range, keeper, workers) {
@@ -69,9 +48,8 @@ pub fn resolve_with<R: Threads + Wait + Clock + Sync, K: Keep + Send, G: Gate + 
         Err((_, keeper)) => return (Err(Cause::Memory), keeper),
     };
     work_in_threads(wait, alloc, &board, passes.as_mut_slice(), gate);
-    let pass = joined(&board, passes);
-    let (table, keeper, history) = board.close(pass);
-    (outcome(table, range, history.as_slice()), keeper)
+    let pass = join_all(&board, passes);
+    conclude(board, pass, range)
 }
 
 /// Each of these passes, which are all those of the board, works in a thread of its own.

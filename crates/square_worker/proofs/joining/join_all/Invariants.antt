@@ -1,8 +1,8 @@
 use Rattle.std.proofs.Common.{length}
 use Rattle.turn_lock.specs.Turns.{HasBetween}
 use Rattle.square_board.specs.Boards.{IsPassOf}
-use Rattle.square_worker.specs.Inside.Passes.{AreItsPasses}
-use Rattle.square_worker.proofs.joining.joined.Given as goal
+use Rattle.square_worker.specs.Passes.{AreItsPasses}
+use Rattle.square_worker.proofs.joining.join_all.Given as goal
 
 abbrev pub invariant-loop-other : goal.invariant-loop-other
 invariant-loop-other g l = record {

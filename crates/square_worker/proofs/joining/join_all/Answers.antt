@@ -5,7 +5,7 @@ use Rattle.turn_lock.specs.Turns.{PassState, TurnId, HasBetween}
 use Rattle.turn_lock.proofs.Numbers.{has_previous, has_all}
 use Rattle.square_board.specs.declared.opening.Opening.{Opening}
 use Rattle.square_worker.proofs.Passes.{others_are, last_is, one_more}
-use Rattle.square_worker.proofs.joining.joined.Goals as goal
+use Rattle.square_worker.proofs.joining.join_all.Goals as goal
 
 pub loop-other-preserved : goal.loop-other-preserved
 loop-other-preserved g c =
