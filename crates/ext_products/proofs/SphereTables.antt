@@ -1,6 +1,6 @@
 -- The module of one generator in degree 0 is what the sphere's resolution resolves.
 use Rattle.std.proofs.Common.{◌≡◌, ℤ, pos, List, [], length, refl, ap, sym, subst, ◌∙◌, arith}
-use Rattle.std.specs.Prelude.{Result, Ok, IfOk}
+use Rattle.std.specs.Prelude.{Result, Ok, Err, IfOk}
 use Rattle.finite_module.specs.Module.{Module as SteenrodModule, width}
 use Rattle.finite_module.specs.ModuleLaws.{numbers_from-none}
 use Rattle.finite_module.specs.DerivedAction.{derived_module}
@@ -9,11 +9,11 @@ use Rattle.module_json.specs.ModuleFile.{degree_at}
 use Rattle.resolution_laws.specs.Resolution.{Content}
 use Rattle.resolution_laws.specs.Start.{Entry, IsOf}
 use Rattle.resolution_step.specs.Alone.{AreOfStart}
-use Rattle.square.specs.Growing.{HasGrown}
 use Rattle.square.specs.Squares.{over}
-use Rattle.square.specs.Tables.{Staircase, row_in}
+use Rattle.square.specs.Tables.{Staircase, row_in, plain_rows}
 use Rattle.square.proofs.Places.{slice_get-there, content_at-is}
 use Rattle.lift_laws.specs.Lifts.{IsSphere}
+use Rattle.chain_map.specs.Lifting.{resolution_of}
 use Rattle.yoneda.specs.Products.{IsAllCanonical}
 use Rattle.ext_products.specs.Products.{resolution}
 
@@ -29,13 +29,17 @@ pub table-is : (m : SteenrodModule) (table : List (List Content)) → m ≡ deri
 table-is m table e = subst (λ (n : SteenrodModule). IsSphere (resolution n table)) (sym e) (sphere-is table)
 
 -- each square of a table without squares that were read is canonical
-pub all-canonical : (before table : Staircase) → before.start ≡ [] → HasGrown before table → AreOfStart table → IsAllCanonical table
-all-canonical before table empty grown are i k l =
+pub all-canonical : (table : Staircase) → table.start ≡ [] → AreOfStart table → IsAllCanonical table
+all-canonical table empty are i k l =
     let there = slice_get-there (row_in table.rows i) k l in
-    let start : table.start ≡ [] = grown.start ∙ empty in
-    let here : IsOf (over table.resolved) [] i k there.0.content = subst (λ (start : List Entry). IsOf (over table.resolved) start i k there.0.content) start (are i k there.0 there.1) in
+    let here : IsOf (over table.resolved) [] i k there.0.content = subst (λ (start : List Entry). IsOf (over table.resolved) start i k there.0.content) empty (are i k there.0 there.1) in
     subst (IsOf (over table.resolved) [] i k) (sym (content_at-is table.rows i k there.0 there.1)) here
 
--- what a call's Ok says
-pub at_ok : {X E : Type 0} (r : Result X E) (x : X) (P : X → Type 0) → r ≡ Ok x → IfOk r P → P x
-at_ok {X = X} {E = E} r x P is h = subst (λ (q : Result X E). IfOk q P) is h
+pub all-canonical-ok : {E : Type 0} (r : Result Staircase E) → IfOk r (λ table. table.start ≡ []) → IfOk r AreOfStart → IfOk r IsAllCanonical
+all-canonical-ok (Ok table) empty are = all-canonical table empty are
+all-canonical-ok (Err e) empty are = tt
+
+-- a table of the sphere's module resolves the sphere
+pub sphere-ok : {E : Type 0} (r : Result Staircase E) → IfOk r (λ table. table.resolved.plain ≡ derived_module sphere_file) → IfOk r (λ table. IsSphere (resolution_of table))
+sphere-ok (Ok table) e = table-is table.resolved.plain (plain_rows table.rows) e
+sphere-ok (Err e) h = tt

@@ -11,8 +11,8 @@ ghost use Rattle.yoneda.specs.Products.{IsAllCanonical};
 
 use finite_module::Module;
 use memory::Memory;
-use resolution_step::resolve_alone;
-use square::{NoKeep, Range, Table};
+use resolution_step::resolved;
+use square::{Range, Table};
 use std::alloc::Global;
 
 /// The canonical table of the sphere through the range, made on the caller's thread.
@@ -29,11 +29,5 @@ pub fn sphere_table(alloc: Global, range: Range) -> Result<Table, Memory>
     ensures sphere { IfOk result (λ table. IsSphere (resolution_of table)) }
 {
     let sphere = Module::sphere(alloc)?;
-    let table = Table::new(alloc, sphere)?;
-    let (resolved, _) = resolve_alone(alloc, table, range, NoKeep);
-    match resolved {
-        Ok(table) => Ok(table),
-        // What keeps nothing does not fail.
-        Err(_) => Err(Memory),
-    }
+    resolved(alloc, sphere, range)
 }

@@ -1,7 +1,7 @@
 -- A table that was continued through a range, and what is told of it.
 use Rattle.std.proofs.Common.{◌≡◌, ℕ, ◌<◌, ◌⊎◌, inl, inr, List, [], length, Option, Some, None, sym, subst, refl, arith}
 use Rattle.std.proofs.lemmas.Option.{slice_get_cases}
-use Rattle.std.specs.Prelude.{Result, Ok, Err, IfOk, IfErr, OnOk, IfSome, IsSome, slice_get}
+use Rattle.std.specs.Prelude.{Result, Ok, Err, IfErr, IfSome, IsSome, slice_get}
 use Rattle.std.specs.Option.{option_map}
 use Rattle.finite_module.specs.Checked.{Checked}
 use Rattle.finite_module.specs.Graded.{ModulesAreSteenrodModules}
@@ -15,9 +15,8 @@ use Rattle.square.specs.Squares.{Placed, over}
 use Rattle.square.specs.Tables.{Staircase, row_in, plain_rows, IsThrough, cut}
 use Rattle.square.specs.Growing.{HasGrown}
 use Rattle.square.proofs.Places.{slice_get-there, content_at-is}
-use Rattle.square.specs.Keeping.{Keeper, HoldsTable, IsKeeperOf, HasKept}
-use Rattle.std.specs.List.{All}
-use Rattle.resolution_step.specs.Alone.{AreOfStart, IsInRange}
+use Rattle.square.specs.Keeping.{Keeper, HoldsTable}
+use Rattle.resolution_step.specs.Alone.{AreOfStart, HasResolved}
 use Rattle.yoneda.specs.Products.{IsAllCanonical}
 use Rattle.ext_run.specs.declared.failure.Failure.{Failure}
 use Rattle.ext_run.specs.declared.failure.Failure.TheVariants.{Saving, Memory}
@@ -84,24 +83,17 @@ not_failed (Ok t) X h is = absurd (cc)
 not_failed (Err e) X (inl h) is = absurd (cc)
 not_failed (Err e) X (inr h) is = absurd (let same : e ≡ Saving = cc in subst IsOfClasses same h)
 
-pub continued : (minimal : CanonicalTableIsMinimalResolution) (modules : ModulesAreSteenrodModules) (range : Range) (form : Form) (table more : Staircase) (text : Told) (old new : Keeper) (given : List Entry) → HasGrown table more → AreOfStart more → IsThrough range more.rows → (IsCanonicalStart (over table.resolved) table.start → IsCanonicalTable (over table.resolved) range.s range.t (cut range (plain_rows more.rows)))
-    → IsKeeperOf new more → new.live → new.faults ≡ old.faults → HasKept (over table.resolved) table.start old new given → All (λ e. IsInRange range e.s e.above) given → IsToldOf range form more text → IfErr text (λ e. (e ≡ Memory) ⊎ IsOfClasses e) → HasContinued range form table text old new
-continued minimal modules range form table more text old new given grown are through canonical keeper live no_fault kept places told why = record {
-  told = told_with minimal modules range form table more text grown are canonical told;
-  why = or_saving text why;
-  failed = not_failed text _ why;
-  no_fault = λ has. no_fault;
-  live = λ unfailed. live;
-  whole = λ has. range_kept range more.rows new.kept through keeper.holds;
-  given = given;
-  places = places;
-  kept = kept;
-}
-
--- ---- what a call's Ok says
-
-pub at_ok : {X E : Type 0} (r : Result X E) (x : X) (P : X → Type 0) → r ≡ Ok x → IfOk r P → P x
-at_ok {X = X} {E = E} r x P is h = subst (λ (q : Result X E). IfOk q P) is h
-
-pub when_ok : {X E : Type 0} (r : Result X E) (x : X) (P : Type 0) → r ≡ Ok x → OnOk r P → P
-when_ok {X = X} {E = E} r x P is h = subst (λ (q : Result X E). OnOk q P) is h
+pub continued : {E : Type 0} (failing wanting : E) (order : Entry → Entry → Type 0) (range : Range) (form : Form) (table : Staircase) (resolved : Result Staircase E) (old new : Keeper) → HasResolved failing wanting order range table resolved old new → CanonicalTableIsMinimalResolution → ModulesAreSteenrodModules → (more : Staircase) (text : Told) → resolved ≡ Ok more → IsToldOf range form more text → IfErr text (λ e. (e ≡ Memory) ⊎ IsOfClasses e) → HasContinued range form table text old new
+continued {E = E} failing wanting order range form table resolved old new made minimal modules more text is told why =
+    let done = subst (λ (r : Result Staircase E). HasResolved failing wanting order range table r old new) is made in
+    record {
+      told = told_with minimal modules range form table more text done.grown done.are_of_start done.canonical told;
+      why = or_saving text why;
+      failed = not_failed text _ why;
+      no_fault = λ has. done.keeper.no_fault;
+      live = λ unfailed. done.keeper.live;
+      whole = λ has. range_kept range more.rows new.kept done.through done.keeper.of_table.holds;
+      given = done.given.given;
+      places = done.given.places;
+      kept = done.given.kept;
+    }
