@@ -3,8 +3,8 @@ pub mod ChartText
 mod ClassSteps
 pub mod DumpSteps
 pub mod Examples
+mod ImageWidths
 mod ProductSteps
 pub mod RowSteps
-pub mod TableSquares
 pub mod Targets
 mod SummarySteps

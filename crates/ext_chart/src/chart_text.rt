@@ -7,7 +7,6 @@ ghost use Rattle.square.specs.Tables.{row_in, plain_rows, IsThrough};
 ghost use Rattle.ext_chart.specs.Chart.{mark, row_label, row_line, row_lines, stems_line, chart_text};
 ghost use Rattle.square.specs.Squares.{bottom_of};
 
-use crate::images::images;
 use itoa::Buffer;
 use memory::Memory;
 use square::{Range, Table};
@@ -45,7 +44,7 @@ fn marks(alloc: Global, table: &Table, s: u16, t: u16) -> Result<Vec<u8>, Memory
 {
     let mut marks = Vec::new(alloc);
     for k in s..=t {
-        marks.push(mark(images(table, s, k).len()))?;
+        marks.push(mark(table.images_of(s, k).len()))?;
     }
     Ok(marks)
 }

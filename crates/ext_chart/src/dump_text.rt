@@ -4,7 +4,6 @@ ghost use Rattle.square.specs.Tables.{row_in, plain_rows, IsThrough};
 ghost use Rattle.ext_chart.specs.Dump.{square_text, row_text, dump_text};
 ghost use Rattle.ext_chart.specs.Inside.Targets.{IsTargetOf};
 
-use crate::images::{degree, images};
 use crate::lines::square_lines;
 use crate::named_target::NamedTarget;
 use memory::Memory;
@@ -73,6 +72,6 @@ fn square_text(
     ensures { IfOk result
         (λ text. text.items ≡ square_text table.now.resolved.plain.generators (plain_rows table.now.rows) s k) }
 {
-    let images = images(table, s, k);
-    square_lines(alloc, table.basis(), target, s, degree(table, k), images)
+    let images = table.images_of(s, k);
+    square_lines(alloc, table.basis(), target, s, table.degree(k), images)
 }

@@ -7,7 +7,6 @@ mod check_text;
 mod class_products;
 mod classes;
 mod dump_text;
-mod images;
 mod lines;
 mod named_target;
 mod place;

@@ -5,7 +5,6 @@ ghost use Rattle.square.specs.Tables.{plain_rows};
 ghost use Rattle.ext_chart.specs.Dump.{places_from};
 ghost use Rattle.square.specs.Squares.{bottom_of};
 
-use crate::images::{degree, images};
 use crate::place::{Place, with_square};
 use free_module::Gens;
 use memory::Memory;
@@ -30,8 +29,8 @@ pub(crate) fn row_gens(alloc: Global, table: &Table, s: u16) -> Result<RowGens, 
     let gens = table.generators(alloc, s, n)?;
     let mut places = Vec::new(alloc);
     for k in 0..n {
-        let count = images(table, s, k).len();
-        places = with_square(places, s, degree(table, k), count)?;
+        let count = table.images_of(s, k).len();
+        places = with_square(places, s, table.degree(k), count)?;
     }
     Ok(RowGens { gens, places })
 }

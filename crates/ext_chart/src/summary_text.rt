@@ -6,7 +6,6 @@ ghost use Rattle.square.specs.Tables.{row_in, plain_rows, IsThrough};
 ghost use Rattle.ext_chart.specs.Summary.{row_total, row_totals, module_line, squares_line, gens_line, total_line, total_lines, summary_text};
 ghost use Rattle.square.specs.Squares.{bottom_of};
 
-use crate::images::images;
 use itoa::Buffer;
 use memory::Memory;
 use square::{Range, Table};
@@ -19,7 +18,7 @@ fn row_total(table: &Table, s: u16, t: u16) -> Result<usize, Memory>
 {
     let mut total: usize = 0;
     for k in 0..=t {
-        let count = images(table, s, k).len();
+        let count = table.images_of(s, k).len();
         let Some(more) = total.checked_add(count) else {
             // No memory holds that many generators.
             return Err(Memory);

@@ -9,7 +9,7 @@ use Rattle.ext_chart.proofs.chart_text.marks.Goals.{else-loop-k-test, then-loop-
 
 pub loop-k-preserved : goal.loop-k-preserved
 loop-k-preserved c = record {
-  marks = marks-more (generator_count (plain_rows c.args.table.now.rows) c.args.s) c.args.s c.loop-k.k _ c.mark.result c.loop-k.marks.items _ c.loop-k.auto.k c.loop-k.invariant.marks (ap length c.images.ensures.images) c.mark.ensures c.in_ok-push.ensures.items;
+  marks = marks-more (generator_count (plain_rows c.args.table.now.rows) c.args.s) c.args.s c.loop-k.k _ c.mark.result c.loop-k.marks.items _ c.loop-k.auto.k c.loop-k.invariant.marks (ap length c.images_of.ensures.images) c.mark.ensures c.in_ok-push.ensures.items;
   below = omega arith;
 }
 
@@ -23,6 +23,6 @@ returns c =
           ap (λ v. v.items) w.marks-is ∙ (c.loop-k.invariant.marks ∙ ap (λ n. map (λ i. mark (count i)) (range_with_len c.args.s n)) none)
       | then-loop-k-test+in_ok-push+else-k-t w ↦
           let last : c.loop-k.k ≡ c.args.t = omega arith in
-          let all = marks-more count c.args.s c.loop-k.k _ w.mark.result c.loop-k.marks.items _ c.loop-k.auto.k c.loop-k.invariant.marks (ap length w.images.ensures.images) w.mark.ensures w.in_ok-push.ensures.items in
+          let all = marks-more count c.args.s c.loop-k.k _ w.mark.result c.loop-k.marks.items _ c.loop-k.auto.k c.loop-k.invariant.marks (ap length w.images_of.ensures.images) w.mark.ensures w.in_ok-push.ensures.items in
           ap (λ v. v.items) w.marks-is ∙ (all ∙ ap (λ n. map (λ i. mark (count i)) (range_with_len c.args.s (n + 1 - c.args.s))) last)
     ]

@@ -15,7 +15,7 @@ loop-k-preserved c =
     let row = row_of (plain_rows c.args.table.now.rows) c.args.s in
     let len = length-row_of c.args.table.now.rows c.args.s in
     let t = to_z-of_z w32 c.degree.result (record { sfits = c.degree.type_inv }) ∙ c.degree.ensures in
-    places-more c.args.s (bottom_of c.args.table.now.resolved) row c.loop-k.k _ _ c.loop-k.places.items c.in_ok-places.places.items (omega (arith, c.loop-k-test.true, c.front-n.ensures.front)) t (ap length c.images-count.ensures.images) c.loop-k.invariant c.in_ok-places.ensures
+    places-more c.args.s (bottom_of c.args.table.now.resolved) row c.loop-k.k _ _ c.loop-k.places.items c.in_ok-places.places.items (omega (arith, c.loop-k-test.true, c.front-n.ensures.front)) t (ap length c.images_of-count.ensures.images) c.loop-k.invariant c.in_ok-places.ensures
 
 pub returns-clause-gens : goal.returns-clause-gens
 returns-clause-gens c =
