@@ -25,7 +25,7 @@ use Rattle.chain_map.specs.Rows.{IsInverseAt, lowered_row}
 use Rattle.chain_map.specs.Lifting.{resolution_of}
 use Rattle.chain_map.specs.Inside.Making.{Reaches, class_value, target_of}
 use Rattle.chain_map.proofs.Generators.{within-reach}
-use Rattle.chain_map.proofs.Squares.{square_is_there}
+use Rattle.square.proofs.ByDegree.{square_is_there}
 use Rattle.chain_map.proofs.Widths.{HasPlace, width-take, first_goal_fits, next_goal_fits}
 
 module _ (table sphere : Staircase) (s above k n far m : ℕ) (is_sphere : IsSphere (resolution_of sphere)) (reaches : Reaches table sphere s above k n far) (within : m < n) where

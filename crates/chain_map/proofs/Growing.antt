@@ -9,7 +9,7 @@ use Rattle.square.specs.Tables.{Staircase, row_in}
 use Rattle.chain_map.specs.Rows.{RowValues, chosen_preimage}
 use Rattle.chain_map.specs.Lifting.{LiftValues, row_values, no_values}
 use Rattle.chain_map.specs.Inside.Making.{AreMade, next_goal, goal_of, IsMade, Reaches}
-use Rattle.chain_map.proofs.Resolved.{longer_below}
+use Rattle.square.proofs.Pushing.{never_rises_by}
 
 -- the same values for what is the same to be covered
 AreMade-same : (table sphere : Staircase) (i k : ℕ) (x : ℤ) (goal other : ℕ → List Bool) (n : ℕ) (v : RowValues) → ((g : ℕ) → goal g ≡ other g) → AreMade table sphere i k x goal n v → AreMade table sphere i k x other n v
@@ -54,8 +54,8 @@ reaches_below table sphere s above k upto n far l p =
     let f : k + (upto - k) ≡ upto = omega arith in
     let same = ap (λ (z : ℕ). length (row_in table.rows z)) e in
     let same_q = ap (λ (z : ℕ). length (row_in sphere.rows z)) f in
-    let more = longer_below table p.is_table (s + k) (upto - k) in
-    let more_q = longer_below sphere p.is_sphere_table k (upto - k) in
+    let more = never_rises_by table p.is_table (s + k) (upto - k) in
+    let more_q = never_rises_by sphere p.is_sphere_table k (upto - k) in
     let row = p.row in
     let here = p.here in
     let there = p.there in

@@ -4,7 +4,6 @@ pub mod Widths
 pub mod Resolved
 pub mod Preimages
 mod MadeLifts
-mod Squares
 mod Images
 pub mod Goals
 pub mod Places

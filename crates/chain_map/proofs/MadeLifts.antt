@@ -35,7 +35,8 @@ use Rattle.chain_map.specs.Lifting.{resolution_of, LiftValues, row_values, map_o
 use Rattle.chain_map.specs.Inside.Making.{IsChosenFor, AreMade, class_of, next_goal, goal_of, IsMade}
 use Rattle.chain_map.proofs.Generators.{is_number, lowered-row, degree-below}
 use Rattle.chain_map.proofs.Widths.{HasPlace, value_width, width-take}
-use Rattle.chain_map.proofs.Resolved.{longer_below, part, part_of, row_of-part, long-row}
+use Rattle.square.proofs.Pushing.{never_rises_by}
+use Rattle.chain_map.proofs.Resolved.{part, part_of, row_of-part, long-row}
 use Rattle.chain_map.proofs.Preimages.{gives-of}
 
 module _ (table sphere : Staircase) (h : IsTable table) (hq : IsTable sphere) (is_sphere : IsSphere (resolution_of sphere))
@@ -57,7 +58,7 @@ module _ (table sphere : Staircase) (h : IsTable table) (hq : IsTable sphere) (i
   long-at k l =
       let e : (s + k) + (upto - k) ≡ s + upto = omega arith in
       let same = ap (λ (z : ℕ). length (row_in table.rows z)) e in
-      let more = longer_below table h (s + k) (upto - k) in
+      let more = never_rises_by table h (s + k) (upto - k) in
       let len = length-row_of table.rows (s + k) in
       omega arith
 
@@ -65,7 +66,7 @@ module _ (table sphere : Staircase) (h : IsTable table) (hq : IsTable sphere) (i
   reach-at k l =
       let e : k + (upto - k) ≡ upto = omega arith in
       let same = ap (λ (z : ℕ). length (row_in sphere.rows z)) e in
-      let more = longer_below sphere hq k (upto - k) in
+      let more = never_rises_by sphere hq k (upto - k) in
       omega arith
 
   -- the degrees of values are places of the sphere's rows, or below its bottom

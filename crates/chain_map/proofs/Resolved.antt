@@ -12,19 +12,10 @@ use Rattle.square.specs.Squares.{over}
 use Rattle.square.specs.Tables.{Staircase, contents, row_in, plain_rows, content_at, IsTable}
 use Rattle.square.proofs.Places.{length-row_of}
 use Rattle.square.proofs.Found.{row_within}
+use Rattle.square.proofs.Pushing.{never_rises_by}
 use Rattle.lift_laws.specs.Lifts.{Resolution}
 use Rattle.lift_laws.proofs.Resolved.{IsResolved, is_resolved}
 use Rattle.chain_map.specs.Lifting.{AreCanonical}
-
--- the rows of a table never rise
-pub longer_below : (table : Staircase) → IsTable table → (i j : ℕ) → length (row_in table.rows (i + j)) ≤ length (row_in table.rows i)
-longer_below table h i zero = let e : i + 0 ≡ i = omega arith in let same = ap (λ (z : ℕ). length (row_in table.rows z)) e in omega arith
-longer_below table h i (suc j) =
-    let e : i + suc j ≡ suc (i + j) = omega arith in
-    let same = ap (λ (z : ℕ). length (row_in table.rows z)) e in
-    let once = h.never_rise (i + j) in
-    let rest = longer_below table h i j in
-    omega arith
 
 module _ (table : Staircase) (h : IsTable table) (s t : ℕ) (long : t < length (row_in table.rows s)) where
   -- its rows through s, and of each the squares through t
@@ -51,7 +42,7 @@ module _ (table : Staircase) (h : IsTable table) (s t : ℕ) (long : t < length 
   long-row i l =
       let e : i + (s - i) ≡ s = omega arith in
       let same = ap (λ (z : ℕ). length (row_in table.rows z)) e in
-      let more = longer_below table h i (s - i) in
+      let more = never_rises_by table h i (s - i) in
       let len = length-row_of table.rows i in
       omega arith
 

@@ -14,5 +14,5 @@ pub use inverse::Inverse;
 pub use laws::{tables_have_images, tables_of_the_sphere};
 pub use making::{lift, lifts};
 pub use maps::Lift;
-pub use rows::{images_at, lowered_generators};
+pub use rows::lowered_generators;
 pub use values::Values;

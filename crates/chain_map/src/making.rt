@@ -37,16 +37,9 @@ pub fn lift(
     // No row is longer than row 0, and there is none above the last: so the number of the class's row is small.
     let longest = table.front(0);
     prove!(longest > 0);
-    let mut lifts = lifts_of(
-        alloc,
-        table,
-        sphere,
-        class.s as u16,
-        class.t,
-        class.i,
-        1,
-        upto,
-    )?;
+    let s = class.s as u16;
+    let above = above_at(table, s, class.t);
+    let mut lifts = lifts_of(alloc, table, sphere, s, above, class.i, 1, upto)?;
     match lifts.pop() {
         Some(lift) => Ok(lift),
         None => unreachable!(),
@@ -75,31 +68,31 @@ pub fn lifts(
         IfOk result (λ lifts. (j : ℕ) → j < length lifts.items →
         IsLiftOver table.now sphere.now s above j upto (slice_index_or lifts.items j no_lift)) }
 {
-    let (_, count) = square_of(table, s, t);
-    lifts_of(alloc, table, sphere, s, t, 0, count, upto)
+    let above = above_at(table, s, t);
+    let count = table.images_of(s, above).len();
+    lifts_of(alloc, table, sphere, s, above, 0, count, upto)
 }
 
-/// Lifts of `count` classes, from number `from` of the square on.
+/// Lifts of `count` classes of the square in row `s`, `above` degrees above the bottom, from its number `from` on.
 fn lifts_of(
     alloc: Global,
     table: &Table,
     sphere: &Table,
     s: u16,
-    t: i32,
+    above: u16,
     from: usize,
     count: usize,
     upto: u16,
 ) -> Result<Vec<Lift>, Memory>
     requires sphere { IsSphere (resolution_of sphere.now) }
-    requires square { IsSquareOf table.now s t }
-    requires classes { (above : ℕ) → t ≡ bottom_of table.now.resolved +ℤ pos above →
-        from + count ≤ count_of (resolution_of table.now) s above }
+    requires is_table { IsTable table.now }
+    requires there { above < length (row_in table.now.rows s) }
+    requires classes { from + count ≤ count_of (resolution_of table.now) s above }
+    requires small { from + count ≤ 2 ^ 64 }
     ensures one_each { IfOk result (λ lifts. length lifts.items ≡ count) }
-    ensures lifts { (above : ℕ) → t ≡ bottom_of table.now.resolved +ℤ pos above →
-        IfOk result (λ lifts. (j : ℕ) → j < length lifts.items →
+    ensures lifts { IfOk result (λ lifts. (j : ℕ) → j < length lifts.items →
         IsLiftOver table.now sphere.now s above (from + j) upto (slice_index_or lifts.items j no_lift)) }
 {
-    let (above, _) = square_of(table, s, t);
     let course = Course {
         table,
         sphere,
@@ -112,16 +105,15 @@ fn lifts_of(
     with_rows(alloc, &course, from, upto, lifts)
 }
 
-/// How many degrees the square in row `s` and of degree `t` is above the bottom, and how many generators it has.
-fn square_of(table: &Table, s: u16, t: i32) -> (u16, usize)
+/// How many degrees the square in row `s` and of degree `t` is above the bottom.
+fn above_at(table: &Table, s: u16, t: i32) -> u16
     requires { IsSquareOf table.now s t }
-    ensures above { t ≡ bottom_of table.now.resolved +ℤ pos result.0 }
-    ensures there { result.0 < length (row_in table.now.rows s) }
-    ensures count { result.1 ≡ count_of (resolution_of table.now) s result.0 }
+    ensures above { t ≡ bottom_of table.now.resolved +ℤ pos result }
+    ensures there { result < length (row_in table.now.rows s) }
     ensures is_table { IsTable table.now }
 {
     match table.at(s, t) {
-        Some(square) => (square.above(), square.gens().len()),
+        Some(square) => square.above(),
         None => unreachable!(),
     }
 }
@@ -155,7 +147,7 @@ fn with_rows(
     requires far { course.now.far ≡ length (row_in course.now.sphere.now.rows upto) }
     requires classes { from + length lifts.items
         ≤ count_of (resolution_of course.now.table.now) course.now.s course.now.above }
-    requires small { from + length lifts.items < 2 ^ 64 }
+    requires small { from + length lifts.items ≤ 2 ^ 64 }
     requires empty { (j : ℕ) → j < length lifts.items →
         slice_index_or lifts.items j no_lift ≡ record { bottom = bottom_of course.now.table.now.resolved; rows = [] } }
     ensures one_each { IfOk result (λ more. length more.items ≡ length lifts.items) }
@@ -201,7 +193,7 @@ fn add_rows(
         course.now.reach course.now.far }
     requires classes { from + length lifts.old.items
         ≤ count_of (resolution_of course.now.table.now) course.now.s course.now.above }
-    requires small { from + length lifts.old.items < 2 ^ 64 }
+    requires small { from + length lifts.old.items ≤ 2 ^ 64 }
     requires made { AreMadeLifts course.now.table.now course.now.sphere.now course.now.s course.now.above
         course.now.reach course.now.far from 0 lifts.old.items }
     ensures one_each { OnOk result (length lifts.new.items ≡ length lifts.old.items) }
@@ -228,7 +220,7 @@ fn add_row(
         course.now.reach course.now.far }
     requires classes { from + length lifts.old.items
         ≤ count_of (resolution_of course.now.table.now) course.now.s course.now.above }
-    requires small { from + length lifts.old.items < 2 ^ 64 }
+    requires small { from + length lifts.old.items ≤ 2 ^ 64 }
     requires made { AreMadeLifts course.now.table.now course.now.sphere.now course.now.s course.now.above
         course.now.reach course.now.far from k lifts.old.items }
     ensures one_each { OnOk result (length lifts.new.items ≡ length lifts.old.items) }

@@ -7,7 +7,7 @@ ghost use Rattle.free_module.specs.LinearMap.{AreImages, mapped};
 ghost use Rattle.resolution_laws.specs.Resolution.{degrees_from, row_of};
 ghost use Rattle.square.specs.declared.range.TheConstants.{MAX_T};
 ghost use Rattle.square.specs.Squares.{bottom_of};
-ghost use Rattle.square.specs.Tables.{row_in, content_at, IsTable};
+ghost use Rattle.square.specs.Tables.{row_in};
 ghost use Rattle.lift_laws.specs.Lifts.{IsSphere};
 ghost use Rattle.lift_laws.specs.Products.{first_of, count_of};
 ghost use Rattle.chain_map.specs.Rows.{IsInverseAt};
@@ -42,22 +42,10 @@ pub fn lowered_generators(
 {
     let mut gens = Gens::new(alloc);
     for k in 0..n {
-        let count = images_at(table, s, k).len();
+        let count = table.images_of(s, k).len();
         gens.push_many(count, i32::from(k) - i32::from(above))?;
     }
     Ok(gens)
-}
-
-/// The images of the generators of the square in row `s` that is `n` above the bottom.
-pub fn images_at(table: &Table, s: u16, n: u16) -> &[BitVec]
-    requires { n < length (row_in table.now.rows s) }
-    ensures images { result.now ≡ (content_at table.now.rows s n).images }
-    ensures is_table { IsTable table.now }
-{
-    match table.at(s, table.module().bottom() + i32::from(n)) {
-        Some(square) => square.gens(),
-        None => unreachable!(),
-    }
 }
 
 /// What lifts of classes of one square go over: the two tables, the row of the square and how many degrees it is above the
@@ -89,7 +77,7 @@ impl Course<'_> {
         ensures { IfOk result (λ inverse. 0 < count_of (resolution_of self.now.table.now) (self.now.s + k) n →
             IsInverseAt self.now.sphere.now k (pos n -ℤ pos self.now.above) inverse) }
     {
-        if images_at(self.table, self.s + k, n).is_empty() {
+        if self.table.images_of(self.s + k, n).is_empty() {
             return Ok(Inverse::none());
         }
         Inverse::of(alloc, self.sphere, k, self.over(n))
@@ -187,7 +175,7 @@ impl Course<'_> {
             (class_of self.now.table.now self.now.sphere.now self.now.s self.now.above class) (n + 1) values.new) }
     {
         values.begin_square()?;
-        for i in 0..images_at(self.table, self.s, n).len() {
+        for i in 0..self.table.images_of(self.s, n).len() {
             let value = self.first_value(alloc, n, i, inverse, class)?;
             values.push(value)?;
         }
@@ -289,7 +277,7 @@ impl Course<'_> {
             (n + 1) values.new) }
     {
         values.begin_square()?;
-        let images = images_at(self.table, self.s + k + 1, n);
+        let images = self.table.images_of(self.s + k + 1, n);
         for i in 0..images.len() {
             let value = self.next_value(alloc, k, n, inverse, map, &images[i])?;
             values.push(value)?;

@@ -1,8 +1,6 @@
 //! A bracket as text, or why there is none.
-ghost use Rattle.std.specs.Prelude.{◌≡◌, ◌≢◌, ◌≤◌, ◌≤ℤ◌, neg_ℤ, IfOk, IfErr, Ok, Err};
-ghost use Rattle.module_json.specs.declared.limits.TheConstants.{MAX_DEGREE};
-ghost use Rattle.square.specs.Squares.{bottom_of};
-ghost use Rattle.square.specs.Tables.{IsTable, IsThrough};
+ghost use Rattle.std.specs.Prelude.{◌≡◌, ◌≢◌, ◌≤◌, IfOk, IfErr, Ok, Err};
+ghost use Rattle.square.specs.Tables.{IsThrough};
 ghost use Rattle.square.specs.declared.range.TheConstants.{MAX_S, MAX_T};
 ghost use Rattle.ext_chart.specs.Classes.{bracket_text as text_of};
 ghost use Rattle.ext_products.specs.declared.refusal.ClassesFault.TheVariants.{Refused, Memory as OutOfMemory};
@@ -17,6 +15,7 @@ use massey::{Bracket, bracket};
 use memory::Memory;
 use square::{Range, Table};
 use std::alloc::Global;
+use yoneda::known;
 
 /// The bracket <a, b, c> of the classes a and b of the sphere with the class c of the table's module: a line with one of its values, and
 /// one for each vector of a basis of its indeterminacy. The sphere's resolution is made through the range.
@@ -64,14 +63,4 @@ fn lines(alloc: Global, found: &Bracket) -> Result<Vec<u8>, Memory>
         &found.value,
         found.indeterminacy.rows(),
     )
-}
-
-/// What is known of each table.
-fn known(table: &Table)
-    ensures is_table { IsTable table.now }
-    ensures least { neg_ℤ MAX_DEGREE ≤ℤ bottom_of table.now.resolved }
-    ensures most { bottom_of table.now.resolved ≤ℤ MAX_DEGREE }
-{
-    let _rows = table.front(0);
-    let _bottom = table.module().bottom();
 }

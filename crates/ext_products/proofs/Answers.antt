@@ -1,12 +1,13 @@
 -- There is one answer to what is asked of products.
-use Rattle.std.proofs.Common.{◌≡◌, ℕ, ◌+◌, ◌<◌, ◌≤◌, inl, inr, ℤ, pos, negsuc, ◌+ℤ◌, ◌-ℤ◌, ◌≤ℤ◌, Bool, true, false, List, [], length, refl, ap, sym, subst, ◌∙◌, arith}
+use Rattle.std.proofs.Common.{◌≡◌, ℕ, ◌+◌, ◌<◌, ◌≤◌, inl, inr, ℤ, pos, ◌+ℤ◌, ◌-ℤ◌, ◌≤ℤ◌, Bool, true, false, List, [], length, refl, ap, sym, subst, ◌∙◌, arith}
 use Rattle.std.specs.Prelude.{Option, Some, None, MatchOption, Result, Ok, Err, IsOkAnd, nat_lt, if◌then◌else◌}
 use Rattle.std.proofs.lemmas.Bool.{cases_lt}
 use Rattle.std.proofs.lemmas.Bool.Decides.{nat_tests}
 use Rattle.std.proofs.lemmas.Int.{ints}
 use Rattle.std.proofs.lemmas.List.{get_or_past}
-use Rattle.degrees.specs.Above.{natural, above_of}
+use Rattle.degrees.specs.Above.{above_of}
 use Rattle.square.specs.declared.range.Range.{Range}
+use Rattle.square.proofs.ByDegree.{natural-is}
 use Rattle.resolution_laws.specs.Resolution.{Content, no_content, square_in, row_of, IsCanonicalTable}
 use Rattle.lift_laws.specs.Lifts.{Resolution, IsCanonical, IsSphere, IsLift, EachClassLifts, dual_of}
 use Rattle.lift_laws.specs.Products.{Class as ClassAbove, count_of, degree_of_class, number_of, product_by, LiftsGiveOneProduct}
@@ -118,10 +119,6 @@ line-exists lifts one r q range a canonical canonical_q sphere there x factor =
     )
 
 -- ---- the class that is asked for
-
-natural-is : (z : ℤ) (k : ℕ) → natural z ≡ Some k → z ≡ pos k
-natural-is (pos n) k e = cc
-natural-is (negsuc n) k e = absurd (cc)
 
 -- a square outside of the range has no class
 pub none_past : (q : Resolution) (s t : ℕ) → IsCanonicalTable q.base s t q.table → (i k : ℕ) → (i ≤ s → k ≤ t → ⊥) → count_of q i k ≡ 0

@@ -16,7 +16,7 @@ use f2_vec::BitVec;
 use memory::Memory;
 use square::{Range, Table};
 use std::alloc::Global;
-use yoneda::{Place, degree, products};
+use yoneda::{Place, products};
 
 /// The lines on the products of `a` with the classes of the table, those products that are in the range, by row, by degree and by
 /// number.
@@ -93,8 +93,8 @@ fn add_square(
         OneEach (IsLineOver table.now sphere.now a) (before ++ classes_of (resolution_of table.now) s above)
         lines.new.items) }
 {
-    let t = degree(table, above);
-    let target_t = degree(table, a.above + above);
+    let t = table.degree(above);
+    let target_t = table.degree(a.above + above);
     for (i, value) in values.iter().enumerate() {
         lines.push(ProductLine {
             s,

@@ -1,6 +1,6 @@
 //! The lines of the products with a class of the sphere, or the refusal of that class.
 ghost use Rattle.std.specs.Prelude.{◌≡◌, ◌≢◌, ◌≤◌, IfOk, IfErr, Ok, Err};
-ghost use Rattle.square.specs.Tables.{IsTable, IsThrough};
+ghost use Rattle.square.specs.Tables.{IsThrough};
 ghost use Rattle.square.specs.declared.range.TheConstants.{MAX_S, MAX_T};
 ghost use Rattle.ext_products.specs.Over.{IsAnswerOver, IsRefusalOver};
 ghost use Rattle.ext_products.specs.Inside.Lining.{reach_of};
@@ -15,7 +15,7 @@ use degrees::above_of;
 use ext_chart::product_lines;
 use square::{Range, Table};
 use std::alloc::Global;
-use yoneda::place_of;
+use yoneda::{known, place_of};
 
 /// A line for each class of the table's module whose product with the class `by` of the sphere is in the range: the class, and the
 /// product as a sum of classes. They stand by row, then by degree, then by number. The sphere's resolution is made as far as `by`.
@@ -54,13 +54,6 @@ pub fn products_text(
             count,
         })),
     }
-}
-
-/// What is known of each table.
-fn known(table: &Table)
-    ensures { IsTable table.now }
-{
-    let _rows = table.front(0);
 }
 
 /// How far the sphere's resolution is asked: as far as the class, within the range.

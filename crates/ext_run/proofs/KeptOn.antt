@@ -26,9 +26,10 @@ use Rattle.ext_run.specs.declared.task.Resolution.{Resolution as ToResolve}
 use Rattle.ext_run.specs.Failure.{resume_failure}
 use Rattle.ext_run.specs.Answer.{IsOfClasses}
 use Rattle.ext_run.specs.Task.{IsInForm}
-use Rattle.ext_run.specs.Saving.{AreCanonical, standing_for, StandsWith, IsOurs, IsUnwritten, HasLasted}
+use Rattle.ext_run.specs.Saving.{AreCanonical, StandsWith, IsOurs, IsUnwritten, HasLasted}
 use Rattle.ext_run.specs.Work.{Told, HasAnswer, answer_of, HasContinued, IsRefusedFor, HasKeptOn}
-use Rattle.ext_run.proofs.Lasting.{some_of, at_some, all_first, canonical_start, as_another, unwritten_since, lasting}
+use Rattle.save_file.proofs.Entries.{some_is}
+use Rattle.ext_run.proofs.Lasting.{at_some, all_first, canonical_start, as_another, unwritten_since, lasting}
 
 -- an error of a continued table is no refusal
 no_refusal : (text : Told) (fault : ResumeFault) → IfErr text (λ e. (e ≡ Saving) ⊎ (e ≡ Memory) ⊎ IsOfClasses e) → text ≡ Err (SaveFile fault) → ⊥
@@ -55,20 +56,20 @@ module _ {D : Type 0} (now : D → Option (List ℕ)) (moment : D → ℕ) (imag
   -- the file that was there stands for the list, or it and one square more
   here : (list : List Entry) → IsSome (now disk) → IsOurs r.resolved.plain list (images disk) → (file : List ℕ) × (now disk ≡ Some file) × StandsWith r.resolved.plain list file
   here list told ours =
-      let found = some_of (now disk) told in
+      let found = some_is (now disk) told in
       let image : images disk found.0 = at_some (now disk) (λ f. images disk f) found.0 found.1 (laws.now_is_image disk) in
       (found.0, found.1, ours found.0 image)
 
   -- ---- the file was taken up
 
-  module _ (text : Told) (table : Staircase) (k after : SaveState D) (squares : IfSome (now disk) (λ file. standing_of r.resolved file ≡ Ok table.start)) (resolved : table.resolved ≡ r.resolved) (keeper : IsKeeperOf (telling k) table)
-      (kept : kept_in now k ≡ option_map (λ _. table.start) (now disk)) (opening : IfSome (now disk) (λ _. LeavesOnly moment since disk k.journal.disk (HasRecordsOf (digest_of r.resolved) (images disk)))) (no_fault : faults k.journal.disk ≡ faults disk)
+  module _ (text : Told) (table : Staircase) (k after : SaveState D) (squares : IfSome (now disk) (λ file. standing_of r.resolved.plain file ≡ Ok table.start)) (resolved : table.resolved ≡ r.resolved) (keeper : IsKeeperOf (telling k) table)
+      (kept : kept_in now k ≡ option_map (λ _. table.start) (now disk)) (opening : IfSome (now disk) (λ _. LeavesOnly moment since disk k.journal.disk (HasRecordsOf (digest_of r.resolved.plain) (images disk)))) (no_fault : faults k.journal.disk ≡ faults disk)
       (continued : HasContinued r.common.range r.form table text (telling k) (telling after)) where
-    start_is : (file : List ℕ) → now disk ≡ Some file → standing_of r.resolved file ≡ Ok table.start
-    start_is file is = at_some (now disk) (λ f. standing_of r.resolved f ≡ Ok table.start) file is squares
+    start_is : (file : List ℕ) → now disk ≡ Some file → standing_of r.resolved.plain file ≡ Ok table.start
+    start_is file is = at_some (now disk) (λ f. standing_of r.resolved.plain f ≡ Ok table.start) file is squares
 
     -- the table began with the list, or it and one square more
-    begun : (list more : List Entry) (file : List ℕ) → now disk ≡ Some file → standing_for r.resolved.plain file ≡ Ok (list ++ more) → table.start ≡ list ++ more
+    begun : (list more : List Entry) (file : List ℕ) → now disk ≡ Some file → standing_of r.resolved.plain file ≡ Ok (list ++ more) → table.start ≡ list ++ more
     begun list more file is stands = let both : Ok table.start ≡ Ok (list ++ more) = sym (start_is file is) ∙ stands in cc
 
     answer_told : HasAnswer text → IsSome (now disk) → (list : List Entry) → IsOurs r.resolved.plain list (images disk) → IsInForm r.form r.common.range r.resolved.plain (answer_of text)
@@ -95,7 +96,7 @@ module _ {D : Type 0} (now : D → Option (List ℕ)) (moment : D → ℕ) (imag
           let is = begun list with.more found.0 found.1 with.stands in
           let k_resolved : k.resolved ≡ r.resolved = sym keeper.resolved ∙ resolved in
           let kept_is : kept_in now k ≡ Some (list ++ with.more) = kept ∙ ap (option_map (λ _. table.start)) found.1 ∙ ap (λ (l : List Entry). Some l) is in
-          let opened = at_some (now disk) (λ _. LeavesOnly moment since disk k.journal.disk (HasRecordsOf (digest_of r.resolved) (images disk))) found.0 found.1 opening in
+          let opened = at_some (now disk) (λ _. LeavesOnly moment since disk k.journal.disk (HasRecordsOf (digest_of r.resolved.plain) (images disk))) found.0 found.1 opening in
           let given = subst (λ (m : Checked). HasKept (over m) table.start (telling k) (telling after) continued.given) resolved continued.kept in
           let given_behind = subst (λ (l : List Entry). HasKept (over r.resolved) l (telling k) (telling after) continued.given) is given in
           lasting now moment images since faults laws r.resolved r.common.range list with.more continued.given (HasAnswer text) (text ≢ Err Saving) disk k after with.at_most_one with.canonical ours k_resolved kept_is opened given_behind continued.places
@@ -105,7 +106,7 @@ module _ {D : Type 0} (now : D → Option (List ℕ)) (moment : D → ℕ) (imag
   -- ---- the file was not taken up
 
   -- a disk that a run left without squares of its own
-  left_alone : (range : Range) (list : List Entry) (d : D) (had_answer unfailed : Type 0) → (had_answer → ⊥) → (unfailed → IsUnwritten now moment images since disk d) → IsSome (now disk) → IsOurs r.resolved.plain list (images disk) → LeavesOnly moment since disk d (HasRecordsOf (digest_of r.resolved) (images disk)) → HasLasted now moment images since r.resolved.plain range list had_answer unfailed disk d
+  left_alone : (range : Range) (list : List Entry) (d : D) (had_answer unfailed : Type 0) → (had_answer → ⊥) → (unfailed → IsUnwritten now moment images since disk d) → IsSome (now disk) → IsOurs r.resolved.plain list (images disk) → LeavesOnly moment since disk d (HasRecordsOf (digest_of r.resolved.plain) (images disk)) → HasLasted now moment images since r.resolved.plain range list had_answer unfailed disk d
   left_alone range list d had_answer unfailed never unwritten told ours leaves =
       let found = here list told ours in
       let same : (list ++ []) ++ [] ≡ list = append-nil (list ++ []) ∙ append-nil list in
@@ -141,8 +142,8 @@ module _ {D : Type 0} (now : D → Option (List ℕ)) (moment : D → ℕ) (imag
   kind_of (Open (Short p)) = refusal refl (λ h. cc) (λ h. cc)
   kind_of (Strange n) = refusal refl (λ h. cc) (λ h. cc)
 
-  module _ (fault : ResumeFault) (d : D) (refused : (fault ≡ Open DiskFailed) ⊎ (fault ≡ OutOfMemory) ⊎ IfSome (now disk) (λ file. standing_of r.resolved file ≡ Err fault)) (same : fault ≢ Open DiskFailed → now d ≡ now disk)
-      (unwritten : fault ≢ Open DiskFailed → IfSome (now disk) (λ _. LeavesOnly moment since disk d (images disk))) (opening : IfSome (now disk) (λ _. LeavesOnly moment since disk d (HasRecordsOf (digest_of r.resolved) (images disk)))) (never_fall : faults disk ≤ faults d)
+  module _ (fault : ResumeFault) (d : D) (refused : (fault ≡ Open DiskFailed) ⊎ (fault ≡ OutOfMemory) ⊎ IfSome (now disk) (λ file. standing_of r.resolved.plain file ≡ Err fault)) (same : fault ≢ Open DiskFailed → now d ≡ now disk)
+      (unwritten : fault ≢ Open DiskFailed → IfSome (now disk) (λ _. LeavesOnly moment since disk d (images disk))) (opening : IfSome (now disk) (λ _. LeavesOnly moment since disk d (HasRecordsOf (digest_of r.resolved.plain) (images disk)))) (never_fall : faults disk ≤ faults d)
       (cause : fault ≡ Open DiskFailed → HasRisen (faults disk) (faults d)) (quiet : fault ≢ Open DiskFailed → faults d ≡ faults disk) where
     why_not : Kind fault → (resume_failure fault ≡ Saving) ⊎ (resume_failure fault ≡ Memory) ⊎ IsOfClasses (resume_failure fault) ⊎ ((f : ResumeFault) × (resume_failure fault ≡ SaveFile f) × IsRefusedFor r.resolved.plain (now disk) f)
     why_not (disk_failed is e) = inl e
@@ -194,7 +195,7 @@ module _ {D : Type 0} (now : D → Option (List ℕ)) (moment : D → ℕ) (imag
       unwritten = λ f is. not_written (not_disk (kind_of fault) f (cc));
       spared = λ file f is refusal worked. not_written (no_failure worked);
       lasts = λ told list ours.
-          let found = some_of (now disk) told in
-          let opened = at_some (now disk) (λ _. LeavesOnly moment since disk d (HasRecordsOf (digest_of r.resolved) (images disk))) found.0 found.1 opening in
+          let found = some_is (now disk) told in
+          let opened = at_some (now disk) (λ _. LeavesOnly moment since disk d (HasRecordsOf (digest_of r.resolved.plain) (images disk))) found.0 found.1 opening in
           left_alone r.common.range list d _ _ (no_answer (kind_of fault)) (λ worked. not_written (no_failure worked)) told ours opened;
     }

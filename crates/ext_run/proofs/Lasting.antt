@@ -2,7 +2,7 @@
 use Rattle.std.proofs.Common.{◌≡◌, ℕ, ◌≤◌, ◌⊎◌, inl, inr, List, [], ◌∷◌, ◌++◌, length, Bool, true, false, ap, sym, subst, ◌∙◌, refl}
 use Rattle.std.proofs.lemmas.Bool.{and_parts, eqb-true}
 use Rattle.std.proofs.lemmas.List.Elements.{All-nil, All-cons, All-head, All-tail, All-append, All-weaker}
-use Rattle.std.specs.Prelude.{Option, Some, None, IfSome, IsSome, Ok, Err, nat_eq, ◌&&◌, ◌↔◌, if◌then◌else◌}
+use Rattle.std.specs.Prelude.{Option, Some, None, IfSome, Ok, Err, nat_eq, ◌&&◌, ◌↔◌, if◌then◌else◌}
 use Rattle.std.specs.List.{All}
 use Rattle.std.specs.Result.{result_ok}
 use Rattle.edge.specs.Disk.{LeavesOnly}
@@ -23,10 +23,6 @@ use Rattle.resolution_step.specs.Alone.{IsInRange}
 use Rattle.ext_run.specs.Saving.{AreCanonical, StandsWith, StandsAmid, StandsAtPart, StandsAsOneOf, IsOurs, MayBeLeft, IsUnwritten, HasLasted, HasRange}
 
 -- ---- what is told
-
-pub some_of : {X : Type 0} (o : Option X) → IsSome o → (x : X) × (o ≡ Some x)
-some_of None h = absurd (cc)
-some_of (Some x) h = (x, refl)
 
 pub at_some : {X : Type 0} (o : Option X) (P : X → Type 0) (x : X) → o ≡ Some x → IfSome o P → P x
 at_some {X = X} o P x is h = subst (λ (p : Option X). IfSome p P) is h
@@ -70,7 +66,7 @@ stands_with m start list c reads canonical image = record {
   more = image.more;
   at_most_one = image.at_most_one;
   canonical = All-append (λ e. IsOf (over m) [] e.s e.above e.content) list image.more canonical (canonical_squares (over m) start image.more reads image.are_of);
-  stands = standing_ok (standing_of m c) (list ++ image.more) image.is;
+  stands = standing_ok (standing_of m.plain c) (list ++ image.more) image.is;
 }
 
 stands_amid : (m : Checked) (start list given : List Entry) (c : List ℕ) → IsCanonicalStart (over m) start → AreCanonical m.plain list → AreCanonical m.plain given → IsImageAmid (over m) start list given (squares_in m c) → StandsAmid m.plain list given c
@@ -85,7 +81,7 @@ stands_amid m start list given c reads canonical more image =
     }
 
 -- a file with the records of one that stands for a list stands for it
-pub as_another : (m : Checked) (list : List Entry) (c d : List ℕ) → records_of (digest_of m) c ≡ records_of (digest_of m) d → StandsWith m.plain list d → StandsWith m.plain list c
+pub as_another : (m : Checked) (list : List Entry) (c d : List ℕ) → records_of (digest_of m.plain) c ≡ records_of (digest_of m.plain) d → StandsWith m.plain list d → StandsWith m.plain list c
 as_another m list c d same with = record {
   more = with.more;
   at_most_one = with.at_most_one;
@@ -99,12 +95,12 @@ as_read m list c d same with = record {
   more = with.more;
   at_most_one = with.at_most_one;
   canonical = with.canonical;
-  stands = standing_ok (standing_of m c) (list ++ with.more) (same ∙ ap (λ (s : Standing). result_ok s) with.stands);
+  stands = standing_ok (standing_of m.plain c) (list ++ with.more) (same ∙ ap (λ (s : Standing). result_ok s) with.stands);
 }
 
 -- and so does one of which the same squares are read, as they are of one that stands for squares
-standing_same : (m : Checked) (list : List Entry) (c d : List ℕ) → squares_in m c ≡ squares_in m d → standing_of m d ≡ Ok list → standing_of m c ≡ standing_of m d
-standing_same m list c d same stands = standing_ok (standing_of m c) list (same ∙ ap (λ (s : Standing). result_ok s) stands) ∙ sym stands
+standing_same : (m : Checked) (list : List Entry) (c d : List ℕ) → squares_in m c ≡ squares_in m d → standing_of m.plain d ≡ Ok list → standing_of m.plain c ≡ standing_of m.plain d
+standing_same m list c d same stands = standing_ok (standing_of m.plain c) list (same ∙ ap (λ (s : Standing). result_ok s) stands) ∙ sym stands
 
 -- ---- a disk on which nothing was written
 
@@ -144,7 +140,7 @@ module _ {D : Type 0} (now : D → Option (List ℕ)) (moment : D → ℕ) (imag
 
   module _ (m : Checked) (range : Range) (list more given : List Entry) (had_answer unfailed : Type 0) (disk : D) (k after : SaveState D)
       (at_most_one : length more ≤ 1) (canonical : AreCanonical m.plain (list ++ more)) (ours : IsOurs m.plain list (images disk)) (resolved : k.resolved ≡ m) (kept_is : kept_in now k ≡ Some (list ++ more))
-      (opening : LeavesOnly moment since disk k.journal.disk (HasRecordsOf (digest_of m) (images disk))) (kept : HasKept (over m) (list ++ more) (telling k) (telling after) given) (places : All (λ e. IsInRange range e.s e.above) given)
+      (opening : LeavesOnly moment since disk k.journal.disk (HasRecordsOf (digest_of m.plain) (images disk))) (kept : HasKept (over m) (list ++ more) (telling k) (telling after) given) (places : All (λ e. IsInRange range e.s e.above) given)
       (answered : had_answer → unfailed) (live : unfailed → TakesSquares now images after) (whole : had_answer → IfSome (kept_in now after) (HasRange range)) where
     abbrev start : List Entry
     start = list ++ more
@@ -211,15 +207,15 @@ module _ {D : Type 0} (now : D → Option (List ℕ)) (moment : D → ℕ) (imag
               inl (found.0, found.1, standing_same m (list ++ as_found.more) c d read as_found.stands ∙ ap (λ (r : Records). of_records (over m) r) found.2)
           | inr now_left ↦
               let at = exact image now_left in
-              inr (record { first = at.first; rest = at.rest; parts = at.parts; stands = standing_ok (standing_of m c) (start ++ at.first) (sym (read_after c) ∙ at.is) })
+              inr (record { first = at.first; rest = at.rest; parts = at.parts; stands = standing_ok (standing_of m.plain c) (start ++ at.first) (sym (read_after c) ∙ at.is) })
         ]
 
-    only : unfailed → (c : List ℕ) → images after.journal.disk c → standing_of m c ≡ Ok (start ++ given)
+    only : unfailed → (c : List ℕ) → images after.journal.disk c → standing_of m.plain c ≡ Ok (start ++ given)
     only worked c image =
         let is_kept = left_is_kept now moment images since laws.only_now after (live worked) in
         let U = telling after in
         let exact = subst (λ (o : Option (List Entry)). IfSome o (λ (l : List Entry). (i : Option (List Entry)) → U.since U.moment i → i ≡ Some l)) after_kept is_kept in
-        standing_ok (standing_of m c) (start ++ given) (sym (read_after c) ∙ exact (squares_in after.resolved c) (c, laws.counts_now after.journal.disk c image, refl))
+        standing_ok (standing_of m.plain c) (start ++ given) (sym (read_after c) ∙ exact (squares_in after.resolved c) (c, laws.counts_now after.journal.disk c image, refl))
 
     pub lasting : HasLasted now moment images since m.plain range list had_answer unfailed disk after.journal.disk
     lasting = record {

@@ -12,6 +12,7 @@ use Rattle.finite_module.specs.Sample.{sample_file}
 use Rattle.resolution_laws.specs.Start.{Entry, IsOf}
 use Rattle.square.specs.Squares.{module_over}
 use Rattle.square.specs.declared.range.Range.{Range}
+use Rattle.save_file.specs.Files.{standing_of}
 use Rattle.save_file.specs.declared.fault.ResumeFault.{ResumeFault}
 use Rattle.ext_products.specs.declared.refusal.Refusal.{Refusal}
 use Rattle.ext_products.specs.Products.{IsProductsAnswer}
@@ -30,12 +31,13 @@ use Rattle.ext_run.specs.Failure.{status_of}
 use Rattle.ext_run.specs.Answer.{IsText, IsChart, IsDump, IsSummary, IsLineOn, IsProducts, IsBracket, IsOfClasses, IsTold, IsAnswerTo, IsAnswerFrom, IsCauseFrom, Reads, WordsRead}
 use Rattle.std.proofs.lemmas.List.Elements.{All-nil}
 use Rattle.resolution_step.specs.Alone.{IsInRange}
-use Rattle.ext_run.specs.Saving.{options_of, Saves, WordsSave, IsModuleIn, IsModuleOf, IsSavedBy, standing_for, AreCanonical, IsOurs, IsUnwritten, HasLasted, HasSaved, IsUsable, IsRunCauseFrom, IsRefusedFrom, IsEarly, IsAnswered}
+use Rattle.ext_run.specs.Saving.{options_of, Saves, WordsSave, IsModuleIn, IsModuleOf, IsSavedBy, AreCanonical, IsOurs, IsUnwritten, HasLasted, HasSaved, IsUsable, IsRunCauseFrom, IsRefusedFrom, IsEarly, IsAnswered}
 use Rattle.ext_run.specs.Task.{IsDoneBy, IsTaskFrom, IsSavedFor, IsSavedAs}
 use Rattle.ext_run.specs.Work.{Told, HasAnswer, answer_of, IsUnsaved, IsRefusedFor, HasKeptOn, HasWorked}
 use Rattle.ext_run.proofs.Causes.{text_told, classes_told, accepted_failure, as_classes, class_statuses, HasOutcome, never_0, only_writing, only_saving, only_refused, only_classes}
 use Rattle.edge.proofs.Moments.{Lawful}
-use Rattle.ext_run.proofs.Lasting.{some_of, at_some, all_first, unwritten_same}
+use Rattle.save_file.proofs.Entries.{some_is}
+use Rattle.ext_run.proofs.Lasting.{at_some, all_first, unwritten_same}
 use Rattle.ext_run.proofs.KeptOn.{answer_unfailed}
 
 -- ---- the module and the range that words ask to be saved
@@ -158,7 +160,7 @@ module _ (store : Store) (laws : Lawful store.now store.moment store.images stor
   -- nothing was kept and nothing is lost
   as_it_was : (m : SteenrodModule) (range : Range) (list : List Entry) (had_answer unfailed : Type 0) (d : store.State) → (had_answer → ⊥) → IsSome (store.now d) → IsOurs m list (store.images d) → HasLasted store.now store.moment store.images store.since m range list had_answer unfailed d d
   as_it_was m range list had_answer unfailed d never told ours =
-      let found = some_of (store.now d) told in
+      let found = some_is (store.now d) told in
       let here = ours found.0 (file_of store.now store.images laws.now_is_image d found.0 found.1) in
       let same : (list ++ []) ++ [] ≡ list = append-nil (list ++ []) ∙ append-nil list in
       record {
@@ -279,11 +281,11 @@ module _ (store : Store) (laws : Lawful store.now store.moment store.images stor
         not_early one (inr (inr (inr (inl h)))) = not_one 6 one h (omega arith) (omega arith) (omega arith) (omega arith)
         not_early one (inr (inr (inr (inr h)))) = not_one 14 one h (omega arith) (omega arith) (omega arith) (omega arith)
 
-        accepted_is_not_refused : (bytes file : List ℕ) (m : SteenrodModule) (range : Range) (e : ResumeFault) → (WordsRead words → left ≡ Some bytes) → store.now d ≡ Some file → IsSavedBy words bytes m range → standing_for m file ≡ Err e → ⊥
+        accepted_is_not_refused : (bytes file : List ℕ) (m : SteenrodModule) (range : Range) (e : ResumeFault) → (WordsRead words → left ≡ Some bytes) → store.now d ≡ Some file → IsSavedBy words bytes m range → standing_of m file ≡ Err e → ⊥
         accepted_is_not_refused bytes file m range e tells told p refusal =
             let same = the_same bytes m range tells p in
             let list = on.accepted has file told in
-            let both : Ok list.0 ≡ Err e = sym list.1 ∙ ap (λ (x : SteenrodModule). standing_for x file) same.0 ∙ refusal in
+            let both : Ok list.0 ≡ Err e = sym list.1 ∙ ap (λ (x : SteenrodModule). standing_of x file) same.0 ∙ refusal in
             cc
 
     -- a run that has none
@@ -298,7 +300,7 @@ module _ (store : Store) (laws : Lawful store.now store.moment store.images stor
       refused = refused;
       refuses = λ bytes file m range e tells told p refusal. late is;
       unwritten = unwritten;
-      spared = λ bytes file m range e tells told p refusal other. let same = the_same bytes m range tells p in on.spared file e told (ap (λ (x : SteenrodModule). standing_for x file) same.0 ∙ refusal) (λ h. other (was_disk h));
+      spared = λ bytes file m range e tells told p refusal other. let same = the_same bytes m range tells p in on.spared file e told (ap (λ (x : SteenrodModule). standing_of x file) same.0 ∙ refusal) (λ h. other (was_disk h));
       lasts = on_lasts _ _ (λ h. absurd (no_text is h)) (λ other h. other (was_disk h));
     }
       where
@@ -413,9 +415,9 @@ module _ (store : Store) (laws : Lawful store.now store.moment store.images stor
   usable_file : (r : ToResolve) (d : store.State) (fault : ResumeFault) → IsOfInput (λ bytes. IsSavedBy words bytes r.resolved.plain r.common.range) left → IsUsableAt store words left d → IsRefusedFor r.resolved.plain (store.now d) fault → ⊥
   usable_file r d fault by usable refusal =
       let ours = usable by.bytes r.resolved.plain r.common.range by.all by.holds in
-      let found = some_of (store.now d) ours.0 in
+      let found = some_is (store.now d) ours.0 in
       let here = ours.1.1 found.0 (file_of store.now store.images laws.now_is_image d found.0 found.1) in
-      let err = subst (λ (o : Option (List ℕ)). IfSome o (λ file. standing_for r.resolved.plain file ≡ Err fault)) found.1 refusal in
+      let err = subst (λ (o : Option (List ℕ)). IfSome o (λ file. standing_of r.resolved.plain file ≡ Err fault)) found.1 refusal in
       let both : Ok (_) ≡ Err fault = sym here.stands ∙ err in
       cc
 

@@ -1,12 +1,10 @@
 -- What a run does with its save file.
 use Rattle.std.specs.Prelude.{◌≡◌, ◌≢◌, ℕ, ◌≤◌, ◌⊎◌, true, List, [], ◌++◌, length, Option, Some, None, IsSome, IfSome, MatchOption, Ok, Err}
-use Rattle.sha2.specs.Sha256.{sha256}
 use Rattle.module_json.specs.ModuleFile.{File, IsFileOf}
 use Rattle.finite_module.specs.Module.{Module as SteenrodModule}
 use Rattle.finite_module.specs.DerivedAction.{derived_module}
 use Rattle.finite_module.specs.Checked.{sphere_file}
 use Rattle.finite_module.specs.Sample.{sample_file}
-use Rattle.finite_module.specs.Text.{canonical_text}
 use Rattle.module_check.specs.Acceptance.{refusal_of}
 use Rattle.std.specs.List.{All}
 use Rattle.resolution_step.specs.Alone.{IsInRange}
@@ -14,8 +12,7 @@ use Rattle.edge.specs.Faults.{HasRisen}
 use Rattle.resolution_laws.specs.Start.{Entry, entry_at, AreOf}
 use Rattle.square.specs.Squares.{module_over}
 use Rattle.square.specs.declared.range.Range.{Range}
-use Rattle.save_journal.specs.Records.{records_of}
-use Rattle.save_file.specs.Files.{Standing, of_records}
+use Rattle.save_file.specs.Files.{standing_of}
 use Rattle.save_file.specs.declared.fault.ResumeFault.{ResumeFault}
 use Rattle.ext_words.specs.declared.command.Common.{Common}
 use Rattle.ext_words.specs.declared.command.Command.{Command}
@@ -78,10 +75,6 @@ pub record IsSavedBy (words : List (List ℕ)) (bytes : List ℕ) (m : SteenrodM
 
 -- ---- the file
 
--- what a file stands for as a save file of a module
-abbrev pub standing_for : SteenrodModule → List ℕ → Standing
-standing_for m file = of_records (module_over m) (records_of (sha256 (canonical_text m)) file)
-
 -- the squares are those of the canonical resolution
 abbrev pub AreCanonical : SteenrodModule → List Entry → Type 0
 AreCanonical m list = AreOf (module_over m) [] list
@@ -91,7 +84,7 @@ pub record StandsWith (m : SteenrodModule) (list : List Entry) (file : List ℕ)
   pub more : List Entry
   pub at_most_one : length more ≤ 1
   pub canonical : AreCanonical m (list ++ more)
-  pub stands : standing_for m file ≡ Ok (list ++ more)
+  pub stands : standing_of m file ≡ Ok (list ++ more)
 
 -- the same with a first part of the given squares behind the list
 pub record StandsAmid (m : SteenrodModule) (list given : List Entry) (file : List ℕ) : Type 0 where
@@ -105,11 +98,11 @@ pub record StandsAtPart (m : SteenrodModule) (list given : List Entry) (file : L
   pub first : List Entry
   pub rest : List Entry
   pub parts : given ≡ first ++ rest
-  pub stands : standing_for m file ≡ Ok (list ++ first)
+  pub stands : standing_of m file ≡ Ok (list ++ first)
 
 -- the file stands for what one of these images stands for
 abbrev pub StandsAsOneOf : SteenrodModule → (List ℕ → Type 0) → List ℕ → Type 0
-StandsAsOneOf m images file = (d : List ℕ) × images d × (standing_for m file ≡ standing_for m d)
+StandsAsOneOf m images file = (d : List ℕ) × images d × (standing_of m file ≡ standing_of m d)
 
 -- The disk is ours for the list: whatever a crash now leaves of it stands for the list, or it and one square more.
 abbrev pub IsOurs : SteenrodModule → List Entry → (List ℕ → Type 0) → Type 0
@@ -153,14 +146,14 @@ pub record HasLasted {D : Type 0} (now : D → Option (List ℕ)) (moment : D �
       StandsAsOneOf m (images old) c ⊎ StandsAtPart m (list ++ more) given c
   pub settled : unfailed →
       ((more ≡ []) × (given ≡ []) × IsUnwritten now moment images since old new)
-      ⊎ ((c : List ℕ) → images new c → standing_for m c ≡ Ok ((list ++ more) ++ given))
-  pub exact : had_answer → (c : List ℕ) → images new c → standing_for m c ≡ Ok ((list ++ more) ++ given)
+      ⊎ ((c : List ℕ) → images new c → standing_of m c ≡ Ok ((list ++ more) ++ given))
+  pub exact : had_answer → (c : List ℕ) → images new c → standing_of m c ≡ Ok ((list ++ more) ++ given)
   pub whole : had_answer → HasRange range ((list ++ more) ++ given)
 
 -- the file is refused, for the module of these words and this input
 abbrev pub IsRefusedFrom : List (List ℕ) → Option (List ℕ) → List ℕ → ResumeFault → Type 0
 IsRefusedFrom words left file e = IsOfInput
-    (λ bytes. (m : SteenrodModule) × (range : Range) × IsSavedBy words bytes m range × (standing_for m file ≡ Err e))
+    (λ bytes. (m : SteenrodModule) × (range : Range) × IsSavedBy words bytes m range × (standing_of m file ≡ Err e))
     left
 
 -- Why a run has no text, where the disk held this: what the words and the input have, a failed disk, a refused file, or what the classes
@@ -209,12 +202,12 @@ pub record HasSaved {D : Type 0} (now : D → Option (List ℕ)) (moment : D →
   pub refused : status ≡ 9 → IfSome (now old) (λ file. (e : ResumeFault) × IsRefusedFrom words left file e)
   pub refuses : (bytes file : List ℕ) (m : SteenrodModule) (range : Range) (e : ResumeFault) →
       (WordsRead words → left ≡ Some bytes) → now old ≡ Some file → IsSavedBy words bytes m range →
-      standing_for m file ≡ Err e →
+      standing_of m file ≡ Err e →
       (status ≡ 9) ⊎ (status ≡ 6) ⊎ (status ≡ 8) ⊎ (status ≡ 12)
   pub unwritten : status ≡ 9 → IsUnwritten now moment images since old new
   pub spared : (bytes file : List ℕ) (m : SteenrodModule) (range : Range) (e : ResumeFault) →
       (WordsRead words → left ≡ Some bytes) → now old ≡ Some file → IsSavedBy words bytes m range →
-      standing_for m file ≡ Err e → status ≢ 8 → IsUnwritten now moment images since old new
+      standing_of m file ≡ Err e → status ≢ 8 → IsUnwritten now moment images since old new
   -- squares last
   pub lasts : (bytes : List ℕ) (m : SteenrodModule) (range : Range) (list : List Entry) →
       (WordsRead words → left ≡ Some bytes) → IsSome (now old) → IsSavedBy words bytes m range →

@@ -10,6 +10,7 @@ use Rattle.square.specs.Squares.{over}
 use Rattle.square.specs.Tables.{Staircase}
 use Rattle.square.specs.Keeping.{Keeper, HasKept}
 use Rattle.square.specs.declared.range.Range.{Range}
+use Rattle.save_file.specs.Files.{standing_of}
 use Rattle.save_file.specs.declared.fault.ResumeFault.{ResumeFault}
 use Rattle.ext_run.specs.declared.failure.Failure.{Failure}
 use Rattle.ext_run.specs.declared.failure.Failure.TheVariants.{Saving, SaveFile, Memory}
@@ -19,7 +20,7 @@ use Rattle.ext_run.specs.declared.task.Task.TheVariants.{Text, Resolution}
 use Rattle.ext_run.specs.declared.task.Resolution.{Resolution as ToResolve}
 use Rattle.ext_run.specs.Answer.{IsOfClasses}
 use Rattle.ext_run.specs.Task.{IsInForm, IsDoneBy}
-use Rattle.ext_run.specs.Saving.{standing_for, IsOurs, IsUnwritten, HasLasted, HasRange}
+use Rattle.ext_run.specs.Saving.{IsOurs, IsUnwritten, HasLasted, HasRange}
 
 -- a text, or why there is none
 abbrev pub Told : Type 0
@@ -57,7 +58,7 @@ pub record IsUnsaved {D : Type 0} (task : Task) (text : Told) (old new : D) : Ty
 
 -- the file is refused as one of the module
 abbrev pub IsRefusedFor : SteenrodModule → Option (List ℕ) → ResumeFault → Type 0
-IsRefusedFor m now fault = IfSome now (λ file. standing_for m file ≡ Err fault)
+IsRefusedFor m now fault = IfSome now (λ file. standing_of m file ≡ Err fault)
 
 -- A resolution was made over the save file on a disk, by its trait's now, moment, images, since and faults.
 pub record HasKeptOn {D : Type 0} (now : D → Option (List ℕ)) (moment : D → ℕ) (images : D → List ℕ → Type 0)
@@ -70,10 +71,10 @@ pub record HasKeptOn {D : Type 0} (now : D → Option (List ℕ)) (moment : D �
   pub no_fault : text ≢ Err Saving → faults new ≡ faults old
   pub never_falls : faults old ≤ faults new
   pub accepted : HasAnswer text → (file : List ℕ) → now old ≡ Some file →
-      (list : List Entry) × (standing_for r.resolved.plain file ≡ Ok list)
+      (list : List Entry) × (standing_of r.resolved.plain file ≡ Ok list)
   pub unwritten : (fault : ResumeFault) → text ≡ Err (SaveFile fault) → IsUnwritten now moment images since old new
   pub spared : (file : List ℕ) (fault : ResumeFault) → now old ≡ Some file →
-      standing_for r.resolved.plain file ≡ Err fault → text ≢ Err Saving → IsUnwritten now moment images since old new
+      standing_of r.resolved.plain file ≡ Err fault → text ≢ Err Saving → IsUnwritten now moment images since old new
   pub lasts : IsSome (now old) → (list : List Entry) → IsOurs r.resolved.plain list (images old) →
       HasLasted now moment images since r.resolved.plain r.common.range list (HasAnswer text) (text ≢ Err Saving) old
       new

@@ -14,7 +14,7 @@ ghost use Rattle.massey.specs.Brackets.{above_of, above_bc, IsSetting, IsLastMap
 ghost use Rattle.massey.specs.Inside.Homotopies.{IsComposite, AreMapsOf, AreChosen, AreNext, homotopy_goal, zero_map};
 
 use crate::setting::Setting;
-use chain_map::{Inverse, Lift, images_at, lowered_generators};
+use chain_map::{Inverse, Lift, lowered_generators};
 use f2_vec::BitVec;
 use finite_module::modules_are_graded_modules;
 use free_hom::Hom;
@@ -171,7 +171,7 @@ impl Composite<'_> {
             beta.now.images.now self.now.gamma.now map.now.images.now)
             (first_of (resolution_of self.now.setting.table.now) (suc (self.now.n + k)) (j + 1)) values.new.items) }
     {
-        let images = images_at(self.setting.table, self.n + k + 1, j);
+        let images = self.setting.table.images_of(self.n + k + 1, j);
         if images.is_empty() {
             return Ok(());
         }

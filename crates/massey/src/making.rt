@@ -28,7 +28,7 @@ use memory::Memory;
 use resolution_laws::canonical_table_is_minimal_resolution;
 use square::{Range, Table};
 use std::alloc::Global;
-use yoneda::{Place, coefficients, degree, generators_at, products};
+use yoneda::{Place, coefficients, products};
 
 /// The bracket <a, b, c> of the classes a and b of the sphere with the class c of the module, where ab and bc are zero: the values that lifts of b
 /// and c and null homotopies give, in the square (a.s + b.s + c.s - 1, a.t + b.t + c.t), are one of them and the indeterminacy, which is spanned by
@@ -165,12 +165,12 @@ fn empty(alloc: Global, setting: &Setting<'_>) -> Result<Bracket, Memory>
 {
     let places = setting.places;
     let count = match (places.a.s + places.b.s + places.c.s).checked_sub(1) {
-        Some(row) => generators_at(setting.table, row, setting.above()),
+        Some(row) => setting.table.images_of(row, setting.above()).len(),
         None => 0,
     };
     Ok(Bracket {
         s: i32::from(places.a.s + places.b.s + places.c.s) - 1,
-        t: degree(setting.table, setting.above()),
+        t: setting.table.degree(setting.above()),
         value: BitVec::zero(alloc, count)?,
         indeterminacy: Matrix::from_rows(count, Vec::new(alloc)),
     })
@@ -246,7 +246,7 @@ fn coset(
     modules_are_graded_modules();
     bracket_is_coset();
     let s = i32::from(n + setting.places.a.s);
-    let t = degree(setting.table, setting.above());
+    let t = setting.table.degree(setting.above());
     let first = member(alloc, setting, beta, gamma, n)?;
     let rows = indeterminacy_rows(alloc, setting, beta, gamma, n)?;
     let rows = Matrix::from_rows(first.len(), rows);
@@ -339,7 +339,7 @@ fn add_lower_rows(
 {
     let places = setting.places;
     let l = places.b.s + places.a.s - 1;
-    for i in 0..generators_at(setting.sphere, l, setting.above_ab()) {
+    for i in 0..setting.sphere.images_of(l, setting.above_ab()).len() {
         rows.push(lower_row(alloc, setting, beta, gamma, l, i)?)?;
     }
     Ok(())

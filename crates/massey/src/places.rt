@@ -10,7 +10,7 @@ ghost use Rattle.massey.specs.Refusals.{no_class, out_of_range, class_refusal, p
 use crate::fault::MasseyFault;
 use chain_map::Class;
 use square::{Range, Table};
-use yoneda::{Place, degree, place_of};
+use yoneda::{Place, place_of};
 
 /// Where the three classes of a bracket stand.
 #[derive(Clone, Copy)]
@@ -119,7 +119,7 @@ fn within(table: &Table, range: Range, which: u8, rows: u16, above: u16) -> Resu
 {
     let s = i32::from(rows) - 1;
     if s > i32::from(range.s) || above > range.t {
-        let t = degree(table, above);
+        let t = table.degree(above);
         return Err(MasseyFault::OutOfRange { which, s, t });
     }
     Ok(())

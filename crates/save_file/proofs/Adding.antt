@@ -55,13 +55,13 @@ adds q m start n file body h reads square resolved same next =
 
 module _ (m : Checked) (start : List Entry) (n : ℕ) (file body : List ℕ) (e : Entry) (a : Adds m start n file body e) where
   -- the records after it
-  more_records : (c : List ℕ) → records_of (digest_of m) c ≡ and_last (records_of (digest_of m) file) body → records_of (digest_of m) c ≡ Ok (a.has.bodies ++ body ∷ [])
+  more_records : (c : List ℕ) → records_of (digest_of m.plain) c ≡ and_last (records_of (digest_of m.plain) file) body → records_of (digest_of m.plain) c ≡ Ok (a.has.bodies ++ body ∷ [])
   more_records c is = is ∙ ap (λ (r : Records). and_last r body) a.has.records
 
   more_squares : squares_of (over m) (a.has.bodies ++ body ∷ []) ≡ ok (a.has.list ++ e ∷ [])
   more_squares = last_from (over m) a.has.bodies [] 0 a.has.list body e a.has.squares a.read
 
-  has_more : (c : List ℕ) → records_of (digest_of m) c ≡ and_last (records_of (digest_of m) file) body → HasSquares m start (n + 1) c
+  has_more : (c : List ℕ) → records_of (digest_of m.plain) c ≡ and_last (records_of (digest_of m.plain) file) body → HasSquares m start (n + 1) c
   has_more c is = record {
     bodies = a.has.bodies ++ body ∷ [];
     list = a.has.list ++ e ∷ [];
@@ -71,15 +71,15 @@ module _ (m : Checked) (start : List Entry) (n : ℕ) (file body : List ℕ) (e 
     are_of = All-append (λ (x : Entry). IsOf (over m) start x.s x.above x.content) a.has.list (e ∷ []) a.has.are_of (All-cons (λ (x : Entry). IsOf (over m) start x.s x.above x.content) e [] a.is_of (All-nil (λ (x : Entry). IsOf (over m) start x.s x.above x.content)));
   }
 
-  first_more : (c : List ℕ) → records_of (digest_of m) c ≡ and_last (records_of (digest_of m) file) body → first_squares m (n + 1) c ≡ first_squares m n file ++ e ∷ []
+  first_more : (c : List ℕ) → records_of (digest_of m.plain) c ≡ and_last (records_of (digest_of m.plain) file) body → first_squares m (n + 1) c ≡ first_squares m n file ++ e ∷ []
   unfolding has_more
   first_more c is = first_are_all m start (n + 1) c (has_more c is) ∙ ap (λ (l : List Entry). l ++ e ∷ []) (sym (first_are_all m start n file a.has))
 
-  pub has_same : (c : List ℕ) → records_of (digest_of m) c ≡ records_of (digest_of m) file → HasSquares m start n c
+  pub has_same : (c : List ℕ) → records_of (digest_of m.plain) c ≡ records_of (digest_of m.plain) file → HasSquares m start n c
   has_same c is = record { bodies = a.has.bodies; list = a.has.list; records = is ∙ a.has.records; counted = a.has.counted; squares = a.has.squares; are_of = a.has.are_of }
 
   -- the first so many stay
-  first_stay : (c : List ℕ) → IsBeforeOrAfter (digest_of m) (records_of (digest_of m) file) body c → first_squares m n c ≡ first_squares m n file
+  first_stay : (c : List ℕ) → IsBeforeOrAfter (digest_of m.plain) (records_of (digest_of m.plain) file) body c → first_squares m n c ≡ first_squares m n file
   first_stay c (inl is) = ap (λ (r : Records). list_in (of_records (over m) (first_records n r))) is
   first_stay c (inr is) =
       let few = a.has.counted in
@@ -89,26 +89,26 @@ module _ (m : Checked) (start : List Entry) (n : ℕ) (file body : List ℕ) (e 
       ∙ sym (first_are_all m start n file a.has)
 
   -- the squares that an image stands for
-  image_between : (c : List ℕ) → IsBeforeOrAfter (digest_of m) (records_of (digest_of m) file) body c → (squares_in m c ≡ Some (first_squares m n file)) ⊎ (squares_in m c ≡ Some (first_squares m n file ++ e ∷ []))
+  image_between : (c : List ℕ) → IsBeforeOrAfter (digest_of m.plain) (records_of (digest_of m.plain) file) body c → (squares_in m c ≡ Some (first_squares m n file)) ⊎ (squares_in m c ≡ Some (first_squares m n file ++ e ∷ []))
   image_between c (inl is) = inl (all_in m start n c (has_same c is) ∙ ap (λ (l : List Entry). Some l) (first_stay c (inl is)))
   image_between c (inr is) = inr (all_in m start (n + 1) c (has_more c is) ∙ ap (λ (l : List Entry). Some l) (first_more c is))
 
 -- ---- where the disk tells
 
-module _ (q : Placed) (m : Checked) (start : List Entry) (n : ℕ) (digest body : List ℕ) (named : digest ≡ digest_of m) (reads : IsReadAs q body) (square : IsSquare q) (resolved : q.resolved ≡ m) (same : q.start ≡ start) where
+module _ (q : Placed) (m : Checked) (start : List Entry) (n : ℕ) (digest body : List ℕ) (named : digest ≡ digest_of m.plain) (reads : IsReadAs q body) (square : IsSquare q) (resolved : q.resolved ≡ m) (same : q.start ≡ start) where
   abbrev IsNextFor : Option (List ℕ) → Type 0
   IsNextFor o = IfSome (option_map (first_squares m n) o) (λ list. IsNextIn list q)
 
   abbrev Ends : List ℕ → List ℕ → Type 0
   Ends file c = IsBeforeOrAfter digest (records_of digest file) body c
 
-  ends : (file c : List ℕ) → Ends file c → IsBeforeOrAfter (digest_of m) (records_of (digest_of m) file) body c
+  ends : (file c : List ℕ) → Ends file c → IsBeforeOrAfter (digest_of m.plain) (records_of (digest_of m.plain) file) body c
   ends file c h = subst (λ d. IsBeforeOrAfter d (records_of d file) body c) named h
 
   abbrev IsLast : List ℕ → List ℕ → Type 0
   IsLast file c = records_of digest c ≡ and_last (records_of digest file) body
 
-  lasts : (file c : List ℕ) → IsLast file c → records_of (digest_of m) c ≡ and_last (records_of (digest_of m) file) body
+  lasts : (file c : List ℕ) → IsLast file c → records_of (digest_of m.plain) c ≡ and_last (records_of (digest_of m.plain) file) body
   lasts file c h = subst (λ d. records_of d c ≡ and_last (records_of d file) body) named h
 
   added : (file : List ℕ) → HasSquares m start n file → IsNextIn (first_squares m n file) q → Adds m start n file body (entry_of q)

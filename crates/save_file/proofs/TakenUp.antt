@@ -31,13 +31,13 @@ use Rattle.save_file.proofs.TakingUp.{holds_start, start_are_of, squares_plain}
 -- these bodies are those of its records, now as before.
 pub record IsOpened {D : Type 0} (now : D → Option (List ℕ)) (images : D → List ℕ → Type 0) (m : Checked) (old : D) (journal : JournalState D) (bodies : List (List ℕ)) : Type 0 where
   pub live : IsLive now images journal
-  pub digest : journal.digest ≡ digest_of m
+  pub digest : journal.digest ≡ digest_of m.plain
   pub few : length bodies ≤ journal.end
-  pub file : now journal.disk ≡ option_map (opened (digest_of m)) (now old)
-  pub is : HasBodies (digest_of m) bodies (now journal.disk)
-  pub was : HasBodies (digest_of m) bodies (now old)
+  pub file : now journal.disk ≡ option_map (opened (digest_of m.plain)) (now old)
+  pub is : HasBodies (digest_of m.plain) bodies (now journal.disk)
+  pub was : HasBodies (digest_of m.plain) bodies (now old)
 
-pub is_opened : {D : Type 0} (now : D → Option (List ℕ)) (images : D → List ℕ → Type 0) (m : Checked) (old : D) (journal : JournalState D) (digest : List ℕ) (bodies : List (List ℕ)) → digest ≡ digest_of m → length digest ≡ 32
+pub is_opened : {D : Type 0} (now : D → Option (List ℕ)) (images : D → List ℕ → Type 0) (m : Checked) (old : D) (journal : JournalState D) (digest : List ℕ) (bodies : List (List ℕ)) → digest ≡ digest_of m.plain → length digest ≡ 32
     → IsLive now images journal → journal.digest ≡ digest → length bodies ≤ journal.end → now journal.disk ≡ option_map (opened digest) (now old) → HasBodies digest bodies (now journal.disk) → IsOpened now images m old journal bodies
 is_opened now images m old journal digest bodies named width live same few file is = record {
   live = live;
@@ -50,22 +50,22 @@ is_opened now images m old journal digest bodies named width live same few file 
 
 -- ---- what it stands for
 
-has_squares : (m : Checked) (table : Staircase) (bodies : List (List ℕ)) → table.resolved ≡ m → squares_of (over m) bodies ≡ Ok table.start → IsTable table → AllRead table.rows → (file : List ℕ) → records_of (digest_of m) file ≡ Ok bodies → HasSquares table.resolved table.start (length bodies) file
+has_squares : (m : Checked) (table : Staircase) (bodies : List (List ℕ)) → table.resolved ≡ m → squares_of (over m) bodies ≡ Ok table.start → IsTable table → AllRead table.rows → (file : List ℕ) → records_of (digest_of m.plain) file ≡ Ok bodies → HasSquares table.resolved table.start (length bodies) file
 has_squares m table bodies same e h read file is =
     let here : squares_of (over table.resolved) bodies ≡ Ok table.start = ap (λ (x : Checked). squares_of (over x) bodies) same ∙ e in
     record {
       bodies = bodies;
       list = table.start;
-      records = ap (λ (x : Checked). records_of (digest_of x) file) same ∙ is;
+      records = ap (λ (x : Checked). records_of (digest_of x.plain) file) same ∙ is;
       counted = refl;
       squares = here;
       are_of = start_are_of table h read (squares_plain (over table.resolved) bodies table.start here);
     }
 
-kept_told : (m : Checked) (start : List Entry) (bodies : List (List ℕ)) → squares_of (over m) bodies ≡ Ok start → (o p : Option (List ℕ)) → p ≡ option_map (opened (digest_of m)) o → HasBodies (digest_of m) bodies p → option_map (first_squares m (length bodies)) p ≡ option_map (λ _. start) o
+kept_told : (m : Checked) (start : List Entry) (bodies : List (List ℕ)) → squares_of (over m) bodies ≡ Ok start → (o p : Option (List ℕ)) → p ≡ option_map (opened (digest_of m.plain)) o → HasBodies (digest_of m.plain) bodies p → option_map (first_squares m (length bodies)) p ≡ option_map (λ _. start) o
 kept_told m start bodies e None p same is = ap (option_map (first_squares m (length bodies))) same
 kept_told m start bodies e (Some file) p same is =
-    let here : HasBodies (digest_of m) bodies (Some (opened (digest_of m) file)) = subst (HasBodies (digest_of m) bodies) same is in
+    let here : HasBodies (digest_of m.plain) bodies (Some (opened (digest_of m.plain) file)) = subst (HasBodies (digest_of m.plain) bodies) same is in
     ap (option_map (first_squares m (length bodies))) same
     ∙ ap (λ (r : Records). Some (list_in (of_records (over m) (first_records (length bodies) r)))) here
     ∙ ap (λ (l : List (List ℕ)). Some (list_in (of_records (over m) (Ok l)))) (take_all (length bodies) bodies (omega arith))
@@ -80,18 +80,18 @@ abbrev pub Taken : {D : Type 0} → JournalState D → Staircase → ℕ → Sav
 Taken journal table n = record { journal = journal; count = n; resolved = table.resolved; start = table.start }
 
 module _ {D : Type 0} (now : D → Option (List ℕ)) (images : D → List ℕ → Type 0) (m : Checked) (old : D) (journal : JournalState D) (bodies : List (List ℕ)) (h : IsOpened now images m old journal bodies) where
-  pub stands : (s : Result (List Entry) ℕ) → squares_of (over m) bodies ≡ s → IfSome (now old) (λ file. standing_of m file ≡ of_squares s)
+  pub stands : (s : Result (List Entry) ℕ) → squares_of (over m) bodies ≡ s → IfSome (now old) (λ file. standing_of m.plain file ≡ of_squares s)
   stands s e = IfSome_then (now old) h.was (λ file is. ap (of_records (over m)) is ∙ ap of_squares e)
 
   -- where there is a record
   pub as_was : (bodies ≡ [] → ⊥) → now journal.disk ≡ now old
-  as_was some = h.file ∙ file_kept (digest_of m) bodies some (now old) h.was
+  as_was some = h.file ∙ file_kept (digest_of m.plain) bodies some (now old) h.was
 
   -- and nothing was written, if that is so of a file that an opening leaves as it is
-  pub not_written : (bodies ≡ [] → ⊥) → (X : Type 0) → IfSome (now old) (λ file. opened (digest_of m) file ≡ file → X) → IfSome (now old) (λ _. X)
+  pub not_written : (bodies ≡ [] → ⊥) → (X : Type 0) → IfSome (now old) (λ file. opened (digest_of m.plain) file ≡ file → X) → IfSome (now old) (λ _. X)
   not_written some X alone =
-      where_told (now old) (λ file. opened (digest_of m) file ≡ file → X) (λ _. X) alone
-      (λ file here so. so (kept_file (digest_of m) file bodies (at_told (now old) (λ f. records_of (digest_of m) f ≡ Ok bodies) file here h.was) some))
+      where_told (now old) (λ file. opened (digest_of m.plain) file ≡ file → X) (λ _. X) alone
+      (λ file here so. so (kept_file (digest_of m.plain) file bodies (at_told (now old) (λ f. records_of (digest_of m.plain) f ≡ Ok bodies) file here h.was) some))
 
   -- ---- the keeper of a table whose squares the bodies are
 
@@ -99,7 +99,7 @@ module _ {D : Type 0} (now : D → Option (List ℕ)) (images : D → List ℕ �
     pub takes : TakesSquares now images (Taken journal x n)
     takes = subst (λ t. TakesSquares now images (Taken journal t n)) (sym taken) (subst (λ k. TakesSquares now images (Taken journal table k)) (sym counted) (record {
       live = h.live;
-      digest = h.digest ∙ ap digest_of (sym same);
+      digest = h.digest ∙ ap (λ (x : Checked). digest_of x.plain) (sym same);
       few = h.few;
       has = IfSome_then (now journal.disk) h.is (has_squares m table bodies same squares is_table read);
     }))
@@ -121,8 +121,8 @@ from_none m bodies s table same none e = ap (λ (y : Checked). squares_from (ove
 
 -- ---- refusals
 
-refused_as : (m : Checked) (digest : List ℕ) (fault : OpenFault) (o : Option (List ℕ)) → digest ≡ digest_of m → ((fault ≡ DiskFailed) ⊎ (fault ≡ OpenMemory) ⊎ IfSome o (λ file. records_of digest file ≡ Err fault))
-    → (opening_refusal fault ≡ Open DiskFailed) ⊎ (opening_refusal fault ≡ OutOfMemory) ⊎ IfSome o (λ file. standing_of m file ≡ Err (opening_refusal fault))
+refused_as : (m : Checked) (digest : List ℕ) (fault : OpenFault) (o : Option (List ℕ)) → digest ≡ digest_of m.plain → ((fault ≡ DiskFailed) ⊎ (fault ≡ OpenMemory) ⊎ IfSome o (λ file. records_of digest file ≡ Err fault))
+    → (opening_refusal fault ≡ Open DiskFailed) ⊎ (opening_refusal fault ≡ OutOfMemory) ⊎ IfSome o (λ file. standing_of m.plain file ≡ Err (opening_refusal fault))
 refused_as m digest OpenMemory o named r = inr (inl refl)
 refused_as m digest fault o named r = elim r [
   | inl failed ↦ inl (ap opening_refusal failed)
@@ -132,9 +132,9 @@ refused_as m digest fault o named r = elim r [
   ]
 ]
 
-pub refused : (m : Checked) (digest : List ℕ) (fault : OpenFault) (e : ResumeFault) (o : Option (List ℕ)) → e ≡ opening_refusal fault → digest ≡ digest_of m → ((fault ≡ DiskFailed) ⊎ (fault ≡ OpenMemory) ⊎ IfSome o (λ file. records_of digest file ≡ Err fault))
-    → (e ≡ Open DiskFailed) ⊎ (e ≡ OutOfMemory) ⊎ IfSome o (λ file. standing_of m file ≡ Err e)
-refused m digest fault e o is named r = subst (λ e. (e ≡ Open DiskFailed) ⊎ (e ≡ OutOfMemory) ⊎ IfSome o (λ file. standing_of m file ≡ Err e)) (sym is) (refused_as m digest fault o named r)
+pub refused : (m : Checked) (digest : List ℕ) (fault : OpenFault) (e : ResumeFault) (o : Option (List ℕ)) → e ≡ opening_refusal fault → digest ≡ digest_of m.plain → ((fault ≡ DiskFailed) ⊎ (fault ≡ OpenMemory) ⊎ IfSome o (λ file. records_of digest file ≡ Err fault))
+    → (e ≡ Open DiskFailed) ⊎ (e ≡ OutOfMemory) ⊎ IfSome o (λ file. standing_of m.plain file ≡ Err e)
+refused m digest fault e o is named r = subst (λ e. (e ≡ Open DiskFailed) ⊎ (e ≡ OutOfMemory) ⊎ IfSome o (λ file. standing_of m.plain file ≡ Err e)) (sym is) (refused_as m digest fault o named r)
 
 -- a failure of the disk, and nothing else, is told as one
 pub failed : (fault : OpenFault) → opening_refusal fault ≡ Open DiskFailed → fault ≡ DiskFailed
@@ -146,13 +146,13 @@ pub not_open : (fault : OpenFault) → opening_refusal fault ≢ Open OpenMemory
 not_open OpenMemory e = absurd (cc)
 not_open fault e = absurd (cc)
 
-strange_as : (m : Checked) (fault : DecodeFault) (o : Option (List ℕ)) → ((n : ℕ) → fault ≡ StrangeBody n → IfSome o (λ file. standing_of m file ≡ Err (Strange n)))
-    → (body_refusal fault ≡ Open DiskFailed) ⊎ (body_refusal fault ≡ OutOfMemory) ⊎ IfSome o (λ file. standing_of m file ≡ Err (body_refusal fault))
+strange_as : (m : Checked) (fault : DecodeFault) (o : Option (List ℕ)) → ((n : ℕ) → fault ≡ StrangeBody n → IfSome o (λ file. standing_of m.plain file ≡ Err (Strange n)))
+    → (body_refusal fault ≡ Open DiskFailed) ⊎ (body_refusal fault ≡ OutOfMemory) ⊎ IfSome o (λ file. standing_of m.plain file ≡ Err (body_refusal fault))
 strange_as m (StrangeBody number) o told = inr (inr (told number refl))
 strange_as m BodyMemory o told = inr (inl refl)
 
-pub strange : (m : Checked) (fault : DecodeFault) (e : ResumeFault) (o : Option (List ℕ)) → e ≡ body_refusal fault → ((n : ℕ) → fault ≡ StrangeBody n → IfSome o (λ file. standing_of m file ≡ Err (Strange n))) → (e ≡ Open DiskFailed) ⊎ (e ≡ OutOfMemory) ⊎ IfSome o (λ file. standing_of m file ≡ Err e)
-strange m fault e o is told = subst (λ e. (e ≡ Open DiskFailed) ⊎ (e ≡ OutOfMemory) ⊎ IfSome o (λ file. standing_of m file ≡ Err e)) (sym is) (strange_as m fault o told)
+pub strange : (m : Checked) (fault : DecodeFault) (e : ResumeFault) (o : Option (List ℕ)) → e ≡ body_refusal fault → ((n : ℕ) → fault ≡ StrangeBody n → IfSome o (λ file. standing_of m.plain file ≡ Err (Strange n))) → (e ≡ Open DiskFailed) ⊎ (e ≡ OutOfMemory) ⊎ IfSome o (λ file. standing_of m.plain file ≡ Err e)
+strange m fault e o is told = subst (λ e. (e ≡ Open DiskFailed) ⊎ (e ≡ OutOfMemory) ⊎ IfSome o (λ file. standing_of m.plain file ≡ Err e)) (sym is) (strange_as m fault o told)
 
 -- ---- moments
 

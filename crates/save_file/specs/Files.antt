@@ -2,11 +2,12 @@
 use Rattle.std.specs.Prelude.{ℕ, List, [], take, Option, Result, Ok, Err}
 use Rattle.std.specs.Result.{result_ok}
 use Rattle.sha2.specs.Sha256.{sha256}
+use Rattle.finite_module.specs.Module.{Module as SteenrodModule}
 use Rattle.finite_module.specs.Checked.{Checked}
 use Rattle.finite_module.specs.Text.{canonical_text}
 use Rattle.resolution_laws.specs.Resolution.{Module}
 use Rattle.resolution_laws.specs.Start.{Entry}
-use Rattle.square.specs.Squares.{over}
+use Rattle.square.specs.Squares.{module_over, over}
 use Rattle.save_journal.specs.Records.{Records, records_of}
 use Rattle.save_file.specs.Reading.{squares_of}
 use Rattle.save_journal.specs.declared.fault.OpenFault.{OpenFault}
@@ -17,8 +18,8 @@ use Rattle.save_file.specs.declared.fault.ResumeFault.{ResumeFault}
 use Rattle.save_file.specs.declared.fault.ResumeFault.TheVariants.{Open, Strange, Memory}
 
 -- what the records of a module's save file belong to: SHA-256 of its canonical text
-abbrev pub digest_of : Checked → List ℕ
-digest_of m = sha256 (canonical_text m.plain)
+abbrev pub digest_of : SteenrodModule → List ℕ
+digest_of m = sha256 (canonical_text m)
 
 -- the squares of a save file, in the order of their records, or why it is refused
 abbrev pub Standing : Type 0
@@ -34,12 +35,12 @@ of_records m (Err fault) = Err (Open fault)
 
 -- What a file stands for as a save file of a module: its records, each read behind those before it. A file that is refused stands
 -- for nothing.
-abbrev pub standing_of : Checked → List ℕ → Standing
-standing_of m file = of_records (over m) (records_of (digest_of m) file)
+abbrev pub standing_of : SteenrodModule → List ℕ → Standing
+standing_of m file = of_records (module_over m) (records_of (digest_of m) file)
 
 -- the squares that it stands for, none where it is refused
 abbrev pub squares_in : Checked → List ℕ → Option (List Entry)
-squares_in m file = result_ok (standing_of m file)
+squares_in m file = result_ok (standing_of m.plain file)
 
 -- the same of its first records alone, and no squares where those are refused
 abbrev pub first_records : ℕ → Records → Records
@@ -51,7 +52,7 @@ list_in (Ok list) = list
 list_in (Err fault) = []
 
 abbrev pub first_squares : Checked → ℕ → List ℕ → List Entry
-first_squares m n file = list_in (of_records (over m) (first_records n (records_of (digest_of m) file)))
+first_squares m n file = list_in (of_records (over m) (first_records n (records_of (digest_of m.plain) file)))
 
 -- ---- why a file was not taken up
 

@@ -22,7 +22,7 @@ pub record SaveState (D : Type 0) : Type 0 where
 pub record HasSquares (m : Checked) (start : List Entry) (count : ℕ) (file : List ℕ) : Type 0 where
   pub bodies : List (List ℕ)
   pub list : List Entry
-  pub records : records_of (digest_of m) file ≡ Ok bodies
+  pub records : records_of (digest_of m.plain) file ≡ Ok bodies
   pub counted : length bodies ≡ count
   pub squares : squares_of (over m) bodies ≡ Ok list
   pub are_of : AreOf (over m) start list
@@ -32,7 +32,7 @@ pub record HasSquares (m : Checked) (start : List Entry) (count : ℕ) (file : L
 pub record TakesSquares {D : Type 0} (now : D → Option (List ℕ)) (images : D → List ℕ → Type 0) (k : SaveState D)
     : Type 0 where
   pub live : IsLive now images k.journal
-  pub digest : k.journal.digest ≡ digest_of k.resolved
+  pub digest : k.journal.digest ≡ digest_of k.resolved.plain
   pub few : k.count ≤ k.journal.end
   pub has : IfSome (now k.journal.disk) (HasSquares k.resolved k.start k.count)
 

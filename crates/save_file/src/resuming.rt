@@ -46,26 +46,28 @@ pub fn resume<D: Disk>(
     module: Module,
     disk: D,
 ) -> Result<(Table, SaveFile<D>), (ResumeFault, D)>
-    ensures squares { IfOk result (λ r. IfSome (D.now disk) (λ file. standing_of «module» file ≡ Ok r.0.start)) }
+    ensures squares { IfOk result (λ r. IfSome (D.now disk) (λ file. standing_of «module».plain file ≡ Ok r.0.start)) }
     ensures resolved { IfOk result (λ r. r.0.resolved ≡ «module») }
     ensures all_read { IfOk result (λ r. AllRead r.0.rows) }
     ensures live { IfOk result (λ r. TakesSquares D.now D.images r.1) }
     ensures keeper { IfOk result (λ r. IsKeeperOf (telling_of D.now D.moment D.images D.since D.faults r.1) r.0) }
     ensures kept { IfOk result (λ r. kept_in D.now r.1 ≡ option_map (λ _. r.0.start) (D.now disk)) }
-    ensures file { IfOk result (λ r. D.now r.1.journal.disk ≡ option_map (opened (digest_of «module»)) (D.now disk)) }
+    ensures file { IfOk result
+        (λ r. D.now r.1.journal.disk ≡ option_map (opened (digest_of «module».plain)) (D.now disk)) }
     ensures refused { IfErr result (λ e. (e.0 ≡ Open DiskFailed) ⊎ (e.0 ≡ OutOfMemory)
-        ⊎ IfSome (D.now disk) (λ file. standing_of «module» file ≡ Err e.0)) }
+        ⊎ IfSome (D.now disk) (λ file. standing_of «module».plain file ≡ Err e.0)) }
     ensures memory { IfErr result (λ e. e.0 ≢ Open OpenMemory) }
     ensures same { IfErr result (λ e. e.0 ≢ Open DiskFailed → D.now e.1 ≡ D.now disk) }
     ensures unwritten { IfErr result (λ e. e.0 ≢ Open DiskFailed →
         IfSome (D.now disk) (λ _. LeavesOnly D.moment D.since disk e.1 (D.images disk))) }
-    ensures left_alone { IfOk result (λ r. IfSome (D.now disk) (λ file. opened (digest_of «module») file ≡ file →
+    ensures left_alone { IfOk result (λ r. IfSome (D.now disk) (λ file. opened (digest_of «module».plain) file ≡ file →
         LeavesOnly D.moment D.since disk r.1.journal.disk (D.images disk))) }
     ensures time { MatchResult result (λ r. LeavesOnly D.moment D.since disk r.1.journal.disk (λ _. Unit {0}))
         (λ e. LeavesOnly D.moment D.since disk e.1 (λ _. Unit {0})) }
     ensures any_moment { IfSome (D.now disk) (λ _. MatchResult result
-        (λ r. LeavesOnly D.moment D.since disk r.1.journal.disk (HasRecordsOf (digest_of «module») (D.images disk)))
-        (λ e. LeavesOnly D.moment D.since disk e.1 (HasRecordsOf (digest_of «module») (D.images disk)))) }
+        (λ r. LeavesOnly D.moment D.since disk r.1.journal.disk
+        (HasRecordsOf (digest_of «module».plain) (D.images disk)))
+        (λ e. LeavesOnly D.moment D.since disk e.1 (HasRecordsOf (digest_of «module».plain) (D.images disk)))) }
     ensures no_fault { IfOk result (λ r. D.faults r.1.journal.disk ≡ D.faults disk) }
     ensures quiet { IfErr result (λ e. e.0 ≢ Open DiskFailed → D.faults e.1 ≡ D.faults disk) }
     ensures never_fall { IfErr result (λ e. D.faults disk ≤ D.faults e.1) }

@@ -1,4 +1,4 @@
-mod Squares
+mod Outside
 mod Coordinates
 pub mod Lifted
 pub mod Cut

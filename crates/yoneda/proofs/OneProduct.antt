@@ -18,7 +18,8 @@ use Rattle.lift_laws.specs.Lifts.{IsLift, dual_of}
 use Rattle.lift_laws.proofs.Cut.{IsLift-cut}
 use Rattle.chain_map.specs.declared.class.Class.{Class}
 use Rattle.chain_map.specs.Lifting.{LiftValues, no_lift, resolution_of, AreCanonical, row_values, map_of, degrees_through, greatest, IsLiftOver}
-use Rattle.chain_map.proofs.Resolved.{longer_below, part, part_of, row_of-part, resolved-part}
+use Rattle.square.proofs.Pushing.{never_rises_by}
+use Rattle.chain_map.proofs.Resolved.{part, part_of, row_of-part, resolved-part}
 use Rattle.yoneda.specs.declared.place.Place.{Place}
 use Rattle.yoneda.specs.Places.{class_above, IsPlaceOf, IsThere}
 use Rattle.yoneda.specs.Products.{IsAllCanonical, IsProduct, IsProductOver, ArePlacesOf, HasValuesOn, AreProducts}
@@ -33,7 +34,7 @@ pub reaches_class : (sphere : Staircase) → IsTable sphere → (a : Place) → 
 reaches_class sphere h a there = λ i l.
     let up : i + (a.s - i) ≡ a.s = omega arith in
     let same = ap (λ (z : ℕ). length (row_in sphere.rows z)) up in
-    let longer = longer_below sphere h i (a.s - i) in
+    let longer = never_rises_by sphere h i (a.s - i) in
     let square = there.square in
     omega arith
 
@@ -48,7 +49,7 @@ pub canonical_below : (table : Staircase) → IsTable table → IsAllCanonical t
 canonical_below table h are s n few = λ i k l b.
     let up : i + (s - i) ≡ s = omega arith in
     let same = ap (λ (z : ℕ). length (row_in table.rows z)) up in
-    let longer = longer_below table h i (s - i) in
+    let longer = never_rises_by table h i (s - i) in
     are i k (omega arith)
 
 module _ (minimal : CanonicalTableIsMinimalResolution) (modules : ModulesAreSteenrodModules) (table : Staircase) (h : IsTable table) (s t : ℕ) (long : t < length (row_in table.rows s)) (are : AreCanonical table s (t + 1)) where

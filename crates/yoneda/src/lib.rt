@@ -8,5 +8,5 @@ mod values;
 
 pub use fault::YonedaFault;
 pub use multiply::{product, products};
-pub use place::{Place, degree, generators_at, place_of};
+pub use place::{Place, known, place_of};
 pub use values::coefficients;

@@ -11,7 +11,7 @@ ghost use Rattle.yoneda.specs.declared.fault.YonedaFault as YonedaFault;
 ghost use Rattle.yoneda.specs.declared.fault.YonedaFault.TheVariants.{NoClass, Memory as OutOfMemory};
 
 use crate::fault::YonedaFault;
-use crate::place::{Place, degree, place_of};
+use crate::place::{Place, known, place_of};
 use crate::values::coefficients;
 use chain_map::{Class, Lift, lift, lifts};
 use f2_vec::BitVec;
@@ -85,7 +85,7 @@ pub fn products(
     lifts_give_one_product();
     known(table);
     known(sphere);
-    let lifts = lifts(alloc, table, sphere, s, degree(table, above), a.s)?;
+    let lifts = lifts(alloc, table, sphere, s, table.degree(above), a.s)?;
     products_by(
         alloc,
         table,
@@ -122,13 +122,6 @@ fn products_by(
     Ok(rows)
 }
 
-/// What is known of each table.
-fn known(table: &Table)
-    ensures { IsTable table.now }
-{
-    let _rows = table.front(0);
-}
-
 /// Where the two classes stand, or why they have no product in the range.
 fn places(
     table: &Table,
@@ -153,7 +146,7 @@ fn places(
     if s > range.s || above > range.t {
         return Err(YonedaFault::OutOfRange {
             s: i32::from(s),
-            t: degree(table, above),
+            t: table.degree(above),
         });
     }
     Ok((first, second))

@@ -1,9 +1,9 @@
 //! Where a class stands in a table.
-ghost use Rattle.std.specs.Prelude.{◌≡◌, ◌≤◌, ◌<◌, ℕ, pos, ◌+ℤ◌, length, MatchOption, IfOk, IfErr, OnOk, None, Some};
+ghost use Rattle.std.specs.Prelude.{◌≡◌, ◌≤ℤ◌, neg_ℤ, MatchOption, IfOk, IfErr, OnOk, None, Some};
 ghost use Rattle.degrees.specs.Above.{above_of as above};
-ghost use Rattle.square.specs.declared.range.TheConstants.{MAX_S, MAX_T};
+ghost use Rattle.module_json.specs.declared.limits.TheConstants.{MAX_DEGREE};
 ghost use Rattle.square.specs.Squares.{bottom_of};
-ghost use Rattle.square.specs.Tables.{row_in, content_at, IsTable, IsThrough};
+ghost use Rattle.square.specs.Tables.{IsTable, IsThrough};
 ghost use Rattle.yoneda.specs.Places.{classes_at, missing, IsOutside, IsInsideAt, IsPlaceOf};
 
 use chain_map::Class;
@@ -33,7 +33,7 @@ pub fn place_of(table: &Table, range: Range, class: Class) -> Result<Place, usiz
     let Some((s, above)) = inside(table, range, class.s, class.t) else {
         return Err(0);
     };
-    let count = generators_at(table, s, above);
+    let count = table.images_of(s, above).len();
     if class.i < count {
         Ok(Place {
             s,
@@ -56,23 +56,12 @@ fn inside(table: &Table, range: Range, s: u32, t: i32) -> Option<(u16, u16)>
     Some((s as u16, above as u16))
 }
 
-/// The internal degree that is `above` above the bottom.
-pub fn degree(table: &Table, above: u16) -> i32
-    ensures { result ≡ bottom_of table.now.resolved +ℤ pos above }
-{
-    table.module().bottom() + i32::from(above)
-}
-
-/// How many generators the square in row `s`, `above` degrees above the bottom, has.
-pub fn generators_at(table: &Table, s: u16, above: u16) -> usize
-    requires { above < length (row_in table.now.rows s) }
-    ensures count { result ≡ length (content_at table.now.rows s above).images }
-    ensures row { s ≤ MAX_S }
-    ensures degree { above ≤ MAX_T }
+/// Hands what holds of every table to the proof of whoever calls it.
+pub fn known(table: &Table)
     ensures is_table { IsTable table.now }
+    ensures least { neg_ℤ MAX_DEGREE ≤ℤ bottom_of table.now.resolved }
+    ensures most { bottom_of table.now.resolved ≤ℤ MAX_DEGREE }
 {
-    match table.at(s, degree(table, above)) {
-        Some(square) => square.gens().len(),
-        None => unreachable!(),
-    }
+    let _rows = table.front(0);
+    let _bottom = table.module().bottom();
 }

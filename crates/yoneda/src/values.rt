@@ -10,7 +10,7 @@ ghost use Rattle.chain_map.specs.Lifting.{resolution_of};
 ghost use Rattle.yoneda.specs.Places.{class_above, IsThere};
 ghost use Rattle.yoneda.specs.Products.{AreOnSquare, coefficients_back};
 
-use crate::place::{Place, generators_at};
+use crate::place::Place;
 use f2_vec::BitVec;
 use memory::Memory;
 use square::Table;
@@ -38,8 +38,8 @@ pub fn coefficients(
         (λ g. coefficient_of (resolution_of sphere.now) (class_above a) (row values.now g))) }
 {
     let first = first_at(alloc, table, s, above)?;
-    let count = generators_at(table, s, above);
-    let back = generators_at(sphere, a.s, a.above) - a.i;
+    let count = table.images_of(s, above).len();
+    let back = sphere.images_of(a.s, a.above).len() - a.i;
     coordinates_back(alloc, &values[first..first + count], back)
 }
 

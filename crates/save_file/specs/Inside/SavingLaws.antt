@@ -21,7 +21,7 @@ left_earlier since law k m n image le left = (left.0, law k.journal.disk m n lef
 
 -- what a file with squares stands for
 pub standing_is : (m : Checked) (start : List Entry) (n : ℕ) (file : List ℕ) (h : HasSquares m start n file) →
-    standing_of m file ≡ Ok h.list
+    standing_of m.plain file ≡ Ok h.list
 standing_is m start n file h = ap (of_records (over m)) h.records ∙ ap of_squares h.squares
 
 -- as many as are counted are all of them

@@ -1,12 +1,14 @@
-use Rattle.std.proofs.Common.{◌≡◌, ℕ, List, ◌+◌, ◌<◌, ◌++◌, ◌∷◌, [], pos, ◌+ℤ◌, length, ap, sym, subst, ◌∙◌, w32, to_z, of_z, arith}
-use Rattle.std.proofs.lemmas.Int.{ints, to_z-of_z}
+use Rattle.std.proofs.Common.{rules, ◌≡◌, ℕ, List, ◌+◌, ◌++◌, ◌∷◌, [], pos, ◌+ℤ◌, length, ap, sym, subst, ◌∙◌, w32, to_z, of_z, arith}
+use Rattle.std.proofs.lemmas.Int.{ints}
 use Rattle.std.proofs.lemmas.List.{get_or_push, length_push}
 use Rattle.std.specs.Prelude.{slice_index_or}
 use Rattle.square.specs.Squares.{bottom_of}
 use Rattle.square.specs.Tables.{row_in}
-use Rattle.chain_map.specs.Lifting.{LiftValues, IsLiftOver, no_lift}
-use Rattle.chain_map.proofs.Resolved.{longer_below}
+use Rattle.lift_laws.specs.Products.{count_of}
+use Rattle.chain_map.specs.Lifting.{LiftValues, resolution_of, IsLiftOver, no_lift}
+use Rattle.square.proofs.Pushing.{never_rises_by}
 use Rattle.chain_map.proofs.making.lift.Goals as goal
+use Rattle.chain_map.proofs.making.lift.Goals.{After-above_at-above}
 
 pub prove-unreachable-requires : goal.prove-unreachable-requires
 prove-unreachable-requires c =
@@ -15,9 +17,22 @@ prove-unreachable-requires c =
     let front = c.front-longest.ensures.front in
     let e : 0 + c.args.class.s ≡ c.args.class.s = omega arith in
     let same = ap (λ (i : ℕ). length (row_in table.rows i)) e in
-    let more = longer_below table is 0 c.args.class.s in
+    let more = never_rises_by table is 0 c.args.class.s in
     let there = c.requires.class.square in
     let none = c.if-prove.true in
+    omega arith
+
+-- how far the square is above the bottom
+above-is : (c : After-above_at-above) (above : ℕ) → to_z w32 (of_z w32 c.args.class.t) ≡ c.args.class.t → c.args.class.t ≡ bottom_of c.args.table.now.resolved +ℤ pos above → c.above_at-above.result ≡ above
+above-is c above t e = let at = sym t ∙ c.above_at-above.ensures.above in omega (arith, ints, e)
+
+pub lifts_of-requires-clause-classes : goal.lifts_of-requires-clause-classes
+lifts_of-requires-clause-classes c =
+    let class = c.requires.class in
+    let t : to_z w32 (of_z w32 c.args.class.t) ≡ c.args.class.t = search rules in
+    let same = above-is ((goal.at.lifts_of-requires-clause-classes c).After-above_at-above) class.above t class.degree in
+    let count = ap (count_of (resolution_of c.args.table.now) c.args.class.s) same in
+    let generator = class.generator in
     omega arith
 
 pub returns : goal.returns
@@ -32,7 +47,9 @@ returns c = λ above e.
     let len = ap length parts in
     let none : length rest ≡ 0 = omega (arith, length_push rest lift) in
     let at : slice_index_or all 0 no_lift ≡ lift = ap (λ (z : List LiftValues). slice_index_or z 0 no_lift) parts ∙ get_or_push rest lift no_lift 0 none in
-    let first = c.in_ok-lifts.ensures.lifts above (omega (arith, ints, e)) 0 (omega arith) in
+    let t : to_z w32 (of_z w32 c.args.class.t) ≡ c.args.class.t = search rules in
+    let same = above-is ((goal.at.returns c).After-above_at-above) above t e in
+    let first = subst (λ (k : ℕ). IsLiftOver table c.args.sphere.now class.s k (class.i + 0) c.args.upto (slice_index_or all 0 no_lift)) same (c.in_ok-lifts.ensures.lifts 0 (omega arith)) in
     let number : class.i + 0 ≡ class.i = omega arith in
     let P : LiftValues → Type 0 = λ z. IsLiftOver table c.args.sphere.now class.s above (class.i + 0) c.args.upto z in
     let Q : ℕ → Type 0 = λ i. IsLiftOver table c.args.sphere.now class.s above i c.args.upto lift in

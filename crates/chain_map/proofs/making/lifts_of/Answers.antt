@@ -1,11 +1,11 @@
-use Rattle.std.proofs.Common.{◌≡◌, ℕ, ℤ, List, pos, ◌+ℤ◌, ◌+◌, ◌<◌, ◌≤◌, length, replicate, [], ap, sym, subst, ◌∙◌, w32, to_z, of_z, arith}
-use Rattle.std.proofs.lemmas.Int.{ints, to_z-of_z}
+use Rattle.std.proofs.Common.{◌≡◌, ℤ, List, length, [], ap, ◌∙◌, w32, to_z, of_z, arith}
+use Rattle.std.proofs.lemmas.Int.{to_z-of_z}
 use Rattle.std.proofs.lemmas.List.{length-replicate, get_or-replicate}
-use Rattle.std.specs.Prelude.{slice_index_or, IfOk}
+use Rattle.std.specs.Prelude.{slice_index_or}
 use Rattle.finite_module.specs.Checked.{Checked}
 use Rattle.square.specs.Squares.{bottom_of}
 use Rattle.square.proofs.Targets.{row_short}
-use Rattle.chain_map.specs.Lifting.{LiftValues, no_lift, IsLiftOver}
+use Rattle.chain_map.specs.Lifting.{LiftValues, no_lift}
 use Rattle.chain_map.proofs.making.lifts_of.Goals as goal
 use Rattle.chain_map.proofs.making.lifts_of.Goals.{In_ok-lifts}
 
@@ -15,24 +15,19 @@ overflow_cast-course c =
     let front = c.front.ensures.front in
     omega arith
 
-degree-is : (c : In_ok-lifts) → c.args.t ≡ bottom_of c.args.table.now.resolved +ℤ pos c.square_of-above.result.0
-degree-is c = sym (to_z-of_z w32 c.args.t c.ranges.t) ∙ c.square_of-above.ensures.above
-
 one-each : (c : In_ok-lifts) → length c.in_ok-lifts.lifts.items ≡ c.args.count
 one-each c = ap length c.in_ok-lifts.ensures ∙ length-replicate c.args.count (record { bottom = to_z w32 (of_z w32 c.bottom.result); rows = [] })
 
 pub with_rows-requires-clause-classes : goal.with_rows-requires-clause-classes
 with_rows-requires-clause-classes c =
     let here = (goal.at.with_rows-requires-clause-classes c).In_ok-lifts in
-    let classes = c.requires.classes c.square_of-above.result.0 (degree-is here) in
+    let classes = c.requires.classes in
     omega (arith, one-each here)
 
 pub with_rows-requires-clause-small : goal.with_rows-requires-clause-small
 with_rows-requires-clause-small c =
     let here = (goal.at.with_rows-requires-clause-small c).In_ok-lifts in
-    let classes = c.requires.classes c.square_of-above.result.0 (degree-is here) in
-    let small = c.square_of-above.type_inv.1 in
-    let count = c.square_of-above.ensures.count in
+    let small = c.requires.small in
     omega (arith, one-each here)
 
 pub with_rows-requires-clause-empty : goal.with_rows-requires-clause-empty
@@ -43,11 +38,3 @@ with_rows-requires-clause-empty c = λ j l.
     let v : LiftValues = record { bottom = to_z w32 (of_z w32 c.bottom.result); rows = [] } in
     ap (λ (z : List LiftValues). slice_index_or z j no_lift) c.in_ok-lifts.ensures
     ∙ (get_or-replicate c.args.count j v no_lift (omega arith) ∙ ap (λ (b : ℤ). let w : LiftValues = record { bottom = b; rows = [] } in w) low)
-
-pub returns-clause-lifts : goal.returns-clause-lifts
-returns-clause-lifts c = λ above e.
-    let here = (goal.at.returns-clause-lifts c).In_ok-lifts in
-    let at = degree-is here in
-    let same : c.square_of-above.result.0 ≡ above = omega (arith, ints) in
-    let P : ℕ → Type 0 = λ a. IfOk c.with_rows.result (λ lifts. (j : ℕ) → j < length lifts.items → IsLiftOver c.args.table.now c.args.sphere.now c.args.s a (c.args.from + j) c.args.upto (slice_index_or lifts.items j no_lift)) in
-    subst P same c.with_rows.ensures.lifts

@@ -29,4 +29,4 @@ loop-k-preserved c =
     let test = c.loop-k-test.true in
     let t : ℤ = to_z w32 (of_z w32 (to_z w32 (of_z w32 c.from.result) -ℤ to_z w32 (of_z w32 c.from-in-loop-k.result))) in
     let at : t ≡ (pos 0 -ℤ pos c.args.above) +ℤ pos k = omega (arith, ints, c.from.ensures, c.from-in-loop-k.ensures, c.ranges.n.fits, c.ranges.above.fits) in
-    degrees_from-more (pos 0 -ℤ pos c.args.above) (take k row) (take (k + 1) row) (square_in row k) k c.loop-k.gens c.push_many.new.self t (take_more row k no_content (omega arith)) (length-take-le k row (omega arith)) at c.loop-k.invariant (c.in_ok-push_many.ensures.ok ∙ ap (λ (n : ℕ). c.loop-k.gens ++ replicate n t) (ap length c.images_at-count.ensures.images))
+    degrees_from-more (pos 0 -ℤ pos c.args.above) (take k row) (take (k + 1) row) (square_in row k) k c.loop-k.gens c.push_many.new.self t (take_more row k no_content (omega arith)) (length-take-le k row (omega arith)) at c.loop-k.invariant (c.in_ok-push_many.ensures.ok ∙ ap (λ (n : ℕ). c.loop-k.gens ++ replicate n t) (ap length c.images_of-count.ensures.images))

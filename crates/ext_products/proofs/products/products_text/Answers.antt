@@ -19,7 +19,7 @@ returns-in-Ok-clause-text c =
     let near = subst (λ (r : Range). IsThrough r sphere.rows) reach made.through in
     let is = subst (λ (r : Range). IsPlaceOf sphere r by a) reach c.in-Ok.ensures.place in
     let there = subst (λ (r : Range). missing sphere r by ≡ None) reach c.in-Ok.ensures.there in
-    text-answer c.args.table.now sphere c.args.range by made.canonical made.sphere near made.module_is c.lifts_give_one_product.ensures c.canonical_table_is_minimal_resolution.ensures c.modules_are_graded_modules.ensures c.known.ensures c.in-Ok.ensures.is_table c.requires.through
+    text-answer c.args.table.now sphere c.args.range by made.canonical made.sphere near made.module_is c.lifts_give_one_product.ensures c.canonical_table_is_minimal_resolution.ensures c.modules_are_graded_modules.ensures c.known.ensures.is_table c.in-Ok.ensures.is_table c.requires.through
     a is there c.in_ok-lines-in-Ok.lines.items c.in_ok-lines-in-Ok.ensures _ (c.in_ok-product_lines-in-Ok.ensures ∙ ap product_lines_text c.as_slice.ensures.value)
 
 pub returns-clause-sure : goal.returns-clause-sure

@@ -1,4 +1,4 @@
-use Rattle.std.proofs.Common.{◌≡◌, ℕ, ◌+◌, ◌-◌, Bool, List, [], ◌∷◌, ◌++◌, map, append_assoc, ap, sym, subst, ◌∙◌, arith}
+use Rattle.std.proofs.Common.{◌≡◌, ℕ, ◌+◌, ◌-◌, Bool, List, [], ◌∷◌, ◌++◌, length, map, append_assoc, ap, sym, subst, ◌∙◌, arith}
 use Rattle.std.specs.List.{range_with_len}
 use Rattle.std.proofs.lemmas.List.FromFn.{map-range_with_len_more}
 use Rattle.lift_laws.specs.Products.{count_of}
@@ -21,13 +21,13 @@ lower_row-requires-clause-row c = let a = c.requires.lifts.a_row in omega arith
 
 pub lower_row-requires-clause-class : goal.lower_row-requires-clause-class
 lower_row-requires-clause-class c =
-    let e : c.generators_at-i-end.result ≡ count_of (resolution_of c.args.setting.now.sphere.now) ((c.args.setting.now.places.b.s + c.args.setting.now.places.a.s) - 1) (above_ab c.args.setting.now.places) = c.generators_at-i-end.ensures.count ∙ ap (count_of (resolution_of c.args.setting.now.sphere.now) ((c.args.setting.now.places.b.s + c.args.setting.now.places.a.s) - 1)) c.above_ab.ensures in
+    let e : length c.images_of-i-end.result.now ≡ count_of (resolution_of c.args.setting.now.sphere.now) ((c.args.setting.now.places.b.s + c.args.setting.now.places.a.s) - 1) (above_ab c.args.setting.now.places) = ap length c.images_of-i-end.ensures.images ∙ ap (count_of (resolution_of c.args.setting.now.sphere.now) ((c.args.setting.now.places.b.s + c.args.setting.now.places.a.s) - 1)) c.above_ab.ensures in
     omega arith
 
 pub returns : goal.returns
 returns c = λ l e.
     let low = (c.args.setting.now.places.b.s + c.args.setting.now.places.a.s) - 1 in
-    let count : c.generators_at-i-end.result ≡ count_of (resolution_of c.args.setting.now.sphere.now) low (above_ab c.args.setting.now.places) = c.generators_at-i-end.ensures.count ∙ ap (count_of (resolution_of c.args.setting.now.sphere.now) low) c.above_ab.ensures in
+    let count : length c.images_of-i-end.result.now ≡ count_of (resolution_of c.args.setting.now.sphere.now) low (above_ab c.args.setting.now.places) = ap length c.images_of-i-end.ensures.images ∙ ap (count_of (resolution_of c.args.setting.now.sphere.now) low) c.above_ab.ensures in
     let all : c.loop-i.i ≡ count_of (resolution_of c.args.setting.now.sphere.now) low (above_ab c.args.setting.now.places) = omega arith in
     let same : low ≡ l = omega arith in
     subst (λ (k : ℕ). c.loop-i.rows.items ≡ c.args.rows.now.items ++ map (lower_product c.args.setting.now.table.now c.args.setting.now.sphere.now c.args.setting.now.places c.args.gamma.now k) (range_with_len 0 (count_of (resolution_of c.args.setting.now.sphere.now) k (above_ab c.args.setting.now.places)))) same

@@ -26,7 +26,7 @@ laws g = record {
   since_earlier = g.met.D.Disk.since_earlier;
 }
 
-named : (g : Over) (c : After-open g) → c.digest-digest.result ≡ digest_of c.args.module
+named : (g : Over) (c : After-open g) → c.digest-digest.result ≡ digest_of c.args.module.plain
 named g c = c.digest-digest.ensures ∙ ap sha256 (c.as_slice.ensures.value ∙ c.in-Ok.ensures.text)
 
 opened_here : (g : Over) (c : After-read_bodies g) → IsOpened g.D.Disk.now g.D.Disk.images c.args.module c.args.disk c.in-Ok-open.opened.0 (contents c.in-Ok-open.opened.1.items)
@@ -43,14 +43,14 @@ squares_here g c s e =
     (ap (λ l. squares_from (over c.in-Ok.table.resolved) c.in-Ok.table.start 0 (contents l)) (sym c.as_slice-2.ensures.value) ∙ e)
 
 -- an opening that leaves the file as it is writes nothing
-alone_here : (g : Over) (c : After-read_bodies g) → IfSome (g.D.Disk.now c.args.disk) (λ file. opened (digest_of c.args.module) file ≡ file → LeavesOnly g.D.Disk.moment g.D.Disk.since c.args.disk c.in-Ok-open.opened.0.disk (g.D.Disk.images c.args.disk))
+alone_here : (g : Over) (c : After-read_bodies g) → IfSome (g.D.Disk.now c.args.disk) (λ file. opened (digest_of c.args.module.plain) file ≡ file → LeavesOnly g.D.Disk.moment g.D.Disk.since c.args.disk c.in-Ok-open.opened.0.disk (g.D.Disk.images c.args.disk))
 alone_here g c =
     subst (λ d. IfSome (g.D.Disk.now c.args.disk) (λ file. opened d file ≡ file → LeavesOnly g.D.Disk.moment g.D.Disk.since c.args.disk c.in-Ok-open.opened.0.disk (g.D.Disk.images c.args.disk))) (c.digest-digest.ensures ∙ ap sha256 (c.as_slice.ensures.value ∙ c.in-Ok.ensures.text)) c.in-Ok-open.ensures.left_alone
 
 -- ---- before the disk got a call
 
 pub returns-in_default-clause-any_moment : goal.returns-in_default-clause-any_moment
-returns-in_default-clause-any_moment g c = not_called g.D.Disk.now g.D.Disk.moment g.D.Disk.images g.D.Disk.since (laws g) (digest_of c.args.module) c.args.disk
+returns-in_default-clause-any_moment g c = not_called g.D.Disk.now g.D.Disk.moment g.D.Disk.images g.D.Disk.since (laws g) (digest_of c.args.module.plain) c.args.disk
 
 pub returns-in_default-clause-unwritten : goal.returns-in_default-clause-unwritten
 returns-in_default-clause-unwritten g c = λ _. untouched g.D.Disk.now g.D.Disk.moment g.D.Disk.images g.D.Disk.since (laws g) c.args.disk

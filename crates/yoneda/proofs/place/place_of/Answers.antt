@@ -1,6 +1,6 @@
 use Rattle.std.proofs.Common.{◌≡◌, ℤ, rules, subst, to_z, of_z, w32}
 use Rattle.yoneda.specs.Places.{IsOutside}
-use Rattle.yoneda.proofs.Squares.{missing_outside}
+use Rattle.yoneda.proofs.Outside.{missing_outside}
 use Rattle.yoneda.proofs.place.place_of.Goals as goal
 
 pub returns-in_default-clause-missing : goal.returns-in_default-clause-missing

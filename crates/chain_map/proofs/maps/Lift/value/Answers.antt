@@ -1,2 +1,2 @@
-use Rattle.chain_map.proofs.Squares.{above_of-is}
+use Rattle.square.proofs.ByDegree.{above_of-is}
 use Rattle.chain_map.proofs.maps.Lift.value.Goals as goal

@@ -10,10 +10,10 @@ use Rattle.chain_map.specs.Inside.Making.{class_of, class_value}
 use Rattle.chain_map.proofs.MadeRows.{made_square, made_value, made_end}
 use Rattle.chain_map.proofs.Places.{class_value_is}
 use Rattle.chain_map.proofs.rows.Course.first_square.Goals as goal
-use Rattle.chain_map.proofs.rows.Course.first_square.Goals.{After-images_at-i-end}
+use Rattle.chain_map.proofs.rows.Course.first_square.Goals.{After-images_of-i-end}
 
 -- the square is there
-there : (c : After-images_at-i-end) → c.args.n < length (row_of (plain_rows c.args.self.now.table.now.rows) c.args.self.now.s)
+there : (c : After-images_of-i-end) → c.args.n < length (row_of (plain_rows c.args.self.now.table.now.rows) c.args.self.now.s)
 there c =
     let self = c.args.self.now in
     let e : self.s + 0 ≡ self.s = omega arith in
@@ -33,11 +33,11 @@ loop-i-preserved c =
     let table = self.table.now in
     let sphere = self.sphere.now in
     let len = length-row_of table.rows self.s in
-    let l = there ((goal.at.loop-i-preserved c).After-images_at-i-end) in
+    let l = there ((goal.at.loop-i-preserved c).After-images_of-i-end) in
     let class_there = c.requires.reaches.class_there in
     let test = c.loop-i-test.true in
     let i = c.loop-i.i in
-    let b : i < count_of (resolution_of table) self.s c.args.n = omega (arith, ap length c.images_at-i-end.ensures.images) in
+    let b : i < count_of (resolution_of table) self.s c.args.n = omega (arith, ap length c.images_of-i-end.ensures.images) in
     let x = bottom_of table.resolved +ℤ pos self.above in
     let u = pos c.args.n -ℤ pos self.above in
     made_value table sphere self.s 0 x (class_of table sphere self.s self.above c.args.class) c.args.n i c.loop-i.values c.push.new.self u _ c.in_ok-value.value l b c.in_ok-push.ensures.ok (omega (arith, ints)) (class_value_is table sphere self.s self.above c.args.class c.args.n i c.requires.sphere (omega arith) c.requires.class l b) c.in_ok-value.ensures c.loop-i.invariant
@@ -46,7 +46,7 @@ pub returns : goal.returns
 returns c =
     let self = c.args.self.now in
     let table = self.table.now in
-    let l = there ((goal.at.returns c).After-images_at-i-end) in
+    let l = there ((goal.at.returns c).After-images_of-i-end) in
     let test = c.loop-i-test.false in
     let most = c.loop-i.auto.i-end in
-    made_end table self.sphere.now self.s 0 (bottom_of table.resolved +ℤ pos self.above) (class_of table self.sphere.now self.s self.above c.args.class) c.args.n c.loop-i.i c.loop-i.values l (omega (arith, ap length c.images_at-i-end.ensures.images)) c.loop-i.invariant
+    made_end table self.sphere.now self.s 0 (bottom_of table.resolved +ℤ pos self.above) (class_of table self.sphere.now self.s self.above c.args.class) c.args.n c.loop-i.i c.loop-i.values l (omega (arith, ap length c.images_of-i-end.ensures.images)) c.loop-i.invariant

@@ -12,10 +12,10 @@ use Rattle.chain_map.specs.Inside.Making.{next_goal}
 use Rattle.chain_map.proofs.MadeRows.{made_square, made_value, made_end}
 use Rattle.chain_map.proofs.Places.{image_width, next_goal_is}
 use Rattle.chain_map.proofs.rows.Course.next_square.Goals as goal
-use Rattle.chain_map.proofs.rows.Course.next_square.Goals.{After-images_at-images, After-index-images-i}
+use Rattle.chain_map.proofs.rows.Course.next_square.Goals.{After-images_of-images, After-index-images-i}
 
 -- the square is there
-there : (c : After-images_at-images) → c.args.n < length (row_in c.args.self.now.table.now.rows (suc (c.args.self.now.s + c.args.k)))
+there : (c : After-images_of-images) → c.args.n < length (row_in c.args.self.now.table.now.rows (suc (c.args.self.now.s + c.args.k)))
 there c =
     let self = c.args.self.now in
     let e : self.s + suc c.args.k ≡ suc (self.s + c.args.k) = omega arith in
@@ -25,19 +25,19 @@ there c =
     omega arith
 
 -- with these images
-images-are : (c : After-images_at-images) → c.images_at-images.result.now ≡ (content_at c.args.self.now.table.now.rows (suc (c.args.self.now.s + c.args.k)) c.args.n).images
+images-are : (c : After-images_of-images) → c.images_of-images.result.now ≡ (content_at c.args.self.now.table.now.rows (suc (c.args.self.now.s + c.args.k)) c.args.n).images
 images-are c =
     let self = c.args.self.now in
     let e : self.s + c.args.k + 1 ≡ suc (self.s + c.args.k) = omega arith in
-    c.images_at-images.ensures.images ∙ ap (λ (i : ℕ). (content_at self.table.now.rows i c.args.n).images) e
+    c.images_of-images.ensures.images ∙ ap (λ (i : ℕ). (content_at self.table.now.rows i c.args.n).images) e
 
 -- so is the generator, with its image
-number : (c : After-index-images-i) → c.images_at-images.result.now ≡ (content_at c.args.self.now.table.now.rows (suc (c.args.self.now.s + c.args.k)) c.args.n).images → c.loop-i.i < count_of (resolution_of c.args.self.now.table.now) (suc (c.args.self.now.s + c.args.k)) c.args.n
+number : (c : After-index-images-i) → c.images_of-images.result.now ≡ (content_at c.args.self.now.table.now.rows (suc (c.args.self.now.s + c.args.k)) c.args.n).images → c.loop-i.i < count_of (resolution_of c.args.self.now.table.now) (suc (c.args.self.now.s + c.args.k)) c.args.n
 number c same = let test = c.loop-i-test.true in omega (arith, ap length same)
 
-image-is : (c : After-index-images-i) → c.images_at-images.result.now ≡ (content_at c.args.self.now.table.now.rows (suc (c.args.self.now.s + c.args.k)) c.args.n).images → c.index-images-i.result ≡ row (content_at c.args.self.now.table.now.rows (suc (c.args.self.now.s + c.args.k)) c.args.n).images c.loop-i.i
+image-is : (c : After-index-images-i) → c.images_of-images.result.now ≡ (content_at c.args.self.now.table.now.rows (suc (c.args.self.now.s + c.args.k)) c.args.n).images → c.index-images-i.result ≡ row (content_at c.args.self.now.table.now.rows (suc (c.args.self.now.s + c.args.k)) c.args.n).images c.loop-i.i
 image-is c same =
-    let images = c.images_at-images.result.now in
+    let images = c.images_of-images.result.now in
     c.index-images-i.is ∙ (get_or_default images c.loop-i.i c.index-images-i.result [] c.loop-i-test.true ∙ ap (λ (z : List (List Bool)). row z c.loop-i.i) same)
 
 pub loop-i-init : goal.loop-i-init
@@ -49,8 +49,8 @@ pub next_value-requires-clause-width : goal.next_value-requires-clause-width
 next_value-requires-clause-width c =
     let self = c.args.self.now in
     let here = (goal.at.next_value-requires-clause-width c).After-index-images-i in
-    let same = images-are ((goal.at.next_value-requires-clause-width c).After-images_at-images) in
-    let l = there ((goal.at.next_value-requires-clause-width c).After-images_at-images) in
+    let same = images-are ((goal.at.next_value-requires-clause-width c).After-images_of-images) in
+    let l = there ((goal.at.next_value-requires-clause-width c).After-images_of-images) in
     image_width self.table.now c.requires.reaches.is_table (self.s + c.args.k) self.above self.reach c.args.n c.loop-i.i c.args.map.now.source.now c.index-images-i.result c.requires.within l (number here same) c.requires.source (image-is here same)
 
 pub loop-i-preserved : goal.loop-i-preserved
@@ -60,8 +60,8 @@ loop-i-preserved c =
     let sphere = self.sphere.now in
     let i = suc (self.s + c.args.k) in
     let here = (goal.at.loop-i-preserved c).After-index-images-i in
-    let same = images-are ((goal.at.loop-i-preserved c).After-images_at-images) in
-    let l : c.args.n < length (row_of (plain_rows table.rows) i) = omega (arith, there ((goal.at.loop-i-preserved c).After-images_at-images), length-row_of table.rows i) in
+    let same = images-are ((goal.at.loop-i-preserved c).After-images_of-images) in
+    let l : c.args.n < length (row_of (plain_rows table.rows) i) = omega (arith, there ((goal.at.loop-i-preserved c).After-images_of-images), length-row_of table.rows i) in
     let x = bottom_of table.resolved +ℤ pos self.above in
     let u = pos c.args.n -ℤ pos self.above in
     let map = c.args.map.now in
@@ -72,7 +72,7 @@ returns c =
     let self = c.args.self.now in
     let table = self.table.now in
     let i = suc (self.s + c.args.k) in
-    let l : c.args.n < length (row_of (plain_rows table.rows) i) = omega (arith, there ((goal.at.returns c).After-images_at-images), length-row_of table.rows i) in
+    let l : c.args.n < length (row_of (plain_rows table.rows) i) = omega (arith, there ((goal.at.returns c).After-images_of-images), length-row_of table.rows i) in
     let test = c.loop-i-test.false in
     let most = c.loop-i.auto.i-end in
-    made_end table self.sphere.now i (suc c.args.k) (bottom_of table.resolved +ℤ pos self.above) (next_goal table self.sphere.now (self.s + c.args.k) c.args.k self.above self.reach self.far c.args.map.now.images.now) c.args.n c.loop-i.i c.loop-i.values l (omega (arith, ap length (images-are ((goal.at.returns c).After-images_at-images)))) c.loop-i.invariant
+    made_end table self.sphere.now i (suc c.args.k) (bottom_of table.resolved +ℤ pos self.above) (next_goal table self.sphere.now (self.s + c.args.k) c.args.k self.above self.reach self.far c.args.map.now.images.now) c.args.n c.loop-i.i c.loop-i.values l (omega (arith, ap length (images-are ((goal.at.returns c).After-images_of-images)))) c.loop-i.invariant

@@ -1,12 +1,10 @@
-use Rattle.std.proofs.Common.{◌≡◌, ℕ, ℤ, pos, ◌+ℤ◌, ◌<◌, length, ap, sym, subst, ◌∙◌, w32, to_z, of_z, arith}
-use Rattle.std.proofs.lemmas.Int.{ints, to_z-of_z}
+use Rattle.std.proofs.Common.{◌≡◌, ℕ, ℤ, pos, ◌+ℤ◌, ap, sym, ◌∙◌, w32, arith}
+use Rattle.std.proofs.lemmas.Int.{to_z-of_z}
 use Rattle.std.specs.Arc.{arc_value}
-use Rattle.resolution_laws.specs.Resolution.{Content}
 use Rattle.square.specs.Squares.{Placed, bottom_of}
-use Rattle.square.specs.Tables.{row_in, content_at}
-use Rattle.chain_map.proofs.Squares.{square_not_missing, square_holds, square_place}
-use Rattle.chain_map.proofs.making.square_of.Goals as goal
-use Rattle.chain_map.proofs.making.square_of.Goals.{After-above}
+use Rattle.square.proofs.ByDegree.{square_not_missing, square_place}
+use Rattle.chain_map.proofs.making.above_at.Goals as goal
+use Rattle.chain_map.proofs.making.above_at.Goals.{After-above}
 
 pub unreachable-requires : goal.unreachable-requires
 unreachable-requires c =
@@ -30,11 +28,3 @@ returns-clause-there c =
     let same = above-is ((goal.at.returns-clause-there c).After-above) in
     let there = c.requires.square in
     omega arith
-
-pub returns-clause-count : goal.returns-clause-count
-returns-clause-count c =
-    let table = c.args.table.now in
-    let same = above-is ((goal.at.returns-clause-count c).After-above) in
-    let content = square_holds table c.args.s c.requires.above _ (arc_value c.in-Some.square.now) (to_z-of_z w32 c.args.t c.ranges.t ∙ c.requires.degree) c.in-Some.ensures.square in
-    ap length (c.gens.ensures ∙ (ap (λ (q : Placed). q.content.images) c.deref-in-Some.ensures ∙ ap (λ (x : Content). x.images) content))
-    ∙ ap (λ (k : ℕ). length (content_at table.rows c.args.s k).images) (sym same)
