@@ -111,7 +111,6 @@ fn nothing_below_row_zero(rt: HostRuntime) -> Result<(), Fail> {
     let alloc = rt.alloc();
     let table = Table::new(alloc, Module::sphere(alloc)?)?;
     let inputs = table.inputs(alloc, 0, 0)?;
-    assert!(rt; inputs.kernel_below().is_none());
     assert!(rt; inputs.kernel_rows_below(alloc)?.is_none());
     Ok(())
 }

@@ -13,7 +13,7 @@ use Rattle.f2_matrix.specs.Preimages.{pivot_of}
 use Rattle.f2_matrix.specs.Reduction.{has_one}
 use Rattle.f2_matrix.proofs.Elimination.{IsFirstOne-unique}
 use Rattle.f2_matrix.proofs.Parts.{has_one-zero, has_one-nonzero}
-use Rattle.f2_matrix.proofs.Pivots.{first_within, pivot_first}
+use Rattle.f2_matrix.proofs.Pivots.{first_within, pivot_first, late_pivot}
 use Rattle.f2_matrix.proofs.Unique.{zero_or_first, first_one, IsReduced-tail, HasNoZeroRow-tail}
 use Rattle.save_file.specs.Reading.{is_row_basis}
 
@@ -241,20 +241,12 @@ pivot_not_alone n i next marks rows h found reduced =
 
 -- ---- there are no more such rows than coordinates
 
-pivot_far : (rows : List (List Bool)) (i p : ℕ) → IsReduced rows → HasNoZeroRow rows → i < length rows → IsFirstOne (row rows i) p → i ≤ p
-pivot_far rows zero p h nonzero l f = omega arith
-pivot_far rows (suc i) p h nonzero l f =
-    let before = first_one (row rows i) (nonzero i (omega arith)) in
-    let far = pivot_far rows i before.0 h nonzero (omega arith) before.1 in
-    let rise = h.pivots_rise i (suc i) before.0 p (omega arith) before.1 f in
-    omega arith
-
 pub basis_few : (n : ℕ) (rows : List (List Bool)) → HaveWidth n rows → IsReduced rows → HasNoZeroRow rows → length rows ≤ n
 basis_few n [] wide h nonzero = omega arith
 basis_few n (r ∷ rows) wide h nonzero =
     let i = length rows in
     let last = first_one (row (r ∷ rows) i) (nonzero i (omega arith)) in
-    let far = pivot_far (r ∷ rows) i last.0 h nonzero (omega arith) last.1 in
+    let far = late_pivot (r ∷ rows) h nonzero i last.0 (omega arith) last.1 in
     let within = one_within (row (r ∷ rows) i) last.0 last.1.one in
     let width = wide i (omega arith) in
     omega arith

@@ -116,10 +116,3 @@ square_there f now h same squares o under l e = content_there f h squares o unde
 
 pub no_square_below : (f now : Footing) → IsFooting f → f ≡ now → f.s ≡ 0 → None ≡ content_below now
 no_square_below f now h same e = ap (option_map (λ below. square_in below f.above)) (sym (h.has_none e)) ∙ ap content_below same
-
-pub kernel_below_is : (f : Footing) (o : Option Content) → o ≡ content_below f → option_map (λ (c : Content). c.kernel) o ≡ below_kernel f
-kernel_below_is f o e = ap (option_map (λ (c : Content). c.kernel)) e ∙ both f.below
-  where
-    both : (below : Option (List Content)) → option_map (λ (c : Content). c.kernel) (option_map (λ squares. square_in squares f.above) below) ≡ option_map (λ squares. (square_in squares f.above).kernel) below
-    both (Some squares) = refl
-    both None = refl

@@ -154,15 +154,6 @@ impl Inputs {
         Ok(Below::Row(gens))
     }
 
-    /// The echelon rows of the kernel of the square below, which has the same degree, none for row 0.
-    pub fn kernel_below(&self) -> Option<&[BitVec]>
-        ensures { option_map (λ rows. rows.now) result
-            ≡ option_map (λ below. (square_in below self.now.above).kernel) self.now.below }
-    {
-        let square = self.square_below()?;
-        Some(square.kernel())
-    }
-
     /// The kernel rows of the square below for one more owner: shared if that square was made, and copied if it was read.
     ///
     /// # Errors

@@ -16,6 +16,6 @@ pub use below::Below;
 pub use inputs::Inputs;
 pub use keep::{Keep, KeepFault, MemKeep, NoKeep};
 pub use putting::put;
-pub use range::{MAX_S, MAX_T, Range};
+pub use range::{MAX_S, MAX_T, Range, limits_are_these};
 pub use square::Square;
 pub use table::Table;

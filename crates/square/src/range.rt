@@ -1,4 +1,6 @@
 //! How far a resolution goes.
+ghost use Rattle.std.specs.Prelude.{◌≡◌};
+ghost use Rattle.square.specs.declared.range.TheConstants.{MAX_S, MAX_T};
 
 /// The greatest row of a square.
 pub const MAX_S: u16 = 63;
@@ -13,3 +15,9 @@ pub struct Range {
     pub s: u16,
     pub t: u16,
 }
+
+/// The limits of ranges, as a law: what the constants are.
+pub fn limits_are_these()
+    ensures rows { MAX_S ≡ 63 }
+    ensures degrees { MAX_T ≡ 127 }
+{}
