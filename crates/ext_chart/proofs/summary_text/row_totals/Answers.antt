@@ -3,13 +3,13 @@ use Rattle.std.specs.List.{range_with_len}
 use Rattle.resolution_laws.specs.Resolution.{generator_count}
 use Rattle.square.specs.Tables.{plain_rows}
 use Rattle.ext_chart.specs.Summary.{row_total}
-use Rattle.ext_chart.proofs.SummarySteps.{totals-more}
+use Rattle.finite_module.proofs.Values.{one_value_more}
 use Rattle.ext_chart.proofs.summary_text.row_totals.Goals as goal
 use Rattle.ext_chart.proofs.summary_text.row_totals.Goals.{else-loop-s-test, then-loop-s-test+in_ok-row_total+in_ok-push+else-s-s-end}
 
 pub loop-s-preserved : goal.loop-s-preserved
 loop-s-preserved c =
-    totals-more (row_total (generator_count (plain_rows c.args.table.now.rows)) c.args.range.t) c.loop-s.s c.in_ok-row_total.field-0 c.loop-s.totals.items _ c.loop-s.invariant c.in_ok-row_total.ensures c.in_ok-push.ensures.items
+    one_value_more (row_total (generator_count (plain_rows c.args.table.now.rows)) c.args.range.t) c.loop-s.totals.items _ c.in_ok-row_total.field-0 c.loop-s.s c.loop-s.invariant c.in_ok-row_total.ensures c.in_ok-push.ensures.items
 
 pub returns : goal.returns
 returns c =
@@ -18,6 +18,6 @@ returns c =
       | else-loop-s-test w ↦ absurd (omega arith)
       | then-loop-s-test+in_ok-row_total+in_ok-push+else-s-s-end w ↦
           let last : c.loop-s.s ≡ c.args.range.s = omega arith in
-          let all = totals-more f c.loop-s.s w.in_ok-row_total.field-0 c.loop-s.totals.items _ c.loop-s.invariant w.in_ok-row_total.ensures w.in_ok-push.ensures.items in
+          let all = one_value_more f c.loop-s.totals.items _ w.in_ok-row_total.field-0 c.loop-s.s c.loop-s.invariant w.in_ok-row_total.ensures w.in_ok-push.ensures.items in
           ap (λ v. v.items) w.totals-is ∙ (all ∙ ap (λ n. map f (range_with_len 0 (n + 1))) last)
     ]
