@@ -45,14 +45,14 @@ module _ (table sphere : Staircase) (s above k n far m : ℕ) (is_sphere : IsSph
       let at : pos m -ℤ pos above ≡ bottom_of sphere.resolved +ℤ pos (m - above) = omega (arith, ints) in
       square_is_there sphere k (m - above) u (e ∙ at) (place_there (m - above) at)
 
-  pub reach_low : (max : ℕ) (t : ℤ) → max ≡ MAX_T → t ≡ pos m -ℤ pos above → (i : ℕ) (gens : List ℤ) → gens ≡ lowered_row table i n above → IsWithinReach max gens t
+  pub reach_low : (max : ℕ) (t : ℤ) → m ≤ max → t ≡ pos m -ℤ pos above → (i : ℕ) (gens : List ℤ) → gens ≡ lowered_row table i n above → IsWithinReach max gens t
   reach_low max t e at i gens same =
       let short = row_short table reaches.is_table (s + k) in
       let here = reaches.here in
       let P : List ℤ → Type 0 = λ z. IsWithinReach max z t in
       subst P (sym same) (within-reach (pos 0 -ℤ pos above) (take n (row_of (plain_rows table.rows) i)) max t (omega (arith, ints)))
 
-  pub reach_target : (max : ℕ) (t : ℤ) → max ≡ MAX_T → t ≡ pos m -ℤ pos above → (i : ℕ) (gens : List ℤ) → gens ≡ target_of sphere i far → IsWithinReach max gens t
+  pub reach_target : (max : ℕ) (t : ℤ) → m ≤ max → t ≡ pos m -ℤ pos above → (i : ℕ) (gens : List ℤ) → gens ≡ target_of sphere i far → IsWithinReach max gens t
   reach_target max t e at i gens same =
       let short = row_short table reaches.is_table (s + k) in
       let here = reaches.here in

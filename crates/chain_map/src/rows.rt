@@ -237,7 +237,8 @@ impl Course<'_> {
     {
         let source = lowered_generators(alloc, self.table, self.s + k, self.reach, self.above)?;
         let target = self.sphere.generators(alloc, k, self.far)?;
-        let map = Hom::new(self.table.basis(), &source, &target, below);
+        let basis = self.table.basis(alloc, self.reach - 1)?;
+        let map = Hom::new(basis, &source, &target, below);
         let mut values = Values::new(alloc);
         for n in 0..self.reach {
             self.next_square(alloc, k, n, &inverses[usize::from(n)], &map, &mut values)?;
@@ -261,7 +262,7 @@ impl Course<'_> {
             self.now.reach self.now.far }
         requires inverse { 0 < count_of (resolution_of self.now.table.now) (suc (self.now.s + k)) n →
             IsInverseAt self.now.sphere.now (suc k) (pos n -ℤ pos self.now.above) inverse.now }
-        requires basis { map.now.basis.now ≡ MAX_T }
+        requires basis { n ≤ map.now.basis.now }
         requires source { map.now.source.now
             ≡ lowered_row self.now.table.now (self.now.s + k) self.now.reach self.now.above }
         requires target { map.now.target.now ≡ target_of self.now.sphere.now k self.now.far }
@@ -300,7 +301,7 @@ impl Course<'_> {
         requires reaches { Reaches self.now.table.now self.now.sphere.now self.now.s self.now.above (suc k)
             self.now.reach self.now.far }
         requires inverse { IsInverseAt self.now.sphere.now (suc k) (pos n -ℤ pos self.now.above) inverse.now }
-        requires basis { map.now.basis.now ≡ MAX_T }
+        requires basis { n ≤ map.now.basis.now }
         requires source { map.now.source.now
             ≡ lowered_row self.now.table.now (self.now.s + k) self.now.reach self.now.above }
         requires target { map.now.target.now ≡ target_of self.now.sphere.now k self.now.far }

@@ -5,7 +5,6 @@ use Rattle.finite_module.specs.Module.{bottom}
 use Rattle.free_module.specs.FreeModule.{free_width}
 use Rattle.resolution_laws.specs.Resolution.{Content, row_of, degrees_from}
 use Rattle.resolution_laws.proofs.Rows.{IsWithinReach-row}
-use Rattle.square.specs.declared.range.TheConstants.{MAX_T}
 use Rattle.ext_chart.specs.declared.place.Place.{Place}
 use Rattle.ext_chart.specs.declared.row_gens.RowGens.{RowGens}
 use Rattle.ext_chart.specs.declared.named_target.NamedTarget.TheVariants.{Row}
@@ -20,5 +19,5 @@ row_target gs rows i s row above gens places =
     subst (λ (n : ℕ). IsTargetOf gs rows n (Row row)) above (record {
       text = ap (λ (p : List Place). free_sum_text p row.gens) places ∙ ap (free_sum_text (places_from i b squares)) gens;
       width = ap free_width gens;
-      named = λ k h. (ap length places ∙ (length-places_from i b squares ∙ sym (ap length gens)), IsWithinReach-row b squares k MAX_T row.gens _ refl gens h);
+      named = λ max k h. (ap length places ∙ (length-places_from i b squares ∙ sym (ap length gens)), IsWithinReach-row b squares k max row.gens _ refl gens h);
     })

@@ -73,5 +73,6 @@ fn square_text(
         (λ text. text.items ≡ square_text table.now.resolved.plain.generators (plain_rows table.now.rows) s k) }
 {
     let images = table.images_of(s, k);
-    square_lines(alloc, table.basis(), target, s, table.degree(k), images)
+    let basis = table.basis(alloc, k)?;
+    square_lines(alloc, basis, target, s, table.degree(k), images)
 }

@@ -98,7 +98,8 @@ impl Composite<'_> {
             setting.above() + 1,
             setting.above_bc(),
         )?;
-        zero_values(alloc, setting.table.basis(), &source, &target)
+        let basis = setting.table.basis(alloc, setting.above())?;
+        zero_values(alloc, basis, &source, &target)
     }
 
     /// The values of H_(k+1), from those of H_k.
@@ -131,7 +132,7 @@ impl Composite<'_> {
             setting.above() + 1,
             setting.above_bc(),
         )?;
-        let basis = setting.table.basis();
+        let basis = setting.table.basis(alloc, setting.above())?;
         let count = inner.degrees().len();
         let beta = Hom::new(basis, &inner, &target, &self.beta.vectors(k)[..count]);
         let map = Hom::new(basis, &source, &target, below);

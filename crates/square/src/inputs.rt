@@ -67,7 +67,8 @@ impl Model for Inputs {
       squares = contents i.row.squares;
       below = under_row i.s (contents i.below.squares);
     })
-        × (i.t ≡ bottom (arc_value i.module).plain.generators +ℤ pos i.above) × (arc_value i.basis ≡ MAX_T)
+        × (i.t ≡ bottom (arc_value i.module).plain.generators +ℤ pos i.above)
+        × (i.above ≤ arc_value i.basis) × (arc_value i.basis ≤ MAX_T)
         × AreOfRow (arc_value i.module) i.s i.row.squares
         × ((j : ℕ) → suc j ≡ i.s → AreOfRow (arc_value i.module) j i.below.squares) };
 }
@@ -108,9 +109,10 @@ impl Inputs {
         }
     }
 
-    /// The Milnor bases of the degrees through `MAX_T`.
+    /// Milnor bases that reach the square's degree above the bottom.
     pub fn basis(&self) -> &Basis
-        ensures { result.now ≡ MAX_T }
+        ensures reaches { self.now.above ≤ result.now }
+        ensures within { result.now ≤ MAX_T }
     {
         &self.basis
     }

@@ -1,6 +1,7 @@
 //! Squares of a resolution, tables of them, and keepers of what is made.
 #![tactic(auto)]
 
+mod bases;
 mod below;
 mod by_place;
 mod inputs;

@@ -9,7 +9,7 @@ use crate::square::Square;
 use f2_vec::BitVec;
 use free_module::Gens;
 use memory::Memory;
-use milnor_basis::Basis;
+use milnor_basis::Counts;
 use std::alloc::Global;
 use std::marker::Model;
 use std::sync::Arc;
@@ -107,17 +107,17 @@ impl Row {
 
     /// The dimension, in degree `k` above the bottom, of the free module on the generators of the first `n` squares, none where
     /// it does not fit 64 bits.
-    pub(crate) fn width(&self, basis: &Basis, n: u16, k: u16) -> Option<u64>
+    pub(crate) fn width(&self, counts: &Counts, n: u16, k: u16) -> Option<u64>
         requires within { n ≤ length self.now.squares }
         requires degree { n ≤ k + 1 }
-        requires basis { k ≤ basis.now }
+        requires counts { k ≤ counts.now }
         ensures { SomeIff result (row_width (take n (contents self.now.squares)) k < 2 ^ 64)
             (row_width (take n (contents self.now.squares)) k) }
     {
         let mut width: u64 = 0;
         for i in 0..n {
             let generators = self.squares[usize::from(i)].gens().len() as u64;
-            let elements = basis.of_degree(k - i).len() as u64;
+            let elements = counts.elements(k - i) as u64;
             width = width.checked_add(generators.checked_mul(elements)?)?;
         }
         Some(width)

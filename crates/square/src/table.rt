@@ -12,6 +12,7 @@ ghost use Rattle.square.specs.declared.range.TheConstants.{MAX_S, MAX_T};
 ghost use Rattle.square.specs.Squares.{IsQuasi, over, bottom_of};
 ghost use Rattle.square.specs.Tables.{row_in, square_at, plain_rows, with_square, contents, under_row, content_at, next_target_width, next_width, next_widths, FitWords, IsNext, IsNextAt, IsContinued, IsQuasiAt, IsTable, HaveRoom};
 
+use crate::bases::Bases;
 use crate::below::Below;
 use crate::inputs::Inputs;
 use crate::range::{MAX_S, MAX_T};
@@ -35,7 +36,7 @@ use std::sync::Arc;
 #[derive(Drop)]
 pub struct Table {
     module: Arc<Module>,
-    basis: Arc<Basis>,
+    bases: Arc<Bases>,
     start: Start,
     rows: Vec<Row>,
     spare: usize,
@@ -64,7 +65,7 @@ impl Model for Table {
       rows = map (λ r. r.squares) t.rows.items;
       spare = t.spare;
     })
-        × (arc_value t.basis ≡ MAX_T) × HaveRoom t.rows.items t.spare };
+        × HaveRoom t.rows.items t.spare };
 }
 
 impl Table {
@@ -80,12 +81,12 @@ impl Table {
           spare = 0;
         }) }
     {
-        let basis = Arc::new(alloc, Basis::new(alloc, MAX_T)?)?;
-        Table::over(alloc, module, basis)
+        let bases = Arc::new(alloc, Bases::new(alloc)?)?;
+        Table::over(alloc, module, bases)
     }
 
-    /// The table of no square of another module, which shares the Milnor bases of this one and the products that are
-    /// kept with them.
+    /// The table of no square of another module, which shares the Milnor bases of this one and the products that are kept
+    /// with them.
     ///
     /// # Errors
     /// `Memory` if allocation fails, or if there are too many owners to count.
@@ -97,15 +98,14 @@ impl Table {
           spare = 0;
         }) }
     {
-        let Ok(basis) = Arc::try_clone(&self.basis) else {
+        let Ok(bases) = Arc::try_clone(&self.bases) else {
             return Err(Memory);
         };
-        Table::over(alloc, module, basis)
+        Table::over(alloc, module, bases)
     }
 
     /// The table of no square of this module, with these bases.
-    fn over(alloc: Global, module: Module, basis: Arc<Basis>) -> Result<Table, Memory>
-        requires { arc_value basis ≡ MAX_T }
+    fn over(alloc: Global, module: Module, bases: Arc<Bases>) -> Result<Table, Memory>
         ensures { IfOk result (λ table. table ≡ record {
           resolved = «module»;
           start = [];
@@ -117,7 +117,7 @@ impl Table {
         let rows = empty_rows(alloc)?;
         Ok(Table {
             module,
-            basis,
+            bases,
             start: Start::empty(),
             rows,
             spare: 0,
@@ -131,11 +131,17 @@ impl Table {
         &self.module
     }
 
-    /// The Milnor bases of the degrees through `MAX_T`.
-    pub fn basis(&self) -> &Basis
-        ensures { result.now ≡ MAX_T }
+    /// Milnor bases that reach degree `above`.
+    ///
+    /// # Errors
+    /// `Memory` if allocation fails.
+    pub fn basis(&self, alloc: Global, above: u16) -> Result<&Basis, Memory>
+        requires { above ≤ MAX_T }
+        ensures reaches { IfOk result (λ basis. above ≤ basis.now) }
+        ensures within { IfOk result (λ basis. basis.now ≤ MAX_T) }
     {
-        &self.basis
+        let basis = self.bases.through(alloc, above)?;
+        Ok(basis)
     }
 
     /// How many squares row `s` has: they are those of the degrees from the bottom on. It is 0 above row `MAX_S`.
@@ -228,7 +234,7 @@ impl Table {
         let Ok(module) = Arc::try_clone(&self.module) else {
             return Err(Memory);
         };
-        let Ok(basis) = Arc::try_clone(&self.basis) else {
+        let Ok(basis) = Arc::try_clone(self.bases.through(alloc, above)?) else {
             return Err(Memory);
         };
         Ok(Inputs {
@@ -341,10 +347,11 @@ impl Table {
             (take above (row_of (plain_rows self.now.rows) s)) (content_at self.now.rows s above) reduced) }
     {
         let t = self.module.bottom() + i32::from(above);
+        let basis = self.basis(alloc, above)?;
         let target = self.below(alloc, s, above)?;
         let gens = self.generators(alloc, s, above + 1)?;
         let images = self.images(alloc, s, above + 1)?;
-        reduction(alloc, self.basis(), &gens, &target, images.as_slice(), t)
+        reduction(alloc, basis, &gens, &target, images.as_slice(), t)
     }
 
     /// The squares that were read.
@@ -388,7 +395,7 @@ impl Table {
             let t = self.module().bottom() + i32::from(above);
             return Some(self.module().dim_in(t) as u64);
         }
-        self.row(s - 1).width(self.basis(), above + 1, above)
+        self.row(s - 1).width(self.bases.counts(), above + 1, above)
     }
 
     /// The dimension of F_s in the same degree, where the next square of row `s` has `count` new generators. None where it does
@@ -399,7 +406,7 @@ impl Table {
         requires next { IsNext self.now.rows s above }
         ensures { SomeIff result (next_width self.now s above count < 2 ^ 64) (next_width self.now s above count) }
     {
-        let width = self.row(s).width(self.basis(), above, above)?;
+        let width = self.row(s).width(self.bases.counts(), above, above)?;
         width.checked_add(count as u64)
     }
 

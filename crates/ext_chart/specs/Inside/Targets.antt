@@ -5,7 +5,6 @@ use Rattle.module_json.specs.ModuleFile.{Generator}
 use Rattle.finite_module.specs.Module.{bottom, width}
 use Rattle.finite_module.specs.Text.{sum_text}
 use Rattle.resolution_laws.specs.Resolution.{Content}
-use Rattle.square.specs.declared.range.TheConstants.{MAX_T}
 use Rattle.ext_chart.specs.declared.named_target.NamedTarget.{NamedTarget}
 use Rattle.ext_chart.specs.declared.named_target.NamedTarget.TheVariants.{Module, Row}
 use Rattle.ext_chart.specs.Dump.{free_sum_text, image_text, image_width}
@@ -29,4 +28,4 @@ IsNamed (Row row) max t = (length row.places.items ≡ length row.gens) × IsWit
 pub record IsTargetOf (gs : List Generator) (rows : List (List Content)) (s : ℕ) (target : NamedTarget) : Type 0 where
   pub text : text_over target ≡ image_text gs rows s
   pub width : width_over target ≡ image_width gs rows s
-  pub named : (k : ℕ) → k ≤ MAX_T → IsNamed target MAX_T (bottom gs +ℤ pos k)
+  pub named : (max k : ℕ) → k ≤ max → IsNamed target max (bottom gs +ℤ pos k)

@@ -28,8 +28,8 @@ pub record IsComposite (table sphere : Staircase) (range : Range) (p : Places) (
 -- lowered, to those of row k of the sphere through the degree of a
 pub record AreMapsOf (table sphere : Staircase) (p : Places) (n k : ℕ) (beta_basis map_basis : ℕ)
     (beta_source beta_target map_source map_target : List ℤ) : Type 0 where
-  pub beta_basis_is : beta_basis ≡ MAX_T
-  pub map_basis_is : map_basis ≡ MAX_T
+  pub beta_basis_reaches : above_of p ≤ beta_basis
+  pub map_basis_reaches : above_of p ≤ map_basis
   pub beta_source_is : beta_source ≡ lowered_row sphere (p.b.s + k) (above_ab p + 1) p.b.above
   pub beta_target_is : beta_target ≡ target_of sphere k (p.a.above + 1)
   pub map_source_is : map_source ≡ lowered_row table (n + k) (above_of p + 1) (above_bc p)

@@ -104,7 +104,7 @@ goal-requires-clause-beta_source c =
     let within = c.requires.within in
     let u = to_z w32 (of_z w32 c.over-u.result) in
     let at : u ≡ pos c.args.j -ℤ pos (above_bc p) = to_z-of_z w32 c.over-u.result (record { sfits = c.over-u.type_inv }) ∙ c.over-u.ensures in
-    inner_reach self.setting.table.now self.setting.sphere.now self.setting.range p self.n self.beta.now self.gamma.now c.requires.composite c.args.k c.args.j beta.basis.now beta.source.now u (omega arith) c.requires.maps.beta_basis_is c.requires.maps.beta_source_is at
+    inner_reach self.setting.table.now self.setting.sphere.now self.setting.range p self.n self.beta.now self.gamma.now c.requires.composite c.args.k c.args.j beta.basis.now beta.source.now u (omega arith) c.requires.maps.beta_basis_reaches c.requires.maps.beta_source_is at
 
 pub goal-requires-clause-beta_target : goal.goal-requires-clause-beta_target
 goal-requires-clause-beta_target c =
@@ -116,7 +116,7 @@ goal-requires-clause-beta_target c =
     let row = c.requires.row in
     let u = to_z w32 (of_z w32 c.over-u.result) in
     let at : u ≡ pos c.args.j -ℤ pos (above_bc p) = to_z-of_z w32 c.over-u.result (record { sfits = c.over-u.type_inv }) ∙ c.over-u.ensures in
-    reach_target table sphere self.n (above_bc p) c.args.k (above_of p + 1) (p.a.above + 1) c.args.j c.requires.composite.setting.is_sphere (through_bracket table sphere self.setting.range p self.n self.beta.now self.gamma.now c.requires.composite c.args.k (omega arith)) c.requires.within beta.basis.now u c.requires.maps.beta_basis_is at c.args.k beta.target.now c.requires.maps.beta_target_is
+    reach_target table sphere self.n (above_bc p) c.args.k (above_of p + 1) (p.a.above + 1) c.args.j c.requires.composite.setting.is_sphere (through_bracket table sphere self.setting.range p self.n self.beta.now self.gamma.now c.requires.composite c.args.k (omega arith)) c.requires.within beta.basis.now u (omega (arith, c.requires.within, c.requires.maps.beta_basis_reaches)) at c.args.k beta.target.now c.requires.maps.beta_target_is
 
 pub goal-requires-clause-map_source : goal.goal-requires-clause-map_source
 goal-requires-clause-map_source c =
@@ -128,7 +128,7 @@ goal-requires-clause-map_source c =
     let row = c.requires.row in
     let u = to_z w32 (of_z w32 c.over-u.result) in
     let at : u ≡ pos c.args.j -ℤ pos (above_bc p) = to_z-of_z w32 c.over-u.result (record { sfits = c.over-u.type_inv }) ∙ c.over-u.ensures in
-    reach_low table sphere self.n (above_bc p) c.args.k (above_of p + 1) (p.a.above + 1) c.args.j c.requires.composite.setting.is_sphere (through_bracket table sphere self.setting.range p self.n self.beta.now self.gamma.now c.requires.composite c.args.k (omega arith)) c.requires.within map.basis.now u c.requires.maps.map_basis_is at (self.n + c.args.k) map.source.now c.requires.maps.map_source_is
+    reach_low table sphere self.n (above_bc p) c.args.k (above_of p + 1) (p.a.above + 1) c.args.j c.requires.composite.setting.is_sphere (through_bracket table sphere self.setting.range p self.n self.beta.now self.gamma.now c.requires.composite c.args.k (omega arith)) c.requires.within map.basis.now u (omega (arith, c.requires.within, c.requires.maps.map_basis_reaches)) at (self.n + c.args.k) map.source.now c.requires.maps.map_source_is
 
 pub goal-requires-clause-map_target : goal.goal-requires-clause-map_target
 goal-requires-clause-map_target c =
@@ -140,7 +140,7 @@ goal-requires-clause-map_target c =
     let row = c.requires.row in
     let u = to_z w32 (of_z w32 c.over-u.result) in
     let at : u ≡ pos c.args.j -ℤ pos (above_bc p) = to_z-of_z w32 c.over-u.result (record { sfits = c.over-u.type_inv }) ∙ c.over-u.ensures in
-    reach_target table sphere self.n (above_bc p) c.args.k (above_of p + 1) (p.a.above + 1) c.args.j c.requires.composite.setting.is_sphere (through_bracket table sphere self.setting.range p self.n self.beta.now self.gamma.now c.requires.composite c.args.k (omega arith)) c.requires.within map.basis.now u c.requires.maps.map_basis_is at c.args.k map.target.now c.requires.maps.map_target_is
+    reach_target table sphere self.n (above_bc p) c.args.k (above_of p + 1) (p.a.above + 1) c.args.j c.requires.composite.setting.is_sphere (through_bracket table sphere self.setting.range p self.n self.beta.now self.gamma.now c.requires.composite c.args.k (omega arith)) c.requires.within map.basis.now u (omega (arith, c.requires.within, c.requires.maps.map_basis_reaches)) at c.args.k map.target.now c.requires.maps.map_target_is
 
 pub goal-requires-clause-gamma : goal.goal-requires-clause-gamma
 goal-requires-clause-gamma c =

@@ -31,7 +31,7 @@ returns-in-Some-eq0-clause-placed c =
     let e = c.in-Some-eq0.ensures in
     let value = c.in-Some-eq0.field-0-test in
     let above : c.self.inside.s ≡ c.args.s = omega (arith, e.0, e.1) in
-    placed_there c.get.result (λ a. arc_value a.now) c.args.self.now.resolved _ c.args.s _ c.in_ok-k.k c.args.t _ _ c.above_of.result c.self.inside.row.squares c.get.ensures c.self.invariant.3 (ap (λ (f : Footing). f.resolved) c.self.view_is) above c.above_of.ensures c.in_ok-k.was (to_z-of_z w32 c.bottom.result (record { sfits = c.bottom.type_inv }) ∙ low) (to_z-of_z w32 c.args.t c.ranges.t)
+    placed_there c.get.result (λ a. arc_value a.now) c.args.self.now.resolved _ c.args.s _ c.in_ok-k.k c.args.t _ _ c.above_of.result c.self.inside.row.squares c.get.ensures c.self.invariant.4 (ap (λ (f : Footing). f.resolved) c.self.view_is) above c.above_of.ensures c.in_ok-k.was (to_z-of_z w32 c.bottom.result (record { sfits = c.bottom.type_inv }) ∙ low) (to_z-of_z w32 c.args.t c.ranges.t)
 
 pub returns-in-Some-eq1-clause-placed : goal.returns-in-Some-eq1-clause-placed
 returns-in-Some-eq1-clause-placed c =
@@ -39,4 +39,4 @@ returns-in-Some-eq1-clause-placed c =
     let e = c.in-Some-eq1.ensures in
     let value = c.in-Some-eq1.field-0-test in
     let above : suc c.args.s ≡ c.self.inside.s = omega (arith, e.0, e.1) in
-    placed_there c.get-in-Some-eq1.result (λ a. arc_value a.now) c.args.self.now.resolved _ c.args.s _ c.in_ok-k.k c.args.t _ _ c.above_of.result c.self.inside.below.squares c.get-in-Some-eq1.ensures (c.self.invariant.4 c.args.s above) (ap (λ (f : Footing). f.resolved) c.self.view_is) refl c.above_of.ensures c.in_ok-k.was (to_z-of_z w32 c.bottom.result (record { sfits = c.bottom.type_inv }) ∙ low) (to_z-of_z w32 c.args.t c.ranges.t)
+    placed_there c.get-in-Some-eq1.result (λ a. arc_value a.now) c.args.self.now.resolved _ c.args.s _ c.in_ok-k.k c.args.t _ _ c.above_of.result c.self.inside.below.squares c.get-in-Some-eq1.ensures (c.self.invariant.5 c.args.s above) (ap (λ (f : Footing). f.resolved) c.self.view_is) refl c.above_of.ensures c.in_ok-k.was (to_z-of_z w32 c.bottom.result (record { sfits = c.bottom.type_inv }) ∙ low) (to_z-of_z w32 c.args.t c.ranges.t)

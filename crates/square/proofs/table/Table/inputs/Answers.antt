@@ -33,7 +33,8 @@ invariant_of-result c =
     let start = c.again.ensures ∙ ap (λ (t : Staircase). t.start) c.self.view_is in (
       IsFooting-same _ _ _ _ c.args.s c.above-above.result _ _ _ _ resolved start squares c.in_ok-below.ensures.below (footing_in now c.row.ensures.is_table c.args.s c.above-above.result c.requires.row (omega arith) next),
       c.above-above.ensures ∙ ap (λ (m : Checked). bottom_of m +ℤ pos c.above-above.result) (sym resolved),
-      c.in-Ok-try_clone.ensures ∙ c.self.invariant.1,
+      subst (λ n. c.above-above.result ≤ n) (sym c.in-Ok-try_clone.ensures) c.in_ok-through.ensures.reaches,
+      subst (λ n. n ≤ MAX_T) (sym c.in-Ok-try_clone.ensures) c.in_ok-through.ensures.within,
       AreOfRow-first now c.row.ensures.is_table _ c.args.s c.above-above.result _ resolved (c.in_ok-row.ensures ∙ ap (take c.from.result) c.row.ensures.row ∙ ap (λ n. take n (row_in now.rows c.args.s)) c.from.ensures),
       λ j e. AreOfRow-first now c.row.ensures.is_table _ j (c.above-above.result + 1) _ resolved (c.in_ok-below.ensures.squares j e),
     )

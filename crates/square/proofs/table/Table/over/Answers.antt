@@ -7,6 +7,5 @@ use Rattle.square.proofs.table.Table.over.Goals as goal
 pub invariant_of-result : goal.invariant_of-result
 invariant_of-result c = (
   no_squares (arc_value c.in_ok-module.module) c.empty.result (map (λ (r : Shelf). r.squares) c.in_ok-rows.rows.items) 0 c.empty.ensures c.in_ok-rows.ensures,
-  c.requires,
   λ s row e. omega arith,
 )

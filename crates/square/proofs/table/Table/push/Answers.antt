@@ -13,12 +13,11 @@ invariant_of-self c =
     let starts : c.again-start.result ≡ q.start = c.again-start.ensures ∙ c.start.ensures.start ∙ ap (λ (x : Placed). x.start) c.deref-2.ensures in
     let old = c.index_mut.result.now in
     let there = row_held (arc_value c.self.inside.module) c.self.inside.start c.self.inside.rows.items c.from-s.result c.self.inside.spare old q c.self.invariant.0 square at c.index_mut.ensures.value in
-    let room : c.self.inside.spare ≤ old.room = c.self.invariant.2 c.from-s.result old there in
+    let room : c.self.inside.spare ≤ old.room = c.self.invariant.1 c.from-s.result old there in
     let less = c.saturating_sub-self-inside.ensures in
     let more = c.in-Ok.ensures.room in (
       table_pushed (arc_value c.self.inside.module) c.self.inside.start c.again-start.result c.self.inside.rows.items c.from-s.result c.self.inside.spare c.saturating_sub-self-inside.result old c.push.new.self q c.args.self.now c.self.invariant.0 c.self.view_is square c.requires.resolved c.requires.next c.requires.continued at starts there c.in-Ok.ensures.ok,
-      c.self.invariant.1,
-      HaveRoom-set c.self.inside.rows.items c.from-s.result c.push.new.self c.self.inside.spare c.saturating_sub-self-inside.result c.self.invariant.2 (omega arith) (omega arith),
+      HaveRoom-set c.self.inside.rows.items c.from-s.result c.push.new.self c.self.inside.spare c.saturating_sub-self-inside.result c.self.invariant.1 (omega arith) (omega arith),
     )
 
 pub invariant_of-self-in-Err : goal.invariant_of-self-in-Err
@@ -28,12 +27,11 @@ invariant_of-self-in-Err c =
     let at : c.from-s.result ≡ q.s = c.from-s.ensures ∙ c.s.ensures ∙ ap (λ (x : Placed). x.s) c.deref.ensures in
     let old = c.index_mut.result.now in
     let there = row_held (arc_value c.self.inside.module) c.self.inside.start c.self.inside.rows.items c.from-s.result c.self.inside.spare old q c.self.invariant.0 square at c.index_mut.ensures.value in
-    let room : c.self.inside.spare ≤ old.room = c.self.invariant.2 c.from-s.result old there in
+    let room : c.self.inside.spare ≤ old.room = c.self.invariant.1 c.from-s.result old there in
     let more = c.in-Err.ensures.kept in
     let P : List (List Placed) → Type 0 = λ rows. IsTable (record { resolved = arc_value c.self.inside.module; start = c.self.inside.start; rows = rows; spare = c.self.inside.spare }) in (
       subst P (sym (map-same_squares c.self.inside.rows.items c.from-s.result old c.push.new.self there c.in-Err.ensures.err)) c.self.invariant.0,
-      c.self.invariant.1,
-      HaveRoom-set c.self.inside.rows.items c.from-s.result c.push.new.self c.self.inside.spare c.self.inside.spare c.self.invariant.2 (omega arith) (omega arith),
+      HaveRoom-set c.self.inside.rows.items c.from-s.result c.push.new.self c.self.inside.spare c.self.inside.spare c.self.invariant.1 (omega arith) (omega arith),
     )
 
 pub returns-in-Ok-clause-rows : goal.returns-in-Ok-clause-rows
@@ -54,7 +52,7 @@ returns-in-Err-clause-succeeds c l =
     let at : c.from-s.result ≡ q.s = c.from-s.ensures ∙ c.s.ensures ∙ ap (λ (x : Placed). x.s) c.deref.ensures in
     let old = c.index_mut.result.now in
     let there = row_held (arc_value c.self.inside.module) c.self.inside.start c.self.inside.rows.items c.from-s.result c.self.inside.spare old q c.self.invariant.0 square at c.index_mut.ensures.value in
-    let room : c.self.inside.spare ≤ old.room = c.self.invariant.2 c.from-s.result old there in
+    let room : c.self.inside.spare ≤ old.room = c.self.invariant.1 c.from-s.result old there in
     let same = ap (λ (t : Staircase). t.spare) c.self.view_is in
     c.in-Err.ensures.succeeds (omega arith)
 
