@@ -15,10 +15,8 @@ use Rattle.free_module.specs.LinearMap.{AreImages, map_rows, mapped}
 use Rattle.free_module.proofs.MapRows.{HaveWidth-map_rows}
 use Rattle.milnor_laws.proofs.FreeModules.{free_modules_are_modules}
 use Rattle.resolution_laws.specs.Resolution.{row_of}
-use Rattle.square.specs.declared.range.TheConstants.{MAX_T}
 use Rattle.square.specs.Squares.{over, bottom_of}
 use Rattle.square.specs.Tables.{Staircase, row_in, plain_rows, square_at, IsTable}
-use Rattle.square.proofs.Targets.{row_short}
 use Rattle.square.proofs.Places.{length-row_of}
 use Rattle.lift_laws.specs.Lifts.{gens, IsSphere}
 use Rattle.chain_map.specs.Rows.{IsInverseAt, lowered_row}
@@ -47,15 +45,11 @@ module _ (table sphere : Staircase) (s above k n far m : ℕ) (is_sphere : IsSph
 
   pub reach_low : (max : ℕ) (t : ℤ) → m ≤ max → t ≡ pos m -ℤ pos above → (i : ℕ) (gens : List ℤ) → gens ≡ lowered_row table i n above → IsWithinReach max gens t
   reach_low max t e at i gens same =
-      let short = row_short table reaches.is_table (s + k) in
-      let here = reaches.here in
       let P : List ℤ → Type 0 = λ z. IsWithinReach max z t in
       subst P (sym same) (within-reach (pos 0 -ℤ pos above) (take n (row_of (plain_rows table.rows) i)) max t (omega (arith, ints)))
 
   pub reach_target : (max : ℕ) (t : ℤ) → m ≤ max → t ≡ pos m -ℤ pos above → (i : ℕ) (gens : List ℤ) → gens ≡ target_of sphere i far → IsWithinReach max gens t
   reach_target max t e at i gens same =
-      let short = row_short table reaches.is_table (s + k) in
-      let here = reaches.here in
       let zero = is_sphere.bottom in
       let P : List ℤ → Type 0 = λ z. IsWithinReach max z t in
       subst P (sym same) (within-reach (bottom_of sphere.resolved) (take far (row_of (plain_rows sphere.rows) i)) max t (omega (arith, ints)))

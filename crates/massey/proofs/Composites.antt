@@ -155,11 +155,15 @@ module _ (table sphere : Staircase) (range : Range) (p : Places) (n : ℕ) (beta
       ∙ sym (low_width (bottom_of sphere.resolved) (row_of (plain_rows sphere.rows) (p.b.s + k)) p.b.above (above_ab p + 1) t (pos j -ℤ pos (above_bc p)) (omega (arith, ints)) (omega (arith, ints)))
 
   -- degrees are within the reach of the Milnor bases
-  pub inner_reach : (k j max : ℕ) (source : List ℤ) (t : ℤ) → j ≤ above_of p → above_of p ≤ max → source ≡ lowered_row sphere (p.b.s + k) (above_ab p + 1) p.b.above → t ≡ pos j -ℤ pos (above_bc p) → IsWithinReach max source t
-  inner_reach k j max source t b is same at =
+  pub bracket_reach : above_of p ≤ MAX_T
+  bracket_reach =
       let degree = c.setting.inside.degree in
       let short = row_short table c.setting.is_table n in
       let long = c.setting.through_table n (let row = c.setting.inside.row in let e = c.n_row in let a = c.lifts.a_row in omega arith) in
+      omega arith
+
+  pub inner_reach : (k j max : ℕ) (source : List ℤ) (t : ℤ) → j ≤ above_of p → above_of p ≤ max → source ≡ lowered_row sphere (p.b.s + k) (above_ab p + 1) p.b.above → t ≡ pos j -ℤ pos (above_bc p) → IsWithinReach max source t
+  inner_reach k j max source t b is same at =
       subst (λ (z : List ℤ). IsWithinReach max z t) (sym same) (within-reach (pos 0 -ℤ pos p.b.above) (take (above_ab p + 1) (row_of (plain_rows sphere.rows) (p.b.s + k))) max t (omega (arith, ints)))
 
   pub zero_reach : (max : ℕ) (source target : List ℤ) → above_of p ≤ max → source ≡ lowered_row table n (above_of p + 1) (above_bc p) → target ≡ target_of sphere 0 (p.a.above + 1) → (g : ℕ) → g < length source → IsWithinReach max target (degree_at source g)

@@ -26,13 +26,12 @@ struct Stage<const MAX: u16> {
 
 impl<const MAX: u16> Stage<MAX> {
     /// The bases of these degrees.
-    fn new(alloc: Global) -> Result<Self, Memory>
+    fn boxed(alloc: Global) -> Result<Box<Self>, Memory>
         requires { MAX ≤ 255 }
     {
         let basis = Basis::new(alloc, MAX)?;
-        Ok(Stage {
-            basis: Arc::new(alloc, basis)?,
-        })
+        let basis = Arc::new(alloc, basis)?;
+        Ok(Box::new(alloc, Stage { basis })?)
     }
 
     /// Its bases, to be shared.
@@ -41,22 +40,11 @@ impl<const MAX: u16> Stage<MAX> {
     {
         &self.basis
     }
-
-    /// The stage of this cell, which is made if it is not there. Threads may make one at a time; that of the first to finish
-    /// is kept.
-    fn of(cell: &OnceBox<Self>, alloc: Global) -> Result<&Arc<Basis>, Memory>
-        requires { MAX ≤ 255 }
-        ensures { IfOk result (λ basis. arc_value basis.now ≡ MAX) }
-    {
-        let stage = cell.get_or_try_init(|| -> Result<_, Memory> {
-            Ok(Box::new(alloc, Stage::new(alloc)?)?)
-        })?;
-        Ok(stage.basis())
-    }
 }
 
 /// The Milnor bases of the degrees through `MAX_T`, in stages that are made once a degree of theirs is asked for: a short
-/// run needs the first alone. How many elements there are of each degree is known from the beginning.
+/// run needs the first alone. Threads may make one at a time; that of the first to finish is kept. How many elements there
+/// are of each degree is known from the beginning.
 #[derive(Drop)]
 pub(crate) struct Bases {
     counts: Counts,
@@ -111,14 +99,17 @@ impl Bases {
             return Ok(stage.basis());
         }
         if above > SECOND {
-            return Stage::of(&self.last, alloc);
+            let stage = self.last.get_or_try_init(|| Stage::boxed(alloc))?;
+            return Ok(stage.basis());
         }
         if let Some(stage) = self.second.get() {
             return Ok(stage.basis());
         }
         if above > FIRST {
-            return Stage::of(&self.second, alloc);
+            let stage = self.second.get_or_try_init(|| Stage::boxed(alloc))?;
+            return Ok(stage.basis());
         }
-        Stage::of(&self.first, alloc)
+        let stage = self.first.get_or_try_init(|| Stage::boxed(alloc))?;
+        Ok(stage.basis())
     }
 }

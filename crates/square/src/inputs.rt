@@ -38,7 +38,7 @@ pub struct Inputs {
 }
 
 impl Model for Inputs {
-    ghost use Rattle.std.specs.Prelude.{◌≡◌, ◌+ℤ◌, ℕ, suc, pos};
+    ghost use Rattle.std.specs.Prelude.{◌≡◌, ◌≤◌, ◌+ℤ◌, ℕ, suc, pos};
     ghost use Rattle.std.specs.Arc.{arc_value};
     ghost use Rattle.finite_module.specs.Module.{bottom};
     ghost use Rattle.square.specs.Tables.{Footing};

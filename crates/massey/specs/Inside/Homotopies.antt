@@ -6,7 +6,6 @@ use Rattle.free_module.specs.FreeModule.{free_width}
 use Rattle.free_module.specs.Graded.{free_graded}
 use Rattle.free_module.specs.LinearMap.{mapped}
 use Rattle.square.specs.declared.range.Range.{Range}
-use Rattle.square.specs.declared.range.TheConstants.{MAX_T}
 use Rattle.square.specs.Squares.{bottom_of}
 use Rattle.square.specs.Tables.{Staircase}
 use Rattle.lift_laws.specs.Lifts.{degree}

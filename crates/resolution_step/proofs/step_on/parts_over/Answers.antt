@@ -1,4 +1,4 @@
-use Rattle.std.proofs.Common.{◌≡◌, ℤ, pos, ◌+ℤ◌, w32, to_z, of_z, FitsSigned, ◌∙◌, sym, subst, rules, arith}
+use Rattle.std.proofs.Common.{◌≡◌, ℤ, pos, ◌+ℤ◌, w32, to_z, of_z, FitsSigned, ◌∙◌, sym, subst, rules}
 use Rattle.std.proofs.lemmas.Int.{to_z-of_z}
 use Rattle.std.proofs.lemmas.Result.{IfOk-weaker}
 use Rattle.resolution_laws.proofs.Rows.{IsWithinReach-row}
@@ -30,15 +30,13 @@ reduced_step-requires-clause-nonzero c = HasNoZeroRow-given c.args.inputs.now c.
 pub reduced_step-requires-clause-source_reach : goal.reduced_step-requires-clause-source_reach
 reduced_step-requires-clause-source_reach c =
     let f = c.args.inputs.now in
-    let most = c.t-t.ensures.is_footing.degree in
-    IsWithinReach-row (bottom_of f.resolved) f.squares f.above c.basis.result.now c.in_ok-source.source _ (degree c) c.in_ok-source.ensures (omega (arith, c.basis.ensures))
+    IsWithinReach-row (bottom_of f.resolved) f.squares f.above c.basis.result.now c.in_ok-source.source _ (degree c) c.in_ok-source.ensures c.basis.ensures.reaches
 
 pub reduced_step-requires-clause-target_reach : goal.reduced_step-requires-clause-target_reach
 reduced_step-requires-clause-target_reach c =
     let f = c.args.inputs.now in
-    let most = c.t-t.ensures.is_footing.degree in
     let P : ℤ → Type 0 = reaches_of c.in_ok-target.target c.basis.result.now in
-    subst P (sym (degree c)) (c.in_ok-target.ensures.reaches c.basis.result.now f.above (omega (arith, c.basis.ensures)))
+    subst P (sym (degree c)) (c.in_ok-target.ensures.reaches c.basis.result.now f.above c.basis.ensures.reaches)
 
 pub returns-clause-step : goal.returns-clause-step
 returns-clause-step c =

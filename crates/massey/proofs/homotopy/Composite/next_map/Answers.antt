@@ -11,7 +11,7 @@ use Rattle.chain_map.specs.Inside.Making.{target_of}
 use Rattle.massey.specs.declared.places.Places.{Places}
 use Rattle.massey.specs.Brackets.{above_of, above_ab, above_bc}
 use Rattle.massey.specs.Inside.Homotopies.{AreChosen, homotopy_goal, beta_values}
-use Rattle.massey.proofs.Composites.{beta_row, beta_count, inner_count, beta_images}
+use Rattle.massey.proofs.Composites.{beta_row, bracket_reach, beta_count, inner_count, beta_images}
 use Rattle.massey.proofs.homotopy.Composite.next_map.Goals as goal
 
 -- the generators of beta's row, and the values on them
@@ -27,6 +27,12 @@ vectors-requires c =
     let self = c.args.self.now in
     let row = c.requires.row in
     beta_row self.setting.table.now self.setting.sphere.now self.setting.range self.setting.places self.n self.beta.now self.gamma.now c.requires.composite c.args.k (omega arith)
+
+pub basis-requires : goal.basis-requires
+basis-requires c =
+    let self = c.args.self.now in
+    let reach = bracket_reach self.setting.table.now self.setting.sphere.now self.setting.range self.setting.places self.n self.beta.now self.gamma.now c.requires.composite in
+    omega (arith, c.above-basis.ensures)
 
 pub slice_bounds-new-end : goal.slice_bounds-new-end
 slice_bounds-new-end c =

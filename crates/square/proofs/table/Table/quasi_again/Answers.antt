@@ -31,12 +31,12 @@ reduction-requires-clause-images c =
 
 pub reduction-requires-clause-source : goal.reduction-requires-clause-source
 reduction-requires-clause-source c =
-    within_reach c.args.self.now c.args.s c.args.above c.basis.result.now (c.args.above + 1) c.in_ok-gens.gens _ c.in_ok-gens.ensures (degree c) (omega (arith, c.requires.degree, c.basis.ensures))
+    within_reach c.args.self.now c.args.s c.args.above c.in_ok-basis.basis.now (c.args.above + 1) c.in_ok-gens.gens _ c.in_ok-gens.ensures (degree c) c.in_ok-basis.ensures.reaches
 
 pub reduction-requires-clause-target : goal.reduction-requires-clause-target
 reduction-requires-clause-target c =
-    let P : ℤ → Type 0 = reaches_of c.in_ok-target.target c.basis.result.now in
-    subst P (sym (degree c)) (c.in_ok-target.ensures.reaches c.basis.result.now c.args.above (omega (arith, c.requires.degree, c.basis.ensures)))
+    let P : ℤ → Type 0 = reaches_of c.in_ok-target.target c.in_ok-basis.basis.now in
+    subst P (sym (degree c)) (c.in_ok-target.ensures.reaches c.in_ok-basis.basis.now c.args.above c.in_ok-basis.ensures.reaches)
 
 pub returns : goal.returns
 returns c =
