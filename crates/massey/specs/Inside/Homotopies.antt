@@ -1,5 +1,5 @@
 -- How the values of a null homotopy are made: by quasi-inverses, map by map and square by square.
-use Rattle.std.specs.Prelude.{◌≡◌, ℕ, suc, ◌+◌, ◌<◌, ℤ, pos, ◌+ℤ◌, ◌-ℤ◌, Bool, List, length, map, take}
+use Rattle.std.specs.Prelude.{◌≡◌, ℕ, suc, ◌+◌, ◌≤◌, ◌<◌, ℤ, pos, ◌+ℤ◌, ◌-ℤ◌, Bool, List, length, map, take}
 use Rattle.f2_vec.specs.Vectors.{sum_of, zeros}
 use Rattle.f2_vec.specs.Spans.{row}
 use Rattle.free_module.specs.FreeModule.{free_width}

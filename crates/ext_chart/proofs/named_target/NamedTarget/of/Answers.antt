@@ -14,7 +14,7 @@ returns-then-s-eq0 c =
     record {
       text = ap (λ (m : Checked). sum_text m.plain.generators) c.module.ensures ∙ ap (image_text gs rows) (sym c.if-s-eq0.true);
       width = ap (λ (m : Checked). width m.plain.generators) c.module.ensures ∙ ap (image_width gs rows) (sym c.if-s-eq0.true);
-      named = λ k h. tt;
+      named = λ max k h. tt;
     }
 
 pub returns : goal.returns

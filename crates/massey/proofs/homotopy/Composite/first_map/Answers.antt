@@ -18,7 +18,7 @@ pub basis-requires : goal.basis-requires
 basis-requires c =
     let self = c.args.self.now in
     let reach = bracket_reach self.setting.table.now self.setting.sphere.now self.setting.range self.setting.places self.n self.beta.now self.gamma.now c.requires in
-    omega (arith, c.above-basis.ensures)
+    omega (arith, c.above-2.ensures)
 
 pub zero_values-requires : goal.zero_values-requires
 zero_values-requires c =
@@ -26,7 +26,7 @@ zero_values-requires c =
     let table = self.setting.table.now in
     let p = self.setting.places in
     let source : c.in_ok-source.source ≡ lowered_row table self.n (above_of p + 1) (above_bc p) = c.in_ok-source.ensures ∙ (ap (λ m. lowered_row table self.n (m + 1) c.above_bc.result) c.above.ensures ∙ ap (lowered_row table self.n (above_of p + 1)) c.above_bc.ensures) in
-    zero_reach table self.setting.sphere.now self.setting.range p self.n self.beta.now self.gamma.now c.requires c.in_ok-basis.basis.now c.in_ok-source.source c.in_ok-target.target (omega (arith, c.in_ok-basis.ensures.reaches, c.above-basis.ensures)) source c.in_ok-target.ensures
+    zero_reach table self.setting.sphere.now self.setting.range p self.n self.beta.now self.gamma.now c.requires c.in_ok-basis.basis.now c.in_ok-source.source c.in_ok-target.target (omega (arith, c.in_ok-basis.ensures.reaches, c.above-2.ensures)) source c.in_ok-target.ensures
 
 pub returns : goal.returns
 returns c =

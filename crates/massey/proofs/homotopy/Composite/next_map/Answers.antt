@@ -32,7 +32,7 @@ pub basis-requires : goal.basis-requires
 basis-requires c =
     let self = c.args.self.now in
     let reach = bracket_reach self.setting.table.now self.setting.sphere.now self.setting.range self.setting.places self.n self.beta.now self.gamma.now c.requires.composite in
-    omega (arith, c.above-basis.ensures)
+    omega (arith, c.above-2.ensures)
 
 pub slice_bounds-new-end : goal.slice_bounds-new-end
 slice_bounds-new-end c =
