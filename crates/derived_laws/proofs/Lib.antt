@@ -3,4 +3,4 @@ mod Coefficients
 mod Before
 mod Steps
 pub mod UniqueDerived
-mod Refused
+pub mod Refused
