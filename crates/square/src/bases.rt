@@ -11,7 +11,7 @@ use std::alloc::Global;
 use std::marker::Model;
 use std::sync::Arc;
 
-/// The greatest degree of the first stage. That of the last is `MAX_T`, and each is about twice the one before it.
+/// The greatest degree of the first stage. The last stage reaches `MAX_T`, and each about twice as far as the one before it.
 const FIRST: u16 = 31;
 
 /// The greatest degree of the second stage.

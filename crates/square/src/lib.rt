@@ -1,6 +1,7 @@
 //! Squares of a resolution, tables of them, and keepers of what is made.
 #![tactic(auto)]
 
+mod ahead;
 mod bases;
 mod below;
 mod by_place;
@@ -13,6 +14,7 @@ mod row;
 mod square;
 mod table;
 
+pub use ahead::Ahead;
 pub use below::Below;
 pub use inputs::Inputs;
 pub use keep::{Keep, KeepFault, MemKeep, NoKeep};
