@@ -24,7 +24,7 @@ use Rattle.board_core.specs.Machine.IsHistory.{nothing, then}
 use Rattle.board_core.proofs.Causes.{first_of_all}
 use Rattle.resolution_laws.specs.Start.{Entry, IsOf}
 use Rattle.square.specs.Squares.{Placed, module_over}
-use Rattle.square.specs.Tables.{Staircase, IsTable, row_in, square_at}
+use Rattle.square.specs.Tables.{Staircase, Footing, IsTable, row_in, square_at}
 use Rattle.square.specs.Keeping.{Keeper}
 use Rattle.square.proofs.Found.{square_found}
 use Rattle.square.proofs.Places.{slice_get-there}
@@ -248,6 +248,11 @@ module _ {K : Type 0} (before now : Keeper) (opening : Opening K) (course : Cour
 
   pub look_falling : IsTable table → (s : ℕ) → front_after opening course.history (suc s) ≤ front_after opening course.history s
   look_falling is_table s = let a = desk.fronts s in let b = desk.fronts (suc s) in let c = is_table.never_rise s in omega arith
+
+  -- a row's next square is the one at its front
+  pub ahead_front : (found : Option Footing) → IfSome found (λ ahead. ahead.above ≡ length (row_in table.rows ahead.s)) → IfSome found (λ ahead. ahead.above ≡ front_after opening course.history ahead.s)
+  ahead_front None next = next
+  ahead_front (Some ahead) next = next ∙ desk.fronts ahead.s
 
   pub look_reached : {A : Type 0} (f : A → Placed) (found : Option A) (s : ℕ) (t : ℤ) (k : ℕ) → option_map f found ≡ square_at table s t → t ≡ bottom_of opening +ℤ pos k → found ≡ None → front_after opening course.history s ≤ k
   look_reached {A} f found s t k is at none =

@@ -1,6 +1,7 @@
 -- What a desk knows of its machine's state: the range, and what of the table is done.
 use Rattle.std.proofs.Common.{◌≡◌, ℕ, zero, suc, ◌+◌, ◌<◌, ◌≤◌, ℤ, pos, ◌+ℤ◌, true, false, List, [], ◌∷◌, length, refl, sym, ◌∙◌, ap, subst, arith}
 use Rattle.std.proofs.lemmas.Bool.Decides.{nat_tests}
+use Rattle.std.proofs.lemmas.Int.{ints}
 use Rattle.finite_module.specs.Checked.{Checked}
 use Rattle.finite_module.specs.Module.{bottom}
 use Rattle.board_core.specs.declared.event.Entry.{Entry as Event}
@@ -12,6 +13,7 @@ use Rattle.board_core.specs.Machine.{State, HasParents, IsInRange, IsRowNumber, 
 use Rattle.board_core.proofs.BelowFronts.{front_number}
 use Rattle.square.specs.Tables.{Staircase, IsTable, IsNext, IsNextAt, row_in}
 use Rattle.square.specs.Keeping.{Keeper}
+use Rattle.square.proofs.Places.{next_length}
 use Rattle.square.proofs.Pushing.{never_rises}
 use Rattle.square_board.specs.declared.opening.Opening.{Opening}
 use Rattle.square_board.specs.Courses.{Course, after_all, state_of}
@@ -39,6 +41,13 @@ range_all state (event ∷ events) =
 
 pub range_of : (course : Course) → HasRange (state_of course) course.rows course.degrees course.bottom
 range_of course = range_all (opening course.bottom course.rows course.degrees course.start) course.history
+
+-- the next square of a row stands at its front
+pub next_front : (table : Staircase) (s k : ℕ) (t : ℤ) → IsNextAt table s t → t ≡ low_of table +ℤ pos k → k ≡ length (row_in table.rows s)
+next_front table s k t next at =
+    let front = next_length table.rows s next.above next.next in
+    let degree = next.degree in
+    omega (arith, ints)
 
 module _ {K : Type 0} (before now : Keeper) (opening : Opening K) (course : Course) (table : Staircase) (desk : IsDesk before now opening course table) where
   -- the range of the desk's state

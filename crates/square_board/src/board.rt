@@ -21,7 +21,7 @@ use crate::desk::Desk;
 use crate::job::{GiveFault, Job, Taken};
 use board_core::Entry;
 use memory::Memory;
-use square::{Keep, Range, Square, Table};
+use square::{Ahead, Keep, Range, Square, Table};
 use std::alloc::Global;
 use std::marker::Model;
 use std::sync::{Arc, Wait};
@@ -180,6 +180,30 @@ impl<K: Keep> Board<K> {
     {
         let held = self.turn.acquire(wait, pass);
         let found = held.value.look(s, t);
+        self.turn.release(pass, held);
+        found
+    }
+
+    /// The products that the squares past the next one of a row will ask for. The row is the least from row `from` on that lacks
+    /// squares of the range, and whose next square has its parents. None where there is no such row, or no memory. No product
+    /// is made in the turn.
+    pub fn ahead<R: Wait + Clock>(
+        &self,
+        wait: &R,
+        alloc: Global,
+        pass: &mut BoardPass<K>,
+        from: u16,
+    ) -> Option<Ahead>
+        requires { IsPassOf self.now pass.old }
+        ensures pass { IsPassOf self.now pass.new }
+        ensures same { IsSamePass pass.old pass.new }
+        ensures turned { HasTurned pass.old pass.new [] }
+        ensures row { IfSome result (λ ahead. from ≤ ahead.s) }
+        ensures next { IfSome result (λ ahead.
+            ahead.above ≡ front_after self.now.name (events_of pass.new.seen) ahead.s) }
+    {
+        let held = self.turn.acquire(wait, pass);
+        let found = held.value.ahead(alloc, from, pass.number());
         self.turn.release(pass, held);
         found
     }

@@ -1,5 +1,5 @@
 //! What lies behind the turn of a board: one plain value, in which every call of the board is a method.
-ghost use Rattle.std.specs.Prelude.{◌≡◌, ◌⊎◌, ℕ, ◌+◌, ◌<◌, ◌≤◌, ◌↔◌, Ok, Err, None, Some, true, [], length, option_map, IfOk, IfErr};
+ghost use Rattle.std.specs.Prelude.{◌≡◌, ◌⊎◌, ℕ, ◌+◌, ◌<◌, ◌≤◌, ◌↔◌, Ok, Err, None, Some, true, [], length, option_map, IfOk, IfErr, IfSome};
 ghost use Rattle.std.specs.Arc.{arc_value};
 ghost use Rattle.edge.specs.Faults.{HasRisen};
 ghost use Rattle.board_core.specs.declared.event.Cause.{Cause};
@@ -9,7 +9,7 @@ ghost use Rattle.board_core.specs.Laws.{HasUnfinished};
 ghost use Rattle.board_core.specs.Machine.{IsInRange, IsReady, IsRowNumber, IsRowNumberBelow};
 ghost use Rattle.square_board.specs.Jobs.{Taking};
 ghost use Rattle.square.specs.declared.range.TheConstants.{MAX_S, MAX_T};
-ghost use Rattle.square.specs.Tables.{IsTable, square_at};
+ghost use Rattle.square.specs.Tables.{IsTable, IsNextAt, row_in, square_at};
 ghost use Rattle.square.specs.declared.keep.KeepFault as KeepFault;
 ghost use Rattle.square.specs.Keeping.{IsKeeperOf};
 ghost use Rattle.square_board.specs.declared.job.GiveFault as GiveFault;
@@ -27,7 +27,7 @@ use crate::schedule::Schedule;
 use board_core::Entry;
 use ghost_list::GhostList;
 use memory::Memory;
-use square::{Keep, KeepFault, Range, Square, Table, put};
+use square::{Ahead, Keep, KeepFault, Range, Square, Table, put};
 use std::alloc::Global;
 use std::marker::Model;
 use std::snapshot::Snapshot;
@@ -215,6 +215,40 @@ impl<K: Keep> Desk<K> {
             Ok(shared) => Ok(Some(shared)),
             Err(_) => Err(Memory),
         }
+    }
+
+    /// The products that the squares past the next one of a row will ask for. The row is the least from row `from` on that lacks
+    /// squares of the range, and whose next square has its parents. None where there is no such row, or no memory.
+    pub(crate) fn ahead(&self, alloc: Global, from: u16, worker: u64) -> Option<Ahead>
+        ensures row { IfSome result (λ ahead. from ≤ ahead.s) }
+        ensures next { IfSome result (λ ahead. ahead.above ≡ length (row_in self.now.table.rows ahead.s)) }
+        ensures is_desk { IsDeskState K.telling self.now }
+    {
+        let (s, t) = self.next_from(from)?;
+        let Ok(inputs) = self.table.inputs(alloc, s, t) else {
+            return None;
+        };
+        Some(Ahead::new(inputs, self.opening.range.t, worker))
+    }
+
+    /// The next square of the least row from row `from` on that lacks squares of the range, and whose next square has its
+    /// parents, by its row and its degree.
+    fn next_from(&self, from: u16) -> Option<(u16, i32)>
+        ensures row { IfSome result (λ q. from ≤ q.0) }
+        ensures next { IfSome result (λ q. IsNextAt self.now.table q.0 q.1) }
+        ensures is_desk { IsDeskState K.telling self.now }
+    {
+        for s in from..=self.opening.range.s {
+            let front = self.table.front(s);
+            if front > usize::from(self.opening.range.t) {
+                continue;
+            }
+            let above = front as u16;
+            if self.table.is_next(s, above) {
+                return Some((s, self.table.degree(above)));
+            }
+        }
+        None
     }
 
     /// The table, the keeper and the history.
