@@ -1,5 +1,5 @@
 //! The Milnor bases that tables and what squares are made from share, made in stages.
-ghost use Rattle.std.specs.Prelude.{◌≡◌, ◌≤◌, IfOk};
+ghost use Rattle.std.specs.Prelude.{◌≡◌, ◌≤◌, ◌<◌, IfOk, IfSome, IsSome};
 ghost use Rattle.std.specs.Arc.{arc_value};
 ghost use Rattle.square.specs.declared.range.TheConstants.{MAX_T};
 
@@ -11,11 +11,18 @@ use std::alloc::Global;
 use std::marker::Model;
 use std::sync::Arc;
 
-/// The greatest degree of the first stage. The last stage reaches `MAX_T`, and each about twice as far as the one before it.
+/// The greatest degree of the first stage. The last stage reaches `MAX_T`. Through degree 127 a basis has 80,750 elements, through
+/// 159 it has 220,006, and through 255 it has 2,166,753.
 const FIRST: u16 = 31;
 
 /// The greatest degree of the second stage.
 const SECOND: u16 = 63;
+
+/// The greatest degree of the third stage.
+const THIRD: u16 = 127;
+
+/// The greatest degree of the fourth stage.
+const FOURTH: u16 = 159;
 
 /// The bases of the degrees 0 to `MAX`, with the products that were made over them.
 #[derive(Drop)]
@@ -50,6 +57,8 @@ pub(crate) struct Bases {
     counts: Counts,
     first: OnceBox<Stage<FIRST>>,
     second: OnceBox<Stage<SECOND>>,
+    third: OnceBox<Stage<THIRD>>,
+    fourth: OnceBox<Stage<FOURTH>>,
     last: OnceBox<Stage<MAX_T>>,
 }
 
@@ -74,6 +83,8 @@ impl Bases {
             counts: Counts::new(alloc, MAX_T)?,
             first: OnceBox::new(alloc),
             second: OnceBox::new(alloc),
+            third: OnceBox::new(alloc),
+            fourth: OnceBox::new(alloc),
             last: OnceBox::new(alloc),
         })
     }
@@ -85,7 +96,7 @@ impl Bases {
         &self.counts
     }
 
-    /// Bases that reach degree `above`: those of the last stage if it was made, since products are kept with each stage and
+    /// Bases that reach degree `above`: those of the greatest stage that was made, since products are kept with each stage and
     /// are best made once, or else of the first stage that has the degree.
     ///
     /// # Errors
@@ -95,21 +106,44 @@ impl Bases {
         ensures reaches { IfOk result (λ basis. above ≤ arc_value basis.now) }
         ensures within { IfOk result (λ basis. arc_value basis.now ≤ MAX_T) }
     {
-        if let Some(stage) = self.last.get() {
-            return Ok(stage.basis());
+        if let Some(basis) = serving(&self.last, alloc, FOURTH, above)? {
+            return Ok(basis);
         }
-        if above > SECOND {
-            let stage = self.last.get_or_try_init(|| Stage::boxed(alloc))?;
-            return Ok(stage.basis());
+        if let Some(basis) = serving(&self.fourth, alloc, THIRD, above)? {
+            return Ok(basis);
         }
-        if let Some(stage) = self.second.get() {
-            return Ok(stage.basis());
+        if let Some(basis) = serving(&self.third, alloc, SECOND, above)? {
+            return Ok(basis);
         }
-        if above > FIRST {
-            let stage = self.second.get_or_try_init(|| Stage::boxed(alloc))?;
-            return Ok(stage.basis());
+        if let Some(basis) = serving(&self.second, alloc, FIRST, above)? {
+            return Ok(basis);
         }
-        let stage = self.first.get_or_try_init(|| Stage::boxed(alloc))?;
-        Ok(stage.basis())
+        let first = self.first.get_or_try_init(|| Stage::boxed(alloc))?;
+        Ok(first.basis())
+    }
+}
+
+/// The bases of a stage, if it was made already or if degree `above` is past the stage before it, which ends at `before`.
+///
+/// # Errors
+/// `Memory` if allocation fails.
+fn serving<const MAX: u16>(
+    stage: &OnceBox<Stage<MAX>>,
+    alloc: Global,
+    before: u16,
+    above: u16,
+) -> Result<Option<&Arc<Basis>>, Memory>
+    requires { MAX ≤ 255 }
+    ensures greatest { IfOk result (λ found. IfSome found (λ basis. arc_value basis.now ≡ MAX)) }
+    ensures past { IfOk result (λ found. before < above → IsSome found) }
+{
+    match stage.get() {
+        Some(made) => Ok(Some(made.basis())),
+        None if above > before => {
+            let boxed = Stage::boxed(alloc)?;
+            let made = stage.get_or_init(move || boxed);
+            Ok(Some(made.basis()))
+        }
+        None => Ok(None),
     }
 }

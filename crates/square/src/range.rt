@@ -3,10 +3,10 @@ ghost use Rattle.std.specs.Prelude.{◌≡◌};
 ghost use Rattle.square.specs.declared.range.TheConstants.{MAX_S, MAX_T};
 
 /// The greatest row of a square.
-pub const MAX_S: u16 = 63;
+pub const MAX_S: u16 = 127;
 
 /// How many degrees above the bottom a square may be: the bottom is the module's least degree.
-pub const MAX_T: u16 = 127;
+pub const MAX_T: u16 = 255;
 
 /// How far a resolution goes: through row `s` and through degree `t` above the bottom, which is the module's least degree.
 /// Rows go to `MAX_S` and degrees to `MAX_T`.
@@ -18,6 +18,6 @@ pub struct Range {
 
 /// The limits of ranges, as a law: what the constants are.
 pub fn limits_are_these()
-    ensures rows { MAX_S ≡ 63 }
-    ensures degrees { MAX_T ≡ 127 }
+    ensures rows { MAX_S ≡ 127 }
+    ensures degrees { MAX_T ≡ 255 }
 {}
