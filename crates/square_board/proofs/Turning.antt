@@ -9,6 +9,7 @@ use Rattle.board_core.specs.Entries.{who_of, events_by}
 use Rattle.board_core.specs.Laws.{given, given_in}
 use Rattle.board_core.specs.Machine.{opening as opening_state}
 use Rattle.board_core.proofs.Short.{history_is_short, range_is_all}
+use Rattle.square.specs.declared.range.TheConstants.{MAX_S, MAX_T}
 use Rattle.square.specs.Tables.{Staircase}
 use Rattle.square.specs.Keeping.{Keeper}
 use Rattle.turn_lock.specs.History.{entries_by, IsNext}
@@ -79,7 +80,7 @@ few_entries {K} before now opening course table desk =
     let degree = desk.degree in
     let short = history_is_short course.bottom course.rows course.degrees course.start course.history (state_of course) desk.legal in
     let all = range_is_all (opening_state course.bottom course.rows course.degrees course.start) in
-    let most : suc course.rows * suc course.degrees ≤ 64 * 128 = mul-le-mul {n₁ = suc course.rows} {m₁ = suc course.degrees} {n₂ = 64} {m₂ = 128} (omega arith) (omega arith) in
+    let most : suc course.rows * suc course.degrees ≤ suc MAX_S * suc MAX_T = mul-le-mul {n₁ = suc course.rows} {m₁ = suc course.degrees} {n₂ = suc MAX_S} {m₂ = suc MAX_T} (omega arith) (omega arith) in
     let long : length (numbered course.history) ≡ length course.history = length-map course.history (λ (e : Event). (who_of e, e)) in
     omega arith
 

@@ -1,4 +1,5 @@
-use Rattle.std.proofs.Common.{◌<◌, ◌≤◌, ℕ, ℤ, List, sym, subst, arith}
+use Rattle.std.proofs.Common.{◌<◌, ◌≤◌, ℕ, ℤ, suc, List, sym, subst, arith}
+use Rattle.square.specs.declared.range.TheConstants.{MAX_S}
 use Rattle.square_board.specs.Inside.Starts.{ListsPart}
 use Rattle.square_board.specs.Openings.{low_of}
 use Rattle.square_board.proofs.Starts.{part_none, part_all}
@@ -14,11 +15,11 @@ loop-s-init c =
 
 pub returns-clause-listed : goal.returns-clause-listed
 returns-clause-listed c =
-    let last : 63 < c.loop-s.s = c.loop-s-test.false in
-    let most : c.loop-s.s ≤ 64 = c.loop-s.auto.s-end in
+    let last : MAX_S < c.loop-s.s = c.loop-s-test.false in
+    let most : c.loop-s.s ≤ suc MAX_S = c.loop-s.auto.s-end in
     part_all (low_of c.args.table.now) c.loop-s.squares.items c.args.table.now c.loop-s.s (c.loop-s.invariant.is_table (omega arith)) c.loop-s.invariant.part (omega arith)
 
 pub returns-clause-is_table : goal.returns-clause-is_table
 returns-clause-is_table c =
-    let last : 63 < c.loop-s.s = c.loop-s-test.false in
+    let last : MAX_S < c.loop-s.s = c.loop-s-test.false in
     c.loop-s.invariant.is_table (omega arith)
