@@ -7,7 +7,7 @@ use save_journal::{Journal, OpenFault, frame};
 use std::alloc::Global;
 
 /// How many bytes a disk holds, with those that were written and its calls.
-const ROOM: usize = 10000;
+const ROOM: usize = 25000;
 
 /// A disk that holds these bytes, and does not fail.
 pub(crate) fn sound_disk(alloc: Global, bytes: Vec<u8>) -> Result<MemDisk, Fault> {
