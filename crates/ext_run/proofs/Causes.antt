@@ -7,7 +7,7 @@ use Rattle.edge.specs.Source.{without_first}
 use Rattle.module_json.specs.ModuleFile.{File, IsFileOf, no_value, described}
 use Rattle.module_json.specs.declared.malformed.Malformed.{Malformed}
 use Rattle.module_json.specs.declared.malformed.What.{What}
-use Rattle.module_json.specs.declared.malformed.Malformed.TheVariants.{Limit, Json, Shape, Kind, Prime, Name, Degree, Action, Parts, Memory as NoRoom}
+use Rattle.module_json.specs.declared.malformed.Malformed.TheVariants.{Limit, Json, Shape, Kind, Prime, Name, Degree, Action, Bounds, Parts, Memory as NoRoom}
 use Rattle.module_json.proofs.Reading.{file_unique}
 use Rattle.module_json.proofs.Sizes.{value_fits}
 use Rattle.finite_module.specs.Module.{Module as SteenrodModule}
@@ -146,6 +146,7 @@ malformed_statuses (Prime given) = inl refl
 malformed_statuses (Name generator) = inl refl
 malformed_statuses (Degree generator) = inl refl
 malformed_statuses (Action index why) = inl refl
+malformed_statuses (Bounds min max) = inl refl
 malformed_statuses (Parts want given) = inl refl
 malformed_statuses NoRoom = inr refl
 

@@ -8,7 +8,7 @@ use Rattle.module_json.specs.ModuleFile.{File, IsFileOf, no_value, described}
 use Rattle.module_json.specs.Parts.{ArePartsOf, no_value as none, described as some}
 use Rattle.module_json.proofs.Sizes.{value_of_longer}
 use Rattle.module_json.specs.declared.malformed.Malformed.{Malformed}
-use Rattle.module_json.specs.declared.malformed.Malformed.TheVariants.{Limit, Json, Shape, Kind, Prime, Name, Degree, Action, Parts, Memory}
+use Rattle.module_json.specs.declared.malformed.Malformed.TheVariants.{Limit, Json, Shape, Kind, Prime, Name, Degree, Action, Bounds, Parts, Memory}
 use Rattle.ext_words.specs.declared.command.Build.{Build}
 use Rattle.ext_run.specs.declared.failure.Failure.{Failure}
 use Rattle.ext_run.specs.declared.failure.Failure.TheVariants.{Malformed as NoModuleFile}
@@ -67,6 +67,7 @@ malformed_cause Is (Prime given) p = p (λ h. cc)
 malformed_cause Is (Name generator) p = p (λ h. cc)
 malformed_cause Is (Degree generator) p = p (λ h. cc)
 malformed_cause Is (Action index why) p = p (λ h. cc)
+malformed_cause Is (Bounds min max) p = p (λ h. cc)
 malformed_cause Is (Parts want given) p = p (λ h. cc)
 malformed_cause Is Memory p = tt
 

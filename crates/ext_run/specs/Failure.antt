@@ -6,11 +6,11 @@ use Rattle.edge.specs.declared.reading.ReadFault.{ReadFault}
 use Rattle.edge.specs.declared.reading.ReadFault.TheVariants.{Failed, Memory as NoSpace}
 use Rattle.module_json.specs.ModuleFile.{Generator}
 use Rattle.module_json.specs.declared.malformed.Malformed.{Malformed}
-use Rattle.module_json.specs.declared.malformed.Malformed.TheVariants.{Limit, Json, Shape, Kind, Prime, Name, Degree, Action, Parts, Memory as NoRoom}
+use Rattle.module_json.specs.declared.malformed.Malformed.TheVariants.{Limit, Json, Shape, Kind, Prime, Name, Degree, Action, Bounds, Parts, Memory as NoRoom}
 use Rattle.module_json.specs.declared.malformed.What.{What}
 use Rattle.module_json.specs.declared.malformed.What.TheVariants.{Bytes, Gens, Degree as DegreeLimit, Span, Actions}
 use Rattle.module_json.specs.declared.malformed.Place.{Place}
-use Rattle.module_json.specs.declared.malformed.Place.TheVariants.{Whole, Kind as AtType, Cofiber, Shift, Prime as AtPrime, Gens as AtGens, Actions as AtActions}
+use Rattle.module_json.specs.declared.malformed.Place.TheVariants.{Whole, Kind as AtType, Cofiber, Shift, Prime as AtPrime, Gens as AtGens, Actions as AtActions, Min as AtMin, Max as AtMax}
 use Rattle.module_json.specs.declared.malformed.Why.{Why}
 use Rattle.module_json.specs.declared.malformed.Why.TheVariants.{Syntax, SquareZero, Unknown, WrongDegree, Repeated}
 use Rattle.finite_module.specs.Text.{name_at}
@@ -55,6 +55,8 @@ place_text Shift = codes "shift"
 place_text AtPrime = codes "p"
 place_text AtGens = codes "gens"
 place_text AtActions = codes "actions"
+place_text AtMin = codes "min"
+place_text AtMax = codes "max"
 
 abbrev pub memory_line : List ℕ
 memory_line = codes "ext: out of memory\n"
@@ -80,6 +82,7 @@ malformed_line (Prime given) = codes "ext: module file: prime " ++ (decimal give
 malformed_line (Name generator) = codes "ext: module file: name of generator " ++ (decimal generator ++ newline)
 malformed_line (Degree generator) = codes "ext: module file: degree of generator " ++ (decimal generator ++ newline)
 malformed_line (Action index why) = action_line index why
+malformed_line (Bounds min max) = codes "ext: module file: max below min\n"
 malformed_line (Parts want given) =
     codes "ext: module file: " ++ (decimal given ++ (codes " parts, wanted " ++ (decimal want ++ newline)))
 malformed_line NoRoom = memory_line

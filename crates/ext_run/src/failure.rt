@@ -214,6 +214,8 @@ fn place_text(at: FilePlace) -> &'static [u8]
         FilePlace::Prime => b"p",
         FilePlace::Gens => b"gens",
         FilePlace::Actions => b"actions",
+        FilePlace::Min => b"min",
+        FilePlace::Max => b"max",
     }
 }
 
@@ -283,6 +285,7 @@ fn malformed_line(malformed: Malformed) -> Line<'static>
             Number(generator as u64),
         ),
         Malformed::Action { index, why } => action_line(index, why),
+        Malformed::Bounds { .. } => plain(b"ext: module file: max below min\n"),
         Malformed::Parts { want, given } => [
             Text(b"ext: module file: "),
             Number(given as u64),

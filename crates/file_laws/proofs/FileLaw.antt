@@ -25,7 +25,7 @@ use Rattle.finite_module.specs.DerivedAction.{listed_sum, sum_vector, span, deri
 use Rattle.module_check.specs.Acceptance.{first_in, listed_from, relation_on, relation_of, relation_in_degrees, relation_in_degree, first_relation}
 use Rattle.finite_module.specs.Axioms.{IsModule, value_of, one_by_one, by_their_product}
 use Rattle.module_json.specs.WellFormed.{NeverFall}
-use Rattle.finite_module.specs.Text.{powers}
+use Rattle.module_json.specs.Spaces.{powers}
 use Rattle.module_check.specs.declared.fault.CheckFault.TheVariants.{Listed, Relation}
 use Rattle.finite_module.proofs.AboveSpan.{width_above_span}
 use Rattle.finite_module.proofs.Widths.{terms_of_degree}

@@ -7,7 +7,7 @@ use Rattle.finite_module.specs.DerivedAction.{span, derived_module}
 use Rattle.module_check.specs.Acceptance.{refusal_of}
 use Rattle.finite_module.specs.Axioms.{IsModule, value_of}
 use Rattle.module_json.specs.WellFormed.{NeverFall}
-use Rattle.finite_module.specs.Text.{powers}
+use Rattle.module_json.specs.Spaces.{powers}
 use Rattle.built_laws.specs.Constructed.{IsRenamed}
 
 -- the entry of Sq^n on generator i, where it is not zero

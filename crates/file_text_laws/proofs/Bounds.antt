@@ -12,7 +12,8 @@ use Rattle.module_json.specs.ModuleFile.{Generator, within_limit}
 use Rattle.module_json.specs.declared.limits.TheConstants.{MAX_DEGREE}
 use Rattle.finite_module.specs.Module.{Module}
 use Rattle.finite_module.specs.Axioms.{IsModule}
-use Rattle.finite_module.specs.Text.{name_at, joined_by_plus, powers}
+use Rattle.module_json.specs.Spaces.{powers}
+use Rattle.finite_module.specs.Text.{name_at, joined_by_plus}
 use Rattle.file_laws.specs.Files.{squares_of}
 use Rattle.module_build.specs.Names.{numbered_name}
 use Rattle.module_build.specs.FileText.{escaped, quoted, joined_by_comma, member}

@@ -17,7 +17,8 @@ use Rattle.module_json.specs.declared.limits.TheConstants.{MAX_DEGREE, MAX_SPAN}
 use Rattle.finite_module.specs.Module.{Module, generators_in, width, numbers_from}
 use Rattle.finite_module.specs.ModuleLaws.{generators_in-member}
 use Rattle.finite_module.specs.Axioms.{IsModule, value_of}
-use Rattle.finite_module.specs.Text.{name_at, powers}
+use Rattle.module_json.specs.Spaces.{powers}
+use Rattle.finite_module.specs.Text.{name_at}
 use Rattle.file_laws.specs.Files.{entry_of as file_entry, squares_of}
 use Rattle.module_build.specs.Names.{numbered_name}
 use Rattle.module_build.specs.FileText.{quoted, action_text, action_of_square, actions}

@@ -4,6 +4,7 @@ use Rattle.std.specs.Prelude.{ℕ, ℤ, pos, ◌+ℤ◌, Bool, if◌then◌else�
 use Rattle.std.specs.Fmt.{signed_decimal}
 use Rattle.std.specs.List.{flat_map, range_with_len, items_where_true, list_any}
 use Rattle.module_json.specs.ModuleFile.{Generator, degree_at, no_generator}
+use Rattle.module_json.specs.Spaces.{powers}
 use Rattle.finite_module.specs.Module.{Module, generators_in, value}
 
 abbrev pub newline : List ℕ
@@ -37,9 +38,6 @@ square_line m i n =
     ++ (name_at m.generators i
     ++ (codes " = " ++ (sum_text m.generators (degree_at m.generators i +ℤ pos n) v ++ newline)))))
     else []
-
-abbrev pub powers : List ℕ
-powers = 1 ∷ 2 ∷ 4 ∷ 8 ∷ 16 ∷ 32 ∷ 64 ∷ []
 
 abbrev pub canonical_text : Module → List ℕ
 canonical_text m = flat_map generator_line m.generators

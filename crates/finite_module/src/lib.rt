@@ -18,4 +18,3 @@ pub use finite_module::Module;
 pub use generators::{Generator, Generators};
 pub use laws::modules_are_graded_modules;
 pub use operators::{Operator, Operators};
-pub use text::POWERS;

@@ -3,7 +3,8 @@ ghost use Rattle.std.specs.Prelude.{◌≡◌, ◌<◌, ◌+◌, ◌++◌, [], �
 ghost use Rattle.std.specs.List.{flat_map, range_with_len, items_where_true};
 ghost use Rattle.module_json.specs.ModuleFile.{degree_at};
 ghost use Rattle.finite_module.specs.Module.{generators_in, width};
-ghost use Rattle.finite_module.specs.Text.{newline, name_at, generator_line, joined_by_plus, sum_text, square_line, powers, canonical_text};
+ghost use Rattle.module_json.specs.Spaces.{powers};
+ghost use Rattle.finite_module.specs.Text.{newline, name_at, generator_line, joined_by_plus, sum_text, square_line, canonical_text};
 
 use crate::exponents::sq;
 use crate::generators::Generators;
@@ -11,10 +12,8 @@ use crate::operators::Operators;
 use f2_vec::BitVec;
 use itoa::Buffer;
 use memory::Memory;
+use module_json::POWERS;
 use std::alloc::Global;
-
-/// The powers of two that a difference of two degrees of a module can be: each n for which its texts have Sq^n.
-pub const POWERS: [u16; 7] = [1, 2, 4, 8, 16, 32, 64];
 
 /// A line for each generator, and one for each Sq^n of a generator, n a power of two, that is not zero.
 pub(crate) fn canonical_text(alloc: Global, operators: &Operators) -> Result<Vec<u8>, Memory>

@@ -10,7 +10,8 @@ use Rattle.hopf_laws.proofs.Splittings.{All-flat_map}
 use Rattle.module_json.specs.ModuleFile.{Generator, degree_at, no_generator}
 use Rattle.finite_module.specs.Module.{Module}
 use Rattle.finite_module.specs.Axioms.{value_of}
-use Rattle.finite_module.specs.Text.{name_at, sum_text, powers}
+use Rattle.module_json.specs.Spaces.{powers}
+use Rattle.finite_module.specs.Text.{name_at, sum_text}
 use Rattle.module_build.specs.FileText.{quoted, joined_by_comma, member, action_text, action_of_square, actions}
 use Rattle.module_build.specs.Inside.Written.{after_comma, written_after}
 use Rattle.finite_module.proofs.TextSteps.{any_none, any_some}

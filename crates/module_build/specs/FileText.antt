@@ -5,7 +5,8 @@ use Rattle.std.specs.List.{flat_map, range_with_len, list_any}
 use Rattle.module_json.specs.ModuleFile.{Generator, degree_at}
 use Rattle.finite_module.specs.Module.{Module}
 use Rattle.finite_module.specs.Axioms.{value_of}
-use Rattle.finite_module.specs.Text.{newline, name_at, sum_text, powers}
+use Rattle.module_json.specs.Spaces.{powers}
+use Rattle.finite_module.specs.Text.{newline, name_at, sum_text}
 
 -- a character in a text of JSON: a quotation mark and a backslash have one before them
 abbrev pub escaped : ℕ → List ℕ

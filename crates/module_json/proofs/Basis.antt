@@ -1,5 +1,5 @@
 -- What holds of the basis of generators that are not refused.
-use Rattle.std.specs.Prelude.{◌≡◌, ◌≢◌, ℕ, suc, ◌≤◌, ℤ, pos, neg_ℤ, ◌+ℤ◌, ◌≤ℤ◌, int_le, Bool, true, false, cond, List, [], ◌∷◌, length, All, AllPairs, IsTrue, Option, Some, None, String, string_bytes, Result, Ok, Err}
+use Rattle.std.specs.Prelude.{◌≡◌, ◌≢◌, ℕ, suc, ◌≤◌, ℤ, pos, neg_ℤ, ◌+ℤ◌, ◌≤ℤ◌, int_le, Bool, true, false, cond, if◌then◌else◌, codes, List, [], ◌∷◌, length, All, AllPairs, IsTrue, Option, Some, None, String, string_bytes, Result, Ok, Err}
 use Rattle.std.specs.List.{list_all, AllByRecursion}
 use Rattle.std.specs.List.Sorted.{IsStrictlySortedBy}
 use Rattle.std.specs.Option.{option_or}
@@ -8,7 +8,7 @@ use Rattle.std.specs.String.{string_cmp}
 use Rattle.std.specs.declared.alloc.Global.{Global}
 use Rattle.std.specs.Ordering.{nat_cmp}
 use Rattle.std.specs.Cmp.Lexicographic.{slice_cmp}
-use Rattle.std.proofs.Common.{Less, Equal, get_or, refl, sym, ap, ◌∙◌, arith, subst}
+use Rattle.std.proofs.Common.{Less, Equal, get_or, refl, sym, ap, arith, subst}
 use Rattle.std.proofs.lemmas.Int.{ints}
 use Rattle.std.proofs.lemmas.Cmp.{nat_list_cmp_total, tied_itself}
 use Rattle.std.proofs.lemmas.List.Elements.{All-from_recursion}
@@ -18,13 +18,15 @@ use Rattle.serde_json.specs.View.{view, members_view}
 use Rattle.serde_json.specs.declared.value.Value.{Value}
 use Rattle.module_json.specs.declared.limits.TheConstants.{MAX_GENERATORS, MAX_ACTIONS, MAX_DEGREE, MAX_SPAN}
 use Rattle.module_json.specs.Actions.{is_name}
-use Rattle.module_json.specs.Checks.{unless, members_count, header_refusal}
+use Rattle.module_json.specs.Checks.{unless, members_count, header_refusal, is_space}
+use Rattle.module_json.specs.Spaces.{count_between}
 use Rattle.module_json.specs.WellFormed.{IsEntryOf, Agree, IsWellFormed, NeverFall}
 use Rattle.module_json.proofs.Counts.{members_counted}
-use Rattle.module_json.specs.ModuleFile.{Generator, Entry, within_limit, degree_of, degree_refusal, generator_refusal, generators_refusal, by_degree, listed, basis, spans, span_refusal, File, IsFileOf, no_value, described, gens_of, actions_of, entries_from, with_entries, unless_refused, listed_refusal, listed_of, is_near}
+use Rattle.module_json.specs.ModuleFile.{Generator, Entry, within_limit, degree_of, degree_refusal, generator_refusal, generators_refusal, by_degree, listed, basis, spans, span_refusal, File, IsFileOf, no_value, described, gens_of, actions_of, entries_from, with_entries, unless_refused, listed_refusal, listed_of, is_near, number_at, bounds_refusal, space_between, space_of, space_file}
 use Rattle.module_json.specs.declared.malformed.Malformed.{Malformed}
 use Rattle.module_json.specs.declared.malformed.Malformed.TheVariants.{Name}
 use Rattle.module_json.specs.Sorting.{inserted}
+use Rattle.module_json.proofs.Cells.{cells_in_order}
 use Rattle.module_json.proofs.Sorting.{EachPair, EachPair-by_place, Rises, Rises-sorted_by, All-inserted, All-sorted_by, length-sorted_by}
 
 -- ---- each generator
@@ -39,11 +41,11 @@ pub option_or-none : {A : Type 0} (p q : Option A) → option_or p q ≡ None �
 option_or-none None q h = (refl, h)
 option_or-none (Some x) q h = cc
 
-unless_none : (b : Bool) (e : Malformed) → unless b e ≡ None → b ≡ true
+pub unless_none : (b : Bool) (e : Malformed) → unless b e ≡ None → b ≡ true
 unless_none true e h = refl
 unless_none false e h = absurd (cc)
 
-limits : (z : ℤ) → within_limit z ≡ true → (neg_ℤ MAX_DEGREE ≤ℤ z) × (z ≤ℤ MAX_DEGREE)
+pub limits : (z : ℤ) → within_limit z ≡ true → (neg_ℤ MAX_DEGREE ≤ℤ z) × (z ≤ℤ MAX_DEGREE)
 limits z h = (grind (arith, ints), grind (arith, ints))
 
 degree_fine : (i : ℕ) (o : Option ℤ) → degree_refusal i o ≡ None → (z : ℤ) × (o ≡ Some z) × ((neg_ℤ MAX_DEGREE ≤ℤ z) × (z ≤ℤ MAX_DEGREE))
@@ -156,6 +158,18 @@ listed_in_order d f h =
     let es = entries_from gs [] (actions_of d) in
     subst NeverFall (generators_same gs es f (not_refused (listed_refusal d) (with_entries gs es) f h)) (EachPair-by_place (λ g h. g.degree ≤ℤ h.degree) gs (Rises-sorted_by (λ (g : Generator). g.degree) (listed (gens_of d))))
 
+space_in_order : (min max : Option ℤ) (f : File) → space_between min max ≡ Ok f → NeverFall f.generators
+space_in_order None max f h = cc
+space_in_order (Some a) None f h = cc
+space_in_order (Some a) (Some b) f h =
+    let is = not_refused (bounds_refusal a b) (Ok (space_file a (count_between a b))) f h in
+    let same : space_file a (count_between a b) ≡ f = cc in
+    subst (λ (x : File). NeverFall x.generators) same (cells_in_order a (count_between a b))
+
+in_order_behind : (space : Bool) (d : Data) (f : File) → (if space then space_of d else listed_of d) ≡ Ok f → NeverFall f.generators
+in_order_behind true d f h = space_in_order (number_at (codes "min") d) (number_at (codes "max") d) f h
+in_order_behind false d f h = listed_in_order d f h
+
 pub file_in_order : (bytes : List ℕ) (r : Result File Malformed) → IsFileOf bytes r → (f : File) → r ≡ Ok f → NeverFall f.generators
 file_in_order bytes r (no_value e is) f h = cc
-file_in_order bytes r (described d is) f h = listed_in_order d f (not_refused (header_refusal d) (listed_of d) f h)
+file_in_order bytes r (described d is) f h = in_order_behind (is_space d) d f (not_refused (header_refusal d) (if is_space d then space_of d else listed_of d) f h)

@@ -2,6 +2,9 @@ pub mod Counts
 pub mod Pieces
 mod Listing
 pub mod Sorting
+mod Binomials
+pub mod Cells
+mod Bounds
 pub mod Basis
 pub mod Reading
 pub mod Sizes

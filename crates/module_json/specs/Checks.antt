@@ -1,5 +1,5 @@
 -- The checks of a module file before its generators and actions: what each one refuses.
-use Rattle.std.specs.Prelude.{ℕ, ◌==◌, ◌≡◌, ◌≢◌, Bool, true, false, nat_le, ◌+◌, List, [], ◌∷◌, length, Option, Some, None, option_and_then, codes, bytes_eq, IsUtf8, Result, Ok, Err}
+use Rattle.std.specs.Prelude.{ℕ, ◌==◌, ◌||◌, ◌≡◌, ◌≢◌, Bool, true, false, nat_le, ◌+◌, List, [], ◌∷◌, length, Option, Some, None, option_and_then, codes, bytes_eq, IsUtf8, Result, Ok, Err}
 use Rattle.std.specs.Option.{option_or}
 use Rattle.serde_json.specs.Data.{Data, Items, no_items, item, Members, no_members, member}
 use Rattle.serde_json.specs.Find.{as_number, as_str, as_array, as_object, as_u64, get}
@@ -59,9 +59,17 @@ whole_refusal d = unless_there (Shape Whole) (as_object d)
 abbrev pub text_at : List ℕ → Data → Option (List ℕ)
 text_at key d = option_and_then as_str (get key d)
 
+-- a file that lists generators and actions
+abbrev pub is_listed_type : List ℕ → Bool
+is_listed_type text = bytes_eq text (codes "finite dimensional module")
+
+abbrev pub is_space_type : List ℕ → Bool
+is_space_type text = bytes_eq text (codes "real projective space")
+
+-- There are two types of module file.
 abbrev pub kind_of_text : Option (List ℕ) → Option Malformed
 kind_of_text None = Some (Shape Kind)
-kind_of_text (Some text) = unless (bytes_eq text (codes "finite dimensional module")) OtherKind
+kind_of_text (Some text) = unless (is_listed_type text || is_space_type text) OtherKind
 
 abbrev pub kind_refusal : Data → Option Malformed
 kind_refusal d = kind_of_text (text_at (codes "type") d)
@@ -79,6 +87,14 @@ prime_of_number (Some p) = unless (p == 2) (OtherPrime p)
 abbrev pub prime_of_value : Option Data → Option Malformed
 prime_of_value None = None
 prime_of_value (Some d) = prime_of_number (option_and_then as_u64 (as_number d))
+
+-- Whether the type is that of a real projective space.
+abbrev pub is_space : Data → Bool
+is_space d = is_type (text_at (codes "type") d)
+  where
+    is_type : Option (List ℕ) → Bool
+    is_type None = false
+    is_type (Some text) = is_space_type text
 
 -- The prime may be left out.
 abbrev pub prime_refusal : Data → Option Malformed

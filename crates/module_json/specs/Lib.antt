@@ -2,6 +2,7 @@ pub mod Actions
 pub mod Checks
 pub mod ModuleFile
 pub mod Parts
+pub mod Spaces
 pub mod Sorting
 pub mod WellFormed
 pub mod Inside

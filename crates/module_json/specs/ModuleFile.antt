@@ -1,18 +1,22 @@
 -- What a module file describes, or the first thing wrong with it.
-use Rattle.std.specs.Prelude.{ℕ, suc, ◌%◌, ◌&&◌, ◌==◌, ◌≡◌, nat_eq, ℤ, pos, ◌+ℤ◌, neg_ℤ, int_le, Bool, not, if◌then◌else◌, List, [], ◌∷◌, ◌++◌, length, slice_index_or, filter, count_by, position, Option, Some, None, option_map, option_and_then, codes, bytes_eq, Result, Ok, Err}
+use Rattle.std.specs.Prelude.{ℕ, suc, ◌+◌, ◌%◌, ◌&&◌, ◌==◌, ◌≡◌, nat_eq, nat_le, nat_lt, ℤ, pos, ◌+ℤ◌, neg_ℤ, int_le, Bool, not, if◌then◌else◌, List, [], ◌∷◌, ◌++◌, length, map, slice_index_or, filter, count_by, position, Option, Some, None, option_map, option_and_then, codes, bytes_eq, Result, Ok, Err}
 use Rattle.std.specs.Ordering.{int_eq}
 use Rattle.std.specs.Cmp.Lexicographic.{pointwise}
-use Rattle.std.specs.List.{list_all, range_with_len}
+use Rattle.std.specs.Fmt.{signed_decimal}
+use Rattle.std.specs.List.{list_all, range_with_len, flat_map}
 use Rattle.std.specs.Option.{option_or}
+use Rattle.milnor_basis.specs.Product.{is_odd}
 use Rattle.serde_json.specs.Data.{Data, Items, no_items, item, Members, no_members, member}
 use Rattle.serde_json.specs.Find.{as_number, as_str, as_array, as_object, as_i64, get}
 use Rattle.module_json.specs.Actions.{is_name, Written, action_of}
 use Rattle.module_json.specs.Sorting.{sorted_by}
-use Rattle.module_json.specs.Checks.{IsValueOf, unless, gens_refusal, actions_refusal, first_of, header_refusal}
-use Rattle.module_json.specs.declared.limits.TheConstants.{MAX_DEGREE, MAX_SPAN}
+use Rattle.module_json.specs.Checks.{IsValueOf, unless, gens_refusal, actions_refusal, first_of, header_refusal, is_space}
+use Rattle.module_json.specs.Spaces.{powers, binomial, count_between}
+use Rattle.module_json.specs.declared.limits.TheConstants.{MAX_GENERATORS, MAX_DEGREE, MAX_SPAN}
 use Rattle.module_json.specs.declared.malformed.Malformed.{Malformed}
-use Rattle.module_json.specs.declared.malformed.Malformed.TheVariants.{Limit, Name, Degree as NoDegree, Action}
-use Rattle.module_json.specs.declared.malformed.What.TheVariants.{Degree, Span}
+use Rattle.module_json.specs.declared.malformed.Malformed.TheVariants.{Limit, Shape, Name, Degree as NoDegree, Action, Bounds}
+use Rattle.module_json.specs.declared.malformed.What.TheVariants.{Gens, Degree, Span}
+use Rattle.module_json.specs.declared.malformed.Place.TheVariants.{Min, Max}
 use Rattle.module_json.specs.declared.malformed.Why.{Why}
 use Rattle.module_json.specs.declared.malformed.Why.TheVariants.{Syntax, SquareZero, Unknown, WrongDegree, Repeated}
 
@@ -200,12 +204,57 @@ abbrev pub listed_of : Data → Result File Malformed
 listed_of d = unless_refused (listed_refusal d)
     (with_entries (basis (gens_of d)) (entries_from (basis (gens_of d)) [] (actions_of d)))
 
+-- ---- a type of module file: a real projective space
+
+-- The cell of dimension n, which stands for the n-th power of a class of degree 1.
+abbrev pub cell : ℤ → Generator
+cell n = record { name = codes "x" ++ signed_decimal n; degree = n }
+
+-- one cell in each dimension, count of them from min on
+abbrev pub cells : ℤ → ℕ → List Generator
+cells min count = map (λ i. cell (min +ℤ pos i)) (range_with_len 0 count)
+
+-- whether Sq^k takes cell i to another of the count cells, which is the one k dimensions above
+abbrev pub is_joined : ℤ → ℕ → ℕ → ℕ → Bool
+is_joined min count i k = nat_lt (i + k) count && is_odd (binomial (min +ℤ pos i) k)
+
+-- the action of Sq^k on cell i, to the one k dimensions above
+abbrev pub joining : ℕ → ℕ → Entry
+joining i k = record { n = k; generator = i; sum = (i + k) ∷ [] }
+
+abbrev pub squares_on : ℤ → ℕ → ℕ → List Entry
+squares_on min count i = map (joining i) (filter (is_joined min count i) powers)
+
+-- The real projective space with these cells, as listed by cell and then by square: Sq^k x^n is binom(n, k) x^(n + k).
+abbrev pub space_file : ℤ → ℕ → File
+space_file min count =
+    record { generators = cells min count; entries = flat_map (squares_on min count) (range_with_len 0 count) }
+
+-- the whole number under a key
+abbrev pub number_at : List ℕ → Data → Option ℤ
+number_at key d = option_and_then degree_of (get key d)
+
+-- What is wrong with the least and the greatest dimension of cells: both are degrees, the greatest is not below the least, and
+-- the cells are not too many.
+abbrev pub bounds_refusal : ℤ → ℤ → Option Malformed
+bounds_refusal min max = first_of (unless (within_limit min && within_limit max) (Limit Degree)
+    ∷ unless (int_le min max) (Bounds min max) ∷ unless (nat_le (count_between min max) MAX_GENERATORS) (Limit Gens) ∷ [])
+
+abbrev pub space_between : Option ℤ → Option ℤ → Result File Malformed
+space_between None max = Err (Shape Min)
+space_between (Some min) None = Err (Shape Max)
+space_between (Some min) (Some max) =
+    unless_refused (bounds_refusal min max) (Ok (space_file min (count_between min max)))
+
+-- What a value of this type describes behind its header, or its first refusal there.
+abbrev pub space_of : Data → Result File Malformed
+space_of d = space_between (number_at (codes "min") d) (number_at (codes "max") d)
+
 -- ---- the file
 
--- What a value describes, or its first refusal: its header is looked at first, and then what its type asks for. There is one
--- type of module file.
+-- What a value describes, or its first refusal: its header is looked at first, and then what its type asks for.
 abbrev pub file_of : Data → Result File Malformed
-file_of d = unless_refused (header_refusal d) (listed_of d)
+file_of d = unless_refused (header_refusal d) (if is_space d then space_of d else listed_of d)
 
 -- What bytes describe: they have no value, or it is what their value describes.
 pub data IsFileOf (bytes : List ℕ) : Result File Malformed → Type 0 where

@@ -5,7 +5,7 @@ ghost use Rattle.std.specs.String.{string_cmp};
 ghost use Rattle.std.specs.BTreeMap.{IsOrdered};
 ghost use Rattle.serde_json.specs.Data.{Data};
 ghost use Rattle.serde_json.specs.View.{view, members_view, items_view};
-ghost use Rattle.module_json.specs.Checks.{IsJson, IsValueOf, size_refusal, whole_refusal, kind_refusal, cofiber_refusal, shift_refusal, prime_refusal, header_refusal, gens_refusal, actions_refusal};
+ghost use Rattle.module_json.specs.Checks.{IsJson, IsValueOf, size_refusal, whole_refusal, kind_refusal, cofiber_refusal, shift_refusal, prime_refusal, header_refusal, is_space, gens_refusal, actions_refusal};
 ghost use Rattle.module_json.specs.Parts.{parts_refusal, parts_of};
 ghost use Rattle.module_json.specs.ModuleFile.{gens_of, actions_of, degree_of, generator_refusal};
 
@@ -15,8 +15,11 @@ use crate::malformed::{Malformed, Place, What};
 use serde_json::{Map, Value};
 use std::alloc::Global;
 
-/// The one type of module that files may describe.
-const KIND: &str = "finite dimensional module";
+/// The type of a file that lists generators and actions.
+const LISTED: &str = "finite dimensional module";
+
+/// The type of a file that gives the least and the greatest dimension of cells.
+const SPACE: &str = "real projective space";
 
 /// The check of the size of a file.
 fn check_size(bytes: &[u8]) -> Result<(), Malformed>
@@ -86,8 +89,18 @@ fn check_kind(file: &Value) -> Result<(), Malformed>
 {
     match file.get("type").and_then(Value::as_str) {
         None => Err(Malformed::Shape { at: Place::Kind }),
-        Some(kind) if kind == KIND => Ok(()),
+        Some(kind) if kind == LISTED || kind == SPACE => Ok(()),
         Some(_) => Err(Malformed::Kind),
+    }
+}
+
+/// Whether the type is that of a real projective space.
+pub(crate) fn is_space(file: &Value) -> bool
+    ensures { result ≡ is_space (view file.now) }
+{
+    match file.get("type").and_then(Value::as_str) {
+        None => false,
+        Some(kind) => kind == SPACE,
     }
 }
 

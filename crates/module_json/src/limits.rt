@@ -17,6 +17,9 @@ pub const MAX_DEGREE: i32 = 128;
 /// How far the internal degree of one generator may lie above that of another.
 pub const MAX_SPAN: u16 = 64;
 
+/// The powers of two that a difference of two degrees of a module can be: each n for which its texts have Sq^n.
+pub const POWERS: [u16; 7] = [1, 2, 4, 8, 16, 32, 64];
+
 /// Whether a generator may have this internal degree.
 pub fn is_degree(degree: i64) -> bool
     ensures { result ≡ within_limit degree }

@@ -28,6 +28,9 @@ pub enum Malformed {
     /// Actions are numbered from 0, as they are listed.
     #[error("action {index}: {why}")]
     Action { index: usize, why: Why },
+    /// The cells of a real projective space are to lie from `min` to `max`, which is less.
+    #[error("max below min")]
+    Bounds { min: i64, max: i64 },
     /// A file of several modules has `given` of them, where `want` are asked for.
     #[error("{given} parts, wanted {want}")]
     Parts { want: usize, given: usize },
@@ -91,6 +94,10 @@ pub enum Place {
     Gens,
     #[error("actions")]
     Actions,
+    #[error("min")]
+    Min,
+    #[error("max")]
+    Max,
 }
 
 /// What is wrong with an action.

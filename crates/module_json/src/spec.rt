@@ -1,14 +1,15 @@
 //! A module as a file describes it.
 ghost use Rattle.std.specs.Prelude.{◌≡◌, ◌≢◌, ◌<◌, length, Some, Ok, Err, IfOk, IfErr, option_map, slice_get};
 ghost use Rattle.serde_json.specs.View.{view, items_view};
-ghost use Rattle.module_json.specs.ModuleFile.{listed_of, file_of, IsFileOf};
+ghost use Rattle.module_json.specs.ModuleFile.{listed_of, space_of, file_of, IsFileOf};
 ghost use Rattle.module_json.specs.Parts.{files_of, modules_of, ArePartsOf};
 ghost use Rattle.module_json.specs.WellFormed.{IsWellFormed};
 
-use crate::checks::{actions, check_header, gens, parts, read_value};
+use crate::checks::{actions, check_header, gens, is_space, parts, read_value};
 use crate::entry::{Entry, entries};
 use crate::generator::{Generator, check_span, generators};
 use crate::malformed::Malformed;
+use crate::space::{CellRange, cell_range, cells, squares};
 use serde_json::Value;
 use std::alloc::Global;
 use std::marker::Model;
@@ -92,25 +93,46 @@ fn describe_listed(alloc: Global, file: &Value) -> Result<Spec, Malformed>
     })
 }
 
+/// The module that a value describes behind its header if it is a real projective space, or the first thing wrong there.
+fn describe_space(alloc: Global, file: &Value) -> Result<Spec, Malformed>
+    ensures module { IfOk result (λ s. space_of (view file.now) ≡ Ok s) }
+    ensures refused { IfErr result (λ e. e ≢ Malformed.Memory → space_of (view file.now) ≡ Err e) }
+{
+    let CellRange { min, count } = cell_range(file)?;
+    let generators = cells(alloc, min, count)?;
+    let entries = squares(alloc, min, count)?;
+    Ok(Spec {
+        generators,
+        entries,
+    })
+}
+
 /// The module that a value describes, or the first thing wrong with it.
 fn describe(alloc: Global, file: &Value) -> Result<Spec, Malformed>
     ensures module { IfOk result (λ s. file_of (view file.now) ≡ Ok s) }
     ensures refused { IfErr result (λ e. e ≢ Malformed.Memory → file_of (view file.now) ≡ Err e) }
 {
     check_header(file)?;
+    if is_space(file) {
+        return describe_space(alloc, file);
+    }
     describe_listed(alloc, file)
 }
 
 /// The module that a file describes, or the first thing wrong with it.
 ///
-/// The file is a JSON object of at most 2^20 bytes. Its `"type"` is `"finite dimensional module"`, and its `"p"` is 2 or
-/// left out. `"gens"` has the degree of each generator under its name. `"actions"`, which may be left out, lists texts
-/// such as `Sq2 x0 = x2 + y2`, whose right side is `0` for none. The keys `"cofiber"` and `"shift"` are refused, and
-/// others are passed over. A repeated key has its last value.
+/// The file is a JSON object of at most 2^20 bytes, whose `"p"` is 2 or left out. If its `"type"` is
+/// `"finite dimensional module"`, `"gens"` has the degree of each generator under its name, and `"actions"`, which may be
+/// left out, lists texts such as `Sq2 x0 = x2 + y2`, whose right side is `0` for none. If it is `"real projective space"`,
+/// there is a cell in each dimension from `"min"` to `"max"`, named as `x3` and `x-1`, and Sq^k takes the one of dimension n
+/// to binom(n, k) times the one of dimension n + k (Steenrod). The keys `"cofiber"` and `"shift"` are refused, and others
+/// are passed over. A repeated key has its last value.
 ///
 /// # Errors
-/// The first check that fails, in this order: bytes, JSON, `"type"`, the refused keys, `"p"`, `"gens"`, each generator in
-/// the order of the names' bytes, the span of the degrees, `"actions"`, each action. `Memory` may come at any time.
+/// The first check that fails, in this order: bytes, JSON, `"type"`, the refused keys, `"p"`; then `"gens"`, each generator
+/// in the order of the names' bytes, the span of the degrees, `"actions"`, each action; or `"min"`, `"max"`, that both are
+/// degrees, that `"max"` is not below `"min"`, that the cells are at most [`MAX_GENERATORS`](crate::MAX_GENERATORS).
+/// `Memory` may come at any time.
 pub fn read(alloc: Global, bytes: &[u8]) -> Result<Spec, Malformed>
     ensures module { IfOk result (λ s. IsFileOf bytes.now (Ok s)) }
     ensures refused { IfErr result (λ e. e ≢ Malformed.Memory → IsFileOf bytes.now (Err e)) }

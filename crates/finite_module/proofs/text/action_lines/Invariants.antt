@@ -1,6 +1,7 @@
 use Rattle.std.proofs.Common.{◌≡◌}
 use Rattle.std.specs.List.{flat_map, range_with_len}
-use Rattle.finite_module.specs.Text.{square_line, powers}
+use Rattle.module_json.specs.Spaces.{powers}
+use Rattle.finite_module.specs.Text.{square_line}
 use Rattle.finite_module.proofs.text.action_lines.Given as goal
 
 abbrev pub invariant-loop-i : goal.invariant-loop-i
