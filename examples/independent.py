@@ -8,6 +8,7 @@ are counted over Milnor's matrices; the action of Sq(R) is solved from those of 
 resolution is any minimal one, not the canonical one, so that only the numbers of generators can be compared.
 """
 import json
+import math
 import re
 import sys
 from functools import lru_cache
@@ -102,11 +103,25 @@ class Echelon:
         return v, c
 
 
+def powers(least, greatest):
+    """The generators and actions of a real projective space: Sq^k x^n is (n over k) x^(n + k), and (n over k) is (k - n - 1 over k) below 0."""
+    gens = {f"x{n}": n for n in range(least, greatest + 1)}
+    actions = []
+    for n in gens.values():
+        for k in (1, 2, 4, 8, 16, 32):
+            binomial = math.comb(n, k) if n >= 0 else math.comb(k - n - 1, k)
+            if n + k <= greatest and binomial % 2:
+                actions.append(f"Sq{k} x{n} = x{n + k}")
+    return {"gens": gens, "actions": actions}
+
+
 class Module:
     """A finite module: vectors of a degree are numbers, bit i for its i-th generator."""
 
     def __init__(self, text):
         file = json.loads(text)
+        if file["type"] == "real projective space":
+            file = powers(file["min"], file["max"])
         names = sorted(file["gens"], key=lambda name: (file["gens"][name], name))
         degree = file["gens"]
         self.by_degree = {}
