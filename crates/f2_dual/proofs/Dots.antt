@@ -9,12 +9,8 @@ use Rattle.f2_vec.specs.Spans.{row, HaveWidth, combination, unit_vector, IsInSpa
 use Rattle.f2_vec.proofs.Spans.{HaveWidth-tail, HaveWidth-head, length-combination, bit-combination-cons}
 use Rattle.f2_vec.proofs.Split.{bit-unit_vector}
 use Rattle.f2_matrix.specs.Preimages.{pivot_of, at_pivots}
+pub use Rattle.f2_dual.specs.Inside.Dots.{dot}
 use Rattle.f2_dual.specs.Inside.Columns.{column}
-
-abbrev pub dot : List Bool → List Bool → Bool
-dot [] ys = false
-dot (x ∷ xs) [] = false
-dot (x ∷ xs) (y ∷ ys) = plus (x && y) (dot xs ys)
 
 pub dot-comm : (xs ys : List Bool) → dot xs ys ≡ dot ys xs
 dot-comm [] [] = refl

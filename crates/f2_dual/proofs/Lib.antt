@@ -1,14 +1,14 @@
-mod Dots
-mod OnCandidates
-mod Relations
-mod Step
+pub mod Dots
+pub mod OnCandidates
+pub mod Relations
+pub mod Step
 mod Spread
 mod Form
 mod Clearing
 mod Filling
 mod AtPlaces
-mod WantedColumns
+pub mod WantedColumns
 mod Tables
-mod Loops
+pub mod Loops
 mod Choosing
 pub mod Units

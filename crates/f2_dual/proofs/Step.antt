@@ -157,13 +157,13 @@ module _ (w : ℕ) (rows candidates image chosen kernel : List (List Bool)) (g :
   abbrev kept : List Bool
   kept = map (has_pivot kernel) (range_with_len 0 (length candidates))
 
-  bit-kept : (i : ℕ) → i < length candidates → bit kept i ≡ has_pivot kernel i
+  pub bit-kept : (i : ℕ) → i < length candidates → bit kept i ≡ has_pivot kernel i
   bit-kept i l = get_or-map-range_with_len (has_pivot kernel) 0 (length candidates) i i false l (omega arith)
 
   pivots_rise : PivotsRise kernel
   pivots_rise i j l m = g.relations.reduced.pivots_rise i j (pivot_of (row kernel i)) (pivot_of (row kernel j)) l (is_pivot (row kernel i) (g.relations.nonzero i (omega arith))) (is_pivot (row kernel j) (g.relations.nonzero j m))
 
-  new-IsPicked : new_rows candidates kernel ≡ items_where_true kept candidates
+  pub new-IsPicked : new_rows candidates kernel ≡ items_where_true kept candidates
   new-IsPicked =
       sym (picked 0 candidates kernel pivots_rise (λ t l. omega arith) (λ t l. omega (arith, kernel_pivot w rows candidates image chosen kernel g t l))
       ∙ map_same [] (λ v. row candidates (pivot_of v - 0)) (λ v. row candidates (pivot_of v)) kernel
@@ -173,7 +173,7 @@ module _ (w : ℕ) (rows candidates image chosen kernel : List (List Bool)) (g :
   wide_before i = HaveWidth-append w rows (take i candidates) (wide_rows w rows candidates image chosen kernel g) (HaveWidth-take w i candidates g.widths)
 
   -- a candidate at no pivot is a sum of rows and candidates before it
-  dropped-IsInSpan : (i : ℕ) → i < length candidates → has_pivot kernel i ≡ false → IsInSpan w (rows ++ take i candidates) (row candidates i)
+  pub dropped-IsInSpan : (i : ℕ) → i < length candidates → has_pivot kernel i ≡ false → IsInSpan w (rows ++ take i candidates) (row candidates i)
   dropped-IsInSpan i l none =
       let n = length rows in
       let c = preimage w rows candidates image chosen kernel g i in
@@ -206,7 +206,7 @@ module _ (w : ℕ) (rows candidates image chosen kernel : List (List Bool)) (g :
       ]))
 
   -- one at a pivot is not: the kernel row tells it from them
-  kept-apart : (i : ℕ) → i < length candidates → IsInSpan w (rows ++ take i candidates) (row candidates i) → has_pivot kernel i ≡ false
+  pub kept-apart : (i : ℕ) → i < length candidates → IsInSpan w (rows ++ take i candidates) (row candidates i) → has_pivot kernel i ≡ false
   kept-apart i l s =
       false_from_ne_true (has_pivot kernel i)
       (λ some.

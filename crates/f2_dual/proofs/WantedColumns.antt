@@ -17,7 +17,7 @@ use Rattle.f2_dual.proofs.Form.{elements_at, columns-form, relation-turned, leng
 use Rattle.f2_dual.proofs.Tables.{free_where_vacant, not_free_where_taken}
 
 -- tests that agree on a list keep the same of it
-filter_same_on : (p q : ℕ → Bool) (xs : List ℕ) → ((i : ℕ) → i < length xs → p (get_or xs i 0) ≡ q (get_or xs i 0)) → filter p xs ≡ filter q xs
+pub filter_same_on : (p q : ℕ → Bool) (xs : List ℕ) → ((i : ℕ) → i < length xs → p (get_or xs i 0) ≡ q (get_or xs i 0)) → filter p xs ≡ filter q xs
 filter_same_on p q [] h = refl
 filter_same_on p q (x ∷ xs) h =
     let e : p x ≡ q x = h 0 (omega arith) in

@@ -1,5 +1,6 @@
 -- Words of the proofs: coordinates, tables of pivots, columns. No clause of a public call says any of them.
 pub mod Columns
+pub mod Dots
 pub mod Coordinates
 pub mod Form
 pub mod Tables

@@ -9,3 +9,4 @@ mod parts;
 mod pivots;
 
 pub use choice::choose;
+pub use columns::columns_at;

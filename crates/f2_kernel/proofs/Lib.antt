@@ -1,0 +1,5 @@
+mod Cleared
+mod Solved
+mod Relations
+mod ByForm
+mod Steps
