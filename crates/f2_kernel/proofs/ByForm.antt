@@ -1,20 +1,20 @@
 -- The form of the coordinates on reduced candidates: which candidates are chosen, and that the relations solved from it are the reduced
 -- basis of the kernel.
-use Rattle.std.proofs.Common.{◌≡◌, ◌≢◌, inl, inr, ℕ, ◌+◌, ◌-◌, ◌<◌, ◌≤◌, nat_eq, Bool, true, false, not, List, [], ◌++◌, length, map, reverse, get_or, refl, ap, sym, subst, ◌∙◌, arith}
+use Rattle.std.proofs.Common.{◌≡◌, ◌≢◌, inl, inr, ℕ, ◌-◌, ◌<◌, ◌≤◌, nat_eq, Bool, true, false, not, List, [], ◌++◌, length, map, reverse, get_or, refl, ap, sym, subst, ◌∙◌, arith}
 use Rattle.std.specs.List.{range_with_len, list_any, items_where_true}
 use Rattle.std.proofs.lemmas.Bool.{cases_Bool, cases_order, both_ways, eq-eqb, ne_eqb, false_from_ne_true}
 use Rattle.std.proofs.lemmas.List.{ext_get_or, get_or-map, length-map, length-reverse, get_or-reverse, reverse-reverse}
 use Rattle.std.proofs.lemmas.List.Folds.{list_any_at}
 use Rattle.std.proofs.lemmas.List.FromFn.{length-range_with_len, get_or-range_with_len, length-map-range_with_len}
 use Rattle.f2_vec.specs.Vectors.{sum_of, zeros, bit, IsZero, IsFirstOne}
-use Rattle.f2_vec.proofs.Sums.{one_within, bit-zeros, length-zeros, sum_of-zeros_right}
+use Rattle.f2_vec.proofs.Sums.{bit-zeros, length-zeros, sum_of-zeros_right}
 use Rattle.f2_vec.specs.Spans.{row, HaveWidth, combination, unit_vector, IsInSpan, IsInKernel}
-use Rattle.f2_vec.proofs.Spans.{length-combination, row-IsInSpan, zeros-IsInSpan, combination-IsInSpan, combination-append, combination-zeros}
+use Rattle.f2_vec.proofs.Spans.{row-IsInSpan, zeros-IsInSpan, combination-IsInSpan, combination-append, combination-zeros}
 use Rattle.f2_vec.proofs.Split.{bit-unit_vector, length-unit_vector}
-use Rattle.f2_vec.proofs.Combinations.{HaveWidth-map, map-map, combination-unit_vector}
+use Rattle.f2_vec.proofs.Combinations.{HaveWidth-map, combination-unit_vector}
 use Rattle.f2_matrix.specs.Echelon.{IsReduced, HasNoZeroRow, IsKernelBasis}
 use Rattle.f2_matrix.specs.Preimages.{pivot_of, at_pivots}
-use Rattle.f2_matrix.specs.Reduction.{Reduction, has_one, IsReductionOf}
+use Rattle.f2_matrix.specs.Reduction.{has_one}
 use Rattle.f2_matrix.specs.Choice.{IsChosen}
 use Rattle.f2_dual.specs.Inside.Columns.{column}
 use Rattle.f2_matrix.proofs.Eliminate.{has_reduction}
@@ -24,14 +24,14 @@ use Rattle.f2_matrix.proofs.Unique.{span_first-IsPivot}
 use Rattle.f2_dual.specs.Inside.Dots.{dot}
 use Rattle.f2_dual.specs.Inside.Coordinates.{coordinates, element_of, is_free, free_elements, new_rows}
 use Rattle.f2_dual.proofs.Dots.{dot-comm, bit-combination-dot}
-use Rattle.f2_dual.proofs.OnCandidates.{AreParts, row-column, wide_rows, wide_new, wide_all, length-new, length-coordinates, wide_coordinates, element_within, same_at_pivots}
+use Rattle.f2_dual.proofs.OnCandidates.{AreParts, row-column, wide_rows, wide_new, length-new, length-coordinates, wide_coordinates, element_within, same_at_pivots}
 use Rattle.f2_dual.proofs.Relations.{found, free_or_pivot, free_no_pivot, free_at, free_at-is, free_at-rises, whole, made, length-whole, length-made, wide_made, made_firsts, made-IsKernelBasis}
 use Rattle.f2_dual.proofs.Step.{has_pivot, bit-kept, new-IsPicked, parts_of, dropped-IsInSpan, kept-apart}
 use Rattle.f2_dual.proofs.WantedColumns.{filter_same_on}
 use Rattle.f2_kernel.specs.Inside.Upward.{upward, solved, are_zero, has_no_pivot, vacant_elements, relation, relations}
-use Rattle.f2_kernel.proofs.Cleared.{zero_or_pivot, HaveWidth-upward, length-upward, AreCleared-upward, upward-IsInSpan, span_first, zero_from_relation, relation_from_zero}
+use Rattle.f2_kernel.proofs.Cleared.{zero_or_pivot, length-upward, AreCleared-upward, upward-IsInSpan, span_first, zero_from_relation, relation_from_zero}
 use Rattle.f2_kernel.proofs.Solved.{dot-reverse, dot-combination, length-solved, solved-orthogonal}
-use Rattle.f2_kernel.proofs.Relations.{vacant_at, vacant_at-is, vacant_no_pivot, length-front, length-relation, relation_vacant, length-relations, row-relations}
+use Rattle.f2_kernel.proofs.Relations.{vacant_at, vacant_at-is, length-front, length-relation, relation_vacant, length-relations, row-relations}
 
 -- the reversed column is the column of the reversed rows
 column_reversed : (q : ℕ) (rows : List (List Bool)) → reverse (column q rows) ≡ column q (reverse rows)

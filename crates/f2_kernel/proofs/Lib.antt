@@ -3,3 +3,5 @@ mod Solved
 mod Relations
 mod ByForm
 mod Steps
+mod Words
+mod Blocked

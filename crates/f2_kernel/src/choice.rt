@@ -7,7 +7,7 @@ ghost use Rattle.f2_matrix.specs.Choice.{IsChosen};
 ghost use Rattle.f2_dual.specs.Inside.Coordinates.{coordinates as coordinates_of};
 ghost use Rattle.f2_kernel.specs.Inside.Upward.{are_zero};
 
-use crate::form::clear_upward;
+use crate::blocks::clear_upward;
 use crate::kernel::Kernel;
 use f2_dual::columns_at;
 use f2_matrix::Matrix;

@@ -9,11 +9,11 @@ use f2_vec::BitVec;
 use memory::Memory;
 use std::alloc::Global;
 
-/// Clears each of the rows, of length `n`, at the pivots of those behind it.
+/// Clears each of the rows, of length `n`, at the pivots of those behind it, one row after the other.
 ///
 /// # Errors
 /// `Memory` if allocation fails; the rows are then as before.
-pub fn clear_upward(alloc: Global, n: usize, rows: &mut [BitVec]) -> Result<(), Memory>
+pub fn clear_one_by_one(alloc: Global, n: usize, rows: &mut [BitVec]) -> Result<(), Memory>
     requires { HaveWidth n rows.old }
     ensures { OnOk result (rows.new ≡ upward rows.old) }
 {
@@ -36,7 +36,7 @@ fn clear_with(n: usize, rows: &mut [BitVec], pivots: &mut [usize])
 }
 
 /// The place of the first 1, the length where there is none.
-fn pivot(row: &BitVec) -> usize
+pub fn pivot(row: &BitVec) -> usize
     ensures { result ≡ pivot_of row.now }
 {
     match row.first_one() {
@@ -99,8 +99,8 @@ fn dot(a: &BitVec, b: &BitVec) -> bool
     ensures { result ≡ dot_of a.now b.now }
 {
     let mut sum = false;
-    for i in (0..a.len()).rev() {
-        sum ^= a.get(i) & b.get(i);
+    for k in (0..a.len().div_ceil(64)).rev() {
+        sum ^= (a.word(k) & b.word(k)).count_ones() % 2 == 1;
     }
     sum
 }

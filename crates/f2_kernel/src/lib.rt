@@ -2,6 +2,7 @@
 //! new rows where all rows are sums of such vectors.
 #![tactic(auto)]
 
+mod blocks;
 mod choice;
 mod form;
 mod kernel;

@@ -1,5 +1,5 @@
 -- Rows cleared from the last one up, each at the pivots of those behind it, and the vectors orthogonal to them, solved from the first row down.
-use Rattle.std.specs.Prelude.{◌≡◌, ℕ, ◌-◌, ◌<◌, nat_eq, Bool, false, not, if◌then◌else◌, List, [], ◌∷◌, ◌++◌, length, map, reverse}
+use Rattle.std.specs.Prelude.{◌≡◌, ℕ, ◌-◌, ◌<◌, nat_eq, Bool, false, not, if◌then◌else◌, List, [], ◌∷◌, ◌++◌, length, map, reverse, take, drop}
 use Rattle.std.specs.List.{range_with_len, filter, list_any}
 use Rattle.f2_vec.specs.Vectors.{sum_of, zeros, bit}
 use Rattle.f2_vec.specs.Spans.{row, unit_vector, HaveWidth}
@@ -27,6 +27,12 @@ upward (x ∷ xs) = cleared_by (upward xs) x ∷ upward xs
 pub record AreCleared (n : ℕ) (form : List (List Bool)) : Type 0 where
   pub widths : HaveWidth n form
   pub cleared : (i j : ℕ) → i < j → j < length form → bit (row form i) (pivot_of (row form j)) ≡ false
+
+-- the rows from place s up to place e are cleared, each at the pivots of those behind it there, and the rows before them at their pivots
+abbrev pub IsBlockCleared : ℕ → ℕ → List (List Bool) → List (List Bool) → Type 0
+IsBlockCleared s e xs ys =
+    let block = upward (drop s (take e xs)) in
+    ys ≡ map (cleared_by block) (take s (take e xs)) ++ (block ++ drop e xs)
 
 -- which rows are zero
 abbrev pub are_zero : List (List Bool) → List Bool

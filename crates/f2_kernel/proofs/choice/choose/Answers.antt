@@ -1,4 +1,4 @@
-use Rattle.std.proofs.Common.{◌≡◌, ◌+◌, ◌++◌, Bool, List, ℕ, length, take, drop, sym, ap, subst, ◌∙◌, arith}
+use Rattle.std.proofs.Common.{◌≡◌, ◌++◌, Bool, List, ℕ, length, take, drop, sym, ap, subst, ◌∙◌, arith}
 use Rattle.std.specs.List.{items_where_true}
 use Rattle.std.proofs.lemmas.List.{take_at}
 use Rattle.f2_vec.specs.Spans.{HaveWidth}

@@ -1,4 +1,4 @@
-use Rattle.std.proofs.Common.{◌≡◌, ℕ, Bool, List, map, reverse, ap, ◌∙◌}
+use Rattle.std.proofs.Common.{ℕ, Bool, List, map, reverse, ap, ◌∙◌}
 use Rattle.std.proofs.lemmas.Result.{IfOk-weaker}
 use Rattle.f2_vec.proofs.Combinations.{map-map}
 use Rattle.f2_matrix.specs.Preimages.{pivot_of}
