@@ -241,7 +241,7 @@ impl Reduced {
         Ok(quasi)
     }
 
-    /// The same reduction. Its image and kernel rows are shared, and copied only where this one was made from parts.
+    /// A copy of this reduction. Its image and kernel rows are shared, and copied only where this one was made from parts.
     ///
     /// # Errors
     /// `Memory` if allocation fails, or if there are too many owners to count.
@@ -293,7 +293,7 @@ impl Reduced {
     }
 }
 
-/// Adds to `sum` those of the rows beside which there is an image row at whose pivot `v` has a 1.
+/// Adds to `sum` each row beside which there is an image row at whose pivot `v` has a 1.
 fn add_at_pivots(sum: &mut BitVec, v: &BitVec, image: &Held, rows: &[BitVec])
     requires as_many { length rows.now ≡ length (rows_of image.now) }
     requires image { HaveWidth (length v.now) (rows_of image.now) }

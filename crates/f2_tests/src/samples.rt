@@ -16,7 +16,7 @@ pub(crate) fn next(seed: u64) -> u64 {
     x
 }
 
-/// The matrix of those of the rows that have this width, which all rows of a test have.
+/// The matrix of the rows that have this width, which all rows of a test have.
 pub(crate) fn matrix_of(cols: usize, mut rows: Vec<BitVec>) -> Matrix {
     rows.retain(|row| row.len() == cols);
     Matrix::from_rows(cols, rows)

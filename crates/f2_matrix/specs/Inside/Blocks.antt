@@ -6,7 +6,7 @@ use Rattle.f2_vec.specs.Vectors.{sum_of, bit, zeros}
 use Rattle.f2_vec.specs.Spans.{row, combination, HaveWidth}
 use Rattle.f2_matrix.specs.Inside.RowOperations.{cleared}
 
--- v with those of the rows b added at whose places it has a 1; ps has a place for each row of b
+-- v with each row of b added at whose place it has a 1; ps has a place for each row of b
 abbrev pub cleared_at : ℕ → List ℕ → List (List Bool) → List Bool → List Bool
 cleared_at n ps b v = sum_of v (combination n (map (bit v) ps) b)
 
