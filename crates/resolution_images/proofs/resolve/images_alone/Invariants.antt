@@ -1,0 +1,11 @@
+-- Each row is done below degree k.
+use Rattle.std.proofs.Common.{◌≡◌, ◌+◌, length}
+use Rattle.square.specs.Squares.{over}
+use Rattle.resolution_images.specs.Inside.Made.{AreMadeThrough}
+use Rattle.resolution_images.proofs.resolve.images_alone.Given as goal
+
+abbrev pub invariant-loop-k : goal.invariant-loop-k
+invariant-loop-k l = record {
+  count : length l.rows.items ≡ l.fn.range.s + 1;
+  through : AreMadeThrough (over l.fn.resolved) 0 l.k l.rows.items;
+}

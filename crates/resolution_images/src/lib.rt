@@ -1,0 +1,9 @@
+//! The images of the generators of a canonical resolution, made degree by degree, without its kernels. Only the kernel of the last
+//! square is at hand, as a form from which its vectors are made when they are asked for.
+#![tactic(auto)]
+
+mod resolve;
+mod row;
+mod step;
+
+pub use resolve::{Images, images_alone};
