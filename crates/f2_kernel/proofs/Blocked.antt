@@ -16,7 +16,7 @@ use Rattle.f2_matrix.proofs.Pivots.{pivot_first, length-at_pivots, bit-at_pivots
 use Rattle.f2_kernel.specs.Inside.Upward.{clear_one, cleared_by, upward, AreCleared, IsBlockCleared}
 use Rattle.f2_kernel.specs.Inside.Sums.{sums, number, with_sum}
 use Rattle.f2_kernel.proofs.Cleared.{zero_or_pivot, bit_at_zero, length-cleared_by, cleared_by-clears, cleared_by-added, span_first, HaveWidth-upward}
-use Rattle.f2_kernel.proofs.Steps.{HaveWidth-drop}
+use Rattle.f2_vec.proofs.Spans.{HaveWidth-drop}
 
 -- ---- one block behind another
 

@@ -251,15 +251,15 @@ pub record IsChoiceByForm (w : ℕ) (rows candidates new : List (List Bool)) : T
   pub chosen : IsChosen w rows candidates new
   pub kernel : IsKernelBasis w (rows ++ new) (relations (length rows) (length new) (upward (coordinates candidates rows)))
 
-pub wide_on : (rows candidates : List (List Bool)) → HaveWidth (length rows) (coordinates candidates rows)
-wide_on rows candidates = HaveWidth-map (length rows) (λ c. column (pivot_of c) (reverse rows)) candidates (λ c. length-map (reverse rows) (λ v. bit v (pivot_of c)) ∙ length-reverse rows)
+pub wide_on : (n : ℕ) (rows candidates : List (List Bool)) → length rows ≡ n → HaveWidth n (coordinates candidates rows)
+wide_on n rows candidates e = HaveWidth-map n (λ c. column (pivot_of c) (reverse rows)) candidates (λ c. length-map (reverse rows) (λ v. bit v (pivot_of c)) ∙ length-reverse rows ∙ e)
 
 pub choice_by_form : (w : ℕ) (rows candidates : List (List Bool)) → HaveWidth w candidates → IsReduced candidates → HasNoZeroRow candidates → ((i : ℕ) → i < length rows → IsInSpan w candidates (row rows i)) → IsChoiceByForm w rows candidates (items_where_true (are_zero (upward (coordinates candidates rows))) candidates)
 choice_by_form w rows candidates wc hc nz inside =
     let n = length rows in
     let xs = coordinates candidates rows in
     let us = upward xs in
-    let wide : HaveWidth n xs = wide_on rows candidates in
+    let wide : HaveWidth n xs = wide_on n rows candidates refl in
     let red = has_reduction n xs wide in
     let r = red.0 in
     let g = parts_of w rows candidates r wc hc nz inside red.1 in

@@ -6,6 +6,7 @@ use Rattle.std.proofs.lemmas.Bool.Decides.{nat_tests}
 use Rattle.std.proofs.lemmas.List.FromFn.{length-range_with_len, get_or-range_with_len}
 use Rattle.std.proofs.lemmas.List.{ext_get_or, drop-set, append_assoc, append-nil, at_drop_more, take_more, take_at, drop_at, set_at, get_or-drop, get_or-map, get_or-reverse, get_or_push, get_or_append_left, get_or-append_right, get_or-set_same, get_or-set_other, length-drop, length-take-le, length-map, length-append, length-reverse}
 use Rattle.std.proofs.lemmas.List.Folds.{list_any_more}
+use Rattle.std.proofs.Math.Bool.{or-false}
 use Rattle.f2_vec.specs.Vectors.{sum_of, zeros, bit, IsZero, IsFirstOne}
 use Rattle.f2_vec.proofs.Sums.{bit-zeros, length-zeros}
 use Rattle.f2_vec.specs.Spans.{row, unit_vector, unit_vectors, HaveWidth}
@@ -37,9 +38,6 @@ cleared_zero n r v lr lv z = ap (λ b. cond b (sum_of v r) v) (bit_at_zero n r v
 
 pub solved_true : (r y : List Bool) (p : ℕ) → IsFirstOne r p → dot r y ≡ true → solved_one r y ≡ sum_of y (unit_vector (length y) p)
 solved_true r y p f e = ap (λ b. cond b (sum_of y (unit_vector (length y) (pivot_of r))) y) e ∙ ap (λ q. sum_of y (unit_vector (length y) q)) (pivot_first r p f)
-
-pub HaveWidth-drop : (n k : ℕ) (rows : List (List Bool)) → HaveWidth n rows → HaveWidth n (drop k rows)
-HaveWidth-drop n k rows w = λ i l. ap length (get_or-drop k rows i []) ∙ w (k + i) (omega (arith, length-drop k rows))
 
 -- ---- rows cleared upward
 
@@ -94,10 +92,6 @@ or_true : (b : Bool) → (b || true) ≡ true
 or_true true = refl
 or_true false = refl
 
-or_false : (b : Bool) → (b || false) ≡ b
-or_false true = refl
-or_false false = refl
-
 -- the places so far, and where row i has its pivot q
 pub taken_more : (form : List (List Bool)) (i q n : ℕ) (r old : List Bool) → i < length form → q < length old → r ≡ row form i → IsFirstOne r q → ((p : ℕ) → p < n → bit old p ≡ not (has_no_pivot (take i form) p)) → (p : ℕ) → p < n → bit (set old q true) p ≡ not (has_no_pivot (take (i + 1) form) p)
 taken_more form i q n r old l m e f h p b =
@@ -111,14 +105,14 @@ taken_more form i q n r old l m e f h p b =
           let apart : pivot_of (row form i) ≢ p = λ s. d (sym s ∙ at) in
           get_or-set_other old q p true false d
           ∙ h p b
-          ∙ sym (vacant_more form i p l ∙ ap (λ c. not (has_no_pivot (take i form) p) || c) (ne_eqb (pivot_of (row form i)) p apart) ∙ or_false (not (has_no_pivot (take i form) p)))
+          ∙ sym (vacant_more form i p l ∙ ap (λ c. not (has_no_pivot (take i form) p) || c) (ne_eqb (pivot_of (row form i)) p apart) ∙ or-false (not (has_no_pivot (take i form) p)))
     ]
 
 pub taken_same : (form : List (List Bool)) (i n : ℕ) (r old : List Bool) → i < length form → HaveWidth n form → r ≡ row form i → IsZero r → ((p : ℕ) → p < n → bit old p ≡ not (has_no_pivot (take i form) p)) → (p : ℕ) → p < n → bit old p ≡ not (has_no_pivot (take (i + 1) form) p)
 taken_same form i n r old l w e z h p b =
     let past = pivot_zero (row form i) (subst IsZero e z) in
     let apart : pivot_of (row form i) ≢ p = λ s. omega (arith, past, s, w i l) in
-    h p b ∙ sym (vacant_more form i p l ∙ ap (λ c. not (has_no_pivot (take i form) p) || c) (ne_eqb (pivot_of (row form i)) p apart) ∙ or_false (not (has_no_pivot (take i form) p)))
+    h p b ∙ sym (vacant_more form i p l ∙ ap (λ c. not (has_no_pivot (take i form) p) || c) (ne_eqb (pivot_of (row form i)) p apart) ∙ or-false (not (has_no_pivot (take i form) p)))
 
 -- ---- turned vectors
 

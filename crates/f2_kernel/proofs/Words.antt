@@ -13,7 +13,7 @@ use Rattle.f2_dual.specs.Inside.Dots.{dot}
 use Rattle.f2_kernel.proofs.Solved.{dot-append}
 
 -- the sum of a bit and a number is odd where one of them is and the other is not
-odd_sum : (x y : ℕ) → x < 2 → y < 2 → ((x + y) % 2 == 1) ≡ plus (x == 1) (y == 1)
+odd_sum : (x y : ℕ) → x < 2 → y < 2 → plus (x == 1) (y == 1) ≡ ((x + y) % 2 == 1)
 odd_sum zero zero p q = refl
 odd_sum zero (suc zero) p q = refl
 odd_sum (suc zero) zero p q = refl
@@ -39,7 +39,7 @@ odd_ones (x ∷ xs) (y ∷ ys) w e h =
     let rest : (ones (w / 2) % 2 == 1) ≡ dot xs ys = odd_ones xs ys (w / 2) (omega arith) (λ i. ap (λ b. b == 1) (sym (bit_at-suc w i)) ∙ h (suc i)) in
     let low : (w % 2 == 1) ≡ (x && y) = ap (λ b. b == 1) (sym (bit_at_lowest w)) ∙ h 0 in
     let step : ones w % 2 ≡ (w % 2 + ones (w / 2) % 2) % 2 = omega (arith, ones_step w) in
-    ap (λ n. n == 1) step ∙ odd_sum (w % 2) (ones (w / 2) % 2) (omega arith) (omega arith) ∙ ap (λ b. plus b (ones (w / 2) % 2 == 1)) low ∙ ap (plus (x && y)) rest
+    ap (λ n. n == 1) step ∙ sym (odd_sum (w % 2) (ones (w / 2) % 2) (omega arith) (omega arith)) ∙ ap (λ b. plus b (ones (w / 2) % 2 == 1)) low ∙ ap (plus (x && y)) rest
 
 -- the places from 64 k on that a word has
 abbrev pub part : ℕ → List Bool → List Bool

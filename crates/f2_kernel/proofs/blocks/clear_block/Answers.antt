@@ -3,7 +3,7 @@ use Rattle.f2_vec.specs.Spans.{HaveWidth}
 use Rattle.f2_vec.proofs.Combinations.{HaveWidth-take}
 use Rattle.f2_kernel.specs.Inside.Upward.{AreCleared}
 use Rattle.f2_kernel.proofs.Cleared.{AreCleared-upward}
-use Rattle.f2_kernel.proofs.Steps.{HaveWidth-drop}
+use Rattle.f2_vec.proofs.Spans.{HaveWidth-drop}
 use Rattle.f2_kernel.proofs.blocks.clear_block.Goals as goal
 
 pub clear_by_block-requires-clause-block : goal.clear_by_block-requires-clause-block

@@ -1,7 +1,7 @@
 use Rattle.std.proofs.Common.{Bool, List, drop, sym, subst}
 use Rattle.f2_vec.specs.Spans.{HaveWidth}
 use Rattle.f2_kernel.proofs.Blocked.{HaveWidth-sums}
-use Rattle.f2_kernel.proofs.Steps.{HaveWidth-drop}
+use Rattle.f2_vec.proofs.Spans.{HaveWidth-drop}
 use Rattle.f2_kernel.proofs.blocks.sums_of.Goals as goal
 
 pub double-requires-clause-sums : goal.double-requires-clause-sums

@@ -1,4 +1,4 @@
-use Rattle.std.proofs.Common.{◌≡◌, ◌++◌, Bool, List, ℕ, length, take, drop, sym, ap, subst, ◌∙◌, arith}
+use Rattle.std.proofs.Common.{◌≡◌, ◌++◌, Bool, List, ℕ, length, take, drop, sym, ap, subst, ◌∙◌, arith, refl}
 use Rattle.std.specs.List.{items_where_true}
 use Rattle.std.proofs.lemmas.List.{take_at}
 use Rattle.f2_vec.specs.Spans.{HaveWidth}
@@ -22,7 +22,7 @@ clear_upward-requires c =
     let xs = coordinates candidates rows in
     let n : length c.rows-n.result.now ≡ length rows = ap length c.rows-n.ensures.rows in
     let e : c.as_mut_slice.result.now ≡ xs = c.as_mut_slice.ensures.value ∙ c.in_ok-form.ensures in
-    subst (λ (z : List (List Bool)). HaveWidth (length c.rows-n.result.now) z) (sym e) (subst (λ (k : ℕ). HaveWidth k xs) (sym n) (wide_on rows candidates))
+    subst (λ (z : List (List Bool)). HaveWidth (length c.rows-n.result.now) z) (sym e) (subst (λ (k : ℕ). HaveWidth k xs) (sym n) (wide_on (length rows) rows candidates refl))
 
 pub of_form-requires-clause-cleared : goal.of_form-requires-clause-cleared
 of_form-requires-clause-cleared c =
@@ -31,7 +31,7 @@ of_form-requires-clause-cleared c =
     let xs = coordinates candidates rows in
     let n : length c.rows-n.result.now ≡ length rows = ap length c.rows-n.ensures.rows in
     let f = kept c.in_ok-form.form.len c.as_mut_slice.result.now c.clear_upward.new.rows c.in_ok-form.form.items xs (sym c.as_mut_slice.ensures.len) c.as_mut_slice.ensures.value c.in_ok-form.ensures c.in_ok-clear_upward.ensures in
-    subst (λ (z : List (List Bool)). AreCleared (length c.rows-n.result.now) z) (sym f) (subst (λ (k : ℕ). AreCleared k (upward xs)) (sym n) (AreCleared-upward (length rows) xs (wide_on rows candidates)))
+    subst (λ (z : List (List Bool)). AreCleared (length c.rows-n.result.now) z) (sym f) (subst (λ (k : ℕ). AreCleared k (upward xs)) (sym n) (AreCleared-upward (length rows) xs (wide_on (length rows) rows candidates refl)))
 
 pub returns-clause-chosen : goal.returns-clause-chosen
 returns-clause-chosen c =
