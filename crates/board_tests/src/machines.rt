@@ -63,7 +63,7 @@ fn causes(rt: HostRuntime) -> Result<(), Fail> {
 
 /// Takes and gives a square of a board with bottom 0, where the rows below are whole and its own is done up to it.
 fn take_and_give(core: &mut Core, s: u16, t: i32) -> Result<(), CoreFault> {
-    let below = if s == 0 { 0 } else { 128 };
+    let below = if s == 0 { 0 } else { 256 };
     core.apply(Event::Take {
         who: 0,
         s,
@@ -150,8 +150,8 @@ fn a_stop_finds_a_square_in_the_file(rt: HostRuntime) -> Result<(), Fail> {
 
 #[test]
 fn whole_board(rt: HostRuntime) -> Result<(), Fail> {
-    let mut core = Core::new(rt.alloc(), 63, 127, 0, &[])?;
-    for _ in 0..8192 {
+    let mut core = Core::new(rt.alloc(), 127, 255, 0, &[])?;
+    for _ in 0..32768 {
         let Some((s, t)) = core.ready() else {
             break;
         };
@@ -160,8 +160,8 @@ fn whole_board(rt: HostRuntime) -> Result<(), Fail> {
         }
     }
     assert_eq!(rt; core.ready(), None);
-    for s in 0..64 {
-        for t in 0..128 {
+    for s in 0..128 {
+        for t in 0..256 {
             assert!(rt; core.done(s, t), "at {s} {t}");
         }
     }

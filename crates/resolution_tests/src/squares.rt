@@ -70,7 +70,7 @@ fn a_table_of_one_square(rt: HostRuntime) -> Result<(), Fail> {
     let alloc = rt.alloc();
     let table = table_of_one(alloc)?;
     assert_eq!(rt;
-        (table.front(0), table.front(1), table.front(64)),
+        (table.front(0), table.front(1), table.front(128)),
         (1, 0, 0)
     );
     assert!(rt; table.at(0, 1).is_none() && table.at(0, -1).is_none());
@@ -138,7 +138,7 @@ fn keepers(rt: HostRuntime) -> Result<(), Fail> {
     assert!(rt; keeper.is_live());
     assert_eq!(rt; keeper.keep(&square), Err(KeepFault::Failed));
     assert!(rt; !keeper.is_live());
-    let range = Range { s: 63, t: 127 };
-    assert_eq!(rt; (range.s, range.t), (63, 127));
+    let range = Range { s: 127, t: 255 };
+    assert_eq!(rt; (range.s, range.t), (127, 255));
     Ok(())
 }
