@@ -12,7 +12,7 @@ use crate::gate::Gate;
 use board_core::Cause;
 use memory::Memory;
 use resolution_step::step;
-use square::Keep;
+use square::{Ahead, Keep};
 use square_board::{Board, BoardPass, Job, Taken};
 use std::alloc::Global;
 use std::sync::Wait;
@@ -29,8 +29,8 @@ pub enum WorkEnd {
     Memory,
 }
 
-/// Takes squares, makes each and gives it, until no more are given out. Where none may be taken it rests until something has
-/// happened at the board. A square for which there is no memory is handed back, and that stops the board.
+/// Takes squares, makes each and gives it, until no more are given out. Where none may be taken it makes products that the next
+/// squares will ask for, and once there are none left to make it rests until something has happened at the board. A square for which there is no memory is handed back, and that stops the board.
 pub fn work<R: Wait + Clock, K: Keep, G: Gate>(
     wait: &R,
     alloc: Global,
@@ -46,19 +46,97 @@ pub fn work<R: Wait + Clock, K: Keep, G: Gate>(
     ensures stopped { (cause : Cause) →
         (result ≡ Stopped cause) ↔ (first_cause (events_of pass.new.seen) ≡ Some cause) }
 {
+    let mut spare = Spare::first();
+    let mut made = [0; 256];
     for _ in wait.forever() {
         match board.take(wait, alloc, pass) {
             Ok(Taken::Job(job)) => {
                 gate.entered(job.s(), job.t());
                 make(wait, alloc, board, pass, job);
+                spare = Spare::first();
             }
-            Ok(Taken::Idle) => board.rest(wait, pass),
+            Ok(Taken::Idle) => spare = prepare(wait, alloc, board, pass, spare, &mut made),
             Ok(Taken::Over) => return WorkEnd::Over,
             Ok(Taken::Stopped(cause)) => return WorkEnd::Stopped(cause),
             Err(Memory) => return WorkEnd::Memory,
         }
     }
     unreachable!()
+}
+
+/// For how many rows a worker makes products before it rests.
+const ROWS: u16 = 3;
+
+/// What a worker does next while no square may be taken.
+#[derive(Drop)]
+enum Spare {
+    /// It looks for a row, from this one on, whose squares will ask for products. So many rows are left to look for.
+    Look { from: u16, rows: u16 },
+    /// It makes some of these, and then looks for so many rows.
+    Make { ahead: Ahead, rows: u16 },
+}
+
+impl Spare {
+    /// What it does first.
+    fn first() -> Self {
+        Spare::Look {
+            from: 0,
+            rows: ROWS,
+        }
+    }
+}
+
+/// Makes some products that squares will ask for which may not be taken yet, or rests where none are left. Between any two parts
+/// of this, which are short, the worker tries to take a square: so it rests only right after a take that found none. `made` has
+/// the front of each row at which the products were made.
+#[tactic(auto, using(crate::proofs::Seen::by_turn))]
+fn prepare<R: Wait + Clock, K: Keep>(
+    wait: &R,
+    alloc: Global,
+    board: &Board<K>,
+    pass: &mut BoardPass<K>,
+    spare: Spare,
+    made: &mut [u16; 256],
+) -> Spare
+    requires { IsPassOf board.now pass.old }
+    ensures pass { IsPassOf board.now pass.new }
+    ensures same { IsSamePass pass.old pass.new }
+    ensures no_less { HasSeenNoLess pass.old pass.new }
+{
+    match spare {
+        Spare::Look { rows: 0, .. } => {
+            board.rest(wait, pass);
+            Spare::first()
+        }
+        Spare::Look { from, rows } => match board.ahead(wait, alloc, pass, from) {
+            Some(ahead) => Spare::Make {
+                ahead,
+                rows: rows.saturating_sub(1),
+            },
+            None => Spare::Look { from, rows: 0 },
+        },
+        Spare::Make { mut ahead, rows } => {
+            if make_ahead(alloc, &mut ahead, made) {
+                return Spare::Make { ahead, rows };
+            }
+            Spare::Look {
+                from: ahead.s().saturating_add(1),
+                rows,
+            }
+        }
+    }
+}
+
+/// Makes some of these products, and says whether any were left. Where none were, that is noted in `made`.
+fn make_ahead(alloc: Global, ahead: &mut Ahead, made: &mut [u16; 256]) -> bool {
+    let Some(front) = made.get_mut(usize::from(ahead.s())) else {
+        return false;
+    };
+    if ahead.make_some(alloc, *front) {
+        return true;
+    }
+    *front = ahead.front();
+    false
 }
 
 /// Makes the square of a job and gives it, or hands it back if there is no memory for it. If it is not done then, the board has
