@@ -30,7 +30,8 @@ pub enum WorkEnd {
 }
 
 /// Takes squares, makes each and gives it, until no more are given out. Where none may be taken it makes products that the next
-/// squares will ask for, and once there are none left to make it rests until something has happened at the board. A square for which there is no memory is handed back, and that stops the board.
+/// squares will ask for, and once there are none left to make it rests until something has happened at the board. A square for
+/// which there is no memory is handed back, and that stops the board.
 pub fn work<R: Wait + Clock, K: Keep, G: Gate>(
     wait: &R,
     alloc: Global,
