@@ -92,7 +92,7 @@ module _ (r s t : List ℕ) where
 
 -- A monomial that is a term of Sq(R) Sq(S) is split once more.
 module _ (n : ℕ) (r s : List ℕ) (fits : length r + length s ≤ n) (low : degree_of r + degree_of s ≤ n) where
-  at_monomial : (t : Monomial) → odd_by (λ x. coefficient r s x && agree n t (exponents x)) (basis_of (degree_of r + degree_of s)) ≡ coproduct n t (is_pair n r s)
+  pub at_monomial : (t : Monomial) → odd_by (λ x. coefficient r s x && agree n t (exponents x)) (basis_of (degree_of r + degree_of s)) ≡ coproduct n t (is_pair n r s)
   at_monomial t =
       let none : (i : ℕ) → n < i → i ≤ n → t i ≡ 0 = λ i l m. absurd (omega arith) in
       let whole : n ≤ n = omega arith in
