@@ -1,6 +1,6 @@
 mod Adem
 mod Fronts
 mod FirstIn
-mod Sides
+pub mod Sides
 mod Entries
 mod Accepted

@@ -4,7 +4,7 @@ mod Listing
 pub mod Sorting
 mod Binomials
 pub mod Cells
-mod Bounds
+pub mod Bounds
 pub mod Basis
 pub mod Reading
 pub mod Sizes
