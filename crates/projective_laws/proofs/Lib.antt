@@ -1,0 +1,3 @@
+mod Coaction
+pub mod Multinomials
+pub mod Periods

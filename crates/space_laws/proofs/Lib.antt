@@ -1,0 +1,4 @@
+mod Places
+mod Action
+pub mod Accepted
+pub mod Files
