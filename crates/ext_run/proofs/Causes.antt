@@ -1,5 +1,6 @@
 -- What a failure's status says of its cause, and what the answer to words and input excludes.
-use Rattle.std.proofs.Common.{◌≡◌, ℕ, ◌^◌, ◌≤◌, ◌⊎◌, inl, inr, List, [], length, drop, Option, Some, None, IfSome, refl, sym, subst, ◌∙◌, ap, arith}
+use Rattle.serde_json.specs.Data.{Data, null, boolean, number, string, array, object}
+use Rattle.std.proofs.Common.{◌≡◌, ℕ, true, ◌^◌, ◌≤◌, ◌⊎◌, inl, inr, List, [], length, drop, Option, Some, None, IfSome, refl, sym, subst, ◌∙◌, ap, arith}
 use Rattle.std.specs.Prelude.{MatchOption, Result, Ok, Err, ⊤}
 use Rattle.std.proofs.lemmas.List.{drop_all}
 use Rattle.f2_matrix.proofs.Unique.{kernel_basis_unique}
@@ -8,14 +9,20 @@ use Rattle.module_json.specs.ModuleFile.{File, IsFileOf, no_value, described}
 use Rattle.module_json.specs.declared.malformed.Malformed.{Malformed}
 use Rattle.module_json.specs.declared.malformed.What.{What}
 use Rattle.module_json.specs.declared.malformed.Malformed.TheVariants.{Limit, Json, Shape, Kind, Prime, Name, Degree, Action, Bounds, Parts, Memory as NoRoom}
-use Rattle.module_json.proofs.Reading.{file_unique}
+use Rattle.module_json.specs.Checks.{is_space}
+use Rattle.module_json.specs.Parts.{modules_of, described as described_parts}
+use Rattle.module_json.proofs.Reading.{file_unique, parts_unique}
 use Rattle.module_json.proofs.Sizes.{value_fits}
 use Rattle.finite_module.specs.Module.{Module as SteenrodModule}
 use Rattle.finite_module.specs.DerivedAction.{derived_module}
 use Rattle.module_check.specs.Acceptance.{refusal_of}
 use Rattle.module_check.specs.declared.fault.CheckFault.{CheckFault}
 use Rattle.module_check.specs.declared.fault.CheckFault.TheVariants.{Listed, Relation, Memory as NoMemory}
+use Rattle.space_laws.specs.Spaces.{IsSpaceFile}
+use Rattle.space_laws.proofs.Files.{files_are_accepted}
 use Rattle.ext_words.specs.declared.command.Command.{Command}
+use Rattle.ext_words.specs.declared.command.Build.{Build as Made}
+use Rattle.ext_run.specs.Building.{wanted, IsBuildAnswer, no_files, of_files}
 use Rattle.ext_words.specs.declared.command.Command.TheVariants.{Sphere, Resolve, Dump, Products, Massey, Check, Build, Sample, Sq}
 use Rattle.ext_run.specs.declared.failure.Failure.{Failure}
 use Rattle.ext_run.specs.declared.failure.Failure.TheVariants.{Words, Malformed as NoModuleFile, NotModule, PastLimit, Reading, Writing, Saving, SaveFile, Classes, Memory}
@@ -504,6 +511,47 @@ complete words left now usable (SaveFile e) p ok r w s f = absurd (f e refl)
 complete words left now usable (Classes e) p ok r w s f = answerable_from words left (Classes e) (p ok)
 complete words left now usable Memory p ok r w s f = λ has. inr refl
 
+-- ---- the file of a real projective space is a module, and no array of modules
+
+space_not_refused : (P : SteenrodModule → Result (List ℕ) Failure → Type 0) → OnlyTold P → (bytes : List ℕ) (f : File) (e : CheckFault) (a : Result (List ℕ) Failure) → IsSpaceFile bytes → IsModuleAnswer P bytes a → a ≡ Err (NotModule f e) → ⊥
+space_not_refused P only bytes f e a space (no_file d p) h = cc
+space_not_refused P only bytes f e a space (no_module g d p r) h = let never : Some d ≡ None = sym r ∙ files_are_accepted bytes g space p in cc
+space_not_refused P only bytes f e a space (answer_of g x p r is) h = subst IsTold h (only (derived_module g) x is)
+
+space_no_parts : (want : ℕ) (d : Data) (files : List File) → is_space d ≡ true → modules_of want d ≡ Ok files → ⊥
+space_no_parts want null files s h = cc
+space_no_parts want (boolean b) files s h = cc
+space_no_parts want (number n) files s h = cc
+space_no_parts want (string t) files s h = cc
+space_no_parts want (array ds) files s h = cc
+space_no_parts want (object ms) files s h = cc
+
+space_not_built : (made : Made) (bytes : List ℕ) (f : File) (e : CheckFault) (a : Result (List ℕ) Failure) → IsSpaceFile bytes → IsBuildAnswer made bytes a → a ≡ Err (NotModule f e) → ⊥
+space_not_built made bytes f e a space (no_files d p) h = cc
+space_not_built made bytes f e a space (of_files files x p answer) h =
+    space_no_parts (wanted made) space.json files space.is_of_type
+    (parts_unique (wanted made) bytes (modules_of (wanted made) space.json) (Ok files) (described_parts space.json space.is_value) p)
+
+space_answered : (c : Option Command) (bytes : List ℕ) (f : File) (e : CheckFault) (a : Result (List ℕ) Failure) → IsSpaceFile bytes → a ≡ Err (NotModule f e) → MatchOption c (a ≡ Err Words) (λ command. IsAnswerTo command bytes a) → ⊥
+space_answered None bytes f e a space h p = cc
+space_answered (Some (Sphere common)) bytes f e a space h p = subst (IsAnswerTo (Sphere common) bytes) h p
+space_answered (Some (Resolve common)) bytes f e a space h p = space_not_refused (IsText (IsChart common.range)) (text_told (IsChart common.range)) bytes f e a space p h
+space_answered (Some (Dump common)) bytes f e a space h p = space_not_refused (IsText (IsDump common.range)) (text_told (IsDump common.range)) bytes f e a space p h
+space_answered (Some (Products common by)) bytes f e a space h p = space_not_refused (IsProducts common.range by) (classes_told common.range (IsProductsAnswer common.range by)) bytes f e a space p h
+space_answered (Some (Massey common x y z)) bytes f e a space h p = space_not_refused (IsBracket common.range x y z) (classes_told common.range (IsBracketAnswer common.range x y z)) bytes f e a space p h
+space_answered (Some Check) bytes f e a space h p = space_not_refused (IsText IsLineOn) (text_told IsLineOn) bytes f e a space p h
+space_answered (Some (Build made)) bytes f e a space h p = space_not_built made bytes f e a space p h
+space_answered (Some (Sample n common)) bytes f e a space h p = subst (IsAnswerTo (Sample n common) bytes) h p
+space_answered (Some (Sq numbers)) bytes f e a space h p = subst (IsAnswerTo (Sq numbers) bytes) h p
+
+no_space_refused : (words : List (List ℕ)) (left now : Option (List ℕ)) (usable : Type 0) (failure : Failure) → IsRunCauseFrom words left now usable failure → (l : List ℕ) → left ≡ Some l → IsSpaceFile l → status_of failure ≡ 4 → ⊥
+no_space_refused words left now usable failure p l tells space h =
+    let found = not_a_module words left now usable failure p h in
+    let answer = found.2 in
+    let same : answer.bytes ≡ l = subst (λ (o : Option (List ℕ)). IfSome o (λ m. answer.bytes ≡ m)) tells answer.all in
+    space_answered (command_of words) l found.0 found.1 (Err (NotModule found.0 found.1)) space refl
+    (subst (λ (bytes : List ℕ). IsAnswer words bytes (Err (NotModule found.0 found.1))) same answer.holds)
+
 -- ---- the status of a run
 
 pub status_of_failure : (words : List (List ℕ)) (left now : Option (List ℕ)) (usable : Type 0) (failure : Failure) → IsRunCauseFrom words left now usable failure → HasOutcome words left now usable failure → (usable → failure ≡ Writing → (text : List ℕ) × IsAnswerFrom words left (Ok text)) → (usable → (d : ResumeFault) → failure ≡ SaveFile d → ⊥) → IsStatusOf words left usable (status_of failure)
@@ -515,6 +563,7 @@ status_of_failure words left now usable failure p w text file = record {
   malformed_comes = λ l e tells a. malformed_comes words left now usable l tells failure e p w a;
   no_module = not_a_module words left now usable failure p;
   no_module_comes = λ l f e tells a. no_module_comes words left now usable l tells failure f e p w a;
+  no_space_refused = no_space_refused words left now usable failure p;
   past_limit = too_great words left now usable failure p;
   past_limit_comes = λ l what tells a. too_great_comes words left now usable l tells failure what p w a;
   no_value = valueless words left now usable failure p;
@@ -530,6 +579,7 @@ status_of_text words left usable answer text is p made = record {
   malformed_comes = λ l e tells a. absurd (no_failure words left None usable l tells (answer, is, p) (NoModuleFile e) (λ h. h) a);
   no_module = λ h. absurd (omega arith);
   no_module_comes = λ l f e tells a. absurd (no_failure words left None usable l tells (answer, is, p) (NotModule f e) (λ h. h) a);
+  no_space_refused = λ l tells space h. absurd (omega arith);
   past_limit = λ h. absurd (omega arith);
   past_limit_comes = λ l what tells a. absurd (no_failure words left None usable l tells (answer, is, p) (PastLimit what) (λ h. h) a);
   no_value = λ h. elim h [ inl k ↦ absurd (omega arith) | inr k ↦ absurd (omega arith) ];

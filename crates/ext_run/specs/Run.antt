@@ -9,6 +9,7 @@ use Rattle.module_json.specs.ModuleFile.{File}
 use Rattle.module_json.specs.declared.malformed.Malformed.{Malformed}
 use Rattle.module_json.specs.declared.malformed.What.{What}
 use Rattle.module_check.specs.declared.fault.CheckFault.{CheckFault}
+use Rattle.space_laws.specs.Spaces.{IsSpaceFile}
 use Rattle.ext_products.specs.declared.refusal.Refusal.{Refusal}
 use Rattle.ext_run.specs.Failure.{class_status}
 use Rattle.ext_run.specs.declared.failure.Failure.TheVariants.{Malformed as NoModuleFile, NotModule, PastLimit, Classes}
@@ -34,6 +35,8 @@ pub record IsStatusOf (words : List (List ℕ)) (left : Option (List ℕ)) (usab
   pub no_module : status ≡ 4 → (f : File) × (e : CheckFault) × IsAnswerFrom words left (Err (NotModule f e))
   pub no_module_comes : (l : List ℕ) (f : File) (e : CheckFault) → left ≡ Some l →
       IsAnswer words l (Err (NotModule f e)) → (status ≡ 4) ⊎ (status ≡ 6) ⊎ (status ≡ 12)
+  -- and not of the file of a real projective space
+  pub no_space_refused : (l : List ℕ) → left ≡ Some l → IsSpaceFile l → status ≢ 4
   -- 14: what was to be built passes a limit
   pub past_limit : status ≡ 14 → (what : What) × IsAnswerFrom words left (Err (PastLimit what))
   pub past_limit_comes : (l : List ℕ) (what : What) → left ≡ Some l → IsAnswer words l (Err (PastLimit what)) →
