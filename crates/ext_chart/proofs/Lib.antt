@@ -1,4 +1,5 @@
 pub mod Agreement
+pub mod Bare
 pub mod ChartText
 mod ClassSteps
 pub mod DumpSteps
@@ -6,5 +7,6 @@ pub mod Examples
 mod ImageWidths
 mod ProductSteps
 pub mod RowSteps
+pub mod Seen
 pub mod Targets
 mod SummarySteps

@@ -4,4 +4,5 @@ pub mod Classes
 pub mod Dump
 pub mod Inside
 pub mod Product
+pub mod Seen
 pub mod Summary

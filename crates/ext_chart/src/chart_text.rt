@@ -2,14 +2,15 @@
 ghost use Rattle.std.specs.Prelude.{◌≡◌, ℕ, ◌+◌, ◌-◌, ◌<◌, ◌≤◌, pos, ◌+ℤ◌, ◌≤ℤ◌, IfOk, length, map};
 ghost use Rattle.std.specs.List.{range_with_len};
 ghost use Rattle.finite_module.specs.Module.{bottom};
-ghost use Rattle.resolution_laws.specs.Resolution.{generator_count};
-ghost use Rattle.square.specs.Tables.{row_in, plain_rows, IsThrough};
+ghost use Rattle.resolution_laws.specs.Resolution.{row_of, generator_count};
 ghost use Rattle.ext_chart.specs.Chart.{mark, row_label, row_line, row_lines, stems_line, chart_text};
 ghost use Rattle.square.specs.Squares.{bottom_of};
+ghost use Rattle.ext_chart.specs.Seen.{IsSeenThrough};
 
+use crate::shown::Shown;
 use itoa::Buffer;
 use memory::Memory;
-use square::{Range, Table};
+use square::Range;
 use std::alloc::Global;
 
 /// The mark of a square with this number of generators.
@@ -37,22 +38,22 @@ fn row_label(alloc: Global, s: u16) -> Result<Vec<u8>, Memory>
 }
 
 /// The marks of a row, from stem 0 on, through `t` degrees above the bottom.
-fn marks(alloc: Global, table: &Table, s: u16, t: u16) -> Result<Vec<u8>, Memory>
-    requires { t < length (row_in table.now.rows s) }
+fn marks<R: Shown>(alloc: Global, table: &R, s: u16, t: u16) -> Result<Vec<u8>, Memory>
+    requires { t < length (row_of (R.seen table.now).rows s) }
     ensures { IfOk result (λ marks. marks.items
-        ≡ map (λ k. mark (generator_count (plain_rows table.now.rows) s k)) (range_with_len s (t + 1 - s))) }
+        ≡ map (λ k. mark (generator_count (R.seen table.now).rows s k)) (range_with_len s (t + 1 - s))) }
 {
     let mut marks = Vec::new(alloc);
     for k in s..=t {
-        marks.push(mark(table.images_of(s, k).len()))?;
+        marks.push(mark(table.images(s, k).len()))?;
     }
     Ok(marks)
 }
 
 /// The line of a row.
-fn row_line(alloc: Global, table: &Table, s: u16, t: u16) -> Result<Vec<u8>, Memory>
-    requires { t < length (row_in table.now.rows s) }
-    ensures { IfOk result (λ line. line.items ≡ row_line (generator_count (plain_rows table.now.rows)) t s) }
+fn row_line<R: Shown>(alloc: Global, table: &R, s: u16, t: u16) -> Result<Vec<u8>, Memory>
+    requires { t < length (row_of (R.seen table.now).rows s) }
+    ensures { IfOk result (λ line. line.items ≡ row_line (generator_count (R.seen table.now).rows) t s) }
 {
     let mut line = row_label(alloc, s)?;
     let marks = marks(alloc, table, s, t)?;
@@ -63,10 +64,10 @@ fn row_line(alloc: Global, table: &Table, s: u16, t: u16) -> Result<Vec<u8>, Mem
 }
 
 /// The lines of the rows of the range, the greatest first.
-fn row_lines(alloc: Global, table: &Table, range: Range) -> Result<Vec<u8>, Memory>
-    requires { IsThrough range table.now.rows }
+fn row_lines<R: Shown>(alloc: Global, table: &R, range: Range) -> Result<Vec<u8>, Memory>
+    requires { IsSeenThrough range (R.seen table.now).rows }
     ensures { IfOk result
-        (λ text. text.items ≡ row_lines (generator_count (plain_rows table.now.rows)) range.t (range.s + 1)) }
+        (λ text. text.items ≡ row_lines (generator_count (R.seen table.now).rows) range.t (range.s + 1)) }
 {
     let mut text = Vec::new(alloc);
     for i in 0..=range.s {
@@ -95,10 +96,10 @@ fn stems_line(alloc: Global, bottom: i32, t: u16) -> Result<Vec<u8>, Memory>
 ///
 /// # Errors
 /// `Memory` if allocation fails.
-pub fn chart(alloc: Global, table: &Table, range: Range) -> Result<Vec<u8>, Memory>
-    requires { IsThrough range table.now.rows }
-    ensures { IfOk result (λ text. text.items
-        ≡ chart_text (bottom_of table.now.resolved) range.s range.t (generator_count (plain_rows table.now.rows))) }
+pub fn chart<R: Shown>(alloc: Global, table: &R, range: Range) -> Result<Vec<u8>, Memory>
+    requires { IsSeenThrough range (R.seen table.now).rows }
+    ensures { IfOk result (λ text. text.items ≡ chart_text (bottom_of (R.seen table.now).resolved) range.s range.t
+        (generator_count (R.seen table.now).rows)) }
 {
     let mut text = row_lines(alloc, table, range)?;
     let stems = stems_line(alloc, table.module().bottom(), range.t)?;

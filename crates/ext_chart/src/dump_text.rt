@@ -1,13 +1,15 @@
 //! The differentials of a resolution as text.
 ghost use Rattle.std.specs.Prelude.{◌≡◌, ◌<◌, length, IfOk};
-ghost use Rattle.square.specs.Tables.{row_in, plain_rows, IsThrough};
+ghost use Rattle.resolution_laws.specs.Resolution.{row_of};
 ghost use Rattle.ext_chart.specs.Dump.{square_text, row_text, dump_text};
 ghost use Rattle.ext_chart.specs.Inside.Targets.{IsTargetOf};
+ghost use Rattle.ext_chart.specs.Seen.{IsSeenThrough};
 
 use crate::lines::square_lines;
 use crate::named_target::NamedTarget;
+use crate::shown::{Shown, degree};
 use memory::Memory;
-use square::{Range, Table};
+use square::Range;
 use std::alloc::Global;
 
 /// The differentials of the rows of the table through the range: a line for each generator, row by row, in a row by
@@ -15,10 +17,10 @@ use std::alloc::Global;
 ///
 /// # Errors
 /// `Memory` if allocation fails.
-pub fn dump(alloc: Global, table: &Table, range: Range) -> Result<Vec<u8>, Memory>
-    requires { IsThrough range table.now.rows }
+pub fn dump<R: Shown>(alloc: Global, table: &R, range: Range) -> Result<Vec<u8>, Memory>
+    requires { IsSeenThrough range (R.seen table.now).rows }
     ensures { IfOk result (λ text. text.items
-        ≡ dump_text table.now.resolved.plain.generators range.s range.t (plain_rows table.now.rows)) }
+        ≡ dump_text (R.seen table.now).resolved.plain.generators range.s range.t (R.seen table.now).rows) }
 {
     let mut text = Vec::new(alloc);
     for s in 0..=range.s {
@@ -29,27 +31,27 @@ pub fn dump(alloc: Global, table: &Table, range: Range) -> Result<Vec<u8>, Memor
 }
 
 /// The lines of the generators of row `s`, through `t` degrees above the bottom.
-fn row_text(alloc: Global, table: &Table, s: u16, t: u16) -> Result<Vec<u8>, Memory>
-    requires { t < length (row_in table.now.rows s) }
+fn row_text<R: Shown>(alloc: Global, table: &R, s: u16, t: u16) -> Result<Vec<u8>, Memory>
+    requires { t < length (row_of (R.seen table.now).rows s) }
     ensures { IfOk result
-        (λ text. text.items ≡ row_text table.now.resolved.plain.generators (plain_rows table.now.rows) t s) }
+        (λ text. text.items ≡ row_text (R.seen table.now).resolved.plain.generators (R.seen table.now).rows t s) }
 {
     let target = NamedTarget::of(alloc, table, s)?;
     squares_text(alloc, table, &target, s, t)
 }
 
 /// Those, where d_s goes to this target.
-fn squares_text(
+fn squares_text<R: Shown>(
     alloc: Global,
-    table: &Table,
+    table: &R,
     target: &NamedTarget,
     s: u16,
     t: u16,
 ) -> Result<Vec<u8>, Memory>
-    requires there { t < length (row_in table.now.rows s) }
-    requires target { IsTargetOf table.now.resolved.plain.generators (plain_rows table.now.rows) s target.now }
+    requires there { t < length (row_of (R.seen table.now).rows s) }
+    requires target { IsTargetOf (R.seen table.now).resolved.plain.generators (R.seen table.now).rows s target.now }
     ensures { IfOk result
-        (λ text. text.items ≡ row_text table.now.resolved.plain.generators (plain_rows table.now.rows) t s) }
+        (λ text. text.items ≡ row_text (R.seen table.now).resolved.plain.generators (R.seen table.now).rows t s) }
 {
     let mut text = Vec::new(alloc);
     for k in 0..=t {
@@ -60,19 +62,19 @@ fn squares_text(
 }
 
 /// The lines of the generators in the square of row `s` that is `k` degrees above the bottom.
-fn square_text(
+fn square_text<R: Shown>(
     alloc: Global,
-    table: &Table,
+    table: &R,
     target: &NamedTarget,
     s: u16,
     k: u16,
 ) -> Result<Vec<u8>, Memory>
-    requires there { k < length (row_in table.now.rows s) }
-    requires target { IsTargetOf table.now.resolved.plain.generators (plain_rows table.now.rows) s target.now }
+    requires there { k < length (row_of (R.seen table.now).rows s) }
+    requires target { IsTargetOf (R.seen table.now).resolved.plain.generators (R.seen table.now).rows s target.now }
     ensures { IfOk result
-        (λ text. text.items ≡ square_text table.now.resolved.plain.generators (plain_rows table.now.rows) s k) }
+        (λ text. text.items ≡ square_text (R.seen table.now).resolved.plain.generators (R.seen table.now).rows s k) }
 {
-    let images = table.images_of(s, k);
-    let basis = table.basis(alloc, k)?;
-    square_lines(alloc, basis, target, s, table.degree(k), images)
+    let images = table.images(s, k);
+    let basis = table.basis(alloc, s, k)?;
+    square_lines(alloc, basis, target, s, degree(table, k), images)
 }

@@ -1,15 +1,14 @@
 //! The target of d_s, whose vectors are written as sums.
 ghost use Rattle.std.specs.Prelude.{◌≡◌, length, IfOk};
-ghost use Rattle.square.specs.Tables.{plain_rows};
 ghost use Rattle.ext_chart.specs.Inside.Targets.{IsNamed, IsTargetOf, text_over, width_over};
 
 use crate::row_gens::{RowGens, row_gens};
+use crate::shown::Shown;
 use crate::terms::free_sum_text;
 use f2_vec::BitVec;
 use finite_module::Module;
 use memory::Memory;
 use milnor_basis::Basis;
-use square::Table;
 use std::alloc::Global;
 
 /// The target of d_s with names for its basis: for row 0 the module, whose generators have names, and for a row above it
@@ -22,9 +21,13 @@ pub(crate) enum NamedTarget<'a> {
 
 impl<'a> NamedTarget<'a> {
     /// The target of d_s over the squares of a table.
-    pub(crate) fn of(alloc: Global, table: &'a Table, s: u16) -> Result<NamedTarget<'a>, Memory>
+    pub(crate) fn of<R: Shown>(
+        alloc: Global,
+        table: &'a R,
+        s: u16,
+    ) -> Result<NamedTarget<'a>, Memory>
         ensures { IfOk result
-            (λ target. IsTargetOf table.now.resolved.plain.generators (plain_rows table.now.rows) s target) }
+            (λ target. IsTargetOf (R.seen table.now).resolved.plain.generators (R.seen table.now).rows s target) }
     {
         if s == 0 {
             return Ok(NamedTarget::Module(table.module()));

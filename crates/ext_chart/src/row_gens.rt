@@ -1,14 +1,13 @@
 //! The generators of a row of a table.
 ghost use Rattle.std.specs.Prelude.{◌≡◌, IfOk};
 ghost use Rattle.resolution_laws.specs.Resolution.{row_of, degrees_from};
-ghost use Rattle.square.specs.Tables.{plain_rows};
 ghost use Rattle.ext_chart.specs.Dump.{places_from};
 ghost use Rattle.square.specs.Squares.{bottom_of};
 
 use crate::place::{Place, with_square};
+use crate::shown::{Shown, degree};
 use free_module::Gens;
 use memory::Memory;
-use square::Table;
 use std::alloc::Global;
 
 /// The generators of a row: their degrees, and their places.
@@ -19,18 +18,19 @@ pub(crate) struct RowGens {
 }
 
 /// The generators of row `s`.
-pub(crate) fn row_gens(alloc: Global, table: &Table, s: u16) -> Result<RowGens, Memory>
+pub(crate) fn row_gens<R: Shown>(alloc: Global, table: &R, s: u16) -> Result<RowGens, Memory>
     ensures gens { IfOk result
-        (λ row. row.gens ≡ degrees_from (bottom_of table.now.resolved) (row_of (plain_rows table.now.rows) s)) }
+        (λ row. row.gens ≡ degrees_from (bottom_of (R.seen table.now).resolved) (row_of (R.seen table.now).rows s)) }
     ensures places { IfOk result (λ row. row.places.items
-        ≡ places_from s (bottom_of table.now.resolved) (row_of (plain_rows table.now.rows) s)) }
+        ≡ places_from s (bottom_of (R.seen table.now).resolved) (row_of (R.seen table.now).rows s)) }
 {
     let n = table.front(s) as u16;
-    let gens = table.generators(alloc, s, n)?;
+    let mut gens = Gens::new(alloc);
     let mut places = Vec::new(alloc);
     for k in 0..n {
-        let count = table.images_of(s, k).len();
-        places = with_square(places, s, table.degree(k), count)?;
+        let count = table.images(s, k).len();
+        gens.push_many(count, degree(table, k))?;
+        places = with_square(places, s, degree(table, k), count)?;
     }
     Ok(RowGens { gens, places })
 }

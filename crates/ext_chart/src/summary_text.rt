@@ -1,24 +1,25 @@
 //! The summary of a resolution as text.
 ghost use Rattle.std.specs.Prelude.{◌≡◌, ◌+◌, ◌<◌, length, IfOk};
 ghost use Rattle.std.specs.List.{sum};
-ghost use Rattle.resolution_laws.specs.Resolution.{generator_count};
-ghost use Rattle.square.specs.Tables.{row_in, plain_rows, IsThrough};
+ghost use Rattle.resolution_laws.specs.Resolution.{row_of, generator_count};
 ghost use Rattle.ext_chart.specs.Summary.{row_total, row_totals, module_line, squares_line, gens_line, total_line, total_lines, summary_text};
 ghost use Rattle.square.specs.Squares.{bottom_of};
+ghost use Rattle.ext_chart.specs.Seen.{IsSeenThrough};
 
+use crate::shown::Shown;
 use itoa::Buffer;
 use memory::Memory;
-use square::{Range, Table};
+use square::Range;
 use std::alloc::Global;
 
 /// How many generators row `s` has through `t` degrees above the bottom.
-fn row_total(table: &Table, s: u16, t: u16) -> Result<usize, Memory>
-    requires { t < length (row_in table.now.rows s) }
-    ensures { IfOk result (λ total. total ≡ row_total (generator_count (plain_rows table.now.rows)) t s) }
+fn row_total<R: Shown>(table: &R, s: u16, t: u16) -> Result<usize, Memory>
+    requires { t < length (row_of (R.seen table.now).rows s) }
+    ensures { IfOk result (λ total. total ≡ row_total (generator_count (R.seen table.now).rows) t s) }
 {
     let mut total: usize = 0;
     for k in 0..=t {
-        let count = table.images_of(s, k).len();
+        let count = table.images(s, k).len();
         let Some(more) = total.checked_add(count) else {
             // No memory holds that many generators.
             return Err(Memory);
@@ -29,10 +30,10 @@ fn row_total(table: &Table, s: u16, t: u16) -> Result<usize, Memory>
 }
 
 /// How many generators each row of the range has, from row 0 up.
-fn row_totals(alloc: Global, table: &Table, range: Range) -> Result<Vec<usize>, Memory>
-    requires { IsThrough range table.now.rows }
+fn row_totals<R: Shown>(alloc: Global, table: &R, range: Range) -> Result<Vec<usize>, Memory>
+    requires { IsSeenThrough range (R.seen table.now).rows }
     ensures { IfOk result
-        (λ totals. totals.items ≡ row_totals (generator_count (plain_rows table.now.rows)) range.s range.t) }
+        (λ totals. totals.items ≡ row_totals (generator_count (R.seen table.now).rows) range.s range.t) }
 {
     let mut totals = Vec::new(alloc);
     for s in 0..=range.s {
@@ -122,10 +123,11 @@ fn total_lines(alloc: Global, totals: &[usize]) -> Result<Vec<u8>, Memory>
 ///
 /// # Errors
 /// `Memory` if allocation fails.
-pub fn summary(alloc: Global, table: &Table, range: Range) -> Result<Vec<u8>, Memory>
-    requires { IsThrough range table.now.rows }
-    ensures { IfOk result (λ text. text.items ≡ summary_text (length table.now.resolved.plain.generators)
-        (bottom_of table.now.resolved) range.s range.t (generator_count (plain_rows table.now.rows))) }
+pub fn summary<R: Shown>(alloc: Global, table: &R, range: Range) -> Result<Vec<u8>, Memory>
+    requires { IsSeenThrough range (R.seen table.now).rows }
+    ensures { IfOk result
+        (λ text. text.items ≡ summary_text (length (R.seen table.now).resolved.plain.generators)
+        (bottom_of (R.seen table.now).resolved) range.s range.t (generator_count (R.seen table.now).rows)) }
 {
     let totals = row_totals(alloc, table, range)?;
     let module = table.module();

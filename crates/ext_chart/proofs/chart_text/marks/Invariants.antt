@@ -2,12 +2,11 @@ use Rattle.std.proofs.Common.{◌≡◌, ◌≤◌, ◌-◌, map}
 use Rattle.std.specs.Prelude.{max}
 use Rattle.std.specs.List.{range_with_len}
 use Rattle.resolution_laws.specs.Resolution.{generator_count}
-use Rattle.square.specs.Tables.{plain_rows}
 use Rattle.ext_chart.specs.Chart.{mark}
 use Rattle.ext_chart.proofs.chart_text.marks.Given as goal
 
 abbrev pub invariant-loop-k : goal.invariant-loop-k
-invariant-loop-k l = record {
-  marks : l.marks.items ≡ map (λ k. mark (generator_count (plain_rows l.table.rows) l.s k)) (range_with_len l.s (l.k - l.s));
+invariant-loop-k g l = record {
+  marks : l.marks.items ≡ map (λ k. mark (generator_count (g.R.Shown.seen l.table).rows l.s k)) (range_with_len l.s (l.k - l.s));
   below : l.k ≤ max l.s l.t;
 }

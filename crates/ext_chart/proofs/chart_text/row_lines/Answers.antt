@@ -1,13 +1,12 @@
 use Rattle.std.proofs.Common.{arith, ◌≡◌, ◌+◌, ◌-◌, ◌++◌, ap, ◌∙◌}
 use Rattle.resolution_laws.specs.Resolution.{generator_count}
-use Rattle.square.specs.Tables.{plain_rows}
 use Rattle.ext_chart.specs.Chart.{row_line, row_lines}
 use Rattle.ext_chart.proofs.ChartText.{append-row_lines}
 use Rattle.ext_chart.proofs.chart_text.row_lines.Goals as goal
 
 pub loop-i-preserved : goal.loop-i-preserved
-loop-i-preserved c =
-    let count = generator_count (plain_rows c.args.table.now.rows) in
+loop-i-preserved g c =
+    let count = generator_count (g.R.Shown.seen c.args.table.now).rows in
     let s = c.args.range.s in
     let t = c.args.range.t in
     let i = c.loop-i.i in

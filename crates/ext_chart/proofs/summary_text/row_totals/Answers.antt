@@ -1,19 +1,18 @@
 use Rattle.std.proofs.Common.{◌≡◌, ◌+◌, map, ap, ◌∙◌, arith}
 use Rattle.std.specs.List.{range_with_len}
 use Rattle.resolution_laws.specs.Resolution.{generator_count}
-use Rattle.square.specs.Tables.{plain_rows}
 use Rattle.ext_chart.specs.Summary.{row_total}
 use Rattle.finite_module.proofs.Values.{one_value_more}
 use Rattle.ext_chart.proofs.summary_text.row_totals.Goals as goal
 use Rattle.ext_chart.proofs.summary_text.row_totals.Goals.{else-loop-s-test, then-loop-s-test+in_ok-row_total+in_ok-push+else-s-s-end}
 
 pub loop-s-preserved : goal.loop-s-preserved
-loop-s-preserved c =
-    one_value_more (row_total (generator_count (plain_rows c.args.table.now.rows)) c.args.range.t) c.loop-s.totals.items _ c.in_ok-row_total.field-0 c.loop-s.s c.loop-s.invariant c.in_ok-row_total.ensures c.in_ok-push.ensures.items
+loop-s-preserved g c =
+    one_value_more (row_total (generator_count (g.R.Shown.seen c.args.table.now).rows) c.args.range.t) c.loop-s.totals.items _ c.in_ok-row_total.field-0 c.loop-s.s c.loop-s.invariant c.in_ok-row_total.ensures c.in_ok-push.ensures.items
 
 pub returns : goal.returns
-returns c =
-    let f = row_total (generator_count (plain_rows c.args.table.now.rows)) c.args.range.t in
+returns g c =
+    let f = row_total (generator_count (g.R.Shown.seen c.args.table.now).rows) c.args.range.t in
     elim c.loop-s-test.branch [
       | else-loop-s-test w ↦ absurd (omega arith)
       | then-loop-s-test+in_ok-row_total+in_ok-push+else-s-s-end w ↦

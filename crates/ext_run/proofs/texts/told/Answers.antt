@@ -9,9 +9,19 @@ use Rattle.ext_run.specs.declared.task.Form.{Form}
 use Rattle.ext_run.specs.Answer.{IsToldOfClasses}
 use Rattle.ext_run.specs.Task.{IsInForm}
 use Rattle.ext_run.specs.Work.{answer_of}
+use Rattle.ext_chart.proofs.Seen.{through_seen}
 use Rattle.ext_run.proofs.AnswerExists.{TableLaws}
 use Rattle.ext_run.proofs.Resolved.{is_chart, is_dump, is_summary, is_told_of_classes, classes_failed}
 use Rattle.ext_run.proofs.texts.told.Goals as goal
+
+pub chart-requires : goal.chart-requires
+chart-requires c = through_seen c.args.range c.args.table.now.rows c.requires.through
+
+pub dump-requires : goal.dump-requires
+dump-requires c = through_seen c.args.range c.args.table.now.rows c.requires.through
+
+pub summary-requires : goal.summary-requires
+summary-requires c = through_seen c.args.range c.args.table.now.rows c.requires.through
 
 pub returns-in_ok-chart-in-Chart-clause-told : goal.returns-in_ok-chart-in-Chart-clause-told
 returns-in_ok-chart-in-Chart-clause-told c = λ has resolved all.

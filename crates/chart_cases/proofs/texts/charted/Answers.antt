@@ -1,0 +1,5 @@
+use Rattle.ext_chart.proofs.Seen.{through_seen}
+use Rattle.chart_cases.proofs.texts.charted.Goals as goal
+
+pub chart-requires : goal.chart-requires
+chart-requires c = through_seen _ _ c.in_ok-table.ensures.through

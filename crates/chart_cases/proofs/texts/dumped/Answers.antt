@@ -1,0 +1,5 @@
+use Rattle.ext_chart.proofs.Seen.{through_seen}
+use Rattle.chart_cases.proofs.texts.dumped.Goals as goal
+
+pub dump-requires : goal.dump-requires
+dump-requires c = through_seen _ _ c.in_ok-table.ensures.through
