@@ -12,8 +12,8 @@ use yoneda::{YonedaFault, place_of, product};
 pub(crate) fn multiplied(alloc: Global, case: &Case, a: &str, x: &str) -> Result<String, Fault> {
     let (a, x) = (class_of(case, a)?, class_of(case, x)?);
     let range = range_of(case)?;
-    let sphere = sphere_table(alloc, range)?;
     let table = table_of(alloc, case, range)?;
+    let sphere = sphere_table(alloc, range, Some(&table))?;
     match product(alloc, &table, &sphere, range, a, x) {
         Ok(value) => value_text(alloc, &value),
         Err(YonedaFault::Memory) => Err(Fault::Memory),
@@ -32,7 +32,7 @@ pub(crate) fn bracketed(
 ) -> Result<String, Fault> {
     let (a, b, c) = (class_of(case, a)?, class_of(case, b)?, class_of(case, c)?);
     let range = range_of(case)?;
-    let sphere = sphere_table(alloc, range)?;
+    let sphere = sphere_table(alloc, range, None)?;
     match bracket(alloc, &sphere, &sphere, range, a, b, c) {
         Ok(made) => {
             let value = value_text(alloc, &made.value)?;

@@ -48,7 +48,7 @@ pub(crate) fn table_of(alloc: Global, case: &Case, range: Range) -> Result<Table
     ensures through { IfOk result (λ table. IsThrough range table.rows) }
 {
     let Some(file) = case.text("module") else {
-        return Ok(sphere_table(alloc, range)?);
+        return Ok(sphere_table(alloc, range, None)?);
     };
     let Ok(spec) = read(alloc, file.as_bytes()) else {
         return Err(case.refused("no module"));
@@ -56,5 +56,5 @@ pub(crate) fn table_of(alloc: Global, case: &Case, range: Range) -> Result<Table
     let Ok(module) = check(alloc, &spec) else {
         return Err(case.refused("no module"));
     };
-    Ok(resolved(alloc, module, range)?)
+    Ok(resolved(alloc, module, range, None)?)
 }

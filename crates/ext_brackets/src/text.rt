@@ -43,7 +43,7 @@ pub fn bracket_text(
     finite_module::modules_are_graded_modules();
     lift_laws::lifts_give_one_product();
     known(table);
-    let sphere = sphere_table(alloc, range)?;
+    let sphere = sphere_table(alloc, range, Some(table))?;
     known(&sphere);
     match bracket(alloc, table, &sphere, range, a, b, c) {
         Ok(found) => Ok(lines(alloc, &found)?),

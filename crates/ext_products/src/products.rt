@@ -42,7 +42,7 @@ pub fn products_text(
     lift_laws::lifts_give_one_product();
     known(table);
     let reach = reach_of(range, by);
-    let sphere = sphere_table(alloc, reach)?;
+    let sphere = sphere_table(alloc, reach, Some(table))?;
     match place_of(&sphere, reach, by) {
         Ok(a) => {
             let lines = lines(alloc, table, &sphere, range, a)?;

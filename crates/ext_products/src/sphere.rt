@@ -15,11 +15,12 @@ use resolution_step::resolved;
 use square::{Range, Table};
 use std::alloc::Global;
 
-/// The canonical table of the sphere through the range, made on the caller's thread.
+/// The canonical table of the sphere through the range, made on the caller's thread. It shares the Milnor bases of `beside`, and
+/// the products that are kept with them, if there is such a table.
 ///
 /// # Errors
 /// `Memory` if allocation fails.
-pub fn sphere_table(alloc: Global, range: Range) -> Result<Table, Memory>
+pub fn sphere_table(alloc: Global, range: Range, beside: Option<&Table>) -> Result<Table, Memory>
     requires rows { range.s ≤ MAX_S }
     requires degrees { range.t ≤ MAX_T }
     ensures module_is { IfOk result (λ table. table.resolved.plain ≡ derived_module sphere_file) }
@@ -29,5 +30,5 @@ pub fn sphere_table(alloc: Global, range: Range) -> Result<Table, Memory>
     ensures sphere { IfOk result (λ table. IsSphere (resolution_of table)) }
 {
     let sphere = Module::sphere(alloc)?;
-    resolved(alloc, sphere, range)
+    resolved(alloc, sphere, range, beside)
 }

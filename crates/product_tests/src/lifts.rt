@@ -47,7 +47,7 @@ fn a_lift_on_two_cells(rt: HostRuntime) -> Result<(), Fail> {
         assert!(rt; false);
         return Ok(());
     };
-    let table = resolved(alloc, module, range)?;
+    let table = resolved(alloc, module, range, None)?;
     let class = Class { s: 1, t: 3, i: 0 };
     let generator = Class { s: 2, t: 4, i: 0 };
     let Ok(_) = place_of(&table, range, class) else {

@@ -23,7 +23,7 @@ pub fn sphere_table(alloc: Global, range: Range) -> Result<Table, Memory>
 {
     tables_of_the_sphere();
     let sphere = Module::sphere(alloc)?;
-    resolved(alloc, sphere, range)
+    resolved(alloc, sphere, range, None)
 }
 
 /// The module of two cells, in degrees 0 and 1.

@@ -1,5 +1,5 @@
 //! A range resolved on one thread.
-ghost use Rattle.std.specs.Prelude.{◌≡◌, ◌+◌, ◌<◌, ◌≤◌, ℕ, suc, [], length, IfOk, OnOk};
+ghost use Rattle.std.specs.Prelude.{◌≡◌, ◌+◌, ◌<◌, ◌≤◌, ℕ, suc, [], length, replicate, IfOk, OnOk};
 ghost use Rattle.resolution_laws.specs.Resolution.{IsCanonicalTable};
 ghost use Rattle.square.specs.declared.keep.KeepFault as KeepFault;
 ghost use Rattle.square.specs.declared.range.TheConstants.{MAX_S, MAX_T};
@@ -40,11 +40,17 @@ pub fn resolve_alone<K: Keep>(
     }
 }
 
-/// The canonical table of a module through the range, made from nothing on the caller's thread. Nothing of it is kept.
+/// The canonical table of a module through the range, made from nothing on the caller's thread. No square of it is given to a
+/// keeper. It shares the Milnor bases of `beside`, and the products that are kept with them, if there is such a table.
 ///
 /// # Errors
 /// `Memory` if allocation fails.
-pub fn resolved(alloc: Global, module: Module, range: Range) -> Result<Table, Memory>
+pub fn resolved(
+    alloc: Global,
+    module: Module,
+    range: Range,
+    beside: Option<&Table>,
+) -> Result<Table, Memory>
     requires rows { range.s ≤ MAX_S }
     requires degrees { range.t ≤ MAX_T }
     ensures module_is { IfOk result (λ table. table.resolved ≡ «module») }
@@ -55,12 +61,27 @@ pub fn resolved(alloc: Global, module: Module, range: Range) -> Result<Table, Me
     ensures canonical { IfOk result (λ table. IsCanonicalTable (over «module») range.s range.t
         (cut range (plain_rows table.rows))) }
 {
-    let table = Table::new(alloc, module)?;
+    let table = empty_table(alloc, module, beside)?;
     let (made, _) = resolve_alone(alloc, table, range, NoKeep);
     match made {
         Ok(table) => Ok(table),
         Err(KeepFault::Memory) => Err(Memory),
         Err(KeepFault::Failed) => unreachable!(),
+    }
+}
+
+/// The table of no square of a module.
+fn empty_table(alloc: Global, module: Module, beside: Option<&Table>) -> Result<Table, Memory>
+    ensures { IfOk result (λ table. table ≡ record {
+      resolved = «module»;
+      start = [];
+      rows = replicate (MAX_S + 1) [];
+      spare = 0;
+    }) }
+{
+    match beside {
+        Some(other) => other.beside(alloc, module),
+        None => Table::new(alloc, module),
     }
 }
 

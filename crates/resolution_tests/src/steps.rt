@@ -42,7 +42,7 @@ fn the_first_square_of_the_sphere(rt: HostRuntime) -> Result<(), Fail> {
 #[test]
 fn the_sphere(rt: HostRuntime) -> Result<(), Fail> {
     let alloc = rt.alloc();
-    let table = resolved(alloc, Module::sphere(alloc)?, Range { s: 2, t: 3 })?;
+    let table = resolved(alloc, Module::sphere(alloc)?, Range { s: 2, t: 3 }, None)?;
     let Ok(table) = resolve_alone(alloc, table, Range { s: 4, t: 8 }, NoKeep).0 else {
         return Err(Memory)?;
     };

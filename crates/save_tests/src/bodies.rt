@@ -116,7 +116,7 @@ fn the_first_body(rt: HostRuntime) -> Result<(), Fail> {
     let alloc = rt.alloc();
     let first = bytes(alloc, &[PLACE, IMAGES, KERNEL])?;
     let table = nothing_read(alloc)?;
-    let whole = resolved(alloc, Module::sphere(alloc)?, Range { s: 0, t: 0 })?;
+    let whole = resolved(alloc, Module::sphere(alloc)?, Range { s: 0, t: 0 }, None)?;
     let made = whole.at(0, 0).ok_or("the square was made")?;
     assert_eq!(rt; encode(alloc, made)?, first);
     let read = decode(alloc, &table, 0, first.as_slice())?;
@@ -130,7 +130,7 @@ fn the_first_body(rt: HostRuntime) -> Result<(), Fail> {
 fn there_and_back(rt: HostRuntime) -> Result<(), Fail> {
     let alloc = rt.alloc();
     let range = Range { s: 3, t: 9 };
-    let table = resolved(alloc, Module::sphere(alloc)?, range)?;
+    let table = resolved(alloc, Module::sphere(alloc)?, range, None)?;
     let again = read_all(alloc, bodies_of(alloc, &table, range)?.as_slice())?;
     assert!(rt; are_same_through(alloc, &table, &again, range)?);
     Ok(())
