@@ -12,7 +12,7 @@ use crate::gate::Gate;
 use board_core::Cause;
 use memory::Memory;
 use resolution_step::step;
-use square::{Ahead, Keep};
+use square::{Ahead, Keep, MAX_S};
 use square_board::{Board, BoardPass, Job, Taken};
 use std::alloc::Global;
 use std::sync::Wait;
@@ -48,7 +48,7 @@ pub fn work<R: Wait + Clock, K: Keep, G: Gate>(
         (result ≡ Stopped cause) ↔ (first_cause (events_of pass.new.seen) ≡ Some cause) }
 {
     let mut spare = Spare::first();
-    let mut made = [0; 256];
+    let mut made = [0; ALL_ROWS];
     for _ in wait.forever() {
         match board.take(wait, alloc, pass) {
             Ok(Taken::Job(job)) => {
@@ -67,6 +67,9 @@ pub fn work<R: Wait + Clock, K: Keep, G: Gate>(
 
 /// For how many rows a worker makes products before it rests.
 const ROWS: u16 = 3;
+
+/// How many rows a range can have.
+const ALL_ROWS: usize = MAX_S as usize + 1;
 
 /// What a worker does next while no square may be taken.
 #[derive(Drop)]
@@ -97,7 +100,7 @@ fn prepare<R: Wait + Clock, K: Keep>(
     board: &Board<K>,
     pass: &mut BoardPass<K>,
     spare: Spare,
-    made: &mut [u16; 256],
+    made: &mut [u16; ALL_ROWS],
 ) -> Spare
     requires { IsPassOf board.now pass.old }
     ensures pass { IsPassOf board.now pass.new }
@@ -129,7 +132,7 @@ fn prepare<R: Wait + Clock, K: Keep>(
 }
 
 /// Makes some of these products, and says whether any were left. Where none were, that is noted in `made`.
-fn make_ahead(alloc: Global, ahead: &mut Ahead, made: &mut [u16; 256]) -> bool {
+fn make_ahead(alloc: Global, ahead: &mut Ahead, made: &mut [u16; ALL_ROWS]) -> bool {
     let Some(front) = made.get_mut(usize::from(ahead.s())) else {
         return false;
     };
