@@ -1,48 +1,45 @@
 -- The matches of `clap` are those of the grammar, where no word is stray.
 use Rattle.std.proofs.Common.{◌≡◌, refl, List, [], ◌∷◌, Bool, true, false, Option, Some, None, ◌⊎◌, inl, inr, ap, sym, subst, ◌∙◌}
-use Rattle.std.specs.Prelude.{codes, option_map, is_some, ◌≢◌}
-use Rattle.std.specs.List.{fold}
+use Rattle.std.specs.Prelude.{◌&&◌, ◌||◌, cond, codes, find, map, option_map, option_and_then, is_some, IfSome, ◌≢◌}
+use Rattle.std.specs.List.{fold, list_all}
+use Rattle.std.specs.Option.{option_map_or}
 use Rattle.std.specs.Str.{bytes_eq}
+use Rattle.std.proofs.lemmas.Bool.{and_parts, and_right}
 use Rattle.std.proofs.lemmas.Slice.Eq.{bytes_eq-Decides}
 use Rattle.clap.specs.Lexer.{long_of}
-use Rattle.clap.specs.Walk.{Row, Text, Held, Step, idle, Walk, walked, subcommand_met, finished, settled, word_met, long_or_other}
-use Rattle.clap.specs.Simple.{App, Shape, entered, names_of, new_shape, subcommand_of}
+use Rattle.clap.specs.Walk.{Names, Row, Text, Held, Step, idle, Walk, answers_to, nothing_held, walked, stop_after, subcommand_met, finished, settled, word_met, long_or_other}
+use Rattle.clap.specs.Simple.{App, Shape, built, entered, label_of, names_of, new_shape, rows_at, subcommand_of}
 use Rattle.clap.specs.Kinds.{Kinds, or_else}
-use Rattle.clap.specs.Faults.{fault_of, walk_fault, defaults_fault, entered_fault, flag_word_fault, settle_fault, step_fault, turn_fault, word_fault, check_fault}
+use Rattle.clap.specs.Faults.{fault_of, built_fault, level_fault, walk_fault, defaults_fault, entered_fault, flag_word_fault, settle_fault, step_fault, turn_fault, word_fault, check_fault}
 use Rattle.clap.specs.declared.error.kind.ErrorKind.TheVariants.{UnknownArgument, InvalidSubcommand, MissingSubcommand}
-use Rattle.clap.proofs.WalkLemmas.{walk_stopped}
+use Rattle.clap.proofs.WalkLemmas.{walk_stopped, find-map}
 use Rattle.clap.proofs.FaultLemmas.{stopped_fault}
-use Rattle.ext_words.specs.declared.command.Command.{Command}
-use Rattle.ext_words.specs.declared.command.Command.TheVariants.{Sphere, Resolve, Dump, Check, Build as Built, Sq}
-use Rattle.ext_words.specs.Words.{Part, range_command_of, products_of, massey_of, check_of, build_of, sample_of, sq_of, read_by, command_of}
-use Rattle.ext_words.specs.Inside.CommandLine.{is_stray, has_stray, command_line, common_in, products_in, massey_in, build_in, sample_in, product_in, command_in}
-use Rattle.ext_words.proofs.ClapWords.{Fails, fails-first, fails-as, held, Arguments, Passes, no-dashes, meets, meets_plain, meets_none, meets_alone, meets_joined, meets_flag}
-use Rattle.ext_words.proofs.ClapParts.{settings, leaf}
-use Rattle.ext_words.proofs.ClapLevels.{start, rest_fault, first-kept}
-use Rattle.ext_words.proofs.ClapCommands.{range_arguments, products_arguments, massey_arguments, build_arguments, sample_arguments, sq_arguments, no_arguments, is_bare, matches_after, refuses, reads, Makes, reads-level, makes_range, makes_products, makes_massey, makes_check, makes_build, makes_sample, makes_sq}
+use Rattle.ext_words.specs.Words.{Grammar, commands, parts_of, read_by, grammar_of, command_of}
+use Rattle.ext_words.specs.Inside.CommandLine.{is_stray, has_stray, command_line, given_by, command_named, command_in}
+use Rattle.ext_words.proofs.ClapWords.{Fails, fails-first, fails-as, held, Arguments, Passes, no-dashes, meets, meets_plain, meets_none, meets_alone, meets_joined, meets_flag, is_unknown}
+use Rattle.ext_words.proofs.ClapParts.{settings, leaf, after_parts}
+use Rattle.ext_words.proofs.ClapLevels.{start, rest_fault, first-kept, Ends, follows}
+use Rattle.ext_words.proofs.ClapCommands.{rules_of, arguments, is_sound, IsSound, sound-from, is_command, reads-same}
 
--- ---- the command line as it is built
+-- ---- a command line as it is built
 
 -- a command without arguments, which has others below it
 abbrev top : Shape
 top = settings (record (new_shape (codes "ext")) { is_leaf = false; subcommand_required = true })
 
-abbrev ready : App
-ready = record {
-  top = top;
-  subs =
-      leaf (codes "sphere") range_arguments.rules ∷ leaf (codes "resolve") range_arguments.rules ∷ leaf (codes "dump") range_arguments.rules ∷ leaf (codes "products") products_arguments.rules ∷ leaf (codes "massey") massey_arguments.rules ∷ leaf (codes "check") no_arguments.rules ∷ leaf (codes "build") build_arguments.rules ∷ leaf (codes "sample") sample_arguments.rules ∷ leaf (codes "sq") sq_arguments.rules ∷ [];
-}
+abbrev level : Grammar → Shape
+level g = leaf g.name (rules_of g)
 
--- `clap` refuses the words, which give no command, or its matches give the command
-pub data Reads (words : List Text) : Type 0 where
-  refused_words : Fails (fault_of command_line words) → command_of words ≡ None → Reads words
-  read_words : fault_of command_line words ≡ [] → command_in (subcommand_of command_line words) ≡ command_of words → Reads words
+abbrev ready : List Grammar → App
+ready list = record { top = top; subs = map level list }
 
 -- ---- words where there are no arguments
 
+abbrev no_arguments : Arguments
+no_arguments = record { rules = []; words = []; options = record { valued = []; flags = [] } }
+
 flag-or-word : (word : Text) → is_stray word ≡ false → Fails (flag_word_fault [] false (long_of word) word (held [] None)) ⊎ Passes [] word
-flag-or-word word kept = elim (meets no_arguments is_bare.named word kept) [
+flag-or-word word kept = elim (meets no_arguments (λ name. is_unknown refl refl refl) word kept) [
   | meets_plain passes given ↦ inr passes
   | meets_none refused given ↦ inl (refused [] None)
   | meets_alone name is long given ↦ absurd (let bad = is.listed in cc)
@@ -50,10 +47,9 @@ flag-or-word word kept = elim (meets no_arguments is_bare.named word kept) [
   | meets_flag name is long given ↦ absurd (let bad = is.listed in cc)
 ]
 
-top-fails : (word : Text) → subcommand_met (names_of ready) idle word ≡ None → is_stray word ≡ false → Fails (turn_fault top (names_of ready) start word)
-top-fails word unnamed kept =
+top-fails : (names : Names) (word : Text) → subcommand_met names idle word ≡ None → is_stray word ≡ false → Fails (turn_fault top names start word)
+top-fails names word unnamed kept =
     let dashes = no-dashes word kept in
-    let names = names_of ready in
     let h = held [] None in
     let met : word_met [] names false idle 1 word h ≡ long_or_other [] idle word (long_of word) h = rw (unnamed, dashes) refl in
     let fault : word_fault top names false idle word h ≡ flag_word_fault [] false (long_of word) word h = rw (unnamed, dashes) refl in
@@ -63,159 +59,143 @@ top-fails word unnamed kept =
           ∙ ap (λ (m : Held × Step). step_fault top 1 m.0 m.1) (met ∙ passes.met idle [] None)) (record { first = UnknownArgument; others = InvalidSubcommand ∷ []; is = refl })
     ]
 
--- the walk over the words behind a command's name
+-- ---- a first word that names a command
+
+-- the walk behind a command's name
 abbrev stopped : Text → List Text → Walk
 stopped name words = record start { stopped = Some (name, words) }
 
-abbrev walk_behind : Text → List Text → Walk
-walk_behind name words = fold (walked [] (names_of ready)) (stopped name []) words
+module _ (names : Names) (name : Text) (met : subcommand_met names idle name ≡ Some name) where
+  turn-passes : turn_fault top names start name ≡ []
+  turn-passes = let no_help : (bytes_eq name (codes "help") && false) ≡ false = and_right _ false refl in rw (met, no_help) refl
 
-after-name : (name : Text) (words : List Text) → walk_behind name words ≡ stopped name words
-after-name name words = sym (walk_stopped [] (names_of ready) start name [] words)
+  turn-stops : walked [] names start name ≡ stopped name []
+  unfolding walked
+  turn-stops = rw met refl
 
--- all errors, from those of the walk and where it ends
-abbrev whole_fault : Kinds → Walk → Kinds
-whole_fault walking w =
-    or_else walking (or_else (entered_fault ready w.stopped) (or_else (settle_fault [] false w.held) (or_else (defaults_fault (settled [] w.held).rows []) (check_fault top (finished [] w.held) (is_some (entered ready w.stopped))))))
+  all-passes : (words : List Text) → walk_fault top names start (name ∷ words) ≡ []
+  unfolding walk_fault
+  all-passes words =
+      ap (λ (turn : Kinds). or_else turn (walk_fault top names (walked [] names start name) words)) turn-passes
+      ∙ (ap (λ (w : Walk). walk_fault top names w words) turn-stops ∙ stopped_fault top names start (name, []) words)
+
+  all-stops : (words : List Text) → fold (walked [] names) start (name ∷ words) ≡ stopped name words
+  all-stops words = ap (λ (w : Walk). fold (walked [] names) w words) turn-stops ∙ sym (walk_stopped [] names start name [] words)
 
 or_else-nil : (a : Kinds) → or_else a [] ≡ a
 or_else-nil [] = refl
 or_else-nil (k ∷ ks) = refl
 
-named-fault : (name : Text) (words : List Text) → whole_fault (walk_fault top (names_of ready) (stopped name []) words) (walk_behind name words) ≡ whole_fault [] (stopped name words)
-named-fault name words =
-    ap (λ (walking : Kinds). whole_fault walking (walk_behind name words)) (stopped_fault top (names_of ready) start (name, []) words)
-    ∙ ap (λ (w : Walk). whole_fault [] w) (after-name name words)
+module _ (name : Text) where
+  levels-named : (list : List Grammar) → find (λ s. answers_to name (label_of s)) (map level list) ≡ option_map level (find (λ g. bytes_eq g.name name) list)
+  levels-named [] = refl
+  levels-named (g ∷ list) = here (bytes_eq g.name name) refl (levels-named list)
+    where
+      here : (b : Bool) → bytes_eq g.name name ≡ b → find (λ s. answers_to name (label_of s)) (map level list) ≡ option_map level (find (λ h. bytes_eq h.name name) list) →
+          cond (bytes_eq g.name name || false) (Some (level g)) (find (λ s. answers_to name (label_of s)) (map level list)) ≡ option_map level (cond (bytes_eq g.name name) (Some g) (find (λ h. bytes_eq h.name name) list))
+      here true e rest = rw e refl
+      here false e rest = rw e rest
 
--- ---- a command of this name: its errors, its matches, and what the grammar gives
+  names-met : (list : List Grammar) → subcommand_met (map label_of (map level list)) idle name ≡ option_map (λ g. g.name) (find (λ g. bytes_eq g.name name) list)
+  names-met list =
+      ap (option_map (λ s. s.0)) (sym (find-map (answers_to name) label_of (map level list)) ∙ ap (option_map label_of) (levels-named list)) ∙ label-name (find (λ g. bytes_eq g.name name) list)
+    where
+      label-name : (found : Option Grammar) → option_map (λ s. s.0) (option_map label_of (option_map level found)) ≡ option_map (λ g. g.name) found
+      label-name None = refl
+      label-name (Some g) = refl
 
-record IsNamed (name : Text) (c : Arguments) (read : List Row → Option Command) (make : List Part → Option Command) : Type 0 where
-  fault : (words : List Text) → fault_of command_line (name ∷ words) ≡ rest_fault (leaf name c.rules) start words
-  matches : (words : List Text) → command_in (subcommand_of command_line (name ∷ words)) ≡ read (matches_after c.rules words)
-  given : (words : List Text) → command_of (name ∷ words) ≡ read_by c.options make words
-  makes : Makes c read make
+  found-sound : (list : List Grammar) → list_all is_sound list ≡ true → IfSome (find (λ g. bytes_eq g.name name) list) (λ g. (is_sound g ≡ true) × (bytes_eq g.name name ≡ true))
+  found-sound [] all = tt
+  found-sound (g ∷ list) all = here (bytes_eq g.name name) refl (found-sound list (and_parts _ _ all).1)
+    where
+      here : (b : Bool) → bytes_eq g.name name ≡ b → IfSome (find (λ h. bytes_eq h.name name) list) (λ h. (is_sound h ≡ true) × (bytes_eq h.name name ≡ true)) →
+          IfSome (cond b (Some g) (find (λ h. bytes_eq h.name name) list)) (λ h. (is_sound h ≡ true) × (bytes_eq h.name name ≡ true))
+      here true e rest = ((and_parts _ _ all).0, e)
+      here false e rest = rest
 
-is_sphere : IsNamed (codes "sphere") range_arguments (λ rows. option_map Sphere (common_in rows)) (range_command_of Sphere)
-unfolding walk_fault walked defaults_fault
-is_sphere = record {
-  fault = λ words. named-fault (codes "sphere") words ∙ or_else-nil (rest_fault (leaf (codes "sphere") range_arguments.rules) start words);
-  matches = λ words. ap (λ (w : Walk). command_in (entered ready w.stopped)) (after-name (codes "sphere") words);
-  given = λ words. refl;
-  makes = makes_range Sphere;
-}
+-- a command of a list that its name finds
+module _ (list : List Grammar) (g : Grammar) (own : find (λ h. bytes_eq h.name g.name) list ≡ Some g) where
+  met : subcommand_met (names_of (ready list)) idle g.name ≡ Some g.name
+  met = names-met g.name list ∙ ap (option_map (λ h. h.name)) own
 
-is_resolve : IsNamed (codes "resolve") range_arguments (λ rows. option_map Resolve (common_in rows)) (range_command_of Resolve)
-unfolding walk_fault walked defaults_fault
-is_resolve = record {
-  fault = λ words. named-fault (codes "resolve") words ∙ or_else-nil (rest_fault (leaf (codes "resolve") range_arguments.rules) start words);
-  matches = λ words. ap (λ (w : Walk). command_in (entered ready w.stopped)) (after-name (codes "resolve") words);
-  given = λ words. refl;
-  makes = makes_range Resolve;
-}
+  below : find (λ s. answers_to g.name (label_of s)) (map level list) ≡ Some (level g)
+  below = levels-named g.name list ∙ ap (option_map level) own
 
-is_dump : IsNamed (codes "dump") range_arguments (λ rows. option_map Dump (common_in rows)) (range_command_of Dump)
-unfolding walk_fault walked defaults_fault
-is_dump = record {
-  fault = λ words. named-fault (codes "dump") words ∙ or_else-nil (rest_fault (leaf (codes "dump") range_arguments.rules) start words);
-  matches = λ words. ap (λ (w : Walk). command_in (entered ready w.stopped)) (after-name (codes "dump") words);
-  given = λ words. refl;
-  makes = makes_range Dump;
-}
+  -- its errors
+  fault-named : (words : List Text) → built_fault (ready list) nothing_held (g.name ∷ words) ≡ rest_fault (level g) start words
+  unfolding defaults_fault
+  fault-named words =
+      ap (λ (walking : Kinds). or_else walking (after (fold (walked [] (names_of (ready list))) start (g.name ∷ words)))) (all-passes (names_of (ready list)) g.name met words)
+      ∙ (ap after (all-stops (names_of (ready list)) g.name met words)
+      ∙ (ap (λ (found : Option Shape). or_else (option_map_or (λ s. level_fault s [] nothing_held words false []) found []) (check_fault top [] (is_some (option_map (λ s. rows_at s words) found)))) below
+      ∙ or_else-nil (rest_fault (level g) start words)))
+    where
+      after : Walk → Kinds
+      after w = or_else (entered_fault (ready list) w.stopped) (or_else (settle_fault [] false w.held) (or_else (defaults_fault (settled [] w.held).rows []) (check_fault top (finished [] w.held) (is_some (entered (ready list) w.stopped)))))
 
-is_products : IsNamed (codes "products") products_arguments products_in products_of
-unfolding walk_fault walked defaults_fault
-is_products = record {
-  fault = λ words. named-fault (codes "products") words ∙ or_else-nil (rest_fault (leaf (codes "products") products_arguments.rules) start words);
-  matches = λ words. ap (λ (w : Walk). command_in (entered ready w.stopped)) (after-name (codes "products") words);
-  given = λ words. refl;
-  makes = makes_products;
-}
+  -- its matches
+  matches-named : (words : List Text) → entered (ready list) (stop_after [] (names_of (ready list)) (g.name ∷ words)) ≡ Some (g.name, finished (rules_of g) (fold (walked (rules_of g) []) start words).held)
+  matches-named words =
+      ap (λ (w : Walk). entered (ready list) w.stopped) (all-stops (names_of (ready list)) g.name met words)
+      ∙ ap (λ (found : Option Shape). option_map (λ s. rows_at s words) found) below
 
-is_massey : IsNamed (codes "massey") massey_arguments massey_in massey_of
-unfolding walk_fault walked defaults_fault
-is_massey = record {
-  fault = λ words. named-fault (codes "massey") words ∙ or_else-nil (rest_fault (leaf (codes "massey") massey_arguments.rules) start words);
-  matches = λ words. ap (λ (w : Walk). command_in (entered ready w.stopped)) (after-name (codes "massey") words);
-  given = λ words. refl;
-  makes = makes_massey;
-}
+-- ---- the program's command line
 
-is_check : IsNamed (codes "check") no_arguments (λ rows. Some Check) check_of
-unfolding walk_fault walked defaults_fault
-is_check = record {
-  fault = λ words. named-fault (codes "check") words ∙ or_else-nil (rest_fault (leaf (codes "check") no_arguments.rules) start words);
-  matches = λ words. ap (λ (w : Walk). command_in (entered ready w.stopped)) (after-name (codes "check") words);
-  given = λ words. refl;
-  makes = makes_check;
-}
+are_sound : list_all is_sound commands ≡ true
+are_sound = refl
 
-is_build : IsNamed (codes "build") build_arguments (λ rows. option_map Built (build_in rows)) build_of
-unfolding walk_fault walked defaults_fault
-is_build = record {
-  fault = λ words. named-fault (codes "build") words ∙ or_else-nil (rest_fault (leaf (codes "build") build_arguments.rules) start words);
-  matches = λ words. ap (λ (w : Walk). command_in (entered ready w.stopped)) (after-name (codes "build") words);
-  given = λ words. refl;
-  makes = makes_build;
-}
+is_ready : built command_line ≡ ready commands
+is_ready = refl
 
-is_sample : IsNamed (codes "sample") sample_arguments sample_in sample_of
-unfolding walk_fault walked defaults_fault
-is_sample = record {
-  fault = λ words. named-fault (codes "sample") words ∙ or_else-nil (rest_fault (leaf (codes "sample") sample_arguments.rules) start words);
-  matches = λ words. ap (λ (w : Walk). command_in (entered ready w.stopped)) (after-name (codes "sample") words);
-  given = λ words. refl;
-  makes = makes_sample;
-}
+fault-is : (words : List Text) → fault_of command_line words ≡ built_fault (ready commands) nothing_held words
+fault-is words = ap (λ (line : App). built_fault line nothing_held words) is_ready
 
-is_sq : IsNamed (codes "sq") sq_arguments (λ rows. option_map Sq (product_in rows)) sq_of
-unfolding walk_fault walked defaults_fault
-is_sq = record {
-  fault = λ words. named-fault (codes "sq") words ∙ or_else-nil (rest_fault (leaf (codes "sq") sq_arguments.rules) start words);
-  matches = λ words. ap (λ (w : Walk). command_in (entered ready w.stopped)) (after-name (codes "sq") words);
-  given = λ words. refl;
-  makes = makes_sq;
-}
+subcommand-is : (words : List Text) → subcommand_of command_line words ≡ entered (ready commands) (stop_after [] (names_of (ready commands)) words)
+subcommand-is words = ap (λ (line : App). entered line (stop_after line.top.rules (names_of line) words)) is_ready
+
+-- `clap` refuses the words, which give no command, or its matches give the command
+pub data Reads (words : List Text) : Type 0 where
+  refused_words : Fails (fault_of command_line words) → command_of words ≡ None → Reads words
+  read_words : fault_of command_line words ≡ [] → command_in (subcommand_of command_line words) ≡ command_of words → Reads words
+
+module _ (g : Grammar) (own : grammar_of g.name ≡ Some g) where
+  given : (words : List Text) → command_of (g.name ∷ words) ≡ read_by g words
+  given words = ap (option_and_then (λ h. read_by h words)) own
+
+  made : (rows : List Row) → command_named g.name rows ≡ g.make (given_by rows)
+  made rows = ap (option_and_then (λ h. h.make (given_by rows))) own
+
+  reads-ended : (words : List Text) (rows : Option (List Row)) → Ends (level g) start words rows → option_and_then (λ r. g.make (given_by r)) rows ≡ read_by g words → Reads (g.name ∷ words)
+  reads-ended words None fails is = refused_words (fails-as _ _ (fault-is (g.name ∷ words) ∙ fault-named commands g own words) fails) (given words ∙ sym is)
+  reads-ended words (Some rows) ends is =
+      read_words (fault-is (g.name ∷ words) ∙ (fault-named commands g own words ∙ ends.0))
+      (ap command_in (subcommand-is (g.name ∷ words) ∙ matches-named commands g own words) ∙ (made _ ∙ (ap (λ (r : List Row). g.make (given_by r)) ends.1 ∙ (is ∙ sym (given words)))))
+
+  reads-own : IsSound g → (words : List Text) → has_stray words ≡ false → Reads (g.name ∷ words)
+  reads-own sound words kept =
+      reads-ended words (option_and_then (after_parts (rules_of g) [] 1) (parts_of g.options words)) ((follows g.name (arguments g) (is_command g sound) words kept).goes [] None 1 refl) (reads-same g sound words kept)
 
 -- ---- the words, by the first of them
 
 reads-nothing : Reads []
 unfolding walk_fault defaults_fault
-reads-nothing = refused_words (record { first = MissingSubcommand; others = []; is = refl }) refl
+reads-nothing = refused_words (fails-as _ _ (fault-is []) (record { first = MissingSubcommand; others = []; is = refl })) refl
 
-reads-named : (name : Text) (c : Arguments) (read : List Row → Option Command) (make : List Part → Option Command) → IsNamed name c read make → (words : List Text) → has_stray words ≡ false → Reads (name ∷ words)
-reads-named name c read make is words kept = elim (reads-level c read make is.makes name words kept) [
-  | refuses fails none ↦ refused_words (fails-as _ _ (is.fault words) fails) (is.given words ∙ none)
-  | reads passes same ↦ read_words (is.fault words ∙ passes) (is.matches words ∙ (same ∙ sym (is.given words)))
-]
-
--- a first word that is no command
-reads-other : (word : Text) (words : List Text) → is_stray word ≡ false → bytes_eq (codes "sphere") word ≡ false → bytes_eq (codes "resolve") word ≡ false → bytes_eq (codes "dump") word ≡ false → bytes_eq (codes "products") word ≡ false → bytes_eq (codes "massey") word ≡ false → bytes_eq (codes "check") word ≡ false → bytes_eq (codes "build") word ≡ false → bytes_eq (codes "sample") word ≡ false → bytes_eq (codes "sq") word ≡ false → Reads (word ∷ words)
+by-first : (word : Text) (words : List Text) (found : Option Grammar) → grammar_of word ≡ found → IfSome found (λ g. (is_sound g ≡ true) × (bytes_eq g.name word ≡ true)) → is_stray word ≡ false → has_stray words ≡ false → Reads (word ∷ words)
 unfolding walk_fault
-reads-other word words kept is_no_1 is_no_2 is_no_3 is_no_4 is_no_5 is_no_6 is_no_7 is_no_8 is_no_9 =
-    let unnamed : subcommand_met (names_of ready) idle word ≡ None = rw (is_no_1, is_no_2, is_no_3, is_no_4, is_no_5, is_no_6, is_no_7, is_no_8, is_no_9) refl in
-    refused_words (fails-first _ _ (fails-first _ _ (top-fails word unnamed kept))) (rw (is_no_1, is_no_2, is_no_3, is_no_4, is_no_5, is_no_6, is_no_7, is_no_8, is_no_9) refl)
-
--- a first word that is a command's name
-same-name : (name word : Text) (words : List Text) → bytes_eq name word ≡ true → Reads (name ∷ words) → Reads (word ∷ words)
-same-name name word words same = subst (λ (w : Text). Reads (w ∷ words)) ((bytes_eq-Decides name word).0 same)
-
-by-name : (word : Text) (words : List Text) (b1 b2 b3 b4 b5 b6 b7 b8 b9 : Bool) → bytes_eq (codes "sphere") word ≡ b1 → bytes_eq (codes "resolve") word ≡ b2 → bytes_eq (codes "dump") word ≡ b3 → bytes_eq (codes "products") word ≡ b4 → bytes_eq (codes "massey") word ≡ b5 → bytes_eq (codes "check") word ≡ b6 → bytes_eq (codes "build") word ≡ b7 → bytes_eq (codes "sample") word ≡ b8 → bytes_eq (codes "sq") word ≡ b9 → is_stray word ≡ false → has_stray words ≡ false → Reads (word ∷ words)
-by-name word words true b2 b3 b4 b5 b6 b7 b8 b9 e1 e2 e3 e4 e5 e6 e7 e8 e9 kept more = same-name (codes "sphere") word words e1 (reads-named (codes "sphere") _ _ _ is_sphere words more)
-by-name word words false true b3 b4 b5 b6 b7 b8 b9 e1 e2 e3 e4 e5 e6 e7 e8 e9 kept more = same-name (codes "resolve") word words e2 (reads-named (codes "resolve") _ _ _ is_resolve words more)
-by-name word words false false true b4 b5 b6 b7 b8 b9 e1 e2 e3 e4 e5 e6 e7 e8 e9 kept more = same-name (codes "dump") word words e3 (reads-named (codes "dump") _ _ _ is_dump words more)
-by-name word words false false false true b5 b6 b7 b8 b9 e1 e2 e3 e4 e5 e6 e7 e8 e9 kept more = same-name (codes "products") word words e4 (reads-named (codes "products") _ _ _ is_products words more)
-by-name word words false false false false true b6 b7 b8 b9 e1 e2 e3 e4 e5 e6 e7 e8 e9 kept more = same-name (codes "massey") word words e5 (reads-named (codes "massey") _ _ _ is_massey words more)
-by-name word words false false false false false true b7 b8 b9 e1 e2 e3 e4 e5 e6 e7 e8 e9 kept more = same-name (codes "check") word words e6 (reads-named (codes "check") _ _ _ is_check words more)
-by-name word words false false false false false false true b8 b9 e1 e2 e3 e4 e5 e6 e7 e8 e9 kept more = same-name (codes "build") word words e7 (reads-named (codes "build") _ _ _ is_build words more)
-by-name word words false false false false false false false true b9 e1 e2 e3 e4 e5 e6 e7 e8 e9 kept more = same-name (codes "sample") word words e8 (reads-named (codes "sample") _ _ _ is_sample words more)
-by-name word words false false false false false false false false true e1 e2 e3 e4 e5 e6 e7 e8 e9 kept more = same-name (codes "sq") word words e9 (reads-named (codes "sq") _ _ _ is_sq words more)
-by-name word words false false false false false false false false false e1 e2 e3 e4 e5 e6 e7 e8 e9 kept more = reads-other word words kept e1 e2 e3 e4 e5 e6 e7 e8 e9
+by-first word words None none is kept more =
+    let unnamed = names-met word commands ∙ ap (option_map (λ g. g.name)) none in
+    let fails = fails-first _ _ (fails-first _ _ (top-fails (names_of (ready commands)) word unnamed kept)) in
+    refused_words (fails-as _ _ (fault-is (word ∷ words)) fails) (ap (option_and_then (λ g. read_by g words)) none)
+by-first word words (Some g) found is kept more =
+    let same = (bytes_eq-Decides g.name word).0 is.1 in
+    subst (λ (w : Text). Reads (w ∷ words)) same (reads-own g (ap grammar_of same ∙ found) (sound-from g is.0) words more)
 
 pub clap-reads : (words : List Text) → has_stray words ≡ false → Reads words
 clap-reads [] kept = reads-nothing
 clap-reads (word ∷ words) kept =
     let parts = first-kept word words kept in
-    by-name word words (bytes_eq (codes "sphere") word) (bytes_eq (codes "resolve") word) (bytes_eq (codes "dump") word) (bytes_eq (codes "products") word) (bytes_eq (codes "massey") word) (bytes_eq (codes "check") word) (bytes_eq (codes "build") word) (bytes_eq (codes "sample") word) (bytes_eq (codes "sq") word) refl refl refl refl refl refl refl refl refl parts.0 parts.1
+    by-first word words (grammar_of word) refl (found-sound word commands are_sound) parts.0 parts.1
 
 -- the matches of words that are taken give their command
 pub taken-reads : (words : List Text) → has_stray words ≡ false → fault_of command_line words ≡ [] → command_in (subcommand_of command_line words) ≡ command_of words

@@ -1,5 +1,5 @@
 -- The rows of a command's matches: a row for each of its parts, where no option is used twice and there are not too many words. And
--- what the rows tell of each argument.
+-- what the rows give to the command.
 use Rattle.std.proofs.Common.{◌≡◌, ℕ, refl, List, [], ◌∷◌, ◌++◌, Bool, true, false, Option, Some, None, ap, ap₂, sym, subst, ◌∙◌, append-nil, append_assoc}
 use Rattle.std.specs.Prelude.{◌&&◌, ◌||◌, not, cond, find, is_some, slice_get, option_map, option_and_then, IfSome, if◌then◌else◌}
 use Rattle.std.specs.Str.{bytes_eq}
@@ -11,9 +11,9 @@ use Rattle.clap.specs.Matches.{matched_of}
 use Rattle.clap.specs.Walk.{Row, Rule, Text, arg_by_index, at_row, first_of, has_row, more_values, next_position, reading_by, row_of, rows_of, without, with_values}
 use Rattle.clap.specs.declared.parser.matches.Found.{Found}
 use Rattle.clap.specs.declared.parser.matches.ValueSource.TheVariants.{CommandLine}
-use Rattle.clap.proofs.WalkLemmas.{find_row}
-use Rattle.ext_words.specs.Words.{Part, plain, option, flag, is_in, with_next, with_word, parts_of, plain_words, value_of, is_among, each_once}
-use Rattle.ext_words.specs.Inside.CommandLine.{is_stray, has_stray}
+use Rattle.clap.proofs.WalkLemmas.{find_row, find-map, list_any-map}
+use Rattle.ext_words.specs.Words.{Part, plain, option, flag, is_in, with_next, with_word, parts_of, Argument, fits, plain_words, arguments_of, text_given, is_given, is_among, each_once}
+use Rattle.ext_words.specs.Inside.CommandLine.{is_stray, has_stray, argument_of, given_by}
 use Rattle.ext_words.proofs.ClapWords.{Arguments, IsOption, IsFlag, Meets, meets_plain, meets_none, meets_alone, meets_joined, meets_flag, meets, option_rule, flag_rule}
 use Rattle.ext_words.proofs.ClapParts.{word_rule, used_once, after_parts, IsCommand}
 
@@ -28,12 +28,6 @@ uses (plain word ∷ parts) [] = uses parts []
 uses (plain word ∷ parts) (id ∷ ids) = use_row id (word ∷ []) ∷ uses parts ids
 uses (option name value ∷ parts) ids = use_row name (value ∷ []) ∷ uses parts ids
 uses (flag name ∷ parts) ids = use_row name [] ∷ uses parts ids
-
--- there are no more words than names
-abbrev pub fits : List Text → List Text → Bool
-fits [] ids = true
-fits (word ∷ words) [] = false
-fits (word ∷ words) (id ∷ ids) = fits words ids
 
 -- no part is an option or a flag that the rows have
 abbrev clear : List Row → List Part → Bool
@@ -81,7 +75,7 @@ turned a b false true e f = sym e ∙ (bytes_eq-Decides a b).1 (sym ((bytes_eq-D
 same-turned : (a b : Text) → bytes_eq a b ≡ bytes_eq b a
 same-turned a b = turned a b (bytes_eq a b) (bytes_eq b a) refl refl
 
-same-text : (a : Text) → bytes_eq a a ≡ true
+pub same-text : (a : Text) → bytes_eq a a ≡ true
 same-text a = (bytes_eq-Decides a a).1 refl
 
 -- a name that is in a list, and one that is not
@@ -256,76 +250,22 @@ module _ (c : Arguments) where
       after-all parts c.words 1 [] stand new known
       ∙ ap (λ (b : Bool). if (b && each_once parts) && fits (plain_words parts) c.words then Some (uses parts c.words) else None) (clear-none parts)
 
--- ---- what the rows tell
+-- ---- what the rows give
 
--- the word of a name
-abbrev pub word_at : Text → List Text → List Text → Option Text
-word_at id [] words = None
-word_at id (other ∷ ids) [] = None
-word_at id (other ∷ ids) (word ∷ words) = if bytes_eq other id then Some word else word_at id ids words
+-- the rows of the parts give what the parts do
+pub same-given : (parts : List Part) (names : List Text) → given_by (uses parts names) ≡ arguments_of parts names
+same-given [] names = refl
+same-given (plain word ∷ parts) [] = same-given parts []
+same-given (plain word ∷ parts) (name ∷ names) = ap (λ (more : List Argument). argument_of (use_row name (word ∷ [])) ∷ more) (same-given parts names)
+same-given (option name value ∷ parts) names = ap (λ (more : List Argument). argument_of (use_row name (value ∷ [])) ∷ more) (same-given parts names)
+same-given (flag name ∷ parts) names = ap (λ (more : List Argument). argument_of (use_row name []) ∷ more) (same-given parts names)
 
-found-here : (id other : Text) (values : List Text) (rest : Option Row) (rest_values : Option (List Text)) (here : Bool) → bytes_eq other id ≡ here → rest ≡ option_map (use_row id) rest_values →
-    cond here (Some (use_row other values)) rest ≡ option_map (use_row id) (if here then Some values else rest_values)
-found-here id other values rest rest_values true e is = ap (λ (t : Text). Some (use_row t values)) ((bytes_eq-Decides other id).0 e)
-found-here id other values rest rest_values false e is = is
+first-text : (row : Option Row) → option_and_then (λ r. slice_get r.values 0) row ≡ option_and_then (λ a. a.text) (option_map argument_of row)
+first-text None = refl
+first-text (Some r) = refl
 
-abbrev single : Text → List Text
-single value = value ∷ []
-
--- the values of an option, as of a list of one
-abbrev alone : Option Text → Option (List Text)
-alone o = option_map single o
-
-cond-alone : (here : Bool) (value : Text) (rest : Option Text) → (if here then Some (single value) else alone rest) ≡ alone (if here then Some value else rest)
-cond-alone true value rest = refl
-cond-alone false value rest = refl
-
-first-value : (id : Text) (value : Option Text) (found : Option Row) → found ≡ option_map (use_row id) (alone value) → option_and_then (λ r. slice_get r.values 0) found ≡ value
-first-value id None found is = ap (λ (o : Option Row). option_and_then (λ r. slice_get r.values 0) o) is
-first-value id (Some value) found is = ap (λ (o : Option Row). option_and_then (λ r. slice_get r.values 0) o) is
-
-module _ (c : Arguments) where
-  -- an option
-  find-option : (name : Text) → IsOption c name → (parts : List Part) (ids : List Text) → is_in ids name ≡ false → IsKnown c parts → find (λ r. bytes_eq r.id name) (uses parts ids) ≡ option_map (use_row name) (alone (value_of name parts))
-  find-option name is [] ids none known = refl
-  find-option name is (plain word ∷ parts) [] none known = find-option name is parts [] none known
-  find-option name is (plain word ∷ parts) (id ∷ ids) none known =
-      let apart = or_parts (bytes_eq id name) (is_in ids name) none in
-      ap (λ (b : Bool). cond b (Some (use_row id (word ∷ []))) (find (λ r. bytes_eq r.id name) (uses parts ids))) apart.0 ∙ find-option name is parts ids apart.1 known
-  find-option name is (option other value ∷ parts) ids none known =
-      found-here name other (value ∷ []) (find (λ r. bytes_eq r.id name) (uses parts ids)) (alone (value_of name parts)) (bytes_eq other name) refl (find-option name is parts ids none known.1)
-      ∙ ap (option_map (use_row name)) (cond-alone (bytes_eq other name) value (value_of name parts))
-  find-option name is (flag other ∷ parts) ids none known =
-      ap (λ (b : Bool). cond b (Some (use_row other [])) (find (λ r. bytes_eq r.id name) (uses parts ids))) (apart-from c.options.valued other name is.listed known.0.unlisted) ∙ find-option name is parts ids none known.1
-
-  pub first-option : (name : Text) → IsOption c name → (parts : List Part) → IsKnown c parts → first_of name (uses parts c.words) ≡ value_of name parts
-  first-option name is parts known = first-value name (value_of name parts) _ (find-option name is parts c.words is.no_word known)
-
-  -- a word
-  find-word : (id : Text) → is_in c.words id ≡ true → (parts : List Part) (ids : List Text) → IsKnown c parts → find (λ r. bytes_eq r.id id) (uses parts ids) ≡ option_map (use_row id) (alone (word_at id ids (plain_words parts)))
-  find-word id has [] [] known = refl
-  find-word id has [] (other ∷ ids) known = refl
-  find-word id has (plain word ∷ parts) [] known = find-word id has parts [] known
-  find-word id has (plain word ∷ parts) (other ∷ ids) known =
-      found-here id other (word ∷ []) (find (λ r. bytes_eq r.id id) (uses parts ids)) (alone (word_at id ids (plain_words parts))) (bytes_eq other id) refl (find-word id has parts ids known)
-      ∙ ap (option_map (use_row id)) (cond-alone (bytes_eq other id) word (word_at id ids (plain_words parts)))
-  find-word id has (option name value ∷ parts) ids known =
-      ap (λ (b : Bool). cond b (Some (use_row name (value ∷ []))) (find (λ r. bytes_eq r.id id) (uses parts ids))) (apart-from c.words name id has known.0.no_word) ∙ find-word id has parts ids known.1
-  find-word id has (flag name ∷ parts) ids known =
-      ap (λ (b : Bool). cond b (Some (use_row name [])) (find (λ r. bytes_eq r.id id) (uses parts ids))) (apart-from c.words name id has known.0.no_word) ∙ find-word id has parts ids known.1
-
-  pub first-word : (id : Text) → is_in c.words id ≡ true → (parts : List Part) → IsKnown c parts → first_of id (uses parts c.words) ≡ word_at id c.words (plain_words parts)
-  first-word id has parts known = first-value id (word_at id c.words (plain_words parts)) _ (find-word id has parts c.words known)
-
--- whether an option or a flag is there
-pub has-uses : (name : Text) (parts : List Part) (ids : List Text) → is_in ids name ≡ false → has_row name (uses parts ids) ≡ is_among name parts
-has-uses name [] ids none = refl
-has-uses name (plain word ∷ parts) [] none = has-uses name parts [] none
-has-uses name (plain word ∷ parts) (id ∷ ids) none =
-    let apart = or_parts (bytes_eq id name) (is_in ids name) none in
-    ap (λ (b : Bool). b || has_row name (uses parts ids)) apart.0 ∙ has-uses name parts ids apart.1
-has-uses name (option other value ∷ parts) ids none = ap (λ (b : Bool). bytes_eq other name || b) (has-uses name parts ids none)
-has-uses name (flag other ∷ parts) ids none = ap (λ (b : Bool). bytes_eq other name || b) (has-uses name parts ids none)
+pub text-given : (name : Text) (rows : List Row) → first_of name rows ≡ text_given name (given_by rows)
+text-given name rows = first-text (find (λ r. bytes_eq r.id name) rows) ∙ ap (λ (o : Option Argument). option_and_then (λ a. a.text) o) (find-map (λ a. bytes_eq a.name name) argument_of rows)
 
 -- ---- the matches themselves
 
@@ -342,7 +282,7 @@ some-mapped f None = refl
 some-mapped f (Some x) = refl
 
 -- the matches have an entry for an argument where the rows have
-pub matched-has : (f : Found) (id : Text) → is_some (matched_of f id) ≡ has_row id (rows_of f)
+pub matched-has : (f : Found) (id : Text) → is_some (matched_of f id) ≡ is_given id (given_by (rows_of f))
 matched-has f id =
     let entry = find (λ (e : Entry). bytes_eq e.0.now id) f.entries.items in
-    some-mapped (λ (e : Entry). e.1) entry ∙ sym (some-mapped row_of entry) ∙ ap (λ (o : Option Row). is_some o) (sym (find_row f.entries.items id)) ∙ sym (found-any id (rows_of f))
+    some-mapped (λ (e : Entry). e.1) entry ∙ sym (some-mapped row_of entry) ∙ ap (λ (o : Option Row). is_some o) (sym (find_row f.entries.items id)) ∙ sym (found-any id (rows_of f)) ∙ list_any-map (λ a. bytes_eq a.name id) argument_of (rows_of f)

@@ -1,12 +1,13 @@
 -- The command of matches, by the name that they have.
-use Rattle.std.proofs.Common.{◌≡◌, refl, List, Bool, true, false, Option, Some, None, ap₂, sym, ◌∙◌}
-use Rattle.std.specs.Prelude.{codes, option_map, ◌≢◌}
+use Rattle.std.proofs.Common.{◌≡◌, refl, List, [], ◌∷◌, Bool, true, false, Option, Some, None, ap, ap₂, sym, ◌∙◌}
+use Rattle.std.specs.Prelude.{find, option_and_then, option_map, ◌≢◌}
 use Rattle.std.specs.Str.{bytes_eq}
 use Rattle.std.proofs.lemmas.Slice.Eq.{bytes_eq-Decides}
 use Rattle.clap.specs.Walk.{Row, Text}
 use Rattle.clap.specs.Words.{subcommand_name_of, subcommand_rows_of}
 use Rattle.clap.specs.declared.parser.matches.ArgMatches.{ArgMatches}
-use Rattle.ext_words.specs.Inside.CommandLine.{command_named}
+use Rattle.ext_words.specs.Words.{Grammar, commands}
+use Rattle.ext_words.specs.Inside.CommandLine.{given_by, command_named}
 
 -- ---- the name of matches, and their rows
 
@@ -27,15 +28,20 @@ both (Some p) name rows n r =
 pub matches-are : (m : ArgMatches) (name : Text) (rows : List Row) → Some name ≡ subcommand_name_of m → Some rows ≡ option_map (λ p. p.1) (subcommand_rows_of m) → subcommand_rows_of m ≡ Some (name, rows)
 matches-are m name rows n r = both (subcommand_rows_of m) name rows (n ∙ sym (named-rows m)) r
 
--- ---- the command of a name
+-- ---- a name that no command has
+
+-- the name is that of none of the commands
+abbrev pub IsOther : Text → List Grammar → Type 0
+IsOther name [] = Unit {0}
+IsOther name (g ∷ list) = (name ≢ g.name) × IsOther name list
 
 differs : (a b : Text) (same : Bool) → bytes_eq a b ≡ same → (b ≢ a) → bytes_eq a b ≡ false
 differs a b true e distinct = absurd (distinct (sym ((bytes_eq-Decides a b).0 e)))
 differs a b false e distinct = e
 
--- a name that no command has
-pub other-name : (name : Text) (rows : List Row) → (name ≢ codes "sphere") → (name ≢ codes "resolve") → (name ≢ codes "dump") → (name ≢ codes "products") → (name ≢ codes "massey") → (name ≢ codes "check") → (name ≢ codes "build") → (name ≢ codes "sample") → (name ≢ codes "sq") →
-    command_named name rows ≡ None
-other-name name rows s r d p m c b x q =
-    let other = λ (t : Text) (distinct : name ≢ t). differs t name (bytes_eq t name) refl distinct in
-    rw (other (codes "sphere") s, other (codes "resolve") r, other (codes "dump") d, other (codes "products") p, other (codes "massey") m, other (codes "check") c, other (codes "build") b, other (codes "sample") x, other (codes "sq") q) refl
+none-named : (name : Text) (list : List Grammar) → IsOther name list → find (λ g. bytes_eq g.name name) list ≡ None
+none-named name [] other = refl
+none-named name (g ∷ list) other = rw (differs g.name name (bytes_eq g.name name) refl other.0) (none-named name list other.1)
+
+pub other-name : (name : Text) (rows : List Row) → IsOther name commands → command_named name rows ≡ None
+other-name name rows other = ap (option_and_then (λ g. g.make (given_by rows))) (none-named name commands other)

@@ -1,7 +1,7 @@
 -- A command asks for no more than the grammar allows.
 use Rattle.std.proofs.Common.{◌≡◌, ℕ, ◌+◌, ◌-◌, ◌*◌, ◌≤◌, refl, arith, List, [], ◌∷◌, Bool, true, false, Option, Some, None}
 use Rattle.std.proofs.Math.Nat.{le_refl, le_trans}
-use Rattle.std.specs.Prelude.{codes, ℤ, pos, neg_ℤ, ◌≤ℤ◌, int_le, option_map, option_and_then, ◌&&◌, ◌==◌, nat_le, length, if◌then◌else◌, IfSome, IfOk}
+use Rattle.std.specs.Prelude.{codes, ℤ, pos, neg_ℤ, ◌≤ℤ◌, int_le, option_map, option_and_then, ◌&&◌, ◌==◌, nat_le, length, cond, find, if◌then◌else◌, IfSome, IfOk}
 use Rattle.std.specs.List.{All, list_all, sum}
 use Rattle.std.specs.Char.{is_ascii_digit}
 use Rattle.std.specs.Option.{ok_or}
@@ -9,7 +9,6 @@ use Rattle.std.specs.Str.{bytes_eq}
 use Rattle.std.proofs.lemmas.Bool.{leb-true, eqb-false, and_parts}
 use Rattle.std.proofs.lemmas.Int.{ints}
 use Rattle.std.proofs.lemmas.List.Elements.{All-nil, All-cons}
-use Rattle.chain_map.specs.declared.class.Class.{Class}
 use Rattle.square.specs.declared.range.Range.{Range}
 use Rattle.square.specs.declared.range.TheConstants.{MAX_S, MAX_T}
 use Rattle.ext_words.specs.declared.command.WordsFault.{WordsFault}
@@ -17,8 +16,8 @@ use Rattle.ext_words.specs.declared.command.Build.{Build}
 use Rattle.ext_words.specs.declared.command.Build.TheVariants as build
 use Rattle.ext_words.specs.declared.command.Common.{Common}
 use Rattle.ext_words.specs.declared.command.Command.{Command}
-use Rattle.ext_words.specs.declared.command.Command.TheVariants.{Sphere, Resolve, Dump, Products, Massey, Build as Built, Sq}
-use Rattle.ext_words.specs.Words.{Part, Options, parts_of, plain_words, value_of, is_among, each_once, are_digits, number_of, signed_number_of, number_up_to, decimal_value, range_from, range_of, workers_of, common_from, common_of, range_command_of, between_commas, class_from, class_of, class_given, products_of, massey_of, check_from, check_of, shift_of, built_by, build_from, build_of, sample_from, sample_by, sample_of, seed_of, positive_up_to, positive_numbers, within_degree, sq_from, sq_of, no_options, resolving, read_by, command_from, command_of, IsWithin, IsShort, IsWithinShift, IsWithinLimits}
+use Rattle.ext_words.specs.declared.command.Command.TheVariants.{Sphere, Resolve, Dump, Build as Built, Sq}
+use Rattle.ext_words.specs.Words.{Argument, Grammar, Part, parts_of, plain_words, fits, arguments_of, each_once, text_given, is_given, number_given, class_given, are_digits, number_of, signed_number_of, number_up_to, decimal_value, range_from, workers_of, common_from, common_of, between_commas, class_from, class_of, products_of, massey_of, shift_of, built_by, build_of, sample_from, seed_of, positive_up_to, positive_numbers, within_degree, product_of, product_given, commands, read_by, grammar_of, command_of, IsWithin, IsShort, IsWithinShift, IsWithinLimits}
 use Rattle.ext_words.specs.declared.command.TheConstants.{MAX_WORKERS, MAX_SQUARES, MAX_SQUARES_DEGREE, MAX_SHIFT}
 
 -- ---- numbers
@@ -142,49 +141,50 @@ range-from None t low high = tt
 range-from (Some s) None low high = tt
 range-from (Some s) (Some t) low high = (low, high)
 
-range-within : (words : List (List ℕ)) → IfSome (range_of words) IsRangeWithin
-range-within [] = tt
-range-within (s ∷ []) = tt
-range-within (s ∷ t ∷ []) = range-from (number_up_to MAX_S s) (number_up_to MAX_T t) (number-within MAX_S s) (number-within MAX_T t)
-range-within (s ∷ t ∷ u ∷ more) = tt
-
 both-within : (range : Option Range) (count : Option ℕ) (saves : Bool) → IfSome range IsRangeWithin → IfSome count (λ m. (1 ≤ m) × (m ≤ MAX_WORKERS)) → IfSome (common_from range count saves) IsWithin
 both-within None count saves h w = tt
 both-within (Some range) None saves h w = tt
 both-within (Some range) (Some count) saves h w = (h.0, h.1, w.0, w.1)
 
-common-within : (words : List (List ℕ)) (parts : List Part) → IfSome (common_of words parts) IsWithin
-common-within words parts = both-within (range_of words) (workers_of (value_of (codes "workers") parts)) (is_among (codes "save") parts) (range-within words) (workers-within (value_of (codes "workers") parts))
+given-number : (limit : ℕ) (word : Option (List ℕ)) → IfSome (option_and_then (number_up_to limit) word) (λ n. n ≤ limit)
+given-number limit None = tt
+given-number limit (Some word) = number-within limit word
 
-made-within : (make : Common → Command) (common : Option Common) → ((c : Common) → IsWithin c → IsWithinLimits (make c)) → IfSome common IsWithin → IfSome (option_map make common) IsWithinLimits
-made-within make None within h = tt
-made-within make (Some common) within h = within common h
+common-within : (given : List Argument) → IfSome (common_of given) IsWithin
+common-within given =
+    both-within (range_from (number_given (codes "S") MAX_S given) (number_given (codes "T") MAX_T given)) (workers_of (text_given (codes "workers") given)) (is_given (codes "save") given)
+    (range-from (number_given (codes "S") MAX_S given) (number_given (codes "T") MAX_T given) (given-number MAX_S (text_given (codes "S") given)) (given-number MAX_T (text_given (codes "T") given)))
+    (workers-within (text_given (codes "workers") given))
 
-products-within : (common : Option Common) (by : Option Class) → IfSome common IsWithin → IfSome by IsShort → IfSome (option_and_then (λ c. option_map (λ x. Products c x) by) common) IsWithinLimits
-products-within None by h k = tt
-products-within (Some common) None h k = tt
-products-within (Some common) (Some by) h k = (h, k)
+class-within-given : (name : List ℕ) (given : List Argument) → IfSome (class_given name given) IsShort
+class-within-given name given = given-within (text_given name given)
 
-massey-within : (common : Option Common) (a b c : Option Class) → IfSome common IsWithin → IfSome a IsShort → IfSome b IsShort → IfSome c IsShort →
-    IfSome (option_and_then (λ all. option_and_then (λ x. option_and_then (λ y. option_map (λ z. Massey all x y z) c) b) a) common) IsWithinLimits
-massey-within None a b c h i j k = tt
-massey-within (Some common) None b c h i j k = tt
-massey-within (Some common) (Some a) None c h i j k = tt
-massey-within (Some common) (Some a) (Some b) None h i j k = tt
-massey-within (Some common) (Some a) (Some b) (Some c) h i j k = (h, i, j, k)
+-- ---- what is made of parts
 
-check-within : (words : List (List ℕ)) → IfSome (check_from words) IsWithinLimits
-check-within [] = tt
-check-within (word ∷ words) = tt
+then-within : {X Y : Type 0} (P : X → Type 0) (Q : Y → Type 0) (o : Option X) (f : X → Option Y) → IfSome o P → ((x : X) → P x → IfSome (f x) Q) → IfSome (option_and_then f o) Q
+then-within P Q None f h next = tt
+then-within P Q (Some x) f h next = next x h
 
-from-within : (n : Option ℕ) (common : Option Common) → IfSome common IsWithin → IfSome (sample_from n common) IsWithinLimits
-from-within None common h = tt
-from-within (Some n) None h = tt
-from-within (Some n) (Some common) h = h
+made-within : {X Y : Type 0} (P : X → Type 0) (Q : Y → Type 0) (o : Option X) (f : X → Y) → IfSome o P → ((x : X) → P x → Q (f x)) → IfSome (option_map f o) Q
+made-within P Q None f h next = tt
+made-within P Q (Some x) f h next = next x h
 
-sample-within : (words : List (List ℕ)) (parts : List Part) → IfSome (sample_by words parts) IsWithinLimits
-sample-within [] parts = tt
-sample-within (n ∷ words) parts = from-within (seed_of n) (common_of words parts) (common-within words parts)
+products-within : (given : List Argument) → IfSome (products_of given) IsWithinLimits
+products-within given =
+    then-within IsWithin IsWithinLimits (common_of given) _ (common-within given) (λ common h.
+    made-within IsShort IsWithinLimits (class_given (codes "by") given) _ (class-within-given (codes "by") given) (λ by k. (h, k)))
+
+massey-within : (given : List Argument) → IfSome (massey_of given) IsWithinLimits
+massey-within given =
+    then-within IsWithin IsWithinLimits (common_of given) _ (common-within given) (λ common h.
+    then-within IsShort IsWithinLimits (class_given (codes "a") given) _ (class-within-given (codes "a") given) (λ a i.
+    then-within IsShort IsWithinLimits (class_given (codes "b") given) _ (class-within-given (codes "b") given) (λ b j.
+    made-within IsShort IsWithinLimits (class_given (codes "c") given) _ (class-within-given (codes "c") given) (λ c k. (h, i, j, k)))))
+
+sample-from : (n : Option ℕ) (common : Option Common) → IfSome common IsWithin → IfSome (sample_from n common) IsWithinLimits
+sample-from None common h = tt
+sample-from (Some n) None h = tt
+sample-from (Some n) (Some common) h = h
 
 int-le : (y z : ℤ) → int_le y z ≡ true → y ≤ℤ z
 int-le y z e = grind (arith, ints)
@@ -212,14 +212,9 @@ built-within : (word : List ℕ) (degrees : Option (List ℕ)) → IfSome (built
 built-within word None = operation-within (bytes_eq (codes "sum") word) (bytes_eq (codes "tensor") word) (bytes_eq (codes "dual") word)
 built-within word (Some degrees) = if-shift (bytes_eq (codes "shift") word) (option_map build.Shift (shift_of degrees)) (shift-within (signed_number_of 3 degrees))
 
-building : (made : Option Build) → IfSome made IsWithinShift → IfSome (option_map Built made) IsWithinLimits
-building None h = tt
-building (Some made) h = h
-
-build-within : (words : List (List ℕ)) (degrees : Option (List ℕ)) → IfSome (build_from words degrees) IsWithinLimits
-build-within [] degrees = tt
-build-within (word ∷ []) degrees = building (built_by word degrees) (built-within word degrees)
-build-within (word ∷ more ∷ words) degrees = tt
+build-within : (word : Option (List ℕ)) (degrees : Option (List ℕ)) → IfSome (option_and_then (λ w. built_by w degrees) word) IsWithinShift
+build-within None degrees = tt
+build-within (Some word) degrees = built-within word degrees
 
 every-positive : (limit : ℕ) (words : List (List ℕ)) → IfSome (positive_numbers limit words) (All (λ n. 1 ≤ n))
 every-positive limit [] = All-nil (λ n. 1 ≤ n)
@@ -230,74 +225,79 @@ every-positive limit (word ∷ words) = one-more (positive_up_to limit word) (po
     one-more (Some n) None h hs = tt
     one-more (Some n) (Some ns) h hs = All-cons (λ m. 1 ≤ m) n ns h.0 hs
 
-within-degree : (few small : Bool) (numbers : List ℕ) → nat_le (length numbers) MAX_SQUARES ≡ few → nat_le (sum numbers) MAX_SQUARES_DEGREE ≡ small → All (λ n. 1 ≤ n) numbers → IfSome (option_map Sq (if few && small then Some numbers else None)) IsWithinLimits
-within-degree true true numbers few small positive = (positive, leb-true _ _ few, leb-true _ _ small)
-within-degree true false numbers few small positive = tt
-within-degree false small numbers few is positive = tt
+abbrev IsProduct : List ℕ → Type 0
+IsProduct numbers = All (λ n. 1 ≤ n) numbers × (length numbers ≤ MAX_SQUARES) × (sum numbers ≤ MAX_SQUARES_DEGREE)
 
-factors-within : (numbers : Option (List ℕ)) → IfSome numbers (All (λ n. 1 ≤ n)) → IfSome (option_map Sq (option_and_then within_degree numbers)) IsWithinLimits
-factors-within None h = tt
-factors-within (Some numbers) h = within-degree (nat_le (length numbers) MAX_SQUARES) (nat_le (sum numbers) MAX_SQUARES_DEGREE) numbers refl refl h
+within-both : (few small : Bool) (numbers : List ℕ) → nat_le (length numbers) MAX_SQUARES ≡ few → nat_le (sum numbers) MAX_SQUARES_DEGREE ≡ small → All (λ n. 1 ≤ n) numbers → IfSome (if few && small then Some numbers else None) IsProduct
+within-both true true numbers few small positive = (positive, leb-true _ _ few, leb-true _ _ small)
+within-both true false numbers few small positive = tt
+within-both false small numbers few is positive = tt
 
-sq-within : (words : List (List ℕ)) → IfSome (sq_from words) IsWithinLimits
-sq-within [] = tt
-sq-within (word ∷ []) = factors-within (positive_numbers MAX_SQUARES_DEGREE (between_commas word)) (every-positive MAX_SQUARES_DEGREE (between_commas word))
-sq-within (word ∷ more ∷ words) = tt
+product-within : (word : Option (List ℕ)) → IfSome (option_and_then product_of word) IsProduct
+product-within None = tt
+product-within (Some word) =
+    then-within (All (λ n. 1 ≤ n)) IsProduct (positive_numbers MAX_SQUARES_DEGREE (between_commas word)) within_degree (every-positive MAX_SQUARES_DEGREE (between_commas word))
+    (λ numbers positive. within-both (nat_le (length numbers) MAX_SQUARES) (nat_le (sum numbers) MAX_SQUARES_DEGREE) numbers refl refl positive)
 
 -- ---- commands
 
-once-within : (once : Bool) (made : Option Command) → IfSome made IsWithinLimits → IfSome (if once then made else None) IsWithinLimits
-once-within true made h = h
-once-within false made h = tt
+-- what a command makes is within the limits
+abbrev IsKept : Grammar → Type 0
+IsKept g = (given : List Argument) → IfSome (g.make given) IsWithinLimits
 
-parts-within : (make : List Part → Option Command) → ((parts : List Part) → IfSome (make parts) IsWithinLimits) → (parts : Option (List Part)) → IfSome (option_and_then (λ p. if each_once p then make p else None) parts) IsWithinLimits
-parts-within make within None = tt
-parts-within make within (Some parts) = once-within (each_once parts) (make parts) (within parts)
+abbrev AreKept : List Grammar → Type 0
+AreKept [] = Unit {0}
+AreKept (g ∷ list) = IsKept g × AreKept list
 
-read-within : (options : Options) (make : List Part → Option Command) → ((parts : List Part) → IfSome (make parts) IsWithinLimits) → (words : List (List ℕ)) → IfSome (read_by options make words) IsWithinLimits
-read-within options make within words = parts-within make within (parts_of options words)
+by-range : (make : Common → Command) → ((common : Common) → IsWithin common → IsWithinLimits (make common)) → (given : List Argument) → IfSome (option_map make (common_of given)) IsWithinLimits
+by-range make within given = made-within IsWithin IsWithinLimits (common_of given) make (common-within given) within
 
-by-range : (make : Common → Command) → ((c : Common) → IsWithin c → IsWithinLimits (make c)) → (words : List (List ℕ)) → IfSome (read_by (resolving []) (range_command_of make) words) IsWithinLimits
-by-range make within words = read-within (resolving []) (range_command_of make) (λ parts. made-within make (common_of (plain_words parts) parts) within (common-within (plain_words parts) parts)) words
+are_kept : AreKept commands
+are_kept = (
+  by-range Sphere (λ common h. h),
+  (
+    by-range Resolve (λ common h. h),
+    (
+      by-range Dump (λ common h. h),
+      (
+        products-within,
+        (
+          massey-within,
+          (
+            (λ given. tt),
+            (
+              (λ given. made-within IsWithinShift IsWithinLimits (build_of given) Built (build-within (text_given (codes "OP") given) (text_given (codes "degrees") given)) (λ made h. h)),
+              (
+                (λ given. sample-from (option_and_then seed_of (text_given (codes "N") given)) (common_of given) (common-within given)),
+                ((λ given. made-within IsProduct IsWithinLimits (product_given given) Sq (product-within (text_given (codes "W") given)) (λ product h. h)), tt),
+              ),
+            ),
+          ),
+        ),
+      ),
+    ),
+  ),
+)
 
-by-name : (b1 b2 b3 b4 b5 b6 b7 b8 b9 : Bool) (o1 o2 o3 o4 o5 o6 o7 o8 o9 : Option Command) → IfSome o1 IsWithinLimits → IfSome o2 IsWithinLimits → IfSome o3 IsWithinLimits → IfSome o4 IsWithinLimits → IfSome o5 IsWithinLimits → IfSome o6 IsWithinLimits → IfSome o7 IsWithinLimits → IfSome o8 IsWithinLimits → IfSome o9 IsWithinLimits → IfSome (if b1 then o1 else if b2 then o2 else if b3 then o3 else if b4 then o4 else if b5 then o5 else if b6 then o6 else if b7 then o7 else if b8 then o8 else if b9 then o9 else None) IsWithinLimits
-by-name true b2 b3 b4 b5 b6 b7 b8 b9 o1 o2 o3 o4 o5 o6 o7 o8 o9 h1 h2 h3 h4 h5 h6 h7 h8 h9 = h1
-by-name false true b3 b4 b5 b6 b7 b8 b9 o1 o2 o3 o4 o5 o6 o7 o8 o9 h1 h2 h3 h4 h5 h6 h7 h8 h9 = h2
-by-name false false true b4 b5 b6 b7 b8 b9 o1 o2 o3 o4 o5 o6 o7 o8 o9 h1 h2 h3 h4 h5 h6 h7 h8 h9 = h3
-by-name false false false true b5 b6 b7 b8 b9 o1 o2 o3 o4 o5 o6 o7 o8 o9 h1 h2 h3 h4 h5 h6 h7 h8 h9 = h4
-by-name false false false false true b6 b7 b8 b9 o1 o2 o3 o4 o5 o6 o7 o8 o9 h1 h2 h3 h4 h5 h6 h7 h8 h9 = h5
-by-name false false false false false true b7 b8 b9 o1 o2 o3 o4 o5 o6 o7 o8 o9 h1 h2 h3 h4 h5 h6 h7 h8 h9 = h6
-by-name false false false false false false true b8 b9 o1 o2 o3 o4 o5 o6 o7 o8 o9 h1 h2 h3 h4 h5 h6 h7 h8 h9 = h7
-by-name false false false false false false false true b9 o1 o2 o3 o4 o5 o6 o7 o8 o9 h1 h2 h3 h4 h5 h6 h7 h8 h9 = h8
-by-name false false false false false false false false true o1 o2 o3 o4 o5 o6 o7 o8 o9 h1 h2 h3 h4 h5 h6 h7 h8 h9 = h9
-by-name false false false false false false false false false o1 o2 o3 o4 o5 o6 o7 o8 o9 h1 h2 h3 h4 h5 h6 h7 h8 h9 = tt
+found-kept : (name : List ℕ) (list : List Grammar) → AreKept list → IfSome (find (λ g. bytes_eq g.name name) list) IsKept
+found-kept name [] kept = tt
+found-kept name (g ∷ list) kept = here (bytes_eq g.name name) (found-kept name list kept.1)
+  where
+    here : (b : Bool) → IfSome (find (λ h. bytes_eq h.name name) list) IsKept → IfSome (cond b (Some g) (find (λ h. bytes_eq h.name name) list)) IsKept
+    here true rest = kept.0
+    here false rest = rest
 
-named-within : (name : List ℕ) (words : List (List ℕ)) → IfSome (command_from name words) IsWithinLimits
-named-within name words =
-    let class = λ (option_name : List ℕ) (parts : List Part). given-within (value_of option_name parts) in
-    by-name (bytes_eq (codes "sphere") name) (bytes_eq (codes "resolve") name) (bytes_eq (codes "dump") name) (bytes_eq (codes "products") name) (bytes_eq (codes "massey") name) (bytes_eq (codes "check") name) (bytes_eq (codes "build") name) (bytes_eq (codes "sample") name) (bytes_eq (codes "sq") name)
-    (read_by (resolving []) (range_command_of Sphere) words)
-    (read_by (resolving []) (range_command_of Resolve) words)
-    (read_by (resolving []) (range_command_of Dump) words)
-    (read_by (resolving (codes "by" ∷ [])) products_of words)
-    (read_by (resolving (codes "a" ∷ codes "b" ∷ codes "c" ∷ [])) massey_of words)
-    (read_by no_options check_of words)
-    (read_by (record { valued = codes "degrees" ∷ []; flags = [] }) build_of words)
-    (read_by (resolving []) sample_of words)
-    (read_by no_options sq_of words)
-    (by-range Sphere (λ c h. h) words)
-    (by-range Resolve (λ c h. h) words)
-    (by-range Dump (λ c h. h) words)
-    (read-within (resolving (codes "by" ∷ [])) products_of (λ parts. products-within (common_of (plain_words parts) parts) (class_given (codes "by") parts) (common-within (plain_words parts) parts) (class (codes "by") parts)) words)
-    (read-within (resolving (codes "a" ∷ codes "b" ∷ codes "c" ∷ [])) massey_of (λ parts. massey-within (common_of (plain_words parts) parts) (class_given (codes "a") parts) (class_given (codes "b") parts) (class_given (codes "c") parts) (common-within (plain_words parts) parts) (class (codes "a") parts) (class (codes "b") parts) (class (codes "c") parts)) words)
-    (read-within no_options check_of (λ parts. check-within (plain_words parts)) words)
-    (read-within (record { valued = codes "degrees" ∷ []; flags = [] }) build_of (λ parts. build-within (plain_words parts) (value_of (codes "degrees") parts)) words)
-    (read-within (resolving []) sample_of (λ parts. sample-within (plain_words parts) parts) words)
-    (read-within no_options sq_of (λ parts. sq-within (plain_words parts)) words)
+if-within : (taken : Bool) (made : Option Command) → IfSome made IsWithinLimits → IfSome (if taken then made else None) IsWithinLimits
+if-within true made h = h
+if-within false made h = tt
+
+read-within : (g : Grammar) → IsKept g → (parts : Option (List Part)) → IfSome (option_and_then (λ p. if each_once p && fits (plain_words p) g.words then g.make (arguments_of p g.words) else None) parts) IsWithinLimits
+read-within g kept None = tt
+read-within g kept (Some parts) = if-within (each_once parts && fits (plain_words parts) g.words) (g.make (arguments_of parts g.words)) (kept (arguments_of parts g.words))
 
 pub command-within : (words : List (List ℕ)) → IfSome (command_of words) IsWithinLimits
 command-within [] = tt
-command-within (name ∷ words) = named-within name words
+command-within (name ∷ words) = then-within IsKept IsWithinLimits (grammar_of name) (λ g. read_by g words) (found-kept name commands are_kept) (λ g kept. read-within g kept (parts_of g.options words))
 
 pub ok-within : (command : Option Command) (fault : WordsFault) → IfSome command IsWithinLimits → IfOk (ok_or command fault) IsWithinLimits
 ok-within None fault h = tt

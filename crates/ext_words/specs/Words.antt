@@ -1,5 +1,5 @@
 -- The command that the words of a command line give, none where they are outside the grammar.
-use Rattle.std.specs.Prelude.{ℕ, ◌≤◌, ◌+◌, ◌-◌, ◌*◌, ◌==◌, ℤ, pos, neg_ℤ, ◌≤ℤ◌, int_le, Bool, true, false, not, ◌&&◌, ◌||◌, nat_lt, nat_le, if◌then◌else◌, List, [], ◌∷◌, length, take, drop, Option, Some, None, option_map, option_and_then, map, codes, ⊤}
+use Rattle.std.specs.Prelude.{ℕ, ◌≤◌, ◌+◌, ◌-◌, ◌*◌, ◌==◌, ℤ, pos, neg_ℤ, ◌≤ℤ◌, int_le, Bool, true, false, not, ◌&&◌, ◌||◌, nat_lt, nat_le, if◌then◌else◌, List, [], ◌∷◌, ◌++◌, length, take, drop, Option, Some, None, option_map, option_and_then, map, find, codes, ⊤}
 use Rattle.std.specs.Borrow.{Bor}
 use Rattle.std.specs.List.{All, fold, list_all, list_any, before_first, after_first, slice_split, sum}
 use Rattle.std.specs.Str.{bytes_eq}
@@ -83,13 +83,6 @@ plain_words [] = []
 plain_words (plain word ∷ parts) = word ∷ plain_words parts
 plain_words (option name value ∷ parts) = plain_words parts
 plain_words (flag name ∷ parts) = plain_words parts
-
--- what an option is given, none where it is not among them
-abbrev pub value_of : List ℕ → List Part → Option (List ℕ)
-value_of name [] = None
-value_of name (plain word ∷ parts) = value_of name parts
-value_of name (option other value ∷ parts) = if bytes_eq other name then Some value else value_of name parts
-value_of name (flag other ∷ parts) = value_of name parts
 
 -- whether an option or a flag of this name is among them
 abbrev pub is_among : List ℕ → List Part → Bool
@@ -176,17 +169,48 @@ class_from _ = None
 abbrev pub class_of : List ℕ → Option Class
 class_of word = class_from (between_commas word)
 
--- ---- commands
+-- ---- what is given to a command
+
+-- what stands under a name, which is that of a word, of an option or of a flag: a text, and none under that of a flag
+pub record Argument : Type 0 where
+  pub name : List ℕ
+  pub text : Option (List ℕ)
+
+-- there are no more words than names
+abbrev pub fits : List (List ℕ) → List (List ℕ) → Bool
+fits [] names = true
+fits (word ∷ words) [] = false
+fits (word ∷ words) (name ∷ names) = fits words names
+
+-- what the parts give, where the words that are no options have these names, in their order
+abbrev pub arguments_of : List Part → List (List ℕ) → List Argument
+arguments_of [] names = []
+arguments_of (plain word ∷ parts) [] = arguments_of parts []
+arguments_of (plain word ∷ parts) (name ∷ names) =
+    record { name = name; text = Some word } ∷ arguments_of parts names
+arguments_of (option name value ∷ parts) names = record { name = name; text = Some value } ∷ arguments_of parts names
+arguments_of (flag name ∷ parts) names = record { name = name; text = None } ∷ arguments_of parts names
+
+-- the text that is given under a name
+abbrev pub text_given : List ℕ → List Argument → Option (List ℕ)
+text_given name given = option_and_then (λ a. a.text) (find (λ a. bytes_eq a.name name) given)
+
+-- whether something is given under a name
+abbrev pub is_given : List ℕ → List Argument → Bool
+is_given name given = list_any (λ a. bytes_eq a.name name) given
+
+-- the number that is given, at most the limit
+abbrev pub number_given : List ℕ → ℕ → List Argument → Option ℕ
+number_given name limit given = option_and_then (number_up_to limit) (text_given name given)
+
+-- the class that is given
+abbrev pub class_given : List ℕ → List Argument → Option Class
+class_given name given = option_and_then class_of (text_given name given)
 
 abbrev pub range_from : Option ℕ → Option ℕ → Option Range
 range_from (Some s) (Some t) = Some (record { s = s; t = t })
 range_from (Some s) None = None
 range_from None t = None
-
--- the words S and T, within the greatest row and the greatest degree of a range
-abbrev pub range_of : List (List ℕ) → Option Range
-range_of (s ∷ t ∷ []) = range_from (number_up_to MAX_S s) (number_up_to MAX_T t)
-range_of _ = None
 
 -- how many workers there are by the value of `--workers`: one where it has none
 abbrev pub workers_of : Option (List ℕ) → Option ℕ
@@ -198,63 +222,29 @@ common_from (Some range) (Some count) saves = Some (record { range = range; work
 common_from (Some range) None saves = None
 common_from None count saves = None
 
--- the words S and T, and the options of all commands that resolve a module
-abbrev pub common_of : List (List ℕ) → List Part → Option Common
-common_of words parts =
-    common_from (range_of words) (workers_of (value_of (codes "workers") parts)) (is_among (codes "save") parts)
+-- the words S and T, within the greatest row and the greatest degree of a range, and the options of all commands that
+-- resolve a module
+abbrev pub common_of : List Argument → Option Common
+common_of given = common_from (range_from (number_given (codes "S") MAX_S given) (number_given (codes "T") MAX_T given))
+    (workers_of (text_given (codes "workers") given)) (is_given (codes "save") given)
 
--- the command that makes something of S and T
-abbrev pub range_command_of : (Common → Command) → List Part → Option Command
-range_command_of make parts = option_map make (common_of (plain_words parts) parts)
+-- ---- what is made of it
 
--- the class that an option is given
-abbrev pub class_given : List ℕ → List Part → Option Class
-class_given name parts = option_and_then class_of (value_of name parts)
+-- the class that `--by` is given, which has to be there
+abbrev pub products_of : List Argument → Option Command
+products_of given =
+    option_and_then (λ common. option_map (λ by. Products common by) (class_given (codes "by") given)) (common_of given)
 
--- the words S and T, and the class that `--by` is given, which has to be there
-abbrev pub products_of : List Part → Option Command
-products_of parts = option_and_then (λ common. option_map (λ by. Products common by) (class_given (codes "by") parts))
-    (common_of (plain_words parts) parts)
-
--- the words S and T, and the classes that `--a`, `--b` and `--c` are given, which all have to be there
-abbrev pub massey_of : List Part → Option Command
-massey_of parts =
+-- the classes that `--a`, `--b` and `--c` are given, which all have to be there
+abbrev pub massey_of : List Argument → Option Command
+massey_of given =
     option_and_then (λ common.
     option_and_then (λ a.
     option_and_then (λ b.
-    option_map (λ c. Massey common a b c) (class_given (codes "c") parts))
-    (class_given (codes "b") parts))
-    (class_given (codes "a") parts))
-    (common_of (plain_words parts) parts)
-
-abbrev pub sample_from : Option ℕ → Option Common → Option Command
-sample_from (Some n) (Some common) = Some (Sample n common)
-sample_from (Some n) None = None
-sample_from None common = None
-
--- the words N, S and T
-abbrev pub sample_by : List (List ℕ) → List Part → Option Command
-sample_by [] parts = None
-sample_by (n ∷ words) parts = sample_from (seed_of n) (common_of words parts)
-
-abbrev pub sample_of : List Part → Option Command
-sample_of parts = sample_by (plain_words parts) parts
-
--- no words
-abbrev pub check_from : List (List ℕ) → Option Command
-check_from [] = Some Check
-check_from _ = None
-
-abbrev pub check_of : List Part → Option Command
-check_of parts = check_from (plain_words parts)
-
--- the word W
-abbrev pub sq_from : List (List ℕ) → Option Command
-sq_from (word ∷ []) = option_map Sq (product_of word)
-sq_from _ = None
-
-abbrev pub sq_of : List Part → Option Command
-sq_of parts = sq_from (plain_words parts)
+    option_map (λ c. Massey common a b c) (class_given (codes "c") given))
+    (class_given (codes "b") given))
+    (class_given (codes "a") given))
+    (common_of given)
 
 -- what is built by the word OP, and by what `--degrees` is given: it stands with `shift`, and there alone
 abbrev pub built_by : List ℕ → Option (List ℕ) → Option Build
@@ -265,45 +255,72 @@ built_by word None =
     else None
 built_by word (Some degrees) = if bytes_eq (codes "shift") word then option_map build.Shift (shift_of degrees) else None
 
-abbrev pub build_from : List (List ℕ) → Option (List ℕ) → Option Command
-build_from (word ∷ []) degrees = option_map Built (built_by word degrees)
-build_from _ degrees = None
+abbrev pub build_of : List Argument → Option Build
+build_of given =
+    option_and_then (λ word. built_by word (text_given (codes "degrees") given)) (text_given (codes "OP") given)
 
-abbrev pub build_of : List Part → Option Command
-build_of parts = build_from (plain_words parts) (value_of (codes "degrees") parts)
+abbrev pub sample_from : Option ℕ → Option Common → Option Command
+sample_from (Some n) (Some common) = Some (Sample n common)
+sample_from (Some n) None = None
+sample_from None common = None
 
--- what a command makes of the parts of its words, where each of its options is among them at most once
-abbrev pub read_by : Options → (List Part → Option Command) → List (List ℕ) → Option Command
-read_by options make words =
-    option_and_then (λ parts. if each_once parts then make parts else None) (parts_of options words)
+-- the number N, with what all commands have that resolve a module
+abbrev pub sample_of : List Argument → Option Command
+sample_of given = sample_from (option_and_then seed_of (text_given (codes "N") given)) (common_of given)
 
-abbrev pub no_options : Options
-no_options = record { valued = []; flags = [] }
+-- the product W
+abbrev pub product_given : List Argument → Option (List ℕ)
+product_given given = option_and_then product_of (text_given (codes "W") given)
 
--- the options of a command that resolves a module, with those that it has alone
-abbrev pub resolving : List (List ℕ) → Options
-resolving names = record { valued = codes "workers" ∷ names; flags = codes "save" ∷ [] }
+-- ---- commands
 
--- `sphere S T`, `resolve S T`, `dump S T`, `products S T`, `massey S T`, `check`, `build OP`, `sample N S T` or `sq W`, by its name and
--- the words behind it
-abbrev pub command_from : List ℕ → List (List ℕ) → Option Command
-command_from name words =
-    if bytes_eq (codes "sphere") name then read_by (resolving []) (range_command_of Sphere) words
-    else if bytes_eq (codes "resolve") name then read_by (resolving []) (range_command_of Resolve) words
-    else if bytes_eq (codes "dump") name then read_by (resolving []) (range_command_of Dump) words
-    else if bytes_eq (codes "products") name then read_by (resolving (codes "by" ∷ [])) products_of words
-    else if bytes_eq (codes "massey") name
-    then read_by (resolving (codes "a" ∷ codes "b" ∷ codes "c" ∷ [])) massey_of words
-    else if bytes_eq (codes "check") name then read_by no_options check_of words
-    else if bytes_eq (codes "build") name
-    then read_by (record { valued = codes "degrees" ∷ []; flags = [] }) build_of words
-    else if bytes_eq (codes "sample") name then read_by (resolving []) sample_of words
-    else if bytes_eq (codes "sq") name then read_by no_options sq_of words else None
+-- a command: its name, the names of its words in their order, its options, and what is made of what is given to it
+pub record Grammar : Type 0 where
+  pub name : List ℕ
+  pub words : List (List ℕ)
+  pub options : Options
+  pub make : List Argument → Option Command
+
+abbrev pub grammar :
+    List ℕ → List (List ℕ) → List (List ℕ) → List (List ℕ) → (List Argument → Option Command) → Grammar
+grammar name words valued flags make =
+    record { name = name; words = words; options = record { valued = valued; flags = flags }; make = make }
+
+-- a command that resolves a module: the words S and T stand behind its own, and the options that all such commands have
+-- beside its own
+abbrev pub resolving : List ℕ → List (List ℕ) → List (List ℕ) → (List Argument → Option Command) → Grammar
+resolving name words valued make =
+    grammar name (words ++ codes "S" ∷ codes "T" ∷ []) (codes "workers" ∷ valued) (codes "save" ∷ []) make
+
+-- the commands
+abbrev pub commands : List Grammar
+commands =
+    resolving (codes "sphere") [] [] (λ given. option_map Sphere (common_of given))
+    ∷ resolving (codes "resolve") [] [] (λ given. option_map Resolve (common_of given))
+    ∷ resolving (codes "dump") [] [] (λ given. option_map Dump (common_of given))
+    ∷ resolving (codes "products") [] (codes "by" ∷ []) products_of
+    ∷ resolving (codes "massey") [] (codes "a" ∷ codes "b" ∷ codes "c" ∷ []) massey_of
+    ∷ grammar (codes "check") [] [] [] (λ given. Some Check)
+    ∷ grammar (codes "build") (codes "OP" ∷ []) (codes "degrees" ∷ []) [] (λ given. option_map Built (build_of given))
+    ∷ resolving (codes "sample") (codes "N" ∷ []) [] sample_of
+    ∷ grammar (codes "sq") (codes "W" ∷ []) [] [] (λ given. option_map Sq (product_given given))
+    ∷ []
+
+-- what a command makes of words: each of its options is among them at most once, and there are no more other words than
+-- it has names for
+abbrev pub read_by : Grammar → List (List ℕ) → Option Command
+read_by g words = option_and_then
+    (λ parts. if each_once parts && fits (plain_words parts) g.words then g.make (arguments_of parts g.words) else None)
+    (parts_of g.options words)
+
+-- the command of this name
+abbrev pub grammar_of : List ℕ → Option Grammar
+grammar_of name = find (λ g. bytes_eq g.name name) commands
 
 -- the command's name, and what is behind it
 abbrev pub command_of : List (List ℕ) → Option Command
 command_of [] = None
-command_of (name ∷ words) = command_from name words
+command_of (name ∷ words) = option_and_then (λ g. read_by g words) (grammar_of name)
 
 -- ---- limits
 

@@ -1,13 +1,11 @@
 //! The command grammar.
-ghost use Rattle.std.specs.Prelude.{◌≡◌, ◌≢◌, ◌⊎◌, Some, None, [], Err, IfOk, IfSome, OnSome, IfNone, false, option_map};
-ghost use Rattle.clap.specs.Words.{app_of, fault_of, found_of, rows_of, subcommand_of, subcommand_rows_of};
+ghost use Rattle.std.specs.Prelude.{◌≡◌, ◌≢◌, ◌⊎◌, Some, None, [], Err, IfOk, IfSome, OnSome, IfNone, false, codes, option_map, option_and_then};
+ghost use Rattle.clap.specs.Words.{app_of, fault_of, found_of, rows_of, rule_of, subcommand_of, subcommand_rows_of};
 ghost use Rattle.std.specs.List.{list_any};
-ghost use Rattle.clap.specs.Simple.{with_rule};
-ghost use Rattle.clap.specs.Walk.{first_of};
 ghost use Rattle.clap.specs.declared.builder.command.Command.TheViews.{out-Command};
-ghost use Rattle.ext_words.specs.Inside.CommandLine.{is_stray, option_named, with_options, range_command, products_command, massey_command, build_command, module_commands, command_line, number_in, workers_in, saves_in, common_in, class_in, products_in, massey_in, build_in, seed_in, sample_in, sample_command, product_in, sq_command, no_command, command_named, command_in};
+ghost use Rattle.ext_words.specs.Inside.CommandLine.{is_stray, option_named, flag_named, command_with, no_command, command_line, given_in, command_named, command_in};
 ghost use Rattle.ext_words.specs.declared.command.WordsFault as WordsFault;
-ghost use Rattle.ext_words.specs.Words.{texts_of, built_by, command_of, IsWithinLimits};
+ghost use Rattle.ext_words.specs.Words.{texts_of, text_given, is_given, number_given, workers_of, common_of, class_given, products_of, massey_of, built_by, build_of, seed_of, sample_of, product_given, command_of, IsWithinLimits};
 
 use crate::command::{Build, Command, Common, MAX_WORKERS, WordsFault};
 use crate::numbers::{class_of, number_up_to, positive_up_to, product_of, seed_of, shift_of};
@@ -19,93 +17,50 @@ use sq_calc::Mono;
 use square::{MAX_S, MAX_T, Range};
 use std::alloc::{AllocError, Global};
 
-/// The command with one more option, which has a value. No option and no word is marked as required: where one is missing, what
-/// reads it finds none.
-fn with_option<'a>(
-    alloc: Global,
-    command: clap::Command<'a>,
-    name: &'a str,
-) -> Result<clap::Command<'a>, AllocError>
-    ensures app { IfOk result (λ made. app_of made ≡ with_rule (app_of command.entry) (option_named name.now)) }
-    ensures local { (out-Command command.entry).has_globals ≡ false →
-        IfOk result (λ made. (out-Command made).has_globals ≡ false) }
+/// An option that has a value. No option and no word is marked as required: where one is missing, what reads it finds
+/// none.
+fn option_named<'a>(alloc: Global, name: &'a str) -> Arg<'a>
+    ensures rule { rule_of result ≡ option_named name.now }
+    ensures local { result.global ≡ false }
 {
-    command.arg(Arg::new(alloc, name).long(name))
+    Arg::new(alloc, name).long(name)
 }
 
-/// The command with the options that all commands have that resolve a module. For `clap`, `--save` is an option with 0
-/// values, and not a flag that is set: it leaves no match where it is not given, and its matches are those of its uses.
-fn with_options<'a>(
-    alloc: Global,
-    command: clap::Command<'a>,
-) -> Result<clap::Command<'a>, AllocError>
-    ensures app { IfOk result (λ made. app_of made ≡ with_options (app_of command.entry)) }
-    ensures local { (out-Command command.entry).has_globals ≡ false →
-        IfOk result (λ made. (out-Command made).has_globals ≡ false) }
+/// An option that has no value. For `clap` it is an option with 0 values, and not a flag that is set: it leaves no match
+/// where it is not given, and its matches are those of its uses.
+fn flag_named<'a>(alloc: Global, name: &'a str) -> Arg<'a>
+    ensures rule { rule_of result ≡ flag_named name.now }
+    ensures local { result.global ≡ false }
 {
-    let save = Arg::new(alloc, "save")
-        .long("save")
+    Arg::new(alloc, name)
+        .long(name)
         .action(ArgAction::Set)
-        .num_args(0);
-    with_option(alloc, command, "workers")?.arg(save)
+        .num_args(0)
 }
 
-/// A command with the words S and T, and with the options.
-fn range_command<'a>(alloc: Global, name: &'a str) -> Result<clap::Command<'a>, AllocError>
-    ensures app { IfOk result (λ command. app_of command ≡ range_command name.now) }
-    ensures local { IfOk result (λ command. (out-Command command).has_globals ≡ false) }
+/// A command with these words, options and flags.
+fn command_with<'a>(
+    alloc: Global,
+    name: &'a str,
+    words: &[&'a str],
+    options: &[&'a str],
+    flags: &[&'a str],
+) -> Result<clap::Command<'a>, AllocError>
+    ensures app { IfOk result (λ made. app_of made ≡ command_with name.now (texts_of words.now)
+        (record { valued = texts_of options.now; flags = texts_of flags.now })) }
+    ensures local { IfOk result (λ made. (out-Command made).has_globals ≡ false) }
 {
-    let command = clap::Command::new(alloc, name)
-        .arg(Arg::new(alloc, "S"))?
-        .arg(Arg::new(alloc, "T"))?;
-    with_options(alloc, command)
-}
-
-/// The command with the words S and T, the options and a class.
-fn products_command<'a>(alloc: Global) -> Result<clap::Command<'a>, AllocError>
-    ensures app { IfOk result (λ command. app_of command ≡ products_command) }
-    ensures local { IfOk result (λ command. (out-Command command).has_globals ≡ false) }
-{
-    with_option(alloc, range_command(alloc, "products")?, "by")
-}
-
-/// The command with the words S and T, the options and three classes.
-fn massey_command<'a>(alloc: Global) -> Result<clap::Command<'a>, AllocError>
-    ensures app { IfOk result (λ command. app_of command ≡ massey_command) }
-    ensures local { IfOk result (λ command. (out-Command command).has_globals ≡ false) }
-{
-    let command = with_option(alloc, range_command(alloc, "massey")?, "a")?;
-    let command = with_option(alloc, command, "b")?;
-    with_option(alloc, command, "c")
-}
-
-/// The command with the word OP and a number of degrees.
-fn build_command<'a>(alloc: Global) -> Result<clap::Command<'a>, AllocError>
-    ensures app { IfOk result (λ command. app_of command ≡ build_command) }
-    ensures local { IfOk result (λ command. (out-Command command).has_globals ≡ false) }
-{
-    let command = clap::Command::new(alloc, "build").arg(Arg::new(alloc, "OP"))?;
-    with_option(alloc, command, "degrees")
-}
-
-/// The command with the words N, S and T, and with the options.
-fn sample_command<'a>(alloc: Global) -> Result<clap::Command<'a>, AllocError>
-    ensures app { IfOk result (λ command. app_of command ≡ sample_command) }
-    ensures local { IfOk result (λ command. (out-Command command).has_globals ≡ false) }
-{
-    let command = clap::Command::new(alloc, "sample")
-        .arg(Arg::new(alloc, "N"))?
-        .arg(Arg::new(alloc, "S"))?
-        .arg(Arg::new(alloc, "T"))?;
-    with_options(alloc, command)
-}
-
-/// The command with the word W, and without options.
-fn sq_command<'a>(alloc: Global) -> Result<clap::Command<'a>, AllocError>
-    ensures app { IfOk result (λ command. app_of command ≡ sq_command) }
-    ensures local { IfOk result (λ command. (out-Command command).has_globals ≡ false) }
-{
-    clap::Command::new(alloc, "sq").arg(Arg::new(alloc, "W"))
+    let mut command = clap::Command::new(alloc, name);
+    for word in words {
+        command = command.arg(Arg::new(alloc, word))?;
+    }
+    for option in options {
+        command = command.arg(option_named(alloc, option))?;
+    }
+    for flag in flags {
+        command = command.arg(flag_named(alloc, flag))?;
+    }
+    Ok(command)
 }
 
 /// The command line without commands, and without `clap`'s help.
@@ -119,27 +74,32 @@ fn no_command<'a>(alloc: Global) -> clap::Command<'a>
         .subcommand_required(true)
 }
 
-/// The commands that resolve a module on standard input, or the sphere.
-fn module_commands<'a>(alloc: Global) -> Result<clap::Command<'a>, AllocError>
-    ensures { IfOk result (λ command. app_of command ≡ module_commands) }
+/// All commands: the name of each, its words, its options and its flags.
+fn command_line<'a>(alloc: Global) -> Result<clap::Command<'a>, AllocError>
+    ensures { IfOk result (λ line. app_of line ≡ command_line) }
 {
     no_command(alloc)
-        .subcommand(range_command(alloc, "sphere")?)?
-        .subcommand(range_command(alloc, "resolve")?)?
-        .subcommand(range_command(alloc, "dump")?)?
-        .subcommand(products_command(alloc)?)?
-        .subcommand(massey_command(alloc)?)
-}
-
-/// All commands.
-fn command_line<'a>(alloc: Global) -> Result<clap::Command<'a>, AllocError>
-    ensures { IfOk result (λ command. app_of command ≡ command_line) }
-{
-    module_commands(alloc)?
-        .subcommand(clap::Command::new(alloc, "check"))?
-        .subcommand(build_command(alloc)?)?
-        .subcommand(sample_command(alloc)?)?
-        .subcommand(sq_command(alloc)?)
+        .subcommand(command_with(alloc, "sphere", &["S", "T"], &["workers"], &["save"])?)?
+        .subcommand(command_with(alloc, "resolve", &["S", "T"], &["workers"], &["save"])?)?
+        .subcommand(command_with(alloc, "dump", &["S", "T"], &["workers"], &["save"])?)?
+        .subcommand(command_with(
+            alloc,
+            "products",
+            &["S", "T"],
+            &["workers", "by"],
+            &["save"],
+        )?)?
+        .subcommand(command_with(
+            alloc,
+            "massey",
+            &["S", "T"],
+            &["workers", "a", "b", "c"],
+            &["save"],
+        )?)?
+        .subcommand(command_with(alloc, "check", &[], &[], &[])?)?
+        .subcommand(command_with(alloc, "build", &["OP"], &["degrees"], &[])?)?
+        .subcommand(command_with(alloc, "sample", &["N", "S", "T"], &["workers"], &["save"])?)?
+        .subcommand(command_with(alloc, "sq", &["W"], &[], &[])?)
 }
 
 /// The matches of the words, none where `clap` refuses them.
@@ -158,21 +118,21 @@ fn matches_of<'a>(alloc: Global, words: &'a [&'a str]) -> Result<Option<ArgMatch
 
 /// The word, or the value of the option, that a command's matches have of this name.
 fn word_in<'m>(matches: &'m ArgMatches, id: &str) -> Option<&'m str>
-    ensures { option_map (λ word. word.now) result ≡ first_of id.now (rows_of (found_of matches.now)) }
+    ensures { option_map (λ word. word.now) result ≡ text_given id.now (given_in matches.now) }
 {
     matches.get_str(id)
 }
 
 /// The number of a command's word, at most `limit`.
 fn number_in(matches: &ArgMatches, id: &str, limit: u16) -> Option<u16>
-    ensures { result ≡ number_in (rows_of (found_of matches.now)) id.now limit }
+    ensures { result ≡ number_given id.now limit (given_in matches.now) }
 {
     number_up_to(limit, word_in(matches, id)?)
 }
 
 /// The number of workers of a command's matches, 1 where the option is not given.
 fn workers_in(matches: &ArgMatches) -> Option<u32>
-    ensures { result ≡ workers_in (rows_of (found_of matches.now)) }
+    ensures { result ≡ workers_of (text_given (codes "workers") (given_in matches.now)) }
 {
     match word_in(matches, "workers") {
         Some(word) => Some(u32::from(positive_up_to(MAX_WORKERS, word)?)),
@@ -182,14 +142,14 @@ fn workers_in(matches: &ArgMatches) -> Option<u32>
 
 /// Whether a command's matches have the option `--save`.
 fn saves_in(matches: &ArgMatches) -> bool
-    ensures { result ≡ saves_in (rows_of (found_of matches.now)) }
+    ensures { result ≡ is_given (codes "save") (given_in matches.now) }
 {
     matches.contains_id("save")
 }
 
 /// The numbers S and T of a command's matches, and its options.
 fn common_in(matches: &ArgMatches) -> Option<Common>
-    ensures { result ≡ common_in (rows_of (found_of matches.now)) }
+    ensures { result ≡ common_of (given_in matches.now) }
 {
     let s = number_in(matches, "S", MAX_S)?;
     let t = number_in(matches, "T", MAX_T)?;
@@ -203,7 +163,7 @@ fn common_in(matches: &ArgMatches) -> Option<Common>
 
 /// The class that an option of a command's matches has.
 fn class_in(alloc: Global, matches: &ArgMatches, name: &str) -> Result<Option<Class>, Memory>
-    ensures { IfOk result (λ class. class ≡ class_in (rows_of (found_of matches.now)) name.now) }
+    ensures { IfOk result (λ class. class ≡ class_given name.now (given_in matches.now)) }
 {
     match word_in(matches, name) {
         Some(word) => class_of(alloc, word),
@@ -213,7 +173,7 @@ fn class_in(alloc: Global, matches: &ArgMatches, name: &str) -> Result<Option<Cl
 
 /// The command of products that a command's matches ask for.
 fn products_in(alloc: Global, matches: &ArgMatches) -> Result<Option<Command>, Memory>
-    ensures { IfOk result (λ command. command ≡ products_in (rows_of (found_of matches.now))) }
+    ensures { IfOk result (λ command. command ≡ products_of (given_in matches.now)) }
 {
     let Some(common) = common_in(matches) else {
         return Ok(None);
@@ -224,7 +184,7 @@ fn products_in(alloc: Global, matches: &ArgMatches) -> Result<Option<Command>, M
 
 /// The command of a bracket that a command's matches ask for.
 fn massey_in(alloc: Global, matches: &ArgMatches) -> Result<Option<Command>, Memory>
-    ensures { IfOk result (λ command. command ≡ massey_in (rows_of (found_of matches.now))) }
+    ensures { IfOk result (λ command. command ≡ massey_of (given_in matches.now)) }
 {
     let Some(common) = common_in(matches) else {
         return Ok(None);
@@ -257,28 +217,28 @@ fn built_by(word: &str, degrees: Option<&str>) -> Option<Build>
 
 /// What is built by the word OP of a command's matches.
 fn build_in(matches: &ArgMatches) -> Option<Build>
-    ensures { result ≡ build_in (rows_of (found_of matches.now)) }
+    ensures { result ≡ build_of (given_in matches.now) }
 {
     built_by(word_in(matches, "OP")?, word_in(matches, "degrees"))
 }
 
 /// The number N of a command's matches.
 fn seed_in(matches: &ArgMatches) -> Option<u32>
-    ensures { result ≡ seed_in (rows_of (found_of matches.now)) }
+    ensures { result ≡ option_and_then seed_of (text_given (codes "N") (given_in matches.now)) }
 {
     seed_of(word_in(matches, "N")?)
 }
 
 /// The sample that a command's matches ask for.
 fn sample_in(matches: &ArgMatches) -> Option<Command>
-    ensures { result ≡ sample_in (rows_of (found_of matches.now)) }
+    ensures { result ≡ sample_of (given_in matches.now) }
 {
     Some(Command::Sample(seed_in(matches)?, common_in(matches)?))
 }
 
 /// The product W of a command's matches.
 fn product_in(alloc: Global, matches: &ArgMatches) -> Result<Option<Mono>, Memory>
-    ensures { IfOk result (λ product. product ≡ product_in (rows_of (found_of matches.now))) }
+    ensures { IfOk result (λ product. product ≡ product_given (given_in matches.now)) }
 {
     match word_in(matches, "W") {
         Some(word) => product_of(alloc, word),

@@ -1,17 +1,23 @@
-use Rattle.std.proofs.Common.{ap, ap₂, codes, ◌≡◌, ◌∙◌}
+use Rattle.std.proofs.Common.{◌≡◌, ◌∙◌, ap₂, false}
 use Rattle.std.proofs.lemmas.Result.{IfOk-weaker}
-use Rattle.clap.specs.Simple.{App, shape_of, new_app, with_subcommand}
-use Rattle.ext_words.specs.Inside.CommandLine.{build_command, sample_command, sq_command}
+use Rattle.clap.specs.Words.{AddsSubcommand}
+use Rattle.clap.specs.Simple.{App, app_of, with_subcommand}
+use Rattle.clap.specs.declared.builder.command.Command.{Command}
+use Rattle.clap.specs.declared.builder.command.Command.TheViews.{out-Command}
 use Rattle.ext_words.proofs.words.command_line.Goals as goal
+
+-- one more command
+more : (old sub new : Command) (line app : App) → app_of old ≡ line → app_of sub ≡ app → (out-Command sub).has_globals ≡ false → AddsSubcommand old sub new → app_of new ≡ with_subcommand line app.top
+more old sub new line app is made local added = added.shape local ∙ ap₂ (λ (a b : App). with_subcommand a b.top) is made
 
 pub returns : goal.returns
 returns c =
-    let top = λ (a : App). a.top in
-    let check : shape_of c.new.result ≡ (new_app (codes "check")).top = ap top c.new.ensures.app in
-    let build : shape_of c.in_ok-build_command.field-0 ≡ build_command.top = ap top c.in_ok-build_command.ensures.app in
-    let sample : shape_of c.in_ok-sample_command.field-0 ≡ sample_command.top = ap top c.in_ok-sample_command.ensures.app in
-    let sq : shape_of c.in_ok-sq_command.field-0 ≡ sq_command.top = ap top c.in_ok-sq_command.ensures.app in
-    let first = c.in_ok-subcommand.ensures.shape c.new.ensures.local ∙ ap₂ with_subcommand c.in_ok-module_commands.ensures check in
-    let second = c.in_ok-subcommand-2.ensures.shape c.in_ok-build_command.ensures.local ∙ ap₂ with_subcommand first build in
-    let third = c.in_ok-subcommand-3.ensures.shape c.in_ok-sample_command.ensures.local ∙ ap₂ with_subcommand second sample in
-    IfOk-weaker c.subcommand-4.result _ _ (λ command added. added.shape c.in_ok-sq_command.ensures.local ∙ ap₂ with_subcommand third sq) c.subcommand-4.ensures
+    let sphere = more _ _ _ _ _ c.no_command.ensures c.in_ok-command_with.ensures.app c.in_ok-command_with.ensures.local c.in_ok-subcommand.ensures in
+    let resolve = more _ _ _ _ _ sphere c.in_ok-command_with-2.ensures.app c.in_ok-command_with-2.ensures.local c.in_ok-subcommand-2.ensures in
+    let dump = more _ _ _ _ _ resolve c.in_ok-command_with-3.ensures.app c.in_ok-command_with-3.ensures.local c.in_ok-subcommand-3.ensures in
+    let products = more _ _ _ _ _ dump c.in_ok-command_with-4.ensures.app c.in_ok-command_with-4.ensures.local c.in_ok-subcommand-4.ensures in
+    let massey = more _ _ _ _ _ products c.in_ok-command_with-5.ensures.app c.in_ok-command_with-5.ensures.local c.in_ok-subcommand-5.ensures in
+    let check = more _ _ _ _ _ massey c.in_ok-command_with-6.ensures.app c.in_ok-command_with-6.ensures.local c.in_ok-subcommand-6.ensures in
+    let build = more _ _ _ _ _ check c.in_ok-command_with-7.ensures.app c.in_ok-command_with-7.ensures.local c.in_ok-subcommand-7.ensures in
+    let sample = more _ _ _ _ _ build c.in_ok-command_with-8.ensures.app c.in_ok-command_with-8.ensures.local c.in_ok-subcommand-8.ensures in
+    IfOk-weaker c.subcommand-9.result _ _ (λ line added. more _ _ _ _ _ sample c.in_ok-command_with-9.ensures.app c.in_ok-command_with-9.ensures.local added) c.subcommand-9.ensures

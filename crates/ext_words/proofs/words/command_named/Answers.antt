@@ -4,5 +4,4 @@ use Rattle.ext_words.proofs.CommandNames.{other-name}
 use Rattle.ext_words.proofs.words.command_named.Goals as goal
 
 pub returns-in_default : goal.returns-in_default
-returns-in_default c =
-    sym (other-name c.args.name.now (rows_of (found_of c.args.matches.now)) c.in_default.not-sphere c.in_default.not-resolve c.in_default.not-dump c.in_default.not-products c.in_default.not-massey c.in_default.not-check c.in_default.not-build c.in_default.not-sample c.in_default.not-sq)
+returns-in_default c = sym (other-name c.args.name.now (rows_of (found_of c.args.matches.now)) (assumption c.in_default))

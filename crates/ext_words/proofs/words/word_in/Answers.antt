@@ -1,7 +1,8 @@
 use Rattle.std.proofs.Common.{◌∙◌}
-use Rattle.clap.specs.Words.{found_of}
+use Rattle.clap.specs.Words.{found_of, rows_of}
 use Rattle.clap.proofs.WalkLemmas.{first_value-rows}
+use Rattle.ext_words.proofs.ClapUses.{text-given}
 use Rattle.ext_words.proofs.words.word_in.Goals as goal
 
 pub returns : goal.returns
-returns c = c.get_str.ensures ∙ first_value-rows (found_of c.args.matches.now) c.args.id.now
+returns c = c.get_str.ensures ∙ (first_value-rows (found_of c.args.matches.now) c.args.id.now ∙ text-given c.args.id.now (rows_of (found_of c.args.matches.now)))
