@@ -1,7 +1,8 @@
 -- The command of matches, by the name that they have.
-use Rattle.std.proofs.Common.{◌≡◌, refl, List, [], ◌∷◌, Bool, true, false, Option, Some, None, ap, ap₂, sym, ◌∙◌}
+use Rattle.std.proofs.Common.{◌≡◌, refl, List, [], ◌∷◌, Option, Some, None, ap, ap₂, sym, ◌∙◌}
 use Rattle.std.specs.Prelude.{find, option_and_then, option_map, ◌≢◌}
 use Rattle.std.specs.Str.{bytes_eq}
+use Rattle.std.proofs.lemmas.Bool.{false_from_ne_true}
 use Rattle.std.proofs.lemmas.Slice.Eq.{bytes_eq-Decides}
 use Rattle.clap.specs.Walk.{Row, Text}
 use Rattle.clap.specs.Words.{subcommand_name_of, subcommand_rows_of}
@@ -35,13 +36,9 @@ abbrev pub IsOther : Text → List Grammar → Type 0
 IsOther name [] = Unit {0}
 IsOther name (g ∷ list) = (name ≢ g.name) × IsOther name list
 
-differs : (a b : Text) (same : Bool) → bytes_eq a b ≡ same → (b ≢ a) → bytes_eq a b ≡ false
-differs a b true e distinct = absurd (distinct (sym ((bytes_eq-Decides a b).0 e)))
-differs a b false e distinct = e
-
 none-named : (name : Text) (list : List Grammar) → IsOther name list → find (λ g. bytes_eq g.name name) list ≡ None
 none-named name [] other = refl
-none-named name (g ∷ list) other = rw (differs g.name name (bytes_eq g.name name) refl other.0) (none-named name list other.1)
+none-named name (g ∷ list) other = rw (false_from_ne_true (bytes_eq g.name name) (λ e. other.0 (sym ((bytes_eq-Decides g.name name).0 e)))) (none-named name list other.1)
 
 pub other-name : (name : Text) (rows : List Row) → IsOther name commands → command_named name rows ≡ None
 other-name name rows other = ap (option_and_then (λ g. g.make (given_by rows))) (none-named name commands other)

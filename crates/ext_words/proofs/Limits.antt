@@ -2,14 +2,13 @@
 use Rattle.std.proofs.Common.{◌≡◌, ℕ, ◌+◌, ◌-◌, ◌*◌, ◌≤◌, refl, arith, List, [], ◌∷◌, Bool, true, false, Option, Some, None}
 use Rattle.std.proofs.Math.Nat.{le_refl, le_trans}
 use Rattle.std.specs.Prelude.{codes, ℤ, pos, neg_ℤ, ◌≤ℤ◌, int_le, option_map, option_and_then, ◌&&◌, ◌==◌, nat_le, length, cond, find, if◌then◌else◌, IfSome, IfOk}
-use Rattle.std.specs.List.{All, list_all, sum}
+use Rattle.std.specs.List.{All, fold, list_all, sum}
 use Rattle.std.specs.Char.{is_ascii_digit}
 use Rattle.std.specs.Option.{ok_or}
 use Rattle.std.specs.Str.{bytes_eq}
 use Rattle.std.proofs.lemmas.Bool.{leb-true, eqb-false, and_parts}
 use Rattle.std.proofs.lemmas.Int.{ints}
 use Rattle.std.proofs.lemmas.List.Elements.{All-nil, All-cons}
-use Rattle.square.specs.declared.range.Range.{Range}
 use Rattle.square.specs.declared.range.TheConstants.{MAX_S, MAX_T}
 use Rattle.ext_words.specs.declared.command.WordsFault.{WordsFault}
 use Rattle.ext_words.specs.declared.command.Build.{Build}
@@ -17,7 +16,7 @@ use Rattle.ext_words.specs.declared.command.Build.TheVariants as build
 use Rattle.ext_words.specs.declared.command.Common.{Common}
 use Rattle.ext_words.specs.declared.command.Command.{Command}
 use Rattle.ext_words.specs.declared.command.Command.TheVariants.{Sphere, Resolve, Dump, Build as Built, Sq}
-use Rattle.ext_words.specs.Words.{Argument, Grammar, Part, parts_of, plain_words, fits, arguments_of, each_once, text_given, is_given, number_given, class_given, are_digits, number_of, signed_number_of, number_up_to, decimal_value, range_from, workers_of, common_from, common_of, between_commas, class_from, class_of, products_of, massey_of, shift_of, built_by, build_of, sample_from, seed_of, positive_up_to, positive_numbers, within_degree, product_of, product_given, commands, read_by, grammar_of, command_of, IsWithin, IsShort, IsWithinShift, IsWithinLimits}
+use Rattle.ext_words.specs.Words.{Argument, Grammar, Part, parts_of, plain_words, fits, arguments_of, each_once, text_given, number_given, class_given, are_digits, number_of, signed_number_of, number_up_to, decimal_value, workers_of, common_of, between_commas, class_from, class_of, products_of, massey_of, shift_of, built_by, build_of, sample_of, seed_of, positive_up_to, positive_numbers, within_degree, product_of, product_given, commands, read_by, grammar_of, command_of, IsWithin, IsShort, IsWithinShift, IsWithinLimits}
 use Rattle.ext_words.specs.declared.command.TheConstants.{MAX_WORKERS, MAX_SQUARES, MAX_SQUARES_DEGREE, MAX_SHIFT}
 
 -- ---- numbers
@@ -43,40 +42,26 @@ digit c rest e =
     let high : c ≤ 57 = leb-true c 57 (and_parts (nat_le 48 c) (nat_le c 57) parts.0).1 in
     (omega (arith, high), parts.1)
 
--- at most five digits
-short-value : (word : List ℕ) → length word ≤ 5 → list_all is_ascii_digit word ≡ true → decimal_value word ≤ 99999
-short-value [] few all = omega arith
-short-value (a ∷ []) few all =
-    let x = digit a _ all in
-    le_trans (step 0 0 _ (le_refl 0) x.0) (omega arith)
-short-value (a ∷ b ∷ []) few all =
-    let x = digit a _ all in
-    let y = digit b _ x.1 in
-    le_trans (step _ 9 _ (step 0 0 _ (le_refl 0) x.0) y.0) (omega arith)
-short-value (a ∷ b ∷ c ∷ []) few all =
-    let x = digit a _ all in
-    let y = digit b _ x.1 in
-    let z = digit c _ y.1 in
-    le_trans (step _ 99 _ (step _ 9 _ (step 0 0 _ (le_refl 0) x.0) y.0) z.0) (omega arith)
-short-value (a ∷ b ∷ c ∷ d ∷ []) few all =
-    let x = digit a _ all in
-    let y = digit b _ x.1 in
-    let z = digit c _ y.1 in
-    let u = digit d _ z.1 in
-    le_trans (step _ 999 _ (step _ 99 _ (step _ 9 _ (step 0 0 _ (le_refl 0) x.0) y.0) z.0) u.0) (omega arith)
-short-value (a ∷ b ∷ c ∷ d ∷ e ∷ []) few all =
-    let x = digit a _ all in
-    let y = digit b _ x.1 in
-    let z = digit c _ y.1 in
-    let u = digit d _ z.1 in
-    let v = digit e _ u.1 in
-    step _ 9999 _ (step _ 999 _ (step _ 99 _ (step _ 9 _ (step 0 0 _ (le_refl 0) x.0) y.0) z.0) u.0) v.0
-short-value (a ∷ b ∷ c ∷ d ∷ e ∷ f ∷ rest) few all = absurd (omega (arith, few))
+-- digits are at most as many nines
+below-nines : (word : List ℕ) (n m : ℕ) → n ≤ m → list_all is_ascii_digit word ≡ true → fold (λ k c. 10 * k + (c - 48)) n word ≤ fold (λ k c. 10 * k + 9) m word
+below-nines [] n m h all = h
+below-nines (c ∷ word) n m h all =
+    let first = digit c (list_all is_ascii_digit word) all in
+    below-nines word (10 * n + (c - 48)) (10 * m + 9) (step n m (c - 48) h first.0) first.1
+
+five-nines : (word : List ℕ) → length word ≤ 5 → fold (λ k c. 10 * k + 9) 0 word ≤ 99999
+five-nines [] few = omega arith
+five-nines (a ∷ []) few = omega arith
+five-nines (a ∷ b ∷ []) few = omega arith
+five-nines (a ∷ b ∷ c ∷ []) few = omega arith
+five-nines (a ∷ b ∷ c ∷ d ∷ []) few = omega arith
+five-nines (a ∷ b ∷ c ∷ d ∷ e ∷ []) few = omega arith
+five-nines (a ∷ b ∷ c ∷ d ∷ e ∷ f ∷ rest) few = absurd (omega (arith, few))
 
 five-within : (word : List ℕ) (digits : Bool) → are_digits 5 word ≡ digits → IfSome (if digits then Some (decimal_value word) else None) (λ n. n ≤ 99999)
 five-within word true e =
     let parts = and_parts _ _ (and_parts _ _ e).1 in
-    short-value word (leb-true _ _ parts.0) parts.1
+    le_trans (below-nines word 0 0 (le_refl 0) parts.1) (five-nines word (leb-true _ _ parts.0))
 five-within word false e = tt
 
 five-digits : (word : List ℕ) → IfSome (number_of 5 word) (λ n. n ≤ 99999)
@@ -133,33 +118,16 @@ workers-within : (value : Option (List ℕ)) → IfSome (workers_of value) (λ m
 workers-within None = (omega arith, omega arith)
 workers-within (Some value) = positive-from MAX_WORKERS (number_up_to MAX_WORKERS value) (number-within MAX_WORKERS value)
 
-abbrev IsRangeWithin : Range → Type 0
-IsRangeWithin range = (range.s ≤ MAX_S) × (range.t ≤ MAX_T)
-
-range-from : (s t : Option ℕ) → IfSome s (λ n. n ≤ MAX_S) → IfSome t (λ n. n ≤ MAX_T) → IfSome (range_from s t) IsRangeWithin
-range-from None t low high = tt
-range-from (Some s) None low high = tt
-range-from (Some s) (Some t) low high = (low, high)
-
-both-within : (range : Option Range) (count : Option ℕ) (saves : Bool) → IfSome range IsRangeWithin → IfSome count (λ m. (1 ≤ m) × (m ≤ MAX_WORKERS)) → IfSome (common_from range count saves) IsWithin
-both-within None count saves h w = tt
-both-within (Some range) None saves h w = tt
-both-within (Some range) (Some count) saves h w = (h.0, h.1, w.0, w.1)
-
 given-number : (limit : ℕ) (word : Option (List ℕ)) → IfSome (option_and_then (number_up_to limit) word) (λ n. n ≤ limit)
 given-number limit None = tt
 given-number limit (Some word) = number-within limit word
 
-common-within : (given : List Argument) → IfSome (common_of given) IsWithin
-common-within given =
-    both-within (range_from (number_given (codes "S") MAX_S given) (number_given (codes "T") MAX_T given)) (workers_of (text_given (codes "workers") given)) (is_given (codes "save") given)
-    (range-from (number_given (codes "S") MAX_S given) (number_given (codes "T") MAX_T given) (given-number MAX_S (text_given (codes "S") given)) (given-number MAX_T (text_given (codes "T") given)))
-    (workers-within (text_given (codes "workers") given))
+abbrev IsAny : {X : Type 0} → X → Type 0
+IsAny x = Unit {0}
 
-class-within-given : (name : List ℕ) (given : List Argument) → IfSome (class_given name given) IsShort
-class-within-given name given = given-within (text_given name given)
-
--- ---- what is made of parts
+is_any : {X : Type 0} (o : Option X) → IfSome o IsAny
+is_any None = tt
+is_any (Some x) = tt
 
 then-within : {X Y : Type 0} (P : X → Type 0) (Q : Y → Type 0) (o : Option X) (f : X → Option Y) → IfSome o P → ((x : X) → P x → IfSome (f x) Q) → IfSome (option_and_then f o) Q
 then-within P Q None f h next = tt
@@ -168,6 +136,16 @@ then-within P Q (Some x) f h next = next x h
 made-within : {X Y : Type 0} (P : X → Type 0) (Q : Y → Type 0) (o : Option X) (f : X → Y) → IfSome o P → ((x : X) → P x → Q (f x)) → IfSome (option_map f o) Q
 made-within P Q None f h next = tt
 made-within P Q (Some x) f h next = next x h
+
+common-within : (given : List Argument) → IfSome (common_of given) IsWithin
+common-within given =
+    then-within (λ s. s ≤ MAX_S) IsWithin (number_given (codes "S") MAX_S given) _ (given-number MAX_S (text_given (codes "S") given)) (λ s low.
+    then-within (λ t. t ≤ MAX_T) IsWithin (number_given (codes "T") MAX_T given) _ (given-number MAX_T (text_given (codes "T") given)) (λ t high.
+    made-within (λ n. (1 ≤ n) × (n ≤ MAX_WORKERS)) IsWithin (workers_of (text_given (codes "workers") given)) _ (workers-within (text_given (codes "workers") given))
+    (λ n some. (low, high, some.0, some.1))))
+
+class-within-given : (name : List ℕ) (given : List Argument) → IfSome (class_given name given) IsShort
+class-within-given name given = given-within (text_given name given)
 
 products-within : (given : List Argument) → IfSome (products_of given) IsWithinLimits
 products-within given =
@@ -181,10 +159,10 @@ massey-within given =
     then-within IsShort IsWithinLimits (class_given (codes "b") given) _ (class-within-given (codes "b") given) (λ b j.
     made-within IsShort IsWithinLimits (class_given (codes "c") given) _ (class-within-given (codes "c") given) (λ c k. (h, i, j, k)))))
 
-sample-from : (n : Option ℕ) (common : Option Common) → IfSome common IsWithin → IfSome (sample_from n common) IsWithinLimits
-sample-from None common h = tt
-sample-from (Some n) None h = tt
-sample-from (Some n) (Some common) h = h
+sample-within : (given : List Argument) → IfSome (sample_of given) IsWithinLimits
+sample-within given =
+    then-within IsAny IsWithinLimits (option_and_then seed_of (text_given (codes "N") given)) _ (is_any (option_and_then seed_of (text_given (codes "N") given))) (λ n h.
+    made-within IsWithin IsWithinLimits (common_of given) _ (common-within given) (λ common k. k))
 
 int-le : (y z : ℤ) → int_le y z ≡ true → y ≤ℤ z
 int-le y z e = grind (arith, ints)
@@ -212,9 +190,9 @@ built-within : (word : List ℕ) (degrees : Option (List ℕ)) → IfSome (built
 built-within word None = operation-within (bytes_eq (codes "sum") word) (bytes_eq (codes "tensor") word) (bytes_eq (codes "dual") word)
 built-within word (Some degrees) = if-shift (bytes_eq (codes "shift") word) (option_map build.Shift (shift_of degrees)) (shift-within (signed_number_of 3 degrees))
 
-build-within : (word : Option (List ℕ)) (degrees : Option (List ℕ)) → IfSome (option_and_then (λ w. built_by w degrees) word) IsWithinShift
-build-within None degrees = tt
-build-within (Some word) degrees = built-within word degrees
+build-within : (given : List Argument) → IfSome (build_of given) IsWithinShift
+build-within given =
+    then-within IsAny IsWithinShift (text_given (codes "OP") given) _ (is_any (text_given (codes "OP") given)) (λ word h. built-within word (text_given (codes "degrees") given))
 
 every-positive : (limit : ℕ) (words : List (List ℕ)) → IfSome (positive_numbers limit words) (All (λ n. 1 ≤ n))
 every-positive limit [] = All-nil (λ n. 1 ≤ n)
@@ -245,46 +223,31 @@ product-within (Some word) =
 abbrev IsKept : Grammar → Type 0
 IsKept g = (given : List Argument) → IfSome (g.make given) IsWithinLimits
 
-abbrev AreKept : List Grammar → Type 0
-AreKept [] = Unit {0}
-AreKept (g ∷ list) = IsKept g × AreKept list
+data AreKept : List Grammar → Type 0 where
+  done : AreKept []
+  also : {g : Grammar} {list : List Grammar} → IsKept g → AreKept list → AreKept (g ∷ list)
 
 by-range : (make : Common → Command) → ((common : Common) → IsWithin common → IsWithinLimits (make common)) → (given : List Argument) → IfSome (option_map make (common_of given)) IsWithinLimits
 by-range make within given = made-within IsWithin IsWithinLimits (common_of given) make (common-within given) within
 
 are_kept : AreKept commands
-are_kept = (
-  by-range Sphere (λ common h. h),
-  (
-    by-range Resolve (λ common h. h),
-    (
-      by-range Dump (λ common h. h),
-      (
-        products-within,
-        (
-          massey-within,
-          (
-            (λ given. tt),
-            (
-              (λ given. made-within IsWithinShift IsWithinLimits (build_of given) Built (build-within (text_given (codes "OP") given) (text_given (codes "degrees") given)) (λ made h. h)),
-              (
-                (λ given. sample-from (option_and_then seed_of (text_given (codes "N") given)) (common_of given) (common-within given)),
-                ((λ given. made-within IsProduct IsWithinLimits (product_given given) Sq (product-within (text_given (codes "W") given)) (λ product h. h)), tt),
-              ),
-            ),
-          ),
-        ),
-      ),
-    ),
-  ),
-)
+are_kept =
+    also (by-range Sphere (λ common h. h))
+    (also (by-range Resolve (λ common h. h))
+    (also (by-range Dump (λ common h. h))
+    (also products-within
+    (also massey-within
+    (also (λ given. tt)
+    (also (λ given. made-within IsWithinShift IsWithinLimits (build_of given) Built (build-within given) (λ made h. h))
+    (also sample-within
+    (also (λ given. made-within IsProduct IsWithinLimits (product_given given) Sq (product-within (text_given (codes "W") given)) (λ product h. h)) done))))))))
 
 found-kept : (name : List ℕ) (list : List Grammar) → AreKept list → IfSome (find (λ g. bytes_eq g.name name) list) IsKept
 found-kept name [] kept = tt
-found-kept name (g ∷ list) kept = here (bytes_eq g.name name) (found-kept name list kept.1)
+found-kept name (g ∷ list) (also is kept) = here (bytes_eq g.name name) (found-kept name list kept)
   where
     here : (b : Bool) → IfSome (find (λ h. bytes_eq h.name name) list) IsKept → IfSome (cond b (Some g) (find (λ h. bytes_eq h.name name) list)) IsKept
-    here true rest = kept.0
+    here true rest = is
     here false rest = rest
 
 if-within : (taken : Bool) (made : Option Command) → IfSome made IsWithinLimits → IfSome (if taken then made else None) IsWithinLimits

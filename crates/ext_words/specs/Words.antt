@@ -5,7 +5,6 @@ use Rattle.std.specs.List.{All, fold, list_all, list_any, before_first, after_fi
 use Rattle.std.specs.Str.{bytes_eq}
 use Rattle.std.specs.Char.{is_ascii_digit}
 use Rattle.chain_map.specs.declared.class.Class.{Class}
-use Rattle.square.specs.declared.range.Range.{Range}
 use Rattle.square.specs.declared.range.TheConstants.{MAX_S, MAX_T}
 use Rattle.ext_words.specs.declared.command.TheConstants.{MAX_WORKERS, MAX_SQUARES, MAX_SQUARES_DEGREE, MAX_SHIFT}
 use Rattle.ext_words.specs.declared.command.Build.{Build}
@@ -207,26 +206,21 @@ number_given name limit given = option_and_then (number_up_to limit) (text_given
 abbrev pub class_given : List ℕ → List Argument → Option Class
 class_given name given = option_and_then class_of (text_given name given)
 
-abbrev pub range_from : Option ℕ → Option ℕ → Option Range
-range_from (Some s) (Some t) = Some (record { s = s; t = t })
-range_from (Some s) None = None
-range_from None t = None
-
 -- how many workers there are by the value of `--workers`: one where it has none
 abbrev pub workers_of : Option (List ℕ) → Option ℕ
 workers_of None = Some 1
 workers_of (Some value) = positive_up_to MAX_WORKERS value
 
-abbrev pub common_from : Option Range → Option ℕ → Bool → Option Common
-common_from (Some range) (Some count) saves = Some (record { range = range; workers = count; save = saves })
-common_from (Some range) None saves = None
-common_from None count saves = None
-
 -- the words S and T, within the greatest row and the greatest degree of a range, and the options of all commands that
 -- resolve a module
 abbrev pub common_of : List Argument → Option Common
-common_of given = common_from (range_from (number_given (codes "S") MAX_S given) (number_given (codes "T") MAX_T given))
-    (workers_of (text_given (codes "workers") given)) (is_given (codes "save") given)
+common_of given =
+    option_and_then (λ s.
+    option_and_then (λ t.
+    option_map (λ n. record { range = record { s = s; t = t }; workers = n; save = is_given (codes "save") given })
+    (workers_of (text_given (codes "workers") given)))
+    (number_given (codes "T") MAX_T given))
+    (number_given (codes "S") MAX_S given)
 
 -- ---- what is made of it
 
@@ -259,14 +253,10 @@ abbrev pub build_of : List Argument → Option Build
 build_of given =
     option_and_then (λ word. built_by word (text_given (codes "degrees") given)) (text_given (codes "OP") given)
 
-abbrev pub sample_from : Option ℕ → Option Common → Option Command
-sample_from (Some n) (Some common) = Some (Sample n common)
-sample_from (Some n) None = None
-sample_from None common = None
-
 -- the number N, with what all commands have that resolve a module
 abbrev pub sample_of : List Argument → Option Command
-sample_of given = sample_from (option_and_then seed_of (text_given (codes "N") given)) (common_of given)
+sample_of given = option_and_then (λ n. option_map (λ common. Sample n common) (common_of given))
+    (option_and_then seed_of (text_given (codes "N") given))
 
 -- the product W
 abbrev pub product_given : List Argument → Option (List ℕ)
