@@ -1,0 +1,5 @@
+pub mod Sums
+pub mod Coefficients
+pub mod Order
+mod Generated
+pub mod OnGenerators
