@@ -1,21 +1,11 @@
 -- The derived value of Sq(R) is made of values of elements before R.
-use Rattle.std.specs.Prelude.{nat_eq, not}
-use Rattle.std.specs.Cmp.Lexicographic.{bytes_decides, pointwise}
 use Rattle.std.specs.Int.{is_power_of_two}
-use Rattle.std.specs.List.{All}
-use Rattle.std.proofs.Common.{◌≡◌, ◌⊎◌, ℕ, zero, suc, ◌+◌, ◌-◌, ◌*◌, ◌<◌, ◌≤◌, ℤ, pos, ◌+ℤ◌, Bool, true, false, cond, List, [], ◌∷◌, length, map, get_or, refl, sym, ◌∙◌, ap, inl, inr, arith}
-use Rattle.std.proofs.lemmas.Bool.{false≢true}
-use Rattle.std.proofs.lemmas.List.Elements.{All-filter, All-from_get_or, All-get_or, filter_passes}
+use Rattle.std.proofs.Common.{◌≡◌, ℕ, zero, suc, ◌+◌, ◌-◌, ◌*◌, ◌<◌, ◌≤◌, ℤ, pos, ◌+ℤ◌, Bool, true, false, cond, List, [], ◌∷◌, length, map, get_or, refl, ◌∙◌, ap, inl, arith}
 use Rattle.f2_vec.specs.Spans.{combination}
 use Rattle.f2_vec.proofs.Combinations.{map_same, map_same_all}
 use Rattle.milnor_laws.proofs.Indecomposables.{single_trimmed}
-use Rattle.milnor_basis.specs.Exponents.{entry, degree_of, IsTrimmed}
-use Rattle.milnor_basis.specs.Basis.{basis_of}
-use Rattle.milnor_basis.specs.Product.{coefficient, product_terms}
+use Rattle.milnor_basis.specs.Exponents.{degree_of, IsTrimmed}
 use Rattle.milnor_basis.proofs.ExponentLemmas.{IsTrimmed-tail}
-use Rattle.adem_laws.specs.Adem.{square}
-use Rattle.adem_laws.proofs.Leading.{IsBelow, terms_at_most}
-use Rattle.adem_laws.proofs.Values.{at_most_behind, same_lists}
 use Rattle.module_json.specs.ModuleFile.{Generator, File, degree_at}
 use Rattle.finite_module.specs.Module.{generators_in, width, value, act_on, total}
 use Rattle.finite_module.specs.ModuleLaws.{generators_in-member}
@@ -23,41 +13,13 @@ use Rattle.finite_module.specs.DerivedAction.{listed_sum, sum_vector, twice, ade
 use Rattle.milnor_basis.specs.Front.{front}
 use Rattle.milnor_basis.proofs.Fronts.{front_of_degree, positive_front}
 use Rattle.milnor_basis.proofs.Fronts.{degree_of-front}
-use Rattle.finite_module.proofs.Widths.{degree_of-single, terms_of_degree}
-use Rattle.derived_laws.proofs.Coefficients.{power_below_is, adem_terms_within, square_positive}
-
--- S stands before R
-abbrev pub Before : List ℕ → List ℕ → Type 0
-Before s r = (degree_of s < degree_of r) ⊎ ((degree_of s ≡ degree_of r) × IsBelow (entry s) (entry r))
+use Rattle.finite_module.proofs.Widths.{degree_of-single}
+use Rattle.generator_laws.proofs.Coefficients.{power_below_is, adem_terms_within}
+use Rattle.generator_laws.proofs.Order.{Before, others_before}
 
 choice-same : {X : Type 0} → (t : Bool) (a b c : X) → (t ≡ false → b ≡ c) → cond t a b ≡ cond t a c
 choice-same true a b c h = refl
 choice-same false a b c h = h refl
-
-module _ (r : ℕ) (s : List ℕ) where
-  abbrev lead : ℕ
-  lead = front (r ∷ s)
-
-  abbrev differs : List ℕ → Bool
-  differs t = not (pointwise nat_eq t (r ∷ s))
-
-pub others_before : (r : ℕ) (s : List ℕ) → IsTrimmed (r ∷ s) → All (λ t. IsTrimmed t × Before t (r ∷ s)) (other_terms r s)
-others_before r s h =
-    All-from_get_or (λ t. IsTrimmed t × Before t (r ∷ s)) (other_terms r s) [] (λ k l. at (get_or (other_terms r s) k [])
-    (All-get_or (λ t. IsTrimmed t × (degree_of t ≡ degree_of (lead r s ∷ []) + degree_of s)) (other_terms r s) k [] l (All-filter (differs r s) (λ t. IsTrimmed t × (degree_of t ≡ degree_of (lead r s ∷ []) + degree_of s)) (product_terms (lead r s ∷ []) s) (terms_of_degree (lead r s ∷ []) s)))
-    (All-get_or (λ t. coefficient (lead r s ∷ []) s t ≡ true) (other_terms r s) k [] l (All-filter (differs r s) (λ t. coefficient (lead r s ∷ []) s t ≡ true) (product_terms (lead r s ∷ []) s) (filter_passes (coefficient (lead r s ∷ []) s) (basis_of (degree_of (lead r s ∷ []) + degree_of s)))))
-    (All-get_or (λ t. differs r s t ≡ true) (other_terms r s) k [] l (filter_passes (differs r s) (product_terms (lead r s ∷ []) s))))
-  where
-    at : (t : List ℕ) → IsTrimmed t × (degree_of t ≡ degree_of (lead r s ∷ []) + degree_of s) → coefficient (lead r s ∷ []) s t ≡ true → differs r s t ≡ true → IsTrimmed t × Before t (r ∷ s)
-    at t own counted other =
-        let degree : degree_of t ≡ degree_of (r ∷ s) = omega (arith, own.1, degree_of-single (lead r s), degree_of-front r s) in
-        let positive : 0 < lead r s = positive_front (r ∷ s) (omega arith) h in
-        let squared : coefficient (square (lead r s)) s t ≡ true = ap (λ x. coefficient x s t) (square_positive (lead r s) positive) ∙ counted in
-        elim (at_most_behind r s t degree (terms_at_most (lead r s) s t own.0 squared)) [
-          | inl same ↦ let is : t ≡ r ∷ s = same_lists t (r ∷ s) own.0 h same in
-              absurd (false≢true (sym (ap not ((bytes_decides t (r ∷ s)).1 is)) ∙ other))
-          | inr below ↦ (own.0, inr (degree, below))
-        ]
 
 module _ (f : File) (xs ys : List (List (List Bool))) where
   abbrev gs : List Generator

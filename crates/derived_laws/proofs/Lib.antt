@@ -1,5 +1,3 @@
-mod Sums
-mod Coefficients
 mod Before
 mod Steps
 pub mod UniqueDerived

@@ -2,35 +2,28 @@
 use Rattle.std.specs.Bool.{beq}
 use Rattle.std.specs.Cmp.Lexicographic.{pointwise}
 use Rattle.std.specs.Int.{is_power_of_two}
-use Rattle.std.specs.List.{range_with_len}
 use Rattle.std.specs.Option.{option_or}
-use Rattle.std.proofs.Common.{◌≡◌, ℕ, suc, ◌+◌, ◌-◌, ◌<◌, ◌≤◌, ℤ, pos, ◌+ℤ◌, Bool, true, false, ◌||◌, Option, Some, None, List, [], ◌∷◌, All, length, get_or, if◌then◌else◌, refl, sym, ◌∙◌, ap, arith}
+use Rattle.std.proofs.Common.{◌≡◌, ℕ, suc, ◌+◌, ◌<◌, ℤ, pos, ◌+ℤ◌, Bool, true, false, ◌||◌, Some, None, List, [], ◌∷◌, All, length, get_or, if◌then◌else◌, refl, sym, ◌∙◌, ap}
 use Rattle.std.proofs.lemmas.List.Elements.{All-head, All-tail}
 use Rattle.f2_vec.specs.Spans.{combination}
 use Rattle.f2_vec.proofs.Combinations.{map_same, map_same_all}
 use Rattle.milnor_laws.proofs.Indecomposables.{single_trimmed}
 use Rattle.milnor_basis.specs.Exponents.{degree_of, IsTrimmed}
-use Rattle.milnor_basis.specs.Basis.{basis_of}
 use Rattle.milnor_basis.specs.Product.{product_terms}
-use Rattle.milnor_basis.proofs.BasisLemmas.{All-basis_of}
-use Rattle.milnor_basis.proofs.Ranges.{All-range}
 use Rattle.module_json.specs.ModuleFile.{Generator, Entry, File, degree_at}
 use Rattle.module_json.specs.WellFormed.{IsEntryOf, NeverFall}
 use Rattle.finite_module.specs.Module.{generators_in, width, value, act_on, total}
 use Rattle.finite_module.specs.ModuleLaws.{generators_in-member}
-use Rattle.finite_module.specs.DerivedAction.{sum_vector, span, derived_module}
+use Rattle.finite_module.specs.DerivedAction.{sum_vector, derived_module}
 use Rattle.finite_module.specs.Axioms.{IsModule, one_by_one, by_their_product}
-use Rattle.module_check.specs.Acceptance.{first_in, is_as_derived, listed_from, relation_on, relation_of, relation_in_degrees, relation_in_degree, first_relation, refusal_of}
-use Rattle.module_check.specs.declared.fault.CheckFault.TheVariants.{Listed, Relation}
+use Rattle.module_check.specs.Acceptance.{is_as_derived, listed_from, first_relation, refusal_of}
+use Rattle.module_check.specs.declared.fault.CheckFault.TheVariants.{Listed}
 use Rattle.finite_module.proofs.Widths.{terms_of_degree}
+use Rattle.module_check.proofs.Powers.{none_fails}
 use Rattle.derived_laws.specs.Unique.{with_operators, ActsAsListed, RefusedHasNoModule}
 use Rattle.derived_laws.proofs.UniqueDerived.{derived_is_unique}
 
-pub first_in-none : {A B : Type 0} → (P : A → Type 0) (f : A → Option B) (xs : List A) → All P xs → ((x : A) → P x → f x ≡ None) → first_in f xs ≡ None
-first_in-none P f [] all h = refl
-first_in-none P f (x ∷ xs) all h = ap (λ o. option_or o (first_in f xs)) (h x (All-head P x xs all)) ∙ first_in-none P f xs (All-tail P x xs all) h
-
-pub same_bits : (v : List Bool) → pointwise beq v v ≡ true
+same_bits : (v : List Bool) → pointwise beq v v ≡ true
 same_bits [] = refl
 same_bits (true ∷ v) = same_bits v
 same_bits (false ∷ v) = same_bits v
@@ -60,22 +53,8 @@ module _ (f : File) (order : NeverFall f.generators) (operators : List (List (Li
       ∙ is.relations r s i hr hs pr ps l
       ∙ ap (total (width gs (degree_at gs i +ℤ pos (degree_of r + degree_of s)))) (map_same_all (λ t. IsTrimmed t × (degree_of t ≡ degree_of r + degree_of s)) (λ t. value gs operators t i) (λ t. value gs derived t i) (product_terms r s) (terms_of_degree r s) (λ t own. sym (same t i own.0 l)))
 
-  relation_on-none : (r s : List ℕ) (i : ℕ) → IsTrimmed r → IsTrimmed s → 0 < degree_of r → 0 < degree_of s → i < length gs → relation_on (derived_module f) r s i ≡ None
-  relation_on-none r s i hr hs pr ps l =
-      ap (λ b. if b then None else Some (Relation r s i)) (equal_bits (one_by_one (derived_module f) r s i) (by_their_product (derived_module f) r s i) (derived_relations r s i hr hs pr ps l))
-
   pub first_relation-none : first_relation (derived_module f) ≡ None
-  first_relation-none =
-      let m = derived_module f in
-      first_in-none (λ n. (2 ≤ n) × (n < 2 + (span gs - 1))) (relation_in_degree m) (range_with_len 2 (span gs - 1)) (All-range 2 (span gs - 1)) (λ n hn.
-      first_in-none (λ d. (1 ≤ d) × (d < 1 + (n - 1))) (relation_in_degrees m n) (range_with_len 1 (n - 1)) (All-range 1 (n - 1)) (λ d hd.
-      let low = hd.0 in let high = hd.1 in
-      first_in-none (λ r. IsTrimmed r × (degree_of r ≡ d)) (λ r. first_in (relation_of m r) (basis_of (n - d))) (basis_of d) (All-basis_of d) (λ r hr.
-      first_in-none (λ s. IsTrimmed s × (degree_of s ≡ n - d)) (relation_of m r) (basis_of (n - d)) (All-basis_of (n - d)) (λ s hs.
-      let dr = hr.1 in let ds = hs.1 in
-      first_in-none (λ i. (0 ≤ i) × (i < 0 + length gs)) (relation_on m r s) (range_with_len 0 (length gs)) (All-range 0 (length gs)) (λ i hi.
-      let inside = hi.1 in
-      relation_on-none r s i hr.0 hs.0 (omega arith) (omega arith) (omega arith))))))
+  first_relation-none = none_fails (derived_module f) derived_relations
 
   is_as_derived-true : (e : Entry) → IsEntryOf gs e → value gs operators (e.n ∷ []) e.generator ≡ sum_vector gs e.sum (degree_at gs e.generator +ℤ pos e.n) → is_as_derived (derived_module f) e ≡ true
   is_as_derived-true e own agrees =

@@ -1,10 +1,9 @@
 -- The operators of a module satisfy the rule by which they are derived.
 use Rattle.std.specs.Prelude.{nat_eq, not}
-use Rattle.std.specs.Cmp.Lexicographic.{bytes_decides, pointwise}
+use Rattle.std.specs.Cmp.Lexicographic.{pointwise}
 use Rattle.std.specs.Int.{is_power_of_two}
 use Rattle.std.specs.List.{filter}
 use Rattle.std.proofs.Common.{◌≡◌, ℕ, zero, suc, ◌+◌, ◌-◌, ◌*◌, ◌^◌, ◌<◌, ◌≤◌, pos, ◌+ℤ◌, Bool, true, false, cond, ◌&&◌, List, [], ◌∷◌, length, map, refl, sym, ◌∙◌, ap, arith}
-use Rattle.std.proofs.lemmas.Cmp.{nat_list_eq_equiv}
 use Rattle.f2_vec.specs.Vectors.{sum_of, plus}
 use Rattle.f2_vec.specs.Spans.{HaveWidth}
 use Rattle.f2_vec.proofs.Combinations.{HaveWidth-map_where, map_same_all, combination-filter}
@@ -14,8 +13,7 @@ use Rattle.milnor_basis.specs.Basis.{basis_of}
 use Rattle.milnor_basis.specs.Product.{coefficient, odd_by}
 use Rattle.milnor_basis.proofs.BasisLemmas.{All-basis_of}
 use Rattle.milnor_basis.proofs.ExponentLemmas.{IsTrimmed-tail}
-use Rattle.milnor_basis.specs.Front.{front as front_of, front}
-use Rattle.adem_laws.proofs.Leading.{leading_term}
+use Rattle.milnor_basis.specs.Front.{front}
 use Rattle.module_json.specs.ModuleFile.{Generator, File, degree_at}
 use Rattle.finite_module.specs.Module.{width, value, act_on, total}
 use Rattle.finite_module.specs.Axioms.{IsModule}
@@ -24,24 +22,8 @@ use Rattle.milnor_basis.proofs.Fronts.{front_of_degree, positive_front}
 use Rattle.milnor_basis.proofs.Fronts.{degree_of-front}
 use Rattle.finite_module.proofs.Widths.{degree_of-single}
 use Rattle.derived_laws.specs.Unique.{with_operators, ActsAsListed}
-use Rattle.derived_laws.proofs.Sums.{HasDegree, chosen, chosen-same, chosen-plus, chosen-total, chosen-one, filter-filter}
-use Rattle.derived_laws.proofs.Coefficients.{power_below_is, adem_terms_within, adem_coefficient, square_positive}
-
-front-same : (r : List ℕ) → front r ≡ front_of r
-front-same [] = refl
-front-same (x ∷ r) = ap (λ k. x + 2 * k) (front-same r)
-
--- Sq(R) is a term of Sq(front R) Sq(S)
-own_term : (r : ℕ) (s : List ℕ) → IsTrimmed (r ∷ s) → coefficient (front (r ∷ s) ∷ []) s (r ∷ s) ≡ true
-own_term r s h =
-    ap (λ x. coefficient x s (r ∷ s)) (sym (square_positive (front (r ∷ s)) (positive_front (r ∷ s) (omega arith) h)))
-    ∙ leading_term (front (r ∷ s)) s (r ∷ s) h (λ i. refl) (front-same (r ∷ s))
-
-one_left : (a b : Bool) → (b ≡ true → a ≡ true) → plus a (a && not b) ≡ b
-one_left true true h = refl
-one_left true false h = refl
-one_left false true h = h refl
-one_left false false h = refl
+use Rattle.generator_laws.proofs.Sums.{HasDegree, chosen, chosen-same, chosen-plus, chosen-total, chosen-one, filter-filter}
+use Rattle.generator_laws.proofs.Coefficients.{power_below_is, adem_terms_within, adem_coefficient, product_coefficient}
 
 module _ (f : File) (operators : List (List (List Bool))) (is : IsModule (with_operators f operators)) (i : ℕ) (inside : i < length f.generators) where
   abbrev gs : List Generator
@@ -103,12 +85,8 @@ module _ (f : File) (operators : List (List (List Bool))) (is : IsModule (with_o
       ap (λ v. sum_of v (total (wide n) (map own (other_terms r s)))) (product_is (u ∷ []) s n (single_trimmed u positive) tight (omega arith) rest whole)
       ∙ ap (sum_of (chosen (wide n) n own c)) others
       ∙ sym (chosen-plus (wide n) n own (HaveWidth-own n) c (λ t. c t && d t))
-      ∙ chosen-same (wide n) n own (λ t. plus (c t) (c t && d t)) (pointwise nat_eq (r ∷ s)) (λ t k.
-      one_left (c t) (pointwise nat_eq t (r ∷ s)) (λ e. ap c ((bytes_decides t (r ∷ s)).0 e) ∙ own_term r s h) ∙ turned t (r ∷ s))
+      ∙ chosen-same (wide n) n own (λ t. plus (c t) (c t && d t)) (pointwise nat_eq (r ∷ s)) (λ t k. product_coefficient r s h t)
       ∙ chosen-one (wide n) n own (HaveWidth-own n) (r ∷ s) (h, refl)
-    where
-      turned : (x y : List ℕ) → pointwise nat_eq x y ≡ pointwise nat_eq y x
-      turned x y = nat_list_eq_equiv.symm x y
 
   pub derived_value_is : ActsAsListed f operators → (r : List ℕ) → IsTrimmed r → derived_value f operators r i ≡ own r
   derived_value_is listed [] h = sym (is.identity i inside)

@@ -4,7 +4,7 @@ use Rattle.std.specs.Int.{is_power_of_two}
 use Rattle.std.specs.Bool.{beq}
 use Rattle.std.specs.Option.{option_or}
 use Rattle.std.specs.Cmp.Lexicographic.{pointwise}
-use Rattle.std.proofs.Common.{◌≡◌, ◌≢◌, ℕ, zero, suc, ◌+◌, ◌-◌, ◌<◌, ◌≤◌, ℤ, pos, ◌+ℤ◌, inl, inr, Bool, true, false, not, ◌&&◌, ◌||◌, ◌==◌, nat_eq, if◌then◌else◌, List, [], ◌∷◌, ◌++◌, length, map, get_or, Some, None, refl, ap, sym, subst, ◌∙◌, arith}
+use Rattle.std.proofs.Common.{◌≡◌, ◌≢◌, ℕ, zero, suc, ◌+◌, ◌<◌, ◌≤◌, ℤ, pos, ◌+ℤ◌, inl, inr, Bool, true, false, not, ◌&&◌, ◌||◌, ◌==◌, nat_eq, if◌then◌else◌, List, [], ◌∷◌, ◌++◌, length, map, get_or, Some, None, refl, ap, sym, subst, ◌∙◌, arith}
 use Rattle.std.proofs.Math.Bool as Booleans
 use Rattle.std.proofs.lemmas.Bool.{cases_eq, cases_lt, and_from, and_parts, eq-eqb, eqb-true, ne_eqb, false≢true}
 use Rattle.std.proofs.lemmas.Bool.Decides.{Decides-eqb}
@@ -13,26 +13,24 @@ use Rattle.std.proofs.lemmas.List.Elements.{All-cons, All-head, All-map, All-nil
 use Rattle.f2_vec.specs.Spans.{combination}
 use Rattle.f2_vec.proofs.Combinations.{map_same, map_same_all}
 use Rattle.milnor_basis.specs.Exponents.{degree_of, IsTrimmed}
-use Rattle.milnor_basis.specs.Basis.{basis_of}
 use Rattle.milnor_basis.specs.Product.{product_terms}
-use Rattle.milnor_basis.proofs.BasisLemmas.{All-basis_of}
 use Rattle.milnor_basis.proofs.Ranges.{All-range, list_all-holds}
 use Rattle.hopf_laws.proofs.Splittings.{All-flat_map}
 use Rattle.module_json.specs.ModuleFile.{Generator, Entry, degree_at}
 use Rattle.finite_module.specs.Module.{Module, generators_in, width, total}
 use Rattle.finite_module.specs.ModuleLaws.{generators_in-member}
 use Rattle.finite_module.specs.DerivedAction.{listed_sum, sum_vector, span, derived_module}
-use Rattle.module_check.specs.Acceptance.{first_in, listed_from, relation_on, relation_of, relation_in_degrees, relation_in_degree, first_relation}
+use Rattle.module_check.specs.Acceptance.{listed_from, first_relation}
 use Rattle.finite_module.specs.Axioms.{IsModule, value_of, one_by_one, by_their_product}
 use Rattle.module_json.specs.WellFormed.{NeverFall}
 use Rattle.module_json.specs.Spaces.{powers}
-use Rattle.module_check.specs.declared.fault.CheckFault.TheVariants.{Listed, Relation}
+use Rattle.module_check.specs.declared.fault.CheckFault.TheVariants.{Listed}
 use Rattle.finite_module.proofs.AboveSpan.{width_above_span}
 use Rattle.finite_module.proofs.Widths.{terms_of_degree}
 use Rattle.finite_module.proofs.Values.{both_empty}
 use Rattle.derived_laws.specs.Unique.{ActsAsListed}
 use Rattle.derived_laws.proofs.UniqueDerived.{derived_is_unique}
-use Rattle.derived_laws.proofs.Refused.{first_in-none, same_bits}
+use Rattle.module_check.proofs.Powers.{none_fails}
 use Rattle.built_laws.proofs.Values.{numbers_from-rising}
 use Rattle.file_laws.specs.Files.{entry_of, squares_of, file_of, FilesGiveBack}
 
@@ -183,21 +181,7 @@ module _ (d m : Module) (one : d.generators ≡ m.generators) (same : (r : List 
       ∙ ap (total (width gs u)) (map_same_all (λ q. IsTrimmed q × (degree_of q ≡ degree_of r + degree_of s)) (λ q. value_of d q i) (λ q. value_of m q i) (product_terms r s) (terms_of_degree r s) (λ q h. same q i h.0 l)))
 
   no_relation : first_relation d ≡ None
-  no_relation =
-      first_in-none (λ n. 2 ≤ n × (n < 2 + (span d.generators - 1))) (relation_in_degree d) (range_with_len 2 (span d.generators - 1)) (All-range 2 (span d.generators - 1)) (λ n hn.
-      let two = hn.0 in
-      first_in-none (λ e. 1 ≤ e × (e < 1 + (n - 1))) (relation_in_degrees d n) (range_with_len 1 (n - 1)) (All-range 1 (n - 1)) (λ e he.
-      let lo = he.0 in let hi = he.1 in
-      first_in-none (λ r. IsTrimmed r × (degree_of r ≡ e)) (λ r. first_in (relation_of d r) (basis_of (n - e))) (basis_of e) (All-basis_of e) (λ r hr.
-      let dr = hr.1 in
-      first_in-none (λ s. IsTrimmed s × (degree_of s ≡ n - e)) (relation_of d r) (basis_of (n - e)) (All-basis_of (n - e)) (λ s hs.
-      let ds = hs.1 in
-      first_in-none (λ i. 0 ≤ i × (i < 0 + length d.generators)) (relation_on d r s) (range_with_len 0 (length d.generators)) (All-range 0 (length d.generators)) (λ i hi'.
-      let k = hi'.1 in
-      none_where r s i (relations_too r s i hr.0 hs.0 (omega arith) (omega arith) (omega (arith, ap length one))))))))
-    where
-      none_where : (r s : List ℕ) (i : ℕ) → one_by_one d r s i ≡ by_their_product d r s i → relation_on d r s i ≡ None
-      none_where r s i e = ap (λ b. if b then None else Some (Relation r s i)) (ap (λ v. pointwise beq v (by_their_product d r s i)) e ∙ same_bits (by_their_product d r s i))
+  no_relation = none_fails d (λ r s i hr hs pr ps l. relations_too r s i hr hs pr ps (omega (arith, ap length one)))
 
   no_entry : (k : ℕ) (es : List Entry) → All (λ e. is_power_of_two e.n ≡ true) es → listed_from d k es ≡ None
   no_entry k [] h = refl

@@ -4,7 +4,7 @@ use Rattle.std.specs.Option.{option_or}
 use Rattle.std.specs.List.{range_with_len}
 use Rattle.std.proofs.Math.Seq.{drop-cons}
 use Rattle.std.proofs.lemmas.List.{take_more, take_all, take-append-drop}
-use Rattle.std.proofs.lemmas.List.Elements.{All-head, All-tail}
+use Rattle.std.proofs.lemmas.List.Elements.{All-head, All-tail, All-weaker}
 use Rattle.f2_vec.proofs.Ones.{range_more}
 use Rattle.module_check.specs.Acceptance.{first_in}
 use Rattle.milnor_basis.proofs.Ranges.{range-split}
@@ -46,6 +46,10 @@ pub first_in_nothing : {A B : Type 0} (f : A → Option B) (xs : List A) → All
 first_in_nothing f [] h = refl
 first_in_nothing f (x ∷ xs) h =
     ap (λ o. option_or o (first_in f xs)) (All-head (λ y. f y ≡ None) x xs h) ∙ first_in_nothing f xs (All-tail (λ y. f y ≡ None) x xs h)
+
+-- the same, where all elements are of a kind
+pub first_in-none : {A B : Type 0} → (P : A → Type 0) (f : A → Option B) (xs : List A) → All P xs → ((x : A) → P x → f x ≡ None) → first_in f xs ≡ None
+first_in-none P f xs all h = first_in_nothing f xs (All-weaker P (λ x. f x ≡ None) h xs all)
 
 -- the same over a range
 pub first_in_range_more : {B : Type 0} (f : ℕ → Option B) (a k j : ℕ) → a + k ≡ j → first_in f (range_with_len a k) ≡ None → f j ≡ None → first_in f (range_with_len a (k + 1)) ≡ None

@@ -4,3 +4,4 @@ mod FirstIn
 pub mod Sides
 mod Entries
 mod Accepted
+pub mod Powers

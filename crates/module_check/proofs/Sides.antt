@@ -8,7 +8,6 @@ use Rattle.std.specs.List.{range_with_len}
 use Rattle.std.proofs.lemmas.List.{take_more, take_all, map-append, length-map, ext_get_or}
 use Rattle.std.proofs.lemmas.List.Elements.{All-get_or, All-take, All-weaker, All-filter, All-from_get_or, filter-append}
 use Rattle.std.proofs.lemmas.List.FromFn.{length-range_with_len, get_or-range_with_len}
-use Rattle.std.proofs.lemmas.Int.{ints}
 use Rattle.std.proofs.lemmas.Option.{same_Some, none-some}
 use borrow.Author.Tests.{ltb-false}
 use Rattle.f2_vec.specs.Vectors.{sum_of, zeros, bit, IsZero}
@@ -29,25 +28,12 @@ use Rattle.finite_module.specs.Operators.{value_at}
 use Rattle.module_check.specs.Inside.Relations.{reaches, reaching, added}
 use Rattle.module_check.specs.declared.fault.CheckFault.TheVariants.{Relation}
 use Rattle.finite_module.proofs.Values.{total_push, both_empty}
+use Rattle.generator_laws.proofs.OnGenerators.{length-one_by_one, length-by_their_product}
 use Rattle.module_check.proofs.FirstIn.{first_in-filter, first_in_nothing}
-use Rattle.finite_module.proofs.Widths.{length-total, length-act_on, terms_of_degree}
+use Rattle.finite_module.proofs.Widths.{length-total, terms_of_degree}
 
 pub same_vectors : (v w : List Bool) → pointwise beq v w ≡ true → v ≡ w
 same_vectors v w h = (pointwise_decides booleans_Decides v w).0 h
-
--- the two sides of a relation are of one width
-pub length-one_by_one : (m : Module) (r s : List ℕ) (i n : ℕ) → HaveWidths m.generators m.operators → degree_of r + degree_of s ≡ n → length (one_by_one m r s i) ≡ width m.generators (degree_at m.generators i +ℤ pos n)
-length-one_by_one m r s i n h e =
-    let up : (degree_at m.generators i +ℤ pos (degree_of s)) +ℤ pos (degree_of r) ≡ degree_at m.generators i +ℤ pos n = omega (arith, ints) in
-    length-act_on m.generators m.operators r (degree_at m.generators i +ℤ pos (degree_of s)) (value m.generators m.operators s i) h ∙ ap (width m.generators) up
-
-pub length-by_their_product : (m : Module) (r s : List ℕ) (i n : ℕ) → HaveWidths m.generators m.operators → degree_of r + degree_of s ≡ n → length (by_their_product m r s i) ≡ width m.generators (degree_at m.generators i +ℤ pos n)
-length-by_their_product m r s i n h e =
-    let w = width m.generators (degree_at m.generators i +ℤ pos (degree_of r + degree_of s)) in
-    length-total w (map (λ t. value m.generators m.operators t i) (product_terms r s))
-    (HaveWidth-map_where (λ t. IsTrimmed t × (degree_of t ≡ degree_of r + degree_of s)) w (λ t. value m.generators m.operators t i) (product_terms r s)
-    (λ t own. h t i ∙ ap (λ k. width m.generators (degree_at m.generators i +ℤ pos k)) own.1) (terms_of_degree r s))
-    ∙ ap (λ k. width m.generators (degree_at m.generators i +ℤ pos k)) e
 
 -- ---- one term more
 
@@ -171,7 +157,7 @@ IsZero-sum_of_same v w e k =
     let same : sum_of v w ≡ zeros (length w) = ap (λ u. sum_of u w) e ∙ sum_of-self (length w) w refl in
     ap (λ u. bit u k) same ∙ bit-zeros (length w) k
 
-relation_same : (m : Module) (r s : List ℕ) (i : ℕ) → one_by_one m r s i ≡ by_their_product m r s i → relation_on m r s i ≡ None
+pub relation_same : (m : Module) (r s : List ℕ) (i : ℕ) → one_by_one m r s i ≡ by_their_product m r s i → relation_on m r s i ≡ None
 relation_same m r s i e =
     ap (λ b. if b then None else Some (Relation r s i)) ((pointwise_decides booleans_Decides (one_by_one m r s i) (by_their_product m r s i)).1 e)
 

@@ -10,6 +10,8 @@ ghost use Rattle.module_json.specs.declared.limits.TheConstants.{MAX_DEGREE};
 ghost use Rattle.finite_module.specs.Module.{width, place_of};
 ghost use Rattle.finite_module.specs.DerivedAction.{span};
 ghost use Rattle.finite_module.specs.Axioms.{one_by_one, by_their_product};
+ghost use Rattle.module_json.specs.WellFormed.{NeverFall};
+ghost use Rattle.generator_laws.specs.Powers.{HasIdentity, PowersHold, PowersHoldAt};
 ghost use Rattle.module_check.specs.Acceptance.{first_in, relation_on, relation_of, relation_in_degrees, relation_in_degree, first_relation};
 ghost use Rattle.finite_module.specs.Operators.{HaveWidths};
 ghost use Rattle.finite_module.specs.Operators.{value_at};
@@ -17,7 +19,7 @@ ghost use Rattle.module_check.specs.Inside.Relations.{reaches, reaching, added};
 
 use crate::fault::CheckFault;
 use f2_vec::BitVec;
-use finite_module::{Generators, Operators};
+use finite_module::{Generators, Operators, sq};
 use memory::Memory;
 use milnor_basis::{Exps, terms};
 use std::alloc::Global;
@@ -252,10 +254,37 @@ fn check_degree(alloc: Global, operators: &Operators, n: u16) -> Result<(), Chec
     Ok(())
 }
 
+/// Whether each product of degree `n` with Sq^k on the left is its elements one by one, k a power of two.
+fn check_powers_in(alloc: Global, operators: &Operators, n: u16) -> Result<(), CheckFault>
+    requires { n ≤ span operators.now.generators }
+    ensures { OnOk result (PowersHoldAt operators.now n) }
+{
+    let numbers = reaching(alloc, operators.generators(), n)?;
+    if numbers.is_empty() {
+        return Ok(());
+    }
+    for k in 1..n {
+        if k.is_power_of_two() {
+            check_left(alloc, operators, numbers.as_slice(), &sq(k), n - k)?;
+        }
+    }
+    Ok(())
+}
+
+/// Whether the relations with Sq^k on the left hold, k a power of two.
+fn check_powers(alloc: Global, operators: &Operators) -> Result<(), CheckFault>
+    ensures { OnOk result (PowersHold operators.now) }
+{
+    for n in 2..=operators.basis().max() {
+        check_powers_in(alloc, operators, n)?;
+    }
+    Ok(())
+}
+
 /// Whether each relation holds. The first that fails, by the degree of the product, the degree of R, R, S and the
 /// generator, is the fault. Generators that have no others as far above them are passed over: there both sides are vectors
 /// without a coordinate.
-pub(crate) fn check_relations(alloc: Global, operators: &Operators) -> Result<(), CheckFault>
+fn check_all(alloc: Global, operators: &Operators) -> Result<(), CheckFault>
     ensures holds { OnOk result (first_relation operators.now ≡ None) }
     ensures fails { IfErr result (λ e. e ≢ CheckFault.Memory → first_relation operators.now ≡ Some e) }
 {
@@ -263,4 +292,22 @@ pub(crate) fn check_relations(alloc: Global, operators: &Operators) -> Result<()
         check_degree(alloc, operators, n)?;
     }
     Ok(())
+}
+
+/// Whether each relation holds, where the first operator is the identity. The first that fails, in the order of
+/// `check_all`, is the fault. The squares Sq^k, k a power of two, generate the algebra: where each relation with one of
+/// them on the left holds, all do, and no other is looked at.
+pub(crate) fn check_relations(alloc: Global, operators: &Operators) -> Result<(), CheckFault>
+    requires order { NeverFall operators.now.generators }
+    requires identity { HasIdentity operators.now }
+    ensures holds { OnOk result (first_relation operators.now ≡ None) }
+    ensures fails { IfErr result (λ e. e ≢ CheckFault.Memory → first_relation operators.now ≡ Some e) }
+{
+    // The call makes the widths of the operators known to the proof.
+    let _ = operators.generators();
+    match check_powers(alloc, operators) {
+        Ok(()) => Ok(()),
+        Err(CheckFault::Memory) => Err(CheckFault::Memory),
+        Err(_) => check_all(alloc, operators),
+    }
 }

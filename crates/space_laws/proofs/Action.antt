@@ -28,8 +28,8 @@ use Rattle.finite_module.specs.DerivedAction.{elements}
 use Rattle.finite_module.proofs.Elements.{elements_at, length-elements, place_is, place_past}
 use Rattle.finite_module.proofs.Values.{both_empty, by_place, value_at_some, value_none, width_of}
 use Rattle.finite_module.proofs.Widths.{terms_of_degree}
-use Rattle.module_check.proofs.Sides.{length-one_by_one, length-by_their_product}
-use Rattle.derived_laws.proofs.UniqueDerived.{number, placed_at}
+use Rattle.generator_laws.proofs.OnGenerators.{length-one_by_one, length-by_their_product}
+use Rattle.generator_laws.proofs.Order.{number, placed_at}
 use Rattle.space_laws.proofs.Places.{one_cell, no_cell}
 
 module _ (min : ℤ) (count base : ℕ) where

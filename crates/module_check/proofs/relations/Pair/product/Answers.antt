@@ -2,7 +2,8 @@ use Rattle.std.proofs.Common.{◌≡◌, ◌+◌, length, refl, map, Some, ap, s
 use Rattle.milnor_basis.specs.Exponents.{degree_of}
 use Rattle.milnor_basis.specs.Product.{product_terms}
 use Rattle.finite_module.specs.Module.{place_of}
-use Rattle.module_check.proofs.Sides.{term_width, sum_more, sum_all, length-by_their_product}
+use Rattle.generator_laws.proofs.OnGenerators.{length-by_their_product}
+use Rattle.module_check.proofs.Sides.{term_width, sum_more, sum_all}
 use Rattle.module_check.proofs.relations.Pair.product.Goals as goal
 
 pub add_at-requires : goal.add_at-requires
