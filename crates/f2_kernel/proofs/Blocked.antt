@@ -1,20 +1,21 @@
 -- Rows cleared by blocks, the last one first: a block clears the rows before it by its sums.
 use Rattle.std.proofs.Common.{◌≡◌, inl, inr, ℕ, suc, ◌+◌, ◌-◌, ◌*◌, ◌^◌, ◌<◌, ◌≤◌, Bool, true, false, cond, List, [], ◌∷◌, ◌++◌, length, map, take, drop, refl, ap, sym, subst, ◌∙◌, arith}
 use Rattle.std.proofs.lemmas.Bool.{both_ways}
-use Rattle.std.proofs.lemmas.List.{get_or-map, get_or_append_left, get_or-append_right, length-append, length-map, length-take-le, length-drop, append_assoc, append-nil, nil_from_length, take_all, map-id, map-append, take-map, drop-map, take-append-drop, take_more, take_at, drop_at, take-append-le, drop-append-le}
+use Rattle.std.specs.Int.{div_ceil}
+use Rattle.std.proofs.lemmas.List.{get_or_past, get_or-map, get_or_append_left, get_or-append_right, length-append, length-map, length-take-le, length-drop, append_assoc, append-nil, nil_from_length, take_all, map-id, map-append, take-map, drop-map, take-append-drop, take_more, take_at, drop_at, take-append-le, drop-append-le}
 use Rattle.std.proofs.Math.Nat.{pow-suc}
 use Rattle.std.proofs.Math.Pow.{pow_mono}
-use Rattle.f2_vec.specs.Vectors.{plus, sum_of, zeros, bit, IsFirstOne}
+use Rattle.f2_vec.specs.Vectors.{plus, sum_of, zeros, bit, IsFirstOne, IsWithinWords}
 use Rattle.f2_vec.specs.Spans.{row, HaveWidth, combination, IsInSpan, HaveSameSpan}
 use Rattle.f2_vec.proofs.Sums.{bit-sum_of, length-sum_of, length-zeros, plus-self, sum_of-comm, sum_of-assoc, sum_of-cancel, sum_of-zeros_right, zeros_from_bits}
-use Rattle.f2_vec.proofs.Spans.{HaveWidth-head, HaveWidth-tail, HaveWidth-cons, HaveWidth-append, length-combination, sum-IsInSpan, bit-combination_alone}
+use Rattle.f2_vec.proofs.Spans.{HaveWidth-head, HaveWidth-tail, HaveWidth-cons, HaveWidth-append, length-combination, combination-append, sum-IsInSpan, bit-combination_alone}
 use Rattle.f2_vec.proofs.Combinations.{HaveWidth-take, map-map, map_same}
 use Rattle.f2_matrix.specs.Echelon.{IsEchelonForm, IsReduced}
 use Rattle.f2_matrix.specs.Preimages.{pivot_of, at_pivots}
 use Rattle.f2_matrix.proofs.Unique.{zero_or_first}
 use Rattle.f2_matrix.proofs.Pivots.{pivot_first, length-at_pivots, bit-at_pivots}
 use Rattle.f2_kernel.specs.Inside.Upward.{clear_one, cleared_by, upward, AreCleared, IsBlockCleared}
-use Rattle.f2_kernel.specs.Inside.Sums.{sums, number, with_sum}
+use Rattle.f2_kernel.specs.Inside.Sums.{sums, number, sum_at, with_sums}
 use Rattle.f2_kernel.proofs.Cleared.{zero_or_pivot, bit_at_zero, length-cleared_by, cleared_by-clears, cleared_by-added, span_first, HaveWidth-upward}
 use Rattle.f2_vec.proofs.Spans.{HaveWidth-drop}
 
@@ -193,15 +194,79 @@ with_sum-clears n rows v w h lv j l =
           bit-sum_of v s p (lv ∙ sym ls) ∙ ap (plus (bit v p)) at ∙ plus-self (bit v p)
     ]
 
-pub with_sum-is : (n : ℕ) (block form : List (List Bool)) (v : List Bool) → AreCleared n block → IsEchelonForm n block form → length v ≡ n → with_sum n form v ≡ cleared_by block v
-with_sum-is n block form v h g lv =
-    let c = at_pivots form v in
-    let s = combination n c form in
-    let ls : length s ≡ n = length-combination n c form g.widths in
-    let e : with_sum n form v ≡ sum_of v s = ap (sum_of v) (sums_at n c form (length-at_pivots form v)) in
-    let added : IsInSpan n form (sum_of v (sum_of v s)) = record { coefficients = c; one_each = length-at_pivots form v; sum = sym (sum_of-cancel n v s lv ls) } in
-    e ∙ sym (cleared_unique n block form v (cleared_by block v) (sum_of v s) h (AreCleared-IsReduced n form g.widths g.reduced) g.same_span lv (length-cleared_by n block v h.widths lv) (length-sum_of v s (lv ∙ sym ls) ∙ lv)
+-- the sum for a vector is of the rows' length
+pub length-sum_at : (n : ℕ) (rows : List (List Bool)) (v : List Bool) → HaveWidth n rows → length (sum_at n rows v) ≡ n
+length-sum_at n rows v w = HaveWidth-sums n rows w (number (at_pivots rows v)) (sum_within n rows v)
+
+-- all words are all of a vector
+pub IsWithinWords-all : (n : ℕ) (v : List Bool) → length v ≡ n → IsWithinWords 0 (div_ceil n 64) v
+IsWithinWords-all n v e = record {
+  before = λ k l. absurd (omega arith);
+  behind = λ k l. get_or_past v k false (omega (arith, e));
+}
+
+pub sum_at-combination : (n : ℕ) (rows : List (List Bool)) (v : List Bool) → sum_at n rows v ≡ combination n (at_pivots rows v) rows
+sum_at-combination n rows v = sums_at n (at_pivots rows v) rows (length-at_pivots rows v)
+
+-- a combination of two lists of rows
+two : (n : ℕ) (a b : List (List Bool)) (v : List Bool) → HaveWidth n a → HaveWidth n b → combination n (at_pivots (a ++ b) v) (a ++ b) ≡ sum_of (combination n (at_pivots a v) a) (combination n (at_pivots b v) b)
+two n a b v wa wb =
+    ap (λ z. combination n z (a ++ b)) (map-append (λ r. bit v (pivot_of r)) a b)
+    ∙ combination-append n (at_pivots a v) (at_pivots b v) a b wa wb (length-at_pivots a v)
+
+pub with_sums-combination : (n : ℕ) (a b c d : List (List Bool)) (v : List Bool) → HaveWidth n a → HaveWidth n b → HaveWidth n c → HaveWidth n d → with_sums n a b c d v ≡ sum_of v (combination n (at_pivots (a ++ (b ++ (c ++ d))) v) (a ++ (b ++ (c ++ d))))
+with_sums-combination n a b c d v wa wb wc wd =
+    let wcd = HaveWidth-append n c d wc wd in
+    let wbcd = HaveWidth-append n b (c ++ d) wb wcd in
+    let p = combination n (at_pivots a v) a in
+    let q = combination n (at_pivots b v) b in
+    let r = combination n (at_pivots c v) c in
+    let s = combination n (at_pivots d v) d in
+    let parts : with_sums n a b c d v ≡ sum_of (sum_of (sum_of (sum_of v p) q) r) s = cc (sum_at-combination n a v, sum_at-combination n b v, sum_at-combination n c v, sum_at-combination n d v) in
+    let whole : combination n (at_pivots (a ++ (b ++ (c ++ d))) v) (a ++ (b ++ (c ++ d))) ≡ sum_of p (sum_of q (sum_of r s)) =
+    two n a (b ++ (c ++ d)) v wa wbcd ∙ ap (sum_of p) (two n b (c ++ d) v wb wcd ∙ ap (sum_of q) (two n c d v wc wd)) in
+    let moved : sum_of (sum_of (sum_of (sum_of v p) q) r) s ≡ sum_of v (sum_of p (sum_of q (sum_of r s))) =
+    sum_of-assoc (sum_of (sum_of v p) q) r s ∙ sum_of-assoc (sum_of v p) q (sum_of r s) ∙ sum_of-assoc v p (sum_of q (sum_of r s)) in
+    parts ∙ moved ∙ ap (sum_of v) (sym whole)
+
+pub with_sums-is : (n : ℕ) (block form a b c d : List (List Bool)) (v : List Bool) → AreCleared n block → IsEchelonForm n block form → form ≡ a ++ (b ++ (c ++ d)) → HaveWidth n a → HaveWidth n b → HaveWidth n c → HaveWidth n d → length v ≡ n → with_sums n a b c d v ≡ cleared_by block v
+with_sums-is n block form a b c d v h g e wa wb wc wd lv =
+    let k = at_pivots form v in
+    let s = combination n k form in
+    let ls : length s ≡ n = length-combination n k form g.widths in
+    let sum : with_sums n a b c d v ≡ sum_of v s = with_sums-combination n a b c d v wa wb wc wd ∙ ap (λ z. sum_of v (combination n (at_pivots z v) z)) (sym e) in
+    let added : IsInSpan n form (sum_of v (sum_of v s)) = record { coefficients = k; one_each = length-at_pivots form v; sum = sym (sum_of-cancel n v s lv ls) } in
+    sum ∙ sym (cleared_unique n block form v (cleared_by block v) (sum_of v s) h (AreCleared-IsReduced n form g.widths g.reduced) g.same_span lv (length-cleared_by n block v h.widths lv) (length-sum_of v s (lv ∙ sym ls) ∙ lv)
     (cleared_by-added n block v h.widths lv) (cleared_by-clears n block v h lv) added (with_sum-clears n form v g.widths g.reduced lv))
 
-pub all_cleared : (n : ℕ) (block form rows new : List (List Bool)) → AreCleared n block → IsEchelonForm n block form → HaveWidth n rows → new ≡ map (with_sum n form) rows → new ≡ map (cleared_by block) rows
-all_cleared n block form rows new h g w e = e ∙ map_same [] (with_sum n form) (cleared_by block) rows (λ i l. with_sum-is n block form (row rows i) h g (w i l))
+pub all_cleared : (n : ℕ) (block form a b c d rows new : List (List Bool)) → AreCleared n block → IsEchelonForm n block form → form ≡ a ++ (b ++ (c ++ d)) → HaveWidth n a → HaveWidth n b → HaveWidth n c → HaveWidth n d → HaveWidth n rows → new ≡ map (with_sums n a b c d) rows → new ≡ map (cleared_by block) rows
+all_cleared n block form a b c d rows new h g f wa wb wc wd w e = e ∙ map_same [] (with_sums n a b c d) (cleared_by block) rows (λ i l. with_sums-is n block form a b c d (row rows i) h g f wa wb wc wd (w i l))
+
+-- the four parts of the form
+pub record ArePartsOf (n : ℕ) (form a b c d : List (List Bool)) : Type 0 where
+  pub whole : form ≡ a ++ (b ++ (c ++ d))
+  pub first : HaveWidth n a
+  pub second : HaveWidth n b
+  pub third : HaveWidth n c
+  pub fourth : HaveWidth n d
+
+pub parts_of_splits : (n : ℕ) (form a b c d x y : List (List Bool)) → HaveWidth n form → form ≡ a ++ x → x ≡ b ++ y → y ≡ c ++ d → ArePartsOf n form a b c d
+parts_of_splits n form a b c d x y w p q r =
+    let wax : HaveWidth n (a ++ x) = subst (λ (z : List (List Bool)). HaveWidth n z) p w in
+    let wx : HaveWidth n x = behind a x wax in
+    let wby : HaveWidth n (b ++ y) = subst (λ (z : List (List Bool)). HaveWidth n z) q wx in
+    let wy : HaveWidth n y = behind b y wby in
+    let wcd : HaveWidth n (c ++ d) = subst (λ (z : List (List Bool)). HaveWidth n z) r wy in
+    record {
+      whole = p ∙ ap (λ z. a ++ z) (q ∙ ap (λ z. b ++ z) r);
+      first = front a x wax;
+      second = front b y wby;
+      third = front c d wcd;
+      fourth = behind c d wcd;
+    }
+  where
+    behind : (s t : List (List Bool)) → HaveWidth n (s ++ t) → HaveWidth n t
+    behind s t h = subst (λ (z : List (List Bool)). HaveWidth n z) (drop_at s t (length s) refl) (HaveWidth-drop n (length s) (s ++ t) h)
+
+    front : (s t : List (List Bool)) → HaveWidth n (s ++ t) → HaveWidth n s
+    front s t h = subst (λ (z : List (List Bool)). HaveWidth n z) (take_at s t (length s) refl) (HaveWidth-take n (length s) (s ++ t) h)

@@ -4,7 +4,7 @@ use Rattle.std.specs.List.{list_any, items_where_true, range_with_len, filter}
 use Rattle.std.proofs.lemmas.Bool.{cases_lt, cases_eq, cases_Bool, eq-eqb, ne_eqb}
 use Rattle.std.proofs.lemmas.Bool.Decides.{nat_tests}
 use Rattle.std.proofs.lemmas.List.FromFn.{length-range_with_len, get_or-range_with_len}
-use Rattle.std.proofs.lemmas.List.{ext_get_or, drop-set, append_assoc, append-nil, at_drop_more, take_more, take_at, drop_at, set_at, get_or-drop, get_or-map, get_or-reverse, get_or_push, get_or_append_left, get_or-append_right, get_or-set_same, get_or-set_other, length-drop, length-take-le, length-map, length-append, length-reverse}
+use Rattle.std.proofs.lemmas.List.{ext_get_or, drop-set, append_assoc, append-nil, at_drop_more, take_more, take_at, drop_at, set_at, get_or-map, get_or-reverse, get_or_push, get_or_append_left, get_or-append_right, get_or-set_same, get_or-set_other, length-take-le, length-map, length-append, length-reverse}
 use Rattle.std.proofs.lemmas.List.Folds.{list_any_more}
 use Rattle.std.proofs.Math.Bool.{or-false}
 use Rattle.f2_vec.specs.Vectors.{sum_of, zeros, bit, IsZero, IsFirstOne}

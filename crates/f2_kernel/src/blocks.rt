@@ -1,17 +1,27 @@
-//! Rows cleared from the last one up, by blocks: each block clears the rows before it, by one of its sums each.
-ghost use Rattle.std.specs.Prelude.{◌≡◌, ℕ, ◌+◌, ◌<◌, ◌≤◌, ◌++◌, map, length, if◌then◌else◌, IfOk, OnOk};
-ghost use Rattle.f2_vec.specs.Vectors.{bit, sum_of};
+//! Rows cleared from the last one up, by blocks: each block clears the rows before it, by one sum of each of its quarters.
+//! Few rows are cleared one by one.
+ghost use Rattle.std.specs.Prelude.{◌≡◌, ℕ, ◌+◌, ◌-◌, ◌<◌, ◌≤◌, ◌++◌, map, length, if◌then◌else◌, IfOk, OnOk};
+ghost use Rattle.std.specs.Int.{div_ceil};
+ghost use Rattle.f2_vec.specs.Vectors.{bit, sum_of, IsWithinWords};
 ghost use Rattle.f2_vec.specs.Spans.{HaveWidth};
 ghost use Rattle.f2_matrix.specs.Echelon.{IsEchelonForm};
 ghost use Rattle.f2_matrix.specs.Preimages.{pivot_of};
 ghost use Rattle.f2_kernel.specs.Inside.Upward.{upward, cleared_by, AreCleared, IsBlockCleared};
-ghost use Rattle.f2_kernel.specs.Inside.Sums.{sums as sums_of_all, number as number_of, with_sum};
+ghost use Rattle.f2_kernel.specs.Inside.Sums.{sums as sums_of_all, number as number_of, sum_at, with_sums, AreSumsOf};
 
 use crate::form::{clear_one_by_one, pivot};
 use f2_matrix::Matrix;
 use f2_vec::BitVec;
 use memory::Memory;
 use std::alloc::Global;
+
+/// Rows with their pivots and all their sums.
+#[derive(Drop)]
+struct Part<'a> {
+    rows: &'a [BitVec],
+    pivots: Vec<usize>,
+    sums: Vec<BitVec>,
+}
 
 /// Clears each of the rows, of length `n`, at the pivots of those behind it.
 ///
@@ -31,22 +41,22 @@ pub fn clear_upward(alloc: Global, n: usize, rows: &mut [BitVec]) -> Result<(), 
     Ok(())
 }
 
-/// How many of `height` rows are the last block: more rows pay for more sums.
+/// How many of `height` rows are the last block: all where they are too few to pay for sums, else the more the more rows
+/// there are.
 fn rows_of_block(height: usize) -> usize
     requires { 0 < height }
     ensures some { 0 < result }
-    ensures few { result ≤ 8 }
+    ensures few { result < height → result ≤ 32 }
     ensures within { result ≤ height }
 {
-    let rows = match height {
-        0..64 => 3,
-        64..160 => 4,
-        160..320 => 5,
-        320..768 => 6,
-        768..2048 => 7,
-        _ => 8,
-    };
-    rows.min(height)
+    match height {
+        0..256 => height,
+        256..320 => 16,
+        320..512 => 20,
+        512..768 => 24,
+        768..2048 => 28,
+        _ => 32,
+    }
 }
 
 /// Clears the rows from place `start` up to `end`, each at the pivots of those behind it there, and then the rows before them at their
@@ -63,13 +73,16 @@ fn clear_block(
 ) -> Result<(), Memory>
     requires widths { HaveWidth n rows.old }
     requires block { start ≤ end }
-    requires few { end ≤ start + 8 }
+    requires few { 0 < start → end ≤ start + 32 }
     requires within { end ≤ length rows.old }
     ensures { OnOk result (IsBlockCleared start end rows.old rows.new) }
 {
     let (before, _) = rows.split_at_mut(end);
     let (above, block) = before.split_at_mut(start);
     clear_one_by_one(alloc, n, block)?;
+    if above.is_empty() {
+        return Ok(());
+    }
     clear_by_block(alloc, n, above, block)
 }
 
@@ -85,14 +98,44 @@ fn clear_by_block(
 ) -> Result<(), Memory>
     requires rows { HaveWidth n rows.old }
     requires block { AreCleared n block.now }
-    requires few { length block.now ≤ 8 }
+    requires few { length block.now ≤ 32 }
     ensures { OnOk result (rows.new ≡ map (cleared_by block.now) rows.old) }
 {
     let form = echelon_form(alloc, n, block)?;
-    let pivots = pivots_of(alloc, form.rows())?;
-    let sums = sums_of(alloc, n, form.rows())?;
-    add_sums(n, rows, form.rows(), pivots.as_slice(), sums.as_slice());
+    let quarter = block.len().div_ceil(4);
+    let (first, rest) = split_up_to(form.rows(), quarter);
+    let (second, rest) = split_up_to(rest, quarter);
+    let (third, fourth) = split_up_to(rest, quarter);
+    let first = part_of(alloc, n, first)?;
+    let second = part_of(alloc, n, second)?;
+    let third = part_of(alloc, n, third)?;
+    let fourth = part_of(alloc, n, fourth)?;
+    add_sums(n, rows, &first, &second, &third, &fourth);
     Ok(())
+}
+
+/// The first `count` rows, or all where there are fewer, and the others.
+fn split_up_to(rows: &[BitVec], count: usize) -> (&[BitVec], &[BitVec])
+    ensures whole { rows.now ≡ result.0.now ++ result.1.now }
+    ensures few { length result.0.now ≤ count }
+    ensures others { length result.1.now ≡ length rows.now - count }
+{
+    rows.split_at(count.min(rows.len()))
+}
+
+/// The rows with their pivots and all their sums.
+///
+/// # Errors
+/// `Memory` if allocation fails.
+fn part_of<'a>(alloc: Global, n: usize, rows: &'a [BitVec]) -> Result<Part<'a>, Memory>
+    requires widths { HaveWidth n rows.now }
+    requires few { length rows.now ≤ 8 }
+    ensures rows { IfOk result (λ part. part.rows.now ≡ rows.now) }
+    ensures sums { IfOk result (λ part. AreSumsOf n part.rows.now part.pivots.items part.sums.items) }
+{
+    let pivots = pivots_of(alloc, rows)?;
+    let sums = sums_of(alloc, n, rows)?;
+    Ok(Part { rows, pivots, sums })
 }
 
 /// The echelon form of the rows, of length `n`.
@@ -170,31 +213,55 @@ fn double(alloc: Global, n: usize, sums: &mut Vec<BitVec>, row: &BitVec) -> Resu
     Ok(())
 }
 
-/// Adds to each of the vectors the sum whose coefficients are its coordinates at the pivots of the rows.
-fn add_sums(n: usize, vectors: &mut [BitVec], rows: &[BitVec], pivots: &[usize], sums: &[BitVec])
+/// Adds to each of the vectors the sum of each part whose coefficients are its coordinates at the pivots of the part's rows.
+fn add_sums(
+    n: usize,
+    vectors: &mut [BitVec],
+    first: &Part,
+    second: &Part,
+    third: &Part,
+    fourth: &Part,
+)
     requires vectors { HaveWidth n vectors.old }
-    requires rows { HaveWidth n rows.now }
-    requires few { length rows.now ≤ 8 }
-    requires pivots { pivots.now ≡ map pivot_of rows.now }
-    requires sums { sums.now ≡ sums_of_all n rows.now }
-    ensures { vectors.new ≡ map (with_sum n rows.now) vectors.old }
+    requires first { AreSumsOf n first.now.rows.now first.now.pivots.items first.now.sums.items }
+    requires second { AreSumsOf n second.now.rows.now second.now.pivots.items second.now.sums.items }
+    requires third { AreSumsOf n third.now.rows.now third.now.pivots.items third.now.sums.items }
+    requires fourth { AreSumsOf n fourth.now.rows.now fourth.now.pivots.items fourth.now.sums.items }
+    ensures { vectors.new
+        ≡ map (with_sums n first.now.rows.now second.now.rows.now third.now.rows.now fourth.now.rows.now) vectors.old }
 {
     for vector in vectors.iter_mut() {
-        add_sum(n, vector, rows, pivots, sums);
+        add_four(n, vector, first, second, third, fourth);
     }
 }
 
-/// Adds to the vector the sum whose coefficients are its coordinates at the pivots of the rows.
-fn add_sum(n: usize, vector: &mut BitVec, rows: &[BitVec], pivots: &[usize], sums: &[BitVec])
+/// Adds to the vector the sum of each part whose coefficients are its coordinates at the pivots of the part's rows.
+fn add_four(n: usize, vector: &mut BitVec, first: &Part, second: &Part, third: &Part, fourth: &Part)
     requires vector { length vector.old ≡ n }
-    requires rows { HaveWidth n rows.now }
-    requires few { length rows.now ≤ 8 }
-    requires pivots { pivots.now ≡ map pivot_of rows.now }
-    requires sums { sums.now ≡ sums_of_all n rows.now }
-    ensures { vector.new ≡ with_sum n rows.now vector.old }
+    requires first { AreSumsOf n first.now.rows.now first.now.pivots.items first.now.sums.items }
+    requires second { AreSumsOf n second.now.rows.now second.now.pivots.items second.now.sums.items }
+    requires third { AreSumsOf n third.now.rows.now third.now.pivots.items third.now.sums.items }
+    requires fourth { AreSumsOf n fourth.now.rows.now fourth.now.pivots.items fourth.now.sums.items }
+    ensures { vector.new ≡ with_sums n first.now.rows.now second.now.rows.now third.now.rows.now fourth.now.rows.now
+        vector.old }
 {
-    let number = number_at(n, vector, pivots);
-    vector.xor_with(&sums[number]);
+    let a = sum_for(n, vector, first);
+    let b = sum_for(n, vector, second);
+    let c = sum_for(n, vector, third);
+    let d = sum_for(n, vector, fourth);
+    vector.xor_with_four(0, n.div_ceil(64), a, b, c, d);
+}
+
+/// The sum of the part whose coefficients are the coordinates of the vector at the pivots of its rows.
+fn sum_for<'a>(n: usize, vector: &BitVec, part: &'a Part) -> &'a BitVec
+    requires vector { length vector.now ≡ n }
+    requires part { AreSumsOf n part.now.rows.now part.now.pivots.items part.now.sums.items }
+    ensures sum { result.now ≡ sum_at n part.now.rows.now vector.now }
+    ensures width { length result.now ≡ n }
+    ensures within { IsWithinWords 0 (div_ceil n 64) result.now }
+{
+    let number = number_at(n, vector, part.pivots.as_slice());
+    &part.sums[number]
 }
 
 /// The number whose digits are the coordinates of the vector at these places, that of the first place the highest. Past the end the

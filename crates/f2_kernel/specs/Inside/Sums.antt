@@ -1,8 +1,8 @@
 -- All sums of a few rows, and the numbers at which they stand.
-use Rattle.std.specs.Prelude.{ℕ, ◌+◌, ◌^◌, Bool, if◌then◌else◌, List, [], ◌∷◌, ◌++◌, length, map}
+use Rattle.std.specs.Prelude.{◌≡◌, ℕ, ◌+◌, ◌^◌, ◌≤◌, Bool, if◌then◌else◌, List, [], ◌∷◌, ◌++◌, length, map}
 use Rattle.f2_vec.specs.Vectors.{sum_of, zeros}
-use Rattle.f2_vec.specs.Spans.{row}
-use Rattle.f2_matrix.specs.Preimages.{at_pivots}
+use Rattle.f2_vec.specs.Spans.{row, HaveWidth}
+use Rattle.f2_matrix.specs.Preimages.{pivot_of, at_pivots}
 
 -- the sums of the rows, of length n: those without the first row, and behind them those with it
 abbrev pub sums : ℕ → List (List Bool) → List (List Bool)
@@ -14,6 +14,17 @@ abbrev pub number : List Bool → ℕ
 number [] = 0
 number (c ∷ cs) = if c then 2 ^ length cs + number cs else number cs
 
--- v with the sum added whose coefficients are its coordinates at the pivots of the rows
-abbrev pub with_sum : ℕ → List (List Bool) → List Bool → List Bool
-with_sum n rows v = sum_of v (row (sums n rows) (number (at_pivots rows v)))
+-- the sum whose coefficients are v's coordinates at the pivots of the rows
+abbrev pub sum_at : ℕ → List (List Bool) → List Bool → List Bool
+sum_at n rows v = row (sums n rows) (number (at_pivots rows v))
+
+-- v with such a sum of each of four lists of rows added
+abbrev pub with_sums : ℕ → (a b c d : List (List Bool)) → List Bool → List Bool
+with_sums n a b c d v = sum_of (sum_of (sum_of (sum_of v (sum_at n a v)) (sum_at n b v)) (sum_at n c v)) (sum_at n d v)
+
+-- up to eight rows of length n have these pivots, and these sums
+pub record AreSumsOf (n : ℕ) (rows : List (List Bool)) (pivots : List ℕ) (all : List (List Bool)) : Type 0 where
+  pub widths : HaveWidth n rows
+  pub few : length rows ≤ 8
+  pub pivots_are : pivots ≡ map pivot_of rows
+  pub sums_are : all ≡ sums n rows
