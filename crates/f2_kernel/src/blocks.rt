@@ -1,5 +1,5 @@
-//! Rows cleared from the last one up, by blocks: each block clears the rows before it, by one sum of each of its quarters.
-//! Few rows are cleared one by one.
+//! Rows cleared from the last one up, by blocks: each block clears the rows before it, by one sum of each of its
+//! quarters. Few rows are cleared one by one.
 ghost use Rattle.std.specs.Prelude.{◌≡◌, ℕ, ◌+◌, ◌-◌, ◌<◌, ◌≤◌, ◌++◌, map, length, if◌then◌else◌, IfOk, OnOk};
 ghost use Rattle.std.specs.Int.{div_ceil};
 ghost use Rattle.f2_vec.specs.Vectors.{bit, sum_of, IsWithinWords};
@@ -41,7 +41,7 @@ pub fn clear_upward(alloc: Global, n: usize, rows: &mut [BitVec]) -> Result<(), 
     Ok(())
 }
 
-/// How many of `height` rows are the last block: all where they are too few to pay for sums, else the more the more rows
+/// How many of `height` rows are the last block: all where they are too few to pay for sums, else the more the more
 /// there are.
 fn rows_of_block(height: usize) -> usize
     requires { 0 < height }
@@ -59,8 +59,8 @@ fn rows_of_block(height: usize) -> usize
     }
 }
 
-/// Clears the rows from place `start` up to `end`, each at the pivots of those behind it there, and then the rows before them at their
-/// pivots.
+/// Clears the rows from place `start` up to `end`, each at the pivots of those behind it there, and then the rows
+/// before them at their pivots.
 ///
 /// # Errors
 /// `Memory` if allocation fails; the rows are then of no use.
@@ -180,7 +180,8 @@ fn pivots_of(alloc: Global, rows: &[BitVec]) -> Result<Vec<usize>, Memory>
     Ok(pivots)
 }
 
-/// All sums of the rows, of length `n`: the coefficients of a sum are the digits of its number, that of the first row the highest.
+/// All sums of the rows, of length `n`: the coefficients of a sum are the digits of its number, that of the first row
+/// the highest.
 ///
 /// # Errors
 /// `Memory` if allocation fails.
@@ -213,7 +214,8 @@ fn double(alloc: Global, n: usize, sums: &mut Vec<BitVec>, row: &BitVec) -> Resu
     Ok(())
 }
 
-/// Adds to each of the vectors the sum of each part whose coefficients are its coordinates at the pivots of the part's rows.
+/// Adds to each of the vectors the sum of each part whose coefficients are its coordinates at the pivots of the part's
+/// rows.
 fn add_sums(
     n: usize,
     vectors: &mut [BitVec],
@@ -264,8 +266,8 @@ fn sum_for<'a>(n: usize, vector: &BitVec, part: &'a Part) -> &'a BitVec
     &part.sums[number]
 }
 
-/// The number whose digits are the coordinates of the vector at these places, that of the first place the highest. Past the end the
-/// coordinates are 0.
+/// The number whose digits are the coordinates of the vector at these places, that of the first place the highest. Past
+/// the end the coordinates are 0.
 fn number_at(n: usize, vector: &BitVec, places: &[usize]) -> usize
     requires vector { length vector.now ≡ n }
     requires few { length places.now ≤ 8 }
