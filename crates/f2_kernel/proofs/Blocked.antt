@@ -1,16 +1,16 @@
 -- Rows cleared by blocks, the last one first: a block clears the rows before it by its sums.
-use Rattle.std.proofs.Common.{◌≡◌, inl, inr, ℕ, suc, ◌+◌, ◌-◌, ◌*◌, ◌^◌, ◌<◌, ◌≤◌, Bool, true, false, cond, List, [], ◌∷◌, ◌++◌, length, map, take, drop, refl, ap, sym, subst, ◌∙◌, arith}
-use Rattle.std.proofs.lemmas.Bool.{both_ways}
+use Rattle.std.proofs.Common.{◌≡◌, ◌≢◌, inl, inr, ℕ, suc, ◌+◌, ◌-◌, ◌*◌, ◌^◌, ◌<◌, ◌≤◌, Bool, true, false, cond, List, [], ◌∷◌, ◌++◌, length, map, take, drop, refl, ap, sym, subst, ◌∙◌, arith}
+use Rattle.std.proofs.lemmas.Bool.{cases_lt, both_ways}
 use Rattle.std.specs.Int.{div_ceil}
-use Rattle.std.proofs.lemmas.List.{get_or_past, get_or-map, get_or_append_left, get_or-append_right, length-append, length-map, length-take-le, length-drop, append_assoc, append-nil, nil_from_length, take_all, map-id, map-append, take-map, drop-map, take-append-drop, take_more, take_at, drop_at, take-append-le, drop-append-le}
+use Rattle.std.proofs.lemmas.List.{get_or_past, get_or-take, get_or-map, get_or_append_left, get_or-append_right, length-append, length-map, length-take-le, length-drop, append_assoc, append-nil, nil_from_length, take_all, map-id, map-append, take-map, drop-map, take-append-drop, take_more, take_at, drop_at, take-append-le, drop-append-le}
 use Rattle.std.proofs.Math.Nat.{pow-suc}
 use Rattle.std.proofs.Math.Pow.{pow_mono}
-use Rattle.f2_vec.specs.Vectors.{plus, sum_of, zeros, bit, IsFirstOne, IsWithinWords}
+use Rattle.f2_vec.specs.Vectors.{plus, sum_of, zeros, bit, IsZero, IsFirstOne, IsWithinWords}
 use Rattle.f2_vec.specs.Spans.{row, HaveWidth, combination, IsInSpan, HaveSameSpan}
 use Rattle.f2_vec.proofs.Sums.{bit-sum_of, length-sum_of, length-zeros, plus-self, sum_of-comm, sum_of-assoc, sum_of-cancel, sum_of-zeros_right, zeros_from_bits}
-use Rattle.f2_vec.proofs.Spans.{HaveWidth-head, HaveWidth-tail, HaveWidth-cons, HaveWidth-append, length-combination, combination-append, sum-IsInSpan, bit-combination_alone}
+use Rattle.f2_vec.proofs.Spans.{HaveWidth-head, HaveWidth-tail, HaveWidth-cons, HaveWidth-append, length-combination, combination-append, row-IsInSpan, zeros-IsInSpan, HaveSameSpan_from_rows, sum-IsInSpan, bit-combination_alone}
 use Rattle.f2_vec.proofs.Combinations.{HaveWidth-take, map-map, map_same}
-use Rattle.f2_matrix.specs.Echelon.{IsEchelonForm, IsReduced}
+use Rattle.f2_matrix.specs.Echelon.{IsEchelonForm, IsRowBasis, IsReduced, HasNoZeroRow}
 use Rattle.f2_matrix.specs.Preimages.{pivot_of, at_pivots}
 use Rattle.f2_matrix.proofs.Unique.{zero_or_first}
 use Rattle.f2_matrix.proofs.Pivots.{pivot_first, length-at_pivots, bit-at_pivots}
@@ -229,7 +229,7 @@ with_sums-combination n a b c d v wa wb wc wd =
     sum_of-assoc (sum_of (sum_of v p) q) r s ∙ sum_of-assoc (sum_of v p) q (sum_of r s) ∙ sum_of-assoc v p (sum_of q (sum_of r s)) in
     parts ∙ moved ∙ ap (sum_of v) (sym whole)
 
-pub with_sums-is : (n : ℕ) (block form a b c d : List (List Bool)) (v : List Bool) → AreCleared n block → IsEchelonForm n block form → form ≡ a ++ (b ++ (c ++ d)) → HaveWidth n a → HaveWidth n b → HaveWidth n c → HaveWidth n d → length v ≡ n → with_sums n a b c d v ≡ cleared_by block v
+pub with_sums-is : (n : ℕ) (block form a b c d : List (List Bool)) (v : List Bool) → AreCleared n block → IsRowBasis n block form → form ≡ a ++ (b ++ (c ++ d)) → HaveWidth n a → HaveWidth n b → HaveWidth n c → HaveWidth n d → length v ≡ n → with_sums n a b c d v ≡ cleared_by block v
 with_sums-is n block form a b c d v h g e wa wb wc wd lv =
     let k = at_pivots form v in
     let s = combination n k form in
@@ -239,34 +239,89 @@ with_sums-is n block form a b c d v h g e wa wb wc wd lv =
     sum ∙ sym (cleared_unique n block form v (cleared_by block v) (sum_of v s) h (AreCleared-IsReduced n form g.widths g.reduced) g.same_span lv (length-cleared_by n block v h.widths lv) (length-sum_of v s (lv ∙ sym ls) ∙ lv)
     (cleared_by-added n block v h.widths lv) (cleared_by-clears n block v h lv) added (with_sum-clears n form v g.widths g.reduced lv))
 
-pub all_cleared : (n : ℕ) (block form a b c d rows new : List (List Bool)) → AreCleared n block → IsEchelonForm n block form → form ≡ a ++ (b ++ (c ++ d)) → HaveWidth n a → HaveWidth n b → HaveWidth n c → HaveWidth n d → HaveWidth n rows → new ≡ map (with_sums n a b c d) rows → new ≡ map (cleared_by block) rows
+pub all_cleared : (n : ℕ) (block form a b c d rows new : List (List Bool)) → AreCleared n block → IsRowBasis n block form → form ≡ a ++ (b ++ (c ++ d)) → HaveWidth n a → HaveWidth n b → HaveWidth n c → HaveWidth n d → HaveWidth n rows → new ≡ map (with_sums n a b c d) rows → new ≡ map (cleared_by block) rows
 all_cleared n block form a b c d rows new h g f wa wb wc wd w e = e ∙ map_same [] (with_sums n a b c d) (cleared_by block) rows (λ i l. with_sums-is n block form a b c d (row rows i) h g f wa wb wc wd (w i l))
 
--- the four parts of the form
-pub record ArePartsOf (n : ℕ) (form a b c d : List (List Bool)) : Type 0 where
-  pub whole : form ≡ a ++ (b ++ (c ++ d))
-  pub first : HaveWidth n a
-  pub second : HaveWidth n b
-  pub third : HaveWidth n c
-  pub fourth : HaveWidth n d
+-- each of the rows is such
+abbrev pub Each : (List Bool → Type 0) → List (List Bool) → Type 0
+Each Q rows = (i : ℕ) → i < length rows → Q (row rows i)
 
-pub parts_of_splits : (n : ℕ) (form a b c d x y : List (List Bool)) → HaveWidth n form → form ≡ a ++ x → x ≡ b ++ y → y ≡ c ++ d → ArePartsOf n form a b c d
-parts_of_splits n form a b c d x y w p q r =
-    let wax : HaveWidth n (a ++ x) = subst (λ (z : List (List Bool)). HaveWidth n z) p w in
-    let wx : HaveWidth n x = behind a x wax in
-    let wby : HaveWidth n (b ++ y) = subst (λ (z : List (List Bool)). HaveWidth n z) q wx in
-    let wy : HaveWidth n y = behind b y wby in
-    let wcd : HaveWidth n (c ++ d) = subst (λ (z : List (List Bool)). HaveWidth n z) r wy in
+-- where each row of all is, so is each of the four parts that they are split into
+pub each_of_parts : (Q : List Bool → Type 0) (form a b c d x y : List (List Bool)) → Each Q form → form ≡ a ++ x → x ≡ b ++ y → y ≡ c ++ d → Each Q a × (Each Q b × (Each Q c × Each Q d))
+each_of_parts Q form a b c d x y h p q r =
+    let ax : Each Q (a ++ x) = subst (Each Q) p h in
+    let by : Each Q (b ++ y) = subst (Each Q) q (behind a x ax) in
+    let cd : Each Q (c ++ d) = subst (Each Q) r (behind b y by) in
+    (front a x ax, (front b y by, (front c d cd, behind c d cd)))
+  where
+    front : (s t : List (List Bool)) → Each Q (s ++ t) → Each Q s
+    front s t h i l = subst Q (get_or_append_left s t [] i l) (h i (omega (arith, l, length-append s t)))
+
+    behind : (s t : List (List Bool)) → Each Q (s ++ t) → Each Q t
+    behind s t h i l =
+        let k : length s + i - length s ≡ i = omega arith in
+        subst Q (get_or-append_right s t (length s) (length s + i) [] refl (omega arith) ∙ ap (row t) k) (h (length s + i) (omega (arith, l, length-append s t)))
+
+-- ---- an echelon form without its zero rows
+
+pub without_zeros-IsRowBasis : (n : ℕ) (block form basis : List (List Bool)) → IsEchelonForm n block form → basis ≡ take (length basis) form → length basis ≤ length form → HasNoZeroRow basis → ((i : ℕ) → length basis ≤ i → IsZero (row form i)) → IsRowBasis n block basis
+without_zeros-IsRowBasis n block form basis h e m nonzero zero =
+    let same : HaveSameSpan n form basis = HaveSameSpan_from_rows n form basis h.widths wide covered inside in
     record {
-      whole = p ∙ ap (λ z. a ++ z) (q ∙ ap (λ z. b ++ z) r);
-      first = front a x wax;
-      second = front b y wby;
-      third = front c d wcd;
-      fourth = behind c d wcd;
+      widths = wide;
+      same_span = λ v. (λ s. (same v).0 ((h.same_span v).0 s), λ s. (h.same_span v).1 ((same v).1 s));
+      reduced = record { zero_rows_last = last; pivots_rise = rise; pivots_alone = alone };
+      nonzero = nonzero;
     }
   where
-    behind : (s t : List (List Bool)) → HaveWidth n (s ++ t) → HaveWidth n t
-    behind s t h = subst (λ (z : List (List Bool)). HaveWidth n z) (drop_at s t (length s) refl) (HaveWidth-drop n (length s) (s ++ t) h)
+    at : (i : ℕ) → i < length basis → row basis i ≡ row form i
+    at i l = ap (λ z. row z i) e ∙ get_or-take (length basis) form i [] l
 
-    front : (s t : List (List Bool)) → HaveWidth n (s ++ t) → HaveWidth n s
-    front s t h = subst (λ (z : List (List Bool)). HaveWidth n z) (take_at s t (length s) refl) (HaveWidth-take n (length s) (s ++ t) h)
+    past : (i p : ℕ) → length basis ≤ i → bit (row basis i) p ≡ false
+    past i p l = ap (λ v. bit v p) (get_or_past basis i [] l) ∙ get_or_past [] p false (omega arith)
+
+    wide : HaveWidth n basis
+    wide i l = ap length (at i l) ∙ h.widths i (omega (arith, l, m))
+
+    covered : (i : ℕ) → i < length form → IsInSpan n basis (row form i)
+    covered i l = elim (cases_lt i (length basis)) [
+      | inl k ↦ subst (IsInSpan n basis) (at i k) (row-IsInSpan n basis i wide k)
+      | inr k ↦ subst (IsInSpan n basis) (sym (zeros_from_bits n (row form i) (h.widths i l) (zero i k))) (zeros-IsInSpan n basis wide)
+    ]
+
+    inside : (i : ℕ) → i < length basis → IsInSpan n form (row basis i)
+    inside i l = subst (IsInSpan n form) (sym (at i l)) (row-IsInSpan n form i h.widths (omega (arith, l, m)))
+
+    there : (i p : ℕ) → bit (row basis i) p ≡ true → i < length basis
+    there i p o = elim (cases_lt i (length basis)) [
+      | inl k ↦ k
+      | inr k ↦ absurd (both_ways (bit (row basis i) p) (past i p k) o)
+    ]
+
+    last : (i j : ℕ) → i < j → IsZero (row basis i) → IsZero (row basis j)
+    last i j l z = elim (cases_lt j (length basis)) [
+      | inl k ↦ absurd (nonzero i (omega (arith, l, k)) z)
+      | inr k ↦ λ p. past j p k
+    ]
+
+    first : (i p : ℕ) → IsFirstOne (row basis i) p → IsFirstOne (row form i) p
+    first i p f = subst (λ v. IsFirstOne v p) (at i (there i p f.one)) f
+
+    rise : (i j p q : ℕ) → i < j → IsFirstOne (row basis i) p → IsFirstOne (row basis j) q → p < q
+    rise i j p q l f g = h.reduced.pivots_rise i j p q l (first i p f) (first j q g)
+
+    alone : (i j p : ℕ) → i ≢ j → IsFirstOne (row basis i) p → bit (row basis j) p ≡ false
+    alone i j p d f = elim (cases_lt j (length basis)) [
+      | inl k ↦ ap (λ v. bit v p) (at j k) ∙ h.reduced.pivots_alone i j p d (first i p f)
+      | inr k ↦ past j p k
+    ]
+
+-- where the row before place `end` is not zero, none of those before it is
+pub nonzero_before : (rows basis : List (List Bool)) (end : ℕ) (x : List Bool) → IsReduced rows → basis ≡ take end rows → length basis ≡ end → x ≡ row rows (end - 1) → (IsZero x → ⊥) → HasNoZeroRow basis
+nonzero_before rows basis end x h e len at not i l z =
+    let same : row basis i ≡ row rows i = ap (λ b. row b i) e ∙ get_or-take end rows i [] (omega (arith, l, len)) in
+    let zi : IsZero (row rows i) = subst IsZero same z in
+    elim (cases_lt i (end - 1)) [
+      | inl k ↦ not (subst IsZero (sym at) (h.zero_rows_last i (end - 1) k zi))
+      | inr k ↦ let q : i ≡ end - 1 = omega (arith, l, len, k) in not (subst IsZero (ap (row rows) q ∙ sym at) zi)
+    ]

@@ -1,10 +1,10 @@
 //! Rows cleared from the last one up, by blocks: each block clears the rows before it, by one sum of each of its
 //! quarters. Few rows are cleared one by one.
-ghost use Rattle.std.specs.Prelude.{◌≡◌, ℕ, ◌+◌, ◌-◌, ◌<◌, ◌≤◌, ◌++◌, map, length, if◌then◌else◌, IfOk, OnOk};
+ghost use Rattle.std.specs.Prelude.{◌≡◌, ℕ, ◌+◌, ◌-◌, ◌<◌, ◌≤◌, ◌++◌, map, length, take, slice_index_or, IfOk, OnOk};
 ghost use Rattle.std.specs.Int.{div_ceil};
-ghost use Rattle.f2_vec.specs.Vectors.{bit, sum_of, IsWithinWords};
-ghost use Rattle.f2_vec.specs.Spans.{HaveWidth};
-ghost use Rattle.f2_matrix.specs.Echelon.{IsEchelonForm};
+ghost use Rattle.f2_vec.specs.Vectors.{bit, sum_of, IsZero, IsWithinWords};
+ghost use Rattle.f2_vec.specs.Spans.{row, HaveWidth};
+ghost use Rattle.f2_matrix.specs.Echelon.{IsEchelonForm, IsReduced, HasNoZeroRow};
 ghost use Rattle.f2_matrix.specs.Preimages.{pivot_of};
 ghost use Rattle.f2_kernel.specs.Inside.Upward.{upward, cleared_by, AreCleared, IsBlockCleared};
 ghost use Rattle.f2_kernel.specs.Inside.Sums.{sums as sums_of_all, number as number_of, sum_at, with_sums, AreSumsOf};
@@ -103,7 +103,7 @@ fn clear_by_block(
 {
     let form = echelon_form(alloc, n, block)?;
     let quarter = block.len().div_ceil(4);
-    let (first, rest) = split_up_to(form.rows(), quarter);
+    let (first, rest) = split_up_to(without_zeros(form.rows()), quarter);
     let (second, rest) = split_up_to(rest, quarter);
     let (third, fourth) = split_up_to(rest, quarter);
     let first = part_of(alloc, n, first)?;
@@ -112,6 +112,21 @@ fn clear_by_block(
     let fourth = part_of(alloc, n, fourth)?;
     add_sums(n, rows, &first, &second, &third, &fourth);
     Ok(())
+}
+
+/// The rows before the zero rows, which stand last.
+fn without_zeros(rows: &[BitVec]) -> &[BitVec]
+    requires { IsReduced rows.now }
+    ensures first { result.now ≡ take (length result.now) rows.now }
+    ensures within { length result.now ≤ length rows.now }
+    ensures nonzero { HasNoZeroRow result.now }
+    ensures others { (i : ℕ) → length result.now ≤ i → IsZero (row rows.now i) }
+{
+    let mut end = rows.len();
+    while end > 0 && rows[end - 1].is_zero() {
+        end -= 1;
+    }
+    rows.split_at(end).0
 }
 
 /// The first `count` rows, or all where there are fewer, and the others.
@@ -130,6 +145,7 @@ fn split_up_to(rows: &[BitVec], count: usize) -> (&[BitVec], &[BitVec])
 fn part_of<'a>(alloc: Global, n: usize, rows: &'a [BitVec]) -> Result<Part<'a>, Memory>
     requires widths { HaveWidth n rows.now }
     requires few { length rows.now ≤ 8 }
+    requires nonzero { HasNoZeroRow rows.now }
     ensures rows { IfOk result (λ part. part.rows.now ≡ rows.now) }
     ensures sums { IfOk result (λ part. AreSumsOf n part.rows.now part.pivots.items part.sums.items) }
 {
@@ -262,31 +278,20 @@ fn sum_for<'a>(n: usize, vector: &BitVec, part: &'a Part) -> &'a BitVec
     ensures width { length result.now ≡ n }
     ensures within { IsWithinWords 0 (div_ceil n 64) result.now }
 {
-    let number = number_at(n, vector, part.pivots.as_slice());
+    let number = number_at(vector, part.pivots.as_slice());
     &part.sums[number]
 }
 
-/// The number whose digits are the coordinates of the vector at these places, that of the first place the highest. Past
-/// the end the coordinates are 0.
-fn number_at(n: usize, vector: &BitVec, places: &[usize]) -> usize
-    requires vector { length vector.now ≡ n }
+/// The number whose digits are the coordinates of the vector at these places, that of the first place the highest.
+#[inline(never)]
+fn number_at(vector: &BitVec, places: &[usize]) -> usize
+    requires within { (i : ℕ) → i < length places.now → slice_index_or places.now i 0 < length vector.now }
     requires few { length places.now ≤ 8 }
     ensures { result ≡ number_of (map (bit vector.now) places.now) }
 {
     let mut number = 0;
     for i in 0..places.len() {
-        number = 2 * number + digit_at(n, vector, places[i]);
+        number = 2 * number + vector.get_number(places[i]);
     }
     number
-}
-
-/// The coordinate of the vector at this place, 0 past the end.
-fn digit_at(n: usize, vector: &BitVec, place: usize) -> usize
-    requires { length vector.now ≡ n }
-    ensures { result ≡ (if bit vector.now place then 1 else 0) }
-{
-    if place < n {
-        return vector.get_number(place);
-    }
-    0
 }

@@ -2,6 +2,7 @@
 use Rattle.std.specs.Prelude.{◌≡◌, ℕ, ◌+◌, ◌^◌, ◌≤◌, Bool, if◌then◌else◌, List, [], ◌∷◌, ◌++◌, length, map}
 use Rattle.f2_vec.specs.Vectors.{sum_of, zeros}
 use Rattle.f2_vec.specs.Spans.{row, HaveWidth}
+use Rattle.f2_matrix.specs.Echelon.{HasNoZeroRow}
 use Rattle.f2_matrix.specs.Preimages.{pivot_of, at_pivots}
 
 -- the sums of the rows, of length n: those without the first row, and behind them those with it
@@ -22,9 +23,10 @@ sum_at n rows v = row (sums n rows) (number (at_pivots rows v))
 abbrev pub with_sums : ℕ → (a b c d : List (List Bool)) → List Bool → List Bool
 with_sums n a b c d v = sum_of (sum_of (sum_of (sum_of v (sum_at n a v)) (sum_at n b v)) (sum_at n c v)) (sum_at n d v)
 
--- up to eight rows of length n have these pivots, and these sums
+-- up to eight rows of length n, none of them zero, have these pivots and these sums
 pub record AreSumsOf (n : ℕ) (rows : List (List Bool)) (pivots : List ℕ) (all : List (List Bool)) : Type 0 where
   pub widths : HaveWidth n rows
   pub few : length rows ≤ 8
+  pub nonzero : HasNoZeroRow rows
   pub pivots_are : pivots ≡ map pivot_of rows
   pub sums_are : all ≡ sums n rows

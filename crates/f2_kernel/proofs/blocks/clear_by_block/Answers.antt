@@ -1,37 +1,62 @@
-use Rattle.std.proofs.Common.{◌≡◌, ◌++◌, ℕ, Bool, List, sym, subst}
-use Rattle.f2_vec.specs.Spans.{HaveWidth}
-use Rattle.f2_matrix.specs.Echelon.{IsEchelonForm}
-use Rattle.f2_kernel.proofs.Blocked.{all_cleared, parts_of_splits}
+use Rattle.std.proofs.Common.{◌≡◌, ◌++◌, ◌≤◌, ◌<◌, ℕ, Bool, List, length, take, ap, sym, subst, ◌∙◌, arith}
+use Rattle.f2_vec.specs.Vectors.{IsZero}
+use Rattle.f2_vec.specs.Spans.{row, HaveWidth}
+use Rattle.f2_matrix.specs.Echelon.{IsEchelonForm, IsRowBasis, HasNoZeroRow}
+use Rattle.f2_kernel.proofs.Blocked.{all_cleared, each_of_parts, without_zeros-IsRowBasis}
 use Rattle.f2_kernel.proofs.blocks.clear_by_block.Goals as goal
 
--- the rows that are split are of length n
-wide : (n : ℕ) (block form rows : List (List Bool)) → IsEchelonForm n block form → rows ≡ form → HaveWidth n rows
-wide n block form rows h e = subst (λ (z : List (List Bool)). HaveWidth n z) (sym e) h.widths
+-- the rows that are split are a reduced basis
+basis_of : (n : ℕ) (block form rows basis : List (List Bool)) → IsEchelonForm n block form → rows ≡ form → basis ≡ take (length basis) rows → length basis ≤ length rows → HasNoZeroRow basis → ((i : ℕ) → length basis ≤ i → IsZero (row rows i)) → IsRowBasis n block basis
+basis_of n block form rows basis h e f m nonzero zero = without_zeros-IsRowBasis n block rows basis (subst (IsEchelonForm n block) (sym e) h) f m nonzero zero
+
+pub without_zeros-requires : goal.without_zeros-requires
+without_zeros-requires c = (subst (IsEchelonForm c.args.n c.args.block.now) (sym c.rows.ensures.rows) c.in_ok-form.ensures.rows).reduced
+
+pub part_of-requires-clause-widths : goal.part_of-requires-clause-widths
+part_of-requires-clause-widths c =
+    let b = basis_of c.args.n c.args.block.now c.in_ok-form.form.rows c.rows.result.now c.without_zeros.result.now c.in_ok-form.ensures.rows c.rows.ensures.rows c.without_zeros.ensures.first c.without_zeros.ensures.within c.without_zeros.ensures.nonzero c.without_zeros.ensures.others in
+    (each_of_parts (λ r. length r ≡ c.args.n) c.without_zeros.result.now c.split_up_to.result.0.now c.split_up_to-2.result.0.now c.split_up_to-3.result.0.now c.split_up_to-3.result.1.now c.split_up_to.result.1.now c.split_up_to-2.result.1.now b.widths c.split_up_to.ensures.whole c.split_up_to-2.ensures.whole c.split_up_to-3.ensures.whole).0
+
+pub part_of-requires-clause-nonzero : goal.part_of-requires-clause-nonzero
+part_of-requires-clause-nonzero c =
+    (each_of_parts (λ r. IsZero r → ⊥) c.without_zeros.result.now c.split_up_to.result.0.now c.split_up_to-2.result.0.now c.split_up_to-3.result.0.now c.split_up_to-3.result.1.now c.split_up_to.result.1.now c.split_up_to-2.result.1.now c.without_zeros.ensures.nonzero c.split_up_to.ensures.whole c.split_up_to-2.ensures.whole c.split_up_to-3.ensures.whole).0
 
 pub part_of-requires-2-clause-widths : goal.part_of-requires-2-clause-widths
 part_of-requires-2-clause-widths c =
-    let w = wide c.args.n c.args.block.now c.in_ok-form.form.rows c.rows.result.now c.in_ok-form.ensures.rows c.rows.ensures.rows in
-    (parts_of_splits c.args.n c.rows.result.now c.split_up_to.result.0.now c.split_up_to-2.result.0.now c.split_up_to-3.result.0.now c.split_up_to-3.result.1.now c.split_up_to.result.1.now c.split_up_to-2.result.1.now w c.split_up_to.ensures.whole c.split_up_to-2.ensures.whole c.split_up_to-3.ensures.whole).second
+    let b = basis_of c.args.n c.args.block.now c.in_ok-form.form.rows c.rows.result.now c.without_zeros.result.now c.in_ok-form.ensures.rows c.rows.ensures.rows c.without_zeros.ensures.first c.without_zeros.ensures.within c.without_zeros.ensures.nonzero c.without_zeros.ensures.others in
+    (each_of_parts (λ r. length r ≡ c.args.n) c.without_zeros.result.now c.split_up_to.result.0.now c.split_up_to-2.result.0.now c.split_up_to-3.result.0.now c.split_up_to-3.result.1.now c.split_up_to.result.1.now c.split_up_to-2.result.1.now b.widths c.split_up_to.ensures.whole c.split_up_to-2.ensures.whole c.split_up_to-3.ensures.whole).1.0
+
+pub part_of-requires-2-clause-nonzero : goal.part_of-requires-2-clause-nonzero
+part_of-requires-2-clause-nonzero c =
+    (each_of_parts (λ r. IsZero r → ⊥) c.without_zeros.result.now c.split_up_to.result.0.now c.split_up_to-2.result.0.now c.split_up_to-3.result.0.now c.split_up_to-3.result.1.now c.split_up_to.result.1.now c.split_up_to-2.result.1.now c.without_zeros.ensures.nonzero c.split_up_to.ensures.whole c.split_up_to-2.ensures.whole c.split_up_to-3.ensures.whole).1.0
 
 pub part_of-requires-3-clause-widths : goal.part_of-requires-3-clause-widths
 part_of-requires-3-clause-widths c =
-    let w = wide c.args.n c.args.block.now c.in_ok-form.form.rows c.rows.result.now c.in_ok-form.ensures.rows c.rows.ensures.rows in
-    (parts_of_splits c.args.n c.rows.result.now c.split_up_to.result.0.now c.split_up_to-2.result.0.now c.split_up_to-3.result.0.now c.split_up_to-3.result.1.now c.split_up_to.result.1.now c.split_up_to-2.result.1.now w c.split_up_to.ensures.whole c.split_up_to-2.ensures.whole c.split_up_to-3.ensures.whole).third
+    let b = basis_of c.args.n c.args.block.now c.in_ok-form.form.rows c.rows.result.now c.without_zeros.result.now c.in_ok-form.ensures.rows c.rows.ensures.rows c.without_zeros.ensures.first c.without_zeros.ensures.within c.without_zeros.ensures.nonzero c.without_zeros.ensures.others in
+    (each_of_parts (λ r. length r ≡ c.args.n) c.without_zeros.result.now c.split_up_to.result.0.now c.split_up_to-2.result.0.now c.split_up_to-3.result.0.now c.split_up_to-3.result.1.now c.split_up_to.result.1.now c.split_up_to-2.result.1.now b.widths c.split_up_to.ensures.whole c.split_up_to-2.ensures.whole c.split_up_to-3.ensures.whole).1.1.0
+
+pub part_of-requires-3-clause-nonzero : goal.part_of-requires-3-clause-nonzero
+part_of-requires-3-clause-nonzero c =
+    (each_of_parts (λ r. IsZero r → ⊥) c.without_zeros.result.now c.split_up_to.result.0.now c.split_up_to-2.result.0.now c.split_up_to-3.result.0.now c.split_up_to-3.result.1.now c.split_up_to.result.1.now c.split_up_to-2.result.1.now c.without_zeros.ensures.nonzero c.split_up_to.ensures.whole c.split_up_to-2.ensures.whole c.split_up_to-3.ensures.whole).1.1.0
 
 pub part_of-requires-4-clause-widths : goal.part_of-requires-4-clause-widths
 part_of-requires-4-clause-widths c =
-    let w = wide c.args.n c.args.block.now c.in_ok-form.form.rows c.rows.result.now c.in_ok-form.ensures.rows c.rows.ensures.rows in
-    (parts_of_splits c.args.n c.rows.result.now c.split_up_to.result.0.now c.split_up_to-2.result.0.now c.split_up_to-3.result.0.now c.split_up_to-3.result.1.now c.split_up_to.result.1.now c.split_up_to-2.result.1.now w c.split_up_to.ensures.whole c.split_up_to-2.ensures.whole c.split_up_to-3.ensures.whole).fourth
+    let b = basis_of c.args.n c.args.block.now c.in_ok-form.form.rows c.rows.result.now c.without_zeros.result.now c.in_ok-form.ensures.rows c.rows.ensures.rows c.without_zeros.ensures.first c.without_zeros.ensures.within c.without_zeros.ensures.nonzero c.without_zeros.ensures.others in
+    (each_of_parts (λ r. length r ≡ c.args.n) c.without_zeros.result.now c.split_up_to.result.0.now c.split_up_to-2.result.0.now c.split_up_to-3.result.0.now c.split_up_to-3.result.1.now c.split_up_to.result.1.now c.split_up_to-2.result.1.now b.widths c.split_up_to.ensures.whole c.split_up_to-2.ensures.whole c.split_up_to-3.ensures.whole).1.1.1
+
+pub part_of-requires-4-clause-nonzero : goal.part_of-requires-4-clause-nonzero
+part_of-requires-4-clause-nonzero c =
+    (each_of_parts (λ r. IsZero r → ⊥) c.without_zeros.result.now c.split_up_to.result.0.now c.split_up_to-2.result.0.now c.split_up_to-3.result.0.now c.split_up_to-3.result.1.now c.split_up_to.result.1.now c.split_up_to-2.result.1.now c.without_zeros.ensures.nonzero c.split_up_to.ensures.whole c.split_up_to-2.ensures.whole c.split_up_to-3.ensures.whole).1.1.1
 
 pub returns : goal.returns
 returns c =
     let n = c.args.n in
-    let block = c.args.block.now in
-    let form = c.rows.result.now in
+    let basis = c.without_zeros.result.now in
     let a = c.in_ok-first.first.rows.now in
     let b = c.in_ok-second.second.rows.now in
     let x = c.in_ok-third.third.rows.now in
     let y = c.in_ok-fourth.fourth.rows.now in
-    let g : IsEchelonForm n block form = subst (IsEchelonForm n block) (sym c.rows.ensures.rows) c.in_ok-form.ensures.rows in
-    let whole : form ≡ a ++ (b ++ (x ++ y)) = cc (c.split_up_to.ensures.whole, c.split_up_to-2.ensures.whole, c.split_up_to-3.ensures.whole, c.in_ok-first.ensures.rows, c.in_ok-second.ensures.rows, c.in_ok-third.ensures.rows, c.in_ok-fourth.ensures.rows) in
-    all_cleared n block form a b x y c.args.rows.now c.add_sums.new.vectors c.requires.block g whole c.in_ok-first.ensures.sums.widths c.in_ok-second.ensures.sums.widths c.in_ok-third.ensures.sums.widths c.in_ok-fourth.ensures.sums.widths c.requires.rows c.add_sums.ensures
+    let whole : basis ≡ a ++ (b ++ (x ++ y)) = cc (c.split_up_to.ensures.whole, c.split_up_to-2.ensures.whole, c.split_up_to-3.ensures.whole, c.in_ok-first.ensures.rows, c.in_ok-second.ensures.rows, c.in_ok-third.ensures.rows, c.in_ok-fourth.ensures.rows) in
+    all_cleared n c.args.block.now basis a b x y c.args.rows.now c.add_sums.new.vectors c.requires.block
+    (basis_of c.args.n c.args.block.now c.in_ok-form.form.rows c.rows.result.now c.without_zeros.result.now c.in_ok-form.ensures.rows c.rows.ensures.rows c.without_zeros.ensures.first c.without_zeros.ensures.within c.without_zeros.ensures.nonzero c.without_zeros.ensures.others)
+    whole c.in_ok-first.ensures.sums.widths c.in_ok-second.ensures.sums.widths c.in_ok-third.ensures.sums.widths c.in_ok-fourth.ensures.sums.widths c.requires.rows c.add_sums.ensures

@@ -24,10 +24,10 @@ overflow_mul-number c = let s = small c.args.vector.now c.args.places.now c.loop
 pub overflow_add-number : goal.overflow_add-number
 overflow_add-number c =
     let s = small c.args.vector.now c.args.places.now c.loop-i.i c.loop-i.number c.requires.few c.loop-i-test.true c.loop-i.invariant in
-    let d : c.digit_at.result ≤ 1 = subst (λ z. z ≤ 1) (sym c.digit_at.ensures) (digit _) in
+    let d : c.get_number.result ≤ 1 = subst (λ z. z ≤ 1) (sym c.get_number.ensures) (digit _) in
     omega (arith, s, d)
 
 pub loop-i-preserved : goal.loop-i-preserved
 loop-i-preserved c =
-    ap (λ z. 2 * z + c.digit_at.result) c.loop-i.invariant ∙ ap (λ z. 2 * number (map (bit c.args.vector.now) (take c.loop-i.i c.args.places.now)) + z) c.digit_at.ensures
+    ap (λ z. 2 * z + c.get_number.result) c.loop-i.invariant ∙ ap (λ z. 2 * number (map (bit c.args.vector.now) (take c.loop-i.i c.args.places.now)) + z) c.get_number.ensures
     ∙ sym (digits c.args.vector.now c.args.places.now c.loop-i.i c.loop-i-test.true)

@@ -1,9 +1,10 @@
-use Rattle.std.proofs.Common.{◌≡◌, ℕ, ◌<◌, ◌≤◌, Bool, List, [], map, length, ap, ◌∙◌, arith}
-use Rattle.std.proofs.lemmas.List.{get_or_read, length-map}
+use Rattle.std.proofs.Common.{◌≡◌, ℕ, ◌<◌, ◌≤◌, Bool, List, [], map, length, get_or, ap, ◌∙◌, arith}
+use Rattle.std.proofs.lemmas.List.{get_or_read, get_or-map, length-map}
 use Rattle.f2_vec.specs.Vectors.{bit}
 use Rattle.f2_vec.specs.Spans.{row}
 use Rattle.f2_vec.proofs.Combinations.{map-map}
 use Rattle.f2_matrix.specs.Preimages.{pivot_of, at_pivots}
+use Rattle.f2_matrix.proofs.Pivots.{pivot_within}
 use Rattle.f2_kernel.specs.Inside.Sums.{sums, number, sum_at, AreSumsOf}
 use Rattle.f2_kernel.proofs.Blocked.{sum_within, length-sum_at, IsWithinWords-all}
 use Rattle.f2_kernel.proofs.blocks.sum_for.Goals as goal
@@ -41,3 +42,13 @@ returns-clause-width c = ap length (returns-clause-sum c) ∙ length-sum_at c.ar
 
 pub returns-clause-within : goal.returns-clause-within
 returns-clause-within c = IsWithinWords-all c.args.n c.index.result.now (returns-clause-width c)
+
+pub number_at-number-requires-clause-within : goal.number_at-number-requires-clause-within
+number_at-number-requires-clause-within c = λ i l.
+    let p = c.args.part.now in
+    let is = c.requires.part in
+    let e = c.as_slice.ensures.value ∙ is.pivots_are in
+    let m : i < length p.rows.now = omega (arith, l, ap length e, length-map p.rows.now pivot_of) in
+    let at = ap (λ z. get_or z i 0) e ∙ get_or-map pivot_of p.rows.now i [] 0 m in
+    let b = pivot_within c.args.n p.rows.now i is.widths is.nonzero m in
+    omega (arith, at, b, c.requires.vector)
