@@ -1,6 +1,6 @@
-use Rattle.std.proofs.Common.{◌≡◌, ◌++◌, ◌≤◌, ◌<◌, ℕ, Bool, List, length, take, ap, sym, subst, ◌∙◌, arith}
+use Rattle.std.proofs.Common.{◌≡◌, ◌++◌, ◌≤◌, ℕ, Bool, List, length, take, sym, subst}
 use Rattle.f2_vec.specs.Vectors.{IsZero}
-use Rattle.f2_vec.specs.Spans.{row, HaveWidth}
+use Rattle.f2_vec.specs.Spans.{row}
 use Rattle.f2_matrix.specs.Echelon.{IsEchelonForm, IsRowBasis, HasNoZeroRow}
 use Rattle.f2_kernel.proofs.Blocked.{all_cleared, each_of_parts, without_zeros-IsRowBasis}
 use Rattle.f2_kernel.proofs.blocks.clear_by_block.Goals as goal
