@@ -14,7 +14,7 @@ use Rattle.ext_words.specs.Words.{Grammar, Part, is_in, fits, plain_words, parts
 use Rattle.ext_words.specs.Inside.CommandLine.{has_stray, given_by}
 use Rattle.ext_words.proofs.ClapWords.{Arguments, Named, is_option, is_flag, is_unknown, option_rule, flag_rule}
 use Rattle.ext_words.proofs.ClapParts.{word_rule, after_parts, IsWordOf, IsCommand}
-use Rattle.ext_words.proofs.ClapUses.{uses, same-given, same-text, apart-from, IsKnown, Stand, AreNew, after-first, known-parts}
+use Rattle.ext_words.proofs.ClapUses.{or-false, uses, same-given, same-text, apart-from, IsKnown, Stand, AreNew, after-first, known-parts}
 
 -- ---- the arguments of a command
 
@@ -68,10 +68,6 @@ sound-from g e =
     record { distinct = one.0; listed = two.0; options_apart = three.0; flags_apart = four.0; standing = five.0; no_defaults = six.0; none_required = six.1 }
 
 -- ---- what is found of a name
-
-or-false : (a : Bool) → (a || false) ≡ a
-or-false true = refl
-or-false false = refl
 
 -- a name that is apart from others
 not-among : (names others : List Text) (name : Text) → are_apart names others ≡ true → is_in names name ≡ true → is_in others name ≡ false
@@ -214,12 +210,12 @@ module _ (g : Grammar) (sound : IsSound g) where
       let name = (bytes_eq-Decides word.id id).0 (subst (λ (b : Rule). bytes_eq b.id id ≡ true) word.is same) in
       ap Some (word.is ∙ ap₂ word_rule here name)
 
-  none-here : (found : Option Rule) → is_some found ≡ false → found ≡ None
+  none-here : (found : Option Rule) → not (is_some found) ≡ true → found ≡ None
   none-here None e = refl
-  none-here (Some a) e = absurd (true≢false e)
+  none-here (Some a) e = absurd (true≢false (sym e))
 
   standing : (position : ℕ) (ids : List Text) → stand_from (rules_of g) position ids ≡ true → Stand (arguments g) position ids
-  standing position [] e = none-here (arg_by_index (rules_of g) position) (is_false _ e)
+  standing position [] e = none-here (arg_by_index (rules_of g) position) e
   standing position (id ∷ ids) e =
       let parts = and_parts _ _ e in
       let here = found-passes (λ (a : Rule). option_map_or (λ k. k == position) a.index false) (rules_of g) in

@@ -114,7 +114,7 @@ flag-new name rows none = rw none (ap Some (one-more name [] rows none))
 flag-again : (name : Text) (rows : List Row) → has_row name rows ≡ true → used_once (flag_rule name) [] rows ≡ None
 flag-again name rows has = rw has refl
 
-or-false : (a : Bool) → (a || false) ≡ a
+pub or-false : (a : Bool) → (a || false) ≡ a
 or-false true = refl
 or-false false = refl
 
