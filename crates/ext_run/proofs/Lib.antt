@@ -16,3 +16,4 @@ mod Written
 pub mod Causes
 pub mod Ending
 pub mod Saved
+mod ByImages

@@ -4,6 +4,7 @@
 mod answer;
 mod building;
 mod failure;
+mod from_images;
 mod input;
 mod laws;
 mod task;

@@ -1,4 +1,5 @@
-//! The text of a task: a module is resolved, by the caller alone or by workers, over its save file if the words say so, and its table is told.
+//! The text of a task: a module is resolved, by the caller alone or by workers, over its save file if the words say so, and what is made
+//! of it is told: a table, or the images of generators alone.
 ghost use Rattle.std.specs.Prelude.{◌≡◌, ◌≤◌, ◌<◌, ◌⊎◌, IfErr};
 ghost use Rattle.square.specs.declared.range.TheConstants.{MAX_S, MAX_T};
 ghost use Rattle.square.specs.Keeping.{IsKeeperOf};
@@ -11,6 +12,7 @@ ghost use Rattle.ext_run.specs.Work.{HasAnswer, answer_of, HasContinued, HasKept
 ghost use Rattle.ext_run.specs.declared.failure.Failure.TheVariants.{Memory as WantOfMemory};
 
 use crate::failure::Failure;
+use crate::from_images::{chart_alone, dump_alone, summary_alone};
 use crate::task::{Form, Resolution, Task};
 use board_core::Cause;
 use edge::Disk;
@@ -72,7 +74,8 @@ pub(crate) fn text_by_workers<W: Threads + Wait + Clock + Sync, D: Disk + Send, 
     }
 }
 
-/// The text of a resolution, made on the caller's thread. Nothing is kept.
+/// The text of a resolution, made on the caller's thread. Nothing is kept. Where the text speaks of generators and their images
+/// alone, nothing else is made.
 fn unsaved_alone(alloc: Global, resolution: Resolution) -> Result<Vec<u8>, Failure>
     requires { IsWithin resolution.common }
     ensures told { HasAnswer result →
@@ -80,8 +83,15 @@ fn unsaved_alone(alloc: Global, resolution: Resolution) -> Result<Vec<u8>, Failu
     ensures why { IfErr result (λ e. (e ≡ WantOfMemory) ⊎ IsOfClasses e) }
 {
     let range = resolution.common.range;
-    let table = Table::new(alloc, resolution.resolved)?;
-    told_alone(alloc, table, range, resolution.form, NoKeep).0
+    match resolution.form {
+        Form::Chart => Ok(chart_alone(alloc, resolution.resolved, range)?),
+        Form::Differentials => Ok(dump_alone(alloc, resolution.resolved, range)?),
+        Form::Summary => Ok(summary_alone(alloc, resolution.resolved, range)?),
+        form => {
+            let table = Table::new(alloc, resolution.resolved)?;
+            told_alone(alloc, table, range, form, NoKeep).0
+        }
+    }
 }
 
 /// The text of a resolution, made by as many workers as it says. Nothing is kept.

@@ -1,0 +1,59 @@
+-- The texts that are made from the images of a canonical resolution are those of the resolution.
+use Rattle.std.proofs.Common.{◌≡◌, ℕ, ◌+◌, ◌<◌, ◌≤◌, List, length, map, ap, sym, ◌∙◌, arith}
+use Rattle.std.proofs.lemmas.List.{length-map}
+use Rattle.finite_module.specs.Checked.{Checked}
+use Rattle.finite_module.specs.Graded.{ModulesAreSteenrodModules}
+use Rattle.finite_module.specs.ModuleLaws.{width-below}
+use Rattle.resolution_laws.specs.Resolution.{Content, row_of, generator_count}
+use Rattle.resolution_laws.specs.Exactness.{CanonicalTableIsMinimalResolution}
+use Rattle.resolution_existence.specs.Existence.{CanonicalTableExists}
+use Rattle.resolution_images.specs.BareRows.{BareRow, squares_of, AreOfCanonical}
+use Rattle.resolution_images.proofs.Contents.{bare, row_bare}
+use Rattle.square.specs.declared.range.Range.{Range}
+use Rattle.square.specs.Squares.{over, bottom_of}
+use Rattle.ext_chart.specs.Chart.{chart_text}
+use Rattle.ext_chart.specs.Dump.{dump_text}
+use Rattle.ext_chart.specs.Summary.{summary_text}
+use Rattle.ext_chart.specs.Seen.{IsSeenThrough}
+use Rattle.ext_chart.proofs.Bare.{chart_of_images, dump_of_images, summary_of_images}
+use Rattle.ext_run.specs.Answer.{IsResolved, IsChart, IsDump, IsSummary}
+
+module _ (exists : CanonicalTableExists) (minimal : CanonicalTableIsMinimalResolution) (modules : ModulesAreSteenrodModules) (range : Range) (m : Checked) (lines : List BareRow) (h : AreOfCanonical (over m) range.s range.t lines) where
+  resolved : (table : List (List Content)) × IsResolved range m.plain table
+  resolved =
+      let steenrod = modules m.plain m.is_module in
+      let table = exists (over m) range.s range.t steenrod.widths in
+      (table.0, record { canonical = table.1; minimal = minimal (over m) range.s range.t table.0 steenrod (λ t l. width-below m.plain.generators m.by_degree t l) table.1 })
+
+  pub seen_through : IsSeenThrough range (squares_of lines)
+  seen_through s l =
+      let r = resolved in
+      let same = ap length (row_bare (over m) range.s range.t lines r.0 r.1.canonical h s l) in
+      omega (arith, same, length-map (row_of r.0 s) bare, r.1.canonical.squares s l)
+
+  pub is_chart_of : (given : Checked) (text : List ℕ) → given ≡ m → text ≡ chart_text (bottom_of given) range.s range.t (generator_count (squares_of lines)) → IsChart range m.plain text
+  is_chart_of given text same is =
+      let r = resolved in
+      record {
+        table = r.0;
+        resolved = r.1;
+        chart = is ∙ ap (λ (x : Checked). chart_text (bottom_of x) range.s range.t (generator_count (squares_of lines))) same ∙ chart_of_images (over m) range.s range.t lines r.0 r.1.canonical h (bottom_of m);
+      }
+
+  pub is_dump_of : (given : Checked) (text : List ℕ) → given ≡ m → text ≡ dump_text given.plain.generators range.s range.t (squares_of lines) → IsDump range m.plain text
+  is_dump_of given text same is =
+      let r = resolved in
+      record {
+        table = r.0;
+        resolved = r.1;
+        dump = is ∙ ap (λ (x : Checked). dump_text x.plain.generators range.s range.t (squares_of lines)) same ∙ dump_of_images (over m) range.s range.t lines r.0 r.1.canonical h m.plain.generators;
+      }
+
+  pub is_summary_of : (given : Checked) (text : List ℕ) → given ≡ m → text ≡ summary_text (length given.plain.generators) (bottom_of given) range.s range.t (generator_count (squares_of lines)) → IsSummary range m.plain text
+  is_summary_of given text same is =
+      let r = resolved in
+      record {
+        table = r.0;
+        resolved = r.1;
+        summary = is ∙ ap (λ (x : Checked). summary_text (length x.plain.generators) (bottom_of x) range.s range.t (generator_count (squares_of lines))) same ∙ summary_of_images (over m) range.s range.t lines r.0 r.1.canonical h (length m.plain.generators) (bottom_of m);
+      }
