@@ -36,8 +36,8 @@ pub struct Ended<D> {
 /// Where the words say `--save`, the squares of the module's save file on `disk` are taken up, and each new one is kept there. Else
 /// the disk gets no call.
 ///
-/// What is made of a resolution stays in memory until the process ends. Where the words say one worker and no `--save`, a chart, the
-/// differentials and a summary are told of the images of generators alone, which take less of it than squares do.
+/// What is made of a resolution stays in memory until the process ends. Where the words say one worker and no `--save`,
+/// a chart, the differentials and a summary are made from the images of generators alone, which take less of it.
 ///
 /// The first argument is the runtime, without any bound, since no command asks anything of it. The second starts threads,
 /// waits and tells the time; a program passes its runtime for both.

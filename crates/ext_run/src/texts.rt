@@ -1,5 +1,5 @@
-//! The text of a task: a module is resolved, by the caller alone or by workers, over its save file if the words say so, and what is made
-//! of it is told: a table, or the images of generators alone.
+//! The text of a task: a module is resolved, by the caller alone or by workers, over its save file if the words say so,
+//! and what is made of it is told: a table, or the images of generators alone.
 ghost use Rattle.std.specs.Prelude.{◌≡◌, ◌≤◌, ◌<◌, ◌⊎◌, IfErr};
 ghost use Rattle.square.specs.declared.range.TheConstants.{MAX_S, MAX_T};
 ghost use Rattle.square.specs.Keeping.{IsKeeperOf};
@@ -74,8 +74,8 @@ pub(crate) fn text_by_workers<W: Threads + Wait + Clock + Sync, D: Disk + Send, 
     }
 }
 
-/// The text of a resolution, made on the caller's thread. Nothing is kept. Where the text speaks of generators and their images
-/// alone, nothing else is made.
+/// The text of a resolution, made on the caller's thread. Nothing is kept. Where the text speaks of generators and
+/// their images alone, nothing else is made.
 fn unsaved_alone(alloc: Global, resolution: Resolution) -> Result<Vec<u8>, Failure>
     requires { IsWithin resolution.common }
     ensures told { HasAnswer result →
