@@ -2,7 +2,7 @@
 -- lifts and null homotopies of minimal resolutions (May, Matric Massey products; Bruner, Calculation of large Ext modules).
 use Rattle.std.specs.Prelude.{◌≡◌, ◌↔◌, ◌++◌, ℕ, suc, ◌+◌, ◌<◌, ◌≤◌, ℤ, pos, ◌+ℤ◌, ◌-ℤ◌, ◌≤ℤ◌, Bool, false, ◌&&◌, List, [], ◌∷◌, length, map}
 use Rattle.std.specs.List.{range_with_len}
-use Rattle.f2_vec.specs.Vectors.{plus, sum_of, bit}
+use Rattle.f2_vec.specs.Vectors.{plus, sum_of, bit, IsZero}
 use Rattle.f2_vec.specs.Spans.{IsInSpan}
 use Rattle.lift_laws.specs.Maps.{shifted, FitThrough}
 use Rattle.lift_laws.specs.Lifts.{Resolution, gens, degree, free, image, d, lowered, IsLift, IsSphere, IsCanonical, dual_of}
@@ -120,3 +120,12 @@ BracketIsCoset =
     (v : List Bool) → length v ≡ count_of r (n + a.s) (a.above + b.above + c.above) →
     IsBracketMember r q a b c n l top v
     ↔ IsInSpan (count_of r (n + a.s) (a.above + b.above + c.above)) rows (sum_of v w)
+
+-- A class of row 0 of the sphere is the unit, and no product of the unit with a class is zero. So a is in a row above 0 where ab is
+-- zero, and so is b where bc is.
+abbrev pub UnitsHaveNoZeroProducts : Type 0
+UnitsHaveNoZeroProducts =
+    (r q : Resolution) (rs rt qs qt : ℕ) (a x : Class) (upto : ℕ) (top : ℤ) (phi : ℕ → ℕ → List Bool) →
+    IsCanonical r rs rt → IsCanonical q qs qt → IsSphere q → a.above ≤ qt → a.i < count_of q a.s a.above →
+    x.s ≤ rs → x.above ≤ rt → x.i < count_of r x.s x.above → degree_of_class r x ≤ℤ top →
+    IsLiftOfClass r q x upto top phi → IsZero (product_by r q a phi (x.s + a.s) (a.above + x.above)) → 0 < a.s

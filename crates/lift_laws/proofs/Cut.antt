@@ -101,7 +101,7 @@ module _ (m w : Module) (rs rn qs qn : ℕ) (rt rc qt qc : List (List Content))
   abbrev q_cut : Resolution
   q_cut = record { base = w; table = qc }
 
-  lowered-cut : (i k : ℕ) (x : ℤ) (f : ℕ → List Bool) (t : ℤ) (v : List Bool) → i ≤ rs → k ≤ qs → t <ℤ (m.bottom +ℤ pos rn) → (t -ℤ x) <ℤ (w.bottom +ℤ pos qn) → lowered r_cut i q_cut k x f t v ≡ lowered r i q k x f t v
+  pub lowered-cut : (i k : ℕ) (x : ℤ) (f : ℕ → List Bool) (t : ℤ) (v : List Bool) → i ≤ rs → k ≤ qs → t <ℤ (m.bottom +ℤ pos rn) → (t -ℤ x) <ℤ (w.bottom +ℤ pos qn) → lowered r_cut i q_cut k x f t v ≡ lowered r i q k x f t v
   lowered-cut i k x f t v h e l b =
       extended-cut (shifted x (free q_cut k)) (shifted x (free q k)) (gens r_cut i) (gens r i) f f t v (AgreeIn-shifted x t (free q_cut k) (free q k) (agree-cut w qs qn qt qc q_rows k (t -ℤ x) e b)) (basis-cut m rs rn rt rc r_rows i t h l) (λ g c. degree-cut m rs rn rt rc r_rows i g h c) (λ g c. refl)
 
