@@ -6,5 +6,5 @@ pub mod Vectors
 mod Coset
 pub mod Members
 pub mod HasMember
-pub mod UnitRow
+mod UnitRow
 mod Examples

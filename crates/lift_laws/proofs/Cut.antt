@@ -30,11 +30,6 @@ extended-cut m n ds es f h t v a basis degrees values =
     ∙ (ap (λ (u : ℤ). n.action e.1 u (f e.0)) (degrees e.0 o.generator) ∙ ap (n.action e.1 (degree_at es e.0)) (values e.0 o.generator))) in
     ap (combination (m.width t) v) (each ∙ ap (map (value_of n es h)) basis) ∙ ap (λ (w : ℕ). combination w v (map (value_of n es h) (free_basis es t))) a.width
 
--- less is more with each row cut to its first n squares, in rows through s
-pub record IsCut (s n : ℕ) (more less : Resolution) : Type 0 where
-  pub base : less.base ≡ more.base
-  pub rows : (i : ℕ) → i ≤ s → row_of less.table i ≡ take n (row_of more.table i)
-
 module _ (m : Module) (s n : ℕ) (table cut : List (List Content)) (rows : (i : ℕ) → i ≤ s → row_of cut i ≡ take n (row_of table i)) where
   abbrev big : Resolution
   big = record { base = m; table = table }
