@@ -1,5 +1,5 @@
 -- The generators of a row by squares: number i of a square is that many behind the row's generators before it.
-use Rattle.std.proofs.Common.{◌≡◌, ℕ, zero, suc, ◌+◌, ◌<◌, ◌≤◌, Bool, ℤ, pos, ◌+ℤ◌, ◌-ℤ◌, ◌<ℤ◌, ◌≤ℤ◌, List, [], ◌∷◌, ◌++◌, length, map, replicate, take, drop, refl, ap, sym, ◌∙◌, arith}
+use Rattle.std.proofs.Common.{◌≡◌, ℕ, zero, suc, ◌+◌, ◌<◌, ◌≤◌, ℤ, pos, ◌+ℤ◌, ◌-ℤ◌, ◌<ℤ◌, ◌≤ℤ◌, List, [], ◌∷◌, ◌++◌, length, map, replicate, take, drop, refl, ap, sym, ◌∙◌, arith}
 use Rattle.std.proofs.lemmas.Int.{ints}
 use Rattle.std.proofs.lemmas.List.{get_or_append_left, get_or-append-add, get_or-map, length-append, length-take-le, map-append, take_more}
 use Rattle.f2_vec.specs.Spans.{row}
@@ -31,6 +31,15 @@ pub is_number : (r : Resolution) (i n h : ℕ) → n < length (row_of r.table i)
 is_number r i n h l b =
     let new = is_new r i n l h b in
     record { there = new.generator; degree_is = new.degree_is; image_is = image_in (row_of r.table i) n h l b }
+
+-- fewer squares have no more generators
+pub images_taken : (squares : List Content) (m n : ℕ) → m ≤ n → length (images_of (take m squares)) ≤ length (images_of (take n squares))
+images_taken squares zero n h = omega arith
+images_taken [] (suc m) n h = omega arith
+images_taken (c ∷ squares) (suc m) zero h = absurd (omega arith)
+images_taken (c ∷ squares) (suc m) (suc n) h =
+    let rest = images_taken squares m n (omega arith) in
+    omega (arith, length-append c.images (images_of (take m squares)), length-append c.images (images_of (take n squares)))
 
 -- the squares before the next
 pub first_of-more : (r : Resolution) (i n : ℕ) → n < length (row_of r.table i) → first_of r i (n + 1) ≡ first_of r i n + count_of r i n

@@ -1,10 +1,7 @@
 -- What has to be covered is of the dimension that the quasi-inverse takes.
-use Rattle.std.proofs.Common.{◌≡◌, ℕ, zero, suc, ◌+◌, ◌-◌, ◌<◌, ◌≤◌, Bool, true, false, ℤ, pos, ◌+ℤ◌, ◌-ℤ◌, ◌<ℤ◌, ◌≤ℤ◌, List, length, take, Option, IfSome, refl, ap, sym, subst, ◌∙◌, arith}
+use Rattle.std.proofs.Common.{◌≡◌, ℕ, zero, suc, ◌-◌, ◌<◌, ◌≤◌, Bool, true, false, ℤ, pos, ◌+ℤ◌, ◌-ℤ◌, ◌<ℤ◌, ◌≤ℤ◌, List, length, take, Option, IfSome, ap, sym, subst, ◌∙◌, arith}
 use Rattle.std.specs.Prelude.{IsSome}
 use Rattle.std.proofs.lemmas.Int.{ints}
-use Rattle.std.proofs.lemmas.List.{length-take-le}
-use Rattle.f2_vec.specs.Vectors.{zeros}
-use Rattle.f2_vec.specs.Spans.{unit_vector}
 use Rattle.f2_vec.proofs.Sums.{length-zeros}
 use Rattle.f2_vec.proofs.Split.{length-unit_vector}
 use Rattle.f2_vec.proofs.Spans.{length-combination}
@@ -16,12 +13,11 @@ use Rattle.free_module.proofs.MapRows.{HaveWidth-map_rows}
 use Rattle.milnor_laws.proofs.FreeModules.{free_modules_are_modules}
 use Rattle.resolution_laws.specs.Resolution.{row_of}
 use Rattle.square.specs.Squares.{over, bottom_of}
-use Rattle.square.specs.Tables.{Staircase, row_in, plain_rows, square_at, IsTable}
-use Rattle.square.proofs.Places.{length-row_of}
+use Rattle.square.specs.Tables.{Staircase, plain_rows, square_at}
 use Rattle.lift_laws.specs.Lifts.{gens, IsSphere}
 use Rattle.chain_map.specs.Rows.{IsInverseAt, lowered_row}
-use Rattle.chain_map.specs.Lifting.{resolution_of}
-use Rattle.chain_map.specs.Inside.Making.{Reaches, class_value, target_of}
+use Rattle.chain_map.specs.Lifting.{resolution_of, target_of}
+use Rattle.chain_map.specs.Inside.Making.{Reaches, class_value}
 use Rattle.chain_map.proofs.Generators.{within-reach}
 use Rattle.square.proofs.ByDegree.{square_is_there}
 use Rattle.chain_map.proofs.Widths.{HasPlace, width-take, first_goal_fits, next_goal_fits}

@@ -1,15 +1,13 @@
 -- Lifts grow by a row.
-use Rattle.std.proofs.Common.{◌≡◌, inl, inr, ℕ, zero, suc, ◌+◌, ◌-◌, ◌<◌, ◌≤◌, Bool, ℤ, pos, ◌+ℤ◌, ◌-ℤ◌, ◌≤ℤ◌, List, [], ◌∷◌, ◌++◌, length, refl, ap, sym, subst, ◌∙◌, arith}
-use Rattle.std.proofs.lemmas.Int.{ints}
+use Rattle.std.proofs.Common.{◌≡◌, inl, inr, ℕ, zero, suc, ◌+◌, ◌<◌, ◌≤◌, Bool, ℤ, pos, ◌+ℤ◌, List, [], ◌∷◌, ◌++◌, refl, ap, sym, subst, ◌∙◌, arith}
 use Rattle.std.proofs.lemmas.Bool.{cases_lt}
 use Rattle.std.proofs.lemmas.List.{get_or_append_left, get_or_push, length_push}
-use Rattle.square.specs.declared.range.TheConstants.{MAX_S}
 use Rattle.square.specs.Squares.{bottom_of}
-use Rattle.square.specs.Tables.{Staircase, row_in}
+use Rattle.square.specs.Tables.{Staircase}
 use Rattle.chain_map.specs.Rows.{RowValues, chosen_preimage}
-use Rattle.chain_map.specs.Lifting.{LiftValues, row_values, no_values}
-use Rattle.chain_map.specs.Inside.Making.{AreMade, next_goal, goal_of, IsMade, Reaches}
-use Rattle.square.proofs.Pushing.{never_rises_by}
+use Rattle.chain_map.specs.Lifting.{LiftValues, row_values, no_values, next_goal}
+use Rattle.chain_map.specs.Inside.Making.{AreMade, goal_of, IsMade, Reaches}
+use Rattle.square.proofs.Pushing.{never_rises}
 
 -- the same values for what is the same to be covered
 AreMade-same : (table sphere : Staircase) (i k : ℕ) (x : ℤ) (goal other : ℕ → List Bool) (n : ℕ) (v : RowValues) → ((g : ℕ) → goal g ≡ other g) → AreMade table sphere i k x goal n v → AreMade table sphere i k x other n v
@@ -50,12 +48,8 @@ made_row table sphere s above n far c k old new row e made added =
 -- the tables have the rows below
 pub reaches_below : (table sphere : Staircase) (s above k upto n far : ℕ) → k ≤ upto → Reaches table sphere s above upto n far → Reaches table sphere s above k n far
 reaches_below table sphere s above k upto n far l p =
-    let e : (s + k) + (upto - k) ≡ s + upto = omega arith in
-    let f : k + (upto - k) ≡ upto = omega arith in
-    let same = ap (λ (z : ℕ). length (row_in table.rows z)) e in
-    let same_q = ap (λ (z : ℕ). length (row_in sphere.rows z)) f in
-    let more = never_rises_by table p.is_table (s + k) (upto - k) in
-    let more_q = never_rises_by sphere p.is_sphere_table k (upto - k) in
+    let more = never_rises table p.is_table (s + k) (s + upto) (omega arith) in
+    let more_q = never_rises sphere p.is_sphere_table k upto l in
     let row = p.row in
     let here = p.here in
     let there = p.there in

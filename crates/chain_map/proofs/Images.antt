@@ -1,12 +1,12 @@
 -- Over two tables, whatever their squares hold, a lift is a chain map.
-use Rattle.std.proofs.Common.{◌≡◌, ℕ, suc, ◌+◌, ◌<◌, ◌≤◌, ℤ, pos, ◌+ℤ◌, ◌-ℤ◌, Bool, List, length, ap, sym, subst, ◌∙◌, arith}
+use Rattle.std.proofs.Common.{ℕ, suc, ℤ, ◌-ℤ◌, Bool, List, length, ap, sym, subst, ◌∙◌, arith}
 use Rattle.free_module.specs.FreeModule.{free_width}
 use Rattle.resolution_laws.specs.Resolution.{row_of}
 use Rattle.resolution_laws.proofs.Generators.{generator_at}
-use Rattle.square.specs.Tables.{Staircase, plain_rows, IsTable}
+use Rattle.square.specs.Tables.{Staircase, IsTable}
 use Rattle.square.proofs.Places.{length-row_of}
 use Rattle.lift_laws.specs.Maps.{FitThrough}
-use Rattle.lift_laws.specs.Lifts.{gens, free, image, HasImages, IsLift, IsChainMap}
+use Rattle.lift_laws.specs.Lifts.{gens, free, image, IsLift, IsChainMap}
 use Rattle.lift_laws.proofs.ChainMaps.{chain_maps}
 use Rattle.chain_map.specs.Lifting.{resolution_of, TablesHaveImages}
 use Rattle.chain_map.proofs.Widths.{image_widths}

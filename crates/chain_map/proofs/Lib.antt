@@ -9,3 +9,5 @@ pub mod Goals
 pub mod Places
 mod Growing
 mod Finished
+pub mod Classes
+pub mod Applied

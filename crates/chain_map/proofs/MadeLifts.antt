@@ -1,42 +1,36 @@
 -- Values that quasi-inverses give are a lift: their dimensions for all tables, and that d takes them to what it has to where
 -- the squares are canonical.
-use Rattle.std.proofs.Common.{◌≡◌, inl, inr, ℕ, zero, suc, ◌+◌, ◌-◌, ◌<◌, ◌≤◌, Bool, true, ℤ, pos, ◌+ℤ◌, ◌-ℤ◌, ◌<ℤ◌, ◌≤ℤ◌, nat_eq, if◌then◌else◌, List, [], ◌∷◌, ◌++◌, length, take, drop, replicate, Option, Some, None, refl, ap, sym, subst, ◌∙◌, arith}
+use Rattle.std.proofs.Common.{◌≡◌, inl, inr, ℕ, zero, suc, ◌+◌, ◌<◌, ◌≤◌, Bool, true, ℤ, pos, ◌+ℤ◌, ◌-ℤ◌, ◌<ℤ◌, ◌≤ℤ◌, if◌then◌else◌, List, [], ◌∷◌, length, take, refl, ap, sym, subst, ◌∙◌, arith}
 use Rattle.std.proofs.lemmas.Int.{ints}
 use Rattle.std.proofs.lemmas.Bool.{cases_lt}
 use Rattle.std.proofs.lemmas.Bool.Decides.{eqb_tells}
-use Rattle.std.proofs.lemmas.List.{get_or_append_left, length-take-le, nil_from_length}
 use Rattle.f2_vec.specs.Vectors.{zeros}
-use Rattle.f2_vec.specs.Spans.{row}
 use Rattle.f2_vec.proofs.Sums.{length-zeros}
-use Rattle.f2_matrix.specs.Reduction.{Reduction, IsReductionOf}
-use Rattle.free_module.specs.FreeModule.{degree_at, free_width}
-use Rattle.free_module.specs.Graded.{IsSteenrodModule, free_graded}
-use Rattle.free_module.specs.LinearMap.{map_rows, mapped}
+use Rattle.free_module.specs.FreeModule.{free_width}
 use Rattle.milnor_laws.proofs.FreeModules.{free_modules_are_modules}
-use Rattle.resolution_laws.specs.Resolution.{Content, square_in, degrees_from, images_of, row_of, below_of, target_over}
-use Rattle.resolution_laws.specs.Exactness.{target_of}
-use Rattle.resolution_laws.proofs.Rows.{degrees_from-between, degrees_from-split}
+use Rattle.resolution_laws.specs.Resolution.{Content, degrees_from, row_of}
 use Rattle.resolution_laws.proofs.Generators.{length-images_of}
+use Rattle.square.specs.declared.range.Range.{Range}
 use Rattle.square.specs.Squares.{over, bottom_of}
-use Rattle.square.specs.Tables.{Staircase, row_in, plain_rows, content_at, IsTable, IsQuasiAt}
+use Rattle.square.specs.Tables.{Staircase, row_in, plain_rows, IsTable}
 use Rattle.square.proofs.Places.{length-row_of}
-use Rattle.lift_laws.specs.Maps.{shifted, extended, FitThrough}
+use Rattle.lift_laws.specs.Maps.{shifted, FitThrough}
 use Rattle.lift_laws.specs.Lifts.{Resolution, gens, degree, free, image, d, lowered, IsLift, IsSphere}
 use Rattle.lift_laws.specs.Products.{first_of, count_of}
 use Rattle.lift_laws.proofs.Linear.{length-extended, IsSteenrodModule-shifted}
-use Rattle.lift_laws.proofs.Facts.{free_width-below, IsMap-d}
 use Rattle.lift_laws.proofs.Resolved.{IsResolved}
 use Rattle.lift_laws.proofs.Existence.{cycle}
-use Rattle.lift_laws.proofs.Bridge.{mapped-lowered}
-use Rattle.lift_laws.proofs.Quasi.{IsCycle, IsPreimageOf, quasi-gives}
-use Rattle.lift_laws.proofs.Cut.{degree-cut, image-cut, basis-cut, IsLift-uncut}
+use Rattle.lift_laws.proofs.Cut.{degree-cut, image-cut, basis-cut, lowered-cut, IsLift-uncut}
 use Rattle.chain_map.specs.Rows.{IsInverseAt, chosen_preimage}
-use Rattle.chain_map.specs.Lifting.{resolution_of, LiftValues, row_values, map_of}
-use Rattle.chain_map.specs.Inside.Making.{IsChosenFor, AreMade, class_of, next_goal, goal_of, IsMade}
-use Rattle.chain_map.proofs.Generators.{is_number, lowered-row, degree-below}
-use Rattle.chain_map.proofs.Widths.{HasPlace, value_width, width-take}
-use Rattle.square.proofs.Pushing.{never_rises_by}
-use Rattle.chain_map.proofs.Resolved.{part, part_of, row_of-part, long-row}
+use Rattle.chain_map.specs.Lifting.{resolution_of, LiftValues, row_values, map_of, IsChosenFor, next_goal}
+use Rattle.chain_map.specs.Classes.{through}
+use Rattle.chain_map.specs.Inside.Making.{class_of, goal_of, IsMade}
+use Rattle.chain_map.proofs.Applied.{mapped-is}
+use Rattle.chain_map.proofs.Classes.{rows_through}
+use Rattle.chain_map.proofs.Generators.{is_number, images_taken, degree-below}
+use Rattle.chain_map.proofs.Widths.{HasPlace, value_width}
+use Rattle.square.proofs.Pushing.{never_rises}
+use Rattle.chain_map.proofs.Resolved.{long-row}
 use Rattle.chain_map.proofs.Preimages.{gives-of}
 
 module _ (table sphere : Staircase) (h : IsTable table) (hq : IsTable sphere) (is_sphere : IsSphere (resolution_of sphere))
@@ -56,18 +50,12 @@ module _ (table sphere : Staircase) (h : IsTable table) (hq : IsTable sphere) (i
 
   long-at : (k : ℕ) → k ≤ upto → n ≤ length (row_of r.table (s + k))
   long-at k l =
-      let e : (s + k) + (upto - k) ≡ s + upto = omega arith in
-      let same = ap (λ (z : ℕ). length (row_in table.rows z)) e in
-      let more = never_rises_by table h (s + k) (upto - k) in
+      let more = never_rises table h (s + k) (s + upto) (omega arith) in
       let len = length-row_of table.rows (s + k) in
       omega arith
 
   reach-at : (k : ℕ) → k ≤ upto → far ≤ length (row_in sphere.rows k)
-  reach-at k l =
-      let e : k + (upto - k) ≡ upto = omega arith in
-      let same = ap (λ (z : ℕ). length (row_in sphere.rows z)) e in
-      let more = never_rises_by sphere hq k (upto - k) in
-      omega arith
+  reach-at k l = let more = never_rises sphere hq k upto l in omega arith
 
   -- the degrees of values are places of the sphere's rows, or below its bottom
   pub has-place : (k g : ℕ) → k ≤ upto → g < first_of r (s + k) n → HasPlace sphere k (degree r (s + k) g -ℤ x)
@@ -86,14 +74,20 @@ module _ (table sphere : Staircase) (h : IsTable table) (hq : IsTable sphere) (i
 
   -- ---- over canonical squares
 
-  module _ (t tq : ℕ) (n_is : n ≡ t + 1) (far_is : far ≡ tq + 1) (all : count ≡ upto + 1) (class_there : above < length (row_in table.rows s)) (class : c < count_of r s above)
+  module _ (t tq : ℕ) (n_more : t + 1 ≤ n) (far_more : tq + 1 ≤ far) (near : t ≤ above + tq) (all : count ≡ upto + 1) (class_there : above < length (row_in table.rows s)) (class : c < count_of r s above)
       (inside : t < length (row_in table.rows (s + upto))) (inside_q : tq < length (row_in sphere.rows upto))
-      (p : IsResolved (part_of table h (s + upto) t inside) (s + upto) t) (o : IsResolved (part_of sphere hq upto tq inside_q) upto tq) where
+      (p : IsResolved (through (record { s = s + upto; t = t }) table) (s + upto) t) (o : IsResolved (through (record { s = upto; t = tq }) sphere) upto tq) where
+    abbrev near_r : Range
+    near_r = record { s = s + upto; t = t }
+
+    abbrev near_q : Range
+    near_q = record { s = upto; t = tq }
+
     abbrev rc : Resolution
-    rc = part_of table h (s + upto) t inside
+    rc = through near_r table
 
     abbrev qc : Resolution
-    qc = part_of sphere hq upto tq inside_q
+    qc = through near_q sphere
 
     abbrev top : ℤ
     top = bottom_of table.resolved +ℤ pos t
@@ -102,25 +96,25 @@ module _ (table sphere : Staircase) (h : IsTable table) (hq : IsTable sphere) (i
     z = class_of table sphere s above c
 
     r_rows : (i : ℕ) → i ≤ s + upto → row_of rc.table i ≡ take (t + 1) (row_of r.table i)
-    r_rows i l = row_of-part table h (s + upto) t inside i l
+    r_rows = rows_through table near_r
 
     q_rows : (i : ℕ) → i ≤ upto → row_of qc.table i ≡ take (tq + 1) (row_of q.table i)
-    q_rows i l = row_of-part sphere hq upto tq inside_q i l
+    q_rows = rows_through sphere near_q
 
     -- the generators of the part are those with values
     with-value : (i g : ℕ) → i ≤ s + upto → g < length (gens rc i) → g < first_of r i (t + 1)
     with-value i g l b = omega (arith, ap (λ (w : List Content). length (degrees_from (bottom_of table.resolved) w)) (r_rows i l), length-images_of (bottom_of table.resolved) (take (t + 1) (row_of r.table i)))
 
     same-degree : (i g : ℕ) → i ≤ s + upto → g < length (gens rc i) → degree rc i g ≡ degree r i g
-    same-degree i g l b = degree-cut (over table.resolved) (s + upto) (t + 1) (plain_rows table.rows) (part table h (s + upto) t inside) r_rows i g l b
+    same-degree i g l b = degree-cut (over table.resolved) (s + upto) (t + 1) (plain_rows table.rows) rc.table r_rows i g l b
 
     same-image : (i g : ℕ) → i ≤ s + upto → g < length (gens rc i) → image rc i g ≡ image r i g
-    same-image i g l b = image-cut (over table.resolved) (s + upto) (t + 1) (plain_rows table.rows) (part table h (s + upto) t inside) r_rows i g l b
+    same-image i g l b = image-cut (over table.resolved) (s + upto) (t + 1) (plain_rows table.rows) rc.table r_rows i g l b
 
     low-degree : (i g : ℕ) → i ≤ s + upto → g < length (gens rc i) → degree rc i g <ℤ (bottom_of table.resolved +ℤ pos (t + 1))
     low-degree i g l b =
         let same = same-degree i g l b in
-        let low = degree-below r i (t + 1) g (let len = long-row table h (s + upto) t inside i l in omega arith) (with-value i g l b) in
+        let low = degree-below r i (t + 1) g (let len = long-row table h near_r inside i l in omega arith) (with-value i g l b) in
         omega (arith, ints)
 
     -- what was made, for a generator of the part
@@ -129,7 +123,7 @@ module _ (table sphere : Staircase) (h : IsTable table) (hq : IsTable sphere) (i
         let row_made = made.values k (omega arith) in
         let one = row_made.one_each in
         let there = with-value (s + k) g (omega arith) b in
-        let same = ap (λ (w : ℕ). first_of r (s + k) w) n_is in
+        let more = images_taken (row_of r.table (s + k)) (t + 1) n n_more in
         row_made.each g (omega arith)
 
     fits-part : (k g : ℕ) → k ≤ upto → g < length (gens rc (s + k)) → length (phi k g) ≡ free_width (gens qc k) (degree rc (s + k) g -ℤ x)
@@ -138,13 +132,13 @@ module _ (table sphere : Staircase) (h : IsTable table) (hq : IsTable sphere) (i
         let there = with-value i g (omega arith) b in
         let row_made = made.values k (omega arith) in
         let one = row_made.one_each in
-        let same_first = ap (λ (w : ℕ). first_of r i w) n_is in
+        let more = images_taken (row_of r.table i) (t + 1) n n_more in
         let same = same-degree i g (omega arith) b in
         let low = low-degree i g (omega arith) b in
         let zero = is_sphere.bottom in
         value-fits k g (omega arith) (omega arith)
         ∙ (ap (λ (u : ℤ). free_width (gens q k) (u -ℤ x)) (sym same)
-        ∙ sym (ap length (basis-cut (over sphere.resolved) upto (tq + 1) (plain_rows sphere.rows) (part sphere hq upto tq inside_q) q_rows k (degree rc i g -ℤ x) l (omega (arith, ints)))))
+        ∙ sym (ap length (basis-cut (over sphere.resolved) upto (tq + 1) (plain_rows sphere.rows) qc.table q_rows k (degree rc i g -ℤ x) l (omega (arith, ints)))))
 
     fit-part : (k i : ℕ) → k ≤ upto → i ≡ s + k → FitThrough (shifted x (free qc k)) (gens rc i) top (phi k)
     fit-part k i l e =
@@ -177,7 +171,7 @@ module _ (table sphere : Staircase) (h : IsTable table) (hq : IsTable sphere) (i
         let S : ℤ → Type 0 = λ w. IsInverseAt sphere 0 (w -ℤ x) made_here.inverse in
         let zero = is_sphere.bottom in
         let low_g = low-degree s g (omega arith) b in
-        gives-of sphere hq upto tq inside_q o 0 (degree rc s g -ℤ x) (z g) (phi 0 g) made_here.inverse (omega arith) (omega (arith, ints)) (subst S (sym same) made_here.is) made_here.value fits (z-fits g b low) tt
+        gives-of sphere hq near_q inside_q o 0 (degree rc s g -ℤ x) (z g) (phi 0 g) made_here.inverse (omega arith) (omega (arith, ints)) (subst S (sym same) made_here.is) made_here.value fits (z-fits g b low) tt
 
     next-value : (k g : ℕ) → k < upto → IsLift rc qc s x z k top phi → g < length (gens rc (suc (s + k))) → degree rc (suc (s + k)) g ≤ℤ top → d qc (suc k) (degree rc (suc (s + k)) g -ℤ x) (phi (suc k) g) ≡ lowered rc (s + k) qc k x (phi k) (degree rc (suc (s + k)) g) (image rc (suc (s + k)) g)
     next-value k g l lift_k b low =
@@ -191,25 +185,20 @@ module _ (table sphere : Staircase) (h : IsTable table) (hq : IsTable sphere) (i
         let made_here = subst P e (chosen (suc k) g (omega arith)) b in
         let Q : ℕ → Type 0 = λ i'. g < length (gens rc i') → length (phi (suc k) g) ≡ free_width (gens qc (suc k)) (degree rc i' g -ℤ x) in
         let fits = subst Q e (fits-part (suc k) g (omega arith)) b in
-        let source = degrees_from (bottom_of table.resolved) (take n (row_of r.table i)) in
-        let target = degrees_from (bottom_of sphere.resolved) (take far (row_of q.table k)) in
-        let source_is : source ≡ gens rc i = ap (λ (w : ℕ). degrees_from (bottom_of table.resolved) (take w (row_of r.table i))) n_is ∙ ap (degrees_from (bottom_of table.resolved)) (sym (r_rows i (omega arith))) in
-        let target_is : target ≡ gens qc k = ap (λ (w : ℕ). degrees_from (bottom_of sphere.resolved) (take w (row_of q.table k))) far_is ∙ ap (degrees_from (bottom_of sphere.resolved)) (sym (q_rows k (omega arith))) in
-        let goal = next_goal table sphere i k above n far (row_values lift k).vectors g in
-        let goal_is : goal ≡ wanted =
-        ap (λ (w : List ℤ). mapped (free_graded target) w (row_values lift k).vectors (degree r (suc i) g -ℤ x) (image r (suc i) g)) (sym (lowered-row (bottom_of table.resolved) above (take n (row_of r.table i))))
-        ∙ (mapped-lowered (free_graded target) x source (row_values lift k).vectors (degree r (suc i) g) (image r (suc i) g)
-        ∙ (ap (λ (w : List ℤ). extended (shifted x (free_graded w)) source (phi k) (degree r (suc i) g) (image r (suc i) g)) target_is
-        ∙ (ap (λ (w : List ℤ). extended (shifted x (free qc k)) w (phi k) (degree r (suc i) g) (image r (suc i) g)) source_is
-        ∙ (ap (λ (w : ℤ). lowered rc i qc k x (phi k) w (image r (suc i) g)) (sym same) ∙ ap (lowered rc i qc k x (phi k) (degree rc (suc i) g)) (sym im))))) in
+        let deg = degree r (suc i) g in
+        let im_g = image r (suc i) g in
+        let low_g = low-degree (suc i) g (omega arith) b in
+        let zero = is_sphere.bottom in
+        let goal_is : next_goal table sphere i k above n far (row_values lift k).vectors g ≡ wanted =
+        mapped-is table sphere i k above n far x (row_values lift k).vectors (phi k) deg im_g refl (omega (arith, ints)) (omega (arith, ints)) (λ g l. refl)
+        ∙ (sym (lowered-cut (over table.resolved) (over sphere.resolved) (s + upto) (t + 1) upto (tq + 1) (plain_rows table.rows) rc.table (plain_rows sphere.rows) qc.table r_rows q_rows i k x (phi k) deg im_g (omega arith) (omega arith) (omega (arith, ints)) (omega (arith, ints)))
+        ∙ (ap (λ (w : ℤ). lowered rc i qc k x (phi k) w im_g) (sym same) ∙ ap (lowered rc i qc k x (phi k) (degree rc (suc i) g)) (sym im))) in
         let good = IsSteenrodModule-shifted x (free qc k) (free_modules_are_modules (gens qc k)) in
         let len : length wanted ≡ free_width (gens qc k) u = length-extended (shifted x (free qc k)) good (gens rc i) top (phi k) (lift_k.fit k i (omega arith) refl) (degree rc (suc i) g) (image rc (suc i) g) low in
-        let zero = is_sphere.bottom in
         let reach_top : (top -ℤ x) ≤ℤ (qc.base.bottom +ℤ pos tq) = omega (arith, ints) in
         let cyc = cycle rc qc (s + upto) t upto tq p o (record { bottom = is_sphere.bottom; one = is_sphere.one; none = is_sphere.none }) s x top reach_top z z-fits k i phi lift_k refl (omega arith) (omega arith) g b low in
         let S : ℤ → Type 0 = λ w. IsInverseAt sphere (suc k) (w -ℤ x) made_here.inverse in
-        let low_g = low-degree (suc i) g (omega arith) b in
-        gives-of sphere hq upto tq inside_q o (suc k) u wanted (phi (suc k) g) made_here.inverse (omega arith) (omega (arith, ints)) (subst S (sym same) made_here.is) (made_here.value ∙ ap (chosen_preimage made_here.inverse) goal_is) fits len cyc
+        gives-of sphere hq near_q inside_q o (suc k) u wanted (phi (suc k) g) made_here.inverse (omega arith) (omega (arith, ints)) (subst S (sym same) made_here.is) (made_here.value ∙ ap (chosen_preimage made_here.inverse) goal_is) fits len cyc
 
     lift-part : (k : ℕ) → k ≤ upto → IsLift rc qc s x z k top phi
     lift-part zero l = record { fit = λ k i b e. fit-part k i (omega arith) e; start = first-start; commutes = λ k i j b e f g there low. absurd (omega arith) }
@@ -234,4 +223,4 @@ module _ (table sphere : Staircase) (h : IsTable table) (hq : IsTable sphere) (i
     pub is-lift : IsLift r q s x z upto top phi
     is-lift =
         let zero = is_sphere.bottom in
-        IsLift-uncut (over table.resolved) (over sphere.resolved) (s + upto) (t + 1) upto (tq + 1) (plain_rows table.rows) (part table h (s + upto) t inside) (plain_rows sphere.rows) (part sphere hq upto tq inside_q) r_rows q_rows s x z upto top phi (omega arith) (omega arith) (omega (arith, ints)) (omega (arith, ints)) (lift-part upto (omega arith))
+        IsLift-uncut (over table.resolved) (over sphere.resolved) (s + upto) (t + 1) upto (tq + 1) (plain_rows table.rows) rc.table (plain_rows sphere.rows) qc.table r_rows q_rows s x z upto top phi (omega arith) (omega arith) (omega (arith, ints)) (omega (arith, ints)) (lift-part upto (omega arith))

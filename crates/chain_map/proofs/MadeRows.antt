@@ -1,7 +1,6 @@
 -- The values on a row grow by a square, value by value.
-use Rattle.std.proofs.Common.{◌≡◌, inl, inr, ℕ, zero, suc, ◌+◌, ◌<◌, ◌≤◌, Bool, ℤ, pos, ◌+ℤ◌, ◌-ℤ◌, List, [], ◌∷◌, ◌++◌, length, map, refl, ap, sym, subst, ◌∙◌, arith}
+use Rattle.std.proofs.Common.{◌≡◌, inl, inr, ℕ, ◌+◌, ◌<◌, Bool, ℤ, pos, ◌+ℤ◌, ◌-ℤ◌, List, [], ◌∷◌, ◌++◌, length, map, refl, ap, sym, subst, ◌∙◌, arith}
 use Rattle.std.specs.List.{range_with_len}
-use Rattle.std.proofs.lemmas.Int.{ints}
 use Rattle.std.proofs.lemmas.Bool.{cases_lt}
 use Rattle.std.proofs.lemmas.List.{get_or_append_left, get_or_push, length_push}
 use Rattle.std.proofs.lemmas.List.FromFn.{map-range_with_len_more}
@@ -11,8 +10,8 @@ use Rattle.square.specs.Tables.{Staircase}
 use Rattle.lift_laws.specs.Lifts.{degree}
 use Rattle.lift_laws.specs.Products.{first_of, count_of}
 use Rattle.chain_map.specs.Rows.{RowValues}
-use Rattle.chain_map.specs.Lifting.{resolution_of}
-use Rattle.chain_map.specs.Inside.Making.{IsChosenFor, AreMade, AreMadeTo}
+use Rattle.chain_map.specs.Lifting.{resolution_of, IsChosenFor}
+use Rattle.chain_map.specs.Inside.Making.{AreMade, AreMadeTo}
 use Rattle.chain_map.proofs.Generators.{is_number, first_of-more}
 
 module _ (table sphere : Staircase) (i k : ℕ) (x : ℤ) (goal : ℕ → List Bool) where

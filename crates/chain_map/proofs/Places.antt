@@ -1,11 +1,10 @@
 -- What a value has to be a preimage of, by the numbers of generators and by their places in squares.
-use Rattle.std.proofs.Common.{◌≡◌, inl, inr, ℕ, zero, suc, ◌+◌, ◌<◌, ◌≤◌, Bool, true, false, ◌&&◌, nat_eq, if◌then◌else◌, ℤ, pos, ◌+ℤ◌, ◌-ℤ◌, ◌<ℤ◌, ◌≤ℤ◌, List, [], ◌∷◌, length, map, take, refl, ap, sym, subst, ◌∙◌, arith}
+use Rattle.std.proofs.Common.{◌≡◌, inl, inr, ℕ, zero, suc, ◌+◌, ◌<◌, ◌≤◌, Bool, true, false, ◌&&◌, nat_eq, if◌then◌else◌, ℤ, pos, ◌+ℤ◌, ◌-ℤ◌, ◌<ℤ◌, List, [], ◌∷◌, length, take, ap, sym, ◌∙◌, arith}
 use Rattle.std.proofs.lemmas.Int.{ints}
 use Rattle.std.proofs.lemmas.Bool.Decides.{eqb_tells}
-use Rattle.std.proofs.lemmas.List.{get_or-map, length-map}
 use Rattle.f2_vec.specs.Vectors.{zeros}
 use Rattle.f2_vec.specs.Spans.{row, unit_vector}
-use Rattle.free_module.specs.FreeModule.{degree_at, free_basis, free_width}
+use Rattle.free_module.specs.FreeModule.{degree_at, free_width}
 use Rattle.free_module.specs.Graded.{free_graded}
 use Rattle.free_module.specs.LinearMap.{AreImages, mapped}
 use Rattle.resolution_laws.specs.Resolution.{Content, degrees_from, row_of}
@@ -18,8 +17,8 @@ use Rattle.lift_laws.specs.Lifts.{gens, degree, image, IsSphere}
 use Rattle.lift_laws.specs.Products.{first_of, count_of}
 use Rattle.lift_laws.proofs.Bridge.{basis-lowered}
 use Rattle.chain_map.specs.Rows.{lowered_row}
-use Rattle.chain_map.specs.Lifting.{resolution_of, LiftValues, row_values}
-use Rattle.chain_map.specs.Inside.Making.{class_of, class_value, next_goal, target_of, IsMade, Reaches}
+use Rattle.chain_map.specs.Lifting.{resolution_of, LiftValues, row_values, next_goal, target_of}
+use Rattle.chain_map.specs.Inside.Making.{class_of, class_value, IsMade, Reaches}
 use Rattle.chain_map.proofs.Generators.{is_number, number_is_once, lowered-row, degree-below, degree-lowered}
 use Rattle.chain_map.proofs.Widths.{image_widths, width-take}
 use Rattle.chain_map.proofs.MadeLifts.{value-fits}

@@ -1,5 +1,5 @@
 -- Dimensions: of the vectors that a quasi-inverse takes and gives, and of the images of generators.
-use Rattle.std.proofs.Common.{◌≡◌, ℕ, zero, suc, ◌+◌, ◌<◌, ◌≤◌, Bool, ℤ, pos, ◌+ℤ◌, ◌-ℤ◌, ◌<ℤ◌, ◌≤ℤ◌, List, [], ◌∷◌, ◌++◌, length, map, take, replicate, Option, Some, None, IfSome, refl, ap, sym, subst, ◌∙◌, arith}
+use Rattle.std.proofs.Common.{◌≡◌, ℕ, suc, ◌+◌, ◌<◌, Bool, ℤ, pos, ◌+ℤ◌, ◌<ℤ◌, List, [], ◌++◌, length, take, Option, Some, None, IfSome, refl, ap, sym, subst, ◌∙◌, arith}
 use Rattle.std.proofs.lemmas.Int.{ints}
 use Rattle.std.proofs.lemmas.List.{length-map, length-take-le, take_more}
 use Rattle.f2_vec.specs.Spans.{HaveWidth}
@@ -7,18 +7,17 @@ use Rattle.f2_matrix.specs.Reduction.{Reduction}
 use Rattle.free_module.specs.FreeModule.{free_basis, free_width}
 use Rattle.free_module.specs.LinearMap.{image_of}
 use Rattle.f2_matrix.proofs.Unique.{kernel_basis_unique}
-use Rattle.resolution_laws.specs.Resolution.{Module, Content, no_content, square_in, degrees_from, images_of, row_of, below_of, target_over}
+use Rattle.resolution_laws.specs.Resolution.{Content, no_content, degrees_from, images_of, row_of, below_of, target_over}
 use Rattle.resolution_laws.proofs.Rows.{degrees_from-push, free_basis-take}
-use Rattle.resolution_laws.specs.Start.{squares_below, row_below, IsOf}
+use Rattle.resolution_laws.specs.Start.{squares_below}
 use Rattle.resolution_laws.proofs.StartTables.{start_table_shape}
-use Rattle.square.specs.Squares.{over, bottom_of, degrees_with, target_width}
+use Rattle.square.specs.Squares.{over, bottom_of, degrees_with}
 use Rattle.square.specs.Tables.{Staircase, row_in, plain_rows, content_at, IsTable, IsQuasiAt}
 use Rattle.square.proofs.Places.{length-row_of, table_under, table_before, table_content}
-use Rattle.lift_laws.specs.Lifts.{Resolution, gens}
+use Rattle.lift_laws.specs.Lifts.{gens}
 use Rattle.lift_laws.proofs.Facts.{free_width-below}
 use Rattle.chain_map.specs.Rows.{IsInverseAt, chosen_preimage}
-use Rattle.chain_map.specs.Lifting.{resolution_of}
-use Rattle.chain_map.specs.Inside.Making.{IsChosenFor}
+use Rattle.chain_map.specs.Lifting.{resolution_of, IsChosenFor}
 
 -- the generators of later squares add nothing
 pub width-take : (b : ℤ) (squares : List Content) (n : ℕ) (t : ℤ) → t <ℤ (b +ℤ pos n) → free_width (degrees_from b (take n squares)) t ≡ free_width (degrees_from b squares) t

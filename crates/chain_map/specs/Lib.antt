@@ -1,3 +1,4 @@
 pub mod Lifting
 pub mod Rows
+pub mod Classes
 pub mod Inside

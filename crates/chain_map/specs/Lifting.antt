@@ -1,18 +1,23 @@
 -- Lifts of classes over the squares of two tables.
-use Rattle.std.specs.Prelude.{◌≡◌, ℕ, zero, suc, ◌+◌, ◌<◌, ◌≤◌, ℤ, pos, ◌+ℤ◌, ◌-ℤ◌, min, Bool, List, [], length, map, slice_index_or}
+use Rattle.std.specs.Prelude.{◌≡◌, ℕ, zero, suc, ◌+◌, ◌<◌, ◌≤◌, ℤ, pos, ◌+ℤ◌, ◌-ℤ◌, min, Bool, List, [], length, map, take, slice_index_or, Option, IfSome}
 use Rattle.std.specs.List.{range_with_len}
 use Rattle.f2_vec.specs.Spans.{row}
+use Rattle.f2_matrix.specs.Reduction.{Reduction}
 use Rattle.free_module.specs.FreeModule.{free_width}
+use Rattle.free_module.specs.Graded.{free_graded}
+use Rattle.free_module.specs.LinearMap.{mapped}
 use Rattle.finite_module.specs.Checked.{sphere_file}
 use Rattle.finite_module.specs.DerivedAction.{derived_module}
+use Rattle.resolution_laws.specs.Resolution.{degrees_from, row_of}
 use Rattle.resolution_laws.specs.Start.{IsOf}
+use Rattle.square.specs.declared.range.Range.{Range}
 use Rattle.square.specs.Squares.{over, bottom_of}
 use Rattle.square.specs.Tables.{Staircase, row_in, plain_rows, content_at, IsTable}
-use Rattle.lift_laws.specs.Lifts.{Resolution, IsSphere, gens, degree, HasImages, IsChainMap}
+use Rattle.lift_laws.specs.Lifts.{Resolution, IsSphere, gens, degree, image, HasImages, IsChainMap}
 use Rattle.lift_laws.specs.Products.{first_of, count_of, number_of, IsLiftOfClass}
 use Rattle.lift_laws.specs.Products.{Class as ClassAbove}
 use Rattle.chain_map.specs.declared.class.Class.{Class}
-use Rattle.chain_map.specs.Rows.{RowValues, first_in, value_at, HasValueAt}
+use Rattle.chain_map.specs.Rows.{RowValues, first_in, value_at, HasValueAt, lowered_row, IsInverseAt, chosen_preimage}
 
 -- the resolution whose squares a table has
 abbrev pub resolution_of : Staircase → Resolution
@@ -32,6 +37,10 @@ TablesHaveImages = (table : Staircase) → IsTable table → (from rows : ℕ) (
 -- each square of the rows through s, in the first n degrees from the bottom on, is that of the canonical resolution
 abbrev pub AreCanonical : Staircase → ℕ → ℕ → Type 0
 AreCanonical table s n = (i k : ℕ) → i ≤ s → k < n → IsOf (over table.resolved) [] i k (content_at table.rows i k)
+
+-- so are those of a range
+abbrev pub IsCanonicalIn : Range → Staircase → Type 0
+IsCanonicalIn range table = AreCanonical table range.s (range.t + 1)
 
 -- ---- classes
 
@@ -101,19 +110,47 @@ pub record AreValues (table sphere : Staircase) (s : ℕ) (x : ℤ) (n k : ℕ) 
       length (row v.vectors g)
       ≡ free_width (gens (resolution_of sphere) k) (degree (resolution_of table) (s + k) g -ℤ x)
 
--- The lift of number i of the square (s, above): it goes through the degrees that the tables have, and where their squares
--- there are canonical, it is a lift of the class, and a chain map on all vectors of these degrees.
+-- The first m degrees of the lift need the first `far` of row `upto` of the sphere's table, of which there are some where m is not 0.
+pub record AreReached (table sphere : Staircase) (s above upto m far : ℕ) : Type 0 where
+  pub within : m ≤ degrees_through table sphere s above upto
+  pub some : 0 < m → 0 < far
+  pub there : far ≤ length (row_in sphere.rows upto)
+  pub enough : m ≤ above + far
+
+-- The lift of number i of the square (s, above): it goes through the degrees that the tables have. As far as their squares are
+-- canonical, it is a lift of the class, and a chain map on all vectors of these degrees.
 pub record IsLiftOver (table sphere : Staircase) (s above i upto : ℕ) (lift : LiftValues) : Type 0 where
   pub bottom : lift.bottom ≡ bottom_of table.resolved
   pub rows : 0 < degrees_through table sphere s above upto → length lift.rows ≡ upto + 1
   pub values : (k : ℕ) → k < length lift.rows →
       AreValues table sphere s (bottom_of table.resolved +ℤ pos above) (degrees_through table sphere s above upto) k
       (row_values lift k)
-  pub is_lift : AreCanonical table (s + upto) (degrees_through table sphere s above upto) →
-      AreCanonical sphere upto (length (row_in sphere.rows upto)) →
+  pub is_lift : (m far : ℕ) → AreReached table sphere s above upto m far → AreCanonical table (s + upto) m →
+      AreCanonical sphere upto far →
       IsLiftOfClass (resolution_of table) (resolution_of sphere) (record { s = s; above = above; i = i }) upto
-      (greatest table (degrees_through table sphere s above upto)) (map_of lift)
-  pub chain_map : AreCanonical table (s + upto) (degrees_through table sphere s above upto) →
-      AreCanonical sphere upto (length (row_in sphere.rows upto)) →
+      (greatest table m) (map_of lift)
+  pub chain_map : (m far : ℕ) → AreReached table sphere s above upto m far → AreCanonical table (s + upto) m →
+      AreCanonical sphere upto far →
       IsChainMap (resolution_of table) (resolution_of sphere) s (bottom_of table.resolved +ℤ pos above) upto
-      (greatest table (degrees_through table sphere s above upto)) (map_of lift)
+      (greatest table m) (map_of lift)
+
+-- ---- values that quasi-inverses give
+
+-- v is what a quasi-inverse of d_k of q in degree u gives on goal
+pub record IsChosenFor (q : Staircase) (k : ℕ) (u : ℤ) (goal v : List Bool) : Type 0 where
+  pub inverse : Option Reduction
+  pub is : IsInverseAt q k u inverse
+  pub value : v ≡ chosen_preimage inverse goal
+  pub fits : IfSome inverse (λ r. length v ≡ r.height)
+
+-- the degrees of the generators of the first n squares of row k
+abbrev pub target_of : Staircase → ℕ → ℕ → List ℤ
+target_of table k n = degrees_from (bottom_of table.resolved) (take n (row_of (plain_rows table.rows) k))
+
+-- The value, on the image of generator g of row i + 1, of map k, which has these values on row i. The rows are used through the
+-- first n squares, those of the sphere through the first `far`.
+abbrev pub next_goal : Staircase → Staircase → ℕ → ℕ → ℕ → ℕ → ℕ → List (List Bool) → ℕ → List Bool
+next_goal table sphere i k above n far below g =
+    let x = bottom_of table.resolved +ℤ pos above in
+    mapped (free_graded (target_of sphere k far)) (lowered_row table i n above) below
+    (degree (resolution_of table) (suc i) g -ℤ x) (image (resolution_of table) (suc i) g)

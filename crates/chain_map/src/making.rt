@@ -1,7 +1,6 @@
 //! How lifts are made.
 ghost use Rattle.std.specs.Prelude.{◌≡◌, ◌+ℤ◌, ◌<◌, ◌≤◌, ◌+◌, ◌^◌, pos, [], length, replicate, IfOk, OnOk, ℕ, slice_index_or};
-ghost use Rattle.resolution_laws.specs.Exactness.{IsBoundedBelow};
-ghost use Rattle.square.specs.Squares.{over, bottom_of};
+ghost use Rattle.square.specs.Squares.{bottom_of};
 ghost use Rattle.square.specs.Tables.{row_in, IsTable};
 ghost use Rattle.lift_laws.specs.Lifts.{IsSphere};
 ghost use Rattle.lift_laws.specs.Products.{count_of};
@@ -140,7 +139,6 @@ fn with_rows(
     requires sphere { IsSphere (resolution_of course.now.sphere.now) }
     requires is_table { IsTable course.now.table.now }
     requires is_sphere_table { IsTable course.now.sphere.now }
-    requires bounded { IsBoundedBelow (over course.now.table.now.resolved) }
     requires there { course.now.above < length (row_in course.now.table.now.rows course.now.s) }
     requires reach { course.now.reach
         ≡ degrees_through course.now.table.now course.now.sphere.now course.now.s course.now.above upto }

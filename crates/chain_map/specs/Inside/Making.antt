@@ -1,26 +1,16 @@
 -- How the values of a lift are made: by quasi-inverses, row by row and square by square.
-use Rattle.std.specs.Prelude.{◌≡◌, ℕ, zero, suc, ◌+◌, ◌<◌, ◌≤◌, ℤ, pos, ◌+ℤ◌, ◌-ℤ◌, Bool, if◌then◌else◌, List, length, map, take, slice_index_or, Option, None, IfSome}
+use Rattle.std.specs.Prelude.{◌≡◌, ℕ, zero, suc, ◌+◌, ◌<◌, ◌≤◌, ℤ, pos, ◌+ℤ◌, ◌-ℤ◌, Bool, if◌then◌else◌, List, length, map, slice_index_or, Option, None}
 use Rattle.std.specs.List.{range_with_len}
 use Rattle.f2_vec.specs.Vectors.{zeros}
 use Rattle.f2_vec.specs.Spans.{row, unit_vector}
 use Rattle.f2_matrix.specs.Reduction.{Reduction}
-use Rattle.free_module.specs.Graded.{free_graded}
-use Rattle.free_module.specs.LinearMap.{mapped}
-use Rattle.resolution_laws.specs.Resolution.{degrees_from, row_of}
 use Rattle.square.specs.declared.range.TheConstants.{MAX_S}
 use Rattle.square.specs.Squares.{bottom_of}
-use Rattle.square.specs.Tables.{Staircase, row_in, plain_rows, IsTable}
-use Rattle.lift_laws.specs.Lifts.{degree, image, dual_of}
+use Rattle.square.specs.Tables.{Staircase, row_in, IsTable}
+use Rattle.lift_laws.specs.Lifts.{degree, dual_of}
 use Rattle.lift_laws.specs.Products.{first_of, count_of}
-use Rattle.chain_map.specs.Rows.{RowValues, lowered_row, IsInverseAt, chosen_preimage}
-use Rattle.chain_map.specs.Lifting.{resolution_of, LiftValues, row_values, no_lift}
-
--- v is what a quasi-inverse of d_k of q in degree u gives on goal
-pub record IsChosenFor (q : Staircase) (k : ℕ) (u : ℤ) (goal v : List Bool) : Type 0 where
-  pub inverse : Option Reduction
-  pub is : IsInverseAt q k u inverse
-  pub value : v ≡ chosen_preimage inverse goal
-  pub fits : IfSome inverse (λ r. length v ≡ r.height)
+use Rattle.chain_map.specs.Rows.{RowValues, IsInverseAt}
+use Rattle.chain_map.specs.Lifting.{resolution_of, LiftValues, row_values, no_lift, IsChosenFor, next_goal}
 
 -- the quasi-inverses of d_k in the degrees of the first n squares of row i, `above` lower, where the square has generators
 pub record AreInverses (table sphere : Staircase) (i k above n : ℕ) (list : List (Option Reduction)) : Type 0 where
@@ -48,10 +38,6 @@ pub record AreMade (table sphere : Staircase) (i k : ℕ) (x : ℤ) (goal : ℕ 
 
 -- ---- the rows of a lift
 
--- the degrees of the generators of the first n squares of row k
-abbrev pub target_of : Staircase → ℕ → ℕ → List ℤ
-target_of table k n = degrees_from (bottom_of table.resolved) (take n (row_of (plain_rows table.rows) k))
-
 -- number c of the square (s, above), as a cochain
 abbrev pub class_of : Staircase → Staircase → ℕ → ℕ → ℕ → ℕ → List Bool
 class_of table sphere s above c = dual_of (resolution_of table) (resolution_of sphere) s
@@ -60,14 +46,6 @@ class_of table sphere s above c = dual_of (resolution_of table) (resolution_of s
 -- its value where the field has this width, on its own generator and on others
 abbrev pub class_value : ℕ → Bool → List Bool
 class_value width own = if own then unit_vector width 0 else zeros width
-
--- The value, on the image of generator g of row i + 1, of map k, which has these values on row i. The rows are used through the
--- first n squares, those of the sphere through the first `far`.
-abbrev pub next_goal : Staircase → Staircase → ℕ → ℕ → ℕ → ℕ → ℕ → List (List Bool) → ℕ → List Bool
-next_goal table sphere i k above n far below g =
-    let x = bottom_of table.resolved +ℤ pos above in
-    mapped (free_graded (target_of sphere k far)) (lowered_row table i n above) below
-    (degree (resolution_of table) (suc i) g -ℤ x) (image (resolution_of table) (suc i) g)
 
 -- what d_k has to take the value of map k on generator g to, for number c of the square (s, above)
 abbrev pub goal_of : Staircase → Staircase → ℕ → ℕ → ℕ → ℕ → ℕ → LiftValues → ℕ → ℕ → List Bool

@@ -3,10 +3,9 @@ use Rattle.std.proofs.lemmas.Int.{ints}
 use Rattle.std.proofs.lemmas.List.{get_or_push, length_push}
 use Rattle.std.specs.Prelude.{slice_index_or}
 use Rattle.square.specs.Squares.{bottom_of}
-use Rattle.square.specs.Tables.{row_in}
 use Rattle.lift_laws.specs.Products.{count_of}
 use Rattle.chain_map.specs.Lifting.{LiftValues, resolution_of, IsLiftOver, no_lift}
-use Rattle.square.proofs.Pushing.{never_rises_by}
+use Rattle.square.proofs.Pushing.{never_rises}
 use Rattle.chain_map.proofs.making.lift.Goals as goal
 use Rattle.chain_map.proofs.making.lift.Goals.{After-above_at-above}
 
@@ -15,9 +14,7 @@ prove-unreachable-requires c =
     let table = c.args.table.now in
     let is = c.front-longest.ensures.is_table in
     let front = c.front-longest.ensures.front in
-    let e : 0 + c.args.class.s ≡ c.args.class.s = omega arith in
-    let same = ap (λ (i : ℕ). length (row_in table.rows i)) e in
-    let more = never_rises_by table is 0 c.args.class.s in
+    let more = never_rises table is 0 c.args.class.s (omega arith) in
     let there = c.requires.class.square in
     let none = c.if-prove.true in
     omega arith

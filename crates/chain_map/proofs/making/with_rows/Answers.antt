@@ -1,4 +1,4 @@
-use Rattle.std.proofs.Common.{◌≡◌, ℕ, ◌+◌, ◌<◌, length, [], ap, sym, ◌∙◌, arith, inl, inr}
+use Rattle.std.proofs.Common.{◌+◌, ◌<◌, ap, sym, ◌∙◌, arith, inl, inr}
 use Rattle.std.proofs.lemmas.Bool.{cases_eq}
 use Rattle.std.specs.Prelude.{slice_index_or}
 use Rattle.chain_map.specs.Lifting.{LiftValues, no_lift}
@@ -32,4 +32,4 @@ returns-clause-lifts c = λ j l.
     let reaches = reaches_all course.table.now course.sphere.now c.requires.is_table c.requires.is_sphere_table course.s course.above c.args.upto course.reach course.far c.requires.there c.requires.reach c.requires.far positive in
     let count = c.in_ok-add_rows.ensures.one_each in
     let classes = c.requires.classes in
-    lift_of_made c.canonical_table_is_minimal_resolution.ensures c.modules_are_graded_modules.ensures course.table.now course.sphere.now course.s course.above (c.args.from + j) c.args.upto course.reach course.far (slice_index_or c.add_rows.new.lifts.items j no_lift) c.requires.bounded c.requires.sphere reaches c.requires.far c.requires.reach (omega arith) (c.in_ok-add_rows.ensures.made j l)
+    lift_of_made c.canonical_table_is_minimal_resolution.ensures c.modules_are_graded_modules.ensures course.table.now course.sphere.now course.s course.above (c.args.from + j) c.args.upto course.reach course.far (slice_index_or c.add_rows.new.lifts.items j no_lift) c.requires.sphere reaches c.requires.far c.requires.reach (omega arith) (c.in_ok-add_rows.ensures.made j l)

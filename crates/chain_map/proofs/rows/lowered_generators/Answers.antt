@@ -1,11 +1,10 @@
-use Rattle.std.proofs.Common.{◌≡◌, ℕ, ℤ, ◌+◌, ◌++◌, replicate, pos, ◌+ℤ◌, ◌-ℤ◌, length, take, ap, sym, ◌∙◌, w32, to_z, of_z, arith}
+use Rattle.std.proofs.Common.{◌≡◌, ℕ, ℤ, ◌+◌, ◌++◌, replicate, pos, ◌+ℤ◌, ◌-ℤ◌, length, take, ap, ◌∙◌, w32, to_z, of_z, arith}
 use Rattle.std.proofs.lemmas.Int.{ints}
 use Rattle.std.proofs.lemmas.List.{length-take-le, take_more}
 use Rattle.resolution_laws.specs.Resolution.{no_content, square_in, row_of}
 use Rattle.resolution_laws.proofs.Rows.{at_most-row, degrees_from-more}
 use Rattle.square.specs.Tables.{plain_rows}
 use Rattle.square.proofs.Places.{length-row_of}
-use Rattle.chain_map.proofs.Places.{values_are_images}
 use Rattle.chain_map.proofs.rows.lowered_generators.Goals as goal
 
 pub push_many-requires : goal.push_many-requires

@@ -1,12 +1,12 @@
-use Rattle.std.proofs.Common.{◌≡◌, ℕ, ◌+◌, ◌<◌, pos, ◌+ℤ◌, ◌-ℤ◌, length, ap, sym, ◌∙◌, arith}
+use Rattle.std.proofs.Common.{◌≡◌, ℕ, ◌+◌, ◌<◌, pos, ◌+ℤ◌, ◌-ℤ◌, length, ap, arith}
 use Rattle.std.proofs.lemmas.Int.{ints}
 use Rattle.resolution_laws.specs.Resolution.{row_of}
-use Rattle.square.specs.Squares.{over, bottom_of}
+use Rattle.square.specs.Squares.{bottom_of}
 use Rattle.square.specs.Tables.{row_in, plain_rows}
 use Rattle.square.proofs.Places.{length-row_of}
 use Rattle.lift_laws.specs.Products.{count_of}
 use Rattle.chain_map.specs.Lifting.{resolution_of}
-use Rattle.chain_map.specs.Inside.Making.{class_of, class_value}
+use Rattle.chain_map.specs.Inside.Making.{class_of}
 use Rattle.chain_map.proofs.MadeRows.{made_square, made_value, made_end}
 use Rattle.chain_map.proofs.Places.{class_value_is}
 use Rattle.chain_map.proofs.rows.Course.first_square.Goals as goal

@@ -1,4 +1,4 @@
-use Rattle.std.proofs.Common.{◌≡◌, ℕ, Bool, List, [], suc, ◌+◌, ◌<◌, pos, ◌+ℤ◌, ◌-ℤ◌, length, ap, sym, ◌∙◌, arith}
+use Rattle.std.proofs.Common.{◌≡◌, ℕ, Bool, List, [], suc, ◌+◌, ◌<◌, pos, ◌+ℤ◌, ◌-ℤ◌, length, ap, ◌∙◌, arith}
 use Rattle.std.proofs.lemmas.Int.{ints}
 use Rattle.std.proofs.lemmas.List.{get_or_default}
 use Rattle.f2_vec.specs.Spans.{row}
@@ -7,8 +7,7 @@ use Rattle.square.specs.Squares.{bottom_of}
 use Rattle.square.specs.Tables.{row_in, plain_rows, content_at}
 use Rattle.square.proofs.Places.{length-row_of}
 use Rattle.lift_laws.specs.Products.{count_of}
-use Rattle.chain_map.specs.Lifting.{resolution_of}
-use Rattle.chain_map.specs.Inside.Making.{next_goal}
+use Rattle.chain_map.specs.Lifting.{resolution_of, next_goal}
 use Rattle.chain_map.proofs.MadeRows.{made_square, made_value, made_end}
 use Rattle.chain_map.proofs.Places.{image_width, next_goal_is}
 use Rattle.chain_map.proofs.rows.Course.next_square.Goals as goal

@@ -1,7 +1,5 @@
-use Rattle.std.proofs.Common.{◌≡◌, suc, ◌+◌, pos, ◌-ℤ◌, ap, sym, subst, ◌∙◌, w32, to_z, of_z}
+use Rattle.std.proofs.Common.{suc, ◌+◌, ◌∙◌, w32, to_z, of_z}
 use Rattle.std.proofs.lemmas.Int.{to_z-of_z}
-use Rattle.free_module.specs.Graded.{free_graded}
-use Rattle.free_module.specs.LinearMap.{mapped}
 use Rattle.chain_map.proofs.Goals.{reach_low, reach_target, image_goal_fits}
 use Rattle.chain_map.proofs.rows.Course.next_value.Goals as goal
 

@@ -1,15 +1,13 @@
-use Rattle.std.proofs.Common.{◌≡◌, ℕ, zero, suc, ◌+◌, ◌<◌, ◌≤◌, Bool, List, pos, ◌+ℤ◌, ap, sym, subst, ◌∙◌, arith, inl, inr}
+use Rattle.std.proofs.Common.{◌≡◌, ℕ, suc, ◌+◌, Bool, List, pos, ◌+ℤ◌, sym, subst, arith, inl, inr}
 use Rattle.std.proofs.lemmas.Bool.{cases_lt}
 use Rattle.std.proofs.lemmas.Result.{IfOk-weaker}
 use Rattle.free_module.specs.Graded.{free_graded}
 use Rattle.free_module.specs.LinearMap.{AreImages}
 use Rattle.square.specs.Squares.{bottom_of}
 use Rattle.chain_map.specs.Rows.{RowValues, lowered_row}
-use Rattle.chain_map.specs.Lifting.{row_values}
-use Rattle.chain_map.specs.Inside.Making.{AreMade, class_of, next_goal, target_of, goal_of, IsMade, Reaches}
+use Rattle.chain_map.specs.Lifting.{row_values, next_goal, target_of}
+use Rattle.chain_map.specs.Inside.Making.{AreMade, class_of, goal_of, Reaches}
 use Rattle.chain_map.proofs.Places.{values_are_images}
-use Rattle.chain_map.proofs.Finished.{lift_of_made}
-use Rattle.chain_map.proofs.Growing.{made_row}
 use Rattle.chain_map.proofs.rows.Course.row.Goals as goal
 use Rattle.chain_map.proofs.rows.Course.row.Goals.{After-vectors}
 
