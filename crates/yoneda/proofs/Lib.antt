@@ -3,3 +3,4 @@ mod Coordinates
 pub mod Lifted
 pub mod Cut
 pub mod OneProduct
+pub mod Through

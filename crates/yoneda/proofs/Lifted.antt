@@ -1,25 +1,25 @@
 -- The values of a lift on the generators of the square of a product.
 use Rattle.std.proofs.Common.{◌≡◌, ℕ, zero, suc, ◌+◌, ◌<◌, ◌≤◌, ℤ, pos, ◌+ℤ◌, ◌-ℤ◌, Bool, List, [], ◌∷◌, ◌++◌, length, map, get_or, take, refl, ap, sym, subst, ◌∙◌, arith}
 use Rattle.std.proofs.lemmas.Int.{ints}
-use Rattle.std.proofs.lemmas.List.{length-append, take_more, map-append}
+use Rattle.std.proofs.lemmas.List.{take_more, map-append}
 use Rattle.f2_vec.specs.Spans.{row}
 use Rattle.free_module.specs.FreeModule.{free_width}
-use Rattle.resolution_laws.specs.Resolution.{Content, images_of, row_of}
+use Rattle.resolution_laws.specs.Resolution.{row_of}
 use Rattle.square.specs.declared.range.Range.{Range}
 use Rattle.square.specs.Squares.{bottom_of}
-use Rattle.square.specs.Tables.{Staircase, row_in, plain_rows, IsThrough}
+use Rattle.square.specs.Tables.{Staircase, row_in, IsThrough}
 use Rattle.square.proofs.Places.{length-row_of}
-use Rattle.lift_laws.specs.Lifts.{Resolution, IsSphere, gens, degree}
-use Rattle.lift_laws.specs.Products.{first_of, count_of}
+use Rattle.lift_laws.specs.Lifts.{IsSphere, gens, degree}
+use Rattle.lift_laws.specs.Products.{first_of}
 use Rattle.chain_map.specs.declared.class.Class.{Class}
 use Rattle.chain_map.specs.Rows.{RowValues}
 use Rattle.chain_map.specs.Lifting.{LiftValues, resolution_of, row_values, shifted_length, degrees_through, AreValues, IsLiftOver}
-use Rattle.chain_map.proofs.Generators.{is_number, first_of-more}
+use Rattle.chain_map.proofs.Generators.{is_number, first_of-more, images_taken}
 use Rattle.yoneda.specs.declared.place.Place.{Place}
 use Rattle.yoneda.specs.Places.{IsPlaceOf}
 use Rattle.yoneda.specs.Products.{AreOnSquare}
 
-shifted_length-positive : (above n : ℕ) → 0 < n → shifted_length above n ≡ above + n
+pub shifted_length-positive : (above n : ℕ) → 0 < n → shifted_length above n ≡ above + n
 shifted_length-positive above zero h = absurd (omega arith)
 shifted_length-positive above (suc n) h = refl
 
@@ -28,15 +28,6 @@ pub goes_through : (table sphere : Staircase) (a x : Place) → a.above + x.abov
 goes_through table sphere a x h l =
     let e = shifted_length-positive x.above (length (row_in sphere.rows a.s)) (omega arith) in
     omega arith
-
--- fewer squares have no more generators
-pub images_taken : (squares : List Content) (m n : ℕ) → m ≤ n → length (images_of (take m squares)) ≤ length (images_of (take n squares))
-images_taken squares zero n h = omega arith
-images_taken [] (suc m) n h = omega arith
-images_taken (c ∷ squares) (suc m) zero h = absurd (omega arith)
-images_taken (c ∷ squares) (suc m) (suc n) h =
-    let rest = images_taken squares m n (omega arith) in
-    omega (arith, length-append c.images (images_of (take m squares)), length-append c.images (images_of (take n squares)))
 
 pub on_square_of : (table sphere : Staircase) → IsSphere (resolution_of sphere) → (a x : Place) (n : ℕ) (v : RowValues) → AreValues table sphere x.s (bottom_of table.resolved +ℤ pos x.above) n a.s v → a.above + x.above < n → a.above + x.above < length (row_in table.rows (x.s + a.s)) → AreOnSquare table sphere a (x.s + a.s) (a.above + x.above) v.vectors
 on_square_of table sphere is_sphere a x n v values far there =

@@ -1,33 +1,31 @@
 -- The Yoneda product of a class of the sphere with a class of a module, on the tables of their resolutions (Adams, On the structure
 -- and applications of the Steenrod algebra; Bruner, Calculation of large Ext modules).
-use Rattle.std.specs.Prelude.{◌≡◌, ℕ, ◌+◌, ◌-◌, ◌<◌, ◌≤◌, ℤ, pos, ◌+ℤ◌, ◌≤ℤ◌, Bool, List, [], length, Option, Some, None, option_map, if◌then◌else◌}
+use Rattle.std.specs.Prelude.{◌≡◌, ℕ, ◌+◌, ◌-◌, ◌<◌, ◌≤◌, ℤ, pos, ◌+ℤ◌, ◌≤ℤ◌, Bool, List, length, Option}
 use Rattle.std.specs.Option.{option_or}
 use Rattle.f2_vec.specs.Vectors.{bit}
 use Rattle.f2_vec.specs.Spans.{row}
 use Rattle.free_module.specs.FreeModule.{free_width}
 use Rattle.square.specs.declared.range.Range.{Range}
-use Rattle.resolution_laws.specs.Start.{IsOf}
-use Rattle.square.specs.Squares.{over, bottom_of}
-use Rattle.square.specs.Tables.{Staircase, row_in, content_at}
-use Rattle.lift_laws.specs.Lifts.{gens}
-use Rattle.lift_laws.specs.Products.{first_of, count_of, IsLiftOfClass, product_by}
+use Rattle.square.specs.Squares.{bottom_of}
+use Rattle.square.specs.Tables.{Staircase, IsThrough}
+use Rattle.lift_laws.specs.Lifts.{Resolution, gens}
+use Rattle.lift_laws.specs.Products.{Class as ClassAbove, first_of, count_of, IsLiftOfClass, product_by}
 use Rattle.chain_map.specs.declared.class.Class.{Class}
-use Rattle.chain_map.specs.Lifting.{LiftValues, resolution_of, row_values}
+use Rattle.chain_map.specs.Lifting.{LiftValues, resolution_of, IsCanonicalIn, row_values}
+use Rattle.chain_map.specs.Classes.{through, no_class, out_of_range}
 use Rattle.yoneda.specs.declared.fault.YonedaFault.{YonedaFault}
 use Rattle.yoneda.specs.declared.fault.YonedaFault.TheVariants.{NoClass, OutOfRange}
 use Rattle.yoneda.specs.declared.place.Place.{Place}
-use Rattle.yoneda.specs.Places.{missing, passes, class_above, IsPlaceOf}
+use Rattle.yoneda.specs.Places.{class_above, IsPlaceOf}
 
 -- ---- refusals
 
 -- The first of: a is no class of the sphere's table through the range, nor x of the module's; the product passes the range.
 abbrev pub refusal_of : Staircase → Staircase → Range → Class → Class → Option YonedaFault
 refusal_of table sphere range a x =
-    option_or (option_map (λ n. NoClass 0 n) (missing sphere range a))
-    (option_or (option_map (λ n. NoClass 1 n) (missing table range x))
-    (if passes table range (pos (a.s + x.s)) (a.t +ℤ x.t)
-    then Some (OutOfRange (pos (a.s + x.s)) (a.t +ℤ x.t))
-    else None))
+    option_or (no_class (λ n. NoClass 0 n) (through range sphere) a)
+    (option_or (no_class (λ n. NoClass 1 n) (through range table) x)
+    (out_of_range (λ s t. OutOfRange s t) range (through range table) (pos (a.s + x.s)) (a.t +ℤ x.t)))
 
 -- ---- products
 
@@ -43,21 +41,25 @@ pub record AreOnSquare (table sphere : Staircase) (a : Place) (s above : ℕ) (v
 abbrev pub coefficients_back : ℕ → List Bool → Bool
 coefficients_back back v = bit v (length v - back)
 
--- a lift of the class x through the degree of its product with a
-pub record HasLiftFor (table sphere : Staircase) (a x : Place) (v : List Bool) : Type 0 where
+-- v is what a lift of x gives as the product of a and x; the lift goes through its degree
+pub record IsGivenBy (r q : Resolution) (a x : ClassAbove) (v : List Bool) : Type 0 where
   pub top : ℤ
   pub phi : ℕ → ℕ → List Bool
-  pub reaches : (bottom_of table.resolved +ℤ pos (a.above + x.above)) ≤ℤ top
-  pub is_lift : IsLiftOfClass (resolution_of table) (resolution_of sphere) (class_above x) a.s top phi
-  pub gives : v ≡ product_by (resolution_of table) (resolution_of sphere) (class_above a) phi (x.s + a.s)
-      (a.above + x.above)
+  pub reaches : (r.base.bottom +ℤ pos (a.above + x.above)) ≤ℤ top
+  pub is_lift : IsLiftOfClass r q x a.s top phi
+  pub gives : v ≡ product_by r q a phi (x.s + a.s) (a.above + x.above)
 
--- v is the product of a and x: a lift of x gives it, and so does each
-pub record IsProduct (table sphere : Staircase) (a x : Place) (v : List Bool) : Type 0 where
-  pub some : HasLiftFor table sphere a x v
-  pub each : (top : ℤ) (phi : ℕ → ℕ → List Bool) → (bottom_of table.resolved +ℤ pos (a.above + x.above)) ≤ℤ top →
-      IsLiftOfClass (resolution_of table) (resolution_of sphere) (class_above x) a.s top phi →
-      v ≡ product_by (resolution_of table) (resolution_of sphere) (class_above a) phi (x.s + a.s) (a.above + x.above)
+-- v is the product of the class a of the sphere's resolution q and the class x of r: a lift of x gives it, and so does each
+pub record IsYonedaProduct (r q : Resolution) (a x : ClassAbove) (v : List Bool) : Type 0 where
+  pub some : IsGivenBy r q a x v
+  pub each : (w : List Bool) → IsGivenBy r q a x w → v ≡ w
+
+-- v is the product of a and x in the resolutions of two tables through any ranges that have the squares of the product and of a, where
+-- the squares of these ranges are those of the canonical resolutions
+abbrev pub IsProductThrough : Staircase → Staircase → ClassAbove → ClassAbove → List Bool → Type 0
+IsProductThrough table sphere a x v = (range far : Range) → IsThrough range table.rows → IsThrough far sphere.rows →
+    x.s + a.s ≤ range.s → a.above + x.above ≤ range.t → a.s ≤ far.s → a.above ≤ far.t → IsCanonicalIn range table →
+    IsCanonicalIn far sphere → IsYonedaProduct (through range table) (through far sphere) a x v
 
 -- where the two classes stand, whose product is in the range
 pub record ArePlacesOf (table sphere : Staircase) (range : Range) (a x : Class) (a_place x_place : Place) : Type 0 where
@@ -66,19 +68,15 @@ pub record ArePlacesOf (table sphere : Staircase) (range : Range) (a x : Class) 
   pub row_within : a_place.s + x_place.s ≤ range.s
   pub degree_within : a_place.above + x_place.above ≤ range.t
 
--- each square of the table is that of the canonical resolution
-abbrev pub IsAllCanonical : Staircase → Type 0
-IsAllCanonical table = (i k : ℕ) → k < length (row_in table.rows i) →
-    IsOf (over table.resolved) [] i k (content_at table.rows i k)
-
--- The vector has a coordinate for each generator of the square, and where the tables are those of the canonical resolutions, it is
--- the product.
+-- The vector has a coordinate for each generator of the square, and where the tables are those of the canonical resolutions through
+-- the range, it is the product.
 pub record IsProductOver (table sphere : Staircase) (range : Range) (a x : Class) (v : List Bool) : Type 0 where
   pub a_place : Place
   pub x_place : Place
   pub places : ArePlacesOf table sphere range a x a_place x_place
   pub one_each : length v ≡ count_of (resolution_of table) (x_place.s + a_place.s) (a_place.above + x_place.above)
-  pub product : IsAllCanonical table → IsAllCanonical sphere → IsProduct table sphere a_place x_place v
+  pub product : IsCanonicalIn range table → IsCanonicalIn range sphere →
+      IsYonedaProduct (through range table) (through range sphere) (class_above a_place) (class_above x_place) v
 
 -- a lift has map a.s, with its values on the generators of the square `above` above the bottom in row s
 pub record HasValuesOn (table sphere : Staircase) (a : Place) (s above : ℕ) (lift : LiftValues) : Type 0 where
@@ -87,5 +85,5 @@ pub record HasValuesOn (table sphere : Staircase) (a : Place) (s above : ℕ) (l
 
 -- the rows are the products of a with the classes of the square `above` above the bottom in row s, in their order
 abbrev pub AreProducts : Staircase → Staircase → Place → ℕ → ℕ → List (List Bool) → Type 0
-AreProducts table sphere a s above rows = IsAllCanonical table → IsAllCanonical sphere → (j : ℕ) → j < length rows →
-    IsProduct table sphere a (record { s = s; above = above; i = j }) (row rows j)
+AreProducts table sphere a s above rows = (j : ℕ) → j < length rows →
+    IsProductThrough table sphere (class_above a) (record { s = s; above = above; i = j }) (row rows j)

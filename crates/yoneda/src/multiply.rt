@@ -1,11 +1,12 @@
 //! The product of two classes.
-ghost use Rattle.std.specs.Prelude.{◌≡◌, ◌≢◌, ℕ, ◌+◌, ◌<◌, ◌≤◌, length, map, slice_index_or, IfOk, IfErr, OnOk, None, Some, option_map};
+ghost use Rattle.std.specs.Prelude.{◌≡◌, ◌≢◌, ℕ, ◌+◌, ◌<◌, ◌≤◌, length, map, slice_index_or, IfOk, IfErr, OnOk, None, Some};
 ghost use Rattle.f2_vec.specs.Spans.{HaveWidth};
 ghost use Rattle.square.specs.Tables.{row_in, IsTable, IsThrough};
 ghost use Rattle.lift_laws.specs.Lifts.{IsSphere};
 ghost use Rattle.lift_laws.specs.Products.{count_of, product_by};
 ghost use Rattle.chain_map.specs.Lifting.{resolution_of, no_lift, map_of};
-ghost use Rattle.yoneda.specs.Places.{missing, class_above, IsPlaceOf, IsThere};
+ghost use Rattle.chain_map.specs.Classes.{through, no_class};
+ghost use Rattle.yoneda.specs.Places.{class_above, IsPlaceOf, IsThere};
 ghost use Rattle.yoneda.specs.Products.{refusal_of, ArePlacesOf, IsProductOver, AreProducts, HasValuesOn};
 ghost use Rattle.yoneda.specs.declared.fault.YonedaFault as YonedaFault;
 ghost use Rattle.yoneda.specs.declared.fault.YonedaFault.TheVariants.{NoClass, Memory as OutOfMemory};
@@ -18,7 +19,6 @@ use f2_vec::BitVec;
 use finite_module::modules_are_graded_modules;
 use lift_laws::lifts_give_one_product;
 use memory::Memory;
-use resolution_laws::canonical_table_is_minimal_resolution;
 use square::{Range, Table};
 use std::alloc::Global;
 
@@ -44,7 +44,6 @@ pub fn product(
     ensures product { IfOk result (IsProductOver table.now sphere.now range a x) }
 {
     // Why every lift gives this product.
-    canonical_table_is_minimal_resolution();
     modules_are_graded_modules();
     lifts_give_one_product();
     let (first, second) = places(table, sphere, range, a, x)?;
@@ -80,7 +79,6 @@ pub fn products(
         (λ rows. HaveWidth (count_of (resolution_of table.now) (s + a.s) (a.above + above)) rows.items) }
     ensures products { IfOk result (λ rows. AreProducts table.now sphere.now a s above rows.items) }
 {
-    canonical_table_is_minimal_resolution();
     modules_are_graded_modules();
     lifts_give_one_product();
     known(table);
@@ -155,8 +153,8 @@ fn places(
 /// Where the class stands in the table, or that it does not.
 fn found(table: &Table, range: Range, class: Class, which: u8) -> Result<Place, YonedaFault>
     requires { IsThrough range table.now.rows }
-    ensures found { OnOk result (missing table.now range class ≡ None) }
-    ensures missing { IfErr result (λ e. option_map (λ n. NoClass which n) (missing table.now range class) ≡ Some e) }
+    ensures found { OnOk result (no_class (λ n. NoClass which n) (through range table.now) class ≡ None) }
+    ensures missing { IfErr result (λ e. no_class (λ n. NoClass which n) (through range table.now) class ≡ Some e) }
     ensures there { IfOk result (IsPlaceOf table.now range class) }
     ensures is_table { OnOk result (IsTable table.now) }
 {

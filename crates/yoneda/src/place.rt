@@ -4,7 +4,8 @@ ghost use Rattle.degrees.specs.Above.{above_of as above};
 ghost use Rattle.module_json.specs.declared.limits.TheConstants.{MAX_DEGREE};
 ghost use Rattle.square.specs.Squares.{bottom_of};
 ghost use Rattle.square.specs.Tables.{IsTable, IsThrough};
-ghost use Rattle.yoneda.specs.Places.{classes_at, missing, IsOutside, IsInsideAt, IsPlaceOf};
+ghost use Rattle.chain_map.specs.Classes.{through, missing_in};
+ghost use Rattle.yoneda.specs.Places.{IsOutside, IsInsideAt, IsPlaceOf};
 
 use chain_map::Class;
 use degrees::above_of;
@@ -25,8 +26,8 @@ pub struct Place {
 /// outside of the range.
 pub fn place_of(table: &Table, range: Range, class: Class) -> Result<Place, usize>
     requires { IsThrough range table.now.rows }
-    ensures there { OnOk result (missing table.now range class ≡ None) }
-    ensures missing { IfErr result (λ count. missing table.now range class ≡ Some count) }
+    ensures there { OnOk result (missing_in (through range table.now) class ≡ None) }
+    ensures missing { IfErr result (λ count. missing_in (through range table.now) class ≡ Some count) }
     ensures place { IfOk result (IsPlaceOf table.now range class) }
     ensures is_table { OnOk result (IsTable table.now) }
 {

@@ -1,5 +1,4 @@
-use Rattle.std.proofs.Common.{◌≡◌, ℕ, List, Bool, length, refl, ap, sym, subst, ◌∙◌}
-use Rattle.std.proofs.lemmas.List.FromFn.{length-map-range_with_len}
+use Rattle.std.proofs.Common.{refl, sym, subst}
 use Rattle.yoneda.specs.Products.{AreOnSquare}
 use Rattle.yoneda.proofs.Lifted.{lift_at, has_row}
 use Rattle.yoneda.proofs.OneProduct.{place_there, product_over}
@@ -20,5 +19,5 @@ returns-clause-product c =
     let a = c.in_ok-first.first in
     let x = c.in_ok-first.second in
     let lifted = lift_at c.args.table.now c.args.sphere.now c.args.range c.args.x x a.s c.in_ok-lift.lift p.x_is (c.in_ok-lift.ensures x.above p.x_is.degree) in
-    product_over c.lifts_give_one_product.ensures c.canonical_table_is_minimal_resolution.ensures c.modules_are_graded_modules.ensures
+    product_over c.lifts_give_one_product.ensures c.modules_are_graded_modules.ensures
     c.args.table.now c.args.sphere.now c.in_ok-first.ensures.is_table c.in_ok-first.ensures.is_sphere_table c.args.range c.requires.table c.requires.sphere_table c.requires.sphere c.args.a c.args.x a x p c.in_ok-lift.lift lifted c.vectors.result.now c.in_ok-product.product c.vectors.ensures c.in_ok-product.ensures

@@ -1,4 +1,4 @@
-use Rattle.std.proofs.Common.{ℤ, List, length, take, ap, sym, ◌∙◌}
+use Rattle.std.proofs.Common.{length, take, ap, sym, ◌∙◌}
 use Rattle.resolution_laws.specs.Resolution.{row_of}
 use Rattle.resolution_laws.proofs.Generators.{length-images_of}
 use Rattle.square.specs.Squares.{bottom_of}
