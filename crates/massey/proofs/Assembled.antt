@@ -6,27 +6,53 @@ use Rattle.f2_vec.specs.Vectors.{bit, sum_of}
 use Rattle.f2_vec.specs.Spans.{IsInSpan}
 use Rattle.f2_vec.proofs.Sums.{sum_of-comm}
 use Rattle.f2_matrix.specs.Echelon.{IsRowBasis}
-use Rattle.resolution_laws.specs.Exactness.{CanonicalTableIsMinimalResolution}
 use Rattle.square.specs.declared.range.Range.{Range}
-use Rattle.square.specs.Squares.{over}
-use Rattle.square.specs.Tables.{Staircase, plain_rows}
-use Rattle.lift_laws.specs.Lifts.{Resolution, IsSphere}
+use Rattle.square.specs.Tables.{Staircase}
+use Rattle.lift_laws.specs.Lifts.{Resolution, IsCanonical, IsSphere}
 use Rattle.lift_laws.specs.Products.{Class, first_of, count_of, coefficient_of}
-use Rattle.bracket_laws.specs.Brackets.{HasRoom, HasZeroProduct, top_of, IsBracketMember, BracketIsCoset}
+use Rattle.bracket_laws.specs.Brackets.{HasRoom, HasZeroProduct, top_of, IsBracketMember, IsIndeterminacy, BracketIsCoset}
 use Rattle.bracket_laws.proofs.Vectors.{bit-on_square}
-use Rattle.chain_map.specs.Lifting.{LiftValues, resolution_of, map_of}
+use Rattle.chain_map.specs.Lifting.{LiftValues, resolution_of, IsCanonicalIn, map_of}
 use Rattle.yoneda.specs.Places.{class_above}
-use Rattle.yoneda.specs.Products.{IsAllCanonical}
-use Rattle.yoneda.proofs.Cut.{product_by-part}
 use Rattle.massey.specs.declared.places.Places.{Places}
+use Rattle.massey.specs.Brackets.{IsBracketOf}
 use Rattle.massey.specs.Cosets.{IsZeroAtPivots}
-use Rattle.massey.specs.Brackets.{through, above_of, above_ab, IsSetting, AreLifts, IsMemberBy, AreSpanning, IsBracket}
-use Rattle.massey.proofs.Through.{rows_through, count_through, is_canonical}
+use Rattle.chain_map.specs.Classes.{through}
+use Rattle.massey.specs.Inside.Settings.{above_of, above_ab, IsSetting, AreLifts, IsMemberBy, AreSpanning, IsBracket}
+use Rattle.chain_map.proofs.Resolved.{is_canonical}
+use Rattle.yoneda.proofs.Through.{count_through, product_through}
 use Rattle.massey.proofs.Values.{room_of}
 use Rattle.massey.proofs.Members.{beta_through}
 
-module _ (coset : BracketIsCoset) (minimal : CanonicalTableIsMinimalResolution) (modules : ModulesAreSteenrodModules)
-    (table sphere : Staircase) (range : Range) (p : Places) (s : IsSetting table sphere range p) (all : IsAllCanonical table) (all_q : IsAllCanonical sphere)
+-- over canonical resolutions: any member, and any that is zero at the pivots and apart from it by the indeterminacy
+module _ (coset : BracketIsCoset) (r q : Resolution) (range : Range) (canonical : IsCanonical r range.s range.t) (canonical_q : IsCanonical q range.s range.t) (sphere : IsSphere q) (a b c : Class) (n l : ℕ) (n_row : suc n ≡ c.s + b.s) (l_row : suc l ≡ b.s + a.s)
+    (room : HasRoom range.s range.t range.s range.t a b c n l) (a_there : a.i < count_of q a.s a.above) (zero : HasZeroProduct r q a b c l (top_of r a b c)) where
+  abbrev whole : ℕ
+  whole = count_of r (n + a.s) (a.above + b.above + c.above)
+
+  pub bracket_of : (first value : List Bool) (rows basis : List (List Bool)) → IsBracketMember r q a b c n l (top_of r a b c) first → length value ≡ whole → IsIndeterminacy r q a b c n l (top_of r a b c) rows → IsRowBasis whole rows basis → IsInSpan whole basis (sum_of first value) → IsZeroAtPivots basis value → IsBracketOf r q a b c value basis
+  bracket_of first value rows basis member len spans is_basis in_span clear =
+      let bottom = sphere.bottom in
+      let degrees = room.degrees_q in
+      let law = λ (w : List Bool) (is : IsBracketMember r q a b c n l (top_of r a b c) w).
+      coset r q range.s range.t range.s range.t a b c n l (top_of r a b c) rows w canonical canonical_q sphere room (omega (arith, ints)) (omega (arith, ints)) a_there zero spans is in
+      let reached : IsInSpan whole rows (sum_of value first) = (is_basis.same_span (sum_of value first)).1 (subst (IsInSpan whole basis) (sum_of-comm first value) in_span) in
+      let is : IsBracketMember r q a b c n l (top_of r a b c) value = (law first member value len).1 reached in
+      record {
+        n = n;
+        l = l;
+        n_row = n_row;
+        l_row = l_row;
+        member = is;
+        spanning = rows;
+        spans = spans;
+        basis = is_basis;
+        clear = clear;
+        all = λ v e. (λ w. (is_basis.same_span (sum_of v value)).0 ((law value is v e).0 w), λ w. (law value is v e).1 ((is_basis.same_span (sum_of v value)).1 w));
+      }
+
+module _ (coset : BracketIsCoset) (modules : ModulesAreSteenrodModules)
+    (table sphere : Staircase) (range : Range) (p : Places) (s : IsSetting table sphere range p) (all : IsCanonicalIn range table) (all_q : IsCanonicalIn range sphere)
     (beta gamma : LiftValues) (lifts : AreLifts table sphere p beta gamma) (n : ℕ) (n_row : suc n ≡ p.c.s + p.b.s) where
   abbrev q : Resolution
   q = resolution_of sphere
@@ -67,7 +93,7 @@ module _ (coset : BracketIsCoset) (minimal : CanonicalTableIsMinimalResolution) 
       let i = s.inside in
       let f = i.ab_row in
       let same : p.b.s + p.a.s ≡ suc l = sym l_row in
-      let part = product_by-part (over sphere.resolved) (over sphere.resolved) (plain_rows sphere.rows) qc.table (plain_rows sphere.rows) qc.table range.t range.t (p.b.s + p.a.s) (above_ab p) a (rows_through sphere s.is_sphere_table range s.through_sphere (p.b.s + p.a.s) (omega arith)) (rows_through sphere s.is_sphere_table range s.through_sphere p.a.s (omega arith)) i.ab_degree (omega arith) (map_of beta) in
+      let part = product_through sphere sphere range range a (p.b.s + p.a.s) (above_ab p) (map_of beta) (omega arith) i.ab_degree (omega arith) (omega arith) in
       let zero : (k : ℕ) → k < count_of qc (p.b.s + p.a.s) (above_ab p) → coefficient_of qc a (map_of beta p.a.s (first_of qc (p.b.s + p.a.s) (above_ab p) + k)) ≡ false = λ k h.
       sym (bit-on_square qc (p.b.s + p.a.s) (above_ab p) (λ g. coefficient_of qc a (map_of beta p.a.s g)) k h) ∙ (ap (λ (v : List Bool). bit v k) part ∙ lifts.ab_zero k) in
       record {
@@ -81,42 +107,21 @@ module _ (coset : BracketIsCoset) (minimal : CanonicalTableIsMinimalResolution) 
       let i = s.inside in
       let f = i.ab_row in
       let g = i.ab_degree in
-      let same = count_through sphere s.is_sphere_table range s.through_sphere p.a.s p.a.above (omega arith) (omega arith) in
+      let same = count_through sphere range p.a.s p.a.above (omega arith) (omega arith) in
       let h = s.a_there in
       omega arith
 
-  pub assembled : (first value : List Bool) (rows basis : List (List Bool)) → length first ≡ size → length value ≡ size → IsMemberBy table sphere range p n first → AreSpanning table sphere range p n rows → IsRowBasis size rows basis → IsInSpan size basis (sum_of first value) → IsZeroAtPivots basis value → IsBracket table sphere range p value basis
-  assembled first value rows basis len_first len member spanning is_basis in_span clear =
-      let i = s.inside in
-      let bottom = s.is_sphere.bottom in
-      let degree = i.degree in
-      let ab_degree = i.ab_degree in
-      let m = member l l_row in
-      let ind = spanning l l_row in
-      let sphere_c : IsSphere qc = record { bottom = s.is_sphere.bottom; one = s.is_sphere.one; none = s.is_sphere.none } in
-      let law = λ (w : List Bool) (is : IsBracketMember rc qc a b c n l top w).
-      coset rc qc range.s range.t range.s range.t a b c n l top rows w (is_canonical table s.is_table range s.through_table minimal modules all) (is_canonical sphere s.is_sphere_table range s.through_sphere minimal modules all_q) sphere_c room (omega (arith, ints)) (omega (arith, ints)) a_there zero_product ind is in
-      let reached : IsInSpan size rows (sum_of value first) = (is_basis.same_span (sum_of value first)).1 (subst (IsInSpan size basis) (sum_of-comm first value) in_span) in
-      let is : IsBracketMember rc qc a b c n l top value = (law first m value len).1 reached in
-      record {
-        n = n;
-        l = l;
-        n_row = n_row;
-        l_row = l_row;
-        member = is;
-        spanning = rows;
-        spans = ind;
-        basis = is_basis;
-        clear = clear;
-        all = λ v e. (λ w. (is_basis.same_span (sum_of v value)).0 ((law value is v e).0 w), λ w. (law value is v e).1 ((is_basis.same_span (sum_of v value)).1 w));
-      }
+  assembled : (first value : List Bool) (rows basis : List (List Bool)) → length value ≡ size → IsMemberBy table sphere range p n first → AreSpanning table sphere range p n rows → IsRowBasis size rows basis → IsInSpan size basis (sum_of first value) → IsZeroAtPivots basis value → IsBracket table sphere range p value basis
+  assembled first value rows basis len member spanning is_basis in_span clear =
+      bracket_of coset rc qc range (is_canonical table s.is_table range (s.through_table range.s (omega arith)) modules all) (is_canonical sphere s.is_sphere_table range (s.through_sphere range.s (omega arith)) modules all_q) (record { bottom = s.is_sphere.bottom; one = s.is_sphere.one; none = s.is_sphere.none })
+      a b c n l n_row l_row room a_there zero_product first value rows basis (member l l_row) len (spanning l l_row) is_basis in_span clear
 
   -- the same, as the call made it
   pub assembled_in : (first value : List Bool) (rows given basis : List (List Bool)) (cols basis_cols : ℕ) → length first ≡ count_of (resolution_of table) (n + p.a.s) (above_of p) → length value ≡ length first → cols ≡ length first → basis_cols ≡ cols → given ≡ rows → IsMemberBy table sphere range p n first → AreSpanning table sphere range p n rows → IsRowBasis cols given basis → IsInSpan basis_cols basis (sum_of first value) → IsZeroAtPivots basis value → IsBracket table sphere range p value basis
   assembled_in first value rows given basis cols basis_cols len_first len cols_are basis_cols_are given_are member spanning is_basis in_span clear =
       let i = s.inside in
       let r = i.row in
-      let through_is : size ≡ count_of (resolution_of table) (n + p.a.s) (above_of p) = count_through table s.is_table range s.through_table (n + p.a.s) (above_of p) (omega arith) i.degree in
+      let through_is : size ≡ count_of (resolution_of table) (n + p.a.s) (above_of p) = count_through table range (n + p.a.s) (above_of p) (omega arith) i.degree in
       let first_size : length first ≡ size = len_first ∙ sym through_is in
       let cols_size : cols ≡ size = cols_are ∙ first_size in
-      assembled first value rows basis first_size (len ∙ first_size) member spanning (subst (λ (w : List (List Bool)). IsRowBasis size w basis) given_are (subst (λ (k : ℕ). IsRowBasis k given basis) cols_size is_basis)) (subst (λ (k : ℕ). IsInSpan k basis (sum_of first value)) (basis_cols_are ∙ cols_size) in_span) clear
+      assembled first value rows basis (len ∙ first_size) member spanning (subst (λ (w : List (List Bool)). IsRowBasis size w basis) given_are (subst (λ (k : ℕ). IsRowBasis k given basis) cols_size is_basis)) (subst (λ (k : ℕ). IsInSpan k basis (sum_of first value)) (basis_cols_are ∙ cols_size) in_span) clear

@@ -5,8 +5,7 @@ use Rattle.std.proofs.lemmas.List.{get_or_append_left, get_or_push, length_push}
 use Rattle.f2_vec.specs.Spans.{row}
 use Rattle.square.specs.Tables.{Staircase}
 use Rattle.lift_laws.specs.Lifts.{degree}
-use Rattle.chain_map.specs.Lifting.{LiftValues, resolution_of}
-use Rattle.chain_map.specs.Inside.Making.{IsChosenFor}
+use Rattle.chain_map.specs.Lifting.{LiftValues, resolution_of, IsChosenFor}
 use Rattle.massey.specs.declared.places.Places.{Places}
 use Rattle.massey.specs.Inside.Homotopies.{AreChosen, AreNext, AreMaps, zero_map}
 

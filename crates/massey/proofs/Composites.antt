@@ -18,14 +18,13 @@ use Rattle.square.proofs.Targets.{row_short}
 use Rattle.lift_laws.specs.Lifts.{Resolution, degree}
 use Rattle.lift_laws.specs.Products.{first_of, count_of}
 use Rattle.chain_map.specs.Rows.{lowered_row}
-use Rattle.chain_map.specs.Lifting.{LiftValues, resolution_of, row_values, degrees_through, AreValues}
-use Rattle.chain_map.specs.Inside.Making.{target_of, Reaches}
-use Rattle.chain_map.proofs.Generators.{is_number, first_of-more, within-reach, degree-below, degree-lowered}
+use Rattle.chain_map.specs.Lifting.{LiftValues, resolution_of, row_values, degrees_through, AreValues, target_of}
+use Rattle.chain_map.specs.Inside.Making.{Reaches}
+use Rattle.chain_map.proofs.Generators.{is_number, images_taken, first_of-more, within-reach, degree-below, degree-lowered}
 use Rattle.chain_map.proofs.Places.{low_width, are_images}
 use Rattle.chain_map.proofs.Widths.{HasPlace}
-use Rattle.yoneda.proofs.Lifted.{images_taken}
 use Rattle.massey.specs.declared.places.Places.{Places}
-use Rattle.massey.specs.Brackets.{above_of, above_ab, above_bc}
+use Rattle.massey.specs.Inside.Settings.{above_of, above_ab, above_bc}
 use Rattle.massey.specs.Inside.Homotopies.{IsComposite, beta_values}
 use Rattle.massey.proofs.Values.{reaches}
 

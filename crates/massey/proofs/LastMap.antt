@@ -23,18 +23,18 @@ use Rattle.bracket_laws.proofs.Members.{AreMadeMaps}
 use Rattle.bracket_laws.proofs.HasMember.{made_homotopy}
 use Rattle.bracket_laws.proofs.Vectors.{bit-on_square}
 use Rattle.chain_map.specs.Rows.{lowered_row, IsInverseAt, chosen_preimage}
-use Rattle.chain_map.specs.Lifting.{LiftValues, resolution_of, map_of}
-use Rattle.chain_map.specs.Inside.Making.{IsChosenFor, target_of, next_goal}
+use Rattle.chain_map.specs.Lifting.{LiftValues, resolution_of, IsCanonicalIn, map_of, IsChosenFor, target_of, next_goal}
 use Rattle.chain_map.proofs.Generators.{degree-lowered}
 use Rattle.chain_map.proofs.Preimages.{gives-of}
 use Rattle.chain_map.proofs.Widths.{width-take}
 use Rattle.yoneda.specs.Places.{class_above}
-use Rattle.yoneda.specs.Products.{IsAllCanonical}
-use Rattle.yoneda.proofs.Cut.{product_by-part}
 use Rattle.massey.specs.declared.places.Places.{Places}
-use Rattle.massey.specs.Brackets.{through, above_of, above_ab, above_bc, IsLastMap}
+use Rattle.chain_map.specs.Classes.{through}
+use Rattle.massey.specs.Inside.Settings.{above_of, above_ab, above_bc, IsLastMap}
 use Rattle.massey.specs.Inside.Homotopies.{IsComposite, beta_values, homotopy_goal, AreMaps}
-use Rattle.massey.proofs.Through.{rows_through, count_through, is_canonical}
+use Rattle.chain_map.proofs.Classes.{rows_through}
+use Rattle.chain_map.proofs.Resolved.{is_canonical}
+use Rattle.yoneda.proofs.Through.{count_through, product_through}
 use Rattle.massey.proofs.Values.{room_of}
 use Rattle.massey.proofs.Members.{gamma_through, beta_through}
 use Rattle.massey.proofs.Maps.{among_first, part_map}
@@ -42,7 +42,7 @@ use Rattle.massey.proofs.Composites.{row_inside, sphere_row_inside, beta_taken}
 use Rattle.massey.proofs.MapValues.{next_width}
 
 module _ (minimal : CanonicalTableIsMinimalResolution) (modules : ModulesAreSteenrodModules) (table sphere : Staircase) (range : Range) (p : Places) (n : ℕ) (beta gamma : LiftValues) (c : IsComposite table sphere range p n beta gamma)
-    (all : IsAllCanonical table) (all_q : IsAllCanonical sphere) (last : List (List Bool)) (made : AreMaps table sphere p n beta gamma p.a.s last) where
+    (all : IsCanonicalIn range table) (all_q : IsCanonicalIn range sphere) (last : List (List Bool)) (made : AreMaps table sphere p n beta gamma p.a.s last) where
   abbrev r : Resolution
   r = resolution_of table
 
@@ -74,24 +74,24 @@ module _ (minimal : CanonicalTableIsMinimalResolution) (modules : ModulesAreStee
   H k g = row (made.maps k) g
 
   p_resolved : IsResolved rc range.s range.t
-  p_resolved = is_resolved minimal rc range.s range.t (is_canonical table c.setting.is_table range c.setting.through_table minimal modules all)
+  p_resolved = is_resolved minimal rc range.s range.t (is_canonical table c.setting.is_table range (c.setting.through_table range.s (omega arith)) modules all)
 
   q_resolved : IsResolved qc range.s range.t
-  q_resolved = is_resolved minimal qc range.s range.t (is_canonical sphere c.setting.is_sphere_table range c.setting.through_sphere minimal modules all_q)
+  q_resolved = is_resolved minimal qc range.s range.t (is_canonical sphere c.setting.is_sphere_table range (c.setting.through_sphere range.s (omega arith)) modules all_q)
 
   -- ---- the generators of the part
 
   same-degree : (i g : ℕ) → i ≤ range.s → g < length (gens rc i) → degree rc i g ≡ degree r i g
-  same-degree i g l b = degree-cut (over table.resolved) range.s (range.t + 1) (plain_rows table.rows) rc.table (rows_through table c.setting.is_table range c.setting.through_table) i g l b
+  same-degree i g l b = degree-cut (over table.resolved) range.s (range.t + 1) (plain_rows table.rows) rc.table (rows_through table range) i g l b
 
   same-image : (i g : ℕ) → i ≤ range.s → g < length (gens rc i) → image rc i g ≡ image r i g
-  same-image i g l b = image-cut (over table.resolved) range.s (range.t + 1) (plain_rows table.rows) rc.table (rows_through table c.setting.is_table range c.setting.through_table) i g l b
+  same-image i g l b = image-cut (over table.resolved) range.s (range.t + 1) (plain_rows table.rows) rc.table (rows_through table range) i g l b
 
   same-width : (k : ℕ) (u : ℤ) → k ≤ range.s → u ≤ℤ (bottom_of sphere.resolved +ℤ pos range.t) → free_width (gens q k) u ≡ free_width (gens qc k) u
-  same-width k u l low = sym (ap length (basis-cut (over sphere.resolved) range.s (range.t + 1) (plain_rows sphere.rows) qc.table (rows_through sphere c.setting.is_sphere_table range c.setting.through_sphere) k u l (omega (arith, ints))))
+  same-width k u l low = sym (ap length (basis-cut (over sphere.resolved) range.s (range.t + 1) (plain_rows sphere.rows) qc.table (rows_through sphere range) k u l (omega (arith, ints))))
 
   with-value : (i g : ℕ) → i ≤ range.s → g < length (gens rc i) → degree rc i g ≤ℤ top → g < first_of r i (above_of p + 1)
-  with-value i g l b low = among_first table sphere c.setting.is_table c.setting.is_sphere_table range c.setting.through_table c.setting.through_sphere i (above_of p) g l c.setting.inside.degree b (omega (arith, ints))
+  with-value i g l b low = let inside = c.setting.inside in let few = inside.degree in among_first table sphere range i (above_of p) g l b (omega (arith, ints))
 
   next-row : (k : ℕ) → k < p.a.s → suc (n + k) ≤ range.s
   next-row k l = let h = row_inside table sphere range p n beta gamma c (suc k) (omega arith) in omega arith
@@ -157,11 +157,11 @@ module _ (minimal : CanonicalTableIsMinimalResolution) (modules : ModulesAreStee
       let row_q = sphere_row_inside table sphere range p n beta gamma c k (omega arith) in
       let u = degree r i g -ℤ w in
       let first : mapped (free_graded (target_of sphere k (p.a.above + 1))) (lowered_row sphere (p.b.s + k) (above_ab p + 1) p.b.above) (beta_values sphere p beta k) u (map_of gamma (p.b.s + k) g) ≡ composed qc p.b.s y x (map_of beta) (map_of gamma) k t g =
-      part_map sphere sphere s.is_sphere_table s.is_sphere_table range s.through_sphere s.through_sphere (p.b.s + k) k p.b.above (above_ab p + 1) (p.a.above + 1) y u (beta_values sphere p beta k) (map_of beta k) (t -ℤ x) (map_of gamma (p.b.s + k) g) (omega arith) (omega arith) (omega arith) (omega arith) refl (omega (arith, ints)) (omega (arith, ints)) (omega (arith, ints))
+      part_map sphere sphere range (p.b.s + k) k p.b.above (above_ab p + 1) (p.a.above + 1) y u (beta_values sphere p beta k) (map_of beta k) (t -ℤ x) (map_of gamma (p.b.s + k) g) (omega arith) (omega arith) (omega arith) (omega arith) refl (omega (arith, ints)) (omega (arith, ints)) (omega (arith, ints))
       (λ h a. beta_taken table sphere range p n beta gamma c k h (omega arith) a) in
       let second : next_goal table sphere (n + k) k (above_bc p) (above_of p + 1) (p.a.above + 1) (made.maps k) g ≡ lowered rc (n + k) qc k (x +ℤ y) (H k) t (image rc i g) =
       ap (mapped (free_graded (target_of sphere k (p.a.above + 1))) (lowered_row table (n + k) (above_of p + 1) (above_bc p)) (made.maps k) u) (sym im)
-      ∙ part_map table sphere s.is_table s.is_sphere_table range s.through_table s.through_sphere (n + k) k (above_bc p) (above_of p + 1) (p.a.above + 1) (x +ℤ y) u (made.maps k) (H k) t (image rc i g) (omega arith) (omega arith) (omega arith) (omega arith) (sym e) (omega (arith, ints)) (omega (arith, ints)) (omega (arith, ints))
+      ∙ part_map table sphere range (n + k) k (above_bc p) (above_of p + 1) (p.a.above + 1) (x +ℤ y) u (made.maps k) (H k) t (image rc i g) (omega arith) (omega arith) (omega arith) (omega arith) (sym e) (omega (arith, ints)) (omega (arith, ints)) (omega (arith, ints))
       (λ h a. refl) in
       ap (λ (v : List Bool). sum_of v (next_goal table sphere (n + k) k (above_bc p) (above_of p + 1) (p.a.above + 1) (made.maps k) g)) first
       ∙ ap (sum_of (composed qc p.b.s y x (map_of beta) (map_of gamma) k t g)) second
@@ -182,7 +182,7 @@ module _ (minimal : CanonicalTableIsMinimalResolution) (modules : ModulesAreStee
       let long = s.through_sphere range.s (omega arith) in
       let at : degree r i g -ℤ w ≡ degree rc i g -ℤ (x +ℤ y) = omega (arith, ints) in
       let wanted : homotopy_goal table sphere p n k (beta_values sphere p beta k) gamma (made.maps k) g ≡ goal = goal-is k g l b low ∙ sym is in
-      gives-of sphere s.is_sphere_table range.s range.t long q_resolved (suc k) (degree rc i g -ℤ (x +ℤ y)) goal (H (suc k) g) one.inverse (omega arith) (omega (arith, ints)) (subst (λ (u : ℤ). IsInverseAt sphere (suc k) u one.inverse) at one.is) (one.value ∙ ap (chosen_preimage one.inverse) wanted) (fits k g l b low) len cycle
+      gives-of sphere s.is_sphere_table range long q_resolved (suc k) (degree rc i g -ℤ (x +ℤ y)) goal (H (suc k) g) one.inverse (omega arith) (omega (arith, ints)) (subst (λ (u : ℤ). IsInverseAt sphere (suc k) u one.inverse) at one.is) (one.value ∙ ap (chosen_preimage one.inverse) wanted) (fits k g l b low) len cycle
 
   are_made : AreMadeMaps rc qc n (x +ℤ y) (composed qc p.b.s y x (map_of beta) (map_of gamma)) p.a.s top H
   are_made = record {
@@ -215,7 +215,7 @@ module _ (minimal : CanonicalTableIsMinimalResolution) (modules : ModulesAreStee
       let e = c.n_row in
       let b = class_above p.b in
       let bc_degree = inside.bc_degree in
-      let part = product_by-part (over table.resolved) (over sphere.resolved) (plain_rows table.rows) rc.table (plain_rows sphere.rows) qc.table range.t range.t (p.c.s + p.b.s) (above_bc p) b (rows_through table s.is_table range s.through_table (p.c.s + p.b.s) (omega arith)) (rows_through sphere s.is_sphere_table range s.through_sphere p.b.s (omega arith)) inside.bc_degree (omega arith) (map_of gamma) in
+      let part = product_through table sphere range range b (p.c.s + p.b.s) (above_bc p) (map_of gamma) (omega arith) inside.bc_degree (omega arith) (omega arith) in
       let zero : (i : ℕ) → i < count_of rc (p.c.s + p.b.s) (above_bc p) → coefficient_of qc b (map_of gamma p.b.s (first_of rc (p.c.s + p.b.s) (above_bc p) + i)) ≡ false = λ i h.
       sym (bit-on_square rc (p.c.s + p.b.s) (above_bc p) (λ g. coefficient_of qc b (map_of gamma p.b.s g)) i h) ∙ (ap (λ (v : List Bool). bit v i) part ∙ c.lifts.bc_zero i) in
       record {
@@ -232,7 +232,7 @@ module _ (minimal : CanonicalTableIsMinimalResolution) (modules : ModulesAreStee
       let degree_of = inside.degree in
       let zero = s.is_sphere.bottom in
       let sphere_c : IsSphere qc = record { bottom = s.is_sphere.bottom; one = s.is_sphere.one; none = s.is_sphere.none } in
-      let count = count_through sphere s.is_sphere_table range s.through_sphere p.b.s p.b.above (omega arith) (omega arith) in
+      let count = count_through sphere range p.b.s p.b.above (omega arith) (omega arith) in
       let there = s.b_there in
       record {
         H = H;

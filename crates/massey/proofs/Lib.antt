@@ -1,11 +1,9 @@
 mod Refusals
-mod Through
 mod Values
 mod Members
 mod Spanning
-mod Assembled
+pub mod Assembled
 mod Causes
-pub mod Units
 mod Positive
 mod Maps
 mod Composites

@@ -1,28 +1,28 @@
 -- The value that a null homotopy gives is one of the bracket.
-use Rattle.std.proofs.Common.{◌≡◌, ℕ, suc, ◌+◌, ◌≤◌, ℤ, pos, ◌+ℤ◌, ◌-ℤ◌, ◌≤ℤ◌, Bool, List, length, ap, sym, subst, ◌∙◌, arith}
+use Rattle.std.proofs.Common.{◌≡◌, ℕ, suc, ◌+◌, ◌≤◌, ℤ, pos, ◌+ℤ◌, ◌-ℤ◌, ◌≤ℤ◌, Bool, List, ap, sym, subst, ◌∙◌, arith}
 use Rattle.std.proofs.lemmas.Int.{ints}
 use Rattle.f2_vec.specs.Vectors.{plus, zeros}
 use Rattle.f2_vec.specs.Spans.{row}
 use Rattle.f2_vec.proofs.Sums.{length-zeros, plus-false}
 use Rattle.square.specs.declared.range.Range.{Range}
 use Rattle.square.specs.Squares.{bottom_of}
-use Rattle.square.specs.Tables.{Staircase, row_in, IsTable, IsThrough}
+use Rattle.square.specs.Tables.{Staircase, IsTable, IsThrough}
 use Rattle.lift_laws.specs.Lifts.{Resolution}
 use Rattle.lift_laws.specs.Products.{Class, first_of, count_of, coefficients, coefficient_of, on_square, degree_of_class, IsLiftOfClass}
 use Rattle.bracket_laws.specs.Brackets.{dot, top_of}
 use Rattle.bracket_laws.proofs.Dots.{dot-zeros}
 use Rattle.bracket_laws.proofs.Vectors.{on_square-same}
-use Rattle.chain_map.specs.Lifting.{LiftValues, resolution_of, map_of, degrees_through, greatest, IsLiftOver}
+use Rattle.chain_map.specs.Lifting.{LiftValues, resolution_of, IsCanonicalIn, map_of, greatest, IsLiftOver}
 use Rattle.yoneda.specs.declared.place.Place.{Place}
 use Rattle.yoneda.specs.Places.{class_above}
-use Rattle.yoneda.specs.Products.{IsAllCanonical}
-use Rattle.yoneda.proofs.OneProduct.{canonical_below}
+use Rattle.yoneda.proofs.OneProduct.{canonical_less}
 use Rattle.massey.specs.declared.places.Places.{Places}
-use Rattle.massey.specs.Brackets.{through, above_of, above_ab, IsSetting, AreLifts, IsLastMap, IsMemberBy}
-use Rattle.massey.proofs.Through.{on_square_through, coefficient_through, class_through}
+use Rattle.chain_map.specs.Classes.{through}
+use Rattle.massey.specs.Inside.Settings.{above_of, above_ab, IsSetting, AreLifts, IsLastMap, IsMemberBy}
+use Rattle.yoneda.proofs.Through.{on_square_through, coefficient_through, class_through}
 use Rattle.massey.proofs.Values.{reaches}
 
-module _ (table sphere : Staircase) (range : Range) (p : Places) (s : IsSetting table sphere range p) (all : IsAllCanonical table) (all_q : IsAllCanonical sphere) where
+module _ (table sphere : Staircase) (range : Range) (p : Places) (s : IsSetting table sphere range p) (all : IsCanonicalIn range table) (all_q : IsCanonicalIn range sphere) where
   abbrev r : Resolution
   r = resolution_of table
 
@@ -48,12 +48,13 @@ module _ (table sphere : Staircase) (range : Range) (p : Places) (s : IsSetting 
   top = top_of rc a b c
 
   -- a lift that was made, through the range
-  pub made_through : (first : Staircase) → (x : Place) (upto : ℕ) (lift : LiftValues) (less : ℤ) → IsLiftOver first sphere x.s x.above x.i upto lift → IsAllCanonical first → IsTable first → IsThrough range first.rows → x.s + upto ≤ range.s → x.above ≤ range.t → less ≤ℤ (bottom_of first.resolved +ℤ pos range.t) → (less -ℤ (bottom_of first.resolved +ℤ pos x.above)) ≤ℤ (bottom_of sphere.resolved +ℤ pos range.t) → IsLiftOfClass (through range first) qc (class_above x) upto less (map_of lift)
+  pub made_through : (first : Staircase) → (x : Place) (upto : ℕ) (lift : LiftValues) (less : ℤ) → IsLiftOver first sphere x.s x.above x.i upto lift → IsCanonicalIn range first → IsTable first → IsThrough range first.rows → x.s + upto ≤ range.s → x.above ≤ range.t → less ≤ℤ (bottom_of first.resolved +ℤ pos range.t) → (less -ℤ (bottom_of first.resolved +ℤ pos x.above)) ≤ℤ (bottom_of sphere.resolved +ℤ pos range.t) → IsLiftOfClass (through range first) qc (class_above x) upto less (map_of lift)
   made_through first x upto lift less lifted canonical h whole rows small in_range in_range_q =
-      let reach = degrees_through first sphere x.s x.above upto in
       let far = reaches first sphere range whole s.through_sphere x.s x.above upto range.t rows (omega arith) in
-      let is_lift = lifted.is_lift (canonical_below first h canonical (x.s + upto) reach (omega arith)) (canonical_below sphere s.is_sphere_table all_q upto (length (row_in sphere.rows upto)) (omega arith)) in
-      class_through first sphere h s.is_sphere_table range whole s.through_sphere (class_above x) upto (greatest first reach) less (map_of lift) rows (omega arith) small (omega (arith, ints)) in_range in_range_q is_lift
+      let there = s.through_sphere upto (omega arith) in
+      let is_lift = lifted.is_lift (range.t + 1) (range.t + 1) (record { within = omega arith; some = λ m. omega arith; there = omega arith; enough = omega arith })
+      (canonical_less first range.s (range.t + 1) (x.s + upto) (range.t + 1) canonical rows (omega arith)) (canonical_less sphere range.s (range.t + 1) upto (range.t + 1) all_q (omega arith) (omega arith)) in
+      class_through first sphere range range (class_above x) upto (greatest first (range.t + 1)) less (map_of lift) rows (omega arith) small (omega (arith, ints)) in_range in_range_q is_lift
 
   module _ (beta gamma : LiftValues) (lifts : AreLifts table sphere p beta gamma) (l : ℕ) (l_row : suc l ≡ p.b.s + p.a.s) where
     pub gamma_through : IsLiftOfClass rc qc c l top (map_of gamma)
@@ -85,7 +86,7 @@ module _ (table sphere : Staircase) (range : Range) (p : Places) (s : IsSetting 
       let e = zeros (count_of qc l (above_ab p)) in
       let value : (g : ℕ) → coefficient_of q a (row last g) ≡ plus (coefficient_of qc a (m.H p.a.s g)) (dot e (coefficients qc l (above_ab p) (map_of gamma l g))) = λ g.
       ap (coefficient_of q a) (m.values g)
-      ∙ (sym (coefficient_through sphere s.is_sphere_table range s.through_sphere a (m.H p.a.s g) (omega arith) (omega arith))
+      ∙ (sym (coefficient_through sphere range a (m.H p.a.s g) (omega arith) (omega arith))
       ∙ (sym (plus-false (coefficient_of qc a (m.H p.a.s g)))
       ∙ ap (plus (coefficient_of qc a (m.H p.a.s g))) (sym (dot-zeros (count_of qc l (above_ab p)) (coefficients qc l (above_ab p) (map_of gamma l g)))))) in
       record {
@@ -98,6 +99,6 @@ module _ (table sphere : Staircase) (range : Range) (p : Places) (s : IsSetting 
         homotopy = m.homotopy;
         one_each = length-zeros (count_of qc l (above_ab p));
         value = gives
-            ∙ (sym (on_square_through table s.is_table range s.through_table (n + p.a.s) (above_of p) (λ g. coefficient_of q a (row last g)) (omega arith) i.degree)
+            ∙ (sym (on_square_through table range (n + p.a.s) (above_of p) (λ g. coefficient_of q a (row last g)) (omega arith) i.degree)
             ∙ on_square-same rc (n + p.a.s) (above_of p) (λ g. coefficient_of q a (row last g)) (λ g. plus (coefficient_of qc a (m.H p.a.s g)) (dot e (coefficients qc l (above_ab p) (map_of gamma l g)))) (λ k h. value (first_of rc (n + p.a.s) (above_of p) + k)));
       }

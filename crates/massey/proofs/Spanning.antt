@@ -10,23 +10,23 @@ use Rattle.f2_vec.specs.Spans.{row, HaveWidth}
 use Rattle.f2_vec.proofs.Spans.{HaveWidth-append}
 use Rattle.f2_vec.proofs.Combinations.{HaveWidth-map}
 use Rattle.square.specs.declared.range.Range.{Range}
-use Rattle.square.specs.Squares.{over}
-use Rattle.square.specs.Tables.{Staircase, plain_rows}
+use Rattle.square.specs.Tables.{Staircase}
 use Rattle.lift_laws.specs.Lifts.{Resolution, IsLift, dual_of}
-use Rattle.lift_laws.specs.Products.{Class, first_of, count_of, old_width, coefficients, coefficient_of, on_square, degree_of_class, product_by}
+use Rattle.lift_laws.specs.Products.{Class, first_of, count_of, old_width, coefficients, coefficient_of, on_square, number_of, degree_of_class, product_by}
 use Rattle.lift_laws.proofs.Coefficients.{map_range}
 use Rattle.bracket_laws.specs.Brackets.{top_of}
 use Rattle.bracket_laws.proofs.Vectors.{length-on_square, on_square-same}
-use Rattle.chain_map.specs.Lifting.{LiftValues, resolution_of, map_of}
+use Rattle.chain_map.specs.Lifting.{LiftValues, resolution_of, IsCanonicalIn, map_of}
 use Rattle.yoneda.specs.Places.{class_above}
-use Rattle.yoneda.specs.Products.{IsAllCanonical, AreProducts}
-use Rattle.yoneda.proofs.Cut.{product_by-part}
+use Rattle.yoneda.specs.Products.{IsYonedaProduct, AreProducts}
+use Rattle.yoneda.proofs.OneProduct.{lower-lift}
 use Rattle.massey.specs.declared.places.Places.{Places}
-use Rattle.massey.specs.Brackets.{through, above_of, above_ab, above_bc, IsSetting, AreLifts, lower_product, AreSpanning}
-use Rattle.massey.proofs.Through.{rows_through, count_through, on_square_through, coefficient_through, class_through}
+use Rattle.chain_map.specs.Classes.{through}
+use Rattle.massey.specs.Inside.Settings.{above_of, above_ab, above_bc, IsSetting, AreLifts, lower_product, AreSpanning}
+use Rattle.yoneda.proofs.Through.{count_through, on_square_through, coefficient_through}
 use Rattle.massey.proofs.Members.{gamma_through}
 
-module _ (table sphere : Staircase) (range : Range) (p : Places) (s : IsSetting table sphere range p) (all : IsAllCanonical table) (all_q : IsAllCanonical sphere) (n : ℕ) (n_row : suc n ≡ p.c.s + p.b.s)
+module _ (table sphere : Staircase) (range : Range) (p : Places) (s : IsSetting table sphere range p) (all : IsCanonicalIn range table) (all_q : IsCanonicalIn range sphere) (n : ℕ) (n_row : suc n ≡ p.c.s + p.b.s)
     (rows : List (List Bool)) (count : length rows ≡ count_of (resolution_of table) n (above_bc p)) (are : AreProducts table sphere p.a n (above_bc p) rows) where
   abbrev r : Resolution
   r = resolution_of table
@@ -52,9 +52,18 @@ module _ (table sphere : Staircase) (range : Range) (p : Places) (s : IsSetting 
   abbrev z : ℕ → Class
   z j = record { s = n; above = above_bc p; i = j }
 
+  products : (j : ℕ) → j < length rows → IsYonedaProduct rc qc a (z j) (row rows j)
+  products j h =
+      let i = s.inside in
+      let in_row = i.row in
+      let in_degree = i.degree in
+      let ab_row = i.ab_row in
+      let ab_degree = i.ab_degree in
+      are j h range range s.through_table s.through_sphere (omega arith) (omega arith) (omega arith) (omega arith) all all_q
+
   -- a lift of number j of the square of bc one row lower
   chosen : (j : ℕ) → (j < length rows) ⊎ (length rows ≤ j) → ℕ → ℕ → List Bool
-  chosen j (inl h) = (are all all_q j h).some.phi
+  chosen j (inl h) = (products j h).some.phi
   chosen j (inr h) = λ k g. []
 
   lifts : ℕ → ℕ → ℕ → List Bool
@@ -70,7 +79,7 @@ module _ (table sphere : Staircase) (range : Range) (p : Places) (s : IsSetting 
   chosen-is : (j : ℕ) (d : (j < length rows) ⊎ (length rows ≤ j)) → j < length rows → IsChosen j (chosen j d)
   unfolding chosen
   chosen-is j (inl h) l =
-      let made = (are all all_q j h).some in
+      let made = (products j h).some in
       let i = s.inside in
       let degree = i.degree in
       let ab = i.ab_row in
@@ -79,12 +88,11 @@ module _ (table sphere : Staircase) (range : Range) (p : Places) (s : IsSetting 
       let reaches = made.reaches in
       let same : degree_of_class rc (z j) ≡ x = omega (arith, ints) in
       let at : p.a.above + above_bc p ≡ above_of p = omega arith in
-      let lift = class_through table sphere s.is_table s.is_sphere_table range s.through_table s.through_sphere (z j) p.a.s made.top top made.phi in_row (omega arith) (omega arith) (omega (arith, ints)) (omega (arith, ints)) (omega (arith, ints)) made.is_lift in
+      let w = degree_of_class rc (z j) in
+      let lift = lower-lift rc qc n w (dual_of rc qc n w (number_of rc (z j))) p.a.s made.top top made.phi (omega (arith, ints)) made.is_lift in
       record {
         is_lift = subst (λ (w : ℤ). IsLift rc qc n w (dual_of rc qc n w (first_of rc n (above_bc p) + j)) p.a.s top made.phi) same lift;
-        gives = made.gives
-            ∙ (ap (product_by r q a made.phi (n + p.a.s)) at
-            ∙ sym (product_by-part (over table.resolved) (over sphere.resolved) (plain_rows table.rows) rc.table (plain_rows sphere.rows) qc.table range.t range.t (n + p.a.s) (above_of p) a (rows_through table s.is_table range s.through_table (n + p.a.s) in_row) (rows_through sphere s.is_sphere_table range s.through_sphere p.a.s (omega arith)) degree (omega arith) made.phi));
+        gives = made.gives ∙ ap (product_by rc qc a made.phi (n + p.a.s)) at;
       }
   chosen-is j (inr h) l = absurd (omega arith)
 
@@ -99,8 +107,8 @@ module _ (table sphere : Staircase) (range : Range) (p : Places) (s : IsSetting 
       let ab = i.ab_row in
       let ab_degree = i.ab_degree in
       let bc = i.bc_row in
-      let count_rc : count_of rc n (above_bc p) ≡ count_of r n (above_bc p) = count_through table s.is_table range s.through_table n (above_bc p) (omega arith) i.bc_degree in
-      let count_qc : count_of qc l (above_ab p) ≡ count_of q l (above_ab p) = count_through sphere s.is_sphere_table range s.through_sphere l (above_ab p) (omega arith) ab_degree in
+      let count_rc : count_of rc n (above_bc p) ≡ count_of r n (above_bc p) = count_through table range n (above_bc p) (omega arith) i.bc_degree in
+      let count_qc : count_of qc l (above_ab p) ≡ count_of q l (above_ab p) = count_through sphere range l (above_ab p) (omega arith) ab_degree in
       let F : ℕ → List Bool = λ j. product_by rc qc a (lifts j) (n + p.a.s) (above_of p) in
       let G : ℕ → List Bool = λ k. on_square rc (n + p.a.s) (above_of p) (λ g. bit (coefficients qc l (above_ab p) (map_of gamma l g)) k) in
       let len = length-map-range_with_len F 0 (count_of rc n (above_bc p)) in
@@ -110,9 +118,9 @@ module _ (table sphere : Staircase) (range : Range) (p : Places) (s : IsSetting 
       let each : (k : ℕ) → lower_product table sphere p gamma l k ≡ G k = λ k.
       let y : Class = record { s = l; above = above_ab p; i = k } in
       ap (λ (w : ℕ). on_square r w (above_of p) (λ g. coefficient_of q y (map_of gamma l g))) same_row
-      ∙ (sym (on_square_through table s.is_table range s.through_table (n + p.a.s) (above_of p) (λ g. coefficient_of q y (map_of gamma l g)) in_row i.degree)
+      ∙ (sym (on_square_through table range (n + p.a.s) (above_of p) (λ g. coefficient_of q y (map_of gamma l g)) in_row i.degree)
       ∙ on_square-same rc (n + p.a.s) (above_of p) (λ g. coefficient_of q y (map_of gamma l g)) (λ g. bit (coefficients qc l (above_ab p) (map_of gamma l g)) k)
-      (λ m h. sym (coefficient_through sphere s.is_sphere_table range s.through_sphere y (map_of gamma l (first_of rc (n + p.a.s) (above_of p) + m)) (omega arith) ab_degree)
+      (λ m h. sym (coefficient_through sphere range y (map_of gamma l (first_of rc (n + p.a.s) (above_of p) + m)) (omega arith) ab_degree)
       ∙ sym (get_or-drop (old_width qc l (above_ab p)) (map_of gamma l (first_of rc (n + p.a.s) (above_of p) + m)) k false))) in
       let second : map (lower_product table sphere p gamma l) (range_with_len 0 (count_of q l (above_ab p))) ≡ map G (range_with_len 0 (count_of qc l (above_ab p))) =
       map_range (lower_product table sphere p gamma l) G 0 (count_of q l (above_ab p)) (λ k h. each (0 + k)) ∙ ap (λ (c : ℕ). map G (range_with_len 0 c)) (sym count_qc) in

@@ -1,31 +1,28 @@
 -- The values of lifts on the squares of the products and of the bracket.
-use Rattle.std.proofs.Common.{◌≡◌, ℕ, zero, suc, ◌+◌, ◌-◌, ◌<◌, ◌≤◌, pos, ◌-ℤ◌, length, refl, arith}
+use Rattle.std.proofs.Common.{◌≡◌, ℕ, suc, ◌+◌, ◌-◌, ◌<◌, ◌≤◌, pos, ◌-ℤ◌, length, arith}
 use Rattle.std.proofs.lemmas.Int.{ints}
 use Rattle.square.specs.declared.range.Range.{Range}
 use Rattle.square.specs.Tables.{Staircase, row_in, content_at, IsThrough}
 use Rattle.f2_vec.specs.Vectors.{IsZero}
 use Rattle.lift_laws.specs.Lifts.{IsSphere}
 use Rattle.lift_laws.specs.Products.{product_by}
-use Rattle.chain_map.specs.Lifting.{LiftValues, resolution_of, map_of, row_values, shifted_length, degrees_through, IsLiftOver}
+use Rattle.chain_map.specs.Lifting.{LiftValues, resolution_of, map_of, row_values, degrees_through, IsLiftOver}
 use Rattle.yoneda.specs.declared.place.Place.{Place}
 use Rattle.yoneda.specs.Places.{class_above, IsThere}
 use Rattle.yoneda.specs.Products.{AreOnSquare}
 use Rattle.yoneda.proofs.Lifted.{on_square_of}
+use Rattle.yoneda.proofs.Lifted.{shifted_length-positive}
 use Rattle.massey.specs.declared.places.Places.{Places}
-use Rattle.massey.specs.Brackets.{above_of, above_ab, above_bc, IsSetting, AreLifts}
+use Rattle.massey.specs.Inside.Settings.{above_of, above_ab, above_bc, IsSetting, AreLifts}
 use Rattle.massey.specs.Refusals.{AreInside}
 use Rattle.bracket_laws.specs.Brackets.{HasRoom}
-
-positive_length : (above n : ℕ) → 0 < n → shifted_length above n ≡ above + n
-positive_length above zero h = absurd (omega arith)
-positive_length above (suc n) h = refl
 
 -- a lift over tables with the range goes through its degrees
 pub reaches : (table sphere : Staircase) (range : Range) → IsThrough range table.rows → IsThrough range sphere.rows → (s above upto at : ℕ) → s + upto ≤ range.s → at ≤ range.t → at < degrees_through table sphere s above upto
 reaches table sphere range whole whole_q s above upto at rows small =
     let one = whole (s + upto) rows in
     let two = whole_q upto (omega arith) in
-    let e = positive_length above (length (row_in sphere.rows upto)) (omega arith) in
+    let e = shifted_length-positive above (length (row_in sphere.rows upto)) (omega arith) in
     omega arith
 
 -- what a lift of x has for the coefficients of a
@@ -92,7 +89,7 @@ pub bracket_row : (p : Places) → (p.b.s ≡ 0 → ⊥) → pos (((p.c.s + p.b.
 bracket_row p h = omega (arith, ints)
 
 -- the tables have the rows and degrees of a bracket
-pub room_of : (table sphere : Staircase) (range : Range) (p : Places) → AreInside range p → (beta gamma : LiftValues) → AreLifts table sphere p beta gamma → (n : ℕ) → suc n ≡ p.c.s + p.b.s → (l : ℕ) → suc l ≡ p.b.s + p.a.s → HasRoom range.s range.t range.s range.t (class_above p.a) (class_above p.b) (class_above p.c) n l
+pub room_of : (table sphere : Staircase) (range : Range) (p : Places) → AreInside range p.a p.b p.c → (beta gamma : LiftValues) → AreLifts table sphere p beta gamma → (n : ℕ) → suc n ≡ p.c.s + p.b.s → (l : ℕ) → suc l ≡ p.b.s + p.a.s → HasRoom range.s range.t range.s range.t (class_above p.a) (class_above p.b) (class_above p.c) n l
 room_of table sphere range p i beta gamma lifts n n_row l l_row =
     let e = i.row in
     let f = i.ab_row in

@@ -1,39 +1,26 @@
 -- Three-fold Massey products on the tables of two resolutions (May, Matric Massey products; Bruner, Calculation of large Ext
 -- modules).
-use Rattle.std.specs.Prelude.{◌≡◌, ◌↔◌, ℕ, zero, suc, Some, None, ◌+◌, pos, ◌+ℤ◌, ◌-ℤ◌, ◌<◌, Bool, List, length, map, take}
+use Rattle.std.specs.Prelude.{◌≡◌, ◌↔◌, ℕ, zero, suc, Some, None, ◌+◌, pos, ◌+ℤ◌, ◌-ℤ◌, Bool, List, length}
 use Rattle.f2_vec.specs.Vectors.{sum_of, IsZero}
-use Rattle.f2_vec.specs.Spans.{row, IsInSpan}
+use Rattle.f2_vec.specs.Spans.{IsInSpan}
 use Rattle.f2_matrix.specs.Echelon.{IsRowBasis}
 use Rattle.square.specs.declared.range.Range.{Range}
-use Rattle.square.specs.Squares.{over, bottom_of}
-use Rattle.square.specs.Tables.{Staircase, plain_rows, content_at, cut, IsTable, IsThrough}
-use Rattle.lift_laws.specs.Lifts.{Resolution, IsSphere}
-use Rattle.lift_laws.specs.Products.{Class as ClassAbove, count_of, degree_of_class, coefficient_of, on_square, product_by}
-use Rattle.bracket_laws.specs.Brackets.{IsNullHomotopy, composed, top_of, IsBracketMember, IsIndeterminacy}
+use Rattle.square.specs.Squares.{bottom_of}
+use Rattle.square.specs.Tables.{Staircase}
+use Rattle.lift_laws.specs.Lifts.{Resolution}
+use Rattle.lift_laws.specs.Products.{Class as ClassAbove, count_of}
+use Rattle.bracket_laws.specs.Brackets.{top_of, IsBracketMember, IsIndeterminacy}
 use Rattle.chain_map.specs.declared.class.Class.{Class}
-use Rattle.chain_map.specs.Lifting.{LiftValues, resolution_of, map_of, IsLiftOver}
-use Rattle.yoneda.specs.Places.{class_above}
-use Rattle.yoneda.specs.Products.{IsAllCanonical, IsProductOver}
+use Rattle.chain_map.specs.Lifting.{resolution_of, IsCanonicalIn}
+use Rattle.chain_map.specs.Classes.{through}
+use Rattle.yoneda.specs.declared.place.Place.{Place}
+use Rattle.yoneda.specs.Places.{class_above, IsPlaceOf}
+use Rattle.yoneda.specs.Products.{IsProductOver}
 use Rattle.massey.specs.declared.answer.Bracket.{Bracket}
 use Rattle.massey.specs.declared.fault.MasseyFault.{MasseyFault}
 use Rattle.massey.specs.declared.fault.MasseyFault.TheVariants.{NoClass, OutOfRange, Nonzero, Memory}
-use Rattle.massey.specs.declared.places.Places.{Places}
 use Rattle.massey.specs.Cosets.{IsZeroAtPivots}
-use Rattle.massey.specs.Refusals.{refusal_of, AreFound, AreInside, AreSmall}
-
--- the resolution of a table's module through the range
-abbrev pub through : Range → Staircase → Resolution
-through range table = record { base = over table.resolved; table = cut range (plain_rows table.rows) }
-
--- how many degrees the bracket is above the bottom, and ab, and bc
-abbrev pub above_of : Places → ℕ
-above_of p = p.a.above + p.b.above + p.c.above
-
-abbrev pub above_ab : Places → ℕ
-above_ab p = p.a.above + p.b.above
-
-abbrev pub above_bc : Places → ℕ
-above_bc p = p.b.above + p.c.above
+use Rattle.massey.specs.Refusals.{refusal_of, AreInside}
 
 -- The bracket <a, b, c> of classes a and b of the sphere's resolution q and c of r, in the square of its degree in row n + a.s, where n is
 -- one row below that of bc and l one below that of ab: the value is one of its values, by lifts and a null homotopy; it is zero at the
@@ -53,11 +40,6 @@ pub record IsBracketOf (r q : Resolution) (a b c : ClassAbove) (value : List Boo
       IsBracketMember r q a b c n l (top_of r a b c) v
       ↔ IsInSpan (count_of r (n + a.s) (a.above + b.above + c.above)) rows (sum_of v value)
 
--- the bracket of the classes at these places of two tables, through the range
-abbrev pub IsBracket : Staircase → Staircase → Range → Places → List Bool → List (List Bool) → Type 0
-IsBracket table sphere range p value rows = IsBracketOf (through range table) (through range sphere) (class_above p.a)
-    (class_above p.b) (class_above p.c) value rows
-
 -- ---- answers
 
 -- the product of the two classes, and that it is zero
@@ -66,20 +48,25 @@ pub record HasZeroProduct (table sphere : Staircase) (range : Range) (a x : Clas
   pub is_product : IsProductOver table sphere range a x product
   pub is_zero : IsZero product
 
--- where a bracket is, that ab and bc are zero, and what it is where the tables are those of the canonical resolutions
+-- where a bracket is, that ab and bc are zero, and what it is where the tables are those of the canonical resolutions in the range
 pub record IsBracketOver (table sphere : Staircase) (range : Range) (a b c : Class) (bracket : Bracket) : Type 0 where
-  pub places : Places
-  pub found : AreFound table sphere range a b c places
-  pub inside : AreInside range places
-  pub s : bracket.s ≡ pos (places.a.s + places.b.s + places.c.s) -ℤ pos 1
-  pub t : bracket.t ≡ bottom_of table.resolved +ℤ pos (above_of places)
+  pub a_place : Place
+  pub b_place : Place
+  pub c_place : Place
+  pub a_is : IsPlaceOf sphere range a a_place
+  pub b_is : IsPlaceOf sphere range b b_place
+  pub c_is : IsPlaceOf table range c c_place
+  pub inside : AreInside range a_place b_place c_place
+  pub s : bracket.s ≡ pos (a_place.s + b_place.s + c_place.s) -ℤ pos 1
+  pub t : bracket.t ≡ bottom_of table.resolved +ℤ pos (a_place.above + b_place.above + c_place.above)
   pub widths : bracket.indeterminacy.cols ≡ length bracket.value
-  pub one_each : (row : ℕ) → suc row ≡ places.a.s + places.b.s + places.c.s →
-      length bracket.value ≡ count_of (resolution_of table) row (above_of places)
+  pub one_each : (row : ℕ) → suc row ≡ a_place.s + b_place.s + c_place.s →
+      length bracket.value ≡ count_of (resolution_of table) row (a_place.above + b_place.above + c_place.above)
   pub ab_zero : HasZeroProduct sphere sphere range a b
   pub bc_zero : HasZeroProduct table sphere range b c
-  pub is_bracket : IsAllCanonical table → IsAllCanonical sphere →
-      IsBracket table sphere range places bracket.value bracket.indeterminacy.rows
+  pub is_bracket : IsCanonicalIn range table → IsCanonicalIn range sphere →
+      IsBracketOf (through range table) (through range sphere) (class_above a_place) (class_above b_place)
+      (class_above c_place) bracket.value bracket.indeterminacy.rows
 
 -- ab is not zero, for 0, or ab is zero and bc is not, for 1
 abbrev pub IsNonzero : Staircase → Staircase → Range → Class → Class → Class → ℕ → List Bool → Type 0
@@ -97,61 +84,3 @@ IsCause table sphere range a b c (OutOfRange which s t) =
 IsCause table sphere range a b c (Nonzero which product) =
     (refusal_of table sphere range a b c ≡ None) × IsNonzero table sphere range a b c which product
 IsCause table sphere range a b c Memory = Unit {0}
-
--- ---- what a bracket is made of
-
--- the tables have the range, the second is of the sphere, and the classes at these places have products and a bracket in the range
-pub record IsSetting (table sphere : Staircase) (range : Range) (p : Places) : Type 0 where
-  pub is_table : IsTable table
-  pub is_sphere_table : IsTable sphere
-  pub through_table : IsThrough range table.rows
-  pub through_sphere : IsThrough range sphere.rows
-  pub is_sphere : IsSphere (resolution_of sphere)
-  pub small : AreSmall p
-  pub inside : AreInside range p
-  pub a_there : p.a.i < length (content_at sphere.rows p.a.s p.a.above).images
-  pub b_there : p.b.i < length (content_at sphere.rows p.b.s p.b.above).images
-  pub c_there : p.c.i < length (content_at table.rows p.c.s p.c.above).images
-
--- Lifts of b and of c, as far as a bracket needs them, where b.s and a.s are not 0: to row l, which is one below that of ab, for c.
--- The products ab and bc, which they give, are zero.
-pub record AreLifts (table sphere : Staircase) (p : Places) (beta gamma : LiftValues) : Type 0 where
-  pub low : ℕ
-  pub last : ℕ
-  pub b_row : p.b.s ≡ suc low
-  pub a_row : p.a.s ≡ suc last
-  pub beta_lift : IsLiftOver sphere sphere p.b.s p.b.above p.b.i p.a.s beta
-  pub gamma_lift : IsLiftOver table sphere p.c.s p.c.above p.c.i (p.b.s + last) gamma
-  pub ab_zero : IsZero (product_by (resolution_of sphere) (resolution_of sphere) (class_above p.a) (map_of beta)
-      (p.b.s + p.a.s) (above_ab p))
-  pub bc_zero : IsZero (product_by (resolution_of table) (resolution_of sphere) (class_above p.b) (map_of gamma)
-      (p.c.s + p.b.s) (above_bc p))
-
--- maps H, and the values of the last of them
-pub record IsLastMap (table sphere : Staircase) (range : Range) (p : Places) (n : ℕ) (beta gamma : LiftValues)
-    (last : List (List Bool)) : Type 0 where
-  pub H : ℕ → ℕ → List Bool
-  pub homotopy : IsNullHomotopy (through range table) (through range sphere) n
-      (degree_of_class (through range table) (class_above p.c)
-      +ℤ degree_of_class (through range sphere) (class_above p.b))
-      (composed (through range sphere) p.b.s (degree_of_class (through range sphere) (class_above p.b))
-      (degree_of_class (through range table) (class_above p.c)) (map_of beta) (map_of gamma))
-      p.a.s (top_of (through range table) (class_above p.a) (class_above p.b) (class_above p.c)) H
-  pub values : (g : ℕ) → row last g ≡ H p.a.s g
-
--- v is a value of the bracket, by lifts and a null homotopy
-abbrev pub IsMemberBy : Staircase → Staircase → Range → Places → ℕ → List Bool → Type 0
-IsMemberBy table sphere range p n v = (l : ℕ) → suc l ≡ p.b.s + p.a.s →
-    IsBracketMember (through range table) (through range sphere) (class_above p.a) (class_above p.b) (class_above p.c) n
-    l (top_of (through range table) (class_above p.a) (class_above p.b) (class_above p.c)) v
-
--- the product of number i of the square of ab one row lower, in row l of the sphere, with the class that the maps lift
-abbrev pub lower_product : Staircase → Staircase → Places → LiftValues → ℕ → ℕ → List Bool
-lower_product table sphere p gamma l i = on_square (resolution_of table) (p.c.s + l) (above_of p)
-    (λ g. coefficient_of (resolution_of sphere) (record { s = l; above = above_ab p; i = i }) (map_of gamma l g))
-
--- the rows span the indeterminacy
-abbrev pub AreSpanning : Staircase → Staircase → Range → Places → ℕ → List (List Bool) → Type 0
-AreSpanning table sphere range p n rows = (l : ℕ) → suc l ≡ p.b.s + p.a.s →
-    IsIndeterminacy (through range table) (through range sphere) (class_above p.a) (class_above p.b) (class_above p.c) n
-    l (top_of (through range table) (class_above p.a) (class_above p.b) (class_above p.c)) rows

@@ -1,2 +1,3 @@
 -- What contracts of private functions cite.
+pub mod Settings
 pub mod Homotopies

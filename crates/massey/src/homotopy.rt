@@ -7,10 +7,9 @@ ghost use Rattle.free_module.specs.LinearMap.{AreImages, mapped};
 ghost use Rattle.square.specs.Squares.{bottom_of};
 ghost use Rattle.lift_laws.specs.Products.{first_of};
 ghost use Rattle.chain_map.specs.Rows.{lowered_row};
-ghost use Rattle.chain_map.specs.Lifting.{resolution_of};
-ghost use Rattle.chain_map.specs.Inside.Making.{target_of};
-ghost use Rattle.yoneda.specs.Products.{IsAllCanonical, AreOnSquare};
-ghost use Rattle.massey.specs.Brackets.{above_of, above_bc, IsSetting, IsLastMap, AreLifts};
+ghost use Rattle.chain_map.specs.Lifting.{resolution_of, IsCanonicalIn, target_of};
+ghost use Rattle.yoneda.specs.Products.{AreOnSquare};
+ghost use Rattle.massey.specs.Inside.Settings.{above_of, above_bc, IsSetting, IsLastMap, AreLifts};
 ghost use Rattle.massey.specs.Inside.Homotopies.{IsComposite, AreMapsOf, AreChosen, AreNext, homotopy_goal, zero_map};
 
 use crate::setting::Setting;
@@ -40,7 +39,8 @@ pub(crate) fn last_map(
     requires n { suc n ≡ setting.now.places.c.s + setting.now.places.b.s }
     ensures values { IfOk result (λ last. AreOnSquare setting.now.table.now setting.now.sphere.now setting.now.places.a
         (n + setting.now.places.a.s) (above_of setting.now.places) last.items) }
-    ensures map { IfOk result (λ last. IsAllCanonical setting.now.table.now → IsAllCanonical setting.now.sphere.now →
+    ensures map { IfOk result (λ last. IsCanonicalIn setting.now.range setting.now.table.now →
+        IsCanonicalIn setting.now.range setting.now.sphere.now →
         IsLastMap setting.now.table.now setting.now.sphere.now setting.now.range setting.now.places n beta.now gamma.now
         last.items) }
 {

@@ -7,18 +7,19 @@ ghost use Rattle.square.specs.Squares.{bottom_of};
 ghost use Rattle.square.specs.Tables.{IsThrough};
 ghost use Rattle.lift_laws.specs.Lifts.{IsSphere};
 ghost use Rattle.lift_laws.specs.Products.{count_of, product_by, on_square, coefficient_of};
-ghost use Rattle.chain_map.specs.Lifting.{resolution_of, map_of, IsLiftOver};
+ghost use Rattle.chain_map.specs.Lifting.{resolution_of, IsCanonicalIn, map_of, IsLiftOver};
 ghost use Rattle.yoneda.specs.Places.{class_above, IsPlaceOf};
-ghost use Rattle.yoneda.specs.Products.{IsAllCanonical, AreProducts};
+ghost use Rattle.yoneda.specs.Products.{AreProducts};
 ghost use Rattle.massey.specs.Refusals.{refusal_of};
-ghost use Rattle.massey.specs.Brackets.{above_of, above_ab, above_bc, IsSetting, AreLifts, IsBracketOver, IsCause, IsMemberBy, AreSpanning, IsBracket, lower_product};
+ghost use Rattle.massey.specs.Brackets.{IsBracketOver, IsCause};
+ghost use Rattle.massey.specs.Inside.Settings.{above_of, above_ab, above_bc, IsSetting, AreLifts, IsMemberBy, AreSpanning, IsBracket, lower_product};
 
 use crate::answer::Bracket;
 use crate::fault::MasseyFault;
 use crate::homotopy::last_map;
 use crate::places::places_of;
 use crate::setting::Setting;
-use bracket_laws::bracket_is_coset;
+use bracket_laws::{bracket_is_coset, units_have_no_zero_products};
 use chain_map::{Class, Lift, lift};
 use f2_matrix::{Matrix, Reduced};
 use f2_vec::BitVec;
@@ -54,7 +55,6 @@ pub fn bracket(
     ensures bracket { IfOk result (IsBracketOver table.now sphere.now range a b c) }
 {
     // Why every lift gives these products.
-    canonical_table_is_minimal_resolution();
     modules_are_graded_modules();
     lifts_give_one_product();
     let places = places_of(table, sphere, range, a, b, c)?;
@@ -133,12 +133,13 @@ fn by_lifts(
     ensures one_each { IfOk result (λ bracket. (row : ℕ) →
         suc row ≡ setting.now.places.a.s + setting.now.places.b.s + setting.now.places.c.s →
         length bracket.value ≡ count_of (resolution_of setting.now.table.now) row (above_of setting.now.places)) }
-    ensures bracket { IfOk result (λ bracket. IsAllCanonical setting.now.table.now →
-        IsAllCanonical setting.now.sphere.now →
+    ensures bracket { IfOk result (λ bracket. IsCanonicalIn setting.now.range setting.now.table.now →
+        IsCanonicalIn setting.now.range setting.now.sphere.now →
         IsBracket setting.now.table.now setting.now.sphere.now setting.now.range setting.now.places bracket.value
         bracket.indeterminacy.rows) }
 {
-    canonical_table_is_minimal_resolution();
+    // Why neither a nor b is in row 0.
+    units_have_no_zero_products();
     modules_are_graded_modules();
     let places = setting.places;
     if places.a.s == 0 {
@@ -236,8 +237,8 @@ fn coset(
     ensures t { IfOk result
         (λ bracket. bracket.t ≡ bottom_of setting.now.table.now.resolved +ℤ pos (above_of setting.now.places)) }
     ensures widths { IfOk result (λ bracket. bracket.indeterminacy.cols ≡ length bracket.value) }
-    ensures bracket { IfOk result (λ bracket. IsAllCanonical setting.now.table.now →
-        IsAllCanonical setting.now.sphere.now →
+    ensures bracket { IfOk result (λ bracket. IsCanonicalIn setting.now.range setting.now.table.now →
+        IsCanonicalIn setting.now.range setting.now.sphere.now →
         IsBracket setting.now.table.now setting.now.sphere.now setting.now.range setting.now.places bracket.value
         bracket.indeterminacy.rows) }
 {
@@ -274,7 +275,8 @@ fn member(
     requires n { suc n ≡ setting.now.places.c.s + setting.now.places.b.s }
     ensures length { IfOk result (λ v. length v
         ≡ count_of (resolution_of setting.now.table.now) (n + setting.now.places.a.s) (above_of setting.now.places)) }
-    ensures member { IfOk result (λ v. IsAllCanonical setting.now.table.now → IsAllCanonical setting.now.sphere.now →
+    ensures member { IfOk result (λ v. IsCanonicalIn setting.now.range setting.now.table.now →
+        IsCanonicalIn setting.now.range setting.now.sphere.now →
         IsMemberBy setting.now.table.now setting.now.sphere.now setting.now.range setting.now.places n v) }
 {
     let last = last_map(alloc, setting, beta, gamma, n)?;
@@ -305,8 +307,8 @@ fn indeterminacy_rows(
     ensures widths { IfOk result (λ rows. HaveWidth
         (count_of (resolution_of setting.now.table.now) (n + setting.now.places.a.s) (above_of setting.now.places))
         rows.items) }
-    ensures spanning { IfOk result (λ rows. IsAllCanonical setting.now.table.now →
-        IsAllCanonical setting.now.sphere.now →
+    ensures spanning { IfOk result (λ rows. IsCanonicalIn setting.now.range setting.now.table.now →
+        IsCanonicalIn setting.now.range setting.now.sphere.now →
         AreSpanning setting.now.table.now setting.now.sphere.now setting.now.range setting.now.places n rows.items) }
 {
     let mut rows = products(

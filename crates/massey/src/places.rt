@@ -4,8 +4,10 @@ ghost use Rattle.square.specs.Squares.{bottom_of};
 ghost use Rattle.square.specs.Tables.{IsTable, IsThrough};
 ghost use Rattle.lift_laws.specs.Lifts.{IsSphere};
 ghost use Rattle.chain_map.specs.Lifting.{resolution_of};
-ghost use Rattle.yoneda.specs.Places.{missing, IsPlaceOf};
-ghost use Rattle.massey.specs.Refusals.{no_class, out_of_range, class_refusal, place_refusal, refusal_of, AreFound, AreInside, AreSmall};
+ghost use Rattle.chain_map.specs.Classes.{through, no_class, out_of_range, class_refusal};
+ghost use Rattle.yoneda.specs.Places.{IsPlaceOf};
+ghost use Rattle.massey.specs.Refusals.{absent, past, refusal_of, AreInside};
+ghost use Rattle.massey.specs.Inside.Settings.{place_refusal, AreFound, AreSmall, IsSetting};
 
 use crate::fault::MasseyFault;
 use chain_map::Class;
@@ -36,9 +38,7 @@ pub(crate) fn places_of(
     ensures made { OnOk result (refusal_of table.now sphere.now range a b c ≡ None) }
     ensures refused { IfErr result (λ e. refusal_of table.now sphere.now range a b c ≡ Some e) }
     ensures found { IfOk result (AreFound table.now sphere.now range a b c) }
-    ensures inside { IfOk result (AreInside range) }
-    ensures is_table { OnOk result (IsTable table.now) }
-    ensures is_sphere_table { OnOk result (IsTable sphere.now) }
+    ensures setting { IfOk result (IsSetting table.now sphere.now range) }
 {
     let places = classes_of(table, sphere, range, a, b, c)?;
     are_inside(table, sphere, range, places)?;
@@ -56,8 +56,10 @@ fn classes_of(
 ) -> Result<Places, MasseyFault>
     requires table { IsThrough range table.now.rows }
     requires sphere_table { IsThrough range sphere.now.rows }
-    ensures made { OnOk result (class_refusal table.now sphere.now range a b c ≡ None) }
-    ensures refused { IfErr result (λ e. class_refusal table.now sphere.now range a b c ≡ Some e) }
+    ensures made { OnOk result
+        (class_refusal absent (through range table.now) (through range sphere.now) a b c ≡ None) }
+    ensures refused { IfErr result
+        (λ e. class_refusal absent (through range table.now) (through range sphere.now) a b c ≡ Some e) }
     ensures found { IfOk result (AreFound table.now sphere.now range a b c) }
     ensures is_table { OnOk result (IsTable table.now) }
     ensures is_sphere_table { OnOk result (IsTable sphere.now) }
@@ -78,7 +80,7 @@ fn are_inside(
     requires { AreSmall places }
     ensures made { OnOk result (place_refusal table.now sphere.now range places ≡ None) }
     ensures refused { IfErr result (λ e. place_refusal table.now sphere.now range places ≡ Some e) }
-    ensures inside { OnOk result (AreInside range places) }
+    ensures inside { OnOk result (AreInside range places.a places.b places.c) }
 {
     let Places { a, b, c } = places;
     within(sphere, range, 0, a.s + b.s + 1, a.above + b.above)?;
@@ -95,8 +97,8 @@ fn are_inside(
 /// Where the class stands in the table, or that it does not.
 fn found(table: &Table, range: Range, class: Class, which: u8) -> Result<Place, MasseyFault>
     requires { IsThrough range table.now.rows }
-    ensures found { OnOk result (no_class which table.now range class ≡ None) }
-    ensures missing { IfErr result (λ e. no_class which table.now range class ≡ Some e) }
+    ensures found { OnOk result (no_class (absent which) (through range table.now) class ≡ None) }
+    ensures missing { IfErr result (λ e. no_class (absent which) (through range table.now) class ≡ Some e) }
     ensures there { IfOk result (IsPlaceOf table.now range class) }
     ensures is_table { OnOk result (IsTable table.now) }
 {
@@ -109,11 +111,10 @@ fn found(table: &Table, range: Range, class: Class, which: u8) -> Result<Place, 
 /// Checks that the square in row `rows - 1`, `above` degrees above the bottom, lies in the range. Rows are compared as
 /// signed numbers, so classes that are all in row 0 are refused for ab, which is not zero, and not for the row -1.
 fn within(table: &Table, range: Range, which: u8, rows: u16, above: u16) -> Result<(), MasseyFault>
-    ensures within { OnOk result
-        (out_of_range which table.now range (pos rows -ℤ pos 1) (bottom_of table.now.resolved +ℤ pos above) ≡ None) }
-    ensures past { IfErr result
-        (λ e. out_of_range which table.now range (pos rows -ℤ pos 1) (bottom_of table.now.resolved +ℤ pos above)
-        ≡ Some e) }
+    ensures within { OnOk result (out_of_range (past which) range (through range table.now) (pos rows -ℤ pos 1)
+        (bottom_of table.now.resolved +ℤ pos above) ≡ None) }
+    ensures past { IfErr result (λ e. out_of_range (past which) range (through range table.now) (pos rows -ℤ pos 1)
+        (bottom_of table.now.resolved +ℤ pos above) ≡ Some e) }
     ensures row { OnOk result (rows ≤ range.s + 1) }
     ensures degree { OnOk result (above ≤ range.t) }
 {

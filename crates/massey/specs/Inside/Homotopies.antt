@@ -11,10 +11,9 @@ use Rattle.square.specs.Tables.{Staircase}
 use Rattle.lift_laws.specs.Lifts.{degree}
 use Rattle.lift_laws.specs.Products.{first_of}
 use Rattle.chain_map.specs.Rows.{lowered_row}
-use Rattle.chain_map.specs.Lifting.{LiftValues, resolution_of, row_values, map_of}
-use Rattle.chain_map.specs.Inside.Making.{IsChosenFor, target_of, next_goal}
+use Rattle.chain_map.specs.Lifting.{LiftValues, resolution_of, row_values, map_of, IsChosenFor, target_of, next_goal}
 use Rattle.massey.specs.declared.places.Places.{Places}
-use Rattle.massey.specs.Brackets.{above_of, above_ab, above_bc, IsSetting, AreLifts}
+use Rattle.massey.specs.Inside.Settings.{above_of, above_ab, above_bc, IsSetting, AreLifts}
 
 -- the lifts of b and c can be composed, and row n is one below that of bc
 pub record IsComposite (table sphere : Staircase) (range : Range) (p : Places) (n : ℕ) (beta gamma : LiftValues)

@@ -1,9 +1,10 @@
 use Rattle.std.proofs.lemmas.Result.{IfOk-weaker}
-use Rattle.massey.proofs.Causes.{class_there, lifted_at}
+use Rattle.yoneda.proofs.Lifted.{lift_at}
+use Rattle.massey.proofs.Causes.{class_there}
 use Rattle.massey.proofs.making.lift_of_b.Goals as goal
 
 pub lift-requires-clause-class : goal.lift-requires-clause-class
 lift-requires-clause-class c = class_there c.args.setting.now.sphere.now c.args.setting.now.range c.requires.setting.through_sphere c.args.b c.args.setting.now.places.b c.requires.class
 
 pub returns : goal.returns
-returns c = IfOk-weaker c.lift.result _ _ (λ lift l. lifted_at c.args.setting.now.sphere.now c.args.setting.now.sphere.now c.args.setting.now.range c.args.b c.args.setting.now.places.b c.args.setting.now.places.a.s c.requires.class lift l) (c.lift.ensures c.args.setting.now.places.b.above c.requires.class.degree)
+returns c = IfOk-weaker c.lift.result _ _ (λ lift l. lift_at c.args.setting.now.sphere.now c.args.setting.now.sphere.now c.args.setting.now.range c.args.b c.args.setting.now.places.b c.args.setting.now.places.a.s lift c.requires.class l) (c.lift.ensures c.args.setting.now.places.b.above c.requires.class.degree)

@@ -7,7 +7,7 @@ use Rattle.bracket_laws.proofs.Vectors.{length-on_square}
 use Rattle.chain_map.specs.Lifting.{resolution_of}
 use Rattle.yoneda.specs.Places.{class_above}
 use Rattle.yoneda.specs.Products.{AreOnSquare}
-use Rattle.massey.specs.Brackets.{above_of}
+use Rattle.massey.specs.Inside.Settings.{above_of}
 use Rattle.massey.proofs.Values.{a_is_there, bracket_there}
 use Rattle.massey.proofs.Members.{member_of}
 use Rattle.massey.proofs.making.member.Goals as goal

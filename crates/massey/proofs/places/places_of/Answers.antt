@@ -1,6 +1,7 @@
 use Rattle.std.proofs.Common.{Some, None}
 use Rattle.std.proofs.lemmas.Result.{err_from_is_err_and}
 use Rattle.massey.proofs.Refusals.{are_small, refused_by_places, refused_by_class}
+use Rattle.massey.proofs.Causes.{setting_of}
 use Rattle.massey.proofs.places.places_of.Goals as goal
 
 pub are_inside-requires : goal.are_inside-requires
@@ -18,3 +19,6 @@ returns-in_err-are_inside-clause-refused c =
 
 pub returns-clause-made : goal.returns-clause-made
 returns-clause-made c = refused_by_places c.args.table.now c.args.sphere.now c.args.range c.requires.sphere c.args.a c.args.b c.args.c c.in_ok-places.places c.in_ok-places.ensures.found None c.in_ok-places.ensures.made c.in_ok-are_inside.ensures.made
+
+pub returns-clause-setting : goal.returns-clause-setting
+returns-clause-setting c = setting_of c.args.table.now c.args.sphere.now c.args.range c.in_ok-places.ensures.is_table c.in_ok-places.ensures.is_sphere_table c.requires.table c.requires.sphere_table c.requires.sphere c.args.a c.args.b c.args.c c.in_ok-places.places c.in_ok-places.ensures.found c.in_ok-are_inside.ensures.inside

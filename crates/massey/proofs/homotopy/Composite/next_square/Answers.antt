@@ -11,13 +11,12 @@ use Rattle.square.specs.Tables.{Staircase, row_in, plain_rows, content_at}
 use Rattle.square.proofs.Places.{length-row_of}
 use Rattle.lift_laws.specs.Products.{first_of, count_of}
 use Rattle.chain_map.specs.Rows.{lowered_row, IsInverseAt}
-use Rattle.chain_map.specs.Lifting.{resolution_of, row_values}
-use Rattle.chain_map.specs.Inside.Making.{target_of}
+use Rattle.chain_map.specs.Lifting.{resolution_of, row_values, target_of}
 use Rattle.chain_map.proofs.Generators.{first_of-more}
 use Rattle.chain_map.proofs.Goals.{place_there, sphere_square, reach_low, reach_target}
 use Rattle.chain_map.proofs.Places.{image_width}
 use Rattle.chain_map.proofs.Widths.{width-take, next_goal_fits}
-use Rattle.massey.specs.Brackets.{above_of, above_ab, above_bc}
+use Rattle.massey.specs.Inside.Settings.{above_of, above_ab, above_bc}
 use Rattle.massey.specs.Inside.Homotopies.{homotopy_goal}
 use Rattle.massey.proofs.Composites.{through_bracket, gamma_there, gamma_width, inner_reach}
 use Rattle.massey.proofs.MapValues.{next_row_there}
