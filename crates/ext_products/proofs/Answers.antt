@@ -1,5 +1,5 @@
 -- There is one answer to what is asked of products.
-use Rattle.std.proofs.Common.{◌≡◌, ℕ, ◌+◌, ◌<◌, ◌≤◌, inl, inr, ℤ, pos, ◌+ℤ◌, ◌-ℤ◌, ◌≤ℤ◌, Bool, true, false, List, [], length, refl, ap, sym, subst, ◌∙◌, arith}
+use Rattle.std.proofs.Common.{◌≡◌, ℕ, ◌+◌, ◌<◌, ◌≤◌, inl, inr, ℤ, pos, ◌+ℤ◌, ◌-ℤ◌, Bool, true, false, List, [], length, refl, ap, sym, subst, ◌∙◌, arith}
 use Rattle.std.specs.Prelude.{Option, Some, None, MatchOption, Result, Ok, Err, IsOkAnd, nat_lt, if◌then◌else◌}
 use Rattle.std.proofs.lemmas.Bool.{cases_lt}
 use Rattle.std.proofs.lemmas.Bool.Decides.{nat_tests}
@@ -9,17 +9,20 @@ use Rattle.degrees.specs.Above.{above_of}
 use Rattle.square.specs.declared.range.Range.{Range}
 use Rattle.square.proofs.ByDegree.{natural-is}
 use Rattle.resolution_laws.specs.Resolution.{Content, no_content, square_in, row_of, IsCanonicalTable}
-use Rattle.lift_laws.specs.Lifts.{Resolution, IsCanonical, IsSphere, IsLift, EachClassLifts, dual_of}
+use Rattle.lift_laws.specs.Lifts.{Resolution, IsCanonical, IsSphere, EachClassLifts}
 use Rattle.lift_laws.specs.Products.{Class as ClassAbove, count_of, degree_of_class, number_of, product_by, LiftsGiveOneProduct}
 use Rattle.chain_map.specs.declared.class.Class.{Class}
+use Rattle.chain_map.specs.Classes.{classes_over, class_count, missing_in, IsAt}
 use Rattle.chain_map.proofs.Generators.{is_number}
+use Rattle.yoneda.specs.Products.{IsYonedaProduct}
+use Rattle.yoneda.proofs.OneProduct.{product-of-lift}
 use Rattle.ext_chart.specs.declared.class_products.ProductLine.{ProductLine}
 use Rattle.ext_chart.specs.Classes.{product_lines_text}
 use Rattle.ext_products.specs.declared.refusal.Refusal.{Refusal}
 use Rattle.ext_products.specs.declared.refusal.Refusal.TheVariants.{NoClass}
 use Rattle.ext_products.specs.declared.refusal.Named.TheVariants.{By}
 use Rattle.ext_products.specs.Lines.{OneEach}
-use Rattle.ext_products.specs.Products.{class_at, classes_over, class_count, missing_in, IsAt, factors, IsGivenBy, IsYonedaProduct, IsProductLine, IsProductsText}
+use Rattle.ext_products.specs.Products.{class_at, factors, IsProductLine, IsProductsText}
 use Rattle.ext_products.specs.Laws.{ProductsAnswerExists, ProductsAnswerIsUnique}
 use Rattle.ext_products.proofs.OneEach.{OneEach-unique, OneEach-made}
 use Rattle.ext_products.proofs.Factors.{IsFactor, are_factors}
@@ -70,34 +73,6 @@ answers-unique r q range by a b p k = answer-unique range by r q (missing_in q b
 
 -- ---- one
 
--- a lift through a degree is one through each lesser
-lower-lift : (r q : Resolution) (s : ℕ) (x : ℤ) (z : ℕ → List Bool) (upto : ℕ) (top less : ℤ) (phi : ℕ → ℕ → List Bool) → less ≤ℤ top → IsLift r q s x z upto top phi → IsLift r q s x z upto less phi
-lower-lift r q s x z upto top less phi low a = record {
-  fit = λ k i h e g l d. a.fit k i h e g l (omega (arith, ints, low, d));
-  start = λ g l d. a.start g l (omega (arith, ints, low, d));
-  commutes = λ k i j h e f g l d. a.commutes k i j h e f g l (omega (arith, ints, low, d));
-}
-
-given-lowered : (r q : Resolution) (a x : ClassAbove) (v : List Bool) (p : IsGivenBy r q a x v) → IsLift r q x.s (degree_of_class r x) (dual_of r q x.s (degree_of_class r x) (number_of r x)) a.s (r.base.bottom +ℤ pos (a.above + x.above)) p.phi
-given-lowered r q a x v p = lower-lift r q x.s (degree_of_class r x) (dual_of r q x.s (degree_of_class r x) (number_of r x)) a.s p.top (r.base.bottom +ℤ pos (a.above + x.above)) p.phi p.reaches p.is_lift
-
--- what one lift gives, each does
-pub product-of-lift : LiftsGiveOneProduct → (r q : Resolution) (range : Range) (a x : ClassAbove) (v : List Bool) → IsCanonical r range.s range.t → IsCanonical q range.s range.t → IsSphere q → IsFactor r range a x → a.i < count_of q a.s a.above → IsGivenBy r q a x v → IsYonedaProduct r q a x v
-product-of-lift one r q range a x v canonical canonical_q sphere factor there given =
-    let row = factor.row in
-    let degree = factor.degree in
-    let bottom = sphere.bottom in
-    let z = dual_of r q x.s (degree_of_class r x) (number_of r x) in
-    let less : ℤ = r.base.bottom +ℤ pos (a.above + x.above) in
-    let low : (less -ℤ (r.base.bottom +ℤ pos x.above)) ≤ℤ (q.base.bottom +ℤ pos range.t) = omega (arith, ints, bottom, degree) in
-    record {
-      some = given;
-      each = λ w other.
-          given.gives
-          ∙ (one r q range.s range.t range.s range.t x.s x.above z a less given.phi other.phi canonical canonical_q sphere row degree (omega arith) there (omega (arith, ints)) low (given-lowered r q a x v given) (given-lowered r q a x w other)
-          ∙ sym other.gives);
-    }
-
 -- a class that is in the range has its product
 pub product-exists : EachClassLifts → LiftsGiveOneProduct → (r q : Resolution) (range : Range) (a x : ClassAbove) → IsCanonical r range.s range.t → IsCanonical q range.s range.t → IsSphere q → IsFactor r range a x → a.i < count_of q a.s a.above → (v : List Bool) × IsYonedaProduct r q a x v
 product-exists lifts one r q range a x canonical canonical_q sphere factor there =
@@ -109,7 +84,7 @@ product-exists lifts one r q range a x canonical canonical_q sphere factor there
     let top : ℤ = r.base.bottom +ℤ pos (a.above + x.above) in
     let lift = lifts r q range.s range.t range.s range.t x.s (number_of r x) (degree_of_class r x) a.s top canonical canonical_q sphere row (omega arith) (omega (arith, ints)) number.there number.degree_is in
     let v = product_by r q a lift.phi (x.s + a.s) (a.above + x.above) in
-    (v, product-of-lift one r q range a x v canonical canonical_q sphere factor there (record { top = top; phi = lift.phi; reaches = omega (arith, ints); is_lift = lift.is_lift; gives = refl }))
+    (v, product-of-lift one r q range range canonical canonical_q sphere a x row degree (omega arith) (omega arith) there v (record { top = top; phi = lift.phi; reaches = omega (arith, ints); is_lift = lift.is_lift; gives = refl }))
 
 line-exists : EachClassLifts → LiftsGiveOneProduct → (r q : Resolution) (range : Range) (a : ClassAbove) → IsCanonical r range.s range.t → IsCanonical q range.s range.t → IsSphere q → a.i < count_of q a.s a.above → (x : ClassAbove) → IsFactor r range a x → (line : ProductLine) × IsProductLine r q a x line
 line-exists lifts one r q range a canonical canonical_q sphere there x factor =

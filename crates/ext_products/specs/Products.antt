@@ -1,15 +1,16 @@
 -- What is told of the products of a class of the sphere with the classes of a module, through a range (Adams, On the structure and
 -- applications of the Steenrod algebra; Bruner, Calculation of large Ext modules).
-use Rattle.std.specs.Prelude.{◌≡◌, ℕ, ◌+◌, ◌-◌, ℤ, pos, ◌+ℤ◌, ◌≤ℤ◌, Bool, nat_lt, if◌then◌else◌, List, map, Option, Some, None, MatchOption, Result, Err, IsOkAnd}
+use Rattle.std.specs.Prelude.{◌≡◌, ℕ, ◌+◌, ◌-◌, ℤ, pos, ◌+ℤ◌, List, map, MatchOption, Result, Err, IsOkAnd}
 use Rattle.std.specs.List.{flat_map, range_with_len}
-use Rattle.degrees.specs.Above.{above_of}
 use Rattle.finite_module.specs.Module.{Module as SteenrodModule}
 use Rattle.resolution_laws.specs.Resolution.{Content}
 use Rattle.square.specs.Squares.{module_over}
 use Rattle.square.specs.declared.range.Range.{Range}
 use Rattle.lift_laws.specs.Lifts.{Resolution}
-use Rattle.lift_laws.specs.Products.{Class as ClassAbove, count_of, degree_of_class, IsLiftOfClass, product_by}
+use Rattle.lift_laws.specs.Products.{Class as ClassAbove, count_of}
 use Rattle.chain_map.specs.declared.class.Class.{Class}
+use Rattle.chain_map.specs.Classes.{missing_in, IsAt}
+use Rattle.yoneda.specs.Products.{IsYonedaProduct}
 use Rattle.ext_chart.specs.declared.class_products.ProductLine.{ProductLine}
 use Rattle.ext_chart.specs.Classes.{product_lines_text}
 use Rattle.ext_products.specs.declared.refusal.Refusal.{Refusal}
@@ -22,24 +23,6 @@ abbrev pub resolution : SteenrodModule → List (List Content) → Resolution
 resolution m table = record { base = module_over m; table = table }
 
 -- ---- classes
-
--- how many classes there are at (s, t): the generators of that square, and none where the resolution has not that square
-abbrev pub classes_over : Resolution → ℕ → Option ℕ → ℕ
-classes_over r s None = 0
-classes_over r s (Some k) = count_of r s k
-
-abbrev pub class_count : Resolution → ℕ → ℤ → ℕ
-class_count r s t = classes_over r s (above_of r.base.bottom t)
-
--- how many classes there are at the place of a class, where it is none of them
-abbrev pub missing_in : Resolution → Class → Option ℕ
-missing_in r c = if nat_lt c.i (class_count r c.s c.t) then None else Some (class_count r c.s c.t)
-
--- c is the class x
-pub record IsAt (r : Resolution) (c : Class) (x : ClassAbove) : Type 0 where
-  pub row : c.s ≡ x.s
-  pub degree : c.t ≡ degree_of_class r x
-  pub number : c.i ≡ x.i
 
 -- class i of the square (s, k), all of them, those of the first n squares of row s, and those of the first n squares of the first m rows
 abbrev pub class_at : ℕ → ℕ → ℕ → ClassAbove
@@ -59,19 +42,6 @@ abbrev pub factors : Resolution → Range → ClassAbove → List ClassAbove
 factors r range a = classes_through r (range.s + 1 - a.s) (range.t + 1 - a.above)
 
 -- ---- products
-
--- v is what a lift of x gives as the product of a and x; the lift goes through its degree
-pub record IsGivenBy (r q : Resolution) (a x : ClassAbove) (v : List Bool) : Type 0 where
-  pub top : ℤ
-  pub phi : ℕ → ℕ → List Bool
-  pub reaches : (r.base.bottom +ℤ pos (a.above + x.above)) ≤ℤ top
-  pub is_lift : IsLiftOfClass r q x a.s top phi
-  pub gives : v ≡ product_by r q a phi (x.s + a.s) (a.above + x.above)
-
--- v is the product of the class a of the sphere's resolution q and the class x of r: a lift of x gives it, and so does each
-pub record IsYonedaProduct (r q : Resolution) (a x : ClassAbove) (v : List Bool) : Type 0 where
-  pub some : IsGivenBy r q a x v
-  pub each : (w : List Bool) → IsGivenBy r q a x w → v ≡ w
 
 -- the line has the place of x, the place of its product with a, and a vector
 pub record HasPlaces (bottom : ℤ) (a x : ClassAbove) (line : ProductLine) : Type 0 where

@@ -2,7 +2,7 @@
 ghost use Rattle.std.specs.Prelude.{◌≡◌, ◌≢◌, ◌≤◌, IfOk, IfErr, Ok, Err};
 ghost use Rattle.square.specs.Tables.{IsThrough};
 ghost use Rattle.square.specs.declared.range.TheConstants.{MAX_S, MAX_T};
-ghost use Rattle.ext_products.specs.Over.{IsAnswerOver, IsRefusalOver};
+ghost use Rattle.ext_products.specs.Over.{IsAnswerOver, IsAnswerIn};
 ghost use Rattle.ext_products.specs.Inside.Lining.{reach_of};
 ghost use Rattle.ext_products.specs.declared.refusal.ClassesFault.TheVariants.{Refused, Memory as OutOfMemory};
 ghost use Rattle.ext_products.specs.declared.refusal.Refusal.{Refusal as WhyNot};
@@ -33,11 +33,8 @@ pub fn products_text(
     requires through { IsThrough range table.now.rows }
     ensures text { IfOk result (λ text. IsAnswerOver table.now range by (Ok text.items)) }
     ensures refused { IfErr result (λ e. e ≢ OutOfMemory →
-        (refusal : WhyNot) × (e ≡ Refused refusal) × IsAnswerOver table.now range by (Err refusal)) }
-    ensures sure { IfErr result (λ e. e ≢ OutOfMemory →
-        (refusal : WhyNot) × (e ≡ Refused refusal) × IsRefusalOver table.now range by refusal) }
+        (refusal : WhyNot) × (e ≡ Refused refusal) × IsAnswerIn table.now range by (Err refusal)) }
 {
-    resolution_laws::canonical_table_is_minimal_resolution();
     finite_module::modules_are_graded_modules();
     lift_laws::lifts_give_one_product();
     known(table);

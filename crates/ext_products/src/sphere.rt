@@ -6,8 +6,7 @@ ghost use Rattle.square.specs.Tables.{row_in, IsThrough};
 ghost use Rattle.resolution_step.specs.Alone.{IsInRange};
 ghost use Rattle.square.specs.declared.range.TheConstants.{MAX_S, MAX_T};
 ghost use Rattle.lift_laws.specs.Lifts.{IsSphere};
-ghost use Rattle.chain_map.specs.Lifting.{resolution_of};
-ghost use Rattle.yoneda.specs.Products.{IsAllCanonical};
+ghost use Rattle.chain_map.specs.Lifting.{resolution_of, IsCanonicalIn};
 
 use finite_module::Module;
 use memory::Memory;
@@ -26,7 +25,7 @@ pub fn sphere_table(alloc: Global, range: Range, beside: Option<&Table>) -> Resu
     ensures module_is { IfOk result (λ table. table.resolved.plain ≡ derived_module sphere_file) }
     ensures through { IfOk result (λ table. IsThrough range table.rows) }
     ensures only { IfOk result (λ table. (s k : ℕ) → k < length (row_in table.rows s) → IsInRange range s k) }
-    ensures canonical { IfOk result IsAllCanonical }
+    ensures canonical { IfOk result (IsCanonicalIn range) }
     ensures sphere { IfOk result (λ table. IsSphere (resolution_of table)) }
 {
     let sphere = Module::sphere(alloc)?;

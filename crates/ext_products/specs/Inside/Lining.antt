@@ -8,7 +8,7 @@ use Rattle.lift_laws.specs.Products.{Class as ClassAbove}
 use Rattle.chain_map.specs.declared.class.Class.{Class}
 use Rattle.yoneda.specs.declared.place.Place.{Place}
 use Rattle.yoneda.specs.Places.{class_above}
-use Rattle.yoneda.specs.Products.{IsAllCanonical, IsProduct}
+use Rattle.yoneda.specs.Products.{IsProductThrough}
 use Rattle.ext_chart.specs.declared.class_products.ProductLine.{ProductLine}
 use Rattle.ext_products.specs.Products.{HasPlaces}
 
@@ -20,10 +20,7 @@ degrees_within t (Some k) = min k t
 abbrev pub reach_of : Range → Class → Range
 reach_of range by = record { s = min by.s range.s; t = degrees_within range.t (above_of (pos 0) by.t) }
 
-abbrev pub place_of : ClassAbove → Place
-place_of x = record { s = x.s; above = x.above; i = x.i }
-
 -- the line is that of the product of a and x, where the tables are those of the canonical resolutions
 pub record IsLineOver (table sphere : Staircase) (a : Place) (x : ClassAbove) (line : ProductLine) : Type 0 where
   pub places : HasPlaces (bottom_of table.resolved) (class_above a) x line
-  pub product : IsAllCanonical table → IsAllCanonical sphere → IsProduct table sphere a (place_of x) line.value
+  pub product : IsProductThrough table sphere (class_above a) x line.value

@@ -2,9 +2,10 @@ use Rattle.std.proofs.Common.{◌≡◌, ◌<◌, [], length, w32, refl, sym, su
 use Rattle.std.proofs.lemmas.Int.{to_z-of_z}
 use Rattle.std.proofs.lemmas.List.{get_or_default}
 use Rattle.f2_vec.specs.Spans.{row}
-use Rattle.yoneda.specs.Products.{IsProduct}
+use Rattle.yoneda.specs.Places.{class_above}
+use Rattle.yoneda.specs.Products.{IsProductThrough}
 use Rattle.ext_products.specs.Products.{class_at}
-use Rattle.ext_products.specs.Inside.Lining.{place_of, IsLineOver}
+use Rattle.ext_products.specs.Inside.Lining.{IsLineOver}
 use Rattle.ext_products.proofs.Loops.{line-more}
 use Rattle.ext_products.proofs.lines.add_square.Goals as goal
 
@@ -27,6 +28,6 @@ loop-i-preserved c = λ before h.
         target_s = refl;
         target_t = to_z-of_z w32 c.degree-target_t.result (record { sfits = c.degree-target_t.type_inv }) ∙ c.degree-target_t.ensures;
       };
-      product = λ all all_q. subst (IsProduct table sphere a (place_of x)) (sym value) (c.requires.products all all_q i l);
+      product = subst (IsProductThrough table sphere (class_above a) x) (sym value) (c.requires.products i l);
     })
     c.in_ok-push.ensures.items

@@ -2,11 +2,13 @@ use Rattle.std.proofs.Common.{◌≡◌, ◌∙◌, ap, subst, refl}
 use Rattle.std.specs.Prelude.{Some, None}
 use Rattle.square.specs.declared.range.Range.{Range}
 use Rattle.square.specs.Tables.{IsThrough}
-use Rattle.yoneda.specs.Places.{missing, IsPlaceOf}
+use Rattle.chain_map.specs.Lifting.{IsCanonicalIn}
+use Rattle.chain_map.specs.Classes.{through, missing_in}
+use Rattle.yoneda.specs.Places.{IsPlaceOf}
 use Rattle.ext_chart.specs.Classes.{product_lines_text}
 use Rattle.ext_products.specs.declared.refusal.Refusal.TheVariants.{NoClass}
 use Rattle.ext_products.specs.declared.refusal.Named.TheVariants.{By}
-use Rattle.ext_products.proofs.Transport.{text-answer, refused-answer, sure-answer}
+use Rattle.ext_products.proofs.Transport.{text-answer, refused-answer}
 use Rattle.ext_products.proofs.products.products_text.Goals as goal
 
 pub returns-in-Ok-clause-text : goal.returns-in-Ok-clause-text
@@ -16,21 +18,12 @@ returns-in-Ok-clause-text c =
     let made = c.in_ok-sphere.ensures in
     let reach = c.reach_of-reach.ensures in
     let a = c.in-Ok.a in
+    let are = subst (λ (r : Range). IsCanonicalIn r sphere) reach made.canonical in
     let near = subst (λ (r : Range). IsThrough r sphere.rows) reach made.through in
     let is = subst (λ (r : Range). IsPlaceOf sphere r by a) reach c.in-Ok.ensures.place in
-    let there = subst (λ (r : Range). missing sphere r by ≡ None) reach c.in-Ok.ensures.there in
-    text-answer c.args.table.now sphere c.args.range by made.canonical made.sphere near made.module_is c.lifts_give_one_product.ensures c.canonical_table_is_minimal_resolution.ensures c.modules_are_graded_modules.ensures c.known.ensures.is_table c.in-Ok.ensures.is_table c.requires.through
+    let there = subst (λ (r : Range). missing_in (through r sphere) by ≡ None) reach c.in-Ok.ensures.there in
+    text-answer c.args.table.now sphere c.args.range by are made.sphere made.module_is c.lifts_give_one_product.ensures c.modules_are_graded_modules.ensures c.known.ensures.is_table c.in-Ok.ensures.is_table c.requires.through near
     a is there c.in_ok-lines-in-Ok.lines.items c.in_ok-lines-in-Ok.ensures _ (c.in_ok-product_lines-in-Ok.ensures ∙ ap product_lines_text c.as_slice.ensures.value)
-
-pub returns-clause-sure : goal.returns-clause-sure
-returns-clause-sure c = λ other.
-    let by = c.args.by in
-    let sphere = c.in_ok-sphere.sphere in
-    let made = c.in_ok-sphere.ensures in
-    let reach = c.reach_of-reach.ensures in
-    let near = subst (λ (r : Range). IsThrough r sphere.rows) reach made.through in
-    let missed = subst (λ (r : Range). missing sphere r by ≡ Some c.in-Err.count) reach c.in-Err.ensures.missing in
-    (NoClass By by c.in-Err.count, refl, sure-answer c.args.table.now sphere c.args.range by made.canonical made.sphere near made.module_is c.in-Err.count missed)
 
 pub returns-clause-refused : goal.returns-clause-refused
 returns-clause-refused c = λ other.
@@ -38,6 +31,6 @@ returns-clause-refused c = λ other.
     let sphere = c.in_ok-sphere.sphere in
     let made = c.in_ok-sphere.ensures in
     let reach = c.reach_of-reach.ensures in
-    let near = subst (λ (r : Range). IsThrough r sphere.rows) reach made.through in
-    let missed = subst (λ (r : Range). missing sphere r by ≡ Some c.in-Err.count) reach c.in-Err.ensures.missing in
-    (NoClass By by c.in-Err.count, refl, refused-answer c.args.table.now sphere c.args.range by made.canonical made.sphere near made.module_is c.in-Err.count missed)
+    let are = subst (λ (r : Range). IsCanonicalIn r sphere) reach made.canonical in
+    let missed = subst (λ (r : Range). missing_in (through r sphere) by ≡ Some c.in-Err.count) reach c.in-Err.ensures.missing in
+    (NoClass By by c.in-Err.count, refl, refused-answer c.args.table.now sphere c.args.range by are made.sphere made.module_is c.in-Err.count missed)
