@@ -13,17 +13,14 @@ use Rattle.square.specs.declared.range.Range.{Range}
 use Rattle.lift_laws.specs.Lifts.{Resolution, IsCanonical, IsSphere}
 use Rattle.lift_laws.specs.Products.{Class as ClassAbove, LiftsGiveOneProduct}
 use Rattle.chain_map.specs.declared.class.Class.{Class}
+use Rattle.chain_map.specs.Classes.{class_count, passes, no_class, out_of_range, class_refusal, range_refusal}
+use Rattle.yoneda.specs.Products.{IsYonedaProduct}
 use Rattle.ext_chart.specs.Classes.{bracket_text}
-use Rattle.ext_products.specs.declared.refusal.Named.{Named}
-use Rattle.ext_products.specs.declared.refusal.Named.TheVariants.{A, B, C}
 use Rattle.ext_products.specs.declared.refusal.Pair.TheVariants.{Ab, Bc}
-use Rattle.ext_products.specs.declared.refusal.Target.{Target}
-use Rattle.ext_products.specs.declared.refusal.Target.TheVariants.{Product, Bracket}
 use Rattle.ext_products.specs.declared.refusal.Refusal.{Refusal}
-use Rattle.ext_products.specs.declared.refusal.Refusal.TheVariants.{NoClass, OutOfRange, Nonzero}
-use Rattle.ext_products.specs.Products.{class_count, IsYonedaProduct}
+use Rattle.ext_products.specs.declared.refusal.Refusal.TheVariants.{Nonzero}
 use Rattle.ext_products.proofs.Answers.{IsFound, found, product-exists}
-use Rattle.ext_brackets.specs.Brackets.{product_row, product_degree, bracket_row, bracket_degree, passes, no_class, out_of_range, class_refusal, range_refusal, refusal_of, IsToldOfLower, IsTold}
+use Rattle.ext_brackets.specs.Brackets.{product_row, product_degree, bracket_row, bracket_degree, absent, past, refusal_of, IsToldOfLower, IsTold}
 use Rattle.ext_brackets.specs.Laws.{BracketAnswerExists}
 use Rattle.ext_brackets.proofs.Exists.{AreLaws, AreInRange, bracket_exists}
 
@@ -34,12 +31,12 @@ count_of-none true n f e = refl
 count_of-none false n f e = absurd (cc)
 
 -- a class that is not missing is there
-pub class_there : (named : Named) (c : Class) (r : Resolution) → no_class named c r ≡ None → IsFound r c
-class_there named c r none =
-    let test = count_of-none (nat_lt c.i (class_count r c.s c.t)) (class_count r c.s c.t) (λ count. NoClass named c count) none in
+pub class_there : (say : ℕ → Refusal) (c : Class) (r : Resolution) → no_class say r c ≡ None → IsFound r c
+class_there say c r none =
+    let test = count_of-none (nat_lt c.i (class_count r c.s c.t)) (class_count r c.s c.t) say none in
     found r c (above_of r.base.bottom c.t) refl (grind (arith, nat_tests, test))
 
-past-none : (past : Bool) (e : Refusal) → (if past then Some e else None) ≡ None → past ≡ false
+past-none : (far : Bool) (e : Refusal) → (if far then Some e else None) ≡ None → far ≡ false
 past-none false e h = refl
 past-none true e h = absurd (cc)
 
@@ -51,9 +48,9 @@ pub record IsNear (r : Resolution) (range : Range) (s t : ℤ) : Type 0 where
   pub row : s ≤ℤ pos range.s
   pub degree : t ≤ℤ (r.base.bottom +ℤ pos range.t)
 
-pub square_near : (target : Target) (range : Range) (r : Resolution) (s t : ℤ) → out_of_range target range r s t ≡ None → IsNear r range s t
-square_near target range r s t none =
-    let near = or_parts (int_lt (pos range.s) s) (int_lt (r.base.bottom +ℤ pos range.t) t) (past-none (passes r range s t) (OutOfRange target s t) none) in
+pub square_near : (say : ℤ → ℤ → Refusal) (range : Range) (r : Resolution) (s t : ℤ) → out_of_range say range r s t ≡ None → IsNear r range s t
+square_near say range r s t none =
+    let near = or_parts (int_lt (pos range.s) s) (int_lt (r.base.bottom +ℤ pos range.t) t) (past-none (passes range r s t) (say s t) none) in
     record { row = int_lt-true (pos range.s) s near.0; degree = int_lt-true (r.base.bottom +ℤ pos range.t) t near.1 }
 
 -- the three classes are there
@@ -62,25 +59,30 @@ pub record AreThere (a b c : Class) (r q : Resolution) : Type 0 where
   pub b_is : IsFound q b
   pub c_is : IsFound r c
 
-pub classes_there : (a b c : Class) (r q : Resolution) → class_refusal a b c r q ≡ None → AreThere a b c r q
+pub classes_there : (a b c : Class) (r q : Resolution) → class_refusal (absent a b c) r q a b c ≡ None → AreThere a b c r q
 classes_there a b c r q none =
-    let first = option_or-none (no_class A a q) (option_or (no_class B b q) (no_class C c r)) none in
-    let second = option_or-none (no_class B b q) (no_class C c r) first.1 in
-    record { a_is = class_there A a q first.0; b_is = class_there B b q second.0; c_is = class_there C c r second.1 }
+    let say = absent a b c in
+    let first = option_or-none (no_class (say 0) q a) (option_or (no_class (say 1) q b) (no_class (say 2) r c)) none in
+    let second = option_or-none (no_class (say 1) q b) (no_class (say 2) r c) first.1 in
+    record { a_is = class_there (say 0) a q first.0; b_is = class_there (say 1) b q second.0; c_is = class_there (say 2) c r second.1 }
 
-pub parts_none : (range : Range) (a b c : Class) (r q : Resolution) → refusal_of range a b c r q ≡ None → (class_refusal a b c r q ≡ None) × (range_refusal range a b c r q ≡ None)
-parts_none range a b c r q none = option_or-none (class_refusal a b c r q) (range_refusal range a b c r q) none
+-- what the range refuses of the three classes
+abbrev past_range : Range → Class → Class → Class → Resolution → Resolution → Option Refusal
+past_range range a b c r q = range_refusal past range r q a.s b.s c.s (product_degree a b) (product_degree b c) (bracket_degree a b c)
 
-in_range : (range : Range) (a b c : Class) (r q : Resolution) → IsSphere q → (there : AreThere a b c r q) → range_refusal range a b c r q ≡ None → AreInRange range r q there.a_is.class there.b_is.class there.c_is.class
+pub parts_none : (range : Range) (a b c : Class) (r q : Resolution) → refusal_of range a b c r q ≡ None → (class_refusal (absent a b c) r q a b c ≡ None) × (past_range range a b c r q ≡ None)
+parts_none range a b c r q none = option_or-none (class_refusal (absent a b c) r q a b c) (past_range range a b c r q) none
+
+in_range : (range : Range) (a b c : Class) (r q : Resolution) → IsSphere q → (there : AreThere a b c r q) → past_range range a b c r q ≡ None → AreInRange range r q there.a_is.class there.b_is.class there.c_is.class
 in_range range a b c r q sphere there none =
-    let ab = out_of_range (Product Ab) range q (product_row a b) (product_degree a b) in
-    let bc = out_of_range (Product Bc) range r (product_row b c) (product_degree b c) in
-    let abc = out_of_range Bracket range r (bracket_row a b c) (bracket_degree a b c) in
+    let ab = out_of_range (past 0) range q (product_row a b) (product_degree a b) in
+    let bc = out_of_range (past 1) range r (product_row b c) (product_degree b c) in
+    let abc = out_of_range (past 2) range r (bracket_row a b c) (bracket_degree a b c) in
     let first = option_or-none ab (option_or bc abc) none in
     let second = option_or-none bc abc first.1 in
-    let near_ab = square_near (Product Ab) range q (product_row a b) (product_degree a b) first.0 in
-    let near_bc = square_near (Product Bc) range r (product_row b c) (product_degree b c) second.0 in
-    let near = square_near Bracket range r (bracket_row a b c) (bracket_degree a b c) second.1 in
+    let near_ab = square_near (past 0) range q (product_row a b) (product_degree a b) first.0 in
+    let near_bc = square_near (past 1) range r (product_row b c) (product_degree b c) second.0 in
+    let near = square_near (past 2) range r (bracket_row a b c) (bracket_degree a b c) second.1 in
     let ab_row = near_ab.row in
     let ab_degree = near_ab.degree in
     let bc_row = near_bc.row in

@@ -3,36 +3,34 @@ use Rattle.std.proofs.Common.{◌≡◌, inl, inr, ℕ, zero, suc, ◌+◌, ◌-
 use Rattle.std.specs.List.{range_with_len}
 use Rattle.std.proofs.lemmas.Bool.{cases_lt}
 use Rattle.std.proofs.lemmas.Int.{ints}
-use Rattle.f2_vec.specs.Vectors.{sum_of, bit, zeros, IsZero}
-use Rattle.f2_vec.specs.Spans.{row, HaveWidth, IsInSpan}
-use Rattle.f2_vec.proofs.Sums.{length-zeros, sum_of-comm}
+use Rattle.f2_vec.specs.Vectors.{bit, zeros, IsZero}
+use Rattle.f2_vec.specs.Spans.{row, HaveWidth}
+use Rattle.f2_vec.proofs.Sums.{length-zeros}
 use Rattle.f2_vec.proofs.Spans.{HaveWidth-append}
 use Rattle.f2_vec.proofs.Combinations.{HaveWidth-map}
 use Rattle.f2_matrix.specs.Existence.{RowBasisExists}
 use Rattle.f2_matrix.specs.Preimages.{rest_of}
 use Rattle.f2_matrix.proofs.Pivots.{rest_length, rest_apart, rest_coset}
-use Rattle.resolution_laws.specs.Exactness.{CanonicalTableIsMinimalResolution}
 use Rattle.square.specs.declared.range.Range.{Range}
 use Rattle.lift_laws.specs.Lifts.{Resolution, IsCanonical, IsSphere, IsLift, EachClassLifts, dual_of}
 use Rattle.lift_laws.specs.Products.{Class, first_of, count_of, number_of, degree_of_class, coefficients, coefficient_of, on_square, product_by}
 use Rattle.lift_laws.proofs.ChainMaps.{IsLift-less}
-use Rattle.lift_laws.proofs.Resolved.{is_resolved}
-use Rattle.bracket_laws.specs.Brackets.{HasRoom, HasZeroProduct, HasZeroLower, IsIndeterminacy, IsBracketMember, BracketHasMember, BracketIsCoset, top_of, bracket_by}
+use Rattle.bracket_laws.specs.Brackets.{HasRoom, HasZeroProduct, HasZeroLower, IsIndeterminacy, IsBracketMember, BracketHasMember, BracketIsCoset, UnitsHaveNoZeroProducts, top_of, bracket_by}
 use Rattle.bracket_laws.proofs.Vectors.{length-on_square, bit-on_square}
 use Rattle.chain_map.proofs.Generators.{is_number}
 use Rattle.massey.specs.Brackets.{IsBracketOf}
-use Rattle.massey.proofs.Units.{unit_times_class}
-use Rattle.ext_products.specs.Products.{IsYonedaProduct}
+use Rattle.massey.proofs.Assembled.{bracket_of}
+use Rattle.yoneda.specs.Products.{IsYonedaProduct}
 use Rattle.ext_brackets.proofs.Members.{length-member}
 
 -- ---- lifts
 
 -- the laws on which brackets rest
 pub record AreLaws : Type 0 where
-  pub minimal : CanonicalTableIsMinimalResolution
   pub lifts : EachClassLifts
   pub member : BracketHasMember
   pub coset : BracketIsCoset
+  pub units : UnitsHaveNoZeroProducts
   pub bases : RowBasisExists
 
 -- x, y and z are classes of q, q and r, and their products and their bracket are in the range
@@ -69,23 +67,21 @@ pub record HasBracket (r q : Resolution) (x y z : Class) : Type 0 where
 module _ (laws : AreLaws) (r q : Resolution) (range : Range) (canonical : IsCanonical r range.s range.t) (canonical_q : IsCanonical q range.s range.t) (sphere : IsSphere q)
     (x y z : Class) (inside : AreInRange range r q x y z) (xy yz : List Bool) (xy_is : IsYonedaProduct q q x y xy) (yz_is : IsYonedaProduct r q y z yz) (xy_zero : IsZero xy) (yz_zero : IsZero yz) where
   -- neither x nor y is in row 0, since their products are zero
-  x_positive : x.s ≡ 0 → ⊥
-  x_positive e =
+  x_positive : 0 < x.s
+  x_positive =
       let some = xy_is.some in
       let i = inside.xy_row in
       let k = inside.xy_degree in
       let low = some.reaches in
-      unit_times_class q q range.s range.t range.s range.t canonical_q (is_resolved laws.minimal q range.s range.t canonical_q) sphere x y e (omega arith) inside.x_there (omega arith) (omega arith) inside.y_there x.s some.top (omega (arith, ints)) some.phi some.is_lift
-      (subst IsZero some.gives xy_zero)
+      laws.units q q range.s range.t range.s range.t x y x.s some.top some.phi canonical_q canonical_q sphere (omega arith) inside.x_there (omega arith) (omega arith) inside.y_there (omega (arith, ints)) some.is_lift (subst IsZero some.gives xy_zero)
 
-  y_positive : y.s ≡ 0 → ⊥
-  y_positive e =
+  y_positive : 0 < y.s
+  y_positive =
       let some = yz_is.some in
       let i = inside.yz_row in
       let k = inside.yz_degree in
       let low = some.reaches in
-      unit_times_class r q range.s range.t range.s range.t canonical (is_resolved laws.minimal q range.s range.t canonical_q) sphere y z e (omega arith) inside.y_there (omega arith) (omega arith) inside.z_there y.s some.top (omega (arith, ints)) some.phi some.is_lift
-      (subst IsZero some.gives yz_zero)
+      laws.units r q range.s range.t range.s range.t y z y.s some.top some.phi canonical canonical_q sphere (omega arith) inside.y_there (omega arith) (omega arith) inside.z_there (omega (arith, ints)) some.is_lift (subst IsZero some.gives yz_zero)
 
   module _ (last low : ℕ) (x_row : x.s ≡ suc last) (y_row : y.s ≡ suc low) where
     abbrev n : ℕ
@@ -222,34 +218,15 @@ module _ (laws : AreLaws) (r q : Resolution) (range : Range) (canonical : IsCano
         let len = length-member r q x y z n l top start first.is_member in
         let value = rest_of size basis start in
         let len_value : length value ≡ size = rest_length size basis start is_basis.widths len in
-        let law = λ (w : List Bool) (is : IsBracketMember r q x y z n l top w).
-        laws.coset r q range.s range.t range.s range.t x y z n l top rows w canonical canonical_q sphere room (omega (arith, ints)) low_top inside.x_there product_zero indeterminacy is in
-        let reached : IsInSpan size rows (sum_of value start) = (is_basis.same_span (sum_of value start)).1 (subst (IsInSpan size basis) (sum_of-comm start value) (rest_coset size basis start is_basis.widths len)) in
-        let member : IsBracketMember r q x y z n l top value = (law start first.is_member value len_value).1 reached in
         record {
           value = value;
           rows = basis;
-          is_bracket = record {
-            n = n;
-            l = l;
-            n_row = omega arith;
-            l_row = omega arith;
-            member = member;
-            spanning = rows;
-            spans = indeterminacy;
-            basis = is_basis;
-            clear = λ i p f. rest_apart size basis start i p is_basis.widths is_basis.reduced is_basis.nonzero len f;
-            all = λ v h. (λ w. (is_basis.same_span (sum_of v value)).0 ((law value member v h).0 w), λ w. (law value member v h).1 ((is_basis.same_span (sum_of v value)).1 w));
-          };
+          is_bracket = bracket_of laws.coset r q range canonical canonical_q sphere x y z n l (omega arith) (omega arith) room inside.x_there product_zero start value rows basis first.is_member len_value indeterminacy is_basis
+              (rest_coset size basis start is_basis.widths len) (λ i p f. rest_apart size basis start i p is_basis.widths is_basis.reduced is_basis.nonzero len f);
         }
 
   pub bracket_exists : HasBracket r q x y z
   bracket_exists =
-      elim (cases_lt 0 x.s) [
-        | inr none ↦ absurd (x_positive (omega arith))
-        | inl x_some ↦ elim (cases_lt 0 y.s) [
-          | inr none ↦ absurd (y_positive (omega arith))
-          | inl y_some ↦
-              bracket_is (x.s - 1) (y.s - 1) (omega arith) (omega arith)
-        ]
-      ]
+      let x_row = x_positive in
+      let y_row = y_positive in
+      bracket_is (x.s - 1) (y.s - 1) (omega arith) (omega arith)

@@ -13,7 +13,7 @@ use Rattle.yoneda.specs.Products.{IsProductOver}
 use Rattle.massey.specs.declared.fault.MasseyFault.{MasseyFault}
 use Rattle.massey.specs.declared.fault.MasseyFault.TheVariants.{NoClass, OutOfRange, Nonzero, Memory}
 use Rattle.massey.specs.Brackets.{IsCause}
-use Rattle.ext_brackets.specs.Inside.Telling.{HasSquare, HasSquares}
+use Rattle.ext_brackets.specs.Inside.Refusals.{HasSquare, HasSquares}
 
 product_square : (table sphere : Staircase) (range : Range) (a x : Class) (v : List Bool) → bottom_of sphere.resolved ≡ pos 0 → neg_ℤ MAX_DEGREE ≤ℤ bottom_of table.resolved → bottom_of table.resolved ≤ℤ MAX_DEGREE → IsProductOver table sphere range a x v → HasSquare a x
 product_square table sphere range a x v bottom least most p =

@@ -18,7 +18,7 @@ use Rattle.ext_chart.specs.Classes.{bracket_text}
 use Rattle.ext_products.specs.declared.refusal.Pair.TheVariants.{Ab, Bc}
 use Rattle.ext_products.specs.declared.refusal.Refusal.{Refusal}
 use Rattle.ext_products.specs.declared.refusal.Refusal.TheVariants.{Nonzero}
-use Rattle.ext_products.specs.Products.{IsYonedaProduct}
+use Rattle.yoneda.specs.Products.{IsYonedaProduct}
 use Rattle.ext_products.proofs.Answers.{class-unique}
 use Rattle.ext_brackets.specs.Brackets.{product_row, product_degree, bracket_row, bracket_degree, refusal_of, IsBracketText, IsToldOfLower, IsTold}
 use Rattle.ext_brackets.specs.Laws.{BracketAnswerIsUnique}

@@ -1,22 +1,21 @@
 -- What is told of the Massey product of three classes through a range (May, Matric Massey products; Bruner, Calculation of large Ext
 -- modules).
-use Rattle.std.specs.Prelude.{◌≡◌, ℕ, ◌+◌, ℤ, pos, ◌+ℤ◌, ◌-ℤ◌, Bool, ◌||◌, int_lt, if◌then◌else◌, List, Option, Some, None, MatchOption, option_map, Result, Err, IsOkAnd}
-use Rattle.std.specs.Option.{option_or}
+use Rattle.std.specs.Prelude.{◌≡◌, ℕ, zero, suc, ◌+◌, ℤ, pos, ◌+ℤ◌, ◌-ℤ◌, Bool, List, Option, MatchOption, Result, Err, IsOkAnd}
 use Rattle.f2_vec.specs.Vectors.{IsZero}
 use Rattle.square.specs.declared.range.Range.{Range}
 use Rattle.lift_laws.specs.Lifts.{Resolution}
 use Rattle.lift_laws.specs.Products.{Class as ClassAbove}
 use Rattle.chain_map.specs.declared.class.Class.{Class}
+use Rattle.chain_map.specs.Classes.{IsAt, first_refusal}
+use Rattle.yoneda.specs.Products.{IsYonedaProduct}
 use Rattle.massey.specs.Brackets.{IsBracketOf}
 use Rattle.ext_chart.specs.Classes.{bracket_text}
-use Rattle.ext_products.specs.declared.refusal.Named.{Named}
 use Rattle.ext_products.specs.declared.refusal.Named.TheVariants.{A, B, C}
 use Rattle.ext_products.specs.declared.refusal.Pair.TheVariants.{Ab, Bc}
 use Rattle.ext_products.specs.declared.refusal.Target.{Target}
 use Rattle.ext_products.specs.declared.refusal.Target.TheVariants.{Product, Bracket}
 use Rattle.ext_products.specs.declared.refusal.Refusal.{Refusal}
 use Rattle.ext_products.specs.declared.refusal.Refusal.TheVariants.{NoClass, OutOfRange, Nonzero}
-use Rattle.ext_products.specs.Products.{missing_in, IsAt, IsYonedaProduct}
 
 -- ---- squares: the row and the degree of a product, and of a bracket
 
@@ -32,31 +31,24 @@ bracket_row a b c = pos (a.s + b.s + c.s) -ℤ pos 1
 abbrev pub bracket_degree : Class → Class → Class → ℤ
 bracket_degree a b c = a.t +ℤ b.t +ℤ c.t
 
--- whether row s or degree t is past the range: rows count from 0, and degrees from the bottom of the module that is resolved
-abbrev pub passes : Resolution → Range → ℤ → ℤ → Bool
-passes r range s t = int_lt (pos range.s) s || int_lt (r.base.bottom +ℤ pos range.t) t
-
 -- ---- classes that are not there, and squares that are past the range
 
-abbrev pub no_class : Named → Class → Resolution → Option Refusal
-no_class named c r = option_map (λ count. NoClass named c count) (missing_in r c)
+-- what is said of a class and of a square, by their numbers
+abbrev pub absent : Class → Class → Class → ℕ → ℕ → Refusal
+absent a b c zero count = NoClass A a count
+absent a b c (suc zero) count = NoClass B b count
+absent a b c (suc (suc n)) count = NoClass C c count
 
-abbrev pub out_of_range : Target → Range → Resolution → ℤ → ℤ → Option Refusal
-out_of_range target range r s t = if passes r range s t then Some (OutOfRange target s t) else None
+abbrev pub target_of : ℕ → Target
+target_of zero = Product Ab
+target_of (suc zero) = Product Bc
+target_of (suc (suc n)) = Bracket
 
--- the first of: a or b is no class of the sphere's resolution q, or c of r
-abbrev pub class_refusal : Class → Class → Class → Resolution → Resolution → Option Refusal
-class_refusal a b c r q = option_or (no_class A a q) (option_or (no_class B b q) (no_class C c r))
-
--- the first of: ab is past the range, over the sphere, or bc, or the bracket, over the module
-abbrev pub range_refusal : Range → Class → Class → Class → Resolution → Resolution → Option Refusal
-range_refusal range a b c r q =
-    option_or (out_of_range (Product Ab) range q (product_row a b) (product_degree a b))
-    (option_or (out_of_range (Product Bc) range r (product_row b c) (product_degree b c))
-    (out_of_range Bracket range r (bracket_row a b c) (bracket_degree a b c)))
+abbrev pub past : ℕ → ℤ → ℤ → Refusal
+past which s t = OutOfRange (target_of which) s t
 
 abbrev pub refusal_of : Range → Class → Class → Class → Resolution → Resolution → Option Refusal
-refusal_of range a b c r q = option_or (class_refusal a b c r q) (range_refusal range a b c r q)
+refusal_of range a b c r q = first_refusal (absent a b c) past range r q a b c
 
 -- ---- what is told
 

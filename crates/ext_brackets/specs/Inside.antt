@@ -1,2 +1,2 @@
 -- What contracts of private functions cite.
-pub mod Telling
+pub mod Refusals

@@ -5,11 +5,11 @@ ghost use Rattle.ext_brackets.specs.Laws.{BracketAnswerExists, BracketAnswerIsUn
 pub fn bracket_answer_exists()
     ensures { BracketAnswerExists }
 {
-    resolution_laws::canonical_table_is_minimal_resolution();
     lift_laws::each_class_lifts();
     lift_laws::lifts_give_one_product();
     bracket_laws::bracket_has_member();
     bracket_laws::bracket_is_coset();
+    bracket_laws::units_have_no_zero_products();
     f2_matrix::row_basis_exists();
 }
 

@@ -2,7 +2,7 @@
 #![tactic(auto)]
 
 mod laws;
-mod telling;
+mod refusal;
 mod text;
 
 pub use laws::{bracket_answer_exists, bracket_answer_is_unique};

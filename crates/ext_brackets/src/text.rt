@@ -5,9 +5,9 @@ ghost use Rattle.square.specs.declared.range.TheConstants.{MAX_S, MAX_T};
 ghost use Rattle.ext_chart.specs.Classes.{bracket_text as text_of};
 ghost use Rattle.ext_products.specs.declared.refusal.ClassesFault.TheVariants.{Refused, Memory as OutOfMemory};
 ghost use Rattle.ext_products.specs.declared.refusal.Refusal.{Refusal as WhyNot};
-ghost use Rattle.ext_brackets.specs.Over.{IsBracketAnswerOver};
+ghost use Rattle.ext_brackets.specs.Over.{IsBracketAnswerOver, IsBracketAnswerIn, IsOfPlaces};
 
-use crate::telling::told;
+use crate::refusal::fault_of;
 use chain_map::Class;
 use ext_chart::bracket_lines;
 use ext_products::{ClassesFault, sphere_table};
@@ -37,17 +37,17 @@ pub fn bracket_text(
     ensures text { IfOk result (λ text. IsBracketAnswerOver table.now range a b c (Ok text.items)) }
     ensures refused { IfErr result (λ e. e ≢ OutOfMemory →
         (refusal : WhyNot) × (e ≡ Refused refusal) × IsBracketAnswerOver table.now range a b c (Err refusal)) }
+    ensures sure { IfErr result (λ e. e ≢ OutOfMemory → (refusal : WhyNot) × (e ≡ Refused refusal) ×
+        (IsOfPlaces refusal → IsBracketAnswerIn table.now range a b c (Err refusal))) }
 {
-    resolution_laws::canonical_table_is_minimal_resolution();
     resolution_laws::canonical_table_is_unique();
     finite_module::modules_are_graded_modules();
-    lift_laws::lifts_give_one_product();
     known(table);
     let sphere = sphere_table(alloc, range, Some(table))?;
     known(&sphere);
     match bracket(alloc, table, &sphere, range, a, b, c) {
         Ok(found) => Ok(lines(alloc, &found)?),
-        Err(fault) => Err(told(fault, a, b, c)),
+        Err(fault) => Err(fault_of(fault, a, b, c)),
     }
 }
 

@@ -5,10 +5,10 @@ pub returns : goal.returns
 returns c =
     answers-exist
     (record {
-      minimal = c.canonical_table_is_minimal_resolution.ensures;
       lifts = c.each_class_lifts.ensures;
       member = c.bracket_has_member.ensures;
       coset = c.bracket_is_coset.ensures;
+      units = c.units_have_no_zero_products.ensures;
       bases = c.row_basis_exists.ensures;
     })
     c.lifts_give_one_product.ensures

@@ -1,8 +1,8 @@
 //! Why there is no bracket, told of the classes that were asked for.
 ghost use Rattle.std.specs.Prelude.{◌≡◌};
 ghost use Rattle.ext_products.specs.declared.refusal.Refusal.TheVariants.{Nonzero as NotZero};
-ghost use Rattle.ext_brackets.specs.Brackets.{product_row, product_degree};
-ghost use Rattle.ext_brackets.specs.Inside.Telling.{absent, target_of, told, HasSquare, HasSquares};
+ghost use Rattle.ext_brackets.specs.Brackets.{absent, target_of, product_row, product_degree};
+ghost use Rattle.ext_brackets.specs.Inside.Refusals.{fault_of, HasSquare, HasSquares};
 
 use chain_map::Class;
 use ext_products::{ClassesFault, Named, Pair, Refusal, Target};
@@ -10,9 +10,9 @@ use f2_vec::BitVec;
 use massey::MasseyFault;
 
 /// What a fault of the bracket <a, b, c> says of the classes.
-pub(crate) fn told(fault: MasseyFault, a: Class, b: Class, c: Class) -> ClassesFault
+pub(crate) fn fault_of(fault: MasseyFault, a: Class, b: Class, c: Class) -> ClassesFault
     requires squares { HasSquares a b c fault }
-    ensures { result ≡ told a b c fault }
+    ensures { result ≡ fault_of a b c fault }
 {
     let refusal = match fault {
         MasseyFault::NoClass { which, count } => no_class(which, count, a, b, c),
