@@ -10,10 +10,9 @@ use Rattle.lift_laws.specs.Products.{first_of, count_of}
 use Rattle.chain_map.specs.declared.class.Class.{Class}
 use Rattle.chain_map.specs.Rows.{RowValues, first_in, HasValueAt}
 use Rattle.chain_map.specs.Lifting.{LiftValues, resolution_of, row_values, shifted_length, degrees_through, AreValues, IsLiftOver, HasValue}
-use Rattle.chain_map.proofs.Generators.{first_of-more}
+use Rattle.chain_map.proofs.Generators.{first_of-more, images_taken}
 use Rattle.yoneda.specs.declared.place.Place.{Place}
 use Rattle.yoneda.specs.Places.{IsPlaceOf}
-use Rattle.yoneda.proofs.Lifted.{images_taken}
 
 goes_over : (above m n : ℕ) → m < n → m < shifted_length above n
 goes_over above m zero h = absurd (omega (arith, h))
