@@ -1,5 +1,5 @@
 -- A table that was continued through a range, and what is told of it.
-use Rattle.std.proofs.Common.{◌≡◌, ℕ, ◌<◌, ◌⊎◌, inl, inr, List, [], length, Option, Some, None, sym, subst, refl, arith}
+use Rattle.std.proofs.Common.{◌≡◌, ℕ, ◌<◌, ◌⊎◌, inl, inr, List, length, Option, Some, None, sym, subst, refl, arith}
 use Rattle.std.proofs.lemmas.Option.{slice_get_cases}
 use Rattle.std.specs.Prelude.{Result, Ok, Err, IfErr, IfSome, IsSome, slice_get}
 use Rattle.std.specs.Option.{option_map}
@@ -8,17 +8,13 @@ use Rattle.finite_module.specs.Graded.{ModulesAreSteenrodModules}
 use Rattle.finite_module.specs.ModuleLaws.{width-below}
 use Rattle.resolution_laws.specs.Resolution.{Content, IsCanonicalTable}
 use Rattle.resolution_laws.specs.Exactness.{CanonicalTableIsMinimalResolution}
-use Rattle.resolution_laws.specs.Start.{Entry, entry_at, IsOf, IsCanonicalStart}
-use Rattle.resolution_laws.proofs.StartLaws.{canonical_content}
+use Rattle.resolution_laws.specs.Start.{Entry, entry_at, IsCanonicalStart}
 use Rattle.square.specs.declared.range.Range.{Range}
 use Rattle.square.specs.Squares.{Placed, over}
 use Rattle.square.specs.Tables.{Staircase, row_in, plain_rows, IsThrough, cut}
 use Rattle.square.specs.Growing.{HasGrown}
-use Rattle.square.proofs.Places.{slice_get-there, content_at-is}
 use Rattle.square.specs.Keeping.{Keeper, HoldsTable}
-use Rattle.resolution_step.specs.Alone.{AreOfStart, HasResolved}
-use Rattle.yoneda.specs.Products.{IsAllCanonical}
-use Rattle.ext_run.specs.declared.failure.Failure.{Failure}
+use Rattle.resolution_step.specs.Alone.{HasResolved}
 use Rattle.ext_run.specs.declared.failure.Failure.TheVariants.{Saving, Memory}
 use Rattle.ext_run.specs.declared.task.Form.{Form}
 use Rattle.ext_run.specs.Answer.{IsResolved, IsOfClasses}
@@ -53,26 +49,17 @@ resolved_by minimal modules range m table canonical = record {
   minimal = minimal (over m) range.s range.t table (modules m.plain m.is_module) (width-below m.plain.generators m.by_degree) canonical;
 }
 
--- each square of the continued table is canonical, where the table began with canonical squares
-canonical_squares : (table more : Staircase) → HasGrown table more → AreOfStart more → IsCanonicalStart (over table.resolved) table.start → IsAllCanonical more
-canonical_squares table more grown are start i k l =
-    let there = slice_get-there (row_in more.rows i) k l in
-    let P : Checked → Type 0 = λ m. IsCanonicalStart (over m) table.start in
-    let here : IsCanonicalStart (over more.resolved) more.start = subst (λ (entries : List Entry). IsCanonicalStart (over more.resolved) entries) (sym grown.start) (subst P (sym grown.resolved) start) in
-    subst (IsOf (over more.resolved) [] i k) (sym (content_at-is more.rows i k there.0 there.1)) (canonical_content (over more.resolved) more.start here i k there.0.content (are i k there.0 there.1))
-
 -- what is told of the continued table
 abbrev pub IsToldOf : Range → Form → Staircase → Told → Type 0
-IsToldOf range form more text = HasAnswer text → IsResolved range more.resolved.plain (cut range (plain_rows more.rows)) → IsAllCanonical more → IsInForm form range more.resolved.plain (answer_of text)
+IsToldOf range form more text = HasAnswer text → IsResolved range more.resolved.plain (cut range (plain_rows more.rows)) → IsInForm form range more.resolved.plain (answer_of text)
 
-told_with : (minimal : CanonicalTableIsMinimalResolution) (modules : ModulesAreSteenrodModules) (range : Range) (form : Form) (table more : Staircase) (text : Told) → HasGrown table more → AreOfStart more → (IsCanonicalStart (over table.resolved) table.start → IsCanonicalTable (over table.resolved) range.s range.t (cut range (plain_rows more.rows))) → IsToldOf range form more text →
+told_with : (minimal : CanonicalTableIsMinimalResolution) (modules : ModulesAreSteenrodModules) (range : Range) (form : Form) (table more : Staircase) (text : Told) → HasGrown table more → (IsCanonicalStart (over table.resolved) table.start → IsCanonicalTable (over table.resolved) range.s range.t (cut range (plain_rows more.rows))) → IsToldOf range form more text →
     HasAnswer text → IsCanonicalStart (over table.resolved) table.start → IsInForm form range table.resolved.plain (answer_of text)
-told_with minimal modules range form table more text grown are canonical told has start =
+told_with minimal modules range form table more text grown canonical told has start =
     let rows = cut range (plain_rows more.rows) in
     let here : IsResolved range table.resolved.plain rows = resolved_by minimal modules range table.resolved rows (canonical start) in
-    let all = canonical_squares table more grown are start in
     let P : Checked → Type 0 = λ m. IsResolved range m.plain rows → IsInForm form range m.plain (answer_of text) in
-    subst P grown.resolved (λ resolved. told has resolved all) here
+    subst P grown.resolved (λ resolved. told has resolved) here
 
 or_saving : (text : Told) → IfErr text (λ e. (e ≡ Memory) ⊎ IsOfClasses e) → IfErr text (λ e. (e ≡ Saving) ⊎ (e ≡ Memory) ⊎ IsOfClasses e)
 or_saving (Ok t) h = tt
@@ -87,7 +74,7 @@ pub continued : {E : Type 0} (failing wanting : E) (order : Entry → Entry → 
 continued {E = E} failing wanting order range form table resolved old new made minimal modules more text is told why =
     let done = subst (λ (r : Result Staircase E). HasResolved failing wanting order range table r old new) is made in
     record {
-      told = told_with minimal modules range form table more text done.grown done.are_of_start done.canonical told;
+      told = told_with minimal modules range form table more text done.grown done.canonical told;
       why = or_saving text why;
       failed = not_failed text _ why;
       no_fault = λ has. done.keeper.no_fault;

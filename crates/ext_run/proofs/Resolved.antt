@@ -16,7 +16,7 @@ use Rattle.finite_module.specs.Checked.{sphere_file}
 use Rattle.finite_module.specs.DerivedAction.{derived_module}
 use Rattle.ext_products.specs.declared.refusal.Refusal.{Refusal}
 use Rattle.ext_products.specs.Products.{resolution}
-use Rattle.ext_products.specs.Over.{through}
+use Rattle.chain_map.specs.Classes.{through}
 use Rattle.ext_run.specs.Answer.{IsResolved, IsChart, IsDump, IsSummary, IsToldOfClasses, told_of_classes}
 use Rattle.ext_products.specs.declared.refusal.ClassesFault.{ClassesFault}
 use Rattle.ext_products.specs.declared.refusal.ClassesFault.TheVariants.{Refused, Memory as NoSpace}

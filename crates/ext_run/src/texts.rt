@@ -5,7 +5,6 @@ ghost use Rattle.square.specs.declared.range.TheConstants.{MAX_S, MAX_T};
 ghost use Rattle.square.specs.Keeping.{IsKeeperOf};
 ghost use Rattle.square.specs.Tables.{plain_rows, IsThrough, cut};
 ghost use Rattle.ext_run.specs.Answer.{IsResolved, IsOfClasses};
-ghost use Rattle.yoneda.specs.Products.{IsAllCanonical};
 ghost use Rattle.ext_words.specs.Words.{IsWithin};
 ghost use Rattle.ext_run.specs.Task.{IsInForm, IsTaskWithin, TellsOfClasses};
 ghost use Rattle.ext_run.specs.Work.{HasAnswer, answer_of, HasContinued, HasKeptOn, HasWorked};
@@ -237,7 +236,7 @@ fn told(alloc: Global, form: Form, table: &Table, range: Range) -> Result<Vec<u8
     requires rows { range.s ≤ MAX_S }
     requires degrees { range.t ≤ MAX_T }
     ensures told { HasAnswer result →
-        IsResolved range table.now.resolved.plain (cut range (plain_rows table.now.rows)) → IsAllCanonical table.now →
+        IsResolved range table.now.resolved.plain (cut range (plain_rows table.now.rows)) →
         IsInForm form range table.now.resolved.plain (answer_of result) }
     ensures why { IfErr result (λ e. (e ≡ WantOfMemory) ⊎ IsOfClasses e) }
     ensures named { IfErr result (λ e. IsOfClasses e → TellsOfClasses form) }

@@ -1,7 +1,8 @@
 use Rattle.std.proofs.Common.{sym, subst, ◌∙◌, ap}
 use Rattle.std.specs.Prelude.{Ok, Err}
 use Rattle.std.proofs.lemmas.Result.{err_from_is_err_and}
-use Rattle.ext_products.specs.Over.{IsAnswerOver}
+use Rattle.chain_map.proofs.Resolved.{canonical_in}
+use Rattle.ext_products.specs.Over.{IsAnswerIn}
 use Rattle.ext_products.specs.Products.{IsProductsAnswer}
 use Rattle.ext_brackets.specs.Brackets.{IsBracketAnswer}
 use Rattle.ext_brackets.specs.Over.{IsBracketAnswerOver}
@@ -24,46 +25,46 @@ pub summary-requires : goal.summary-requires
 summary-requires c = through_seen c.args.range c.args.table.now.rows c.requires.through
 
 pub returns-in_ok-chart-in-Chart-clause-told : goal.returns-in_ok-chart-in-Chart-clause-told
-returns-in_ok-chart-in-Chart-clause-told c = λ has resolved all.
+returns-in_ok-chart-in-Chart-clause-told c = λ has resolved.
     subst (λ (form : Form). IsInForm form c.args.range c.args.table.now.resolved.plain (Ok c.in_ok-chart-in-Chart.field-0.items)) (sym c.in-Chart.is)
     (is_chart c.args.range c.args.table.now c.in_ok-chart-in-Chart.field-0.items resolved c.requires.through c.in_ok-chart-in-Chart.ensures)
 
 pub returns-in_ok-dump-in-Differentials-clause-told : goal.returns-in_ok-dump-in-Differentials-clause-told
-returns-in_ok-dump-in-Differentials-clause-told c = λ has resolved all.
+returns-in_ok-dump-in-Differentials-clause-told c = λ has resolved.
     subst (λ (form : Form). IsInForm form c.args.range c.args.table.now.resolved.plain (Ok c.in_ok-dump-in-Differentials.field-0.items)) (sym c.in-Differentials.is)
     (is_dump c.args.range c.args.table.now c.in_ok-dump-in-Differentials.field-0.items resolved c.requires.through c.in_ok-dump-in-Differentials.ensures)
 
 pub returns-in_ok-summary-in-Summary-clause-told : goal.returns-in_ok-summary-in-Summary-clause-told
-returns-in_ok-summary-in-Summary-clause-told c = λ has resolved all.
+returns-in_ok-summary-in-Summary-clause-told c = λ has resolved.
     subst (λ (form : Form). IsInForm form c.args.range c.args.table.now.resolved.plain (Ok c.in_ok-summary-in-Summary.field-0.items)) (sym c.in-Summary.is)
     (is_summary c.args.range c.args.table.now c.in_ok-summary-in-Summary.field-0.items resolved c.requires.through c.in_ok-summary-in-Summary.ensures)
 
 pub returns-in_ok-products_text-in-Products-clause-told : goal.returns-in_ok-products_text-in-Products-clause-told
-returns-in_ok-products_text-in-Products-clause-told c = λ has resolved all.
+returns-in_ok-products_text-in-Products-clause-told c = λ has resolved.
     let laws : TableLaws = record { exists = c.canonical_table_exists.ensures; minimal = c.canonical_table_is_minimal_resolution.ensures; modules = c.modules_are_graded_modules.ensures; accepted = c.accepted_is_module.ensures } in
     subst (λ (form : Form). IsInForm form c.args.range c.args.table.now.resolved.plain (Ok c.in_ok-products_text-in-Products.field-0.items)) (sym c.in-Products.is)
-    (is_told_of_classes laws (IsProductsAnswer c.args.range c.in-Products.by) c.args.range c.args.table.now (Ok c.in_ok-products_text-in-Products.field-0.items) resolved (c.in_ok-products_text-in-Products.ensures.text all))
+    (is_told_of_classes laws (IsProductsAnswer c.args.range c.in-Products.by) c.args.range c.args.table.now (Ok c.in_ok-products_text-in-Products.field-0.items) resolved (c.in_ok-products_text-in-Products.ensures.text (canonical_in c.args.table.now c.args.range resolved.canonical)))
 
 pub returns-in_err-products_text-in-Products-clause-told : goal.returns-in_err-products_text-in-Products-clause-told
-returns-in_err-products_text-in-Products-clause-told c = λ has resolved all.
+returns-in_err-products_text-in-Products-clause-told c = λ has resolved.
     let laws : TableLaws = record { exists = c.canonical_table_exists.ensures; minimal = c.canonical_table_is_minimal_resolution.ensures; modules = c.modules_are_graded_modules.ensures; accepted = c.accepted_is_module.ensures } in
     let p = err_from_is_err_and c.from_residual-in_err-products_text-in-Products.result c.from_residual-in_err-products_text-in-Products.ensures.1 in
     let is = p.1 ∙ ap Err p.2 in
-    let known = classes_failed (IsAnswerOver c.args.table.now c.args.range c.in-Products.by) c.in_err-products_text-in-Products.field-0.0 c.from_residual-in_err-products_text-in-Products.result is c.in_err-products_text-in-Products.ensures.refused has in
+    let known = classes_failed (IsAnswerIn c.args.table.now c.args.range c.in-Products.by) c.in_err-products_text-in-Products.field-0.0 c.from_residual-in_err-products_text-in-Products.result is c.in_err-products_text-in-Products.ensures.refused has in
     subst (λ (form : Form). IsInForm form c.args.range c.args.table.now.resolved.plain (answer_of c.from_residual-in_err-products_text-in-Products.result)) (sym c.in-Products.is)
-    (subst (IsToldOfClasses (IsProductsAnswer c.args.range c.in-Products.by) c.args.range c.args.table.now.resolved.plain) (sym known.1) (is_told_of_classes laws (IsProductsAnswer c.args.range c.in-Products.by) c.args.range c.args.table.now known.0 resolved (known.2 all)))
+    (subst (IsToldOfClasses (IsProductsAnswer c.args.range c.in-Products.by) c.args.range c.args.table.now.resolved.plain) (sym known.1) (is_told_of_classes laws (IsProductsAnswer c.args.range c.in-Products.by) c.args.range c.args.table.now known.0 resolved known.2))
 
 pub returns-in_ok-bracket_text-in-Bracket-clause-told : goal.returns-in_ok-bracket_text-in-Bracket-clause-told
-returns-in_ok-bracket_text-in-Bracket-clause-told c = λ has resolved all.
+returns-in_ok-bracket_text-in-Bracket-clause-told c = λ has resolved.
     let laws : TableLaws = record { exists = c.canonical_table_exists.ensures; minimal = c.canonical_table_is_minimal_resolution.ensures; modules = c.modules_are_graded_modules.ensures; accepted = c.accepted_is_module.ensures } in
     subst (λ (form : Form). IsInForm form c.args.range c.args.table.now.resolved.plain (Ok c.in_ok-bracket_text-in-Bracket.field-0.items)) (sym c.in-Bracket.is)
-    (is_told_of_classes laws (IsBracketAnswer c.args.range c.in-Bracket.a c.in-Bracket.b c.in-Bracket.c) c.args.range c.args.table.now (Ok c.in_ok-bracket_text-in-Bracket.field-0.items) resolved (c.in_ok-bracket_text-in-Bracket.ensures.text all))
+    (is_told_of_classes laws (IsBracketAnswer c.args.range c.in-Bracket.a c.in-Bracket.b c.in-Bracket.c) c.args.range c.args.table.now (Ok c.in_ok-bracket_text-in-Bracket.field-0.items) resolved (c.in_ok-bracket_text-in-Bracket.ensures.text (canonical_in c.args.table.now c.args.range resolved.canonical)))
 
 pub returns-in_err-bracket_text-in-Bracket-clause-told : goal.returns-in_err-bracket_text-in-Bracket-clause-told
-returns-in_err-bracket_text-in-Bracket-clause-told c = λ has resolved all.
+returns-in_err-bracket_text-in-Bracket-clause-told c = λ has resolved.
     let laws : TableLaws = record { exists = c.canonical_table_exists.ensures; minimal = c.canonical_table_is_minimal_resolution.ensures; modules = c.modules_are_graded_modules.ensures; accepted = c.accepted_is_module.ensures } in
     let p = err_from_is_err_and c.from_residual-in_err-bracket_text-in-Bracket.result c.from_residual-in_err-bracket_text-in-Bracket.ensures.1 in
     let is = p.1 ∙ ap Err p.2 in
     let known = classes_failed (IsBracketAnswerOver c.args.table.now c.args.range c.in-Bracket.a c.in-Bracket.b c.in-Bracket.c) c.in_err-bracket_text-in-Bracket.field-0.0 c.from_residual-in_err-bracket_text-in-Bracket.result is c.in_err-bracket_text-in-Bracket.ensures.refused has in
     subst (λ (form : Form). IsInForm form c.args.range c.args.table.now.resolved.plain (answer_of c.from_residual-in_err-bracket_text-in-Bracket.result)) (sym c.in-Bracket.is)
-    (subst (IsToldOfClasses (IsBracketAnswer c.args.range c.in-Bracket.a c.in-Bracket.b c.in-Bracket.c) c.args.range c.args.table.now.resolved.plain) (sym known.1) (is_told_of_classes laws (IsBracketAnswer c.args.range c.in-Bracket.a c.in-Bracket.b c.in-Bracket.c) c.args.range c.args.table.now known.0 resolved (known.2 all)))
+    (subst (IsToldOfClasses (IsBracketAnswer c.args.range c.in-Bracket.a c.in-Bracket.b c.in-Bracket.c) c.args.range c.args.table.now.resolved.plain) (sym known.1) (is_told_of_classes laws (IsBracketAnswer c.args.range c.in-Bracket.a c.in-Bracket.b c.in-Bracket.c) c.args.range c.args.table.now known.0 resolved (known.2 (canonical_in c.args.table.now c.args.range resolved.canonical))))
