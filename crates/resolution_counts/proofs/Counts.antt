@@ -62,7 +62,7 @@ new_count g (suc n) u =
     ap (λ (z : ℤ). length (map (λ r. (g, r)) (basis_at z) ++ rest)) (minus_self u) ∙ ap suc (new_count (suc g) n u)
 
 -- the dimension in the degree of a square is that on the generators before it and one for each new generator
-width_here : (b : ℤ) (squares : List Content) (k : ℕ) → k < length squares → free_width (degrees_from b squares) (b +ℤ pos k) ≡ free_width (degrees_from b (take k squares)) (b +ℤ pos k) + length (square_in squares k).images
+pub width_here : (b : ℤ) (squares : List Content) (k : ℕ) → k < length squares → free_width (degrees_from b squares) (b +ℤ pos k) ≡ free_width (degrees_from b (take k squares)) (b +ℤ pos k) + length (square_in squares k).images
 width_here b squares k l =
     let u = b +ℤ pos k in
     let c = square_in squares k in
@@ -77,7 +77,7 @@ width_here b squares k l =
     ∙ (length-append (free_basis before u) (free_basis_from (0 + length before) new u)
     ∙ ap (λ n. free_width before u + n) (new_count (0 + length before) (length c.images) u))))
 
-degrees_more : (b : ℤ) (squares : List Content) (k : ℕ) → k < length squares → degrees_from b (take (suc k) squares) ≡ degrees_from b (take k squares) ++ replicate (length (square_in squares k).images) (b +ℤ pos k)
+pub degrees_more : (b : ℤ) (squares : List Content) (k : ℕ) → k < length squares → degrees_from b (take (suc k) squares) ≡ degrees_from b (take k squares) ++ replicate (length (square_in squares k).images) (b +ℤ pos k)
 degrees_more b squares k l =
     let c = square_in squares k in
     let len : length (take k squares) ≡ k = length-take-le k squares (omega arith) in

@@ -1,8 +1,8 @@
 mod Bare
 mod Maps
-mod Cover
+pub mod Cover
 mod Compare
-mod Counts
+pub mod Counts
 mod Cochains
 mod Values
 mod Degrees

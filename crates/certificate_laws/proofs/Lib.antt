@@ -1,0 +1,4 @@
+pub mod Square
+pub mod Decide
+mod Minimal
+mod Examples
