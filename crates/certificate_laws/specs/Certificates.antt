@@ -1,5 +1,5 @@
--- A certificate: with each square of a table the reduction of its matrix. By comparing rows it tells that the table is a minimal
--- resolution, and nothing need be reduced for that.
+-- A certificate: with each square of a table the reduction of its matrix. By comparing rows it tells that the table is
+-- a minimal resolution, and nothing need be reduced for that.
 use Rattle.std.specs.Prelude.{◌≡◌, ℕ, suc, ◌+◌, ◌<◌, ◌≤◌, ◌↔◌, pos, ◌+ℤ◌, false, List, [], length}
 use Rattle.f2_vec.specs.Vectors.{bit}
 use Rattle.f2_vec.specs.Spans.{row}
@@ -26,8 +26,8 @@ HasKernelAt m table s k =
     let u = m.bottom +ℤ pos k in
     IsKernelBasis ((target_of m table s).width u) (differential m table s u) (square_in (row_of table s) k).kernel
 
--- The image rows of the reduction are what d_s has to cover: the unit vectors of the module for row 0, and else the kernel rows of
--- the square below.
+-- The image rows of the reduction are what d_s has to cover: the unit vectors of the module for row 0, and else the
+-- kernel rows of the square below.
 abbrev pub CoversAt : Module → List (List Content) → ℕ → ℕ → Reduction → Type 0
 CoversAt m table s k reduction = reduction.image ≡ candidates_over m (below_of table s k) k
 
@@ -38,8 +38,8 @@ HasNoGeneratorTerm m table s k =
     let basis = free_basis (degrees_in m table s) (m.bottom +ℤ pos k) in
     (i j : ℕ) → i < length kernel → j < length basis → (element basis j).1 ≡ [] → bit (row kernel i) j ≡ false
 
--- The square has a certificate: a reduction of its matrix, with the square's kernel rows, that covers what it has to, and no generator
--- stands in a kernel row.
+-- The square has a certificate: a reduction of its matrix, with the square's kernel rows, that covers what it has to,
+-- and no generator stands in a kernel row.
 pub record IsCertifiedAt (m : Module) (table : List (List Content)) (s k : ℕ) : Type 0 where
   pub reduction : Reduction
   pub is_reduction : IsReductionAt m table s k reduction
@@ -49,8 +49,8 @@ pub record IsCertifiedAt (m : Module) (table : List (List Content)) (s k : ℕ) 
 
 -- ---- the laws
 
--- To compare the image rows decides exactness at the square, where the one below has its kernel rows: a span and a kernel have one
--- reduced basis.
+-- To compare the image rows decides exactness at the square, where the one below has its kernel rows: a span and a
+-- kernel have one reduced basis.
 abbrev pub RowsDecideExactness : Type 0
 RowsDecideExactness = (m : Module) (table : List (List Content)) (s k : ℕ) (reduction : Reduction) →
     IsReductionAt m table s k reduction → ((i : ℕ) → suc i ≡ s → HasKernelAt m table i k) →
@@ -61,8 +61,8 @@ abbrev pub RowsDecideNeed : Type 0
 RowsDecideNeed = (m : Module) (table : List (List Content)) (s k : ℕ) → HasKernelAt m table s k →
     HasNoGeneratorTerm m table s k ↔ AreNeededAt m table s k
 
--- In the basis of F_s in the degree of the square, the elements Sq() on a generator are those on the square's own generators, and they
--- stand last.
+-- In the basis of F_s in the degree of the square, the elements Sq() on a generator are those on the square's own
+-- generators, and they stand last.
 abbrev pub GeneratorsStandLast : Type 0
 GeneratorsStandLast = (m : Module) (table : List (List Content)) (s k : ℕ) → k < length (row_of table s) →
     let basis = free_basis (degrees_in m table s) (m.bottom +ℤ pos k) in

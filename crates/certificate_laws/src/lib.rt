@@ -1,5 +1,5 @@
-//! When the rows that a table has with its squares tell that it is a minimal resolution, as contracts of functions that do
-//! nothing.
+//! When the rows that a table has with its squares tell that it is a minimal resolution, as contracts of functions that
+//! do nothing.
 #![tactic(auto)]
 
 ghost use Rattle.certificate_laws.specs.Certificates.{
@@ -11,8 +11,8 @@ ghost use Rattle.certificate_laws.specs.Certificates.{
   RowsDecideNeed,
 };
 
-/// At one square, d_s is exact exactly where the reduced basis of its image is the reduced basis of the kernel below, or for
-/// row 0 the list of unit vectors.
+/// At one square, d_s is exact exactly where the reduced basis of its image is the reduced basis of the kernel below,
+/// or for row 0 the list of unit vectors.
 pub fn rows_decide_exactness()
     ensures { RowsDecideExactness }
 {}
@@ -32,8 +32,8 @@ pub fn certified_table_is_minimal()
     ensures { CertifiedTableIsMinimal }
 {}
 
-/// A table of a module over the Steenrod algebra that is zero below its bottom is a minimal resolution if it is exact and each
-/// of its generators is needed.
+/// A table of a module over the Steenrod algebra that is zero below its bottom is a minimal resolution if it is exact
+/// and each of its generators is needed.
 pub fn minimal_table_is_minimal_resolution()
     ensures { MinimalTableIsMinimalResolution }
 {}

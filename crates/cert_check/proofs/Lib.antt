@@ -1,0 +1,4 @@
+mod Vectors
+mod Part
+mod Faults
+mod Verdict
