@@ -23,6 +23,7 @@ use Rattle.square.proofs.Places.{content_at-is}
 use Rattle.cert_check.specs.Certified.{part_of, IsQuasiOf, IsCertified, Certifies, AreCertifiedBefore, IsInexactAt, IsSuperfluousAt, HasNoQuasiAt, IsFaultAt, IsFirstFault, row_of_fault, degree_of_fault}
 use Rattle.cert_check.specs.declared.fault.CertFault.{CertFault}
 use Rattle.cert_check.specs.declared.fault.CertFault.TheVariants.{Missing, NoQuasi, Inexact, NotMinimal}
+use Rattle.cert_check.specs.Inside.Rows.{EndInZeros}
 use Rattle.cert_check.proofs.Part.{below-part, within-part, square-part, reduction-part, has_squares-part}
 
 module _ (table : Staircase) (range : Range) where
@@ -49,7 +50,7 @@ module _ (table : Staircase) (range : Range) where
   -- ---- the look at the last coordinates
 
   -- each vector of F_s in the square's degree has a coordinate for each of its generators
-  pub few_generators : (s k : ℕ) (r : Reduction) → s ≤ range.s → k ≤ range.t → IsQuasiOf table range s k r → (i : ℕ) → i < length (square_in (row_of part s) k).kernel → generator_count part s k ≤ length (row (square_in (row_of part s) k).kernel i)
+  few_generators : (s k : ℕ) (r : Reduction) → s ≤ range.s → k ≤ range.t → IsQuasiOf table range s k r → (i : ℕ) → i < length (square_in (row_of part s) k).kernel → generator_count part s k ≤ length (row (square_in (row_of part s) k).kernel i)
   few_generators s k r h l q i a =
       let here = within-part table range s k h l (slice_get_within (row_in table.rows s) k q.square q.there) in
       let width = width_here m.bottom (row_of part s) k here in
@@ -58,8 +59,7 @@ module _ (table : Staircase) (range : Range) where
       omega arith
 
   -- none of them has a 1 where each ends in as many zeros
-  pub end_decides : (s k : ℕ) (r : Reduction) → s ≤ range.s → k ≤ range.t → IsQuasiOf table range s k r →
-      ((i : ℕ) → i < length (square_in (row_of part s) k).kernel → IsZeroFrom (row (square_in (row_of part s) k).kernel i) (length (row (square_in (row_of part s) k).kernel i) - generator_count part s k)) ↔ HasNoGeneratorTerm m part s k
+  end_decides : (s k : ℕ) (r : Reduction) → s ≤ range.s → k ≤ range.t → IsQuasiOf table range s k r → EndInZeros (generator_count part s k) (square_in (row_of part s) k).kernel ↔ HasNoGeneratorTerm m part s k
   end_decides s k r h l q =
       let here = within-part table range s k h l (slice_get_within (row_in table.rows s) k q.square q.there) in
       let basis = free_basis (degrees_in m part s) (m.bottom +ℤ pos k) in
@@ -211,22 +211,12 @@ module _ (table : Staircase) (range : Range) where
   pub candidates-part : (s k : ℕ) → s ≤ range.s → k ≤ range.t → candidates_over m (below_of part s k) k ≡ candidates_over m (below_of (plain_rows table.rows) s k) k
   candidates-part s k h l = ap (λ (x : Option (List Content)). candidates_over m x k) (below-part table range s k h l)
 
-  -- what a square with this content is looked at for
-  pub few_here : (s k : ℕ) (q : Placed) (r : Reduction) → s ≤ range.s → k ≤ range.t → slice_get (row_in table.rows s) k ≡ Some q → IsQuasiOf table range s k r → (kernel images : List (List Bool)) → kernel ≡ q.content.kernel → images ≡ q.content.images → (i : ℕ) → i < length kernel → length images ≤ length (row kernel i)
-  few_here s k q r h l there x kernel images e f =
-      let P : Content → Type 0 = λ c. (i : ℕ) → i < length c.kernel → length c.images ≤ length (row c.kernel i) in
-      let Q : List (List Bool) → Type 0 = λ z. (i : ℕ) → i < length z → length q.content.images ≤ length (row z i) in
-      let R : List (List Bool) → Type 0 = λ z. (i : ℕ) → i < length kernel → length z ≤ length (row kernel i) in
-      subst R (sym f) (subst Q (sym e) (subst P (square-part table range s k q h l there) (few_generators s k r h l x)))
-
-  pub end_here : (s k : ℕ) (q : Placed) (r : Reduction) → s ≤ range.s → k ≤ range.t → slice_get (row_in table.rows s) k ≡ Some q → IsQuasiOf table range s k r → (kernel images : List (List Bool)) → kernel ≡ q.content.kernel → images ≡ q.content.images →
-      ((i : ℕ) → i < length kernel → IsZeroFrom (row kernel i) (length (row kernel i) - length images)) ↔ HasNoGeneratorTerm m part s k
-  end_here s k q r h l there x kernel images e f =
-      let G = HasNoGeneratorTerm m part s k in
-      let P : Content → Type 0 = λ c. ((i : ℕ) → i < length c.kernel → IsZeroFrom (row c.kernel i) (length (row c.kernel i) - length c.images)) ↔ G in
-      let Q : List (List Bool) → Type 0 = λ z. ((i : ℕ) → i < length z → IsZeroFrom (row z i) (length (row z i) - length q.content.images)) ↔ G in
-      let R : List (List Bool) → Type 0 = λ z. ((i : ℕ) → i < length kernel → IsZeroFrom (row kernel i) (length (row kernel i) - length z)) ↔ G in
-      subst R (sym f) (subst Q (sym e) (subst P (square-part table range s k q h l there) (end_decides s k r h l x)))
+  -- so the look at the square's rows decides, as it shows them
+  pub clear_here : (s k : ℕ) (q d : Placed) (r : Reduction) → s ≤ range.s → k ≤ range.t → slice_get (row_in table.rows s) k ≡ Some q → d ≡ q → IsQuasiOf table range s k r → EndInZeros (length d.content.images) d.content.kernel ↔ HasNoGeneratorTerm m part s k
+  clear_here s k q d r h l there e x =
+      let P : Content → Type 0 = λ c. EndInZeros (length c.images) c.kernel ↔ HasNoGeneratorTerm m part s k in
+      let same : square_in (row_of part s) k ≡ d.content = square-part table range s k q h l there ∙ ap (λ (y : Placed). y.content) (sym e) in
+      subst P same (end_decides s k r h l x)
 
   -- as a square shows what it has kept
   pub kept_here : IsTable table → (s k : ℕ) (q d : Placed) (r : Reduction) → s ≤ range.s → k ≤ range.t → slice_get (row_in table.rows s) k ≡ Some q → d ≡ q → IsSquare d → Some r ≡ d.quasi → IsQuasiOf table range s k r

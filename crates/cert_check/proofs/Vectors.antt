@@ -84,3 +84,7 @@ none_told None true e = (λ h. refl, λ h. refl)
 none_told None false e = absurd (false≢true e)
 none_told (Some x) true e = absurd (false≢true (sym e))
 none_told (Some x) false e = (λ h. absurd (false≢true h), λ h. absurd (false≢true (sym h)))
+
+pub some_is_not_none : (o : Option ℕ) (r : Bool) → r ≡ is_some o → r ≡ true → IsNone o → ⊥
+some_is_not_none None r e t none = false≢true (sym e ∙ t)
+some_is_not_none (Some x) r e t none = false≢true (sym none)

@@ -4,12 +4,13 @@ ghost use Rattle.resolution_laws.specs.Resolution.{candidates_over, below_of};
 ghost use Rattle.resolution_laws.specs.Exactness.{IsMinimalResolution};
 ghost use Rattle.square.specs.Squares.{over};
 ghost use Rattle.square.specs.Tables.{row_in, plain_rows, IsTable};
+ghost use Rattle.cert_check.specs.Inside.Rows.{EndInZeros};
 ghost use Rattle.cert_check.specs.Certified.{part_of, Certifies, IsCertified, AreCertifiedBefore, IsFirstFault, HasCanonicalCounts};
 
 use crate::fault::CertFault;
 use crate::rows::{are_same, are_units, end_in_zeros};
 use f2_vec::BitVec;
-use square::{Range, Table};
+use square::{Range, Square, Table};
 
 /// Whether the table certifies the range: each square of it is there with a quasi-inverse, whose image rows are the
 /// kernel rows of the square below, or for row 0 the unit vectors of the module, and no kernel row has a coefficient at
@@ -77,8 +78,8 @@ fn check_square(table: &Table, range: Range, s: u16, above: u16) -> Result<(), C
     if !covers(table, s, above, quasi.image()) {
         return Err(CertFault::Inexact { s, t });
     }
-    // The square's own generators stand last in the basis of its degree.
-    if !end_in_zeros(square.kernel(), square.gens().len()) {
+    let clear = is_clear(square);
+    if !clear {
         return Err(CertFault::NotMinimal { s, t });
     }
     Ok(())
@@ -99,4 +100,11 @@ fn covers(table: &Table, s: u16, above: u16, rows: &[BitVec]) -> bool
         Some(below) => are_same(rows, below.kernel()),
         None => unreachable!(),
     }
+}
+
+/// Whether no kernel row of the square has a 1 at one of its generators, which stand last in the basis of its degree.
+fn is_clear(square: &Square) -> bool
+    ensures { IsTrue result ↔ EndInZeros (length square.now.content.images) square.now.content.kernel }
+{
+    end_in_zeros(square.kernel(), square.gens().len())
 }

@@ -1,7 +1,7 @@
 //! Lists of vectors, compared.
-ghost use Rattle.std.specs.Prelude.{◌≡◌, ℕ, ◌-◌, ◌<◌, ◌≤◌, ◌↔◌, length, IsTrue};
-ghost use Rattle.f2_vec.specs.Vectors.{IsZeroFrom};
-ghost use Rattle.f2_vec.specs.Spans.{row, unit_vector, unit_vectors};
+ghost use Rattle.std.specs.Prelude.{◌≡◌, ◌<◌, ◌↔◌, IsTrue};
+ghost use Rattle.f2_vec.specs.Spans.{unit_vector, unit_vectors};
+ghost use Rattle.cert_check.specs.Inside.Rows.{EndInZeros};
 
 use f2_vec::BitVec;
 
@@ -64,14 +64,12 @@ pub(crate) fn are_units(rows: &[BitVec], n: usize) -> bool
     true
 }
 
-/// Whether the last `count` coordinates of each vector are 0.
+/// Whether the last `count` coordinates of each vector are 0, and all of a vector that has fewer.
 pub(crate) fn end_in_zeros(rows: &[BitVec], count: usize) -> bool
-    requires { (i : ℕ) → i < length rows.now → count ≤ length (row rows.now i) }
-    ensures { IsTrue result ↔
-        ((i : ℕ) → i < length rows.now → IsZeroFrom (row rows.now i) (length (row rows.now i) - count)) }
+    ensures { IsTrue result ↔ EndInZeros count rows.now }
 {
     for v in rows {
-        if v.next_one(v.len() - count).is_some() {
+        if v.next_one(v.len().saturating_sub(count)).is_some() {
             return false;
         }
     }

@@ -7,7 +7,7 @@ use Rattle.f2_vec.proofs.Spans.{length-IsInSpan, row-IsInSpan, bit-combination_z
 use Rattle.f2_vec.proofs.Split.{length-unit_vectors, HaveWidth-unit_vectors, combination-unit_vectors}
 use Rattle.f2_matrix.specs.Echelon.{IsRowBasis, IsKernelBasis}
 use Rattle.f2_matrix.specs.Rank.{SpanAll}
-use Rattle.f2_matrix.specs.Reduction.{Reduction, IsReductionOf}
+use Rattle.f2_matrix.specs.Reduction.{Reduction}
 use Rattle.f2_matrix.proofs.Parts.{image_is_row_basis}
 use Rattle.f2_matrix.proofs.Unique.{row_basis_unique}
 use Rattle.f2_dual.proofs.Step.{reduction_kernel}

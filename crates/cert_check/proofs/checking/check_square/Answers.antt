@@ -6,7 +6,7 @@ use Rattle.certificate_laws.specs.Certificates.{CoversAt}
 use Rattle.square.specs.Squares.{Placed, over}
 use Rattle.square.specs.Tables.{row_in}
 use Rattle.cert_check.specs.Certified.{part_of, IsQuasiOf}
-use Rattle.cert_check.proofs.Faults.{kept_here, covers_is_exact, clear_is_needed, candidates-part, few_here, end_here}
+use Rattle.cert_check.proofs.Faults.{kept_here, covers_is_exact, clear_is_needed, candidates-part, clear_here}
 use Rattle.cert_check.proofs.checking.check_square.Goals as goal
 
 pub returns-in_default-kept_quasi-clause-fault : goal.returns-in_default-kept_quasi-clause-fault
@@ -53,24 +53,8 @@ returns-then-not-covers-clause-fault c =
       is_fault = record { reduction = r; quasi = x; fails = λ exact. false≢true (c.if-not-covers.ensures.1 (c.image.ensures.rows ∙ ((covers_is_exact table range s k r h l c.requires.before x).1 exact ∙ candidates-part table range s k h l))) };
     }
 
-pub end_in_zeros-requires : goal.end_in_zeros-requires
-end_in_zeros-requires c =
-    let table = c.args.table.now in
-    let range = c.args.range in
-    let s = c.args.s in
-    let k = c.args.above in
-    let q = arc_value c.in-Some.square.now in
-    let there = sym c.in-Some.ensures.square in
-    let h = c.requires.row in
-    let l = c.requires.degree in
-    let r = c.in-Some-kept_quasi.quasi.now in
-    let x : IsQuasiOf table range s k r = kept_here table range c.square.ensures.is_table s k q c.deref.result.now r h l there c.deref.ensures c.kept_quasi.ensures.is_square c.in-Some-kept_quasi.ensures.kept in
-    let kernel = c.kernel.ensures ∙ ap (λ (y : Placed). y.content.kernel) c.deref-2.ensures in
-    let images = c.gens.ensures ∙ ap (λ (y : Placed). y.content.images) c.deref-3.ensures in
-    few_here table range s k q r h l there x c.kernel.result.now c.gens.result.now kernel images
-
-pub returns-then-not-end_in_zeros-clause-fault : goal.returns-then-not-end_in_zeros-clause-fault
-returns-then-not-end_in_zeros-clause-fault c =
+pub returns-then-not-clear-clause-fault : goal.returns-then-not-clear-clause-fault
+returns-then-not-clear-clause-fault c =
     let table = c.args.table.now in
     let range = c.args.range in
     let s = c.args.s in
@@ -82,17 +66,15 @@ returns-then-not-end_in_zeros-clause-fault c =
     let r = c.in-Some-kept_quasi.quasi.now in
     let x : IsQuasiOf table range s k r = kept_here table range c.square.ensures.is_table s k q c.deref.result.now r h l there c.deref.ensures c.kept_quasi.ensures.is_square c.in-Some-kept_quasi.ensures.kept in
     let covers : CoversAt (over table.resolved) (part_of table range) s k r = sym c.image.ensures.rows ∙ (c.if-not-covers.ensures.0 refl ∙ sym (candidates-part table range s k h l)) in
-    let kernel = c.kernel.ensures ∙ ap (λ (y : Placed). y.content.kernel) c.deref-2.ensures in
-    let images = c.gens.ensures ∙ ap (λ (y : Placed). y.content.images) c.deref-3.ensures in
     let exact = (covers_is_exact table range s k r h l c.requires.before x).0 covers in
-    let clear = end_here table range s k q r h l there x c.kernel.result.now c.gens.result.now kernel images in
+    let clear = clear_here table range s k q c.deref-2.result.now r h l there c.deref-2.ensures x in
     record {
       above = k;
       degree = search rules;
       row = h;
       within = l;
       before = c.requires.before;
-      is_fault = record { reduction = r; quasi = x; exact = exact; fails = λ needed. false≢true (c.if-not-end_in_zeros.ensures.1 (clear.1 ((clear_is_needed table range s k r h l x).1 needed))) };
+      is_fault = record { reduction = r; quasi = x; exact = exact; fails = λ needed. false≢true (sym c.if-not-clear.true ∙ c.is_clear-clear.ensures.1 (clear.1 ((clear_is_needed table range s k r h l x).1 needed))) };
     }
 
 pub returns-clause-ok : goal.returns-clause-ok
@@ -108,7 +90,5 @@ returns-clause-ok c =
     let r = c.in-Some-kept_quasi.quasi.now in
     let x : IsQuasiOf table range s k r = kept_here table range c.square.ensures.is_table s k q c.deref.result.now r h l there c.deref.ensures c.kept_quasi.ensures.is_square c.in-Some-kept_quasi.ensures.kept in
     let covers : CoversAt (over table.resolved) (part_of table range) s k r = sym c.image.ensures.rows ∙ (c.if-not-covers.ensures.0 refl ∙ sym (candidates-part table range s k h l)) in
-    let kernel = c.kernel.ensures ∙ ap (λ (y : Placed). y.content.kernel) c.deref-2.ensures in
-    let images = c.gens.ensures ∙ ap (λ (y : Placed). y.content.images) c.deref-3.ensures in
-    let clear = end_here table range s k q r h l there x c.kernel.result.now c.gens.result.now kernel images in
-    record { reduction = r; quasi = x; covers = covers; clear = clear.0 (c.if-not-end_in_zeros.ensures.0 refl) }
+    let clear = clear_here table range s k q c.deref-2.result.now r h l there c.deref-2.ensures x in
+    record { reduction = r; quasi = x; covers = covers; clear = clear.0 (c.is_clear-clear.ensures.0 c.if-not-clear.false) }
