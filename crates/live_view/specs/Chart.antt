@@ -1,0 +1,54 @@
+-- The chart of a view as text: the one of a resolution, with a space for each square that the view does not have.
+use Rattle.std.specs.Prelude.{◌≡◌, ◌⊎◌, ℕ, zero, suc, ◌+◌, ◌-◌, ◌≤◌, min, ℤ, List, [], ◌∷◌, ◌++◌, map, length, slice_get, codes, Option, Some, None}
+use Rattle.std.specs.List.{range_with_len, sum}
+use Rattle.finite_module.specs.Text.{newline}
+use Rattle.resolution_laws.specs.Resolution.{Module}
+use Rattle.square.specs.declared.range.Range.{Range}
+use Rattle.ext_chart.specs.Chart.{mark, row_label, stems_line, chart_text}
+use Rattle.live_view.specs.Views.{row_of, IsCount, IsRight}
+
+-- the mark of a square with so many generators, and a space where the square is not there
+abbrev pub mark_of : Option ℕ → ℕ
+mark_of None = 32
+mark_of (Some n) = mark n
+
+-- the mark of the square (s, k)
+abbrev pub marks_of : List (List ℕ) → ℕ → ℕ → ℕ
+marks_of view s k = mark_of (slice_get (row_of view s) k)
+
+-- the line of row s, whose first mark is for k = s
+abbrev pub row_line : (ℕ → ℕ → ℕ) → ℕ → ℕ → List ℕ
+row_line marks t s = row_label s ++ (codes " |" ++ (map (marks s) (range_with_len s (t + 1 - s)) ++ newline))
+
+-- the lines of the rows below n, the greatest first
+abbrev pub row_lines : (ℕ → ℕ → ℕ) → ℕ → ℕ → List ℕ
+row_lines marks t zero = []
+row_lines marks t (suc n) = row_line marks t n ++ row_lines marks t n
+
+-- the chart of the view through the range
+abbrev pub live_chart : ℤ → Range → List (List ℕ) → List ℕ
+live_chart bottom range view = row_lines (marks_of view) range.t (range.s + 1) ++ stems_line bottom range.t
+
+-- how many squares of the range a view has
+abbrev pub squares_within : Range → List (List ℕ) → ℕ
+squares_within range view =
+    sum (map (λ s. min (length (row_of view s)) (range.t + 1)) (range_with_len 0 (range.s + 1)))
+
+-- each character of the first text is a space, or that of the second at its place
+abbrev pub IsPartOf : List ℕ → List ℕ → Type 0
+IsPartOf [] [] = Unit {0}
+IsPartOf [] (d ∷ text) = ⊥
+IsPartOf (c ∷ part) [] = ⊥
+IsPartOf (c ∷ part) (d ∷ text) = ((c ≡ 32) ⊎ (c ≡ d)) × IsPartOf part text
+
+-- these are the numbers of generators of the squares of the canonical resolution, through a range
+abbrev pub AreCounts : Module → Range → (ℕ → ℕ → ℕ) → Type 0
+AreCounts m range count = (s k : ℕ) → s ≤ range.s → k ≤ range.t → IsCount m [] s k (count s k)
+
+-- ---- the law
+
+-- each character of the chart of a view that is right for the canonical resolution is a space, or that of the resolution's chart
+abbrev pub RightChartIsPart : Type 0
+RightChartIsPart = (m : Module) (view : List (List ℕ)) (bottom : ℤ) (range : Range) (count : ℕ → ℕ → ℕ) →
+    IsRight m [] view → AreCounts m range count →
+    IsPartOf (live_chart bottom range view) (chart_text bottom range.s range.t count)

@@ -1,0 +1,6 @@
+pub mod Views
+pub mod Published
+pub mod Handles
+pub mod Publishing
+pub mod Chart
+pub mod Inside
