@@ -1,10 +1,7 @@
 -- A reader and a writer may go to any thread.
 use denote.RattleType.{RattleType}
-use denote.Struct.Struct.{Struct}
-use denote.Struct.Owning.{shape}
-use denote.Param.Send.{IsSend, IsSync, Frees, sendable, part_keyless}
+use denote.Param.Send.{IsSend, IsSync, sendable}
 use denote.Param.SendFields.{as_row_send, declared_send}
-use Rattle.std.specs.declared.alloc.Allocator as heap
 use Rattle.std_heap.specs.contracts.Global as Heap
 use Rattle.std_heap.specs.contracts.GlobalAllocator.TheImpl.{ghosts}
 use Rattle.crossbeam_utils.specs.declared.rule.Protocol as protocol
@@ -13,9 +10,6 @@ use denote.Struct.Tuple.{Tuple}
 use Rattle.std.proofs.Common.{[], ◌∷◌}
 use Rattle.std.proofs.Crossing.{crosses, Arc-send, Vec-send, Deque-send, frees, send}
 use Rattle.core.specs.contracts.option.Option as Option
-use Rattle.atomic_table.proofs.Rights.{right_send}
-use Rattle.atomic_table.proofs.Sent.{seat_keyless, shares_keyless}
-use Rattle.atomic_table.specs.contracts.send_lease.SendLease as SendLease
 use Rattle.atomic_table.specs.contracts.shared.Seat as Seat
 use Rattle.atomic_table.specs.contracts.shared.Shared as Shared
 use Rattle.atomic_table.specs.declared.shared.TableRule as rule

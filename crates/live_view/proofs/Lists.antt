@@ -1,11 +1,10 @@
 -- Lists of published views.
-use Rattle.std.proofs.Common.{◌≡◌, ℕ, zero, suc, ◌+◌, ◌<◌, List, [], ◌∷◌, ◌++◌, length, All, Contains, refl, sym, ◌∙◌, arith}
+use Rattle.std.proofs.Common.{◌≡◌, ℕ, zero, suc, ◌<◌, List, [], ◌∷◌, ◌++◌, length, All, refl, sym, ◌∙◌, arith}
 use Rattle.std.specs.Prelude.{slice_index_or}
 use Rattle.std.proofs.lemmas.List.Elements.{All-append, All-contains}
-use Rattle.square.specs.Tables.{Staircase}
 use Rattle.live_view.specs.declared.published.Published.{Published as Shown}
 use Rattle.live_view.specs.Views.{blank, IsWithin}
-use Rattle.live_view.specs.Published.{last_from, last_view, IsRising, IsRightOf, ArePublished, MayFollow}
+use Rattle.live_view.specs.Published.{last_from, IsRising, IsRightOf, ArePublished, MayFollow}
 
 pub last_then : (view : List (List ℕ)) (published : List Shown) (p : Shown) → last_from view (published ++ p ∷ []) ≡ p.view
 last_then view [] p = refl

@@ -1,12 +1,11 @@
 -- What a look at a board tells of a front and of a square.
-use Rattle.std.proofs.Common.{◌≡◌, ℕ, ◌≤◌, ◌<◌, ℤ, pos, ◌+ℤ◌, List, [], ◌∷◌, ◌++◌, length, All, Contains, refl, sym, ◌∙◌, ap, subst, arith}
+use Rattle.std.proofs.Common.{◌≡◌, ℕ, ◌≤◌, ℤ, pos, ◌+ℤ◌, List, [], ◌++◌, length, Contains, refl, sym, ◌∙◌, ap, subst, arith}
 use Rattle.std.proofs.lemmas.List.{append-nil, map-id}
 use Rattle.std.proofs.lemmas.List.Elements.{All-contains}
 use Rattle.std.proofs.lemmas.Int.{ints}
 use mathlib.Core.List.{map-map}
 use Rattle.board_core.specs.declared.event.Entry.{Entry as Event}
 use Rattle.board_core.specs.Entries.{who_of}
-use Rattle.resolution_laws.specs.Resolution.{Content}
 use Rattle.resolution_laws.specs.Start.{IsOf}
 use Rattle.square.specs.Squares.{Placed}
 use Rattle.turn_lock.specs.Turns.{TurnId, PassState}

@@ -1,10 +1,9 @@
 -- A view that is read from a board, row by row, from the last one down.
-use Rattle.std.proofs.Common.{◌≡◌, ◌⊎◌, ℕ, zero, suc, ◌+◌, ◌-◌, ◌<◌, ◌≤◌, List, [], ◌∷◌, ◌++◌, length, map, slice_get, Some, cond, nat_eq, refl, sym, ◌∙◌, ap, subst, arith, inl, inr, ⊎_elim}
+use Rattle.std.proofs.Common.{◌≡◌, ◌⊎◌, ℕ, zero, suc, ◌+◌, ◌-◌, ◌<◌, ◌≤◌, List, [], ◌∷◌, ◌++◌, length, slice_get, Some, cond, nat_eq, refl, sym, ◌∙◌, ap, subst, arith, inl, inr, ⊎_elim}
 use Rattle.std.specs.List.{count_by}
 use Rattle.std.proofs.lemmas.Bool.{cases_lt, cases_eq}
 use Rattle.std.proofs.lemmas.List.{map-append}
 use Rattle.std.proofs.lemmas.List.Sums.{sum_by-append}
-use Rattle.std.proofs.lemmas.Option.{slice_get_within}
 use mathlib.Core.List.{IsPrefix}
 use Rattle.board_core.specs.declared.event.Entry.{Entry as Event}
 use Rattle.board_core.specs.declared.event.Entry.TheVariants.{Take, Give, Back, Fail}
@@ -13,7 +12,7 @@ use Rattle.square.specs.declared.range.Range.{Range}
 use Rattle.square_board.specs.declared.opening.Opening.{Opening}
 use Rattle.square_board.specs.Courses.{events_of}
 use Rattle.square_board.specs.Openings.{first_table, module_of, front_after}
-use Rattle.live_view.specs.Views.{row_of, IsCount, IsRight, IsWithin}
+use Rattle.live_view.specs.Views.{row_of, IsCount, IsRight}
 use Rattle.live_view.specs.Publishing.{AreDone}
 use Rattle.live_view.specs.Inside.Reading.{HasReadRow, HasReadFrom, HasRead}
 use Rattle.live_view.proofs.Prefixes.{prefix_has, prefix_length}

@@ -1,10 +1,9 @@
 -- A row of a view that is read from a board, square by square.
-use Rattle.std.proofs.Common.{◌≡◌, ◌⊎◌, ℕ, suc, ◌+◌, ◌<◌, ◌≤◌, List, [], ◌∷◌, ◌++◌, length, slice_get, Some, refl, sym, ◌∙◌, ap, subst, arith, inl, inr}
+use Rattle.std.proofs.Common.{◌≡◌, ℕ, suc, ◌+◌, ◌<◌, ◌≤◌, List, [], ◌∷◌, ◌++◌, length, slice_get, Some, refl, sym, ◌∙◌, ap, subst, arith, inl, inr}
 use Rattle.std.specs.Prelude.{min, max}
 use Rattle.std.proofs.lemmas.Bool.{cases_lt}
 use Rattle.std.proofs.lemmas.List.{length_push}
 use Rattle.std.proofs.lemmas.Option.{slice_get_within}
-use mathlib.Core.List.{IsPrefix}
 use Rattle.board_core.specs.declared.event.Entry.{Entry as Event}
 use Rattle.turn_lock.proofs.Histories.{prefix_self, prefix_trans}
 use Rattle.square_board.specs.declared.opening.Opening.{Opening}
@@ -12,7 +11,7 @@ use Rattle.square_board.specs.Openings.{first_table, module_of, front_after}
 use Rattle.square_board.specs.Boards.{AreFalling}
 use Rattle.live_view.specs.Views.{row_of, IsCount, IsWithin}
 use Rattle.live_view.specs.Inside.Rows.{with_count}
-use Rattle.live_view.specs.Inside.Reading.{HasReadTo, HasReadRow, HasGrownWith}
+use Rattle.live_view.specs.Inside.Reading.{HasReadTo, HasReadRow}
 use Rattle.finite_module.proofs.Elements.{slice_get-append_right}
 use Rattle.live_view.proofs.Prefixes.{prefix_has, prefix_length}
 use Rattle.live_view.proofs.Within.{within_self, within_trans, within_length, count_same, count_other, within_count}

@@ -1,6 +1,5 @@
 -- Views within views, and views with one square more.
-use Rattle.std.proofs.Common.{◌≡◌, ℕ, zero, suc, ◌+◌, ◌<◌, ◌≤◌, List, [], ◌∷◌, ◌++◌, length, refl, sym, ap, ◌∙◌, arith}
-use mathlib.Core.List.{IsPrefix}
+use Rattle.std.proofs.Common.{◌≡◌, ℕ, zero, suc, ◌<◌, List, [], ◌∷◌, ◌++◌, length, refl, ap, arith}
 use Rattle.turn_lock.proofs.Histories.{prefix_self, prefix_trans}
 use Rattle.live_view.specs.Views.{row_of, IsWithin}
 use Rattle.live_view.specs.Inside.Rows.{with_count}

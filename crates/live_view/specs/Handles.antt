@@ -1,5 +1,5 @@
 -- A writer and its reader, as contracts see them.
-use Rattle.std.specs.Prelude.{◌≡◌, ℤ, List}
+use Rattle.std.specs.Prelude.{◌≡◌, ℤ}
 use mathlib.Core.List.{IsPrefix}
 use Rattle.square.specs.declared.range.Range.{Range}
 use Rattle.live_view.specs.Published.{KnownViews}

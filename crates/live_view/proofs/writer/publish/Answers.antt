@@ -1,4 +1,4 @@
-use Rattle.std.proofs.Common.{◌≡◌, List, [], ◌∷◌, ◌++◌, ℕ, ap, refl, sym, ◌∙◌, subst}
+use Rattle.std.proofs.Common.{◌≡◌, List, [], ◌∷◌, ◌++◌, ap, refl, sym, ◌∙◌, subst}
 use Rattle.std.proofs.lemmas.Result.{IfOk-weaker}
 use Rattle.square_board.specs.Courses.{events_of}
 use Rattle.square_board.specs.Openings.{first_table, module_of}
@@ -7,7 +7,7 @@ use Rattle.live_view.specs.Views.{IsRight}
 use Rattle.live_view.specs.Publishing.{HasPublished}
 use Rattle.live_view.specs.Published.{KnownViews, last_view, ArePublished}
 use Rattle.live_view.specs.Handles.{LiveState}
-use Rattle.live_view.proofs.Follows.{shown_right, follows, was_published}
+use Rattle.live_view.proofs.Follows.{shown_right, was_published}
 use Rattle.live_view.proofs.MayPublish.{may_still, may_either}
 use Rattle.live_view.proofs.writer.publish.Goals as goal
 

@@ -1,4 +1,4 @@
-use Rattle.std.proofs.Common.{◌≡◌, List, ℕ, ap, sym, ◌∙◌}
+use Rattle.std.proofs.Common.{◌≡◌, ap, ◌∙◌}
 use Rattle.live_view.specs.Chart.{live_chart}
 use Rattle.live_view.specs.Handles.{LiveState}
 use Rattle.live_view.specs.Published.{last_view, IsPartOfCharts}

@@ -1,4 +1,4 @@
-use Rattle.std.proofs.Common.{◌≡◌, List, ℕ, ap, sym, ◌∙◌}
+use Rattle.std.proofs.Common.{ap, sym, ◌∙◌}
 use Rattle.live_view.specs.Views.{blank}
 use Rattle.live_view.specs.Published.{KnownViews, last_view}
 use Rattle.live_view.proofs.Lists.{last_then}
