@@ -4,11 +4,12 @@
 ghost use Rattle.std.specs.Prelude.{◌≡◌, ◌≢◌, ◌≤◌, map, string_bytes, codes, IfOk};
 ghost use Rattle.edge.specs.Faults.{HasRisen};
 ghost use Rattle.edge.specs.Sink.{HasPrefixMore, with_more};
-ghost use Rattle.ext_run.specs.declared.failure.Failure.TheVariants.{Words as OutsideGrammar, Memory as OutOfMemory};
-ghost use Rattle.ext_run.specs.Failure.{status_of, line_of};
+ghost use Rattle.ext_report.specs.declared.failure.Failure.TheVariants.{Words as OutsideGrammar, Memory as OutOfMemory};
+ghost use Rattle.ext_report.specs.Failure.{status_of};
 ghost use Rattle.ext_run.specs.Run.{IsStatusOf, HasRead, HasAnswered, HasReported, IsComplete};
 ghost use Rattle.ext_run.specs.Saving.{HasSaved, IsUsable};
 ghost use Rattle.ext_words.specs.Words.{texts_of};
+ghost use Rattle.ext_report.specs.Lines.{line_of};
 
 use edge::{Disk, FileDisk, Sink, Source, StdSink, StdSource};
 use ext_run::{Ended, Failure, report, run};

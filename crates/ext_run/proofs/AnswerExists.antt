@@ -43,17 +43,18 @@ use Rattle.ext_brackets.specs.Laws.{BracketAnswerExists}
 use Rattle.ext_products.proofs.SphereTables.{sphere-is}
 use Rattle.ext_words.specs.declared.command.Command.{Command}
 use Rattle.ext_words.specs.declared.command.Command.TheVariants.{Sphere, Resolve, Dump, Products, Massey, Check, Build, Sample, Sq}
-use Rattle.ext_run.specs.declared.failure.Failure.{Failure}
-use Rattle.ext_run.specs.declared.failure.Failure.TheVariants.{Words, Malformed as NoModuleFile, NotModule}
+use Rattle.ext_report.specs.declared.failure.Failure.{Failure}
+use Rattle.ext_report.specs.declared.failure.Failure.TheVariants.{Words, Malformed as NoModuleFile, NotModule}
 use Rattle.ext_run.specs.Answer.{IsResolved, IsChart, IsDump, IsSummary, IsLineOn, IsProduct, IsText, IsToldOfClasses, IsProducts, IsBracket, told_of_classes, IsModuleAnswer, no_file, no_module, answer_of, IsAnswerTo, Reads}
 use Rattle.ext_words.specs.Words.{command_of}
-use Rattle.ext_run.specs.Existence.{HasValue, AnswerExists}
-use Rattle.ext_run.proofs.BuildAnswers.{build_answer_exists}
+use Rattle.ext_run.specs.Existence.{AnswerExists}
+use Rattle.ext_build.proofs.BuildAnswers.{build_answer_exists}
 use Rattle.ext_run.specs.declared.task.Form.{Form}
 use Rattle.ext_run.specs.declared.task.Form.TheVariants.{Chart, Differentials, Summary, Products as ProductsOf, Bracket as BracketOf}
 use Rattle.ext_run.specs.declared.task.Task.{Task}
 use Rattle.ext_run.specs.declared.task.Task.TheVariants.{Text, Resolution}
 use Rattle.ext_run.specs.Task.{IsInForm, HasItsAnswer}
+use Rattle.ext_build.specs.Input.{HasValue}
 
 -- the laws that it stands on
 pub record TableLaws : Type 0 where

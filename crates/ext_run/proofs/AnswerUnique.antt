@@ -14,8 +14,8 @@ use Rattle.finite_module.specs.Sample.{sample_file}
 use Rattle.module_check.specs.declared.fault.CheckFault.{CheckFault}
 use Rattle.ext_words.specs.declared.command.Command.{Command}
 use Rattle.ext_words.specs.declared.command.Command.TheVariants.{Sphere, Resolve, Dump, Products, Massey, Check, Build, Sample, Sq}
-use Rattle.ext_run.specs.declared.failure.Failure.{Failure}
-use Rattle.ext_run.specs.declared.failure.Failure.TheVariants.{Words}
+use Rattle.ext_report.specs.declared.failure.Failure.{Failure}
+use Rattle.ext_report.specs.declared.failure.Failure.TheVariants.{Words}
 use Rattle.resolution_laws.specs.Resolution.{Content, generator_count, CanonicalTableIsUnique}
 use Rattle.square.specs.Squares.{module_over}
 use Rattle.square.specs.declared.range.Range.{Range}
@@ -31,7 +31,7 @@ use Rattle.f2_matrix.proofs.Unique.{row_basis_unique}
 use Rattle.ext_products.specs.declared.refusal.Refusal.{Refusal}
 use Rattle.lift_laws.specs.Lifts.{Resolution as Resolved}
 use Rattle.ext_words.specs.Words.{command_of}
-use Rattle.ext_run.proofs.BuildAnswers.{build_answer_unique}
+use Rattle.ext_build.proofs.BuildAnswers.{build_answer_unique}
 use Rattle.ext_run.specs.Answer.{IsResolved, IsChart, IsDump, IsSummary, IsLineOn, IsProduct, IsText, IsToldOfClasses, IsProducts, IsBracket, told_of_classes, IsModuleAnswer, no_file, no_module, answer_of, IsAnswerTo, AnswerIsUnique}
 
 -- two texts that a function makes of two tables of one module and range

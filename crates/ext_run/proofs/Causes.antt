@@ -22,10 +22,10 @@ use Rattle.space_laws.specs.Spaces.{IsSpaceFile}
 use Rattle.space_laws.proofs.Files.{files_are_accepted}
 use Rattle.ext_words.specs.declared.command.Command.{Command}
 use Rattle.ext_words.specs.declared.command.Build.{Build as Made}
-use Rattle.ext_run.specs.Building.{wanted, IsBuildAnswer, no_files, of_files}
+use Rattle.ext_build.specs.Building.{wanted, IsBuildAnswer, no_files, of_files}
 use Rattle.ext_words.specs.declared.command.Command.TheVariants.{Sphere, Resolve, Dump, Products, Massey, Check, Build, Sample, Sq}
-use Rattle.ext_run.specs.declared.failure.Failure.{Failure}
-use Rattle.ext_run.specs.declared.failure.Failure.TheVariants.{Words, Malformed as NoModuleFile, NotModule, PastLimit, Reading, Writing, Saving, SaveFile, Classes, Memory}
+use Rattle.ext_report.specs.declared.failure.Failure.{Failure}
+use Rattle.ext_report.specs.declared.failure.Failure.TheVariants.{Words, Malformed as NoModuleFile, NotModule, PastLimit, Reading, Writing, Saving, SaveFile, Classes, Memory}
 use Rattle.ext_words.specs.Words.{command_of}
 use Rattle.ext_run.specs.Run.{IsStatusOf, IsComplete}
 use Rattle.ext_products.specs.declared.refusal.Refusal.{Refusal}
@@ -34,9 +34,9 @@ use Rattle.ext_products.specs.Products.{IsProductsAnswer}
 use Rattle.ext_brackets.specs.Brackets.{IsBracketAnswer}
 use Rattle.lift_laws.specs.Lifts.{Resolution as Resolved}
 use Rattle.square.specs.declared.range.Range.{Range}
-use Rattle.ext_run.specs.Failure.{status_of, malformed_status, fault_status, class_status}
-use Rattle.ext_run.specs.Input.{most_read, IsAccepted}
-use Rattle.ext_run.specs.Answer.{IsChart, IsDump, IsSummary, IsLineOn, IsText, IsToldOfClasses, IsProducts, IsBracket, HasText, told_of_classes, IsOfClasses, IsTold, IsModuleAnswer, no_file, no_module, answer_of, IsAnswerTo, IsAnswer, AnswerIsUnique, IsAnswerFrom, Reads, WordsRead, HasModule}
+use Rattle.ext_report.specs.Failure.{status_of, malformed_status, fault_status, class_status, IsOfClasses, IsTold}
+use Rattle.ext_build.specs.Input.{most_read, IsAccepted}
+use Rattle.ext_run.specs.Answer.{IsChart, IsDump, IsSummary, IsLineOn, IsText, IsToldOfClasses, IsProducts, IsBracket, HasText, told_of_classes, IsModuleAnswer, no_file, no_module, answer_of, IsAnswerTo, IsAnswer, AnswerIsUnique, IsAnswerFrom, Reads, WordsRead, HasModule}
 use Rattle.ext_run.specs.declared.task.Form.{Form}
 use Rattle.ext_run.specs.declared.task.Form.TheVariants.{Chart, Differentials, Summary, Products as ProductsOf, Bracket as BracketOf}
 use Rattle.ext_run.specs.declared.task.Task.{Task}
@@ -45,8 +45,8 @@ use Rattle.ext_run.specs.Task.{IsInForm, IsDoneBy}
 use Rattle.ext_run.specs.Saving.{IsRunCauseFrom}
 use Rattle.save_file.specs.declared.fault.ResumeFault.{ResumeFault}
 use Rattle.ext_run.proofs.AnswerUnique.{answer-unique, answer-to-unique}
-use Rattle.ext_run.proofs.Reading.{most_read-is}
-use Rattle.ext_run.proofs.BuildAnswers.{build_not_words, build_fits, buildable_failure}
+use Rattle.ext_build.proofs.Reading.{most_read-is}
+use Rattle.ext_build.proofs.BuildAnswers.{build_not_words, build_fits, buildable_failure}
 use Rattle.resolution_laws.proofs.TableIsUnique.{table_is_unique}
 use Rattle.adem_laws.proofs.Forms.{admissible_form_is_unique}
 

@@ -7,15 +7,17 @@ use Rattle.finite_module.specs.Checked.{sphere_file}
 use Rattle.finite_module.specs.Sample.{sample_file}
 use Rattle.chain_map.specs.declared.class.Class.{Class}
 use Rattle.ext_words.specs.declared.command.Command.{Command}
-use Rattle.ext_words.specs.declared.command.Command.TheVariants.{Sphere, Resolve, Dump, Products, Massey, Check, Sample, Sq}
+use Rattle.ext_words.specs.declared.command.Command.TheVariants.{Sphere, Resolve, Dump, Products, Massey, Check, Build as Built, Sample, Sq}
 use Rattle.ext_words.specs.declared.command.Common.{Common}
-use Rattle.ext_run.specs.declared.failure.Failure.{Failure}
-use Rattle.ext_run.specs.declared.failure.Failure.TheVariants.{Words, Malformed as NoModuleFile, NotModule, PastLimit, Reading, Writing, Saving, SaveFile, Classes, Memory}
+use Rattle.ext_words.specs.declared.command.Build.{Build}
+use Rattle.ext_report.specs.declared.failure.Failure.{Failure}
+use Rattle.ext_report.specs.declared.failure.Failure.TheVariants.{Words, Malformed as NoModuleFile, NotModule, PastLimit, Reading, Writing, Saving, SaveFile, Classes, Memory}
 use Rattle.ext_words.specs.declared.command.WordsFault.{WordsFault}
 use Rattle.ext_words.specs.declared.command.WordsFault.TheVariants.{Words as Outside, Memory as NoSpace}
-use Rattle.ext_run.specs.Failure.{words_failure}
+use Rattle.ext_report.specs.Failure.{words_failure}
 use Rattle.ext_words.specs.Words.{command_of}
-use Rattle.ext_run.specs.Input.{IsFileCauseFrom, IsModuleFrom}
+use Rattle.ext_build.specs.Input.{IsFileCauseFrom, IsModuleFrom}
+use Rattle.ext_build.specs.Building.{IsBuildAnswerFrom, IsBuildCauseFrom}
 use Rattle.ext_run.specs.Answer.{IsAnswer, IsAnswerTo, IsCauseFrom, Reads, IsChart, IsDump, IsSummary, IsLineOn, IsProduct, IsText, IsProducts, IsBracket, IsModuleAnswer, no_file, no_module, answer_of, IsCommandAnswerFrom, IsCommandCauseFrom}
 
 -- some bytes, and all that is left where that is told
@@ -121,3 +123,15 @@ words_fault_cause words left NoSpace e = tt
 -- no command has a failed write as its cause
 pub not_writing : (command : Command) (left : Option (List ℕ)) → IsCommandCauseFrom command left Writing → ⊥
 not_writing command left p = p
+
+-- ---- from what is built to the command
+
+pub build_answer : (command : Command) (made : Build) (left : Option (List ℕ)) (text : List ℕ) (answer : Result (List ℕ) Failure) → command ≡ Built made → answer ≡ Ok text → IsBuildAnswerFrom made left (Ok text) → IsCommandAnswerFrom command left answer
+build_answer command made left text answer is same p =
+    let there : IsCommandAnswerFrom (Built made) left (Ok text) = p in
+    subst (IsCommandAnswerFrom command left) (sym same) (subst (λ (c : Command). IsCommandAnswerFrom c left (Ok text)) (sym is) there)
+
+pub build_cause : (command : Command) (made : Build) (left : Option (List ℕ)) (failure : Failure) → command ≡ Built made → IsBuildCauseFrom made left failure → IsCommandCauseFrom command left failure
+build_cause command made left failure is p =
+    let cause : IsCommandCauseFrom (Built made) left failure = p in
+    subst (λ (c : Command). IsCommandCauseFrom c left failure) (sym is) cause

@@ -15,12 +15,14 @@ use Rattle.square.specs.Tables.{Staircase, row_in, plain_rows, IsThrough, cut}
 use Rattle.square.specs.Growing.{HasGrown}
 use Rattle.square.specs.Keeping.{Keeper, HoldsTable}
 use Rattle.resolution_step.specs.Alone.{HasResolved}
-use Rattle.ext_run.specs.declared.failure.Failure.TheVariants.{Saving, Memory}
+use Rattle.ext_report.specs.declared.failure.Failure.{Failure}
+use Rattle.ext_report.specs.declared.failure.Failure.TheVariants.{Saving, Memory}
 use Rattle.ext_run.specs.declared.task.Form.{Form}
-use Rattle.ext_run.specs.Answer.{IsResolved, IsOfClasses}
+use Rattle.ext_run.specs.Answer.{IsResolved}
 use Rattle.ext_run.specs.Task.{IsInForm}
 use Rattle.ext_run.specs.Saving.{HasRange}
 use Rattle.ext_run.specs.Work.{Told, HasAnswer, answer_of, HasContinued}
+use Rattle.ext_report.specs.Failure.{IsOfClasses}
 
 -- a table with each square of the range, in a list
 some_content : (o : Option Placed) → ((q : Placed) × (o ≡ Some q)) → IsSome (option_map (λ q. q.content) o)

@@ -3,12 +3,12 @@ use Rattle.std.proofs.Common.{◌≡◌, ◌≢◌, ◌∙◌, ℕ, ◌≤◌, �
 use Rattle.std.specs.Prelude.{Result, Ok, Err, IfOk, IfErr}
 use Rattle.edge.specs.Faults.{HasRisen}
 use Rattle.edge.specs.Source.{without_first, HasGivenUpTo}
-use Rattle.ext_run.specs.Failure.{status_of}
-use Rattle.ext_run.specs.declared.failure.Failure.{Failure}
-use Rattle.ext_run.specs.declared.failure.Failure.TheVariants.{Words, Malformed as NoModuleFile, NotModule, PastLimit, Reading, Writing, Saving, SaveFile, Classes, Memory}
+use Rattle.ext_report.specs.Failure.{status_of, IsTold}
+use Rattle.ext_report.specs.declared.failure.Failure.{Failure}
+use Rattle.ext_report.specs.declared.failure.Failure.TheVariants.{Words, Malformed as NoModuleFile, NotModule, PastLimit, Reading, Writing, Saving, SaveFile, Classes, Memory}
 use Rattle.save_file.specs.declared.fault.ResumeFault.{ResumeFault}
-use Rattle.ext_run.specs.Input.{most_read}
-use Rattle.ext_run.specs.Answer.{IsTold, IsAnswerFrom, WordsRead}
+use Rattle.ext_build.specs.Input.{most_read}
+use Rattle.ext_run.specs.Answer.{IsAnswerFrom, WordsRead}
 use Rattle.ext_run.specs.Saving.{IsRunCauseFrom}
 use Rattle.ext_run.specs.Ending.{HasTold, HasGotWhole, HasGotPart}
 use Rattle.ext_run.specs.Run.{IsStatusOf, HasRead, HasAnswered, HasReported, IsComplete}

@@ -20,11 +20,10 @@ use Rattle.save_file.specs.Files.{digest_of, standing_of, of_records}
 use Rattle.save_file.specs.Saving.{SaveState, kept_in, telling_of}
 use Rattle.save_file.specs.declared.fault.ResumeFault.{ResumeFault}
 use Rattle.save_file.specs.declared.fault.ResumeFault.TheVariants.{Open, Strange, Memory as OutOfMemory}
-use Rattle.ext_run.specs.declared.failure.Failure.{Failure}
-use Rattle.ext_run.specs.declared.failure.Failure.TheVariants.{Saving, SaveFile, Memory}
+use Rattle.ext_report.specs.declared.failure.Failure.{Failure}
+use Rattle.ext_report.specs.declared.failure.Failure.TheVariants.{Saving, SaveFile, Memory}
 use Rattle.ext_run.specs.declared.task.Resolution.{Resolution as ToResolve}
-use Rattle.ext_run.specs.Failure.{resume_failure}
-use Rattle.ext_run.specs.Answer.{IsOfClasses}
+use Rattle.ext_report.specs.Failure.{resume_failure, IsOfClasses}
 use Rattle.ext_run.specs.Task.{IsInForm}
 use Rattle.ext_run.specs.Saving.{AreCanonical, StandsWith, IsOurs, IsUnwritten, HasLasted}
 use Rattle.ext_run.specs.Work.{Told, HasAnswer, answer_of, HasContinued, IsRefusedFor, HasKeptOn}

@@ -20,7 +20,7 @@ use Rattle.chain_map.specs.Classes.{through}
 use Rattle.ext_run.specs.Answer.{IsResolved, IsChart, IsDump, IsSummary, IsToldOfClasses, told_of_classes}
 use Rattle.ext_products.specs.declared.refusal.ClassesFault.{ClassesFault}
 use Rattle.ext_products.specs.declared.refusal.ClassesFault.TheVariants.{Refused, Memory as NoSpace}
-use Rattle.ext_run.specs.Failure.{classes_failure}
+use Rattle.ext_report.specs.Failure.{classes_failure}
 use Rattle.ext_run.specs.Work.{Told, HasAnswer, answer_of}
 use Rattle.ext_run.proofs.AnswerExists.{TableLaws, table_exists, one_alone}
 

@@ -21,14 +21,14 @@ use Rattle.ext_words.specs.declared.command.Common.{Common}
 use Rattle.ext_words.specs.declared.command.Command.{Command}
 use Rattle.ext_words.specs.declared.command.Command.TheVariants.{Sphere, Resolve, Dump, Products, Massey, Check, Build, Sample, Sq}
 use Rattle.ext_words.specs.Words.{command_of}
-use Rattle.ext_run.specs.declared.failure.Failure.{Failure}
-use Rattle.ext_run.specs.declared.failure.Failure.TheVariants.{Words, Malformed as NoModuleFile, NotModule, PastLimit, Reading, Writing, Saving, SaveFile, Classes, Memory}
+use Rattle.ext_report.specs.declared.failure.Failure.{Failure}
+use Rattle.ext_report.specs.declared.failure.Failure.TheVariants.{Words, Malformed as NoModuleFile, NotModule, PastLimit, Reading, Writing, Saving, SaveFile, Classes, Memory}
 use Rattle.ext_run.specs.declared.task.Task.{Task}
 use Rattle.ext_run.specs.declared.task.Task.TheVariants.{Text, Resolution}
 use Rattle.ext_run.specs.declared.task.Resolution.{Resolution as ToResolve}
-use Rattle.ext_run.specs.Input.{IsOfInput, IsAccepted}
-use Rattle.ext_run.specs.Failure.{status_of}
-use Rattle.ext_run.specs.Answer.{IsText, IsChart, IsDump, IsSummary, IsLineOn, IsProducts, IsBracket, IsOfClasses, IsTold, IsAnswerTo, IsAnswerFrom, IsCauseFrom, Reads, WordsRead}
+use Rattle.ext_build.specs.Input.{IsOfInput, IsAccepted}
+use Rattle.ext_report.specs.Failure.{status_of, IsOfClasses, IsTold}
+use Rattle.ext_run.specs.Answer.{IsText, IsChart, IsDump, IsSummary, IsLineOn, IsProducts, IsBracket, IsAnswerTo, IsAnswerFrom, IsCauseFrom, Reads, WordsRead}
 use Rattle.std.proofs.lemmas.List.Elements.{All-nil}
 use Rattle.resolution_step.specs.Alone.{IsInRange}
 use Rattle.ext_run.specs.Saving.{options_of, Saves, WordsSave, IsModuleIn, IsModuleOf, IsSavedBy, AreCanonical, IsOurs, IsUnwritten, HasLasted, HasSaved, IsUsable, IsRunCauseFrom, IsRefusedFrom, IsEarly, IsAnswered}

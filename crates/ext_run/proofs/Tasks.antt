@@ -12,7 +12,7 @@ use Rattle.ext_run.specs.declared.task.Form.{Form}
 use Rattle.ext_run.specs.declared.task.Form.TheVariants.{Chart, Differentials, Summary, Products as ProductsOf, Bracket as BracketOf}
 use Rattle.ext_run.specs.declared.task.Task.{Task}
 use Rattle.ext_run.specs.declared.task.Task.TheVariants.{Resolution}
-use Rattle.ext_run.specs.Input.{IsOfInput, IsModuleFrom}
+use Rattle.ext_build.specs.Input.{IsOfInput, IsModuleFrom}
 use Rattle.ext_run.specs.Saving.{IsModuleIn}
 use Rattle.ext_run.specs.Task.{IsInForm, IsTaskFor, IsSavedFor}
 use Rattle.ext_run.proofs.Commands.{bytes_of, all_of, sphere_answer, sample_answer, IsOnModule, module_answer}

@@ -9,14 +9,14 @@ use Rattle.square.specs.declared.range.Range.{Range}
 use Rattle.square.specs.Squares.{Placed, over}
 use Rattle.square.specs.Tables.{Staircase}
 use Rattle.square.specs.Keeping.{Keeper}
-use Rattle.ext_run.specs.declared.failure.Failure.TheVariants.{Memory}
+use Rattle.ext_report.specs.declared.failure.Failure.TheVariants.{Memory}
 use Rattle.ext_run.specs.declared.task.Form.{Form}
 use Rattle.ext_run.specs.declared.task.Task.{Task}
 use Rattle.ext_run.specs.declared.task.Task.TheVariants.{Text, Resolution}
 use Rattle.ext_run.specs.declared.task.Resolution.{Resolution as ToResolve}
-use Rattle.ext_run.specs.Answer.{IsOfClasses}
 use Rattle.ext_run.specs.Task.{IsInForm}
 use Rattle.ext_run.specs.Work.{Told, HasAnswer, answer_of, HasContinued, HasKeptOn, HasWorked}
+use Rattle.ext_report.specs.Failure.{IsOfClasses}
 
 -- ---- without a save file
 

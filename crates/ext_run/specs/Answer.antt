@@ -12,8 +12,8 @@ use Rattle.module_check.specs.declared.fault.CheckFault.{CheckFault}
 use Rattle.adem_laws.specs.Admissible.{value, IsAdmissibleForm}
 use Rattle.ext_words.specs.declared.command.Command.{Command}
 use Rattle.ext_words.specs.declared.command.Command.TheVariants.{Sphere, Resolve, Dump, Products, Massey, Check, Build, Sample, Sq}
-use Rattle.ext_run.specs.declared.failure.Failure.{Failure}
-use Rattle.ext_run.specs.declared.failure.Failure.TheVariants.{Words, Malformed as NoModuleFile, NotModule, Classes}
+use Rattle.ext_report.specs.declared.failure.Failure.{Failure}
+use Rattle.ext_report.specs.declared.failure.Failure.TheVariants.{Words, Malformed as NoModuleFile, NotModule, Classes}
 use Rattle.resolution_laws.specs.Resolution.{Content, IsCanonicalTable, generator_count}
 use Rattle.resolution_laws.specs.Exactness.{IsMinimalResolution}
 use Rattle.square.specs.Squares.{module_over}
@@ -29,8 +29,8 @@ use Rattle.lift_laws.specs.Lifts.{Resolution}
 use Rattle.ext_products.specs.Products.{resolution, IsProductsAnswer}
 use Rattle.ext_brackets.specs.Brackets.{IsBracketAnswer}
 use Rattle.ext_words.specs.Words.{command_of}
-use Rattle.ext_run.specs.Input.{IsOfInput, IsCauseOf, IsAccepted}
-use Rattle.ext_run.specs.Building.{IsBuildAnswer, IsBuildable}
+use Rattle.ext_build.specs.Input.{IsOfInput, IsCauseOf, IsAccepted}
+use Rattle.ext_build.specs.Building.{IsBuildAnswer, IsBuildable}
 
 -- ---- the texts of a module
 
@@ -86,16 +86,6 @@ IsProducts range by = IsToldOfClasses (IsProductsAnswer range by) range
 -- the bracket of the classes a and b of the sphere with the class c of the module
 abbrev pub IsBracket : Range → Class → Class → Class → SteenrodModule → Result (List ℕ) Failure → Type 0
 IsBracket range a b c = IsToldOfClasses (IsBracketAnswer range a b c) range
-
--- the failure is of the classes that the words name
-abbrev pub IsOfClasses : Failure → Type 0
-IsOfClasses (Classes refusal) = ⊤
-IsOfClasses failure = ⊥
-
--- the answer is of what is resolved: a text, or a failure of classes
-abbrev pub IsTold : Result (List ℕ) Failure → Type 0
-IsTold (Ok text) = ⊤
-IsTold (Err failure) = IsOfClasses failure
 
 -- text is the line on the module
 abbrev pub IsLineOn : SteenrodModule → List ℕ → Type 0

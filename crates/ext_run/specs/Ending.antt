@@ -2,8 +2,9 @@
 use Rattle.std.specs.Prelude.{◌≡◌, ℕ, ◌≤◌, List, Option}
 use Rattle.edge.specs.Faults.{HasRisen}
 use Rattle.edge.specs.Sink.{with_more, HasPrefixMore}
-use Rattle.ext_run.specs.Failure.{status_of, line_of}
-use Rattle.ext_run.specs.declared.failure.Failure.{Failure}
+use Rattle.ext_report.specs.Failure.{status_of}
+use Rattle.ext_report.specs.declared.failure.Failure.{Failure}
+use Rattle.ext_report.specs.Lines.{line_of}
 
 -- Standard error, by its trait's written and faults, got the line of the failure, or a first part of it where a write to it
 -- failed; the status is the failure's.

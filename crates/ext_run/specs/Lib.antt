@@ -1,5 +1,3 @@
-pub mod Input
-pub mod Building
 pub mod Answer
 pub mod Task
 pub mod Saving
@@ -8,5 +6,3 @@ pub mod Work
 pub mod Ending
 pub mod Existence
 pub mod Run
-pub mod Parts
-pub mod Failure

@@ -11,10 +11,10 @@ use Rattle.module_json.specs.declared.malformed.What.{What}
 use Rattle.module_check.specs.declared.fault.CheckFault.{CheckFault}
 use Rattle.space_laws.specs.Spaces.{IsSpaceFile}
 use Rattle.ext_products.specs.declared.refusal.Refusal.{Refusal}
-use Rattle.ext_run.specs.Failure.{class_status}
-use Rattle.ext_run.specs.declared.failure.Failure.TheVariants.{Malformed as NoModuleFile, NotModule, PastLimit, Classes}
+use Rattle.ext_report.specs.Failure.{class_status}
+use Rattle.ext_report.specs.declared.failure.Failure.TheVariants.{Malformed as NoModuleFile, NotModule, PastLimit, Classes}
 use Rattle.ext_words.specs.Words.{command_of}
-use Rattle.ext_run.specs.Input.{most_read}
+use Rattle.ext_build.specs.Input.{most_read}
 use Rattle.ext_run.specs.Answer.{IsAnswer, IsAnswerFrom, IsAnswerable, WordsRead}
 use Rattle.ext_run.specs.Saving.{IsLineFrom}
 

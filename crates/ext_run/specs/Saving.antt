@@ -18,11 +18,12 @@ use Rattle.ext_words.specs.declared.command.Common.{Common}
 use Rattle.ext_words.specs.declared.command.Command.{Command}
 use Rattle.ext_words.specs.declared.command.Command.TheVariants.{Sphere, Resolve, Dump, Products, Massey, Check, Build, Sample, Sq}
 use Rattle.ext_words.specs.Words.{command_of}
-use Rattle.ext_run.specs.Input.{IsOfInput}
+use Rattle.ext_build.specs.Input.{IsOfInput}
 use Rattle.ext_run.specs.Answer.{WordsRead, IsAnswerFrom, IsCauseFrom}
-use Rattle.ext_run.specs.Failure.{status_of, line_of}
-use Rattle.ext_run.specs.declared.failure.Failure.{Failure}
-use Rattle.ext_run.specs.declared.failure.Failure.TheVariants.{Saving, SaveFile, Classes}
+use Rattle.ext_report.specs.Failure.{status_of}
+use Rattle.ext_report.specs.declared.failure.Failure.{Failure}
+use Rattle.ext_report.specs.declared.failure.Failure.TheVariants.{Saving, SaveFile, Classes}
+use Rattle.ext_report.specs.Lines.{line_of}
 
 -- ---- words that ask for a save file
 

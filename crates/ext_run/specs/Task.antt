@@ -9,9 +9,9 @@ use Rattle.ext_run.specs.declared.task.Form.{Form}
 use Rattle.ext_run.specs.declared.task.Form.TheVariants.{Chart, Differentials, Summary, Products, Bracket}
 use Rattle.ext_run.specs.declared.task.Task.{Task}
 use Rattle.ext_run.specs.declared.task.Task.TheVariants.{Text, Resolution}
-use Rattle.ext_run.specs.Input.{IsOfInput}
+use Rattle.ext_build.specs.Input.{IsOfInput}
 use Rattle.ext_run.specs.Saving.{Saves, options_of, IsModuleOf}
-use Rattle.ext_run.specs.declared.failure.Failure.{Failure}
+use Rattle.ext_report.specs.declared.failure.Failure.{Failure}
 use Rattle.ext_run.specs.Answer.{IsChart, IsDump, IsSummary, IsText, IsProducts, IsBracket, IsAnswerFrom, IsCommandAnswerFrom}
 
 -- the answer is that of a module's canonical resolution through the range, in this form

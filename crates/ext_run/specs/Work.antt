@@ -12,15 +12,15 @@ use Rattle.square.specs.Keeping.{Keeper, HasKept}
 use Rattle.square.specs.declared.range.Range.{Range}
 use Rattle.save_file.specs.Files.{standing_of}
 use Rattle.save_file.specs.declared.fault.ResumeFault.{ResumeFault}
-use Rattle.ext_run.specs.declared.failure.Failure.{Failure}
-use Rattle.ext_run.specs.declared.failure.Failure.TheVariants.{Saving, SaveFile, Memory}
+use Rattle.ext_report.specs.declared.failure.Failure.{Failure}
+use Rattle.ext_report.specs.declared.failure.Failure.TheVariants.{Saving, SaveFile, Memory}
 use Rattle.ext_run.specs.declared.task.Form.{Form}
 use Rattle.ext_run.specs.declared.task.Task.{Task}
 use Rattle.ext_run.specs.declared.task.Task.TheVariants.{Text, Resolution}
 use Rattle.ext_run.specs.declared.task.Resolution.{Resolution as ToResolve}
-use Rattle.ext_run.specs.Answer.{IsOfClasses}
 use Rattle.ext_run.specs.Task.{IsInForm, IsDoneBy}
 use Rattle.ext_run.specs.Saving.{IsOurs, IsUnwritten, HasLasted, HasRange}
+use Rattle.ext_report.specs.Failure.{IsOfClasses}
 
 -- a text, or why there is none
 abbrev pub Told : Type 0

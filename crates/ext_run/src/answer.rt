@@ -5,21 +5,17 @@ ghost use Rattle.ext_words.specs.Words.{texts_of};
 ghost use Rattle.ext_run.specs.Ending.{HasTold, HasGotWhole, HasGotPart};
 ghost use Rattle.ext_run.specs.Run.{IsStatusOf, HasRead, HasAnswered, HasReported, IsComplete};
 ghost use Rattle.ext_run.specs.Saving.{HasSaved, IsUsable};
-ghost use Rattle.ext_run.specs.declared.failure.Failure as Failure;
+ghost use Rattle.ext_report.specs.declared.failure.Failure as Failure;
 
-use crate::failure::{Failure, report};
 use crate::task::task_from;
 use crate::texts::{text_alone, text_by_workers};
-use crate::writing::write_all;
 use edge::{Disk, Failed, Sink, Source};
+use ext_report::{Failure, WRITTEN, report, write_all};
 use square_worker::Gate;
 use std::alloc::Global;
 use std::sync::Wait;
 use std::thread::Threads;
 use std::time::Clock;
-
-/// The status of an answer that is written whole.
-const WRITTEN: u8 = 0;
 
 /// The end of a run: its status, and the disk that it was given.
 #[derive(Drop)]

@@ -4,13 +4,13 @@ ghost use Rattle.std.specs.Prelude.{◌≡◌, ◌≤◌, ◌<◌, ◌⊎◌, If
 ghost use Rattle.square.specs.declared.range.TheConstants.{MAX_S, MAX_T};
 ghost use Rattle.square.specs.Keeping.{IsKeeperOf};
 ghost use Rattle.square.specs.Tables.{plain_rows, IsThrough, cut};
-ghost use Rattle.ext_run.specs.Answer.{IsResolved, IsOfClasses};
+ghost use Rattle.ext_run.specs.Answer.{IsResolved};
 ghost use Rattle.ext_words.specs.Words.{IsWithin};
 ghost use Rattle.ext_run.specs.Task.{IsInForm, IsTaskWithin, TellsOfClasses};
 ghost use Rattle.ext_run.specs.Work.{HasAnswer, answer_of, HasContinued, HasKeptOn, HasWorked};
-ghost use Rattle.ext_run.specs.declared.failure.Failure.TheVariants.{Memory as WantOfMemory};
+ghost use Rattle.ext_report.specs.declared.failure.Failure.TheVariants.{Memory as WantOfMemory};
+ghost use Rattle.ext_report.specs.Failure.{IsOfClasses};
 
-use crate::failure::Failure;
 use crate::from_images::{chart_alone, dump_alone, summary_alone};
 use crate::task::{Form, Resolution, Task};
 use board_core::Cause;
@@ -18,6 +18,7 @@ use edge::Disk;
 use ext_brackets::bracket_text;
 use ext_chart::{chart, dump, summary};
 use ext_products::products_text;
+use ext_report::Failure;
 use ext_words::Common;
 use module_check::{accepted_is_module, modules_are_graded_modules};
 use resolution_existence::canonical_table_exists;

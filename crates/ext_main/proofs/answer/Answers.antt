@@ -1,7 +1,7 @@
 use Rattle.std.proofs.Common.{◌≡◌, ◌∙◌, ℕ, List, map, ap, subst, refl, arith}
 use Rattle.std.specs.Prelude.{string_bytes}
 use Rattle.edge.proofs.Moments.{Lawful}
-use Rattle.ext_run.specs.declared.failure.Failure.TheVariants.{Memory}
+use Rattle.ext_report.specs.declared.failure.Failure.TheVariants.{Memory}
 use Rattle.ext_words.specs.Words.{texts_of}
 use Rattle.ext_run.proofs.Ending.{Device, IsRun, IsFailed, run_of_failure}
 use Rattle.ext_run.proofs.Saved.{Store, kept_early}

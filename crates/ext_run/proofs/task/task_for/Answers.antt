@@ -2,8 +2,7 @@ use Rattle.std.proofs.Common.{sym, subst}
 use Rattle.std.proofs.lemmas.Result.{err_from_is_err_and}
 use Rattle.ext_run.specs.declared.task.Form.TheVariants.{Chart, Differentials, Products, Bracket}
 use Rattle.ext_run.specs.Answer.{IsText, IsChart, IsDump, IsLineOn, IsProducts, IsBracket, IsCommandAnswerFrom, IsCommandCauseFrom}
-use Rattle.ext_run.proofs.BuildAnswers.{build_answer, build_cause}
-use Rattle.ext_run.proofs.Commands.{resolve_on, dump_on, products_on, massey_on, check_on, module_answer, module_cause, product_answer}
+use Rattle.ext_run.proofs.Commands.{resolve_on, dump_on, products_on, massey_on, check_on, module_answer, module_cause, product_answer, build_answer, build_cause}
 use Rattle.ext_run.proofs.Tasks.{sphere_task, sample_task, module_task, sphere_saved, sample_saved, resolve_saved, dump_saved, products_saved, massey_saved}
 use Rattle.ext_run.proofs.task.task_for.Goals as goal
 

@@ -1,7 +1,7 @@
 use Rattle.std.proofs.Common.{ap, Err}
 use Rattle.std.proofs.lemmas.Result.{err_from_is_err_and}
 use Rattle.ext_words.specs.Words.{texts_of}
-use Rattle.ext_run.specs.Failure.{words_failure}
+use Rattle.ext_report.specs.Failure.{words_failure}
 use Rattle.ext_run.specs.Answer.{IsCauseFrom}
 use Rattle.ext_run.proofs.Commands.{words_fault_cause}
 use Rattle.ext_run.specs.Task.{HasItsAnswer}

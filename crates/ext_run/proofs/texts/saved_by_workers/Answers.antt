@@ -1,6 +1,6 @@
 use Rattle.std.proofs.Common.{sym, subst, Err}
 use Rattle.edge.proofs.Moments.{Lawful}
-use Rattle.ext_run.specs.declared.failure.Failure.{Failure}
+use Rattle.ext_report.specs.declared.failure.Failure.{Failure}
 use Rattle.ext_run.specs.Work.{HasKeptOn}
 use Rattle.ext_run.proofs.KeptOn.{kept_on, not_taken_up}
 use Rattle.ext_run.proofs.texts.saved_by_workers.Given.{Over}

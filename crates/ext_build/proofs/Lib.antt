@@ -1,0 +1,2 @@
+pub mod BuildAnswers
+pub mod Reading
