@@ -1,10 +1,9 @@
 -- What a fault says, and that there is at most one that is the first.
-use Rattle.std.proofs.Common.{◌≡◌, ◌↔◌, inl, inr, ℕ, zero, suc, ◌+◌, ◌-◌, ◌<◌, ◌≤◌, ℤ, pos, ◌+ℤ◌, Bool, false, List, length, Option, Some, None, IfSome, refl, sym, ap, subst, ◌∙◌, arith}
+use Rattle.std.proofs.Common.{◌≡◌, ◌↔◌, inl, inr, ℕ, zero, suc, ◌+◌, ◌-◌, ◌<◌, ◌≤◌, ℤ, pos, ◌+ℤ◌, false, List, length, Option, Some, None, IfSome, refl, sym, ap, subst, ◌∙◌, arith}
 use Rattle.std.specs.List.{slice_get}
 use Rattle.std.proofs.lemmas.Bool.{cases_lt}
 use Rattle.std.proofs.lemmas.List.{get_or_past, get_or-take}
 use Rattle.std.proofs.lemmas.Option.{slice_get_within}
-use Rattle.f2_vec.specs.Vectors.{IsZeroFrom}
 use Rattle.f2_vec.specs.Spans.{row}
 use Rattle.f2_matrix.specs.Reduction.{Reduction}
 use Rattle.free_module.specs.FreeModule.{free_basis}
