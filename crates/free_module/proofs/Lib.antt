@@ -4,3 +4,4 @@ mod Generators
 pub mod MapRows
 mod TermSums
 pub mod PairSums
+pub mod Columns

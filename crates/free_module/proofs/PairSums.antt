@@ -27,7 +27,7 @@ adds_none offset pairs rows = record { count = refl; widths = λ k. refl; below 
 
 -- one coordinate of one row turned over
 module _ (rows : List (List Bool)) (r at : ℕ) (w : List Bool) (there : r < length rows) (room : at < length (row rows r)) (is : w ≡ sum_of (row rows r) (unit_vector (length (row rows r)) at)) where
-  length-flipped : (k : ℕ) → length (row (set rows r w) k) ≡ length (row rows k)
+  pub length-flipped : (k : ℕ) → length (row (set rows r w) k) ≡ length (row rows k)
   length-flipped k = elim (cases_eq k r) [
     | inl e ↦
         subst (λ i. length (row (set rows r w) i) ≡ length (row rows i)) (sym e)
@@ -35,7 +35,7 @@ module _ (rows : List (List Bool)) (r at : ℕ) (w : List Bool) (there : r < len
     | inr d ↦ ap length (get_or-set_other rows r k w [] d)
   ]
 
-  bit-flipped : (k j : ℕ) → bit (row (set rows r w) k) j ≡ plus (nat_eq r k && nat_eq at j) (bit (row rows k) j)
+  pub bit-flipped : (k j : ℕ) → bit (row (set rows r w) k) j ≡ plus (nat_eq r k && nat_eq at j) (bit (row rows k) j)
   bit-flipped k j = elim (cases_eq r k) [
     | inr d ↦
         let other : k ≢ r = (λ e. d (sym e)) in

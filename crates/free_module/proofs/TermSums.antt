@@ -87,7 +87,7 @@ module _ (ds : List ℤ) (r : List ℕ) (t : ℤ) (v : List Bool) where
       ap (λ c. combination (free_width ds above) c (take (length v) rows)) (take_all (length v) v (omega arith)) ∙ ap (combination (free_width ds above) v) (take_all (length v) rows m)
 
 -- one term more
-added_to-push : (v : List Bool) (r : List ℕ) (xs : List Term) (x : Term) → added_to v r (xs ++ x ∷ []) ≡ sum_of (added_to v r xs) (placed (length (added_to v r xs)) x.offset (product_bits r x.right))
+pub added_to-push : (v : List Bool) (r : List ℕ) (xs : List Term) (x : Term) → added_to v r (xs ++ x ∷ []) ≡ sum_of (added_to v r xs) (placed (length (added_to v r xs)) x.offset (product_bits r x.right))
 added_to-push v r [] x = refl
 added_to-push v r (y ∷ ys) x = added_to-push (sum_of v (placed (length v) y.offset (product_bits r y.right))) r ys x
 

@@ -1,14 +1,17 @@
 //! The generators of a free module, and the module on them.
-ghost use Rattle.std.specs.Prelude.{◌≡◌, ◌≤◌, ◌<◌, ◌+◌, ◌^◌, ℕ, ℤ, pos, ◌+ℤ◌, ◌-ℤ◌, ◌≤ℤ◌, List, [], ◌∷◌, ◌++◌, Bool, length, take, drop, replicate, IfOk, OnOk, OnErr, Some, slice_get};
+ghost use Rattle.std.specs.Prelude.{◌≡◌, ◌≤◌, ◌<◌, ◌+◌, ◌^◌, ℕ, ℤ, pos, ◌+ℤ◌, ◌-ℤ◌, ◌≤ℤ◌, List, [], ◌∷◌, ◌++◌, Bool, length, map, take, drop, replicate, IfOk, OnOk, OnErr, Some, slice_get};
+ghost use Rattle.f2_vec.specs.Spans.{row};
+ghost use Rattle.milnor_basis.specs.Basis.{basis_of};
 ghost use Rattle.milnor_basis.specs.Exponents.{degree_of};
 ghost use Rattle.milnor_product.specs.Times.{basis_at};
+ghost use Rattle.free_module.specs.Columns.{IsTableOfColumns, AreAdded};
 ghost use Rattle.free_module.specs.Inside.Terms.{AreTerms};
 ghost use Rattle.free_module.specs.Inside.FreeLaws.{free_HasUnit, free_KeepsWidths};
-ghost use Rattle.free_module.specs.FreeModule.{IsWithinReach, degree_at, free_basis, free_width};
+ghost use Rattle.free_module.specs.FreeModule.{IsWithinReach, degree_at, free_action, free_basis, free_width};
 ghost use Rattle.free_module.specs.Graded.{free_graded};
 
 use crate::target::Target;
-use crate::terms::{Term, add_products, with_block};
+use crate::terms::{Term, add_products, add_to_columns, with_block};
 use f2_vec::BitVec;
 use memory::Memory;
 use milnor_basis::{Basis, Exps};
@@ -189,6 +192,41 @@ impl Gens {
             offset += elements_at(basis, n + i64::from(above)).len();
         }
         Ok(terms)
+    }
+
+    /// Adds Sq(R) on `v`, a vector of degree `t`, for each R of the basis of this degree, to the columns, from place
+    /// `end` - 1 down: what it has at a place goes to the column whose number the table has there. What goes with no
+    /// column is not made.
+    ///
+    /// # Errors
+    /// `Memory` if allocation fails; the columns are then of no use.
+    pub fn add_to_columns(
+        &self,
+        alloc: Global,
+        basis: &Basis,
+        degree: u16,
+        t: i32,
+        v: &BitVec,
+        table: &[Option<usize>],
+        end: usize,
+        columns: &mut [BitVec],
+    ) -> Result<(), Memory>
+        requires width { length v.now ≡ free_width self.now t }
+        requires reach { IsWithinReach basis.now self.now (t +ℤ pos degree) }
+        requires places { length table.now ≡ free_width self.now (t +ℤ pos degree) }
+        requires table { IsTableOfColumns (length columns.old) table.now }
+        requires lengths { (j : ℕ) → j < length columns.old → end ≤ length (row columns.old j) }
+        requires few { length (basis_of degree) ≤ end }
+        ensures { OnOk result (AreAdded table.now end
+            (map (λ r. free_action self.now r t v.now) (basis_of degree)) columns.old columns.new) }
+    {
+        // A length fits `usize`, so the dimension does.
+        prove!(table.len() <= usize::MAX);
+        for term in &self.terms(alloc, basis, u32::from(degree), t, v)? {
+            let multiples = basis.multiples(alloc, degree, &term.right)?;
+            add_to_columns(columns, table, end, term.offset, multiples);
+        }
+        Ok(())
     }
 }
 

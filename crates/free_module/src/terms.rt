@@ -6,7 +6,8 @@ ghost use Rattle.f2_vec.specs.Spans.{row};
 ghost use Rattle.milnor_basis.specs.Basis.{basis_of};
 ghost use Rattle.milnor_basis.specs.Exponents.{degree_of};
 ghost use Rattle.milnor_basis.specs.Product.{product_bits};
-ghost use Rattle.free_module.specs.Inside.Terms.{term_at};
+ghost use Rattle.free_module.specs.Columns.{IsTableOfColumns, AreAdded};
+ghost use Rattle.free_module.specs.Inside.Terms.{term_at, products_at};
 
 use f2_vec::BitVec;
 use memory::Memory;
@@ -72,5 +73,30 @@ pub(crate) fn add_products(rows: &mut [BitVec], offset: usize, multiples: &Multi
         // The length fits `usize`, so each place does.
         let _len = row.len();
         row.flip(offset + usize::from(pair.1));
+    }
+}
+
+/// Adds the product with each element, moved up to place `offset`, to the columns, from place `end` - 1 down. The table
+/// has for each place the number of the column that goes with it.
+pub(crate) fn add_to_columns(
+    columns: &mut [BitVec],
+    table: &[Option<usize>],
+    end: usize,
+    offset: usize,
+    multiples: &Multiples,
+)
+    requires table { IsTableOfColumns (length columns.old) table.now }
+    requires lengths { (j : ℕ) → j < length columns.old → end ≤ length (row columns.old j) }
+    requires few { length (basis_of multiples.now.degree) ≤ end }
+    requires room { offset + length (basis_of (multiples.now.degree + degree_of multiples.now.right))
+        ≤ length table.now }
+    ensures { AreAdded table.now end
+        (products_at (length table.now) offset multiples.now.degree multiples.now.right) columns.old columns.new }
+{
+    for pair in multiples.pairs() {
+        let place = offset + usize::from(pair.1);
+        if let Some(column) = table[place] {
+            columns[column].flip(end - 1 - usize::from(pair.0));
+        }
     }
 }

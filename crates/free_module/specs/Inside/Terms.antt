@@ -11,6 +11,10 @@ use Rattle.free_module.specs.declared.terms.Term.{Term}
 abbrev pub term_at : ℕ → List ℕ → Term
 term_at offset s = record { right = s; offset = offset }
 
+-- the product of each element of a degree and Sq(S), moved up to place o of a vector of length n
+abbrev pub products_at : ℕ → ℕ → ℕ → List ℕ → List (List Bool)
+products_at n o degree s = map (λ r. placed n o (product_bits r s)) (basis_of degree)
+
 -- v with the product of Sq(R) and each of these terms added at the term's offset
 abbrev pub added_to : List Bool → List ℕ → List Term → List Bool
 added_to v r [] = v
