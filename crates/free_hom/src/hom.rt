@@ -1,9 +1,13 @@
 //! Linear maps from a free module, and their matrices.
-ghost use Rattle.std.specs.Prelude.{◌≡◌, ◌<◌, ◌++◌, ◌+ℤ◌, ◌≤ℤ◌, pos, length, map, IfOk};
+ghost use Rattle.std.specs.Prelude.{◌≡◌, ℕ, ◌-◌, ◌≤◌, ◌<◌, ◌++◌, ◌+ℤ◌, ◌≤ℤ◌, pos, length, map, reverse, slice_index_or, IfOk, OnOk};
+ghost use Rattle.f2_vec.specs.Vectors.{bit};
 ghost use Rattle.f2_vec.specs.Spans.{row};
 ghost use Rattle.milnor_product.specs.Times.{basis_at};
-ghost use Rattle.free_module.specs.FreeModule.{IsWithinReach, free_width};
+ghost use Rattle.free_module.specs.FreeModule.{IsWithinReach, free_action, free_width};
+ghost use Rattle.free_module.specs.Graded.{free_graded};
 ghost use Rattle.free_module.specs.LinearMap.{AreImages, map_rows, mapped};
+ghost use Rattle.free_module.specs.Columns.{IsTableOfColumns, AreAdded};
+ghost use Rattle.free_hom.specs.Inside.Tables.{IsTableOf};
 
 use f2_matrix::Matrix;
 use f2_vec::BitVec;
@@ -37,6 +41,17 @@ impl<'a, T: Target> Hom<'a, T> {
             target,
             images,
         }
+    }
+
+    /// How many rows the matrix in degree `t` has, which is the dimension of the source there.
+    ///
+    /// # Errors
+    /// `Memory` if that does not fit `usize`: no memory holds so many rows.
+    pub fn height(&self, t: i32) -> Result<usize, Memory>
+        requires { IsWithinReach self.now.basis.now self.now.source.now t }
+        ensures { IfOk result (λ height. height ≡ free_width self.now.source.now t) }
+    {
+        dim_in(self.source, self.basis, t)
     }
 
     /// The matrix of the map in degree `t`: its row i is the image of basis element i.
@@ -127,4 +142,108 @@ impl<'a, T: Target> Hom<'a, T> {
         rows.append(&mut block)?;
         Ok(rows)
     }
+}
+
+impl<'a> Hom<'a, Gens> {
+    /// The columns of the matrix of the map in degree `t` at these places, each with its last entry first. They are
+    /// filled from the products that the basis keeps, and the matrix is not made.
+    ///
+    /// # Errors
+    /// `Memory` if allocation fails.
+    pub fn columns_at(&self, alloc: Global, t: i32, places: &[usize]) -> Result<Vec<BitVec>, Memory>
+        requires source { IsWithinReach self.now.basis.now self.now.source.now t }
+        requires target { IsWithinReach self.now.basis.now self.now.target.now t }
+        requires within { (i : ℕ) → i < length places.now →
+            slice_index_or places.now i 0 < free_width self.now.target.now t }
+        requires apart { (i j : ℕ) → i < length places.now → j < length places.now →
+            slice_index_or places.now i 0 ≡ slice_index_or places.now j 0 → i ≡ j }
+        ensures { IfOk result (λ columns. columns.items ≡ map (λ p. map (λ v. bit v p)
+            (reverse (map_rows (free_graded self.now.target.now) self.now.source.now self.now.images.now t)))
+            places.now) }
+    {
+        if places.is_empty() {
+            return Ok(Vec::new(alloc));
+        }
+        let width = dim_in(self.target, self.basis, t)?;
+        let height = self.height(t)?;
+        let table = table_of(alloc, width, places)?;
+        let mut columns = BitVec::zero_rows(alloc, places.len(), height)?;
+        let mut end = height;
+        for (g, degree) in self.source.degrees().iter().enumerate() {
+            end = self.add_block(
+                alloc,
+                i64::from(t) - i64::from(*degree),
+                *degree,
+                &self.images[g],
+                table.as_slice(),
+                end,
+                columns.as_mut_slice(),
+            )?;
+        }
+        Ok(columns)
+    }
+
+    /// Adds Sq(R) on `image`, a vector of degree `degree`, for each R of degree `above`, to the columns, from place
+    /// `end` - 1 down, and gives the place up to which the columns are left.
+    ///
+    /// # Errors
+    /// `Memory` if allocation fails; the columns are then of no use.
+    fn add_block(
+        &self,
+        alloc: Global,
+        above: i64,
+        degree: i32,
+        image: &BitVec,
+        table: &[Option<usize>],
+        end: usize,
+        columns: &mut [BitVec],
+    ) -> Result<usize, Memory>
+        requires within { above ≤ℤ pos self.now.basis.now }
+        requires width { length image.now ≡ free_width self.now.target.now degree }
+        requires reach { IsWithinReach self.now.basis.now self.now.target.now (degree +ℤ above) }
+        requires places { length table.now ≡ free_width self.now.target.now (degree +ℤ above) }
+        requires table { IsTableOfColumns (length columns.old) table.now }
+        requires lengths { (j : ℕ) → j < length columns.old → end ≤ length (row columns.old j) }
+        requires few { length (basis_at above) ≤ end }
+        ensures left { IfOk result (λ left. left ≡ end - length (basis_at above)) }
+        ensures added { OnOk result (AreAdded table.now end
+            (map (λ r. free_action self.now.target.now r degree image.now) (basis_at above)) columns.old columns.new) }
+    {
+        // A degree of the basis fits `u16`, so `above` does where it is not negative.
+        prove!(above <= i64::from(self.basis.max()));
+        let Ok(above) = u16::try_from(above) else {
+            return Ok(end);
+        };
+        self.target.add_to_columns(alloc, self.basis, above, degree, image, table, end, columns)?;
+        Ok(end - self.basis.of_degree(above).len())
+    }
+}
+
+/// The dimension of the free module in degree `t`, where it fits `usize`.
+fn dim_in(gens: &Gens, basis: &Basis, t: i32) -> Result<usize, Memory>
+    requires { IsWithinReach basis.now gens.now t }
+    ensures { IfOk result (λ dim. dim ≡ free_width gens.now t) }
+{
+    match usize::try_from(gens.dim(basis, t)) {
+        Ok(dim) => Ok(dim),
+        // No memory holds a vector of that length.
+        Err(_) => Err(Memory),
+    }
+}
+
+/// For each of `n` places its number among these, nothing where it is none of them.
+///
+/// # Errors
+/// `Memory` if allocation fails.
+fn table_of(alloc: Global, n: usize, places: &[usize]) -> Result<Vec<Option<usize>>, Memory>
+    requires within { (i : ℕ) → i < length places.now → slice_index_or places.now i 0 < n }
+    requires apart { (i j : ℕ) → i < length places.now → j < length places.now →
+        slice_index_or places.now i 0 ≡ slice_index_or places.now j 0 → i ≡ j }
+    ensures { IfOk result (λ table. IsTableOf (length places.now) n places.now table.items) }
+{
+    let mut table = vec![in alloc; None; n]?;
+    for i in 0..places.len() {
+        table[places[i]] = Some(i);
+    }
+    Ok(table)
 }
