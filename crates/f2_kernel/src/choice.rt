@@ -1,10 +1,11 @@
 //! The choice of new rows, and the kernel with these behind the others.
-ghost use Rattle.std.specs.Prelude.{◌≡◌, ℕ, ◌<◌, ◌++◌, map, length, reverse, IfOk};
+ghost use Rattle.std.specs.Prelude.{◌≡◌, ℕ, ◌+◌, ◌<◌, Bool, List, ◌++◌, map, length, reverse, IfOk};
 ghost use Rattle.std.specs.List.{items_where_true};
 ghost use Rattle.f2_vec.specs.Spans.{row, HaveWidth, IsInSpan};
 ghost use Rattle.f2_matrix.specs.Echelon.{IsKernelBasis};
 ghost use Rattle.f2_matrix.specs.Choice.{IsChosen};
 ghost use Rattle.f2_dual.specs.Inside.Coordinates.{coordinates as coordinates_of};
+ghost use Rattle.f2_kernel.specs.Coordinates.{AreCoordinatesOf};
 ghost use Rattle.f2_kernel.specs.Inside.Upward.{are_zero};
 
 use crate::blocks::clear_upward;
@@ -32,9 +33,32 @@ pub fn choose(
     ensures cols { IfOk result (λ r. r.1.cols ≡ length (matrix.now.rows ++ r.0.items)) }
     ensures kernel { IfOk result (λ r. IsKernelBasis matrix.now.cols (matrix.now.rows ++ r.0.items) r.1.rows) }
 {
-    prove!(below.cols() == matrix.cols());
     let n = matrix.rows().len();
-    let mut form = coordinates(alloc, matrix, below)?;
+    let form = coordinates(alloc, matrix, below)?;
+    choose_by_coordinates(alloc, n, form, below)
+}
+
+/// The choice for `n` rows of which the coordinates on the vectors of `below` are given: for each of these vectors the
+/// coefficients of the rows, with the last row first.
+///
+/// # Errors
+/// `Memory` if allocation fails.
+pub fn choose_by_coordinates(
+    alloc: Global,
+    n: usize,
+    mut form: Vec<BitVec>,
+    below: &Kernel,
+) -> Result<(Vec<BitVec>, Kernel), Memory>
+    requires as_many { length form.items ≡ length below.now.rows }
+    requires widths { HaveWidth n form.items }
+    ensures chosen { IfOk result (λ r. (rows : List (List Bool)) → AreCoordinatesOf n below.now rows form.items →
+        IsChosen below.now.cols rows below.now.rows r.0.items) }
+    ensures cols { IfOk result (λ r. r.1.cols ≡ n + length r.0.items) }
+    ensures kernel { IfOk result (λ r. (rows : List (List Bool)) → AreCoordinatesOf n below.now rows form.items →
+        IsKernelBasis below.now.cols (rows ++ r.0.items) r.1.rows) }
+{
+    // What is known of the vectors.
+    let _cols = below.cols();
     clear_upward(alloc, n, form.as_mut_slice())?;
     let new = new_rows(alloc, below, form.as_slice())?;
     let Some(width) = n.checked_add(new.len()) else {

@@ -7,5 +7,5 @@ mod choice;
 mod form;
 mod kernel;
 
-pub use choice::choose;
+pub use choice::{choose, choose_by_coordinates};
 pub use kernel::Kernel;

@@ -1,67 +1,44 @@
-use Rattle.std.proofs.Common.{◌≡◌, ◌++◌, Bool, List, ℕ, length, take, drop, sym, ap, subst, ◌∙◌, arith, refl}
-use Rattle.std.specs.List.{items_where_true}
-use Rattle.std.proofs.lemmas.List.{take_at}
-use Rattle.f2_vec.specs.Spans.{HaveWidth}
+use Rattle.std.proofs.Common.{◌+◌, ◌++◌, Bool, List, ℕ, length, reverse, sym, ap, subst, ◌∙◌}
+use Rattle.std.proofs.lemmas.List.{length-append, length-map}
+use Rattle.std.proofs.lemmas.Result.{IfOk-weaker}
+use Rattle.f2_vec.specs.Spans.{row, HaveWidth, IsInSpan}
 use Rattle.f2_matrix.specs.Echelon.{IsKernelBasis}
 use Rattle.f2_matrix.specs.Choice.{IsChosen}
-use Rattle.f2_dual.specs.Inside.Coordinates.{coordinates}
-use Rattle.f2_kernel.specs.Inside.Upward.{AreCleared, upward, are_zero, relations}
-use Rattle.f2_kernel.proofs.Cleared.{AreCleared-upward, length-upward}
-use Rattle.f2_kernel.proofs.ByForm.{wide_on, choice_by_form}
+use Rattle.f2_matrix.specs.Preimages.{pivot_of}
+use Rattle.f2_dual.specs.Inside.Columns.{column}
+use Rattle.f2_kernel.specs.Coordinates.{AreCoordinatesOf}
+use Rattle.f2_kernel.proofs.ByForm.{wide_on}
 use Rattle.f2_kernel.proofs.choice.choose.Goals as goal
+use Rattle.f2_kernel.proofs.choice.choose.Goals.{After-choose_by_coordinates}
 
--- the form that is kept is that of the coordinates
-kept : (len : ℕ) (slice new items xs : List (List Bool)) → len ≡ length slice → slice ≡ items → items ≡ xs → new ≡ upward slice → take len (new ++ drop (length new) items) ≡ upward xs
-kept len slice new items xs l s i e =
-    take_at new (drop (length new) items) len (ap length e ∙ length-upward slice ∙ sym l) ∙ e ∙ ap upward (s ∙ i)
+-- the form has the coordinates of the rows
+is_form : (c : After-choose_by_coordinates) → AreCoordinatesOf (length c.rows-n.result.now) c.args.below.now c.args.matrix.now.rows c.in_ok-form.form.items
+is_form c = record {
+  count = sym (ap length c.rows-n.ensures.rows);
+  covered = λ i l. subst (λ (k : ℕ). IsInSpan k c.args.below.now.rows (row c.args.matrix.now.rows i)) (sym c.requires.cols) (c.requires.covered i l);
+  form_is = c.in_ok-form.ensures;
+}
 
-pub clear_upward-requires : goal.clear_upward-requires
-clear_upward-requires c =
-    let rows = c.args.matrix.now.rows in
-    let candidates = c.args.below.now.rows in
-    let xs = coordinates candidates rows in
-    let n : length c.rows-n.result.now ≡ length rows = ap length c.rows-n.ensures.rows in
-    let e : c.as_mut_slice.result.now ≡ xs = c.as_mut_slice.ensures.value ∙ c.in_ok-form.ensures in
-    subst (λ (z : List (List Bool)). HaveWidth (length c.rows-n.result.now) z) (sym e) (subst (λ (k : ℕ). HaveWidth k xs) (sym n) (wide_on (length rows) rows candidates refl))
+pub choose_by_coordinates-requires-clause-as_many : goal.choose_by_coordinates-requires-clause-as_many
+choose_by_coordinates-requires-clause-as_many c = ap length c.in_ok-form.ensures ∙ length-map c.args.below.now.rows (λ v. column (pivot_of v) (reverse c.args.matrix.now.rows))
 
-pub of_form-requires-clause-cleared : goal.of_form-requires-clause-cleared
-of_form-requires-clause-cleared c =
-    let rows = c.args.matrix.now.rows in
-    let candidates = c.args.below.now.rows in
-    let xs = coordinates candidates rows in
-    let n : length c.rows-n.result.now ≡ length rows = ap length c.rows-n.ensures.rows in
-    let f = kept c.in_ok-form.form.len c.as_mut_slice.result.now c.clear_upward.new.rows c.in_ok-form.form.items xs (sym c.as_mut_slice.ensures.len) c.as_mut_slice.ensures.value c.in_ok-form.ensures c.in_ok-clear_upward.ensures in
-    subst (λ (z : List (List Bool)). AreCleared (length c.rows-n.result.now) z) (sym f) (subst (λ (k : ℕ). AreCleared k (upward xs)) (sym n) (AreCleared-upward (length rows) xs (wide_on (length rows) rows candidates refl)))
+pub choose_by_coordinates-requires-clause-widths : goal.choose_by_coordinates-requires-clause-widths
+choose_by_coordinates-requires-clause-widths c =
+    subst (λ (z : List (List Bool)). HaveWidth (length c.rows-n.result.now) z) (sym c.in_ok-form.ensures) (wide_on (length c.rows-n.result.now) c.args.matrix.now.rows c.args.below.now.rows (sym (ap length c.rows-n.ensures.rows)))
 
 pub returns-clause-chosen : goal.returns-clause-chosen
 returns-clause-chosen c =
-    let w = c.args.matrix.now.cols in
     let rows = c.args.matrix.now.rows in
-    let candidates = c.args.below.now.rows in
-    let xs = coordinates candidates rows in
-    let f = kept c.in_ok-form.form.len c.as_mut_slice.result.now c.clear_upward.new.rows c.in_ok-form.form.items xs (sym c.as_mut_slice.ensures.len) c.as_mut_slice.ensures.value c.in_ok-form.ensures c.in_ok-clear_upward.ensures in
-    let new : c.in_ok-new.new.items ≡ items_where_true (are_zero (upward xs)) candidates = c.in_ok-new.ensures ∙ ap (λ (z : List (List Bool)). items_where_true (are_zero z) candidates) (c.as_slice.ensures.value ∙ f) in
-    let wide : HaveWidth w candidates = subst (λ (k : ℕ). HaveWidth k candidates) c.requires.cols c.cols.ensures.widths in
-    let h = choice_by_form w rows candidates wide c.cols.ensures.reduced c.cols.ensures.nonzero c.requires.covered in
-    subst (λ (z : List (List Bool)). IsChosen w rows candidates z) (sym new) h.chosen
+    let h = (goal.at.returns-clause-chosen c).After-choose_by_coordinates in
+    IfOk-weaker c.choose_by_coordinates.result _ _ (λ r p. subst (λ (k : ℕ). IsChosen k rows c.args.below.now.rows r.0.items) c.requires.cols (p rows (is_form h))) c.choose_by_coordinates.ensures.chosen
+
+pub returns-clause-cols : goal.returns-clause-cols
+returns-clause-cols c =
+    let rows = c.args.matrix.now.rows in
+    IfOk-weaker c.choose_by_coordinates.result _ _ (λ r p. p ∙ ap (λ k. k + length r.0.items) (ap length c.rows-n.ensures.rows) ∙ sym (length-append rows r.0.items)) c.choose_by_coordinates.ensures.cols
 
 pub returns-clause-kernel : goal.returns-clause-kernel
 returns-clause-kernel c =
-    let w = c.args.matrix.now.cols in
     let rows = c.args.matrix.now.rows in
-    let candidates = c.args.below.now.rows in
-    let xs = coordinates candidates rows in
-    let n : length c.rows-n.result.now ≡ length rows = ap length c.rows-n.ensures.rows in
-    let f = kept c.in_ok-form.form.len c.as_mut_slice.result.now c.clear_upward.new.rows c.in_ok-form.form.items xs (sym c.as_mut_slice.ensures.len) c.as_mut_slice.ensures.value c.in_ok-form.ensures c.in_ok-clear_upward.ensures in
-    let new : c.in_ok-new.new.items ≡ items_where_true (are_zero (upward xs)) candidates = c.in_ok-new.ensures ∙ ap (λ (z : List (List Bool)). items_where_true (are_zero z) candidates) (c.as_slice.ensures.value ∙ f) in
-    let wide : HaveWidth w candidates = subst (λ (k : ℕ). HaveWidth k candidates) c.requires.cols c.cols.ensures.widths in
-    let h = choice_by_form w rows candidates wide c.cols.ensures.reduced c.cols.ensures.nonzero c.requires.covered in
-    let there : IsKernelBasis w (rows ++ c.in_ok-new.new.items) (relations (length rows) (length c.in_ok-new.new.items) (upward xs)) =
-    subst (λ (z : List (List Bool)). IsKernelBasis w (rows ++ z) (relations (length rows) (length z) (upward xs))) (sym new) h.kernel in
-    let many : length c.in_ok-new.new.items ≡ c.len-2.result = omega (arith, c.len-2.ensures) in
-    let is : relations (length rows) (length c.in_ok-new.new.items) (upward xs) ≡ c.in_ok-kernel.kernel.rows =
-    sym (c.in_ok-kernel.ensures.rows
-    ∙ ap (relations (length c.rows-n.result.now) c.len-2.result) f
-    ∙ ap (λ k. relations k c.len-2.result (upward xs)) n
-    ∙ ap (λ k. relations (length rows) k (upward xs)) (sym many)) in
-    subst (λ (z : List (List Bool)). IsKernelBasis w (rows ++ c.in_ok-new.new.items) z) is there
+    let h = (goal.at.returns-clause-kernel c).After-choose_by_coordinates in
+    IfOk-weaker c.choose_by_coordinates.result _ _ (λ r p. subst (λ (k : ℕ). IsKernelBasis k (rows ++ r.0.items) r.1.rows) c.requires.cols (p rows (is_form h))) c.choose_by_coordinates.ensures.kernel

@@ -1,0 +1,12 @@
+-- Rows given by their coordinates on the vectors of a reduced basis.
+use Rattle.std.specs.Prelude.{◌≡◌, ℕ, ◌<◌, Bool, List, length}
+use Rattle.f2_vec.specs.Spans.{row, IsInSpan}
+use Rattle.f2_matrix.specs.Reduction.{Rows}
+use Rattle.f2_dual.specs.Inside.Coordinates.{coordinates}
+
+-- n rows are sums of the vectors of this basis, and the form has their coordinates on these: for each vector the coefficients of the rows, with
+-- the last row first
+pub record AreCoordinatesOf (n : ℕ) (below : Rows) (rows form : List (List Bool)) : Type 0 where
+  pub count : length rows ≡ n
+  pub covered : (i : ℕ) → i < length rows → IsInSpan below.cols below.rows (row rows i)
+  pub form_is : form ≡ coordinates below.rows rows
