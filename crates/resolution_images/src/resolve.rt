@@ -11,7 +11,7 @@ ghost use Rattle.resolution_images.specs.BareRows.{no_bare_row, bare_row_in, squ
 ghost use Rattle.resolution_images.specs.Inside.Made.{AreMadeThrough, IsToCover};
 
 use crate::row::Row;
-use crate::step::{Made, step_over};
+use crate::step::{Made, step_over, step_over_free};
 use f2_kernel::Kernel;
 use f2_vec::BitVec;
 use finite_module::{Module, modules_are_graded_modules};
@@ -188,7 +188,7 @@ fn made_at(
     if s == 0 {
         return step_over(alloc, basis, module, below, &rows[s], t);
     }
-    step_over(alloc, basis, rows[s - 1].gens(), below, &rows[s], t)
+    step_over_free(alloc, basis, rows[s - 1].gens(), below, &rows[s], t)
 }
 
 /// The internal degree that is `k` above the bottom.

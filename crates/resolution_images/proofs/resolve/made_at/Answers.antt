@@ -60,20 +60,20 @@ above c =
     stands_above c.made_rows_are_covered.ensures c.args.module.now c.args.s c.args.k lines c.index-rows-s-3.result c.index-rows-s-2.result c.gens.result.now c.args.below.now (to_z w32 (of_z w32 c.degree-t.result)) (c.modules_are_graded_modules.ensures c.args.module.now.plain c.args.module.now.is_module) c.requires.through c.requires.below some c.requires.row c.requires.rows c.requires.degree
     (get_or_read lines c.args.s c.index-rows-s-3.result c.requires.row c.index-rows-s-3.is no_bare_row) under c.gens.ensures at
 
-pub step_over-requires-2-clause-images : goal.step_over-requires-2-clause-images
-step_over-requires-2-clause-images c = let h = above c in given_images h.footing _ _ _ _ _ h.given
+pub step_over_free-requires-clause-images : goal.step_over_free-requires-clause-images
+step_over_free-requires-clause-images c = let h = above c in given_images h.footing _ _ _ _ _ h.given
 
-pub step_over-requires-2-clause-cols : goal.step_over-requires-2-clause-cols
-step_over-requires-2-clause-cols c = (above c).cols
+pub step_over_free-requires-clause-cols : goal.step_over_free-requires-clause-cols
+step_over_free-requires-clause-cols c = (above c).cols
 
-pub step_over-requires-2-clause-covered : goal.step_over-requires-2-clause-covered
-step_over-requires-2-clause-covered c = let h = above c in given_covered h.footing _ _ _ _ _ h.given
+pub step_over_free-requires-clause-covered : goal.step_over_free-requires-clause-covered
+step_over_free-requires-clause-covered c = let h = above c in given_covered h.footing _ _ _ _ _ h.given
 
-pub step_over-requires-2-clause-source_reach : goal.step_over-requires-2-clause-source_reach
-step_over-requires-2-clause-source_reach c = (above c).reach c.args.basis.now (omega (arith, c.requires.degree, c.requires.basis))
+pub step_over_free-requires-clause-source_reach : goal.step_over_free-requires-clause-source_reach
+step_over_free-requires-clause-source_reach c = (above c).reach c.args.basis.now (omega (arith, c.requires.degree, c.requires.basis))
 
-pub step_over-requires-2-clause-target_reach : goal.step_over-requires-2-clause-target_reach
-step_over-requires-2-clause-target_reach c =
+pub step_over_free-requires-clause-target_reach : goal.step_over_free-requires-clause-target_reach
+step_over_free-requires-clause-target_reach c =
     let fits : FitsSigned w32 c.degree-t.result = search rules in
     let at = to_z-of_z w32 c.degree-t.result fits ∙ c.degree-t.ensures in
     let lines = c.args.rows.now in
@@ -83,11 +83,11 @@ step_over-requires-2-clause-target_reach c =
 pub returns-clause-is_of : goal.returns-clause-is_of
 returns-clause-is_of c =
     let h = above (goal.at.returns-clause-is_of c).After-index-rows-s-3 in
-    IfOk-weaker c.step_over-2.result _ _ (λ made p. h.is_of_here _ (given_step h.footing _ _ _ _ _ h.given _ p)) c.step_over-2.ensures.step
+    IfOk-weaker c.step_over_free.result _ _ (λ made p. h.is_of_here _ (given_step h.footing _ _ _ _ _ h.given _ p)) c.step_over_free.ensures.step
 
 pub returns-clause-kernel : goal.returns-clause-kernel
 returns-clause-kernel c =
     let fits : FitsSigned w32 c.degree-t.result = search rules in
     let at = to_z-of_z w32 c.degree-t.result fits ∙ c.degree-t.ensures in
     let is = get_or_read c.args.rows.now c.args.s c.index-rows-s-3.result c.requires.row c.index-rows-s-3.is no_bare_row in
-    IfOk-weaker c.step_over-2.result _ _ (λ made p. width_of c.args.rows.now c.args.s c.index-rows-s-3.result _ _ _ made.kernel.cols is at p) c.step_over-2.ensures.cols
+    IfOk-weaker c.step_over_free.result _ _ (λ made p. width_of c.args.rows.now c.args.s c.index-rows-s-3.result _ _ _ made.kernel.cols is at p) c.step_over_free.ensures.cols
