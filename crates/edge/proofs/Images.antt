@@ -1,9 +1,9 @@
 -- What a crash may leave after each call, and that the bytes that a number picks are an image.
-use Rattle.std.proofs.Common.{◌≡◌, inl, inr, ℕ, zero, suc, ◌+◌, ◌-◌, ◌%◌, ◌≤◌, Bool, true, false, cond, List, [], ◌∷◌, ◌++◌, length, take, drop, Option, None, Some, refl, sym, ◌∙◌, ap, subst, arith, append_assoc, length-append, length-drop}
+use Rattle.std.proofs.Common.{◌≡◌, ◌↔◌, inl, inr, ℕ, zero, suc, ◌+◌, ◌-◌, ◌%◌, ◌<◌, ◌≤◌, Bool, true, false, cond, List, [], ◌∷◌, ◌++◌, length, take, drop, Option, None, Some, refl, sym, ◌∙◌, ap, subst, arith, append_assoc, length-append, length-drop}
 use Rattle.std.proofs.lemmas.List.{take_at, drop_at, length-take-le, length-replicate}
 use Rattle.std.specs.Prelude.{replicate}
-use Rattle.edge.specs.Disk.{written, Torn}
-use Rattle.edge.specs.Inside.MemDisk.{History, Write, wrote, synced, content, last_synced, marked, shifted, image_of, IsSound, IsImage, content_is_image}
+use Rattle.edge.specs.Disk.{written, Torn, Passes}
+use Rattle.edge.specs.Inside.MemDisk.{History, Write, wrote, synced, content, last_synced, marked, shifted, image_of, IsSound, IsImage, ImageAt, age, is_now_in, was_now_in, content_is_image}
 
 -- a part of a list that is put over another leaves what is in front of it
 front_stays : {A : Type 0} (at n : ℕ) (part whole : List A) → at ≤ length whole → take at (take at whole ++ part ++ drop (at + n) whole) ≡ take at whole
@@ -119,3 +119,24 @@ pub picked_image : (pick : ℕ) (h : History) → IsSound h.first h.steps → Is
 picked_image zero h sound = synced_image h.first h.steps
 picked_image (suc zero) h sound = content_is_image h.first h.steps
 picked_image (suc (suc pick)) h sound = shifted_image (suc (suc pick) % 256) h.first h.steps sound
+
+-- ---- moments
+
+past_stays : (f : List ℕ) (step : Option Write) (h : List (Option Write)) (t : ℕ) (c : List ℕ) → t ≤ age f h → ImageAt f (step ∷ h) t c ↔ ImageAt f h t c
+past_stays f (Some w) h t c le = (λ s. elim s [ inl now ↦ let e = now.0 in absurd (omega arith) | inr past ↦ past ], λ past. inr past)
+past_stays f None h t c le = (λ s. elim s [ inl now ↦ let e = now.0 in absurd (omega arith) | inr past ↦ past ], λ past. inr past)
+
+present_is : (f : List ℕ) (step : Option Write) (h : List (Option Write)) (t : ℕ) (c : List ℕ) → age f h < t → t ≤ age f (step ∷ h) → ImageAt f (step ∷ h) t c ↔ IsImage f (step ∷ h) c
+present_is f (Some w) h t c above within = let e : t ≡ suc (age f h) = omega arith in (is_now_in f (Some w ∷ h) t c e, was_now_in f (Some w ∷ h) t c e)
+present_is f None h t c above within = let e : t ≡ suc (age f h) = omega arith in (is_now_in f (None ∷ h) t c e, was_now_in f (None ∷ h) t c e)
+
+-- a history with one step more
+abbrev PassesTo : History → History → Type 0
+PassesTo old new = Passes (age old.first old.steps) (age new.first new.steps) (ImageAt old.first old.steps) (ImageAt new.first new.steps) (IsImage new.first new.steps)
+
+pub one_step : (old new : History) (step : Option Write) → new ≡ record { first = old.first; steps = step ∷ old.steps } → PassesTo old new
+one_step old new step is = subst (PassesTo old) (sym is) (record { past = past_stays old.first step old.steps; present = present_is old.first step old.steps })
+
+-- and one without
+pub no_step : (old new : History) → new ≡ old → PassesTo old new
+no_step old new is = subst (PassesTo old) (sym is) (record { past = λ t c le. (λ x. x, λ x. x); present = λ t c above within. absurd (omega arith) })

@@ -1,8 +1,9 @@
 -- How a run of calls of a disk goes on.
-use Rattle.std.proofs.Common.{◌≡◌, inl, inr, ⊎_elim, ℕ, ◌≤◌, List, Option, None, Some, refl, arith}
+use Rattle.std.proofs.Common.{◌≡◌, ◌↔◌, inl, inr, ⊎_elim, ℕ, ◌<◌, ◌≤◌, List, Option, None, Some, refl, subst, arith}
 use Rattle.std.specs.Prelude.{IfSome}
 use Rattle.std.specs.Option.{option_map}
-use Rattle.edge.specs.Disk.{Elapses, LeavesOnly, IsTold, AreTold}
+use Rattle.std.proofs.lemmas.Bool.{cases_lt}
+use Rattle.edge.specs.Disk.{Elapses, LeavesOnly, Passes, HavePast, Retains, IsTold, AreTold}
 
 -- what the laws of the trait say of its disks
 pub record Lawful {D : Type 0} (now : D → Option (List ℕ)) (moment : D → ℕ) (images : D → List ℕ → Type 0) (since : D → ℕ → List ℕ → Type 0) : Type 0 where
@@ -99,3 +100,64 @@ module _ {D : Type 0} (now : D → Option (List ℕ)) (moment : D → ℕ) (imag
         ];
         keeps = λ t c before left. second.keeps t c (omega (arith, before, first.later)) (first.keeps t c before left);
       }
+
+-- ---- what is retained
+
+module _ {D : Type 0} (moment : D → ℕ) (at : D → ℕ → List ℕ → Type 0) where
+  -- the images at earlier moments, over one run after another
+  pub past_then : (old mid new : D) → moment old ≤ moment mid → HavePast moment at old mid → HavePast moment at mid new → HavePast moment at old new
+  past_then old mid new later first second t c le =
+      let there = second t c (omega (arith, le, later)) in
+      let here = first t c le in
+      (λ x. here.0 (there.0 x), λ x. there.1 (here.1 x))
+
+  -- before the first call
+  pub retains_started : (old : D) (P : List ℕ → Type 0) → Retains moment at old old P
+  retains_started old P u v from le within all c image =
+      let same : v ≡ u = omega (arith, from, le, within) in
+      all c (subst (λ t. at old t c) same image)
+
+  -- one run after another
+  pub retains_then : (old mid new : D) (P : List ℕ → Type 0) → HavePast moment at mid new → Retains moment at old mid P → Retains moment at mid new P → Retains moment at old new P
+  retains_then old mid new P past first second u v from le within all =
+      let early : u ≤ moment mid → (c : List ℕ) → at mid u c → P c = λ l c image. all c ((past u c l).1 image) in
+      elim (cases_lt (moment mid) v) [
+        | inr before ↦ λ c image. first u v from le before (early (omega (arith, le, before))) c ((past v c before).0 image)
+        | inl behind ↦ elim (cases_lt (moment mid) u) [
+          | inl after ↦ second u v (omega (arith, after)) le within all
+          | inr upto ↦ second (moment mid) v (omega arith) (omega (arith, behind)) within
+              (λ c image. first u (moment mid) from upto (omega arith) (early upto) c ((past (moment mid) c (omega arith)).0 image))
+        ]
+      ]
+
+  -- one call
+  pub retains_once : (images : D → List ℕ → Type 0) → ((d : D) (c : List ℕ) → at d (moment d) c ↔ images d c) → (mid new : D) (P : List ℕ → Type 0) → Passes (moment mid) (moment new) (at mid) (at new) (images new) → (((c : List ℕ) → images mid c → P c) → (c : List ℕ) → images new c → P c)
+      → Retains moment at mid new P
+  retains_once images law mid new P passes step u v from le within all =
+      elim (cases_lt (moment mid) v) [
+        | inr before ↦ λ c image. let same : v ≡ u = omega (arith, from, le, before) in all c (subst (λ t. at new t c) same image)
+        | inl behind ↦ λ c image.
+            let now : images new c = (passes.present v c behind within).0 image in
+            elim (cases_lt (moment mid) u) [
+              | inl after ↦ all c ((passes.present u c after (omega (arith, le, within))).1 now)
+              | inr upto ↦
+                  let same : moment mid ≡ u = omega (arith, from, upto) in
+                  step (λ d held. all d (subst (λ t. at new t d) same ((passes.past (moment mid) d (omega arith)).1 ((law mid d).1 held)))) c now
+            ]
+      ]
+
+-- two calls, the second of which leaves the images as they are
+pub passes_then : (a b c : ℕ) (first second third : ℕ → List ℕ → Type 0) (mid new : List ℕ → Type 0) → a ≤ b → ((x : List ℕ) → new x ↔ mid x) → Passes a b first second mid → Passes b c second third new → Passes a c first third new
+passes_then a b c first second third mid new le same p q = record {
+  past = λ t x l.
+      let there = q.past t x (omega (arith, l, le)) in
+      let here = p.past t x l in
+      (λ y. here.0 (there.0 y), λ y. there.1 (here.1 y));
+  present = λ t x above within. elim (cases_lt b t) [
+    | inl behind ↦ q.present t x behind within
+    | inr upto ↦
+        let there = q.past t x upto in
+        let here = p.present t x above upto in
+        (λ y. (same x).1 (here.0 (there.0 y)), λ y. there.1 (here.1 ((same x).0 y)))
+  ];
+}

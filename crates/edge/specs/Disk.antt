@@ -1,5 +1,5 @@
 -- What a disk does to its bytes, and what a crash may leave of them.
-use Rattle.std.specs.Prelude.{◌≡◌, ◌⊎◌, ℕ, ◌+◌, ◌≤◌, max, List, ◌++◌, length, take, drop, Option, None, Some}
+use Rattle.std.specs.Prelude.{◌≡◌, ◌⊎◌, ◌↔◌, ℕ, ◌+◌, ◌<◌, ◌≤◌, max, List, ◌++◌, length, take, drop, Option, None, Some}
 
 -- the file with these bytes from this place on, over what stood there and past its end
 abbrev pub written : ℕ → List ℕ → List ℕ → List ℕ
@@ -39,6 +39,19 @@ pub record Elapses (before now : ℕ) (past since : ℕ → List ℕ → Type 0)
   pub nothing_else : (t : ℕ) (c : List ℕ) → t ≤ before → since t c → past t c ⊎ images c
   pub keeps : (t : ℕ) (c : List ℕ) → t ≤ before → past t c → since t c
 
+-- The images at each moment stay what they were: up to the moment before they are those that were told, and behind it, through the
+-- moment now, those that a crash may leave now.
+pub record Passes (before now : ℕ) (was is : ℕ → List ℕ → Type 0) (images : List ℕ → Type 0) : Type 0 where
+  pub past : (t : ℕ) (c : List ℕ) → t ≤ before → is t c ↔ was t c
+  pub present : (t : ℕ) (c : List ℕ) → before < t → t ≤ now → is t c ↔ images c
+
+-- an image at that moment or at a later one, up to the moment now
+pub record WasImageSince (now : ℕ) (at : ℕ → List ℕ → Type 0) (t : ℕ) (c : List ℕ) : Type 0 where
+  pub moment : ℕ
+  pub from : t ≤ moment
+  pub within : moment ≤ now
+  pub image : at moment c
+
 -- Over a run of calls: each image since old has P, and those since a moment before old are those that they were, and those
 -- since old.
 pub record LeavesOnly {D : Type 0} (moment : D → ℕ) (since : D → ℕ → List ℕ → Type 0) (old new : D)
@@ -47,3 +60,14 @@ pub record LeavesOnly {D : Type 0} (moment : D → ℕ) (since : D → ℕ → L
   pub each : (c : List ℕ) → since new (moment old) c → P c
   pub earlier : (t : ℕ) (c : List ℕ) → t ≤ moment old → since new t c → since old t c ⊎ since new (moment old) c
   pub keeps : (t : ℕ) (c : List ℕ) → t ≤ moment old → since old t c → since new t c
+
+-- the images at the moments up to old are those that were told then
+abbrev pub HavePast : {D : Type 0} (moment : D → ℕ) (at : D → ℕ → List ℕ → Type 0) (old new : D) → Type 0
+HavePast moment at old new = (t : ℕ) (c : List ℕ) → t ≤ moment old → at new t c ↔ at old t c
+
+-- From old to new nothing with P is lost, not even for a moment: if each image at a moment has P, so has each image at every
+-- later moment.
+abbrev pub Retains : {D : Type 0} (moment : D → ℕ) (at : D → ℕ → List ℕ → Type 0) (old new : D) (P : List ℕ → Type 0) →
+    Type 0
+Retains moment at old new P = (u v : ℕ) → moment old ≤ u → u ≤ v → v ≤ moment new →
+    ((c : List ℕ) → at new u c → P c) → (c : List ℕ) → at new v c → P c

@@ -1,7 +1,7 @@
 //! What keeps bytes over a crash.
 ghost use Rattle.std.specs.Prelude.{◌≡◌, ℕ, ◌+◌, ◌^◌, ◌<◌, ◌≤◌, ◌↔◌, Option, List, length, take, drop, IfSome, IfOk, OnOk, OnErr};
 ghost use Rattle.std.specs.Option.{option_map};
-ghost use Rattle.edge.specs.Disk.{written, Torn, Follows, Only, AreTold, Elapses};
+ghost use Rattle.edge.specs.Disk.{written, Torn, Follows, Only, AreTold, Elapses, Passes, WasImageSince};
 ghost use Rattle.edge.specs.Faults.{HasRisen};
 
 use crate::faults::Failed;
@@ -26,6 +26,9 @@ pub trait Disk {
     /// What a crash now may leave.
     ghost images: { Self → List ℕ → Type 0 };
 
+    /// What a crash at that moment might have left. Each call that changes the images makes the moment rise.
+    ghost images_at: { Self → ℕ → List ℕ → Type 0 };
+
     /// What a crash at some moment from that one on might have left.
     ghost since: { Self → ℕ → List ℕ → Type 0 };
 
@@ -42,6 +45,8 @@ pub trait Disk {
         ensures same { now self.new ≡ now self.old }
         ensures images { (c : List ℕ) → images self.new c ↔ images self.old c }
         ensures time { Elapses (moment self.old) (moment self.new) (since self.old) (since self.new) (images self.new) }
+        ensures passes { Passes (moment self.old) (moment self.new) (images_at self.old)
+            (images_at self.new) (images self.new) }
         ensures never_fall { faults self.old ≤ faults self.new }
         ensures no_fault { OnOk result (faults self.new ≡ faults self.old) }
         ensures cause { OnErr result (HasRisen (faults self.old) (faults self.new)) };
@@ -56,6 +61,8 @@ pub trait Disk {
         ensures same { now self.new ≡ now self.old }
         ensures images { (c : List ℕ) → images self.new c ↔ images self.old c }
         ensures time { Elapses (moment self.old) (moment self.new) (since self.old) (since self.new) (images self.new) }
+        ensures passes { Passes (moment self.old) (moment self.new) (images_at self.old)
+            (images_at self.new) (images self.new) }
         ensures never_fall { faults self.old ≤ faults self.new }
         ensures no_fault { OnOk result (faults self.new ≡ faults self.old) }
         ensures cause { OnErr result (HasRisen (faults self.old) (faults self.new)) };
@@ -71,6 +78,8 @@ pub trait Disk {
         ensures torn { OnErr result (AreTold (Torn at (length bytes.now)) (now self.old) (now self.new)) }
         ensures images { Follows (Torn at (length bytes.now)) (images self.old) (images self.new) }
         ensures time { Elapses (moment self.old) (moment self.new) (since self.old) (since self.new) (images self.new) }
+        ensures passes { Passes (moment self.old) (moment self.new) (images_at self.old)
+            (images_at self.new) (images self.new) }
         ensures never_fall { faults self.old ≤ faults self.new }
         ensures no_fault { OnOk result (faults self.new ≡ faults self.old) }
         ensures cause { OnErr result (HasRisen (faults self.old) (faults self.new)) };
@@ -84,12 +93,24 @@ pub trait Disk {
         ensures same { now self.new ≡ now self.old }
         ensures images { (c : List ℕ) → images self.new c → images self.old c }
         ensures time { Elapses (moment self.old) (moment self.new) (since self.old) (since self.new) (images self.new) }
+        ensures passes { Passes (moment self.old) (moment self.new) (images_at self.old)
+            (images_at self.new) (images self.new) }
         ensures never_fall { faults self.old ≤ faults self.new }
         ensures no_fault { OnOk result (faults self.new ≡ faults self.old) }
         ensures cause { OnErr result (HasRisen (faults self.old) (faults self.new)) };
 
     /// What a read gives is an image now.
     ghost now_is_image: { (disk : Self) → IfSome (now disk) (λ file. images disk file) };
+
+    /// The images at the moment now are those that a crash may leave now.
+    ghost images_at_now: { (disk : Self) (c : List ℕ) → images_at disk (moment disk) c ↔ images disk c };
+
+    /// At each moment up to now there is an image.
+    ghost some_image: { (disk : Self) → IfSome (now disk)
+        (λ _. (t : ℕ) → t ≤ moment disk → (c : List ℕ) × images_at disk t c) };
+
+    /// The images since a moment are those at it and at the moments behind it.
+    ghost since_is: { (disk : Self) (t : ℕ) (c : List ℕ) → since disk t c ↔ WasImageSince (moment disk) (images_at disk) t c };
 
     /// An image now is one since now.
     ghost counts_now: { (disk : Self) (c : List ℕ) → images disk c → since disk (moment disk) c };

@@ -1,8 +1,8 @@
 //! A disk of tests.
 ghost use Rattle.std.specs.Prelude.{◌≡◌, ◌⊎◌, ℕ, ◌+◌, ◌-◌, ◌^◌, ◌<◌, ◌≤◌, ◌↔◌, Option, Some, List, [], ◌++◌, true, false, length, take, drop, replicate, max, vec_len, vec_capacity, IfOk, OnOk, OnErr, refl};
-ghost use Rattle.edge.specs.Disk.{written, Torn, Follows, Only, AreTold, Elapses};
+ghost use Rattle.edge.specs.Disk.{written, Torn, Follows, Only, AreTold, Elapses, Passes};
 ghost use Rattle.edge.specs.Faults.{HasRisen, one_up};
-ghost use Rattle.edge.specs.Inside.MemDisk.{content, last_synced, marked, IsSound, IsImage, age, Since, opened, wrote, synced, call_fails, after_failed_call, after_look, after_write, after_sync, image_of, shifted, content_is_image, counts_now_in, only_now_in, since_earlier_in};
+ghost use Rattle.edge.specs.Inside.MemDisk.{content, last_synced, marked, IsSound, IsImage, ImageAt, age, Since, opened, wrote, synced, call_fails, after_failed_call, after_look, after_write, after_sync, image_of, shifted, content_is_image, at_now_in, some_image_in, since_is_in, counts_now_in, only_now_in, since_earlier_in};
 
 use crate::disk::Disk;
 use crate::faults::Failed;
@@ -227,6 +227,8 @@ impl Disk for MemDisk {
 
     ghost images = { λ d c. IsImage d.history.first d.history.steps c };
 
+    ghost images_at = { λ d t c. ImageAt d.history.first d.history.steps t c };
+
     ghost since = { λ d t c. Since d.history.first d.history.steps t c };
 
     ghost faults = { λ d. d.faults };
@@ -273,6 +275,11 @@ impl Disk for MemDisk {
         ensures images { Follows (Torn at (length bytes.now))
             (λ c. IsImage self.old.history.first self.old.history.steps c)
             (λ c. IsImage self.new.history.first self.new.history.steps c) }
+        ensures passes { Passes (age self.old.history.first self.old.history.steps)
+            (age self.new.history.first self.new.history.steps)
+            (λ t c. ImageAt self.old.history.first self.old.history.steps t c)
+            (λ t c. ImageAt self.new.history.first self.new.history.steps t c)
+            (λ c. IsImage self.new.history.first self.new.history.steps c) }
         ensures done { OnOk result ((call_fails self.old (length bytes.now) ≡ false)
             × (self.new ≡ after_write self.old at bytes.now)) }
         ensures fails { OnErr result ((call_fails self.old (length bytes.now) ≡ true)
@@ -295,6 +302,11 @@ impl Disk for MemDisk {
     fn sync(&mut self) -> Result<(), Failed>
         ensures images { (c : List ℕ) → IsImage self.new.history.first self.new.history.steps c →
             IsImage self.old.history.first self.old.history.steps c }
+        ensures passes { Passes (age self.old.history.first self.old.history.steps)
+            (age self.new.history.first self.new.history.steps)
+            (λ t c. ImageAt self.old.history.first self.old.history.steps t c)
+            (λ t c. ImageAt self.new.history.first self.new.history.steps t c)
+            (λ c. IsImage self.new.history.first self.new.history.steps c) }
         ensures done { OnOk result ((call_fails self.old 0 ≡ false) × (self.new ≡ after_sync self.old)) }
         ensures fails { OnErr result ((call_fails self.old 0 ≡ true) × (self.new ≡ after_failed_call self.old)) }
         ensures never_fall { self.old.faults ≤ self.new.faults }
@@ -312,6 +324,12 @@ impl Disk for MemDisk {
     }
 
     ghost now_is_image = { λ d. content_is_image d.history.first d.history.steps };
+
+    ghost images_at_now = { λ d c. at_now_in d.history.first d.history.steps c };
+
+    ghost some_image = { λ d. some_image_in d.history.first d.history.steps };
+
+    ghost since_is = { λ d t c. since_is_in d.history.first d.history.steps t c };
 
     ghost counts_now = { λ d c image. counts_now_in d.history.first d.history.steps c image };
 

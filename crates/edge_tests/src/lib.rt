@@ -8,4 +8,6 @@ mod files;
 #[cfg(test)]
 mod memory_disks;
 #[cfg(test)]
+mod raw_files;
+#[cfg(test)]
 mod streams;

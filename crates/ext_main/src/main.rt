@@ -11,7 +11,7 @@ ghost use Rattle.ext_run.specs.Saving.{HasSaved, IsUsable};
 ghost use Rattle.ext_words.specs.Words.{texts_of};
 ghost use Rattle.ext_report.specs.Lines.{line_of};
 
-use edge::{Disk, FileDisk, Sink, Source, StdSink, StdSource};
+use edge::{Disk, FileDisk, PathFile, Sink, Source, StdSink, StdSource};
 use ext_run::{Ended, Failure, report, run};
 use memory::Memory;
 use square_worker::OpenGate;
@@ -48,7 +48,7 @@ fn status<W: Threads + Wait + Clock + Sync>(rt: &HostRuntime, wait: &W) -> u8 {
                 StdSource<Stdin>,
                 StdSink<Stdout>,
                 StdSink<Stderr>,
-                FileDisk<HostRuntime>,
+                FileDisk<PathFile<HostRuntime>>,
             >(
                 rt,
                 wait,

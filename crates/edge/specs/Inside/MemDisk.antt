@@ -1,8 +1,9 @@
 -- The disk of tests: what was done to it, what a crash may leave of it, and when its calls fail.
-use Rattle.std.specs.Prelude.{◌≡◌, ◌⊎◌, ℕ, zero, suc, ◌+◌, ◌%◌, ◌≤◌, Bool, true, false, cond, List, [], ◌∷◌, ◌++◌, length, take, drop, replicate, Option, None, Some, refl}
+use Rattle.std.specs.Prelude.{◌≡◌, ◌⊎◌, ◌↔◌, ℕ, zero, suc, ◌+◌, ◌%◌, ◌≤◌, Bool, true, false, cond, List, [], ◌∷◌, ◌++◌, length, take, drop, replicate, Option, None, Some, refl}
 use Rattle.std.proofs.Common.{inl, inr, arith}
+use Rattle.std.proofs.lemmas.Bool.{cases_lt}
 use Rattle.std.specs.Prelude.{◌||◌, nat_lt}
-use Rattle.edge.specs.Disk.{written, Torn}
+use Rattle.edge.specs.Disk.{written, Torn, WasImageSince}
 use Rattle.edge.specs.Faults.{one_up, is_listed}
 
 -- a write of these bytes from this place on
@@ -62,6 +63,12 @@ age f [] = 0
 age f (Some w ∷ h) = suc (age f h)
 age f (None ∷ h) = suc (age f h)
 
+-- what a crash at that age might have left
+abbrev pub ImageAt : List ℕ → List (Option Write) → ℕ → List ℕ → Type 0
+ImageAt f [] t c = (t ≡ 0) × (c ≡ f)
+ImageAt f (Some w ∷ h) t c = ((t ≡ suc (age f h)) × IsImage f (Some w ∷ h) c) ⊎ ImageAt f h t c
+ImageAt f (None ∷ h) t c = ((t ≡ suc (age f h)) × (c ≡ content f h)) ⊎ ImageAt f h t c
+
 -- what a crash since that age might have left
 abbrev pub Since : List ℕ → List (Option Write) → ℕ → List ℕ → Type 0
 Since f [] t c = (t ≤ 0) × (c ≡ f)
@@ -99,6 +106,62 @@ since_earlier_in f (Some w ∷ h) t u c le (inl now) = let l = now.0 in inl (ome
 since_earlier_in f (Some w ∷ h) t u c le (inr past) = inr (since_earlier_in f h t u c le past)
 since_earlier_in f (None ∷ h) t u c le (inl now) = let l = now.0 in inl (omega arith, now.1)
 since_earlier_in f (None ∷ h) t u c le (inr past) = inr (since_earlier_in f h t u c le past)
+
+up_to_age : (f : List ℕ) (h : List (Option Write)) (t : ℕ) (c : List ℕ) → ImageAt f h t c → t ≤ age f h
+up_to_age f [] t c s = let e = s.0 in omega arith
+up_to_age f (Some w ∷ h) t c (inl now) = let e = now.0 in omega arith
+up_to_age f (Some w ∷ h) t c (inr past) = let before = up_to_age f h t c past in omega arith
+up_to_age f (None ∷ h) t c (inl now) = let e = now.0 in omega arith
+up_to_age f (None ∷ h) t c (inr past) = let before = up_to_age f h t c past in omega arith
+
+pub is_now_in : (f : List ℕ) (h : List (Option Write)) (t : ℕ) (c : List ℕ) → t ≡ age f h → ImageAt f h t c → IsImage f h c
+is_now_in f [] t c e s = s.1
+is_now_in f (Some w ∷ h) t c e (inl now) = now.1
+is_now_in f (Some w ∷ h) t c e (inr past) = let before = up_to_age f h t c past in absurd (omega arith)
+is_now_in f (None ∷ h) t c e (inl now) = now.1
+is_now_in f (None ∷ h) t c e (inr past) = let before = up_to_age f h t c past in absurd (omega arith)
+
+pub was_now_in : (f : List ℕ) (h : List (Option Write)) (t : ℕ) (c : List ℕ) → t ≡ age f h → IsImage f h c → ImageAt f h t c
+was_now_in f [] t c e image = (e, image)
+was_now_in f (Some w ∷ h) t c e image = inl (e, image)
+was_now_in f (None ∷ h) t c e image = inl (e, image)
+
+pub at_now_in : (f : List ℕ) (h : List (Option Write)) (c : List ℕ) → ImageAt f h (age f h) c ↔ IsImage f h c
+at_now_in f h c = (is_now_in f h (age f h) c refl, was_now_in f h (age f h) c refl)
+
+-- at each moment there is one
+pub some_image_in : (f : List ℕ) (h : List (Option Write)) (t : ℕ) → t ≤ age f h → (c : List ℕ) × ImageAt f h t c
+some_image_in f [] t le = (f, (omega arith, refl))
+some_image_in f (Some w ∷ h) t le = elim (cases_lt (age f h) t) [
+  | inl above ↦ (written w.at w.bytes (content f h), inl (omega arith, inl refl))
+  | inr upto ↦ let before = some_image_in f h t upto in (before.0, inr before.1)
+]
+some_image_in f (None ∷ h) t le = elim (cases_lt (age f h) t) [
+  | inl above ↦ (content f h, inl (omega arith, refl))
+  | inr upto ↦ let before = some_image_in f h t upto in (before.0, inr before.1)
+]
+
+-- an image at a moment is one since each earlier one, and the other way round
+since_of : (f : List ℕ) (h : List (Option Write)) (t u : ℕ) (c : List ℕ) → t ≤ u → ImageAt f h u c → Since f h t c
+since_of f [] t u c le s = let e = s.0 in (omega arith, s.1)
+since_of f (Some w ∷ h) t u c le (inl now) = let e = now.0 in inl (omega arith, now.1)
+since_of f (Some w ∷ h) t u c le (inr past) = inr (since_of f h t u c le past)
+since_of f (None ∷ h) t u c le (inl now) = let e = now.0 in inl (omega arith, now.1)
+since_of f (None ∷ h) t u c le (inr past) = inr (since_of f h t u c le past)
+
+was_since : (f : List ℕ) (h : List (Option Write)) (t : ℕ) (c : List ℕ) → Since f h t c → WasImageSince (age f h) (ImageAt f h) t c
+was_since f [] t c s = record { moment = 0; from = s.0; within = omega arith; image = (refl, s.1) }
+was_since f (Some w ∷ h) t c (inl now) = record { moment = suc (age f h); from = now.0; within = omega arith; image = inl (refl, now.1) }
+was_since f (Some w ∷ h) t c (inr past) =
+    let before = was_since f h t c past in
+    record { moment = before.moment; from = before.from; within = let l = before.within in omega arith; image = inr before.image }
+was_since f (None ∷ h) t c (inl now) = record { moment = suc (age f h); from = now.0; within = omega arith; image = inl (refl, now.1) }
+was_since f (None ∷ h) t c (inr past) =
+    let before = was_since f h t c past in
+    record { moment = before.moment; from = before.from; within = let l = before.within in omega arith; image = inr before.image }
+
+pub since_is_in : (f : List ℕ) (h : List (Option Write)) (t : ℕ) (c : List ℕ) → Since f h t c ↔ WasImageSince (age f h) (ImageAt f h) t c
+since_is_in f h t c = (was_since f h t c, λ w. since_of f h t w.moment c w.from w.image)
 
 -- the bytes with a number added, mod 256, at the marked places
 abbrev pub shifted : ℕ → List ℕ → List Bool → List ℕ
