@@ -38,7 +38,7 @@ TablesHaveImages = (table : Staircase) → IsTable table → (from rows : ℕ) (
 abbrev pub AreCanonical : Staircase → ℕ → ℕ → Type 0
 AreCanonical table s n = (i k : ℕ) → i ≤ s → k < n → IsOf (over table.resolved) [] i k (content_at table.rows i k)
 
--- so are those of a range
+-- the squares of a range are those of the canonical resolution
 abbrev pub IsCanonicalIn : Range → Staircase → Type 0
 IsCanonicalIn range table = AreCanonical table range.s (range.t + 1)
 

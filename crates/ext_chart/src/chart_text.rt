@@ -13,8 +13,8 @@ use memory::Memory;
 use square::Range;
 use std::alloc::Global;
 
-/// The mark of a square with this number of generators.
-fn mark(count: usize) -> u8
+/// The mark of a square with this number of generators: a dot for none, the digit up to nine, and a star above.
+pub fn mark(count: usize) -> u8
     ensures { result ≡ mark count }
 {
     match count {
@@ -24,8 +24,11 @@ fn mark(count: usize) -> u8
     }
 }
 
-/// The number of a row, in at least two places.
-fn row_label(alloc: Global, s: u16) -> Result<Vec<u8>, Memory>
+/// The number of a row as text, in at least two places, to the right.
+///
+/// # Errors
+/// `Memory` if allocation fails.
+pub fn row_label(alloc: Global, s: u16) -> Result<Vec<u8>, Memory>
     ensures { IfOk result (λ label. label.items ≡ row_label s) }
 {
     let mut buffer = Buffer::new();
@@ -77,8 +80,11 @@ fn row_lines<R: Shown>(alloc: Global, table: &R, range: Range) -> Result<Vec<u8>
     Ok(text)
 }
 
-/// The line that says which stems there are.
-fn stems_line(alloc: Global, bottom: i32, t: u16) -> Result<Vec<u8>, Memory>
+/// The line that says which stems a chart through `t` degrees above the bottom has.
+///
+/// # Errors
+/// `Memory` if allocation fails.
+pub fn stems_line(alloc: Global, bottom: i32, t: u16) -> Result<Vec<u8>, Memory>
     requires { (bottom +ℤ pos t) ≤ℤ pos 2147483647 }
     ensures { IfOk result (λ line. line.items ≡ stems_line bottom t) }
 {

@@ -2,38 +2,22 @@
 ghost use Rattle.std.specs.Prelude.{◌≡◌, ◌+◌, ◌-◌, ◌≤◌, pos, ◌+ℤ◌, ◌≤ℤ◌, IfOk, map};
 ghost use Rattle.std.specs.List.{range_with_len};
 ghost use Rattle.square.specs.declared.range.TheConstants.{MAX_S, MAX_T};
-ghost use Rattle.ext_chart.specs.Chart.{mark, row_label, stems_line};
 ghost use Rattle.live_view.specs.Chart.{mark_of, marks_of, row_line, row_lines, live_chart};
 
 use crate::view::View;
-use itoa::Buffer;
+use ext_chart::{mark, row_label, stems_line};
 use memory::Memory;
 use square::Range;
 use std::alloc::Global;
 
 /// The mark of a square with this number of generators, and a space for a square that is missing.
-fn mark(count: Option<usize>) -> u8
+fn mark_or_space(count: Option<usize>) -> u8
     ensures { result ≡ mark_of count }
 {
     match count {
         None => b' ',
-        Some(0) => b'.',
-        Some(count @ 1..=9) => b'0' + count as u8,
-        Some(_) => b'*',
+        Some(count) => mark(count),
     }
-}
-
-/// The number of a row, in at least two places.
-fn row_label(alloc: Global, s: u16) -> Result<Vec<u8>, Memory>
-    ensures { IfOk result (λ label. label.items ≡ row_label s) }
-{
-    let mut buffer = Buffer::new();
-    let mut label = Vec::new(alloc);
-    if s < 10 {
-        label.push(b' ')?;
-    }
-    label.extend_from_slice(buffer.format(s).as_bytes())?;
-    Ok(label)
 }
 
 /// The marks of a row, from stem 0 on, through `t` degrees above the bottom.
@@ -43,7 +27,7 @@ fn marks(alloc: Global, view: &View, s: u16, t: u16) -> Result<Vec<u8>, Memory>
 {
     let mut marks = Vec::new(alloc);
     for k in s..=t {
-        marks.push(mark(view.count(s, k)))?;
+        marks.push(mark_or_space(view.count(s, k)))?;
     }
     Ok(marks)
 }
@@ -72,20 +56,6 @@ fn row_lines(alloc: Global, view: &View, range: Range) -> Result<Vec<u8>, Memory
         text.extend_from_slice(line.as_slice())?;
     }
     Ok(text)
-}
-
-/// The line that says which stems there are.
-fn stems_line(alloc: Global, bottom: i32, t: u16) -> Result<Vec<u8>, Memory>
-    requires { (bottom +ℤ pos t) ≤ℤ pos 2147483647 }
-    ensures { IfOk result (λ line. line.items ≡ stems_line bottom t) }
-{
-    let mut buffer = Buffer::new();
-    let mut line = Vec::from_slice(alloc, b"stems ")?;
-    line.extend_from_slice(buffer.format(bottom).as_bytes())?;
-    line.extend_from_slice(b"..")?;
-    line.extend_from_slice(buffer.format(bottom + i32::from(t)).as_bytes())?;
-    line.push(b'\n')?;
-    Ok(line)
 }
 
 /// The chart of the view.
