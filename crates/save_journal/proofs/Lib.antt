@@ -1,4 +1,5 @@
 mod Append
+mod Retaining
 pub mod Bytes
 mod Entry
 mod Examples

@@ -1,7 +1,7 @@
 -- A journal over a disk.
-use Rattle.std.specs.Prelude.{◌≡◌, ◌≢◌, ◌⊎◌, ℕ, ◌+◌, ◌^◌, ◌<◌, Bool, true, List, ◌∷◌, ◌++◌, length, map, Option, IfSome, Vec, All}
+use Rattle.std.specs.Prelude.{◌≡◌, ◌≢◌, ◌⊎◌, ℕ, ◌+◌, ◌^◌, ◌<◌, Bool, true, List, ◌∷◌, ◌++◌, length, map, Option, IfSome, Ok, Vec, All}
 use Rattle.std.specs.declared.alloc.Global.{Global}
-use Rattle.edge.specs.Disk.{Only}
+use Rattle.edge.specs.Disk.{Only, Retains}
 use Rattle.save_journal.specs.Records.{Records, records_of, and_last, encoded, header}
 
 -- What contracts see of a journal: its disk, the digest that its records belong to, the place of the gate behind the last of
@@ -47,6 +47,17 @@ HasRecordsOf digest images c = (d : List ℕ) × images d × (records_of digest 
 -- the file has the records that were there before, or those and the body
 abbrev pub IsBeforeOrAfter : List ℕ → Records → List ℕ → List ℕ → Type 0
 IsBeforeOrAfter digest before body c = (records_of digest c ≡ before) ⊎ (records_of digest c ≡ and_last before body)
+
+-- the file has these records, and maybe more behind them
+pub record HasFirst (digest : List ℕ) (first : List (List ℕ)) (c : List ℕ) : Type 0 where
+  pub more : List (List ℕ)
+  pub records : records_of digest c ≡ Ok (first ++ more)
+
+-- From old to new no record is away again, not even for a moment: if each image at a moment has these records, so has each image
+-- at every later moment.
+abbrev pub RetainsRecords : {D : Type 0} (moment : D → ℕ) (at : D → ℕ → List ℕ → Type 0) (old new : D) (digest : List ℕ) →
+    Type 0
+RetainsRecords moment at old new digest = (first : List (List ℕ)) → Retains moment at old new (HasFirst digest first)
 
 -- the contents of vectors
 abbrev pub contents : List (Vec ℕ Global) → List (List ℕ)

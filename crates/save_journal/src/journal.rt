@@ -1,10 +1,10 @@
 //! Journals.
 ghost use Rattle.std.specs.Prelude.{◌≡◌, ◌≢◌, ◌⊎◌, ℕ, ◌<◌, ◌≤◌, false, List, Ok, Err, length, IfOk, IfErr, IfSome, OnOk, OnErr, MatchResult};
 ghost use Rattle.std.specs.Option.{option_map};
-ghost use Rattle.edge.specs.Disk.{LeavesOnly, IsTold, AreTold};
+ghost use Rattle.edge.specs.Disk.{LeavesOnly, HavePast, IsTold, AreTold};
 ghost use Rattle.edge.specs.Faults.{HasRisen};
 ghost use Rattle.save_journal.specs.Records.{records_of, opened, and_last};
-ghost use Rattle.save_journal.specs.Journals.{IsLive, HasRecordsOf, IsBeforeOrAfter, contents};
+ghost use Rattle.save_journal.specs.Journals.{IsLive, HasRecordsOf, IsBeforeOrAfter, RetainsRecords, contents};
 ghost use Rattle.save_journal.specs.declared.fault.OpenFault.TheVariants.{Failed as DiskFailed, Memory as WantOfMemory};
 
 use crate::fault::OpenFault;
@@ -65,6 +65,11 @@ impl<D: Disk> Journal<D> {
         ensures any_moment { IfSome (D.now disk) (λ _. MatchResult result
             (λ r. LeavesOnly D.moment D.since disk r.0.disk (HasRecordsOf digest (D.images disk)))
             (λ e. LeavesOnly D.moment D.since disk e.1 (HasRecordsOf digest (D.images disk)))) }
+        ensures past { MatchResult result (λ r. HavePast D.moment D.images_at disk r.0.disk)
+            (λ e. HavePast D.moment D.images_at disk e.1) }
+        ensures retained { IfSome (D.now disk) (λ _. MatchResult result
+            (λ r. RetainsRecords D.moment D.images_at disk r.0.disk digest)
+            (λ e. RetainsRecords D.moment D.images_at disk e.1 digest)) }
         ensures no_fault { IfOk result (λ r. D.faults r.0.disk ≡ D.faults disk) }
         ensures quiet { IfErr result (λ e. e.0 ≢ DiskFailed → D.faults e.1 ≡ D.faults disk) }
         ensures never_fall { IfErr result (λ e. D.faults disk ≤ D.faults e.1) }
@@ -85,7 +90,8 @@ impl<D: Disk> Journal<D> {
         }
     }
 
-    /// Puts a body at the end. Once it has answered Ok, each image has it. It takes no memory.
+    /// Puts a body at the end. Once it has answered Ok, each image has it. What each image had before is in each image at every
+    /// moment of the call. It takes no memory.
     ///
     /// # Errors
     /// `Failed` if the disk failed. The journal then takes no more: open the disk again.
@@ -104,6 +110,9 @@ impl<D: Disk> Journal<D> {
         ensures time { LeavesOnly D.moment D.since self.old.disk self.new.disk (λ _. Unit {0}) }
         ensures any_moment { IfSome (D.now self.old.disk) (λ file. LeavesOnly D.moment D.since self.old.disk
             self.new.disk (IsBeforeOrAfter self.old.digest (records_of self.old.digest file) framed.now)) }
+        ensures past { HavePast D.moment D.images_at self.old.disk self.new.disk }
+        ensures retained { IfSome (D.now self.old.disk)
+            (λ _. RetainsRecords D.moment D.images_at self.old.disk self.new.disk self.old.digest) }
         ensures same { self.new.digest ≡ self.old.digest }
         ensures never_fall { D.faults self.old.disk ≤ D.faults self.new.disk }
         ensures no_fault { OnOk result (D.faults self.new.disk ≡ D.faults self.old.disk) }

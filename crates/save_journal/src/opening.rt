@@ -1,10 +1,10 @@
 //! How a disk is opened.
 ghost use Rattle.std.specs.Prelude.{◌≡◌, ◌≢◌, ◌⊎◌, ℕ, ◌^◌, ◌<◌, ◌≤◌, List, Err, length, IfSome, IfOk, IfErr, OnOk, OnErr};
 ghost use Rattle.std.specs.Option.{option_map};
-ghost use Rattle.edge.specs.Disk.{LeavesOnly};
+ghost use Rattle.edge.specs.Disk.{LeavesOnly, HavePast, Passes};
 ghost use Rattle.edge.specs.Faults.{HasRisen};
 ghost use Rattle.save_journal.specs.Records.{records_of, opened};
-ghost use Rattle.save_journal.specs.Journals.{HasRecordsOf, contents};
+ghost use Rattle.save_journal.specs.Journals.{HasRecordsOf, RetainsRecords, contents};
 ghost use Rattle.save_journal.specs.Inside.Held.{IsHeld};
 ghost use Rattle.save_journal.specs.declared.fault.OpenFault.TheVariants.{Failed as DiskFailed, Memory as WantOfMemory};
 
@@ -35,6 +35,9 @@ pub fn open_on<D: Disk>(
     ensures time { LeavesOnly D.moment D.since disk.old disk.new (λ _. Unit {0}) }
     ensures any_moment { IfSome (D.now disk.old)
         (λ _. LeavesOnly D.moment D.since disk.old disk.new (HasRecordsOf digest.now (D.images disk.old))) }
+    ensures past { HavePast D.moment D.images_at disk.old disk.new }
+    ensures retained { IfSome (D.now disk.old)
+        (λ _. RetainsRecords D.moment D.images_at disk.old disk.new digest.now) }
     ensures never_fall { D.faults disk.old ≤ D.faults disk.new }
     ensures no_fault { OnOk result (D.faults disk.new ≡ D.faults disk.old) }
     ensures quiet { IfErr result (λ e. e ≢ DiskFailed → D.faults disk.new ≡ D.faults disk.old) }
@@ -61,6 +64,8 @@ fn read_all<D: Disk>(alloc: Global, disk: &mut D) -> Result<Vec<u8>, OpenFault>
     ensures same { D.now disk.new ≡ D.now disk.old }
     ensures images { (c : List ℕ) → D.images disk.new c → D.images disk.old c }
     ensures any_moment { LeavesOnly D.moment D.since disk.old disk.new (D.images disk.old) }
+    ensures passes { Passes (D.moment disk.old) (D.moment disk.new) (D.images_at disk.old) (D.images_at disk.new)
+        (D.images disk.new) }
     ensures never_fall { D.faults disk.old ≤ D.faults disk.new }
     ensures no_fault { OnOk result (D.faults disk.new ≡ D.faults disk.old) }
     ensures quiet { IfErr result (λ e. e ≢ DiskFailed → D.faults disk.new ≡ D.faults disk.old) }

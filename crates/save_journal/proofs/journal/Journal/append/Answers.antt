@@ -3,7 +3,8 @@ use Rattle.edge.specs.Disk.{written, Torn}
 use Rattle.edge.proofs.Moments.{Lawful}
 use Rattle.save_journal.specs.Journals.{IsLive}
 use Rattle.edge.proofs.Moments.{both_mapped, both_then, both_along}
-use Rattle.save_journal.proofs.Append.{place_behind, place_gate, leaves1, leaves2, leaves3, leaves4, told_of, told4, durable, settled4, beginning, passing}
+use Rattle.save_journal.proofs.Append.{place_behind, place_gate, leaves1, leaves2, leaves3, leaves4, told_of, told4, durable, settled4, beginning, passing, retained1, retained2, retained3, retained4}
+use Rattle.edge.proofs.Moments.{past_then}
 use Rattle.save_journal.proofs.journal.Journal.append.Given.{Over}
 use Rattle.save_journal.proofs.journal.Journal.append.Goals as goal
 
@@ -94,3 +95,43 @@ returns-in_err-sync-2-clause-time g c =
 pub returns-clause-time : goal.returns-clause-time
 returns-clause-time g c =
     rw (← c.self.view_is) ((passing (laws g) c.self.inside.disk c.write_at-2.new.self c.sync-2.new.self (passing (laws g) c.self.inside.disk c.sync.new.self c.write_at-2.new.self (passing (laws g) c.self.inside.disk c.write_at.new.self c.sync.new.self (passing (laws g) c.self.inside.disk c.self.inside.disk c.write_at.new.self (beginning (laws g) c.self.inside.disk) c.write_at.ensures.time) c.sync.ensures.time) c.write_at-2.ensures.time) c.sync-2.ensures.time))
+
+pub returns-in_err-write_at-clause-retained : goal.returns-in_err-write_at-clause-retained
+returns-in_err-write_at-clause-retained g c =
+    rw (← c.self.view_is) (retained1 (laws g) c.self.inside.digest c.self.inside.end c.args.framed.now c.bytes-bytes.result.now c.bytes-bytes.ensures.bytes c.bytes-bytes.ensures.sayable c.self.inside.disk (subst (IsLive g.D.Disk.now g.D.Disk.images) (sym c.self.view_is) c.requires).settled c.write_at.new.self c.write_at.ensures.images c.write_at.ensures.time g.D.Disk.images_at g.met.D.Disk.images_at_now c.write_at.ensures.passes)
+
+pub returns-in_err-write_at-clause-past : goal.returns-in_err-write_at-clause-past
+returns-in_err-write_at-clause-past g c =
+    rw (← c.self.view_is) (c.write_at.ensures.passes.past)
+
+pub returns-in_err-sync-clause-retained : goal.returns-in_err-sync-clause-retained
+returns-in_err-sync-clause-retained g c =
+    rw (← c.self.view_is) (retained2 (laws g) c.self.inside.digest c.self.inside.end c.args.framed.now c.bytes-bytes.result.now c.bytes-bytes.ensures.bytes c.bytes-bytes.ensures.sayable c.self.inside.disk (subst (IsLive g.D.Disk.now g.D.Disk.images) (sym c.self.view_is) c.requires).settled c.write_at.new.self c.write_at.ensures.images c.write_at.ensures.time c.sync.new.self c.sync.ensures.images c.sync.ensures.time g.D.Disk.images_at g.met.D.Disk.images_at_now c.write_at.ensures.passes c.sync.ensures.passes)
+
+pub returns-in_err-sync-clause-past : goal.returns-in_err-sync-clause-past
+returns-in_err-sync-clause-past g c =
+    rw (← c.self.view_is) (past_then g.D.Disk.moment g.D.Disk.images_at c.self.inside.disk c.write_at.new.self c.sync.new.self (omega (arith, c.write_at.ensures.time.later)) (c.write_at.ensures.passes.past) c.sync.ensures.passes.past)
+
+pub returns-in_err-write_at-2-clause-retained : goal.returns-in_err-write_at-2-clause-retained
+returns-in_err-write_at-2-clause-retained g c =
+    rw (← c.self.view_is) (retained3 (laws g) c.self.inside.digest c.self.inside.end c.args.framed.now c.bytes-bytes.result.now c.bytes-bytes.ensures.bytes c.bytes-bytes.ensures.sayable c.self.inside.disk (subst (IsLive g.D.Disk.now g.D.Disk.images) (sym c.self.view_is) c.requires).settled c.write_at.new.self c.write_at.ensures.images c.write_at.ensures.time c.sync.new.self c.sync.ensures.images c.sync.ensures.time c.in_ok-write_at.ensures.written c.sync.ensures.same c.in_ok-sync.ensures.durable c.write_at-2.new.self c.write_at-2.ensures.images c.write_at-2.ensures.time g.D.Disk.images_at g.met.D.Disk.images_at_now c.write_at.ensures.passes c.sync.ensures.passes c.write_at-2.ensures.passes)
+
+pub returns-in_err-write_at-2-clause-past : goal.returns-in_err-write_at-2-clause-past
+returns-in_err-write_at-2-clause-past g c =
+    rw (← c.self.view_is) (past_then g.D.Disk.moment g.D.Disk.images_at c.self.inside.disk c.sync.new.self c.write_at-2.new.self (omega (arith, c.write_at.ensures.time.later, c.sync.ensures.time.later)) (past_then g.D.Disk.moment g.D.Disk.images_at c.self.inside.disk c.write_at.new.self c.sync.new.self (omega (arith, c.write_at.ensures.time.later)) (c.write_at.ensures.passes.past) c.sync.ensures.passes.past) c.write_at-2.ensures.passes.past)
+
+pub returns-in_err-sync-2-clause-retained : goal.returns-in_err-sync-2-clause-retained
+returns-in_err-sync-2-clause-retained g c =
+    rw (← c.self.view_is) (retained4 (laws g) c.self.inside.digest c.self.inside.end c.args.framed.now c.bytes-bytes.result.now c.bytes-bytes.ensures.bytes c.bytes-bytes.ensures.sayable c.self.inside.disk (subst (IsLive g.D.Disk.now g.D.Disk.images) (sym c.self.view_is) c.requires).settled c.write_at.new.self c.write_at.ensures.images c.write_at.ensures.time c.sync.new.self c.sync.ensures.images c.sync.ensures.time c.in_ok-write_at.ensures.written c.sync.ensures.same c.in_ok-sync.ensures.durable c.write_at-2.new.self c.write_at-2.ensures.images c.write_at-2.ensures.time c.sync-2.new.self c.sync-2.ensures.images c.sync-2.ensures.time g.D.Disk.images_at g.met.D.Disk.images_at_now c.write_at.ensures.passes c.sync.ensures.passes c.write_at-2.ensures.passes c.sync-2.ensures.passes)
+
+pub returns-in_err-sync-2-clause-past : goal.returns-in_err-sync-2-clause-past
+returns-in_err-sync-2-clause-past g c =
+    rw (← c.self.view_is) (past_then g.D.Disk.moment g.D.Disk.images_at c.self.inside.disk c.write_at-2.new.self c.sync-2.new.self (omega (arith, c.write_at.ensures.time.later, c.sync.ensures.time.later, c.write_at-2.ensures.time.later)) (past_then g.D.Disk.moment g.D.Disk.images_at c.self.inside.disk c.sync.new.self c.write_at-2.new.self (omega (arith, c.write_at.ensures.time.later, c.sync.ensures.time.later)) (past_then g.D.Disk.moment g.D.Disk.images_at c.self.inside.disk c.write_at.new.self c.sync.new.self (omega (arith, c.write_at.ensures.time.later)) (c.write_at.ensures.passes.past) c.sync.ensures.passes.past) c.write_at-2.ensures.passes.past) c.sync-2.ensures.passes.past)
+
+pub returns-clause-retained : goal.returns-clause-retained
+returns-clause-retained g c =
+    rw (← c.self.view_is) (retained4 (laws g) c.self.inside.digest c.self.inside.end c.args.framed.now c.bytes-bytes.result.now c.bytes-bytes.ensures.bytes c.bytes-bytes.ensures.sayable c.self.inside.disk (subst (IsLive g.D.Disk.now g.D.Disk.images) (sym c.self.view_is) c.requires).settled c.write_at.new.self c.write_at.ensures.images c.write_at.ensures.time c.sync.new.self c.sync.ensures.images c.sync.ensures.time c.in_ok-write_at.ensures.written c.sync.ensures.same c.in_ok-sync.ensures.durable c.write_at-2.new.self c.write_at-2.ensures.images c.write_at-2.ensures.time c.sync-2.new.self c.sync-2.ensures.images c.sync-2.ensures.time g.D.Disk.images_at g.met.D.Disk.images_at_now c.write_at.ensures.passes c.sync.ensures.passes c.write_at-2.ensures.passes c.sync-2.ensures.passes)
+
+pub returns-clause-past : goal.returns-clause-past
+returns-clause-past g c =
+    rw (← c.self.view_is) (past_then g.D.Disk.moment g.D.Disk.images_at c.self.inside.disk c.write_at-2.new.self c.sync-2.new.self (omega (arith, c.write_at.ensures.time.later, c.sync.ensures.time.later, c.write_at-2.ensures.time.later)) (past_then g.D.Disk.moment g.D.Disk.images_at c.self.inside.disk c.sync.new.self c.write_at-2.new.self (omega (arith, c.write_at.ensures.time.later, c.sync.ensures.time.later)) (past_then g.D.Disk.moment g.D.Disk.images_at c.self.inside.disk c.write_at.new.self c.sync.new.self (omega (arith, c.write_at.ensures.time.later)) (c.write_at.ensures.passes.past) c.sync.ensures.passes.past) c.write_at-2.ensures.passes.past) c.sync-2.ensures.passes.past)
