@@ -1,5 +1,5 @@
 -- What becomes of a keeper, one square after the other.
-use Rattle.std.proofs.Common.{◌≡◌, ◌⊎◌, ◌↔◌, inl, inr, ℕ, ◌≤◌, List, [], ◌∷◌, ◌++◌, Option, Some, None, IfSome, refl, sym, ◌∙◌, ap, subst, arith}
+use Rattle.std.proofs.Common.{◌≡◌, ◌⊎◌, ◌↔◌, inl, inr, ℕ, ◌<◌, ◌≤◌, List, [], ◌∷◌, ◌++◌, Option, Some, None, IfSome, refl, sym, ◌∙◌, ap, subst, arith}
 use Rattle.std.specs.Option.{option_map}
 use Rattle.std.proofs.lemmas.List.{append-nil, append_assoc}
 use Rattle.std.proofs.lemmas.List.Elements.{All-nil, All-cons, All-append}
@@ -7,7 +7,8 @@ use Rattle.std.proofs.lemmas.Option.{IfSome_then}
 use Rattle.resolution_laws.specs.Resolution.{Module}
 use Rattle.resolution_laws.specs.Start.{Entry, IsOf, AreOf}
 use Rattle.square.specs.Squares.{Placed, entry_of}
-use Rattle.square.specs.Keeping.{Keeper, with_squares, IsImageBetween, IsImageWith, IsImageAmid, IsImagePart, HasKept}
+use Rattle.std.proofs.lemmas.Bool.{cases_lt}
+use Rattle.square.specs.Keeping.{Keeper, with_squares, IsImageBetween, HasFirst, Retains, IsImageWith, IsImageAmid, IsImagePart, HasKept}
 
 -- ---- options
 
@@ -18,6 +19,10 @@ both (Some x) P Q p q = (p, q)
 mapped : {X Y : Type 0} (o : Option X) (f : X → Y) (P : Y → Type 0) → IfSome (option_map f o) P → IfSome o (λ x. P (f x))
 mapped None f P p = tt
 mapped (Some x) f P p = p
+
+where_kept : {X : Type 0} (o : Option X) (P : Type 0) → P → IfSome o (λ _. P)
+where_kept None P p = tt
+where_kept (Some x) P p = p
 
 with_squares-append : (kept : Option (List Entry)) (a b : List Entry) → with_squares (with_squares kept a) b ≡ with_squares kept (a ++ b)
 with_squares-append None a b = refl
@@ -93,6 +98,35 @@ part_later list given more image p = record {
   is = p.is ∙ ap (λ (x : List Entry). Some x) (append_assoc list given p.first);
 }
 
+-- ---- moments
+
+-- the images at earlier moments are those that they were
+abbrev pub HavePast : Keeper → Keeper → Type 0
+HavePast old new = (t : ℕ) (image : Option (List Entry)) → t ≤ old.moment → new.images_at t image ↔ old.images_at t image
+
+HavePast-then : (old mid new : Keeper) → old.moment ≤ mid.moment → HavePast old mid → HavePast mid new → HavePast old new
+HavePast-then old mid new later p q t image l =
+    let there = q t image (omega arith) in
+    let here = p t image l in
+    (λ x. here.0 (there.0 x), λ x. there.1 (here.1 x))
+
+pub Retains-none : (keeper : Keeper) → Retains keeper keeper
+Retains-none keeper first u v from le within all image at =
+    let same : v ≡ u = omega arith in
+    all image (subst (λ t. keeper.images_at t image) same at)
+
+pub Retains-then : (old mid new : Keeper) → old.moment ≤ mid.moment → HavePast mid new → Retains old mid → Retains mid new → Retains old new
+Retains-then old mid new later past p q first u v from le within all =
+    let early : u ≤ mid.moment → (image : Option (List Entry)) → mid.images_at u image → HasFirst first image = λ l image at. all image ((past u image l).1 at) in
+    elim (cases_lt mid.moment v) [
+      | inr before ↦ λ image at. p first u v from le before (early (omega arith)) image ((past v image before).0 at)
+      | inl behind ↦ elim (cases_lt mid.moment u) [
+        | inl after ↦ q first u v (omega arith) le within all
+        | inr upto ↦ q first mid.moment v (omega arith) (omega arith) within
+            (λ image at. p first u mid.moment from upto (omega arith) (early upto) image ((past mid.moment image (omega arith)).0 at))
+      ]
+    ]
+
 -- ---- a keeper to which nothing was given
 
 -- images of a live keeper now are what is kept, and images since a moment are images since each earlier one
@@ -113,6 +147,8 @@ HasKept-none m start keeper settled = record {
   now = IfSome_then keeper.kept settled.images (λ list h image s. same_list m start list image (with_none m start list image (h image s)));
   exact = λ _. IfSome_then keeper.kept settled.images (λ list h image s. part_none list [] image (h image s));
   earlier = IfSome_then keeper.kept settled.images (λ list _ m image l. (λ x. inl x, λ x. elim x [ inl y ↦ y | inr y ↦ settled.earlier m keeper.moment image l y ]));
+  past = λ t image l. (λ x. x, λ x. x);
+  retained = where_kept keeper.kept (Retains keeper keeper) (Retains-none keeper);
 }
 
 -- ---- a keeper to which one square was given
@@ -125,6 +161,8 @@ pub record HasTried (old new : Keeper) (q : Placed) : Type 0 where
   pub later : old.moment ≤ new.moment
   pub between : IfSome old.kept (λ list. (image : Option (List Entry)) → new.since old.moment image → IsImageBetween list q image)
   pub earlier : IfSome old.kept (λ list. (m : ℕ) (image : Option (List Entry)) → m ≤ old.moment → new.since m image ↔ (old.since m image ⊎ new.since old.moment image))
+  pub past : HavePast old new
+  pub retained : IfSome old.kept (λ _. Retains old new)
 
 -- it was not kept: a keeper that is live nevertheless has the images that it had
 abbrev pub IsUnmoved : Keeper → Keeper → Type 0
@@ -149,6 +187,8 @@ HasKept-tried m start old new q is_of tried live kept unmoved antitone =
       now = IfSome_then old.kept images (λ list h image s. same_list m start list image (h image (antitone old.moment new.moment image tried.later s)));
       exact = λ still. IfSome_then old.kept (unmoved still) (λ list h image s. part_none list [] image (h image s));
       earlier = tried.earlier;
+      past = tried.past;
+      retained = tried.retained;
     }
 
 -- it was kept
@@ -175,6 +215,8 @@ HasKept-one m start old new q is_of tried live put settled =
         | inr e ↦ part_all list (entry_of q ∷ []) image e
       ]);
       earlier = tried.earlier;
+      past = tried.past;
+      retained = tried.retained;
     }
 
 -- ---- one after the other
@@ -193,7 +235,11 @@ HasKept-then m start old mid new a b p q =
     let latest = q.later in
     let falls = p.never_fall in
     let never = q.never_fall in
+    let R : List Entry → Type 0 = λ _. Retains mid new in
+    let retained : IfSome old.kept (λ _. Retains mid new) = mapped old.kept (λ list. list ++ a) R (subst (λ o. IfSome o R) p.kept q.retained) in
     record {
+      past = HavePast-then old mid new later p.past q.past;
+      retained = IfSome_then old.kept (both old.kept _ _ p.retained retained) (λ list h. Retains-then old mid new later q.past h.0 h.1);
       are_of = All-append (λ e. IsOf m start e.s e.above e.content) a b p.are_of q.are_of;
       kept = q.kept ∙ (ap (λ o. with_squares o b) p.kept ∙ with_squares-append old.kept a b);
       same_module = q.same_module ∙ p.same_module;

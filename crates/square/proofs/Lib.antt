@@ -13,3 +13,4 @@ mod Matrices
 pub mod Targets
 pub mod Found
 pub mod Crossing
+pub mod Retaining

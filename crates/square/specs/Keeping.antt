@@ -12,8 +12,8 @@ use Rattle.square.specs.Tables.{Staircase, row_in, with_square}
 
 -- What a contract sees of a keeper: whether it takes squares, how often it has failed, and, each none where it does not tell,
 -- the squares that it has kept, in order, the module whose squares they are and the start that it was opened with. The moment
--- does not fall, and since gives the images since a moment: each the squares that it stands for, none where it stands for
--- none.
+-- does not fall; images_at gives the images at a moment, and since those since a moment: each the squares that it stands for,
+-- none where it stands for none.
 pub record Keeper : Type 1 where
   pub live : Type 0
   pub faults : ℕ
@@ -21,7 +21,15 @@ pub record Keeper : Type 1 where
   pub resolved : Option Checked
   pub start : Option (List Entry)
   pub moment : ℕ
+  pub images_at : ℕ → Option (List Entry) → Type 0
   pub since : ℕ → Option (List Entry) → Type 0
+
+-- an image at that moment or at a later one, through the moment now
+pub record WasImageSince (keeper : Keeper) (t : ℕ) (image : Option (List Entry)) : Type 0 where
+  pub moment : ℕ
+  pub from : t ≤ moment
+  pub within : moment ≤ keeper.moment
+  pub there : keeper.images_at moment image
 
 -- what a keeper has kept, where it tells, with more squares at the end
 abbrev pub with_squares : Option (List Entry) → List Entry → Option (List Entry)
@@ -36,6 +44,20 @@ pub record IsNextIn (list : List Entry) (q : Placed) : Type 0 where
 -- an image that may be left of a list at the end of which q is put: the list, with q or without it
 abbrev pub IsImageBetween : List Entry → Placed → Option (List Entry) → Type 0
 IsImageBetween list q image = (image ≡ Some list) ⊎ (image ≡ Some (list ++ entry_of q ∷ []))
+
+-- ---- what an image has
+
+-- the image has these squares, and maybe more behind them
+pub record HasFirst (first : List Entry) (image : Option (List Entry)) : Type 0 where
+  pub more : List Entry
+  pub is : image ≡ Some (first ++ more)
+
+-- No square is away again, not even for a moment: if from old on each image at a moment has these squares, so has each image at
+-- every later moment, through the moment now.
+abbrev pub Retains : Keeper → Keeper → Type 0
+Retains old new = (first : List Entry) (u v : ℕ) → old.moment ≤ u → u ≤ v → v ≤ new.moment →
+    ((image : Option (List Entry)) → new.images_at u image → HasFirst first image) →
+    (image : Option (List Entry)) → new.images_at v image → HasFirst first image
 
 -- ---- a keeper and a table
 
@@ -76,7 +98,8 @@ pub record IsImagePart (list given : List Entry) (image : Option (List Entry)) :
 -- From old to new the keeper was given these squares of the start's table, and they stand at the end of what it has kept. Each
 -- image since then is what was kept before them, a first part of them, and at most one square more; each image now has all of
 -- them. Where the keeper is still live, it was so all along, nothing is torn, and no image has a square more. Images since an
--- earlier moment are those had before, and those since then.
+-- earlier moment are those had before, and those since then. Images at an earlier moment are those that they were, and what
+-- each image has at a moment each image has from then on.
 pub record HasKept (m : Module) (start : List Entry) (old new : Keeper) (given : List Entry) : Type 0 where
   pub are_of : AreOf m start given
   pub kept : new.kept ≡ with_squares old.kept given
@@ -94,6 +117,8 @@ pub record HasKept (m : Module) (start : List Entry) (old new : Keeper) (given :
       IsImagePart list given image)
   pub earlier : IfSome old.kept (λ list. (m : ℕ) (image : Option (List Entry)) → m ≤ old.moment →
       new.since m image ↔ (old.since m image ⊎ new.since old.moment image))
+  pub past : (t : ℕ) (image : Option (List Entry)) → t ≤ old.moment → new.images_at t image ↔ old.images_at t image
+  pub retained : IfSome old.kept (λ _. Retains old new)
 
 -- ---- a call that gives squares to a keeper
 

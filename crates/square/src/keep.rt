@@ -3,8 +3,8 @@ ghost use Rattle.std.specs.Prelude.{◌≡◌, ◌≢◌, ℕ, ◌≤◌, ◌<�
 ghost use Rattle.edge.specs.Faults.{HasRisen, one_up};
 ghost use Rattle.resolution_laws.specs.Start.{Entry};
 ghost use Rattle.square.specs.Squares.{entry_of};
-ghost use Rattle.square.specs.Keeping.{Keeper, with_squares, IsNextIn, IsImageBetween};
-ghost use Rattle.square.specs.Inside.MemKeep.{keep_fails, after_keep, after_failed_keep, IsFirstPart, whole_part, longer_part};
+ghost use Rattle.square.specs.Keeping.{Keeper, with_squares, IsNextIn, IsImageBetween, WasImageSince, HasFirst, Retains};
+ghost use Rattle.square.specs.Inside.MemKeep.{keep_fails, after_keep, after_failed_keep, IsFirstPart, IsPartOf, whole_part, longer_part, parts_since};
 ghost use Rattle.square.specs.declared.keep.KeepFault as KeepFault;
 ghost use Rattle.square.specs.declared.keep.KeepFault.TheVariants.{Failed, Memory as WantOfMemory};
 
@@ -71,7 +71,14 @@ pub trait Keep {
         ensures earlier { IfSome (telling self.old).kept (λ list. (m : ℕ) (image : Option (List Entry)) →
             m ≤ (telling self.old).moment →
             (telling self.new).since m image
-            ↔ ((telling self.old).since m image ⊎ (telling self.new).since (telling self.old).moment image)) };
+            ↔ ((telling self.old).since m image ⊎ (telling self.new).since (telling self.old).moment image)) }
+        ensures past { (t : ℕ) (image : Option (List Entry)) → t ≤ (telling self.old).moment →
+            (telling self.new).images_at t image ↔ (telling self.old).images_at t image }
+        ensures retained { IfSome (telling self.old).kept (λ _. Retains (telling self.old) (telling self.new)) };
+
+    /// The images since a moment are those at it and at the moments behind it.
+    ghost since_is: { (k : Self) (t : ℕ) (image : Option (List Entry)) → (telling k).since t image
+        ↔ WasImageSince (telling k) t image };
 
     /// An image since a moment is one since each earlier moment.
     ghost since_earlier: { (k : Self) (m n : ℕ) (image : Option (List Entry)) → m ≤ n → (telling k).since n image →
@@ -95,6 +102,7 @@ impl Keep for NoKeep {
       resolved = None;
       start = None;
       moment = 0;
+      images_at = λ _ _. ⊥;
       since = λ _ _. ⊥;
     } };
 
@@ -103,6 +111,8 @@ impl Keep for NoKeep {
     {
         Ok(())
     }
+
+    ghost since_is = { λ _ _ _. (λ e. absurd e, λ w. absurd w.there) };
 
     ghost since_earlier = { λ _ _ _ _ _ e. e };
 
@@ -180,6 +190,7 @@ impl Keep for MemKeep {
       resolved = None;
       start = None;
       moment = length k.list;
+      images_at = λ t image. IsPartOf k.list t image;
       since = λ m image. IsFirstPart k.list m image;
     } };
 
@@ -199,6 +210,12 @@ impl Keep for MemKeep {
         ensures earlier { (m : ℕ) (image : Option (List Entry)) → m ≤ length self.old.list →
             IsFirstPart self.new.list m image
             ↔ (IsFirstPart self.old.list m image ⊎ IsFirstPart self.new.list (length self.old.list) image) }
+        ensures past { (t : ℕ) (image : Option (List Entry)) → t ≤ length self.old.list →
+            IsPartOf self.new.list t image ↔ IsPartOf self.old.list t image }
+        ensures retained { (first : List Entry) (u v : ℕ) → length self.old.list ≤ u → u ≤ v →
+            v ≤ length self.new.list →
+            ((image : Option (List Entry)) → IsPartOf self.new.list u image → HasFirst first image) →
+            (image : Option (List Entry)) → IsPartOf self.new.list v image → HasFirst first image }
         ensures keeps { OnOk result ((keep_fails self.old ≡ false) × (self.new ≡ after_keep self.old square.now)) }
         ensures fails { OnErr result ((keep_fails self.old ≡ true) × (result ≡ Err KeepFault.Failed)
             × (self.new ≡ after_failed_keep self.old)) }
@@ -215,6 +232,8 @@ impl Keep for MemKeep {
             .then(square.s(), square.above(), square.gens(), square.kernel());
         Ok(())
     }
+
+    ghost since_is = { λ k t image. parts_since (k.live ≡ true) k.faults k.list t image };
 
     ghost since_earlier = { λ k m n image before part. longer_part k.list m n image before part };
 

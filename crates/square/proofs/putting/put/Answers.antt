@@ -45,7 +45,7 @@ returns-in_err-keep-clause-err g c =
     let is : c.deref.result.now ≡ c.args.square = c.deref.ensures ∙ c.in-Ok.ensures.ok in
     let P : Placed → Type 0 = λ q. IsOf (over table.resolved) table.start q.s q.above q.content in
     on_err _ _ (not_kept _ _ _ _ table c.reserve.new.self c.deref.result.now (same_room _ _ _ c.reserve.ensures.same) (subst P (sym is) c.requires.is_of)
-    (record { never_fall = tried.never_fall; same_module = tried.same_module; same_start = tried.same_start; later = tried.later; between = tried.between; earlier = tried.earlier })
+    (record { never_fall = tried.never_fall; same_module = tried.same_module; same_start = tried.same_start; later = tried.later; between = tried.between; earlier = tried.earlier; past = tried.past; retained = tried.retained })
     c.requires.live
     (unkept g c c.in_err-keep.field-0.0 c.in_err-keep.was)
     (unmoved g c c.in_err-keep.field-0.0 c.in_err-keep.was)
@@ -71,7 +71,7 @@ returns-clause-ok g c =
     let new = g.K.Keep.telling keeper in
     let m = over table.resolved in
     let kept : HasKept m table.start old new (entry_of a ∷ []) = HasKept-one m table.start old new a (subst P (sym is) c.requires.is_of)
-    (record { never_fall = tried.never_fall; same_module = tried.same_module; same_start = tried.same_start; later = tried.later; between = tried.between; earlier = tried.earlier })
+    (record { never_fall = tried.never_fall; same_module = tried.same_module; same_start = tried.same_start; later = tried.later; between = tried.between; earlier = tried.earlier; past = tried.past; retained = tried.retained })
     c.requires.live
     c.in_ok-keep.ensures.put
     (record { images = g.met.K.Keep.image_is_kept keeper c.in_ok-keep.ensures.live; earlier = g.met.K.Keep.since_earlier keeper }) in
