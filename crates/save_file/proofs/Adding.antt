@@ -1,17 +1,18 @@
 -- A save file with one record more.
-use Rattle.std.proofs.Common.{◌≡◌, ◌⊎◌, ◌↔◌, inl, inr, ⊎_elim, ℕ, suc, ◌+◌, ◌≤◌, List, [], ◌∷◌, ◌++◌, Option, None, Some, refl, sym, ◌∙◌, ap, subst, arith, length-append}
+use Rattle.std.proofs.Common.{◌≡◌, ◌⊎◌, ◌↔◌, inl, inr, ⊎_elim, ℕ, suc, ◌+◌, ◌≤◌, List, [], ◌∷◌, ◌++◌, Option, None, Some, refl, sym, ◌∙◌, ap, subst, arith, length, length-append}
 use Rattle.std.specs.Prelude.{IfSome, Result, Ok}
 use Rattle.std.specs.Option.{option_map}
-use Rattle.std.proofs.lemmas.List.{take_at}
+use Rattle.std.proofs.lemmas.List.{append-nil, take_at}
 use Rattle.std.proofs.lemmas.List.Elements.{All-nil, All-cons, All-append}
 use Rattle.finite_module.specs.Checked.{Checked}
 use Rattle.resolution_laws.specs.Resolution.{Module}
 use Rattle.resolution_laws.specs.Start.{Entry, IsOf, AreOf}
 use Rattle.square.specs.Squares.{Placed, IsSquare, entry_of, over}
-use Rattle.square.specs.Keeping.{IsNextIn, with_squares, IsImageBetween}
-use Rattle.edge.specs.Disk.{LeavesOnly, IsTold, AreTold}
+use Rattle.square.specs.Keeping.{IsNextIn, with_squares, IsImageBetween, HasFirst}
+use Rattle.square.proofs.Retaining.{retained_entries}
+use Rattle.edge.specs.Disk.{LeavesOnly, HavePast, WasImageSince, IsTold, AreTold}
 use Rattle.save_journal.specs.Records.{Records, records_of, and_last}
-use Rattle.save_journal.specs.Journals.{IsBeforeOrAfter}
+use Rattle.save_journal.specs.Journals.{IsBeforeOrAfter, RetainsRecords, HasFirst as HasFirstRecords}
 use Rattle.save_file.specs.Reading.{square_in, and_then_squares, squares_from, squares_of}
 use Rattle.save_file.specs.Saved.{IsReadAs}
 use Rattle.save_file.specs.Files.{of_squares, of_records, digest_of, squares_in, first_records, list_in, first_squares}
@@ -89,9 +90,31 @@ module _ (m : Checked) (start : List Entry) (n : ℕ) (file body : List ℕ) (e 
       ∙ sym (first_are_all m start n file a.has)
 
   -- the squares that an image stands for
+  image_before : (c : List ℕ) → records_of (digest_of m.plain) c ≡ records_of (digest_of m.plain) file → squares_in m c ≡ Some (first_squares m n file)
+  image_before c is = all_in m start n c (has_same c is) ∙ ap (λ (l : List Entry). Some l) (first_stay c (inl is))
+
+  image_after : (c : List ℕ) → records_of (digest_of m.plain) c ≡ and_last (records_of (digest_of m.plain) file) body → squares_in m c ≡ Some (first_squares m n file ++ e ∷ [])
+  image_after c is = all_in m start (n + 1) c (has_more c is) ∙ ap (λ (l : List Entry). Some l) (first_more c is)
+
   image_between : (c : List ℕ) → IsBeforeOrAfter (digest_of m.plain) (records_of (digest_of m.plain) file) body c → (squares_in m c ≡ Some (first_squares m n file)) ⊎ (squares_in m c ≡ Some (first_squares m n file ++ e ∷ []))
-  image_between c (inl is) = inl (all_in m start n c (has_same c is) ∙ ap (λ (l : List Entry). Some l) (first_stay c (inl is)))
-  image_between c (inr is) = inr (all_in m start (n + 1) c (has_more c is) ∙ ap (λ (l : List Entry). Some l) (first_more c is))
+  image_between c (inl is) = inl (image_before c is)
+  image_between c (inr is) = inr (image_after c is)
+
+-- ---- moments of a disk, seen as squares
+
+-- what is left at a moment of a disk stands for the image
+abbrev pub WasLeftThere : (m : Checked) → (List ℕ → Type 0) → Option (List Entry) → Type 0
+WasLeftThere m images image = (c : List ℕ) × images c × (image ≡ squares_in m c)
+
+-- from old to new no square is away again
+abbrev pub RetainsSquares : {D : Type 0} (moment : D → ℕ) (at : D → ℕ → List ℕ → Type 0) (old new : D) (m : Checked) → Type 0
+RetainsSquares moment at old new m = (first : List Entry) (u v : ℕ) → moment old ≤ u → u ≤ v → v ≤ moment new → ((image : Option (List Entry)) → WasLeftThere m (at new u) image → HasFirst first image) → (image : Option (List Entry)) → WasLeftThere m (at new v) image → HasFirst first image
+
+pub past_images : {D : Type 0} (moment : D → ℕ) (at : D → ℕ → List ℕ → Type 0) (old new : D) (m : Checked) → HavePast moment at old new → (t : ℕ) (image : Option (List Entry)) → t ≤ moment old → WasLeftThere m (at new t) image ↔ WasLeftThere m (at old t) image
+past_images moment at old new m past t image le = (
+  λ left. (left.0, (past t left.0 le).0 left.1, left.2),
+  λ left. (left.0, (past t left.0 le).1 left.1, left.2),
+)
 
 -- ---- where the disk tells
 
@@ -138,6 +161,49 @@ module _ (q : Placed) (m : Checked) (start : List Entry) (n : ℕ) (digest body 
   between moment since old new None has next leaves = tt
   between moment since old new (Some file) has next leaves = λ image left.
       ⊎_elim (λ e. inl (left.2 ∙ e)) (λ e. inr (left.2 ∙ e)) (image_between m start n file body (entry_of q) (added file has next) left.0 (ends file left.0 (leaves.each left.0 left.1)))
+
+  -- all records of the file, and those with the body behind them
+  records_before : (file : List ℕ) (h : HasSquares m start n file) → records_of digest file ≡ Ok h.bodies
+  records_before file h = subst (λ d. records_of d file ≡ Ok h.bodies) (sym named) h.records
+
+  records_after : (file : List ℕ) (h : HasSquares m start n file) (c : List ℕ) → IsLast file c → HasFirstRecords digest (h.bodies ++ body ∷ []) c
+  records_after file h c is = record {
+    more = [];
+    records = is ∙ ap (λ (r : Records). and_last r body) (records_before file h) ∙ ap (λ (l : List (List ℕ)). Ok l) (sym (append-nil (h.bodies ++ body ∷ [])));
+  }
+
+  -- whoever has the body behind all of them ends with it
+  is_last : (file : List ℕ) (h : HasSquares m start n file) (c : List ℕ) → Ends file c → HasFirstRecords digest (h.bodies ++ body ∷ []) c → IsLast file c
+  is_last file h c (inr is) first = is
+  is_last file h c (inl is) first =
+      let both : Ok h.bodies ≡ Ok ((h.bodies ++ body ∷ []) ++ first.more) = sym (records_before file h) ∙ sym is ∙ first.records in
+      let same : h.bodies ≡ (h.bodies ++ body ∷ []) ++ first.more = cc in
+      let len = ap length same in
+      let behind = length-append (h.bodies ++ body ∷ []) first.more in
+      let one = length-append h.bodies (body ∷ []) in
+      absurd (omega arith)
+
+  -- What each image has, each later one has. An image at a moment stands for what was kept, or that and the new square: where each
+  -- has more than was kept, each has the new record, and so has each later one.
+  pub retained : {D : Type 0} (moment : D → ℕ) (at since : D → ℕ → List ℕ → Type 0) (old new : D) (o p : Option (List ℕ)) → ((t : ℕ) (c : List ℕ) → WasImageSince (moment new) (at new) t c → since new t c) → IfSome p (λ _. (t : ℕ) → t ≤ moment new → (c : List ℕ) × at new t c) → IfSome o (HasSquares m start n) → IsNextFor o → AreTold Ends o p
+      → IfSome o (λ file. LeavesOnly moment since old new (Ends file)) → IfSome o (λ _. RetainsRecords moment at old new digest) → IfSome (option_map (first_squares m n) o) (λ _. RetainsSquares moment at old new m)
+  retained moment at since old new None p law some has next told leaves records = tt
+  retained moment at since old new (Some file) None law some has next told leaves records = absurd told
+  retained moment at since old new (Some file) (Some d) law some has next told leaves records = λ first u v from le within all image left.
+      let a = added file has next in
+      let ends_at : (t : ℕ) (c : List ℕ) → moment old ≤ t → t ≤ moment new → at new t c → Ends file c = λ t c early late there. leaves.each c (law (moment old) c (record { moment = t; from = early; within = late; image = there })) in
+      let bodies = has.bodies ++ body ∷ [] in
+      let lasting : ((c : List ℕ) → at new u c → IsLast file c) → (c : List ℕ) → at new v c → IsLast file c = λ each c there. is_last file has c (ends_at v c (omega arith) within there) (records bodies u v from le within (λ b here. records_after file has b (each b here)) c there) in
+      subst (HasFirst first) (sym left.2)
+      (retained_entries (at new u) (at new v) (λ c. records_of digest c ≡ records_of digest file) (IsLast file) (squares_in m) (first_squares m n file) (entry_of q)
+      (λ c there. ends_at u c from (omega arith) there)
+      (λ c there. ends_at v c (omega arith) within there)
+      (λ c is. image_before m start n file body (entry_of q) a c (subst (λ d. records_of d c ≡ records_of d file) named is))
+      (λ c is. image_after m start n file body (entry_of q) a c (lasts file c is))
+      (some u (omega arith))
+      lasting first
+      (λ c there. all (squares_in m c) (c, there, refl))
+      left.0 left.1)
 
 -- ---- moments
 

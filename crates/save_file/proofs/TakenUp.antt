@@ -108,8 +108,8 @@ module _ {D : Type 0} (now : D → Option (List ℕ)) (images : D → List ℕ �
     kept = subst (λ t. kept_in now (Taken journal t n) ≡ option_map (λ _. table.start) (now old)) (sym taken) (subst (λ k. kept_in now (Taken journal table k) ≡ option_map (λ _. table.start) (now old)) (sym counted)
         (ap (λ (y : Checked). option_map (first_squares y (length bodies)) (now journal.disk)) same ∙ kept_told m table.start bodies squares (now old) (now journal.disk) h.file h.is))
 
-    pub keeper : (moment : D → ℕ) (since : D → ℕ → List ℕ → Type 0) (faults : D → ℕ) → IsKeeperOf (telling_of now moment images since faults (Taken journal x n)) table
-    keeper moment since faults = record {
+    pub keeper : (moment : D → ℕ) (images_at since : D → ℕ → List ℕ → Type 0) (faults : D → ℕ) → IsKeeperOf (telling_of now moment images images_at since faults (Taken journal x n)) table
+    keeper moment images_at since faults = record {
       holds = subst (λ (o : Option (List Entry)). IfSome o (λ list. HoldsTable list table.rows)) (sym kept) (where_mapped (now old) table.start (λ list. HoldsTable list table.rows) (holds_start table is_table read));
       resolved = ap (λ (t : Staircase). t.resolved) (sym taken);
       start = ap (λ (t : Staircase). t.start) (sym taken);

@@ -40,19 +40,24 @@ pub record TakesSquares {D : Type 0} (now : D → Option (List ℕ)) (images : D
 abbrev pub kept_in : {D : Type 0} → (D → Option (List ℕ)) → SaveState D → Option (List Entry)
 kept_in now k = option_map (first_squares k.resolved k.count) (now k.journal.disk)
 
+-- the image is what a file stands for that a crash at that moment may have left
+abbrev pub WasLeftAt : {D : Type 0} → (D → ℕ → List ℕ → Type 0) → SaveState D → ℕ → Option (List Entry) → Type 0
+WasLeftAt images_at k t image = (c : List ℕ) × images_at k.journal.disk t c × (image ≡ squares_in k.resolved c)
+
 -- the image is what a file stands for that a crash may have left since then
 abbrev pub WasLeft : {D : Type 0} → (D → ℕ → List ℕ → Type 0) → SaveState D → ℕ → Option (List Entry) → Type 0
 WasLeft since k t image = (c : List ℕ) × since k.journal.disk t c × (image ≡ squares_in k.resolved c)
 
 -- What contracts see of it as a keeper. Its faults and moments are its disk's.
 abbrev pub telling_of : {D : Type 0} → (D → Option (List ℕ)) → (D → ℕ) → (D → List ℕ → Type 0) →
-    (D → ℕ → List ℕ → Type 0) → (D → ℕ) → SaveState D → Keeper
-telling_of now moment images since faults k = record {
+    (D → ℕ → List ℕ → Type 0) → (D → ℕ → List ℕ → Type 0) → (D → ℕ) → SaveState D → Keeper
+telling_of now moment images images_at since faults k = record {
   live = TakesSquares now images k;
   faults = faults k.journal.disk;
   kept = kept_in now k;
   resolved = Some k.resolved;
   start = Some k.start;
   moment = moment k.journal.disk;
+  images_at = WasLeftAt images_at k;
   since = WasLeft since k;
 }

@@ -50,7 +50,8 @@ pub fn resume<D: Disk>(
     ensures resolved { IfOk result (λ r. r.0.resolved ≡ «module») }
     ensures all_read { IfOk result (λ r. AllRead r.0.rows) }
     ensures live { IfOk result (λ r. TakesSquares D.now D.images r.1) }
-    ensures keeper { IfOk result (λ r. IsKeeperOf (telling_of D.now D.moment D.images D.since D.faults r.1) r.0) }
+    ensures keeper { IfOk result
+        (λ r. IsKeeperOf (telling_of D.now D.moment D.images D.images_at D.since D.faults r.1) r.0) }
     ensures kept { IfOk result (λ r. kept_in D.now r.1 ≡ option_map (λ _. r.0.start) (D.now disk)) }
     ensures file { IfOk result
         (λ r. D.now r.1.journal.disk ≡ option_map (opened (digest_of «module».plain)) (D.now disk)) }

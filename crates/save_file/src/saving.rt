@@ -3,7 +3,7 @@ ghost use Rattle.std.specs.Prelude.{◌≡◌, IfOk};
 ghost use Rattle.square.specs.Squares.{IsSquare};
 ghost use Rattle.save_file.specs.Saved.{IsReadAs};
 ghost use Rattle.save_file.specs.Saving.{telling_of};
-ghost use Rattle.save_file.specs.Inside.SavingLaws.{left_earlier, left_is_kept};
+ghost use Rattle.save_file.specs.Inside.SavingLaws.{left_since, left_earlier, left_is_kept};
 
 use crate::writing::encode;
 use edge::Disk;
@@ -53,7 +53,7 @@ impl<D: Disk> SaveFile<D> {
 }
 
 impl<D: Disk> Keep for SaveFile<D> {
-    ghost telling = { λ k. telling_of D.now D.moment D.images D.since D.faults k };
+    ghost telling = { λ k. telling_of D.now D.moment D.images D.images_at D.since D.faults k };
 
     fn keep(&mut self, square: &Square) -> Result<(), KeepFault> {
         let Ok(body) = framed(self.alloc, square) else {
@@ -67,6 +67,9 @@ impl<D: Disk> Keep for SaveFile<D> {
             Err(_) => Err(KeepFault::Failed),
         }
     }
+
+    ghost since_is = { λ k t image.
+        left_since D.now D.moment D.images D.images_at D.since D.faults D.since_is k t image };
 
     ghost since_earlier = { λ k m n image le left. left_earlier D.since D.since_earlier k m n image le left };
 

@@ -1,23 +1,38 @@
 -- The laws of the keeper of a save file.
 use Rattle.std.proofs.Common.{sym, ◌∙◌, ap, arith}
 use Rattle.std.proofs.lemmas.List.{take_all}
-use Rattle.std.specs.Prelude.{◌≡◌, ℕ, ◌≤◌, List, Option, None, Some, Ok, IfSome}
+use Rattle.std.specs.Prelude.{◌≡◌, ◌↔◌, ℕ, ◌≤◌, List, Option, None, Some, Ok, IfSome}
 use Rattle.std.specs.Option.{option_map}
 use Rattle.std.specs.Result.{result_ok}
 use Rattle.finite_module.specs.Checked.{Checked}
 use Rattle.resolution_laws.specs.Start.{Entry}
 use Rattle.square.specs.Squares.{over}
-use Rattle.edge.specs.Disk.{Only}
+use Rattle.square.specs.Keeping.{WasImageSince}
+use Rattle.edge.specs.Disk.{Only, WasImageSince as WasFileSince}
 use Rattle.save_journal.specs.Journals.{IsSettled}
 use Rattle.save_journal.specs.Records.{Records}
 use Rattle.save_file.specs.Files.{Standing, of_squares, of_records, standing_of, squares_in, first_records, list_in, first_squares}
-use Rattle.save_file.specs.Saving.{SaveState, HasSquares, TakesSquares, kept_in, WasLeft}
+use Rattle.save_file.specs.Saving.{SaveState, HasSquares, TakesSquares, kept_in, WasLeftAt, WasLeft, telling_of}
 
 pub left_earlier : {D : Type 0} (since : D → ℕ → List ℕ → Type 0)
     (law : (d : D) (t u : ℕ) (c : List ℕ) → t ≤ u → since d u c → since d t c) (k : SaveState D) (m n : ℕ)
     (image : Option (List Entry)) →
     m ≤ n → WasLeft since k n image → WasLeft since k m image
 left_earlier since law k m n image le left = (left.0, law k.journal.disk m n left.0 le left.1, left.2)
+
+pub left_since : {D : Type 0} (now : D → Option (List ℕ)) (moment : D → ℕ) (images : D → List ℕ → Type 0)
+    (images_at since : D → ℕ → List ℕ → Type 0) (faults : D → ℕ)
+    (law : (d : D) (t : ℕ) (c : List ℕ) → since d t c ↔ WasFileSince (moment d) (images_at d) t c) (k : SaveState D)
+    (t : ℕ) (image : Option (List Entry)) →
+    WasLeft since k t image ↔ WasImageSince (telling_of now moment images images_at since faults k) t image
+left_since now moment images images_at since faults law k t image = (
+  λ left.
+      let was = (law k.journal.disk t left.0).0 left.1 in
+      record { moment = was.moment; from = was.from; within = was.within; there = (left.0, was.image, left.2) },
+  λ was.
+      let left = was.there in
+      (left.0, (law k.journal.disk t left.0).1 (record { moment = was.moment; from = was.from; within = was.within; image = left.1 }), left.2),
+)
 
 -- what a file with squares stands for
 pub standing_is : (m : Checked) (start : List Entry) (n : ℕ) (file : List ℕ) (h : HasSquares m start n file) →

@@ -114,7 +114,7 @@ returns-in-Ok-read_bodies-clause-keeper g c =
     let at = (goal.at.returns-in-Ok-read_bodies-clause-keeper g c).After-read_bodies in
     keeper g.D.Disk.now g.D.Disk.images c.args.module c.args.disk c.in-Ok-open.opened.0 (contents c.in-Ok-open.opened.1.items) (opened_here g at) c.read_bodies.new.table c.of-opened.result.value c.len-count.result c.of-opened.ensures
     (omega (arith, length-map c.in-Ok-open.opened.1.items (λ v. v.items), c.len-count.ensures, c.in-Ok-open.opened.1.ok)) (c.read_bodies.ensures.resolved ∙ c.in-Ok.ensures.resolved) (squares_here g at (Ok c.read_bodies.new.table.start) c.in-Ok-read_bodies.ensures.read) c.in-Ok-read_bodies.ensures.is_table c.read_bodies.ensures.all_read
-    g.D.Disk.moment g.D.Disk.since g.D.Disk.faults
+    g.D.Disk.moment g.D.Disk.images_at g.D.Disk.since g.D.Disk.faults
 
 pub returns-in-Ok-read_bodies-clause-kept : goal.returns-in-Ok-read_bodies-clause-kept
 returns-in-Ok-read_bodies-clause-kept g c =

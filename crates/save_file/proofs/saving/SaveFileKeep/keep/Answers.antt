@@ -1,5 +1,5 @@
 use Rattle.std.proofs.Common.{◌+◌, arith}
-use Rattle.save_file.proofs.Keeping.{put, unput, takes, between, earlier, unchanged}
+use Rattle.save_file.proofs.Keeping.{put, unput, takes, between, earlier, unchanged, past, past_unchanged, retained, retained_unchanged}
 use Rattle.save_file.proofs.saving.SaveFileKeep.keep.Goals as goal
 
 pub returns-in_default-clause-earlier : goal.returns-in_default-clause-earlier
@@ -45,3 +45,31 @@ pub returns-clause-earlier : goal.returns-clause-earlier
 returns-clause-earlier g c =
     earlier g.D.Disk.now g.D.Disk.moment g.D.Disk.since (record { journal = c.self.inside.journal; count = c.self.inside.count; resolved = c.self.inside.opened.value.resolved; start = c.self.inside.opened.value.start }) c.args.self.now c.self.view_is
     c.append.new.self c.self.inside.count (λ t u x le s. g.met.D.Disk.since_earlier c.append.new.self.disk t u x le s) c.append.ensures.time
+
+pub returns-in_default-clause-past : goal.returns-in_default-clause-past
+returns-in_default-clause-past g c = past_unchanged g.D.Disk.moment g.D.Disk.images_at c.args.self.now
+
+pub returns-in_default-clause-retained : goal.returns-in_default-clause-retained
+returns-in_default-clause-retained g c = retained_unchanged g.D.Disk.now g.D.Disk.moment g.D.Disk.images_at c.args.self.now
+
+pub returns-in-Ok-append-clause-past : goal.returns-in-Ok-append-clause-past
+returns-in-Ok-append-clause-past g c =
+    past g.D.Disk.moment g.D.Disk.images_at (record { journal = c.self.inside.journal; count = c.self.inside.count; resolved = c.self.inside.opened.value.resolved; start = c.self.inside.opened.value.start }) c.args.self.now c.self.view_is
+    c.append.new.self (c.self.inside.count + 1) c.append.ensures.past
+
+pub returns-in-Ok-append-clause-retained : goal.returns-in-Ok-append-clause-retained
+returns-in-Ok-append-clause-retained g c =
+    retained g.D.Disk.now g.D.Disk.moment g.D.Disk.images g.D.Disk.since c.args.square.now c.in-Ok.body (record { journal = c.self.inside.journal; count = c.self.inside.count; resolved = c.self.inside.opened.value.resolved; start = c.self.inside.opened.value.start }) c.args.self.now c.self.view_is
+    (record { takes = c.requires.live; next = c.requires.next; resolved = c.requires.resolved; start = c.requires.start; reads = c.in-Ok.ensures.read; square = c.in-Ok.ensures.is_square })
+    c.append.new.self (c.self.inside.count + 1) g.D.Disk.images_at (λ t x was. (g.met.D.Disk.since_is c.append.new.self.disk t x).1 was) (g.met.D.Disk.some_image c.append.new.self.disk) c.append.ensures.told c.append.ensures.any_moment c.append.ensures.retained
+
+pub returns-clause-past : goal.returns-clause-past
+returns-clause-past g c =
+    past g.D.Disk.moment g.D.Disk.images_at (record { journal = c.self.inside.journal; count = c.self.inside.count; resolved = c.self.inside.opened.value.resolved; start = c.self.inside.opened.value.start }) c.args.self.now c.self.view_is
+    c.append.new.self c.self.inside.count c.append.ensures.past
+
+pub returns-clause-retained : goal.returns-clause-retained
+returns-clause-retained g c =
+    retained g.D.Disk.now g.D.Disk.moment g.D.Disk.images g.D.Disk.since c.args.square.now c.in-Ok.body (record { journal = c.self.inside.journal; count = c.self.inside.count; resolved = c.self.inside.opened.value.resolved; start = c.self.inside.opened.value.start }) c.args.self.now c.self.view_is
+    (record { takes = c.requires.live; next = c.requires.next; resolved = c.requires.resolved; start = c.requires.start; reads = c.in-Ok.ensures.read; square = c.in-Ok.ensures.is_square })
+    c.append.new.self c.self.inside.count g.D.Disk.images_at (λ t x was. (g.met.D.Disk.since_is c.append.new.self.disk t x).1 was) (g.met.D.Disk.some_image c.append.new.self.disk) c.append.ensures.told c.append.ensures.any_moment c.append.ensures.retained
