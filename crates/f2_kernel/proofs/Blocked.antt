@@ -89,6 +89,11 @@ number_small [] = omega arith
 number_small (true ∷ cs) = omega (arith, number_small cs, pow-suc 2 (length cs))
 number_small (false ∷ cs) = omega (arith, number_small cs, pow-suc 2 (length cs))
 
+-- a digit is 0 or 1
+pub digit : (b : Bool) → cond b 1 0 ≤ 1
+digit true = omega arith
+digit false = omega arith
+
 -- the digits at up to eight places make a number below 256
 pub few_digits : (v : List Bool) (ps : List ℕ) → length ps ≤ 8 → number (map (bit v) ps) < 256
 few_digits v ps l =

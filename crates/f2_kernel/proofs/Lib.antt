@@ -5,3 +5,8 @@ mod ByForm
 mod Steps
 mod Words
 mod Blocked
+mod CommonOnes
+pub mod Basis
+mod BlockProducts
+mod Marks
+mod Tested

@@ -201,7 +201,7 @@ fn pivots_of(alloc: Global, rows: &[BitVec]) -> Result<Vec<usize>, Memory>
 ///
 /// # Errors
 /// `Memory` if allocation fails.
-fn sums_of(alloc: Global, n: usize, rows: &[BitVec]) -> Result<Vec<BitVec>, Memory>
+pub fn sums_of(alloc: Global, n: usize, rows: &[BitVec]) -> Result<Vec<BitVec>, Memory>
     requires { HaveWidth n rows.now }
     ensures { IfOk result (λ sums. sums.items ≡ sums_of_all n rows.now) }
 {

@@ -1,8 +1,8 @@
-use Rattle.std.proofs.Common.{◌≡◌, ℕ, ◌+◌, ◌*◌, ◌<◌, ◌≤◌, Bool, true, false, cond, List, [], ◌∷◌, map, take, length, get_or, sym, ap, subst, ◌∙◌, arith}
+use Rattle.std.proofs.Common.{◌≡◌, ℕ, ◌+◌, ◌*◌, ◌<◌, ◌≤◌, Bool, cond, List, [], ◌∷◌, map, take, length, get_or, sym, ap, subst, ◌∙◌, arith}
 use Rattle.std.proofs.lemmas.List.{take_more, map-append, length-take-le}
 use Rattle.f2_vec.specs.Vectors.{bit}
 use Rattle.f2_kernel.specs.Inside.Sums.{number}
-use Rattle.f2_kernel.proofs.Blocked.{number-push, few_digits}
+use Rattle.f2_kernel.proofs.Blocked.{number-push, few_digits, digit}
 use Rattle.f2_kernel.proofs.blocks.number_at.Goals as goal
 
 -- one digit more
@@ -13,10 +13,6 @@ digits v ps i l =
 -- the number so far
 small : (v : List Bool) (ps : List ℕ) (i x : ℕ) → length ps ≤ 8 → i < length ps → x ≡ number (map (bit v) (take i ps)) → x < 256
 small v ps i x l m e = subst (λ z. z < 256) (sym e) (few_digits v (take i ps) (omega (arith, l, m, length-take-le i ps (omega arith))))
-
-digit : (b : Bool) → cond b 1 0 ≤ 1
-digit true = omega arith
-digit false = omega arith
 
 pub overflow_mul-number : goal.overflow_mul-number
 overflow_mul-number c = let s = small c.args.vector.now c.args.places.now c.loop-i.i c.loop-i.number c.requires.few c.loop-i-test.true c.loop-i.invariant in omega (arith, s)

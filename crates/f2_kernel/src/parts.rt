@@ -1,0 +1,143 @@
+//! Whether rows are the parts of a matrix's reduction.
+ghost use Rattle.std.specs.Prelude.{◌≡◌, ◌↔◌, ℕ, ◌<◌, true, false, length, IsTrue, IfOk};
+ghost use Rattle.f2_vec.specs.Vectors.{bit, zeros, IsZero, IsFirstOne};
+ghost use Rattle.f2_vec.specs.Spans.{row, HaveWidth, combination};
+ghost use Rattle.f2_matrix.specs.Echelon.{IsReduced, HasNoZeroRow};
+ghost use Rattle.f2_matrix.specs.Parts.{AreReductionParts};
+
+use crate::echelon::{have_common_one, is_row_basis};
+use crate::products::add_products;
+use f2_matrix::Matrix;
+use f2_vec::BitVec;
+use memory::Memory;
+use std::alloc::Global;
+
+/// Whether these are the image rows, the chosen preimages and the kernel rows of the matrix's reduction, where the kernel rows are
+/// in reduced echelon form without a zero row. Nothing is eliminated: the products of chosen and kernel rows with the matrix are
+/// made, and compared with the image rows and with zero.
+///
+/// # Errors
+/// `Memory` if allocation fails.
+pub fn are_parts(
+    alloc: Global,
+    matrix: &Matrix,
+    image: &[BitVec],
+    chosen: &[BitVec],
+    kernel: &[BitVec],
+) -> Result<bool, Memory>
+    requires image { HaveWidth matrix.now.cols image.now }
+    requires chosen { HaveWidth (length matrix.now.rows) chosen.now }
+    requires kernel { HaveWidth (length matrix.now.rows) kernel.now }
+    requires reduced { IsReduced kernel.now }
+    requires nonzero { HasNoZeroRow kernel.now }
+    ensures { IfOk result
+        (λ are. IsTrue are ↔ AreReductionParts matrix.now.cols matrix.now.rows image.now chosen.now kernel.now) }
+{
+    let height = matrix.rows().len();
+    let fit = image.len().checked_add(kernel.len()) == Some(height);
+    if !fit || chosen.len() != image.len() {
+        return Ok(false);
+    }
+    let is_basis = is_row_basis(alloc, matrix.cols(), image)?;
+    if !is_basis {
+        return Ok(false);
+    }
+    let clear = are_clear(alloc, height, kernel, chosen)?;
+    if !clear {
+        return Ok(false);
+    }
+    have_products(alloc, matrix, image, chosen, kernel)
+}
+
+/// Whether each vector, of length `n`, has a 0 at the pivot of each row.
+///
+/// # Errors
+/// `Memory` if allocation fails.
+fn are_clear(alloc: Global, n: usize, rows: &[BitVec], vectors: &[BitVec]) -> Result<bool, Memory>
+    requires rows { HaveWidth n rows.now }
+    ensures { IfOk result (λ are. IsTrue are ↔ ((i j p : ℕ) → i < length vectors.now → IsFirstOne (row rows.now j) p →
+        bit (row vectors.now i) p ≡ false)) }
+{
+    let pivots = marks_of(alloc, n, rows)?;
+    Ok(are_zero_at(vectors, &pivots))
+}
+
+/// Whether each vector has a 0 wherever the marks have a 1.
+fn are_zero_at(vectors: &[BitVec], marks: &BitVec) -> bool
+    ensures { IsTrue result ↔ ((i p : ℕ) → i < length vectors.now → bit marks.now p ≡ true →
+        bit (row vectors.now i) p ≡ false) }
+{
+    for vector in vectors {
+        if have_common_one(vector, marks) {
+            return false;
+        }
+    }
+    true
+}
+
+/// The vector of length `n` with a 1 at just the pivots of the rows.
+///
+/// # Errors
+/// `Memory` if allocation fails.
+fn marks_of(alloc: Global, n: usize, rows: &[BitVec]) -> Result<BitVec, Memory>
+    requires { HaveWidth n rows.now }
+    ensures marked { IfOk result (λ marks. (p : ℕ) → bit marks p ≡ true → (j : ℕ) × IsFirstOne (row rows.now j) p) }
+    ensures marks_all { IfOk result (λ marks. (j p : ℕ) → IsFirstOne (row rows.now j) p → bit marks p ≡ true) }
+{
+    let mut marks = BitVec::zero(alloc, n)?;
+    for row in rows {
+        if let Some(pivot) = row.first_one() {
+            marks.set(pivot, true);
+        }
+    }
+    Ok(marks)
+}
+
+/// Whether the products of the chosen rows with the matrix are the image rows, and those of the kernel rows are zero.
+///
+/// # Errors
+/// `Memory` if allocation fails.
+fn have_products(
+    alloc: Global,
+    matrix: &Matrix,
+    image: &[BitVec],
+    chosen: &[BitVec],
+    kernel: &[BitVec],
+) -> Result<bool, Memory>
+    requires image { HaveWidth matrix.now.cols image.now }
+    requires as_many { length chosen.now ≡ length image.now }
+    requires chosen { HaveWidth (length matrix.now.rows) chosen.now }
+    requires kernel { HaveWidth (length matrix.now.rows) kernel.now }
+    ensures { IfOk result (λ have. IsTrue have ↔ (((i : ℕ) → i < length image.now →
+        combination matrix.now.cols (row chosen.now i) matrix.now.rows ≡ row image.now i)
+        × ((i : ℕ) → i < length kernel.now →
+        combination matrix.now.cols (row kernel.now i) matrix.now.rows ≡ zeros matrix.now.cols))) }
+{
+    let n = matrix.cols();
+    let mut rests = Vec::from_clones(alloc, image)?;
+    let mut relations = BitVec::zero_rows(alloc, kernel.len(), n)?;
+    add_products(
+        alloc,
+        n,
+        matrix.rows(),
+        chosen,
+        rests.as_mut_slice(),
+        kernel,
+        relations.as_mut_slice(),
+    )?;
+    let products = are_zero(rests.as_slice());
+    let vanish = are_zero(relations.as_slice());
+    Ok(products && vanish)
+}
+
+/// Whether each row is zero.
+fn are_zero(rows: &[BitVec]) -> bool
+    ensures { IsTrue result ↔ ((i : ℕ) → i < length rows.now → IsZero (row rows.now i)) }
+{
+    for row in rows {
+        if !row.is_zero() {
+            return false;
+        }
+    }
+    true
+}
