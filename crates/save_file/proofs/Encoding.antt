@@ -12,7 +12,7 @@ use Rattle.square.specs.Keeping.{IsNextIn}
 use Rattle.save_file.specs.Bodies.{body_bytes, body_of, content_in, target_dim, source_dim, HasRules}
 use Rattle.save_file.specs.Reading.{square_in}
 use Rattle.save_file.specs.Saved.{IsClosed, IsReadAs}
-use Rattle.save_file.proofs.Basis.{basis_few}
+use Rattle.f2_kernel.proofs.Basis.{basis_few}
 use Rattle.save_file.proofs.Entries.{some_is}
 use Rattle.save_file.proofs.Rules.{each_is_read}
 

@@ -3,8 +3,6 @@ mod RowByRow
 mod Outlines
 mod Bodies
 mod Examples
-mod Basis
-mod CommonOnes
 mod Rules
 pub mod Entries
 mod Decoding

@@ -11,10 +11,11 @@ use Rattle.resolution_laws.specs.Start.{Entry, entry_at}
 use Rattle.resolution_laws.proofs.StartLaws.{IsElsewhere, entry_at-other}
 use Rattle.square.specs.declared.range.TheConstants.{MAX_S, MAX_T}
 use Rattle.save_file.specs.Bodies.{Body, body_bytes, body_of, entry_in, IsNextPlace, HasRules, target_dim, source_dim}
-use Rattle.save_file.specs.Reading.{body_at, matrix_at, matrix_len, is_row_basis, has_before, has_below, is_next_place, has_rules, square_in, and_then_squares, squares_from, squares_of}
+use Rattle.save_file.specs.Reading.{body_at, matrix_at, matrix_len, has_before, has_below, is_next_place, has_rules, square_in, and_then_squares, squares_from, squares_of}
 use Rattle.save_file.specs.Saved.{IsClosed}
 use Rattle.save_file.specs.Laws.{FitNumbers, IsReading}
-use Rattle.save_file.proofs.Basis.{basis_tested, basis_passes}
+use Rattle.f2_kernel.specs.Tests.{is_row_basis}
+use Rattle.f2_kernel.proofs.Basis.{basis_tested, basis_passes}
 use Rattle.save_file.proofs.Bodies.{FitsBytes, body_again, wide_at}
 
 -- ---- the next place

@@ -1,15 +1,10 @@
 -- What holds of the reading of bodies.
-use Rattle.std.specs.Prelude.{◌≡◌, ℕ, ◌<◌, ◌^◌, ◌↔◌, IsTrue, Bool, List, Some, Ok}
-use Rattle.f2_matrix.specs.Echelon.{IsReduced, HasNoZeroRow}
+use Rattle.std.specs.Prelude.{◌≡◌, ℕ, ◌<◌, ◌^◌, List, Some, Ok}
 use Rattle.resolution_laws.specs.Resolution.{Module}
 use Rattle.resolution_laws.specs.Start.{Entry}
 use Rattle.save_file.specs.Bodies.{Body, body_bytes, entry_in, HasRules}
-use Rattle.save_file.specs.Reading.{is_row_basis, square_in, squares_of}
+use Rattle.save_file.specs.Reading.{square_in, squares_of}
 use Rattle.save_file.specs.Saved.{IsClosed}
-
--- the test of the echelon form is that of the form
-abbrev pub RowBasisIsTested : Type 0
-RowBasisIsTested = (rows : List (List Bool)) → IsTrue (is_row_basis rows) ↔ (IsReduced rows × HasNoZeroRow rows)
 
 -- the dimensions of a body fit the eight bytes of their numbers
 abbrev pub FitNumbers : Body → Type 0

@@ -1,11 +1,10 @@
 -- What bytes say as the body of a square, and the squares of a list of bodies.
-use Rattle.std.specs.Prelude.{ℕ, zero, suc, ◌+◌, ◌*◌, ◌/◌, ◌%◌, ◌==◌, nat_eq, nat_le, nat_lt, Bool, true, not, ◌&&◌, if◌then◌else◌, List, [], ◌∷◌, ◌++◌, length, map, take, drop, slice_index_or, Option, Some, None, Result, Ok, Err, is_some, is_none}
+use Rattle.std.specs.Prelude.{ℕ, zero, suc, ◌+◌, ◌*◌, ◌/◌, ◌%◌, ◌==◌, nat_eq, nat_le, Bool, true, ◌&&◌, if◌then◌else◌, List, [], ◌∷◌, ◌++◌, length, map, take, drop, slice_index_or, Option, Some, None, Result, Ok, Err, is_some, is_none}
 use Rattle.std.specs.Int.{Width, w16, w64, byte_len, from_be_bytes, bit_at, div_ceil}
-use Rattle.std.specs.List.{range_with_len, list_all}
+use Rattle.std.specs.List.{range_with_len}
 use Rattle.std.specs.Str.{bytes_eq}
-use Rattle.f2_vec.specs.Vectors.{bit}
-use Rattle.f2_matrix.specs.Preimages.{pivot_of}
-use Rattle.f2_matrix.specs.Reduction.{Rows, has_one}
+use Rattle.f2_matrix.specs.Reduction.{Rows}
+use Rattle.f2_kernel.specs.Tests.{is_row_basis}
 use Rattle.resolution_laws.specs.Resolution.{Module}
 use Rattle.resolution_laws.specs.Start.{Entry, entry_at}
 use Rattle.square.specs.declared.range.TheConstants.{MAX_S, MAX_T}
@@ -48,14 +47,6 @@ body_at bytes = record {
 }
 
 -- ---- the rules, as tests
-
--- Whether the rows are in reduced echelon form and none is zero: the first has a 1, each row below has its pivot further right, where
--- the first has a 0, and so on from the second row.
-abbrev pub is_row_basis : List (List Bool) → Bool
-is_row_basis [] = true
-is_row_basis (r ∷ rows) = (has_one r
-    && list_all (λ x. nat_lt (pivot_of r) (pivot_of x) && not (bit r (pivot_of x))) rows)
-    && is_row_basis rows
 
 abbrev pub has_before : List Entry → ℕ → ℕ → Bool
 has_before list s zero = true

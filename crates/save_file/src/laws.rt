@@ -1,10 +1,5 @@
 //! What holds of the reading of bodies.
-ghost use Rattle.save_file.specs.Laws.{RowBasisIsTested, WhatIsReadHasTheRules, EachBodyIsRead, BodyIsUnique, SquaresAreClosed};
-
-/// The test of the reduced echelon form without a zero row is true of just these rows.
-pub fn row_basis_is_tested()
-    ensures { RowBasisIsTested }
-{}
+ghost use Rattle.save_file.specs.Laws.{WhatIsReadHasTheRules, EachBodyIsRead, BodyIsUnique, SquaresAreClosed};
 
 /// Bytes that are read as a square are its body, and the rules hold.
 pub fn bodies_have_the_rules()

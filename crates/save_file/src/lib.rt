@@ -1,7 +1,6 @@
 //! Save files: the bytes of a square, written and read behind the squares before it, and the keeper that puts them into a journal.
 #![tactic(auto)]
 
-mod echelon;
 mod fault;
 mod laws;
 mod outline;
@@ -12,9 +11,7 @@ mod saving;
 mod writing;
 
 pub use fault::{DecodeFault, ResumeFault};
-pub use laws::{
-    bodies_have_the_rules, each_body_is_read, one_body, row_basis_is_tested, squares_are_closed,
-};
+pub use laws::{bodies_have_the_rules, each_body_is_read, one_body, squares_are_closed};
 pub use reading::decode;
 pub use resuming::resume;
 pub use saving::SaveFile;

@@ -8,10 +8,10 @@ ghost use Rattle.save_file.specs.Saved.{IsDecoded};
 ghost use Rattle.save_file.specs.Inside.Outline.{outline_of, IsPlaceFor, HasDimensions};
 ghost use Rattle.save_file.specs.declared.fault.DecodeFault.TheVariants.{Strange};
 
-use crate::echelon::is_row_basis;
 use crate::fault::DecodeFault;
 use crate::outline::{Parts, parts_of};
 use crate::rows::unpack;
+use f2_kernel::is_row_basis;
 use memory::Memory;
 use square::{MAX_S, MAX_T, Square, Table};
 use std::alloc::Global;

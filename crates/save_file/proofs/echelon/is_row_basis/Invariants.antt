@@ -1,6 +1,0 @@
--- The rows from place i on are in the form.
-use Rattle.save_file.proofs.Basis.{AreInForm}
-use Rattle.save_file.proofs.echelon.is_row_basis.Given as goal
-
-abbrev pub invariant-loop-i : goal.invariant-loop-i
-invariant-loop-i l = AreInForm l.n l.i l.next l.pivots l.rows

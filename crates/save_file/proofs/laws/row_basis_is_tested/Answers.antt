@@ -1,5 +1,0 @@
-use Rattle.save_file.proofs.Basis.{basis_tested, basis_passes}
-use Rattle.save_file.proofs.laws.row_basis_is_tested.Goals as goal
-
-pub returns : goal.returns
-returns c = λ rows. (basis_tested rows, λ h. basis_passes rows h.0 h.1)
