@@ -1,5 +1,6 @@
 mod RowWidths
 pub mod Footings
+pub mod Fitting
 pub mod Places
 pub mod ByDegree
 pub mod Pushing
@@ -13,4 +14,5 @@ mod Matrices
 pub mod Targets
 pub mod Found
 pub mod Crossing
+pub mod Reducing
 pub mod Retaining

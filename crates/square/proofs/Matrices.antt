@@ -1,10 +1,11 @@
 -- The matrix of a square of a table, made of the images of the generators of its row.
-use Rattle.std.proofs.Common.{◌≡◌, ℕ, zero, suc, ◌+◌, ◌<◌, ◌≤◌, ℤ, pos, ◌+ℤ◌, Bool, List, ◌++◌, length, take, replicate, refl, sym, ◌∙◌, ap, subst, arith, add-one}
+use Rattle.std.proofs.Common.{◌≡◌, ℕ, zero, suc, ◌+◌, ◌<◌, ◌≤◌, ℤ, pos, ◌+ℤ◌, Bool, List, [], length, take, Option, Result, Ok, Err, IfOk, refl, sym, ◌∙◌, ap, subst, arith, add-one}
 use Rattle.std.proofs.lemmas.Int.{ints}
 use Rattle.std.proofs.lemmas.List.{take_more, take-take, length-take-le, get_or-take}
 use Rattle.f2_vec.specs.Spans.{HaveWidth}
-use Rattle.f2_matrix.specs.Reduction.{Reduction, IsReductionOf}
+use Rattle.f2_matrix.specs.Reduction.{Rows}
 use Rattle.f2_matrix.proofs.Unique.{kernel_basis_unique}
+use Rattle.finite_module.specs.Checked.{Checked}
 use Rattle.free_module.specs.FreeModule.{free_width, IsWithinReach}
 use Rattle.free_module.specs.Graded.{GradedModule, free_graded}
 use Rattle.free_module.specs.LinearMap.{map_rows, AreImages}
@@ -14,8 +15,9 @@ use Rattle.resolution_laws.proofs.Generators.{AreImages-row}
 use Rattle.resolution_laws.proofs.Rows.{degrees_from-push, images_of-push, free_basis-take, IsWithinReach-row}
 use Rattle.resolution_laws.proofs.Shapes.{content_shape}
 use Rattle.resolution_laws.proofs.StartLaws.{content_is_unique, length-squares_below, squares_below-same, squares_below-take}
-use Rattle.square.specs.Squares.{Placed, IsQuasi, over, bottom_of}
-use Rattle.square.specs.Tables.{Staircase, contents, row_in, plain_rows, content_at, IsTable}
+use Rattle.square.specs.Squares.{Placed, target_width, square_matrix, over, bottom_of}
+use Rattle.square.specs.Tables.{Staircase, Footing, contents, row_in, plain_rows, content_at, IsMatrixBehind, IsTable}
+use Rattle.square.proofs.Fitting.{matrix_of}
 use Rattle.square.proofs.Places.{row_of-plain, length-row_of, table_content}
 
 -- ---- widths of images
@@ -102,27 +104,42 @@ images_fit table h (suc i) k target gens images l e1 e2 e3 =
 pub within_reach : (table : Staircase) (s k max n : ℕ) (gens : List ℤ) (t : ℤ) → gens ≡ degrees_from (over table.resolved).bottom (take n (row_of (plain_rows table.rows) s)) → t ≡ bottom_of table.resolved +ℤ pos k → k ≤ max → IsWithinReach max gens t
 within_reach table s k max n gens t e at l = IsWithinReach-row (bottom_of table.resolved) (take n (row_of (plain_rows table.rows) s)) k max gens t at e l
 
--- ---- the reduction
+-- ---- the matrix
 
-pub quasi_made : (table : Staircase) (s k : ℕ) (target : GradedModule) (gens : List ℤ) (images : List (List Bool)) (t : ℤ) (r : Reduction) → k < length (row_in table.rows s) → target ≡ target_over (over table.resolved) (below_of (plain_rows table.rows) s k) → gens ≡ degrees_from (over table.resolved).bottom (take (k + 1) (row_of (plain_rows table.rows) s)) → images ≡ images_of (take (k + 1) (row_of (plain_rows table.rows) s)) → t ≡ bottom_of table.resolved +ℤ pos k
-    → IsReductionOf (target.width t) (map_rows target gens images t) r → IsQuasi (over table.resolved) (below_of (plain_rows table.rows) s k) (take k (row_of (plain_rows table.rows) s)) (content_at table.rows s k) r
-quasi_made table s k target gens images t r l e1 e2 e3 e4 is =
+pub matrix_is : (table : Staircase) (s k : ℕ) (target : GradedModule) (gens : List ℤ) (images : List (List Bool)) (t : ℤ) → k < length (row_in table.rows s) → target ≡ target_over (over table.resolved) (below_of (plain_rows table.rows) s k) → gens ≡ degrees_from (over table.resolved).bottom (take (k + 1) (row_of (plain_rows table.rows) s)) → images ≡ images_of (take (k + 1) (row_of (plain_rows table.rows) s)) → t ≡ bottom_of table.resolved +ℤ pos k
+    → (target.width t ≡ target_width (over table.resolved) (below_of (plain_rows table.rows) s k) (take k (row_of (plain_rows table.rows) s))) × (map_rows target gens images t ≡ square_matrix (over table.resolved) (below_of (plain_rows table.rows) s k) (take k (row_of (plain_rows table.rows) s)) (content_at table.rows s k))
+matrix_is table s k target gens images t l e1 e2 e3 e4 =
     let m = over table.resolved in
     let row = row_of (plain_rows table.rows) s in
     let squares = take k row in
     let c = content_at table.rows s k in
     let whole = length-row_of table.rows s in
-    let u = m.bottom +ℤ pos (length squares) in
-    let at : t ≡ u = e4 ∙ ap (λ n. m.bottom +ℤ pos n) (sym (length-take-le k row (omega arith))) in
     let more = take_more row k no_content (omega arith) in
-    let gens_are : gens ≡ degrees_from m.bottom squares ++ replicate (length c.images) u = e2 ∙ ap (degrees_from m.bottom) more ∙ degrees_from-push m.bottom squares c in
-    let images_are : images ≡ images_of squares ++ c.images = e3 ∙ ap images_of more ∙ images_of-push squares c in
-    let wanted = target_over m (below_of (plain_rows table.rows) s k) in
-    let P : GradedModule → Type 0 = λ x. IsReductionOf (x.width t) (map_rows x gens images t) r in
-    let Q : ℤ → Type 0 = λ x. IsReductionOf (wanted.width x) (map_rows wanted gens images x) r in
-    let R : List ℤ → Type 0 = λ x. IsReductionOf (wanted.width u) (map_rows wanted x images u) r in
-    let S : List (List Bool) → Type 0 = λ x. IsReductionOf (wanted.width u) (map_rows wanted (degrees_from m.bottom squares ++ replicate (length c.images) u) x u) r in
-    subst S images_are (subst R gens_are (subst Q at (subst P e1 is)))
+    matrix_of m (below_of (plain_rows table.rows) s k) squares c target gens images t e1 (e2 ∙ ap (degrees_from m.bottom) more ∙ degrees_from-push m.bottom squares c) (e3 ∙ ap images_of more ∙ images_of-push squares c) (e4 ∙ ap (λ n. m.bottom +ℤ pos n) (sym (length-take-le k row (omega arith))))
+
+-- over the inputs of the next square of a row
+pub matrix_behind : (table : Staircase) (s : ℕ) (t : ℤ) (images : List (List Bool)) (f : Footing) (m : Rows) → t ≡ bottom_of table.resolved +ℤ pos f.above → f.resolved ≡ table.resolved → f.squares ≡ take f.above (row_of (plain_rows table.rows) s) → f.below ≡ below_of (plain_rows table.rows) s f.above
+    → m.cols ≡ target_width (over f.resolved) f.below f.squares → m.rows ≡ square_matrix (over f.resolved) f.below f.squares (record { images = images; kernel = [] }) → IsMatrixBehind table s t images m
+matrix_behind table s t images f m at resolved squares below cols rows =
+    let c : Content = record { images = images; kernel = [] } in
+    let under = below_of (plain_rows table.rows) s f.above in
+    record {
+      above = f.above;
+      degree = at;
+      cols = cols
+          ∙ ap (λ (x : Checked). target_width (over x) f.below f.squares) resolved
+          ∙ ap (λ (x : Option (List Content)). target_width (over table.resolved) x f.squares) below
+          ∙ ap (λ (x : List Content). target_width (over table.resolved) under x) squares;
+      rows = rows
+          ∙ ap (λ (x : Checked). square_matrix (over x) f.below f.squares c) resolved
+          ∙ ap (λ (x : Option (List Content)). square_matrix (over table.resolved) x f.squares c) below
+          ∙ ap (λ (x : List Content). square_matrix (over table.resolved) under x c) squares;
+    }
+
+-- what follows from two facts of an answer, where there is one
+pub if_both : {X Y : Type 0} (r : Result X Y) (P Q R : X → Type 0) → IfOk r P → IfOk r Q → ((x : X) → P x → Q x → R x) → IfOk r R
+if_both (Ok x) P Q R p q f = f x p q
+if_both (Err e) P Q R p q f = tt
 
 -- what d_s goes to over row 0, and over a row above it
 pub first_target : (table : Staircase) (s k : ℕ) → s ≡ 0 → (over table.resolved).graded ≡ target_over (over table.resolved) (below_of (plain_rows table.rows) s k)

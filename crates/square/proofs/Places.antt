@@ -9,8 +9,10 @@ use Rattle.resolution_laws.specs.Resolution.{Content, square_in, row_of, below_o
 use Rattle.resolution_laws.specs.Start.{Entry, entry_at, HasShape, squares_below, row_below, IsOf, is_of, AreBefore}
 use Rattle.resolution_laws.proofs.StartLaws.{squares_below-take, grown_content, entry_at-new}
 use Rattle.square.specs.declared.range.TheConstants.{MAX_S, MAX_T}
-use Rattle.square.specs.Squares.{Placed, content_of, IsMeasured, target_width, source_width, over, bottom_of}
-use Rattle.square.specs.Tables.{Staircase, Footing, contents, row_in, plain_rows, content_at, row_width, next_width, under_row, AreOfRow, IsNext, IsTable, IsFooting, IsReadable}
+use Rattle.std.proofs.lemmas.Option.{IfSome_then}
+use Rattle.f2_matrix.specs.Reduction.{Reduction}
+use Rattle.square.specs.Squares.{Placed, content_of, IsQuasi, IsMeasured, target_width, source_width, over, bottom_of}
+use Rattle.square.specs.Tables.{Staircase, Footing, contents, row_in, plain_rows, content_at, row_width, next_width, under_row, AreOfRow, IsNext, IsTable, IsFooting, IsReadable, IsQuasiBehind}
 use Rattle.square.proofs.RowWidths.{free_width-more, free_width-row}
 
 -- ---- rows
@@ -102,10 +104,10 @@ footing_in table h s k row degree next =
 
 -- ---- one square read more
 
-read_square : (table : Staircase) (s k : ℕ) (c : Content) → IsTable table → s ≤ MAX_S → k ≤ MAX_T → IsNext table.rows s k → HasShape (over table.resolved) (below_of (plain_rows table.rows) s k) (take k (row_of (plain_rows table.rows) s)) c
+read_square : (table : Staircase) (s k : ℕ) (c : Content) (quasi : Option Reduction) → IfSome quasi (λ r. IsQuasi (over table.resolved) (below_of (plain_rows table.rows) s k) (take k (row_of (plain_rows table.rows) s)) c r × (r.kernel ≡ c.kernel)) → IsTable table → s ≤ MAX_S → k ≤ MAX_T → IsNext table.rows s k → HasShape (over table.resolved) (below_of (plain_rows table.rows) s k) (take k (row_of (plain_rows table.rows) s)) c
     → (t : ℤ) → t ≡ bottom_of table.resolved +ℤ pos k
-    → IsMeasured (record { resolved = table.resolved; start = table.start ++ record { s = s; above = k; content = c } ∷ []; s = s; above = k; content = c; quasi = None }) t (target_width (over table.resolved) (below_of (plain_rows table.rows) s k) (take k (row_of (plain_rows table.rows) s))) (source_width (over table.resolved) (take k (row_of (plain_rows table.rows) s)) c)
-read_square table s k c h row degree next shape t at_t =
+    → IsMeasured (record { resolved = table.resolved; start = table.start ++ record { s = s; above = k; content = c } ∷ []; s = s; above = k; content = c; quasi = quasi }) t (target_width (over table.resolved) (below_of (plain_rows table.rows) s k) (take k (row_of (plain_rows table.rows) s))) (source_width (over table.resolved) (take k (row_of (plain_rows table.rows) s)) c)
+read_square table s k c quasi reduced h row degree next shape t at_t =
     let m = over table.resolved in
     let rows = plain_rows table.rows in
     let e : Entry = record { s = s; above = k; content = c } in
@@ -130,7 +132,12 @@ read_square table s k c h row degree next shape t at_t =
         is_of = is_of s k at c grown.before grown.below (subst R (sym new) (refl, fits));
         row = row;
         degree = degree;
-        kept = tt;
+        kept = IfSome_then quasi reduced (λ r is. record {
+          at = at;
+          under = grown;
+          quasi = subst (λ (x : List Content). IsQuasi m (row_below at s k) x c r) (sym before) (subst (λ (x : Option (List Content)). IsQuasi m x (take k (row_of rows s)) c r) (sym below) is.0);
+          kernel = is.1;
+        });
       };
       degree = at_t;
       widths = record { at = at; under = grown; target = w; source = ap (λ x. source_width m x c) (sym before) };
@@ -138,10 +145,10 @@ read_square table s k c h row degree next shape t at_t =
     }
 
 -- the same for the parts of a square
-pub IsMeasured-read : (table : Staircase) (s : ℕ) (t : ℤ) (c : Content) → IsTable table → IsReadable table s t c → (resolved : Checked) (start more : List Entry) (above : ℕ) (t' : ℤ) (w v : ℕ) → t ≡ bottom_of table.resolved +ℤ pos above → t' ≡ t → resolved ≡ table.resolved → start ≡ table.start → more ≡ start ++ record { s = s; above = above; content = c } ∷ []
+pub IsMeasured-read : (table : Staircase) (s : ℕ) (t : ℤ) (c : Content) (quasi : Option Reduction) → IfSome quasi (IsQuasiBehind table s t c) → IsTable table → IsReadable table s t c → (resolved : Checked) (start more : List Entry) (above : ℕ) (t' : ℤ) (w v : ℕ) → t ≡ bottom_of table.resolved +ℤ pos above → t' ≡ t → resolved ≡ table.resolved → start ≡ table.start → more ≡ start ++ record { s = s; above = above; content = c } ∷ []
     → w ≡ target_width (over table.resolved) (below_of (plain_rows table.rows) s above) (take above (row_of (plain_rows table.rows) s)) → v ≡ source_width (over table.resolved) (take above (row_of (plain_rows table.rows) s)) c
-    → IsMeasured (record { resolved = resolved; start = more; s = s; above = above; content = c; quasi = None }) t' w v
-IsMeasured-read table s t c h readable resolved start more above t' w v at_t e1 e2 e3 e4 e5 e6 =
+    → IsMeasured (record { resolved = resolved; start = more; s = s; above = above; content = c; quasi = quasi }) t' w v
+IsMeasured-read table s t c quasi reduced h readable resolved start more above t' w v at_t e1 e2 e3 e4 e5 e6 =
     let m = over table.resolved in
     let rows = plain_rows table.rows in
     let k = readable.place.above in
@@ -150,9 +157,13 @@ IsMeasured-read table s t c h readable resolved start more above t' w v at_t e1 
     let within = readable.place.within in
     let P : ℕ → Type 0 = λ n. IsNext table.rows s n in
     let Q : ℕ → Type 0 = λ n. HasShape m (below_of rows s n) (take n (row_of rows s)) c in
-    let made = read_square table s above c h readable.place.row (omega arith) (subst P same readable.place.next) (subst Q same readable.shape) t' (e1 ∙ at_t) in
-    let q : Placed = record { resolved = table.resolved; start = table.start ++ record { s = s; above = above; content = c } ∷ []; s = s; above = above; content = c; quasi = None } in
-    let p : Placed = record { resolved = resolved; start = more; s = s; above = above; content = c; quasi = None } in
+    let here : IfSome quasi (λ r. IsQuasi m (below_of rows s above) (take above (row_of rows s)) c r × (r.kernel ≡ c.kernel)) =
+    IfSome_then quasi reduced (λ r b.
+    let at : b.above ≡ above = omega (arith, ints, b.degree, e1) in
+    (subst (λ n. IsQuasi m (below_of rows s n) (take n (row_of rows s)) c r) at b.quasi, b.kernel)) in
+    let made = read_square table s above c quasi here h readable.place.row (omega arith) (subst P same readable.place.next) (subst Q same readable.shape) t' (e1 ∙ at_t) in
+    let q : Placed = record { resolved = table.resolved; start = table.start ++ record { s = s; above = above; content = c } ∷ []; s = s; above = above; content = c; quasi = quasi } in
+    let p : Placed = record { resolved = resolved; start = more; s = s; above = above; content = c; quasi = quasi } in
     let e : q ≡ p = cc in
     let wide = target_width m (below_of rows s above) (take above (row_of rows s)) in
     let tall = source_width m (take above (row_of rows s)) c in

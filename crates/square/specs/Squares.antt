@@ -54,8 +54,8 @@ IsQuasi m below squares content reduction =
 -- ---- squares with their place
 
 -- A square of the resolution of a module, in row s and `above` degrees above the module's bottom. `start` lists what had been
--- read of a save file when it came: where it was read itself, that includes it. A square that was made, not read, still has
--- the reduction of its matrix.
+-- read of a save file when it came: where it was read itself, that includes it. A square that was made, not read, has the
+-- reduction of its matrix, and so has one that was read with it, or was given it later.
 pub record Placed : Type 0 where
   pub resolved : Checked
   pub start : List Entry

@@ -1,14 +1,14 @@
 -- Tables of squares, and what a square is made from.
-use Rattle.std.specs.Prelude.{◌≡◌, ℕ, zero, suc, ◌+◌, ◌*◌, ◌^◌, ◌<◌, ◌≤◌, ◌⊎◌, ℤ, pos, ◌+ℤ◌, nat_eq, if◌then◌else◌, List, [], ◌∷◌, ◌++◌, length, map, take, slice_get, slice_index_or, Option, Some, None, option_and_then, IfSome}
+use Rattle.std.specs.Prelude.{◌≡◌, ℕ, zero, suc, ◌+◌, ◌*◌, ◌^◌, ◌<◌, ◌≤◌, ◌⊎◌, ℤ, pos, ◌+ℤ◌, Bool, nat_eq, if◌then◌else◌, List, [], ◌∷◌, ◌++◌, length, map, take, slice_get, slice_index_or, Option, Some, None, option_and_then, IfSome}
 use Rattle.degrees.specs.Above.{above_of}
 use Rattle.milnor_basis.specs.Basis.{basis_of}
-use Rattle.f2_matrix.specs.Reduction.{Reduction}
+use Rattle.f2_matrix.specs.Reduction.{Reduction, Rows}
 use Rattle.finite_module.specs.Checked.{Checked}
 use Rattle.resolution_laws.specs.Resolution.{Content, square_in, row_of, below_of}
 use Rattle.resolution_laws.specs.Start.{Entry, entry_at, HasShape, IsOf}
 use Rattle.square.specs.declared.range.Range.{Range}
 use Rattle.square.specs.declared.range.TheConstants.{MAX_S, MAX_T}
-use Rattle.square.specs.Squares.{Placed, content_of, entry_of, target_width, width_with, source_width, WasRead, IsQuasi, over, bottom_of}
+use Rattle.square.specs.Squares.{Placed, content_of, entry_of, target_width, width_with, source_width, WasRead, IsQuasi, square_matrix, over, bottom_of}
 
 -- ---- rows
 
@@ -110,6 +110,15 @@ pub record IsReadable (table : Staircase) (s : ℕ) (t : ℤ) (content : Content
   pub source_fits : source_width (over table.resolved) (take place.above (row_of (plain_rows table.rows) s)) content
       < 2 ^ 64
 
+-- reduction is that of the matrix of d_s in degree t with the generators of this content, where the next square of row s is,
+-- and its kernel rows are the content's
+pub record IsQuasiBehind (table : Staircase) (s : ℕ) (t : ℤ) (content : Content) (reduction : Reduction) : Type 0 where
+  pub above : ℕ
+  pub degree : t ≡ bottom_of table.resolved +ℤ pos above
+  pub quasi : IsQuasi (over table.resolved) (below_of (plain_rows table.rows) s above)
+      (take above (row_of (plain_rows table.rows) s)) content reduction
+  pub kernel : reduction.kernel ≡ content.kernel
+
 -- The square continues the table's start: it has that start, or every square so far was read, and so was it.
 abbrev pub IsContinued : Staircase → Placed → Type 0
 IsContinued table q = (q.start ≡ table.start) ⊎ (AllRead table.rows × (q.start ≡ table.start ++ entry_of q ∷ []))
@@ -120,6 +129,43 @@ pub record IsQuasiAt (table : Staircase) (s : ℕ) (t : ℤ) (reduction : Reduct
   pub degree : t ≡ bottom_of table.resolved +ℤ pos above
   pub quasi : IsQuasi (over table.resolved) (below_of (plain_rows table.rows) s above)
       (take above (row_of (plain_rows table.rows) s)) (content_at table.rows s above) reduction
+
+-- the square, where it is in a row, with this reduction
+abbrev pub reduced_in_row : List Placed → ℕ → Reduction → List Placed
+reduced_in_row [] k r = []
+reduced_in_row (q ∷ row) zero r = record q { quasi = Some r } ∷ row
+reduced_in_row (q ∷ row) (suc k) r = q ∷ reduced_in_row row k r
+
+-- the rows, where the square (s, k) has this reduction
+abbrev pub with_quasi : List (List Placed) → ℕ → ℕ → Reduction → List (List Placed)
+with_quasi [] s k r = []
+with_quasi (row ∷ rows) zero k r = reduced_in_row row k r ∷ rows
+with_quasi (row ∷ rows) (suc s) k r = row ∷ with_quasi rows s k r
+
+-- The square in row s and of degree t is there without a reduction, and this one has its kernel rows.
+pub record LacksQuasi (table : Staircase) (s : ℕ) (t : ℤ) (reduction : Reduction) : Type 0 where
+  pub square : Placed
+  pub there : square_at table s t ≡ Some square
+  pub bare : square.quasi ≡ None
+  pub kernel : reduction.kernel ≡ square.content.kernel
+
+-- the matrix of d_s in degree t, with the generators of the square there
+pub record IsMatrixAt (table : Staircase) (s : ℕ) (t : ℤ) (matrix : Rows) : Type 0 where
+  pub above : ℕ
+  pub degree : t ≡ bottom_of table.resolved +ℤ pos above
+  pub cols : matrix.cols ≡ target_width (over table.resolved) (below_of (plain_rows table.rows) s above)
+      (take above (row_of (plain_rows table.rows) s))
+  pub rows : matrix.rows ≡ square_matrix (over table.resolved) (below_of (plain_rows table.rows) s above)
+      (take above (row_of (plain_rows table.rows) s)) (content_at table.rows s above)
+
+-- the matrix of d_s in degree t, where the next square of row s is, with generators of these images
+pub record IsMatrixBehind (table : Staircase) (s : ℕ) (t : ℤ) (images : List (List Bool)) (matrix : Rows)
+    : Type 0 where
+  pub above : ℕ
+  pub degree : t ≡ bottom_of table.resolved +ℤ pos above
+  pub cols : matrix.cols ≡ next_target_width table s above
+  pub rows : matrix.rows ≡ square_matrix (over table.resolved) (below_of (plain_rows table.rows) s above)
+      (take above (row_of (plain_rows table.rows) s)) (record { images = images; kernel = [] })
 
 -- what is known of the square at (s, k) of a table: its place and its module, what it holds, that the table's start has the same
 -- as its own at its place and at each place beneath it, and that its own is the whole start where it was made

@@ -1,20 +1,22 @@
 //! What a square is made from.
-ghost use Rattle.std.specs.Prelude.{◌≡◌, ◌+ℤ◌, pos, option_map, ℕ, ◌≤◌, IfOk, IfSome};
+ghost use Rattle.std.specs.Prelude.{◌≡◌, ◌+ℤ◌, pos, [], option_map, ℕ, ◌≤◌, IfOk, IfSome};
+ghost use Rattle.f2_vec.specs.Spans.{HaveWidth};
 ghost use Rattle.std.specs.Arc.{arc_value};
 ghost use Rattle.finite_module.specs.Module.{bottom};
 ghost use Rattle.resolution_laws.specs.Resolution.{degrees_from, images_of, square_in, target_over};
 ghost use Rattle.square.specs.Below.{graded_of, reaches_of};
 ghost use Rattle.square.specs.declared.range.TheConstants.{MAX_T};
-ghost use Rattle.square.specs.Squares.{content_of, over, bottom_of};
+ghost use Rattle.square.specs.Squares.{content_of, target_width, square_matrix, over, bottom_of};
 ghost use Rattle.square.specs.Tables.{IsFooting, IsPlacedAt, footing_at};
 
 use crate::below::Below;
 use crate::row::Row;
 use crate::square::Square;
 use crate::table::above_of;
-use f2_matrix::Rows;
+use f2_matrix::{Matrix, Rows};
 use f2_vec::BitVec;
 use finite_module::Module;
+use free_hom::Hom;
 use free_module::Gens;
 use memory::Memory;
 use milnor_basis::Basis;
@@ -156,7 +158,29 @@ impl Inputs {
         Ok(Below::Row(gens))
     }
 
-    /// The kernel rows of the square below for one more owner: shared if that square was made, and copied if it was read.
+    /// The matrix of d_s in the square's degree, if it gets generators of these images.
+    ///
+    /// # Errors
+    /// `Memory` if allocation fails.
+    pub(crate) fn matrix_with(&self, alloc: Global, images: &[BitVec]) -> Result<Matrix, Memory>
+        requires { HaveWidth (target_width (over self.now.resolved) self.now.below self.now.squares) images.now }
+        ensures cols { IfOk result (λ matrix. matrix.cols
+            ≡ target_width (over self.now.resolved) self.now.below self.now.squares) }
+        ensures rows { IfOk result (λ matrix. matrix.rows
+            ≡ square_matrix (over self.now.resolved) self.now.below self.now.squares
+            (record { images = images.now; kernel = [] })) }
+    {
+        let t = self.t();
+        let target = self.below(alloc)?;
+        let mut gens = self.generators(alloc)?;
+        gens.push_many(images.len(), t)?;
+        let mut all = self.images(alloc)?;
+        all.extend_with_clones(images)?;
+        Hom::new(self.basis(), &gens, &target, all.as_slice()).matrix(alloc, t)
+    }
+
+    /// The kernel rows of the square below for one more owner: shared where that square has kept a reduction that
+    /// shares them, and copied otherwise.
     ///
     /// # Errors
     /// `Memory` if allocation fails, or if there are too many owners to count.

@@ -1,5 +1,5 @@
 //! The kernel of a square, as it is kept.
-ghost use Rattle.std.specs.Prelude.{◌≡◌, option_map, IfOk};
+ghost use Rattle.std.specs.Prelude.{◌≡◌, option_map, IfOk, IfSome};
 ghost use Rattle.square.specs.Inside.Kernel.{rows_of, quasi_of};
 
 use f2_matrix::{Reduced, Rows};
@@ -7,22 +7,33 @@ use f2_vec::BitVec;
 use memory::Memory;
 use std::alloc::Global;
 
-/// The kernel of a square: a part of the reduction that a square that was made has kept, and of one that was read the rows
-/// alone.
+/// The kernel of a square: a part of the reduction that the square has kept, and else the rows alone.
 #[derive(Drop)]
 pub(crate) enum Kernel {
-    Made(Reduced),
-    Read(Vec<BitVec>),
+    Reduced(Reduced),
+    Bare(Vec<BitVec>),
 }
 
 impl Kernel {
+    /// These rows, as a part of the reduction where there is one.
+    pub(crate) fn of(quasi: Option<Reduced>, rows: Vec<BitVec>) -> Kernel
+        requires { IfSome quasi (λ r. r.kernel ≡ rows.items) }
+        ensures rows { rows_of result ≡ rows.items }
+        ensures quasi { quasi_of result ≡ quasi }
+    {
+        match quasi {
+            Some(quasi) => Kernel::Reduced(quasi),
+            None => Kernel::Bare(rows),
+        }
+    }
+
     /// Its echelon rows.
     pub(crate) fn rows(&self) -> &[BitVec]
         ensures { result.now ≡ rows_of self.now }
     {
         match self {
-            Kernel::Made(quasi) => quasi.kernel(),
-            Kernel::Read(rows) => rows.as_slice(),
+            Kernel::Reduced(quasi) => quasi.kernel(),
+            Kernel::Bare(rows) => rows.as_slice(),
         }
     }
 
@@ -31,8 +42,8 @@ impl Kernel {
         ensures { IfOk result (λ rows. rows ≡ rows_of self.now) }
     {
         match self {
-            Kernel::Made(quasi) => quasi.kernel_rows(alloc),
-            Kernel::Read(rows) => Rows::of(alloc, Vec::from_clones(alloc, rows.as_slice())?),
+            Kernel::Reduced(quasi) => quasi.kernel_rows(alloc),
+            Kernel::Bare(rows) => Rows::of(alloc, Vec::from_clones(alloc, rows.as_slice())?),
         }
     }
 
@@ -41,8 +52,8 @@ impl Kernel {
         ensures { option_map (λ r. r.now) result ≡ quasi_of self.now }
     {
         match self {
-            Kernel::Made(quasi) => Some(quasi),
-            Kernel::Read(_) => None,
+            Kernel::Reduced(quasi) => Some(quasi),
+            Kernel::Bare(_) => None,
         }
     }
 }

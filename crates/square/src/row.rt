@@ -1,5 +1,5 @@
 //! A row of squares, from the bottom degree up.
-ghost use Rattle.std.specs.Prelude.{◌≡◌, ◌≤◌, ◌<◌, ◌+◌, ◌-◌, ◌++◌, ◌^◌, ◌≤ℤ◌, pos, negsuc, [], ◌∷◌, length, take, slice_get, option_map, SomeIff, IfOk, OnOk, OnErr, IsOk, IfErr};
+ghost use Rattle.std.specs.Prelude.{◌≡◌, ◌≤◌, ◌<◌, ◌+◌, ◌-◌, ◌++◌, ◌^◌, ◌≤ℤ◌, pos, negsuc, [], ◌∷◌, length, take, slice_get, slice_set, option_map, SomeIff, IfOk, OnOk, OnErr, IsOk, IfErr};
 ghost use Rattle.std.specs.Arc.{arc_value};
 ghost use Rattle.resolution_laws.specs.Resolution.{degrees_from, images_of};
 ghost use Rattle.square.specs.declared.range.TheConstants.{MAX_T};
@@ -73,6 +73,15 @@ impl Row {
             Ok(()) => Ok(()),
             Err(failed) => Err(failed.value),
         }
+    }
+
+    /// Puts a square in the place of another.
+    pub(crate) fn replace(&mut self, k: usize, square: Arc<Square>)
+        requires { k < length self.old.squares }
+        ensures squares { self.new.squares ≡ slice_set self.old.squares k (arc_value square) }
+        ensures room { self.new.room ≡ self.old.room }
+    {
+        self.squares[k] = square;
     }
 
     /// Makes room for `n` squares more.

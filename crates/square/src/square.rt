@@ -1,8 +1,8 @@
 //! A square of the resolution: the new generators with their images, and the kernel.
-ghost use Rattle.std.specs.Prelude.{◌≡◌, ◌<◌, ◌≤◌, ◌^◌, ◌++◌, ◌+ℤ◌, pos, [], ◌∷◌, Some, None, option_map, IfOk};
+ghost use Rattle.std.specs.Prelude.{◌≡◌, ◌<◌, ◌≤◌, ◌^◌, ◌++◌, ◌+ℤ◌, pos, [], ◌∷◌, Some, option_map, IsSome, IfSome, IfOk, IfErr};
 ghost use Rattle.resolution_laws.specs.Resolution.{IsStep};
-ghost use Rattle.square.specs.Squares.{entry_of, IsSquare, IsQuasi, AreWidths, KeptWhereMade, over, bottom_of};
-ghost use Rattle.square.specs.Tables.{IsReadable};
+ghost use Rattle.square.specs.Squares.{entry_of, IsSquare, IsQuasi, IsKeptOf, AreWidths, KeptWhereMade, over, bottom_of};
+ghost use Rattle.square.specs.Tables.{IsReadable, IsQuasiBehind};
 
 use crate::inputs::Inputs;
 use crate::kernel::Kernel;
@@ -106,21 +106,32 @@ impl Square {
             above: inputs.above(),
             t: inputs.t(),
             gens,
-            kernel: Kernel::Made(quasi),
+            kernel: Kernel::Reduced(quasi),
             target_width,
             width,
         }
     }
 
-    /// The square that was read from a save file, the next of its row behind those that were read before.
-    pub fn read(table: &Table, s: u16, t: i32, gens: Vec<BitVec>, kernel: Vec<BitVec>) -> Square
-        requires { IsReadable table.now s t (record { images = gens.items; kernel = kernel.items }) }
+    /// The square that was read from a save file, the next of its row behind those that were read before. Where it was read with
+    /// the reduction of the matrix of d_s in its degree, with its generators, it keeps that; the kernel is then kept once, as a
+    /// part of it.
+    pub fn read(
+        table: &Table,
+        s: u16,
+        t: i32,
+        gens: Vec<BitVec>,
+        kernel: Vec<BitVec>,
+        quasi: Option<Reduced>,
+    ) -> Square
+        requires content { IsReadable table.now s t (record { images = gens.items; kernel = kernel.items }) }
+        requires quasi { IfSome quasi (IsQuasiBehind table.now s t
+            (record { images = gens.items; kernel = kernel.items })) }
         ensures resolved { result.resolved ≡ table.now.resolved }
         ensures start { result.start ≡ table.now.start ++ entry_of result ∷ [] }
         ensures s { result.s ≡ s }
         ensures t { t ≡ bottom_of table.now.resolved +ℤ pos result.above }
         ensures content { result.content ≡ record { images = gens.items; kernel = kernel.items } }
-        ensures quasi { result.quasi ≡ None }
+        ensures quasi { result.quasi ≡ quasi }
     {
         let above = table.above(t);
         let (target_width, width) = match table.next_widths(s, t, gens.len()) {
@@ -130,6 +141,7 @@ impl Square {
         let start = table
             .start()
             .then(s, above, gens.as_slice(), kernel.as_slice());
+        let kernel = Kernel::of(quasi, kernel);
         Square {
             module: Snapshot::of(table.module()),
             start,
@@ -137,9 +149,53 @@ impl Square {
             above,
             t,
             gens,
-            kernel: Kernel::Read(kernel),
+            kernel,
             target_width,
             width,
+        }
+    }
+
+    /// A square of this module that holds what this one holds, with its reduction: that of the matrix of d_s in its degree, with
+    /// its generators. The images of these are copied.
+    ///
+    /// # Errors
+    /// `Memory`, with the reduction, if allocation fails.
+    pub(crate) fn with_quasi(
+        &self,
+        alloc: Global,
+        module: &Module,
+        quasi: Reduced,
+    ) -> Result<Square, (Memory, Reduced)>
+        requires resolved { module.now ≡ self.now.resolved }
+        requires quasi { IsKeptOf self.now quasi }
+        ensures square { IfOk result (λ q. q ≡ record self.now { quasi = Some quasi }) }
+        ensures returned { IfErr result (λ e. e.1 ≡ quasi) }
+    {
+        let Ok(gens) = Vec::from_clones(alloc, self.gens.as_slice()) else {
+            return Err((Memory, quasi));
+        };
+        Ok(Square {
+            module: Snapshot::of(module),
+            start: self.start.again(),
+            s: self.s,
+            above: self.above,
+            t: self.t,
+            gens,
+            kernel: Kernel::Reduced(quasi),
+            target_width: self.target_width,
+            width: self.width,
+        })
+    }
+
+    /// The reduction that it has kept, which it gives up.
+    pub(crate) fn into_quasi(self) -> Reduced
+        requires { IsSome self.quasi }
+        ensures { Some result ≡ self.quasi }
+    {
+        let Square { kernel, .. } = self;
+        match kernel {
+            Kernel::Reduced(quasi) => quasi,
+            Kernel::Bare(_) => unreachable!(),
         }
     }
 
@@ -186,7 +242,8 @@ impl Square {
         self.kernel.rows()
     }
 
-    /// The echelon rows of the kernel, for one more owner: shared where the square was made, and copied where it was read.
+    /// The echelon rows of the kernel, for one more owner: shared where the square has kept a reduction that shares them, and
+    /// copied otherwise.
     ///
     /// # Errors
     /// `Memory` if allocation fails, or if there are too many owners to count.
@@ -196,7 +253,8 @@ impl Square {
         self.kernel.shared(alloc)
     }
 
-    /// The reduction of the matrix of d_s in its degree, if it has kept it. A square that was made always has.
+    /// The reduction of the matrix of d_s in its degree, if it has kept it. A square that was made always has, and one that was
+    /// read has it where it was read with it, or was given it in a table.
     pub fn kept_quasi(&self) -> Option<&Reduced>
         ensures kept { option_map (λ r. r.now) result ≡ self.now.quasi }
         ensures where_made { KeptWhereMade self.now }

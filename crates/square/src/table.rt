@@ -2,15 +2,13 @@
 ghost use Rattle.std.specs.Prelude.{◌≡◌, ℕ, suc, ◌≤◌, ◌<◌, ◌+◌, ◌^◌, ◌+ℤ◌, ◌≤ℤ◌, pos, [], map, take, length, replicate, slice_get, Some, option_map, SomeIff, IsSome, IfOk, IfErr, OnOk, OnErr, IsOk};
 ghost use Rattle.std.specs.Arc.{arc_value};
 ghost use Rattle.finite_module.specs.Module.{bottom};
-ghost use Rattle.f2_matrix.specs.Reduction.{IsReductionOf};
-ghost use Rattle.free_module.specs.FreeModule.{IsWithinReach};
-ghost use Rattle.free_module.specs.LinearMap.{AreImages, map_rows};
+ghost use Rattle.f2_vec.specs.Spans.{HaveWidth};
 ghost use Rattle.resolution_laws.specs.Resolution.{row_of, below_of, degrees_from, images_of, target_over};
 ghost use Rattle.degrees.specs.Above.{above_of};
 ghost use Rattle.square.specs.Below.{graded_of, reaches_of};
 ghost use Rattle.square.specs.declared.range.TheConstants.{MAX_S, MAX_T};
-ghost use Rattle.square.specs.Squares.{IsQuasi, over, bottom_of};
-ghost use Rattle.square.specs.Tables.{row_in, square_at, plain_rows, with_square, contents, under_row, content_at, next_target_width, next_width, next_widths, FitWords, IsNext, IsNextAt, IsContinued, IsQuasiAt, IsTable, HaveRoom};
+ghost use Rattle.square.specs.Squares.{Placed, IsQuasi, target_width, square_matrix, over, bottom_of};
+ghost use Rattle.square.specs.Tables.{row_in, square_at, plain_rows, with_square, contents, under_row, content_at, next_target_width, next_width, next_widths, FitWords, IsNext, IsNextAt, IsContinued, IsQuasiAt, LacksQuasi, with_quasi, IsMatrixAt, IsMatrixBehind, IsTable, HaveRoom};
 
 use crate::bases::Bases;
 use crate::below::Below;
@@ -18,11 +16,11 @@ use crate::inputs::Inputs;
 use crate::range::{MAX_S, MAX_T};
 use crate::row::Row;
 use crate::square::Square;
-use f2_matrix::Reduced;
+use f2_matrix::{Matrix, Reduced};
 use f2_vec::BitVec;
 use finite_module::Module;
 use free_hom::Hom;
-use free_module::{Gens, Target};
+use free_module::Gens;
 use memory::Memory;
 use milnor_basis::Basis;
 use start::Start;
@@ -326,6 +324,89 @@ impl Table {
         }
     }
 
+    /// Gives the square in row `s` and of degree `t`, which has kept no reduction, that of the matrix of d_s in this degree, with
+    /// its generators.
+    ///
+    /// # Errors
+    /// `Memory`, with the reduction, if allocation fails; the table is then as before.
+    pub fn add_quasi(
+        &mut self,
+        alloc: Global,
+        s: u16,
+        t: i32,
+        quasi: Reduced,
+    ) -> Result<(), (Memory, Reduced)>
+        requires lacks { LacksQuasi self.old s t quasi }
+        requires quasi { IsQuasiAt self.old s t quasi }
+        ensures rows { OnOk result ((k : ℕ) → t ≡ bottom_of self.old.resolved +ℤ pos k →
+            self.new.rows ≡ with_quasi self.old.rows s k quasi) }
+        ensures contents { plain_rows self.new.rows ≡ plain_rows self.old.rows }
+        ensures same { self.new ≡ record self.old { rows = self.new.rows } }
+        ensures err { OnErr result (self.new ≡ self.old) }
+        ensures returned { IfErr result (λ e. e.1 ≡ quasi) }
+    {
+        let square = self.reduced_square(alloc, s, t, quasi)?;
+        let above = usize::from(square.above());
+        self.rows[usize::from(s)].replace(above, square);
+        Ok(())
+    }
+
+    /// The square in row `s` and of degree `t` with this reduction, to be shared.
+    ///
+    /// # Errors
+    /// `Memory`, with the reduction, if allocation fails.
+    fn reduced_square(
+        &self,
+        alloc: Global,
+        s: u16,
+        t: i32,
+        quasi: Reduced,
+    ) -> Result<Arc<Square>, (Memory, Reduced)>
+        requires lacks { LacksQuasi self.now s t quasi }
+        requires quasi { IsQuasiAt self.now s t quasi }
+        ensures square { IfOk result (λ a. (q : Placed) → square_at self.now s t ≡ Some q →
+            arc_value a ≡ record q { quasi = Some quasi }) }
+        ensures returned { IfErr result (λ e. e.1 ≡ quasi) }
+    {
+        let square = self.there(s, t).with_quasi(alloc, self.module(), quasi)?;
+        match Arc::new(alloc, square) {
+            Ok(square) => Ok(square),
+            Err(failed) => Err((Memory, failed.value.into_quasi())),
+        }
+    }
+
+    /// The matrix of d_s in degree `t`, with the generators of the square there: the rows are the images of the elements of F_s
+    /// in this degree.
+    ///
+    /// # Errors
+    /// `Memory` if allocation fails.
+    pub fn matrix(&self, alloc: Global, s: u16, t: i32) -> Result<Matrix, Memory>
+        requires { IsSome (square_at self.now s t) }
+        ensures { IfOk result (λ matrix. IsMatrixAt self.now s t matrix) }
+    {
+        let above = self.there(s, t).above();
+        self.matrix_again(alloc, s, above)
+    }
+
+    /// The matrix of d_s in degree `t`, where the next square of row `s` is, if that gets generators of these images.
+    ///
+    /// # Errors
+    /// `Memory` if allocation fails.
+    pub fn next_matrix(
+        &self,
+        alloc: Global,
+        s: u16,
+        t: i32,
+        images: &[BitVec],
+    ) -> Result<Matrix, Memory>
+        requires place { IsNextAt self.now s t }
+        requires widths { (k : ℕ) → t ≡ bottom_of self.now.resolved +ℤ pos k →
+            HaveWidth (next_target_width self.now s k) images.now }
+        ensures { IfOk result (λ matrix. IsMatrixBehind self.now s t images.now matrix) }
+    {
+        self.inputs(alloc, s, t)?.matrix_with(alloc, images)
+    }
+
     /// The square in row `s` and of degree `t`, which is there.
     fn there(&self, s: u16, t: i32) -> &Arc<Square>
         requires { IsSome (square_at self.now s t) }
@@ -346,12 +427,28 @@ impl Table {
         ensures { IfOk result (λ reduced. IsQuasi (over self.now.resolved) (below_of (plain_rows self.now.rows) s above)
             (take above (row_of (plain_rows self.now.rows) s)) (content_at self.now.rows s above) reduced) }
     {
+        let matrix = self.matrix_again(alloc, s, above)?;
+        Reduced::of(alloc, &matrix)
+    }
+
+    /// The matrix of d_s, made from the images of the generators of the rows.
+    fn matrix_again(&self, alloc: Global, s: u16, above: u16) -> Result<Matrix, Memory>
+        requires row { s ≤ MAX_S }
+        requires degree { above ≤ MAX_T }
+        requires there { above < length (row_in self.now.rows s) }
+        ensures cols { IfOk result (λ matrix. matrix.cols
+            ≡ target_width (over self.now.resolved) (below_of (plain_rows self.now.rows) s above)
+            (take above (row_of (plain_rows self.now.rows) s))) }
+        ensures rows { IfOk result (λ matrix. matrix.rows
+            ≡ square_matrix (over self.now.resolved) (below_of (plain_rows self.now.rows) s above)
+            (take above (row_of (plain_rows self.now.rows) s)) (content_at self.now.rows s above)) }
+    {
         let t = self.module.bottom() + i32::from(above);
         let basis = self.basis(alloc, above)?;
         let target = self.below(alloc, s, above)?;
         let gens = self.generators(alloc, s, above + 1)?;
         let images = self.images(alloc, s, above + 1)?;
-        reduction(alloc, basis, &gens, &target, images.as_slice(), t)
+        Hom::new(basis, &gens, &target, images.as_slice()).matrix(alloc, t)
     }
 
     /// The squares that were read.
@@ -455,23 +552,4 @@ fn reserve_rows(rows: &mut Vec<Row>, n: usize) -> Result<(), Memory>
         rows[s].reserve(n)?;
     }
     Ok(())
-}
-
-/// The reduction of the matrix, in degree `t`, of the map that takes the generators to these images.
-fn reduction<T: Target>(
-    alloc: Global,
-    basis: &Basis,
-    gens: &Gens,
-    target: &T,
-    images: &[BitVec],
-    t: i32,
-) -> Result<Reduced, Memory>
-    requires images { AreImages (T.graded target.now) gens.now images.now }
-    requires source { IsWithinReach basis.now gens.now t }
-    requires target { T.reaches target.now basis.now t }
-    ensures { IfOk result (λ reduced. IsReductionOf ((T.graded target.now).width t)
-        (map_rows (T.graded target.now) gens.now images.now t) reduced) }
-{
-    let matrix = Hom::new(basis, gens, target, images).matrix(alloc, t)?;
-    Reduced::of(alloc, &matrix)
 }
