@@ -22,7 +22,8 @@ use Rattle.square.specs.Squares.{over, bottom_of}
 use Rattle.square.specs.Tables.{Footing, IsFooting}
 use Rattle.square.specs.declared.range.TheConstants.{MAX_S, MAX_T}
 use Rattle.square.proofs.Footings.{footing_founded}
-use Rattle.resolution_step.proofs.Footings.{AreImages-footing, HaveWidth-candidates_over}
+use Rattle.square.proofs.Fitting.{AreImages-footing}
+use Rattle.resolution_step.proofs.Footings.{HaveWidth-candidates_over}
 use Rattle.resolution_images.specs.BareRows.{BareRow, bare_row_in, IsBareRowOf}
 use Rattle.resolution_images.specs.Inside.Made.{IsMadeThrough, AreMadeThrough, IsKernelOf, IsToCover}
 

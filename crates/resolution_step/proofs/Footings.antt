@@ -1,6 +1,5 @@
--- What a square is made from fits together, and the step to its target is the step on it.
-use Rattle.std.proofs.Common.{◌≡◌, ℕ, zero, suc, ◌+◌, ◌<◌, ◌≤◌, ℤ, pos, ◌+ℤ◌, Bool, List, [], ◌∷◌, ◌++◌, length, replicate, take, Option, Some, None, IfSome, option_map, refl, sym, ◌∙◌, ap, subst, arith}
-use Rattle.std.proofs.lemmas.Int.{ints}
+-- What the step has to cover fits what a square is made from, and the step to its target is the step on it.
+use Rattle.std.proofs.Common.{◌≡◌, ℕ, zero, suc, ◌+◌, ℤ, pos, ◌+ℤ◌, Bool, List, [], ◌∷◌, ◌++◌, length, replicate, take, Option, Some, None, option_map, refl, sym, ◌∙◌, ap, subst, arith}
 use Rattle.std.proofs.lemmas.List.{take_all, take_more}
 use Rattle.f2_vec.specs.Spans.{HaveWidth, unit_vectors}
 use Rattle.f2_vec.proofs.Split.{HaveWidth-unit_vectors}
@@ -14,64 +13,20 @@ use Rattle.free_module.specs.LinearMap.{AreImages, map_rows}
 use Rattle.finite_module.specs.Module.{width}
 use Rattle.finite_module.specs.Checked.{Checked}
 use Rattle.resolution_laws.specs.Resolution.{Content, no_content, square_in, degrees_from, images_of, target_over, candidates_over, IsChosen, IsStepOver}
-use Rattle.resolution_laws.specs.Start.{squares_below, row_below, IsOf}
-use Rattle.resolution_laws.proofs.Generators.{AreImages-row}
+use Rattle.resolution_laws.specs.Start.{squares_below}
 use Rattle.resolution_laws.proofs.NewGenerators.{HaveWidth-IsChosen, IsStepOver_from_choice, map_rows-new}
-use Rattle.resolution_laws.proofs.Rows.{degrees_from-push, free_basis-take}
+use Rattle.resolution_laws.proofs.Rows.{degrees_from-push}
 use Rattle.resolution_laws.proofs.Shapes.{content_shape}
-use Rattle.resolution_laws.proofs.StartLaws.{content_is_unique, length-squares_below, squares_below-take}
+use Rattle.resolution_laws.proofs.StartLaws.{length-squares_below}
 use Rattle.square.specs.Squares.{IsSquare, over, bottom_of}
 use Rattle.square.specs.Tables.{Footing, IsFooting}
 use Rattle.square.proofs.Footings.{IsMeasured-made}
+use Rattle.square.proofs.Fitting.{below_is_of, below_take, AreImages-footing}
 use Rattle.resolution_step.specs.Steps.{IsReducedStep, IsStepWith}
-
--- ---- the row below
-
-below_is_of : (f : Footing) → IsFooting f → (i : ℕ) (below : List Content) → suc i ≡ f.s → f.below ≡ Some below → (k : ℕ) → k ≤ f.above → IsOf (over f.resolved) f.start i k (square_in below k)
-below_is_of f h i below e is k l =
-    let P : Option (List Content) → Type 0 = λ x. IfSome x (λ b. IsOf (over f.resolved) f.start i k (square_in b k)) in
-    subst P is (h.below_are i k e l)
-
--- squares of the start's table in the row below are those that are given
-below_take : (f : Footing) → IsFooting f → (at : ℕ → ℕ → Content) (i : ℕ) (below : List Content) (n : ℕ) → suc i ≡ f.s → f.below ≡ Some below → length below ≡ f.above + 1 → n ≤ f.above + 1 → ((k : ℕ) → k < n → IsOf (over f.resolved) f.start i k (at i k)) → squares_below at i n ≡ take n below
-below_take f h at i below n e is len l given =
-    squares_below-take at i n below (omega arith) (λ k b. content_is_unique kernel_basis_unique (over f.resolved) f.start i k _ _ (given k b) (below_is_of f h i below e is k (omega arith)))
-
--- the width of the target over them
-width_below : (f : Footing) → IsFooting f → (at : ℕ → ℕ → Content) (j : ℕ) → j ≤ f.above → ((i k : ℕ) → suc i ≡ f.s → k ≤ j → IsOf (over f.resolved) f.start i k (at i k))
-    → (target_over (over f.resolved) (row_below at f.s j)).width (bottom_of f.resolved +ℤ pos j) ≡ (target_over (over f.resolved) f.below).width (bottom_of f.resolved +ℤ pos j)
-width_below f h at j l given = in_row f.s refl
-  where
-    in_row : (s : ℕ) → s ≡ f.s → (target_over (over f.resolved) (row_below at s j)).width (bottom_of f.resolved +ℤ pos j) ≡ (target_over (over f.resolved) f.below).width (bottom_of f.resolved +ℤ pos j)
-    in_row zero e = ap (λ (x : Option (List Content)). (target_over (over f.resolved) x).width (bottom_of f.resolved +ℤ pos j)) (sym (h.has_none (sym e)))
-    in_row (suc i) e =
-        let p = h.has_below i e in
-        let b = bottom_of f.resolved in
-        let same : squares_below at i (suc j) ≡ take (suc j) p.0 = below_take f h at i p.0 (suc j) e p.1 p.2 (omega arith) (λ k m. given i k e (omega arith)) in
-        ap (λ (x : List Content). free_width (degrees_from b x) (b +ℤ pos j)) same
-        ∙ (ap length (sym (free_basis-take b p.0 (suc j) (b +ℤ pos j) (omega (arith, ints))))
-        ∙ ap (λ (x : Option (List Content)). (target_over (over f.resolved) x).width (b +ℤ pos j)) (sym p.1))
 
 -- ---- widths
 
--- the images of each square of the row are of the dimension of the target in its degree
-images_fit : (f : Footing) → IsFooting f → (j : ℕ) → j < f.above → HaveWidth ((target_over (over f.resolved) f.below).width (bottom_of f.resolved +ℤ pos j)) (square_in f.squares j).images
-images_fit f h j l =
-    let m = over f.resolved in
-    let b = bottom_of f.resolved in
-    let c = square_in f.squares j in
-    let shaped = content_shape kernel_basis_unique m f.start f.s j c (h.before_are j l) in
-    let o = shaped.over in
-    let P : ℕ → Type 0 = λ n. HaveWidth ((target_over m (row_below o.at f.s j)).width (b +ℤ pos n)) c.images in
-    let Q : ℕ → Type 0 = λ n. HaveWidth n c.images in
-    subst Q (width_below f h o.at j (omega arith) o.below) (subst P (length-squares_below o.at f.s j) shaped.shape.image_widths)
-
-pub AreImages-footing : (f : Footing) → IsFooting f → AreImages (target_over (over f.resolved) f.below) (degrees_from (bottom_of f.resolved) f.squares) (images_of f.squares)
-AreImages-footing f h =
-    let len = h.length_is in
-    AreImages-row (target_over (over f.resolved) f.below) (bottom_of f.resolved) f.squares (λ k l. images_fit f h k (omega arith))
-
--- and so are the candidates, in the degree of the square
+-- the candidates are of the dimension of the target, in the degree of the square
 pub HaveWidth-candidates_over : (f : Footing) → IsFooting f → HaveWidth ((target_over (over f.resolved) f.below).width (bottom_of f.resolved +ℤ pos f.above)) (candidates_over (over f.resolved) f.below f.above)
 HaveWidth-candidates_over f h = in_row f.s refl
   where
