@@ -64,7 +64,7 @@ fn read_square(alloc: Global, table: &Table, body: &[u8]) -> Result<Option<Squar
     if !is_basis {
         return Ok(None);
     }
-    Ok(Some(Square::read(table, parts.s, t, images, kernel)))
+    Ok(Some(Square::read(table, parts.s, t, images, kernel, None)))
 }
 
 /// The degree of the square in row `s`, `above` degrees above the bottom, none where it is past the limits, or not the next of

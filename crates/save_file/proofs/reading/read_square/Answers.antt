@@ -52,8 +52,8 @@ returns-then-not-is_basis c =
     let P : List (List Bool) → Type 0 = λ rows. IsReduced rows × HasNoZeroRow rows → ⊥ in
     not_basis c.args.table.now c.args.body.now o c.in-Some-next_degree.t c.in-Some-2.images.items c.in-Some-3.kernel.items c.in-Some.ensures.1 found (subst P c.as_slice.ensures.value (iff_false c.in_ok-is_basis.ensures c.if-not-is_basis.true))
 
-pub read-requires : goal.read-requires
-read-requires c =
+pub read-requires-clause-content : goal.read-requires-clause-content
+read-requires-clause-content c =
     let o = outline_of c.in-Some.parts in
     let t : ℤ = to_z w32 (of_z w32 c.in-Some-next_degree.t) in
     let place : IsPlaceFor c.args.table.now o.s o.above t = search rules in
