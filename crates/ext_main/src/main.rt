@@ -6,8 +6,9 @@ ghost use Rattle.edge.specs.Faults.{HasRisen};
 ghost use Rattle.edge.specs.Sink.{HasPrefixMore, with_more};
 ghost use Rattle.ext_report.specs.declared.failure.Failure.TheVariants.{Words as OutsideGrammar, Memory as OutOfMemory};
 ghost use Rattle.ext_report.specs.Failure.{status_of};
-ghost use Rattle.ext_run.specs.Run.{IsStatusOf, HasRead, HasAnswered, HasReported, IsComplete};
-ghost use Rattle.ext_run.specs.Saving.{HasSaved, IsUsable};
+ghost use Rattle.ext_run.specs.Devices.{device_of, store_of};
+ghost use Rattle.ext_run.specs.Plan.{asked_by};
+ghost use Rattle.ext_run.specs.Run.{IsRun};
 ghost use Rattle.ext_words.specs.Words.{texts_of};
 ghost use Rattle.ext_report.specs.Lines.{line_of};
 
@@ -74,21 +75,9 @@ fn answer<W: Threads + Wait + Clock + Sync, S: Source, O: Sink, E: Sink, D: Disk
     err: &mut E,
     disk: D,
 ) -> Ended<D>
-    ensures status { IsStatusOf (map string_bytes arguments.now) (S.left source.old)
-        (IsUsable (map string_bytes arguments.now) (S.left source.old) (D.now disk) (D.images disk)) result.status }
-    ensures read { HasRead S.left S.faults (map string_bytes arguments.now) result.status source.old source.new }
-    ensures answered { HasAnswered O.written O.faults (map string_bytes arguments.now) (S.left source.old)
-        (IsUsable (map string_bytes arguments.now) (S.left source.old) (D.now disk) (D.images disk)) result.status
-        out.old out.new }
-    ensures reported { HasReported E.written E.faults (map string_bytes arguments.now) (S.left source.old) (D.now disk)
-        (IsUsable (map string_bytes arguments.now) (S.left source.old) (D.now disk) (D.images disk)) result.status
-        err.old err.new }
-    ensures saved { HasSaved D.now D.moment D.images D.since D.faults (map string_bytes arguments.now)
-        (S.left source.old) result.status disk result.disk }
-    ensures complete { IsUsable (map string_bytes arguments.now) (S.left source.old) (D.now disk) (D.images disk) →
-        ¬ HasRisen (S.faults source.old) (S.faults source.new) → ¬ HasRisen (O.faults out.old) (O.faults out.new) →
-        ¬ HasRisen (D.faults disk) (D.faults result.disk) →
-        IsComplete (map string_bytes arguments.now) (S.left source.old) result.status }
+    ensures { IsRun (device_of S.left S.faults) (device_of O.written O.faults) (device_of E.written E.faults)
+        (store_of D.now D.moment D.images D.since D.faults) (asked_by (map string_bytes arguments.now)) result.status
+        source.old source.new out.old out.new err.old err.new disk result.disk }
 {
     match words(rt.alloc(), arguments) {
         Ok(words) => run(

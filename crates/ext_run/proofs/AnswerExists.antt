@@ -41,20 +41,23 @@ use Rattle.ext_products.specs.Laws.{ProductsAnswerExists}
 use Rattle.ext_brackets.specs.Brackets.{IsBracketAnswer}
 use Rattle.ext_brackets.specs.Laws.{BracketAnswerExists}
 use Rattle.ext_products.proofs.SphereTables.{sphere-is}
-use Rattle.ext_words.specs.declared.command.Command.{Command}
-use Rattle.ext_words.specs.declared.command.Command.TheVariants.{Sphere, Resolve, Dump, Products, Massey, Check, Build, Sample, Sq}
 use Rattle.ext_report.specs.declared.failure.Failure.{Failure}
 use Rattle.ext_report.specs.declared.failure.Failure.TheVariants.{Words, Malformed as NoModuleFile, NotModule}
-use Rattle.ext_run.specs.Answer.{IsResolved, IsChart, IsDump, IsSummary, IsLineOn, IsProduct, IsText, IsToldOfClasses, IsProducts, IsBracket, told_of_classes, IsModuleAnswer, no_file, no_module, answer_of, IsAnswerTo, Reads}
-use Rattle.ext_words.specs.Words.{command_of}
-use Rattle.ext_run.specs.Existence.{AnswerExists}
+use Rattle.ext_build.specs.Input.{HasValue}
 use Rattle.ext_build.proofs.BuildAnswers.{build_answer_exists}
-use Rattle.ext_run.specs.declared.task.Form.{Form}
-use Rattle.ext_run.specs.declared.task.Form.TheVariants.{Chart, Differentials, Summary, Products as ProductsOf, Bracket as BracketOf}
+use Rattle.ext_run.specs.declared.plan.Origin.{Origin}
+use Rattle.ext_run.specs.declared.plan.Origin.TheVariants.{Sphere, Sample, File as OfFile}
+use Rattle.ext_run.specs.declared.plan.Form.{Form}
+use Rattle.ext_run.specs.declared.plan.Form.TheVariants.{Chart, Differentials, Summary, Products as ProductsOf, Bracket as BracketOf}
+use Rattle.ext_run.specs.declared.plan.Plan.{Plan}
+use Rattle.ext_run.specs.declared.plan.Plan.TheVariants.{Resolve, Check, Build, Multiply}
 use Rattle.ext_run.specs.declared.task.Task.{Task}
 use Rattle.ext_run.specs.declared.task.Task.TheVariants.{Text, Resolution}
-use Rattle.ext_run.specs.Task.{IsInForm, HasItsAnswer}
-use Rattle.ext_build.specs.Input.{HasValue}
+use Rattle.ext_run.specs.Plan.{asked_by, IsRead, PlanReads, Reads}
+use Rattle.ext_run.specs.Forms.{IsResolved, IsReadOff, chart_of, dump_of, summary_of, IsText, IsToldOfClasses, told_of_classes, IsInForm}
+use Rattle.ext_run.specs.Answer.{IsLineOn, IsProduct, ModuleAnswers, IsModuleAnswer, IsAnswerAt, IsAnswerTo, IsAskedAnswer}
+use Rattle.ext_run.specs.Task.{HasItsAnswer}
+use Rattle.ext_run.specs.Existence.{AnswerExists}
 
 -- the laws that it stands on
 pub record TableLaws : Type 0 where
@@ -85,23 +88,17 @@ table_exists laws range m is order =
     let table = laws.exists (module_over m) range.s range.t steenrod.widths in
     (table.0, record { canonical = table.1; minimal = laws.minimal (module_over m) range.s range.t table.0 steenrod bounded table.1 })
 
-chart_exists : TableLaws → (range : Range) (m : SteenrodModule) → IsModule m → NeverFall m.generators → (text : List ℕ) × IsChart range m text
-chart_exists laws range m is order =
-    let table = table_exists laws range m is order in
-    (chart_text (bottom m.generators) range.s range.t (generator_count table.0), record { table = table.0; resolved = table.1; chart = refl })
+-- there is an answer that is right for each module
+abbrev Makes : ModuleAnswers → Type 0
+Makes P = (m : SteenrodModule) → IsModule m → NeverFall m.generators → (answer : Result (List ℕ) Failure) × P m answer
 
-dump_exists : TableLaws → (range : Range) (m : SteenrodModule) → IsModule m → NeverFall m.generators → (text : List ℕ) × IsDump range m text
-dump_exists laws range m is order =
+read_off_exists : TableLaws → (text_of : SteenrodModule → List (List Content) → List ℕ) (range : Range) → Makes (IsText (IsReadOff text_of range))
+read_off_exists laws text_of range m is order =
     let table = table_exists laws range m is order in
-    (dump_text m.generators range.s range.t table.0, record { table = table.0; resolved = table.1; dump = refl })
+    (Ok (text_of m table.0), record { table = table.0; resolved = table.1; is = refl })
 
-summary_exists : TableLaws → (range : Range) (m : SteenrodModule) → IsModule m → NeverFall m.generators → (text : List ℕ) × IsSummary range m text
-summary_exists laws range m is order =
-    let table = table_exists laws range m is order in
-    (summary_text (length m.generators) (bottom m.generators) range.s range.t (generator_count table.0), record { table = table.0; resolved = table.1; summary = refl })
-
-line_exists : (m : SteenrodModule) → IsModule m → NeverFall m.generators → (text : List ℕ) × IsLineOn m text
-line_exists m is order = (check_line (length m.generators) (bottom m.generators) (top m.generators), refl)
+line_exists : Makes (IsText IsLineOn)
+line_exists m is order = (Ok (check_line (length m.generators) (bottom m.generators) (top m.generators)), refl)
 
 product_exists : AdmissibleFormIsUnique → (numbers : List ℕ) → (text : List ℕ) × IsProduct numbers text
 product_exists forms numbers =
@@ -126,7 +123,7 @@ products_tell laws range by r q = laws.products r q range by
 brackets_tell : Laws → (range : Range) (a b c : Class) → Tells (IsBracketAnswer range a b c) range
 brackets_tell laws range a b c r q = laws.brackets r q range a b c
 
-classes_exist : TableLaws → (IsToldOf : Resolved → Resolved → Result (List ℕ) Refusal → Type 0) (range : Range) → Tells IsToldOf range → (m : SteenrodModule) → IsModule m → NeverFall m.generators → (answer : Result (List ℕ) Failure) × IsToldOfClasses IsToldOf range m answer
+classes_exist : TableLaws → (IsToldOf : Resolved → Resolved → Result (List ℕ) Refusal → Type 0) (range : Range) → Tells IsToldOf range → Makes (IsToldOfClasses IsToldOf range)
 classes_exist laws IsToldOf range tells m is order =
     let sphere_module = derived_module sphere_file in
     let sphere_is = laws.accepted sphere_file one_alone refl in
@@ -137,21 +134,12 @@ classes_exist laws IsToldOf range tells m is order =
     let told = tells (resolution m table.0) (resolution sphere_module sphere.0) r q (sphere-is sphere.0) in
     (told_of_classes told.0, record { table = table.0; resolved = table.1; sphere = sphere.0; sphere_resolved = sphere.1; told = told.0; is_told = told.1; is = refl })
 
--- a text as an answer
-as_answer : (IsTextOf : SteenrodModule → List ℕ → Type 0) → ((m : SteenrodModule) → IsModule m → NeverFall m.generators → (x : List ℕ) × IsTextOf m x) → (m : SteenrodModule) → IsModule m → NeverFall m.generators → (answer : Result (List ℕ) Failure) × IsText IsTextOf m answer
-as_answer IsTextOf text m is order = let x = text m is order in (Ok x.0, x.1)
-
-module _ (accepted : AcceptedIsModule) (IsAnswerOf : SteenrodModule → Result (List ℕ) Failure → Type 0) (made : (m : SteenrodModule) → IsModule m → NeverFall m.generators → (answer : Result (List ℕ) Failure) × IsAnswerOf m answer) (bytes : List ℕ) where
-  of_file : (f : File) → IsFileOf bytes (Ok f) → (found : Option CheckFault) → refusal_of f ≡ found → (answer : Result (List ℕ) Failure) × IsModuleAnswer IsAnswerOf bytes answer
-  of_file f is (Some e) h = (Err (NotModule f e), no_module f e is h)
-  of_file f is None h =
-      let order : NeverFall f.generators = file_in_order bytes (Ok f) is f refl in
-      let x = made (derived_module f) (accepted f order h) order in
-      (x.0, answer_of f x.0 is h x.1)
-
-  of_bytes : (file : Result File Malformed) → IsFileOf bytes file → (answer : Result (List ℕ) Failure) × IsModuleAnswer IsAnswerOf bytes answer
-  of_bytes (Ok f) is = of_file f is (refusal_of f) refl
-  of_bytes (Err e) is = (Err (NoModuleFile e), no_file e is)
+form_exists : Laws → (form : Form) (range : Range) → Makes (IsInForm form range)
+form_exists laws Chart range = read_off_exists laws.tables (chart_of range) range
+form_exists laws Differentials range = read_off_exists laws.tables (dump_of range) range
+form_exists laws Summary range = read_off_exists laws.tables (summary_of range) range
+form_exists laws (ProductsOf by) range = classes_exist laws.tables (IsProductsAnswer range by) range (products_tell laws range by)
+form_exists laws (BracketOf a b c) range = classes_exist laws.tables (IsBracketAnswer range a b c) range (brackets_tell laws range a b c)
 
 -- the file of bytes that have a value
 file_of_value : (bytes : List ℕ) → HasValue bytes → (file : Result File Malformed) × IsFileOf bytes file
@@ -161,41 +149,45 @@ file_of_value bytes has = of_value has.value has.is_value
     of_value (Ok d) is = (file_of d, described d is)
     of_value (Err e) is = (Err e, no_value e is)
 
-to_command : Laws → AdmissibleFormIsUnique → (command : Command) (bytes : List ℕ) → (Reads command → HasValue bytes) → (answer : Result (List ℕ) Failure) × IsAnswerTo command bytes answer
-to_command laws forms (Sphere common) bytes file =
-    let x = chart_exists laws.tables common.range (derived_module sphere_file) (laws.tables.accepted sphere_file one_alone refl) one_alone in
-    (Ok x.0, x.1)
-to_command laws forms (Resolve common) bytes has = let d = file_of_value bytes (has tt) in of_bytes laws.tables.accepted (IsText (IsChart common.range)) (as_answer (IsChart common.range) (chart_exists laws.tables common.range)) bytes d.0 d.1
-to_command laws forms (Dump common) bytes has = let d = file_of_value bytes (has tt) in of_bytes laws.tables.accepted (IsText (IsDump common.range)) (as_answer (IsDump common.range) (dump_exists laws.tables common.range)) bytes d.0 d.1
-to_command laws forms (Products common by) bytes has = let d = file_of_value bytes (has tt) in of_bytes laws.tables.accepted (IsProducts common.range by) (classes_exist laws.tables (IsProductsAnswer common.range by) common.range (products_tell laws common.range by)) bytes d.0 d.1
-to_command laws forms (Massey common a b c) bytes has = let d = file_of_value bytes (has tt) in of_bytes laws.tables.accepted (IsBracket common.range a b c) (classes_exist laws.tables (IsBracketAnswer common.range a b c) common.range (brackets_tell laws common.range a b c)) bytes d.0 d.1
-to_command laws forms Check bytes has = let d = file_of_value bytes (has tt) in of_bytes laws.tables.accepted (IsText IsLineOn) (as_answer IsLineOn line_exists) bytes d.0 d.1
-to_command laws forms (Build made) bytes has = build_answer_exists made bytes (has tt)
-to_command laws forms (Sample n common) bytes file =
-    let order : NeverFall (sample_generators n) = (sample_by_degree n).ordered in
-    let x = summary_exists laws.tables common.range (derived_module (sample_file n)) (sample_is_module n) order in
-    (Ok x.0, x.1)
-to_command laws forms (Sq numbers) bytes file = let x = product_exists forms numbers in (Ok x.0, x.1)
+module _ (accepted : AcceptedIsModule) (P : ModuleAnswers) (made : Makes P) where
+  of_found : (f : File) → NeverFall f.generators → (found : Option CheckFault) → refusal_of f ≡ found → (answer : Result (List ℕ) Failure) × MatchOption found (P (derived_module f) answer) (λ e. answer ≡ Err (NotModule f e))
+  of_found f order (Some e) h = (Err (NotModule f e), refl)
+  of_found f order None h = made (derived_module f) (accepted f order h) order
 
-to_words : Laws → AdmissibleFormIsUnique → (command : Option Command) (bytes : List ℕ) → (MatchOption command ⊥ Reads → HasValue bytes) → (answer : Result (List ℕ) Failure) × MatchOption command (answer ≡ Err Words) (λ c. IsAnswerTo c bytes answer)
-to_words laws forms None bytes file = (Err Words, refl)
-to_words laws forms (Some command) bytes file = to_command laws forms command bytes file
+  of_file : (bytes : List ℕ) (file : Result File Malformed) → IsFileOf bytes file → (answer : Result (List ℕ) Failure) × IsModuleAnswer P bytes answer
+  of_file bytes (Ok f) is =
+      let found = of_found f (file_in_order bytes (Ok f) is f refl) (refusal_of f) refl in
+      (found.0, record { file = Ok f; is_file = is; is_answer = found.1 })
+  of_file bytes (Err e) is = (Err (NoModuleFile e), record { file = Err e; is_file = is; is_answer = refl })
+
+  of_bytes : (bytes : List ℕ) → HasValue bytes → (answer : Result (List ℕ) Failure) × IsModuleAnswer P bytes answer
+  of_bytes bytes has = let file = file_of_value bytes has in of_file bytes file.0 file.1
+
+  at_origin : (origin : Origin) (bytes : List ℕ) → (IsRead origin → HasValue bytes) → (answer : Result (List ℕ) Failure) × IsAnswerAt origin P bytes answer
+  at_origin Sphere bytes has = made (derived_module sphere_file) (accepted sphere_file one_alone refl) one_alone
+  at_origin (Sample n) bytes has =
+      let order : NeverFall (sample_generators n) = (sample_by_degree n).ordered in
+      made (derived_module (sample_file n)) (sample_is_module n) order
+  at_origin OfFile bytes has = of_bytes bytes (has tt)
+
+to_plan : Laws → AdmissibleFormIsUnique → (plan : Plan) (bytes : List ℕ) → (PlanReads plan → HasValue bytes) → (answer : Result (List ℕ) Failure) × IsAnswerTo plan bytes answer
+to_plan laws forms (Resolve origin form common) bytes has = at_origin laws.tables.accepted (IsInForm form common.range) (form_exists laws form common.range) origin bytes has
+to_plan laws forms Check bytes has = of_bytes laws.tables.accepted (IsText IsLineOn) line_exists bytes (has tt)
+to_plan laws forms (Build made) bytes has = build_answer_exists made bytes (has tt)
+to_plan laws forms (Multiply numbers) bytes has = let x = product_exists forms numbers in (Ok x.0, x.1)
+
+to_asked : Laws → AdmissibleFormIsUnique → (asked : Option Plan) (bytes : List ℕ) → (Reads asked → HasValue bytes) → (answer : Result (List ℕ) Failure) × IsAskedAnswer asked bytes answer
+to_asked laws forms None bytes has = (Err Words, refl)
+to_asked laws forms (Some plan) bytes has = to_plan laws forms plan bytes has
 
 pub answer_is_there : Laws → AdmissibleFormIsUnique → AnswerExists
-answer_is_there laws forms words bytes file = to_words laws forms (command_of words) bytes file
+answer_is_there laws forms words bytes has = to_asked laws forms (asked_by words) bytes has
 
 -- ---- the answer of a task
 
-form_exists : Laws → (form : Form) (range : Range) (m : Checked) → (answer : Result (List ℕ) Failure) × IsInForm form range m.plain answer
-form_exists laws Chart range m = as_answer (IsChart range) (chart_exists laws.tables range) m.plain m.is_module m.by_degree.ordered
-form_exists laws Differentials range m = as_answer (IsDump range) (dump_exists laws.tables range) m.plain m.is_module m.by_degree.ordered
-form_exists laws Summary range m = as_answer (IsSummary range) (summary_exists laws.tables range) m.plain m.is_module m.by_degree.ordered
-form_exists laws (ProductsOf by) range m = classes_exist laws.tables (IsProductsAnswer range by) range (products_tell laws range by) m.plain m.is_module m.by_degree.ordered
-form_exists laws (BracketOf a b c) range m = classes_exist laws.tables (IsBracketAnswer range a b c) range (brackets_tell laws range a b c) m.plain m.is_module m.by_degree.ordered
-
 pub task_is_done : Laws → (task : Task) → HasItsAnswer task
 task_is_done laws (Text made) = (Ok made.items, refl)
-task_is_done laws (Resolution r) = form_exists laws r.form r.common.range r.resolved
+task_is_done laws (Resolution r) = form_exists laws r.form r.common.range r.resolved.plain r.resolved.is_module r.resolved.by_degree.ordered
 
 pub all_ok : {X E : Type 0} (r : Result X E) (P : X → Type 0) → ((x : X) → P x) → IfOk r P
 all_ok (Ok x) P p = p x

@@ -16,7 +16,7 @@ use Rattle.ext_chart.specs.Dump.{dump_text}
 use Rattle.ext_chart.specs.Summary.{summary_text}
 use Rattle.ext_chart.specs.Seen.{IsSeenThrough}
 use Rattle.ext_chart.proofs.Bare.{chart_of_images, dump_of_images, summary_of_images}
-use Rattle.ext_run.specs.Answer.{IsResolved, IsChart, IsDump, IsSummary}
+use Rattle.ext_run.specs.Forms.{IsResolved, IsChart, IsDump, IsSummary}
 
 module _ (exists : CanonicalTableExists) (minimal : CanonicalTableIsMinimalResolution) (modules : ModulesAreSteenrodModules) (range : Range) (m : Checked) (lines : List BareRow) (h : AreOfCanonical (over m) range.s range.t lines) where
   resolved : (table : List (List Content)) × IsResolved range m.plain table
@@ -37,7 +37,7 @@ module _ (exists : CanonicalTableExists) (minimal : CanonicalTableIsMinimalResol
       record {
         table = r.0;
         resolved = r.1;
-        chart = is ∙ ap (λ (x : Checked). chart_text (bottom_of x) range.s range.t (generator_count (squares_of lines))) same ∙ chart_of_images (over m) range.s range.t lines r.0 r.1.canonical h (bottom_of m);
+        is = is ∙ ap (λ (x : Checked). chart_text (bottom_of x) range.s range.t (generator_count (squares_of lines))) same ∙ chart_of_images (over m) range.s range.t lines r.0 r.1.canonical h (bottom_of m);
       }
 
   pub is_dump_of : (given : Checked) (text : List ℕ) → given ≡ m → text ≡ dump_text given.plain.generators range.s range.t (squares_of lines) → IsDump range m.plain text
@@ -46,7 +46,7 @@ module _ (exists : CanonicalTableExists) (minimal : CanonicalTableIsMinimalResol
       record {
         table = r.0;
         resolved = r.1;
-        dump = is ∙ ap (λ (x : Checked). dump_text x.plain.generators range.s range.t (squares_of lines)) same ∙ dump_of_images (over m) range.s range.t lines r.0 r.1.canonical h m.plain.generators;
+        is = is ∙ ap (λ (x : Checked). dump_text x.plain.generators range.s range.t (squares_of lines)) same ∙ dump_of_images (over m) range.s range.t lines r.0 r.1.canonical h m.plain.generators;
       }
 
   pub is_summary_of : (given : Checked) (text : List ℕ) → given ≡ m → text ≡ summary_text (length given.plain.generators) (bottom_of given) range.s range.t (generator_count (squares_of lines)) → IsSummary range m.plain text
@@ -55,5 +55,5 @@ module _ (exists : CanonicalTableExists) (minimal : CanonicalTableIsMinimalResol
       record {
         table = r.0;
         resolved = r.1;
-        summary = is ∙ ap (λ (x : Checked). summary_text (length x.plain.generators) (bottom_of x) range.s range.t (generator_count (squares_of lines))) same ∙ summary_of_images (over m) range.s range.t lines r.0 r.1.canonical h (length m.plain.generators) (bottom_of m);
+        is = is ∙ ap (λ (x : Checked). summary_text (length x.plain.generators) (bottom_of x) range.s range.t (generator_count (squares_of lines))) same ∙ summary_of_images (over m) range.s range.t lines r.0 r.1.canonical h (length m.plain.generators) (bottom_of m);
       }

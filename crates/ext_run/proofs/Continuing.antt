@@ -17,11 +17,11 @@ use Rattle.square.specs.Keeping.{Keeper, HoldsTable}
 use Rattle.resolution_step.specs.Alone.{HasResolved}
 use Rattle.ext_report.specs.declared.failure.Failure.{Failure}
 use Rattle.ext_report.specs.declared.failure.Failure.TheVariants.{Saving, Memory}
-use Rattle.ext_run.specs.declared.task.Form.{Form}
-use Rattle.ext_run.specs.Answer.{IsResolved}
-use Rattle.ext_run.specs.Task.{IsInForm}
+use Rattle.ext_run.specs.declared.plan.Form.{Form}
+use Rattle.ext_run.specs.Plan.{TellsOfClasses}
+use Rattle.ext_run.specs.Forms.{IsResolved, IsInForm}
 use Rattle.ext_run.specs.Saving.{HasRange}
-use Rattle.ext_run.specs.Work.{Told, HasAnswer, answer_of, HasContinued}
+use Rattle.ext_run.specs.Work.{Told, HasAnswer, answer_of, IsRefusalIn, HasContinued}
 use Rattle.ext_report.specs.Failure.{IsOfClasses}
 
 -- a table with each square of the range, in a list
@@ -63,21 +63,22 @@ told_with minimal modules range form table more text grown canonical told has st
     let P : Checked → Type 0 = λ m. IsResolved range m.plain rows → IsInForm form range m.plain (answer_of text) in
     subst P grown.resolved (λ resolved. told has resolved) here
 
-or_saving : (text : Told) → IfErr text (λ e. (e ≡ Memory) ⊎ IsOfClasses e) → IfErr text (λ e. (e ≡ Saving) ⊎ (e ≡ Memory) ⊎ IsOfClasses e)
-or_saving (Ok t) h = tt
-or_saving (Err e) h = inr h
+or_saving : (form : Form) (text : Told) → IfErr text (λ e. (e ≡ Memory) ⊎ IsOfClasses e) → IfErr text (λ e. IsOfClasses e → TellsOfClasses form) → IfErr text (λ e. (e ≡ Saving) ⊎ (e ≡ Memory) ⊎ IsRefusalIn form e)
+or_saving form (Ok t) h named = tt
+or_saving form (Err e) (inl h) named = inr (inl h)
+or_saving form (Err e) (inr h) named = inr (inr (h, named h))
 
 not_failed : (text : Told) (X : Type 0) → IfErr text (λ e. (e ≡ Memory) ⊎ IsOfClasses e) → text ≡ Err Saving → X
 not_failed (Ok t) X h is = absurd (cc)
 not_failed (Err e) X (inl h) is = absurd (cc)
 not_failed (Err e) X (inr h) is = absurd (let same : e ≡ Saving = cc in subst IsOfClasses same h)
 
-pub continued : {E : Type 0} (failing wanting : E) (order : Entry → Entry → Type 0) (range : Range) (form : Form) (table : Staircase) (resolved : Result Staircase E) (old new : Keeper) → HasResolved failing wanting order range table resolved old new → CanonicalTableIsMinimalResolution → ModulesAreSteenrodModules → (more : Staircase) (text : Told) → resolved ≡ Ok more → IsToldOf range form more text → IfErr text (λ e. (e ≡ Memory) ⊎ IsOfClasses e) → HasContinued range form table text old new
-continued {E = E} failing wanting order range form table resolved old new made minimal modules more text is told why =
+pub continued : {E : Type 0} (failing wanting : E) (order : Entry → Entry → Type 0) (range : Range) (form : Form) (table : Staircase) (resolved : Result Staircase E) (old new : Keeper) → HasResolved failing wanting order range table resolved old new → CanonicalTableIsMinimalResolution → ModulesAreSteenrodModules → (more : Staircase) (text : Told) → resolved ≡ Ok more → IsToldOf range form more text → IfErr text (λ e. (e ≡ Memory) ⊎ IsOfClasses e) → IfErr text (λ e. IsOfClasses e → TellsOfClasses form) → HasContinued range form table text old new
+continued {E = E} failing wanting order range form table resolved old new made minimal modules more text is told why named =
     let done = subst (λ (r : Result Staircase E). HasResolved failing wanting order range table r old new) is made in
     record {
       told = told_with minimal modules range form table more text done.grown done.canonical told;
-      why = or_saving text why;
+      why = or_saving form text why named;
       failed = not_failed text _ why;
       no_fault = λ has. done.keeper.no_fault;
       live = λ unfailed. done.keeper.live;

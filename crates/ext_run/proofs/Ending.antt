@@ -1,190 +1,218 @@
 -- What a run promises, by how it ends: by a text that answers the words, or by a failure, which may be an answer too.
-use Rattle.std.proofs.Common.{◌≡◌, ◌≢◌, ◌∙◌, ℕ, ◌≤◌, ◌⊎◌, inl, inr, List, Option, refl, sym, subst, ap, arith}
-use Rattle.std.specs.Prelude.{Result, Ok, Err, IfOk, IfErr}
+use Rattle.std.proofs.Common.{◌≡◌, ◌≢◌, ◌∙◌, ℕ, ◌≤◌, ◌⊎◌, inl, inr, List, Option, None, IfSome, refl, sym, subst, ap, arith}
+use Rattle.std.specs.declared.alloc.Global.{Global}
+use Rattle.std.specs.Prelude.{Vec, Result, Ok, Err, IfOk, IfErr}
 use Rattle.edge.specs.Faults.{HasRisen}
 use Rattle.edge.specs.Source.{without_first, HasGivenUpTo}
-use Rattle.ext_report.specs.Failure.{status_of, IsTold}
+use Rattle.edge.proofs.Moments.{Lawful}
+use Rattle.module_json.specs.ModuleFile.{File}
+use Rattle.module_check.specs.declared.fault.CheckFault.{CheckFault}
+use Rattle.space_laws.specs.Spaces.{IsSpaceFile}
+use Rattle.save_file.specs.declared.fault.ResumeFault.{ResumeFault}
 use Rattle.ext_report.specs.declared.failure.Failure.{Failure}
 use Rattle.ext_report.specs.declared.failure.Failure.TheVariants.{Words, Malformed as NoModuleFile, NotModule, PastLimit, Reading, Writing, Saving, SaveFile, Classes, Memory}
-use Rattle.save_file.specs.declared.fault.ResumeFault.{ResumeFault}
+use Rattle.ext_report.specs.Failure.{IsOfClasses, IsTold, status_of}
 use Rattle.ext_build.specs.Input.{most_read}
-use Rattle.ext_run.specs.Answer.{IsAnswerFrom, WordsRead}
-use Rattle.ext_run.specs.Saving.{IsRunCauseFrom}
+use Rattle.ext_run.specs.declared.plan.Plan.{Plan}
+use Rattle.ext_run.specs.declared.task.Task.{Task}
+use Rattle.ext_run.specs.Devices.{Device, Store}
+use Rattle.ext_run.specs.Plan.{Reads}
+use Rattle.ext_run.specs.Answer.{IsAskedAnswer, IsTaskCause, IsTaskCauseFrom}
+use Rattle.ext_run.specs.Saving.{Outcome, IsUsable, HasSaved}
+use Rattle.ext_run.specs.Task.{IsDoneBy, HasItsAnswer, IsTaskFor}
+use Rattle.ext_run.specs.Work.{Told, HasAnswer, answer_of, HasWorked}
 use Rattle.ext_run.specs.Ending.{HasTold, HasGotWhole, HasGotPart}
-use Rattle.ext_run.specs.Run.{IsStatusOf, HasRead, HasAnswered, HasReported, IsComplete}
-use Rattle.ext_run.proofs.Causes.{read_whole, never_0, only_reading, only_writing, HasOutcome, status_of_text, status_of_failure, complete}
-use Rattle.ext_run.proofs.Saved.{Store, IsKept, IsUsableAt}
-
--- how a source, a sink or standard error is seen: what it has left or got, and its count of faults
-pub record Device : Type 1 where
-  pub State : Type 0
-  pub shows : State → Option (List ℕ)
-  pub faults : State → ℕ
-
--- what a run promises
-pub record IsRun (source out err : Device) (store : Store) (words : List (List ℕ)) (code : ℕ) (s t : source.State) (o p : out.State) (e f : err.State) (d g : store.State) : Type 0 where
-  pub status : IsStatusOf words (source.shows s) (IsUsableAt store words (source.shows s) d) code
-  pub read : HasRead source.shows source.faults words code s t
-  pub answered : HasAnswered out.shows out.faults words (source.shows s) (IsUsableAt store words (source.shows s) d) code o p
-  pub reported : HasReported err.shows err.faults words (source.shows s) (store.now d) (IsUsableAt store words (source.shows s) d) code e f
-  pub saved : IsKept store words (source.shows s) code d g
-  pub complete : IsUsableAt store words (source.shows s) d → (HasRisen (source.faults s) (source.faults t) → ⊥) → (HasRisen (out.faults o) (out.faults p) → ⊥) → (HasRisen (store.faults d) (store.faults g) → ⊥) → IsComplete words (source.shows s) code
+use Rattle.ext_run.specs.Run.{IsCause, IsPrevented, HasRead, HasPrinted, HasReported, IsRun}
+use Rattle.ext_run.proofs.Asked.{task_told, space_asked, read_whole}
+use Rattle.ext_run.proofs.AnswerUnique.{asked_unique}
+use Rattle.ext_run.proofs.Tasks.{task_answers, input_of}
+use Rattle.ext_run.proofs.Saved.{IsLate, saving, save_file, classes, memory, IsEndedBy, IsWorked, worked, kept_early, after_text, after_cut}
 
 -- what becomes of the source if its words have a task
-pub record IsRead (source : Device) (words : List (List ℕ)) (s t : source.State) : Type 0 where
-  pub unread : (WordsRead words → ⊥) → t ≡ s
+pub record IsRead {S : Type 0} (source : Device S) (reads : Type 0) (s t : S) : Type 0 where
+  pub unread : (reads → ⊥) → t ≡ s
   pub given : HasGivenUpTo most_read (source.shows s) (source.shows t)
-  pub read : WordsRead words → source.shows t ≡ without_first (source.shows s) most_read
+  pub read : reads → source.shows t ≡ without_first (source.shows s) most_read
   pub never_falls : source.faults s ≤ source.faults t
   pub no_fault : source.faults t ≡ source.faults s
 
--- what becomes of the source, of the sink and of the disk where there is this failure
-pub record IsFailed (source out : Device) (store : Store) (words : List (List ℕ)) (failure : Failure) (s t : source.State) (o p : out.State) (d g : store.State) : Type 0 where
-  pub cause : IsRunCauseFrom words (source.shows s) (store.now d) (IsUsableAt store words (source.shows s) d) failure
-  pub outcome : HasOutcome words (source.shows s) (store.now d) (IsUsableAt store words (source.shows s) d) failure
-  pub unread : (WordsRead words → ⊥) → t ≡ s
+-- and if there is this failure in its place
+pub record IsReadFor {S : Type 0} (source : Device S) (reads : Type 0) (failure : Failure) (s t : S) : Type 0 where
+  pub unread : (reads → ⊥) → t ≡ s
   pub given : HasGivenUpTo most_read (source.shows s) (source.shows t)
-  pub read : WordsRead words → failure ≢ Reading → failure ≢ Memory → source.shows t ≡ without_first (source.shows s) most_read
-  pub read_never_falls : source.faults s ≤ source.faults t
-  pub no_read_fault : failure ≢ Reading → source.faults t ≡ source.faults s
-  pub reading : failure ≡ Reading → HasRisen (source.faults s) (source.faults t)
-  pub untouched : failure ≢ Writing → p ≡ o
-  pub part : failure ≡ Writing → (text : List ℕ) × (IsUsableAt store words (source.shows s) d → IsAnswerFrom words (source.shows s) (Ok text)) × HasGotPart out.shows out.faults text o p
-  pub never_falls : out.faults o ≤ out.faults p
-  pub saved : IsKept store words (source.shows s) (status_of failure) d g
-  pub accepted : IsUsableAt store words (source.shows s) d → (fault : ResumeFault) → failure ≡ SaveFile fault → ⊥
+  pub read : reads → failure ≢ Reading → failure ≢ Memory → source.shows t ≡ without_first (source.shows s) most_read
+  pub never_falls : source.faults s ≤ source.faults t
+  pub no_fault : failure ≢ Reading → source.faults t ≡ source.faults s
+  pub failed : failure ≡ Reading → HasRisen (source.faults s) (source.faults t)
 
-module _ (source out err : Device) (store : Store) (words : List (List ℕ)) (s t : source.State) (o p : out.State) (e f : err.State) (d g : store.State) where
-  -- a run that ends by a failure
-  pub run_of_failure : (failure : Failure) (status : ℕ) → IsFailed source out store words failure s t o p d g → HasTold err.shows err.faults failure status e f → IsRun source out err store words status s t o p e f d g
-  run_of_failure failure status came told = record {
-    status = subst (IsStatusOf words (source.shows s) (IsUsableAt store words (source.shows s) d)) (sym told.status_is) (status_of_failure words (source.shows s) (store.now d) (IsUsableAt store words (source.shows s) d) failure came.cause came.outcome (λ usable h. let part = came.part h in (part.0, part.1 usable)) came.accepted);
-    read = record {
-      unread = came.unread;
-      given = came.given;
-      read = λ reads no_6 no_12. came.read reads (λ h. no_6 (told.status_is ∙ ap status_of h)) (λ h. no_12 (told.status_is ∙ ap status_of h));
-      read_through = λ reads h. absurd (never_0 failure (sym told.status_is ∙ h));
-      never_falls = came.read_never_falls;
-      no_fault = λ no_6. came.no_read_fault (λ h. no_6 (told.status_is ∙ ap status_of h));
-      failed = λ h. came.reading (only_reading failure (sym told.status_is ∙ h));
-    };
-    answered = record {
-      answered = λ h. absurd (never_0 failure (sym told.status_is ∙ h));
-      prefix = λ h. let part = came.part (only_writing failure (sym told.status_is ∙ h)) in (part.0, part.1, part.2.prefix);
-      untouched = λ no_0 no_7. came.untouched (λ h. no_7 (told.status_is ∙ ap status_of h));
-      never_falls = came.never_falls;
-      no_fault = λ h. absurd (never_0 failure (sym told.status_is ∙ h));
-      failed = λ h. let part = came.part (only_writing failure (sym told.status_is ∙ h)) in part.2.risen;
-    };
-    reported = record {
-      silent = λ h. absurd (never_0 failure (sym told.status_is ∙ h));
-      line = λ h. (_, record { failure = failure; cause = came.cause; status_is = told.status_is; line_is = refl }, told.line);
-      whole_line = λ h quiet. (_, record { failure = failure; cause = came.cause; status_is = told.status_is; line_is = refl }, told.whole_line quiet);
-      never_falls = told.never_falls;
-    };
-    saved = subst (λ (n : ℕ). IsKept store words (source.shows s) n d g) (sym told.status_is) came.saved;
-    complete = λ usable no_read no_write no_save. subst (IsComplete words (source.shows s)) (sym told.status_is)
-        (complete words (source.shows s) (store.now d) (IsUsableAt store words (source.shows s) d) failure came.cause usable (λ h. no_read (came.reading h)) (λ h. let part = came.part h in no_write part.2.risen) (λ h. no_save (came.saved.failed (ap status_of h))) (came.accepted usable));
-  }
+-- the failure is not that the file of a real projective space is no module
+abbrev HasNoSpace : List ℕ → Failure → Type 0
+HasNoSpace input failure = IsSpaceFile input → (file : File) (fault : CheckFault) → ◌≡◌ {A = Outcome} (Err failure) (Err (NotModule file fault)) → ⊥
 
-  -- a run that ends by a text, the words having an answer
-  pub run_of_text : (answer : Result (List ℕ) Failure) (text : List ℕ) (status : ℕ) → IsRead source words s t → IsTold answer → IsAnswerFrom words (source.shows s) answer → (IsUsableAt store words (source.shows s) d → IsAnswerFrom words (source.shows s) (Ok text)) → HasGotWhole out.shows out.faults text o p → status ≡ 0 → f ≡ e →
-      IsKept store words (source.shows s) 0 d g → IsRun source out err store words status s t o p e f d g
-  run_of_text answer text status read told there answers got is silent saved = record {
-    status = subst (IsStatusOf words (source.shows s) (IsUsableAt store words (source.shows s) d)) (sym is) (status_of_text words (source.shows s) (IsUsableAt store words (source.shows s) d) answer text told there answers);
-    read = record {
+module _ {S O E D : Type 0} (source : Device S) (out : Device O) (err : Device E) (disk : Store D) (laws : Lawful disk.now disk.moment disk.images disk.since) (asked : Option Plan) (s t : S) (e f : E) (d : D) where
+  -- the line of a failure
+  reported : (failure : Failure) (status : ℕ) → HasTold err.shows err.faults failure status e f → HasReported err (Err failure) e f
+  reported failure status told = record { status_is = refl; line = told.line; whole_line = told.whole_line; never_falls = told.never_falls }
+
+  abbrev Usable : List ℕ → Type 0
+  Usable input = IsUsable disk asked input d
+
+  abbrev IsTheText : List ℕ → List ℕ → Type 0
+  IsTheText input text = Usable input → IsAskedAnswer asked input (Ok text)
+
+  -- ---- a failure in place of a task
+
+  -- what is said of it besides
+  record IsEarlyEnd (input : List ℕ) (failure : Failure) (o : O) : Type 0 where
+    cause : IsCause asked input (disk.now d) (Usable input) (Err failure)
+    comes : (answer : Outcome) → IsAskedAnswer asked input answer → (◌≡◌ {A = Outcome} (Err failure) answer) ⊎ IsPrevented answer (Err failure)
+    printed : HasPrinted out (IsTheText input) (Err failure) o o
+
+  own_comes : (input : List ℕ) (failure : Failure) → IsAskedAnswer asked input (Err failure) → (answer : Outcome) → IsAskedAnswer asked input answer → (◌≡◌ {A = Outcome} (Err failure) answer) ⊎ IsPrevented answer (Err failure)
+  own_comes input failure p answer is = inl (asked_unique asked input (Err failure) answer p is)
+
+  outside : (input : List ℕ) → asked ≡ None → IsAskedAnswer asked input (Err Words)
+  outside input none = let refused : IsAskedAnswer None input (Err Words) = refl in subst (λ (o : Option Plan). IsAskedAnswer o input (Err Words)) (sym none) refused
+
+  early_end : (input : List ℕ) (o : O) (failure : Failure) → IsTaskCause asked (λ x. IsAskedAnswer asked input (Err x)) failure → IsEarlyEnd input failure o
+  early_end input o Words p = record { cause = p; comes = own_comes input Words (outside input p); printed = refl }
+  early_end input o (NoModuleFile x) p = record { cause = p; comes = own_comes input (NoModuleFile x) p; printed = refl }
+  early_end input o (NotModule x y) p = record { cause = p; comes = own_comes input (NotModule x y) p; printed = refl }
+  early_end input o (PastLimit x) p = record { cause = p; comes = own_comes input (PastLimit x) p; printed = refl }
+  early_end input o Reading p = record { cause = p; comes = λ answer is. inr tt; printed = refl }
+  early_end input o Writing p = absurd p
+  early_end input o Saving p = absurd p
+  early_end input o (SaveFile x) p = absurd p
+  early_end input o (Classes x) p = absurd p
+  early_end input o Memory p = record { cause = tt; comes = λ answer is. inr tt; printed = refl }
+
+  -- the file of a real projective space is not refused
+  no_space : (input : List ℕ) (failure : Failure) → IsTaskCause asked (λ x. IsAskedAnswer asked input (Err x)) failure → HasNoSpace input failure
+  no_space input failure p space file fault h =
+      let same : failure ≡ NotModule file fault = cc in
+      space_asked asked input file fault space (subst (IsTaskCause asked (λ x. IsAskedAnswer asked input (Err x))) same p)
+
+  pub run_of_failure : (failure : Failure) (status : ℕ) (o : O) → IsTaskCauseFrom asked (source.shows s) failure → IsReadFor source (Reads asked) failure s t → HasTold err.shows err.faults failure status e f → IsRun source out err disk asked status s t o o e f d d
+  run_of_failure failure status o from read told =
+      let input = input_of asked (source.shows s) failure from in
+      let end = early_end input.bytes o failure input.holds in
+      record {
+        input = input.bytes;
+        told = input.all;
+        outcome = Err failure;
+        status_is = told.status_is;
+        cause = end.cause;
+        comes = λ answer is usable. end.comes answer is;
+        no_space_refused = no_space input.bytes failure input.holds;
+        read = record {
+          unread = read.unread;
+          given = read.given;
+          read = λ reads other more. read.read reads (λ h. other (ap (λ (x : Failure). Err x) h)) (λ h. more (ap (λ (x : Failure). Err x) h));
+          read_through = λ reads text h. absurd cc;
+          never_falls = read.never_falls;
+          no_fault = λ other. read.no_fault (λ h. other (ap (λ (x : Failure). Err x) h));
+          failed = λ h. read.failed cc;
+        };
+        printed = end.printed;
+        reported = reported failure status told;
+        saved = kept_early disk laws asked input.bytes failure d input.holds;
+      }
+
+  -- ---- a task
+
+  module _ (task : Task) (input : List ℕ) (all : IfSome (source.shows s) (λ l. input ≡ l)) (is_task : IsTaskFor asked input task) (done : HasItsAnswer task) (read : IsRead source (Reads asked) s t) (g : D) (o p : O) (status : ℕ) where
+    there : IsAskedAnswer asked input done.0
+    there = task_answers asked input task done.0 is_task done.1
+
+    there_told : IsTold done.0
+    there_told = task_told task done.0 done.1
+
+    answer_told : (answer : Outcome) → IsAskedAnswer asked input answer → IsTold answer
+    answer_told answer is = subst IsTold (asked_unique asked input done.0 answer there is) there_told
+
+    has_read : (outcome : Outcome) → (◌≡◌ {A = Outcome} outcome (Err Reading) → ⊥) → HasRead source (Reads asked) outcome s t
+    has_read outcome other = record {
       unread = read.unread;
       given = read.given;
-      read = λ reads no_6 no_12. read.read reads;
-      read_through = λ reads h. read_whole words (source.shows s) (source.shows t) answer told reads there (read.read reads);
+      read = λ reads no_fault no_memory. read.read reads;
+      read_through = λ reads text h. read_whole asked input (source.shows s) (source.shows t) done.0 there_told reads there all (read.read reads);
       never_falls = read.never_falls;
-      no_fault = λ no_6. read.no_fault;
-      failed = λ h. absurd (omega (arith, is, h));
-    };
-    answered = record {
-      answered = λ h. (text, answers, got.whole);
-      prefix = λ h. absurd (omega (arith, is, h));
-      untouched = λ no_0 no_7. absurd (no_0 is);
-      never_falls = omega (arith, got.no_fault);
-      no_fault = λ h. got.no_fault;
-      failed = λ h. absurd (omega (arith, is, h));
-    };
-    reported = record {
-      silent = λ h. silent;
-      line = λ no_0. absurd (no_0 is);
-      whole_line = λ no_0 quiet. absurd (no_0 is);
-      never_falls = let same = ap err.faults silent in omega (arith, same);
-    };
-    saved = subst (λ (n : ℕ). IsKept store words (source.shows s) n d g) (sym is) saved;
-    complete = λ usable no_read no_write no_save has. inl is;
-  }
+      no_fault = λ h. read.no_fault;
+      failed = λ h. absurd (other h);
+    }
 
-  -- the text cannot be written
-  cut : (answer : Result (List ℕ) Failure) (text : List ℕ) → IsRead source words s t → IsTold answer → IsAnswerFrom words (source.shows s) answer → (IsUsableAt store words (source.shows s) d → IsAnswerFrom words (source.shows s) (Ok text)) → HasGotPart out.shows out.faults text o p →
-      IsKept store words (source.shows s) 7 d g → IsFailed source out store words Writing s t o p d g
-  cut answer text read told there answers got saved = record {
-    cause = tt;
-    outcome = (answer, told, there);
-    unread = read.unread;
-    given = read.given;
-    read = λ reads no_6 no_12. read.read reads;
-    read_never_falls = read.never_falls;
-    no_read_fault = λ h. read.no_fault;
-    reading = λ h. absurd cc;
-    untouched = λ h. absurd (h refl);
-    part = λ h. (text, answers, got);
-    never_falls = got.never_falls;
-    saved = saved;
-    accepted = λ usable fault h. cc;
-  }
+    made_answers : (text : Told) → IsWorked disk laws asked input text task d g → HasAnswer text → Usable input → IsAskedAnswer asked input (answer_of text)
+    made_answers text did has usable = task_answers asked input task (answer_of text) is_task (did.made has usable)
 
-  -- what is asked of the failure of a task
-  pub record IsTaskFailure (failure : Failure) : Type 0 where
-    pub cause : IsRunCauseFrom words (source.shows s) (store.now d) (IsUsableAt store words (source.shows s) d) failure
-    pub not_reading : failure ≢ Reading
-    pub not_writing : failure ≢ Writing
-    pub saved : IsKept store words (source.shows s) (status_of failure) d g
-    pub accepted : IsUsableAt store words (source.shows s) d → (fault : ResumeFault) → failure ≡ SaveFile fault → ⊥
+    -- the text is written whole
+    run_of_text : (x : Vec ℕ Global) → IsWorked disk laws asked input (Ok x) task d g → HasGotWhole out.shows out.faults x.items o p → status ≡ 0 → f ≡ e → IsRun source out err disk asked status s t o p e f d g
+    run_of_text x did got is silent = record {
+      input = input;
+      told = all;
+      outcome = Ok x.items;
+      status_is = is;
+      cause = made_answers (Ok x) did tt;
+      comes = λ answer right usable. inl (asked_unique asked input (Ok x.items) answer (made_answers (Ok x) did tt (usable (answer_told answer right))) right);
+      no_space_refused = λ space file fault h. cc;
+      read = has_read (Ok x.items) (λ h. cc);
+      printed = got;
+      reported = silent;
+      saved = did.kept (Ok x.items) (after_text x) tt;
+    }
 
-  some_outcome : (answer : Result (List ℕ) Failure) → IsTold answer → IsAnswerFrom words (source.shows s) answer → (failure : Failure) → HasOutcome words (source.shows s) (store.now d) (IsUsableAt store words (source.shows s) d) failure
-  some_outcome answer told there Words = tt
-  some_outcome answer told there (NoModuleFile e) = tt
-  some_outcome answer told there (NotModule f e) = tt
-  some_outcome answer told there (PastLimit what) = tt
-  some_outcome answer told there Reading = tt
-  some_outcome answer told there Writing = (answer, told, there)
-  some_outcome answer told there Saving = (answer, told, there)
-  some_outcome answer told there (SaveFile e) = (answer, told, there)
-  some_outcome answer told there (Classes e) = (answer, told, there)
-  some_outcome answer told there Memory = tt
+    -- it is not
+    run_of_part : (x : Vec ℕ Global) → IsWorked disk laws asked input (Ok x) task d g → HasGotPart out.shows out.faults x.items o p → HasTold err.shows err.faults Writing status e f → IsRun source out err disk asked status s t o p e f d g
+    run_of_part x did got told = record {
+      input = input;
+      told = all;
+      outcome = Err Writing;
+      status_is = told.status_is;
+      cause = tt;
+      comes = λ answer right usable. inr (x.items, asked_unique asked input answer (Ok x.items) right (made_answers (Ok x) did tt (usable (answer_told answer right))));
+      no_space_refused = λ space file fault h. cc;
+      read = has_read (Err Writing) (λ h. cc);
+      printed = (x.items, made_answers (Ok x) did tt, got);
+      reported = reported Writing status told;
+      saved = did.kept (Err Writing) (after_cut x) tt;
+    }
 
-  ended_without : (answer : Result (List ℕ) Failure) (failure : Failure) → IsRead source words s t → IsTold answer → IsAnswerFrom words (source.shows s) answer → IsTaskFailure failure → p ≡ o → IsFailed source out store words failure s t o p d g
-  ended_without answer failure read told there why same = record {
-    cause = why.cause;
-    outcome = some_outcome answer told there failure;
-    unread = read.unread;
-    given = read.given;
-    read = λ reads no_6 no_12. read.read reads;
-    read_never_falls = read.never_falls;
-    no_read_fault = λ h. read.no_fault;
-    reading = λ h. absurd (why.not_reading h);
-    untouched = λ h. same;
-    part = λ h. absurd (why.not_writing h);
-    never_falls = let faults = ap out.faults same in omega (arith, faults);
-    saved = why.saved;
-    accepted = why.accepted;
-  }
+    -- there is a failure in place of the text
+    record IsLateEnd (failure : Failure) : Type 0 where
+      comes : (answer : Outcome) → IsAskedAnswer asked input answer → (IsTold answer → Usable input) → (◌≡◌ {A = Outcome} (Err failure) answer) ⊎ IsPrevented answer (Err failure)
+      printed : p ≡ o → HasPrinted out (IsTheText input) (Err failure) o p
+      not_read : ◌≡◌ {A = Outcome} (Err failure) (Err Reading) → ⊥
+      no_space_refused : HasNoSpace input failure
 
-  -- a run whose words have a task, by the text that is made for it
-  pub run_of_task : {X : Type 0} (items : X → List ℕ) (text : Result X Failure) (status : ℕ) (answer : Result (List ℕ) Failure)
-      → IsRead source words s t
-      → IsTold answer
-      → IsAnswerFrom words (source.shows s) answer
-      → IfOk text (λ x. (IsUsableAt store words (source.shows s) d → IsAnswerFrom words (source.shows s) (Ok (items x))) × IsKept store words (source.shows s) 0 d g × IsKept store words (source.shows s) 7 d g)
-      → IfErr text IsTaskFailure
-      → IfOk text (λ x. (HasGotWhole out.shows out.faults (items x) o p × (status ≡ 0) × (f ≡ e)) ⊎ (HasGotPart out.shows out.faults (items x) o p × HasTold err.shows err.faults Writing status e f))
-      → IfErr text (λ failure. (p ≡ o) × HasTold err.shows err.faults failure status e f)
-      → IsRun source out err store words status s t o p e f d g
-  run_of_task items (Ok x) status answer read told there made failed (inl got) none = run_of_text answer (items x) status read told there made.0 got.0 got.1 got.2 made.1
-  run_of_task items (Ok x) status answer read told there made failed (inr got) none = run_of_failure Writing status (cut answer (items x) read told there made.0 got.0 made.2) got.1
-  run_of_task items (Err failure) status answer read told there made failed got none = run_of_failure failure status (ended_without answer failure read told there failed none.0) none.1
+    late_end : (failure : Failure) → IsLate failure → (IsOfClasses failure → Usable input → IsAskedAnswer asked input (Err failure)) → (Usable input → (fault : ResumeFault) → failure ≡ SaveFile fault → ⊥) → IsLateEnd failure
+    late_end failure saving made accepted = record { comes = λ answer right usable. inr (answer_told answer right); printed = λ same. same; not_read = λ h. cc; no_space_refused = λ space file fault h. cc }
+    late_end failure (save_file x) made accepted = record { comes = λ answer right usable. absurd (accepted (usable (answer_told answer right)) x refl); printed = λ same. same; not_read = λ h. cc; no_space_refused = λ space file fault h. cc }
+    late_end failure (classes x) made accepted = record { comes = λ answer right usable. inl (asked_unique asked input (Err (Classes x)) answer (made tt (usable (answer_told answer right))) right); printed = λ same. same; not_read = λ h. cc; no_space_refused = λ space file fault h. cc }
+    late_end failure memory made accepted = record { comes = λ answer right usable. inr tt; printed = λ same. same; not_read = λ h. cc; no_space_refused = λ space file fault h. cc }
+
+    run_without : (failure : Failure) → IsWorked disk laws asked input (Err failure) task d g → IsEndedBy disk laws asked input failure d g → p ≡ o → HasTold err.shows err.faults failure status e f → IsRun source out err disk asked status s t o p e f d g
+    run_without failure did ended same told =
+        let made = made_answers (Err failure) did in
+        let end = late_end failure ended.late made ended.accepted in
+        record {
+          input = input;
+          told = all;
+          outcome = Err failure;
+          status_is = told.status_is;
+          cause = ended.cause made;
+          comes = end.comes;
+          no_space_refused = end.no_space_refused;
+          read = has_read (Err failure) end.not_read;
+          printed = end.printed same;
+          reported = reported failure status told;
+          saved = ended.saved;
+        }
+
+    pub run_of_task : (text : Told) → HasWorked disk.now disk.moment disk.images disk.since disk.faults task text d g
+        → IfOk text (λ x. (HasGotWhole out.shows out.faults x.items o p × (status ≡ 0) × (f ≡ e)) ⊎ (HasGotPart out.shows out.faults x.items o p × HasTold err.shows err.faults Writing status e f))
+        → IfErr text (λ failure. (p ≡ o) × HasTold err.shows err.faults failure status e f)
+        → IsRun source out err disk asked status s t o p e f d g
+    run_of_task (Ok x) did (inl got) none = run_of_text x (worked disk laws asked input task (Ok x) d g is_task did) got.0 got.1 got.2
+    run_of_task (Ok x) did (inr got) none = run_of_part x (worked disk laws asked input task (Ok x) d g is_task did) got.0 got.1
+    run_of_task (Err failure) did got none =
+        let work = worked disk laws asked input task (Err failure) d g is_task did in
+        run_without failure work work.failed none.0 none.1

@@ -22,35 +22,36 @@ use Rattle.save_file.specs.declared.fault.ResumeFault.{ResumeFault}
 use Rattle.save_file.specs.declared.fault.ResumeFault.TheVariants.{Open, Strange, Memory as OutOfMemory}
 use Rattle.ext_report.specs.declared.failure.Failure.{Failure}
 use Rattle.ext_report.specs.declared.failure.Failure.TheVariants.{Saving, SaveFile, Memory}
+use Rattle.ext_run.specs.declared.plan.Form.{Form}
 use Rattle.ext_run.specs.declared.task.Resolution.{Resolution as ToResolve}
 use Rattle.ext_report.specs.Failure.{resume_failure, IsOfClasses}
-use Rattle.ext_run.specs.Task.{IsInForm}
+use Rattle.ext_run.specs.Forms.{IsInForm}
 use Rattle.ext_run.specs.Saving.{AreCanonical, StandsWith, IsOurs, IsUnwritten, HasLasted}
-use Rattle.ext_run.specs.Work.{Told, HasAnswer, answer_of, HasContinued, IsRefusedFor, HasKeptOn}
+use Rattle.ext_run.specs.Work.{Told, HasAnswer, answer_of, IsRefusalIn, HasContinued, IsRefusedFor, HasKeptOn}
 use Rattle.save_file.proofs.Entries.{some_is}
 use Rattle.ext_run.proofs.Lasting.{at_some, all_first, canonical_start, as_another, unwritten_since, lasting}
 
 -- an error of a continued table is no refusal
-no_refusal : (text : Told) (fault : ResumeFault) → IfErr text (λ e. (e ≡ Saving) ⊎ (e ≡ Memory) ⊎ IsOfClasses e) → text ≡ Err (SaveFile fault) → ⊥
-no_refusal (Ok t) fault why is = cc
-no_refusal (Err e) fault (inl h) is = cc
-no_refusal (Err e) fault (inr (inl h)) is = cc
-no_refusal (Err e) fault (inr (inr h)) is = let same : e ≡ SaveFile fault = cc in subst IsOfClasses same h
+no_refusal : (form : Form) (text : Told) (fault : ResumeFault) → IfErr text (λ e. (e ≡ Saving) ⊎ (e ≡ Memory) ⊎ IsRefusalIn form e) → text ≡ Err (SaveFile fault) → ⊥
+no_refusal form (Ok t) fault why is = cc
+no_refusal form (Err e) fault (inl h) is = cc
+no_refusal form (Err e) fault (inr (inl h)) is = cc
+no_refusal form (Err e) fault (inr (inr h)) is = let same : e ≡ SaveFile fault = cc in subst IsOfClasses same h.0
 
 -- an answer comes only if the save file did not fail
 pub answer_unfailed : (text : Told) → HasAnswer text → text ≢ Err Saving
 answer_unfailed (Ok t) has is = cc
 answer_unfailed (Err e) has is = let same : e ≡ Saving = cc in subst IsOfClasses same has
 
-wider : (text : Told) (X : Failure → Type 0) → IfErr text (λ e. (e ≡ Saving) ⊎ (e ≡ Memory) ⊎ IsOfClasses e) → IfErr text (λ e. (e ≡ Saving) ⊎ (e ≡ Memory) ⊎ IsOfClasses e ⊎ X e)
-wider (Ok t) X why = tt
-wider (Err e) X (inl h) = inl h
-wider (Err e) X (inr (inl h)) = inr (inl h)
-wider (Err e) X (inr (inr h)) = inr (inr (inl h))
+wider : (form : Form) (text : Told) (X : Failure → Type 0) → IfErr text (λ e. (e ≡ Saving) ⊎ (e ≡ Memory) ⊎ IsRefusalIn form e) → IfErr text (λ e. (e ≡ Saving) ⊎ (e ≡ Memory) ⊎ IsRefusalIn form e ⊎ X e)
+wider form (Ok t) X why = tt
+wider form (Err e) X (inl h) = inl h
+wider form (Err e) X (inr (inl h)) = inr (inl h)
+wider form (Err e) X (inr (inr h)) = inr (inr (inl h))
 
 module _ {D : Type 0} (now : D → Option (List ℕ)) (moment : D → ℕ) (images : D → List ℕ → Type 0) (since : D → ℕ → List ℕ → Type 0) (faults : D → ℕ) (laws : Lawful now moment images since) (r : ToResolve) (disk : D) where
-  abbrev telling : SaveState D → Keeper
-  telling k = telling_of now moment images since faults k
+  abbrev telling : (D → ℕ → List ℕ → Type 0) → SaveState D → Keeper
+  telling images_at k = telling_of now moment images images_at since faults k
 
   -- the file that was there stands for the list, or it and one square more
   here : (list : List Entry) → IsSome (now disk) → IsOurs r.resolved.plain list (images disk) → (file : List ℕ) × (now disk ≡ Some file) × StandsWith r.resolved.plain list file
@@ -61,9 +62,9 @@ module _ {D : Type 0} (now : D → Option (List ℕ)) (moment : D → ℕ) (imag
 
   -- ---- the file was taken up
 
-  module _ (text : Told) (table : Staircase) (k after : SaveState D) (squares : IfSome (now disk) (λ file. standing_of r.resolved.plain file ≡ Ok table.start)) (resolved : table.resolved ≡ r.resolved) (keeper : IsKeeperOf (telling k) table)
+  module _ (images_at : D → ℕ → List ℕ → Type 0) (text : Told) (table : Staircase) (k after : SaveState D) (squares : IfSome (now disk) (λ file. standing_of r.resolved.plain file ≡ Ok table.start)) (resolved : table.resolved ≡ r.resolved) (keeper : IsKeeperOf (telling images_at k) table)
       (kept : kept_in now k ≡ option_map (λ _. table.start) (now disk)) (opening : IfSome (now disk) (λ _. LeavesOnly moment since disk k.journal.disk (HasRecordsOf (digest_of r.resolved.plain) (images disk)))) (no_fault : faults k.journal.disk ≡ faults disk)
-      (continued : HasContinued r.common.range r.form table text (telling k) (telling after)) where
+      (continued : HasContinued r.common.range r.form table text (telling images_at k) (telling images_at after)) where
     start_is : (file : List ℕ) → now disk ≡ Some file → standing_of r.resolved.plain file ≡ Ok table.start
     start_is file is = at_some (now disk) (λ f. standing_of r.resolved.plain f ≡ Ok table.start) file is squares
 
@@ -82,13 +83,14 @@ module _ {D : Type 0} (now : D → Option (List ℕ)) (moment : D → ℕ) (imag
     pub kept_on : HasKeptOn now moment images since faults r text disk after.journal.disk
     kept_on = record {
       told = answer_told;
-      why = wider text _ continued.why;
+      why = wider r.form text _ continued.why;
       failed = λ is. subst (λ (n : ℕ). HasRisen n (faults after.journal.disk)) no_fault (continued.failed is);
       no_fault = λ has. continued.no_fault has ∙ no_fault;
       never_falls = let rest = continued.kept.never_fall in omega (arith, no_fault, rest);
       accepted = λ has file is. (table.start, start_is file is);
-      unwritten = λ fault is. absurd (no_refusal text fault continued.why is);
+      unwritten = λ fault is. absurd (no_refusal r.form text fault continued.why is);
       spared = λ file fault is refusal worked. let both : Ok table.start ≡ Err fault = sym (start_is file is) ∙ refusal in absurd (cc);
+      stands = λ file fault is refusal. let both : Ok table.start ≡ Err fault = sym (start_is file is) ∙ refusal in absurd (cc);
       lasts = λ told list ours.
           let found = here list told ours in
           let with = found.2 in
@@ -96,9 +98,9 @@ module _ {D : Type 0} (now : D → Option (List ℕ)) (moment : D → ℕ) (imag
           let k_resolved : k.resolved ≡ r.resolved = sym keeper.resolved ∙ resolved in
           let kept_is : kept_in now k ≡ Some (list ++ with.more) = kept ∙ ap (option_map (λ _. table.start)) found.1 ∙ ap (λ (l : List Entry). Some l) is in
           let opened = at_some (now disk) (λ _. LeavesOnly moment since disk k.journal.disk (HasRecordsOf (digest_of r.resolved.plain) (images disk))) found.0 found.1 opening in
-          let given = subst (λ (m : Checked). HasKept (over m) table.start (telling k) (telling after) continued.given) resolved continued.kept in
-          let given_behind = subst (λ (l : List Entry). HasKept (over r.resolved) l (telling k) (telling after) continued.given) is given in
-          lasting now moment images since faults laws r.resolved r.common.range list with.more continued.given (HasAnswer text) (text ≢ Err Saving) disk k after with.at_most_one with.canonical ours k_resolved kept_is opened given_behind continued.places
+          let given = subst (λ (m : Checked). HasKept (over m) table.start (telling images_at k) (telling images_at after) continued.given) resolved continued.kept in
+          let given_behind = subst (λ (l : List Entry). HasKept (over r.resolved) l (telling images_at k) (telling images_at after) continued.given) is given in
+          lasting now moment images since faults laws images_at r.resolved r.common.range list with.more continued.given (HasAnswer text) (text ≢ Err Saving) disk k after with.at_most_one with.canonical ours k_resolved kept_is opened given_behind continued.places
           (answer_unfailed text) continued.live continued.whole;
     }
 
@@ -144,7 +146,7 @@ module _ {D : Type 0} (now : D → Option (List ℕ)) (moment : D → ℕ) (imag
   module _ (fault : ResumeFault) (d : D) (refused : (fault ≡ Open DiskFailed) ⊎ (fault ≡ OutOfMemory) ⊎ IfSome (now disk) (λ file. standing_of r.resolved.plain file ≡ Err fault)) (same : fault ≢ Open DiskFailed → now d ≡ now disk)
       (unwritten : fault ≢ Open DiskFailed → IfSome (now disk) (λ _. LeavesOnly moment since disk d (images disk))) (opening : IfSome (now disk) (λ _. LeavesOnly moment since disk d (HasRecordsOf (digest_of r.resolved.plain) (images disk)))) (never_fall : faults disk ≤ faults d)
       (cause : fault ≡ Open DiskFailed → HasRisen (faults disk) (faults d)) (quiet : fault ≢ Open DiskFailed → faults d ≡ faults disk) where
-    why_not : Kind fault → (resume_failure fault ≡ Saving) ⊎ (resume_failure fault ≡ Memory) ⊎ IsOfClasses (resume_failure fault) ⊎ ((f : ResumeFault) × (resume_failure fault ≡ SaveFile f) × IsRefusedFor r.resolved.plain (now disk) f)
+    why_not : Kind fault → (resume_failure fault ≡ Saving) ⊎ (resume_failure fault ≡ Memory) ⊎ IsRefusalIn r.form (resume_failure fault) ⊎ ((f : ResumeFault) × (resume_failure fault ≡ SaveFile f) × IsRefusedFor r.resolved.plain (now disk) f)
     why_not (disk_failed is e) = inl e
     why_not (no_memory e) = inr (inl e)
     why_not (refusal e no_disk no_room) = inr (inr (inr (
@@ -193,6 +195,10 @@ module _ {D : Type 0} (now : D → Option (List ℕ)) (moment : D → ℕ) (imag
       accepted = λ has. absurd (no_answer (kind_of fault) has);
       unwritten = λ f is. not_written (not_disk (kind_of fault) f (cc));
       spared = λ file f is refusal worked. not_written (no_failure worked);
+      stands = λ file f is refusal c was.
+          let opened = at_some (now disk) (λ _. LeavesOnly moment since disk d (HasRecordsOf (digest_of r.resolved.plain) (images disk))) file is opening in
+          let of_image = opened.each c was in
+          (of_image.0, of_image.1, ap (λ (of_file : Records). of_records (module_over r.resolved.plain) of_file) of_image.2);
       lasts = λ told list ours.
           let found = some_is (now disk) told in
           let opened = at_some (now disk) (λ _. LeavesOnly moment since disk d (HasRecordsOf (digest_of r.resolved.plain) (images disk))) found.0 found.1 opening in

@@ -116,8 +116,8 @@ if_some (Some x) P p = p
 
 module _ {D : Type 0} (now : D → Option (List ℕ)) (moment : D → ℕ) (images : D → List ℕ → Type 0) (since : D → ℕ → List ℕ → Type 0) (faults : D → ℕ) (laws : Lawful now moment images since) where
   -- what contracts see of a save file as a keeper
-  abbrev telling : SaveState D → Keeper
-  telling k = telling_of now moment images since faults k
+  abbrev telling : (D → ℕ → List ℕ → Type 0) → SaveState D → Keeper
+  telling images_at k = telling_of now moment images images_at since faults k
 
   -- what was left since the beginning, and what is left now, was left before it
   pub unwritten_since : (old new : D) → now new ≡ now old → IfSome (now old) (λ _. LeavesOnly moment since old new (images old)) → IsUnwritten now moment images since old new
@@ -138,9 +138,9 @@ module _ {D : Type 0} (now : D → Option (List ℕ)) (moment : D → ℕ) (imag
     ]),
   )
 
-  module _ (m : Checked) (range : Range) (list more given : List Entry) (had_answer unfailed : Type 0) (disk : D) (k after : SaveState D)
+  module _ (images_at : D → ℕ → List ℕ → Type 0) (m : Checked) (range : Range) (list more given : List Entry) (had_answer unfailed : Type 0) (disk : D) (k after : SaveState D)
       (at_most_one : length more ≤ 1) (canonical : AreCanonical m.plain (list ++ more)) (ours : IsOurs m.plain list (images disk)) (resolved : k.resolved ≡ m) (kept_is : kept_in now k ≡ Some (list ++ more))
-      (opening : LeavesOnly moment since disk k.journal.disk (HasRecordsOf (digest_of m.plain) (images disk))) (kept : HasKept (over m) (list ++ more) (telling k) (telling after) given) (places : All (λ e. IsInRange range e.s e.above) given)
+      (opening : LeavesOnly moment since disk k.journal.disk (HasRecordsOf (digest_of m.plain) (images disk))) (kept : HasKept (over m) (list ++ more) (telling images_at k) (telling images_at after) given) (places : All (λ e. IsInRange range e.s e.above) given)
       (answered : had_answer → unfailed) (live : unfailed → TakesSquares now images after) (whole : had_answer → IfSome (kept_in now after) (HasRange range)) where
     abbrev start : List Entry
     start = list ++ more
@@ -170,8 +170,8 @@ module _ {D : Type 0} (now : D → Option (List ℕ)) (moment : D → ℕ) (imag
     moments : (c : List ℕ) → since after.journal.disk (moment disk) c → StandsWith m.plain list c ⊎ StandsAmid m.plain start given c
     moments c left =
         let image = squares_in after.resolved c in
-        let T = telling k in
-        let U = telling after in
+        let T = telling images_at k in
+        let U = telling images_at after in
         let earlier = at_start (λ (l : List Entry). (t : ℕ) (i : Option (List Entry)) → t ≤ T.moment → U.since t i ↔ (T.since t i ⊎ U.since T.moment i)) kept.earlier in
         let between = at_start (λ (l : List Entry). (i : Option (List Entry)) → U.since T.moment i → IsImageAmid (over m) start l given i) kept.since in
         elim ((earlier (moment disk) image opening.later).0 (c, left, refl)) [
@@ -186,7 +186,7 @@ module _ {D : Type 0} (now : D → Option (List ℕ)) (moment : D → ℕ) (imag
 
     in_the_end : IsOurs m.plain (start ++ given) (images after.journal.disk)
     in_the_end c image =
-        let U = telling after in
+        let U = telling images_at after in
         let ending = at_start (λ (l : List Entry). (i : Option (List Entry)) → U.since U.moment i → IsImageWith (over m) start (l ++ given) i) kept.now in
         stands_with m start (start ++ given) c reads all_canonical
         (subst (IsImageWith (over m) start (start ++ given)) (read_after c) (ending (squares_in after.resolved c) (c, laws.counts_now after.journal.disk c image, refl)))
@@ -194,8 +194,8 @@ module _ {D : Type 0} (now : D → Option (List ℕ)) (moment : D → ℕ) (imag
     keeps : unfailed → (c : List ℕ) → since after.journal.disk (moment disk) c → StandsAsOneOf m.plain (images disk) c ⊎ StandsAtPart m.plain start given c
     keeps worked c left =
         let image = squares_in after.resolved c in
-        let T = telling k in
-        let U = telling after in
+        let T = telling images_at k in
+        let U = telling images_at after in
         let earlier = at_start (λ (l : List Entry). (t : ℕ) (i : Option (List Entry)) → t ≤ T.moment → U.since t i ↔ (T.since t i ⊎ U.since T.moment i)) kept.earlier in
         let exact = at_start (λ (l : List Entry). (i : Option (List Entry)) → U.since T.moment i → IsImagePart l given i) (kept.exact (live worked)) in
         elim ((earlier (moment disk) image opening.later).0 (c, left, refl)) [
@@ -213,7 +213,7 @@ module _ {D : Type 0} (now : D → Option (List ℕ)) (moment : D → ℕ) (imag
     only : unfailed → (c : List ℕ) → images after.journal.disk c → standing_of m.plain c ≡ Ok (start ++ given)
     only worked c image =
         let is_kept = left_is_kept now moment images since laws.only_now after (live worked) in
-        let U = telling after in
+        let U = telling images_at after in
         let exact = subst (λ (o : Option (List Entry)). IfSome o (λ (l : List Entry). (i : Option (List Entry)) → U.since U.moment i → i ≡ Some l)) after_kept is_kept in
         standing_ok (standing_of m.plain c) (start ++ given) (sym (read_after c) ∙ exact (squares_in after.resolved c) (c, laws.counts_now after.journal.disk c image, refl))
 

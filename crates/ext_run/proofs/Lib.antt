@@ -1,14 +1,13 @@
 mod AnswerExists
 mod AnswerUnique
-mod Commands
+mod Asked
+mod ByImages
 mod Continuing
 mod KeptOn
 mod Lasting
 mod NextRun
 mod Resolved
+mod Saved
 mod Tasks
 mod Working
-pub mod Causes
 pub mod Ending
-pub mod Saved
-mod ByImages

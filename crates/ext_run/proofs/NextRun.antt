@@ -1,22 +1,18 @@
--- What a run left stands for squares of the module, and a run's words and input name one module.
-use Rattle.std.proofs.Common.{◌≡◌, ℕ, inl, inr, List, ◌++◌, sym, subst, refl}
-use Rattle.std.specs.Prelude.{Option, Some, IfSome, IsSome}
+-- What a run left stands for squares of the module, and what is asked names one module of an input.
+use Rattle.std.proofs.Common.{◌≡◌, ℕ, ◌≤◌, inl, inr, List, [], ◌++◌, length, take, drop, ap, sym, subst, refl, arith}
+use Rattle.std.specs.Prelude.{cond, Option, Some, IsSome, Ok}
+use Rattle.std.proofs.lemmas.Bool.{le-leb}
+use Rattle.std.proofs.lemmas.List.Elements.{All-nil}
 use Rattle.finite_module.specs.Module.{Module as SteenrodModule}
-use Rattle.resolution_laws.specs.Start.{Entry}
+use Rattle.resolution_laws.specs.Start.{Entry, IsOf}
+use Rattle.square.specs.Squares.{module_over}
+use Rattle.std.specs.Str.{bytes_eq}
+use Rattle.save_journal.specs.Records.{Records, magic, of_header, records_of}
+use Rattle.save_file.specs.Files.{digest_of, of_records}
 use Rattle.square.specs.declared.range.Range.{Range}
-use Rattle.ext_run.specs.Saving.{IsSavedBy, StandsWith, IsOurs, MayBeLeft, HasLasted}
-use Rattle.ext_run.specs.NextRun.{AsksFor, IsFoundWith, NextRunMayUse}
-use Rattle.ext_run.proofs.Saved.{saved_unique}
-
--- ---- one module
-
--- what is read is what was told
-as_told : (left : Option (List ℕ)) (a b : List ℕ) → left ≡ Some a → IfSome left (λ l. b ≡ l) → a ≡ b
-as_told left a b is told = let same : b ≡ a = subst (λ (o : Option (List ℕ)). IfSome o (λ l. b ≡ l)) is told in sym same
-
-named : (words : List (List ℕ)) (left : Option (List ℕ)) (m n : SteenrodModule) (bytes : List ℕ) (range : Range) → AsksFor words left m → IfSome left (λ l. bytes ≡ l) → IsSavedBy words bytes n range → m ≡ n
-named words left m n bytes range asks told saved =
-    (saved_unique words asks.bytes bytes m n asks.range range (λ reads. as_told left asks.bytes bytes (asks.reads reads) told) asks.saved saved).0
+use Rattle.ext_run.specs.Saving.{StandsWith, IsOurs, MayBeLeft, HasLasted}
+use Rattle.ext_run.specs.NextRun.{IsFoundWith, NextRunMayUse, ShortDiskIsOurs}
+use Rattle.ext_run.proofs.Tasks.{module_same}
 
 -- ---- what is left
 
@@ -33,10 +29,23 @@ found_is_ours now images m squares c next with found =
     (subst (λ (o : Option (List ℕ)). IsSome o) (sym found.now_is) refl, λ d image. subst (λ (x : List ℕ). StandsWith m squares x) (sym (found.only d image)) with)
 
 pub next_run : {D : Type 0} (now : D → Option (List ℕ)) (moment : D → ℕ) (images : D → List ℕ → Type 0) (since : D → ℕ → List ℕ → Type 0) (faults : D → ℕ) → NextRunMayUse now moment images since faults
-next_run now moment images since faults m words left asks list status old new told ours saved c may next_words next_left next_asks next found =
-    let lasted = saved.lasts asks.bytes m asks.range list asks.reads told asks.saved ours in
-    let standing = stands now moment images since m asks.range list _ _ old new c lasted may in
+next_run now moment images since faults m asked input range usage here list outcome old new told ours saved c may next_asked next_input on next found =
+    let lasted = saved.lasts m range list usage here told ours in
+    let standing = stands now moment images since m range list _ _ old new c lasted may in
     let usable = found_is_ours now images m standing.0 c next standing.1 found in
-    λ bytes n range given next_saved.
-    let same = named next_words next_left m n bytes range next_asks given next_saved in
+    λ n there.
+    let same = module_same next_asked next_input m n on.1 there.1 in
     (usable.0, (standing.0, subst (λ (x : SteenrodModule). IsOurs x standing.0 (images next)) same usable.1))
+
+-- ---- a disk without records
+
+few_records : (digest file : List ℕ) → length file ≤ 41 → records_of digest file ≡ Ok []
+few_records digest file few = ap (λ b. cond b (Ok []) (of_header (bytes_eq (take 8 file) magic) (bytes_eq (take 32 (drop 8 file)) digest) digest file)) (le-leb (length file) 41 few)
+
+pub short_disk : {D : Type 0} (images : D → List ℕ → Type 0) → ShortDiskIsOurs images
+short_disk images m d few c image = record {
+  more = [];
+  at_most_one = omega arith;
+  canonical = All-nil (λ e. IsOf (module_over m) [] e.s e.above e.content);
+  stands = ap (λ (r : Records). of_records (module_over m) r) (few_records (digest_of m) c (few c image));
+}

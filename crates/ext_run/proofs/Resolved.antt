@@ -17,7 +17,7 @@ use Rattle.finite_module.specs.DerivedAction.{derived_module}
 use Rattle.ext_products.specs.declared.refusal.Refusal.{Refusal}
 use Rattle.ext_products.specs.Products.{resolution}
 use Rattle.chain_map.specs.Classes.{through}
-use Rattle.ext_run.specs.Answer.{IsResolved, IsChart, IsDump, IsSummary, IsToldOfClasses, told_of_classes}
+use Rattle.ext_run.specs.Forms.{IsResolved, IsChart, IsDump, IsSummary, IsToldOfClasses, told_of_classes}
 use Rattle.ext_products.specs.declared.refusal.ClassesFault.{ClassesFault}
 use Rattle.ext_products.specs.declared.refusal.ClassesFault.TheVariants.{Refused, Memory as NoSpace}
 use Rattle.ext_report.specs.Failure.{classes_failure}
@@ -34,21 +34,21 @@ pub is_chart : (range : Range) (table : Staircase) (text : List ℕ) → IsResol
 is_chart range table text resolved through is = record {
   table = cut range (plain_rows table.rows);
   resolved = resolved;
-  chart = is ∙ chart_text-agree range.s range.t (plain_rows table.rows) (cut range (plain_rows table.rows)) (cut-agrees range table through) (bottom_of table.resolved);
+  is = is ∙ chart_text-agree range.s range.t (plain_rows table.rows) (cut range (plain_rows table.rows)) (cut-agrees range table through) (bottom_of table.resolved);
 }
 
 pub is_dump : (range : Range) (table : Staircase) (text : List ℕ) → IsResolved range table.resolved.plain (cut range (plain_rows table.rows)) → IsThrough range table.rows → text ≡ dump_text table.resolved.plain.generators range.s range.t (plain_rows table.rows) → IsDump range table.resolved.plain text
 is_dump range table text resolved through is = record {
   table = cut range (plain_rows table.rows);
   resolved = resolved;
-  dump = is ∙ dump_text-agree range.s range.t (plain_rows table.rows) (cut range (plain_rows table.rows)) (cut-agrees range table through) table.resolved.plain.generators;
+  is = is ∙ dump_text-agree range.s range.t (plain_rows table.rows) (cut range (plain_rows table.rows)) (cut-agrees range table through) table.resolved.plain.generators;
 }
 
 pub is_summary : (range : Range) (table : Staircase) (text : List ℕ) → IsResolved range table.resolved.plain (cut range (plain_rows table.rows)) → IsThrough range table.rows → text ≡ summary_text (length table.resolved.plain.generators) (bottom_of table.resolved) range.s range.t (generator_count (plain_rows table.rows)) → IsSummary range table.resolved.plain text
 is_summary range table text resolved through is = record {
   table = cut range (plain_rows table.rows);
   resolved = resolved;
-  summary = is ∙ summary_text-agree range.s range.t (plain_rows table.rows) (cut range (plain_rows table.rows)) (cut-agrees range table through) (length table.resolved.plain.generators) (bottom_of table.resolved);
+  is = is ∙ summary_text-agree range.s range.t (plain_rows table.rows) (cut range (plain_rows table.rows)) (cut-agrees range table through) (length table.resolved.plain.generators) (bottom_of table.resolved);
 }
 
 -- what is told of a table's classes is told of the canonical resolutions

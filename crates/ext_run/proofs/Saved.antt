@@ -1,138 +1,98 @@
 -- What becomes of the disk of a run, by how the run ends.
-use Rattle.std.proofs.Common.{◌≡◌, ◌≢◌, ◌∙◌, ℕ, ◌<◌, ◌≤◌, ◌⊎◌, inl, inr, List, [], ◌++◌, Bool, true, false, Option, Some, None, refl, sym, subst, ap, arith, append-nil}
+use Rattle.std.proofs.Common.{◌≡◌, ◌≢◌, ◌∙◌, ℕ, ◌≤◌, ◌⊎◌, inl, inr, List, [], ◌++◌, Bool, true, false, Option, Some, None, refl, sym, subst, ap, arith, append-nil}
 use Rattle.std.specs.declared.alloc.Global.{Global}
-use Rattle.std.specs.Prelude.{Vec, Result, Ok, Err, IfOk, IfErr, IfSome, IsSome, MatchOption}
+use Rattle.std.specs.Prelude.{Vec, Result, Ok, Err, IfErr, IfSome, IsSome}
+use Rattle.std.proofs.lemmas.List.Elements.{All-nil}
 use Rattle.edge.specs.Faults.{HasRisen}
-use Rattle.module_json.specs.ModuleFile.{IsFileOf}
-use Rattle.module_json.proofs.Reading.{file_unique}
+use Rattle.edge.proofs.Moments.{Lawful}
 use Rattle.finite_module.specs.Module.{Module as SteenrodModule}
-use Rattle.finite_module.specs.Checked.{sphere_file}
-use Rattle.finite_module.specs.DerivedAction.{derived_module}
-use Rattle.finite_module.specs.Sample.{sample_file}
 use Rattle.resolution_laws.specs.Start.{Entry, IsOf}
+use Rattle.resolution_step.specs.Alone.{IsInRange}
 use Rattle.square.specs.Squares.{module_over}
 use Rattle.square.specs.declared.range.Range.{Range}
 use Rattle.save_file.specs.Files.{standing_of}
 use Rattle.save_file.specs.declared.fault.ResumeFault.{ResumeFault}
+use Rattle.save_file.proofs.Entries.{some_is}
 use Rattle.ext_products.specs.declared.refusal.Refusal.{Refusal}
-use Rattle.ext_products.specs.Products.{IsProductsAnswer}
-use Rattle.ext_brackets.specs.Brackets.{IsBracketAnswer}
-use Rattle.ext_words.specs.declared.command.Common.{Common}
-use Rattle.ext_words.specs.declared.command.Command.{Command}
-use Rattle.ext_words.specs.declared.command.Command.TheVariants.{Sphere, Resolve, Dump, Products, Massey, Check, Build, Sample, Sq}
-use Rattle.ext_words.specs.Words.{command_of}
 use Rattle.ext_report.specs.declared.failure.Failure.{Failure}
 use Rattle.ext_report.specs.declared.failure.Failure.TheVariants.{Words, Malformed as NoModuleFile, NotModule, PastLimit, Reading, Writing, Saving, SaveFile, Classes, Memory}
+use Rattle.ext_report.specs.Failure.{IsOfClasses}
+use Rattle.ext_run.specs.declared.plan.Plan.{Plan}
 use Rattle.ext_run.specs.declared.task.Task.{Task}
 use Rattle.ext_run.specs.declared.task.Task.TheVariants.{Text, Resolution}
 use Rattle.ext_run.specs.declared.task.Resolution.{Resolution as ToResolve}
-use Rattle.ext_build.specs.Input.{IsOfInput, IsAccepted}
-use Rattle.ext_report.specs.Failure.{status_of, IsOfClasses, IsTold}
-use Rattle.ext_run.specs.Answer.{IsText, IsChart, IsDump, IsSummary, IsLineOn, IsProducts, IsBracket, IsAnswerTo, IsAnswerFrom, IsCauseFrom, Reads, WordsRead}
-use Rattle.std.proofs.lemmas.List.Elements.{All-nil}
-use Rattle.resolution_step.specs.Alone.{IsInRange}
-use Rattle.ext_run.specs.Saving.{options_of, Saves, WordsSave, IsModuleIn, IsModuleOf, IsSavedBy, AreCanonical, IsOurs, IsUnwritten, HasLasted, HasSaved, IsUsable, IsRunCauseFrom, IsRefusedFrom, IsEarly, IsAnswered}
-use Rattle.ext_run.specs.Task.{IsDoneBy, IsTaskFrom, IsSavedFor, IsSavedAs}
-use Rattle.ext_run.specs.Work.{Told, HasAnswer, answer_of, IsUnsaved, IsRefusedFor, HasKeptOn, HasWorked}
-use Rattle.ext_run.proofs.Causes.{text_told, classes_told, accepted_failure, as_classes, class_statuses, HasOutcome, never_0, only_writing, only_saving, only_refused, only_classes}
-use Rattle.edge.proofs.Moments.{Lawful}
-use Rattle.save_file.proofs.Entries.{some_is}
+use Rattle.ext_run.specs.Devices.{Store}
+use Rattle.ext_run.specs.Plan.{IsModuleFor, TellsOfClasses, TellsFor, Use, keeping, use_where, use_for}
+use Rattle.ext_run.specs.Answer.{IsAskedAnswer, IsTaskCause}
+use Rattle.ext_run.specs.Saving.{AreCanonical, StandsAsOneOf, IsOurs, IsUnwritten, HasLasted, Outcome, IsOnDisk, IsRefused, IsUsable, IsEarly, IsAnswered, IsCutOff, HasSpared, HasSaved}
+use Rattle.ext_run.specs.Task.{IsDoneBy, IsTaskFor}
+use Rattle.ext_run.specs.Work.{Told, HasAnswer, answer_of, IsRefusalIn, IsTaskRefusal, IsUnsaved, IsRefusedFor, HasKeptOn, HasWorked}
+use Rattle.ext_run.specs.Run.{IsCause}
+use Rattle.ext_run.proofs.Asked.{asked_told}
+use Rattle.ext_run.proofs.Tasks.{module_same, resolution_use, resolution_module, resolution_tells, text_use}
 use Rattle.ext_run.proofs.Lasting.{at_some, all_first, unwritten_same}
 use Rattle.ext_run.proofs.KeptOn.{answer_unfailed}
 
--- ---- the module and the range that words ask to be saved
+-- ---- failures of a task
 
-same_module : (b d : List ℕ) (m n : SteenrodModule) → b ≡ d → IsModuleIn b m → IsModuleIn d n → m ≡ n
-same_module b d m n same p q =
-    let files = file_unique d (Ok p.file) (Ok q.file) (subst (λ (x : List ℕ). IsFileOf x (Ok p.file)) same p.is_file) q.is_file in
-    let file : p.file ≡ q.file = cc in
-    p.is_derived ∙ (ap derived_module file ∙ sym q.is_derived)
+-- they come behind the disk's turn, or at it
+pub data IsLate : Failure → Type 0 where
+  saving : IsLate Saving
+  save_file : (e : ResumeFault) → IsLate (SaveFile e)
+  classes : (e : Refusal) → IsLate (Classes e)
+  memory : IsLate Memory
 
-same_of : (command : Command) (b d : List ℕ) (m n : SteenrodModule) → (Reads command → b ≡ d) → IsModuleOf command b m → IsModuleOf command d n → m ≡ n
-same_of (Sphere common) b d m n same p q = p ∙ sym q
-same_of (Resolve common) b d m n same p q = same_module b d m n (same tt) p q
-same_of (Dump common) b d m n same p q = same_module b d m n (same tt) p q
-same_of (Products common by) b d m n same p q = same_module b d m n (same tt) p q
-same_of (Massey common x y z) b d m n same p q = same_module b d m n (same tt) p q
-same_of Check b d m n same p q = same_module b d m n (same tt) p q
-same_of (Build made) b d m n same p q = absurd p
-same_of (Sample k common) b d m n same p q = p ∙ sym q
-same_of (Sq numbers) b d m n same p q = absurd p
+pub of_classes : (failure : Failure) → IsOfClasses failure → (e : Refusal) × (failure ≡ Classes e)
+of_classes Words h = absurd h
+of_classes (NoModuleFile e) h = absurd h
+of_classes (NotModule f e) h = absurd h
+of_classes (PastLimit what) h = absurd h
+of_classes Reading h = absurd h
+of_classes Writing h = absurd h
+of_classes Saving h = absurd h
+of_classes (SaveFile e) h = absurd h
+of_classes (Classes e) h = (e, refl)
+of_classes Memory h = absurd h
 
-pub saved_unique : (words : List (List ℕ)) (b d : List ℕ) (m n : SteenrodModule) (range other : Range) → (WordsRead words → b ≡ d) → IsSavedBy words b m range → IsSavedBy words d n other → (m ≡ n) × (range ≡ other)
-saved_unique words b d m n range other same p q =
-    let both : Some p.command ≡ Some q.command = sym p.is ∙ q.is in
-    let command : p.command ≡ q.command = cc in
-    let options : Some p.common ≡ Some q.common = sym p.options ∙ (ap options_of command ∙ q.options) in
-    let common : p.common ≡ q.common = cc in
-    let reads : Reads q.command → b ≡ d = λ r. same (subst (λ (o : Option Command). MatchOption o ⊥ Reads) (sym q.is) r) in
-    let module_ : IsModuleOf q.command b m = subst (λ (c : Command). IsModuleOf c b m) command p.resolves in
-    (same_of q.command b d m n reads module_ q.resolves, p.range_is ∙ (ap (λ (c : Common). c.range) common ∙ sym q.range_is))
+late_failure : (failure : Failure) → IsLate failure → IsEarly (Err failure) → ⊥
+late_failure failure saving h = h
+late_failure failure (save_file e) h = h
+late_failure failure (classes e) h = h
+late_failure failure memory h = h
 
-pub saved_words : (words : List (List ℕ)) (bytes : List ℕ) (m : SteenrodModule) (range : Range) → IsSavedBy words bytes m range → WordsSave words
-saved_words words bytes m range p =
-    let saves : Saves p.command = subst (λ (o : Option Common). MatchOption o ⊥ (λ common. common.save ≡ true)) (sym p.options) p.saves in
-    subst (λ (o : Option Command). MatchOption o ⊥ Saves) (sym p.is) saves
+late_answer : (failure : Failure) → IsLate failure → IsAnswered (Err failure) → IsOfClasses failure
+late_answer failure saving h = h
+late_answer failure (save_file e) h = h
+late_answer failure (classes e) h = h
+late_answer failure memory h = h
 
--- ---- words that ask for a save file are answered by no failure of the input
+-- the outcome is that of the text, and does not come before it
+pub record IsAfter (text : Told) (outcome : Outcome) : Type 0 where
+  pub late : IsEarly outcome → ⊥
+  pub answered : IsAnswered outcome → HasAnswer text
+  pub saving : outcome ≡ Err Saving → text ≡ Err Saving
+  pub told : text ≡ Err Saving → outcome ≡ Err Saving
+  pub refusal : (e : ResumeFault) → outcome ≡ Err (SaveFile e) → text ≡ Err (SaveFile e)
 
-accepted_in : (command : Command) (b d : List ℕ) (m : SteenrodModule) → (Reads command → b ≡ d) → Reads command → IsModuleIn d m → IsAccepted b
-accepted_in command b d m same reads p = record { file = p.file; is_file = subst (λ (x : List ℕ). IsFileOf x (Ok p.file)) (sym (same reads)) p.is_file; no_refusal = p.no_refusal }
+pub after_text : (x : Vec ℕ Global) → IsAfter (Ok x) (Ok x.items)
+after_text x = record { late = λ h. h; answered = λ h. tt; saving = λ h. absurd cc; told = λ h. absurd cc; refusal = λ e h. absurd cc }
 
-answered_failure : (command : Command) (b d : List ℕ) (m : SteenrodModule) (a : Result (List ℕ) Failure) → (Reads command → b ≡ d) → IsModuleOf command d m → IsAnswerTo command b a → IsTold a
-answered_failure (Sphere common) b d m a same p is = text_told (IsChart common.range) (derived_module sphere_file) a is
-answered_failure (Resolve common) b d m a same p is = accepted_failure (IsText (IsChart common.range)) (text_told (IsChart common.range)) b a (accepted_in (Resolve common) b d m same tt p) is
-answered_failure (Dump common) b d m a same p is = accepted_failure (IsText (IsDump common.range)) (text_told (IsDump common.range)) b a (accepted_in (Dump common) b d m same tt p) is
-answered_failure (Products common by) b d m a same p is = accepted_failure (IsProducts common.range by) (classes_told common.range (IsProductsAnswer common.range by)) b a (accepted_in (Products common by) b d m same tt p) is
-answered_failure (Massey common x y z) b d m a same p is = accepted_failure (IsBracket common.range x y z) (classes_told common.range (IsBracketAnswer common.range x y z)) b a (accepted_in (Massey common x y z) b d m same tt p) is
-answered_failure Check b d m a same p is = accepted_failure (IsText IsLineOn) (text_told IsLineOn) b a (accepted_in Check b d m same tt p) is
-answered_failure (Build made) b d m a same p is = absurd p
-answered_failure (Sample k common) b d m a same p is = text_told (IsSummary common.range) (derived_module (sample_file k)) a is
-answered_failure (Sq numbers) b d m a same p is = absurd p
+-- the text cannot be written
+pub after_cut : (x : Vec ℕ Global) → IsAfter (Ok x) (Err Writing)
+after_cut x = record { late = λ h. h; answered = λ h. tt; saving = λ h. absurd cc; told = λ h. absurd cc; refusal = λ e h. absurd cc }
 
--- where the input is told, its bytes are those
-told_bytes : (left : Option (List ℕ)) (b d : List ℕ) → IfSome left (λ l. b ≡ l) → left ≡ Some d → b ≡ d
-told_bytes left b d all is = subst (λ (o : Option (List ℕ)). IfSome o (λ l. b ≡ l)) is all
+module _ (failure : Failure) (late : IsLate failure) where
+  same_failure : (other : Failure) → ◌≡◌ {A = Outcome} (Err failure) (Err other) → ◌≡◌ {A = Told} (Err failure) (Err other)
+  same_failure other h = let same : failure ≡ other = cc in ap (λ (e : Failure). Err e) same
 
-saved_no_failure : (words : List (List ℕ)) (left : Option (List ℕ)) (bytes : List ℕ) (m : SteenrodModule) (range : Range) (failure : Failure) → (IsOfClasses failure → ⊥) → (WordsRead words → left ≡ Some bytes) → IsSavedBy words bytes m range → IsAnswerFrom words left (Err failure) → ⊥
-saved_no_failure words left bytes m range failure other tells p a =
-    let reads : Reads p.command → a.bytes ≡ bytes = λ r. told_bytes left a.bytes bytes a.all (tells (subst (λ (o : Option Command). MatchOption o ⊥ Reads) (sym p.is) r)) in
-    let none : Result (List ℕ) Failure = Err failure in
-    let answer : IsAnswerTo p.command a.bytes none = subst (λ (o : Option Command). MatchOption o (none ≡ Err Words) (λ c. IsAnswerTo c a.bytes none)) p.is a.holds in
-    other (answered_failure p.command a.bytes bytes m none reads p.resolves answer)
-
--- ---- a failure of classes
-
-of_classes : (failure : Failure) → IsOfClasses failure → (status_of failure ≡ 10) ⊎ (status_of failure ≡ 11)
-of_classes failure h =
-    let only = as_classes failure h in
-    subst (λ (f : Failure). (status_of f ≡ 10) ⊎ (status_of f ≡ 11)) (sym only.1) (class_statuses only.0)
-
-classes_cause : (words : List (List ℕ)) (left now : Option (List ℕ)) (usable : Type 0) (failure : Failure) → IsOfClasses failure → (usable → IsAnswerFrom words left (Err failure)) → IsRunCauseFrom words left now usable failure
-classes_cause words left now usable failure h answers =
-    let only = as_classes failure h in
-    subst (IsRunCauseFrom words left now usable) (sym only.1) (λ ok. subst (λ (f : Failure). IsAnswerFrom words left (Err f)) only.1 (answers ok))
-
-neither_of : (n k : ℕ) → n ≡ k → (n ≡ 10) ⊎ (n ≡ 11) → k ≢ 10 → k ≢ 11 → ⊥
-neither_of n k is (inl h) ten eleven = ten (sym is ∙ h)
-neither_of n k is (inr h) ten eleven = eleven (sym is ∙ h)
-
--- ---- a disk
-
--- how a disk is seen
-pub record Store : Type 1 where
-  pub State : Type 0
-  pub now : State → Option (List ℕ)
-  pub moment : State → ℕ
-  pub images : State → List ℕ → Type 0
-  pub since : State → ℕ → List ℕ → Type 0
-  pub faults : State → ℕ
-
-abbrev pub IsKept : (store : Store) → List (List ℕ) → Option (List ℕ) → ℕ → store.State → store.State → Type 0
-IsKept store words left status d g = HasSaved store.now store.moment store.images store.since store.faults words left status d g
-
-abbrev pub IsUsableAt : (store : Store) → List (List ℕ) → Option (List ℕ) → store.State → Type 0
-IsUsableAt store words left d = IsUsable words left (store.now d) (store.images d)
+  after_failure : IsAfter (Err failure) (Err failure)
+  after_failure = record {
+    late = late_failure failure late;
+    answered = late_answer failure late;
+    saving = same_failure Saving;
+    told = λ h. let same : failure ≡ Saving = cc in ap (λ (e : Failure). Err e) same;
+    refusal = λ e. same_failure (SaveFile e);
+  }
 
 -- what lasts on these conditions lasts on narrower ones
 lasted_by : {D : Type 0} (now : D → Option (List ℕ)) (moment : D → ℕ) (images : D → List ℕ → Type 0) (since : D → ℕ → List ℕ → Type 0) (m : SteenrodModule) (range : Range) (list : List Entry) (A B U V : Type 0) (old new : D) → (B → A) → (V → U) → HasLasted now moment images since m range list A U old new → HasLasted now moment images since m range list B V old new
@@ -150,18 +110,24 @@ lasted_by now moment images since m range list A B U V old new f u h = record {
   whole = λ b. h.whole (f b);
 }
 
--- the file of a disk is one of its images
-file_of : {D : Type 0} (now : D → Option (List ℕ)) (images : D → List ℕ → Type 0) (law : (d : D) → IfSome (now d) (λ file. images d file)) (d : D) (file : List ℕ) → now d ≡ Some file → images d file
-file_of now images law d file is = at_some (now d) (λ f. images d f) file is (law d)
+module _ {D : Type 0} (disk : Store D) (laws : Lawful disk.now disk.moment disk.images disk.since) (asked : Option Plan) (input : List ℕ) where
+  -- the file of a disk is one of its images
+  file_of : (d : D) (file : List ℕ) → disk.now d ≡ Some file → disk.images d file
+  file_of d file is = at_some (disk.now d) (λ f. disk.images d f) file is (laws.now_is_image d)
 
-module _ (store : Store) (laws : Lawful store.now store.moment store.images store.since) (words : List (List ℕ)) (left : Option (List ℕ)) where
+  used_for : (usage : Use) (m : SteenrodModule) → use_for asked ≡ Some usage → IsModuleFor asked input m → IsOnDisk asked input m
+  used_for usage m is here = (subst (λ (o : Option Use). IsSome o) (sym is) refl, here)
+
+  unused_on : (m : SteenrodModule) → use_for asked ≡ None → IsOnDisk asked input m → ⊥
+  unused_on m none on = let used = subst (λ (o : Option Use). IsSome o) none on.0 in cc
+
   -- ---- a disk that got no call
 
   -- nothing was kept and nothing is lost
-  as_it_was : (m : SteenrodModule) (range : Range) (list : List Entry) (had_answer unfailed : Type 0) (d : store.State) → (had_answer → ⊥) → IsSome (store.now d) → IsOurs m list (store.images d) → HasLasted store.now store.moment store.images store.since m range list had_answer unfailed d d
+  as_it_was : (m : SteenrodModule) (range : Range) (list : List Entry) (had_answer unfailed : Type 0) (d : D) → (had_answer → ⊥) → IsSome (disk.now d) → IsOurs m list (disk.images d) → HasLasted disk.now disk.moment disk.images disk.since m range list had_answer unfailed d d
   as_it_was m range list had_answer unfailed d never told ours =
-      let found = some_is (store.now d) told in
-      let here = ours found.0 (file_of store.now store.images laws.now_is_image d found.0 found.1) in
+      let found = some_is (disk.now d) told in
+      let here = ours found.0 (file_of d found.0 found.1) in
       let same : (list ++ []) ++ [] ≡ list = append-nil (list ++ []) ∙ append-nil list in
       record {
         more = [];
@@ -170,322 +136,217 @@ module _ (store : Store) (laws : Lawful store.now store.moment store.images stor
         at_most_one = omega arith;
         canonical = subst (AreCanonical m) (sym same) (all_first (λ e. IsOf (module_over m) [] e.s e.above e.content) list here.more here.canonical);
         moments = λ c was. inl (ours c (laws.only_now d c was));
-        ours = subst (λ (l : List Entry). IsOurs m l (store.images d)) (sym same) ours;
+        ours = subst (λ (l : List Entry). IsOurs m l (disk.images d)) (sym same) ours;
         keeps = λ worked c was. inl (c, laws.only_now d c was, refl);
-        settled = λ worked. inl (refl, refl, unwritten_same store.now store.moment store.images store.since store.faults laws d);
+        settled = λ worked. inl (refl, refl, unwritten_same disk.now disk.moment disk.images disk.since disk.faults laws d);
         exact = λ h. absurd (never h);
         whole = λ h. absurd (never h);
       }
 
-  -- words that ask for no save file
-  pub kept_unsaved : (status : ℕ) (d g : store.State) → g ≡ d → (WordsSave words → ⊥) → (status ≡ 8 → ⊥) → (status ≡ 9 → ⊥) → IsKept store words left status d g
-  kept_unsaved status d g same unasked no_8 no_9 = record {
-    unsaved = λ h. same;
-    early = λ h. same;
-    failed = λ h. absurd (no_8 h);
-    no_fault = λ h. ap store.faults same;
-    never_falls = let e = ap store.faults same in omega (arith, e);
-    refused = λ h. absurd (no_9 h);
-    refuses = λ bytes file m range e tells is p h. absurd (unasked (saved_words words bytes m range p));
-    unwritten = λ h. absurd (no_9 h);
-    spared = λ bytes file m range e tells is p h other. absurd (unasked (saved_words words bytes m range p));
-    lasts = λ bytes m range list tells told p ours. absurd (unasked (saved_words words bytes m range p));
-  }
-
-  early_refusal : (failure : Failure) (bytes : List ℕ) (m : SteenrodModule) (range : Range) → IsCauseFrom words left failure → failure ≢ Writing → (WordsRead words → left ≡ Some bytes) → IsSavedBy words bytes m range →
-      (status_of failure ≡ 9) ⊎ (status_of failure ≡ 6) ⊎ (status_of failure ≡ 8) ⊎ (status_of failure ≡ 12)
-  early_refusal Words bytes m range cause unwritten tells p = absurd (saved_no_failure words left bytes m range Words (λ h. h) tells p cause)
-  early_refusal (NoModuleFile e) bytes m range cause unwritten tells p = absurd (saved_no_failure words left bytes m range (NoModuleFile e) (λ h. h) tells p cause)
-  early_refusal (NotModule f e) bytes m range cause unwritten tells p = absurd (saved_no_failure words left bytes m range (NotModule f e) (λ h. h) tells p cause)
-  early_refusal (PastLimit what) bytes m range cause unwritten tells p = absurd (saved_no_failure words left bytes m range (PastLimit what) (λ h. h) tells p cause)
-  early_refusal Reading bytes m range cause unwritten tells p = inr (inl refl)
-  early_refusal Writing bytes m range cause unwritten tells p = absurd (unwritten refl)
-  early_refusal Saving bytes m range cause unwritten tells p = absurd cause
-  early_refusal (SaveFile e) bytes m range cause unwritten tells p = absurd cause
-  early_refusal (Classes e) bytes m range cause unwritten tells p = absurd cause
-  early_refusal Memory bytes m range cause unwritten tells p = inr (inr (inr refl))
-
-  no_saving : (failure : Failure) → IsCauseFrom words left failure → failure ≡ Saving → ⊥
-  no_saving failure cause is = subst (IsCauseFrom words left) is cause
-
-  no_refusal : (failure : Failure) → IsCauseFrom words left failure → ((e : ResumeFault) × (failure ≡ SaveFile e)) → ⊥
-  no_refusal failure cause is = subst (IsCauseFrom words left) is.1 cause
-
-  no_classes : (failure : Failure) → IsCauseFrom words left failure → ((e : Refusal) × (failure ≡ Classes e)) → ⊥
-  no_classes failure cause is = subst (IsCauseFrom words left) is.1 cause
-
-  no_answer_status : (failure : Failure) → IsCauseFrom words left failure → failure ≢ Writing → IsAnswered (status_of failure) → ⊥
-  no_answer_status failure cause unwritten (inl h) = never_0 failure h
-  no_answer_status failure cause unwritten (inr (inl h)) = unwritten (only_writing failure h)
-  no_answer_status failure cause unwritten (inr (inr h)) = no_classes failure cause (only_classes failure h)
-
-  -- a failure before the disk's turn
-  pub kept_early : (failure : Failure) (d : store.State) → IsCauseFrom words left failure → failure ≢ Writing → IsKept store words left (status_of failure) d d
-  kept_early failure d cause unwritten = record {
-    unsaved = λ h. refl;
+  -- a run that did not come to the disk, or does not use it
+  pub kept_untouched : (outcome : Outcome) (d : D) → outcome ≢ Err Saving → ((e : ResumeFault) → outcome ≢ Err (SaveFile e)) → ((m : SteenrodModule) → IsOnDisk asked input m → IsCutOff outcome × (IsAnswered outcome → ⊥)) → HasSaved disk asked input outcome d d
+  kept_untouched outcome d working taken cut = record {
+    unused = λ h. refl;
     early = λ h. refl;
-    failed = λ h. absurd (no_saving failure cause (only_saving failure h));
+    failed = λ h. absurd (working h);
     no_fault = λ h. refl;
     never_falls = omega arith;
-    refused = λ h. absurd (no_refusal failure cause (only_refused failure h));
-    refuses = λ bytes file m range e tells is p h. early_refusal failure bytes m range cause unwritten tells p;
-    unwritten = λ h. absurd (no_refusal failure cause (only_refused failure h));
-    spared = λ bytes file m range e tells is p h other. unwritten_same store.now store.moment store.images store.since store.faults laws d;
-    lasts = λ bytes m range list tells told p ours. as_it_was m range list _ _ d (no_answer_status failure cause unwritten) told ours;
+    unwritten = λ e h. absurd (taken e h);
+    spared = λ m file e on is refusal. record {
+      comes = let c = cut m on in inr c.0;
+      unwritten = λ h. unwritten_same disk.now disk.moment disk.images disk.since disk.faults laws d;
+      stands = λ c was. (c, laws.only_now d c was, refl);
+    };
+    lasts = λ m range list usage here told ours. let c = cut m (used_for (keeping range) m usage here) in as_it_was m range list _ _ d c.1 told ours;
   }
+
+  pub kept_unused : (outcome : Outcome) (d : D) → use_for asked ≡ None → outcome ≢ Err Saving → ((e : ResumeFault) → outcome ≢ Err (SaveFile e)) → HasSaved disk asked input outcome d d
+  kept_unused outcome d none working taken = kept_untouched outcome d working taken (λ m on. absurd (unused_on m none on))
 
   -- ---- a disk with the save file
 
-  module _ (r : ToResolve) (d g : store.State) (text : Told) (on : HasKeptOn store.now store.moment store.images store.since store.faults r text d g) (by : IsOfInput (λ bytes. IsSavedBy words bytes r.resolved.plain r.common.range) left) where
-    -- the words ask for no other module and range
-    the_same : (bytes : List ℕ) (m : SteenrodModule) (range : Range) → (WordsRead words → left ≡ Some bytes) → IsSavedBy words bytes m range → (r.resolved.plain ≡ m) × (r.common.range ≡ range)
-    the_same bytes m range tells p = saved_unique words by.bytes bytes r.resolved.plain m r.common.range range (λ reads. told_bytes left by.bytes bytes by.all (tells reads)) by.holds p
+  module _ (r : ToResolve) (usage : use_for asked ≡ Some (keeping r.common.range)) (here : IsModuleFor asked input r.resolved.plain) (d g : D) (text : Told) (on : HasKeptOn disk.now disk.moment disk.images disk.since disk.faults r text d g) where
+    on_disk : IsOnDisk asked input r.resolved.plain
+    on_disk = used_for (keeping r.common.range) r.resolved.plain usage here
 
-    save : WordsSave words
-    save = saved_words words by.bytes r.resolved.plain r.common.range by.holds
+    same_range : (range : Range) → use_for asked ≡ Some (keeping range) → r.common.range ≡ range
+    same_range range is = let both : Some (keeping r.common.range) ≡ Some (keeping range) = sym usage ∙ is in cc
 
-    on_lasts : (had_answer unfailed : Type 0) → (had_answer → HasAnswer text) → (unfailed → text ≢ Err Saving) → (bytes : List ℕ) (m : SteenrodModule) (range : Range) (list : List Entry) → (WordsRead words → left ≡ Some bytes) → IsSome (store.now d) → IsSavedBy words bytes m range → IsOurs m list (store.images d) →
-        HasLasted store.now store.moment store.images store.since m range list had_answer unfailed d g
-    on_lasts had_answer unfailed has worked bytes m range list tells told p ours =
-        let same = the_same bytes m range tells p in
-        let here : IsOurs r.resolved.plain list (store.images d) = subst (λ (x : SteenrodModule). IsOurs x list (store.images d)) (sym same.0) ours in
-        let lasted = lasted_by store.now store.moment store.images store.since r.resolved.plain r.common.range list (HasAnswer text) had_answer (text ≢ Err Saving) unfailed d g has worked (on.lasts told list here) in
-        subst (λ (x : Range). HasLasted store.now store.moment store.images store.since m x list had_answer unfailed d g) same.1
-        (subst (λ (x : SteenrodModule). HasLasted store.now store.moment store.images store.since x r.common.range list had_answer unfailed d g) same.0 lasted)
+    same_standing : (m : SteenrodModule) (file : List ℕ) (e : ResumeFault) → IsModuleFor asked input m → standing_of m file ≡ Err e → standing_of r.resolved.plain file ≡ Err e
+    same_standing m file e there h = ap (λ (x : SteenrodModule). standing_of x file) (module_same asked input r.resolved.plain m here there) ∙ h
 
-    -- a run that has an answer
-    pub kept_with_answer : (status : ℕ) → IsAnswered status → HasAnswer text → IsKept store words left status d g
-    kept_with_answer status is has = record {
-      unsaved = λ unasked. absurd (unasked save);
-      early = λ h. absurd (not_early is h);
-      failed = λ h. absurd (not_one 8 is h (omega arith) (omega arith) (omega arith) (omega arith));
-      no_fault = λ h. on.no_fault (answer_unfailed text has);
+    kept_after : (outcome : Outcome) → IsAfter text outcome → ((m : SteenrodModule) (file : List ℕ) (e : ResumeFault) → disk.now d ≡ Some file → standing_of r.resolved.plain file ≡ Err e → (outcome ≡ Err (SaveFile e)) ⊎ IsCutOff outcome) → HasSaved disk asked input outcome d g
+    kept_after outcome after comes = record {
+      unused = λ h. absurd (unused_on r.resolved.plain h on_disk);
+      early = λ h. absurd (after.late h);
+      failed = λ h. on.failed (after.saving h);
+      no_fault = λ h. on.no_fault (λ other. h (after.told other));
       never_falls = on.never_falls;
-      refused = λ h. absurd (not_one 9 is h (omega arith) (omega arith) (omega arith) (omega arith));
-      refuses = λ bytes file m range e tells told p refusal. absurd (accepted_is_not_refused bytes file m range e tells told p refusal);
-      unwritten = λ h. absurd (not_one 9 is h (omega arith) (omega arith) (omega arith) (omega arith));
-      spared = λ bytes file m range e tells told p refusal other. absurd (accepted_is_not_refused bytes file m range e tells told p refusal);
-      lasts = on_lasts _ _ (λ _. has) (λ _. answer_unfailed text has);
+      unwritten = λ e h. on.unwritten e (after.refusal e h);
+      spared = λ m file e there is refusal.
+          let standing = same_standing m file e there.1 refusal in
+          record {
+            comes = comes m file e is standing;
+            unwritten = λ h. on.spared file e is standing (λ other. h (after.told other));
+            stands = λ c was. subst (λ (x : SteenrodModule). StandsAsOneOf x (disk.images d) c) (module_same asked input r.resolved.plain m here there.1) (on.stands file e is standing c was);
+          };
+      lasts = λ m range list used there told ours.
+          let module_is = module_same asked input r.resolved.plain m here there in
+          let ours_here : IsOurs r.resolved.plain list (disk.images d) = subst (λ (x : SteenrodModule). IsOurs x list (disk.images d)) (sym module_is) ours in
+          let lasted = lasted_by disk.now disk.moment disk.images disk.since r.resolved.plain r.common.range list (HasAnswer text) (IsAnswered outcome) (text ≢ Err Saving) (outcome ≢ Err Saving) d g after.answered (λ h other. h (after.told other)) (on.lasts told list ours_here) in
+          subst (λ (x : Range). HasLasted disk.now disk.moment disk.images disk.since m x list (IsAnswered outcome) (outcome ≢ Err Saving) d g) (same_range range used)
+          (subst (λ (x : SteenrodModule). HasLasted disk.now disk.moment disk.images disk.since x r.common.range list (IsAnswered outcome) (outcome ≢ Err Saving) d g) module_is lasted);
     }
-      where
-        not_one : (n : ℕ) → IsAnswered status → status ≡ n → 0 < n → n ≢ 7 → n ≢ 10 → n ≢ 11 → ⊥
-        not_one n (inl a) b low seven ten eleven = omega (arith, a, b, low)
-        not_one n (inr (inl a)) b low seven ten eleven = seven (sym b ∙ a)
-        not_one n (inr (inr (inl a))) b low seven ten eleven = ten (sym b ∙ a)
-        not_one n (inr (inr (inr a))) b low seven ten eleven = eleven (sym b ∙ a)
 
-        not_early : IsAnswered status → IsEarly status → ⊥
-        not_early one (inl h) = not_one 2 one h (omega arith) (omega arith) (omega arith) (omega arith)
-        not_early one (inr (inl h)) = not_one 3 one h (omega arith) (omega arith) (omega arith) (omega arith)
-        not_early one (inr (inr (inl h))) = not_one 4 one h (omega arith) (omega arith) (omega arith) (omega arith)
-        not_early one (inr (inr (inr (inl h)))) = not_one 6 one h (omega arith) (omega arith) (omega arith) (omega arith)
-        not_early one (inr (inr (inr (inr h)))) = not_one 14 one h (omega arith) (omega arith) (omega arith) (omega arith)
+    -- an answer comes of no file that is refused
+    accepted : HasAnswer text → (file : List ℕ) (e : ResumeFault) → disk.now d ≡ Some file → standing_of r.resolved.plain file ≡ Err e → ⊥
+    accepted has file e is refusal = let list = on.accepted has file is in let both : Ok list.0 ≡ Err e = sym list.1 ∙ refusal in cc
 
-        accepted_is_not_refused : (bytes file : List ℕ) (m : SteenrodModule) (range : Range) (e : ResumeFault) → (WordsRead words → left ≡ Some bytes) → store.now d ≡ Some file → IsSavedBy words bytes m range → standing_of m file ≡ Err e → ⊥
-        accepted_is_not_refused bytes file m range e tells told p refusal =
-            let same = the_same bytes m range tells p in
-            let list = on.accepted has file told in
-            let both : Ok list.0 ≡ Err e = sym list.1 ∙ ap (λ (x : SteenrodModule). standing_of x file) same.0 ∙ refusal in
-            cc
+    pub kept_answered : (outcome : Outcome) → IsAfter text outcome → HasAnswer text → HasSaved disk asked input outcome d g
+    kept_answered outcome after has = kept_after outcome after (λ m file e is refusal. absurd (accepted has file e is refusal))
 
-    -- a run that has none
-    kept_late : (status : ℕ) → (status ≡ 8) ⊎ (status ≡ 9) ⊎ (status ≡ 12) → (status ≡ 8 → HasRisen (store.faults d) (store.faults g)) → (status ≡ 9 → IfSome (store.now d) (λ file. (e : ResumeFault) × IsRefusedFrom words left file e)) →
-        (status ≡ 9 → IsUnwritten store.now store.moment store.images store.since d g) → (text ≡ Err Saving → status ≡ 8) → IsKept store words left status d g
-    kept_late status is failed refused unwritten was_disk = record {
-      unsaved = λ unasked. absurd (unasked save);
-      early = λ h. absurd (not_early is h);
-      failed = failed;
-      no_fault = λ other. on.no_fault (λ h. other (was_disk h));
-      never_falls = on.never_falls;
-      refused = refused;
-      refuses = λ bytes file m range e tells told p refusal. late is;
-      unwritten = unwritten;
-      spared = λ bytes file m range e tells told p refusal other. let same = the_same bytes m range tells p in on.spared file e told (ap (λ (x : SteenrodModule). standing_of x file) same.0 ∙ refusal) (λ h. other (was_disk h));
-      lasts = on_lasts _ _ (λ h. absurd (no_text is h)) (λ other h. other (was_disk h));
+    -- a usable file is not refused
+    pub usable_file : (fault : ResumeFault) → IsUsable disk asked input d → IsRefusedFor r.resolved.plain (disk.now d) fault → ⊥
+    usable_file fault usable refusal =
+        let ours = usable r.resolved.plain on_disk in
+        let found = some_is (disk.now d) ours.0 in
+        let stands = ours.1.1 found.0 (file_of d found.0 found.1) in
+        let err = at_some (disk.now d) (λ file. standing_of r.resolved.plain file ≡ Err fault) found.0 found.1 refusal in
+        let both : Ok (_) ≡ Err fault = sym stands.stands ∙ err in
+        cc
+
+    refused_for : (o : Option (List ℕ)) (fault : ResumeFault) → IsRefusedFor r.resolved.plain o fault → IfSome o (λ file. IsRefused asked input file fault)
+    refused_for None fault h = tt
+    refused_for (Some file) fault h = (r.resolved.plain, on_disk, h)
+
+  -- ---- what a run is told of a failure that came in place of its text
+
+  pub record IsEndedBy (failure : Failure) (d g : D) : Type 0 where
+    pub late : IsLate failure
+    pub cause : (IsOfClasses failure → IsUsable disk asked input d → IsAskedAnswer asked input (Err failure)) → IsCause asked input (disk.now d) (IsUsable disk asked input d) (Err failure)
+    pub saved : HasSaved disk asked input (Err failure) d g
+    pub accepted : IsUsable disk asked input d → (fault : ResumeFault) → failure ≡ SaveFile fault → ⊥
+
+  ended_unused : (failure : Failure) (d : D) → use_for asked ≡ None → (failure ≡ Memory) ⊎ (IsOfClasses failure × TellsFor asked) → IsEndedBy failure d d
+  ended_unused failure d none (inl is) = subst (λ (e : Failure). IsEndedBy e d d) (sym is) (record {
+    late = memory;
+    cause = λ answers. tt;
+    saved = kept_unused (Err Memory) d none (λ h. cc) (λ e h. cc);
+    accepted = λ usable fault h. cc;
+  })
+  ended_unused failure d none (inr h) = let only = of_classes failure h.0 in subst (λ (e : Failure). IsEndedBy e d d) (sym only.1) (record {
+    late = classes only.0;
+    cause = λ answers. (h.1, answers tt);
+    saved = kept_unused (Err (Classes only.0)) d none (λ h. cc) (λ e h. cc);
+    accepted = λ usable fault h. cc;
+  })
+
+  module _ (r : ToResolve) (usage : use_for asked ≡ Some (keeping r.common.range)) (here : IsModuleFor asked input r.resolved.plain) (tells : TellsOfClasses r.form → TellsFor asked) (d g : D) where
+    abbrev KeptOn : Failure → Type 0
+    KeptOn failure = HasKeptOn disk.now disk.moment disk.images disk.since disk.faults r (Err failure) d g
+
+    abbrev Ended : Failure → Type 0
+    Ended failure = KeptOn failure → IsEndedBy failure d g
+
+    ended_saving : Ended Saving
+    ended_saving on = record {
+      late = saving;
+      cause = λ answers. (on_disk r usage here d g (Err Saving) on).0;
+      saved = kept_after r usage here d g (Err Saving) on (Err Saving) (after_failure Saving saving) (λ m file e is refusal. inr tt);
+      accepted = λ usable fault h. cc;
     }
-      where
-        not_one : (status ≡ 8) ⊎ (status ≡ 9) ⊎ (status ≡ 12) → status ≤ 7 → ⊥
-        not_one (inl a) low = omega (arith, a, low)
-        not_one (inr (inl a)) low = omega (arith, a, low)
-        not_one (inr (inr a)) low = omega (arith, a, low)
 
-        not_14 : (status ≡ 8) ⊎ (status ≡ 9) ⊎ (status ≡ 12) → status ≡ 14 → ⊥
-        not_14 (inl a) h = omega (arith, a, h)
-        not_14 (inr (inl a)) h = omega (arith, a, h)
-        not_14 (inr (inr a)) h = omega (arith, a, h)
+    ended_memory : Ended Memory
+    ended_memory on = record {
+      late = memory;
+      cause = λ answers. tt;
+      saved = kept_after r usage here d g (Err Memory) on (Err Memory) (after_failure Memory memory) (λ m file e is refusal. inr tt);
+      accepted = λ usable fault h. cc;
+    }
 
-        not_early : (status ≡ 8) ⊎ (status ≡ 9) ⊎ (status ≡ 12) → IsEarly status → ⊥
-        not_early one (inl h) = not_one one (omega (arith, h))
-        not_early one (inr (inl h)) = not_one one (omega (arith, h))
-        not_early one (inr (inr (inl h))) = not_one one (omega (arith, h))
-        not_early one (inr (inr (inr (inl h)))) = not_one one (omega (arith, h))
-        not_early one (inr (inr (inr (inr h)))) = not_14 one h
+    ended_classes : TellsFor asked → (refusal : Refusal) → Ended (Classes refusal)
+    ended_classes told refusal on = record {
+      late = classes refusal;
+      cause = λ answers. (told, answers tt);
+      saved = kept_answered r usage here d g (Err (Classes refusal)) on (Err (Classes refusal)) (after_failure (Classes refusal) (classes refusal)) tt;
+      accepted = λ usable fault h. cc;
+    }
 
-        no_text : (status ≡ 8) ⊎ (status ≡ 9) ⊎ (status ≡ 12) → IsAnswered status → ⊥
-        no_text one (inl h) = not_one one (omega (arith, h))
-        no_text one (inr (inl h)) = not_one one (omega (arith, h))
-        no_text (inl a) (inr (inr h)) = neither_of status 8 a h (omega arith) (omega arith)
-        no_text (inr (inl a)) (inr (inr h)) = neither_of status 9 a h (omega arith) (omega arith)
-        no_text (inr (inr a)) (inr (inr h)) = neither_of status 12 a h (omega arith) (omega arith)
+    ended_refused : (fault : ResumeFault) → IsRefusedFor r.resolved.plain (disk.now d) fault → Ended (SaveFile fault)
+    ended_refused fault refused on = record {
+      late = save_file fault;
+      cause = λ answers. ((on_disk r usage here d g (Err (SaveFile fault)) on).0, refused_for r usage here d g (Err (SaveFile fault)) on (disk.now d) fault refused);
+      saved = kept_after r usage here d g (Err (SaveFile fault)) on (Err (SaveFile fault)) (after_failure (SaveFile fault) (save_file fault)) (λ m file e is refusal.
+          let here_refused = at_some (disk.now d) (λ f. standing_of r.resolved.plain f ≡ Err fault) file is refused in
+          let both : Err fault ≡ Err e = sym here_refused ∙ refusal in
+          let same : fault ≡ e = cc in
+          inl (ap (λ (x : ResumeFault). Err (SaveFile x)) same));
+      accepted = λ usable other h. usable_file r usage here d g (Err (SaveFile fault)) on fault usable refused;
+    }
 
-        late : (status ≡ 8) ⊎ (status ≡ 9) ⊎ (status ≡ 12) → (status ≡ 9) ⊎ (status ≡ 6) ⊎ (status ≡ 8) ⊎ (status ≡ 12)
-        late (inl h) = inr (inr (inl h))
-        late (inr (inl h)) = inl h
-        late (inr (inr h)) = inr (inr (inr h))
-
-    refused_here : (o : Option (List ℕ)) (fault : ResumeFault) → IsRefusedFor r.resolved.plain o fault → IfSome o (λ file. (e : ResumeFault) × IsRefusedFrom words left file e)
-    refused_here None fault h = tt
-    refused_here (Some file) fault h = (fault, record { bytes = by.bytes; all = by.all; holds = (r.resolved.plain, r.common.range, by.holds, h) })
-
-    saving_8 : (failure : Failure) → text ≡ Err failure → text ≡ Err Saving → status_of failure ≡ 8
-    saving_8 failure is other =
-        let both : Err failure ≡ Err Saving = sym is ∙ other in
-        let same : failure ≡ Saving = cc in
-        ap status_of same
-
-    pub kept_with_failure : (failure : Failure) → text ≡ Err failure → ((failure ≡ Saving) ⊎ (failure ≡ Memory) ⊎ IsOfClasses failure ⊎ ((fault : ResumeFault) × (failure ≡ SaveFile fault) × IsRefusedFor r.resolved.plain (store.now d) fault)) →
-        IsKept store words left (status_of failure) d g
-    kept_with_failure failure is (inl h) =
-        let status : status_of failure ≡ 8 = ap status_of h in
-        kept_late (status_of failure) (inl status) (λ e. on.failed (is ∙ ap Err h)) (λ e. absurd (omega (arith, status, e))) (λ e. absurd (omega (arith, status, e))) (λ e. status)
-    kept_with_failure failure is (inr (inl h)) =
-        let status : status_of failure ≡ 12 = ap status_of h in
-        kept_late (status_of failure) (inr (inr status)) (λ e. absurd (omega (arith, status, e))) (λ e. absurd (omega (arith, status, e))) (λ e. absurd (omega (arith, status, e))) (saving_8 failure is)
-    kept_with_failure failure is (inr (inr (inl h))) = kept_with_answer (status_of failure) (inr (inr (of_classes failure h))) (subst HasAnswer (sym is) h)
-    kept_with_failure failure is (inr (inr (inr h))) =
-        let status : status_of failure ≡ 9 = ap status_of h.1 in
-        kept_late (status_of failure) (inr (inl status)) (λ e. absurd (omega (arith, status, e))) (λ e. refused_here (store.now d) h.0 h.2) (λ e. on.unwritten h.0 (is ∙ ap Err h.1)) (saving_8 failure is)
-
-    refusal_cause : (o : Option (List ℕ)) (fault : ResumeFault) → IsRefusedFor r.resolved.plain o fault → IfSome o (λ file. IsRefusedFrom words left file fault)
-    refusal_cause None fault h = tt
-    refusal_cause (Some file) fault h = record { bytes = by.bytes; all = by.all; holds = (r.resolved.plain, r.common.range, by.holds, h) }
-
-    pub saving_cause : (usable : Type 0) (failure : Failure) → (IsOfClasses failure → usable → IsAnswerFrom words left (Err failure)) → ((failure ≡ Saving) ⊎ (failure ≡ Memory) ⊎ IsOfClasses failure ⊎ ((fault : ResumeFault) × (failure ≡ SaveFile fault) × IsRefusedFor r.resolved.plain (store.now d) fault)) → IsRunCauseFrom words left (store.now d) usable failure
-    saving_cause usable failure answers (inl h) = subst (IsRunCauseFrom words left (store.now d) usable) (sym h) save
-    saving_cause usable failure answers (inr (inl h)) = subst (IsRunCauseFrom words left (store.now d) usable) (sym h) tt
-    saving_cause usable failure answers (inr (inr (inl h))) = classes_cause words left (store.now d) usable failure h (answers h)
-    saving_cause usable failure answers (inr (inr (inr h))) = subst (IsRunCauseFrom words left (store.now d) usable) (sym h.1) (refusal_cause (store.now d) h.0 h.2)
+    ended_used : (failure : Failure) → (failure ≡ Saving) ⊎ (failure ≡ Memory) ⊎ IsRefusalIn r.form failure ⊎ ((fault : ResumeFault) × (failure ≡ SaveFile fault) × IsRefusedFor r.resolved.plain (disk.now d) fault) → Ended failure
+    ended_used failure (inl is) = subst Ended (sym is) ended_saving
+    ended_used failure (inr (inl is)) = subst Ended (sym is) ended_memory
+    ended_used failure (inr (inr (inl h))) = let only = of_classes failure h.0 in subst Ended (sym only.1) (ended_classes (tells h.1) only.0)
+    ended_used failure (inr (inr (inr h))) = subst Ended (sym h.1) (ended_refused h.0 h.2)
 
   -- ---- a task
 
-  saved_by : (r : ToResolve) (o : Option Command) → command_of words ≡ o → MatchOption o ⊥ (λ c. IsSavedFor c left (Resolution r)) → r.common.save ≡ true → IsOfInput (λ bytes. IsSavedBy words bytes r.resolved.plain r.common.range) left
-  saved_by r None e h s = absurd h
-  saved_by r (Some c) e h s = record {
-    bytes = h.1.bytes;
-    all = h.1.all;
-    holds = record { command = c; common = r.common; is = e; options = h.0; saves = s; range_is = refl; resolves = h.1.holds };
-  }
-
-  not_saved : (r : ToResolve) (o : Option Command) → command_of words ≡ o → MatchOption o ⊥ (λ c. IsSavedFor c left (Resolution r)) → r.common.save ≡ false → WordsSave words → ⊥
-  not_saved r None e h s w = h
-  not_saved r (Some c) e h s w =
-      let saves : Saves c = subst (λ (o : Option Command). MatchOption o ⊥ Saves) e w in
-      let yes : r.common.save ≡ true = subst (λ (o : Option Common). MatchOption o ⊥ (λ common. common.save ≡ true)) h.0 saves in
-      cc
-
-  text_unsaved : (made : Vec ℕ Global) (o : Option Command) → command_of words ≡ o → MatchOption o ⊥ (λ c. IsSavedFor c left (Text made)) → WordsSave words → ⊥
-  text_unsaved made None e h w = h
-  text_unsaved made (Some c) e h w = h (subst (λ (o : Option Command). MatchOption o ⊥ Saves) e w)
-
   -- what a run is told of its text and its disk
-  pub record IsWorked (text : Told) (task : Task) (d g : store.State) : Type 0 where
-    pub made : HasAnswer text → IsUsableAt store words left d → IsDoneBy task (answer_of text)
-    pub kept : IfOk text (λ x. IsKept store words left 0 d g × IsKept store words left 7 d g)
-    pub failed : IfErr text (λ failure. ((IsOfClasses failure → IsUsableAt store words left d → IsAnswerFrom words left (Err failure)) → IsRunCauseFrom words left (store.now d) (IsUsableAt store words left d) failure) × (failure ≢ Reading) × (failure ≢ Writing) × IsKept store words left (status_of failure) d g
-        × (IsUsableAt store words left d → (fault : ResumeFault) → failure ≡ SaveFile fault → ⊥))
+  pub record IsWorked (text : Told) (task : Task) (d g : D) : Type 0 where
+    pub made : HasAnswer text → IsUsable disk asked input d → IsDoneBy task (answer_of text)
+    pub kept : (outcome : Outcome) → IsAfter text outcome → HasAnswer text → HasSaved disk asked input outcome d g
+    pub failed : IfErr text (λ failure. IsEndedBy failure d g)
 
-  memory_or_classes : (failure : Failure) (d g : store.State) → g ≡ d → (WordsSave words → ⊥) → (failure ≡ Memory) ⊎ IsOfClasses failure → ((IsOfClasses failure → IsUsableAt store words left d → IsAnswerFrom words left (Err failure)) → IsRunCauseFrom words left (store.now d) (IsUsableAt store words left d) failure) × (failure ≢ Reading) × (failure ≢ Writing) × IsKept store words left (status_of failure) d g
-      × (IsUsableAt store words left d → (fault : ResumeFault) → failure ≡ SaveFile fault → ⊥)
-  memory_or_classes failure d g same unasked (inl memory) =
-      let status : status_of failure ≡ 12 = ap status_of memory in
-      (λ answers. subst (IsRunCauseFrom words left (store.now d) (IsUsableAt store words left d)) (sym memory) tt, λ h. cc, λ h. cc, kept_unsaved (status_of failure) d g same unasked (λ h. omega (arith, status, h)) (λ h. omega (arith, status, h)), λ usable fault h. cc)
-  memory_or_classes failure d g same unasked (inr classes) =
-      let no : (k : ℕ) → k ≢ 10 → k ≢ 11 → status_of failure ≡ k → ⊥ = λ k ten eleven h. neither_of (status_of failure) k h (of_classes failure classes) ten eleven in
-      (λ answers. classes_cause words left (store.now d) (IsUsableAt store words left d) failure classes (answers classes), λ h. subst IsOfClasses h classes, λ h. subst IsOfClasses h classes, kept_unsaved (status_of failure) d g same unasked (no 8 (omega arith) (omega arith)) (no 9 (omega arith) (omega arith)), λ usable fault h. subst IsOfClasses h classes)
+  -- a refusal of the task is of classes, in a form that tells of them
+  task_refusal : (task : Task) → IsTaskFor asked input task → (failure : Failure) → (failure ≡ Memory) ⊎ IsTaskRefusal task failure → (failure ≡ Memory) ⊎ (IsOfClasses failure × TellsFor asked)
+  task_refusal task is failure (inl h) = inl h
+  task_refusal (Text made) is failure (inr h) = absurd h
+  task_refusal (Resolution r) is failure (inr h) = inr (h.0, resolution_tells asked input r is h.1)
 
-  worked_unsaved : (task : Task) (text : Told) (d g : store.State) → (WordsSave words → ⊥) → IsUnsaved task text d g → IsWorked text task d g
-  worked_unsaved task (Ok x) d g unasked u = record {
+  worked_unused : (task : Task) (text : Told) (d g : D) → IsTaskFor asked input task → use_for asked ≡ None → IsUnsaved task text d g → IsWorked text task d g
+  worked_unused task (Ok x) d g is none u = record {
     made = λ has usable. u.told tt;
-    kept = (kept_unsaved 0 d g u.same unasked (λ h. omega (arith, h)) (λ h. omega (arith, h)), kept_unsaved 7 d g u.same unasked (λ h. omega (arith, h)) (λ h. omega (arith, h)));
+    kept = λ outcome after has. subst (λ (e : D). HasSaved disk asked input outcome d e) (sym u.same) (kept_unused outcome d none (λ h. let bad = after.saving h in cc) (λ e h. let bad = after.refusal e h in cc));
     failed = tt;
   }
-  worked_unsaved task (Err failure) d g unasked u = record { made = λ has usable. u.told has; kept = tt; failed = memory_or_classes failure d g u.same unasked u.why }
-
-  -- a usable file is not refused
-  usable_file : (r : ToResolve) (d : store.State) (fault : ResumeFault) → IsOfInput (λ bytes. IsSavedBy words bytes r.resolved.plain r.common.range) left → IsUsableAt store words left d → IsRefusedFor r.resolved.plain (store.now d) fault → ⊥
-  usable_file r d fault by usable refusal =
-      let ours = usable by.bytes r.resolved.plain r.common.range by.all by.holds in
-      let found = some_is (store.now d) ours.0 in
-      let here = ours.1.1 found.0 (file_of store.now store.images laws.now_is_image d found.0 found.1) in
-      let err = subst (λ (o : Option (List ℕ)). IfSome o (λ file. standing_of r.resolved.plain file ≡ Err fault)) found.1 refusal in
-      let both : Ok (_) ≡ Err fault = sym here.stands ∙ err in
-      cc
-
-  worked_saved : (r : ToResolve) (text : Told) (d g : store.State) → IsOfInput (λ bytes. IsSavedBy words bytes r.resolved.plain r.common.range) left → HasKeptOn store.now store.moment store.images store.since store.faults r text d g → IsWorked text (Resolution r) d g
-  worked_saved r (Ok x) d g by on = record {
-    made = λ has usable. let ours = usable by.bytes r.resolved.plain r.common.range by.all by.holds in on.told tt ours.0 ours.1.0 ours.1.1;
-    kept = (kept_with_answer r d g (Ok x) on by 0 (inl refl) tt, kept_with_answer r d g (Ok x) on by 7 (inr (inl refl)) tt);
-    failed = tt;
+  worked_unused task (Err failure) d g is none u = record {
+    made = λ has usable. u.told has;
+    kept = λ outcome after has. subst (λ (e : D). HasSaved disk asked input outcome d e) (sym u.same)
+        (kept_unused outcome d none (λ h. answer_unfailed (Err failure) has (after.saving h)) (λ e h. let bad : failure ≡ SaveFile e = (let both = after.refusal e h in cc) in subst IsOfClasses bad has));
+    failed = subst (λ (e : D). IsEndedBy failure d e) (sym u.same) (ended_unused failure d none (task_refusal task is failure u.why));
   }
-  worked_saved r (Err failure) d g by on = record {
-    made = λ has usable. let ours = usable by.bytes r.resolved.plain r.common.range by.all by.holds in on.told has ours.0 ours.1.0 ours.1.1;
-    kept = tt;
-    failed = (λ answers. saving_cause r d g (Err failure) on by (IsUsableAt store words left d) failure answers on.why, no_device failure on.why, no_sink failure on.why, kept_with_failure r d g (Err failure) on by failure refl on.why, λ usable fault h. refused failure on.why usable fault h);
-  }
-    where
-      no_device : (e : Failure) → ((e ≡ Saving) ⊎ (e ≡ Memory) ⊎ IsOfClasses e ⊎ ((fault : ResumeFault) × (e ≡ SaveFile fault) × IsRefusedFor r.resolved.plain (store.now d) fault)) → e ≢ Reading
-      no_device e (inl w) h = cc
-      no_device e (inr (inl w)) h = cc
-      no_device e (inr (inr (inl w))) h = subst IsOfClasses h w
-      no_device e (inr (inr (inr w))) h = let is = w.1 in cc
 
-      no_sink : (e : Failure) → ((e ≡ Saving) ⊎ (e ≡ Memory) ⊎ IsOfClasses e ⊎ ((fault : ResumeFault) × (e ≡ SaveFile fault) × IsRefusedFor r.resolved.plain (store.now d) fault)) → e ≢ Writing
-      no_sink e (inl w) h = cc
-      no_sink e (inr (inl w)) h = cc
-      no_sink e (inr (inr (inl w))) h = subst IsOfClasses h w
-      no_sink e (inr (inr (inr w))) h = let is = w.1 in cc
+  module _ (r : ToResolve) (usage : use_for asked ≡ Some (keeping r.common.range)) (here : IsModuleFor asked input r.resolved.plain) (tells : TellsOfClasses r.form → TellsFor asked) (d g : D) where
+    made_used : (text : Told) → HasKeptOn disk.now disk.moment disk.images disk.since disk.faults r text d g → HasAnswer text → IsUsable disk asked input d → IsDoneBy (Resolution r) (answer_of text)
+    made_used text on has usable = let ours = usable r.resolved.plain (on_disk r usage here d g text on) in on.told has ours.0 ours.1.0 ours.1.1
 
-      refused : (e : Failure) → ((e ≡ Saving) ⊎ (e ≡ Memory) ⊎ IsOfClasses e ⊎ ((fault : ResumeFault) × (e ≡ SaveFile fault) × IsRefusedFor r.resolved.plain (store.now d) fault)) → IsUsableAt store words left d → (fault : ResumeFault) → e ≡ SaveFile fault → ⊥
-      refused e (inl w) usable fault h = cc
-      refused e (inr (inl w)) usable fault h = cc
-      refused e (inr (inr (inl w))) usable fault h = subst IsOfClasses h w
-      refused e (inr (inr (inr w))) usable fault h = usable_file r d w.0 by usable w.2
+    worked_used : (text : Told) → HasKeptOn disk.now disk.moment disk.images disk.since disk.faults r text d g → IsWorked text (Resolution r) d g
+    worked_used (Ok x) on = record { made = made_used (Ok x) on; kept = kept_answered r usage here d g (Ok x) on; failed = tt }
+    worked_used (Err failure) on = record { made = made_used (Err failure) on; kept = kept_answered r usage here d g (Err failure) on; failed = ended_used r usage here tells d g failure on.why on }
 
-  by_option : (r : ToResolve) (text : Told) (d g : store.State) (saves : Bool) → r.common.save ≡ saves → IsSavedAs words left (Resolution r) → HasWorked store.now store.moment store.images store.since store.faults (Resolution r) text d g → IsWorked text (Resolution r) d g
-  by_option r text d g true is saved did = worked_saved r text d g (saved_by r (command_of words) refl saved is) (did.1 is)
-  by_option r text d g false is saved did = worked_unsaved (Resolution r) text d g (not_saved r (command_of words) refl saved is) (did.0 is)
+  by_option : (r : ToResolve) (text : Told) (d g : D) (saves : Bool) → r.common.save ≡ saves → use_for asked ≡ use_where saves r.common.range → IsTaskFor asked input (Resolution r) → HasWorked disk.now disk.moment disk.images disk.since disk.faults (Resolution r) text d g → IsWorked text (Resolution r) d g
+  by_option r text d g true is usage task did = worked_used r usage (resolution_module asked input r task) (resolution_tells asked input r task) d g text (did.1 is)
+  by_option r text d g false is usage task did = worked_unused (Resolution r) text d g task usage (did.0 is)
 
-  pub worked : (task : Task) (text : Told) (d g : store.State) → IsSavedAs words left task → HasWorked store.now store.moment store.images store.since store.faults task text d g → IsWorked text task d g
-  worked (Text made) text d g saved did = worked_unsaved (Text made) text d g (text_unsaved made (command_of words) refl saved) did
-  worked (Resolution r) text d g saved did = by_option r text d g r.common.save refl saved did
-
-  -- the answers of a task are those of the words
-  pub worked_text : (task : Task) (text : Told) (d g : store.State) → IsTaskFrom words left task → IsWorked text task d g → IfOk text (λ x. (IsUsableAt store words left d → IsAnswerFrom words left (Ok x.items)) × IsKept store words left 0 d g × IsKept store words left 7 d g)
-  worked_text task (Ok x) d g answers did = (λ usable. answers (Ok x.items) (did.made tt usable), did.kept.0, did.kept.1)
-  worked_text task (Err e) d g answers did = tt
-
-  pub worked_failure : (task : Task) (text : Told) (d g : store.State) → IsTaskFrom words left task → IsWorked text task d g → IfErr text (λ failure. IsRunCauseFrom words left (store.now d) (IsUsableAt store words left d) failure × (failure ≢ Reading) × (failure ≢ Writing) × IsKept store words left (status_of failure) d g × (IsUsableAt store words left d → (fault : ResumeFault) → failure ≡ SaveFile fault → ⊥))
-  worked_failure task (Ok x) d g answers did = tt
-  worked_failure task (Err e) d g answers did =
-      let failed = did.failed in
-      (failed.0 (λ classes usable. answers (Err e) (did.made classes usable)), failed.1, failed.2, failed.3, failed.4)
+  pub worked : (task : Task) (text : Told) (d g : D) → IsTaskFor asked input task → HasWorked disk.now disk.moment disk.images disk.since disk.faults task text d g → IsWorked text task d g
+  worked (Text made) text d g h did = worked_unused (Text made) text d g h (text_use asked input made h) did
+  worked (Resolution r) text d g h did = by_option r text d g r.common.save refl (resolution_use asked input r h) h did
 
   -- ---- a failure before there is a task
 
-  -- what is asked of it besides
-  pub record IsEarlyCause (failure : Failure) (d : store.State) : Type 0 where
-    pub cause : IsRunCauseFrom words left (store.now d) (IsUsableAt store words left d) failure
-    pub outcome : HasOutcome words left (store.now d) (IsUsableAt store words left d) failure
-    pub accepted : IsUsableAt store words left d → (fault : ResumeFault) → failure ≡ SaveFile fault → ⊥
+  -- it is told of its own words and input alone
+  no_other : (failure : Failure) → IsAskedAnswer asked input (Err failure) → (IsOfClasses failure → ⊥) → (m : SteenrodModule) → IsOnDisk asked input m → ⊥
+  no_other failure is other m on = other (asked_told asked input m (Err failure) on.1 is)
 
-  pub early_cause : (failure : Failure) (d : store.State) → IsCauseFrom words left failure → failure ≢ Writing → IsEarlyCause failure d
-  early_cause Words d cause unwritten = record { cause = cause; outcome = tt; accepted = λ usable fault h. cc }
-  early_cause (NoModuleFile e) d cause unwritten = record { cause = cause; outcome = tt; accepted = λ usable fault h. cc }
-  early_cause (NotModule f e) d cause unwritten = record { cause = cause; outcome = tt; accepted = λ usable fault h. cc }
-  early_cause Reading d cause unwritten = record { cause = cause; outcome = tt; accepted = λ usable fault h. cc }
-  early_cause (PastLimit what) d cause unwritten = record { cause = cause; outcome = tt; accepted = λ usable fault h. cc }
-  early_cause Writing d cause unwritten = absurd (unwritten refl)
-  early_cause Saving d cause unwritten = absurd cause
-  early_cause (SaveFile e) d cause unwritten = absurd cause
-  early_cause (Classes e) d cause unwritten = absurd cause
-  early_cause Memory d cause unwritten = record { cause = cause; outcome = tt; accepted = λ usable fault h. cc }
+  pub kept_early : (failure : Failure) (d : D) → IsTaskCause asked (λ f. IsAskedAnswer asked input (Err f)) failure → HasSaved disk asked input (Err failure) d d
+  kept_early Words d p = kept_unused (Err Words) d (ap use_for p) (λ h. cc) (λ e h. cc)
+  kept_early (NoModuleFile e) d p = kept_untouched (Err (NoModuleFile e)) d (λ h. cc) (λ f h. cc) (λ m on. absurd (no_other (NoModuleFile e) p (λ h. h) m on))
+  kept_early (NotModule f e) d p = kept_untouched (Err (NotModule f e)) d (λ h. cc) (λ k h. cc) (λ m on. absurd (no_other (NotModule f e) p (λ h. h) m on))
+  kept_early (PastLimit what) d p = kept_untouched (Err (PastLimit what)) d (λ h. cc) (λ e h. cc) (λ m on. absurd (no_other (PastLimit what) p (λ h. h) m on))
+  kept_early Reading d p = kept_untouched (Err Reading) d (λ h. cc) (λ e h. cc) (λ m on. (tt, λ h. h))
+  kept_early Writing d p = absurd p
+  kept_early Saving d p = absurd p
+  kept_early (SaveFile e) d p = absurd p
+  kept_early (Classes e) d p = absurd p
+  kept_early Memory d p = kept_untouched (Err Memory) d (λ h. cc) (λ e h. cc) (λ m on. (tt, λ h. h))

@@ -1,74 +1,251 @@
--- The task of a command, by the module that it has.
-use Rattle.std.proofs.Common.{◌≡◌, ℕ, List, refl, sym, subst}
-use Rattle.std.specs.Prelude.{Option}
+-- The task of a plan: its answers are the plan's, and it uses the disk as the plan does.
+use Rattle.std.proofs.Common.{◌≡◌, ◌∙◌, ℕ, ◌⊎◌, inl, inr, List, [], Option, Some, None, IfSome, refl, sym, subst, ap}
+use Rattle.std.specs.declared.alloc.Global.{Global}
+use Rattle.std.specs.Prelude.{MatchOption, option_map, Vec, Result, Ok, Err, IsOkAnd}
+use Rattle.module_json.proofs.Reading.{file_unique}
+use Rattle.finite_module.specs.Module.{Module as SteenrodModule}
 use Rattle.finite_module.specs.Checked.{Checked, sphere_file}
-use Rattle.finite_module.specs.DerivedAction.{derived_module}
 use Rattle.finite_module.specs.Sample.{sample_file}
-use Rattle.chain_map.specs.declared.class.Class.{Class}
-use Rattle.ext_words.specs.declared.command.Command.{Command}
-use Rattle.ext_words.specs.declared.command.Command.TheVariants.{Sphere, Resolve, Dump, Products, Massey, Sample}
+use Rattle.finite_module.specs.DerivedAction.{derived_module}
+use Rattle.module_check.specs.declared.fault.CheckFault.{CheckFault}
 use Rattle.ext_words.specs.declared.command.Common.{Common}
-use Rattle.ext_run.specs.declared.task.Form.{Form}
-use Rattle.ext_run.specs.declared.task.Form.TheVariants.{Chart, Differentials, Summary, Products as ProductsOf, Bracket as BracketOf}
+use Rattle.ext_words.specs.declared.command.Command.{Command}
+use Rattle.ext_words.specs.declared.command.Command.TheVariants.{Sphere, Resolve, Dump, Products, Massey, Check, Build, Sample, Sq}
+use Rattle.ext_words.specs.declared.command.Build.{Build as Made}
+use Rattle.ext_words.specs.declared.command.WordsFault.{WordsFault}
+use Rattle.ext_words.specs.declared.command.WordsFault.TheVariants.{Words as Outside, Memory as NoSpace}
+use Rattle.ext_words.specs.Words.{command_of, IsWithinLimits}
+use Rattle.ext_report.specs.declared.failure.Failure.{Failure}
+use Rattle.ext_report.specs.declared.failure.Failure.TheVariants.{Words, Malformed as NoModuleFile, NotModule, PastLimit, Reading, Writing, Saving, SaveFile, Classes, Memory}
+use Rattle.ext_report.specs.Failure.{words_failure}
+use Rattle.ext_build.proofs.BuildAnswers.{build_not_words}
+use Rattle.ext_build.specs.Input.{IsOfInput, IsFileCauseFrom, IsModuleFrom}
+use Rattle.ext_build.specs.Building.{IsBuildAnswer, IsBuildAnswerFrom, IsBuildCauseFrom}
+use Rattle.ext_run.specs.declared.plan.Origin.{Origin}
+use Rattle.ext_run.specs.declared.plan.Origin.TheVariants.{Sphere as OfSphere, Sample as OfSample, File as OfFile}
+use Rattle.ext_run.specs.declared.plan.Form.{Form}
+use Rattle.ext_run.specs.declared.plan.Plan.{Plan}
+use Rattle.ext_run.specs.declared.plan.Plan.TheVariants.{Resolve as ToResolve, Check as ToCheck, Build as ToBuild, Multiply}
 use Rattle.ext_run.specs.declared.task.Task.{Task}
-use Rattle.ext_run.specs.declared.task.Task.TheVariants.{Resolution}
-use Rattle.ext_build.specs.Input.{IsOfInput, IsModuleFrom}
-use Rattle.ext_run.specs.Saving.{IsModuleIn}
-use Rattle.ext_run.specs.Task.{IsInForm, IsTaskFor, IsSavedFor}
-use Rattle.ext_run.proofs.Commands.{bytes_of, all_of, sphere_answer, sample_answer, IsOnModule, module_answer}
+use Rattle.ext_run.specs.declared.task.Task.TheVariants.{Text, Resolution}
+use Rattle.ext_run.specs.declared.task.Resolution.{Resolution as Resolved}
+use Rattle.ext_run.specs.Plan.{plan_of, asked_by, IsPlanWithin, IsModuleIn, IsModuleAt, IsModuleFor, PlanReads, TellsOfClasses, TellsFor, use_where, use_for}
+use Rattle.ext_run.specs.Forms.{IsText, IsInForm}
+use Rattle.ext_run.specs.Answer.{IsLineOn, IsProduct, ModuleAnswers, IsAnswerOfFile, IsModuleAnswer, IsAnswerAt, IsAnswerTo, IsAskedAnswer, IsTaskCause, IsTaskCauseFrom, IsOriginCauseFrom}
+use Rattle.ext_run.specs.Task.{IsDoneBy, IsTaskOf, IsTaskFor}
 
--- the task is to resolve the module m
-abbrev pub IsToResolve : Checked → Common → Form → Task → Type 0
-IsToResolve m common form task = task ≡ Resolution (record { resolved = m; common = common; form = form })
+-- ---- the limits
 
-pub sphere_task : (command : Command) (common : Common) (left : Option (List ℕ)) (m : Checked) (task : Task) → command ≡ Sphere common → m.plain ≡ derived_module sphere_file → IsToResolve m common Chart task → IsTaskFor command left task
-sphere_task command common left m task is sphere made =
-    let answers : IsTaskFor (Sphere common) left (Resolution (record { resolved = m; common = common; form = Chart })) = λ answer p. sphere_answer common left m.plain answer sphere p in
-    subst (λ (c : Command). IsTaskFor c left task) (sym is) (subst (IsTaskFor (Sphere common) left) (sym made) answers)
+pub plan_within : (command : Command) → IsWithinLimits command → IsPlanWithin (plan_of command)
+plan_within (Sphere common) h = h
+plan_within (Resolve common) h = h
+plan_within (Dump common) h = h
+plan_within (Products common by) h = h.0
+plan_within (Massey common a b c) h = h.0
+plan_within Check h = tt
+plan_within (Build made) h = tt
+plan_within (Sample n common) h = h
+plan_within (Sq numbers) h = h.2
 
-pub sample_task : (n : ℕ) (command : Command) (common : Common) (left : Option (List ℕ)) (m : Checked) (task : Task) → command ≡ Sample n common → m.plain ≡ derived_module (sample_file n) → IsToResolve m common Summary task → IsTaskFor command left task
-sample_task n command common left m task is sample made =
-    let answers : IsTaskFor (Sample n common) left (Resolution (record { resolved = m; common = common; form = Summary })) = λ answer p. sample_answer n common left m.plain answer sample p in
-    subst (λ (c : Command). IsTaskFor c left task) (sym is) (subst (IsTaskFor (Sample n common) left) (sym made) answers)
+-- ---- one module
 
--- the task of a command that resolves the module of its input
-pub module_task : (command : Command) (common : Common) (form : Form) (left : Option (List ℕ)) (m : Checked) (task : Task) → IsOnModule command (IsInForm form common.range) → IsModuleFrom left m.plain → IsToResolve m common form task → IsTaskFor command left task
-module_task command common form left m task on from made =
-    let answers : IsTaskFor command left (Resolution (record { resolved = m; common = common; form = form })) = λ answer p. module_answer command (IsInForm form common.range) on left m.plain answer from p in
-    subst (IsTaskFor command left) (sym made) answers
+at_same : (origin : Origin) (bytes : List ℕ) (m n : SteenrodModule) → IsModuleAt origin bytes m → IsModuleAt origin bytes n → m ≡ n
+at_same OfSphere bytes m n p q = p ∙ sym q
+at_same (OfSample k) bytes m n p q = p ∙ sym q
+at_same OfFile bytes m n p q =
+    let files = file_unique bytes (Ok p.file) (Ok q.file) p.is_file q.is_file in
+    let file : p.file ≡ q.file = cc in
+    p.is_derived ∙ (ap derived_module file ∙ sym q.is_derived)
 
--- ---- what is to be saved
+pub module_same : (asked : Option Plan) (bytes : List ℕ) (m n : SteenrodModule) → IsModuleFor asked bytes m → IsModuleFor asked bytes n → m ≡ n
+module_same None bytes m n p q = absurd p
+module_same (Some (ToResolve origin form common)) bytes m n p q = at_same origin bytes m n p q
+module_same (Some ToCheck) bytes m n p q = at_same OfFile bytes m n p q
+module_same (Some (ToBuild made)) bytes m n p q = absurd p
+module_same (Some (Multiply numbers)) bytes m n p q = absurd p
 
-pub sphere_saved : (command : Command) (common : Common) (left : Option (List ℕ)) (m : Checked) (task : Task) → command ≡ Sphere common → m.plain ≡ derived_module sphere_file → IsToResolve m common Chart task → IsSavedFor command left task
-sphere_saved command common left m task is sphere made =
-    let here : IsSavedFor (Sphere common) left (Resolution (record { resolved = m; common = common; form = Chart })) = (refl, record { bytes = bytes_of left; all = all_of left; holds = sphere }) in
-    subst (λ (c : Command). IsSavedFor c left task) (sym is) (subst (IsSavedFor (Sphere common) left) (sym made) here)
+-- ---- the answers
 
-pub sample_saved : (n : ℕ) (command : Command) (common : Common) (left : Option (List ℕ)) (m : Checked) (task : Task) → command ≡ Sample n common → m.plain ≡ derived_module (sample_file n) → IsToResolve m common Summary task → IsSavedFor command left task
-sample_saved n command common left m task is sample made =
-    let here : IsSavedFor (Sample n common) left (Resolution (record { resolved = m; common = common; form = Summary })) = (refl, record { bytes = bytes_of left; all = all_of left; holds = sample }) in
-    subst (λ (c : Command). IsSavedFor c left task) (sym is) (subst (IsSavedFor (Sample n common) left) (sym made) here)
+-- what is right for the module of an origin
+module_answer : (P : ModuleAnswers) (bytes : List ℕ) (m : SteenrodModule) (answer : Result (List ℕ) Failure) → IsModuleIn bytes m → P m answer → IsModuleAnswer P bytes answer
+module_answer P bytes m answer is p = record {
+  file = Ok is.file;
+  is_file = is.is_file;
+  is_answer = subst (λ (o : Option CheckFault). MatchOption o (P (derived_module is.file) answer) (λ e. answer ≡ Err (NotModule is.file e))) (sym is.no_refusal) (subst (λ (n : SteenrodModule). P n answer) is.is_derived p);
+}
 
--- the module that the input describes is that of a command with these options
-pub module_in : (left : Option (List ℕ)) (m : Checked) → IsModuleFrom left m.plain → IsOfInput (λ bytes. IsModuleIn bytes m.plain) left
+at_answer : (P : ModuleAnswers) (origin : Origin) (bytes : List ℕ) (m : SteenrodModule) (answer : Result (List ℕ) Failure) → IsModuleAt origin bytes m → P m answer → IsAnswerAt origin P bytes answer
+at_answer P OfSphere bytes m answer is p = subst (λ (n : SteenrodModule). P n answer) is p
+at_answer P (OfSample k) bytes m answer is p = subst (λ (n : SteenrodModule). P n answer) is p
+at_answer P OfFile bytes m answer is p = module_answer P bytes m answer is p
+
+pub task_answers : (asked : Option Plan) (bytes : List ℕ) (task : Task) (answer : Result (List ℕ) Failure) → IsTaskFor asked bytes task → IsDoneBy task answer → IsAskedAnswer asked bytes answer
+task_answers None bytes task answer h is = absurd h
+task_answers (Some (ToResolve origin form common)) bytes (Text made) answer h is = absurd h
+task_answers (Some (ToResolve origin form common)) bytes (Resolution r) answer h is =
+    let told : IsInForm form r.common.range r.resolved.plain answer = subst (λ (f : Form). IsInForm f r.common.range r.resolved.plain answer) h.0 is in
+    let here : IsInForm form common.range r.resolved.plain answer = subst (λ (c : Common). IsInForm form c.range r.resolved.plain answer) h.1 told in
+    at_answer (IsInForm form common.range) origin bytes r.resolved.plain answer h.2 here
+task_answers (Some ToCheck) bytes (Text made) answer h is =
+    let text : IsText IsLineOn h.0 (Ok made.items) = h.2 in
+    module_answer (IsText IsLineOn) bytes h.0 answer h.1 (subst (IsText IsLineOn h.0) (sym is) text)
+task_answers (Some ToCheck) bytes (Resolution r) answer h is = absurd h
+task_answers (Some (ToBuild made)) bytes (Text text) answer h is = subst (IsBuildAnswer made bytes) (sym is) h
+task_answers (Some (ToBuild made)) bytes (Resolution r) answer h is = absurd h
+task_answers (Some (Multiply numbers)) bytes (Text text) answer h is =
+    let made : Result (List ℕ) Failure = Ok text.items in
+    let there : IsOkAnd made (IsProduct numbers) = h in
+    subst (λ (a : Result (List ℕ) Failure). IsOkAnd a (IsProduct numbers)) (sym is) there
+task_answers (Some (Multiply numbers)) bytes (Resolution r) answer h is = absurd h
+
+-- ---- the disk
+
+pub resolution_use : (asked : Option Plan) (bytes : List ℕ) (r : Resolved) → IsTaskFor asked bytes (Resolution r) → use_for asked ≡ use_where r.common.save r.common.range
+resolution_use None bytes r h = absurd h
+resolution_use (Some (ToResolve origin form common)) bytes r h = ap (λ (c : Common). use_where c.save c.range) (sym h.1)
+resolution_use (Some ToCheck) bytes r h = absurd h
+resolution_use (Some (ToBuild made)) bytes r h = absurd h
+resolution_use (Some (Multiply numbers)) bytes r h = absurd h
+
+pub resolution_module : (asked : Option Plan) (bytes : List ℕ) (r : Resolved) → IsTaskFor asked bytes (Resolution r) → IsModuleFor asked bytes r.resolved.plain
+resolution_module None bytes r h = absurd h
+resolution_module (Some (ToResolve origin form common)) bytes r h = h.2
+resolution_module (Some ToCheck) bytes r h = absurd h
+resolution_module (Some (ToBuild made)) bytes r h = absurd h
+resolution_module (Some (Multiply numbers)) bytes r h = absurd h
+
+pub resolution_tells : (asked : Option Plan) (bytes : List ℕ) (r : Resolved) → IsTaskFor asked bytes (Resolution r) → TellsOfClasses r.form → TellsFor asked
+resolution_tells None bytes r h tells = absurd h
+resolution_tells (Some (ToResolve origin form common)) bytes r h tells = subst TellsOfClasses h.0 tells
+resolution_tells (Some ToCheck) bytes r h tells = absurd h
+resolution_tells (Some (ToBuild made)) bytes r h tells = absurd h
+resolution_tells (Some (Multiply numbers)) bytes r h tells = absurd h
+
+-- a text that is made leaves the disk alone
+pub text_use : (asked : Option Plan) (bytes : List ℕ) (made : Vec ℕ Global) → IsTaskFor asked bytes (Text made) → use_for asked ≡ None
+text_use None bytes made h = refl
+text_use (Some (ToResolve origin form common)) bytes made h = absurd h
+text_use (Some ToCheck) bytes made h = refl
+text_use (Some (ToBuild what)) bytes made h = refl
+text_use (Some (Multiply numbers)) bytes made h = refl
+
+-- ---- the input
+
+-- some bytes, and all that is left where that is told
+bytes_of : Option (List ℕ) → List ℕ
+bytes_of None = []
+bytes_of (Some l) = l
+
+all_of : (left : Option (List ℕ)) → IfSome left (λ l. bytes_of left ≡ l)
+unfolding bytes_of
+all_of None = tt
+all_of (Some l) = refl
+
+some_input : (left : Option (List ℕ)) (P : List ℕ → Type 0) → ((bytes : List ℕ) → P bytes) → IsOfInput P left
+some_input left P p = record { bytes = bytes_of left; all = all_of left; holds = p (bytes_of left) }
+
+-- the failure is caused by one input
+pub input_of : (asked : Option Plan) (left : Option (List ℕ)) (failure : Failure) → IsTaskCauseFrom asked left failure → IsOfInput (λ bytes. IsTaskCause asked (λ f. IsAskedAnswer asked bytes (Err f)) failure) left
+input_of asked left Words p = some_input left _ (λ bytes. p)
+input_of asked left (NoModuleFile e) p = p
+input_of asked left (NotModule f e) p = p
+input_of asked left (PastLimit what) p = p
+input_of asked left Reading p = some_input left _ (λ bytes. p)
+input_of asked left Writing p = absurd p
+input_of asked left Saving p = absurd p
+input_of asked left (SaveFile e) p = absurd p
+input_of asked left (Classes e) p = absurd p
+input_of asked left Memory p = some_input left _ (λ bytes. tt)
+
+-- there is no answer where there is no module
+module _ (plan : Plan) (P : ModuleAnswers) (reads : PlanReads plan) (answers : (bytes : List ℕ) (a : Result (List ℕ) Failure) → IsModuleAnswer P bytes a → IsAnswerTo plan bytes a) (left : Option (List ℕ)) where
+  pub file_cause : (failure : Failure) → IsFileCauseFrom left failure → IsTaskCauseFrom (Some plan) left failure
+  file_cause Words p = absurd p
+  file_cause (NoModuleFile e) p = record { bytes = p.bytes; all = p.all; holds = answers p.bytes (Err (NoModuleFile e)) (record { file = Err e; is_file = p.holds; is_answer = refl }) }
+  file_cause (NotModule f e) p =
+      let none : Result (List ℕ) Failure = Err (NotModule f e) in
+      let refused : IsAnswerOfFile P (Ok f) none = subst (λ (o : Option CheckFault). MatchOption o (P (derived_module f) none) (λ d. none ≡ Err (NotModule f d))) (sym p.1) refl in
+      record { bytes = p.0.bytes; all = p.0.all; holds = answers p.0.bytes none (record { file = Ok f; is_file = p.0.holds; is_answer = refused }) }
+  file_cause (PastLimit what) p = absurd p
+  file_cause Reading p = reads
+  file_cause Writing p = absurd p
+  file_cause Saving p = absurd p
+  file_cause (SaveFile e) p = absurd p
+  file_cause (Classes e) p = absurd p
+  file_cause Memory p = tt
+
+pub resolve_cause : (origin : Origin) (form : Form) (common : Common) (left : Option (List ℕ)) (failure : Failure) → IsOriginCauseFrom origin left failure → IsTaskCauseFrom (Some (ToResolve origin form common)) left failure
+resolve_cause origin form common left failure (inl memory) = subst (IsTaskCauseFrom (Some (ToResolve origin form common)) left) (sym memory) tt
+resolve_cause OfSphere form common left failure (inr p) = absurd p.0
+resolve_cause (OfSample n) form common left failure (inr p) = absurd p.0
+resolve_cause OfFile form common left failure (inr p) = file_cause (ToResolve OfFile form common) (IsInForm form common.range) tt (λ bytes a q. q) left failure p.1
+
+pub check_cause : (left : Option (List ℕ)) (failure : Failure) → IsFileCauseFrom left failure → IsTaskCauseFrom (Some ToCheck) left failure
+check_cause = file_cause ToCheck (IsText IsLineOn) tt (λ bytes a q. q)
+
+pub build_cause : (made : Made) (left : Option (List ℕ)) (failure : Failure) → IsBuildCauseFrom made left failure → IsTaskCauseFrom (Some (ToBuild made)) left failure
+build_cause made left Words p = absurd (build_not_words made p.bytes (Err Words) p.holds refl)
+build_cause made left (NoModuleFile e) p = p
+build_cause made left (NotModule f e) p = p
+build_cause made left (PastLimit what) p = p
+build_cause made left Reading p = tt
+build_cause made left Writing p = absurd p
+build_cause made left Saving p = absurd p
+build_cause made left (SaveFile e) p = absurd p
+build_cause made left (Classes e) p = absurd p
+build_cause made left Memory p = tt
+
+-- ---- the words
+
+-- a fault of the words is their refusal, or want of memory
+pub words_cause : (words : List (List ℕ)) (left : Option (List ℕ)) (fault : WordsFault) → (fault ≡ Outside → command_of words ≡ None) → IsTaskCauseFrom (asked_by words) left (words_failure fault)
+words_cause words left Outside e = ap (option_map plan_of) (e refl)
+words_cause words left NoSpace e = tt
+
+-- the words ask for the plan of their command
+pub asked_is : (words : List (List ℕ)) (command : Command) (plan : Plan) → command_of words ≡ Some command → plan ≡ plan_of command → asked_by words ≡ Some plan
+asked_is words command plan is made = ap (option_map plan_of) is ∙ ap (λ (p : Plan). Some p) (sym made)
+
+-- ---- the task of a plan
+
+-- what is read, as an origin
+module_in : (left : Option (List ℕ)) (m : SteenrodModule) → IsModuleFrom left m → IsOfInput (λ bytes. IsModuleIn bytes m) left
 module_in left m from = record { bytes = from.is_file.bytes; all = from.is_file.all; holds = record { file = from.file; is_file = from.is_file.holds; no_refusal = from.no_refusal; is_derived = from.is_derived } }
 
-pub resolve_saved : (command : Command) (common : Common) (left : Option (List ℕ)) (m : Checked) (task : Task) → command ≡ Resolve common → IsModuleFrom left m.plain → IsToResolve m common Chart task → IsSavedFor command left task
-resolve_saved command common left m task is from made =
-    let here : IsSavedFor (Resolve common) left (Resolution (record { resolved = m; common = common; form = Chart })) = (refl, module_in left m from) in
-    subst (λ (c : Command). IsSavedFor c left task) (sym is) (subst (IsSavedFor (Resolve common) left) (sym made) here)
+module _ (origin : Origin) (left : Option (List ℕ)) (m : SteenrodModule) where
+  abbrev IsFrom : Origin → Type 0
+  IsFrom place = IsOfInput (λ bytes. IsModuleAt place bytes m) left
 
-pub dump_saved : (command : Command) (common : Common) (left : Option (List ℕ)) (m : Checked) (task : Task) → command ≡ Dump common → IsModuleFrom left m.plain → IsToResolve m common Differentials task → IsSavedFor command left task
-dump_saved command common left m task is from made =
-    let here : IsSavedFor (Dump common) left (Resolution (record { resolved = m; common = common; form = Differentials })) = (refl, module_in left m from) in
-    subst (λ (c : Command). IsSavedFor c left task) (sym is) (subst (IsSavedFor (Dump common) left) (sym made) here)
+  pub sphere_origin : origin ≡ OfSphere → m ≡ derived_module sphere_file → IsFrom origin
+  sphere_origin is sphere = subst IsFrom (sym is) (some_input left (λ bytes. IsModuleAt OfSphere bytes m) (λ bytes. sphere))
 
-pub products_saved : (command : Command) (common : Common) (by : Class) (left : Option (List ℕ)) (m : Checked) (task : Task) → command ≡ Products common by → IsModuleFrom left m.plain → IsToResolve m common (ProductsOf by) task → IsSavedFor command left task
-products_saved command common by left m task is from made =
-    let here : IsSavedFor (Products common by) left (Resolution (record { resolved = m; common = common; form = ProductsOf by })) = (refl, module_in left m from) in
-    subst (λ (c : Command). IsSavedFor c left task) (sym is) (subst (IsSavedFor (Products common by) left) (sym made) here)
+  pub sample_origin : (n : ℕ) → origin ≡ OfSample n → m ≡ derived_module (sample_file n) → IsFrom origin
+  sample_origin n is sample = subst IsFrom (sym is) (some_input left (λ bytes. IsModuleAt (OfSample n) bytes m) (λ bytes. sample))
 
-pub massey_saved : (command : Command) (common : Common) (a b c : Class) (left : Option (List ℕ)) (m : Checked) (task : Task) → command ≡ Massey common a b c → IsModuleFrom left m.plain → IsToResolve m common (BracketOf a b c) task → IsSavedFor command left task
-massey_saved command common a b c left m task is from made =
-    let here : IsSavedFor (Massey common a b c) left (Resolution (record { resolved = m; common = common; form = BracketOf a b c })) = (refl, module_in left m from) in
-    subst (λ (x : Command). IsSavedFor x left task) (sym is) (subst (IsSavedFor (Massey common a b c) left) (sym made) here)
+  pub file_origin : origin ≡ OfFile → IsModuleFrom left m → IsFrom origin
+  file_origin is from = subst IsFrom (sym is) (module_in left m from)
+
+abbrev IsTaskFrom : Plan → Option (List ℕ) → Task → Type 0
+IsTaskFrom plan left task = IsOfInput (λ bytes. IsTaskOf plan bytes task) left
+
+module _ (plan : Plan) where
+  pub resolve_task : (origin : Origin) (form : Form) (common : Common) (left : Option (List ℕ)) (m : Checked) (task : Task) → plan ≡ ToResolve origin form common → IsOfInput (λ bytes. IsModuleAt origin bytes m.plain) left → task ≡ Resolution (record { resolved = m; common = common; form = form }) → IsTaskFrom plan left task
+  resolve_task origin form common left m task is from made =
+      let here : IsTaskFrom (ToResolve origin form common) left (Resolution (record { resolved = m; common = common; form = form })) = record { bytes = from.bytes; all = from.all; holds = (refl, refl, from.holds) } in
+      subst (λ (p : Plan). IsTaskFrom p left task) (sym is) (subst (IsTaskFrom (ToResolve origin form common) left) (sym made) here)
+
+  pub check_task : (left : Option (List ℕ)) (m : SteenrodModule) (made : Vec ℕ Global) → plan ≡ ToCheck → IsModuleFrom left m → IsLineOn m made.items → IsTaskFrom plan left (Text made)
+  check_task left m made is from line =
+      let there = module_in left m from in
+      let here : IsTaskFrom ToCheck left (Text made) = record { bytes = there.bytes; all = there.all; holds = (m, there.holds, line) } in
+      subst (λ (p : Plan). IsTaskFrom p left (Text made)) (sym is) here
+
+  pub build_task : (what : Made) (left : Option (List ℕ)) (made : Vec ℕ Global) → plan ≡ ToBuild what → IsBuildAnswerFrom what left (Ok made.items) → IsTaskFrom plan left (Text made)
+  build_task what left made is answer =
+      let here : IsTaskFrom (ToBuild what) left (Text made) = answer in
+      subst (λ (p : Plan). IsTaskFrom p left (Text made)) (sym is) here
+
+  pub multiply_task : (numbers : List ℕ) (left : Option (List ℕ)) (made : Vec ℕ Global) → plan ≡ Multiply numbers → IsProduct numbers made.items → IsTaskFrom plan left (Text made)
+  multiply_task numbers left made is product =
+      let here : IsTaskFrom (Multiply numbers) left (Text made) = some_input left _ (λ bytes. product) in
+      subst (λ (p : Plan). IsTaskFrom p left (Text made)) (sym is) here

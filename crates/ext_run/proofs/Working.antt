@@ -10,12 +10,12 @@ use Rattle.square.specs.Squares.{Placed, over}
 use Rattle.square.specs.Tables.{Staircase}
 use Rattle.square.specs.Keeping.{Keeper}
 use Rattle.ext_report.specs.declared.failure.Failure.TheVariants.{Memory}
-use Rattle.ext_run.specs.declared.task.Form.{Form}
+use Rattle.ext_run.specs.declared.plan.Form.{Form}
 use Rattle.ext_run.specs.declared.task.Task.{Task}
 use Rattle.ext_run.specs.declared.task.Task.TheVariants.{Text, Resolution}
 use Rattle.ext_run.specs.declared.task.Resolution.{Resolution as ToResolve}
-use Rattle.ext_run.specs.Task.{IsInForm}
-use Rattle.ext_run.specs.Work.{Told, HasAnswer, answer_of, HasContinued, HasKeptOn, HasWorked}
+use Rattle.ext_run.specs.Forms.{IsInForm}
+use Rattle.ext_run.specs.Work.{Told, HasAnswer, answer_of, IsRefusalIn, HasContinued, HasKeptOn, HasWorked}
 use Rattle.ext_report.specs.Failure.{IsOfClasses}
 
 -- ---- without a save file
@@ -30,7 +30,7 @@ told_unsaved range form m rows spare table text old new is h has =
     subst P is (h.told has) (none_read m)
 
 -- what keeps nothing does not fail
-pub why_unsaved : (range : Range) (form : Form) (table : Staircase) (text : Told) (old new : Keeper) → (HasRisen old.faults new.faults → ⊥) → HasContinued range form table text old new → IfErr text (λ e. (e ≡ Memory) ⊎ IsOfClasses e)
+pub why_unsaved : (range : Range) (form : Form) (table : Staircase) (text : Told) (old new : Keeper) → (HasRisen old.faults new.faults → ⊥) → HasContinued range form table text old new → IfErr text (λ e. (e ≡ Memory) ⊎ IsRefusalIn form e)
 why_unsaved range form table (Ok t) old new never h = tt
 why_unsaved range form table (Err e) old new never h = elim h.why [
   | inl failed ↦ absurd (never (h.failed (cc)))
@@ -46,5 +46,5 @@ module _ {D : Type 0} (now : D → Option (List ℕ)) (moment : D → ℕ) (imag
   pub worked_saved : (r : ToResolve) (text : Told) (d g : D) → task ≡ Resolution r → r.common.save ≡ true → HasKeptOn now moment images since faults r text d g → HasWorked now moment images since faults task text d g
   worked_saved r text d g is saves on = subst (λ (t : Task). HasWorked now moment images since faults t text d g) (sym is) (λ h. absurd (cc), λ h. on)
 
-  pub worked_unsaved : (r : ToResolve) (text : Told) (d : D) → task ≡ Resolution r → r.common.save ≡ false → (HasAnswer text → IsInForm r.form r.common.range r.resolved.plain (answer_of text)) → IfErr text (λ e. (e ≡ Memory) ⊎ IsOfClasses e) → HasWorked now moment images since faults task text d d
+  pub worked_unsaved : (r : ToResolve) (text : Told) (d : D) → task ≡ Resolution r → r.common.save ≡ false → (HasAnswer text → IsInForm r.form r.common.range r.resolved.plain (answer_of text)) → IfErr text (λ e. (e ≡ Memory) ⊎ IsRefusalIn r.form e) → HasWorked now moment images since faults task text d d
   worked_unsaved r text d is saves told why = subst (λ (t : Task). HasWorked now moment images since faults t text d d) (sym is) (λ h. record { told = told; why = why; same = refl }, λ h. absurd (cc))

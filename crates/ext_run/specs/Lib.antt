@@ -1,3 +1,6 @@
+pub mod Devices
+pub mod Plan
+pub mod Forms
 pub mod Answer
 pub mod Task
 pub mod Saving

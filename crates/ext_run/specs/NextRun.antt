@@ -1,18 +1,13 @@
 -- What a run leaves to the next one that resolves the same module over the same disk.
-use Rattle.std.specs.Prelude.{◌≡◌, ℕ, List, Option, Some, IsSome}
+use Rattle.std.specs.Prelude.{◌≡◌, ℕ, ◌≤◌, List, [], length, Option, Some, IsSome}
 use Rattle.finite_module.specs.Module.{Module as SteenrodModule}
 use Rattle.edge.specs.Disk.{Only}
 use Rattle.resolution_laws.specs.Start.{Entry}
 use Rattle.square.specs.declared.range.Range.{Range}
-use Rattle.ext_run.specs.Answer.{WordsRead}
-use Rattle.ext_run.specs.Saving.{IsSavedBy, IsOurs, MayBeLeft, IsUsable, HasSaved}
-
--- The words ask for a save file of the module, which they name themselves or the input describes.
-pub record AsksFor (words : List (List ℕ)) (left : Option (List ℕ)) (m : SteenrodModule) : Type 0 where
-  pub bytes : List ℕ
-  pub range : Range
-  pub reads : WordsRead words → left ≡ Some bytes
-  pub saved : IsSavedBy words bytes m range
+use Rattle.ext_run.specs.declared.plan.Plan.{Plan}
+use Rattle.ext_run.specs.Devices.{store_of}
+use Rattle.ext_run.specs.Plan.{IsModuleFor, keeping, use_for}
+use Rattle.ext_run.specs.Saving.{Outcome, IsOnDisk, IsOurs, MayBeLeft, IsUsable, HasSaved}
 
 -- the disk has these bytes, and a crash leaves just them
 pub record IsFoundWith {D : Type 0} (now : D → Option (List ℕ)) (images : D → List ℕ → Type 0) (c : List ℕ) (disk : D)
@@ -25,9 +20,15 @@ pub record IsFoundWith {D : Type 0} (now : D → Option (List ℕ)) (images : D 
 abbrev pub NextRunMayUse : {D : Type 0} → (D → Option (List ℕ)) → (D → ℕ) → (D → List ℕ → Type 0) →
     (D → ℕ → List ℕ → Type 0) → (D → ℕ) → Type 0
 NextRunMayUse {D} now moment images since faults =
-    (m : SteenrodModule) (words : List (List ℕ)) (left : Option (List ℕ)) → AsksFor words left m →
-    (list : List Entry) (status : ℕ) (old new : D) → IsSome (now old) → IsOurs m list (images old) →
-    HasSaved now moment images since faults words left status old new →
+    (m : SteenrodModule) (asked : Option Plan) (input : List ℕ) (range : Range) →
+    use_for asked ≡ Some (keeping range) → IsModuleFor asked input m →
+    (list : List Entry) (outcome : Outcome) (old new : D) → IsSome (now old) → IsOurs m list (images old) →
+    HasSaved (store_of now moment images since faults) asked input outcome old new →
     (c : List ℕ) → MayBeLeft moment images since old new c →
-    (next_words : List (List ℕ)) (next_left : Option (List ℕ)) → AsksFor next_words next_left m → (next : D) →
-    IsFoundWith now images c next → IsUsable next_words next_left (now next) (images next)
+    (next_asked : Option Plan) (next_input : List ℕ) → IsOnDisk next_asked next_input m → (next : D) →
+    IsFoundWith now images c next → IsUsable (store_of now moment images since faults) next_asked next_input next
+
+-- A disk of which a crash leaves at most 41 bytes, as an empty one, is every module's, with no squares.
+abbrev pub ShortDiskIsOurs : {D : Type 0} → (D → List ℕ → Type 0) → Type 0
+ShortDiskIsOurs {D} images = (m : SteenrodModule) (d : D) → ((c : List ℕ) → images d c → length c ≤ 41) →
+    IsOurs m [] (images d)

@@ -1,99 +1,95 @@
--- What a run promises: its status, and what it did with its source, its sink and standard error. What it did with its disk is in
--- Saving. The words are those after
--- the program's name, and left is what the source had left, where it tells.
-use Rattle.std.specs.Prelude.{◌≡◌, ◌≢◌, ℕ, ◌≤◌, ◌⊎◌, List, [], Option, Some, None, IfSome, Ok, Err}
+-- What a run promises: how it ended, and what it did with its source, its sink, standard error and its disk.
+use Rattle.std.specs.Prelude.{◌≡◌, ◌≢◌, ℕ, ◌≤◌, ◌⊎◌, List, [], Option, None, IsSome, IfSome, Ok, Err, ⊤}
 use Rattle.edge.specs.Faults.{HasRisen}
 use Rattle.edge.specs.Source.{without_first, HasGivenUpTo}
-use Rattle.edge.specs.Sink.{with_more, HasPrefixMore}
 use Rattle.module_json.specs.ModuleFile.{File}
-use Rattle.module_json.specs.declared.malformed.Malformed.{Malformed}
-use Rattle.module_json.specs.declared.malformed.What.{What}
 use Rattle.module_check.specs.declared.fault.CheckFault.{CheckFault}
 use Rattle.space_laws.specs.Spaces.{IsSpaceFile}
-use Rattle.ext_products.specs.declared.refusal.Refusal.{Refusal}
-use Rattle.ext_report.specs.Failure.{class_status}
-use Rattle.ext_report.specs.declared.failure.Failure.TheVariants.{Malformed as NoModuleFile, NotModule, PastLimit, Classes}
-use Rattle.ext_words.specs.Words.{command_of}
+use Rattle.ext_report.specs.declared.status.TheConstants.{WRITTEN}
+use Rattle.ext_report.specs.declared.failure.Failure.TheVariants.{Words, NotModule, Reading, Writing, Saving, SaveFile, Classes, Memory}
+use Rattle.ext_report.specs.Failure.{IsTold, status_of}
 use Rattle.ext_build.specs.Input.{most_read}
-use Rattle.ext_run.specs.Answer.{IsAnswer, IsAnswerFrom, IsAnswerable, WordsRead}
-use Rattle.ext_run.specs.Saving.{IsLineFrom}
+use Rattle.ext_run.specs.declared.plan.Plan.{Plan}
+use Rattle.ext_run.specs.Devices.{Device, Store}
+use Rattle.ext_run.specs.Plan.{Reads, TellsFor, use_for}
+use Rattle.ext_run.specs.Answer.{IsAskedAnswer}
+use Rattle.ext_run.specs.Saving.{Outcome, IsRefused, IsUsable, HasSaved}
+use Rattle.ext_run.specs.Ending.{HasTold, HasGotWhole, HasGotPart}
 
--- The status says what the words and the input are. Failed reads and want of memory may come before a refusal of the input, and a failed
--- disk before one of the classes, which is told if what the save file has may be used.
-pub record IsStatusOf (words : List (List ℕ)) (left : Option (List ℕ)) (usable : Type 0) (status : ℕ) : Type 0 where
-  -- the statuses that there are
-  pub known : (status ≡ 0) ⊎ (status ≡ 2) ⊎ (status ≡ 3) ⊎ (status ≡ 4) ⊎ (status ≡ 6) ⊎ (status ≡ 7) ⊎ (status ≡ 8)
-      ⊎ (status ≡ 9) ⊎ (status ≡ 10) ⊎ (status ≡ 11) ⊎ (status ≡ 12) ⊎ (status ≡ 14)
-  -- 2: the words are outside the grammar
-  pub refused : status ≡ 2 → command_of words ≡ None
-  pub refuses : command_of words ≡ None → (status ≡ 2) ⊎ (status ≡ 12)
-  -- 3: what was read is no module file
-  pub malformed : status ≡ 3 → (e : Malformed) × IsAnswerFrom words left (Err (NoModuleFile e))
-  pub malformed_comes : (l : List ℕ) (e : Malformed) → left ≡ Some l → IsAnswer words l (Err (NoModuleFile e)) →
-      (status ≡ 3) ⊎ (status ≡ 6) ⊎ (status ≡ 12)
-  -- 4: it is one, and describes no module
-  pub no_module : status ≡ 4 → (f : File) × (e : CheckFault) × IsAnswerFrom words left (Err (NotModule f e))
-  pub no_module_comes : (l : List ℕ) (f : File) (e : CheckFault) → left ≡ Some l →
-      IsAnswer words l (Err (NotModule f e)) → (status ≡ 4) ⊎ (status ≡ 6) ⊎ (status ≡ 12)
-  -- and not of the file of a real projective space
-  pub no_space_refused : (l : List ℕ) → left ≡ Some l → IsSpaceFile l → status ≢ 4
-  -- 14: what was to be built passes a limit
-  pub past_limit : status ≡ 14 → (what : What) × IsAnswerFrom words left (Err (PastLimit what))
-  pub past_limit_comes : (l : List ℕ) (what : What) → left ≡ Some l → IsAnswer words l (Err (PastLimit what)) →
-      (status ≡ 14) ⊎ (status ≡ 6) ⊎ (status ≡ 12)
-  -- 10 and 11: a product of the classes has to be zero and is not; a class is not there, or what is asked for is out of the range
-  pub no_value : (status ≡ 10) ⊎ (status ≡ 11) → usable →
-      (refusal : Refusal) × (status ≡ class_status refusal) × IsAnswerFrom words left (Err (Classes refusal))
-  pub no_value_comes : (l : List ℕ) (refusal : Refusal) → left ≡ Some l → usable →
-      IsAnswer words l (Err (Classes refusal)) →
-      (status ≡ class_status refusal) ⊎ (status ≡ 6) ⊎ (status ≡ 8) ⊎ (status ≡ 12)
+abbrev pub status_after : Outcome → ℕ
+status_after (Ok text) = WRITTEN
+status_after (Err failure) = status_of failure
 
--- What becomes of a source, by its trait's left and faults.
-pub record HasRead {S : Type 0} (left : S → Option (List ℕ)) (faults : S → ℕ) (words : List (List ℕ)) (status : ℕ)
-    (old new : S) : Type 0 where
-  -- no call is made where the words read nothing
-  pub unread : (WordsRead words → ⊥) → new ≡ old
+-- Why a run ended as it did, where the disk held this: its text is the answer, or the failure's cause stands in the words,
+-- in the input, or in the save file. What is resolved is asked for if the save file may be used.
+abbrev pub IsCause : Option Plan → List ℕ → Option (List ℕ) → Type 0 → Outcome → Type 0
+IsCause asked input now usable (Ok text) = usable → IsAskedAnswer asked input (Ok text)
+IsCause asked input now usable (Err Words) = asked ≡ None
+IsCause asked input now usable (Err Reading) = Reads asked
+IsCause asked input now usable (Err Writing) = ⊤
+IsCause asked input now usable (Err Saving) = IsSome (use_for asked)
+IsCause asked input now usable (Err (SaveFile e)) =
+    IsSome (use_for asked) × IfSome now (λ file. IsRefused asked input file e)
+IsCause asked input now usable (Err (Classes refusal)) =
+    TellsFor asked × (usable → IsAskedAnswer asked input (Err (Classes refusal)))
+IsCause asked input now usable (Err Memory) = ⊤
+IsCause asked input now usable (Err failure) = IsAskedAnswer asked input (Err failure)
+
+-- What may come in place of this answer: want of memory, a failed read; a failed disk, unless the answer is a refusal of
+-- the words or of the input; and a failed write, where it is a text.
+abbrev pub IsPrevented : Outcome → Outcome → Type 0
+IsPrevented answer (Err Memory) = ⊤
+IsPrevented answer (Err Reading) = ⊤
+IsPrevented answer (Err Saving) = IsTold answer
+IsPrevented answer (Err Writing) = (text : List ℕ) × (answer ≡ Ok text)
+IsPrevented answer outcome = ⊥
+
+-- What becomes of a source, where it is read if something is asked for that reads.
+pub record HasRead {S : Type 0} (source : Device S) (reads : Type 0) (outcome : Outcome) (old new : S) : Type 0 where
+  -- no call is made where nothing is read
+  pub unread : (reads → ⊥) → new ≡ old
   -- some first bytes are gone, no more than the most that is read
-  pub given : HasGivenUpTo most_read (left old) (left new)
+  pub given : HasGivenUpTo most_read (source.shows old) (source.shows new)
   -- just as many as are read, unless reading failed or memory ended before
-  pub read : WordsRead words → status ≢ 6 → status ≢ 12 → left new ≡ without_first (left old) most_read
+  pub read : reads → outcome ≢ Err Reading → outcome ≢ Err Memory →
+      source.shows new ≡ without_first (source.shows old) most_read
   -- an answer is to all of the input
-  pub read_through : WordsRead words → status ≡ 0 → IfSome (left new) (λ l. l ≡ [])
-  pub never_falls : faults old ≤ faults new
-  -- 6 comes just where a read failed
-  pub no_fault : status ≢ 6 → faults new ≡ faults old
-  pub failed : status ≡ 6 → HasRisen (faults old) (faults new)
+  pub read_through : reads → (text : List ℕ) → outcome ≡ Ok text → IfSome (source.shows new) (λ l. l ≡ [])
+  pub never_falls : source.faults old ≤ source.faults new
+  -- a failed read is told, and no other failure comes of one
+  pub no_fault : outcome ≢ Err Reading → source.faults new ≡ source.faults old
+  pub failed : outcome ≡ Err Reading → HasRisen (source.faults old) (source.faults new)
 
--- What becomes of the sink of the answer, by its trait's written and faults, if what the save file has may be used.
-pub record HasAnswered {O : Type 0} (written : O → Option (List ℕ)) (faults : O → ℕ) (words : List (List ℕ))
-    (left : Option (List ℕ)) (usable : Type 0) (status : ℕ) (old new : O) : Type 0 where
-  -- on 0 it got exactly one text more, the answer
-  pub answered : status ≡ 0 →
-      (text : List ℕ) × (usable → IsAnswerFrom words left (Ok text)) × (written new ≡ with_more (written old) text)
-  -- where writing failed, a first part of it
-  pub prefix : status ≡ 7 →
-      (text : List ℕ) × (usable → IsAnswerFrom words left (Ok text)) × HasPrefixMore text (written old) (written new)
-  -- and else it got no call
-  pub untouched : status ≢ 0 → status ≢ 7 → new ≡ old
-  pub never_falls : faults old ≤ faults new
-  pub no_fault : status ≡ 0 → faults new ≡ faults old
-  pub failed : status ≡ 7 → HasRisen (faults old) (faults new)
+-- What becomes of the sink of the answer: it got exactly one text more; or where writing failed, a first part of the
+-- answer; and else no call.
+abbrev pub HasPrinted : {O : Type 0} → Device O → (List ℕ → Type 0) → Outcome → O → O → Type 0
+HasPrinted out IsTheAnswer (Ok text) old new = HasGotWhole out.shows out.faults text old new
+HasPrinted out IsTheAnswer (Err Writing) old new =
+    (text : List ℕ) × IsTheAnswer text × HasGotPart out.shows out.faults text old new
+HasPrinted out IsTheAnswer (Err failure) old new = new ≡ old
 
--- What becomes of standard error, by its trait's written and faults. now is what the disk held, where it tells, and usable that what
--- the save file has may be used.
-pub record HasReported {E : Type 0} (written : E → Option (List ℕ)) (faults : E → ℕ) (words : List (List ℕ))
-    (left now : Option (List ℕ)) (usable : Type 0) (status : ℕ) (old new : E) : Type 0 where
-  -- an answer is silent: no call is made
-  pub silent : status ≡ 0 → new ≡ old
-  -- else it got the line of the failure, or a first part of that
-  pub line : status ≢ 0 →
-      (line : List ℕ) × IsLineFrom words left now usable status line × HasPrefixMore line (written old) (written new)
-  -- all of it where no write failed
-  pub whole_line : status ≢ 0 → (HasRisen (faults old) (faults new) → ⊥) →
-      (line : List ℕ) × IsLineFrom words left now usable status line × (written new ≡ with_more (written old) line)
-  pub never_falls : faults old ≤ faults new
+-- What becomes of standard error: an answer is silent, and else it got the line of the failure.
+abbrev pub HasReported : {E : Type 0} → Device E → Outcome → E → E → Type 0
+HasReported err (Ok text) old new = new ≡ old
+HasReported err (Err failure) old new = HasTold err.shows err.faults failure (status_of failure) old new
 
--- Words in the grammar, with a file that describes what they need where one is read, and with classes of which there is a text to tell,
--- have that text, unless memory ends.
-abbrev pub IsComplete : List (List ℕ) → Option (List ℕ) → ℕ → Type 0
-IsComplete words left status = IsAnswerable words left → (status ≡ 0) ⊎ (status ≡ 12)
+-- The promise of a run, of which something is asked by its words. The devices are seen before and after it.
+pub record IsRun {S O E D : Type 0} (source : Device S) (out : Device O) (err : Device E) (disk : Store D)
+    (asked : Option Plan) (status : ℕ) (s t : S) (o p : O) (e f : E) (d g : D) : Type 0 where
+  -- the input is what the source has left, where that is told
+  pub input : List ℕ
+  pub told : IfSome (source.shows s) (λ l. input ≡ l)
+  -- it ended so, and for a cause
+  pub outcome : Outcome
+  pub status_is : status ≡ status_after outcome
+  pub cause : IsCause asked input (disk.now d) (IsUsable disk asked input d) outcome
+  -- the answer comes, if a device or memory does not prevent it
+  pub comes : (answer : Outcome) → IsAskedAnswer asked input answer →
+      (IsTold answer → IsUsable disk asked input d) → (outcome ≡ answer) ⊎ IsPrevented answer outcome
+  -- the file of a real projective space is a module
+  pub no_space_refused : IsSpaceFile input → (file : File) (e : CheckFault) → outcome ≢ Err (NotModule file e)
+  -- and this became of the devices
+  pub read : HasRead source (Reads asked) outcome s t
+  pub printed : HasPrinted out (λ text. IsUsable disk asked input d → IsAskedAnswer asked input (Ok text)) outcome o p
+  pub reported : HasReported err outcome e f
+  pub saved : HasSaved disk asked input outcome d g

@@ -1,11 +1,6 @@
 -- What a run does with its save file.
-use Rattle.std.specs.Prelude.{◌≡◌, ◌≢◌, ℕ, ◌≤◌, ◌⊎◌, true, List, [], ◌++◌, length, Option, Some, None, IsSome, IfSome, MatchOption, Ok, Err}
-use Rattle.module_json.specs.ModuleFile.{File, IsFileOf}
+use Rattle.std.specs.Prelude.{◌≡◌, ◌≢◌, ℕ, ◌≤◌, ◌⊎◌, List, [], ◌++◌, length, Option, Some, None, IsSome, IfSome, Result, Ok, Err, ⊤}
 use Rattle.finite_module.specs.Module.{Module as SteenrodModule}
-use Rattle.finite_module.specs.DerivedAction.{derived_module}
-use Rattle.finite_module.specs.Checked.{sphere_file}
-use Rattle.finite_module.specs.Sample.{sample_file}
-use Rattle.module_check.specs.Acceptance.{refusal_of}
 use Rattle.std.specs.List.{All}
 use Rattle.resolution_step.specs.Alone.{IsInRange}
 use Rattle.edge.specs.Faults.{HasRisen}
@@ -14,65 +9,11 @@ use Rattle.square.specs.Squares.{module_over}
 use Rattle.square.specs.declared.range.Range.{Range}
 use Rattle.save_file.specs.Files.{standing_of}
 use Rattle.save_file.specs.declared.fault.ResumeFault.{ResumeFault}
-use Rattle.ext_words.specs.declared.command.Common.{Common}
-use Rattle.ext_words.specs.declared.command.Command.{Command}
-use Rattle.ext_words.specs.declared.command.Command.TheVariants.{Sphere, Resolve, Dump, Products, Massey, Check, Build, Sample, Sq}
-use Rattle.ext_words.specs.Words.{command_of}
-use Rattle.ext_build.specs.Input.{IsOfInput}
-use Rattle.ext_run.specs.Answer.{WordsRead, IsAnswerFrom, IsCauseFrom}
-use Rattle.ext_report.specs.Failure.{status_of}
 use Rattle.ext_report.specs.declared.failure.Failure.{Failure}
-use Rattle.ext_report.specs.declared.failure.Failure.TheVariants.{Saving, SaveFile, Classes}
-use Rattle.ext_report.specs.Lines.{line_of}
-
--- ---- words that ask for a save file
-
--- the options of a command, none where it has none
-abbrev pub options_of : Command → Option Common
-options_of (Sphere common) = Some common
-options_of (Resolve common) = Some common
-options_of (Dump common) = Some common
-options_of (Products common by) = Some common
-options_of (Massey common a b c) = Some common
-options_of Check = None
-options_of (Build made) = None
-options_of (Sample n common) = Some common
-options_of (Sq numbers) = None
-
-abbrev pub Saves : Command → Type 0
-Saves command = MatchOption (options_of command) ⊥ (λ common. common.save ≡ true)
-
-abbrev pub WordsSave : List (List ℕ) → Type 0
-WordsSave words = MatchOption (command_of words) ⊥ Saves
-
--- the bytes are a file that describes the module
-pub record IsModuleIn (bytes : List ℕ) (m : SteenrodModule) : Type 0 where
-  pub file : File
-  pub is_file : IsFileOf bytes (Ok file)
-  pub no_refusal : refusal_of file ≡ None
-  pub is_derived : m ≡ derived_module file
-
--- the module that a command resolves or tells of, where its input is these bytes; none where it needs none
-abbrev pub IsModuleOf : Command → List ℕ → SteenrodModule → Type 0
-IsModuleOf (Sphere common) bytes m = m ≡ derived_module sphere_file
-IsModuleOf (Resolve common) bytes m = IsModuleIn bytes m
-IsModuleOf (Dump common) bytes m = IsModuleIn bytes m
-IsModuleOf (Products common by) bytes m = IsModuleIn bytes m
-IsModuleOf (Massey common a b c) bytes m = IsModuleIn bytes m
-IsModuleOf Check bytes m = IsModuleIn bytes m
-IsModuleOf (Build made) bytes m = ⊥
-IsModuleOf (Sample n common) bytes m = m ≡ derived_module (sample_file n)
-IsModuleOf (Sq numbers) bytes m = ⊥
-
--- the words ask for a save file, to resolve this module through this range, where the input is these bytes
-pub record IsSavedBy (words : List (List ℕ)) (bytes : List ℕ) (m : SteenrodModule) (range : Range) : Type 0 where
-  pub command : Command
-  pub common : Common
-  pub is : command_of words ≡ Some command
-  pub options : options_of command ≡ Some common
-  pub saves : common.save ≡ true
-  pub range_is : range ≡ common.range
-  pub resolves : IsModuleOf command bytes m
+use Rattle.ext_report.specs.declared.failure.Failure.TheVariants.{Words, Malformed as NoModuleFile, NotModule, PastLimit, Reading, Writing, Saving, SaveFile, Classes, Memory}
+use Rattle.ext_run.specs.declared.plan.Plan.{Plan}
+use Rattle.ext_run.specs.Devices.{Store}
+use Rattle.ext_run.specs.Plan.{IsModuleFor, keeping, use_for}
 
 -- ---- the file
 
@@ -151,66 +92,73 @@ pub record HasLasted {D : Type 0} (now : D → Option (List ℕ)) (moment : D �
   pub exact : had_answer → (c : List ℕ) → images new c → standing_of m c ≡ Ok ((list ++ more) ++ given)
   pub whole : had_answer → HasRange range ((list ++ more) ++ given)
 
--- the file is refused, for the module of these words and this input
-abbrev pub IsRefusedFrom : List (List ℕ) → Option (List ℕ) → List ℕ → ResumeFault → Type 0
-IsRefusedFrom words left file e = IsOfInput
-    (λ bytes. (m : SteenrodModule) × (range : Range) × IsSavedBy words bytes m range × (standing_of m file ≡ Err e))
-    left
+-- ---- the disk of a run
 
--- Why a run has no text, where the disk held this: what the words and the input have, a failed disk, a refused file, or what the classes
--- have that are asked for, if what the save file has may be used.
-abbrev pub IsRunCauseFrom : List (List ℕ) → Option (List ℕ) → Option (List ℕ) → Type 0 → Failure → Type 0
-IsRunCauseFrom words left now usable Saving = WordsSave words
-IsRunCauseFrom words left now usable (SaveFile e) = IfSome now (λ file. IsRefusedFrom words left file e)
-IsRunCauseFrom words left now usable (Classes refusal) = usable → IsAnswerFrom words left (Err (Classes refusal))
-IsRunCauseFrom words left now usable failure = IsCauseFrom words left failure
+-- how a run ended: with the text that was written, or with the failure that came in its place
+abbrev pub Outcome : Type 0
+Outcome = Result (List ℕ) Failure
 
--- the line on standard error for a status other than 0
-pub record IsLineFrom (words : List (List ℕ)) (left now : Option (List ℕ)) (usable : Type 0) (status : ℕ)
-    (line : List ℕ) : Type 0 where
-  pub failure : Failure
-  pub cause : IsRunCauseFrom words left now usable failure
-  pub status_is : status ≡ status_of failure
-  pub line_is : line ≡ line_of failure
+-- The disk is used, and the file on it is to be one of this module, where the input is these bytes.
+abbrev pub IsOnDisk : Option Plan → List ℕ → SteenrodModule → Type 0
+IsOnDisk asked input m = IsSome (use_for asked) × IsModuleFor asked input m
 
--- If the words ask for a save file, the disk tells what it holds, and is ours for some squares of the module, whatever the input is as
--- far as it is told.
-abbrev pub IsUsable : List (List ℕ) → Option (List ℕ) → Option (List ℕ) → (List ℕ → Type 0) → Type 0
-IsUsable words left now images =
-    (bytes : List ℕ) (m : SteenrodModule) (range : Range) → IfSome left (λ l. bytes ≡ l) →
-    IsSavedBy words bytes m range → IsSome now × ((list : List Entry) × IsOurs m list images)
+-- the file is refused
+abbrev pub IsRefused : Option Plan → List ℕ → List ℕ → ResumeFault → Type 0
+IsRefused asked input file e = (m : SteenrodModule) × IsOnDisk asked input m × (standing_of m file ≡ Err e)
 
--- the statuses before the save file's turn
-abbrev pub IsEarly : ℕ → Type 0
-IsEarly status = (status ≡ 2) ⊎ (status ≡ 3) ⊎ (status ≡ 4) ⊎ (status ≡ 6) ⊎ (status ≡ 14)
+-- If the disk is used, it tells what it holds, and is ours for some squares of the module.
+abbrev pub IsUsable : {D : Type 0} → Store D → Option Plan → List ℕ → D → Type 0
+IsUsable disk asked input d = (m : SteenrodModule) → IsOnDisk asked input m →
+    IsSome (disk.now d) × ((list : List Entry) × IsOurs m list (disk.images d))
 
--- the statuses behind it: the range is resolved, and there is an answer
-abbrev pub IsAnswered : ℕ → Type 0
-IsAnswered status = (status ≡ 0) ⊎ (status ≡ 7) ⊎ (status ≡ 10) ⊎ (status ≡ 11)
+-- it ended before the disk's turn
+abbrev pub IsEarly : Outcome → Type 0
+IsEarly (Err Words) = ⊤
+IsEarly (Err (NoModuleFile e)) = ⊤
+IsEarly (Err (NotModule f e)) = ⊤
+IsEarly (Err (PastLimit what)) = ⊤
+IsEarly (Err Reading) = ⊤
+IsEarly outcome = ⊥
 
--- What becomes of the disk of a run, by its trait's now, moment, images, since and faults.
-pub record HasSaved {D : Type 0} (now : D → Option (List ℕ)) (moment : D → ℕ) (images : D → List ℕ → Type 0)
-    (since : D → ℕ → List ℕ → Type 0) (faults : D → ℕ) (words : List (List ℕ)) (left : Option (List ℕ)) (status : ℕ)
+-- it ended behind the disk's turn: the range is resolved, and there is an answer
+abbrev pub IsAnswered : Outcome → Type 0
+IsAnswered (Ok text) = ⊤
+IsAnswered (Err Writing) = ⊤
+IsAnswered (Err (Classes refusal)) = ⊤
+IsAnswered outcome = ⊥
+
+-- a device failed, or memory ended, before the save file was looked at
+abbrev pub IsCutOff : Outcome → Type 0
+IsCutOff (Err Reading) = ⊤
+IsCutOff (Err Saving) = ⊤
+IsCutOff (Err Memory) = ⊤
+IsCutOff outcome = ⊥
+
+-- What becomes of a file that is refused for this reason: that is told, and nothing is written. Whether the disk fails or
+-- not, a crash leaves what is refused alike.
+pub record HasSpared {D : Type 0} (disk : Store D) (m : SteenrodModule) (e : ResumeFault) (outcome : Outcome)
     (old new : D) : Type 0 where
-  -- no call is made unless the words ask for a save file, nor where there is no module
-  pub unsaved : (WordsSave words → ⊥) → new ≡ old
-  pub early : IsEarly status → new ≡ old
-  -- 8: a call failed; an answer comes only if none did
-  pub failed : status ≡ 8 → HasRisen (faults old) (faults new)
-  pub no_fault : status ≢ 8 → faults new ≡ faults old
-  pub never_falls : faults old ≤ faults new
-  -- 9: the file is refused; nothing is written then
-  pub refused : status ≡ 9 → IfSome (now old) (λ file. (e : ResumeFault) × IsRefusedFrom words left file e)
-  pub refuses : (bytes file : List ℕ) (m : SteenrodModule) (range : Range) (e : ResumeFault) →
-      (WordsRead words → left ≡ Some bytes) → now old ≡ Some file → IsSavedBy words bytes m range →
-      standing_of m file ≡ Err e →
-      (status ≡ 9) ⊎ (status ≡ 6) ⊎ (status ≡ 8) ⊎ (status ≡ 12)
-  pub unwritten : status ≡ 9 → IsUnwritten now moment images since old new
-  pub spared : (bytes file : List ℕ) (m : SteenrodModule) (range : Range) (e : ResumeFault) →
-      (WordsRead words → left ≡ Some bytes) → now old ≡ Some file → IsSavedBy words bytes m range →
-      standing_of m file ≡ Err e → status ≢ 8 → IsUnwritten now moment images since old new
+  pub comes : (outcome ≡ Err (SaveFile e)) ⊎ IsCutOff outcome
+  pub unwritten : outcome ≢ Err Saving → IsUnwritten disk.now disk.moment disk.images disk.since old new
+  pub stands : (c : List ℕ) → disk.since new (disk.moment old) c → StandsAsOneOf m (disk.images old) c
+
+-- What becomes of the disk of a run, by how the run ended.
+pub record HasSaved {D : Type 0} (disk : Store D) (asked : Option Plan) (input : List ℕ) (outcome : Outcome)
+    (old new : D) : Type 0 where
+  -- no call is made unless the disk is used, nor before its turn
+  pub unused : use_for asked ≡ None → new ≡ old
+  pub early : IsEarly outcome → new ≡ old
+  -- a failed call is told, and an answer comes only if none failed
+  pub failed : outcome ≡ Err Saving → HasRisen (disk.faults old) (disk.faults new)
+  pub no_fault : outcome ≢ Err Saving → disk.faults new ≡ disk.faults old
+  pub never_falls : disk.faults old ≤ disk.faults new
+  -- where a file was refused, nothing is written
+  pub unwritten : (e : ResumeFault) → outcome ≡ Err (SaveFile e) →
+      IsUnwritten disk.now disk.moment disk.images disk.since old new
+  pub spared : (m : SteenrodModule) (file : List ℕ) (e : ResumeFault) → IsOnDisk asked input m →
+      disk.now old ≡ Some file → standing_of m file ≡ Err e → HasSpared disk m e outcome old new
   -- squares last
-  pub lasts : (bytes : List ℕ) (m : SteenrodModule) (range : Range) (list : List Entry) →
-      (WordsRead words → left ≡ Some bytes) → IsSome (now old) → IsSavedBy words bytes m range →
-      IsOurs m list (images old) →
-      HasLasted now moment images since m range list (IsAnswered status) (status ≢ 8) old new
+  pub lasts : (m : SteenrodModule) (range : Range) (list : List Entry) → use_for asked ≡ Some (keeping range) →
+      IsModuleFor asked input m → IsSome (disk.now old) → IsOurs m list (disk.images old) →
+      HasLasted disk.now disk.moment disk.images disk.since m range list (IsAnswered outcome)
+      (outcome ≢ Err Saving) old new

@@ -1,26 +1,17 @@
--- What is still to be done for a command once its module is there: a text that is made, or a resolution whose text is to be
--- told of in one of these forms.
-use Rattle.std.specs.Prelude.{◌≡◌, ℕ, List, Option, Some, MatchOption, Result, Ok, ⊤}
+-- What is still to be done for a plan once its module is there: a text that is made, or a resolution whose text is to
+-- be told of in one of the forms.
+use Rattle.std.specs.Prelude.{◌≡◌, ℕ, List, Option, MatchOption, Result, Ok, ⊤}
 use Rattle.finite_module.specs.Module.{Module as SteenrodModule}
-use Rattle.square.specs.declared.range.Range.{Range}
-use Rattle.ext_words.specs.declared.command.Command.{Command}
-use Rattle.ext_words.specs.Words.{command_of, IsWithin}
-use Rattle.ext_run.specs.declared.task.Form.{Form}
-use Rattle.ext_run.specs.declared.task.Form.TheVariants.{Chart, Differentials, Summary, Products, Bracket}
+use Rattle.ext_words.specs.Words.{IsWithin}
+use Rattle.ext_report.specs.declared.failure.Failure.{Failure}
+use Rattle.ext_build.specs.Building.{IsBuildAnswer}
+use Rattle.ext_run.specs.declared.plan.Plan.{Plan}
+use Rattle.ext_run.specs.declared.plan.Plan.TheVariants.{Resolve, Check, Build, Multiply}
 use Rattle.ext_run.specs.declared.task.Task.{Task}
 use Rattle.ext_run.specs.declared.task.Task.TheVariants.{Text, Resolution}
-use Rattle.ext_build.specs.Input.{IsOfInput}
-use Rattle.ext_run.specs.Saving.{Saves, options_of, IsModuleOf}
-use Rattle.ext_report.specs.declared.failure.Failure.{Failure}
-use Rattle.ext_run.specs.Answer.{IsChart, IsDump, IsSummary, IsText, IsProducts, IsBracket, IsAnswerFrom, IsCommandAnswerFrom}
-
--- the answer is that of a module's canonical resolution through the range, in this form
-abbrev pub IsInForm : Form → Range → SteenrodModule → Result (List ℕ) Failure → Type 0
-IsInForm Chart range m answer = IsText (IsChart range) m answer
-IsInForm Differentials range m answer = IsText (IsDump range) m answer
-IsInForm Summary range m answer = IsText (IsSummary range) m answer
-IsInForm (Products by) range m answer = IsProducts range by m answer
-IsInForm (Bracket a b c) range m answer = IsBracket range a b c m answer
+use Rattle.ext_run.specs.Plan.{IsModuleIn, IsModuleAt}
+use Rattle.ext_run.specs.Forms.{IsInForm}
+use Rattle.ext_run.specs.Answer.{IsLineOn, IsProduct}
 
 -- the task is done by this answer
 abbrev pub IsDoneBy : Task → Result (List ℕ) Failure → Type 0
@@ -36,29 +27,15 @@ abbrev pub IsTaskWithin : Task → Type 0
 IsTaskWithin (Text made) = ⊤
 IsTaskWithin (Resolution r) = IsWithin r.common
 
--- what is told is of classes that the words name
-abbrev pub TellsOfClasses : Form → Type 0
-TellsOfClasses Chart = ⊥
-TellsOfClasses Differentials = ⊥
-TellsOfClasses Summary = ⊥
-TellsOfClasses (Products by) = ⊤
-TellsOfClasses (Bracket a b c) = ⊤
+-- the task is that of the plan, where the input is these bytes
+abbrev pub IsTaskOf : Plan → List ℕ → Task → Type 0
+IsTaskOf (Resolve origin form common) bytes (Resolution r) =
+    (r.form ≡ form) × (r.common ≡ common) × IsModuleAt origin bytes r.resolved.plain
+IsTaskOf Check bytes (Text made) = (m : SteenrodModule) × IsModuleIn bytes m × IsLineOn m made.items
+IsTaskOf (Build made) bytes (Text text) = IsBuildAnswer made bytes (Ok text.items)
+IsTaskOf (Multiply numbers) bytes (Text text) = IsProduct numbers text.items
+IsTaskOf plan bytes task = ⊥
 
--- each answer that does the task is one to the command, where this is the input
-abbrev pub IsTaskFor : Command → Option (List ℕ) → Task → Type 0
-IsTaskFor command left task = (answer : Result (List ℕ) Failure) → IsDoneBy task answer →
-    IsCommandAnswerFrom command left answer
-
--- the same for words
-abbrev pub IsTaskFrom : List (List ℕ) → Option (List ℕ) → Task → Type 0
-IsTaskFrom words left task = (answer : Result (List ℕ) Failure) → IsDoneBy task answer → IsAnswerFrom words left answer
-
--- the task has the command's options, and the module that the command resolves, where this is the input
-abbrev pub IsSavedFor : Command → Option (List ℕ) → Task → Type 0
-IsSavedFor command left (Text made) = Saves command → ⊥
-IsSavedFor command left (Resolution r) =
-    (options_of command ≡ Some r.common) × IsOfInput (λ bytes. IsModuleOf command bytes r.resolved.plain) left
-
--- the same for words
-abbrev pub IsSavedAs : List (List ℕ) → Option (List ℕ) → Task → Type 0
-IsSavedAs words left task = MatchOption (command_of words) ⊥ (λ command. IsSavedFor command left task)
+-- and of what is asked
+abbrev pub IsTaskFor : Option Plan → List ℕ → Task → Type 0
+IsTaskFor asked bytes task = MatchOption asked ⊥ (λ plan. IsTaskOf plan bytes task)

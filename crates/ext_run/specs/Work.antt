@@ -14,12 +14,14 @@ use Rattle.save_file.specs.Files.{standing_of}
 use Rattle.save_file.specs.declared.fault.ResumeFault.{ResumeFault}
 use Rattle.ext_report.specs.declared.failure.Failure.{Failure}
 use Rattle.ext_report.specs.declared.failure.Failure.TheVariants.{Saving, SaveFile, Memory}
-use Rattle.ext_run.specs.declared.task.Form.{Form}
+use Rattle.ext_run.specs.declared.plan.Form.{Form}
 use Rattle.ext_run.specs.declared.task.Task.{Task}
 use Rattle.ext_run.specs.declared.task.Task.TheVariants.{Text, Resolution}
 use Rattle.ext_run.specs.declared.task.Resolution.{Resolution as ToResolve}
-use Rattle.ext_run.specs.Task.{IsInForm, IsDoneBy}
-use Rattle.ext_run.specs.Saving.{IsOurs, IsUnwritten, HasLasted, HasRange}
+use Rattle.ext_run.specs.Plan.{TellsOfClasses}
+use Rattle.ext_run.specs.Forms.{IsInForm}
+use Rattle.ext_run.specs.Task.{IsDoneBy}
+use Rattle.ext_run.specs.Saving.{StandsAsOneOf, IsOurs, IsUnwritten, HasLasted, HasRange}
 use Rattle.ext_report.specs.Failure.{IsOfClasses}
 
 -- a text, or why there is none
@@ -35,13 +37,21 @@ abbrev pub answer_of : Told → Result (List ℕ) Failure
 answer_of (Ok text) = Ok text.items
 answer_of (Err failure) = Err failure
 
+-- a refusal of classes, in a form that tells of them
+abbrev pub IsRefusalIn : Form → Failure → Type 0
+IsRefusalIn form e = IsOfClasses e × TellsOfClasses form
+
+abbrev pub IsTaskRefusal : Task → Failure → Type 0
+IsTaskRefusal (Text made) e = ⊥
+IsTaskRefusal (Resolution r) e = IsRefusalIn r.form e
+
 -- A table was continued through the range and told of, and the keeper got the new squares. If the table began with canonical squares,
 -- the answer is that of the canonical resolution.
 pub record HasContinued (range : Range) (form : Form) (table : Staircase) (text : Told) (old new : Keeper)
     : Type 0 where
   pub told : HasAnswer text → IsCanonicalStart (over table.resolved) table.start →
       IsInForm form range table.resolved.plain (answer_of text)
-  pub why : IfErr text (λ e. (e ≡ Saving) ⊎ (e ≡ Memory) ⊎ IsOfClasses e)
+  pub why : IfErr text (λ e. (e ≡ Saving) ⊎ (e ≡ Memory) ⊎ IsRefusalIn form e)
   pub failed : text ≡ Err Saving → HasRisen old.faults new.faults
   pub no_fault : text ≢ Err Saving → new.faults ≡ old.faults
   pub live : text ≢ Err Saving → new.live
@@ -53,7 +63,7 @@ pub record HasContinued (range : Range) (form : Form) (table : Staircase) (text 
 -- the answer does the task, or memory ended, and nothing else happened
 pub record IsUnsaved {D : Type 0} (task : Task) (text : Told) (old new : D) : Type 0 where
   pub told : HasAnswer text → IsDoneBy task (answer_of text)
-  pub why : IfErr text (λ e. (e ≡ Memory) ⊎ IsOfClasses e)
+  pub why : IfErr text (λ e. (e ≡ Memory) ⊎ IsTaskRefusal task e)
   pub same : new ≡ old
 
 -- the file is refused as one of the module
@@ -65,7 +75,7 @@ pub record HasKeptOn {D : Type 0} (now : D → Option (List ℕ)) (moment : D �
     (since : D → ℕ → List ℕ → Type 0) (faults : D → ℕ) (r : ToResolve) (text : Told) (old new : D) : Type 0 where
   pub told : HasAnswer text → IsSome (now old) → (list : List Entry) → IsOurs r.resolved.plain list (images old) →
       IsDoneBy (Resolution r) (answer_of text)
-  pub why : IfErr text (λ e. (e ≡ Saving) ⊎ (e ≡ Memory) ⊎ IsOfClasses e
+  pub why : IfErr text (λ e. (e ≡ Saving) ⊎ (e ≡ Memory) ⊎ IsRefusalIn r.form e
       ⊎ ((fault : ResumeFault) × (e ≡ SaveFile fault) × IsRefusedFor r.resolved.plain (now old) fault))
   pub failed : text ≡ Err Saving → HasRisen (faults old) (faults new)
   pub no_fault : text ≢ Err Saving → faults new ≡ faults old
@@ -75,6 +85,9 @@ pub record HasKeptOn {D : Type 0} (now : D → Option (List ℕ)) (moment : D �
   pub unwritten : (fault : ResumeFault) → text ≡ Err (SaveFile fault) → IsUnwritten now moment images since old new
   pub spared : (file : List ℕ) (fault : ResumeFault) → now old ≡ Some file →
       standing_of r.resolved.plain file ≡ Err fault → text ≢ Err Saving → IsUnwritten now moment images since old new
+  pub stands : (file : List ℕ) (fault : ResumeFault) → now old ≡ Some file →
+      standing_of r.resolved.plain file ≡ Err fault → (c : List ℕ) → since new (moment old) c →
+      StandsAsOneOf r.resolved.plain (images old) c
   pub lasts : IsSome (now old) → (list : List Entry) → IsOurs r.resolved.plain list (images old) →
       HasLasted now moment images since r.resolved.plain r.common.range list (HasAnswer text) (text ≢ Err Saving) old
       new

@@ -1,11 +1,11 @@
 //! The answer to words: from a command line, and a module file where the command reads one, to the text on a sink.
-ghost use Rattle.std.specs.Prelude.{◌≡◌, ◌≤◌, ◌⊎◌, IfOk, IfErr};
-ghost use Rattle.edge.specs.Faults.{HasRisen};
+ghost use Rattle.std.specs.Prelude.{◌≡◌, ◌⊎◌, IfOk, IfErr};
 ghost use Rattle.ext_words.specs.Words.{texts_of};
-ghost use Rattle.ext_run.specs.Ending.{HasTold, HasGotWhole, HasGotPart};
-ghost use Rattle.ext_run.specs.Run.{IsStatusOf, HasRead, HasAnswered, HasReported, IsComplete};
-ghost use Rattle.ext_run.specs.Saving.{HasSaved, IsUsable};
 ghost use Rattle.ext_report.specs.declared.failure.Failure as Failure;
+ghost use Rattle.ext_run.specs.Devices.{device_of, store_of};
+ghost use Rattle.ext_run.specs.Plan.{asked_by};
+ghost use Rattle.ext_run.specs.Ending.{HasTold, HasGotWhole, HasGotPart};
+ghost use Rattle.ext_run.specs.Run.{IsRun};
 
 use crate::task::task_from;
 use crate::texts::{text_alone, text_by_workers};
@@ -62,19 +62,9 @@ pub fn run<
     disk: D,
     gate: &G,
 ) -> Ended<D>
-    ensures status { IsStatusOf (texts_of words.now) (S.left source.old)
-        (IsUsable (texts_of words.now) (S.left source.old) (D.now disk) (D.images disk)) result.status }
-    ensures read { HasRead S.left S.faults (texts_of words.now) result.status source.old source.new }
-    ensures answered { HasAnswered O.written O.faults (texts_of words.now) (S.left source.old)
-        (IsUsable (texts_of words.now) (S.left source.old) (D.now disk) (D.images disk)) result.status out.old out.new }
-    ensures reported { HasReported E.written E.faults (texts_of words.now) (S.left source.old) (D.now disk)
-        (IsUsable (texts_of words.now) (S.left source.old) (D.now disk) (D.images disk)) result.status err.old err.new }
-    ensures saved { HasSaved D.now D.moment D.images D.since D.faults (texts_of words.now) (S.left source.old)
-        result.status disk result.disk }
-    ensures complete { IsUsable (texts_of words.now) (S.left source.old) (D.now disk) (D.images disk) →
-        ¬ HasRisen (S.faults source.old) (S.faults source.new) → ¬ HasRisen (O.faults out.old) (O.faults out.new) →
-        ¬ HasRisen (D.faults disk) (D.faults result.disk) →
-        IsComplete (texts_of words.now) (S.left source.old) result.status }
+    ensures { IsRun (device_of S.left S.faults) (device_of O.written O.faults) (device_of E.written E.faults)
+        (store_of D.now D.moment D.images D.since D.faults) (asked_by (texts_of words.now)) result.status
+        source.old source.new out.old out.new err.old err.new disk result.disk }
 {
     match task_from(alloc, words, source) {
         Ok(task) => {
@@ -100,19 +90,9 @@ pub fn run_one<R, S: Source, O: Sink, E: Sink, D: Disk>(
     err: &mut E,
     disk: D,
 ) -> Ended<D>
-    ensures status { IsStatusOf (texts_of words.now) (S.left source.old)
-        (IsUsable (texts_of words.now) (S.left source.old) (D.now disk) (D.images disk)) result.status }
-    ensures read { HasRead S.left S.faults (texts_of words.now) result.status source.old source.new }
-    ensures answered { HasAnswered O.written O.faults (texts_of words.now) (S.left source.old)
-        (IsUsable (texts_of words.now) (S.left source.old) (D.now disk) (D.images disk)) result.status out.old out.new }
-    ensures reported { HasReported E.written E.faults (texts_of words.now) (S.left source.old) (D.now disk)
-        (IsUsable (texts_of words.now) (S.left source.old) (D.now disk) (D.images disk)) result.status err.old err.new }
-    ensures saved { HasSaved D.now D.moment D.images D.since D.faults (texts_of words.now) (S.left source.old)
-        result.status disk result.disk }
-    ensures complete { IsUsable (texts_of words.now) (S.left source.old) (D.now disk) (D.images disk) →
-        ¬ HasRisen (S.faults source.old) (S.faults source.new) → ¬ HasRisen (O.faults out.old) (O.faults out.new) →
-        ¬ HasRisen (D.faults disk) (D.faults result.disk) →
-        IsComplete (texts_of words.now) (S.left source.old) result.status }
+    ensures { IsRun (device_of S.left S.faults) (device_of O.written O.faults) (device_of E.written E.faults)
+        (store_of D.now D.moment D.images D.since D.faults) (asked_by (texts_of words.now)) result.status
+        source.old source.new out.old out.new err.old err.new disk result.disk }
 {
     match task_from(alloc, words, source) {
         Ok(task) => {

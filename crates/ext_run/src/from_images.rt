@@ -1,7 +1,7 @@
 //! Texts of a resolution of which the images of generators are made, and no table of squares.
 ghost use Rattle.std.specs.Prelude.{◌≡◌, ◌≤◌, IfOk};
 ghost use Rattle.square.specs.declared.range.TheConstants.{MAX_S, MAX_T};
-ghost use Rattle.ext_run.specs.Answer.{IsChart, IsDump, IsSummary};
+ghost use Rattle.ext_run.specs.Forms.{IsChart, IsDump, IsSummary};
 
 use ext_chart::{chart, dump, summary};
 use finite_module::Module;

@@ -1,18 +1,14 @@
 //! Laws over the definitions, as contracts of functions that do nothing.
 ghost use Rattle.ext_run.specs.Answer.{AnswerIsUnique};
 ghost use Rattle.ext_run.specs.Existence.{AnswerExists};
-ghost use Rattle.ext_run.specs.NextRun.{NextRunMayUse};
+ghost use Rattle.ext_run.specs.NextRun.{NextRunMayUse, ShortDiskIsOurs};
 
 use edge::Disk;
 
 /// Words have at most one answer to an input.
 pub fn answer_is_unique()
     ensures { AnswerIsUnique }
-{
-    resolution_laws::canonical_table_is_unique();
-    module_json::file_is_unique();
-    adem_laws::admissible_basis();
-}
+{}
 
 /// All words have an answer to each input. If they read it, it is asked that the input has a value as JSON, or is refused as
 /// having none.
@@ -33,4 +29,10 @@ pub fn answer_exists()
 /// may be used.)
 pub fn next_run_may_use_what_is_left<D: Disk>()
     ensures { NextRunMayUse D.now D.moment D.images D.since D.faults }
+{}
+
+/// A disk of which a crash leaves no more than a header and a gate, as an empty one, is every module's, with no
+/// squares.
+pub fn short_disk_is_ours<D: Disk>()
+    ensures { ShortDiskIsOurs D.images }
 {}

@@ -4,11 +4,14 @@
 mod answer;
 mod from_images;
 mod laws;
+mod plan;
 mod task;
 mod texts;
 
 pub use answer::{Ended, run, run_one};
 pub use ext_report::{Failure, report};
 pub use ext_words::{Build, Command, Common, WordsFault, parse};
-pub use laws::{answer_exists, answer_is_unique, next_run_may_use_what_is_left};
+pub use laws::{
+    answer_exists, answer_is_unique, next_run_may_use_what_is_left, short_disk_is_ours,
+};
 pub use square::Range;

@@ -1,24 +1,26 @@
-//! What a command asks for, once its words and its module file are read: a text that is there, or a resolution to make.
-ghost use Rattle.std.specs.Prelude.{◌≡◌, ◌≢◌, ◌≤◌, Err, IfOk, IfErr};
+//! What is still to be done for words, once they and their module file are read: a text that is there, or a resolution
+//! to make.
+ghost use Rattle.std.specs.Prelude.{◌≡◌, ◌≢◌, ◌≤◌, Some, Err, IfOk, IfErr};
 ghost use Rattle.std.specs.List.{sum};
 ghost use Rattle.edge.specs.Faults.{HasRisen};
 ghost use Rattle.edge.specs.Source.{without_first, HasGivenUpTo};
 ghost use Rattle.ext_words.specs.declared.command.TheConstants.{MAX_SQUARES_DEGREE};
-ghost use Rattle.ext_words.specs.Words.{texts_of, IsWithinLimits};
-ghost use Rattle.ext_build.specs.Input.{most_read};
-ghost use Rattle.ext_run.specs.Answer.{IsLineOn, IsProduct, IsCauseFrom, IsCommandCauseFrom, Reads, WordsRead};
-ghost use Rattle.ext_run.specs.Task.{IsTaskFor, IsTaskFrom, IsTaskWithin, IsSavedFor, IsSavedAs, HasItsAnswer};
+ghost use Rattle.ext_words.specs.Words.{texts_of};
 ghost use Rattle.ext_report.specs.declared.failure.Failure as Failure;
+ghost use Rattle.ext_build.specs.Input.{IsOfInput, most_read};
+ghost use Rattle.ext_run.specs.Plan.{asked_by, IsPlanWithin, IsModuleAt, IsRead, PlanReads, Reads};
+ghost use Rattle.ext_run.specs.Answer.{IsLineOn, IsProduct, IsTaskCauseFrom, IsOriginCauseFrom};
+ghost use Rattle.ext_run.specs.Task.{HasItsAnswer, IsTaskWithin, IsTaskOf, IsTaskFor};
 ghost use Rattle.ext_run.specs.declared.task.Task.TheVariants.{Resolution as ToResolve};
 
-use chain_map::Class;
+use crate::plan::{Form, Origin, Plan, plan_of};
 use edge::Source;
 use ext_brackets::bracket_answer_exists;
 use ext_build::{built_text, read_module};
 use ext_chart::{check_line, product};
 use ext_products::products_answer_exists;
 use ext_report::Failure;
-use ext_words::{Command, Common, parse};
+use ext_words::{Common, parse};
 use memory::Memory;
 use milnor_basis::Basis;
 use module_check::{Module, accepted_is_module, modules_are_graded_modules};
@@ -27,7 +29,7 @@ use resolution_laws::canonical_table_is_minimal_resolution;
 use sq_calc::{Mono, to_admissible, to_milnor};
 use std::alloc::Global;
 
-/// What is still to be done for a command.
+/// What is still to be done for words.
 #[derive(Drop)]
 pub enum Task {
     /// The text is made.
@@ -44,35 +46,22 @@ pub struct Resolution {
     pub form: Form,
 }
 
-/// What is printed of a resolution.
-#[derive(Clone, Copy, Debug)]
-pub enum Form {
-    Chart,
-    Differentials,
-    Summary,
-    /// The products of this class of the sphere with the classes of the module.
-    Products(Class),
-    /// The bracket of the classes `a` and `b` of the sphere with the class `c` of the module.
-    Bracket { a: Class, b: Class, c: Class },
-}
-
 /// What the words ask for, with the module file that the source has left where they read one.
 pub(crate) fn task_from<S: Source>(
     alloc: Global,
     words: &[&str],
     source: &mut S,
 ) -> Result<Task, Failure>
-    ensures task { IfOk result (IsTaskFrom (texts_of words.now) (S.left source.old)) }
-    ensures saved { IfOk result (IsSavedAs (texts_of words.now) (S.left source.old)) }
+    ensures task { IfOk result (λ task. IsOfInput
+        (λ bytes. IsTaskFor (asked_by (texts_of words.now)) bytes task) (S.left source.old)) }
     ensures answer { IfOk result HasItsAnswer }
     ensures limits { IfOk result IsTaskWithin }
-    ensures cause { IfErr result (IsCauseFrom (texts_of words.now) (S.left source.old)) }
-    ensures not_writing { result ≢ Err Failure.Writing }
+    ensures cause { IfErr result (IsTaskCauseFrom (asked_by (texts_of words.now)) (S.left source.old)) }
     ensures reading { result ≡ Err Failure.Reading → HasRisen (S.faults source.old) (S.faults source.new) }
-    ensures unread { ¬ WordsRead (texts_of words.now) → source.new ≡ source.old }
+    ensures unread { ¬ Reads (asked_by (texts_of words.now)) → source.new ≡ source.old }
     ensures given { HasGivenUpTo most_read (S.left source.old) (S.left source.new) }
-    ensures read { WordsRead (texts_of words.now) → result ≢ Err Failure.Reading → result ≢ Err Failure.Memory →
-        S.left source.new ≡ without_first (S.left source.old) most_read }
+    ensures read { Reads (asked_by (texts_of words.now)) → result ≢ Err Failure.Reading →
+        result ≢ Err Failure.Memory → S.left source.new ≡ without_first (S.left source.old) most_read }
     ensures never_fall { S.faults source.old ≤ S.faults source.new }
     ensures no_fault { result ≢ Err Failure.Reading → S.faults source.new ≡ S.faults source.old }
 {
@@ -83,55 +72,57 @@ pub(crate) fn task_from<S: Source>(
     products_answer_exists();
     bracket_answer_exists();
     let command = parse(alloc, words)?;
-    task_for(alloc, command, source)
+    task_for(alloc, plan_of(command), source)
 }
 
-/// What the command asks for.
-fn task_for<S: Source>(alloc: Global, command: Command, source: &mut S) -> Result<Task, Failure>
-    requires { IsWithinLimits command }
-    ensures task { IfOk result (IsTaskFor command (S.left source.old)) }
-    ensures saved { IfOk result (IsSavedFor command (S.left source.old)) }
+/// The task of a plan.
+fn task_for<S: Source>(alloc: Global, plan: Plan, source: &mut S) -> Result<Task, Failure>
+    requires { IsPlanWithin plan }
+    ensures task { IfOk result (λ task. IsOfInput (λ bytes. IsTaskOf plan bytes task) (S.left source.old)) }
     ensures limits { IfOk result IsTaskWithin }
-    ensures cause { IfErr result (IsCommandCauseFrom command (S.left source.old)) }
+    ensures cause { IfErr result (IsTaskCauseFrom (Some plan) (S.left source.old)) }
     ensures reading { result ≡ Err Failure.Reading → HasRisen (S.faults source.old) (S.faults source.new) }
-    ensures unread { ¬ Reads command → source.new ≡ source.old }
+    ensures unread { ¬ PlanReads plan → source.new ≡ source.old }
     ensures given { HasGivenUpTo most_read (S.left source.old) (S.left source.new) }
-    ensures read { Reads command → result ≢ Err Failure.Reading → result ≢ Err Failure.Memory →
+    ensures read { PlanReads plan → result ≢ Err Failure.Reading → result ≢ Err Failure.Memory →
         S.left source.new ≡ without_first (S.left source.old) most_read }
     ensures never_fall { S.faults source.old ≤ S.faults source.new }
     ensures no_fault { result ≢ Err Failure.Reading → S.faults source.new ≡ S.faults source.old }
 {
-    match command {
-        Command::Sphere(common) => {
-            let sphere = Module::sphere(alloc)?;
-            Ok(to_resolve(sphere, common, Form::Chart))
+    match plan {
+        Plan::Resolve {
+            origin,
+            form,
+            common,
+        } => {
+            let resolved = module_from(alloc, origin, source)?;
+            Ok(to_resolve(resolved, common, form))
         }
-        Command::Resolve(common) => {
-            let module = read_module(alloc, source)?;
-            Ok(to_resolve(module, common, Form::Chart))
-        }
-        Command::Dump(common) => {
-            let module = read_module(alloc, source)?;
-            Ok(to_resolve(module, common, Form::Differentials))
-        }
-        Command::Products { common, by } => {
-            let module = read_module(alloc, source)?;
-            Ok(to_resolve(module, common, Form::Products(by)))
-        }
-        Command::Massey { common, a, b, c } => {
-            let module = read_module(alloc, source)?;
-            Ok(to_resolve(module, common, Form::Bracket { a, b, c }))
-        }
-        Command::Check => {
+        Plan::Check => {
             let module = read_module(alloc, source)?;
             Ok(Task::Text(module_line(alloc, &module)?))
         }
-        Command::Build(made) => Ok(Task::Text(built_text(alloc, made, source)?)),
-        Command::Sample(n, common) => {
-            let sample = Module::sample(alloc, n)?;
-            Ok(to_resolve(sample, common, Form::Summary))
-        }
-        Command::Sq(squares) => Ok(Task::Text(product_lines(alloc, &squares)?)),
+        Plan::Build(made) => Ok(Task::Text(built_text(alloc, made, source)?)),
+        Plan::Multiply(squares) => Ok(Task::Text(product_lines(alloc, &squares)?)),
+    }
+}
+
+/// The module of an origin.
+fn module_from<S: Source>(alloc: Global, origin: Origin, source: &mut S) -> Result<Module, Failure>
+    ensures module { IfOk result (λ m. IsOfInput (λ bytes. IsModuleAt origin bytes m.plain) (S.left source.old)) }
+    ensures cause { IfErr result (IsOriginCauseFrom origin (S.left source.old)) }
+    ensures reading { result ≡ Err Failure.Reading → HasRisen (S.faults source.old) (S.faults source.new) }
+    ensures unread { ¬ IsRead origin → source.new ≡ source.old }
+    ensures given { HasGivenUpTo most_read (S.left source.old) (S.left source.new) }
+    ensures read { IsRead origin → result ≢ Err Failure.Reading → result ≢ Err Failure.Memory →
+        S.left source.new ≡ without_first (S.left source.old) most_read }
+    ensures never_fall { S.faults source.old ≤ S.faults source.new }
+    ensures no_fault { result ≢ Err Failure.Reading → S.faults source.new ≡ S.faults source.old }
+{
+    match origin {
+        Origin::Sphere => Ok(Module::sphere(alloc)?),
+        Origin::Sample(n) => Ok(Module::sample(alloc, n)?),
+        Origin::File => read_module(alloc, source),
     }
 }
 

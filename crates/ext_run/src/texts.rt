@@ -4,15 +4,17 @@ ghost use Rattle.std.specs.Prelude.{◌≡◌, ◌≤◌, ◌<◌, ◌⊎◌, If
 ghost use Rattle.square.specs.declared.range.TheConstants.{MAX_S, MAX_T};
 ghost use Rattle.square.specs.Keeping.{IsKeeperOf};
 ghost use Rattle.square.specs.Tables.{plain_rows, IsThrough, cut};
-ghost use Rattle.ext_run.specs.Answer.{IsResolved};
+ghost use Rattle.ext_run.specs.Plan.{TellsOfClasses};
+ghost use Rattle.ext_run.specs.Forms.{IsResolved, IsInForm};
 ghost use Rattle.ext_words.specs.Words.{IsWithin};
-ghost use Rattle.ext_run.specs.Task.{IsInForm, IsTaskWithin, TellsOfClasses};
-ghost use Rattle.ext_run.specs.Work.{HasAnswer, answer_of, HasContinued, HasKeptOn, HasWorked};
+ghost use Rattle.ext_run.specs.Task.{IsTaskWithin};
+ghost use Rattle.ext_run.specs.Work.{HasAnswer, answer_of, IsRefusalIn, HasContinued, HasKeptOn, HasWorked};
 ghost use Rattle.ext_report.specs.declared.failure.Failure.TheVariants.{Memory as WantOfMemory};
 ghost use Rattle.ext_report.specs.Failure.{IsOfClasses};
 
 use crate::from_images::{chart_alone, dump_alone, summary_alone};
-use crate::task::{Form, Resolution, Task};
+use crate::plan::Form;
+use crate::task::{Resolution, Task};
 use board_core::Cause;
 use edge::Disk;
 use ext_brackets::bracket_text;
@@ -80,7 +82,7 @@ fn unsaved_alone(alloc: Global, resolution: Resolution) -> Result<Vec<u8>, Failu
     requires { IsWithin resolution.common }
     ensures told { HasAnswer result →
         IsInForm resolution.form resolution.common.range resolution.resolved.plain (answer_of result) }
-    ensures why { IfErr result (λ e. (e ≡ WantOfMemory) ⊎ IsOfClasses e) }
+    ensures why { IfErr result (λ e. (e ≡ WantOfMemory) ⊎ IsRefusalIn resolution.form e) }
 {
     let range = resolution.common.range;
     match resolution.form {
@@ -104,7 +106,7 @@ fn unsaved_by_workers<W: Threads + Wait + Clock + Sync, G: Gate + Sync>(
     requires { IsWithin resolution.common }
     ensures told { HasAnswer result →
         IsInForm resolution.form resolution.common.range resolution.resolved.plain (answer_of result) }
-    ensures why { IfErr result (λ e. (e ≡ WantOfMemory) ⊎ IsOfClasses e) }
+    ensures why { IfErr result (λ e. (e ≡ WantOfMemory) ⊎ IsRefusalIn resolution.form e) }
 {
     let Common { range, workers, .. } = resolution.common;
     let table = Table::new(alloc, resolution.resolved)?;

@@ -3,7 +3,7 @@ use crate::runs::{
     C2, Devices, Outcome, SOUND, STEMS_8, assert_outcome, narrow_devices, sound_disk,
 };
 use edge::MemDisk;
-use ext_run::{answer_is_unique, next_run_may_use_what_is_left, run_one};
+use ext_run::{answer_is_unique, next_run_may_use_what_is_left, run_one, short_disk_is_ours};
 use resolution_laws::canonical_table_is_unique;
 use std::alloc::Global;
 use std::test::Fail;
@@ -78,4 +78,5 @@ fn laws(_rt: HostRuntime) {
     canonical_table_is_unique();
     answer_is_unique();
     next_run_may_use_what_is_left::<MemDisk>();
+    short_disk_is_ours::<MemDisk>();
 }

@@ -13,7 +13,7 @@ pub returns-in-Ok : goal.returns-in-Ok
 returns-in-Ok g c =
     let o = c.in-Ok.ensures in
     subst (HasKeptOn g.D.Disk.now g.D.Disk.moment g.D.Disk.images g.D.Disk.since g.D.Disk.faults c.args.resolution c.told_alone-text.result.0 c.args.disk) (sym c.into_disk.ensures)
-    (kept_on g.D.Disk.now g.D.Disk.moment g.D.Disk.images g.D.Disk.since g.D.Disk.faults (laws g) c.args.resolution c.args.disk c.told_alone-text.result.0 c.in-Ok.table c.in-Ok.keeper c.told_alone-text.result.1 o.squares o.resolved o.keeper o.kept o.any_moment o.no_fault c.told_alone-text.ensures)
+    (kept_on g.D.Disk.now g.D.Disk.moment g.D.Disk.images g.D.Disk.since g.D.Disk.faults (laws g) g.D.Disk.images_at c.args.resolution c.args.disk c.told_alone-text.result.0 c.in-Ok.table c.in-Ok.keeper c.told_alone-text.result.1 o.squares o.resolved o.keeper o.kept o.any_moment o.no_fault c.told_alone-text.ensures)
 
 pub returns-in-Err : goal.returns-in-Err
 returns-in-Err g c =

@@ -6,9 +6,8 @@ use Rattle.ext_products.specs.Over.{IsAnswerIn}
 use Rattle.ext_products.specs.Products.{IsProductsAnswer}
 use Rattle.ext_brackets.specs.Brackets.{IsBracketAnswer}
 use Rattle.ext_brackets.specs.Over.{IsBracketAnswerOver}
-use Rattle.ext_run.specs.declared.task.Form.{Form}
-use Rattle.ext_run.specs.Answer.{IsToldOfClasses}
-use Rattle.ext_run.specs.Task.{IsInForm}
+use Rattle.ext_run.specs.declared.plan.Form.{Form}
+use Rattle.ext_run.specs.Forms.{IsToldOfClasses, IsInForm}
 use Rattle.ext_run.specs.Work.{answer_of}
 use Rattle.ext_chart.proofs.Seen.{through_seen}
 use Rattle.ext_run.proofs.AnswerExists.{TableLaws}

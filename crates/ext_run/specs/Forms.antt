@@ -1,0 +1,96 @@
+-- What is told of a module's canonical resolution, in each form.
+use Rattle.std.specs.Prelude.{◌≡◌, ℕ, List, length, IsOkAnd, Result, Ok, Err}
+use Rattle.finite_module.specs.Module.{Module as SteenrodModule, bottom}
+use Rattle.finite_module.specs.DerivedAction.{derived_module}
+use Rattle.finite_module.specs.Checked.{sphere_file}
+use Rattle.ext_report.specs.declared.failure.Failure.{Failure}
+use Rattle.ext_report.specs.declared.failure.Failure.TheVariants.{Classes}
+use Rattle.resolution_laws.specs.Resolution.{Content, IsCanonicalTable, generator_count}
+use Rattle.resolution_laws.specs.Exactness.{IsMinimalResolution}
+use Rattle.square.specs.Squares.{module_over}
+use Rattle.square.specs.declared.range.Range.{Range}
+use Rattle.ext_chart.specs.Chart.{chart_text}
+use Rattle.ext_chart.specs.Dump.{dump_text}
+use Rattle.ext_chart.specs.Summary.{summary_text}
+use Rattle.chain_map.specs.declared.class.Class.{Class}
+use Rattle.ext_products.specs.declared.refusal.Refusal.{Refusal}
+use Rattle.lift_laws.specs.Lifts.{Resolution}
+use Rattle.ext_products.specs.Products.{resolution, IsProductsAnswer}
+use Rattle.ext_brackets.specs.Brackets.{IsBracketAnswer}
+use Rattle.ext_run.specs.declared.plan.Form.{Form}
+use Rattle.ext_run.specs.declared.plan.Form.TheVariants.{Chart, Differentials, Summary, Products, Bracket}
+
+-- table is that of the module's canonical resolution through the range, which is exact and minimal
+pub record IsResolved (range : Range) (m : SteenrodModule) (table : List (List Content)) : Type 0 where
+  pub canonical : IsCanonicalTable (module_over m) range.s range.t table
+  pub minimal : IsMinimalResolution (module_over m) range.s range.t table
+
+-- ---- a text
+
+-- text is made of that table, as text_of says
+pub record IsReadOff (text_of : SteenrodModule → List (List Content) → List ℕ) (range : Range) (m : SteenrodModule)
+    (text : List ℕ) : Type 0 where
+  pub table : List (List Content)
+  pub resolved : IsResolved range m table
+  pub is : text ≡ text_of m table
+
+abbrev pub chart_of : Range → SteenrodModule → List (List Content) → List ℕ
+chart_of range m table = chart_text (bottom m.generators) range.s range.t (generator_count table)
+
+abbrev pub dump_of : Range → SteenrodModule → List (List Content) → List ℕ
+dump_of range m table = dump_text m.generators range.s range.t table
+
+abbrev pub summary_of : Range → SteenrodModule → List (List Content) → List ℕ
+summary_of range m table =
+    summary_text (length m.generators) (bottom m.generators) range.s range.t (generator_count table)
+
+-- text is the chart, the differentials or the summary
+abbrev pub IsChart : Range → SteenrodModule → List ℕ → Type 0
+IsChart range = IsReadOff (chart_of range) range
+
+abbrev pub IsDump : Range → SteenrodModule → List ℕ → Type 0
+IsDump range = IsReadOff (dump_of range) range
+
+abbrev pub IsSummary : Range → SteenrodModule → List ℕ → Type 0
+IsSummary range = IsReadOff (summary_of range) range
+
+-- the answer is a text that is right for the module
+abbrev pub IsText : (SteenrodModule → List ℕ → Type 0) → SteenrodModule → Result (List ℕ) Failure → Type 0
+IsText IsTextOf m answer = IsOkAnd answer (IsTextOf m)
+
+-- ---- what is told of classes
+
+-- what is told of classes, as an answer
+abbrev pub told_of_classes : Result (List ℕ) Refusal → Result (List ℕ) Failure
+told_of_classes (Ok text) = Ok text
+told_of_classes (Err refusal) = Err (Classes refusal)
+
+-- The answer is what is told, as IsToldOf says, of that table's classes and of those of the sphere's canonical resolution
+-- through the range.
+pub record IsToldOfClasses (IsToldOf : Resolution → Resolution → Result (List ℕ) Refusal → Type 0) (range : Range)
+    (m : SteenrodModule) (answer : Result (List ℕ) Failure) : Type 0 where
+  pub table : List (List Content)
+  pub resolved : IsResolved range m table
+  pub sphere : List (List Content)
+  pub sphere_resolved : IsResolved range (derived_module sphere_file) sphere
+  pub told : Result (List ℕ) Refusal
+  pub is_told : IsToldOf (resolution m table) (resolution (derived_module sphere_file) sphere) told
+  pub is : answer ≡ told_of_classes told
+
+-- the products of the class `by` of the sphere with the module's classes
+abbrev pub IsProducts : Range → Class → SteenrodModule → Result (List ℕ) Failure → Type 0
+IsProducts range by = IsToldOfClasses (IsProductsAnswer range by) range
+
+-- the bracket of the classes a and b of the sphere with the class c of the module
+abbrev pub IsBracket : Range → Class → Class → Class → SteenrodModule → Result (List ℕ) Failure → Type 0
+IsBracket range a b c = IsToldOfClasses (IsBracketAnswer range a b c) range
+
+-- ---- the forms
+
+-- the answer is that of the module's canonical resolution through the range, in this form
+abbrev pub IsInForm : Form → Range → SteenrodModule → Result (List ℕ) Failure → Type 0
+IsInForm Chart range m answer = IsText (IsChart range) m answer
+IsInForm Differentials range m answer = IsText (IsDump range) m answer
+IsInForm Summary range m answer = IsText (IsSummary range) m answer
+IsInForm (Products by) range m answer = IsProducts range by m answer
+IsInForm (Bracket a b c) range m answer = IsBracket range a b c m answer

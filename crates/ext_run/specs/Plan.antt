@@ -1,0 +1,118 @@
+-- What a command asks for: where its module comes from, how its answer is made, and what is used of the disk.
+-- Outside of this file, all goes by plans.
+use Rattle.std.specs.Prelude.{◌≡◌, ◌≤◌, ℕ, List, Bool, true, false, Option, Some, None, option_map, MatchOption, Ok, ⊤}
+use Rattle.std.specs.List.{sum}
+use Rattle.module_json.specs.ModuleFile.{File, IsFileOf}
+use Rattle.finite_module.specs.Module.{Module as SteenrodModule}
+use Rattle.finite_module.specs.DerivedAction.{derived_module}
+use Rattle.finite_module.specs.Checked.{sphere_file}
+use Rattle.finite_module.specs.Sample.{sample_file}
+use Rattle.module_check.specs.Acceptance.{refusal_of}
+use Rattle.square.specs.declared.range.Range.{Range}
+use Rattle.ext_words.specs.declared.command.TheConstants.{MAX_SQUARES_DEGREE}
+use Rattle.ext_words.specs.declared.command.Command.{Command}
+use Rattle.ext_words.specs.declared.command.Command.TheVariants.{Sphere, Resolve, Dump, Products, Massey, Check, Build, Sample, Sq}
+use Rattle.ext_words.specs.Words.{command_of, IsWithin}
+use Rattle.ext_run.specs.declared.plan.Origin.{Origin}
+use Rattle.ext_run.specs.declared.plan.Origin.TheVariants.{Sphere as OfSphere, Sample as OfSample, File as OfFile}
+use Rattle.ext_run.specs.declared.plan.Form.{Form}
+use Rattle.ext_run.specs.declared.plan.Form.TheVariants.{Chart, Differentials, Summary, Products as ProductsOf, Bracket}
+use Rattle.ext_run.specs.declared.plan.Plan.{Plan}
+use Rattle.ext_run.specs.declared.plan.Plan.TheVariants.{Resolve as ToResolve, Check as ToCheck, Build as ToBuild, Multiply}
+
+abbrev pub plan_of : Command → Plan
+plan_of (Sphere common) = ToResolve OfSphere Chart common
+plan_of (Resolve common) = ToResolve OfFile Chart common
+plan_of (Dump common) = ToResolve OfFile Differentials common
+plan_of (Products common by) = ToResolve OfFile (ProductsOf by) common
+plan_of (Massey common a b c) = ToResolve OfFile (Bracket a b c) common
+plan_of Check = ToCheck
+plan_of (Build made) = ToBuild made
+plan_of (Sample n common) = ToResolve (OfSample n) Summary common
+plan_of (Sq numbers) = Multiply numbers
+
+-- what the words ask for, none where they are outside the grammar
+abbrev pub asked_by : List (List ℕ) → Option Plan
+asked_by words = option_map plan_of (command_of words)
+
+-- within the limits of the grammar
+abbrev pub IsPlanWithin : Plan → Type 0
+IsPlanWithin (ToResolve origin form common) = IsWithin common
+IsPlanWithin (Multiply numbers) = sum numbers ≤ MAX_SQUARES_DEGREE
+IsPlanWithin plan = ⊤
+
+-- ---- the module
+
+-- the bytes are a file that describes the module
+pub record IsModuleIn (bytes : List ℕ) (m : SteenrodModule) : Type 0 where
+  pub file : File
+  pub is_file : IsFileOf bytes (Ok file)
+  pub no_refusal : refusal_of file ≡ None
+  pub is_derived : m ≡ derived_module file
+
+-- the module of this origin, where the input is these bytes
+abbrev pub IsModuleAt : Origin → List ℕ → SteenrodModule → Type 0
+IsModuleAt OfSphere bytes m = m ≡ derived_module sphere_file
+IsModuleAt (OfSample n) bytes m = m ≡ derived_module (sample_file n)
+IsModuleAt OfFile bytes m = IsModuleIn bytes m
+
+-- the module that is resolved or told of; none where none is
+abbrev pub IsModuleOf : Plan → List ℕ → SteenrodModule → Type 0
+IsModuleOf (ToResolve origin form common) bytes m = IsModuleAt origin bytes m
+IsModuleOf ToCheck bytes m = IsModuleIn bytes m
+IsModuleOf plan bytes m = ⊥
+
+abbrev pub IsModuleFor : Option Plan → List ℕ → SteenrodModule → Type 0
+IsModuleFor asked bytes m = MatchOption asked ⊥ (λ plan. IsModuleOf plan bytes m)
+
+-- ---- the input
+
+abbrev pub IsRead : Origin → Type 0
+IsRead OfSphere = ⊥
+IsRead (OfSample n) = ⊥
+IsRead OfFile = ⊤
+
+abbrev pub PlanReads : Plan → Type 0
+PlanReads (ToResolve origin form common) = IsRead origin
+PlanReads ToCheck = ⊤
+PlanReads (ToBuild made) = ⊤
+PlanReads (Multiply numbers) = ⊥
+
+-- the words ask for something that is read
+abbrev pub Reads : Option Plan → Type 0
+Reads asked = MatchOption asked ⊥ PlanReads
+
+-- ---- what is told
+
+-- the form tells of classes that the words name
+abbrev pub TellsOfClasses : Form → Type 0
+TellsOfClasses Chart = ⊥
+TellsOfClasses Differentials = ⊥
+TellsOfClasses Summary = ⊥
+TellsOfClasses (ProductsOf by) = ⊤
+TellsOfClasses (Bracket a b c) = ⊤
+
+-- what is asked for is told in such a form
+abbrev pub TellsFor : Option Plan → Type 0
+TellsFor None = ⊥
+TellsFor (Some (ToResolve origin form common)) = TellsOfClasses form
+TellsFor (Some plan) = ⊥
+
+-- ---- the disk
+
+-- What is used of it: its save file keeps the squares of a range, and those that it has are taken up.
+pub data Use : Type 0 where
+  keeping : Range → Use
+
+abbrev pub use_where : Bool → Range → Option Use
+use_where true range = Some (keeping range)
+use_where false range = None
+
+-- none where the disk gets no call
+abbrev pub use_of : Plan → Option Use
+use_of (ToResolve origin form common) = use_where common.save common.range
+use_of plan = None
+
+abbrev pub use_for : Option Plan → Option Use
+use_for None = None
+use_for (Some plan) = use_of plan

@@ -1,0 +1,79 @@
+//! What a command asks for, as a plan: where its module comes from, and what is made of it. No other file knows the
+//! commands.
+ghost use Rattle.std.specs.Prelude.{◌≡◌};
+ghost use Rattle.ext_run.specs.Plan.{plan_of};
+ghost use Rattle.ext_run.specs.declared.plan.Plan as Plan;
+
+use chain_map::Class;
+use ext_words::{Build, Command, Common};
+use sq_calc::Mono;
+
+/// Where a module comes from.
+#[derive(Clone, Copy, Debug)]
+pub enum Origin {
+    /// It is that of the sphere.
+    Sphere,
+    /// This number draws it.
+    Sample(u32),
+    /// The file that the source has left describes it.
+    File,
+}
+
+/// What is printed of a resolution.
+#[derive(Clone, Copy, Debug)]
+pub enum Form {
+    Chart,
+    Differentials,
+    Summary,
+    /// The products of this class of the sphere with the classes of the module.
+    Products(Class),
+    /// The bracket of the classes `a` and `b` of the sphere with the class `c` of the module.
+    Bracket { a: Class, b: Class, c: Class },
+}
+
+/// What a command asks for.
+#[derive(Drop)]
+pub enum Plan {
+    /// A module is resolved, and told of in this form.
+    Resolve {
+        origin: Origin,
+        form: Form,
+        common: Common,
+    },
+    /// The module of a file is told of in a line.
+    Check,
+    /// A module is built of those of a file.
+    Build(Build),
+    /// Squares are multiplied.
+    Multiply(Mono),
+}
+
+/// What the command asks for.
+pub(crate) fn plan_of(command: Command) -> Plan
+    ensures { result ≡ plan_of command }
+{
+    match command {
+        Command::Sphere(common) => resolve(Origin::Sphere, Form::Chart, common),
+        Command::Resolve(common) => resolve(Origin::File, Form::Chart, common),
+        Command::Dump(common) => resolve(Origin::File, Form::Differentials, common),
+        Command::Products { common, by } => resolve(Origin::File, Form::Products(by), common),
+        Command::Massey { common, a, b, c } => {
+            resolve(Origin::File, Form::Bracket { a, b, c }, common)
+        }
+        Command::Check => Plan::Check,
+        Command::Build(made) => Plan::Build(made),
+        Command::Sample(n, common) => resolve(Origin::Sample(n), Form::Summary, common),
+        Command::Sq(squares) => Plan::Multiply(squares),
+    }
+}
+
+/// A module of this origin is resolved as far as this, and told of in this form.
+fn resolve(origin: Origin, form: Form, common: Common) -> Plan
+    ensures { result ≡ Plan.Resolve origin form common }
+{
+    Plan::Resolve {
+        origin,
+        form,
+        common,
+    }
+}
