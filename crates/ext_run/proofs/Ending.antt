@@ -207,7 +207,7 @@ module _ {S O E D : Type 0} (source : Device S) (out : Device O) (err : Device E
           saved = ended.saved;
         }
 
-    pub run_of_task : (text : Told) → HasWorked disk.now disk.moment disk.images disk.since disk.faults task text d g
+    pub run_of_task : (text : Told) → HasWorked disk task text d g
         → IfOk text (λ x. (HasGotWhole out.shows out.faults x.items o p × (status ≡ 0) × (f ≡ e)) ⊎ (HasGotPart out.shows out.faults x.items o p × HasTold err.shows err.faults Writing status e f))
         → IfErr text (λ failure. (p ≡ o) × HasTold err.shows err.faults failure status e f)
         → IsRun source out err disk asked status s t o p e f d g

@@ -20,6 +20,7 @@ use Rattle.save_file.specs.Files.{Standing, digest_of, of_records, standing_of, 
 use Rattle.save_file.specs.Saving.{SaveState, TakesSquares, kept_in, telling_of}
 use Rattle.save_file.specs.Inside.SavingLaws.{left_is_kept}
 use Rattle.resolution_step.specs.Alone.{IsInRange}
+use Rattle.ext_run.specs.Devices.{Store}
 use Rattle.ext_run.specs.Saving.{AreCanonical, StandsWith, StandsAmid, StandsAtPart, StandsAsOneOf, IsOurs, MayBeLeft, IsUnwritten, HasLasted, HasRange}
 
 -- ---- what is told
@@ -114,34 +115,34 @@ if_some (Some x) P p = p
 
 -- ---- a run
 
-module _ {D : Type 0} (now : D → Option (List ℕ)) (moment : D → ℕ) (images : D → List ℕ → Type 0) (since : D → ℕ → List ℕ → Type 0) (faults : D → ℕ) (laws : Lawful now moment images since) where
+module _ {D : Type 0} (store : Store D) (laws : Lawful store.now store.moment store.images store.since) where
   -- what contracts see of a save file as a keeper
-  abbrev telling : (D → ℕ → List ℕ → Type 0) → SaveState D → Keeper
-  telling images_at k = telling_of now moment images images_at since faults k
+  abbrev telling : SaveState D → Keeper
+  telling k = telling_of store.now store.moment store.images store.images_at store.since store.faults k
 
   -- what was left since the beginning, and what is left now, was left before it
-  pub unwritten_since : (old new : D) → now new ≡ now old → IfSome (now old) (λ _. LeavesOnly moment since old new (images old)) → IsUnwritten now moment images since old new
+  pub unwritten_since : (old new : D) → store.now new ≡ store.now old → IfSome (store.now old) (λ _. LeavesOnly store.moment store.since old new (store.images old)) → IsUnwritten store old new
   unwritten_since old new same was = (
     same,
-    where_some (now old) (LeavesOnly moment since old new (images old)) ((c : List ℕ) → MayBeLeft moment images since old new c → images old c) (λ leaves c may. elim may [
+    where_some (store.now old) (LeavesOnly store.moment store.since old new (store.images old)) ((c : List ℕ) → MayBeLeft store old new c → store.images old c) (λ leaves c may. elim may [
       | inl left ↦ leaves.each c left
-      | inr image ↦ leaves.each c (laws.since_earlier new (moment old) (moment new) c leaves.later (laws.counts_now new c image))
+      | inr image ↦ leaves.each c (laws.since_earlier new (store.moment old) (store.moment new) c leaves.later (laws.counts_now new c image))
     ]) was,
   )
 
-  pub unwritten_same : (d : D) → IsUnwritten now moment images since d d
+  pub unwritten_same : (d : D) → IsUnwritten store d d
   unwritten_same d = (
     refl,
-    if_some (now d) ((c : List ℕ) → MayBeLeft moment images since d d c → images d c) (λ c may. elim may [
+    if_some (store.now d) ((c : List ℕ) → MayBeLeft store d d c → store.images d c) (λ c may. elim may [
       | inl left ↦ laws.only_now d c left
       | inr image ↦ image
     ]),
   )
 
-  module _ (images_at : D → ℕ → List ℕ → Type 0) (m : Checked) (range : Range) (list more given : List Entry) (had_answer unfailed : Type 0) (disk : D) (k after : SaveState D)
-      (at_most_one : length more ≤ 1) (canonical : AreCanonical m.plain (list ++ more)) (ours : IsOurs m.plain list (images disk)) (resolved : k.resolved ≡ m) (kept_is : kept_in now k ≡ Some (list ++ more))
-      (opening : LeavesOnly moment since disk k.journal.disk (HasRecordsOf (digest_of m.plain) (images disk))) (kept : HasKept (over m) (list ++ more) (telling images_at k) (telling images_at after) given) (places : All (λ e. IsInRange range e.s e.above) given)
-      (answered : had_answer → unfailed) (live : unfailed → TakesSquares now images after) (whole : had_answer → IfSome (kept_in now after) (HasRange range)) where
+  module _ (m : Checked) (range : Range) (list more given : List Entry) (had_answer unfailed : Type 0) (disk : D) (k after : SaveState D)
+      (at_most_one : length more ≤ 1) (canonical : AreCanonical m.plain (list ++ more)) (ours : IsOurs m.plain list (store.images disk)) (resolved : k.resolved ≡ m) (kept_is : kept_in store.now k ≡ Some (list ++ more))
+      (opening : LeavesOnly store.moment store.since disk k.journal.disk (HasRecordsOf (digest_of m.plain) (store.images disk))) (kept : HasKept (over m) (list ++ more) (telling k) (telling after) given) (places : All (λ e. IsInRange range e.s e.above) given)
+      (answered : had_answer → unfailed) (live : unfailed → TakesSquares store.now store.images after) (whole : had_answer → IfSome (kept_in store.now after) (HasRange range)) where
     abbrev start : List Entry
     start = list ++ more
 
@@ -161,20 +162,20 @@ module _ {D : Type 0} (now : D → Option (List ℕ)) (moment : D → ℕ) (imag
     read_after c = ap (λ (q : Checked). squares_in q c) after_resolved
 
     -- what is told of the list that was kept before
-    at_start : (P : List Entry → Type 0) → IfSome (kept_in now k) P → P start
+    at_start : (P : List Entry → Type 0) → IfSome (kept_in store.now k) P → P start
     at_start P h = subst (λ (o : Option (List Entry)). IfSome o P) kept_is h
 
-    after_kept : kept_in now after ≡ Some (start ++ given)
+    after_kept : kept_in store.now after ≡ Some (start ++ given)
     after_kept = kept.kept ∙ ap (λ (o : Option (List Entry)). with_squares o given) kept_is
 
-    moments : (c : List ℕ) → since after.journal.disk (moment disk) c → StandsWith m.plain list c ⊎ StandsAmid m.plain start given c
+    moments : (c : List ℕ) → store.since after.journal.disk (store.moment disk) c → StandsWith m.plain list c ⊎ StandsAmid m.plain start given c
     moments c left =
         let image = squares_in after.resolved c in
-        let T = telling images_at k in
-        let U = telling images_at after in
+        let T = telling k in
+        let U = telling after in
         let earlier = at_start (λ (l : List Entry). (t : ℕ) (i : Option (List Entry)) → t ≤ T.moment → U.since t i ↔ (T.since t i ⊎ U.since T.moment i)) kept.earlier in
         let between = at_start (λ (l : List Entry). (i : Option (List Entry)) → U.since T.moment i → IsImageAmid (over m) start l given i) kept.since in
-        elim ((earlier (moment disk) image opening.later).0 (c, left, refl)) [
+        elim ((earlier (store.moment disk) image opening.later).0 (c, left, refl)) [
           | inl before ↦
               let d = before.0 in
               let found = opening.each d before.1 in
@@ -184,21 +185,21 @@ module _ {D : Type 0} (now : D → Option (List ℕ)) (moment : D → ℕ) (imag
               inr (stands_amid m start start given c reads canonical given_canonical (subst (IsImageAmid (over m) start start given) (read_after c) (between image now_left)))
         ]
 
-    in_the_end : IsOurs m.plain (start ++ given) (images after.journal.disk)
+    in_the_end : IsOurs m.plain (start ++ given) (store.images after.journal.disk)
     in_the_end c image =
-        let U = telling images_at after in
+        let U = telling after in
         let ending = at_start (λ (l : List Entry). (i : Option (List Entry)) → U.since U.moment i → IsImageWith (over m) start (l ++ given) i) kept.now in
         stands_with m start (start ++ given) c reads all_canonical
         (subst (IsImageWith (over m) start (start ++ given)) (read_after c) (ending (squares_in after.resolved c) (c, laws.counts_now after.journal.disk c image, refl)))
 
-    keeps : unfailed → (c : List ℕ) → since after.journal.disk (moment disk) c → StandsAsOneOf m.plain (images disk) c ⊎ StandsAtPart m.plain start given c
+    keeps : unfailed → (c : List ℕ) → store.since after.journal.disk (store.moment disk) c → StandsAsOneOf m.plain (store.images disk) c ⊎ StandsAtPart m.plain start given c
     keeps worked c left =
         let image = squares_in after.resolved c in
-        let T = telling images_at k in
-        let U = telling images_at after in
+        let T = telling k in
+        let U = telling after in
         let earlier = at_start (λ (l : List Entry). (t : ℕ) (i : Option (List Entry)) → t ≤ T.moment → U.since t i ↔ (T.since t i ⊎ U.since T.moment i)) kept.earlier in
         let exact = at_start (λ (l : List Entry). (i : Option (List Entry)) → U.since T.moment i → IsImagePart l given i) (kept.exact (live worked)) in
-        elim ((earlier (moment disk) image opening.later).0 (c, left, refl)) [
+        elim ((earlier (store.moment disk) image opening.later).0 (c, left, refl)) [
           | inl before ↦
               let d = before.0 in
               let found = opening.each d before.1 in
@@ -210,14 +211,14 @@ module _ {D : Type 0} (now : D → Option (List ℕ)) (moment : D → ℕ) (imag
               inr (record { first = at.first; rest = at.rest; parts = at.parts; stands = standing_ok (standing_of m.plain c) (start ++ at.first) (sym (read_after c) ∙ at.is) })
         ]
 
-    only : unfailed → (c : List ℕ) → images after.journal.disk c → standing_of m.plain c ≡ Ok (start ++ given)
+    only : unfailed → (c : List ℕ) → store.images after.journal.disk c → standing_of m.plain c ≡ Ok (start ++ given)
     only worked c image =
-        let is_kept = left_is_kept now moment images since laws.only_now after (live worked) in
-        let U = telling images_at after in
+        let is_kept = left_is_kept store.now store.moment store.images store.since laws.only_now after (live worked) in
+        let U = telling after in
         let exact = subst (λ (o : Option (List Entry)). IfSome o (λ (l : List Entry). (i : Option (List Entry)) → U.since U.moment i → i ≡ Some l)) after_kept is_kept in
         standing_ok (standing_of m.plain c) (start ++ given) (sym (read_after c) ∙ exact (squares_in after.resolved c) (c, laws.counts_now after.journal.disk c image, refl))
 
-    pub lasting : HasLasted now moment images since m.plain range list had_answer unfailed disk after.journal.disk
+    pub lasting : HasLasted store m.plain range list had_answer unfailed disk after.journal.disk
     lasting = record {
       more = more;
       given = given;

@@ -124,7 +124,7 @@ module _ {D : Type 0} (disk : Store D) (laws : Lawful disk.now disk.moment disk.
   -- ---- a disk that got no call
 
   -- nothing was kept and nothing is lost
-  as_it_was : (m : SteenrodModule) (range : Range) (list : List Entry) (had_answer unfailed : Type 0) (d : D) → (had_answer → ⊥) → IsSome (disk.now d) → IsOurs m list (disk.images d) → HasLasted disk.now disk.moment disk.images disk.since m range list had_answer unfailed d d
+  as_it_was : (m : SteenrodModule) (range : Range) (list : List Entry) (had_answer unfailed : Type 0) (d : D) → (had_answer → ⊥) → IsSome (disk.now d) → IsOurs m list (disk.images d) → HasLasted disk m range list had_answer unfailed d d
   as_it_was m range list had_answer unfailed d never told ours =
       let found = some_is (disk.now d) told in
       let here = ours found.0 (file_of d found.0 found.1) in
@@ -138,7 +138,7 @@ module _ {D : Type 0} (disk : Store D) (laws : Lawful disk.now disk.moment disk.
         moments = λ c was. inl (ours c (laws.only_now d c was));
         ours = subst (λ (l : List Entry). IsOurs m l (disk.images d)) (sym same) ours;
         keeps = λ worked c was. inl (c, laws.only_now d c was, refl);
-        settled = λ worked. inl (refl, refl, unwritten_same disk.now disk.moment disk.images disk.since disk.faults laws d);
+        settled = λ worked. inl (refl, refl, unwritten_same disk laws d);
         exact = λ h. absurd (never h);
         whole = λ h. absurd (never h);
       }
@@ -154,7 +154,7 @@ module _ {D : Type 0} (disk : Store D) (laws : Lawful disk.now disk.moment disk.
     unwritten = λ e h. absurd (taken e h);
     spared = λ m file e on is refusal. record {
       comes = let c = cut m on in inr c.0;
-      unwritten = λ h. unwritten_same disk.now disk.moment disk.images disk.since disk.faults laws d;
+      unwritten = λ h. unwritten_same disk laws d;
       stands = λ c was. (c, laws.only_now d c was, refl);
     };
     lasts = λ m range list usage here told ours. let c = cut m (used_for (keeping range) m usage here) in as_it_was m range list _ _ d c.1 told ours;
@@ -165,7 +165,7 @@ module _ {D : Type 0} (disk : Store D) (laws : Lawful disk.now disk.moment disk.
 
   -- ---- a disk with the save file
 
-  module _ (r : ToResolve) (usage : use_for asked ≡ Some (keeping r.common.range)) (here : IsModuleFor asked input r.resolved.plain) (d g : D) (text : Told) (on : HasKeptOn disk.now disk.moment disk.images disk.since disk.faults r text d g) where
+  module _ (r : ToResolve) (usage : use_for asked ≡ Some (keeping r.common.range)) (here : IsModuleFor asked input r.resolved.plain) (d g : D) (text : Told) (on : HasKeptOn disk r text d g) where
     on_disk : IsOnDisk asked input r.resolved.plain
     on_disk = used_for (keeping r.common.range) r.resolved.plain usage here
 
@@ -193,9 +193,9 @@ module _ {D : Type 0} (disk : Store D) (laws : Lawful disk.now disk.moment disk.
       lasts = λ m range list used there told ours.
           let module_is = module_same asked input r.resolved.plain m here there in
           let ours_here : IsOurs r.resolved.plain list (disk.images d) = subst (λ (x : SteenrodModule). IsOurs x list (disk.images d)) (sym module_is) ours in
-          let lasted = lasted_by disk.now disk.moment disk.images disk.since r.resolved.plain r.common.range list (HasAnswer text) (IsAnswered outcome) (text ≢ Err Saving) (outcome ≢ Err Saving) d g after.answered (λ h other. h (after.told other)) (on.lasts told list ours_here) in
-          subst (λ (x : Range). HasLasted disk.now disk.moment disk.images disk.since m x list (IsAnswered outcome) (outcome ≢ Err Saving) d g) (same_range range used)
-          (subst (λ (x : SteenrodModule). HasLasted disk.now disk.moment disk.images disk.since x r.common.range list (IsAnswered outcome) (outcome ≢ Err Saving) d g) module_is lasted);
+          let lasted = lasted_by disk r.resolved.plain r.common.range list (HasAnswer text) (IsAnswered outcome) (text ≢ Err Saving) (outcome ≢ Err Saving) d g after.answered (λ h other. h (after.told other)) (on.lasts told list ours_here) in
+          subst (λ (x : Range). HasLasted disk m x list (IsAnswered outcome) (outcome ≢ Err Saving) d g) (same_range range used)
+          (subst (λ (x : SteenrodModule). HasLasted disk x r.common.range list (IsAnswered outcome) (outcome ≢ Err Saving) d g) module_is lasted);
     }
 
     -- an answer comes of no file that is refused
@@ -243,7 +243,7 @@ module _ {D : Type 0} (disk : Store D) (laws : Lawful disk.now disk.moment disk.
 
   module _ (r : ToResolve) (usage : use_for asked ≡ Some (keeping r.common.range)) (here : IsModuleFor asked input r.resolved.plain) (tells : TellsOfClasses r.form → TellsFor asked) (d g : D) where
     abbrev KeptOn : Failure → Type 0
-    KeptOn failure = HasKeptOn disk.now disk.moment disk.images disk.since disk.faults r (Err failure) d g
+    KeptOn failure = HasKeptOn disk r (Err failure) d g
 
     abbrev Ended : Failure → Type 0
     Ended failure = KeptOn failure → IsEndedBy failure d g
@@ -318,18 +318,18 @@ module _ {D : Type 0} (disk : Store D) (laws : Lawful disk.now disk.moment disk.
   }
 
   module _ (r : ToResolve) (usage : use_for asked ≡ Some (keeping r.common.range)) (here : IsModuleFor asked input r.resolved.plain) (tells : TellsOfClasses r.form → TellsFor asked) (d g : D) where
-    made_used : (text : Told) → HasKeptOn disk.now disk.moment disk.images disk.since disk.faults r text d g → HasAnswer text → IsUsable disk asked input d → IsDoneBy (Resolution r) (answer_of text)
+    made_used : (text : Told) → HasKeptOn disk r text d g → HasAnswer text → IsUsable disk asked input d → IsDoneBy (Resolution r) (answer_of text)
     made_used text on has usable = let ours = usable r.resolved.plain (on_disk r usage here d g text on) in on.told has ours.0 ours.1.0 ours.1.1
 
-    worked_used : (text : Told) → HasKeptOn disk.now disk.moment disk.images disk.since disk.faults r text d g → IsWorked text (Resolution r) d g
+    worked_used : (text : Told) → HasKeptOn disk r text d g → IsWorked text (Resolution r) d g
     worked_used (Ok x) on = record { made = made_used (Ok x) on; kept = kept_answered r usage here d g (Ok x) on; failed = tt }
     worked_used (Err failure) on = record { made = made_used (Err failure) on; kept = kept_answered r usage here d g (Err failure) on; failed = ended_used r usage here tells d g failure on.why on }
 
-  by_option : (r : ToResolve) (text : Told) (d g : D) (saves : Bool) → r.common.save ≡ saves → use_for asked ≡ use_where saves r.common.range → IsTaskFor asked input (Resolution r) → HasWorked disk.now disk.moment disk.images disk.since disk.faults (Resolution r) text d g → IsWorked text (Resolution r) d g
+  by_option : (r : ToResolve) (text : Told) (d g : D) (saves : Bool) → r.common.save ≡ saves → use_for asked ≡ use_where saves r.common.range → IsTaskFor asked input (Resolution r) → HasWorked disk (Resolution r) text d g → IsWorked text (Resolution r) d g
   by_option r text d g true is usage task did = worked_used r usage (resolution_module asked input r task) (resolution_tells asked input r task) d g text (did.1 is)
   by_option r text d g false is usage task did = worked_unused (Resolution r) text d g task usage (did.0 is)
 
-  pub worked : (task : Task) (text : Told) (d g : D) → IsTaskFor asked input task → HasWorked disk.now disk.moment disk.images disk.since disk.faults task text d g → IsWorked text task d g
+  pub worked : (task : Task) (text : Told) (d g : D) → IsTaskFor asked input task → HasWorked disk task text d g → IsWorked text task d g
   worked (Text made) text d g h did = worked_unused (Text made) text d g h (text_use asked input made h) did
   worked (Resolution r) text d g h did = by_option r text d g r.common.save refl (resolution_use asked input r h) h did
 

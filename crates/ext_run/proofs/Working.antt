@@ -14,6 +14,7 @@ use Rattle.ext_run.specs.declared.plan.Form.{Form}
 use Rattle.ext_run.specs.declared.task.Task.{Task}
 use Rattle.ext_run.specs.declared.task.Task.TheVariants.{Text, Resolution}
 use Rattle.ext_run.specs.declared.task.Resolution.{Resolution as ToResolve}
+use Rattle.ext_run.specs.Devices.{Store}
 use Rattle.ext_run.specs.Forms.{IsInForm}
 use Rattle.ext_run.specs.Work.{Told, HasAnswer, answer_of, IsRefusalIn, HasContinued, HasKeptOn, HasWorked}
 use Rattle.ext_report.specs.Failure.{IsOfClasses}
@@ -39,12 +40,12 @@ why_unsaved range form table (Err e) old new never h = elim h.why [
 
 -- ---- the kinds of tasks
 
-module _ {D : Type 0} (now : D → Option (List ℕ)) (moment : D → ℕ) (images : D → List ℕ → Type 0) (since : D → ℕ → List ℕ → Type 0) (faults : D → ℕ) (task : Task) where
-  pub worked_text : (made : Vec ℕ Global) (d : D) → task ≡ Text made → HasWorked now moment images since faults task (Ok made) d d
-  worked_text made d is = subst (λ (t : Task). HasWorked now moment images since faults t (Ok made) d d) (sym is) (record { told = λ has. refl; why = tt; same = refl })
+module _ {D : Type 0} (disk : Store D) (task : Task) where
+  pub worked_text : (made : Vec ℕ Global) (d : D) → task ≡ Text made → HasWorked disk task (Ok made) d d
+  worked_text made d is = subst (λ (t : Task). HasWorked disk t (Ok made) d d) (sym is) (record { told = λ has. refl; why = tt; same = refl })
 
-  pub worked_saved : (r : ToResolve) (text : Told) (d g : D) → task ≡ Resolution r → r.common.save ≡ true → HasKeptOn now moment images since faults r text d g → HasWorked now moment images since faults task text d g
-  worked_saved r text d g is saves on = subst (λ (t : Task). HasWorked now moment images since faults t text d g) (sym is) (λ h. absurd (cc), λ h. on)
+  pub worked_saved : (r : ToResolve) (text : Told) (d g : D) → task ≡ Resolution r → r.common.save ≡ true → HasKeptOn disk r text d g → HasWorked disk task text d g
+  worked_saved r text d g is saves on = subst (λ (t : Task). HasWorked disk t text d g) (sym is) (λ h. absurd (cc), λ h. on)
 
-  pub worked_unsaved : (r : ToResolve) (text : Told) (d : D) → task ≡ Resolution r → r.common.save ≡ false → (HasAnswer text → IsInForm r.form r.common.range r.resolved.plain (answer_of text)) → IfErr text (λ e. (e ≡ Memory) ⊎ IsRefusalIn r.form e) → HasWorked now moment images since faults task text d d
-  worked_unsaved r text d is saves told why = subst (λ (t : Task). HasWorked now moment images since faults t text d d) (sym is) (λ h. record { told = told; why = why; same = refl }, λ h. absurd (cc))
+  pub worked_unsaved : (r : ToResolve) (text : Told) (d : D) → task ≡ Resolution r → r.common.save ≡ false → (HasAnswer text → IsInForm r.form r.common.range r.resolved.plain (answer_of text)) → IfErr text (λ e. (e ≡ Memory) ⊎ IsRefusalIn r.form e) → HasWorked disk task text d d
+  worked_unsaved r text d is saves told why = subst (λ (t : Task). HasWorked disk t text d d) (sym is) (λ h. record { told = told; why = why; same = refl }, λ h. absurd (cc))

@@ -14,10 +14,17 @@ pub record Store (State : Type 0) : Type 1 where
   pub now : State → Option (List ℕ)
   pub moment : State → ℕ
   pub images : State → List ℕ → Type 0
+  pub images_at : State → ℕ → List ℕ → Type 0
   pub since : State → ℕ → List ℕ → Type 0
   pub faults : State → ℕ
 
 abbrev pub store_of : {State : Type 0} → (State → Option (List ℕ)) → (State → ℕ) → (State → List ℕ → Type 0) →
-    (State → ℕ → List ℕ → Type 0) → (State → ℕ) → Store State
-store_of now moment images since faults =
-    record { now = now; moment = moment; images = images; since = since; faults = faults }
+    (State → ℕ → List ℕ → Type 0) → (State → ℕ → List ℕ → Type 0) → (State → ℕ) → Store State
+store_of now moment images images_at since faults = record {
+  now = now;
+  moment = moment;
+  images = images;
+  images_at = images_at;
+  since = since;
+  faults = faults;
+}

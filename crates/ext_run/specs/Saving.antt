@@ -53,15 +53,14 @@ IsOurs m list images = (c : List ℕ) → images c → StandsWith m list c
 -- ---- a run
 
 -- Of the disk of a run, old and in the end new, a crash may have left these bytes at some moment of the run, or may leave them now.
-abbrev pub MayBeLeft : {D : Type 0} → (D → ℕ) → (D → List ℕ → Type 0) → (D → ℕ → List ℕ → Type 0) → D → D → List ℕ →
-    Type 0
-MayBeLeft moment images since old new c = since new (moment old) c ⊎ images new c
+abbrev pub MayBeLeft : {D : Type 0} → Store D → D → D → List ℕ → Type 0
+MayBeLeft disk old new c = disk.since new (disk.moment old) c ⊎ disk.images new c
 
 -- Nothing was written: the disk holds what it held, and where it tells, a crash leaves at each moment what it might have left before.
-abbrev pub IsUnwritten : {D : Type 0} → (D → Option (List ℕ)) → (D → ℕ) → (D → List ℕ → Type 0) →
-    (D → ℕ → List ℕ → Type 0) → D → D → Type 0
-IsUnwritten now moment images since old new =
-    (now new ≡ now old) × IfSome (now old) (λ _. (c : List ℕ) → MayBeLeft moment images since old new c → images old c)
+abbrev pub IsUnwritten : {D : Type 0} → Store D → D → D → Type 0
+IsUnwritten disk old new =
+    (disk.now new ≡ disk.now old)
+    × IfSome (disk.now old) (λ _. (c : List ℕ) → MayBeLeft disk old new c → disk.images old c)
 
 -- the list has each square of the range
 abbrev pub HasRange : Range → List Entry → Type 0
@@ -74,22 +73,22 @@ HasRange range list = (s k : ℕ) → s ≤ range.s → k ≤ range.t → IsSome
 -- Unless the disk failed, there is no square more: at every moment an image stands for what one from before the run stood for, or for
 -- just what was taken up and a first part of what was given; and in the end each image has just all of them, or nothing was written. If
 -- there was an answer, each has just all of them, and each square of the range is among them.
-pub record HasLasted {D : Type 0} (now : D → Option (List ℕ)) (moment : D → ℕ) (images : D → List ℕ → Type 0)
-    (since : D → ℕ → List ℕ → Type 0) (m : SteenrodModule) (range : Range) (list : List Entry)
+pub record HasLasted {D : Type 0} (disk : Store D) (m : SteenrodModule) (range : Range) (list : List Entry)
     (had_answer unfailed : Type 0) (old new : D) : Type 0 where
   pub more : List Entry
   pub given : List Entry
   pub places : All (λ e. IsInRange range e.s e.above) given
   pub at_most_one : length more ≤ 1
   pub canonical : AreCanonical m ((list ++ more) ++ given)
-  pub moments : (c : List ℕ) → since new (moment old) c → StandsWith m list c ⊎ StandsAmid m (list ++ more) given c
-  pub ours : IsOurs m ((list ++ more) ++ given) (images new)
-  pub keeps : unfailed → (c : List ℕ) → since new (moment old) c →
-      StandsAsOneOf m (images old) c ⊎ StandsAtPart m (list ++ more) given c
+  pub moments : (c : List ℕ) → disk.since new (disk.moment old) c →
+      StandsWith m list c ⊎ StandsAmid m (list ++ more) given c
+  pub ours : IsOurs m ((list ++ more) ++ given) (disk.images new)
+  pub keeps : unfailed → (c : List ℕ) → disk.since new (disk.moment old) c →
+      StandsAsOneOf m (disk.images old) c ⊎ StandsAtPart m (list ++ more) given c
   pub settled : unfailed →
-      ((more ≡ []) × (given ≡ []) × IsUnwritten now moment images since old new)
-      ⊎ ((c : List ℕ) → images new c → standing_of m c ≡ Ok ((list ++ more) ++ given))
-  pub exact : had_answer → (c : List ℕ) → images new c → standing_of m c ≡ Ok ((list ++ more) ++ given)
+      ((more ≡ []) × (given ≡ []) × IsUnwritten disk old new)
+      ⊎ ((c : List ℕ) → disk.images new c → standing_of m c ≡ Ok ((list ++ more) ++ given))
+  pub exact : had_answer → (c : List ℕ) → disk.images new c → standing_of m c ≡ Ok ((list ++ more) ++ given)
   pub whole : had_answer → HasRange range ((list ++ more) ++ given)
 
 -- ---- the disk of a run
@@ -139,7 +138,7 @@ IsCutOff outcome = ⊥
 pub record HasSpared {D : Type 0} (disk : Store D) (m : SteenrodModule) (e : ResumeFault) (outcome : Outcome)
     (old new : D) : Type 0 where
   pub comes : (outcome ≡ Err (SaveFile e)) ⊎ IsCutOff outcome
-  pub unwritten : outcome ≢ Err Saving → IsUnwritten disk.now disk.moment disk.images disk.since old new
+  pub unwritten : outcome ≢ Err Saving → IsUnwritten disk old new
   pub stands : (c : List ℕ) → disk.since new (disk.moment old) c → StandsAsOneOf m (disk.images old) c
 
 -- What becomes of the disk of a run, by how the run ended.
@@ -154,11 +153,10 @@ pub record HasSaved {D : Type 0} (disk : Store D) (asked : Option Plan) (input :
   pub never_falls : disk.faults old ≤ disk.faults new
   -- where a file was refused, nothing is written
   pub unwritten : (e : ResumeFault) → outcome ≡ Err (SaveFile e) →
-      IsUnwritten disk.now disk.moment disk.images disk.since old new
+      IsUnwritten disk old new
   pub spared : (m : SteenrodModule) (file : List ℕ) (e : ResumeFault) → IsOnDisk asked input m →
       disk.now old ≡ Some file → standing_of m file ≡ Err e → HasSpared disk m e outcome old new
   -- squares last
   pub lasts : (m : SteenrodModule) (range : Range) (list : List Entry) → use_for asked ≡ Some (keeping range) →
       IsModuleFor asked input m → IsSome (disk.now old) → IsOurs m list (disk.images old) →
-      HasLasted disk.now disk.moment disk.images disk.since m range list (IsAnswered outcome)
-      (outcome ≢ Err Saving) old new
+      HasLasted disk m range list (IsAnswered outcome) (outcome ≢ Err Saving) old new

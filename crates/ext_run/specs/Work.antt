@@ -18,6 +18,7 @@ use Rattle.ext_run.specs.declared.plan.Form.{Form}
 use Rattle.ext_run.specs.declared.task.Task.{Task}
 use Rattle.ext_run.specs.declared.task.Task.TheVariants.{Text, Resolution}
 use Rattle.ext_run.specs.declared.task.Resolution.{Resolution as ToResolve}
+use Rattle.ext_run.specs.Devices.{Store}
 use Rattle.ext_run.specs.Plan.{TellsOfClasses}
 use Rattle.ext_run.specs.Forms.{IsInForm}
 use Rattle.ext_run.specs.Task.{IsDoneBy}
@@ -70,32 +71,30 @@ pub record IsUnsaved {D : Type 0} (task : Task) (text : Told) (old new : D) : Ty
 abbrev pub IsRefusedFor : SteenrodModule → Option (List ℕ) → ResumeFault → Type 0
 IsRefusedFor m now fault = IfSome now (λ file. standing_of m file ≡ Err fault)
 
--- A resolution was made over the save file on a disk, by its trait's now, moment, images, since and faults.
-pub record HasKeptOn {D : Type 0} (now : D → Option (List ℕ)) (moment : D → ℕ) (images : D → List ℕ → Type 0)
-    (since : D → ℕ → List ℕ → Type 0) (faults : D → ℕ) (r : ToResolve) (text : Told) (old new : D) : Type 0 where
-  pub told : HasAnswer text → IsSome (now old) → (list : List Entry) → IsOurs r.resolved.plain list (images old) →
+-- A resolution was made over the save file on a disk.
+pub record HasKeptOn {D : Type 0} (disk : Store D) (r : ToResolve) (text : Told) (old new : D) : Type 0 where
+  pub told : HasAnswer text → IsSome (disk.now old) → (list : List Entry) → IsOurs r.resolved.plain list (disk.images old) →
       IsDoneBy (Resolution r) (answer_of text)
   pub why : IfErr text (λ e. (e ≡ Saving) ⊎ (e ≡ Memory) ⊎ IsRefusalIn r.form e
-      ⊎ ((fault : ResumeFault) × (e ≡ SaveFile fault) × IsRefusedFor r.resolved.plain (now old) fault))
-  pub failed : text ≡ Err Saving → HasRisen (faults old) (faults new)
-  pub no_fault : text ≢ Err Saving → faults new ≡ faults old
-  pub never_falls : faults old ≤ faults new
-  pub accepted : HasAnswer text → (file : List ℕ) → now old ≡ Some file →
+      ⊎ ((fault : ResumeFault) × (e ≡ SaveFile fault) × IsRefusedFor r.resolved.plain (disk.now old) fault))
+  pub failed : text ≡ Err Saving → HasRisen (disk.faults old) (disk.faults new)
+  pub no_fault : text ≢ Err Saving → disk.faults new ≡ disk.faults old
+  pub never_falls : disk.faults old ≤ disk.faults new
+  pub accepted : HasAnswer text → (file : List ℕ) → disk.now old ≡ Some file →
       (list : List Entry) × (standing_of r.resolved.plain file ≡ Ok list)
-  pub unwritten : (fault : ResumeFault) → text ≡ Err (SaveFile fault) → IsUnwritten now moment images since old new
-  pub spared : (file : List ℕ) (fault : ResumeFault) → now old ≡ Some file →
-      standing_of r.resolved.plain file ≡ Err fault → text ≢ Err Saving → IsUnwritten now moment images since old new
-  pub stands : (file : List ℕ) (fault : ResumeFault) → now old ≡ Some file →
-      standing_of r.resolved.plain file ≡ Err fault → (c : List ℕ) → since new (moment old) c →
-      StandsAsOneOf r.resolved.plain (images old) c
-  pub lasts : IsSome (now old) → (list : List Entry) → IsOurs r.resolved.plain list (images old) →
-      HasLasted now moment images since r.resolved.plain r.common.range list (HasAnswer text) (text ≢ Err Saving) old
+  pub unwritten : (fault : ResumeFault) → text ≡ Err (SaveFile fault) → IsUnwritten disk old new
+  pub spared : (file : List ℕ) (fault : ResumeFault) → disk.now old ≡ Some file →
+      standing_of r.resolved.plain file ≡ Err fault → text ≢ Err Saving → IsUnwritten disk old new
+  pub stands : (file : List ℕ) (fault : ResumeFault) → disk.now old ≡ Some file →
+      standing_of r.resolved.plain file ≡ Err fault → (c : List ℕ) → disk.since new (disk.moment old) c →
+      StandsAsOneOf r.resolved.plain (disk.images old) c
+  pub lasts : IsSome (disk.now old) → (list : List Entry) → IsOurs r.resolved.plain list (disk.images old) →
+      HasLasted disk r.resolved.plain r.common.range list (HasAnswer text) (text ≢ Err Saving) old
       new
 
 -- what became of the task and of the disk
-abbrev pub HasWorked : {D : Type 0} → (D → Option (List ℕ)) → (D → ℕ) → (D → List ℕ → Type 0) →
-    (D → ℕ → List ℕ → Type 0) → (D → ℕ) → Task → Told → D → D → Type 0
-HasWorked now moment images since faults (Text made) text old new = IsUnsaved (Text made) text old new
-HasWorked now moment images since faults (Resolution r) text old new =
+abbrev pub HasWorked : {D : Type 0} → Store D → Task → Told → D → D → Type 0
+HasWorked disk (Text made) text old new = IsUnsaved (Text made) text old new
+HasWorked disk (Resolution r) text old new =
     (r.common.save ≡ false → IsUnsaved (Resolution r) text old new)
-    × (r.common.save ≡ true → HasKeptOn now moment images since faults r text old new)
+    × (r.common.save ≡ true → HasKeptOn disk r text old new)

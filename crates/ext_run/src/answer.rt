@@ -63,7 +63,7 @@ pub fn run<
     gate: &G,
 ) -> Ended<D>
     ensures { IsRun (device_of S.left S.faults) (device_of O.written O.faults) (device_of E.written E.faults)
-        (store_of D.now D.moment D.images D.since D.faults) (asked_by (texts_of words.now)) result.status
+        (store_of D.now D.moment D.images D.images_at D.since D.faults) (asked_by (texts_of words.now)) result.status
         source.old source.new out.old out.new err.old err.new disk result.disk }
 {
     match task_from(alloc, words, source) {
@@ -91,7 +91,7 @@ pub fn run_one<R, S: Source, O: Sink, E: Sink, D: Disk>(
     disk: D,
 ) -> Ended<D>
     ensures { IsRun (device_of S.left S.faults) (device_of O.written O.faults) (device_of E.written E.faults)
-        (store_of D.now D.moment D.images D.since D.faults) (asked_by (texts_of words.now)) result.status
+        (store_of D.now D.moment D.images D.images_at D.since D.faults) (asked_by (texts_of words.now)) result.status
         source.old source.new out.old out.new err.old err.new disk result.disk }
 {
     match task_from(alloc, words, source) {

@@ -1,5 +1,6 @@
 //! Laws over the definitions, as contracts of functions that do nothing.
 ghost use Rattle.ext_run.specs.Answer.{AnswerIsUnique};
+ghost use Rattle.ext_run.specs.Devices.{store_of};
 ghost use Rattle.ext_run.specs.Existence.{AnswerExists};
 ghost use Rattle.ext_run.specs.NextRun.{NextRunMayUse, ShortDiskIsOurs};
 
@@ -28,7 +29,7 @@ pub fn answer_exists()
 /// first one was cut off, and through whatever range each of them goes. (`run` and `run_one` promise their text where the disk
 /// may be used.)
 pub fn next_run_may_use_what_is_left<D: Disk>()
-    ensures { NextRunMayUse D.now D.moment D.images D.since D.faults }
+    ensures { NextRunMayUse (store_of D.now D.moment D.images D.images_at D.since D.faults) }
 {}
 
 /// A disk of which a crash leaves no more than a header and a gate, as an empty one, is every module's, with no

@@ -4,6 +4,7 @@ ghost use Rattle.std.specs.Prelude.{◌≡◌, ◌≤◌, ◌<◌, ◌⊎◌, If
 ghost use Rattle.square.specs.declared.range.TheConstants.{MAX_S, MAX_T};
 ghost use Rattle.square.specs.Keeping.{IsKeeperOf};
 ghost use Rattle.square.specs.Tables.{plain_rows, IsThrough, cut};
+ghost use Rattle.ext_run.specs.Devices.{store_of};
 ghost use Rattle.ext_run.specs.Plan.{TellsOfClasses};
 ghost use Rattle.ext_run.specs.Forms.{IsResolved, IsInForm};
 ghost use Rattle.ext_words.specs.Words.{IsWithin};
@@ -42,7 +43,7 @@ pub(crate) fn text_alone<D: Disk>(
     disk: D,
 ) -> (Result<Vec<u8>, Failure>, D)
     requires { IsTaskWithin task }
-    ensures { HasWorked D.now D.moment D.images D.since D.faults task result.0 disk result.1 }
+    ensures { HasWorked (store_of D.now D.moment D.images D.images_at D.since D.faults) task result.0 disk result.1 }
 {
     match task {
         Task::Text(text) => (Ok(text), disk),
@@ -62,7 +63,7 @@ pub(crate) fn text_by_workers<W: Threads + Wait + Clock + Sync, D: Disk + Send, 
     gate: &G,
 ) -> (Result<Vec<u8>, Failure>, D)
     requires { IsTaskWithin task }
-    ensures { HasWorked D.now D.moment D.images D.since D.faults task result.0 disk result.1 }
+    ensures { HasWorked (store_of D.now D.moment D.images D.images_at D.since D.faults) task result.0 disk result.1 }
 {
     match task {
         Task::Resolution(resolution) if resolution.common.workers > 1 => {
@@ -130,7 +131,7 @@ fn saved_alone<D: Disk>(
     disk: D,
 ) -> (Result<Vec<u8>, Failure>, D)
     requires { IsWithin resolution.common }
-    ensures { HasKeptOn D.now D.moment D.images D.since D.faults resolution result.0 disk result.1 }
+    ensures { HasKeptOn (store_of D.now D.moment D.images D.images_at D.since D.faults) resolution result.0 disk result.1 }
 {
     let range = resolution.common.range;
     match resume(alloc, resolution.resolved, disk) {
@@ -151,7 +152,7 @@ fn saved_by_workers<W: Threads + Wait + Clock + Sync, D: Disk + Send, G: Gate + 
     gate: &G,
 ) -> (Result<Vec<u8>, Failure>, D)
     requires { IsWithin resolution.common }
-    ensures { HasKeptOn D.now D.moment D.images D.since D.faults resolution result.0 disk result.1 }
+    ensures { HasKeptOn (store_of D.now D.moment D.images D.images_at D.since D.faults) resolution result.0 disk result.1 }
 {
     let Common { range, workers, .. } = resolution.common;
     match resume(alloc, resolution.resolved, disk) {

@@ -20,14 +20,14 @@ laws g =
 pub returns-in-Ok : goal.returns-in-Ok
 returns-in-Ok g c =
     let same : texts_of c.as_slice.result.now ≡ map string_bytes c.args.arguments.now = ap texts_of c.as_slice.ensures.value ∙ c.in-Ok.ensures in
-    let P : List (List ℕ) → Type 0 = λ words. IsRun (device_of g.S.Source.left g.S.Source.faults) (device_of g.O.Sink.written g.O.Sink.faults) (device_of g.E.Sink.written g.E.Sink.faults) (store_of g.D.Disk.now g.D.Disk.moment g.D.Disk.images g.D.Disk.since g.D.Disk.faults) (asked_by words) c.run.result.status
+    let P : List (List ℕ) → Type 0 = λ words. IsRun (device_of g.S.Source.left g.S.Source.faults) (device_of g.O.Sink.written g.O.Sink.faults) (device_of g.E.Sink.written g.E.Sink.faults) (store_of g.D.Disk.now g.D.Disk.moment g.D.Disk.images g.D.Disk.images_at g.D.Disk.since g.D.Disk.faults) (asked_by words) c.run.result.status
     c.args.source.now c.run.new.source c.args.out.now c.run.new.out c.args.err.now c.run.new.err c.args.disk c.run.result.disk in
     subst P same c.run.ensures
 
 -- there is no memory for them
 pub returns-in-Err : goal.returns-in-Err
 returns-in-Err g c =
-    run_of_failure (device_of g.S.Source.left g.S.Source.faults) (device_of g.O.Sink.written g.O.Sink.faults) (device_of g.E.Sink.written g.E.Sink.faults) (store_of g.D.Disk.now g.D.Disk.moment g.D.Disk.images g.D.Disk.since g.D.Disk.faults) (laws g)
+    run_of_failure (device_of g.S.Source.left g.S.Source.faults) (device_of g.O.Sink.written g.O.Sink.faults) (device_of g.E.Sink.written g.E.Sink.faults) (store_of g.D.Disk.now g.D.Disk.moment g.D.Disk.images g.D.Disk.images_at g.D.Disk.since g.D.Disk.faults) (laws g)
     (asked_by (map string_bytes c.args.arguments.now)) c.args.source.now c.args.source.now c.args.err.now c.refused.new.err c.args.disk Memory c.refused.result c.args.out.now tt
     (record { unread = λ h. refl; given = given-none _ _; read = λ reads no_6 no_12. absurd (no_12 refl); never_falls = omega arith; no_fault = λ h. refl; failed = λ h. absurd cc })
     (record { status_is = c.refused.ensures.status; line = c.refused.ensures.line; whole_line = c.refused.ensures.whole_line; never_falls = c.refused.ensures.never_falls })

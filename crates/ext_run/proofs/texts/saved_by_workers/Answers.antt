@@ -1,6 +1,7 @@
 use Rattle.std.proofs.Common.{sym, subst, Err}
 use Rattle.edge.proofs.Moments.{Lawful}
 use Rattle.ext_report.specs.declared.failure.Failure.{Failure}
+use Rattle.ext_run.specs.Devices.{store_of}
 use Rattle.ext_run.specs.Work.{HasKeptOn}
 use Rattle.ext_run.proofs.KeptOn.{kept_on, not_taken_up}
 use Rattle.ext_run.proofs.texts.saved_by_workers.Given.{Over}
@@ -14,11 +15,11 @@ laws g =
 pub returns-in-Ok : goal.returns-in-Ok
 returns-in-Ok g c =
     let o = c.in-Ok.ensures in
-    subst (HasKeptOn g.D.Disk.now g.D.Disk.moment g.D.Disk.images g.D.Disk.since g.D.Disk.faults c.args.resolution c.told_by_workers-text.result.0 c.args.disk) (sym c.into_disk.ensures)
-    (kept_on g.D.Disk.now g.D.Disk.moment g.D.Disk.images g.D.Disk.since g.D.Disk.faults (laws g) g.D.Disk.images_at c.args.resolution c.args.disk c.told_by_workers-text.result.0 c.in-Ok.table c.in-Ok.keeper c.told_by_workers-text.result.1 o.squares o.resolved o.keeper o.kept o.any_moment o.no_fault c.told_by_workers-text.ensures)
+    subst (HasKeptOn (store_of g.D.Disk.now g.D.Disk.moment g.D.Disk.images g.D.Disk.images_at g.D.Disk.since g.D.Disk.faults) c.args.resolution c.told_by_workers-text.result.0 c.args.disk) (sym c.into_disk.ensures)
+    (kept_on (store_of g.D.Disk.now g.D.Disk.moment g.D.Disk.images g.D.Disk.images_at g.D.Disk.since g.D.Disk.faults) (laws g) c.args.resolution c.args.disk c.told_by_workers-text.result.0 c.in-Ok.table c.in-Ok.keeper c.told_by_workers-text.result.1 o.squares o.resolved o.keeper o.kept o.any_moment o.no_fault c.told_by_workers-text.ensures)
 
 pub returns-in-Err : goal.returns-in-Err
 returns-in-Err g c =
     let e = c.in-Err.ensures in
-    subst (λ (failure : Failure). HasKeptOn g.D.Disk.now g.D.Disk.moment g.D.Disk.images g.D.Disk.since g.D.Disk.faults c.args.resolution (Err failure) c.args.disk c.in-Err.disk) (sym c.from.ensures)
-    (not_taken_up g.D.Disk.now g.D.Disk.moment g.D.Disk.images g.D.Disk.since g.D.Disk.faults (laws g) c.args.resolution c.args.disk c.in-Err.fault c.in-Err.disk e.refused e.same e.unwritten e.any_moment e.never_fall e.cause e.quiet)
+    subst (λ (failure : Failure). HasKeptOn (store_of g.D.Disk.now g.D.Disk.moment g.D.Disk.images g.D.Disk.images_at g.D.Disk.since g.D.Disk.faults) c.args.resolution (Err failure) c.args.disk c.in-Err.disk) (sym c.from.ensures)
+    (not_taken_up (store_of g.D.Disk.now g.D.Disk.moment g.D.Disk.images g.D.Disk.images_at g.D.Disk.since g.D.Disk.faults) (laws g) c.args.resolution c.args.disk c.in-Err.fault c.in-Err.disk e.refused e.same e.unwritten e.any_moment e.never_fall e.cause e.quiet)
