@@ -76,8 +76,8 @@ fn answer<W: Threads + Wait + Clock + Sync, S: Source, O: Sink, E: Sink, D: Disk
     disk: D,
 ) -> Ended<D>
     ensures { IsRun (device_of S.left S.faults) (device_of O.written O.faults) (device_of E.written E.faults)
-        (store_of D.now D.moment D.images D.images_at D.since D.faults) (asked_by (map string_bytes arguments.now)) result.status
-        source.old source.new out.old out.new err.old err.new disk result.disk }
+        (store_of D.now D.moment D.images D.images_at D.since D.faults) (asked_by (map string_bytes arguments.now))
+        result.status source.old source.new out.old out.new err.old err.new disk result.disk }
 {
     match words(rt.alloc(), arguments) {
         Ok(words) => run(

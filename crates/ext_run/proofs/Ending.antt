@@ -4,7 +4,6 @@ use Rattle.std.specs.declared.alloc.Global.{Global}
 use Rattle.std.specs.Prelude.{Vec, Result, Ok, Err, IfOk, IfErr}
 use Rattle.edge.specs.Faults.{HasRisen}
 use Rattle.edge.specs.Source.{without_first, HasGivenUpTo}
-use Rattle.edge.proofs.Moments.{Lawful}
 use Rattle.module_json.specs.ModuleFile.{File}
 use Rattle.module_check.specs.declared.fault.CheckFault.{CheckFault}
 use Rattle.space_laws.specs.Spaces.{IsSpaceFile}
@@ -26,6 +25,7 @@ use Rattle.ext_run.specs.Run.{IsCause, IsPrevented, HasRead, HasPrinted, HasRepo
 use Rattle.ext_run.proofs.Asked.{task_told, space_asked, read_whole}
 use Rattle.ext_run.proofs.AnswerUnique.{asked_unique}
 use Rattle.ext_run.proofs.Tasks.{task_answers, input_of}
+use Rattle.ext_run.proofs.Lasting.{AreDisks}
 use Rattle.ext_run.proofs.Saved.{IsLate, saving, save_file, classes, memory, IsEndedBy, IsWorked, worked, kept_early, after_text, after_cut}
 
 -- what becomes of the source if its words have a task
@@ -49,7 +49,7 @@ pub record IsReadFor {S : Type 0} (source : Device S) (reads : Type 0) (failure 
 abbrev HasNoSpace : List ℕ → Failure → Type 0
 HasNoSpace input failure = IsSpaceFile input → (file : File) (fault : CheckFault) → ◌≡◌ {A = Outcome} (Err failure) (Err (NotModule file fault)) → ⊥
 
-module _ {S O E D : Type 0} (source : Device S) (out : Device O) (err : Device E) (disk : Store D) (laws : Lawful disk.now disk.moment disk.images disk.since) (asked : Option Plan) (s t : S) (e f : E) (d : D) where
+module _ {S O E D : Type 0} (source : Device S) (out : Device O) (err : Device E) (disk : Store D) (laws : AreDisks disk) (asked : Option Plan) (s t : S) (e f : E) (d : D) where
   -- the line of a failure
   reported : (failure : Failure) (status : ℕ) → HasTold err.shows err.faults failure status e f → HasReported err (Err failure) e f
   reported failure status told = record { status_is = refl; line = told.line; whole_line = told.whole_line; never_falls = told.never_falls }

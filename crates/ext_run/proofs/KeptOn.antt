@@ -6,7 +6,6 @@ use Rattle.std.proofs.lemmas.List.Elements.{All-nil}
 use Rattle.resolution_step.specs.Alone.{IsInRange}
 use Rattle.edge.specs.Faults.{HasRisen}
 use Rattle.edge.specs.Disk.{LeavesOnly}
-use Rattle.edge.proofs.Moments.{Lawful}
 use Rattle.finite_module.specs.Checked.{Checked}
 use Rattle.resolution_laws.specs.Start.{Entry, IsOf, IsCanonicalStart}
 use Rattle.square.specs.Squares.{over, module_over}
@@ -27,10 +26,10 @@ use Rattle.ext_run.specs.declared.task.Resolution.{Resolution as ToResolve}
 use Rattle.ext_report.specs.Failure.{resume_failure, IsOfClasses}
 use Rattle.ext_run.specs.Forms.{IsInForm}
 use Rattle.ext_run.specs.Devices.{Store}
-use Rattle.ext_run.specs.Saving.{AreCanonical, StandsWith, IsOurs, IsUnwritten, HasLasted}
+use Rattle.ext_run.specs.Saving.{AreCanonical, StandsWith, StandsAsOneOf, IsOurs, IsUnwritten, HasLasted}
 use Rattle.ext_run.specs.Work.{Told, HasAnswer, answer_of, IsRefusalIn, HasContinued, IsRefusedFor, HasKeptOn}
 use Rattle.save_file.proofs.Entries.{some_is}
-use Rattle.ext_run.proofs.Lasting.{at_some, all_first, canonical_start, as_another, unwritten_since, lasting}
+use Rattle.ext_run.proofs.Lasting.{at_some, all_first, canonical_start, as_another, AreDisks, unwritten_since, at_once, lasting}
 
 -- an error of a continued table is no refusal
 no_refusal : (form : Form) (text : Told) (fault : ResumeFault) → IfErr text (λ e. (e ≡ Saving) ⊎ (e ≡ Memory) ⊎ IsRefusalIn form e) → text ≡ Err (SaveFile fault) → ⊥
@@ -50,7 +49,7 @@ wider form (Err e) X (inl h) = inl h
 wider form (Err e) X (inr (inl h)) = inr (inl h)
 wider form (Err e) X (inr (inr h)) = inr (inr (inl h))
 
-module _ {D : Type 0} (store : Store D) (laws : Lawful store.now store.moment store.images store.since) (r : ToResolve) (disk : D) where
+module _ {D : Type 0} (store : Store D) (laws : AreDisks store) (r : ToResolve) (disk : D) where
   abbrev telling : SaveState D → Keeper
   telling k = telling_of store.now store.moment store.images store.images_at store.since store.faults k
 
@@ -112,6 +111,7 @@ module _ {D : Type 0} (store : Store D) (laws : Lawful store.now store.moment st
   left_alone range list d had_answer unfailed never unwritten told ours leaves =
       let found = here list told ours in
       let same : (list ++ []) ++ [] ≡ list = append-nil (list ++ []) ∙ append-nil list in
+      let stood : (c : List ℕ) → store.since d (store.moment disk) c → StandsAsOneOf r.resolved.plain (store.images disk) c = λ c was. let of_image = leaves.each c was in (of_image.0, of_image.1, ap (λ (of_file : Records). of_records (module_over r.resolved.plain) of_file) of_image.2) in
       let stands : (c : List ℕ) → store.since d (store.moment disk) c → StandsWith r.resolved.plain list c = λ c was. let of_image = leaves.each c was in as_another r.resolved list c of_image.0 of_image.2 (ours of_image.0 of_image.1) in
       let now_ours : IsOurs r.resolved.plain list (store.images d) = λ c image. stands c (laws.since_earlier d (store.moment disk) (store.moment d) c leaves.later (laws.counts_now d c image)) in
       record {
@@ -122,7 +122,12 @@ module _ {D : Type 0} (store : Store D) (laws : Lawful store.now store.moment st
         canonical = subst (AreCanonical r.resolved.plain) (sym same) (all_first (λ e. IsOf (module_over r.resolved.plain) [] e.s e.above e.content) list found.2.more found.2.canonical);
         moments = λ c was. inl (stands c was);
         ours = subst (λ (l : List Entry). IsOurs r.resolved.plain l (store.images d)) (sym same) now_ours;
-        keeps = λ worked c was. let of_image = leaves.each c was in inl (of_image.0, of_image.1, ap (λ (of_file : Records). of_records (module_over r.resolved.plain) of_file) of_image.2);
+        retained = record {
+          taken_up = store.moment d;
+          until = λ t from upto c there. stood c (laws.since_at d (store.moment disk) t c from upto there);
+          from = at_once store laws r.resolved.plain d;
+        };
+        keeps = λ worked c was. inl (stood c was);
         settled = λ worked. inl (refl, refl, unwritten worked);
         exact = λ h. absurd (never h);
         whole = λ h. absurd (never h);

@@ -1,18 +1,18 @@
 -- What is left of the disk of a run that kept its squares, at each moment and in the end.
-use Rattle.std.proofs.Common.{◌≡◌, ℕ, ◌≤◌, ◌⊎◌, inl, inr, List, [], ◌∷◌, ◌++◌, length, Bool, true, false, ap, sym, subst, ◌∙◌, refl}
+use Rattle.std.proofs.Common.{◌≡◌, ℕ, ◌≤◌, ◌⊎◌, inl, inr, List, [], ◌∷◌, ◌++◌, length, Bool, true, false, ap, sym, subst, ◌∙◌, refl, arith}
 use Rattle.std.proofs.lemmas.Bool.{and_parts, eqb-true}
 use Rattle.std.proofs.lemmas.List.Elements.{All-nil, All-cons, All-head, All-tail, All-append, All-weaker}
 use Rattle.std.specs.Prelude.{Option, Some, None, IfSome, Ok, Err, nat_eq, ◌&&◌, ◌↔◌, if◌then◌else◌}
 use Rattle.std.specs.List.{All}
 use Rattle.std.specs.Result.{result_ok}
 use Rattle.edge.specs.Disk.{LeavesOnly}
-use Rattle.edge.proofs.Moments.{Lawful}
 use Rattle.finite_module.specs.Checked.{Checked}
+use Rattle.finite_module.specs.Module.{Module as SteenrodModule}
 use Rattle.resolution_laws.specs.Resolution.{Module, Content}
 use Rattle.resolution_laws.specs.Start.{Entry, entry_at, IsOf, AreOf, IsCanonicalStart}
 use Rattle.resolution_laws.proofs.StartLaws.{canonical_content}
 use Rattle.square.specs.Squares.{over}
-use Rattle.square.specs.Keeping.{Keeper, HasKept, IsImageWith, IsImageAmid, IsImagePart, with_squares}
+use Rattle.square.specs.Keeping.{Keeper, HasFirst, Retains, HasKept, IsImageWith, IsImageAmid, IsImagePart, with_squares}
 use Rattle.square.specs.declared.range.Range.{Range}
 use Rattle.save_journal.specs.Records.{Records, records_of}
 use Rattle.save_journal.specs.Journals.{HasRecordsOf}
@@ -21,7 +21,7 @@ use Rattle.save_file.specs.Saving.{SaveState, TakesSquares, kept_in, telling_of}
 use Rattle.save_file.specs.Inside.SavingLaws.{left_is_kept}
 use Rattle.resolution_step.specs.Alone.{IsInRange}
 use Rattle.ext_run.specs.Devices.{Store}
-use Rattle.ext_run.specs.Saving.{AreCanonical, StandsWith, StandsAmid, StandsAtPart, StandsAsOneOf, IsOurs, MayBeLeft, IsUnwritten, HasLasted, HasRange}
+use Rattle.ext_run.specs.Saving.{AreCanonical, StandsWith, StandsAmid, StandsAtPart, StandsAsOneOf, squares_of, IsOurs, MayBeLeft, IsUnwritten, HasRetained, HasLasted, HasRange}
 
 -- ---- what is told
 
@@ -115,7 +115,15 @@ if_some (Some x) P p = p
 
 -- ---- a run
 
-module _ {D : Type 0} (store : Store D) (laws : Lawful store.now store.moment store.images store.since) where
+-- what the laws of the trait say of its disks
+pub record AreDisks {D : Type 0} (store : Store D) : Type 0 where
+  pub now_is_image : (d : D) → IfSome (store.now d) (λ file. store.images d file)
+  pub counts_now : (d : D) (c : List ℕ) → store.images d c → store.since d (store.moment d) c
+  pub only_now : (d : D) (c : List ℕ) → store.since d (store.moment d) c → store.images d c
+  pub since_earlier : (d : D) (t u : ℕ) (c : List ℕ) → t ≤ u → store.since d u c → store.since d t c
+  pub since_at : (d : D) (t u : ℕ) (c : List ℕ) → t ≤ u → u ≤ store.moment d → store.images_at d u c → store.since d t c
+
+module _ {D : Type 0} (store : Store D) (laws : AreDisks store) where
   -- what contracts see of a save file as a keeper
   abbrev telling : SaveState D → Keeper
   telling k = telling_of store.now store.moment store.images store.images_at store.since store.faults k
@@ -138,6 +146,11 @@ module _ {D : Type 0} (store : Store D) (laws : Lawful store.now store.moment st
       | inr image ↦ image
     ]),
   )
+
+  -- nothing is away again at one moment alone
+  pub at_once : (m : SteenrodModule) (d : D) (first : List Entry) (t u : ℕ) → store.moment d ≤ t → t ≤ u → u ≤ store.moment d → ((c : List ℕ) → store.images_at d t c → HasFirst first (squares_of m c)) →
+      (c : List ℕ) → store.images_at d u c → HasFirst first (squares_of m c)
+  at_once m d first t u from le within all c there = let same : u ≡ t = omega (arith, from, le, within) in all c (subst (λ (v : ℕ). store.images_at d v c) same there)
 
   module _ (m : Checked) (range : Range) (list more given : List Entry) (had_answer unfailed : Type 0) (disk : D) (k after : SaveState D)
       (at_most_one : length more ≤ 1) (canonical : AreCanonical m.plain (list ++ more)) (ours : IsOurs m.plain list (store.images disk)) (resolved : k.resolved ≡ m) (kept_is : kept_in store.now k ≡ Some (list ++ more))
@@ -192,6 +205,27 @@ module _ {D : Type 0} (store : Store D) (laws : Lawful store.now store.moment st
         stands_with m start (start ++ given) c reads all_canonical
         (subst (IsImageWith (over m) start (start ++ given)) (read_after c) (ending (squares_in after.resolved c) (c, laws.counts_now after.journal.disk c image, refl)))
 
+    -- what was left before the file was taken up stands for what a file from before the run stands for
+    stood : (c d : List ℕ) → store.since k.journal.disk (store.moment disk) d → squares_in after.resolved c ≡ squares_in k.resolved d → StandsAsOneOf m.plain (store.images disk) c
+    stood c d was is =
+        let found = opening.each d was in
+        let read : squares_in m c ≡ squares_in m d = sym (read_after c) ∙ is ∙ ap (λ (q : Checked). squares_in q d) resolved in
+        let as_found = as_another m list d found.0 found.2 (ours found.0 found.1) in
+        (found.0, found.1, standing_same m (list ++ as_found.more) c d read as_found.stands ∙ ap (λ (r : Records). of_records (over m) r) found.2)
+
+    retained : HasRetained store m.plain disk after.journal.disk
+    retained = record {
+      taken_up = store.moment k.journal.disk;
+      until = λ t from upto c there.
+          let was = (kept.past t (squares_in after.resolved c) upto).0 (c, there, refl) in
+          stood c was.0 (laws.since_at k.journal.disk (store.moment disk) t was.0 from upto was.1) was.2;
+      from = λ first t u from le within all c there.
+          let retains = at_start (λ (l : List Entry). Retains (telling k) (telling after)) kept.retained in
+          let has : HasFirst first (squares_in after.resolved c) =
+          retains first t u from le within (λ image was. subst (HasFirst first) (sym (was.2 ∙ read_after was.0)) (all was.0 was.1)) (squares_in after.resolved c) (c, there, refl) in
+          subst (HasFirst first) (read_after c) has;
+    }
+
     keeps : unfailed → (c : List ℕ) → store.since after.journal.disk (store.moment disk) c → StandsAsOneOf m.plain (store.images disk) c ⊎ StandsAtPart m.plain start given c
     keeps worked c left =
         let image = squares_in after.resolved c in
@@ -200,12 +234,7 @@ module _ {D : Type 0} (store : Store D) (laws : Lawful store.now store.moment st
         let earlier = at_start (λ (l : List Entry). (t : ℕ) (i : Option (List Entry)) → t ≤ T.moment → U.since t i ↔ (T.since t i ⊎ U.since T.moment i)) kept.earlier in
         let exact = at_start (λ (l : List Entry). (i : Option (List Entry)) → U.since T.moment i → IsImagePart l given i) (kept.exact (live worked)) in
         elim ((earlier (store.moment disk) image opening.later).0 (c, left, refl)) [
-          | inl before ↦
-              let d = before.0 in
-              let found = opening.each d before.1 in
-              let read : squares_in m c ≡ squares_in m d = sym (read_after c) ∙ before.2 ∙ ap (λ (q : Checked). squares_in q d) resolved in
-              let as_found = as_another m list d found.0 found.2 (ours found.0 found.1) in
-              inl (found.0, found.1, standing_same m (list ++ as_found.more) c d read as_found.stands ∙ ap (λ (r : Records). of_records (over m) r) found.2)
+          | inl before ↦ inl (stood c before.0 before.1 before.2)
           | inr now_left ↦
               let at = exact image now_left in
               inr (record { first = at.first; rest = at.rest; parts = at.parts; stands = standing_ok (standing_of m.plain c) (start ++ at.first) (sym (read_after c) ∙ at.is) })
@@ -226,6 +255,7 @@ module _ {D : Type 0} (store : Store D) (laws : Lawful store.now store.moment st
       at_most_one = at_most_one;
       canonical = all_canonical;
       moments = moments;
+      retained = retained;
       ours = in_the_end;
       keeps = keeps;
       settled = λ worked. inr (only worked);

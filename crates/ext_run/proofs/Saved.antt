@@ -4,7 +4,6 @@ use Rattle.std.specs.declared.alloc.Global.{Global}
 use Rattle.std.specs.Prelude.{Vec, Result, Ok, Err, IfErr, IfSome, IsSome}
 use Rattle.std.proofs.lemmas.List.Elements.{All-nil}
 use Rattle.edge.specs.Faults.{HasRisen}
-use Rattle.edge.proofs.Moments.{Lawful}
 use Rattle.finite_module.specs.Module.{Module as SteenrodModule}
 use Rattle.resolution_laws.specs.Start.{Entry, IsOf}
 use Rattle.resolution_step.specs.Alone.{IsInRange}
@@ -30,7 +29,7 @@ use Rattle.ext_run.specs.Work.{Told, HasAnswer, answer_of, IsRefusalIn, IsTaskRe
 use Rattle.ext_run.specs.Run.{IsCause}
 use Rattle.ext_run.proofs.Asked.{asked_told}
 use Rattle.ext_run.proofs.Tasks.{module_same, resolution_use, resolution_module, resolution_tells, text_use}
-use Rattle.ext_run.proofs.Lasting.{at_some, all_first, unwritten_same}
+use Rattle.ext_run.proofs.Lasting.{at_some, all_first, unwritten_same, AreDisks, at_once}
 use Rattle.ext_run.proofs.KeptOn.{answer_unfailed}
 
 -- ---- failures of a task
@@ -95,14 +94,15 @@ module _ (failure : Failure) (late : IsLate failure) where
   }
 
 -- what lasts on these conditions lasts on narrower ones
-lasted_by : {D : Type 0} (now : D → Option (List ℕ)) (moment : D → ℕ) (images : D → List ℕ → Type 0) (since : D → ℕ → List ℕ → Type 0) (m : SteenrodModule) (range : Range) (list : List Entry) (A B U V : Type 0) (old new : D) → (B → A) → (V → U) → HasLasted now moment images since m range list A U old new → HasLasted now moment images since m range list B V old new
-lasted_by now moment images since m range list A B U V old new f u h = record {
+lasted_by : {D : Type 0} (disk : Store D) (m : SteenrodModule) (range : Range) (list : List Entry) (A B U V : Type 0) (old new : D) → (B → A) → (V → U) → HasLasted disk m range list A U old new → HasLasted disk m range list B V old new
+lasted_by disk m range list A B U V old new f u h = record {
   more = h.more;
   given = h.given;
   places = h.places;
   at_most_one = h.at_most_one;
   canonical = h.canonical;
   moments = h.moments;
+  retained = h.retained;
   ours = h.ours;
   keeps = λ v. h.keeps (u v);
   settled = λ v. h.settled (u v);
@@ -110,7 +110,7 @@ lasted_by now moment images since m range list A B U V old new f u h = record {
   whole = λ b. h.whole (f b);
 }
 
-module _ {D : Type 0} (disk : Store D) (laws : Lawful disk.now disk.moment disk.images disk.since) (asked : Option Plan) (input : List ℕ) where
+module _ {D : Type 0} (disk : Store D) (laws : AreDisks disk) (asked : Option Plan) (input : List ℕ) where
   -- the file of a disk is one of its images
   file_of : (d : D) (file : List ℕ) → disk.now d ≡ Some file → disk.images d file
   file_of d file is = at_some (disk.now d) (λ f. disk.images d f) file is (laws.now_is_image d)
@@ -137,6 +137,11 @@ module _ {D : Type 0} (disk : Store D) (laws : Lawful disk.now disk.moment disk.
         canonical = subst (AreCanonical m) (sym same) (all_first (λ e. IsOf (module_over m) [] e.s e.above e.content) list here.more here.canonical);
         moments = λ c was. inl (ours c (laws.only_now d c was));
         ours = subst (λ (l : List Entry). IsOurs m l (disk.images d)) (sym same) ours;
+        retained = record {
+          taken_up = disk.moment d;
+          until = λ t from upto c there. (c, laws.only_now d c (laws.since_at d (disk.moment d) t c from upto there), refl);
+          from = at_once disk laws m d;
+        };
         keeps = λ worked c was. inl (c, laws.only_now d c was, refl);
         settled = λ worked. inl (refl, refl, unwritten_same disk laws d);
         exact = λ h. absurd (never h);

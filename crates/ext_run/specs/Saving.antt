@@ -2,9 +2,11 @@
 use Rattle.std.specs.Prelude.{◌≡◌, ◌≢◌, ℕ, ◌≤◌, ◌⊎◌, List, [], ◌++◌, length, Option, Some, None, IsSome, IfSome, Result, Ok, Err, ⊤}
 use Rattle.finite_module.specs.Module.{Module as SteenrodModule}
 use Rattle.std.specs.List.{All}
+use Rattle.std.specs.Result.{result_ok}
 use Rattle.resolution_step.specs.Alone.{IsInRange}
 use Rattle.edge.specs.Faults.{HasRisen}
 use Rattle.resolution_laws.specs.Start.{Entry, entry_at, AreOf}
+use Rattle.square.specs.Keeping.{HasFirst}
 use Rattle.square.specs.Squares.{module_over}
 use Rattle.square.specs.declared.range.Range.{Range}
 use Rattle.save_file.specs.Files.{standing_of}
@@ -46,6 +48,10 @@ pub record StandsAtPart (m : SteenrodModule) (list given : List Entry) (file : L
 abbrev pub StandsAsOneOf : SteenrodModule → (List ℕ → Type 0) → List ℕ → Type 0
 StandsAsOneOf m images file = (d : List ℕ) × images d × (standing_of m file ≡ standing_of m d)
 
+-- the squares that the file stands for, none where it is refused
+abbrev pub squares_of : SteenrodModule → List ℕ → Option (List Entry)
+squares_of m file = result_ok (standing_of m file)
+
 -- The disk is ours for the list: whatever a crash now leaves of it stands for the list, or it and one square more.
 abbrev pub IsOurs : SteenrodModule → List Entry → (List ℕ → Type 0) → Type 0
 IsOurs m list images = (c : List ℕ) → images c → StandsWith m list c
@@ -66,9 +72,21 @@ IsUnwritten disk old new =
 abbrev pub HasRange : Range → List Entry → Type 0
 HasRange range list = (s k : ℕ) → s ≤ range.s → k ≤ range.t → IsSome (entry_at list s k)
 
+-- From old to new the file of a run was taken up, and from then on no square is away again, not even for a moment: if each
+-- image at a moment has these squares, so has each image at every later moment. Until then a crash would have left what stands
+-- for what one before the run stands for.
+pub record HasRetained {D : Type 0} (disk : Store D) (m : SteenrodModule) (old new : D) : Type 0 where
+  pub taken_up : ℕ
+  pub until : (t : ℕ) → disk.moment old ≤ t → t ≤ taken_up → (c : List ℕ) → disk.images_at new t c →
+      StandsAsOneOf m (disk.images old) c
+  pub from : (first : List Entry) (t u : ℕ) → taken_up ≤ t → t ≤ u → u ≤ disk.moment new →
+      ((c : List ℕ) → disk.images_at new t c → HasFirst first (squares_of m c)) →
+      (c : List ℕ) → disk.images_at new u c → HasFirst first (squares_of m c)
+
 -- From old to new the disk of a run, which was ours for the list, kept its squares: the run took up the list, or it and one square
 -- more, and put the given ones behind them. At every moment since it began a crash would have left the list and at most one square
--- more, or what was taken up, a first part of what was given, and at most one square more. In the end it is ours for all of them.
+-- more, or what was taken up, a first part of what was given, and at most one square more, and none is away again. In the end it is
+-- ours for all of them.
 --
 -- Unless the disk failed, there is no square more: at every moment an image stands for what one from before the run stood for, or for
 -- just what was taken up and a first part of what was given; and in the end each image has just all of them, or nothing was written. If
@@ -82,6 +100,7 @@ pub record HasLasted {D : Type 0} (disk : Store D) (m : SteenrodModule) (range :
   pub canonical : AreCanonical m ((list ++ more) ++ given)
   pub moments : (c : List ℕ) → disk.since new (disk.moment old) c →
       StandsWith m list c ⊎ StandsAmid m (list ++ more) given c
+  pub retained : HasRetained disk m old new
   pub ours : IsOurs m ((list ++ more) ++ given) (disk.images new)
   pub keeps : unfailed → (c : List ℕ) → disk.since new (disk.moment old) c →
       StandsAsOneOf m (disk.images old) c ⊎ StandsAtPart m (list ++ more) given c

@@ -131,7 +131,8 @@ fn saved_alone<D: Disk>(
     disk: D,
 ) -> (Result<Vec<u8>, Failure>, D)
     requires { IsWithin resolution.common }
-    ensures { HasKeptOn (store_of D.now D.moment D.images D.images_at D.since D.faults) resolution result.0 disk result.1 }
+    ensures { HasKeptOn (store_of D.now D.moment D.images D.images_at D.since D.faults) resolution
+        result.0 disk result.1 }
 {
     let range = resolution.common.range;
     match resume(alloc, resolution.resolved, disk) {
@@ -152,7 +153,8 @@ fn saved_by_workers<W: Threads + Wait + Clock + Sync, D: Disk + Send, G: Gate + 
     gate: &G,
 ) -> (Result<Vec<u8>, Failure>, D)
     requires { IsWithin resolution.common }
-    ensures { HasKeptOn (store_of D.now D.moment D.images D.images_at D.since D.faults) resolution result.0 disk result.1 }
+    ensures { HasKeptOn (store_of D.now D.moment D.images D.images_at D.since D.faults) resolution
+        result.0 disk result.1 }
 {
     let Common { range, workers, .. } = resolution.common;
     match resume(alloc, resolution.resolved, disk) {

@@ -1,16 +1,16 @@
 use Rattle.std.proofs.Common.{Err, ap}
-use Rattle.edge.proofs.Moments.{Lawful}
 use Rattle.ext_words.specs.Words.{texts_of}
 use Rattle.ext_run.specs.Devices.{device_of, store_of}
 use Rattle.ext_run.specs.Plan.{asked_by}
+use Rattle.ext_run.proofs.Lasting.{AreDisks}
 use Rattle.ext_run.proofs.Ending.{run_of_failure, run_of_task}
 use Rattle.ext_run.proofs.answer.run.Given.{Over}
 use Rattle.ext_run.proofs.answer.run.Goals as goal
 
-laws : (g : Over) → Lawful g.D.Disk.now g.D.Disk.moment g.D.Disk.images g.D.Disk.since
+laws : (g : Over) → AreDisks (store_of g.D.Disk.now g.D.Disk.moment g.D.Disk.images g.D.Disk.images_at g.D.Disk.since g.D.Disk.faults)
 laws g =
     let law = g.met.D.Disk g.world.𝓛 g.world.𝓜 g.world.𝓡 ((λ s x. x), (λ x. x), (λ x. x), λ x. x) in
-    record { now_is_image = law.now_is_image; counts_now = law.counts_now; only_now = law.only_now; since_earlier = law.since_earlier }
+    record { now_is_image = law.now_is_image; counts_now = law.counts_now; only_now = law.only_now; since_earlier = law.since_earlier; since_at = λ d t u c from within there. (law.since_is d t c).1 (record { moment = u; from = from; within = within; image = there }) }
 
 pub returns-in-Ok : goal.returns-in-Ok
 returns-in-Ok g c =

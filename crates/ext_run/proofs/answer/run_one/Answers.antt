@@ -1,14 +1,14 @@
 use Rattle.std.proofs.Common.{Err, ap}
-use Rattle.edge.proofs.Moments.{Lawful}
 use Rattle.ext_words.specs.Words.{texts_of}
 use Rattle.ext_run.specs.Devices.{device_of, store_of}
 use Rattle.ext_run.specs.Plan.{asked_by}
+use Rattle.ext_run.proofs.Lasting.{AreDisks}
 use Rattle.ext_run.proofs.Ending.{run_of_failure, run_of_task}
 use Rattle.ext_run.proofs.answer.run_one.Given.{Over}
 use Rattle.ext_run.proofs.answer.run_one.Goals as goal
 
-laws : (g : Over) → Lawful g.D.Disk.now g.D.Disk.moment g.D.Disk.images g.D.Disk.since
-laws g = record { now_is_image = g.met.D.Disk.now_is_image; counts_now = g.met.D.Disk.counts_now; only_now = g.met.D.Disk.only_now; since_earlier = g.met.D.Disk.since_earlier }
+laws : (g : Over) → AreDisks (store_of g.D.Disk.now g.D.Disk.moment g.D.Disk.images g.D.Disk.images_at g.D.Disk.since g.D.Disk.faults)
+laws g = record { now_is_image = g.met.D.Disk.now_is_image; counts_now = g.met.D.Disk.counts_now; only_now = g.met.D.Disk.only_now; since_earlier = g.met.D.Disk.since_earlier; since_at = λ d t u c from within there. (g.met.D.Disk.since_is d t c).1 (record { moment = u; from = from; within = within; image = there }) }
 
 pub returns-in-Ok : goal.returns-in-Ok
 returns-in-Ok g c =

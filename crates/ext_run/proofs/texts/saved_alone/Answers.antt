@@ -1,14 +1,14 @@
 use Rattle.std.proofs.Common.{sym, subst, Err}
-use Rattle.edge.proofs.Moments.{Lawful}
 use Rattle.ext_report.specs.declared.failure.Failure.{Failure}
 use Rattle.ext_run.specs.Devices.{store_of}
 use Rattle.ext_run.specs.Work.{HasKeptOn}
+use Rattle.ext_run.proofs.Lasting.{AreDisks}
 use Rattle.ext_run.proofs.KeptOn.{kept_on, not_taken_up}
 use Rattle.ext_run.proofs.texts.saved_alone.Given.{Over}
 use Rattle.ext_run.proofs.texts.saved_alone.Goals as goal
 
-laws : (g : Over) → Lawful g.D.Disk.now g.D.Disk.moment g.D.Disk.images g.D.Disk.since
-laws g = record { now_is_image = g.met.D.Disk.now_is_image; counts_now = g.met.D.Disk.counts_now; only_now = g.met.D.Disk.only_now; since_earlier = g.met.D.Disk.since_earlier }
+laws : (g : Over) → AreDisks (store_of g.D.Disk.now g.D.Disk.moment g.D.Disk.images g.D.Disk.images_at g.D.Disk.since g.D.Disk.faults)
+laws g = record { now_is_image = g.met.D.Disk.now_is_image; counts_now = g.met.D.Disk.counts_now; only_now = g.met.D.Disk.only_now; since_earlier = g.met.D.Disk.since_earlier; since_at = λ d t u c from within there. (g.met.D.Disk.since_is d t c).1 (record { moment = u; from = from; within = within; image = there }) }
 
 pub returns-in-Ok : goal.returns-in-Ok
 returns-in-Ok g c =
