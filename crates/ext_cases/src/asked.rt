@@ -41,8 +41,8 @@ fn told(alloc: Global, command: &Command) -> Result<String, Fault> {
         Command::Build(Build::Tensor) => text.push_str("build tensor")?,
         Command::Build(Build::Dual) => text.push_str("build dual")?,
         Command::Build(Build::Shift(degrees)) => write!(text, "build shift {degrees}")?,
-        Command::Sample(seed, common) => {
-            write!(text, "sample {seed}")?;
+        Command::Sample { n, common } => {
+            write!(text, "sample {n}")?;
             tell(&mut text, "", common)?;
         }
         Command::Sq(product) => {

@@ -62,7 +62,7 @@ pub(crate) fn plan_of(command: Command) -> Plan
         }
         Command::Check => Plan::Check,
         Command::Build(made) => Plan::Build(made),
-        Command::Sample(n, common) => resolve(Origin::Sample(n), Form::Summary, common),
+        Command::Sample { n, common } => resolve(Origin::Sample(n), Form::Summary, common),
         Command::Sq(squares) => Plan::Multiply(squares),
     }
 }

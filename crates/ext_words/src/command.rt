@@ -71,7 +71,10 @@ pub enum Command {
     /// `build OP`: the file of the module that is built from those on standard input.
     Build(Build),
     /// `sample N S T`: the summary of the resolution of the module that N draws.
-    Sample(u32, Common),
+    Sample {
+        n: u32,
+        common: Common,
+    },
     /// `sq W`: the product of these squares, in Milnor's basis and as a sum of admissible monomials.
     Sq(Mono),
 }

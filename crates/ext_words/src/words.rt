@@ -233,7 +233,9 @@ fn seed_in(matches: &ArgMatches) -> Option<u32>
 fn sample_in(matches: &ArgMatches) -> Option<Command>
     ensures { result ≡ sample_of (given_in matches.now) }
 {
-    Some(Command::Sample(seed_in(matches)?, common_in(matches)?))
+    let n = seed_in(matches)?;
+    let common = common_in(matches)?;
+    Some(Command::Sample { n, common })
 }
 
 /// The product W of a command's matches.
