@@ -5,6 +5,6 @@ mod ClapReads
 mod ClapUses
 mod ClapWords
 mod CommandNames
+mod Digits
 mod Factors
-mod Limits
 mod Strays

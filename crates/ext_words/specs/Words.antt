@@ -326,6 +326,11 @@ abbrev pub IsWithinShift : Build → Type 0
 IsWithinShift (build.Shift n) = (neg_ℤ (pos MAX_SHIFT) ≤ℤ n) × (n ≤ℤ pos MAX_SHIFT)
 IsWithinShift _ = ⊤
 
+-- a product of not too many squares, none of them Sq^0, whose degree is not too great
+abbrev pub IsWithinDegree : List ℕ → Type 0
+IsWithinDegree numbers =
+    All (λ n. 1 ≤ n) numbers × (length numbers ≤ MAX_SQUARES) × (sum numbers ≤ MAX_SQUARES_DEGREE)
+
 -- the command asks for no more than the grammar allows
 abbrev pub IsWithinLimits : Command → Type 0
 IsWithinLimits (Sphere common) = IsWithin common
@@ -336,5 +341,4 @@ IsWithinLimits (Massey common a b c) = IsWithin common × IsShort a × IsShort b
 IsWithinLimits Check = ⊤
 IsWithinLimits (Built made) = IsWithinShift made
 IsWithinLimits (Sample n common) = IsWithin common
-IsWithinLimits (Sq numbers) =
-    All (λ n. 1 ≤ n) numbers × (length numbers ≤ MAX_SQUARES) × (sum numbers ≤ MAX_SQUARES_DEGREE)
+IsWithinLimits (Sq numbers) = IsWithinDegree numbers

@@ -1,8 +1,8 @@
 //! The numbers that words say.
-ghost use Rattle.std.specs.Prelude.{◌≡◌, ◌+◌, ◌-◌, ◌*◌, ◌≤◌, ◌<◌, ◌^◌, min, length, option_map, IfOk, IfSome};
-ghost use Rattle.std.specs.List.{list_all};
+ghost use Rattle.std.specs.Prelude.{◌≡◌, ◌+◌, ◌-◌, ◌*◌, ◌≤◌, ◌<◌, ◌^◌, pos, neg_ℤ, ◌≤ℤ◌, min, length, option_map, IfOk, IfSome};
+ghost use Rattle.std.specs.List.{All, list_all};
 ghost use Rattle.std.specs.Char.{is_ascii_digit};
-ghost use Rattle.ext_words.specs.Words.{are_digits, decimal_value, number_of, signed_number_of, number_up_to, positive_up_to, shift_of, seed_of, between_commas, class_from, class_of, positive_numbers, product_of, texts_of};
+ghost use Rattle.ext_words.specs.Words.{are_digits, decimal_value, number_of, signed_number_of, number_up_to, positive_up_to, shift_of, seed_of, between_commas, class_from, class_of, positive_numbers, product_of, texts_of, IsShort, IsWithinDegree};
 
 use crate::command::{MAX_SHIFT, MAX_SQUARES, MAX_SQUARES_DEGREE};
 use chain_map::Class;
@@ -43,7 +43,7 @@ fn decimal_value(digits: &[u8]) -> u32
 fn number_of(most: usize, digits: &[u8]) -> Option<u32>
     requires { most ≤ CLASS_DIGITS }
     ensures number { result ≡ number_of most digits.now }
-    ensures small { IfSome result (λ n. n < 2 ^ 31) }
+    ensures within { IfSome result (λ n. n ≤ 99999) }
 {
     if are_digits(most, digits) {
         Some(decimal_value(digits))
@@ -55,7 +55,8 @@ fn number_of(most: usize, digits: &[u8]) -> Option<u32>
 /// The number of at most `most` digits, below 0 where a hyphen stands in front of them.
 fn signed_number_of(most: usize, word: &[u8]) -> Option<i32>
     requires { most ≤ CLASS_DIGITS }
-    ensures { result ≡ signed_number_of most word.now }
+    ensures number { result ≡ signed_number_of most word.now }
+    ensures within { IfSome result (λ n. (neg_ℤ (pos 99999) ≤ℤ n) × (n ≤ℤ pos 99999)) }
 {
     match word {
         [b'-', digits @ ..] => Some(-(number_of(most, digits)? as i32)),
@@ -65,7 +66,8 @@ fn signed_number_of(most: usize, word: &[u8]) -> Option<i32>
 
 /// The number of a word, at most `limit`.
 pub fn number_up_to(limit: u16, word: &str) -> Option<u16>
-    ensures { result ≡ number_up_to limit word.now }
+    ensures number { result ≡ number_up_to limit word.now }
+    ensures within { IfSome result (λ n. n ≤ limit) }
 {
     let value = number_of(3, word.as_bytes())?;
     if value <= u32::from(limit) {
@@ -77,7 +79,8 @@ pub fn number_up_to(limit: u16, word: &str) -> Option<u16>
 
 /// The number of a word, from 1 to `limit`.
 pub fn positive_up_to(limit: u16, word: &str) -> Option<u16>
-    ensures { result ≡ positive_up_to limit word.now }
+    ensures number { result ≡ positive_up_to limit word.now }
+    ensures within { IfSome result (λ n. (1 ≤ n) × (n ≤ limit)) }
 {
     let value = number_up_to(limit, word)?;
     if value == 0 { None } else { Some(value) }
@@ -85,7 +88,8 @@ pub fn positive_up_to(limit: u16, word: &str) -> Option<u16>
 
 /// The number of degrees of a shift, from -`MAX_SHIFT` to `MAX_SHIFT`.
 pub fn shift_of(word: &str) -> Option<i32>
-    ensures { result ≡ shift_of word.now }
+    ensures number { result ≡ shift_of word.now }
+    ensures within { IfSome result (λ n. (neg_ℤ (pos MAX_SHIFT) ≤ℤ n) × (n ≤ℤ pos MAX_SHIFT)) }
 {
     let degrees = signed_number_of(3, word.as_bytes())?;
     let most = i32::from(MAX_SHIFT);
@@ -143,7 +147,8 @@ fn between_commas<'a>(alloc: Global, word: &'a str) -> Result<Vec<&'a str>, Memo
 
 /// The class of these texts: its row, its degree and its number.
 fn class_from(texts: &[&str]) -> Option<Class>
-    ensures { result ≡ class_from (texts_of texts.now) }
+    ensures class { result ≡ class_from (texts_of texts.now) }
+    ensures within { IfSome result IsShort }
 {
     let [s, t, i] = texts else {
         return None;
@@ -161,7 +166,8 @@ fn class_from(texts: &[&str]) -> Option<Class>
 /// # Errors
 /// `Memory` if allocation fails.
 pub fn class_of(alloc: Global, word: &str) -> Result<Option<Class>, Memory>
-    ensures { IfOk result (λ class. class ≡ class_of word.now) }
+    ensures class { IfOk result (λ class. class ≡ class_of word.now) }
+    ensures within { IfOk result (λ class. IfSome class IsShort) }
 {
     let texts = between_commas(alloc, word)?;
     Ok(class_from(texts.as_slice()))
@@ -169,7 +175,9 @@ pub fn class_of(alloc: Global, word: &str) -> Result<Option<Class>, Memory>
 
 /// The numbers of the texts, each from 1 to `limit`, none where a text is no such number.
 fn positive_numbers(alloc: Global, limit: u16, texts: &[&str]) -> Result<Option<Vec<u16>>, Memory>
-    ensures { IfOk result (λ numbers. option_map (λ v. v.items) numbers ≡ positive_numbers limit (texts_of texts.now)) }
+    ensures numbers { IfOk result
+        (λ numbers. option_map (λ v. v.items) numbers ≡ positive_numbers limit (texts_of texts.now)) }
+    ensures positive { IfOk result (λ numbers. IfSome numbers (λ v. All (λ n. 1 ≤ n) v.items)) }
 {
     let mut numbers = Vec::new(alloc);
     for text in texts {
@@ -187,7 +195,8 @@ fn positive_numbers(alloc: Global, limit: u16, texts: &[&str]) -> Result<Option<
 /// # Errors
 /// `Memory` if allocation fails.
 pub fn product_of(alloc: Global, word: &str) -> Result<Option<Mono>, Memory>
-    ensures { IfOk result (λ product. product ≡ product_of word.now) }
+    ensures product { IfOk result (λ product. product ≡ product_of word.now) }
+    ensures within { IfOk result (λ product. IfSome product IsWithinDegree) }
 {
     let texts = between_commas(alloc, word)?;
     let Some(numbers) = positive_numbers(alloc, MAX_SQUARES_DEGREE, texts.as_slice())? else {

@@ -1,11 +1,12 @@
 //! The command grammar.
-ghost use Rattle.std.specs.Prelude.{◌≡◌, ◌≢◌, ◌⊎◌, Some, None, [], Err, IfOk, IfSome, OnSome, IfNone, false, codes, option_map, option_and_then};
+ghost use Rattle.std.specs.Prelude.{◌≡◌, ◌≢◌, ◌≤◌, ◌⊎◌, Some, None, [], Err, IfOk, IfSome, OnSome, IfNone, false, codes, option_map, option_and_then};
 ghost use Rattle.clap.specs.Words.{app_of, fault_of, found_of, rows_of, rule_of, subcommand_of, subcommand_rows_of};
 ghost use Rattle.std.specs.List.{list_any};
 ghost use Rattle.clap.specs.declared.builder.command.Command.TheViews.{out-Command};
 ghost use Rattle.ext_words.specs.Inside.CommandLine.{is_stray, option_named, flag_named, command_with, no_command, command_line, given_in, command_named, command_in};
+ghost use Rattle.ext_words.specs.declared.command.TheConstants.{MAX_WORKERS};
 ghost use Rattle.ext_words.specs.declared.command.WordsFault as WordsFault;
-ghost use Rattle.ext_words.specs.Words.{texts_of, text_given, is_given, number_given, workers_of, common_of, class_given, products_of, massey_of, built_by, build_of, seed_of, sample_of, product_given, command_of, IsWithinLimits};
+ghost use Rattle.ext_words.specs.Words.{texts_of, text_given, is_given, number_given, workers_of, common_of, class_given, products_of, massey_of, built_by, build_of, seed_of, sample_of, product_given, command_of, IsWithin, IsShort, IsWithinShift, IsWithinDegree, IsWithinLimits};
 
 use crate::command::{Build, Command, Common, MAX_WORKERS, WordsFault};
 use crate::numbers::{class_of, number_up_to, positive_up_to, product_of, seed_of, shift_of};
@@ -125,14 +126,16 @@ fn word_in<'m>(matches: &'m ArgMatches, id: &str) -> Option<&'m str>
 
 /// The number of a command's word, at most `limit`.
 fn number_in(matches: &ArgMatches, id: &str, limit: u16) -> Option<u16>
-    ensures { result ≡ number_given id.now limit (given_in matches.now) }
+    ensures number { result ≡ number_given id.now limit (given_in matches.now) }
+    ensures within { IfSome result (λ n. n ≤ limit) }
 {
     number_up_to(limit, word_in(matches, id)?)
 }
 
 /// The number of workers of a command's matches, 1 where the option is not given.
 fn workers_in(matches: &ArgMatches) -> Option<u32>
-    ensures { result ≡ workers_of (text_given (codes "workers") (given_in matches.now)) }
+    ensures workers { result ≡ workers_of (text_given (codes "workers") (given_in matches.now)) }
+    ensures within { IfSome result (λ n. (1 ≤ n) × (n ≤ MAX_WORKERS)) }
 {
     match word_in(matches, "workers") {
         Some(word) => Some(u32::from(positive_up_to(MAX_WORKERS, word)?)),
@@ -149,7 +152,8 @@ fn saves_in(matches: &ArgMatches) -> bool
 
 /// The numbers S and T of a command's matches, and its options.
 fn common_in(matches: &ArgMatches) -> Option<Common>
-    ensures { result ≡ common_of (given_in matches.now) }
+    ensures common { result ≡ common_of (given_in matches.now) }
+    ensures within { IfSome result IsWithin }
 {
     let s = number_in(matches, "S", MAX_S)?;
     let t = number_in(matches, "T", MAX_T)?;
@@ -163,7 +167,8 @@ fn common_in(matches: &ArgMatches) -> Option<Common>
 
 /// The class that an option of a command's matches has.
 fn class_in(alloc: Global, matches: &ArgMatches, name: &str) -> Result<Option<Class>, Memory>
-    ensures { IfOk result (λ class. class ≡ class_given name.now (given_in matches.now)) }
+    ensures class { IfOk result (λ class. class ≡ class_given name.now (given_in matches.now)) }
+    ensures within { IfOk result (λ class. IfSome class IsShort) }
 {
     match word_in(matches, name) {
         Some(word) => class_of(alloc, word),
@@ -173,18 +178,22 @@ fn class_in(alloc: Global, matches: &ArgMatches, name: &str) -> Result<Option<Cl
 
 /// The command of products that a command's matches ask for.
 fn products_in(alloc: Global, matches: &ArgMatches) -> Result<Option<Command>, Memory>
-    ensures { IfOk result (λ command. command ≡ products_of (given_in matches.now)) }
+    ensures command { IfOk result (λ command. command ≡ products_of (given_in matches.now)) }
+    ensures within { IfOk result (λ command. IfSome command IsWithinLimits) }
 {
     let Some(common) = common_in(matches) else {
         return Ok(None);
     };
-    let by = class_in(alloc, matches, "by")?;
-    Ok(by.map(|by| Command::Products { common, by }))
+    let Some(by) = class_in(alloc, matches, "by")? else {
+        return Ok(None);
+    };
+    Ok(Some(Command::Products { common, by }))
 }
 
 /// The command of a bracket that a command's matches ask for.
 fn massey_in(alloc: Global, matches: &ArgMatches) -> Result<Option<Command>, Memory>
-    ensures { IfOk result (λ command. command ≡ massey_of (given_in matches.now)) }
+    ensures command { IfOk result (λ command. command ≡ massey_of (given_in matches.now)) }
+    ensures within { IfOk result (λ command. IfSome command IsWithinLimits) }
 {
     let Some(common) = common_in(matches) else {
         return Ok(None);
@@ -195,13 +204,16 @@ fn massey_in(alloc: Global, matches: &ArgMatches) -> Result<Option<Command>, Mem
     let Some(b) = class_in(alloc, matches, "b")? else {
         return Ok(None);
     };
-    let c = class_in(alloc, matches, "c")?;
-    Ok(c.map(|c| Command::Massey { common, a, b, c }))
+    let Some(c) = class_in(alloc, matches, "c")? else {
+        return Ok(None);
+    };
+    Ok(Some(Command::Massey { common, a, b, c }))
 }
 
 /// What is built by the word OP and by the value of `--degrees`, which stands with `shift`, and there alone.
 fn built_by(word: &str, degrees: Option<&str>) -> Option<Build>
-    ensures { result ≡ built_by word.now (option_map (λ text. text.now) degrees.entry) }
+    ensures build { result ≡ built_by word.now (option_map (λ text. text.now) degrees.entry) }
+    ensures within { IfSome result IsWithinShift }
 {
     match degrees {
         None => match word {
@@ -217,7 +229,8 @@ fn built_by(word: &str, degrees: Option<&str>) -> Option<Build>
 
 /// What is built by the word OP of a command's matches.
 fn build_in(matches: &ArgMatches) -> Option<Build>
-    ensures { result ≡ build_of (given_in matches.now) }
+    ensures build { result ≡ build_of (given_in matches.now) }
+    ensures within { IfSome result IsWithinShift }
 {
     built_by(word_in(matches, "OP")?, word_in(matches, "degrees"))
 }
@@ -231,7 +244,8 @@ fn seed_in(matches: &ArgMatches) -> Option<u32>
 
 /// The sample that a command's matches ask for.
 fn sample_in(matches: &ArgMatches) -> Option<Command>
-    ensures { result ≡ sample_of (given_in matches.now) }
+    ensures command { result ≡ sample_of (given_in matches.now) }
+    ensures within { IfSome result IsWithinLimits }
 {
     let n = seed_in(matches)?;
     let common = common_in(matches)?;
@@ -240,7 +254,8 @@ fn sample_in(matches: &ArgMatches) -> Option<Command>
 
 /// The product W of a command's matches.
 fn product_in(alloc: Global, matches: &ArgMatches) -> Result<Option<Mono>, Memory>
-    ensures { IfOk result (λ product. product ≡ product_given (given_in matches.now)) }
+    ensures product { IfOk result (λ product. product ≡ product_given (given_in matches.now)) }
+    ensures within { IfOk result (λ product. IfSome product IsWithinDegree) }
 {
     match word_in(matches, "W") {
         Some(word) => product_of(alloc, word),
@@ -250,7 +265,8 @@ fn product_in(alloc: Global, matches: &ArgMatches) -> Result<Option<Mono>, Memor
 
 /// The command that has this name, with its matches.
 fn command_named(alloc: Global, name: &str, matches: &ArgMatches) -> Result<Option<Command>, Memory>
-    ensures { IfOk result (λ command. command ≡ command_named name.now (rows_of (found_of matches.now))) }
+    ensures command { IfOk result (λ command. command ≡ command_named name.now (rows_of (found_of matches.now))) }
+    ensures within { IfOk result (λ command. IfSome command IsWithinLimits) }
 {
     match name {
         "sphere" => Ok(common_in(matches).map(Command::Sphere)),
@@ -268,7 +284,8 @@ fn command_named(alloc: Global, name: &str, matches: &ArgMatches) -> Result<Opti
 
 /// The command that matches name.
 fn command_in(alloc: Global, matches: &ArgMatches) -> Result<Option<Command>, Memory>
-    ensures { IfOk result (λ command. command ≡ command_in (subcommand_rows_of matches.now)) }
+    ensures command { IfOk result (λ command. command ≡ command_in (subcommand_rows_of matches.now)) }
+    ensures within { IfOk result (λ command. IfSome command IsWithinLimits) }
 {
     match matches.subcommand() {
         Some((name, inner)) => command_named(alloc, name, inner),
@@ -297,7 +314,8 @@ fn has_stray(words: &[&str]) -> bool
 
 /// The command that the words give, none where they are outside the grammar.
 fn command_of(alloc: Global, words: &[&str]) -> Result<Option<Command>, Memory>
-    ensures { IfOk result (λ command. command ≡ command_of (texts_of words.now)) }
+    ensures command { IfOk result (λ command. command ≡ command_of (texts_of words.now)) }
+    ensures within { IfOk result (λ command. IfSome command IsWithinLimits) }
 {
     if has_stray(words) {
         return Ok(None);

@@ -1,14 +1,22 @@
-use Rattle.std.proofs.Common.{sym, ◌∙◌}
+use Rattle.std.proofs.Common.{ℕ, ◌≤◌, [], ◌∷◌, Option, Some, IfSome, sym, subst, ◌∙◌}
+use Rattle.std.specs.List.{All}
+use Rattle.std.proofs.lemmas.List.Elements.{All-nil, All-cons, All-append}
 use Rattle.ext_words.proofs.Factors.{number-read, no-number-read, all-read}
 use Rattle.ext_words.proofs.numbers.positive_numbers.Goals as goal
 
 pub loop-text-preserved : goal.loop-text-preserved
 loop-text-preserved c =
-    c.loop-text.invariant ∙ number-read c.args.limit c.loop-text.numbers.items _ c.args.texts.now c.loop-text.text-index c.in-Some.number _ c.loop-text-test.true (sym c.positive_up_to.ensures ∙ c.in-Some.is) c.in_ok-push.ensures.items
+    let number = c.in-Some.number in
+    let numbers = c.loop-text.numbers.items in
+    let within : IfSome (Some number) (λ n. (1 ≤ n) × (n ≤ c.args.limit)) = subst (λ (o : Option ℕ). IfSome o (λ n. (1 ≤ n) × (n ≤ c.args.limit))) c.in-Some.is c.positive_up_to.ensures.within in
+    record {
+      numbers = c.loop-text.invariant.numbers ∙ number-read c.args.limit numbers _ c.args.texts.now c.loop-text.text-index number _ c.loop-text-test.true (sym c.positive_up_to.ensures.number ∙ c.in-Some.is) c.in_ok-push.ensures.items;
+      positive = subst (All (λ n. 1 ≤ n)) (sym c.in_ok-push.ensures.items) (All-append (λ n. 1 ≤ n) numbers (number ∷ []) c.loop-text.invariant.positive (All-cons (λ n. 1 ≤ n) number [] within.0 (All-nil (λ n. 1 ≤ n))));
+    }
 
-pub returns-in_default : goal.returns-in_default
-returns-in_default c =
-    sym (c.loop-text.invariant ∙ no-number-read c.args.limit c.loop-text.numbers.items c.args.texts.now c.loop-text.text-index _ c.loop-text-test.true (sym c.positive_up_to.ensures ∙ c.in_default.is))
+pub returns-in_default-clause-numbers : goal.returns-in_default-clause-numbers
+returns-in_default-clause-numbers c =
+    sym (c.loop-text.invariant.numbers ∙ no-number-read c.args.limit c.loop-text.numbers.items c.args.texts.now c.loop-text.text-index _ c.loop-text-test.true (sym c.positive_up_to.ensures.number ∙ c.in_default.is))
 
-pub returns : goal.returns
-returns c = sym (c.loop-text.invariant ∙ all-read c.args.limit c.loop-text.numbers.items c.args.texts.now c.loop-text.text-index c.loop-text-test.false)
+pub returns-clause-numbers : goal.returns-clause-numbers
+returns-clause-numbers c = sym (c.loop-text.invariant.numbers ∙ all-read c.args.limit c.loop-text.numbers.items c.args.texts.now c.loop-text.text-index c.loop-text-test.false)

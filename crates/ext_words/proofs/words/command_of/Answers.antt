@@ -14,20 +14,20 @@ at-some {X = X} o x P e h = subst (λ (v : Option X). IfSome v P) e h
 at-none : {X : Type 0} (o : Option X) (P : Type 0) → o ≡ None → IfNone o P → P
 at-none {X = X} o P e h = subst (λ (v : Option X). IfNone v P) e h
 
-pub returns-then-has_stray : goal.returns-then-has_stray
-returns-then-has_stray c =
+pub returns-then-has_stray-clause-command : goal.returns-then-has_stray-clause-command
+returns-then-has_stray-clause-command c =
     let stray : has_stray (texts_of c.args.words.now) ≡ true = sym (list_any-map _ _ c.args.words.now) ∙ (sym c.has_stray.ensures ∙ c.if-has_stray.true) in
     sym (stray-none (texts_of c.args.words.now) stray)
 
-pub returns-in-Some : goal.returns-in-Some
-returns-in-Some c =
+pub returns-in-Some-clause-command : goal.returns-in-Some-clause-command
+returns-in-Some-clause-command c =
     let plain : has_stray (texts_of c.args.words.now) ≡ false = sym (list_any-map _ _ c.args.words.now) ∙ (sym c.has_stray.ensures ∙ c.if-has_stray.false) in
     let taken = at-some c.in_ok-matches.field-0 c.in-Some.matches _ c.in-Some.is c.in_ok-matches.ensures.taken in
     let rows = at-some c.in_ok-matches.field-0 c.in-Some.matches _ c.in-Some.is c.in_ok-matches.ensures.rows in
-    IfOk-weaker c.command_in.result _ _ (λ command is. is ∙ (ap command_in rows ∙ taken-reads (texts_of c.args.words.now) plain taken)) c.command_in.ensures
+    IfOk-weaker c.command_in.result _ _ (λ command is. is ∙ (ap command_in rows ∙ taken-reads (texts_of c.args.words.now) plain taken)) c.command_in.ensures.command
 
-pub returns-in-None : goal.returns-in-None
-returns-in-None c =
+pub returns-in-None-clause-command : goal.returns-in-None-clause-command
+returns-in-None-clause-command c =
     let plain : has_stray (texts_of c.args.words.now) ≡ false = sym (list_any-map _ _ c.args.words.now) ∙ (sym c.has_stray.ensures ∙ c.if-has_stray.false) in
     let refused = at-none c.in_ok-matches.field-0 _ c.in-None.is c.in_ok-matches.ensures.refused in
     sym (refused-none (texts_of c.args.words.now) plain refused)
