@@ -1,23 +1,21 @@
 -- The table that is resolved, cut to its range, is the module's canonical resolution, and the texts are of that.
 use Rattle.std.proofs.Common.{◌≡◌, ℕ, ◌+◌, List, length, take, refl, sym, subst, ◌∙◌, ap, arith}
 use Rattle.std.proofs.lemmas.List.{take-take}
-use Rattle.resolution_laws.specs.Resolution.{Content, IsCanonicalTable, row_of, generator_count}
+use Rattle.resolution_laws.specs.Resolution.{Content, IsCanonicalTable, row_of}
 use Rattle.square.specs.declared.range.Range.{Range}
 use Rattle.lift_laws.specs.Lifts.{Resolution}
 use Rattle.square.specs.Squares.{bottom_of, module_over}
 use Rattle.square.specs.Tables.{Staircase, plain_rows, IsThrough, cut}
 use Rattle.resolution_step.proofs.Canonical.{row_of-cut}
-use Rattle.ext_chart.specs.Chart.{chart_text}
-use Rattle.ext_chart.specs.Dump.{dump_text}
-use Rattle.ext_chart.specs.Summary.{summary_text}
 use Rattle.ext_chart.proofs.Agreement.{AgreeThrough, chart_text-agree, dump_text-agree, summary_text-agree}
 use Rattle.std.specs.Prelude.{◌≢◌, Result, Err}
+use Rattle.finite_module.specs.Module.{Module}
 use Rattle.finite_module.specs.Checked.{sphere_file}
 use Rattle.finite_module.specs.DerivedAction.{derived_module}
 use Rattle.ext_products.specs.declared.refusal.Refusal.{Refusal}
 use Rattle.ext_products.specs.Products.{resolution}
 use Rattle.chain_map.specs.Classes.{through}
-use Rattle.ext_run.specs.Forms.{IsResolved, IsChart, IsDump, IsSummary, IsToldOfClasses, told_of_classes}
+use Rattle.ext_run.specs.Forms.{IsResolved, IsReadOff, chart_of, dump_of, summary_of, IsChart, IsDump, IsSummary, IsToldOfClasses, told_of_classes}
 use Rattle.ext_products.specs.declared.refusal.ClassesFault.{ClassesFault}
 use Rattle.ext_products.specs.declared.refusal.ClassesFault.TheVariants.{Refused, Memory as NoSpace}
 use Rattle.ext_report.specs.Failure.{classes_failure}
@@ -30,26 +28,19 @@ cut-agrees range table holds i h =
     let rows = plain_rows table.rows in
     sym (take-take (range.t + 1) (range.t + 1) (row_of rows i) (omega arith)) ∙ ap (take (range.t + 1)) (sym (row_of-cut range table.rows holds i h))
 
-pub is_chart : (range : Range) (table : Staircase) (text : List ℕ) → IsResolved range table.resolved.plain (cut range (plain_rows table.rows)) → IsThrough range table.rows → text ≡ chart_text (bottom_of table.resolved) range.s range.t (generator_count (plain_rows table.rows)) → IsChart range table.resolved.plain text
-is_chart range table text resolved through is = record {
-  table = cut range (plain_rows table.rows);
-  resolved = resolved;
-  is = is ∙ chart_text-agree range.s range.t (plain_rows table.rows) (cut range (plain_rows table.rows)) (cut-agrees range table through) (bottom_of table.resolved);
-}
+-- what reads the same off tables that agree through the range
+read_off : (text_of : Module → List (List Content) → List ℕ) (range : Range) (table : Staircase) (text : List ℕ) → IsResolved range table.resolved.plain (cut range (plain_rows table.rows)) → text ≡ text_of table.resolved.plain (plain_rows table.rows) → text_of table.resolved.plain (plain_rows table.rows) ≡ text_of table.resolved.plain (cut range (plain_rows table.rows)) → IsReadOff text_of range table.resolved.plain text
+read_off text_of range table text resolved is alike = record { table = cut range (plain_rows table.rows); resolved = resolved; is = is ∙ alike }
 
-pub is_dump : (range : Range) (table : Staircase) (text : List ℕ) → IsResolved range table.resolved.plain (cut range (plain_rows table.rows)) → IsThrough range table.rows → text ≡ dump_text table.resolved.plain.generators range.s range.t (plain_rows table.rows) → IsDump range table.resolved.plain text
-is_dump range table text resolved through is = record {
-  table = cut range (plain_rows table.rows);
-  resolved = resolved;
-  is = is ∙ dump_text-agree range.s range.t (plain_rows table.rows) (cut range (plain_rows table.rows)) (cut-agrees range table through) table.resolved.plain.generators;
-}
+module _ (range : Range) (table : Staircase) (text : List ℕ) (resolved : IsResolved range table.resolved.plain (cut range (plain_rows table.rows))) (through : IsThrough range table.rows) where
+  pub is_chart : text ≡ chart_of range table.resolved.plain (plain_rows table.rows) → IsChart range table.resolved.plain text
+  is_chart is = read_off (chart_of range) range table text resolved is (chart_text-agree range.s range.t _ _ (cut-agrees range table through) (bottom_of table.resolved))
 
-pub is_summary : (range : Range) (table : Staircase) (text : List ℕ) → IsResolved range table.resolved.plain (cut range (plain_rows table.rows)) → IsThrough range table.rows → text ≡ summary_text (length table.resolved.plain.generators) (bottom_of table.resolved) range.s range.t (generator_count (plain_rows table.rows)) → IsSummary range table.resolved.plain text
-is_summary range table text resolved through is = record {
-  table = cut range (plain_rows table.rows);
-  resolved = resolved;
-  is = is ∙ summary_text-agree range.s range.t (plain_rows table.rows) (cut range (plain_rows table.rows)) (cut-agrees range table through) (length table.resolved.plain.generators) (bottom_of table.resolved);
-}
+  pub is_dump : text ≡ dump_of range table.resolved.plain (plain_rows table.rows) → IsDump range table.resolved.plain text
+  is_dump is = read_off (dump_of range) range table text resolved is (dump_text-agree range.s range.t _ _ (cut-agrees range table through) table.resolved.plain.generators)
+
+  pub is_summary : text ≡ summary_of range table.resolved.plain (plain_rows table.rows) → IsSummary range table.resolved.plain text
+  is_summary is = read_off (summary_of range) range table text resolved is (summary_text-agree range.s range.t _ _ (cut-agrees range table through) (length table.resolved.plain.generators) (bottom_of table.resolved))
 
 -- what is told of a table's classes is told of the canonical resolutions
 pub is_told_of_classes : TableLaws → (IsToldOf : Resolution → Resolution → Result (List ℕ) Refusal → Type 0) (range : Range) (table : Staircase) (told : Result (List ℕ) Refusal) → IsResolved range table.resolved.plain (cut range (plain_rows table.rows))
