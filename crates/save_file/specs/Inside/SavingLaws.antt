@@ -12,7 +12,7 @@ use Rattle.edge.specs.Disk.{Only, WasImageSince as WasFileSince}
 use Rattle.save_journal.specs.Journals.{IsSettled}
 use Rattle.save_journal.specs.Records.{Records}
 use Rattle.save_file.specs.Files.{Standing, of_squares, of_records, standing_of, squares_in, first_records, list_in, first_squares}
-use Rattle.save_file.specs.Saving.{SaveState, HasSquares, TakesSquares, kept_in, WasLeftAt, WasLeft, telling_of}
+use Rattle.save_file.specs.Saving.{SaveState, HasSquares, TakesSquares, kept_in, WasLeft, telling_of}
 
 pub left_earlier : {D : Type 0} (since : D → ℕ → List ℕ → Type 0)
     (law : (d : D) (t u : ℕ) (c : List ℕ) → t ≤ u → since d u c → since d t c) (k : SaveState D) (m n : ℕ)
