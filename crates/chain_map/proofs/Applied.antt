@@ -13,8 +13,7 @@ use Rattle.lift_laws.specs.Lifts.{gens, free, lowered}
 use Rattle.lift_laws.specs.Products.{first_of}
 use Rattle.lift_laws.proofs.Bridge.{mapped-lowered}
 use Rattle.lift_laws.proofs.Cut.{extended-cut, AgreeIn-shifted}
-use Rattle.chain_map.specs.Rows.{lowered_row}
-use Rattle.chain_map.specs.Lifting.{resolution_of, target_of}
+use Rattle.chain_map.specs.Lifting.{lowered_row, resolution_of, target_of}
 use Rattle.chain_map.proofs.Generators.{lowered-row, degree-first}
 
 pub mapped-is : (table sphere : Staircase) (i k above n far : ℕ) (x : ℤ) (images : List (List Bool)) (f : ℕ → List Bool) (t : ℤ) (v : List Bool) → x ≡ bottom_of table.resolved +ℤ pos above → t <ℤ (bottom_of table.resolved +ℤ pos n) → (t -ℤ x) <ℤ (bottom_of sphere.resolved +ℤ pos far) → ((g : ℕ) → g < first_of (resolution_of table) i n → row images g ≡ f g)

@@ -15,7 +15,7 @@ use Rattle.lift_laws.specs.Lifts.{Resolution, gens, degree, IsLift, IsSphere}
 use Rattle.lift_laws.specs.Products.{count_of}
 use Rattle.lift_laws.proofs.Resolved.{is_resolved}
 use Rattle.chain_map.specs.Lifting.{resolution_of, AreCanonical, shifted_length, degrees_through, greatest, LiftValues, row_values, map_of, AreValues, AreReached, IsLiftOver}
-use Rattle.chain_map.specs.Inside.Making.{class_of, IsMade, Reaches}
+use Rattle.chain_map.specs.Inside.{class_of, IsMade, Reaches}
 use Rattle.chain_map.specs.Classes.{through}
 use Rattle.chain_map.proofs.Resolved.{is_canonical}
 use Rattle.chain_map.proofs.MadeLifts.{value-fits, is-lift}
@@ -124,7 +124,7 @@ module _ (minimal : CanonicalTableIsMinimalResolution) (modules : ModulesAreStee
         let inside : k < upto + 1 = omega (arith, made.rows) in
         let v = made.values k inside in
         let Q : ℕ → Type 0 = λ n. AreValues table sphere s x n k (row_values lift k) in
-        subst Q n_is (record { firsts = v.firsts; one_each = v.one_each; widths = λ g b. value-fits table sphere reaches.is_table reaches.is_sphere_table is_sphere s above n far c (upto + 1) upto lift made reaches.here reaches.enough reaches.there (omega arith) k g inside b });
+        subst Q n_is (record { firsts = v.firsts; one_each = v.chosen.one_each; widths = λ g b. value-fits table sphere reaches.is_table reaches.is_sphere_table is_sphere s above n far c (upto + 1) upto lift made reaches.here reaches.enough reaches.there (omega arith) k g inside b });
     is_lift = lifted;
     chain_map = λ m most e a b. chain_map_of table sphere reaches.is_table reaches.is_sphere_table s x z upto (greatest table m) (map_of lift) (lifted m most e a b);
   }

@@ -1,5 +1,5 @@
 -- What has to be covered is of the dimension that the quasi-inverse takes.
-use Rattle.std.proofs.Common.{◌≡◌, ℕ, zero, suc, ◌-◌, ◌<◌, ◌≤◌, Bool, true, false, ℤ, pos, ◌+ℤ◌, ◌-ℤ◌, ◌<ℤ◌, ◌≤ℤ◌, List, length, take, Option, IfSome, ap, sym, subst, ◌∙◌, arith}
+use Rattle.std.proofs.Common.{◌≡◌, ℕ, suc, ◌-◌, ◌<◌, ◌≤◌, Bool, true, false, ℤ, pos, ◌+ℤ◌, ◌-ℤ◌, ◌<ℤ◌, ◌≤ℤ◌, List, length, take, Option, IfSome, ap, sym, subst, ◌∙◌, arith}
 use Rattle.std.specs.Prelude.{IsSome}
 use Rattle.std.proofs.lemmas.Int.{ints}
 use Rattle.f2_vec.proofs.Sums.{length-zeros}
@@ -15,9 +15,8 @@ use Rattle.resolution_laws.specs.Resolution.{row_of}
 use Rattle.square.specs.Squares.{over, bottom_of}
 use Rattle.square.specs.Tables.{Staircase, plain_rows, square_at}
 use Rattle.lift_laws.specs.Lifts.{gens, IsSphere}
-use Rattle.chain_map.specs.Rows.{IsInverseAt, lowered_row}
-use Rattle.chain_map.specs.Lifting.{resolution_of, target_of}
-use Rattle.chain_map.specs.Inside.Making.{Reaches, class_value}
+use Rattle.chain_map.specs.Lifting.{IsInverseAt, lowered_row, resolution_of, target_of}
+use Rattle.chain_map.specs.Inside.{Reaches, class_value}
 use Rattle.chain_map.proofs.Generators.{within-reach}
 use Rattle.square.proofs.ByDegree.{square_is_there}
 use Rattle.chain_map.proofs.Widths.{HasPlace, width-take, first_goal_fits, next_goal_fits}

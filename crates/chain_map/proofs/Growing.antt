@@ -4,17 +4,18 @@ use Rattle.std.proofs.lemmas.Bool.{cases_lt}
 use Rattle.std.proofs.lemmas.List.{get_or_append_left, get_or_push, length_push}
 use Rattle.square.specs.Squares.{bottom_of}
 use Rattle.square.specs.Tables.{Staircase}
-use Rattle.chain_map.specs.Rows.{RowValues, chosen_preimage}
-use Rattle.chain_map.specs.Lifting.{LiftValues, row_values, no_values, next_goal}
-use Rattle.chain_map.specs.Inside.Making.{AreMade, goal_of, IsMade, Reaches}
+use Rattle.chain_map.specs.Lifting.{RowValues, chosen_preimage, LiftValues, row_values, no_values, next_goal}
+use Rattle.chain_map.specs.Inside.{AreMade, goal_of, IsMade, Reaches}
 use Rattle.square.proofs.Pushing.{never_rises}
 
 -- the same values for what is the same to be covered
 AreMade-same : (table sphere : Staircase) (i k : ℕ) (x : ℤ) (goal other : ℕ → List Bool) (n : ℕ) (v : RowValues) → ((g : ℕ) → goal g ≡ other g) → AreMade table sphere i k x goal n v → AreMade table sphere i k x other n v
 AreMade-same table sphere i k x goal other n v same p = record {
   firsts = p.firsts;
-  one_each = p.one_each;
-  each = λ g l. let c = p.each g l in record { inverse = c.inverse; is = c.is; value = c.value ∙ ap (λ (w : List Bool). chosen_preimage c.inverse w) (same g); fits = c.fits };
+  chosen = record {
+    one_each = p.chosen.one_each;
+    each = λ g l. let c = p.chosen.each g l in record { inverse = c.inverse; is = c.is; value = c.value ∙ ap (λ (w : List Bool). chosen_preimage c.inverse w) (same g); fits = c.fits };
+  };
 }
 
 -- the rows below are enough to say what a row has to cover

@@ -1,5 +1,5 @@
 pub mod Generators
-mod MadeRows
+pub mod MadeRows
 pub mod Widths
 pub mod Resolved
 pub mod Preimages

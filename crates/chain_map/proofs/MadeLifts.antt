@@ -21,10 +21,9 @@ use Rattle.lift_laws.proofs.Linear.{length-extended, IsSteenrodModule-shifted}
 use Rattle.lift_laws.proofs.Resolved.{IsResolved}
 use Rattle.lift_laws.proofs.Existence.{cycle}
 use Rattle.lift_laws.proofs.Cut.{degree-cut, image-cut, basis-cut, lowered-cut, IsLift-uncut}
-use Rattle.chain_map.specs.Rows.{IsInverseAt, chosen_preimage}
-use Rattle.chain_map.specs.Lifting.{resolution_of, LiftValues, row_values, map_of, IsChosenFor, next_goal}
+use Rattle.chain_map.specs.Lifting.{IsInverseAt, chosen_preimage, resolution_of, LiftValues, row_values, map_of, IsChosenFor, next_goal}
 use Rattle.chain_map.specs.Classes.{through}
-use Rattle.chain_map.specs.Inside.Making.{class_of, goal_of, IsMade}
+use Rattle.chain_map.specs.Inside.{class_of, goal_of, IsMade}
 use Rattle.chain_map.proofs.Applied.{mapped-is}
 use Rattle.chain_map.proofs.Classes.{rows_through}
 use Rattle.chain_map.proofs.Generators.{is_number, images_taken, degree-below}
@@ -69,8 +68,8 @@ module _ (table sphere : Staircase) (h : IsTable table) (hq : IsTable sphere) (i
   pub value-fits : (k g : ℕ) → k < count → g < length (row_values lift k).vectors → length (phi k g) ≡ free_width (gens q k) (degree r (s + k) g -ℤ x)
   value-fits k g l b =
       let row_made = made.values k l in
-      let one = row_made.one_each in
-      value_width sphere k (degree r (s + k) g -ℤ x) (has-place k g (omega arith) (omega arith)) (goal_of table sphere s above n far c lift k g) (phi k g) (row_made.each g b)
+      let one = row_made.chosen.one_each in
+      value_width sphere k (degree r (s + k) g -ℤ x) (has-place k g (omega arith) (omega arith)) (goal_of table sphere s above n far c lift k g) (phi k g) (row_made.chosen.each g b)
 
   -- ---- over canonical squares
 
@@ -121,17 +120,17 @@ module _ (table sphere : Staircase) (h : IsTable table) (hq : IsTable sphere) (i
     chosen : (k g : ℕ) → k ≤ upto → g < length (gens rc (s + k)) → IsChosenFor sphere k (degree r (s + k) g -ℤ x) (goal_of table sphere s above n far c lift k g) (phi k g)
     chosen k g l b =
         let row_made = made.values k (omega arith) in
-        let one = row_made.one_each in
+        let one = row_made.chosen.one_each in
         let there = with-value (s + k) g (omega arith) b in
         let more = images_taken (row_of r.table (s + k)) (t + 1) n n_more in
-        row_made.each g (omega arith)
+        row_made.chosen.each g (omega arith)
 
     fits-part : (k g : ℕ) → k ≤ upto → g < length (gens rc (s + k)) → length (phi k g) ≡ free_width (gens qc k) (degree rc (s + k) g -ℤ x)
     fits-part k g l b =
         let i = s + k in
         let there = with-value i g (omega arith) b in
         let row_made = made.values k (omega arith) in
-        let one = row_made.one_each in
+        let one = row_made.chosen.one_each in
         let more = images_taken (row_of r.table i) (t + 1) n n_more in
         let same = same-degree i g (omega arith) b in
         let low = low-degree i g (omega arith) b in

@@ -1,4 +1,4 @@
--- The values on a row grow by a square, value by value.
+-- Values that quasi-inverses give grow value by value, and those on a row by a square.
 use Rattle.std.proofs.Common.{◌≡◌, inl, inr, ℕ, ◌+◌, ◌<◌, Bool, ℤ, pos, ◌+ℤ◌, ◌-ℤ◌, List, [], ◌∷◌, ◌++◌, length, map, refl, ap, sym, subst, ◌∙◌, arith}
 use Rattle.std.specs.List.{range_with_len}
 use Rattle.std.proofs.lemmas.Bool.{cases_lt}
@@ -9,23 +9,42 @@ use Rattle.resolution_laws.specs.Resolution.{row_of}
 use Rattle.square.specs.Tables.{Staircase}
 use Rattle.lift_laws.specs.Lifts.{degree}
 use Rattle.lift_laws.specs.Products.{first_of, count_of}
-use Rattle.chain_map.specs.Rows.{RowValues}
-use Rattle.chain_map.specs.Lifting.{resolution_of, IsChosenFor}
-use Rattle.chain_map.specs.Inside.Making.{AreMade, AreMadeTo}
+use Rattle.chain_map.specs.Lifting.{RowValues, resolution_of, IsChosenFor, AreChosen}
+use Rattle.chain_map.specs.Inside.{AreMade, AreMadeTo}
 use Rattle.chain_map.proofs.Generators.{is_number, first_of-more}
 
 module _ (table sphere : Staircase) (i k : ℕ) (x : ℤ) (goal : ℕ → List Bool) where
+  pub chosen_more : (count : ℕ) (old new : List (List Bool)) (u : ℤ) (wanted w : List Bool) → new ≡ old ++ w ∷ [] → u ≡ degree (resolution_of table) i count -ℤ x → wanted ≡ goal count → IsChosenFor sphere k u wanted w → AreChosen table sphere i k x goal count old → AreChosen table sphere i k x goal (count + 1) new
+  chosen_more count old new u wanted w e at same chosen p =
+      let len = length_push old w in
+      let one = p.one_each in
+      let P : ℕ → List Bool → Type 0 = λ g v. IsChosenFor sphere k (degree (resolution_of table) i g -ℤ x) (goal g) v in
+      let here : P count w = subst (λ (z : List Bool). IsChosenFor sphere k (degree (resolution_of table) i count -ℤ x) z w) same (subst (λ (z : ℤ). IsChosenFor sphere k z wanted w) at chosen) in
+      let last : P count (row (old ++ w ∷ []) count) = subst (P count) (sym (get_or_push old w [] count one)) here in
+      let grown : AreChosen table sphere i k x goal (count + 1) (old ++ w ∷ []) = record {
+        one_each = omega arith;
+        each = λ g l. elim (cases_lt g (length old)) [
+          | inl m ↦ subst (P g) (sym (get_or_append_left old (w ∷ []) [] g m)) (p.each g m)
+          | inr m ↦ let end : count ≡ g = omega arith in subst (λ (g : ℕ). P g (row (old ++ w ∷ []) g)) end last
+        ];
+      } in
+      subst (AreChosen table sphere i k x goal (count + 1)) (sym e) grown
+
+  pub chosen_in : (count other : ℕ) (vectors : List (List Bool)) → count ≡ other → AreChosen table sphere i k x goal count vectors → AreChosen table sphere i k x goal other vectors
+  chosen_in count other vectors e p = subst (λ (n : ℕ). AreChosen table sphere i k x goal n vectors) e p
+
+  -- ---- on a row of squares
+
   pub made_none : AreMade table sphere i k x goal 0 (record { vectors = []; firsts = [] })
-  made_none = record { firsts = refl; one_each = refl; each = λ g l. absurd (omega arith) }
+  made_none = record { firsts = refl; chosen = record { one_each = refl; each = λ g l. absurd (omega arith) } }
 
   -- the next square
   pub made_square : (n : ℕ) (old new : RowValues) → new ≡ record { vectors = old.vectors; firsts = old.firsts ++ length old.vectors ∷ [] } → AreMade table sphere i k x goal n old → AreMadeTo table sphere i k x goal n 0 new
   made_square n old new e p =
       let first : ℕ → ℕ = λ j. first_of (resolution_of table) i j in
       let here : AreMadeTo table sphere i k x goal n 0 (record { vectors = old.vectors; firsts = old.firsts ++ length old.vectors ∷ [] }) = record {
-        firsts = ap (λ (z : List ℕ). z ++ length old.vectors ∷ []) p.firsts ∙ (ap (λ (z : ℕ). map first (range_with_len 0 n) ++ z ∷ []) p.one_each ∙ sym (map-range_with_len_more first 0 n n (omega arith)));
-        one_each = p.one_each ∙ omega arith;
-        each = p.each;
+        firsts = ap (λ (z : List ℕ). z ++ length old.vectors ∷ []) p.firsts ∙ (ap (λ (z : ℕ). map first (range_with_len 0 n) ++ z ∷ []) p.chosen.one_each ∙ sym (map-range_with_len_more first 0 n n (omega arith)));
+        chosen = chosen_in (first n) (first n + 0) old.vectors (omega arith) p.chosen;
       } in
       subst (AreMadeTo table sphere i k x goal n 0) (sym e) here
 
@@ -33,28 +52,18 @@ module _ (table sphere : Staircase) (i k : ℕ) (x : ℤ) (goal : ℕ → List B
   pub made_value : (n h : ℕ) (old new : RowValues) (u : ℤ) (wanted w : List Bool) → n < length (row_of (resolution_of table).table i) → h < count_of (resolution_of table) i n → new ≡ record { vectors = old.vectors ++ w ∷ []; firsts = old.firsts }
       → ((resolution_of table).base.bottom +ℤ pos n) -ℤ x ≡ u → wanted ≡ goal (first_of (resolution_of table) i n + h) → IsChosenFor sphere k u wanted w → AreMadeTo table sphere i k x goal n h old → AreMadeTo table sphere i k x goal n (h + 1) new
   made_value n h old new u wanted w l b e at same chosen p =
-      let r = resolution_of table in
-      let xs = old.vectors in
-      let len = length_push xs w in
-      let count = p.one_each in
-      let number = is_number r i n h l b in
-      let P : ℕ → Type 0 = λ g. IsChosenFor sphere k (degree r i g -ℤ x) (goal g) (row (xs ++ w ∷ []) g) in
-      let deg : u ≡ degree r i (first_of r i n + h) -ℤ x = sym at ∙ ap (λ (z : ℤ). z -ℤ x) (sym number.degree_is) in
-      let here : w ≡ row (xs ++ w ∷ []) (first_of r i n + h) = sym (get_or_push xs w [] (first_of r i n + h) count) in
-      let Q : ℤ → Type 0 = λ z. IsChosenFor sphere k z wanted w in
-      let R : List Bool → Type 0 = λ z. IsChosenFor sphere k (degree r i (first_of r i n + h) -ℤ x) z w in
-      let S : List Bool → Type 0 = λ z. IsChosenFor sphere k (degree r i (first_of r i n + h) -ℤ x) (goal (first_of r i n + h)) z in
-      let last : P (first_of r i n + h) = subst S here (subst R same (subst Q deg chosen)) in
-      let more : AreMadeTo table sphere i k x goal n (h + 1) (record { vectors = xs ++ w ∷ []; firsts = old.firsts }) = record {
+      let first = first_of (resolution_of table) i n in
+      let number = is_number (resolution_of table) i n h l b in
+      let grown = chosen_more (first + h) old.vectors (old.vectors ++ w ∷ []) u wanted w refl (sym at ∙ ap (λ (z : ℤ). z -ℤ x) (sym number.degree_is)) same chosen p.chosen in
+      let more : AreMadeTo table sphere i k x goal n (h + 1) (record { vectors = old.vectors ++ w ∷ []; firsts = old.firsts }) = record {
         firsts = p.firsts;
-        one_each = omega arith;
-        each = λ g c. elim (cases_lt g (length xs)) [
-          | inl m ↦ subst (λ (v : List Bool). IsChosenFor sphere k (degree r i g -ℤ x) (goal g) v) (sym (get_or_append_left xs (w ∷ []) [] g m)) (p.each g m)
-          | inr m ↦ let end : first_of r i n + h ≡ g = omega arith in subst P end last
-        ];
+        chosen = chosen_in (first + h + 1) (first + (h + 1)) (old.vectors ++ w ∷ []) (omega arith) grown;
       } in
       subst (AreMadeTo table sphere i k x goal n (h + 1)) (sym e) more
 
   -- all of its values
   pub made_end : (n h : ℕ) (v : RowValues) → n < length (row_of (resolution_of table).table i) → h ≡ count_of (resolution_of table) i n → AreMadeTo table sphere i k x goal n h v → AreMade table sphere i k x goal (n + 1) v
-  made_end n h v l e p = record { firsts = p.firsts; one_each = let more = first_of-more (resolution_of table) i n l in let count = p.one_each in omega arith; each = p.each }
+  made_end n h v l e p =
+      let first = first_of (resolution_of table) i n in
+      let more = first_of-more (resolution_of table) i n l in
+      record { firsts = p.firsts; chosen = chosen_in (first + h) (first_of (resolution_of table) i (n + 1)) v.vectors (omega arith) p.chosen }

@@ -1,5 +1,5 @@
 -- What a value has to be a preimage of, by the numbers of generators and by their places in squares.
-use Rattle.std.proofs.Common.{◌≡◌, inl, inr, ℕ, zero, suc, ◌+◌, ◌<◌, ◌≤◌, Bool, true, false, ◌&&◌, nat_eq, if◌then◌else◌, ℤ, pos, ◌+ℤ◌, ◌-ℤ◌, ◌<ℤ◌, List, [], ◌∷◌, length, take, ap, sym, ◌∙◌, arith}
+use Rattle.std.proofs.Common.{◌≡◌, inl, inr, ℕ, suc, ◌+◌, ◌<◌, ◌≤◌, Bool, true, false, ◌&&◌, nat_eq, if◌then◌else◌, ℤ, pos, ◌+ℤ◌, ◌-ℤ◌, ◌<ℤ◌, List, [], ◌∷◌, length, take, ap, sym, ◌∙◌, arith}
 use Rattle.std.proofs.lemmas.Int.{ints}
 use Rattle.std.proofs.lemmas.Bool.Decides.{eqb_tells}
 use Rattle.f2_vec.specs.Vectors.{zeros}
@@ -16,9 +16,8 @@ use Rattle.lift_laws.specs.Maps.{lowered_by}
 use Rattle.lift_laws.specs.Lifts.{gens, degree, image, IsSphere}
 use Rattle.lift_laws.specs.Products.{first_of, count_of}
 use Rattle.lift_laws.proofs.Bridge.{basis-lowered}
-use Rattle.chain_map.specs.Rows.{lowered_row}
-use Rattle.chain_map.specs.Lifting.{resolution_of, LiftValues, row_values, next_goal, target_of}
-use Rattle.chain_map.specs.Inside.Making.{class_of, class_value, IsMade, Reaches}
+use Rattle.chain_map.specs.Lifting.{lowered_row, resolution_of, LiftValues, row_values, next_goal, target_of}
+use Rattle.chain_map.specs.Inside.{class_of, class_value, IsMade, Reaches}
 use Rattle.chain_map.proofs.Generators.{is_number, number_is_once, lowered-row, degree-below, degree-lowered}
 use Rattle.chain_map.proofs.Widths.{image_widths, width-take}
 use Rattle.chain_map.proofs.MadeLifts.{value-fits}
@@ -131,5 +130,5 @@ values_are_images table sphere s above n far c count k lift is_sphere reaches ma
     let e : s + suc k ≡ suc i = omega arith in
     let same_row = ap (λ (z : ℕ). length (row_in table.rows z)) e in
     let here = reaches.here in
-    are_images table sphere i k above n far (row_values lift k).vectors is_sphere (omega arith) reaches.enough (made.values k (omega arith)).one_each
+    are_images table sphere i k above n far (row_values lift k).vectors is_sphere (omega arith) reaches.enough (made.values k (omega arith)).chosen.one_each
     (λ g l. value-fits table sphere reaches.is_table reaches.is_sphere_table is_sphere s above n far c count (suc k) lift made reaches.here reaches.enough reaches.there (omega arith) k g (omega arith) l)

@@ -14,8 +14,7 @@ use Rattle.lift_laws.specs.Lifts.{Resolution, gens, d}
 use Rattle.lift_laws.proofs.Facts.{free_width-below, IsMap-d}
 use Rattle.lift_laws.proofs.Resolved.{IsResolved}
 use Rattle.lift_laws.proofs.Quasi.{IsCycle, quasi-gives}
-use Rattle.chain_map.specs.Rows.{IsInverseAt, chosen_preimage}
-use Rattle.chain_map.specs.Lifting.{resolution_of}
+use Rattle.chain_map.specs.Lifting.{IsInverseAt, chosen_preimage, resolution_of}
 use Rattle.chain_map.specs.Classes.{through}
 use Rattle.chain_map.proofs.Classes.{rows_through}
 use Rattle.chain_map.proofs.Resolved.{long-row}

@@ -16,8 +16,7 @@ use Rattle.square.specs.Tables.{Staircase, row_in, plain_rows, content_at, IsTab
 use Rattle.square.proofs.Places.{length-row_of, table_under, table_before, table_content}
 use Rattle.lift_laws.specs.Lifts.{gens}
 use Rattle.lift_laws.proofs.Facts.{free_width-below}
-use Rattle.chain_map.specs.Rows.{IsInverseAt, chosen_preimage}
-use Rattle.chain_map.specs.Lifting.{resolution_of, IsChosenFor}
+use Rattle.chain_map.specs.Lifting.{IsInverseAt, chosen_preimage, resolution_of, IsChosenFor}
 
 -- the generators of later squares add nothing
 pub width-take : (b : ℤ) (squares : List Content) (n : ℕ) (t : ℤ) → t <ℤ (b +ℤ pos n) → free_width (degrees_from b (take n squares)) t ≡ free_width (degrees_from b squares) t

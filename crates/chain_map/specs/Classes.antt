@@ -1,6 +1,5 @@
 -- The classes of a resolution that are named by row, degree and number, and what is refused of them in a range.
-use Rattle.std.specs.Prelude.{◌≡◌, ℕ, ◌+◌, ℤ, pos, ◌+ℤ◌, ◌-ℤ◌, Bool, ◌||◌, nat_lt, int_lt, if◌then◌else◌}
-use Rattle.std.specs.Prelude.{Option, Some, None, option_map}
+use Rattle.std.specs.Prelude.{◌≡◌, ℕ, ◌+◌, ℤ, pos, ◌+ℤ◌, ◌-ℤ◌, Bool, ◌||◌, nat_lt, int_lt, if◌then◌else◌, Option, Some, None, option_map}
 use Rattle.std.specs.Option.{option_or}
 use Rattle.degrees.specs.Above.{above_of}
 use Rattle.square.specs.declared.range.Range.{Range}

@@ -1,4 +1,3 @@
 pub mod Lifting
-pub mod Rows
 pub mod Classes
 pub mod Inside

@@ -1,8 +1,9 @@
--- Lifts of classes over the squares of two tables.
-use Rattle.std.specs.Prelude.{◌≡◌, ℕ, zero, suc, ◌+◌, ◌<◌, ◌≤◌, ℤ, pos, ◌+ℤ◌, ◌-ℤ◌, min, Bool, List, [], length, map, take, slice_index_or, Option, IfSome}
+-- Lifts of classes over the squares of two tables, and what quasi-inverses give.
+use Rattle.std.specs.Prelude.{◌≡◌, ℕ, ◌+◌, ◌<◌, ℤ, pos, ◌-ℤ◌, ◌<ℤ◌, Bool, List, [], length, take, slice_index_or, Option, Some, None, zero, suc, ◌≤◌, ◌+ℤ◌, min, map, IfSome}
 use Rattle.std.specs.List.{range_with_len}
 use Rattle.f2_vec.specs.Spans.{row}
 use Rattle.f2_matrix.specs.Reduction.{Reduction}
+use Rattle.f2_matrix.specs.Preimages.{quasi_of}
 use Rattle.free_module.specs.FreeModule.{free_width}
 use Rattle.free_module.specs.Graded.{free_graded}
 use Rattle.free_module.specs.LinearMap.{mapped}
@@ -10,14 +11,46 @@ use Rattle.finite_module.specs.Checked.{sphere_file}
 use Rattle.finite_module.specs.DerivedAction.{derived_module}
 use Rattle.resolution_laws.specs.Resolution.{degrees_from, row_of}
 use Rattle.resolution_laws.specs.Start.{IsOf}
+use Rattle.square.specs.Squares.{bottom_of, over}
+use Rattle.square.specs.Tables.{Staircase, plain_rows, IsQuasiAt, row_in, content_at, IsTable}
 use Rattle.square.specs.declared.range.Range.{Range}
-use Rattle.square.specs.Squares.{over, bottom_of}
-use Rattle.square.specs.Tables.{Staircase, row_in, plain_rows, content_at, IsTable}
 use Rattle.lift_laws.specs.Lifts.{Resolution, IsSphere, gens, degree, image, HasImages, IsChainMap}
-use Rattle.lift_laws.specs.Products.{first_of, count_of, number_of, IsLiftOfClass}
-use Rattle.lift_laws.specs.Products.{Class as ClassAbove}
+use Rattle.lift_laws.specs.Products.{first_of, count_of, IsLiftOfClass}
 use Rattle.chain_map.specs.declared.class.Class.{Class}
-use Rattle.chain_map.specs.Rows.{RowValues, first_in, value_at, HasValueAt, lowered_row, IsInverseAt, chosen_preimage}
+
+-- The values of a map on the generators of a row, in their order, and for each of its squares, from the bottom degree on, the
+-- number of its first generator.
+pub record RowValues : Type 0 where
+  pub vectors : List (List Bool)
+  pub firsts : List ℕ
+
+abbrev pub first_in : RowValues → ℕ → ℕ
+first_in v n = slice_index_or v.firsts n 0
+
+-- there is a value for number i of the square that is `above` above the bottom
+pub record HasValueAt (v : RowValues) (above i : ℕ) : Type 0 where
+  pub square : above < length v.firsts
+  pub generator : first_in v above + i < length v.vectors
+
+abbrev pub value_at : RowValues → ℕ → ℕ → List Bool
+value_at v above i = row v.vectors (first_in v above + i)
+
+-- The degrees of the generators of the first n squares of row s, each lower by that of the squares that are `above` above the
+-- bottom: the bottom degree becomes -above.
+abbrev pub lowered_row : Staircase → ℕ → ℕ → ℕ → List ℤ
+lowered_row table s n above = degrees_from (pos 0 -ℤ pos above) (take n (row_of (plain_rows table.rows) s))
+
+-- ---- quasi-inverses
+
+-- the reduction of the matrix of d_k in degree u, for a degree of the table, and none for one below its bottom
+abbrev pub IsInverseAt : Staircase → ℕ → ℤ → Option Reduction → Type 0
+IsInverseAt q k u None = u <ℤ bottom_of q.resolved
+IsInverseAt q k u (Some reduction) = IsQuasiAt q k u reduction
+
+-- the preimage that it chooses; below the bottom all vectors are empty
+abbrev pub chosen_preimage : Option Reduction → List Bool → List Bool
+chosen_preimage None v = []
+chosen_preimage (Some r) v = quasi_of r.height r.image r.chosen v
 
 -- the resolution whose squares a table has
 abbrev pub resolution_of : Staircase → Resolution
@@ -142,6 +175,13 @@ pub record IsChosenFor (q : Staircase) (k : ℕ) (u : ℤ) (goal v : List Bool) 
   pub is : IsInverseAt q k u inverse
   pub value : v ≡ chosen_preimage inverse goal
   pub fits : IfSome inverse (λ r. length v ≡ r.height)
+
+-- vectors for the first `count` generators of row i, of F_k and x degrees lower: a quasi-inverse gives each for what d has to take it to
+pub record AreChosen (table sphere : Staircase) (i k : ℕ) (x : ℤ) (goal : ℕ → List Bool) (count : ℕ)
+    (vectors : List (List Bool)) : Type 0 where
+  pub one_each : length vectors ≡ count
+  pub each : (g : ℕ) → g < length vectors →
+      IsChosenFor sphere k (degree (resolution_of table) i g -ℤ x) (goal g) (row vectors g)
 
 -- the degrees of the generators of the first n squares of row k
 abbrev pub target_of : Staircase → ℕ → ℕ → List ℤ

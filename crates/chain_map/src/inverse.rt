@@ -2,7 +2,7 @@
 ghost use Rattle.std.specs.Prelude.{◌≡◌, ◌≤ℤ◌, length, None, IfOk, IfSome, IsSome};
 ghost use Rattle.square.specs.Squares.{bottom_of};
 ghost use Rattle.square.specs.Tables.{square_at};
-ghost use Rattle.chain_map.specs.Rows.{IsInverseAt, chosen_preimage};
+ghost use Rattle.chain_map.specs.Lifting.{IsInverseAt, chosen_preimage};
 
 use f2_matrix::Reduced;
 use f2_vec::BitVec;

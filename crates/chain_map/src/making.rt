@@ -5,7 +5,7 @@ ghost use Rattle.square.specs.Tables.{row_in, IsTable};
 ghost use Rattle.lift_laws.specs.Lifts.{IsSphere};
 ghost use Rattle.lift_laws.specs.Products.{count_of};
 ghost use Rattle.chain_map.specs.Lifting.{resolution_of, IsClassOf, IsSquareOf, IsLiftOver, no_lift, degrees_through};
-ghost use Rattle.chain_map.specs.Inside.Making.{AreMadeLifts, Reaches};
+ghost use Rattle.chain_map.specs.Inside.{AreMadeLifts, Reaches};
 
 use crate::class::Class;
 use crate::maps::Lift;

@@ -1,7 +1,6 @@
 //! Lifts of classes.
 ghost use Rattle.std.specs.Prelude.{◌≡◌, ◌+ℤ◌, ◌<◌, ◌++◌, [], ◌∷◌, pos, length, ℕ, OnOk};
-ghost use Rattle.chain_map.specs.Rows.{value_at};
-ghost use Rattle.chain_map.specs.Lifting.{HasValue, row_values};
+ghost use Rattle.chain_map.specs.Lifting.{value_at, HasValue, row_values};
 
 use crate::values::Values;
 use f2_vec::BitVec;

@@ -10,10 +10,8 @@ ghost use Rattle.square.specs.Squares.{bottom_of};
 ghost use Rattle.square.specs.Tables.{row_in};
 ghost use Rattle.lift_laws.specs.Lifts.{IsSphere};
 ghost use Rattle.lift_laws.specs.Products.{first_of, count_of};
-ghost use Rattle.chain_map.specs.Rows.{IsInverseAt};
-ghost use Rattle.chain_map.specs.Lifting.{resolution_of, IsChosenFor, next_goal, target_of};
-ghost use Rattle.chain_map.specs.Rows.{lowered_row};
-ghost use Rattle.chain_map.specs.Inside.Making.{AreInverses, AreMade, class_of, class_value, goal_of, IsMade, Reaches};
+ghost use Rattle.chain_map.specs.Lifting.{IsInverseAt, resolution_of, IsChosenFor, next_goal, target_of, lowered_row};
+ghost use Rattle.chain_map.specs.Inside.{AreInverses, AreMade, class_of, class_value, goal_of, IsMade, Reaches};
 
 use crate::inverse::Inverse;
 use crate::maps::Lift;

@@ -1,6 +1,6 @@
 //! The values of a map on the generators of a row.
 ghost use Rattle.std.specs.Prelude.{◌≡◌, ◌++◌, [], ◌∷◌, length, OnOk, OnErr};
-ghost use Rattle.chain_map.specs.Rows.{HasValueAt, value_at};
+ghost use Rattle.chain_map.specs.Lifting.{HasValueAt, value_at};
 
 use f2_vec::BitVec;
 use memory::Memory;
@@ -15,7 +15,7 @@ pub struct Values {
 }
 
 impl Model for Values {
-    ghost use Rattle.chain_map.specs.Rows.{RowValues};
+    ghost use Rattle.chain_map.specs.Lifting.{RowValues};
 
     ghost Value = { RowValues };
 

@@ -4,7 +4,7 @@ use Rattle.std.proofs.lemmas.Bool.{cases_eq}
 use Rattle.std.proofs.lemmas.List.{get_or_default, get_or-set_same, get_or-set_other, length-set}
 use Rattle.square.specs.Squares.{bottom_of}
 use Rattle.chain_map.specs.Lifting.{LiftValues, no_lift}
-use Rattle.chain_map.specs.Inside.Making.{AreMade, goal_of, IsMade}
+use Rattle.chain_map.specs.Inside.{AreMade, goal_of, IsMade}
 use Rattle.chain_map.proofs.Growing.{made_row}
 use Rattle.chain_map.proofs.making.add_row.Goals as goal
 use Rattle.chain_map.proofs.making.add_row.Goals.{After-index}

@@ -1,7 +1,7 @@
 use Rattle.std.proofs.Common.{◌≡◌, ℕ, ◌+◌, ◌<◌, ◌≤◌, length}
 use Rattle.std.specs.Prelude.{slice_index_or}
 use Rattle.chain_map.specs.Lifting.{no_lift}
-use Rattle.chain_map.specs.Inside.Making.{IsMade}
+use Rattle.chain_map.specs.Inside.{IsMade}
 use Rattle.chain_map.proofs.making.add_row.Given as goal
 
 abbrev pub invariant-loop-j : goal.invariant-loop-j

@@ -1,5 +1,5 @@
 use Rattle.std.proofs.Common.{◌≡◌, length}
-use Rattle.chain_map.specs.Inside.Making.{AreMadeLifts}
+use Rattle.chain_map.specs.Inside.{AreMadeLifts}
 use Rattle.chain_map.proofs.making.add_rows.Given as goal
 
 abbrev pub invariant-loop-k : goal.invariant-loop-k

@@ -1,4 +1,4 @@
-use Rattle.std.proofs.Common.{◌≡◌, ◌+◌, length, min, inl, inr, arith}
+use Rattle.std.proofs.Common.{◌≡◌, ◌+◌, length, inl, inr, arith}
 use Rattle.std.proofs.Math.Nat.{min-le_left}
 use Rattle.std.proofs.lemmas.Bool.{cases_lt}
 use Rattle.square.specs.Tables.{row_in}

@@ -1,1 +1,0 @@
-use Rattle.chain_map.proofs.maps.Lift.value.Goals as goal

@@ -1,6 +1,6 @@
 use Rattle.std.proofs.Common.{pos, ◌+ℤ◌}
 use Rattle.square.specs.Squares.{bottom_of}
-use Rattle.chain_map.specs.Inside.Making.{AreMade, class_of}
+use Rattle.chain_map.specs.Inside.{AreMade, class_of}
 use Rattle.chain_map.proofs.rows.Course.first_row.Given as goal
 
 abbrev pub invariant-loop-n : goal.invariant-loop-n

@@ -6,7 +6,7 @@ use Rattle.square.specs.Tables.{row_in, plain_rows}
 use Rattle.square.proofs.Places.{length-row_of}
 use Rattle.lift_laws.specs.Products.{count_of}
 use Rattle.chain_map.specs.Lifting.{resolution_of}
-use Rattle.chain_map.specs.Inside.Making.{class_of}
+use Rattle.chain_map.specs.Inside.{class_of}
 use Rattle.chain_map.proofs.MadeRows.{made_square, made_value, made_end}
 use Rattle.chain_map.proofs.Places.{class_value_is}
 use Rattle.chain_map.proofs.rows.Course.first_square.Goals as goal

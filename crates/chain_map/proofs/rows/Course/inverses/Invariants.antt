@@ -1,5 +1,5 @@
 use Rattle.std.proofs.Common.{◌+◌}
-use Rattle.chain_map.specs.Inside.Making.{AreInverses}
+use Rattle.chain_map.specs.Inside.{AreInverses}
 use Rattle.chain_map.proofs.rows.Course.inverses.Given as goal
 
 abbrev pub invariant-loop-n : goal.invariant-loop-n

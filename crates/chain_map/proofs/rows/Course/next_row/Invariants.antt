@@ -1,7 +1,7 @@
 use Rattle.std.proofs.Common.{suc, ◌+◌, pos, ◌+ℤ◌}
 use Rattle.square.specs.Squares.{bottom_of}
 use Rattle.chain_map.specs.Lifting.{next_goal}
-use Rattle.chain_map.specs.Inside.Making.{AreMade}
+use Rattle.chain_map.specs.Inside.{AreMade}
 use Rattle.chain_map.proofs.rows.Course.next_row.Given as goal
 
 abbrev pub invariant-loop-n : goal.invariant-loop-n

@@ -4,9 +4,8 @@ use Rattle.std.proofs.lemmas.Result.{IfOk-weaker}
 use Rattle.free_module.specs.Graded.{free_graded}
 use Rattle.free_module.specs.LinearMap.{AreImages}
 use Rattle.square.specs.Squares.{bottom_of}
-use Rattle.chain_map.specs.Rows.{RowValues, lowered_row}
-use Rattle.chain_map.specs.Lifting.{row_values, next_goal, target_of}
-use Rattle.chain_map.specs.Inside.Making.{AreMade, class_of, goal_of, Reaches}
+use Rattle.chain_map.specs.Lifting.{RowValues, lowered_row, row_values, next_goal, target_of}
+use Rattle.chain_map.specs.Inside.{AreMade, class_of, goal_of, Reaches}
 use Rattle.chain_map.proofs.Places.{values_are_images}
 use Rattle.chain_map.proofs.rows.Course.row.Goals as goal
 use Rattle.chain_map.proofs.rows.Course.row.Goals.{After-vectors}
