@@ -1,8 +1,7 @@
 -- The coordinates of vectors that stand for the generators of a square.
 use Rattle.std.proofs.Common.{◌≡◌, ℕ, ◌+◌, ◌-◌, ◌<◌, ◌≤◌, Bool, false, List, [], length, map, take, drop, refl, ap, sym, ◌∙◌, arith}
 use Rattle.std.specs.List.{range_with_len}
-use Rattle.std.proofs.lemmas.List.{length-drop, length-take-le, get_or-map, get_or-drop, get_or-take, ext_get_or}
-use Rattle.std.proofs.lemmas.List.{length-map}
+use Rattle.std.proofs.lemmas.List.{length-drop, length-take-le, get_or-map, get_or-drop, get_or-take, ext_get_or, length-map}
 use Rattle.std.proofs.lemmas.List.FromFn.{length-map-range_with_len, get_or-map-range_with_len}
 use Rattle.f2_vec.specs.Vectors.{bit}
 use Rattle.f2_vec.specs.Spans.{row}
@@ -12,8 +11,11 @@ use Rattle.lift_laws.specs.Products.{first_of, count_of, old_width, coefficient_
 use Rattle.lift_laws.proofs.Coefficients.{width-parts}
 use Rattle.chain_map.specs.Lifting.{resolution_of}
 use Rattle.yoneda.specs.declared.place.Place.{Place}
-use Rattle.yoneda.specs.Places.{class_above, IsThere}
-use Rattle.yoneda.specs.Products.{AreOnSquare, coefficients_back}
+use Rattle.yoneda.specs.Products.{class_above, IsThere, AreOnSquare}
+
+-- the coordinate so many places before the end
+abbrev coefficients_back : ℕ → List Bool → Bool
+coefficients_back back v = bit v (length v - back)
 
 -- the part of the values that begins at a square's first generator
 pub row_part : (values : List (List Bool)) (first end i : ℕ) → end ≤ length values → first + i < end → row (take (end - first) (drop first values)) i ≡ row values (first + i)

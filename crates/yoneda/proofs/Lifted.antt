@@ -1,8 +1,7 @@
 -- The values of a lift on the generators of the square of a product.
-use Rattle.std.proofs.Common.{◌≡◌, ℕ, zero, suc, ◌+◌, ◌<◌, ◌≤◌, ℤ, pos, ◌+ℤ◌, ◌-ℤ◌, Bool, List, [], ◌∷◌, ◌++◌, length, map, get_or, take, refl, ap, sym, subst, ◌∙◌, arith}
+use Rattle.std.proofs.Common.{◌≡◌, ℕ, zero, suc, ◌+◌, ◌<◌, ◌≤◌, pos, ◌+ℤ◌, ◌-ℤ◌, Bool, List, [], ◌∷◌, ◌++◌, length, map, get_or, take, refl, ap, sym, subst, ◌∙◌, arith}
 use Rattle.std.proofs.lemmas.Int.{ints}
 use Rattle.std.proofs.lemmas.List.{take_more, map-append}
-use Rattle.f2_vec.specs.Spans.{row}
 use Rattle.free_module.specs.FreeModule.{free_width}
 use Rattle.resolution_laws.specs.Resolution.{row_of}
 use Rattle.square.specs.declared.range.Range.{Range}
@@ -12,12 +11,10 @@ use Rattle.square.proofs.Places.{length-row_of}
 use Rattle.lift_laws.specs.Lifts.{IsSphere, gens, degree}
 use Rattle.lift_laws.specs.Products.{first_of}
 use Rattle.chain_map.specs.declared.class.Class.{Class}
-use Rattle.chain_map.specs.Rows.{RowValues}
-use Rattle.chain_map.specs.Lifting.{LiftValues, resolution_of, row_values, shifted_length, degrees_through, AreValues, IsLiftOver}
+use Rattle.chain_map.specs.Lifting.{RowValues, LiftValues, resolution_of, row_values, shifted_length, degrees_through, AreValues, IsLiftOver}
 use Rattle.chain_map.proofs.Generators.{is_number, first_of-more, images_taken}
 use Rattle.yoneda.specs.declared.place.Place.{Place}
-use Rattle.yoneda.specs.Places.{IsPlaceOf}
-use Rattle.yoneda.specs.Products.{AreOnSquare}
+use Rattle.yoneda.specs.Products.{IsPlaceOf, AreOnSquare}
 
 pub shifted_length-positive : (above n : ℕ) → 0 < n → shifted_length above n ≡ above + n
 shifted_length-positive above zero h = absurd (omega arith)

@@ -17,15 +17,14 @@ use Rattle.chain_map.specs.Lifting.{LiftValues, no_lift, resolution_of, AreCanon
 use Rattle.chain_map.specs.Classes.{through}
 use Rattle.chain_map.proofs.Resolved.{is_canonical}
 use Rattle.yoneda.specs.declared.place.Place.{Place}
-use Rattle.yoneda.specs.Places.{class_above, IsPlaceOf, IsThere}
-use Rattle.yoneda.specs.Products.{IsGivenBy, IsYonedaProduct, IsProductThrough, IsProductOver, ArePlacesOf, HasValuesOn, AreProducts}
-use Rattle.yoneda.proofs.Lifted.{has_row}
+use Rattle.yoneda.specs.Products.{class_above, IsPlaceOf, IsThere, IsGivenBy, IsYonedaProduct, IsProductThrough, IsProductOver, ArePlacesOf, AreProducts}
+use Rattle.yoneda.proofs.Lifted.{HasRow, has_row}
 use Rattle.yoneda.proofs.Through.{count_through, product_through, class_through}
 
 pub place_there : (sphere : Staircase) (range : Range) (class : Named) (a : Place) → IsThrough range sphere.rows → IsPlaceOf sphere range class a → IsThere sphere a
 place_there sphere range class a whole is = record {
-  square = let row = whole a.s is.row_within in let degree = is.degree_within in omega arith;
-  generator = is.generator;
+  square = let row = whole a.s is.inside.row_within in let degree = is.inside.degree_within in omega arith;
+  generator = is.inside.generator;
 }
 
 -- fewer squares of canonical ones
@@ -132,10 +131,8 @@ module _ (one : LiftsGiveOneProduct) (modules : ModulesAreSteenrodModules) (tabl
   abbrev place : ℕ → Place
   place j = record { s = s; above = above; i = j }
 
-  pub values_of : (j : ℕ) → j < length lifts → HasValuesOn table sphere a (s + a.s) (a.above + above) (slice_index_or lifts j no_lift)
-  values_of j l =
-      let made = has_row table sphere range whole is_sphere a (place j) a.s (slice_index_or lifts j no_lift) a_there.square rows degrees refl (lifted j l) in
-      record { row = made.row; on_square = made.on_square }
+  pub row_made : (j : ℕ) → j < length lifts → HasRow table sphere a (place j) (slice_index_or lifts j no_lift)
+  row_made j l = has_row table sphere range whole is_sphere a (place j) a.s (slice_index_or lifts j no_lift) a_there.square rows degrees refl (lifted j l)
 
   abbrev product : LiftValues → List Bool
   product lift = product_by (resolution_of table) (resolution_of sphere) (class_above a) (map_of lift) (s + a.s) (a.above + above)

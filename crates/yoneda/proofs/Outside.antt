@@ -10,7 +10,11 @@ use Rattle.square.proofs.ByDegree.{natural-is}
 use Rattle.chain_map.specs.declared.class.Class.{Class}
 use Rattle.chain_map.specs.Classes.{through, classes_over, class_count, missing_in}
 use Rattle.chain_map.proofs.Classes.{count_inside, count_outside}
-use Rattle.yoneda.specs.Places.{IsOutside, IsInsideAt}
+use Rattle.yoneda.specs.Products.{IsInsideAt}
+
+-- the square (s, t) is not in the range
+abbrev pub IsOutside : Staircase → Range → ℕ → ℤ → Type 0
+IsOutside table range s t = (p : ℕ × ℕ) → IsInsideAt table range s t p → ⊥
 
 -- outside of the range there is no class
 none_outside : (table : Staircase) (range : Range) (s : ℕ) (t : ℤ) → IsOutside table range s t → (o : Option ℕ) → above_of (bottom_of table.resolved) t ≡ o → classes_over (through range table) s o ≡ 0

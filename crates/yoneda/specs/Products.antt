@@ -1,22 +1,52 @@
 -- The Yoneda product of a class of the sphere with a class of a module, on the tables of their resolutions (Adams, On the structure
 -- and applications of the Steenrod algebra; Bruner, Calculation of large Ext modules).
-use Rattle.std.specs.Prelude.{◌≡◌, ℕ, ◌+◌, ◌-◌, ◌<◌, ◌≤◌, ℤ, pos, ◌+ℤ◌, ◌≤ℤ◌, Bool, List, length, Option}
+use Rattle.std.specs.Prelude.{◌≡◌, ℕ, ◌<◌, ◌≤◌, ℤ, pos, ◌+ℤ◌, length, ◌+◌, ◌≤ℤ◌, Bool, List, Option}
 use Rattle.std.specs.Option.{option_or}
-use Rattle.f2_vec.specs.Vectors.{bit}
 use Rattle.f2_vec.specs.Spans.{row}
 use Rattle.free_module.specs.FreeModule.{free_width}
 use Rattle.square.specs.declared.range.Range.{Range}
+use Rattle.square.specs.declared.range.TheConstants.{MAX_S, MAX_T}
 use Rattle.square.specs.Squares.{bottom_of}
-use Rattle.square.specs.Tables.{Staircase, IsThrough}
-use Rattle.lift_laws.specs.Lifts.{Resolution, gens}
+use Rattle.square.specs.Tables.{Staircase, row_in, content_at, IsThrough}
 use Rattle.lift_laws.specs.Products.{Class as ClassAbove, first_of, count_of, IsLiftOfClass, product_by}
+use Rattle.lift_laws.specs.Lifts.{Resolution, gens}
 use Rattle.chain_map.specs.declared.class.Class.{Class}
-use Rattle.chain_map.specs.Lifting.{LiftValues, resolution_of, IsCanonicalIn, row_values}
+use Rattle.chain_map.specs.Lifting.{resolution_of, IsCanonicalIn}
 use Rattle.chain_map.specs.Classes.{through, no_class, out_of_range}
+use Rattle.yoneda.specs.declared.place.Place.{Place}
 use Rattle.yoneda.specs.declared.fault.YonedaFault.{YonedaFault}
 use Rattle.yoneda.specs.declared.fault.YonedaFault.TheVariants.{NoClass, OutOfRange}
-use Rattle.yoneda.specs.declared.place.Place.{Place}
-use Rattle.yoneda.specs.Places.{class_above, IsPlaceOf}
+
+-- (s, t) is the square p.1 above the bottom in row p.0, in the range
+pub record IsInsideAt (table : Staircase) (range : Range) (s : ℕ) (t : ℤ) (p : ℕ × ℕ) : Type 0 where
+  pub row : s ≡ p.0
+  pub degree : t ≡ bottom_of table.resolved +ℤ pos p.1
+  pub row_within : p.0 ≤ range.s
+  pub degree_within : p.1 ≤ range.t
+
+-- the table has a generator at the place, which is within the range and the limits of ranges
+pub record IsPlaceIn (table : Staircase) (range : Range) (place : Place) : Type 0 where
+  pub row_within : place.s ≤ range.s
+  pub degree_within : place.above ≤ range.t
+  pub row_small : place.s ≤ MAX_S
+  pub degree_small : place.above ≤ MAX_T
+  pub generator : place.i < length (content_at table.rows place.s place.above).images
+
+-- the class stands there
+pub record IsPlaceOf (table : Staircase) (range : Range) (class : Class) (place : Place) : Type 0 where
+  pub row : class.s ≡ place.s
+  pub degree : class.t ≡ bottom_of table.resolved +ℤ pos place.above
+  pub number : class.i ≡ place.i
+  pub inside : IsPlaceIn table range place
+
+-- there is a generator at the place
+pub record IsThere (table : Staircase) (place : Place) : Type 0 where
+  pub square : place.above < length (row_in table.rows place.s)
+  pub generator : place.i < length (content_at table.rows place.s place.above).images
+
+-- the class that is dual to it
+abbrev pub class_above : Place → ClassAbove
+class_above place = record { s = place.s; above = place.above; i = place.i }
 
 -- ---- refusals
 
@@ -36,10 +66,6 @@ pub record AreOnSquare (table sphere : Staircase) (a : Place) (s above : ℕ) (v
   pub widths : (i : ℕ) → i < count_of (resolution_of table) s above →
       length (row values (first_of (resolution_of table) s above + i))
       ≡ free_width (gens (resolution_of sphere) a.s) (bottom_of sphere.resolved +ℤ pos a.above)
-
--- the coordinate so many places before the end
-abbrev pub coefficients_back : ℕ → List Bool → Bool
-coefficients_back back v = bit v (length v - back)
 
 -- v is what a lift of x gives as the product of a and x; the lift goes through its degree
 pub record IsGivenBy (r q : Resolution) (a x : ClassAbove) (v : List Bool) : Type 0 where
@@ -77,11 +103,6 @@ pub record IsProductOver (table sphere : Staircase) (range : Range) (a x : Class
   pub one_each : length v ≡ count_of (resolution_of table) (x_place.s + a_place.s) (a_place.above + x_place.above)
   pub product : IsCanonicalIn range table → IsCanonicalIn range sphere →
       IsYonedaProduct (through range table) (through range sphere) (class_above a_place) (class_above x_place) v
-
--- a lift has map a.s, with its values on the generators of the square `above` above the bottom in row s
-pub record HasValuesOn (table sphere : Staircase) (a : Place) (s above : ℕ) (lift : LiftValues) : Type 0 where
-  pub row : a.s < length lift.rows
-  pub on_square : AreOnSquare table sphere a s above (row_values lift a.s).vectors
 
 -- the rows are the products of a with the classes of the square `above` above the bottom in row s, in their order
 abbrev pub AreProducts : Staircase → Staircase → Place → ℕ → ℕ → List (List Bool) → Type 0

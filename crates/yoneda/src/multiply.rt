@@ -4,10 +4,9 @@ ghost use Rattle.f2_vec.specs.Spans.{HaveWidth};
 ghost use Rattle.square.specs.Tables.{row_in, IsTable, IsThrough};
 ghost use Rattle.lift_laws.specs.Lifts.{IsSphere};
 ghost use Rattle.lift_laws.specs.Products.{count_of, product_by};
-ghost use Rattle.chain_map.specs.Lifting.{resolution_of, no_lift, map_of};
+ghost use Rattle.chain_map.specs.Lifting.{resolution_of, row_values, no_lift, map_of};
 ghost use Rattle.chain_map.specs.Classes.{through, no_class};
-ghost use Rattle.yoneda.specs.Places.{class_above, IsPlaceOf, IsThere};
-ghost use Rattle.yoneda.specs.Products.{refusal_of, ArePlacesOf, IsProductOver, AreProducts, HasValuesOn};
+ghost use Rattle.yoneda.specs.Products.{class_above, IsPlaceOf, IsThere, refusal_of, ArePlacesOf, IsProductOver, AreProducts, AreOnSquare};
 ghost use Rattle.yoneda.specs.declared.fault.YonedaFault as YonedaFault;
 ghost use Rattle.yoneda.specs.declared.fault.YonedaFault.TheVariants.{NoClass, Memory as OutOfMemory};
 
@@ -107,8 +106,9 @@ fn products_by(
 ) -> Result<Vec<BitVec>, Memory>
     requires class { IsThere sphere.now a }
     requires square { above < length (row_in table.now.rows s) }
-    requires lifts { (j : ℕ) → j < length lifts.now →
-        HasValuesOn table.now sphere.now a s above (slice_index_or lifts.now j no_lift) }
+    requires rows { (j : ℕ) → j < length lifts.now → a.s < length (slice_index_or lifts.now j no_lift).rows }
+    requires values { (j : ℕ) → j < length lifts.now →
+        AreOnSquare table.now sphere.now a s above (row_values (slice_index_or lifts.now j no_lift) a.s).vectors }
     ensures { IfOk result (λ rows. rows.items ≡ map
         (λ lift. product_by (resolution_of table.now) (resolution_of sphere.now) (class_above a) (map_of lift) s above)
         lifts.now) }

@@ -1,11 +1,11 @@
 //! Where a class stands in a table.
-ghost use Rattle.std.specs.Prelude.{◌≡◌, ◌≤ℤ◌, neg_ℤ, MatchOption, IfOk, IfErr, OnOk, None, Some};
+ghost use Rattle.std.specs.Prelude.{◌≡◌, ◌≤ℤ◌, ℕ, neg_ℤ, MatchOption, IfOk, IfErr, OnOk, None, Some};
 ghost use Rattle.degrees.specs.Above.{above_of as above};
 ghost use Rattle.module_json.specs.declared.limits.TheConstants.{MAX_DEGREE};
 ghost use Rattle.square.specs.Squares.{bottom_of};
 ghost use Rattle.square.specs.Tables.{IsTable, IsThrough};
 ghost use Rattle.chain_map.specs.Classes.{through, missing_in};
-ghost use Rattle.yoneda.specs.Places.{IsOutside, IsInsideAt, IsPlaceOf};
+ghost use Rattle.yoneda.specs.Products.{IsInsideAt, IsPlaceOf};
 
 use chain_map::Class;
 use degrees::above_of;
@@ -48,7 +48,8 @@ pub fn place_of(table: &Table, range: Range, class: Class) -> Result<Place, usiz
 
 /// Row `s`, and how many degrees `t` is above the bottom, where the square (s, t) is in the range.
 fn inside(table: &Table, range: Range, s: u32, t: i32) -> Option<(u16, u16)>
-    ensures { MatchOption result (IsOutside table.now range s t) (IsInsideAt table.now range s t) }
+    ensures { MatchOption result ((p : ℕ × ℕ) → IsInsideAt table.now range s t p → ⊥)
+        (IsInsideAt table.now range s t) }
 {
     let above = above_of(table.module().bottom(), t)?;
     if s > u32::from(range.s) || above > u64::from(range.t) {

@@ -1,5 +1,5 @@
 //! The coefficients of a class in the values of a map.
-ghost use Rattle.std.specs.Prelude.{◌≡◌, ℕ, ◌+◌, ◌<◌, ◌≤◌, length, map, take, IfOk};
+ghost use Rattle.std.specs.Prelude.{◌≡◌, ℕ, ◌+◌, ◌-◌, ◌<◌, ◌≤◌, length, map, take, IfOk};
 ghost use Rattle.f2_vec.specs.Vectors.{bit};
 ghost use Rattle.f2_vec.specs.Spans.{row};
 ghost use Rattle.resolution_laws.specs.Resolution.{row_of, degrees_from};
@@ -7,8 +7,7 @@ ghost use Rattle.square.specs.Squares.{bottom_of};
 ghost use Rattle.square.specs.Tables.{row_in, plain_rows};
 ghost use Rattle.lift_laws.specs.Products.{coefficient_of, first_of, on_square};
 ghost use Rattle.chain_map.specs.Lifting.{resolution_of};
-ghost use Rattle.yoneda.specs.Places.{class_above, IsThere};
-ghost use Rattle.yoneda.specs.Products.{AreOnSquare, coefficients_back};
+ghost use Rattle.yoneda.specs.Products.{class_above, IsThere, AreOnSquare};
 
 use crate::place::Place;
 use f2_vec::BitVec;
@@ -56,7 +55,7 @@ fn first_at(alloc: Global, table: &Table, s: u16, above: u16) -> Result<usize, M
 fn coordinates_back(alloc: Global, vectors: &[BitVec], back: usize) -> Result<BitVec, Memory>
     requires behind { 0 < back }
     requires within { (i : ℕ) → i < length vectors.now → back ≤ length (row vectors.now i) }
-    ensures { IfOk result (λ v. v ≡ map (coefficients_back back) vectors.now) }
+    ensures { IfOk result (λ v. v ≡ map (λ w. bit w (length w - back)) vectors.now) }
 {
     let mut coordinates = BitVec::zero(alloc, 0)?;
     for v in vectors {

@@ -2,7 +2,7 @@ use Rattle.std.proofs.Common.{◌≡◌, Bool, List, ap, ◌∙◌}
 use Rattle.f2_vec.specs.Spans.{row}
 use Rattle.lift_laws.specs.Products.{coefficient_of, on_square, product_by}
 use Rattle.chain_map.specs.Lifting.{LiftValues, resolution_of, map_of}
-use Rattle.yoneda.specs.Places.{class_above}
+use Rattle.yoneda.specs.Products.{class_above}
 use Rattle.yoneda.proofs.Lifted.{rows_more}
 use Rattle.yoneda.proofs.multiply.products_by.Goals as goal
 

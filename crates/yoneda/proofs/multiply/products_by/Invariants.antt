@@ -1,7 +1,7 @@
 use Rattle.std.proofs.Common.{◌≡◌, map, take}
 use Rattle.lift_laws.specs.Products.{product_by}
 use Rattle.chain_map.specs.Lifting.{resolution_of, map_of}
-use Rattle.yoneda.specs.Places.{class_above}
+use Rattle.yoneda.specs.Products.{class_above}
 use Rattle.yoneda.proofs.multiply.products_by.Given as goal
 
 abbrev pub invariant-loop-lift : goal.invariant-loop-lift

@@ -1,6 +1,6 @@
 use Rattle.std.proofs.Common.{◌≡◌, ℤ, rules, length, ap, subst, to_z, of_z, w32, arith}
-use Rattle.yoneda.specs.Places.{IsOutside, IsInsideAt}
-use Rattle.yoneda.proofs.Outside.{missing_outside, none_missing, one_missing}
+use Rattle.yoneda.specs.Products.{IsInsideAt}
+use Rattle.yoneda.proofs.Outside.{IsOutside, missing_outside, none_missing, one_missing}
 use Rattle.yoneda.proofs.place.place_of.Goals as goal
 
 pub returns-in_default-clause-missing : goal.returns-in_default-clause-missing
