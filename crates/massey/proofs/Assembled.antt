@@ -2,27 +2,32 @@
 use Rattle.std.proofs.Common.{◌≡◌, ℕ, suc, ◌+◌, ◌<◌, ℤ, Bool, false, List, length, ap, sym, subst, ◌∙◌, arith}
 use Rattle.std.proofs.lemmas.Int.{ints}
 use Rattle.finite_module.specs.Graded.{ModulesAreSteenrodModules}
-use Rattle.f2_vec.specs.Vectors.{bit, sum_of}
+use Rattle.f2_vec.specs.Vectors.{bit, sum_of, IsZero}
 use Rattle.f2_vec.specs.Spans.{IsInSpan}
 use Rattle.f2_vec.proofs.Sums.{sum_of-comm}
 use Rattle.f2_matrix.specs.Echelon.{IsRowBasis}
 use Rattle.square.specs.declared.range.Range.{Range}
 use Rattle.square.specs.Tables.{Staircase}
 use Rattle.lift_laws.specs.Lifts.{Resolution, IsCanonical, IsSphere}
-use Rattle.lift_laws.specs.Products.{Class, first_of, count_of, coefficient_of}
+use Rattle.lift_laws.specs.Products.{Class, first_of, count_of, coefficient_of, product_by}
 use Rattle.bracket_laws.specs.Brackets.{HasRoom, HasZeroProduct, top_of, IsBracketMember, IsIndeterminacy, BracketIsCoset}
 use Rattle.bracket_laws.proofs.Vectors.{bit-on_square}
 use Rattle.chain_map.specs.Lifting.{LiftValues, resolution_of, IsCanonicalIn, map_of}
-use Rattle.yoneda.specs.Places.{class_above}
+use Rattle.yoneda.specs.Products.{class_above}
 use Rattle.massey.specs.declared.places.Places.{Places}
-use Rattle.massey.specs.Brackets.{IsBracketOf}
-use Rattle.massey.specs.Cosets.{IsZeroAtPivots}
+use Rattle.massey.specs.Brackets.{IsBracketOf, IsZeroAtPivots}
 use Rattle.chain_map.specs.Classes.{through}
-use Rattle.massey.specs.Inside.Settings.{above_of, above_ab, IsSetting, AreLifts, IsMemberBy, AreSpanning, IsBracket}
+use Rattle.massey.specs.Inside.{above_of, above_ab, IsSetting, AreLifts, IsMemberBy, AreSpanning, IsBracket}
 use Rattle.chain_map.proofs.Resolved.{is_canonical}
 use Rattle.yoneda.proofs.Through.{count_through, product_through}
 use Rattle.massey.proofs.Values.{room_of}
 use Rattle.massey.proofs.Members.{beta_through}
+
+-- a product that is zero has no coefficient, in its row under each name
+pub no_coefficient : (r q : Resolution) (a : Class) (phi : ℕ → ℕ → List Bool) (k row m : ℕ) → k ≡ row → IsZero (product_by r q a phi k m) → (i : ℕ) → i < count_of r row m → coefficient_of q a (phi a.s (first_of r row m + i)) ≡ false
+no_coefficient r q a phi k row m same zero =
+    subst (λ (k : ℕ). (i : ℕ) → i < count_of r k m → coefficient_of q a (phi a.s (first_of r k m + i)) ≡ false) same
+    (λ i h. sym (bit-on_square r k m (λ g. coefficient_of q a (phi a.s g)) i h) ∙ zero i)
 
 -- over canonical resolutions: any member, and any that is zero at the pivots and apart from it by the indeterminacy
 module _ (coset : BracketIsCoset) (r q : Resolution) (range : Range) (canonical : IsCanonical r range.s range.t) (canonical_q : IsCanonical q range.s range.t) (sphere : IsSphere q) (a b c : Class) (n l : ℕ) (n_row : suc n ≡ c.s + b.s) (l_row : suc l ≡ b.s + a.s)
@@ -92,14 +97,11 @@ module _ (coset : BracketIsCoset) (modules : ModulesAreSteenrodModules)
   zero_product =
       let i = s.inside in
       let f = i.ab_row in
-      let same : p.b.s + p.a.s ≡ suc l = sym l_row in
       let part = product_through sphere sphere range range a (p.b.s + p.a.s) (above_ab p) (map_of beta) (omega arith) i.ab_degree (omega arith) (omega arith) in
-      let zero : (k : ℕ) → k < count_of qc (p.b.s + p.a.s) (above_ab p) → coefficient_of qc a (map_of beta p.a.s (first_of qc (p.b.s + p.a.s) (above_ab p) + k)) ≡ false = λ k h.
-      sym (bit-on_square qc (p.b.s + p.a.s) (above_ab p) (λ g. coefficient_of qc a (map_of beta p.a.s g)) k h) ∙ (ap (λ (v : List Bool). bit v k) part ∙ lifts.ab_zero k) in
       record {
         beta = map_of beta;
         beta_lift = beta_through table sphere range p s all all_q beta gamma lifts l l_row;
-        zero = subst (λ (w : ℕ). (k : ℕ) → k < count_of qc w (above_ab p) → coefficient_of qc a (map_of beta p.a.s (first_of qc w (above_ab p) + k)) ≡ false) same zero;
+        zero = no_coefficient qc qc a (map_of beta) (p.b.s + p.a.s) (suc l) (above_ab p) (sym l_row) (λ k. ap (λ (v : List Bool). bit v k) part ∙ lifts.ab_zero k);
       }
 
   a_there : p.a.i < count_of qc p.a.s p.a.above
@@ -108,7 +110,7 @@ module _ (coset : BracketIsCoset) (modules : ModulesAreSteenrodModules)
       let f = i.ab_row in
       let g = i.ab_degree in
       let same = count_through sphere range p.a.s p.a.above (omega arith) (omega arith) in
-      let h = s.a_there in
+      let h = s.a_in.generator in
       omega arith
 
   assembled : (first value : List Bool) (rows basis : List (List Bool)) → length value ≡ size → IsMemberBy table sphere range p n first → AreSpanning table sphere range p n rows → IsRowBasis size rows basis → IsInSpan size basis (sum_of first value) → IsZeroAtPivots basis value → IsBracket table sphere range p value basis

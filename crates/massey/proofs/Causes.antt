@@ -13,16 +13,13 @@ use Rattle.chain_map.specs.declared.class.Class.{Class}
 use Rattle.chain_map.specs.Lifting.{LiftValues, resolution_of, IsCanonicalIn, map_of, IsLiftOver, IsClassOf}
 use Rattle.yoneda.specs.declared.place.Place.{Place}
 use Rattle.chain_map.specs.Classes.{through, missing_in, passes, no_class, out_of_range, class_refusal}
-use Rattle.yoneda.specs.Places.{class_above, IsPlaceOf}
-use Rattle.yoneda.specs.Products.{IsYonedaProduct, IsProductOver, ArePlacesOf}
+use Rattle.yoneda.specs.Products.{class_above, IsPlaceOf, IsYonedaProduct, IsProductOver, ArePlacesOf}
 use Rattle.yoneda.proofs.OneProduct.{place_there, product_of_lift}
 use Rattle.massey.specs.declared.fault.MasseyFault.{MasseyFault}
 use Rattle.massey.specs.declared.fault.MasseyFault.TheVariants.{NoClass, OutOfRange, Nonzero, Memory}
 use Rattle.massey.specs.declared.places.Places.{Places}
-use Rattle.massey.specs.Refusals.{absent, past, refusal_of, AreInside}
-use Rattle.massey.specs.Inside.Settings.{AreFound, above_ab, above_bc, IsSetting}
-use Rattle.massey.specs.Brackets.{IsCause}
-use Rattle.massey.proofs.Refusals.{are_small}
+use Rattle.massey.specs.Brackets.{absent, past, refusal_of, AreInside, IsCause}
+use Rattle.massey.specs.Inside.{AreFound, above_ab, above_bc, IsSetting}
 use Rattle.massey.proofs.Values.{reaches}
 
 module _ (one : LiftsGiveOneProduct) (modules : ModulesAreSteenrodModules)
@@ -96,11 +93,10 @@ setting_of table sphere range h hq whole whole_q is_sphere a b c p found inside 
   through_table = whole;
   through_sphere = whole_q;
   is_sphere = is_sphere;
-  small = are_small table sphere range a b c p found;
+  a_in = found.a_is.inside;
+  b_in = found.b_is.inside;
+  c_in = found.c_is.inside;
   inside = inside;
-  a_there = found.a_is.generator;
-  b_there = found.b_is.generator;
-  c_there = found.c_is.generator;
 }
 
 module _ (one : LiftsGiveOneProduct) (modules : ModulesAreSteenrodModules)
@@ -122,13 +118,13 @@ pub class_there : (table : Staircase) (range : Range) → IsThrough range table.
 class_there table range whole class x is =
     let row = is.row in
     let number = is.number in
-    let near = is.degree_within in
-    let long : range.t < length (row_in table.rows class.s) = subst (λ (s : ℕ). range.t < length (row_in table.rows s)) (sym row) (whole x.s is.row_within) in
+    let near = is.inside.degree_within in
+    let long : range.t < length (row_in table.rows class.s) = subst (λ (s : ℕ). range.t < length (row_in table.rows s)) (sym row) (whole x.s is.inside.row_within) in
     record {
       above = x.above;
       degree = is.degree;
       square = omega arith;
-      generator = subst (λ (s : ℕ). class.i < count_of (resolution_of table) s x.above) (sym row) (subst (λ (i : ℕ). i < count_of (resolution_of table) x.s x.above) (sym number) is.generator);
+      generator = subst (λ (s : ℕ). class.i < count_of (resolution_of table) s x.above) (sym row) (subst (λ (i : ℕ). i < count_of (resolution_of table) x.s x.above) (sym number) is.inside.generator);
     }
 
 -- what a test of a vector tells

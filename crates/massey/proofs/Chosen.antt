@@ -1,33 +1,10 @@
--- The values of a map grow, value by value and map by map.
-use Rattle.std.proofs.Common.{◌≡◌, ◌⊎◌, inl, inr, ℕ, suc, ◌+◌, ◌<◌, ◌≤◌, Bool, ℤ, ◌-ℤ◌, List, [], ◌∷◌, ◌++◌, length, refl, sym, subst, ◌∙◌, arith}
+-- The maps of a null homotopy grow, map by map.
+use Rattle.std.proofs.Common.{◌≡◌, ◌⊎◌, inl, inr, ℕ, suc, ◌+◌, ◌<◌, ◌≤◌, Bool, List, refl, sym, subst, ◌∙◌, arith}
 use Rattle.std.proofs.lemmas.Bool.{cases_lt}
-use Rattle.std.proofs.lemmas.List.{get_or_append_left, get_or_push, length_push}
-use Rattle.f2_vec.specs.Spans.{row}
 use Rattle.square.specs.Tables.{Staircase}
-use Rattle.lift_laws.specs.Lifts.{degree}
-use Rattle.chain_map.specs.Lifting.{LiftValues, resolution_of, IsChosenFor}
+use Rattle.chain_map.specs.Lifting.{LiftValues}
 use Rattle.massey.specs.declared.places.Places.{Places}
-use Rattle.massey.specs.Inside.Homotopies.{AreChosen, AreNext, AreMaps, zero_map}
-
-module _ (table sphere : Staircase) (i k : ℕ) (x : ℤ) (goal : ℕ → List Bool) where
-  pub chosen_more : (count : ℕ) (old new : List (List Bool)) (u : ℤ) (wanted w : List Bool) → new ≡ old ++ w ∷ [] → u ≡ degree (resolution_of table) i count -ℤ x → wanted ≡ goal count → IsChosenFor sphere k u wanted w → AreChosen table sphere i k x goal count old → AreChosen table sphere i k x goal (count + 1) new
-  chosen_more count old new u wanted w e at same chosen p =
-      let len = length_push old w in
-      let one = p.one_each in
-      let P : ℕ → List Bool → Type 0 = λ g v. IsChosenFor sphere k (degree (resolution_of table) i g -ℤ x) (goal g) v in
-      let here : P count w = subst (λ (z : List Bool). IsChosenFor sphere k (degree (resolution_of table) i count -ℤ x) z w) same (subst (λ (z : ℤ). IsChosenFor sphere k z wanted w) at chosen) in
-      let last : P count (row (old ++ w ∷ []) count) = subst (P count) (sym (get_or_push old w [] count one)) here in
-      let grown : AreChosen table sphere i k x goal (count + 1) (old ++ w ∷ []) = record {
-        one_each = omega arith;
-        each = λ g l. elim (cases_lt g (length old)) [
-          | inl m ↦ subst (P g) (sym (get_or_append_left old (w ∷ []) [] g m)) (p.each g m)
-          | inr m ↦ let end : count ≡ g = omega arith in subst (λ (g : ℕ). P g (row (old ++ w ∷ []) g)) end last
-        ];
-      } in
-      subst (AreChosen table sphere i k x goal (count + 1)) (sym e) grown
-
-  pub chosen_in : (count other : ℕ) (vectors : List (List Bool)) → count ≡ other → AreChosen table sphere i k x goal count vectors → AreChosen table sphere i k x goal other vectors
-  chosen_in count other vectors e p = subst (λ (n : ℕ). AreChosen table sphere i k x goal n vectors) e p
+use Rattle.massey.specs.Inside.{AreNext, AreMaps, zero_map}
 
 -- the maps through one, and another behind them
 grown_by : (maps : ℕ → List (List Bool)) (new : List (List Bool)) (j k : ℕ) → (k < j) ⊎ (j ≤ k) → List (List Bool)

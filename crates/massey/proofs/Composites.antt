@@ -17,15 +17,13 @@ use Rattle.square.proofs.Places.{length-row_of}
 use Rattle.square.proofs.Targets.{row_short}
 use Rattle.lift_laws.specs.Lifts.{Resolution, degree}
 use Rattle.lift_laws.specs.Products.{first_of, count_of}
-use Rattle.chain_map.specs.Rows.{lowered_row}
-use Rattle.chain_map.specs.Lifting.{LiftValues, resolution_of, row_values, degrees_through, AreValues, target_of}
-use Rattle.chain_map.specs.Inside.Making.{Reaches}
+use Rattle.chain_map.specs.Lifting.{lowered_row, LiftValues, resolution_of, row_values, degrees_through, AreValues, target_of}
+use Rattle.chain_map.specs.Inside.{Reaches}
 use Rattle.chain_map.proofs.Generators.{is_number, images_taken, first_of-more, within-reach, degree-below, degree-lowered}
 use Rattle.chain_map.proofs.Places.{low_width, are_images}
 use Rattle.chain_map.proofs.Widths.{HasPlace}
 use Rattle.massey.specs.declared.places.Places.{Places}
-use Rattle.massey.specs.Inside.Settings.{above_of, above_ab, above_bc}
-use Rattle.massey.specs.Inside.Homotopies.{IsComposite, beta_values}
+use Rattle.massey.specs.Inside.{above_of, above_ab, above_bc, IsComposite, beta_values}
 use Rattle.massey.proofs.Values.{reaches}
 
 module _ (table sphere : Staircase) (range : Range) (p : Places) (n : ℕ) (beta gamma : LiftValues) (c : IsComposite table sphere range p n beta gamma) where
@@ -177,5 +175,5 @@ module _ (table sphere : Staircase) (range : Range) (p : Places) (n : ℕ) (beta
       let lower = degree-lowered r n (above_of p + 1) (above_bc p) g there in
       let at = ap (λ (z : List ℤ). degree_at z g) source_is in
       let zero = c.setting.is_sphere.bottom in
-      let small = c.setting.small.a_degree in
+      let small = c.setting.a_in.degree_small in
       subst (λ (z : List ℤ). IsWithinReach max z (degree_at source g)) (sym target_is) (within-reach (bottom_of sphere.resolved) (take (p.a.above + 1) (row_of (plain_rows sphere.rows) 0)) max (degree_at source g) (omega (arith, ints)))

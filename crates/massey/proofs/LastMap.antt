@@ -21,22 +21,20 @@ use Rattle.lift_laws.proofs.Resolved.{IsResolved, is_resolved}
 use Rattle.bracket_laws.specs.Brackets.{composed, top_of, HasZeroLower}
 use Rattle.bracket_laws.proofs.Members.{AreMadeMaps}
 use Rattle.bracket_laws.proofs.HasMember.{made_homotopy}
-use Rattle.bracket_laws.proofs.Vectors.{bit-on_square}
-use Rattle.chain_map.specs.Rows.{lowered_row, IsInverseAt, chosen_preimage}
-use Rattle.chain_map.specs.Lifting.{LiftValues, resolution_of, IsCanonicalIn, map_of, IsChosenFor, target_of, next_goal}
+use Rattle.chain_map.specs.Lifting.{lowered_row, IsInverseAt, chosen_preimage, LiftValues, resolution_of, IsCanonicalIn, map_of, IsChosenFor, target_of, next_goal}
 use Rattle.chain_map.proofs.Generators.{degree-lowered}
 use Rattle.chain_map.proofs.Preimages.{gives-of}
 use Rattle.chain_map.proofs.Widths.{width-take}
-use Rattle.yoneda.specs.Places.{class_above}
+use Rattle.yoneda.specs.Products.{class_above}
 use Rattle.massey.specs.declared.places.Places.{Places}
 use Rattle.chain_map.specs.Classes.{through}
-use Rattle.massey.specs.Inside.Settings.{above_of, above_ab, above_bc, IsLastMap}
-use Rattle.massey.specs.Inside.Homotopies.{IsComposite, beta_values, homotopy_goal, AreMaps}
+use Rattle.massey.specs.Inside.{above_of, above_ab, above_bc, IsLastMap, IsComposite, beta_values, homotopy_goal, AreMaps}
 use Rattle.chain_map.proofs.Classes.{rows_through}
 use Rattle.chain_map.proofs.Resolved.{is_canonical}
 use Rattle.yoneda.proofs.Through.{count_through, product_through}
 use Rattle.massey.proofs.Values.{room_of}
 use Rattle.massey.proofs.Members.{gamma_through, beta_through}
+use Rattle.massey.proofs.Assembled.{no_coefficient}
 use Rattle.massey.proofs.Maps.{among_first, part_map}
 use Rattle.massey.proofs.Composites.{row_inside, sphere_row_inside, beta_taken}
 use Rattle.massey.proofs.MapValues.{next_width}
@@ -216,11 +214,9 @@ module _ (minimal : CanonicalTableIsMinimalResolution) (modules : ModulesAreStee
       let b = class_above p.b in
       let bc_degree = inside.bc_degree in
       let part = product_through table sphere range range b (p.c.s + p.b.s) (above_bc p) (map_of gamma) (omega arith) inside.bc_degree (omega arith) (omega arith) in
-      let zero : (i : ℕ) → i < count_of rc (p.c.s + p.b.s) (above_bc p) → coefficient_of qc b (map_of gamma p.b.s (first_of rc (p.c.s + p.b.s) (above_bc p) + i)) ≡ false = λ i h.
-      sym (bit-on_square rc (p.c.s + p.b.s) (above_bc p) (λ g. coefficient_of qc b (map_of gamma p.b.s g)) i h) ∙ (ap (λ (v : List Bool). bit v i) part ∙ c.lifts.bc_zero i) in
       record {
         gamma_lift = gamma_through table sphere range p s all all_q beta gamma c.lifts l l_row;
-        zero = subst (λ (k : ℕ). (i : ℕ) → i < count_of rc k (above_bc p) → coefficient_of qc b (map_of gamma p.b.s (first_of rc k (above_bc p) + i)) ≡ false) (sym c.n_row) zero;
+        zero = no_coefficient rc qc b (map_of gamma) (p.c.s + p.b.s) (suc n) (above_bc p) (sym c.n_row) (λ i. ap (λ (v : List Bool). bit v i) part ∙ c.lifts.bc_zero i);
       }
 
   pub is_last_map : IsLastMap table sphere range p n beta gamma last
@@ -233,7 +229,7 @@ module _ (minimal : CanonicalTableIsMinimalResolution) (modules : ModulesAreStee
       let zero = s.is_sphere.bottom in
       let sphere_c : IsSphere qc = record { bottom = s.is_sphere.bottom; one = s.is_sphere.one; none = s.is_sphere.none } in
       let count = count_through sphere range p.b.s p.b.above (omega arith) (omega arith) in
-      let there = s.b_there in
+      let there = s.b_in.generator in
       record {
         H = H;
         homotopy = made_homotopy rc qc range.s range.t range.s range.t p_resolved q_resolved (class_above p.a) (class_above p.b) (class_above p.c) n l sphere_c (room_of table sphere range p inside beta gamma c.lifts n c.n_row l l_row) top (omega arith) (map_of gamma) (map_of beta) zero_lower (beta_through table sphere range p s all all_q beta gamma c.lifts l l_row) (omega (arith, ints)) H are_made;

@@ -14,15 +14,13 @@ use Rattle.square.specs.Tables.{Staircase, row_in}
 use Rattle.square.proofs.Places.{length-row_of}
 use Rattle.lift_laws.specs.Lifts.{Resolution, gens, degree}
 use Rattle.lift_laws.specs.Products.{first_of}
-use Rattle.chain_map.specs.Rows.{lowered_row}
-use Rattle.chain_map.specs.Lifting.{LiftValues, resolution_of, target_of}
+use Rattle.chain_map.specs.Lifting.{lowered_row, LiftValues, resolution_of, target_of}
 use Rattle.chain_map.proofs.Generators.{is_number, first_of-more}
 use Rattle.chain_map.proofs.Places.{are_images}
 use Rattle.chain_map.proofs.Widths.{value_width}
 use Rattle.yoneda.specs.Products.{AreOnSquare}
 use Rattle.massey.specs.declared.places.Places.{Places}
-use Rattle.massey.specs.Inside.Settings.{above_of, above_bc}
-use Rattle.massey.specs.Inside.Homotopies.{IsComposite, beta_values, homotopy_goal, zero_map, AreNext, AreMaps}
+use Rattle.massey.specs.Inside.{above_of, above_bc, IsComposite, beta_values, homotopy_goal, zero_map, AreNext, AreMaps}
 use Rattle.massey.proofs.Composites.{row_there, has_place}
 
 module _ (table sphere : Staircase) (range : Range) (p : Places) (n : ℕ) (beta gamma : LiftValues) (c : IsComposite table sphere range p n beta gamma) where

@@ -12,8 +12,7 @@ use Rattle.square.specs.Tables.{Staircase, plain_rows}
 use Rattle.lift_laws.specs.Lifts.{Resolution, gens, degree, lowered}
 use Rattle.lift_laws.specs.Products.{first_of}
 use Rattle.lift_laws.proofs.Cut.{there-cut, kept-cut, degree-cut, lowered-cut}
-use Rattle.chain_map.specs.Rows.{lowered_row}
-use Rattle.chain_map.specs.Lifting.{resolution_of, target_of}
+use Rattle.chain_map.specs.Lifting.{lowered_row, resolution_of, target_of}
 use Rattle.chain_map.specs.Classes.{through}
 use Rattle.chain_map.proofs.Applied.{mapped-is}
 use Rattle.chain_map.proofs.Classes.{rows_through}

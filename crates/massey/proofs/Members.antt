@@ -14,11 +14,11 @@ use Rattle.bracket_laws.proofs.Dots.{dot-zeros}
 use Rattle.bracket_laws.proofs.Vectors.{on_square-same}
 use Rattle.chain_map.specs.Lifting.{LiftValues, resolution_of, IsCanonicalIn, map_of, greatest, IsLiftOver}
 use Rattle.yoneda.specs.declared.place.Place.{Place}
-use Rattle.yoneda.specs.Places.{class_above}
+use Rattle.yoneda.specs.Products.{class_above}
 use Rattle.yoneda.proofs.OneProduct.{canonical_less}
 use Rattle.massey.specs.declared.places.Places.{Places}
 use Rattle.chain_map.specs.Classes.{through}
-use Rattle.massey.specs.Inside.Settings.{above_of, above_ab, IsSetting, AreLifts, IsLastMap, IsMemberBy}
+use Rattle.massey.specs.Inside.{above_of, above_ab, IsSetting, AreLifts, IsLastMap, IsMemberBy}
 use Rattle.yoneda.proofs.Through.{on_square_through, coefficient_through, class_through}
 use Rattle.massey.proofs.Values.{reaches}
 

@@ -10,13 +10,11 @@ use Rattle.square.specs.Squares.{bottom_of}
 use Rattle.square.specs.Tables.{Staircase, plain_rows, content_at}
 use Rattle.lift_laws.specs.Lifts.{degree}
 use Rattle.lift_laws.specs.Products.{first_of, count_of}
-use Rattle.chain_map.specs.Rows.{lowered_row}
-use Rattle.chain_map.specs.Lifting.{LiftValues, resolution_of, map_of, target_of, next_goal}
+use Rattle.chain_map.specs.Lifting.{lowered_row, LiftValues, resolution_of, map_of, target_of, next_goal}
 use Rattle.chain_map.proofs.Generators.{is_number}
 use Rattle.chain_map.proofs.Places.{next_goal_is}
 use Rattle.massey.specs.declared.places.Places.{Places}
-use Rattle.massey.specs.Inside.Settings.{above_of, above_ab, above_bc}
-use Rattle.massey.specs.Inside.Homotopies.{AreMapsOf, homotopy_goal}
+use Rattle.massey.specs.Inside.{above_of, above_ab, above_bc, AreMapsOf, homotopy_goal}
 
 module _ (table sphere : Staircase) (p : Places) (n k j h : ℕ) (there : j < length (row_of (plain_rows table.rows) (suc (n + k)))) (inside : h < count_of (resolution_of table) (suc (n + k)) j) where
   abbrev g : ℕ

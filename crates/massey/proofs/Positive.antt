@@ -12,10 +12,10 @@ use Rattle.chain_map.specs.Lifting.{LiftValues, resolution_of, IsCanonicalIn, ma
 use Rattle.chain_map.specs.Classes.{through}
 use Rattle.chain_map.proofs.Resolved.{is_canonical}
 use Rattle.yoneda.specs.declared.place.Place.{Place}
-use Rattle.yoneda.specs.Places.{class_above}
+use Rattle.yoneda.specs.Products.{class_above}
 use Rattle.yoneda.proofs.Through.{count_through, product_through}
 use Rattle.massey.specs.declared.places.Places.{Places}
-use Rattle.massey.specs.Inside.Settings.{above_ab, above_bc, IsSetting}
+use Rattle.massey.specs.Inside.{above_ab, above_bc, IsSetting}
 use Rattle.massey.proofs.Members.{made_through}
 
 module _ (units : UnitsHaveNoZeroProducts) (modules : ModulesAreSteenrodModules) (table sphere : Staircase) (range : Range) (p : Places) (s : IsSetting table sphere range p) (all : IsCanonicalIn range table) (all_q : IsCanonicalIn range sphere) where
@@ -36,10 +36,10 @@ module _ (units : UnitsHaveNoZeroProducts) (modules : ModulesAreSteenrodModules)
   pub a_row_positive : (beta : LiftValues) → IsLiftOver sphere sphere p.b.s p.b.above p.b.i p.a.s beta → IsZero (product_by (resolution_of sphere) (resolution_of sphere) (class_above p.a) (map_of beta) (p.b.s + p.a.s) (above_ab p)) → 0 < p.a.s
   a_row_positive beta lifted zero =
       let row = s.inside.ab_row in
-      row_positive sphere s.is_sphere_table s.through_sphere all_q p.a p.b s.a_there s.b_there p.a.s beta lifted (omega arith) (omega arith) s.inside.ab_degree zero
+      row_positive sphere s.is_sphere_table s.through_sphere all_q p.a p.b s.a_in.generator s.b_in.generator p.a.s beta lifted (omega arith) (omega arith) s.inside.ab_degree zero
 
   pub b_row_positive : (gamma : LiftValues) → IsLiftOver table sphere p.c.s p.c.above p.c.i (p.b.s + (p.a.s - 1)) gamma → IsZero (product_by (resolution_of table) (resolution_of sphere) (class_above p.b) (map_of gamma) (p.c.s + p.b.s) (above_bc p)) → 0 < p.b.s
   b_row_positive gamma lifted zero =
       let row = s.inside.row in
       let row_bc = s.inside.bc_row in
-      row_positive table s.is_table s.through_table all p.b p.c s.b_there s.c_there (p.b.s + (p.a.s - 1)) gamma lifted (omega arith) (omega arith) s.inside.bc_degree zero
+      row_positive table s.is_table s.through_table all p.b p.c s.b_in.generator s.c_in.generator (p.b.s + (p.a.s - 1)) gamma lifted (omega arith) (omega arith) s.inside.bc_degree zero

@@ -11,8 +11,8 @@ use Rattle.chain_map.specs.Lifting.{resolution_of}
 use Rattle.chain_map.specs.Classes.{through, out_of_range, class_refusal, range_refusal}
 use Rattle.massey.specs.declared.fault.MasseyFault.{MasseyFault}
 use Rattle.massey.specs.declared.places.Places.{Places}
-use Rattle.massey.specs.Refusals.{absent, past, refusal_of}
-use Rattle.massey.specs.Inside.Settings.{place_refusal, AreFound, AreSmall}
+use Rattle.massey.specs.Brackets.{absent, past, refusal_of}
+use Rattle.massey.specs.Inside.{place_refusal, AreFound}
 
 or_first : (o p : Option MasseyFault) (f : MasseyFault) → o ≡ Some f → option_or o p ≡ Some f
 or_first o p f e = ap (λ (q : Option MasseyFault). option_or q p) e
@@ -45,17 +45,6 @@ module _ (table sphere : Staircase) (range : Range) (p : Places) where
 
   pub refused_last : (o : Option MasseyFault) → ab ≡ None → bc ≡ None → abc ≡ o → place_refusal table sphere range p ≡ o
   refused_last o n m e = all ∙ (or_next ab (option_or bc abc) n ∙ (or_next bc abc m ∙ e))
-
--- the limits of the places of classes
-pub are_small : (table sphere : Staircase) (range : Range) (a b c : Class) (p : Places) → AreFound table sphere range a b c p → AreSmall p
-are_small table sphere range a b c p found = record {
-  a_row = found.a_is.row_small;
-  b_row = found.b_is.row_small;
-  c_row = found.c_is.row_small;
-  a_degree = found.a_is.degree_small;
-  b_degree = found.b_is.degree_small;
-  c_degree = found.c_is.degree_small;
-}
 
 -- the range's refusal of the classes is that of their places
 module _ (table sphere : Staircase) (range : Range) (is_sphere : IsSphere (resolution_of sphere)) (a b c : Class) (p : Places) (found : AreFound table sphere range a b c p) where

@@ -17,12 +17,11 @@ use Rattle.lift_laws.proofs.Coefficients.{map_range}
 use Rattle.bracket_laws.specs.Brackets.{top_of}
 use Rattle.bracket_laws.proofs.Vectors.{length-on_square, on_square-same}
 use Rattle.chain_map.specs.Lifting.{LiftValues, resolution_of, IsCanonicalIn, map_of}
-use Rattle.yoneda.specs.Places.{class_above}
-use Rattle.yoneda.specs.Products.{IsYonedaProduct, AreProducts}
+use Rattle.yoneda.specs.Products.{class_above, IsYonedaProduct, AreProducts}
 use Rattle.yoneda.proofs.OneProduct.{lower-lift}
 use Rattle.massey.specs.declared.places.Places.{Places}
 use Rattle.chain_map.specs.Classes.{through}
-use Rattle.massey.specs.Inside.Settings.{above_of, above_ab, above_bc, IsSetting, AreLifts, lower_product, AreSpanning}
+use Rattle.massey.specs.Inside.{above_of, above_ab, above_bc, IsSetting, AreLifts, lower_product, AreSpanning}
 use Rattle.yoneda.proofs.Through.{count_through, on_square_through, coefficient_through}
 use Rattle.massey.proofs.Members.{gamma_through}
 

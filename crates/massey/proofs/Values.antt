@@ -8,13 +8,11 @@ use Rattle.lift_laws.specs.Lifts.{IsSphere}
 use Rattle.lift_laws.specs.Products.{product_by}
 use Rattle.chain_map.specs.Lifting.{LiftValues, resolution_of, map_of, row_values, degrees_through, IsLiftOver}
 use Rattle.yoneda.specs.declared.place.Place.{Place}
-use Rattle.yoneda.specs.Places.{class_above, IsThere}
-use Rattle.yoneda.specs.Products.{AreOnSquare}
-use Rattle.yoneda.proofs.Lifted.{on_square_of}
-use Rattle.yoneda.proofs.Lifted.{shifted_length-positive}
+use Rattle.yoneda.specs.Products.{class_above, IsThere, AreOnSquare}
+use Rattle.yoneda.proofs.Lifted.{on_square_of, shifted_length-positive}
 use Rattle.massey.specs.declared.places.Places.{Places}
-use Rattle.massey.specs.Inside.Settings.{above_of, above_ab, above_bc, IsSetting, AreLifts}
-use Rattle.massey.specs.Refusals.{AreInside}
+use Rattle.massey.specs.Inside.{above_of, above_ab, above_bc, IsSetting, AreLifts}
+use Rattle.massey.specs.Brackets.{AreInside}
 use Rattle.bracket_laws.specs.Brackets.{HasRoom}
 
 -- a lift over tables with the range goes through its degrees
@@ -44,10 +42,10 @@ has_values table sphere range whole whole_q is_sphere a x upto lift rows small h
 
 module _ (table sphere : Staircase) (range : Range) (p : Places) (s : IsSetting table sphere range p) where
   pub a_is_there : IsThere sphere p.a
-  a_is_there = let i = s.inside in let b = i.ab_row in let d = i.ab_degree in let long = s.through_sphere p.a.s (omega arith) in record { square = omega arith; generator = s.a_there }
+  a_is_there = let i = s.inside in let b = i.ab_row in let d = i.ab_degree in let long = s.through_sphere p.a.s (omega arith) in record { square = omega arith; generator = s.a_in.generator }
 
   pub b_is_there : IsThere sphere p.b
-  b_is_there = let i = s.inside in let b = i.ab_row in let d = i.ab_degree in let long = s.through_sphere p.b.s (omega arith) in record { square = omega arith; generator = s.b_there }
+  b_is_there = let i = s.inside in let b = i.ab_row in let d = i.ab_degree in let long = s.through_sphere p.b.s (omega arith) in record { square = omega arith; generator = s.b_in.generator }
 
   -- the lift of b, for ab
   pub values_ab : (beta : LiftValues) → IsLiftOver sphere sphere p.b.s p.b.above p.b.i p.a.s beta → HasValues sphere sphere p.a p.b beta

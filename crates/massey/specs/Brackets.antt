@@ -1,26 +1,48 @@
 -- Three-fold Massey products on the tables of two resolutions (May, Matric Massey products; Bruner, Calculation of large Ext
 -- modules).
-use Rattle.std.specs.Prelude.{◌≡◌, ◌↔◌, ℕ, zero, suc, Some, None, ◌+◌, pos, ◌+ℤ◌, ◌-ℤ◌, Bool, List, length}
-use Rattle.f2_vec.specs.Vectors.{sum_of, IsZero}
-use Rattle.f2_vec.specs.Spans.{IsInSpan}
+use Rattle.std.specs.Prelude.{◌≡◌, ℕ, Bool, false, List, ◌+◌, ◌≤◌, ℤ, Option, ◌↔◌, zero, suc, Some, None, pos, ◌+ℤ◌, ◌-ℤ◌, length}
+use Rattle.f2_vec.specs.Vectors.{bit, IsFirstOne, sum_of, IsZero}
+use Rattle.f2_vec.specs.Spans.{row, IsInSpan}
 use Rattle.f2_matrix.specs.Echelon.{IsRowBasis}
 use Rattle.square.specs.declared.range.Range.{Range}
-use Rattle.square.specs.Squares.{bottom_of}
 use Rattle.square.specs.Tables.{Staircase}
+use Rattle.square.specs.Squares.{bottom_of}
 use Rattle.lift_laws.specs.Lifts.{Resolution}
 use Rattle.lift_laws.specs.Products.{Class as ClassAbove, count_of}
 use Rattle.bracket_laws.specs.Brackets.{top_of, IsBracketMember, IsIndeterminacy}
 use Rattle.chain_map.specs.declared.class.Class.{Class}
+use Rattle.chain_map.specs.Classes.{through, first_refusal}
 use Rattle.chain_map.specs.Lifting.{resolution_of, IsCanonicalIn}
-use Rattle.chain_map.specs.Classes.{through}
 use Rattle.yoneda.specs.declared.place.Place.{Place}
-use Rattle.yoneda.specs.Places.{class_above, IsPlaceOf}
-use Rattle.yoneda.specs.Products.{IsProductOver}
-use Rattle.massey.specs.declared.answer.Bracket.{Bracket}
+use Rattle.yoneda.specs.Products.{class_above, IsPlaceOf, IsProductOver}
 use Rattle.massey.specs.declared.fault.MasseyFault.{MasseyFault}
 use Rattle.massey.specs.declared.fault.MasseyFault.TheVariants.{NoClass, OutOfRange, Nonzero, Memory}
-use Rattle.massey.specs.Cosets.{IsZeroAtPivots}
-use Rattle.massey.specs.Refusals.{refusal_of, AreInside}
+use Rattle.massey.specs.declared.answer.Bracket.{Bracket}
+
+-- v is zero at the pivot of each row
+abbrev pub IsZeroAtPivots : List (List Bool) → List Bool → Type 0
+IsZeroAtPivots rows v = (i p : ℕ) → IsFirstOne (row rows i) p → bit v p ≡ false
+
+-- the faults, by the numbers of a class and of a square
+abbrev pub absent : ℕ → ℕ → MasseyFault
+absent which count = NoClass which count
+
+abbrev pub past : ℕ → ℤ → ℤ → MasseyFault
+past which s t = OutOfRange which s t
+
+-- why there is no bracket in the range
+abbrev pub refusal_of : Staircase → Staircase → Range → Class → Class → Class → Option MasseyFault
+refusal_of table sphere range a b c =
+    first_refusal absent past range (through range table) (through range sphere) a b c
+
+-- ab, bc and the bracket are in the range
+pub record AreInside (range : Range) (a b c : Place) : Type 0 where
+  pub ab_row : a.s + b.s ≤ range.s
+  pub ab_degree : a.above + b.above ≤ range.t
+  pub bc_row : b.s + c.s ≤ range.s
+  pub bc_degree : b.above + c.above ≤ range.t
+  pub row : a.s + b.s + c.s ≤ range.s + 1
+  pub degree : a.above + b.above + c.above ≤ range.t
 
 -- The bracket <a, b, c> of classes a and b of the sphere's resolution q and c of r, in the square of its degree in row n + a.s, where n is
 -- one row below that of bc and l one below that of ab: the value is one of its values, by lifts and a null homotopy; it is zero at the

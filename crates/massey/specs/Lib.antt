@@ -1,4 +1,2 @@
-pub mod Cosets
-pub mod Refusals
 pub mod Brackets
 pub mod Inside

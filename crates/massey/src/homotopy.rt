@@ -6,11 +6,9 @@ ghost use Rattle.free_module.specs.Graded.{free_graded};
 ghost use Rattle.free_module.specs.LinearMap.{AreImages, mapped};
 ghost use Rattle.square.specs.Squares.{bottom_of};
 ghost use Rattle.lift_laws.specs.Products.{first_of};
-ghost use Rattle.chain_map.specs.Rows.{lowered_row};
-ghost use Rattle.chain_map.specs.Lifting.{resolution_of, IsCanonicalIn, target_of};
+ghost use Rattle.chain_map.specs.Lifting.{lowered_row, resolution_of, IsCanonicalIn, target_of, AreChosen};
 ghost use Rattle.yoneda.specs.Products.{AreOnSquare};
-ghost use Rattle.massey.specs.Inside.Settings.{above_of, above_bc, IsSetting, IsLastMap, AreLifts};
-ghost use Rattle.massey.specs.Inside.Homotopies.{IsComposite, AreMapsOf, AreChosen, AreNext, homotopy_goal, zero_map};
+ghost use Rattle.massey.specs.Inside.{above_of, above_bc, IsSetting, IsLastMap, AreLifts, IsComposite, AreMapsOf, AreNext, homotopy_goal, zero_map};
 
 use crate::setting::Setting;
 use chain_map::{Inverse, Lift, lowered_generators};

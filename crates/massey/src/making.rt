@@ -8,11 +8,9 @@ ghost use Rattle.square.specs.Tables.{IsThrough};
 ghost use Rattle.lift_laws.specs.Lifts.{IsSphere};
 ghost use Rattle.lift_laws.specs.Products.{count_of, product_by, on_square, coefficient_of};
 ghost use Rattle.chain_map.specs.Lifting.{resolution_of, IsCanonicalIn, map_of, IsLiftOver};
-ghost use Rattle.yoneda.specs.Places.{class_above, IsPlaceOf};
-ghost use Rattle.yoneda.specs.Products.{AreProducts};
-ghost use Rattle.massey.specs.Refusals.{refusal_of};
-ghost use Rattle.massey.specs.Brackets.{IsBracketOver, IsCause};
-ghost use Rattle.massey.specs.Inside.Settings.{above_of, above_ab, above_bc, IsSetting, AreLifts, IsMemberBy, AreSpanning, IsBracket, lower_product};
+ghost use Rattle.yoneda.specs.Products.{class_above, IsPlaceOf, AreProducts};
+ghost use Rattle.massey.specs.Brackets.{refusal_of, IsBracketOver, IsCause};
+ghost use Rattle.massey.specs.Inside.{above_of, above_ab, above_bc, IsSetting, AreLifts, IsMemberBy, AreSpanning, IsBracket, lower_product};
 
 use crate::answer::Bracket;
 use crate::fault::MasseyFault;

@@ -5,9 +5,9 @@ ghost use Rattle.square.specs.Tables.{IsTable, IsThrough};
 ghost use Rattle.lift_laws.specs.Lifts.{IsSphere};
 ghost use Rattle.chain_map.specs.Lifting.{resolution_of};
 ghost use Rattle.chain_map.specs.Classes.{through, no_class, out_of_range, class_refusal};
-ghost use Rattle.yoneda.specs.Places.{IsPlaceOf};
-ghost use Rattle.massey.specs.Refusals.{absent, past, refusal_of, AreInside};
-ghost use Rattle.massey.specs.Inside.Settings.{place_refusal, AreFound, AreSmall, IsSetting};
+ghost use Rattle.yoneda.specs.Products.{IsPlaceIn, IsPlaceOf};
+ghost use Rattle.massey.specs.Brackets.{absent, past, refusal_of, AreInside};
+ghost use Rattle.massey.specs.Inside.{place_refusal, AreFound, IsSetting};
 
 use crate::fault::MasseyFault;
 use chain_map::Class;
@@ -77,7 +77,9 @@ fn are_inside(
     range: Range,
     places: Places,
 ) -> Result<(), MasseyFault>
-    requires { AreSmall places }
+    requires a_in { IsPlaceIn sphere.now range places.a }
+    requires b_in { IsPlaceIn sphere.now range places.b }
+    requires c_in { IsPlaceIn table.now range places.c }
     ensures made { OnOk result (place_refusal table.now sphere.now range places ≡ None) }
     ensures refused { IfErr result (λ e. place_refusal table.now sphere.now range places ≡ Some e) }
     ensures inside { OnOk result (AreInside range places.a places.b places.c) }

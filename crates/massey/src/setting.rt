@@ -1,7 +1,6 @@
 //! What a bracket is made of.
 ghost use Rattle.std.specs.Prelude.{◌≡◌, ◌+◌};
-ghost use Rattle.massey.specs.Inside.Settings.{IsSetting};
-ghost use Rattle.massey.specs.Inside.Settings.{above_of as bracket_above, above_ab as product_above, above_bc as lower_above};
+ghost use Rattle.massey.specs.Inside.{IsSetting, above_of as bracket_above, above_ab as product_above, above_bc as lower_above};
 
 use crate::places::Places;
 use square::{Range, Table};

@@ -1,10 +1,8 @@
 use Rattle.std.proofs.Common.{◌≡◌, ℕ, ◌+◌, Bool, List, sym, subst, arith}
 use Rattle.free_module.specs.Graded.{free_graded}
 use Rattle.free_module.specs.LinearMap.{AreImages}
-use Rattle.chain_map.specs.Lifting.{target_of}
-use Rattle.chain_map.specs.Rows.{lowered_row}
-use Rattle.massey.specs.Inside.Settings.{above_of, above_bc}
-use Rattle.massey.specs.Inside.Homotopies.{AreNext, AreMaps}
+use Rattle.chain_map.specs.Lifting.{target_of, lowered_row}
+use Rattle.massey.specs.Inside.{above_of, above_bc, AreNext, AreMaps}
 use Rattle.massey.proofs.Chosen.{maps_first, maps_more}
 use Rattle.massey.proofs.MapValues.{maps_are_images, last_on_square}
 use Rattle.massey.proofs.LastMap.{is_last_map}

@@ -3,7 +3,7 @@ use Rattle.std.specs.List.{range_with_len}
 use Rattle.std.proofs.lemmas.List.FromFn.{map-range_with_len_more}
 use Rattle.lift_laws.specs.Products.{count_of}
 use Rattle.chain_map.specs.Lifting.{resolution_of}
-use Rattle.massey.specs.Inside.Settings.{lower_product, above_ab}
+use Rattle.massey.specs.Inside.{lower_product, above_ab}
 use Rattle.massey.proofs.making.add_lower_rows.Goals as goal
 
 pub loop-i-preserved : goal.loop-i-preserved

@@ -1,6 +1,6 @@
 use Rattle.std.proofs.Common.{◌≡◌, ◌++◌, map}
 use Rattle.std.specs.List.{range_with_len}
-use Rattle.massey.specs.Inside.Settings.{lower_product}
+use Rattle.massey.specs.Inside.{lower_product}
 use Rattle.massey.proofs.making.add_lower_rows.Given as goal
 
 abbrev pub invariant-loop-i : goal.invariant-loop-i

@@ -1,7 +1,7 @@
 use Rattle.std.proofs.Common.{ℕ, ◌∙◌, ap, arith}
 use Rattle.lift_laws.specs.Products.{count_of}
 use Rattle.chain_map.specs.Lifting.{resolution_of}
-use Rattle.massey.specs.Inside.Settings.{above_of}
+use Rattle.massey.specs.Inside.{above_of}
 use Rattle.std.proofs.lemmas.Result.{IfOk-weaker}
 use Rattle.massey.proofs.Positive.{a_row_positive, b_row_positive}
 use Rattle.massey.proofs.Values.{are_lifts, bracket_row}

@@ -1,5 +1,5 @@
 use Rattle.std.proofs.Common.{sym, subst, ◌∙◌}
-use Rattle.massey.specs.Inside.Settings.{IsBracket}
+use Rattle.massey.specs.Inside.{IsBracket}
 use Rattle.massey.proofs.Assembled.{assembled_in}
 use Rattle.massey.proofs.making.coset.Goals as goal
 

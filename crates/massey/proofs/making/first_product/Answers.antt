@@ -4,8 +4,7 @@ use Rattle.f2_vec.specs.Spans.{row}
 use Rattle.square.specs.Tables.{row_in}
 use Rattle.lift_laws.specs.Products.{coefficient_of, on_square}
 use Rattle.chain_map.specs.Lifting.{resolution_of}
-use Rattle.yoneda.specs.Places.{class_above}
-use Rattle.yoneda.specs.Products.{AreOnSquare}
+use Rattle.yoneda.specs.Products.{class_above, AreOnSquare}
 use Rattle.massey.proofs.Values.{a_is_there, values_ab}
 use Rattle.massey.proofs.making.first_product.Goals as goal
 

@@ -2,7 +2,7 @@ use Rattle.std.proofs.Common.{◌≡◌, ℕ, suc, ◌+◌, ◌-◌, subst, ap, 
 use Rattle.lift_laws.specs.Products.{count_of}
 use Rattle.chain_map.specs.Lifting.{resolution_of}
 use Rattle.yoneda.specs.Products.{AreProducts}
-use Rattle.massey.specs.Inside.Settings.{above_of}
+use Rattle.massey.specs.Inside.{above_of}
 use Rattle.massey.proofs.Values.{a_is_there}
 use Rattle.massey.proofs.Spanning.{spanning, whole_widths}
 use Rattle.massey.proofs.making.indeterminacy_rows.Goals as goal

@@ -4,9 +4,8 @@ use Rattle.f2_vec.specs.Spans.{row}
 use Rattle.square.specs.Tables.{row_in}
 use Rattle.lift_laws.specs.Products.{coefficient_of, on_square}
 use Rattle.chain_map.specs.Lifting.{resolution_of}
-use Rattle.yoneda.specs.Places.{IsThere}
-use Rattle.yoneda.specs.Products.{AreOnSquare}
-use Rattle.massey.specs.Inside.Settings.{above_of, above_ab}
+use Rattle.yoneda.specs.Products.{IsThere, AreOnSquare}
+use Rattle.massey.specs.Inside.{above_of, above_ab}
 use Rattle.massey.proofs.Values.{lower_there, lower_values}
 use Rattle.massey.proofs.making.lower_row.Goals as goal
 

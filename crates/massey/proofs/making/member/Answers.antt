@@ -5,9 +5,8 @@ use Rattle.square.specs.Tables.{row_in}
 use Rattle.lift_laws.specs.Products.{count_of, coefficient_of, on_square}
 use Rattle.bracket_laws.proofs.Vectors.{length-on_square}
 use Rattle.chain_map.specs.Lifting.{resolution_of}
-use Rattle.yoneda.specs.Places.{class_above}
-use Rattle.yoneda.specs.Products.{AreOnSquare}
-use Rattle.massey.specs.Inside.Settings.{above_of}
+use Rattle.yoneda.specs.Products.{class_above, AreOnSquare}
+use Rattle.massey.specs.Inside.{above_of}
 use Rattle.massey.proofs.Values.{a_is_there, bracket_there}
 use Rattle.massey.proofs.Members.{member_of}
 use Rattle.massey.proofs.making.member.Goals as goal

@@ -1,11 +1,17 @@
 use Rattle.std.proofs.Common.{Some, None}
 use Rattle.std.proofs.lemmas.Result.{err_from_is_err_and}
-use Rattle.massey.proofs.Refusals.{are_small, refused_by_places, refused_by_class}
+use Rattle.massey.proofs.Refusals.{refused_by_places, refused_by_class}
 use Rattle.massey.proofs.Causes.{setting_of}
 use Rattle.massey.proofs.places.places_of.Goals as goal
 
-pub are_inside-requires : goal.are_inside-requires
-are_inside-requires c = are_small c.args.table.now c.args.sphere.now c.args.range c.args.a c.args.b c.args.c c.in_ok-places.places c.in_ok-places.ensures.found
+pub are_inside-requires-clause-a_in : goal.are_inside-requires-clause-a_in
+are_inside-requires-clause-a_in c = c.in_ok-places.ensures.found.a_is.inside
+
+pub are_inside-requires-clause-b_in : goal.are_inside-requires-clause-b_in
+are_inside-requires-clause-b_in c = c.in_ok-places.ensures.found.b_is.inside
+
+pub are_inside-requires-clause-c_in : goal.are_inside-requires-clause-c_in
+are_inside-requires-clause-c_in c = c.in_ok-places.ensures.found.c_is.inside
 
 pub returns-in_err-places-clause-refused : goal.returns-in_err-places-clause-refused
 returns-in_err-places-clause-refused c =

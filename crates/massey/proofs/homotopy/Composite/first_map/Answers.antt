@@ -2,9 +2,8 @@ use Rattle.std.proofs.Common.{◌≡◌, ◌+◌, ℤ, Bool, List, map, ap, ◌�
 use Rattle.std.proofs.lemmas.Result.{IfOk-weaker}
 use Rattle.f2_vec.specs.Vectors.{zeros}
 use Rattle.free_module.specs.FreeModule.{free_width}
-use Rattle.chain_map.specs.Lifting.{target_of}
-use Rattle.chain_map.specs.Rows.{lowered_row}
-use Rattle.massey.specs.Inside.Settings.{above_of, above_bc}
+use Rattle.chain_map.specs.Lifting.{target_of, lowered_row}
+use Rattle.massey.specs.Inside.{above_of, above_bc}
 use Rattle.massey.proofs.Composites.{sphere_row_there, bracket_reach, zero_reach}
 use Rattle.massey.proofs.homotopy.Composite.first_map.Goals as goal
 

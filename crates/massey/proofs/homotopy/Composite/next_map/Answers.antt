@@ -5,11 +5,9 @@ use Rattle.free_module.specs.LinearMap.{AreImages}
 use Rattle.square.specs.Squares.{bottom_of}
 use Rattle.square.specs.Tables.{Staircase}
 use Rattle.lift_laws.specs.Products.{first_of}
-use Rattle.chain_map.specs.Rows.{lowered_row}
-use Rattle.chain_map.specs.Lifting.{LiftValues, resolution_of, row_values, target_of}
+use Rattle.chain_map.specs.Lifting.{lowered_row, LiftValues, resolution_of, row_values, target_of, AreChosen}
 use Rattle.massey.specs.declared.places.Places.{Places}
-use Rattle.massey.specs.Inside.Settings.{above_of, above_ab, above_bc}
-use Rattle.massey.specs.Inside.Homotopies.{AreChosen, homotopy_goal, beta_values}
+use Rattle.massey.specs.Inside.{above_of, above_ab, above_bc, homotopy_goal, beta_values}
 use Rattle.massey.proofs.Composites.{beta_row, bracket_reach, beta_count, inner_count, beta_images}
 use Rattle.massey.proofs.homotopy.Composite.next_map.Goals as goal
 

@@ -1,9 +1,8 @@
 use Rattle.std.proofs.Common.{suc, ◌+◌, pos, ◌+ℤ◌}
 use Rattle.square.specs.Squares.{bottom_of}
 use Rattle.lift_laws.specs.Products.{first_of}
-use Rattle.chain_map.specs.Lifting.{resolution_of}
-use Rattle.massey.specs.Inside.Settings.{above_bc}
-use Rattle.massey.specs.Inside.Homotopies.{AreChosen, homotopy_goal}
+use Rattle.chain_map.specs.Lifting.{resolution_of, AreChosen}
+use Rattle.massey.specs.Inside.{above_bc, homotopy_goal}
 use Rattle.massey.proofs.homotopy.Composite.next_map.Given as goal
 
 abbrev pub invariant-loop-j : goal.invariant-loop-j
