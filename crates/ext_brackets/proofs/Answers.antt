@@ -1,6 +1,6 @@
 -- There is an answer to what is asked of a bracket.
-use Rattle.std.proofs.Common.{◌≡◌, inl, inr, ℕ, ℤ, pos, ◌+ℤ◌, ◌≤ℤ◌, Bool, true, false, List, refl, sym, ◌∙◌, arith}
-use Rattle.std.specs.Prelude.{Option, Some, None, MatchOption, Result, Ok, Err, option_map, nat_lt, int_lt, if◌then◌else◌}
+use Rattle.std.proofs.Common.{◌≡◌, inl, inr, ℕ, ◌+◌, ℤ, pos, ◌+ℤ◌, ◌-ℤ◌, ◌≤ℤ◌, Bool, true, false, List, refl, sym, ◌∙◌, arith}
+use Rattle.std.specs.Prelude.{Option, Some, None, MatchOption, Result, Ok, Err, IsOkAnd, option_map, nat_lt, int_lt, if◌then◌else◌}
 use Rattle.std.specs.Option.{option_or}
 use Rattle.std.proofs.lemmas.Bool.{true≢false, or_parts}
 use Rattle.std.proofs.lemmas.Bool.Decides.{nat_tests}
@@ -16,12 +16,11 @@ use Rattle.chain_map.specs.declared.class.Class.{Class}
 use Rattle.chain_map.specs.Classes.{class_count, passes, no_class, out_of_range, class_refusal, range_refusal}
 use Rattle.yoneda.specs.Products.{IsYonedaProduct}
 use Rattle.ext_chart.specs.Classes.{bracket_text}
+use Rattle.ext_products.specs.declared.refusal.Pair.{Pair}
 use Rattle.ext_products.specs.declared.refusal.Pair.TheVariants.{Ab, Bc}
 use Rattle.ext_products.specs.declared.refusal.Refusal.{Refusal}
-use Rattle.ext_products.specs.declared.refusal.Refusal.TheVariants.{Nonzero}
 use Rattle.ext_products.proofs.Answers.{IsFound, found, product-exists}
-use Rattle.ext_brackets.specs.Brackets.{product_row, product_degree, bracket_row, bracket_degree, absent, past, refusal_of, IsToldOfLower, IsTold}
-use Rattle.ext_brackets.specs.Laws.{BracketAnswerExists}
+use Rattle.ext_brackets.specs.Brackets.{absent, past, not_zero, refusal_of, IsBracketText, IsToldOf, IsTold, BracketAnswerExists}
 use Rattle.ext_brackets.proofs.Exists.{AreLaws, AreInRange, bracket_exists}
 
 -- ---- what no refusal says
@@ -68,21 +67,21 @@ classes_there a b c r q none =
 
 -- what the range refuses of the three classes
 abbrev past_range : Range → Class → Class → Class → Resolution → Resolution → Option Refusal
-past_range range a b c r q = range_refusal past range r q a.s b.s c.s (product_degree a b) (product_degree b c) (bracket_degree a b c)
+past_range range a b c r q = range_refusal past range r q a.s b.s c.s (a.t +ℤ b.t) (b.t +ℤ c.t) (a.t +ℤ b.t +ℤ c.t)
 
 pub parts_none : (range : Range) (a b c : Class) (r q : Resolution) → refusal_of range a b c r q ≡ None → (class_refusal (absent a b c) r q a b c ≡ None) × (past_range range a b c r q ≡ None)
 parts_none range a b c r q none = option_or-none (class_refusal (absent a b c) r q a b c) (past_range range a b c r q) none
 
 in_range : (range : Range) (a b c : Class) (r q : Resolution) → IsSphere q → (there : AreThere a b c r q) → past_range range a b c r q ≡ None → AreInRange range r q there.a_is.class there.b_is.class there.c_is.class
 in_range range a b c r q sphere there none =
-    let ab = out_of_range (past 0) range q (product_row a b) (product_degree a b) in
-    let bc = out_of_range (past 1) range r (product_row b c) (product_degree b c) in
-    let abc = out_of_range (past 2) range r (bracket_row a b c) (bracket_degree a b c) in
+    let ab = out_of_range (past 0) range q (pos (a.s + b.s)) (a.t +ℤ b.t) in
+    let bc = out_of_range (past 1) range r (pos (b.s + c.s)) (b.t +ℤ c.t) in
+    let abc = out_of_range (past 2) range r (pos (a.s + b.s + c.s) -ℤ pos 1) (a.t +ℤ b.t +ℤ c.t) in
     let first = option_or-none ab (option_or bc abc) none in
     let second = option_or-none bc abc first.1 in
-    let near_ab = square_near (past 0) range q (product_row a b) (product_degree a b) first.0 in
-    let near_bc = square_near (past 1) range r (product_row b c) (product_degree b c) second.0 in
-    let near = square_near (past 2) range r (bracket_row a b c) (bracket_degree a b c) second.1 in
+    let near_ab = square_near (past 0) range q (pos (a.s + b.s)) (a.t +ℤ b.t) first.0 in
+    let near_bc = square_near (past 1) range r (pos (b.s + c.s)) (b.t +ℤ c.t) second.0 in
+    let near = square_near (past 2) range r (pos (a.s + b.s + c.s) -ℤ pos 1) (a.t +ℤ b.t +ℤ c.t) second.1 in
     let ab_row = near_ab.row in
     let ab_degree = near_ab.degree in
     let bc_row = near_bc.row in
@@ -110,6 +109,15 @@ in_range range a b c r q sphere there none =
 
 -- ---- what is told of classes that are there, in the range
 
+abbrev HasAnswer : (Result (List ℕ) Refusal → Type 0) → Type 0
+HasAnswer P = (answer : Result (List ℕ) Refusal) × P answer
+
+product-told : (pair : Pair) (a x : Class) (r q : Resolution) (y z : ClassAbove) (v : List Bool) → IsYonedaProduct r q y z v → (P : Result (List ℕ) Refusal → Type 0) → (IsZero v → HasAnswer P) → HasAnswer (λ answer. IsToldOf pair a x r q y z answer (P answer))
+product-told pair a x r q y z v is P rest = elim (zero_or_first v) [
+  | inl zero ↦ let told = rest zero in (told.0, record { value = v; product = is; nonzero = λ not. absurd (not zero); zero = λ w. told.1 })
+  | inr first ↦ (Err (not_zero pair a x v), record { value = v; product = is; nonzero = λ not. refl; zero = λ zero. absurd (true≢false (sym first.1.one ∙ zero first.0)) })
+]
+
 module _ (laws : AreLaws) (one : LiftsGiveOneProduct) (r q : Resolution) (range : Range) (canonical : IsCanonical r range.s range.t) (canonical_q : IsCanonical q range.s range.t) (sphere : IsSphere q) (a b c : Class) where
   module _ (there : AreThere a b c r q) (inside : AreInRange range r q there.a_is.class there.b_is.class there.c_is.class) where
     abbrev x : ClassAbove
@@ -121,65 +129,20 @@ module _ (laws : AreLaws) (one : LiftsGiveOneProduct) (r q : Resolution) (range 
     abbrev z : ClassAbove
     z = there.c_is.class
 
-    lower-exists : (ab : List Bool) → IsYonedaProduct q q x y ab → IsZero ab → (answer : Result (List ℕ) Refusal) × IsToldOfLower a b c r q x y z answer
+    lower-exists : (ab : List Bool) → IsYonedaProduct q q x y ab → IsZero ab → HasAnswer (λ answer. IsToldOf Bc b c r q y z answer (IsOkAnd answer (IsBracketText a b c r q x y z)))
     lower-exists ab ab_is ab_zero =
         let row = inside.yz_row in
         let product = product-exists laws.lifts one r q range y z canonical canonical_q sphere (record { row = omega arith; degree = inside.yz_degree; number = inside.z_there }) inside.y_there in
-        elim (zero_or_first product.0) [
-          | inl zero ↦
-              let bracket = bracket_exists laws r q range canonical canonical_q sphere x y z inside ab product.0 ab_is product.1 ab_zero zero in
-              let text = bracket_text (bracket_row a b c) (bracket_degree a b c) bracket.value bracket.rows in (
-                Ok text,
-                record {
-                  bc = product.0;
-                  product = product.1;
-                  nonzero = λ not. absurd (not zero);
-                  zero = λ w. record { value = bracket.value; rows = bracket.rows; bracket = bracket.is_bracket; is = refl };
-                },
-              )
-          | inr first ↦ (
-            Err (Nonzero Bc (product_row b c) (product_degree b c) product.0),
-            record { bc = product.0; product = product.1; nonzero = λ not. refl; zero = λ zero. absurd (true≢false (sym first.1.one ∙ zero first.0)) },
-          )
-        ]
+        product-told Bc b c r q y z product.0 product.1 (λ answer. IsOkAnd answer (IsBracketText a b c r q x y z)) (λ zero.
+        let bracket = bracket_exists laws r q range canonical canonical_q sphere x y z inside ab product.0 ab_is product.1 ab_zero zero in
+        (Ok (bracket_text (pos (a.s + b.s + c.s) -ℤ pos 1) (a.t +ℤ b.t +ℤ c.t) bracket.value bracket.rows), record { value = bracket.value; rows = bracket.rows; bracket = bracket.is_bracket; is = refl }))
 
-    told-exists : (answer : Result (List ℕ) Refusal) × IsTold a b c r q answer
+    told-exists : HasAnswer (IsTold a b c r q)
     told-exists =
         let row = inside.xy_row in
         let product = product-exists laws.lifts one q q range x y canonical_q canonical_q sphere (record { row = omega arith; degree = inside.xy_degree; number = inside.y_there }) inside.x_there in
-        elim (zero_or_first product.0) [
-          | inl zero ↦
-              let lower = lower-exists product.0 product.1 zero in (
-                lower.0,
-                record {
-                  x = x;
-                  y = y;
-                  z = z;
-                  a_at = there.a_is.at;
-                  b_at = there.b_is.at;
-                  c_at = there.c_is.at;
-                  ab = product.0;
-                  product = product.1;
-                  nonzero = λ not. absurd (not zero);
-                  zero = λ w. lower.1;
-                },
-              )
-          | inr first ↦ (
-            Err (Nonzero Ab (product_row a b) (product_degree a b) product.0),
-            record {
-              x = x;
-              y = y;
-              z = z;
-              a_at = there.a_is.at;
-              b_at = there.b_is.at;
-              c_at = there.c_is.at;
-              ab = product.0;
-              product = product.1;
-              nonzero = λ not. refl;
-              zero = λ zero. absurd (true≢false (sym first.1.one ∙ zero first.0));
-            },
-          )
-        ]
+        let told = product-told Ab a b q q x y product.0 product.1 (λ answer. IsToldOf Bc b c r q y z answer (IsOkAnd answer (IsBracketText a b c r q x y z))) (lower-exists product.0 product.1) in
+        (told.0, record { x = x; y = y; z = z; a_at = there.a_is.at; b_at = there.b_is.at; c_at = there.c_is.at; told = told.1 })
 
   answer-exists : (refusal : Option Refusal) → refusal_of range a b c r q ≡ refusal → (answer : Result (List ℕ) Refusal) × MatchOption refusal (IsTold a b c r q answer) (λ e. answer ≡ Err e)
   answer-exists None none =

@@ -16,10 +16,10 @@ use Rattle.lift_laws.specs.Lifts.{Resolution, IsCanonical, IsSphere, IsLift, Eac
 use Rattle.lift_laws.specs.Products.{Class, first_of, count_of, number_of, degree_of_class, coefficients, coefficient_of, on_square, product_by}
 use Rattle.lift_laws.proofs.ChainMaps.{IsLift-less}
 use Rattle.bracket_laws.specs.Brackets.{HasRoom, HasZeroProduct, HasZeroLower, IsIndeterminacy, IsBracketMember, BracketHasMember, BracketIsCoset, UnitsHaveNoZeroProducts, top_of, bracket_by}
-use Rattle.bracket_laws.proofs.Vectors.{length-on_square, bit-on_square}
+use Rattle.bracket_laws.proofs.Vectors.{length-on_square}
 use Rattle.chain_map.proofs.Generators.{is_number}
 use Rattle.massey.specs.Brackets.{IsBracketOf}
-use Rattle.massey.proofs.Assembled.{bracket_of}
+use Rattle.massey.proofs.Assembled.{no_coefficient, bracket_of}
 use Rattle.yoneda.specs.Products.{IsYonedaProduct}
 use Rattle.ext_brackets.proofs.Members.{length-member}
 
@@ -128,11 +128,10 @@ module _ (laws : AreLaws) (r q : Resolution) (range : Range) (canonical : IsCano
         let bottom = sphere.bottom in
         let given = xy_is.each (product_by q q x beta.phi (y.s + x.s) (x.above + y.above)) (record { top = top -ℤ degree_of_class r z; phi = beta.phi; reaches = omega (arith, ints); is_lift = beta.is_lift; gives = refl }) in
         let same : y.s + x.s ≡ suc l = omega arith in
-        let IsVanishing : ℕ → Type 0 = λ k. (i : ℕ) → i < count_of q k (x.above + y.above) → coefficient_of q x (beta.phi x.s (first_of q k (x.above + y.above) + i)) ≡ false in
         record {
           beta = beta.phi;
           beta_lift = beta.is_lift;
-          zero = subst IsVanishing same (λ i h. sym (bit-on_square q (y.s + x.s) (x.above + y.above) (λ g. coefficient_of q x (beta.phi x.s g)) i h) ∙ (ap (λ (v : List Bool). bit v i) (sym given) ∙ xy_zero i));
+          zero = no_coefficient q q x beta.phi (y.s + x.s) (suc l) (x.above + y.above) same (subst IsZero given xy_zero);
         }
 
     lower_zero : HasZeroLower r q x y z n l top gamma.phi
@@ -141,10 +140,9 @@ module _ (laws : AreLaws) (r q : Resolution) (range : Range) (canonical : IsCano
         let less = IsLift-less r q z.s (degree_of_class r z) (dual_of r q z.s (degree_of_class r z) (number_of r z)) l y.s top gamma.phi (omega arith) gamma.is_lift in
         let given = yz_is.each (product_by r q y gamma.phi (z.s + y.s) (y.above + z.above)) (record { top = top; phi = gamma.phi; reaches = omega (arith, ints); is_lift = less; gives = refl }) in
         let same : z.s + y.s ≡ suc n = omega arith in
-        let IsVanishing : ℕ → Type 0 = λ k. (i : ℕ) → i < count_of r k (y.above + z.above) → coefficient_of q y (gamma.phi y.s (first_of r k (y.above + z.above) + i)) ≡ false in
         record {
           gamma_lift = gamma.is_lift;
-          zero = subst IsVanishing same (λ i h. sym (bit-on_square r (z.s + y.s) (y.above + z.above) (λ g. coefficient_of q y (gamma.phi y.s g)) i h) ∙ (ap (λ (v : List Bool). bit v i) (sym given) ∙ yz_zero i));
+          zero = no_coefficient r q y gamma.phi (z.s + y.s) (suc n) (y.above + z.above) same (subst IsZero given yz_zero);
         }
 
     abbrev e : List Bool

@@ -1,6 +1,6 @@
 -- What is made over the tables that there are is what the canonical tables through the range have.
-use Rattle.std.proofs.Common.{◌≡◌, ◌≢◌, ℕ, zero, suc, ℤ, Bool, List, refl, ap, sym, subst, ◌∙◌, arith}
-use Rattle.std.specs.Prelude.{Option, Some, None, MatchOption, option_map, Result, Ok, Err}
+use Rattle.std.proofs.Common.{◌≡◌, ◌≢◌, ℕ, zero, suc, ◌+◌, ℤ, pos, ◌+ℤ◌, ◌-ℤ◌, Bool, List, refl, ap, sym, subst, ◌∙◌, arith}
+use Rattle.std.specs.Prelude.{Option, Some, None, MatchOption, option_map, Result, Ok, Err, IsOkAnd}
 use Rattle.std.proofs.lemmas.Int.{ints}
 use Rattle.finite_module.specs.Module.{Module as SteenrodModule}
 use Rattle.finite_module.specs.Checked.{sphere_file}
@@ -18,25 +18,21 @@ use Rattle.chain_map.specs.Lifting.{resolution_of, IsCanonicalIn}
 use Rattle.yoneda.specs.declared.place.Place.{Place}
 use Rattle.chain_map.specs.Classes.{through, IsAt}
 use Rattle.chain_map.proofs.Classes.{refusal_in_words}
-use Rattle.yoneda.specs.Places.{class_above, IsPlaceOf}
-use Rattle.yoneda.specs.Products.{IsProductOver, IsYonedaProduct}
+use Rattle.yoneda.specs.Products.{class_above, IsPlaceOf, IsProductOver, IsYonedaProduct}
 use Rattle.chain_map.proofs.Resolved.{is_canonical}
 use Rattle.massey.specs.declared.answer.Bracket.{Bracket as Made}
 use Rattle.massey.specs.declared.fault.MasseyFault.{MasseyFault}
 use Rattle.massey.specs.declared.fault.MasseyFault.TheVariants.{NoClass as Absent, OutOfRange as Past, Nonzero as NotZero, Memory as NoMemory}
-use Rattle.massey.specs.Refusals.{absent as no_class, past as out_of_range, refusal_of as first_fault}
-use Rattle.massey.specs.Brackets.{IsBracketOver, IsNonzero, IsCause}
+use Rattle.massey.specs.Brackets.{absent as no_class, past as out_of_range, refusal_of as first_fault, IsBracketOver, IsNonzero, IsCause}
 use Rattle.ext_chart.specs.Classes.{bracket_text}
 use Rattle.ext_products.specs.declared.refusal.Pair.TheVariants.{Ab, Bc}
 use Rattle.ext_products.specs.declared.refusal.Refusal.{Refusal}
-use Rattle.ext_products.specs.declared.refusal.Refusal.TheVariants.{Nonzero}
 use Rattle.ext_products.specs.declared.refusal.ClassesFault.{ClassesFault}
 use Rattle.ext_products.specs.declared.refusal.ClassesFault.TheVariants.{Refused, Memory}
 use Rattle.ext_products.specs.Products.{resolution}
 use Rattle.ext_products.proofs.Answers.{class-unique}
-use Rattle.ext_brackets.specs.Brackets.{product_row, product_degree, bracket_row, bracket_degree, absent, past, refusal_of, IsTold, IsToldOfLower, IsBracketAnswer}
-use Rattle.ext_brackets.specs.Over.{IsBracketAnswerOver, IsBracketAnswerIn, IsOfPlaces}
-use Rattle.ext_brackets.specs.Inside.Refusals.{fault_of}
+use Rattle.ext_brackets.specs.Brackets.{absent, past, not_zero, refusal_of, IsBracketText, IsToldOf, IsTold, IsBracketAnswer, IsBracketAnswerOver, IsBracketAnswerIn, IsOfPlaces}
+use Rattle.ext_brackets.specs.Inside.{fault_of}
 use Rattle.ext_brackets.proofs.Answers.{AreThere, classes_there, parts_none}
 
 at_place : (table : Staircase) (range : Range) (c : Class) (place : Place) → IsPlaceOf table range c place → IsAt (through range table) c (class_above place)
@@ -114,8 +110,8 @@ module _ (modules : ModulesAreSteenrodModules) (table sphere : Staircase) (hq : 
         let bottom = is_sphere.bottom in
         let made_s = is.s in
         let made_t = is.t in
-        let s : made.s ≡ bracket_row a b c = omega (arith, ints) in
-        let t : made.t ≡ bracket_degree a b c = omega (arith, ints) in
+        let s : made.s ≡ pos (a.s + b.s + c.s) -ℤ pos 1 = omega (arith, ints) in
+        let t : made.t ≡ a.t +ℤ b.t +ℤ c.t = omega (arith, ints) in
         record {
           x = class_above is.a_place;
           y = class_above is.b_place;
@@ -123,24 +119,27 @@ module _ (modules : ModulesAreSteenrodModules) (table sphere : Staircase) (hq : 
           a_at = a_at;
           b_at = b_at;
           c_at = c_at;
-          ab = is.ab_zero.product;
-          product = product_ab is.ab_zero.product is.ab_zero.is_product (class_above is.a_place) (class_above is.b_place) a_at b_at;
-          nonzero = λ not. absurd (not is.ab_zero.is_zero);
-          zero = λ w. record {
-            bc = is.bc_zero.product;
-            product = product_bc is.bc_zero.product is.bc_zero.is_product (class_above is.b_place) (class_above is.c_place) b_at c_at;
-            nonzero = λ not. absurd (not is.bc_zero.is_zero);
-            zero = λ k. record {
-              value = made.value;
-              rows = made.indeterminacy.rows;
-              bracket = is.is_bracket all all_q;
-              is = shown ∙ (ap (λ (i : ℤ). bracket_text i made.t made.value made.indeterminacy.rows) s ∙ ap (λ (i : ℤ). bracket_text (bracket_row a b c) i made.value made.indeterminacy.rows) t);
+          told = record {
+            value = is.ab_zero.product;
+            product = product_ab is.ab_zero.product is.ab_zero.is_product (class_above is.a_place) (class_above is.b_place) a_at b_at;
+            nonzero = λ not. absurd (not is.ab_zero.is_zero);
+            zero = λ w. record {
+              value = is.bc_zero.product;
+              product = product_bc is.bc_zero.product is.bc_zero.is_product (class_above is.b_place) (class_above is.c_place) b_at c_at;
+              nonzero = λ not. absurd (not is.bc_zero.is_zero);
+              zero = λ k. record {
+                value = made.value;
+                rows = made.indeterminacy.rows;
+                bracket = is.is_bracket all all_q;
+                is = shown ∙ (ap (λ (i : ℤ). bracket_text i made.t made.value made.indeterminacy.rows) s ∙ ap (λ (i : ℤ). bracket_text (pos (a.s + b.s + c.s) -ℤ pos 1) i made.value made.indeterminacy.rows) t);
+              };
             };
           };
         }
 
-    told_by : AreThere a b c (through range table) (through range sphere) → (ab : List Bool) → IsProductOver sphere sphere range a b ab → (answer : Result (List ℕ) Refusal) → ((IsZero ab → ⊥) → answer ≡ Err (Nonzero Ab (product_row a b) (product_degree a b) ab))
-        → ((t : AreThere a b c (through range table) (through range sphere)) → IsZero ab → IsToldOfLower a b c (through range table) (through range sphere) t.a_is.class t.b_is.class t.c_is.class answer) → IsTold a b c (through range table) (through range sphere) answer
+    told_by : AreThere a b c (through range table) (through range sphere) → (ab : List Bool) → IsProductOver sphere sphere range a b ab → (answer : Result (List ℕ) Refusal) → ((IsZero ab → ⊥) → answer ≡ Err (not_zero Ab a b ab))
+        → ((t : AreThere a b c (through range table) (through range sphere)) → IsZero ab → IsToldOf Bc b c (through range table) (through range sphere) t.b_is.class t.c_is.class answer (IsOkAnd answer (IsBracketText a b c (through range table) (through range sphere) t.a_is.class t.b_is.class t.c_is.class)))
+        → IsTold a b c (through range table) (through range sphere) answer
     told_by t ab p answer nonzero lower = record {
       x = t.a_is.class;
       y = t.b_is.class;
@@ -148,19 +147,16 @@ module _ (modules : ModulesAreSteenrodModules) (table sphere : Staircase) (hq : 
       a_at = t.a_is.at;
       b_at = t.b_is.at;
       c_at = t.c_is.at;
-      ab = ab;
-      product = product_ab ab p t.a_is.class t.b_is.class t.a_is.at t.b_is.at;
-      nonzero = nonzero;
-      zero = lower t;
+      told = record { value = ab; product = product_ab ab p t.a_is.class t.b_is.class t.a_is.at t.b_is.at; nonzero = nonzero; zero = lower t };
     }
 
-    first_told : (v : List Bool) → first_fault table sphere range a b c ≡ None → IsNonzero table sphere range a b c 0 v → IsTold a b c (through range table) (through range sphere) (Err (Nonzero Ab (product_row a b) (product_degree a b) v))
-    first_told v none k = told_by (there none) v k.0 (Err (Nonzero Ab (product_row a b) (product_degree a b) v)) (λ not. refl) (λ t w. absurd (k.1 w))
+    first_told : (v : List Bool) → first_fault table sphere range a b c ≡ None → IsNonzero table sphere range a b c 0 v → IsTold a b c (through range table) (through range sphere) (Err (not_zero Ab a b v))
+    first_told v none k = told_by (there none) v k.0 (Err (not_zero Ab a b v)) (λ not. refl) (λ t w. absurd (k.1 w))
 
-    second_told : (v : List Bool) → first_fault table sphere range a b c ≡ None → IsNonzero table sphere range a b c 1 v → IsTold a b c (through range table) (through range sphere) (Err (Nonzero Bc (product_row b c) (product_degree b c) v))
+    second_told : (v : List Bool) → first_fault table sphere range a b c ≡ None → IsNonzero table sphere range a b c 1 v → IsTold a b c (through range table) (through range sphere) (Err (not_zero Bc b c v))
     second_told v none k =
-        told_by (there none) k.0.product k.0.is_product (Err (Nonzero Bc (product_row b c) (product_degree b c) v)) (λ not. absurd (not k.0.is_zero))
-        (λ t w. record { bc = v; product = product_bc v k.1 t.b_is.class t.c_is.class t.b_is.at t.c_is.at; nonzero = λ not. refl; zero = λ u. absurd (k.2 u) })
+        told_by (there none) k.0.product k.0.is_product (Err (not_zero Bc b c v)) (λ not. absurd (not k.0.is_zero))
+        (λ t w. record { value = v; product = product_bc v k.1 t.b_is.class t.c_is.class t.b_is.at t.c_is.at; nonzero = λ not. refl; zero = λ u. absurd (k.2 u) })
 
   -- over the canonical table of the sphere's module
   module _ (unique : CanonicalTableIsUnique) (is_sphere_module : sphere.resolved.plain ≡ derived_module sphere_file) where
@@ -192,10 +188,10 @@ module _ (modules : ModulesAreSteenrodModules) (table sphere : Staircase) (hq : 
     fault_answer (Absent which count) cause other = of_places (Absent which count) (absent a b c which count) refl cause
     fault_answer (Past which s t) cause other = of_places (Past which s t) (past which s t) refl cause
     fault_answer (NotZero zero v) cause other =
-        let e : Refusal = Nonzero Ab (product_row a b) (product_degree a b) v in
+        let e : Refusal = not_zero Ab a b v in
         record { refusal = e; is = refl; answer = λ all. answer_in (Err e) (told_answer (Err e) cause.0 (first_told all v cause.0 cause.1)); sure = λ o. absurd o }
     fault_answer (NotZero (suc zero) v) cause other =
-        let e : Refusal = Nonzero Bc (product_row b c) (product_degree b c) v in
+        let e : Refusal = not_zero Bc b c v in
         record { refusal = e; is = refl; answer = λ all. answer_in (Err e) (told_answer (Err e) cause.0 (second_told all v cause.0 cause.1)); sure = λ o. absurd o }
     fault_answer (NotZero (suc (suc n)) v) cause other = absurd cause.1
     fault_answer NoMemory cause other = absurd (other refl)

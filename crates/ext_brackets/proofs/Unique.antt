@@ -1,5 +1,5 @@
 -- There is at most one answer to what is asked of a bracket.
-use Rattle.std.proofs.Common.{◌≡◌, inl, inr, ℕ, ◌+◌, Bool, false, List, length, ap, sym, subst, ◌∙◌, arith}
+use Rattle.std.proofs.Common.{◌≡◌, inl, inr, ℕ, ◌+◌, pos, ◌+ℤ◌, ◌-ℤ◌, Bool, false, List, length, ap, sym, subst, ◌∙◌, arith}
 use Rattle.std.specs.Prelude.{◌↔◌, Option, Some, None, MatchOption, Result, Ok, Err, IsOkAnd}
 use Rattle.std.proofs.lemmas.Bool.{true≢false}
 use Rattle.f2_vec.specs.Vectors.{sum_of, bit, plus, zeros, IsZero}
@@ -12,16 +12,13 @@ use Rattle.lift_laws.specs.Lifts.{Resolution}
 use Rattle.lift_laws.specs.Products.{Class as ClassAbove, count_of}
 use Rattle.bracket_laws.specs.Brackets.{top_of, IsBracketMember}
 use Rattle.chain_map.specs.declared.class.Class.{Class}
-use Rattle.massey.specs.Cosets.{IsZeroAtPivots}
-use Rattle.massey.specs.Brackets.{IsBracketOf}
+use Rattle.massey.specs.Brackets.{IsZeroAtPivots, IsBracketOf}
 use Rattle.ext_chart.specs.Classes.{bracket_text}
+use Rattle.ext_products.specs.declared.refusal.Pair.{Pair}
 use Rattle.ext_products.specs.declared.refusal.Pair.TheVariants.{Ab, Bc}
 use Rattle.ext_products.specs.declared.refusal.Refusal.{Refusal}
-use Rattle.ext_products.specs.declared.refusal.Refusal.TheVariants.{Nonzero}
-use Rattle.yoneda.specs.Products.{IsYonedaProduct}
 use Rattle.ext_products.proofs.Answers.{class-unique}
-use Rattle.ext_brackets.specs.Brackets.{product_row, product_degree, bracket_row, bracket_degree, refusal_of, IsBracketText, IsToldOfLower, IsTold}
-use Rattle.ext_brackets.specs.Laws.{BracketAnswerIsUnique}
+use Rattle.ext_brackets.specs.Brackets.{refusal_of, not_zero, IsBracketText, IsToldOf, IsTold, BracketAnswerIsUnique}
 use Rattle.ext_brackets.proofs.Members.{length-member}
 
 -- ---- vectors
@@ -112,45 +109,45 @@ module _ (unique : RowBasisIsUnique) (r q : Resolution) (a b c : ClassAbove) whe
 
 -- ---- what is told
 
+-- a product, where it is not zero, and else what is told then, decides
+product-unique : (pair : Pair) (a x : Class) (r q : Resolution) (y z : ClassAbove) (s t : Result (List ℕ) Refusal) (P Q : Type 0) → (P → Q → s ≡ t) → IsToldOf pair a x r q y z s P → IsToldOf pair a x r q y z t Q → s ≡ t
+product-unique pair a x r q y z s t P Q alike p k =
+    let same : p.value ≡ k.value = p.product.each k.value k.product.some in
+    elim (zero_or_first p.value) [
+      | inl zero ↦ alike (p.zero zero) (k.zero (subst IsZero same zero))
+      | inr first ↦
+          let some : IsZero p.value → ⊥ = λ zero. true≢false (sym first.1.one ∙ zero first.0) in
+          let told : List Bool → Result (List ℕ) Refusal = λ v. Err (not_zero pair a x v) in
+          p.nonzero some ∙ (ap told same ∙ sym (k.nonzero (λ zero. some (subst IsZero (sym same) zero))))
+    ]
+
 module _ (unique : RowBasisIsUnique) (r q : Resolution) (a b c : Class) where
   text-unique : (x y z : ClassAbove) (s t : List ℕ) → IsBracketText a b c r q x y z s → IsBracketText a b c r q x y z t → s ≡ t
   text-unique x y z s t p k =
       let value = bracket_values unique r q x y z p.value k.value p.rows k.rows p.bracket k.bracket in
       let rows = bracket_rows unique r q x y z p.value k.value p.rows k.rows p.bracket k.bracket in
-      p.is ∙ (ap (λ (v : List Bool). bracket_text (bracket_row a b c) (bracket_degree a b c) v p.rows) value ∙ (ap (bracket_text (bracket_row a b c) (bracket_degree a b c) k.value) rows ∙ sym k.is))
+      p.is ∙ (ap (λ (v : List Bool). bracket_text (pos (a.s + b.s + c.s) -ℤ pos 1) (a.t +ℤ b.t +ℤ c.t) v p.rows) value ∙ (ap (bracket_text (pos (a.s + b.s + c.s) -ℤ pos 1) (a.t +ℤ b.t +ℤ c.t) k.value) rows ∙ sym k.is))
 
   made-unique : (x y z : ClassAbove) (s t : Result (List ℕ) Refusal) → IsOkAnd s (IsBracketText a b c r q x y z) → IsOkAnd t (IsBracketText a b c r q x y z) → s ≡ t
   made-unique x y z (Ok s) (Ok t) p k = ap (λ (u : List ℕ). Ok u) (text-unique x y z s t p k)
   made-unique x y z (Ok s) (Err e) p k = absurd k
   made-unique x y z (Err e) t p k = absurd p
 
-  lower-unique : (x y z : ClassAbove) (s t : Result (List ℕ) Refusal) → IsToldOfLower a b c r q x y z s → IsToldOfLower a b c r q x y z t → s ≡ t
-  lower-unique x y z s t p k =
-      let same : p.bc ≡ k.bc = p.product.each k.bc k.product.some in
-      elim (zero_or_first p.bc) [
-        | inl zero ↦ made-unique x y z s t (p.zero zero) (k.zero (subst IsZero same zero))
-        | inr first ↦
-            let some : IsZero p.bc → ⊥ = λ zero. true≢false (sym first.1.one ∙ zero first.0) in
-            let told : List Bool → Result (List ℕ) Refusal = λ v. Err (Nonzero Bc (product_row b c) (product_degree b c) v) in
-            p.nonzero some ∙ (ap told same ∙ sym (k.nonzero (λ zero. some (subst IsZero (sym same) zero))))
-      ]
+  -- what is told of classes that are there, and where ab is zero, by the classes that they are
+  abbrev IsLowerAt : ClassAbove → ClassAbove → ClassAbove → Result (List ℕ) Refusal → Type 0
+  IsLowerAt x y z s = IsToldOf Bc b c r q y z s (IsOkAnd s (IsBracketText a b c r q x y z))
+
+  abbrev IsToldAt : ClassAbove → ClassAbove → ClassAbove → Result (List ℕ) Refusal → Type 0
+  IsToldAt x y z s = IsToldOf Ab a b q q x y s (IsLowerAt x y z s)
 
   told-unique : (s t : Result (List ℕ) Refusal) → IsTold a b c r q s → IsTold a b c r q t → s ≡ t
   told-unique s t p k =
       let x : k.x ≡ p.x = class-unique q a k.x p.x k.a_at p.a_at in
       let y : k.y ≡ p.y = class-unique q b k.y p.y k.b_at p.b_at in
       let z : k.z ≡ p.z = class-unique r c k.z p.z k.c_at p.c_at in
-      let product : IsYonedaProduct q q p.x p.y k.ab = subst (λ (o : ClassAbove). IsYonedaProduct q q p.x o k.ab) y (subst (λ (o : ClassAbove). IsYonedaProduct q q o k.y k.ab) x k.product) in
-      let lower : IsZero k.ab → IsToldOfLower a b c r q p.x p.y p.z t = λ zero.
-      subst (λ (o : ClassAbove). IsToldOfLower a b c r q p.x p.y o t) z (subst (λ (o : ClassAbove). IsToldOfLower a b c r q p.x o k.z t) y (subst (λ (o : ClassAbove). IsToldOfLower a b c r q o k.y k.z t) x (k.zero zero))) in
-      let same : p.ab ≡ k.ab = p.product.each k.ab product.some in
-      elim (zero_or_first p.ab) [
-        | inl zero ↦ lower-unique p.x p.y p.z s t (p.zero zero) (lower (subst IsZero same zero))
-        | inr first ↦
-            let some : IsZero p.ab → ⊥ = λ zero. true≢false (sym first.1.one ∙ zero first.0) in
-            let told : List Bool → Result (List ℕ) Refusal = λ v. Err (Nonzero Ab (product_row a b) (product_degree a b) v) in
-            p.nonzero some ∙ (ap told same ∙ sym (k.nonzero (λ zero. some (subst IsZero (sym same) zero))))
-      ]
+      let told : IsToldAt p.x p.y p.z t = subst (λ (o : ClassAbove). IsToldAt p.x p.y o t) z (subst (λ (o : ClassAbove). IsToldAt p.x o k.z t) y (subst (λ (o : ClassAbove). IsToldAt o k.y k.z t) x k.told)) in
+      let text : Result (List ℕ) Refusal → Type 0 = λ s. IsOkAnd s (IsBracketText a b c r q p.x p.y p.z) in
+      product-unique Ab a b q q p.x p.y s t (IsLowerAt p.x p.y p.z s) (IsLowerAt p.x p.y p.z t) (product-unique Bc b c r q p.y p.z s t (text s) (text t) (made-unique p.x p.y p.z s t)) p.told told
 
   answer-unique : (refusal : Option Refusal) (s t : Result (List ℕ) Refusal) → MatchOption refusal (IsTold a b c r q s) (λ e. s ≡ Err e) → MatchOption refusal (IsTold a b c r q t) (λ e. t ≡ Err e) → s ≡ t
   answer-unique None s t p k = told-unique s t p k

@@ -1,4 +1,2 @@
 pub mod Brackets
-pub mod Laws
-pub mod Over
 pub mod Inside

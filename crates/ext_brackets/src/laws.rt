@@ -1,5 +1,5 @@
 //! Laws over the definitions, as contracts of functions that do nothing.
-ghost use Rattle.ext_brackets.specs.Laws.{BracketAnswerExists, BracketAnswerIsUnique};
+ghost use Rattle.ext_brackets.specs.Brackets.{BracketAnswerExists, BracketAnswerIsUnique};
 
 /// The canonical resolutions of a module and of the sphere have an answer for any three classes.
 pub fn bracket_answer_exists()

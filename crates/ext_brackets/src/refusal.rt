@@ -1,8 +1,7 @@
 //! Why there is no bracket, told of the classes that were asked for.
 ghost use Rattle.std.specs.Prelude.{◌≡◌};
-ghost use Rattle.ext_products.specs.declared.refusal.Refusal.TheVariants.{Nonzero as NotZero};
-ghost use Rattle.ext_brackets.specs.Brackets.{absent, target_of, product_row, product_degree};
-ghost use Rattle.ext_brackets.specs.Inside.Refusals.{fault_of, HasSquare, HasSquares};
+ghost use Rattle.ext_brackets.specs.Brackets.{absent, target_numbered, not_zero};
+ghost use Rattle.ext_brackets.specs.Inside.{fault_of, HasSquare, HasSquares};
 
 use chain_map::Class;
 use ext_products::{ClassesFault, Named, Pair, Refusal, Target};
@@ -48,7 +47,7 @@ fn no_class(which: u8, count: usize, a: Class, b: Class, c: Class) -> Refusal
 
 /// The target with this number: 0 for ab, 1 for bc, and 2 for the bracket.
 fn target(which: u8) -> Target
-    ensures { result ≡ target_of which }
+    ensures { result ≡ target_numbered which }
 {
     match which {
         0 => Target::Product(Pair::Ab),
@@ -60,7 +59,7 @@ fn target(which: u8) -> Target
 /// That the product of the classes `a` and `x` is not zero.
 fn nonzero(pair: Pair, a: Class, x: Class, product: BitVec) -> Refusal
     requires square { HasSquare a x }
-    ensures { result ≡ NotZero pair (product_row a x) (product_degree a x) product }
+    ensures { result ≡ not_zero pair a x product }
 {
     Refusal::Nonzero {
         pair,

@@ -5,7 +5,7 @@ ghost use Rattle.square.specs.declared.range.TheConstants.{MAX_S, MAX_T};
 ghost use Rattle.ext_chart.specs.Classes.{bracket_text as text_of};
 ghost use Rattle.ext_products.specs.declared.refusal.ClassesFault.TheVariants.{Refused, Memory as OutOfMemory};
 ghost use Rattle.ext_products.specs.declared.refusal.Refusal.{Refusal as WhyNot};
-ghost use Rattle.ext_brackets.specs.Over.{IsBracketAnswerOver, IsBracketAnswerIn, IsOfPlaces};
+ghost use Rattle.ext_brackets.specs.Brackets.{IsBracketAnswerOver, IsBracketAnswerIn, IsOfPlaces};
 
 use crate::refusal::fault_of;
 use chain_map::Class;

@@ -21,9 +21,7 @@ use Rattle.ext_chart.specs.Classes.{product_lines_text}
 use Rattle.ext_products.specs.declared.refusal.Refusal.{Refusal}
 use Rattle.ext_products.specs.declared.refusal.Refusal.TheVariants.{NoClass}
 use Rattle.ext_products.specs.declared.refusal.Named.TheVariants.{By}
-use Rattle.ext_products.specs.Lines.{OneEach}
-use Rattle.ext_products.specs.Products.{class_at, factors, IsProductLine, IsProductsText}
-use Rattle.ext_products.specs.Laws.{ProductsAnswerExists, ProductsAnswerIsUnique}
+use Rattle.ext_products.specs.Products.{OneEach, class_at, factors, IsProductLine, IsProductsText, ProductsAnswerExists, ProductsAnswerIsUnique}
 use Rattle.ext_products.proofs.OneEach.{OneEach-unique, OneEach-made}
 use Rattle.ext_products.proofs.Factors.{IsFactor, are_factors}
 

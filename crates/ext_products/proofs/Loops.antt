@@ -4,7 +4,7 @@ use Rattle.std.specs.List.{flat_map, range_with_len}
 use Rattle.std.proofs.lemmas.Grind.{flat_map-append}
 use Rattle.std.proofs.lemmas.List.FromFn.{map-range_with_len_more}
 use Rattle.f2_vec.proofs.Ones.{range_more}
-use Rattle.ext_products.specs.Lines.{OneEach}
+use Rattle.ext_products.specs.Products.{OneEach}
 use Rattle.ext_products.proofs.OneEach.{OneEach-append}
 
 pub flat_map-next : {X : Type 0} (f : ℕ → List X) (k : ℕ) → flat_map f (range_with_len 0 k) ++ f k ≡ flat_map f (range_with_len 0 (k + 1))

@@ -2,7 +2,7 @@
 use Rattle.std.proofs.Common.{◌≡◌, List, [], ◌∷◌, ◌++◌, refl}
 use Rattle.std.specs.List.{All}
 use Rattle.std.proofs.lemmas.List.Elements.{All-head, All-tail}
-use Rattle.ext_products.specs.Lines.{OneEach}
+use Rattle.ext_products.specs.Products.{OneEach}
 
 pub OneEach-append : {A B : Type 0} (R : A → B → Type 0) (xs ys : List A) (us vs : List B) → OneEach R xs us → OneEach R ys vs → OneEach R (xs ++ ys) (us ++ vs)
 OneEach-append R [] ys [] vs h k = k

@@ -28,8 +28,7 @@ use Rattle.chain_map.specs.Classes.{through, classes_over, missing_in}
 use Rattle.chain_map.proofs.Classes.{rows_through, count_inside, count_outside}
 use Rattle.chain_map.proofs.Resolved.{is_canonical}
 use Rattle.yoneda.specs.declared.place.Place.{Place}
-use Rattle.yoneda.specs.Places.{class_above, IsPlaceOf, IsThere}
-use Rattle.yoneda.specs.Products.{IsYonedaProduct}
+use Rattle.yoneda.specs.Products.{class_above, IsPlaceOf, IsThere, IsYonedaProduct}
 use Rattle.yoneda.proofs.Cut.{count_of-part, product_by-part}
 use Rattle.yoneda.proofs.OneProduct.{canonical_less, place_there, given-lowered, product-of-lift}
 use Rattle.yoneda.proofs.Through.{count_through}
@@ -38,10 +37,8 @@ use Rattle.ext_chart.specs.Classes.{product_lines_text}
 use Rattle.ext_products.specs.declared.refusal.Refusal.{Refusal}
 use Rattle.ext_products.specs.declared.refusal.Refusal.TheVariants.{NoClass}
 use Rattle.ext_products.specs.declared.refusal.Named.TheVariants.{By}
-use Rattle.ext_products.specs.Lines.{OneEach}
-use Rattle.ext_products.specs.Products.{resolution, factors, IsProductLine, IsProductsText, IsProductsAnswer}
-use Rattle.ext_products.specs.Over.{IsAnswerOver, IsAnswerIn}
-use Rattle.ext_products.specs.Inside.Lining.{reach_of, degrees_within, IsLineOver}
+use Rattle.ext_products.specs.Products.{OneEach, resolution, factors, IsProductLine, IsProductsText, IsProductsAnswer, IsAnswerOver, IsAnswerIn}
+use Rattle.ext_products.specs.Inside.{reach_of, degrees_within, IsLineOver}
 use Rattle.ext_products.proofs.OneEach.{OneEach-all}
 use Rattle.ext_products.proofs.Factors.{IsFactor, are_factors, factors-same}
 use Rattle.ext_products.proofs.Answers.{none_past}
@@ -193,9 +190,9 @@ module _ (table sphere : Staircase) (range : Range) (by : Class) (are_q : IsCano
     text-answer a is there lines are text told all =
         let answer : Result (List ℕ) Refusal = Ok text in
         let P : SteenrodModule → Type 0 = λ m. (full : List (List Content)) → IsCanonicalTable (module_over m) range.s range.t full → IsProductsAnswer range by (through range table) (resolution m full) answer in
-        let row_within = is.row_within in
+        let row_within = is.inside.row_within in
         let near_range = within-reach range by (bottom_of sphere.resolved) is_sphere.bottom a.above is.degree in
-        let degree_within = is.degree_within in
+        let degree_within = is.inside.degree_within in
         subst P is_sphere_module (λ full is_full.
         let none = sym (same_missing sphere range by are_q full is_full is_sphere.bottom) ∙ there in
         subst (λ (o : Option ℕ). MatchOption o (IsOkAnd answer (IsProductsText range by (through range table) (resolution sphere.resolved.plain full))) (λ n. answer ≡ Err (NoClass By by n))) (sym none)

@@ -1,5 +1,2 @@
-pub mod Lines
 pub mod Products
-pub mod Laws
-pub mod Over
 pub mod Inside

@@ -1,22 +1,32 @@
 -- What is told of the products of a class of the sphere with the classes of a module, through a range (Adams, On the structure and
 -- applications of the Steenrod algebra; Bruner, Calculation of large Ext modules).
-use Rattle.std.specs.Prelude.{◌≡◌, ℕ, ◌+◌, ◌-◌, ℤ, pos, ◌+ℤ◌, List, map, MatchOption, Result, Err, IsOkAnd}
+use Rattle.std.specs.Prelude.{List, [], ◌∷◌, ⊤, ◌≡◌, ℕ, ◌+◌, ◌-◌, ℤ, pos, ◌+ℤ◌, map, MatchOption, Result, Err, IsOkAnd}
 use Rattle.std.specs.List.{flat_map, range_with_len}
 use Rattle.finite_module.specs.Module.{Module as SteenrodModule}
-use Rattle.resolution_laws.specs.Resolution.{Content}
+use Rattle.finite_module.specs.Checked.{sphere_file}
+use Rattle.finite_module.specs.DerivedAction.{derived_module}
+use Rattle.resolution_laws.specs.Resolution.{Content, IsCanonicalTable}
 use Rattle.square.specs.Squares.{module_over}
 use Rattle.square.specs.declared.range.Range.{Range}
-use Rattle.lift_laws.specs.Lifts.{Resolution}
+use Rattle.square.specs.Tables.{Staircase}
+use Rattle.lift_laws.specs.Lifts.{Resolution, IsCanonical, IsSphere}
 use Rattle.lift_laws.specs.Products.{Class as ClassAbove, count_of}
 use Rattle.chain_map.specs.declared.class.Class.{Class}
-use Rattle.chain_map.specs.Classes.{missing_in, IsAt}
+use Rattle.chain_map.specs.Classes.{missing_in, IsAt, through}
+use Rattle.chain_map.specs.Lifting.{IsCanonicalIn}
 use Rattle.yoneda.specs.Products.{IsYonedaProduct}
 use Rattle.ext_chart.specs.declared.class_products.ProductLine.{ProductLine}
 use Rattle.ext_chart.specs.Classes.{product_lines_text}
 use Rattle.ext_products.specs.declared.refusal.Refusal.{Refusal}
 use Rattle.ext_products.specs.declared.refusal.Refusal.TheVariants.{NoClass}
 use Rattle.ext_products.specs.declared.refusal.Named.TheVariants.{By}
-use Rattle.ext_products.specs.Lines.{OneEach}
+
+-- the second list has an element for each of the first, in their order, as R says
+abbrev pub OneEach : {A B : Type 0} → (A → B → Type 0) → List A → List B → Type 0
+OneEach R [] [] = ⊤
+OneEach R (x ∷ xs) (y ∷ ys) = R x y × OneEach R xs ys
+OneEach R [] (y ∷ ys) = ⊥
+OneEach R (x ∷ xs) [] = ⊥
 
 -- the resolution of a module whose squares a table has
 abbrev pub resolution : SteenrodModule → List (List Content) → Resolution
@@ -71,3 +81,25 @@ pub record IsProductsText (range : Range) (by : Class) (r q : Resolution) (text 
 abbrev pub IsProductsAnswer : Range → Class → Resolution → Resolution → Result (List ℕ) Refusal → Type 0
 IsProductsAnswer range by r q answer = MatchOption (missing_in q by) (IsOkAnd answer (IsProductsText range by r q))
     (λ count. answer ≡ Err (NoClass By by count))
+
+-- what is told is right of the squares that the table has in the range
+abbrev pub IsAnswerIn : Staircase → Range → Class → Result (List ℕ) Refusal → Type 0
+IsAnswerIn table range by answer =
+    (sphere : List (List Content)) →
+    IsCanonicalTable (module_over (derived_module sphere_file)) range.s range.t sphere →
+    IsProductsAnswer range by (through range table) (resolution (derived_module sphere_file) sphere) answer
+
+-- what is told is right, where the table is that of the canonical resolution in the range
+abbrev pub IsAnswerOver : Staircase → Range → Class → Result (List ℕ) Refusal → Type 0
+IsAnswerOver table range by answer = IsCanonicalIn range table → IsAnswerIn table range by answer
+
+-- The canonical resolutions of a module and of the sphere have an answer for each class,
+abbrev pub ProductsAnswerExists : Type 0
+ProductsAnswerExists = (r q : Resolution) (range : Range) (by : Class) → IsCanonical r range.s range.t →
+    IsCanonical q range.s range.t → IsSphere q →
+    (answer : Result (List ℕ) Refusal) × IsProductsAnswer range by r q answer
+
+-- and any two resolutions at most one.
+abbrev pub ProductsAnswerIsUnique : Type 0
+ProductsAnswerIsUnique = (r q : Resolution) (range : Range) (by : Class) (a b : Result (List ℕ) Refusal) →
+    IsProductsAnswer range by r q a → IsProductsAnswer range by r q b → a ≡ b

@@ -1,5 +1,5 @@
 //! Laws over the definitions, as contracts of functions that do nothing.
-ghost use Rattle.ext_products.specs.Laws.{ProductsAnswerExists, ProductsAnswerIsUnique};
+ghost use Rattle.ext_products.specs.Products.{ProductsAnswerExists, ProductsAnswerIsUnique};
 
 /// The canonical resolutions of a module and of the sphere have an answer for each class that products are asked with.
 pub fn products_answer_exists()

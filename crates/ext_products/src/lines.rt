@@ -5,11 +5,9 @@ ghost use Rattle.square.specs.Tables.{IsThrough};
 ghost use Rattle.lift_laws.specs.Lifts.{IsSphere};
 ghost use Rattle.lift_laws.specs.Products.{Class as ClassAbove, count_of};
 ghost use Rattle.chain_map.specs.Lifting.{resolution_of};
-ghost use Rattle.yoneda.specs.Places.{IsThere, class_above};
-ghost use Rattle.yoneda.specs.Products.{AreProducts};
-ghost use Rattle.ext_products.specs.Lines.{OneEach};
-ghost use Rattle.ext_products.specs.Products.{classes_of, classes_in_row, factors};
-ghost use Rattle.ext_products.specs.Inside.Lining.{IsLineOver};
+ghost use Rattle.yoneda.specs.Products.{IsThere, class_above, AreProducts};
+ghost use Rattle.ext_products.specs.Products.{OneEach, classes_of, classes_in_row, factors};
+ghost use Rattle.ext_products.specs.Inside.{IsLineOver};
 
 use ext_chart::ProductLine;
 use f2_vec::BitVec;

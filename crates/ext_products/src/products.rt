@@ -2,8 +2,8 @@
 ghost use Rattle.std.specs.Prelude.{◌≡◌, ◌≢◌, ◌≤◌, IfOk, IfErr, Ok, Err};
 ghost use Rattle.square.specs.Tables.{IsThrough};
 ghost use Rattle.square.specs.declared.range.TheConstants.{MAX_S, MAX_T};
-ghost use Rattle.ext_products.specs.Over.{IsAnswerOver, IsAnswerIn};
-ghost use Rattle.ext_products.specs.Inside.Lining.{reach_of};
+ghost use Rattle.ext_products.specs.Products.{IsAnswerOver, IsAnswerIn};
+ghost use Rattle.ext_products.specs.Inside.{reach_of};
 ghost use Rattle.ext_products.specs.declared.refusal.ClassesFault.TheVariants.{Refused, Memory as OutOfMemory};
 ghost use Rattle.ext_products.specs.declared.refusal.Refusal.{Refusal as WhyNot};
 

@@ -11,10 +11,9 @@ use Rattle.module_json.specs.declared.malformed.Place.{Place}
 use Rattle.module_json.specs.declared.malformed.Place.TheVariants.{Whole, Kind as AtType, Cofiber, Shift, Prime as AtPrime, Gens as AtGens, Actions as AtActions, Min as AtMin, Max as AtMax}
 use Rattle.module_json.specs.declared.malformed.Why.{Why}
 use Rattle.module_json.specs.declared.malformed.Why.TheVariants.{Syntax, SquareZero, Unknown, WrongDegree, Repeated}
-use Rattle.finite_module.specs.Text.{name_at}
+use Rattle.finite_module.specs.Text.{name_at, newline}
 use Rattle.module_check.specs.declared.fault.CheckFault.{CheckFault}
 use Rattle.module_check.specs.declared.fault.CheckFault.TheVariants.{Listed, Relation, Memory as NoMemory}
-use Rattle.finite_module.specs.Text.{newline}
 use Rattle.save_journal.specs.declared.fault.OpenFault.{OpenFault}
 use Rattle.save_journal.specs.declared.fault.OpenFault.TheVariants.{Failed as OpenFailed, NotSave, Other, Damaged, Short, Memory as OpenMemory}
 use Rattle.save_file.specs.declared.fault.ResumeFault.{ResumeFault}

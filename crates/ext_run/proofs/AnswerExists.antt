@@ -36,10 +36,8 @@ use Rattle.ext_chart.specs.Summary.{summary_text}
 use Rattle.lift_laws.specs.Lifts.{Resolution as Resolved, IsCanonical, IsSphere}
 use Rattle.chain_map.specs.declared.class.Class.{Class}
 use Rattle.ext_products.specs.declared.refusal.Refusal.{Refusal}
-use Rattle.ext_products.specs.Products.{resolution, IsProductsAnswer}
-use Rattle.ext_products.specs.Laws.{ProductsAnswerExists}
-use Rattle.ext_brackets.specs.Brackets.{IsBracketAnswer}
-use Rattle.ext_brackets.specs.Laws.{BracketAnswerExists}
+use Rattle.ext_products.specs.Products.{resolution, IsProductsAnswer, ProductsAnswerExists}
+use Rattle.ext_brackets.specs.Brackets.{IsBracketAnswer, BracketAnswerExists}
 use Rattle.ext_products.proofs.SphereTables.{sphere-is}
 use Rattle.ext_report.specs.declared.failure.Failure.{Failure}
 use Rattle.ext_report.specs.declared.failure.Failure.TheVariants.{Words, Malformed as NoModuleFile, NotModule}

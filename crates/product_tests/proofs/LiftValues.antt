@@ -8,11 +8,10 @@ use Rattle.square.specs.Tables.{Staircase, row_in, IsThrough}
 use Rattle.square.proofs.Places.{length-row_of}
 use Rattle.lift_laws.specs.Products.{first_of, count_of}
 use Rattle.chain_map.specs.declared.class.Class.{Class}
-use Rattle.chain_map.specs.Rows.{RowValues, first_in, HasValueAt}
-use Rattle.chain_map.specs.Lifting.{LiftValues, resolution_of, row_values, shifted_length, degrees_through, AreValues, IsLiftOver, HasValue}
+use Rattle.chain_map.specs.Lifting.{RowValues, first_in, HasValueAt, LiftValues, resolution_of, row_values, shifted_length, degrees_through, AreValues, IsLiftOver, HasValue}
 use Rattle.chain_map.proofs.Generators.{first_of-more, images_taken}
 use Rattle.yoneda.specs.declared.place.Place.{Place}
-use Rattle.yoneda.specs.Places.{IsPlaceOf}
+use Rattle.yoneda.specs.Products.{IsPlaceOf}
 
 goes_over : (above m n : ℕ) → m < n → m < shifted_length above n
 goes_over above m zero h = absurd (omega (arith, h))
@@ -35,14 +34,14 @@ has_value table sphere range through sphere_through class generator x g lift x_i
     let r = resolution_of table in
     let n = degrees_through table sphere class.s x.above 1 in
     let g_row = g_is.row in
-    let g_rows = g_is.row_within in
-    let g_degrees = g_is.degree_within in
+    let g_rows = g_is.inside.row_within in
+    let g_degrees = g_is.inside.degree_within in
     let long = through (class.s + 1) (omega arith) in
     let sphere_long = sphere_through 1 (omega arith) in
     let over = goes_over x.above g.above (length (row_in sphere.rows 1)) (omega arith) in
     let far : g.above < n = omega arith in
     let rows = l.rows (omega arith) in
-    let there : generator.i < count_of r (class.s + 1) g.above = subst (λ (i : ℕ). i < count_of r (class.s + 1) g.above) (sym g_is.number) (subst (λ (s : ℕ). g.i < count_of r s g.above) (sym g_is.row ∙ row) g_is.generator) in
+    let there : generator.i < count_of r (class.s + 1) g.above = subst (λ (i : ℕ). i < count_of r (class.s + 1) g.above) (sym g_is.number) (subst (λ (s : ℕ). g.i < count_of r s g.above) (sym g_is.row ∙ row) g_is.inside.generator) in
     record {
       row = omega arith;
       above = g.above;

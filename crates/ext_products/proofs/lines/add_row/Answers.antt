@@ -3,7 +3,7 @@ use Rattle.std.specs.List.{flat_map, range_with_len}
 use Rattle.chain_map.specs.Lifting.{resolution_of}
 use Rattle.yoneda.specs.Products.{AreProducts}
 use Rattle.ext_products.specs.Products.{classes_of}
-use Rattle.ext_products.specs.Inside.Lining.{IsLineOver}
+use Rattle.ext_products.specs.Inside.{IsLineOver}
 use Rattle.ext_products.proofs.Loops.{lists-more}
 use Rattle.ext_products.proofs.lines.add_row.Goals as goal
 

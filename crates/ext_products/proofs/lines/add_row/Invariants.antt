@@ -2,9 +2,8 @@ use Rattle.std.specs.List.{flat_map, range_with_len}
 use Rattle.std.proofs.Common.{List, ◌++◌}
 use Rattle.lift_laws.specs.Products.{Class}
 use Rattle.chain_map.specs.Lifting.{resolution_of}
-use Rattle.ext_products.specs.Lines.{OneEach}
-use Rattle.ext_products.specs.Products.{classes_of}
-use Rattle.ext_products.specs.Inside.Lining.{IsLineOver}
+use Rattle.ext_products.specs.Products.{OneEach, classes_of}
+use Rattle.ext_products.specs.Inside.{IsLineOver}
 use Rattle.ext_products.proofs.lines.add_row.Given as goal
 
 abbrev pub invariant-loop-above : goal.invariant-loop-above

@@ -2,10 +2,9 @@ use Rattle.std.proofs.Common.{◌≡◌, ◌<◌, [], length, w32, refl, sym, su
 use Rattle.std.proofs.lemmas.Int.{to_z-of_z}
 use Rattle.std.proofs.lemmas.List.{get_or_default}
 use Rattle.f2_vec.specs.Spans.{row}
-use Rattle.yoneda.specs.Places.{class_above}
-use Rattle.yoneda.specs.Products.{IsProductThrough}
+use Rattle.yoneda.specs.Products.{class_above, IsProductThrough}
 use Rattle.ext_products.specs.Products.{class_at}
-use Rattle.ext_products.specs.Inside.Lining.{IsLineOver}
+use Rattle.ext_products.specs.Inside.{IsLineOver}
 use Rattle.ext_products.proofs.Loops.{line-more}
 use Rattle.ext_products.proofs.lines.add_square.Goals as goal
 

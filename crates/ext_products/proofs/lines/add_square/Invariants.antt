@@ -1,9 +1,8 @@
 use Rattle.std.specs.List.{range_with_len}
 use Rattle.std.proofs.Common.{List, map, ◌++◌}
 use Rattle.lift_laws.specs.Products.{Class}
-use Rattle.ext_products.specs.Lines.{OneEach}
-use Rattle.ext_products.specs.Products.{class_at}
-use Rattle.ext_products.specs.Inside.Lining.{IsLineOver}
+use Rattle.ext_products.specs.Products.{OneEach, class_at}
+use Rattle.ext_products.specs.Inside.{IsLineOver}
 use Rattle.ext_products.proofs.lines.add_square.Given as goal
 
 abbrev pub invariant-loop-i : goal.invariant-loop-i

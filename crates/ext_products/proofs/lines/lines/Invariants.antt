@@ -1,9 +1,8 @@
 use Rattle.std.specs.List.{flat_map, range_with_len}
 use Rattle.std.proofs.Common.{◌+◌, ◌-◌}
 use Rattle.chain_map.specs.Lifting.{resolution_of}
-use Rattle.ext_products.specs.Lines.{OneEach}
-use Rattle.ext_products.specs.Products.{classes_in_row}
-use Rattle.ext_products.specs.Inside.Lining.{IsLineOver}
+use Rattle.ext_products.specs.Products.{OneEach, classes_in_row}
+use Rattle.ext_products.specs.Inside.{IsLineOver}
 use Rattle.ext_products.proofs.lines.lines.Given as goal
 
 abbrev pub invariant-loop-s : goal.invariant-loop-s

@@ -4,7 +4,7 @@ use Rattle.square.specs.declared.range.Range.{Range}
 use Rattle.square.specs.Tables.{IsThrough}
 use Rattle.chain_map.specs.Lifting.{IsCanonicalIn}
 use Rattle.chain_map.specs.Classes.{through, missing_in}
-use Rattle.yoneda.specs.Places.{IsPlaceOf}
+use Rattle.yoneda.specs.Products.{IsPlaceOf}
 use Rattle.ext_chart.specs.Classes.{product_lines_text}
 use Rattle.ext_products.specs.declared.refusal.Refusal.TheVariants.{NoClass}
 use Rattle.ext_products.specs.declared.refusal.Named.TheVariants.{By}

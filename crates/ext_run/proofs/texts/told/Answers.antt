@@ -2,10 +2,8 @@ use Rattle.std.proofs.Common.{sym, subst, ◌∙◌, ap}
 use Rattle.std.specs.Prelude.{Ok, Err}
 use Rattle.std.proofs.lemmas.Result.{err_from_is_err_and}
 use Rattle.chain_map.proofs.Resolved.{canonical_in}
-use Rattle.ext_products.specs.Over.{IsAnswerIn}
-use Rattle.ext_products.specs.Products.{IsProductsAnswer}
-use Rattle.ext_brackets.specs.Brackets.{IsBracketAnswer}
-use Rattle.ext_brackets.specs.Over.{IsBracketAnswerOver}
+use Rattle.ext_products.specs.Products.{IsAnswerIn, IsProductsAnswer}
+use Rattle.ext_brackets.specs.Brackets.{IsBracketAnswer, IsBracketAnswerOver}
 use Rattle.ext_run.specs.declared.plan.Form.{Form}
 use Rattle.ext_run.specs.Forms.{IsToldOfClasses, IsInForm}
 use Rattle.ext_run.specs.Work.{answer_of}
