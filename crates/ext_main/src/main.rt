@@ -1,13 +1,14 @@
 //! `ext`: Ext over the mod 2 Steenrod algebra, as charts.
 #![tactic(auto)]
 
-ghost use Rattle.std.specs.Prelude.{◌≡◌, ◌≢◌, ◌≤◌, map, string_bytes, codes, IfOk};
+ghost use Rattle.std.specs.Prelude.{◌≡◌, ◌≢◌, ◌≤◌, map, string_bytes, codes, IfOk, IfErr};
 ghost use Rattle.edge.specs.Faults.{HasRisen};
 ghost use Rattle.edge.specs.Sink.{HasPrefixMore, with_more};
 ghost use Rattle.ext_report.specs.declared.failure.Failure.TheVariants.{Words as OutsideGrammar, Memory as OutOfMemory};
 ghost use Rattle.ext_report.specs.Failure.{status_of};
 ghost use Rattle.ext_run.specs.Devices.{device_of, store_of};
 ghost use Rattle.ext_run.specs.Plan.{asked_by};
+ghost use Rattle.ext_run.specs.Ending.{HasTold};
 ghost use Rattle.ext_run.specs.Run.{IsRun};
 ghost use Rattle.ext_words.specs.Words.{texts_of};
 ghost use Rattle.ext_report.specs.Lines.{line_of};
@@ -42,26 +43,43 @@ fn status<W: Threads + Wait + Clock + Sync>(rt: &HostRuntime, wait: &W) -> u8 {
     let mut out = StdSink::new(rt.stdout());
     let mut err = StdSink::new(rt.stderr());
     let disk = FileDisk::new(rt, save_file());
-    match arguments(rt) {
-        Ok(arguments) => {
-            let ended = answer::<
-                W,
-                StdSource<Stdin>,
-                StdSink<Stdout>,
-                StdSink<Stderr>,
-                FileDisk<PathFile<HostRuntime>>,
-            >(
-                rt,
-                wait,
-                arguments.as_slice(),
-                &mut source,
-                &mut out,
-                &mut err,
-                disk,
-            );
-            ended.status
-        }
-        Err(e) => refused(&failure_of(e.kind()), &mut err),
+    let arguments = match arguments(rt) {
+        Ok(arguments) => Ok(arguments),
+        Err(e) => Err(failure_of(e.kind())),
+    };
+    let ended = program::<
+        W,
+        StdSource<Stdin>,
+        StdSink<Stdout>,
+        StdSink<Stderr>,
+        FileDisk<PathFile<HostRuntime>>,
+    >(rt, wait, arguments, &mut source, &mut out, &mut err, disk);
+    ended.status
+}
+
+/// Answers the arguments after the program's name on these streams, or tells the failure in their place.
+fn program<W: Threads + Wait + Clock + Sync, S: Source, O: Sink, E: Sink, D: Disk + Send>(
+    rt: &HostRuntime,
+    wait: &W,
+    arguments: Result<Vec<String>, Failure>,
+    source: &mut S,
+    out: &mut O,
+    err: &mut E,
+    disk: D,
+) -> Ended<D>
+    ensures answered { IfOk arguments (λ all. IsRun (device_of S.left S.faults) (device_of O.written O.faults)
+        (device_of E.written E.faults) (store_of D.now D.moment D.images D.images_at D.since D.faults)
+        (asked_by (map string_bytes all.items)) result.status
+        source.old source.new out.old out.new err.old err.new disk result.disk) }
+    ensures refused { IfErr arguments (λ failure. (source.new ≡ source.old) × (out.new ≡ out.old)
+        × HasTold E.written E.faults failure result.status err.old err.new × (result.disk ≡ disk)) }
+{
+    match arguments {
+        Ok(arguments) => answer(rt, wait, arguments.as_slice(), source, out, err, disk),
+        Err(failure) => Ended {
+            status: refused(&failure, err),
+            disk,
+        },
     }
 }
 
