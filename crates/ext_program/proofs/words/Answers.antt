@@ -1,8 +1,8 @@
 use Rattle.std.proofs.Common.{◌∙◌, map, ap, arith}
 use Rattle.std.proofs.lemmas.List.{take_all}
 use Rattle.std.specs.Prelude.{string_bytes}
-use Rattle.ext_main.proofs.Texts.{texts-more}
-use Rattle.ext_main.proofs.words.Goals as goal
+use Rattle.ext_program.proofs.Texts.{texts-more}
+use Rattle.ext_program.proofs.words.Goals as goal
 
 pub loop-argument-preserved : goal.loop-argument-preserved
 loop-argument-preserved c =

@@ -3,7 +3,7 @@ use Rattle.std.specs.Prelude.{string_bytes}
 use Rattle.ext_run.specs.Devices.{device_of, store_of}
 use Rattle.ext_run.specs.Plan.{asked_by}
 use Rattle.ext_run.specs.Run.{IsRun}
-use Rattle.ext_main.proofs.program.Goals as goal
+use Rattle.ext_program.proofs.on_streams.Goals as goal
 
 pub returns-in-Ok-clause-answered : goal.returns-in-Ok-clause-answered
 returns-in-Ok-clause-answered g c =
@@ -13,4 +13,4 @@ returns-in-Ok-clause-answered g c =
 
 pub returns-in-Err-clause-refused : goal.returns-in-Err-clause-refused
 returns-in-Err-clause-refused g c =
-    rw c.in-Err.is (refl, refl, record { status_is = c.refused.ensures.status; line = c.refused.ensures.line; whole_line = c.refused.ensures.whole_line; never_falls = c.refused.ensures.never_falls }, refl)
+    rw c.in-Err.is (refl, refl, c.refused.ensures, refl)

@@ -5,16 +5,9 @@ use Rattle.ext_report.specs.declared.failure.Failure.TheVariants.{Memory}
 use Rattle.ext_run.specs.Devices.{device_of, store_of}
 use Rattle.ext_run.specs.Plan.{asked_by}
 use Rattle.ext_run.specs.Run.{IsRun}
-use Rattle.ext_run.proofs.Lasting.{AreDisks}
 use Rattle.ext_run.proofs.Ending.{run_of_failure}
-use Rattle.ext_main.proofs.Unread.{given-none}
-use Rattle.ext_main.proofs.answer.Given.{Over}
-use Rattle.ext_main.proofs.answer.Goals as goal
-
-laws : (g : Over) → AreDisks (store_of g.D.Disk.now g.D.Disk.moment g.D.Disk.images g.D.Disk.images_at g.D.Disk.since g.D.Disk.faults)
-laws g =
-    let law = g.met.D.Disk g.world.𝓛 g.world.𝓜 g.world.𝓡 ((λ s x. x), (λ x. x), (λ x. x), λ x. x) in
-    record { now_is_image = law.now_is_image; counts_now = law.counts_now; only_now = law.only_now; since_earlier = law.since_earlier; since_at = λ d t u c from within there. (law.since_is d t c).1 (record { moment = u; from = from; within = within; image = there }) }
+use Rattle.ext_program.proofs.Unread.{given-none}
+use Rattle.ext_program.proofs.answer.Goals as goal
 
 -- the arguments have texts
 pub returns-in-Ok : goal.returns-in-Ok
@@ -27,7 +20,9 @@ returns-in-Ok g c =
 -- there is no memory for them
 pub returns-in-Err : goal.returns-in-Err
 returns-in-Err g c =
-    run_of_failure (device_of g.S.Source.left g.S.Source.faults) (device_of g.O.Sink.written g.O.Sink.faults) (device_of g.E.Sink.written g.E.Sink.faults) (store_of g.D.Disk.now g.D.Disk.moment g.D.Disk.images g.D.Disk.images_at g.D.Disk.since g.D.Disk.faults) (laws g)
+    let law = g.met.D.Disk g.world.𝓛 g.world.𝓜 g.world.𝓡 ((λ s x. x), (λ x. x), (λ x. x), λ x. x) in
+    run_of_failure (device_of g.S.Source.left g.S.Source.faults) (device_of g.O.Sink.written g.O.Sink.faults) (device_of g.E.Sink.written g.E.Sink.faults) (store_of g.D.Disk.now g.D.Disk.moment g.D.Disk.images g.D.Disk.images_at g.D.Disk.since g.D.Disk.faults)
+    (record { now_is_image = law.now_is_image; counts_now = law.counts_now; only_now = law.only_now; since_earlier = law.since_earlier; since_at = λ d t u c from within there. (law.since_is d t c).1 (record { moment = u; from = from; within = within; image = there }) })
     (asked_by (map string_bytes c.args.arguments.now)) c.args.source.now c.args.source.now c.args.err.now c.refused.new.err c.args.disk Memory c.refused.result c.args.out.now tt
     (record { unread = λ h. refl; given = given-none _ _; read = λ reads no_6 no_12. absurd (no_12 refl); never_falls = omega arith; no_fault = λ h. refl; failed = λ h. absurd cc })
-    (record { status_is = c.refused.ensures.status; line = c.refused.ensures.line; whole_line = c.refused.ensures.whole_line; never_falls = c.refused.ensures.never_falls })
+    c.refused.ensures
