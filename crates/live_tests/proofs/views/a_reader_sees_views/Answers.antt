@@ -1,0 +1,16 @@
+use Rattle.std.proofs.Common.{◌≡◌, to_z, of_z, w32, sym, ◌∙◌, ap, arith}
+use Rattle.std.proofs.lemmas.Int.{ints}
+use Rattle.finite_module.specs.Checked.{Checked}
+use Rattle.finite_module.specs.Module.{bottom}
+use Rattle.live_view.proofs.MayPublish.{may_first}
+use Rattle.live_tests.proofs.views.a_reader_sees_views.Goals as goal
+
+pub publish-requires : goal.publish-requires
+publish-requires g c =
+    let made = c.in_ok-board.ensures in
+    let views = c.in_ok-writer.ensures in
+    let low = c.bottom-bottom.ensures.lowest in
+    let high = c.bottom-bottom.ensures.highest in
+    let passed : to_z w32 (of_z w32 c.bottom-bottom.result) ≡ c.bottom-bottom.result = omega (arith, ints) in
+    let least = views.bottom ∙ (passed ∙ (c.bottom-bottom.ensures.bottom ∙ ap (λ (m : Checked). bottom m.plain.generators) c.module.ensures)) in
+    may_first c.in_ok-board.board c.in_ok-board.publisher c.in_ok-writer.writer made.publisher (made.range ∙ sym views.range) (made.bottom ∙ sym least) views.empty
