@@ -23,7 +23,8 @@ replace-requires c =
     let reduced = c.in_ok-square.ensures.square q there in
     let at : j ≡ q.above = c.from-above.ensures ∙ c.above.ensures.above ∙ ap (λ (x : Placed). x.above) (c.deref.ensures ∙ reduced) in
     let held = held_found now table c.args.s c.args.t q rows i j old seen c.requires.lacks.there c.from.ensures at c.index_mut.ensures.value in
-    slice_get_within old.squares j q held.square
+    let within = slice_get_within old.squares j q held.square in
+    omega arith
 
 pub invariant_of-self : goal.invariant_of-self
 invariant_of-self c =
