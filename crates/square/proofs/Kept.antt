@@ -1,13 +1,13 @@
 -- What becomes of a keeper, one square after the other.
-use Rattle.std.proofs.Common.{◌≡◌, ◌⊎◌, ◌↔◌, inl, inr, ℕ, ◌<◌, ◌≤◌, List, [], ◌∷◌, ◌++◌, Option, Some, None, IfSome, refl, sym, ◌∙◌, ap, subst, arith}
+use Rattle.std.proofs.Common.{◌≡◌, ◌⊎◌, ◌↔◌, inl, inr, ℕ, ◌≤◌, List, [], ◌∷◌, ◌++◌, Option, Some, None, IfSome, refl, sym, ◌∙◌, ap, subst, arith}
 use Rattle.std.specs.Option.{option_map}
+use Rattle.std.proofs.lemmas.Bool.{cases_lt}
 use Rattle.std.proofs.lemmas.List.{append-nil, append_assoc}
 use Rattle.std.proofs.lemmas.List.Elements.{All-nil, All-cons, All-append}
 use Rattle.std.proofs.lemmas.Option.{IfSome_then}
 use Rattle.resolution_laws.specs.Resolution.{Module}
 use Rattle.resolution_laws.specs.Start.{Entry, IsOf, AreOf}
 use Rattle.square.specs.Squares.{Placed, entry_of}
-use Rattle.std.proofs.lemmas.Bool.{cases_lt}
 use Rattle.square.specs.Keeping.{Keeper, with_squares, IsImageBetween, HasFirst, Retains, IsImageWith, IsImageAmid, IsImagePart, HasKept}
 
 -- ---- options

@@ -5,7 +5,7 @@ use Rattle.std.specs.Prelude.{◌≡◌, ℕ, ◌≤◌, ◌↔◌, Bool, false,
 use Rattle.edge.specs.Faults.{one_up, is_listed}
 use Rattle.resolution_laws.specs.Start.{Entry}
 use Rattle.square.specs.Squares.{Placed, entry_of}
-use Rattle.square.specs.Keeping.{Keeper, WasImageSince}
+use Rattle.square.specs.Keeping.{WasImageSince}
 
 -- What a keeper of tests holds. Its calls, counted from 1, fail where they are listed in failing; it is live until one does.
 pub record Kept : Type 0 where
