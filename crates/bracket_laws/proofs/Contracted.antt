@@ -13,7 +13,7 @@ use Rattle.lift_laws.proofs.Linear.{IsMap-shifted, IsMap-extended, map-sum, leng
 use Rattle.lift_laws.proofs.Facts.{IsMap-d, fit-image}
 use Rattle.lift_laws.proofs.Remainder.{IsContraction}
 use Rattle.lift_laws.proofs.ChainMaps.{lift-commutes}
-use Rattle.bracket_laws.proofs.Null.{shifted-shifted}
+use Rattle.bracket_laws.proofs.Null.{lowered_free, across, two_steps}
 use Rattle.milnor_laws.proofs.FreeModules.{free_modules_are_modules}
 use Rattle.lift_laws.proofs.Resolved.{IsResolved}
 
@@ -21,19 +21,6 @@ use Rattle.lift_laws.proofs.Resolved.{IsResolved}
 
 module _ (r q : Resolution) (rs rt qs qt : ℕ) (p : IsResolved r rs rt) (o : IsResolved q qs qt)
     (s b n : ℕ) (x y top topq : ℤ) (rows : suc n ≡ s + b) (reach : (top -ℤ x) ≤ℤ topq) where
-  across : (t : ℤ) → (t -ℤ x) -ℤ y ≡ t -ℤ (x +ℤ y)
-  across t = omega (arith, ints)
-
-  under : (k : ℕ) → IsSteenrodModule (shifted y (free q k))
-  under k = IsSteenrodModule-shifted y (free q k) (free_modules_are_modules (gens q k))
-
-  over : (k : ℕ) → IsSteenrodModule (shifted x (free q k))
-  over k = IsSteenrodModule-shifted x (free q k) (free_modules_are_modules (gens q k))
-
-  -- the value in a module that is lowered in two steps
-  two_steps : (j k : ℕ) (f : ℕ → List Bool) (t : ℤ) (v : List Bool) → extended (shifted x (shifted y (free q k))) (gens r j) f t v ≡ lowered r j q k (x +ℤ y) f t v
-  two_steps j k f t v = ap (λ (m : GradedModule). extended m (gens r j) f t v) (shifted-shifted x y (free q k))
-
   fit-image_at : (i j : ℕ) → i ≡ suc j → suc j ≤ qs → FitThrough (free q j) (gens q i) topq (image q i)
   fit-image_at i j e h =
       let P : ℕ → Type 0 = λ i. FitThrough (free q j) (gens q i) topq (image q i) in
@@ -61,8 +48,8 @@ module _ (r q : Resolution) (rs rt qs qt : ℕ) (p : IsResolved r rs rt) (o : Is
     K-fit (suc k) i e f =
         let P : ℕ → Type 0 = λ i. FitThrough (shifted (x +ℤ y) (free q (suc k))) (gens r i) top (K (suc k)) in
         let here : P (n + suc k) = λ g a c.
-        length-extended (shifted y (free q (suc k))) (under (suc k)) (gens q (b + k)) topq (h k) (contraction.fit k (b + k) (omega arith) refl) (degree r (n + suc k) g -ℤ x) (gamma (b + k) g) (omega (arith, ints))
-        ∙ ap (free_width (gens q (suc k))) (across (degree r (n + suc k) g)) in
+        length-extended (shifted y (free q (suc k))) (lowered_free q y (suc k)) (gens q (b + k)) topq (h k) (contraction.fit k (b + k) (omega arith) refl) (degree r (n + suc k) g -ℤ x) (gamma (b + k) g) (omega (arith, ints))
+        ∙ ap (free_width (gens q (suc k))) (across x y (degree r (n + suc k) g)) in
         subst P (sym f) here
 
     -- d of the next part
@@ -72,9 +59,9 @@ module _ (r q : Resolution) (rs rt qs qt : ℕ) (p : IsResolved r rs rt) (o : Is
         let v = gamma (b + k) g in
         let at : K (suc k) g ≡ hk k u v = ap (λ (a : ℕ). hk k (degree r a g -ℤ x) v) (sym f) in
         let down = IsMap-shifted y (topq -ℤ y) topq (free q (suc k)) (free q k) (d q (suc k)) (omega (arith, ints)) (IsMap-d q qs qt o (suc k) (topq -ℤ y) (omega arith)) in
-        ap (λ (a : ℤ). d q (suc k) a (K (suc k) g)) (sym (across (degree r i g)))
+        ap (λ (a : ℤ). d q (suc k) a (K (suc k) g)) (sym (across x y (degree r i g)))
         ∙ (ap (d q (suc k) (u -ℤ y)) at
-        ∙ extended-after (shifted y (free q (suc k))) (under (suc k)) (gens q (b + k)) topq (h k) (contraction.fit k (b + k) (omega arith) refl) (shifted y (free q k)) (λ a. d q (suc k) (a -ℤ y)) down u v (omega (arith, ints)))
+        ∙ extended-after (shifted y (free q (suc k))) (lowered_free q y (suc k)) (gens q (b + k)) topq (h k) (contraction.fit k (b + k) (omega arith) refl) (shifted y (free q k)) (λ a. d q (suc k) (a -ℤ y)) down u v (omega (arith, ints)))
 
     K-bounds : (k i j : ℕ) → k < suc last → j ≡ n + k → i ≡ suc j → (g : ℕ) → g < length (gens r i) → degree r i g ≤ℤ top → sum_of (d q (suc k) (degree r i g -ℤ (x +ℤ y)) (K (suc k) g)) (lowered r j q k (x +ℤ y) (K k) (degree r i g) (image r i g)) ≡ composed q b y x psi gamma k (degree r i g) g
     K-bounds zero i j e f f2 g a c =
@@ -85,7 +72,7 @@ module _ (r q : Resolution) (rs rt qs qt : ℕ) (p : IsResolved r rs rt) (o : Is
         let one : d q 1 (t -ℤ (x +ℤ y)) (K 1 g) ≡ theta = d-K 0 i e (omega arith) g c ∙ extended-same (shifted y (free q 0)) (gens q (b + 0)) topq (λ w. d q 1 (degree q (b + 0) w -ℤ y) (h 0 w)) (psi 0) (contraction.gives_first (b + 0) refl) u v (omega (arith, ints)) in
         let same : n ≡ j = omega arith in
         let none : lowered r j q 0 (x +ℤ y) (K 0) t (image r i g) ≡ zeros (free_width (gens q 0) (t -ℤ (x +ℤ y))) = extended-null (shifted (x +ℤ y) (free q 0)) (IsSteenrodModule-shifted (x +ℤ y) (free q 0) (free_modules_are_modules (gens q 0))) (gens r j) top (K 0) (λ w l m. ap (λ (j : ℕ). zeros (free_width (gens q 0) (degree r j w -ℤ (x +ℤ y)))) same) t (image r i g) c in
-        let len : length theta ≡ free_width (gens q 0) (t -ℤ (x +ℤ y)) = length-extended (shifted y (free q 0)) (under 0) (gens q (b + 0)) topq (psi 0) (psi_fits 0 (b + 0) (omega arith) refl) u v (omega (arith, ints)) ∙ ap (free_width (gens q 0)) (across t) in
+        let len : length theta ≡ free_width (gens q 0) (t -ℤ (x +ℤ y)) = length-extended (shifted y (free q 0)) (lowered_free q y 0) (gens q (b + 0)) topq (psi 0) (psi_fits 0 (b + 0) (omega arith) refl) u v (omega (arith, ints)) ∙ ap (free_width (gens q 0)) (across x y t) in
         ap (λ (w : List Bool). sum_of w (lowered r j q 0 (x +ℤ y) (K 0) t (image r i g))) one ∙ (ap (sum_of theta) none ∙ sum_of-zeros_right (free_width (gens q 0) (t -ℤ (x +ℤ y))) theta len)
     K-bounds (suc k) i j e f f2 g a c =
         let t = degree r i g in
@@ -101,22 +88,22 @@ module _ (r q : Resolution) (rs rt qs qt : ℕ) (p : IsResolved r rs rt) (o : Is
         let fit_psi = psi_fits (suc k) bs (omega arith) refl in
         let fit_im = fit-image_at bs bk next (omega arith) in
         let back = λ (w : ℕ). hk k (degree q bs w) (image q bs w) in
-        let is_h : IsMap topq (free q bk) target (hk k) = IsMap-extended target (under (suc k)) (gens q bk) topq (h k) fit_h in
+        let is_h : IsMap topq (free q bk) target (hk k) = IsMap-extended target (lowered_free q y (suc k)) (gens q bk) topq (h k) fit_h in
         let fit_back : FitThrough target (gens q bs) topq back = λ w l m. is_h.fits (degree q bs w) (image q bs w) m (fit_im w l m) in
         let rest = extended target (gens q bs) back u v in
         let one : d q (suc (suc k)) (t -ℤ (x +ℤ y)) (K (suc (suc k)) g) ≡ sum_of theta rest =
         d-K (suc k) i e (omega arith) g c
         ∙ (extended-same target (gens q bs) topq (λ w. d q (suc (suc k)) (degree q bs w -ℤ y) (h (suc k) w)) (λ w. sum_of (psi (suc k) w) (back w)) (contraction.gives k bs bk (omega arith) refl next) u v small
-        ∙ extended-sum target (under (suc k)) (gens q bs) topq (psi (suc k)) fit_psi back fit_back u v small) in
+        ∙ extended-sum target (lowered_free q y (suc k)) (gens q bs) topq (psi (suc k)) fit_psi back fit_back u v small) in
         let turned : rest ≡ hk k u (extended (free q bk) (gens q bs) (image q bs) u v) = sym (extended-after (free q bk) (free_modules_are_modules (gens q bk)) (gens q bs) topq (image q bs) fit_im target (hk k) is_h u v small) in
         let step : extended (free q bk) (gens q bs) (image q bs) u v ≡ lowered r j q bk x (gamma bk) t (image r i g) = ap (λ (a : ℕ). extended (free q bk) (gens q a) (image q a) u (gamma a g)) next ∙ lift.commutes bk i j (omega arith) (omega arith) f2 g a c in
         let shifted_h = IsMap-shifted x topq top (free q bk) target (hk k) reach is_h in
-        let through : hk k u (lowered r j q bk x (gamma bk) t (image r i g)) ≡ extended (shifted x target) (gens r j) (λ w. hk k (degree r j w -ℤ x) (gamma bk w)) t (image r i g) = extended-after (shifted x (free q bk)) (over bk) (gens r j) top (gamma bk) (lift.fit bk j (omega arith) (omega arith)) (shifted x target) (λ a. hk k (a -ℤ x)) shifted_h t (image r i g) c in
+        let through : hk k u (lowered r j q bk x (gamma bk) t (image r i g)) ≡ extended (shifted x target) (gens r j) (λ w. hk k (degree r j w -ℤ x) (gamma bk w)) t (image r i g) = extended-after (shifted x (free q bk)) (lowered_free q x bk) (gens r j) top (gamma bk) (lift.fit bk j (omega arith) (omega arith)) (shifted x target) (λ a. hk k (a -ℤ x)) shifted_h t (image r i g) c in
         let named : extended (shifted x target) (gens r j) (λ w. hk k (degree r j w -ℤ x) (gamma bk w)) t (image r i g) ≡ lowered r j q (suc k) (x +ℤ y) (K (suc k)) t (image r i g) =
-        extended-same (shifted x target) (gens r j) top (λ w. hk k (degree r j w -ℤ x) (gamma bk w)) (K (suc k)) (λ w l m. ap (λ (a : ℕ). hk k (degree r a w -ℤ x) (gamma bk w)) f) t (image r i g) c ∙ two_steps j (suc k) (K (suc k)) t (image r i g) in
+        extended-same (shifted x target) (gens r j) top (λ w. hk k (degree r j w -ℤ x) (gamma bk w)) (K (suc k)) (λ w l m. ap (λ (a : ℕ). hk k (degree r a w -ℤ x) (gamma bk w)) f) t (image r i g) c ∙ two_steps r q x y j (suc k) (K (suc k)) t (image r i g) in
         let whole : rest ≡ lowered r j q (suc k) (x +ℤ y) (K (suc k)) t (image r i g) = turned ∙ (ap (hk k u) step ∙ (through ∙ named)) in
-        let len_theta : length theta ≡ free_width (gens q (suc k)) (u -ℤ y) = length-extended target (under (suc k)) (gens q bs) topq (psi (suc k)) fit_psi u v small in
-        let len_rest : length rest ≡ free_width (gens q (suc k)) (u -ℤ y) = length-extended target (under (suc k)) (gens q bs) topq back fit_back u v small in
+        let len_theta : length theta ≡ free_width (gens q (suc k)) (u -ℤ y) = length-extended target (lowered_free q y (suc k)) (gens q bs) topq (psi (suc k)) fit_psi u v small in
+        let len_rest : length rest ≡ free_width (gens q (suc k)) (u -ℤ y) = length-extended target (lowered_free q y (suc k)) (gens q bs) topq back fit_back u v small in
         ap (λ (w : List Bool). sum_of w (lowered r j q (suc k) (x +ℤ y) (K (suc k)) t (image r i g))) one
         ∙ (ap (sum_of (sum_of theta rest)) (sym whole) ∙ sum_of-cancel_right (free_width (gens q (suc k)) (u -ℤ y)) theta rest len_theta len_rest)
 
@@ -142,8 +129,8 @@ module _ (r q : Resolution) (rs rt qs qt : ℕ) (p : IsResolved r rs rt) (o : Is
     L-fit k i e f =
         let P : ℕ → Type 0 = λ i. FitThrough (shifted (x +ℤ y) (free q k)) (gens r i) top (L k) in
         let here : P (n + k) = λ g a m.
-        length-extended (shifted y (free q k)) (under k) (gens q (suc (c + k))) topq (beta k) (fit_beta (c + k) k e refl) (degree r (n + k) g -ℤ x) (h (c + k) g) (omega (arith, ints))
-        ∙ ap (free_width (gens q k)) (across (degree r (n + k) g)) in
+        length-extended (shifted y (free q k)) (lowered_free q y k) (gens q (suc (c + k))) topq (beta k) (fit_beta (c + k) k e refl) (degree r (n + k) g -ℤ x) (h (c + k) g) (omega (arith, ints))
+        ∙ ap (free_width (gens q k)) (across x y (degree r (n + k) g)) in
         subst P (sym f) here
 
     L-bounds : (k i j : ℕ) → k < upto → j ≡ n + k → i ≡ suc j → (g : ℕ) → g < length (gens r i) → degree r i g ≤ℤ top → sum_of (d q (suc k) (degree r i g -ℤ (x +ℤ y)) (L (suc k) g)) (lowered r j q k (x +ℤ y) (L k) (degree r i g) (image r i g)) ≡ composed q b y x beta psi k (degree r i g) g
@@ -160,20 +147,20 @@ module _ (r q : Resolution) (rs rt qs qt : ℕ) (p : IsResolved r rs rt) (o : Is
         let commutes : d q (suc k) (u -ℤ y) (bk (suc a) (suc k) u v) ≡ bk a k u (d q (suc (suc a)) u v) = lift-commutes q q qs qt qs qt o o b y upto topq (omega arith) (omega arith) z beta lift k (suc (suc a)) (suc a) e (omega arith) refl u v small in
         let back = lowered r j q (suc a) x (h a) t (image r i g) in
         let gives : d q (suc (suc a)) u v ≡ sum_of (psi (suc a) g) back = contraction.gives a i j (omega arith) (omega arith) f2 g m w in
-        let is_beta : IsMap topq (free q (suc a)) (shifted y (free q k)) (bk a k) = IsMap-extended (shifted y (free q k)) (under k) (gens q (suc a)) topq (beta k) (fit_beta a k (omega arith) refl) in
+        let is_beta : IsMap topq (free q (suc a)) (shifted y (free q k)) (bk a k) = IsMap-extended (shifted y (free q k)) (lowered_free q y k) (gens q (suc a)) topq (beta k) (fit_beta a k (omega arith) refl) in
         let fit_h = contraction.fit a j (omega arith) (omega arith) in
         let fit_psi = psi_fits (suc a) i (omega arith) (omega arith) g m w in
-        let len_back : length back ≡ free_width (gens q (suc a)) u = length-extended (shifted x (free q (suc a))) (over (suc a)) (gens r j) top (h a) fit_h t (image r i g) w in
+        let len_back : length back ≡ free_width (gens q (suc a)) u = length-extended (shifted x (free q (suc a))) (lowered_free q x (suc a)) (gens r j) top (h a) fit_h t (image r i g) w in
         let split : bk a k u (sum_of (psi (suc a) g) back) ≡ sum_of (bk a k u (psi (suc a) g)) (bk a k u back) = map-sum topq (free q (suc a)) (shifted y (free q k)) (bk a k) is_beta u (psi (suc a) g) back small fit_psi len_back in
-        let through : bk a k u back ≡ extended (shifted x (shifted y (free q k))) (gens r j) (λ z. bk a k (degree r j z -ℤ x) (h a z)) t (image r i g) = extended-after (shifted x (free q (suc a))) (over (suc a)) (gens r j) top (h a) fit_h (shifted x (shifted y (free q k))) (λ z. bk a k (z -ℤ x)) (IsMap-shifted x topq top (free q (suc a)) (shifted y (free q k)) (bk a k) reach is_beta) t (image r i g) w in
+        let through : bk a k u back ≡ extended (shifted x (shifted y (free q k))) (gens r j) (λ z. bk a k (degree r j z -ℤ x) (h a z)) t (image r i g) = extended-after (shifted x (free q (suc a))) (lowered_free q x (suc a)) (gens r j) top (h a) fit_h (shifted x (shifted y (free q k))) (λ z. bk a k (z -ℤ x)) (IsMap-shifted x topq top (free q (suc a)) (shifted y (free q k)) (bk a k) reach is_beta) t (image r i g) w in
         let named : extended (shifted x (shifted y (free q k))) (gens r j) (λ z. bk a k (degree r j z -ℤ x) (h a z)) t (image r i g) ≡ lowered r j q k (x +ℤ y) (L k) t (image r i g) =
-        extended-same (shifted x (shifted y (free q k))) (gens r j) top (λ z. bk a k (degree r j z -ℤ x) (h a z)) (L k) (λ z l1 l2. ap (λ (s : ℕ). bk a k (degree r s z -ℤ x) (h a z)) f) t (image r i g) w ∙ two_steps j k (L k) t (image r i g) in
+        extended-same (shifted x (shifted y (free q k))) (gens r j) top (λ z. bk a k (degree r j z -ℤ x) (h a z)) (L k) (λ z l1 l2. ap (λ (s : ℕ). bk a k (degree r s z -ℤ x) (h a z)) f) t (image r i g) w ∙ two_steps r q x y j k (L k) t (image r i g) in
         let len1 : length (bk a k u (psi (suc a) g)) ≡ free_width (gens q k) (u -ℤ y) = is_beta.fits u (psi (suc a) g) small fit_psi in
         let len2 : length (bk a k u back) ≡ free_width (gens q k) (u -ℤ y) = is_beta.fits u back small len_back in
         let place : b + k ≡ suc a = omega arith in
         let told : bk a k u (psi (suc a) g) ≡ composed q b y x beta psi k t g = ap (λ (z : ℕ). lowered q z q k y (beta k) u (psi z g)) (sym place) in
         let whole : d q (suc k) (t -ℤ (x +ℤ y)) (L (suc k) g) ≡ sum_of (bk a k u (psi (suc a) g)) (bk a k u back) =
-        ap (λ (z : ℤ). d q (suc k) z (L (suc k) g)) (sym (across t)) ∙ (ap (d q (suc k) (u -ℤ y)) at ∙ (commutes ∙ (ap (bk a k u) gives ∙ split))) in
+        ap (λ (z : ℤ). d q (suc k) z (L (suc k) g)) (sym (across x y t)) ∙ (ap (d q (suc k) (u -ℤ y)) at ∙ (commutes ∙ (ap (bk a k u) gives ∙ split))) in
         ap (λ (z : List Bool). sum_of z (lowered r j q k (x +ℤ y) (L k) t (image r i g))) whole
         ∙ (ap (sum_of (sum_of (bk a k u (psi (suc a) g)) (bk a k u back))) (sym (through ∙ named))
         ∙ (sum_of-cancel_right (free_width (gens q k) (u -ℤ y)) (bk a k u (psi (suc a) g)) (bk a k u back) len1 len2 ∙ told))

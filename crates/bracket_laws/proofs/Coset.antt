@@ -26,7 +26,7 @@ use Rattle.lift_laws.proofs.Facts.{below, above, placed}
 use Rattle.lift_laws.proofs.Remainder.{IsContraction, homotopy, homotopy-IsContraction}
 use Rattle.lift_laws.proofs.Sums.{IsLift-start}
 use Rattle.lift_laws.proofs.ChainMaps.{IsLift-less}
-use Rattle.bracket_laws.proofs.Null.{IsNull-same, IsNull-sum, IsLift_from_IsNull, IsNull_from_IsLift}
+use Rattle.bracket_laws.proofs.Null.{lowered_free, IsNull-same, IsNull-sum, IsLift_from_IsNull, IsNull_from_IsLift}
 use Rattle.bracket_laws.proofs.Contracted.{K, K-IsNull, L, L-IsNull}
 use Rattle.bracket_laws.proofs.Combined.{IsLift-combined}
 use Rattle.lift_laws.proofs.Coefficients.{IsNew, is_new, width-parts, map_range}
@@ -240,9 +240,6 @@ module _ (r q : Resolution) (rs rt qs qt : ℕ) (p : IsResolved r rs rt) (o : Is
 
     -- ---- the sum of all four is a lift
 
-    shifted_y : (k : ℕ) → IsSteenrodModule (shifted y (free q k))
-    shifted_y k = IsSteenrodModule-shifted y (free q k) (free_modules_are_modules (gens q k))
-
     abbrev A : ℕ → ℤ → ℕ → List Bool
     A = composed q b.s y x m.beta m.gamma
 
@@ -263,18 +260,18 @@ module _ (r q : Resolution) (rs rt qs qt : ℕ) (p : IsResolved r rs rt) (o : Is
 
     split_beta : (k i : ℕ) → k < a.s → (g : ℕ) → degree r i g ≤ℤ top → composed q b.s y x both_beta m.gamma k (degree r i g) g ≡ sum_of (A k (degree r i g) g) (C k (degree r i g) g)
     split_beta k i h g low =
-        extended-sum (shifted y (free q k)) (shifted_y k) (gens q (b.s + k)) topq (m.beta k) (fit_b k (omega arith)) (m0.beta k) (fit_b0 k (omega arith)) (degree r i g -ℤ x) (m.gamma (b.s + k) g) (lower i g low)
+        extended-sum (shifted y (free q k)) (lowered_free q y k) (gens q (b.s + k)) topq (m.beta k) (fit_b k (omega arith)) (m0.beta k) (fit_b0 k (omega arith)) (degree r i g -ℤ x) (m.gamma (b.s + k) g) (lower i g low)
 
     split_gamma : (k i : ℕ) → k < a.s → i ≡ c.s + (b.s + k) → (g : ℕ) → g < length (gens r i) → degree r i g ≤ℤ top → composed q b.s y x m0.beta both_gamma k (degree r i g) g ≡ sum_of (C k (degree r i g) g) (B k (degree r i g) g)
     split_gamma k i h e g there low =
         let f = room.l_row in
-        let is_beta = IsMap-extended (shifted y (free q k)) (shifted_y k) (gens q (b.s + k)) topq (m0.beta k) (fit_b0 k (omega arith)) in
+        let is_beta = IsMap-extended (shifted y (free q k)) (lowered_free q y k) (gens q (b.s + k)) topq (m0.beta k) (fit_b0 k (omega arith)) in
         map-sum topq (free q (b.s + k)) (shifted y (free q k)) (lowered q (b.s + k) q k y (m0.beta k)) is_beta (degree r i g -ℤ x) (m.gamma (b.s + k) g) (m0.gamma (b.s + k) g) (lower i g low) (m.gamma_lift.fit (b.s + k) i (omega arith) e g there low) (m0.gamma_lift.fit (b.s + k) i (omega arith) e g there low)
 
     length-composed : (beta : ℕ → ℕ → List Bool) (k : ℕ) → FitThrough (shifted y (free q k)) (gens q (b.s + k)) topq (beta k) → (i g : ℕ) (v : List Bool) → degree r i g ≤ℤ top → length (lowered q (b.s + k) q k y (beta k) (degree r i g -ℤ x) v) ≡ free_width (gens q k) (degree r i g -ℤ w)
     length-composed beta k fit i g v low =
         let e : (degree r i g -ℤ x) -ℤ y ≡ degree r i g -ℤ w = omega (arith, ints) in
-        length-extended (shifted y (free q k)) (shifted_y k) (gens q (b.s + k)) topq (beta k) fit (degree r i g -ℤ x) v (lower i g low) ∙ ap (free_width (gens q k)) e
+        length-extended (shifted y (free q k)) (lowered_free q y k) (gens q (b.s + k)) topq (beta k) fit (degree r i g -ℤ x) v (lower i g low) ∙ ap (free_width (gens q k)) e
 
     inside_n : n + a.s ≤ rs
     inside_n = room.rows_r

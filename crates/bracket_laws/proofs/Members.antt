@@ -15,7 +15,7 @@ use Rattle.lift_laws.proofs.Linear.{IsMap-shifted, IsMap-extended, map-zeros, ma
 use Rattle.lift_laws.proofs.Facts.{IsMap-d, fit-image, preimage}
 use Rattle.lift_laws.proofs.Remainder.{d-image, pick, is_there, IsThere}
 use Rattle.lift_laws.proofs.ChainMaps.{lift-commutes}
-use Rattle.bracket_laws.proofs.Null.{shifted-shifted}
+use Rattle.bracket_laws.proofs.Null.{lowered_free, across, two_steps}
 use Rattle.milnor_laws.proofs.FreeModules.{free_modules_are_modules}
 use Rattle.lift_laws.proofs.Resolved.{IsResolved}
 
@@ -40,26 +40,11 @@ module _ (r q : Resolution) (rs rt qs qt : ℕ) (p : IsResolved r rs rt) (o : Is
   abbrev theta : ℕ → ℤ → ℕ → List Bool
   theta = composed q b y x beta gamma
 
-  across : (t : ℤ) → (t -ℤ x) -ℤ y ≡ t -ℤ w
-  across t = omega (arith, ints)
-
-  under : (k : ℕ) → IsSteenrodModule (shifted y (free q k))
-  under k = IsSteenrodModule-shifted y (free q k) (free_modules_are_modules (gens q k))
-
-  over : (k : ℕ) → IsSteenrodModule (shifted x (free q k))
-  over k = IsSteenrodModule-shifted x (free q k) (free_modules_are_modules (gens q k))
-
-  good : (k : ℕ) → IsSteenrodModule (shifted w (free q k))
-  good k = IsSteenrodModule-shifted w (free q k) (free_modules_are_modules (gens q k))
-
-  two_steps : (j k : ℕ) (f : ℕ → List Bool) (t : ℤ) (v : List Bool) → extended (shifted x (shifted y (free q k))) (gens r j) f t v ≡ lowered r j q k w f t v
-  two_steps j k f t v = ap (λ (m : GradedModule). extended m (gens r j) f t v) (shifted-shifted x y (free q k))
-
   fit_beta : (k : ℕ) → k ≤ upto → FitThrough (shifted y (free q k)) (gens q (b + k)) topq (beta k)
   fit_beta k h = beta_lift.fit k (b + k) h refl
 
   length-theta : (k : ℕ) → k ≤ upto → (i g : ℕ) → degree r i g ≤ℤ top → length (theta k (degree r i g) g) ≡ free_width (gens q k) (degree r i g -ℤ w)
-  length-theta k h i g c = length-extended (shifted y (free q k)) (under k) (gens q (b + k)) topq (beta k) (fit_beta k h) (degree r i g -ℤ x) (gamma (b + k) g) (omega (arith, ints)) ∙ ap (free_width (gens q k)) (across (degree r i g))
+  length-theta k h i g c = length-extended (shifted y (free q k)) (lowered_free q y k) (gens q (b + k)) topq (beta k) (fit_beta k h) (degree r i g -ℤ x) (gamma (b + k) g) (omega (arith, ints)) ∙ ap (free_width (gens q k)) (across x y (degree r i g))
 
   -- what H (k + 1) has to cover: of row suc j, j = n + k
   abbrev goal : ℕ → ℕ → (ℕ → List Bool) → ℕ → List Bool
@@ -76,7 +61,7 @@ module _ (r q : Resolution) (rs rt qs qt : ℕ) (p : IsResolved r rs rt) (o : Is
     closed = λ h0 h g a c.
         let t = degree r (suc n) g in
         let size = free_width (gens q 0) (t -ℤ w) in
-        let none : lowered r n q 0 w H t (image r (suc n) g) ≡ zeros size = extended-null (shifted w (free q 0)) (good 0) (gens r n) top H starts t (image r (suc n) g) c in
+        let none : lowered r n q 0 w H t (image r (suc n) g) ≡ zeros size = extended-null (shifted w (free q 0)) (lowered_free q w 0) (gens r n) top H starts t (image r (suc n) g) c in
         ap (d q 0 (t -ℤ w)) (ap (sum_of (theta 0 t g)) none ∙ sum_of-zeros_right size (theta 0 t g) (length-theta 0 (omega arith) (suc n) g c)) ∙ base (suc n) refl g a c;
   }
 
@@ -92,9 +77,9 @@ module _ (r q : Resolution) (rs rt qs qt : ℕ) (p : IsResolved r rs rt) (o : Is
       let next : bs ≡ suc bk = omega arith in
       let commutes : d q (suc k) (u -ℤ y) (lowered q bs q (suc k) y (beta (suc k)) u v) ≡ lowered q bk q k y (beta k) u (extended (free q bk) (gens q bs) (image q bs) u v) = lift-commutes q q qs qt qs qt o o b y upto topq inside_q within zb beta beta_lift k bs bk h refl next u v small in
       let step : extended (free q bk) (gens q bs) (image q bs) u v ≡ lowered r j q bk x (gamma bk) t (image r (suc j) g) = ap (λ (a : ℕ). extended (free q bk) (gens q a) (image q a) u (gamma a g)) next ∙ gamma_lift.commutes bk (suc j) j (omega arith) (omega arith) refl g a c in
-      let is_beta : IsMap topq (free q bk) (shifted y (free q k)) (lowered q bk q k y (beta k)) = IsMap-extended (shifted y (free q k)) (under k) (gens q bk) topq (beta k) (fit_beta k (omega arith)) in
-      let through = extended-after (shifted x (free q bk)) (over bk) (gens r j) top (gamma bk) (gamma_lift.fit bk j (omega arith) (omega arith)) (shifted x (shifted y (free q k))) (λ a. lowered q bk q k y (beta k) (a -ℤ x)) (IsMap-shifted x topq top (free q bk) (shifted y (free q k)) (lowered q bk q k y (beta k)) reach is_beta) t (image r (suc j) g) c in
-      ap (λ (z : ℤ). d q (suc k) z (theta (suc k) t g)) (sym (across t)) ∙ (commutes ∙ (ap (lowered q bk q k y (beta k) u) step ∙ (through ∙ two_steps j k (λ h. theta k (degree r j h) h) t (image r (suc j) g))))
+      let is_beta : IsMap topq (free q bk) (shifted y (free q k)) (lowered q bk q k y (beta k)) = IsMap-extended (shifted y (free q k)) (lowered_free q y k) (gens q bk) topq (beta k) (fit_beta k (omega arith)) in
+      let through = extended-after (shifted x (free q bk)) (lowered_free q x bk) (gens r j) top (gamma bk) (gamma_lift.fit bk j (omega arith) (omega arith)) (shifted x (shifted y (free q k))) (λ a. lowered q bk q k y (beta k) (a -ℤ x)) (IsMap-shifted x topq top (free q bk) (shifted y (free q k)) (lowered q bk q k y (beta k)) reach is_beta) t (image r (suc j) g) c in
+      ap (λ (z : ℤ). d q (suc k) z (theta (suc k) t g)) (sym (across x y t)) ∙ (commutes ∙ (ap (lowered q bk q k y (beta k) u) step ∙ (through ∙ two_steps r q x y j k (λ h. theta k (degree r j h) h) t (image r (suc j) g))))
 
   next_part : (k j : ℕ) (H K : ℕ → List Bool) → k < upto → j ≡ n + k → IsPart k j H → FitThrough (shifted w (free q (suc k))) (gens r (suc j)) top K → ((g : ℕ) → g < length (gens r (suc j)) → degree r (suc j) g ≤ℤ top → d q (suc k) (degree r (suc j) g -ℤ w) (K g) ≡ goal k j H g) → IsPart (suc k) (suc j) K
   next_part k j H K h e m fit gives = record {
@@ -107,22 +92,22 @@ module _ (r q : Resolution) (rs rt qs qt : ℕ) (p : IsResolved r rs rt) (o : Is
         let down = IsMap-shifted w (top -ℤ w) top (free q (suc k)) (free q k) dq (omega (arith, ints)) (IsMap-d q qs qt o (suc k) (top -ℤ w) (omega arith)) in
         let back = lowered r (suc j) q (suc k) w K t v in
         let lt = length-theta (suc k) (omega arith) (suc (suc j)) g c in
-        let lb = length-extended (shifted w (free q (suc k))) (good (suc k)) (gens r (suc j)) top K fit t v c in
+        let lb = length-extended (shifted w (free q (suc k))) (lowered_free q w (suc k)) (gens r (suc j)) top K fit t v c in
         let split : dq (t -ℤ w) (sum_of (theta (suc k) t g) back) ≡ sum_of (dq (t -ℤ w) (theta (suc k) t g)) (dq (t -ℤ w) back) = map-sum top (shifted w (free q (suc k))) (shifted w (free q k)) (λ z. dq (z -ℤ w)) down t (theta (suc k) t g) back c lt lb in
         let th : ℕ → List Bool = λ z. theta k (degree r (suc j) z) z in
         let low : ℕ → List Bool = λ z. lowered r j q k w H (degree r (suc j) z) (image r (suc j) z) in
         let fit_th : FitThrough (shifted w (free q k)) (gens r (suc j)) top th = λ z l1 l2. length-theta k (omega arith) (suc j) z l2 in
-        let is_H : IsMap top (free r j) (shifted w (free q k)) (lowered r j q k w H) = IsMap-extended (shifted w (free q k)) (good k) (gens r j) top H m.fit in
-        let fit_low : FitThrough (shifted w (free q k)) (gens r (suc j)) top low = λ z l1 l2. length-extended (shifted w (free q k)) (good k) (gens r j) top H m.fit (degree r (suc j) z) (image r (suc j) z) l2 in
+        let is_H : IsMap top (free r j) (shifted w (free q k)) (lowered r j q k w H) = IsMap-extended (shifted w (free q k)) (lowered_free q w k) (gens r j) top H m.fit in
+        let fit_low : FitThrough (shifted w (free q k)) (gens r (suc j)) top low = λ z l1 l2. length-extended (shifted w (free q k)) (lowered_free q w k) (gens r j) top H m.fit (degree r (suc j) z) (image r (suc j) z) l2 in
         let one : dq (t -ℤ w) (theta (suc k) t g) ≡ lowered r (suc j) q k w th t v = d-theta k (suc j) h (omega arith) f g a c (omega arith) in
-        let two : dq (t -ℤ w) back ≡ lowered r (suc j) q k w (λ z. dq (degree r (suc j) z -ℤ w) (K z)) t v = extended-after (shifted w (free q (suc k))) (good (suc k)) (gens r (suc j)) top K fit (shifted w (free q k)) (λ z. dq (z -ℤ w)) down t v c in
+        let two : dq (t -ℤ w) back ≡ lowered r (suc j) q k w (λ z. dq (degree r (suc j) z -ℤ w) (K z)) t v = extended-after (shifted w (free q (suc k))) (lowered_free q w (suc k)) (gens r (suc j)) top K fit (shifted w (free q k)) (λ z. dq (z -ℤ w)) down t v c in
         let three : lowered r (suc j) q k w (λ z. dq (degree r (suc j) z -ℤ w) (K z)) t v ≡ lowered r (suc j) q k w (λ z. sum_of (th z) (low z)) t v = extended-same (shifted w (free q k)) (gens r (suc j)) top (λ z. dq (degree r (suc j) z -ℤ w) (K z)) (λ z. sum_of (th z) (low z)) gives t v c in
-        let four : lowered r (suc j) q k w (λ z. sum_of (th z) (low z)) t v ≡ sum_of (lowered r (suc j) q k w th t v) (lowered r (suc j) q k w low t v) = extended-sum (shifted w (free q k)) (good k) (gens r (suc j)) top th fit_th low fit_low t v c in
+        let four : lowered r (suc j) q k w (λ z. sum_of (th z) (low z)) t v ≡ sum_of (lowered r (suc j) q k w th t v) (lowered r (suc j) q k w low t v) = extended-sum (shifted w (free q k)) (lowered_free q w k) (gens r (suc j)) top th fit_th low fit_low t v c in
         let five : lowered r (suc j) q k w low t v ≡ zeros size =
         sym (extended-after (free r j) (free_modules_are_modules (gens r j)) (gens r (suc j)) top (image r (suc j)) (fit-image r rs rt p (suc j) top (omega arith)) (shifted w (free q k)) (lowered r j q k w H) is_H t v c)
         ∙ (ap (lowered r j q k w H t) (d-image r rs rt p (suc j) g f a) ∙ map-zeros top (free r j) (shifted w (free q k)) (lowered r j q k w H) is_H t c) in
         let part = lowered r (suc j) q k w th t v in
-        let len : length part ≡ size = length-extended (shifted w (free q k)) (good k) (gens r (suc j)) top th fit_th t v c in
+        let len : length part ≡ size = length-extended (shifted w (free q k)) (lowered_free q w k) (gens r (suc j)) top th fit_th t v c in
         split ∙ (ap (λ (z : List Bool). sum_of z (dq (t -ℤ w) back)) one ∙ (ap (sum_of part) (two ∙ (three ∙ (four ∙ (ap (sum_of part) five ∙ sum_of-zeros_right size part len)))) ∙ sum_of-self size part len));
   }
 
@@ -139,7 +124,7 @@ module _ (r q : Resolution) (rs rt qs qt : ℕ) (p : IsResolved r rs rt) (o : Is
   length-goal : (k : ℕ) (H : ℕ → List Bool) → k < upto → FitThrough (shifted w (free q k)) (gens r (up k)) top H → (g : ℕ) → degree r (suc (up k)) g ≤ℤ top → length (goal k (up k) H g) ≡ free_width (gens q k) (degree r (suc (up k)) g -ℤ w)
   length-goal k H h fit g c =
       let lt = length-theta k (omega arith) (suc (up k)) g c in
-      let lb = length-extended (shifted w (free q k)) (good k) (gens r (up k)) top H fit (degree r (suc (up k)) g) (image r (suc (up k)) g) c in
+      let lb = length-extended (shifted w (free q k)) (lowered_free q w k) (gens r (up k)) top H fit (degree r (suc (up k)) g) (image r (suc (up k)) g) c in
       length-sum_of (theta k (degree r (suc (up k)) g) g) (lowered r (up k) q k w H (degree r (suc (up k)) g) (image r (suc (up k)) g)) (lt ∙ sym lb) ∙ lt
 
   -- parts, each of which d takes to what it has to, are a null homotopy
@@ -152,7 +137,7 @@ module _ (r q : Resolution) (rs rt qs qt : ℕ) (p : IsResolved r rs rt) (o : Is
         let t = degree r (suc (up k)) g in
         let low = lowered r (up k) q k w (H k) t (image r (suc (up k)) g) in
         let lt = length-theta k (omega arith) (suc (up k)) g c in
-        let lb = length-extended (shifted w (free q k)) (good k) (gens r (up k)) top (H k) (parts k (omega arith)).fit t (image r (suc (up k)) g) c in
+        let lb = length-extended (shifted w (free q k)) (lowered_free q w k) (gens r (up k)) top (H k) (parts k (omega arith)).fit t (image r (suc (up k)) g) c in
         ap (λ (z : List Bool). sum_of z low) (gives k h g a c) ∙ sum_of-cancel_right (free_width (gens q k) (t -ℤ w)) (theta k t g) low lt lb in
         let Q : ℕ → Type 0 = λ j. P (suc j) j in
         subst (λ (i : ℕ). P i j) (sym f) (subst Q (up-is k ∙ sym e) at);

@@ -6,7 +6,7 @@ use Rattle.f2_vec.specs.Vectors.{sum_of, zeros}
 use Rattle.f2_vec.proofs.Sums.{length-sum_of, sum_of-self, sum_of-comm, sum_of-assoc, sum_of-cancel, sum_of-zeros_right}
 use Rattle.free_module.specs.FreeModule.{free_width}
 use Rattle.free_module.specs.Graded.{GradedModule, IsSteenrodModule}
-use Rattle.lift_laws.specs.Maps.{shifted}
+use Rattle.lift_laws.specs.Maps.{shifted, extended}
 use Rattle.lift_laws.specs.Lifts.{Resolution, gens, degree, free, image, d, lowered, IsLift}
 use Rattle.bracket_laws.specs.Brackets.{IsNullHomotopy}
 use Rattle.lift_laws.proofs.Linear.{map-sum, length-extended, extended-sum, IsSteenrodModule-shifted}
@@ -20,6 +20,16 @@ shifted-shifted x y m =
     let at : (t : ℤ) → (t -ℤ x) -ℤ y ≡ t -ℤ (x +ℤ y) = λ t. omega (arith, ints) in
     let Q : (ℤ → ℤ) → GradedModule = λ f. record { width = λ t. m.width (f t); action = λ r t v. m.action r (f t) v } in
     ap Q (fun_ext at)
+
+-- F_k with its degrees raised, once and in two steps
+pub lowered_free : (q : Resolution) (x : ℤ) (k : ℕ) → IsSteenrodModule (shifted x (free q k))
+lowered_free q x k = IsSteenrodModule-shifted x (free q k) (free_modules_are_modules (gens q k))
+
+pub across : (x y t : ℤ) → (t -ℤ x) -ℤ y ≡ t -ℤ (x +ℤ y)
+across x y t = omega (arith, ints)
+
+pub two_steps : (r q : Resolution) (x y : ℤ) (j k : ℕ) (f : ℕ → List Bool) (t : ℤ) (v : List Bool) → extended (shifted x (shifted y (free q k))) (gens r j) f t v ≡ lowered r j q k (x +ℤ y) f t v
+two_steps r q x y j k f t v = ap (λ (m : GradedModule). extended m (gens r j) f t v) (shifted-shifted x y (free q k))
 
 -- (a + b) + (c + e) with a + c and b + e for its parts
 pub sum_of-four : (a b c e : List Bool) → sum_of (sum_of a b) (sum_of c e) ≡ sum_of (sum_of a c) (sum_of b e)
@@ -37,9 +47,6 @@ IsNull-same r q n x theta eta upto top H same a = record {
 
 module _ (r q : Resolution) (rs rt qs qt : ℕ) (p : IsResolved r rs rt) (o : IsResolved q qs qt)
     (n : ℕ) (x : ℤ) (upto : ℕ) (top : ℤ) (inside : n + upto ≤ rs) (within : upto ≤ qs) where
-  good : (k : ℕ) → IsSteenrodModule (shifted x (free q k))
-  good k = IsSteenrodModule-shifted x (free q k) (free_modules_are_modules (gens q k))
-
   pub IsNull-sum : (theta eta : ℕ → ℤ → ℕ → List Bool) (H K : ℕ → ℕ → List Bool) → IsNullHomotopy r q n x theta upto top H → IsNullHomotopy r q n x eta upto top K → IsNullHomotopy r q n x (λ k t g. sum_of (theta k t g) (eta k t g)) upto top (λ k g. sum_of (H k g) (K k g))
   IsNull-sum theta eta H K a b = record {
     fit = λ k i h e g l c. let fa = a.fit k i h e g l c in length-sum_of (H k g) (K k g) (fa ∙ sym (b.fit k i h e g l c)) ∙ fa;
@@ -50,7 +57,7 @@ module _ (r q : Resolution) (rs rt qs qt : ℕ) (p : IsResolved r rs rt) (o : Is
         let fa = a.fit (suc k) i (omega arith) (omega arith) g l c in
         let fb = b.fit (suc k) i (omega arith) (omega arith) g l c in
         let split : d q (suc k) u (sum_of (H (suc k) g) (K (suc k) g)) ≡ sum_of (d q (suc k) u (H (suc k) g)) (d q (suc k) u (K (suc k) g)) = map-sum top (shifted x (free q (suc k))) (shifted x (free q k)) (λ w. d q (suc k) (w -ℤ x)) (IsMap-d_shifted q qs qt o x (suc k) top (omega arith)) t (H (suc k) g) (K (suc k) g) c fa fb in
-        let both : lowered r j q k x (λ w. sum_of (H k w) (K k w)) t v ≡ sum_of (lowered r j q k x (H k) t v) (lowered r j q k x (K k) t v) = extended-sum (shifted x (free q k)) (good k) (gens r j) top (H k) (a.fit k j (omega arith) e) (K k) (b.fit k j (omega arith) e) t v c in
+        let both : lowered r j q k x (λ w. sum_of (H k w) (K k w)) t v ≡ sum_of (lowered r j q k x (H k) t v) (lowered r j q k x (K k) t v) = extended-sum (shifted x (free q k)) (lowered_free q x k) (gens r j) top (H k) (a.fit k j (omega arith) e) (K k) (b.fit k j (omega arith) e) t v c in
         ap (λ (w : List Bool). sum_of w (lowered r j q k x (λ w. sum_of (H k w) (K k w)) t v)) split
         ∙ (ap (sum_of (sum_of (d q (suc k) u (H (suc k) g)) (d q (suc k) u (K (suc k) g)))) both
         ∙ (sum_of-four (d q (suc k) u (H (suc k) g)) (d q (suc k) u (K (suc k) g)) (lowered r j q k x (H k) t v) (lowered r j q k x (K k) t v)
@@ -66,7 +73,7 @@ module _ (r q : Resolution) (rs rt qs qt : ℕ) (p : IsResolved r rs rt) (o : Is
     commutes = λ k i j h e f g l b.
         let t = degree r i g in
         let fa = (IsMap-d_shifted q qs qt o x (suc k) top (omega arith)).fits t (H (suc k) g) b (a.fit (suc k) i (omega arith) (omega arith) g l b) in
-        let fb = length-extended (shifted x (free q k)) (good k) (gens r j) top (H k) (a.fit k j (omega arith) e) t (image r i g) b in
+        let fb = length-extended (shifted x (free q k)) (lowered_free q x k) (gens r j) top (H k) (a.fit k j (omega arith) e) t (image r i g) b in
         sum-zero (free_width (gens q k) (t -ℤ x)) (d q (suc k) (t -ℤ x) (H (suc k) g)) (lowered r j q k x (H k) t (image r i g)) fa fb (a.bounds k i j h e f g l b ∙ none k i j h e f g l b);
   }
 
@@ -75,6 +82,6 @@ module _ (r q : Resolution) (rs rt qs qt : ℕ) (p : IsResolved r rs rt) (o : Is
     fit = a.fit;
     bounds = λ k i j h e f g l b.
         let t = degree r i g in
-        let fb = length-extended (shifted x (free q k)) (good k) (gens r j) top (phi k) (a.fit k j (omega arith) e) t (image r i g) b in
+        let fb = length-extended (shifted x (free q k)) (lowered_free q x k) (gens r j) top (phi k) (a.fit k j (omega arith) e) t (image r i g) b in
         ap (λ (w : List Bool). sum_of w (lowered r j q k x (phi k) t (image r i g))) (a.commutes k i j h e f g l b) ∙ sum_of-self (free_width (gens q k) (t -ℤ x)) (lowered r j q k x (phi k) t (image r i g)) fb;
   }
