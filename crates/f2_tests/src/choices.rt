@@ -3,26 +3,13 @@ ghost use Rattle.std.specs.Prelude.{◌≡◌};
 ghost use Rattle.f2_vec.specs.Spans.{HaveWidth};
 ghost use Rattle.f2_matrix.specs.Echelon.{IsReduced, HasNoZeroRow};
 
-use crate::samples::{SEED, are_same, matrix_of, next, seeded};
+use crate::samples::{SEED, are_same, matrix_of, next, seeded, written};
 use f2_dual::choose;
 use f2_matrix::{Matrix, Reduced, Rows};
 use f2_vec::BitVec;
 use memory::Memory;
 use std::alloc::Global;
 use std::test::Fail;
-
-/// The rows of length `cols` that these texts are, written as 0 and 1.
-fn written(alloc: Global, cols: usize, texts: &[&str]) -> Result<Matrix, Memory> {
-    let mut rows = Vec::new(alloc);
-    for text in texts {
-        let mut row = BitVec::zero(alloc, 0)?;
-        for byte in text.as_bytes() {
-            row.push(*byte == b'1')?;
-        }
-        rows.push(row)?;
-    }
-    Ok(matrix_of(cols, rows))
-}
 
 /// What is chosen from the reduced rows that the texts `candidates` give, for these rows, and the reduction then.
 fn chosen_for(

@@ -1,10 +1,12 @@
-//! Tests of vectors, of matrices and of the choice of new rows.
+//! Tests of vectors, of matrices, of the choice of new rows, and of the tests of rows.
 #![tactic(auto)]
 
 #[cfg(test)]
 mod choices;
 #[cfg(test)]
 mod matrices;
+#[cfg(test)]
+mod parts;
 #[cfg(test)]
 mod samples;
 #[cfg(test)]

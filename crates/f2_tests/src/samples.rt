@@ -1,4 +1,6 @@
-//! Rows that look random, and whether rows are the same.
+//! Rows that are written out, rows that look random, and whether rows are the same.
+ghost use Rattle.std.specs.Prelude.{◌≡◌, IfOk};
+
 use f2_matrix::Matrix;
 use f2_vec::BitVec;
 use memory::Memory;
@@ -17,9 +19,26 @@ pub(crate) fn next(seed: u64) -> u64 {
 }
 
 /// The matrix of the rows that have this width, which all rows of a test have.
-pub(crate) fn matrix_of(cols: usize, mut rows: Vec<BitVec>) -> Matrix {
+pub(crate) fn matrix_of(cols: usize, mut rows: Vec<BitVec>) -> Matrix
+    ensures { result.cols ≡ cols }
+{
     rows.retain(|row| row.len() == cols);
     Matrix::from_rows(cols, rows)
+}
+
+/// The rows of length `cols` that these texts are, written as 0 and 1.
+pub(crate) fn written(alloc: Global, cols: usize, texts: &[&str]) -> Result<Matrix, Memory>
+    ensures { IfOk result (λ matrix. matrix.cols ≡ cols) }
+{
+    let mut rows = Vec::new(alloc);
+    for text in texts {
+        let mut row = BitVec::zero(alloc, 0)?;
+        for byte in text.as_bytes() {
+            row.push(*byte == b'1')?;
+        }
+        rows.push(row)?;
+    }
+    Ok(matrix_of(cols, rows))
 }
 
 /// `height` rows of length `cols` that look random, in which about `ones` of 256 coordinates are 1.
