@@ -1,5 +1,6 @@
 -- The square (0, 0) of the sphere: one generator goes to the module's, and the kernel is zero.
-use Rattle.std.proofs.Common.{◌≡◌, ◌↔◌, ℕ, zero, suc, ◌<◌, pos, ◌+ℤ◌, Bool, true, false, List, [], ◌∷◌, ◌++◌, length, take, Option, None, refl, sym, ◌∙◌, ap, subst, arith}
+use Rattle.std.proofs.Common.{◌≡◌, ◌↔◌, ℕ, zero, suc, ◌+◌, ◌<◌, pos, ◌+ℤ◌, Bool, true, false, List, [], ◌∷◌, ◌++◌, length, take, replicate, Option, Some, None, refl, sym, ◌∙◌, ap, subst, arith}
+use Rattle.std.specs.Prelude.{slice_get}
 use Rattle.f2_vec.specs.Vectors.{bit, zeros}
 use Rattle.f2_vec.specs.Spans.{row, HaveWidth, combination, unit_vectors, IsInSpan, IsInKernel}
 use Rattle.f2_vec.proofs.Split.{HaveWidth-unit_vectors}
@@ -12,7 +13,10 @@ use Rattle.finite_module.specs.Graded.{module_graded}
 use Rattle.finite_module.specs.ModuleLaws.{module_HasUnit}
 use Rattle.resolution_laws.specs.Resolution.{Content, IsChosen, IsStep}
 use Rattle.resolution_laws.proofs.NewGenerators.{map_rows-new, IsStepOver_from_choice}
-use Rattle.square.specs.Squares.{square_matrix, IsQuasi, over, bottom_of}
+use Rattle.square.specs.declared.range.TheConstants.{MAX_S}
+use Rattle.square.specs.Squares.{Placed, square_matrix, source_width, IsQuasi, module_over, over, bottom_of}
+use Rattle.square.specs.Tables.{Staircase, AllRead, IsNext, IsReadable}
+use Rattle.square.proofs.Places.{row_in-none}
 
 abbrev one : List (List Bool)
 one = (true ∷ []) ∷ []
@@ -64,6 +68,10 @@ chosen_one = record { kept = true ∷ []; one_each = refl; dropped = dropped; ch
 bottom_width : (m : Checked) → m.plain ≡ sphere → width m.plain.generators (bottom_of m +ℤ pos 0) ≡ 1
 bottom_width m e = ap (λ (p : SteenrodModule). width p.generators (bottom p.generators +ℤ pos 0)) e
 
+one_wide : (i : ℕ) → i < 1 → length (row one i) ≡ 1
+one_wide zero l = refl
+one_wide (suc i) l = absurd (omega arith)
+
 pub first_step : (m : Checked) (below : Option (List Content)) (squares : List Content) (images kernel : List (List Bool)) → m.plain ≡ sphere → below ≡ None → squares ≡ [] → images ≡ one → kernel ≡ [] → IsStep (over m) below squares (record { images = images; kernel = kernel })
 first_step m below squares images kernel e1 e2 e3 e4 e5 =
     let c : Content = record { images = images; kernel = kernel } in
@@ -93,7 +101,55 @@ first_quasi m below squares images kernel r cols rows e1 e2 e3 e4 e5 e6 is =
     let P : Option (List Content) → Type 0 = λ x. IsQuasi (over m) x [] c r in
     let Q : List Content → Type 0 = λ x. IsQuasi (over m) below x c r in
     subst Q (sym e3) (subst P (sym e2) is2)
-  where
-    one_wide : (i : ℕ) → i < 1 → length (row one i) ≡ 1
-    one_wide zero l = refl
-    one_wide (suc i) l = absurd (omega arith)
+
+-- ---- the same square, read behind no other
+
+none-some : (q : Placed) → None ≡ Some q → ⊥
+none-some q e = cc
+
+pub none_read : (n : ℕ) → AllRead (replicate n [])
+none_read n s k q e = absurd (none-some q (ap (λ (row : List Placed). slice_get row k) (sym (row_in-none n s)) ∙ e))
+
+first_is_next : (n : ℕ) → IsNext (replicate n []) 0 0
+first_is_next n = record {
+  absent = let e = ap (length {A = Placed}) (row_in-none n 0) in omega arith;
+  before = λ j e. absurd (omega arith);
+  below = λ i e. absurd (omega arith);
+}
+
+first_bottom : (m : Checked) → m.plain ≡ sphere → bottom_of m +ℤ pos 0 ≡ pos 0
+first_bottom m e = ap (λ (p : SteenrodModule). bottom p.generators +ℤ pos 0) e
+
+first_source : (m : Checked) → m.plain ≡ sphere → source_width (over m) [] (record { images = one; kernel = [] }) ≡ 1
+first_source m e = ap (λ (p : SteenrodModule). source_width (module_over p) [] (record { images = one; kernel = [] })) e
+
+readable_over : (m : Checked) → m.plain ≡ sphere → IsReadable (record { resolved = m; start = []; rows = replicate (MAX_S + 1) []; spare = 0 }) 0 (pos 0) (record { images = one; kernel = [] })
+readable_over m e =
+    let wide : width m.plain.generators (bottom_of m +ℤ pos 0) ≡ 1 = bottom_width m e in
+    let source = first_source m e in
+    record {
+      all_read = none_read (MAX_S + 1);
+      place = record {
+        above = 0;
+        degree = sym (first_bottom m e);
+        row = omega arith;
+        within = omega arith;
+        next = first_is_next (MAX_S + 1);
+      };
+      shape = record {
+        image_widths = λ i l. one_wide i l ∙ sym wide;
+        images_few = omega arith;
+        kernel_widths = λ i l. absurd (omega arith);
+        reduced = no_kernel.reduced;
+        nonzero = λ i l. absurd (omega arith);
+      };
+      target_fits = omega arith;
+      source_fits = omega arith;
+    }
+
+pub first_readable : (m : Checked) (table : Staircase) (images kernel : List (List Bool)) → m.plain ≡ sphere → table ≡ record { resolved = m; start = []; rows = replicate (MAX_S + 1) []; spare = 0 } → images ≡ one → kernel ≡ [] → IsReadable table 0 (pos 0) (record { images = images; kernel = kernel })
+first_readable m table images kernel e1 e2 e3 e4 =
+    let P : Staircase → Type 0 = λ x. IsReadable x 0 (pos 0) (record { images = one; kernel = [] }) in
+    let Q : List (List Bool) → Type 0 = λ x. IsReadable table 0 (pos 0) (record { images = x; kernel = [] }) in
+    let R : List (List Bool) → Type 0 = λ x. IsReadable table 0 (pos 0) (record { images = images; kernel = x }) in
+    subst R (sym e4) (subst Q (sym e3) (subst P (sym e2) (readable_over m e1)))

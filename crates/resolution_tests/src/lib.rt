@@ -1,6 +1,8 @@
-//! Tests of squares, their tables and keepers, and of the step.
+//! Tests of squares, their tables and keepers, of the step, and of certificates.
 #![tactic(auto)]
 
+#[cfg(test)]
+mod certificates;
 #[cfg(test)]
 mod squares;
 #[cfg(test)]

@@ -22,7 +22,7 @@ fn one(alloc: Global) -> Result<BitVec, Memory>
 }
 
 // The list of that vector.
-fn one_row(alloc: Global) -> Result<Vec<BitVec>, Memory>
+pub(crate) fn one_row(alloc: Global) -> Result<Vec<BitVec>, Memory>
     ensures { IfOk result (λ rows. rows.items ≡ (true ∷ []) ∷ []) }
 {
     let mut rows = Vec::new(alloc);
