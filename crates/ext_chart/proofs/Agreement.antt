@@ -16,7 +16,7 @@ use Rattle.finite_module.specs.Text.{newline, joined_by_plus}
 use Rattle.resolution_laws.specs.Resolution.{Content, no_content, square_in, row_of, degrees_from, generator_count}
 use Rattle.resolution_laws.proofs.Rows.{free_basis-take}
 use Rattle.ext_chart.specs.declared.place.Place.{Place}
-use Rattle.ext_chart.specs.Chart.{mark, row_label, row_line, row_lines, stems_line, chart_text}
+use Rattle.ext_chart.specs.Chart.{mark, row_label, count_marks, row_line, row_lines, stems_line, chart_text}
 use Rattle.ext_chart.specs.Dump.{no_place, square_places, places_from, term_text, free_sum_text, generator_line, square_lines, image_text, square_text, row_text, dump_text}
 use Rattle.ext_chart.specs.Summary.{row_total, module_line, squares_line, gens_line, total_lines, summary_text}
 use Rattle.ext_chart.proofs.DumpSteps.{map-items_where_true}
@@ -82,13 +82,13 @@ module _ (s t : ℕ) (a b : List (List Content)) (agree : AgreeThrough s t a b) 
   same_count : (i k : ℕ) → i ≤ s → k ≤ t → generator_count a i k ≡ generator_count b i k
   same_count i k l m = ap (λ c. length c.images) (same_square i k l m)
 
-  same_row_line : (i : ℕ) → i ≤ s → row_line (generator_count a) t i ≡ row_line (generator_count b) t i
+  same_row_line : (i : ℕ) → i ≤ s → row_line (count_marks (generator_count a)) t i ≡ row_line (count_marks (generator_count b)) t i
   same_row_line i l =
-      let marks : map (λ k. mark (generator_count a i k)) (range_with_len i (t + 1 - i)) ≡ map (λ k. mark (generator_count b i k)) (range_with_len i (t + 1 - i)) =
-      map_range (λ k. mark (generator_count a i k)) (λ k. mark (generator_count b i k)) i (t + 1 - i) (λ j m. ap mark (same_count i (i + j) l (omega arith))) in
+      let marks : map (count_marks (generator_count a) i) (range_with_len i (t + 1 - i)) ≡ map (count_marks (generator_count b) i) (range_with_len i (t + 1 - i)) =
+      map_range (count_marks (generator_count a) i) (count_marks (generator_count b) i) i (t + 1 - i) (λ j m. ap mark (same_count i (i + j) l (omega arith))) in
       ap (λ (z : List ℕ). row_label i ++ (codes " |" ++ (z ++ newline))) marks
 
-  same_row_lines : (n : ℕ) → n ≤ s + 1 → row_lines (generator_count a) t n ≡ row_lines (generator_count b) t n
+  same_row_lines : (n : ℕ) → n ≤ s + 1 → row_lines (count_marks (generator_count a)) t n ≡ row_lines (count_marks (generator_count b)) t n
   same_row_lines zero l = refl
   same_row_lines (suc n) l = cc (same_row_line n (omega arith), same_row_lines n (omega arith))
 

@@ -2,22 +2,20 @@
 use Rattle.std.proofs.Common.{◌≡◌, ℕ, zero, suc, ◌+◌, ◌-◌, ◌<◌, ◌≤◌, List, [], ◌∷◌, ◌++◌, map, arith, ap, refl, sym, ◌∙◌, append_assoc}
 use Rattle.std.specs.List.{range_with_len}
 use Rattle.std.proofs.lemmas.List.FromFn.{map-range_with_len_more}
-use Rattle.ext_chart.specs.Chart.{mark, row_line, row_lines}
+use Rattle.ext_chart.specs.Chart.{row_line, row_lines}
 
--- the marks of the squares of these counts from s on, and one more
-pub marks-more : (count : ℕ → ℕ) (s k n m : ℕ) (marks after : List ℕ) → s ≤ k → marks ≡ map (λ i. mark (count i)) (range_with_len s (k - s)) → n ≡ count k → m ≡ mark n → after ≡ marks ++ m ∷ [] → after ≡ map (λ i. mark (count i)) (range_with_len s (k + 1 - s))
-marks-more count s k n m marks after h e c o af =
-    let f : ℕ → ℕ = λ i. mark (count i) in
-    let one : m ≡ f k = o ∙ ap mark c in
+-- the marks of a row from s on, and one more
+pub marks-more : (f : ℕ → ℕ) (s k m : ℕ) (marks after : List ℕ) → s ≤ k → marks ≡ map f (range_with_len s (k - s)) → m ≡ f k → after ≡ marks ++ m ∷ [] → after ≡ map f (range_with_len s (k + 1 - s))
+marks-more f s k m marks after h e one af =
     let more : map f (range_with_len s (k - s + 1)) ≡ map f (range_with_len s (k - s)) ++ f k ∷ [] = map-range_with_len_more f s (k - s) k (omega arith) in
     let len : k - s + 1 ≡ k + 1 - s = omega arith in
     af ∙ (ap (λ x. marks ++ x ∷ []) one ∙ (ap (λ (xs : List ℕ). xs ++ f k ∷ []) e ∙ (sym more ∙ ap (λ i. map f (range_with_len s i)) len)))
 
 -- the greatest row is written first
-pub row_lines-below : (count : ℕ → ℕ → ℕ) (t n : ℕ) → 0 < n → row_lines count t n ≡ row_line count t (n - 1) ++ row_lines count t (n - 1)
-row_lines-below count t zero h = absurd (omega arith)
-row_lines-below count t (suc n) h = let e : suc n - 1 ≡ n = omega arith in rw e refl
+row_lines-below : (marks : ℕ → ℕ → ℕ) (t n : ℕ) → 0 < n → row_lines marks t n ≡ row_line marks t (n - 1) ++ row_lines marks t (n - 1)
+row_lines-below marks t zero h = absurd (omega arith)
+row_lines-below marks t (suc n) h = let e : suc n - 1 ≡ n = omega arith in rw e refl
 
-pub append-row_lines : (count : ℕ → ℕ → ℕ) (t n : ℕ) (text line whole : List ℕ) → 0 < n → line ≡ row_line count t (n - 1) → text ++ row_lines count t n ≡ whole → (text ++ line) ++ row_lines count t (n - 1) ≡ whole
-append-row_lines count t n text line whole h l e =
-    append_assoc text line (row_lines count t (n - 1)) ∙ (ap (λ m. text ++ (m ++ row_lines count t (n - 1))) l ∙ (ap (λ m. text ++ m) (let b = row_lines-below count t n h in cc) ∙ e))
+pub append-row_lines : (marks : ℕ → ℕ → ℕ) (t n : ℕ) (text line whole : List ℕ) → 0 < n → line ≡ row_line marks t (n - 1) → text ++ row_lines marks t n ≡ whole → (text ++ line) ++ row_lines marks t (n - 1) ≡ whole
+append-row_lines marks t n text line whole h l e =
+    append_assoc text line (row_lines marks t (n - 1)) ∙ (ap (λ m. text ++ (m ++ row_lines marks t (n - 1))) l ∙ (ap (λ m. text ++ m) (let b = row_lines-below marks t n h in cc) ∙ e))

@@ -14,21 +14,24 @@ mark (suc n) = if nat_lt n 9 then 49 + n else 42
 abbrev pub row_label : ℕ → List ℕ
 row_label s = if nat_lt s 10 then 32 ∷ decimal s else decimal s
 
--- The stem of square (s, k) is k - s above the bottom, so the row's first mark is for k = s. count s k is the
--- number of generators of the square (s, k).
+-- The mark of each square, where count s k is the number of generators of the square (s, k).
+abbrev pub count_marks : (ℕ → ℕ → ℕ) → ℕ → ℕ → ℕ
+count_marks count s k = mark (count s k)
+
+-- The line of row s. The stem of square (s, k) is k - s above the bottom, so the row's first mark is for k = s. marks s k is the
+-- mark of the square (s, k).
 abbrev pub row_line : (ℕ → ℕ → ℕ) → ℕ → ℕ → List ℕ
-row_line count t s =
-    row_label s ++ (codes " |" ++ (map (λ k. mark (count s k)) (range_with_len s (t + 1 - s)) ++ newline))
+row_line marks t s = row_label s ++ (codes " |" ++ (map (marks s) (range_with_len s (t + 1 - s)) ++ newline))
 
 -- the lines of the rows below n, the greatest first
 abbrev pub row_lines : (ℕ → ℕ → ℕ) → ℕ → ℕ → List ℕ
-row_lines count t zero = []
-row_lines count t (suc n) = row_line count t n ++ row_lines count t n
+row_lines marks t zero = []
+row_lines marks t (suc n) = row_line marks t n ++ row_lines marks t n
 
 abbrev pub stems_line : ℤ → ℕ → List ℕ
 stems_line bottom t =
     codes "stems " ++ (signed_decimal bottom ++ (codes ".." ++ (signed_decimal (bottom +ℤ pos t) ++ newline)))
 
--- the chart of rows 0 to s through degree bottom + t
+-- the chart of rows 0 to s through degree bottom + t, where count s k is the number of generators of the square (s, k)
 abbrev pub chart_text : ℤ → ℕ → ℕ → (ℕ → ℕ → ℕ) → List ℕ
-chart_text bottom s t count = row_lines count t (s + 1) ++ stems_line bottom t
+chart_text bottom s t count = row_lines (count_marks count) t (s + 1) ++ stems_line bottom t

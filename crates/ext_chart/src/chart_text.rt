@@ -3,7 +3,7 @@ ghost use Rattle.std.specs.Prelude.{◌≡◌, ℕ, ◌+◌, ◌-◌, ◌<◌, �
 ghost use Rattle.std.specs.List.{range_with_len};
 ghost use Rattle.finite_module.specs.Module.{bottom};
 ghost use Rattle.resolution_laws.specs.Resolution.{row_of, generator_count};
-ghost use Rattle.ext_chart.specs.Chart.{mark, row_label, row_line, row_lines, stems_line, chart_text};
+ghost use Rattle.ext_chart.specs.Chart.{mark, row_label, count_marks, row_line, row_lines, stems_line, chart_text};
 ghost use Rattle.square.specs.Squares.{bottom_of};
 ghost use Rattle.ext_chart.specs.Seen.{IsSeenThrough};
 
@@ -44,7 +44,7 @@ pub fn row_label(alloc: Global, s: u16) -> Result<Vec<u8>, Memory>
 fn marks<R: Shown>(alloc: Global, table: &R, s: u16, t: u16) -> Result<Vec<u8>, Memory>
     requires { t < length (row_of (R.seen table.now).rows s) }
     ensures { IfOk result (λ marks. marks.items
-        ≡ map (λ k. mark (generator_count (R.seen table.now).rows s k)) (range_with_len s (t + 1 - s))) }
+        ≡ map (count_marks (generator_count (R.seen table.now).rows) s) (range_with_len s (t + 1 - s))) }
 {
     let mut marks = Vec::new(alloc);
     for k in s..=t {
@@ -56,7 +56,8 @@ fn marks<R: Shown>(alloc: Global, table: &R, s: u16, t: u16) -> Result<Vec<u8>, 
 /// The line of a row.
 fn row_line<R: Shown>(alloc: Global, table: &R, s: u16, t: u16) -> Result<Vec<u8>, Memory>
     requires { t < length (row_of (R.seen table.now).rows s) }
-    ensures { IfOk result (λ line. line.items ≡ row_line (generator_count (R.seen table.now).rows) t s) }
+    ensures { IfOk result
+        (λ line. line.items ≡ row_line (count_marks (generator_count (R.seen table.now).rows)) t s) }
 {
     let mut line = row_label(alloc, s)?;
     let marks = marks(alloc, table, s, t)?;
@@ -69,8 +70,8 @@ fn row_line<R: Shown>(alloc: Global, table: &R, s: u16, t: u16) -> Result<Vec<u8
 /// The lines of the rows of the range, the greatest first.
 fn row_lines<R: Shown>(alloc: Global, table: &R, range: Range) -> Result<Vec<u8>, Memory>
     requires { IsSeenThrough range (R.seen table.now).rows }
-    ensures { IfOk result
-        (λ text. text.items ≡ row_lines (generator_count (R.seen table.now).rows) range.t (range.s + 1)) }
+    ensures { IfOk result (λ text. text.items
+        ≡ row_lines (count_marks (generator_count (R.seen table.now).rows)) range.t (range.s + 1)) }
 {
     let mut text = Vec::new(alloc);
     for i in 0..=range.s {

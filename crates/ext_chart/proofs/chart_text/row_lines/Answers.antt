@@ -1,12 +1,12 @@
 use Rattle.std.proofs.Common.{arith, ◌≡◌, ◌+◌, ◌-◌, ◌++◌, ap, ◌∙◌}
 use Rattle.resolution_laws.specs.Resolution.{generator_count}
-use Rattle.ext_chart.specs.Chart.{row_line, row_lines}
+use Rattle.ext_chart.specs.Chart.{count_marks, row_line, row_lines}
 use Rattle.ext_chart.proofs.ChartText.{append-row_lines}
 use Rattle.ext_chart.proofs.chart_text.row_lines.Goals as goal
 
 pub loop-i-preserved : goal.loop-i-preserved
 loop-i-preserved g c =
-    let count = generator_count (g.R.Shown.seen c.args.table.now).rows in
+    let marks = count_marks (generator_count (g.R.Shown.seen c.args.table.now).rows) in
     let s = c.args.range.s in
     let t = c.args.range.t in
     let i = c.loop-i.i in
@@ -15,6 +15,6 @@ loop-i-preserved g c =
     let here : s - i ≡ s + 1 - i - 1 = omega arith in
     let rest : s + 1 - (i + 1) ≡ s + 1 - i - 1 = omega arith in
     let text : c.extend_from_slice.new.self.items ≡ before ++ line = c.in_ok-extend_from_slice.ensures.items ∙ ap (λ m. before ++ m) c.as_slice.ensures.value in
-    ap (λ m. m ++ row_lines count t (s + 1 - (i + 1))) text
-    ∙ (ap (λ n. (before ++ line) ++ row_lines count t n) rest
-    ∙ append-row_lines count t (s + 1 - i) before line _ (omega arith) (c.in_ok-line.ensures ∙ ap (row_line count t) here) c.loop-i.invariant)
+    ap (λ m. m ++ row_lines marks t (s + 1 - (i + 1))) text
+    ∙ (ap (λ n. (before ++ line) ++ row_lines marks t n) rest
+    ∙ append-row_lines marks t (s + 1 - i) before line _ (omega arith) (c.in_ok-line.ensures ∙ ap (row_line marks t) here) c.loop-i.invariant)
