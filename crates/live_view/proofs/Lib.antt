@@ -3,7 +3,6 @@ pub mod Lists
 mod Adding
 mod Ties
 mod Rows
-mod ChartText
 mod Looks
 mod Within
 mod ReadRows

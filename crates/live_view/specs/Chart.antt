@@ -1,10 +1,9 @@
 -- The chart of a view as text: the one of a resolution, with a space for each square that the view does not have.
-use Rattle.std.specs.Prelude.{◌≡◌, ◌⊎◌, ℕ, zero, suc, ◌+◌, ◌-◌, ◌≤◌, min, ℤ, List, [], ◌∷◌, ◌++◌, map, length, slice_get, codes, Option, Some, None}
+use Rattle.std.specs.Prelude.{◌≡◌, ◌⊎◌, ℕ, ◌+◌, ◌≤◌, min, ℤ, List, [], ◌∷◌, ◌++◌, map, length, slice_get, Option, Some, None}
 use Rattle.std.specs.List.{range_with_len, sum}
-use Rattle.finite_module.specs.Text.{newline}
 use Rattle.resolution_laws.specs.Resolution.{Module}
 use Rattle.square.specs.declared.range.Range.{Range}
-use Rattle.ext_chart.specs.Chart.{mark, row_label, stems_line, chart_text}
+use Rattle.ext_chart.specs.Chart.{mark, row_lines, stems_line, chart_text}
 use Rattle.live_view.specs.Views.{row_of, IsCount, IsRight}
 
 -- the mark of a square with so many generators, and a space where the square is not there
@@ -15,15 +14,6 @@ mark_of (Some n) = mark n
 -- the mark of the square (s, k)
 abbrev pub marks_of : List (List ℕ) → ℕ → ℕ → ℕ
 marks_of view s k = mark_of (slice_get (row_of view s) k)
-
--- the line of row s, whose first mark is for k = s
-abbrev pub row_line : (ℕ → ℕ → ℕ) → ℕ → ℕ → List ℕ
-row_line marks t s = row_label s ++ (codes " |" ++ (map (marks s) (range_with_len s (t + 1 - s)) ++ newline))
-
--- the lines of the rows below n, the greatest first
-abbrev pub row_lines : (ℕ → ℕ → ℕ) → ℕ → ℕ → List ℕ
-row_lines marks t zero = []
-row_lines marks t (suc n) = row_line marks t n ++ row_lines marks t n
 
 -- the chart of the view through the range
 abbrev pub live_chart : ℤ → Range → List (List ℕ) → List ℕ

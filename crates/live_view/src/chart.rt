@@ -2,7 +2,8 @@
 ghost use Rattle.std.specs.Prelude.{◌≡◌, ◌+◌, ◌-◌, ◌≤◌, pos, ◌+ℤ◌, ◌≤ℤ◌, IfOk, map};
 ghost use Rattle.std.specs.List.{range_with_len};
 ghost use Rattle.square.specs.declared.range.TheConstants.{MAX_S, MAX_T};
-ghost use Rattle.live_view.specs.Chart.{mark_of, marks_of, row_line, row_lines, live_chart};
+ghost use Rattle.ext_chart.specs.Chart.{row_line, row_lines};
+ghost use Rattle.live_view.specs.Chart.{mark_of, marks_of, live_chart};
 
 use crate::view::View;
 use ext_chart::{mark, row_label, stems_line};
