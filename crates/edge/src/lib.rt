@@ -18,6 +18,6 @@ pub use file_disk::FileDisk;
 pub use memory_disk::MemDisk;
 pub use raw_file::{PathFile, RawFile};
 pub use reading::{ReadFault, read_through};
-pub use sink::{MemSink, Sink};
+pub use sink::{MemSink, Sink, write_all};
 pub use source::{MemSource, Source};
 pub use standard::{StdSink, StdSource};

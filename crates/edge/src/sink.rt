@@ -1,7 +1,7 @@
 //! Where bytes go.
 ghost use Rattle.std.specs.Prelude.{◌≡◌, ℕ, ◌<◌, ◌≤◌, Option, Some, List, [], true, false, length, take, IfOk, OnOk, OnErr};
 ghost use Rattle.edge.specs.Faults.{HasRisen};
-ghost use Rattle.edge.specs.Sink.{with_more, write_fails, write_count, after_write, after_failed_write};
+ghost use Rattle.edge.specs.Sink.{with_more, HasPrefixMore, write_fails, write_count, after_write, after_failed_write};
 
 use crate::faults::Failed;
 use memory::Memory;
@@ -28,6 +28,25 @@ pub trait Sink {
         ensures never_fall { faults self.old ≤ faults self.new }
         ensures no_fault { OnOk result (faults self.new ≡ faults self.old) }
         ensures cause { OnErr result (HasRisen (faults self.old) (faults self.new)) };
+}
+
+/// Writes all of `bytes` to the sink, call by call. After an error it has got some first bytes of them.
+///
+/// # Errors
+/// `Failed` if a call of the sink failed.
+pub fn write_all<S: Sink>(sink: &mut S, bytes: &[u8]) -> Result<(), Failed>
+    ensures whole { OnOk result (S.written sink.new ≡ with_more (S.written sink.old) bytes.now) }
+    ensures no_fault { OnOk result (S.faults sink.new ≡ S.faults sink.old) }
+    ensures never_fall { S.faults sink.old ≤ S.faults sink.new }
+    ensures cause { OnErr result (HasRisen (S.faults sink.old) (S.faults sink.new)) }
+    ensures prefix { HasPrefixMore bytes.now (S.written sink.old) (S.written sink.new) }
+{
+    let mut done = 0;
+    while done < bytes.len() {
+        let count = sink.write(&bytes[done..])?;
+        done += count;
+    }
+    Ok(())
 }
 
 /// A sink in memory, which holds what it gets.

@@ -1,3 +1,2 @@
 mod Joined
 mod Sums
-mod Written

@@ -7,7 +7,7 @@ use Rattle.finite_module.specs.Text.{joined_by_plus}
 use Rattle.ext_chart.specs.Product.{terms_text}
 use Rattle.edge.specs.Sink.{with_more, HasPrefixMore}
 use Rattle.ext_report.specs.Parts.{plus}
-use Rattle.ext_report.proofs.Written.{with_more-two, HasPrefixMore-within}
+use Rattle.edge.proofs.Written.{with_more-two, HasPrefixMore-within}
 
 -- what ends a sum, by whether it has a term
 abbrev pub end_of : Bool → List ℕ

@@ -12,4 +12,3 @@ pub use status::{
     MALFORMED, NO_CLASS, NO_MEMORY, NO_MODULE, NONZERO, OUTSIDE_GRAMMAR, PAST_LIMIT, READING,
     SAVE_FILE, SAVING, WRITING, WRITTEN, statuses_are_these,
 };
-pub use writing::write_all;

@@ -8,8 +8,8 @@ ghost use Rattle.ext_report.specs.Lines.{what_text, place_text, action_line, mal
 
 use crate::failure::Failure;
 use crate::writing::Part::{self, Class, Digest, Nothing, Number, Place, Square, Sum, Text};
-use crate::writing::{write_all, write_parts};
-use edge::{Failed, Sink};
+use crate::writing::write_parts;
+use edge::{Failed, Sink, write_all};
 use ext_products::{Named, Pair, Refusal, Target};
 use module_check::CheckFault;
 use module_json::{Malformed, Place as FilePlace, Spec, What, Why};

@@ -10,7 +10,7 @@ ghost use Rattle.ext_report.specs.Parts.{square_place, part_text, parts_text, se
 ghost use Rattle.std.specs.Fmt.{signed_decimal};
 
 use chain_map::Class;
-use edge::{Failed, Sink};
+use edge::{Failed, Sink, write_all};
 use f2_vec::BitVec;
 use itoa::Buffer;
 use milnor_basis::Exps;
@@ -33,22 +33,6 @@ pub enum Part<'a> {
     /// A vector over the classes of the square in this row and of this internal degree, as `(5,20,0) + (5,20,1)`.
     Sum(i32, i32, &'a BitVec),
     Nothing,
-}
-
-/// Writes all of `bytes`. After an error some first bytes are written.
-pub fn write_all<S: Sink>(sink: &mut S, bytes: &[u8]) -> Result<(), Failed>
-    ensures whole { OnOk result (S.written sink.new ≡ with_more (S.written sink.old) bytes.now) }
-    ensures no_fault { OnOk result (S.faults sink.new ≡ S.faults sink.old) }
-    ensures never_fall { S.faults sink.old ≤ S.faults sink.new }
-    ensures cause { OnErr result (HasRisen (S.faults sink.old) (S.faults sink.new)) }
-    ensures prefix { HasPrefixMore bytes.now (S.written sink.old) (S.written sink.new) }
-{
-    let mut done = 0;
-    while done < bytes.len() {
-        let count = sink.write(&bytes[done..])?;
-        done += count;
-    }
-    Ok(())
 }
 
 /// Writes a text and behind it a number in decimal. After an error some first bytes are written.

@@ -9,8 +9,8 @@ ghost use Rattle.ext_run.specs.Run.{IsRun};
 
 use crate::task::task_from;
 use crate::texts::{text_alone, text_by_workers};
-use edge::{Disk, Failed, Sink, Source};
-use ext_report::{Failure, WRITTEN, report, write_all};
+use edge::{Disk, Failed, Sink, Source, write_all};
+use ext_report::{Failure, WRITTEN, report};
 use square_worker::Gate;
 use std::alloc::Global;
 use std::sync::Wait;

@@ -13,7 +13,7 @@ use Rattle.f2_matrix.specs.Reduction.{augmented}
 use Rattle.f2_matrix.proofs.Split.{length-augmented, row-augmented}
 use Rattle.f2_matrix.proofs.Pivots.{bit-at_pivots}
 use Rattle.f2_dual.specs.Inside.Columns.{column, ChangesOnlyColumn}
-use Rattle.f2_dual.specs.Inside.Coordinates.{coordinates}
+use Rattle.f2_dual.specs.Coordinates.{coordinates}
 use Rattle.f2_dual.proofs.OnCandidates.{row-column}
 
 pub length-column : (k : ℕ) (rows : List (List Bool)) → length (column k rows) ≡ length rows

@@ -18,7 +18,8 @@ use Rattle.f2_matrix.proofs.Kept.{place_of, kept_at}
 use Rattle.f2_matrix.proofs.Parts.{has_one-zero, has_one-nonzero, left_first, has_left, has_no_left, zero_has_none, zero_below, row-map_take}
 use Rattle.f2_matrix.proofs.Pivots.{pivot_first, is_pivot}
 use Rattle.f2_matrix.proofs.Unique.{zero_or_first}
-use Rattle.f2_dual.specs.Inside.Coordinates.{coordinates, pivot_units, relation_of, preimage_at, preimages_of}
+use Rattle.f2_dual.specs.Coordinates.{coordinates}
+use Rattle.f2_dual.specs.Inside.Coordinates.{pivot_units, relation_of, preimage_at, preimages_of}
 use Rattle.f2_dual.specs.Inside.Form.{is_left, is_right, parts_of}
 use Rattle.f2_dual.specs.Inside.Tables.{entry_at, spread_by, IsTableOfPivots, IsReducedBasis}
 use Rattle.f2_dual.proofs.OnCandidates.{row-column, HaveWidth-units}

@@ -14,7 +14,8 @@ use Rattle.f2_matrix.specs.Preimages.{IsPreimage, ArePreimages, pivot_of, at_piv
 use Rattle.f2_dual.specs.Inside.Columns.{column}
 use Rattle.f2_matrix.proofs.Pivots.{length-at_pivots, bit-at_pivots, sum_at_pivots, is_pivot, pivot_within}
 use Rattle.f2_matrix.proofs.Preimages.{quasi_of-IsPreimage}
-use Rattle.f2_dual.specs.Inside.Coordinates.{coordinates, element_of, pivot_units, new_rows, relation_of}
+use Rattle.f2_dual.specs.Coordinates.{coordinates}
+use Rattle.f2_dual.specs.Inside.Coordinates.{element_of, pivot_units, new_rows, relation_of}
 use Rattle.f2_dual.proofs.Dots.{dot, dot-comm, dot-unit, bit-combination-dot, pairing}
 
 -- the value of a row at the pivot of another

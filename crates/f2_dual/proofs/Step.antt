@@ -17,7 +17,8 @@ use Rattle.f2_matrix.proofs.Elimination.{IsFirstOne-unique}
 use Rattle.f2_matrix.proofs.Parts.{combination_where-IsInSpan, image_is_row_basis, kernel_is_kernel_basis, chosen_are_preimages}
 use Rattle.f2_matrix.specs.Choice.{IsChosen}
 use Rattle.f2_dual.specs.Inside.Columns.{column}
-use Rattle.f2_dual.specs.Inside.Coordinates.{coordinates, element_of, pivot_units, is_free, free_elements, new_rows, relation_of, relations_of, preimages_of, reduction_over}
+use Rattle.f2_dual.specs.Coordinates.{coordinates}
+use Rattle.f2_dual.specs.Inside.Coordinates.{element_of, pivot_units, is_free, free_elements, new_rows, relation_of, relations_of, preimages_of, reduction_over}
 use Rattle.f2_matrix.proofs.Pivots.{is_pivot}
 use Rattle.f2_dual.proofs.Dots.{pairing, pairing_none}
 use Rattle.f2_matrix.proofs.FromParts.{reduction_from_parts}

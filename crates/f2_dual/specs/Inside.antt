@@ -1,4 +1,4 @@
--- Words of the proofs: coordinates, tables of pivots, columns. No clause of a public call says any of them.
+-- Words of the proofs: what coordinates give, tables of pivots, columns. No clause of a public call says any of them.
 pub mod Columns
 pub mod Dots
 pub mod Coordinates

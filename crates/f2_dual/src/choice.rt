@@ -4,7 +4,7 @@ ghost use Rattle.f2_vec.specs.Spans.{row, HaveWidth, IsInSpan};
 ghost use Rattle.f2_matrix.specs.Echelon.{IsReduced, HasNoZeroRow, IsKernelBasis};
 ghost use Rattle.f2_matrix.specs.Reduction.{augmented, IsReductionOf};
 ghost use Rattle.f2_matrix.specs.Choice.{IsChosen};
-ghost use Rattle.f2_dual.specs.Inside.Coordinates.{coordinates as coordinates_of};
+ghost use Rattle.f2_dual.specs.Coordinates.{coordinates as coordinates_of};
 
 use crate::coordinates::coordinates;
 use crate::parts::{new_rows, preimages_and_relations, rows_of};

@@ -6,7 +6,7 @@ ghost use Rattle.f2_vec.specs.Spans.{row, unit_vector, HaveWidth, IsInSpan};
 ghost use Rattle.f2_matrix.specs.Echelon.{IsReduced, HasNoZeroRow};
 ghost use Rattle.f2_matrix.specs.Preimages.{at_pivots};
 ghost use Rattle.f2_matrix.specs.Reduction.{augmented};
-ghost use Rattle.f2_dual.specs.Inside.Coordinates.{coordinates as coordinates_of};
+ghost use Rattle.f2_dual.specs.Coordinates.{coordinates as coordinates_of};
 ghost use Rattle.f2_dual.specs.Inside.Tables.{IsTableOfPivots};
 ghost use Rattle.f2_dual.specs.Inside.Columns.{column, ChangesOnlyColumn};
 

@@ -22,7 +22,8 @@ use Rattle.f2_matrix.proofs.Parts.{has_one-zero, zero_has_none}
 use Rattle.f2_matrix.proofs.Pivots.{is_pivot, pivot_first, pivot_zero, length-at_pivots, bit-at_pivots, sum_at_pivots}
 use Rattle.f2_matrix.proofs.Unique.{span_first-IsPivot}
 use Rattle.f2_dual.specs.Inside.Dots.{dot}
-use Rattle.f2_dual.specs.Inside.Coordinates.{coordinates, element_of, is_free, free_elements, new_rows}
+use Rattle.f2_dual.specs.Coordinates.{coordinates}
+use Rattle.f2_dual.specs.Inside.Coordinates.{element_of, is_free, free_elements, new_rows}
 use Rattle.f2_dual.proofs.Dots.{dot-comm, bit-combination-dot}
 use Rattle.f2_dual.proofs.OnCandidates.{AreParts, row-column, wide_rows, wide_new, length-new, length-coordinates, wide_coordinates, element_within, same_at_pivots}
 use Rattle.f2_dual.proofs.Relations.{found, free_or_pivot, free_no_pivot, free_at, free_at-is, free_at-rises, whole, made, length-whole, length-made, wide_made, made_firsts, made-IsKernelBasis}

@@ -4,7 +4,7 @@ ghost use Rattle.std.specs.List.{items_where_true};
 ghost use Rattle.f2_vec.specs.Spans.{row, HaveWidth, IsInSpan};
 ghost use Rattle.f2_matrix.specs.Echelon.{IsKernelBasis};
 ghost use Rattle.f2_matrix.specs.Choice.{IsChosen};
-ghost use Rattle.f2_dual.specs.Inside.Coordinates.{coordinates as coordinates_of};
+ghost use Rattle.f2_dual.specs.Coordinates.{coordinates as coordinates_of};
 ghost use Rattle.f2_kernel.specs.Coordinates.{AreCoordinatesOf};
 ghost use Rattle.f2_kernel.specs.Inside.Upward.{are_zero};
 

@@ -1,5 +1,5 @@
 mod Crossing
 mod Ended
-mod Passes
-mod Made
+pub mod Passes
+pub mod Made
 mod Seen

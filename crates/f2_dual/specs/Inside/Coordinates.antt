@@ -1,16 +1,11 @@
--- Rows in coordinates on reduced candidates, transposed, and what the reduction of these coordinates gives for the rows.
-use Rattle.std.specs.Prelude.{ℕ, ◌+◌, ◌-◌, nat_eq, Bool, not, List, ◌++◌, length, map, reverse}
+-- What the reduction of rows in coordinates on reduced candidates gives for the rows.
+use Rattle.std.specs.Prelude.{ℕ, ◌+◌, ◌-◌, nat_eq, Bool, not, List, ◌++◌, length, map}
 use Rattle.std.specs.List.{range_with_len, filter, list_any}
 use Rattle.f2_vec.specs.Vectors.{sum_of, zeros}
 use Rattle.f2_vec.specs.Spans.{row, unit_vector, combination}
 use Rattle.f2_matrix.specs.Reduction.{Reduction}
 use Rattle.f2_matrix.specs.Preimages.{pivot_of}
 use Rattle.f2_dual.specs.Inside.Columns.{column}
-
--- For each candidate what the rows have at its pivot, the last row first. Where the rows are sums of reduced candidates these
--- are their coefficients.
-abbrev pub coordinates : List (List Bool) → List (List Bool) → List (List Bool)
-coordinates candidates rows = map (λ c. column (pivot_of c) (reverse rows)) candidates
 
 -- of n rows, the number of the one whose coordinates are the column of r's pivot
 abbrev pub element_of : ℕ → List Bool → ℕ

@@ -4,7 +4,7 @@ use Rattle.std.specs.Fmt.{signed_decimal}
 use Rattle.std.proofs.lemmas.Int.{ints}
 use Rattle.std.proofs.lemmas.Result.{IfOk-weaker}
 use Rattle.edge.specs.Sink.{with_more}
-use Rattle.ext_report.proofs.Written.{HasPrefixMore-front, HasPrefixMore-behind, HasPrefixMore-of, with_more-two}
+use Rattle.edge.proofs.Written.{HasPrefixMore-front, HasPrefixMore-behind, HasPrefixMore-of, with_more-two}
 use Rattle.ext_report.proofs.writing.write_class.Goals as goal
 
 pub returns-in_err-write_signed-clause-prefix : goal.returns-in_err-write_signed-clause-prefix

@@ -4,7 +4,7 @@ use Rattle.edge.specs.Sink.{with_more}
 use Rattle.milnor_basis.specs.Exponents.{entry}
 use Rattle.ext_report.specs.Parts.{separator}
 use Rattle.ext_report.proofs.Joined.{joined, joined-more, joined-upto, joined-all}
-use Rattle.ext_report.proofs.Written.{with_more-two, HasPrefixMore-within, HasPrefixMore-whole}
+use Rattle.edge.proofs.Written.{with_more-two, HasPrefixMore-within, HasPrefixMore-whole}
 use Rattle.ext_report.proofs.writing.write_exponents.Goals as goal
 
 -- the exponents up to i, and the one that is written next

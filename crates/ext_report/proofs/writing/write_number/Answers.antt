@@ -1,7 +1,7 @@
 use Rattle.std.proofs.Common.{List, ℕ, ◌≡◌, ◌∙◌, subst}
 use Rattle.std.specs.Prelude.{decimal}
 use Rattle.edge.specs.Sink.{HasPrefixMore}
-use Rattle.ext_report.proofs.Written.{HasPrefixMore-front, HasPrefixMore-behind}
+use Rattle.edge.proofs.Written.{HasPrefixMore-front, HasPrefixMore-behind}
 use Rattle.ext_report.proofs.writing.write_number.Goals as goal
 
 pub returns-in_err-write_all-clause-prefix : goal.returns-in_err-write_all-clause-prefix

@@ -4,7 +4,7 @@ use Rattle.std.proofs.lemmas.Result.{IfOk-weaker}
 use Rattle.edge.specs.Sink.{with_more}
 use Rattle.ext_chart.specs.Classes.{class_sum_text}
 use Rattle.ext_report.specs.Parts.{part_text}
-use Rattle.ext_report.proofs.Written.{HasPrefixMore-of}
+use Rattle.edge.proofs.Written.{HasPrefixMore-of}
 use Rattle.ext_report.proofs.writing.write_part.Goals as goal
 
 pub returns-in-Sum-clause-whole : goal.returns-in-Sum-clause-whole

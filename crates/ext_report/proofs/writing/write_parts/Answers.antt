@@ -4,7 +4,7 @@ use Rattle.edge.specs.Sink.{with_more}
 use Rattle.ext_report.specs.declared.writing.Part.{Part}
 use Rattle.ext_report.specs.Parts.{part_text, parts_text}
 use Rattle.ext_report.proofs.Joined.{flat_map-more, flat_map-upto}
-use Rattle.ext_report.proofs.Written.{with_more-two, HasPrefixMore-within, HasPrefixMore-whole}
+use Rattle.edge.proofs.Written.{with_more-two, HasPrefixMore-within, HasPrefixMore-whole}
 use Rattle.ext_report.proofs.writing.write_parts.Goals as goal
 
 -- the parts up to i, and the one that is written next

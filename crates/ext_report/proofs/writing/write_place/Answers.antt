@@ -2,7 +2,7 @@ use Rattle.std.proofs.Common.{◌≡◌, ap, ◌∷◌, [], ◌++◌, ◌∙◌,
 use Rattle.std.proofs.lemmas.Int.{ints}
 use Rattle.std.specs.Fmt.{signed_decimal}
 use Rattle.edge.specs.Sink.{with_more}
-use Rattle.ext_report.proofs.Written.{HasPrefixMore-front, HasPrefixMore-behind, HasPrefixMore-of}
+use Rattle.edge.proofs.Written.{HasPrefixMore-front, HasPrefixMore-behind, HasPrefixMore-of}
 use Rattle.ext_report.proofs.writing.write_place.Goals as goal
 
 pub returns-in_err-write_signed-clause-prefix : goal.returns-in_err-write_signed-clause-prefix

@@ -2,7 +2,7 @@ use Rattle.std.proofs.Common.{List, ℕ, ◌≡◌, ◌∙◌, ap, subst, to_z, 
 use Rattle.std.proofs.lemmas.Int.{ints}
 use Rattle.std.specs.Fmt.{signed_decimal}
 use Rattle.edge.specs.Sink.{HasPrefixMore}
-use Rattle.ext_report.proofs.Written.{HasPrefixMore-front, HasPrefixMore-behind}
+use Rattle.edge.proofs.Written.{HasPrefixMore-front, HasPrefixMore-behind}
 use Rattle.ext_report.proofs.writing.write_signed.Goals as goal
 
 pub returns-in_err-write_all-clause-prefix : goal.returns-in_err-write_all-clause-prefix

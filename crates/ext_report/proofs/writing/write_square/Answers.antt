@@ -1,4 +1,4 @@
-use Rattle.ext_report.proofs.Written.{HasPrefixMore-front, HasPrefixMore-behind}
+use Rattle.edge.proofs.Written.{HasPrefixMore-front, HasPrefixMore-behind}
 use Rattle.ext_report.proofs.writing.write_square.Goals as goal
 
 pub returns-in_err-write_all-clause-prefix : goal.returns-in_err-write_all-clause-prefix

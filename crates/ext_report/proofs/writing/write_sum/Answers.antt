@@ -5,7 +5,7 @@ use Rattle.std.proofs.lemmas.Result.{IfOk-weaker}
 use Rattle.edge.specs.Sink.{with_more}
 use Rattle.ext_chart.specs.Classes.{class_text, class_sum_text}
 use Rattle.ext_report.proofs.Sums.{HasTerms, rest_of, sum_is, term_skipped, term_written, term_cut, sum_written, zero_written, zero_cut}
-use Rattle.ext_report.proofs.Written.{HasPrefixMore-of, HasPrefixMore-whole}
+use Rattle.edge.proofs.Written.{HasPrefixMore-of, HasPrefixMore-whole}
 use Rattle.ext_report.proofs.writing.write_sum.Goals as goal
 use Rattle.ext_report.proofs.writing.write_sum.Goals.{then-get+in_ok-write_term, else-get}
 

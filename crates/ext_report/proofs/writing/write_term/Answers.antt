@@ -3,7 +3,7 @@ use Rattle.std.proofs.lemmas.Int.{ints}
 use Rattle.edge.specs.Sink.{with_more}
 use Rattle.ext_chart.specs.Classes.{class_text}
 use Rattle.ext_report.specs.Parts.{plus}
-use Rattle.ext_report.proofs.Written.{HasPrefixMore-front, HasPrefixMore-behind, HasPrefixMore-of}
+use Rattle.edge.proofs.Written.{HasPrefixMore-front, HasPrefixMore-behind, HasPrefixMore-of}
 use Rattle.ext_report.proofs.writing.write_term.Goals as goal
 
 pub returns-in_err-write_all-clause-prefix : goal.returns-in_err-write_all-clause-prefix

@@ -5,7 +5,8 @@ use Rattle.f2_matrix.specs.Echelon.{IsEchelonForm}
 use Rattle.f2_matrix.specs.Preimages.{pivot_of}
 use Rattle.f2_matrix.specs.Reduction.{augmented, IsReductionOf}
 use Rattle.f2_matrix.proofs.Parts.{HaveWidth-filter, row-map_drop}
-use Rattle.f2_dual.specs.Inside.Coordinates.{coordinates, new_rows, preimages_of, relations_of}
+use Rattle.f2_dual.specs.Coordinates.{coordinates}
+use Rattle.f2_dual.specs.Inside.Coordinates.{new_rows, preimages_of, relations_of}
 use Rattle.f2_dual.specs.Inside.Form.{is_left, parts_of}
 use Rattle.f2_dual.proofs.Form.{form_reduction, none_left}
 use Rattle.f2_dual.proofs.OnCandidates.{kernel_pivot}

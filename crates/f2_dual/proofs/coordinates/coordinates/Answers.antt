@@ -6,7 +6,7 @@ use Rattle.f2_vec.specs.Spans.{row, HaveWidth, IsInSpan}
 use Rattle.f2_matrix.specs.Preimages.{at_pivots}
 use Rattle.f2_matrix.specs.Reduction.{augmented}
 use Rattle.f2_dual.specs.Inside.Columns.{column, ChangesOnlyColumn}
-use Rattle.f2_dual.specs.Inside.Coordinates.{coordinates}
+use Rattle.f2_dual.specs.Coordinates.{coordinates}
 use Rattle.f2_dual.specs.Inside.Tables.{IsTableOfPivots}
 use Rattle.f2_matrix.proofs.Pivots.{pivot_within}
 use Rattle.f2_dual.proofs.Filling.{AreCoordinatesTo, AreCoordinatesTo-start, AreCoordinatesTo-more, AreCoordinatesTo-end}

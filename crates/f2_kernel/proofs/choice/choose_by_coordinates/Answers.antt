@@ -4,7 +4,7 @@ use Rattle.std.proofs.lemmas.List.{take_at}
 use Rattle.f2_vec.specs.Spans.{HaveWidth}
 use Rattle.f2_matrix.specs.Echelon.{IsKernelBasis}
 use Rattle.f2_matrix.specs.Choice.{IsChosen}
-use Rattle.f2_dual.specs.Inside.Coordinates.{coordinates}
+use Rattle.f2_dual.specs.Coordinates.{coordinates}
 use Rattle.f2_kernel.specs.Inside.Upward.{AreCleared, upward, are_zero, relations}
 use Rattle.f2_kernel.proofs.Cleared.{AreCleared-upward, length-upward}
 use Rattle.f2_kernel.proofs.ByForm.{choice_by_form}

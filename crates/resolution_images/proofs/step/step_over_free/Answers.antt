@@ -10,7 +10,7 @@ use Rattle.f2_matrix.specs.Reduction.{Rows}
 use Rattle.f2_matrix.specs.Preimages.{pivot_of}
 use Rattle.f2_matrix.proofs.Pivots.{is_pivot, pivot_within}
 use Rattle.f2_dual.specs.Inside.Columns.{column}
-use Rattle.f2_dual.specs.Inside.Coordinates.{coordinates}
+use Rattle.f2_dual.specs.Coordinates.{coordinates}
 use Rattle.f2_kernel.specs.Coordinates.{AreCoordinatesOf}
 use Rattle.free_module.specs.FreeModule.{free_basis, free_width}
 use Rattle.free_module.specs.Graded.{free_graded}

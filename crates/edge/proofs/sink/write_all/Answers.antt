@@ -1,6 +1,6 @@
 use Rattle.std.proofs.Common.{◌∙◌}
-use Rattle.ext_report.proofs.Written.{with_more-next, within-next}
-use Rattle.ext_report.proofs.writing.write_all.Goals as goal
+use Rattle.edge.proofs.Written.{with_more-next, within-next}
+use Rattle.edge.proofs.sink.write_all.Goals as goal
 
 pub loop-done-preserved : goal.loop-done-preserved
 loop-done-preserved g c = record {
