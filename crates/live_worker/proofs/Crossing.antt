@@ -1,0 +1,28 @@
+-- A role may go to any thread where the keeper and the sink may; and a closure over six values that any thread may share, may be shared by any thread.
+use denote.RattleType.{RattleType}
+use denote.Struct.Field.{row_field}
+use denote.Struct.Tuple.{TupleAt, type_at}
+use denote.Param.Send.{IsSend, IsSync, sendable}
+use denote.Param.SendFields.{as_row_sync, declared_sync}
+use Rattle.std.proofs.Common.{ℕ, List, [], ◌∷◌}
+use Rattle.std.proofs.Crossing.{crosses}
+use Rattle.square.specs.declared.keep.Keep as keep
+use Rattle.turn_lock.proofs.Crossing.{Pass-send}
+use Rattle.square_board.proofs.Crossing.{Desk-send}
+use Rattle.live_view.proofs.Crossing.{LiveReader-send, LiveWriter-send}
+use Rattle.live_worker.specs.contracts.reports.Reports as Reports
+use Rattle.live_worker.specs.contracts.role.Watcher as Watcher
+use Rattle.live_worker.specs.contracts.role.Role as Role
+
+pub Reports-send : (E : RattleType) → IsSend E → IsSend (Reports.the_field E).row
+Reports-send E s = search (crosses, sendable) depth 30
+
+pub Watcher-send : (K E : RattleType) (k : keep.Ghosts K.Denot) → IsSend K → IsSend E → IsSend (Watcher.the_field K E k).row
+Watcher-send K E k keeper s = search (crosses, sendable, Pass-send, Desk-send, LiveReader-send, LiveWriter-send, Reports-send) depth 30
+
+pub Role-send : (K E : RattleType) (k : keep.Ghosts K.Denot) → IsSend K → IsSend E → IsSend (Role.the_row K E k)
+Role-send K E k keeper s = search (crosses, sendable, Pass-send, Desk-send, Watcher-send) depth 30
+
+pub captures_sync : (name : List ℕ) (A B C D E F : RattleType) → IsSync A → IsSync B → IsSync C → IsSync D → IsSync E → IsSync F → IsSync (TupleAt name (A ∷ B ∷ C ∷ D ∷ E ∷ F ∷ []))
+captures_sync name A B C D E F a b c d e f =
+    declared_sync (type_at name (A ∷ B ∷ C ∷ D ∷ E ∷ F ∷ [])) (as_row_sync (row_field A) a, (as_row_sync (row_field B) b, (as_row_sync (row_field C) c, (as_row_sync (row_field D) d, (as_row_sync (row_field E) e, (as_row_sync (row_field F) f, tt))))))

@@ -1,0 +1,16 @@
+use Rattle.std.proofs.Common.{◌-◌, ◌<◌, length}
+use Rattle.turn_lock.specs.Turns.{HasBetween}
+use Rattle.live_worker.specs.Inside.Roles.{CanWatch, AreRoles, HasTold}
+use Rattle.live_worker.proofs.gathering.gathered.Given as goal
+
+abbrev pub invariant-loop-role : goal.invariant-loop-role
+invariant-loop-role g l = record {
+  watcher : CanWatch l.board l.watcher;
+  roles : AreRoles g.E.Sink.written g.E.Sink.faults l.first.value l.board (length l.fn.roles.items - 1) l.roles.items;
+  fewer : length l.roles.items < length l.fn.roles.items;
+  told : HasTold g.E.Sink.written g.E.Sink.faults l.first.value l.watcher.reports;
+  has : HasBetween l.watcher.pass (length l.roles.items) l.board.passes;
+}
+
+abbrev pub decreases-loop-role : goal.decreases-loop-role
+decreases-loop-role g l = goal.left-loop-role g l

@@ -1,0 +1,28 @@
+-- A board that was opened for workers and a watcher, and what it came to.
+use Rattle.std.specs.Prelude.{◌≡◌, ◌⊎◌, ℕ, ◌+◌, ◌≤◌, [], length, vec_capacity, Result, Ok, Err}
+use Rattle.board_core.specs.declared.event.Cause.{Cause}
+use Rattle.board_core.specs.declared.event.Cause.TheVariants.{Memory}
+use Rattle.square.specs.declared.range.Range.{Range}
+use Rattle.square.specs.Tables.{Staircase}
+use Rattle.square_board.specs.Openings.{IsOpenedWith, bottom_of}
+use Rattle.square_worker.specs.Passes.{AreItsPasses}
+use Rattle.live_worker.specs.declared.opening.Opened.{Opened}
+
+-- The board was made with this table, range and keeper, and with a pass for each worker and one for the watcher. The writer is for it and
+-- has published nothing, the reader is its reader, and there is room for the roles of all passes.
+pub record IsOpenedFor {K E : Type 0} (workers : ℕ) (table : Staircase) (range : Range) (keeper : K) (o : Opened K E)
+    : Type 0 where
+  pub with : IsOpenedWith o.board.name table range keeper
+  pub as_many : o.board.passes ≡ workers + 1
+  pub count : length o.passes.items ≡ workers + 1
+  pub passes : AreItsPasses o.board o.passes.items
+  pub empty : o.roles.items ≡ []
+  pub room : workers + 1 ≤ vec_capacity o.roles
+  pub range_is : o.writer.range ≡ range
+  pub bottom_is : o.writer.bottom ≡ bottom_of o.board.name
+  pub none : o.writer.known.published ≡ []
+  pub reader_is : o.reader ≡ o.writer
+
+-- the result is what was made, or there was no memory to report the table that was
+abbrev pub IsMadeOrMemory : Result Staircase Cause → Result Staircase Cause → Type 0
+IsMadeOrMemory made result = (result ≡ made) ⊎ ((more : Staircase) × (made ≡ Ok more) × (result ≡ Err Memory))

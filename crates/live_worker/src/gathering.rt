@@ -1,0 +1,81 @@
+//! The roles of the passes of a board, and the passes joined again.
+ghost use Rattle.std.specs.Prelude.{◌≡◌, ◌-◌, ◌<◌, ◌≤◌, [], length, vec_capacity};
+ghost use Rattle.turn_lock.specs.Turns.{HasAll};
+ghost use Rattle.square_board.specs.Openings.{bottom_of};
+ghost use Rattle.square_worker.specs.Passes.{AreItsPasses};
+ghost use Rattle.live_worker.specs.Reports.{squares_of};
+ghost use Rattle.live_worker.specs.Inside.Roles.{CanWatch, AreRoles, HasTold};
+
+use crate::reports::Reports;
+use crate::role::{Role, Watcher};
+use edge::Sink;
+use live_view::{LiveReader, LiveWriter};
+use square::Keep;
+use square_board::{Board, BoardPass};
+use std::snapshot::Snapshot;
+
+/// Makes the roles of these passes, for which there is room: the last pass watches, and the others work.
+pub(crate) fn fill<K: Keep, E: Sink>(
+    board: &Board<K>,
+    roles: &mut Vec<Role<K, E>>,
+    mut passes: Vec<BoardPass<K>>,
+    writer: LiveWriter,
+    reader: LiveReader,
+    reports: Reports<E>,
+)
+    requires some { 0 < length passes.items }
+    requires passes { AreItsPasses board.now passes.items }
+    requires empty { roles.old.items ≡ [] }
+    requires room { length passes.items ≤ vec_capacity roles.old }
+    requires range { board.now.name.range ≡ writer.range }
+    requires bottom { bottom_of board.now.name ≡ writer.bottom }
+    requires none { writer.known.published ≡ [] }
+    requires reader { reader ≡ writer }
+    requires all { reports.all ≡ squares_of board.now.name.range }
+    requires within { reports.most ≤ reports.all }
+    ensures count { length roles.new.items ≡ length passes.items }
+    ensures roles { AreRoles E.written E.faults reports board.now (length passes.items - 1) roles.new.items }
+{
+    let _ = board;
+    let Some(pass) = passes.pop() else {
+        unreachable!()
+    };
+    roles.push_reserved(Role::Watch(Watcher {
+        pass,
+        writer,
+        reader,
+        reports,
+    }));
+    while let Some(pass) = passes.pop() {
+        roles.push_reserved(Role::Work(pass));
+    }
+    roles.reverse();
+}
+
+/// The watcher, with all other passes joined into its own.
+pub(crate) fn gathered<K: Keep, E: Sink>(
+    board: &Board<K>,
+    mut roles: Vec<Role<K, E>>,
+    first: &Snapshot<Reports<E>>,
+) -> Watcher<K, E>
+    requires some { 0 < board.now.passes }
+    requires count { length roles.items ≡ board.now.passes }
+    requires roles { AreRoles E.written E.faults first.now.value board.now (length roles.items - 1) roles.items }
+    ensures can { CanWatch board.now result }
+    ensures all { HasAll result.pass }
+    ensures told { HasTold E.written E.faults first.now.value result.reports }
+{
+    let _ = first;
+    let last = roles.pop();
+    let Some(Role::Watch(mut watcher)) = last else {
+        unreachable!()
+    };
+    while let Some(role) = roles.pop() {
+        let Role::Work(pass) = role else {
+            unreachable!()
+        };
+        board.join(&mut watcher.pass, pass);
+    }
+    roles.destroy_empty();
+    watcher
+}

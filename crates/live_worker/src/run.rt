@@ -1,0 +1,74 @@
+//! The roles at a board, each in a thread of its own.
+ghost use Rattle.std.specs.Prelude.{◌≡◌, ℕ, ◌<◌, length, All, slice_index_or};
+ghost use Rattle.live_worker.specs.Inside.Roles.{CanRun, HasRun};
+
+use crate::role::Role;
+use crate::watcher::watch;
+use edge::Sink;
+use square::Keep;
+use square_board::Board;
+use square_worker::{Gate, work};
+use std::alloc::Global;
+use std::sync::Wait;
+use std::sync::atomic::{AtomicU64, Ordering};
+use std::thread;
+use std::thread::Threads;
+use std::time::Clock;
+
+/// Runs the roles, each in a thread of its own where one can be made. The watcher ends when so many workers have. It is the
+/// last role: where no thread can be made the roles run one after another, and it would wait for the workers for ever.
+pub(crate) fn run_roles<
+    R: Threads + Wait + Clock + Sync,
+    K: Keep + Send,
+    G: Gate + Sync,
+    E: Sink + Send,
+>(
+    wait: &R,
+    alloc: Global,
+    board: &Board<K>,
+    roles: &mut [Role<K, E>],
+    gate: &G,
+    ended: &AtomicU64,
+    workers: u64,
+)
+    requires some { 0 < length roles.old }
+    requires can { All (CanRun board.now) roles.old }
+    ensures count { length roles.new ≡ length roles.old }
+    ensures ran { (i : ℕ) → i < length roles.old → (d : _) →
+        HasRun E.written E.faults board.now (slice_index_or roles.old i d) (slice_index_or roles.new i d) }
+{
+    let threads = roles.len();
+    thread::for_each_mut(
+        wait,
+        roles,
+        threads,
+        &|_, role: &mut Role<K, E>|
+            requires { CanRun board.now role.now }
+            ensures { HasRun E.written E.faults board.entry.now role.entry.now role.exit.now }
+        {
+            run_role(wait, alloc, board, role, gate, ended, workers);
+        },
+    );
+}
+
+/// Runs one role.
+fn run_role<R: Wait + Clock, K: Keep, G: Gate, E: Sink>(
+    wait: &R,
+    alloc: Global,
+    board: &Board<K>,
+    role: &mut Role<K, E>,
+    gate: &G,
+    ended: &AtomicU64,
+    workers: u64,
+)
+    requires { CanRun board.now role.old }
+    ensures { HasRun E.written E.faults board.now role.old role.new }
+{
+    match role {
+        Role::Work(pass) => {
+            let _end = work(wait, alloc, board, pass, gate);
+            ended.fetch_add(1, Ordering::SeqCst);
+        }
+        Role::Watch(watcher) => watch(wait, alloc, board, watcher, ended, workers),
+    }
+}
