@@ -1,5 +1,7 @@
-//! Tests of the views of a board that a reader sees.
+//! Tests of the views of a board that a reader sees, and of runs with reports.
 #![tactic(auto)]
 
+#[cfg(test)]
+mod runs;
 #[cfg(test)]
 mod views;
