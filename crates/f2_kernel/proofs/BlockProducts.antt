@@ -9,8 +9,8 @@ use Rattle.f2_vec.proofs.Sums.{length-sum_of, bit-zeros, sum_of-assoc, sum_of-ze
 use Rattle.f2_vec.proofs.Spans.{length-combination, combination-append, HaveWidth-drop}
 use Rattle.f2_vec.proofs.Combinations.{HaveWidth-take}
 use Rattle.f2_kernel.specs.Inside.Products.{AreProductsAdded}
-use Rattle.f2_kernel.specs.Inside.Sums.{sums, number}
-use Rattle.f2_kernel.proofs.Blocked.{number-push, number_small, sums_at, length-sums}
+use Rattle.f2_kernel.specs.Inside.Sums.{sums, number, BeginsWithSums}
+use Rattle.f2_kernel.proofs.Blocked.{number-push, number_small, sums_at}
 
 -- the number of one coordinate more
 pub digit_more : (v : List Bool) (from j : ℕ) → from + j < length v → number (take (j + 1) (drop from v)) ≡ 2 * number (take j (drop from v)) + cond (bit v (from + j)) 1 0
@@ -26,14 +26,15 @@ digit_more v from j l =
 digits : (from : ℕ) (block : List (List Bool)) (v : List Bool) → from + length block ≤ length v → length (take (length block) (drop from v)) ≡ length block
 digits from block v within = length-take-le (length block) (drop from v) (omega (arith, within, length-drop from v))
 
-pub number_within : (n from x : ℕ) (block table : List (List Bool)) (v : List Bool) → table ≡ sums n block → from + length block ≤ length v → x ≡ number (take (length block) (drop from v)) → x < length table
-number_within n from x block table v is within e =
+pub number_within : (n from x : ℕ) (block table : List (List Bool)) (v : List Bool) → BeginsWithSums n block table → from + length block ≤ length v → x ≡ number (take (length block) (drop from v)) → x < length table
+number_within n from x block table v h within e =
     let cs = take (length block) (drop from v) in
-    omega (arith, e, number_small cs, ap (λ k. 2 ^ k) (digits from block v within), ap length is, length-sums n block)
+    omega (arith, e, number_small cs, ap (λ k. 2 ^ k) (digits from block v within), h.room)
 
-pub product_is : (n from x : ℕ) (block table : List (List Bool)) (v : List Bool) → table ≡ sums n block → from + length block ≤ length v → x ≡ number (take (length block) (drop from v)) → row table x ≡ combination n (take (length block) (drop from v)) block
-product_is n from x block table v is within e =
-    ap (λ z. row z x) is ∙ ap (row (sums n block)) e ∙ sums_at n (take (length block) (drop from v)) block (digits from block v within)
+pub product_is : (n from x : ℕ) (block table : List (List Bool)) (v : List Bool) → BeginsWithSums n block table → from + length block ≤ length v → x ≡ number (take (length block) (drop from v)) → row table x ≡ combination n (take (length block) (drop from v)) block
+product_is n from x block table v h within e =
+    let cs = take (length block) (drop from v) in
+    h.sums_are x (omega (arith, e, number_small cs, ap (λ k. 2 ^ k) (digits from block v within))) ∙ ap (row (sums n block)) e ∙ sums_at n (take (length block) (drop from v)) block (digits from block v within)
 
 -- ---- the sums so far
 

@@ -146,14 +146,6 @@ sum_within n rows v =
     let e : 2 ^ length (at_pivots rows v) ≡ 2 ^ length rows = ap (λ k. 2 ^ k) (length-at_pivots rows v) in
     omega (arith, s, e, length-sums n rows)
 
--- one sum more that has the row
-pub double_more : (k : ℕ) (r x : List Bool) (old cur new : List (List Bool)) → k < length old → cur ≡ old ++ map (sum_of r) (take k old) → x ≡ row cur k → new ≡ cur ++ sum_of r x ∷ [] → new ≡ old ++ map (sum_of r) (take (k + 1) old)
-double_more k r x old cur new l c at e =
-    let there : x ≡ row old k = at ∙ ap (λ z. row z k) c ∙ get_or_append_left old (map (sum_of r) (take k old)) [] k l in
-    e ∙ ap (λ z. z ++ sum_of r x ∷ []) c ∙ ap (λ z. (old ++ map (sum_of r) (take k old)) ++ sum_of r z ∷ []) there
-    ∙ append_assoc old (map (sum_of r) (take k old)) (sum_of r (row old k) ∷ [])
-    ∙ ap (λ z. old ++ z) (sym (ap (map (sum_of r)) (take_more old k [] l) ∙ map-append (sum_of r) (take k old) (row old k ∷ [])))
-
 -- ---- what clears a vector is determined
 
 pub AreCleared-IsReduced : (n : ℕ) (rows : List (List Bool)) → HaveWidth n rows → IsReduced rows → AreCleared n rows

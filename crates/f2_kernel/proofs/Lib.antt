@@ -5,6 +5,7 @@ mod ByForm
 mod Steps
 mod Words
 mod Blocked
+mod Tables
 mod CommonOnes
 pub mod Basis
 mod BlockProducts

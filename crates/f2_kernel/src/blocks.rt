@@ -1,13 +1,13 @@
 //! Rows cleared from the last one up, by blocks: each block clears the rows before it, by one sum of each of its
 //! quarters. Few rows are cleared one by one.
-ghost use Rattle.std.specs.Prelude.{◌≡◌, ℕ, ◌+◌, ◌-◌, ◌<◌, ◌≤◌, ◌++◌, map, length, take, slice_index_or, IfOk, OnOk};
+ghost use Rattle.std.specs.Prelude.{◌≡◌, ℕ, ◌+◌, ◌-◌, ◌<◌, ◌≤◌, ◌++◌, map, length, take, replicate, slice_index_or, IfOk, OnOk};
 ghost use Rattle.std.specs.Int.{div_ceil};
-ghost use Rattle.f2_vec.specs.Vectors.{bit, sum_of, IsZero, IsWithinWords};
-ghost use Rattle.f2_vec.specs.Spans.{row, HaveWidth};
+ghost use Rattle.f2_vec.specs.Vectors.{bit, sum_of, zeros, IsZero, IsWithinWords};
+ghost use Rattle.f2_vec.specs.Spans.{row as row_at, HaveWidth};
 ghost use Rattle.f2_matrix.specs.Echelon.{IsEchelonForm, IsReduced, HasNoZeroRow};
 ghost use Rattle.f2_matrix.specs.Preimages.{pivot_of};
 ghost use Rattle.f2_kernel.specs.Inside.Upward.{upward, cleared_by, AreCleared, IsBlockCleared};
-ghost use Rattle.f2_kernel.specs.Inside.Sums.{sums as sums_of_all, number as number_of, sum_at, with_sums, AreSumsOf};
+ghost use Rattle.f2_kernel.specs.Inside.Sums.{number as number_of, sum_at, with_sums, IsTable, AreTables, BeginsWithSums, AreSumsOf};
 
 use crate::form::{clear_one_by_one, pivot};
 use f2_matrix::Matrix;
@@ -15,12 +15,36 @@ use f2_vec::BitVec;
 use memory::Memory;
 use std::alloc::Global;
 
-/// Rows with their pivots and all their sums.
+/// Rows with their pivots, and a table that begins with all their sums.
 #[derive(Drop)]
 struct Part<'a> {
     rows: &'a [BitVec],
     pivots: Vec<usize>,
-    sums: Vec<BitVec>,
+    sums: &'a [BitVec],
+}
+
+/// Tables in which the sums of the four parts of a block are made. They are kept from block to block, and grow where a
+/// block wants more room.
+#[derive(Drop)]
+struct Tables {
+    first: Vec<BitVec>,
+    second: Vec<BitVec>,
+    third: Vec<BitVec>,
+    fourth: Vec<BitVec>,
+}
+
+impl Tables {
+    /// Tables without vectors.
+    fn new(alloc: Global) -> Tables
+        ensures { (n : ℕ) → AreTables n result }
+    {
+        Tables {
+            first: Vec::new(alloc),
+            second: Vec::new(alloc),
+            third: Vec::new(alloc),
+            fourth: Vec::new(alloc),
+        }
+    }
 }
 
 /// Clears each of the rows, of length `n`, at the pivots of those behind it.
@@ -32,9 +56,10 @@ pub fn clear_upward(alloc: Global, n: usize, rows: &mut [BitVec]) -> Result<(), 
     ensures { OnOk result (rows.new ≡ upward rows.old) }
 {
     let mut end = rows.len();
+    let mut tables = Tables::new(alloc);
     while end > 0 {
         let start = end - rows_of_block(end);
-        clear_block(alloc, n, rows, start, end)?;
+        clear_block(alloc, n, rows, start, end, &mut tables)?;
         prove!(start < end);
         end = start;
     }
@@ -70,12 +95,15 @@ fn clear_block(
     rows: &mut [BitVec],
     start: usize,
     end: usize,
+    tables: &mut Tables,
 ) -> Result<(), Memory>
     requires widths { HaveWidth n rows.old }
     requires block { start ≤ end }
     requires few { 0 < start → end ≤ start + 32 }
     requires within { end ≤ length rows.old }
-    ensures { OnOk result (IsBlockCleared start end rows.old rows.new) }
+    requires tables { AreTables n tables.old }
+    ensures rows { OnOk result (IsBlockCleared start end rows.old rows.new) }
+    ensures tables { OnOk result (AreTables n tables.new) }
 {
     let (before, _) = rows.split_at_mut(end);
     let (above, block) = before.split_at_mut(start);
@@ -83,33 +111,56 @@ fn clear_block(
     if above.is_empty() {
         return Ok(());
     }
-    clear_by_block(alloc, n, above, block)
+    clear_by_block(alloc, n, above, block, tables)
 }
 
 /// Clears the rows at the pivots of the block, which is cleared itself.
 ///
 /// # Errors
-/// `Memory` if allocation fails; the rows are then as before.
+/// `Memory` if allocation fails; the rows are then as before, and the tables of no use.
 fn clear_by_block(
     alloc: Global,
     n: usize,
     rows: &mut [BitVec],
     block: &[BitVec],
+    tables: &mut Tables,
 ) -> Result<(), Memory>
     requires rows { HaveWidth n rows.old }
     requires block { AreCleared n block.now }
     requires few { length block.now ≤ 32 }
-    ensures { OnOk result (rows.new ≡ map (cleared_by block.now) rows.old) }
+    requires tables { AreTables n tables.old }
+    ensures rows { OnOk result (rows.new ≡ map (cleared_by block.now) rows.old) }
+    ensures tables { OnOk result (AreTables n tables.new) }
 {
     let form = echelon_form(alloc, n, block)?;
     let quarter = block.len().div_ceil(4);
     let (first, rest) = split_up_to(without_zeros(form.rows()), quarter);
     let (second, rest) = split_up_to(rest, quarter);
     let (third, fourth) = split_up_to(rest, quarter);
-    let first = part_of(alloc, n, first)?;
-    let second = part_of(alloc, n, second)?;
-    let third = part_of(alloc, n, third)?;
-    let fourth = part_of(alloc, n, fourth)?;
+    let first_pivots = fill_part(alloc, n, first, &mut tables.first)?;
+    let second_pivots = fill_part(alloc, n, second, &mut tables.second)?;
+    let third_pivots = fill_part(alloc, n, third, &mut tables.third)?;
+    let fourth_pivots = fill_part(alloc, n, fourth, &mut tables.fourth)?;
+    let first = Part {
+        rows: first,
+        pivots: first_pivots,
+        sums: tables.first.as_slice(),
+    };
+    let second = Part {
+        rows: second,
+        pivots: second_pivots,
+        sums: tables.second.as_slice(),
+    };
+    let third = Part {
+        rows: third,
+        pivots: third_pivots,
+        sums: tables.third.as_slice(),
+    };
+    let fourth = Part {
+        rows: fourth,
+        pivots: fourth_pivots,
+        sums: tables.fourth.as_slice(),
+    };
     add_sums(n, rows, &first, &second, &third, &fourth);
     Ok(())
 }
@@ -120,7 +171,7 @@ fn without_zeros(rows: &[BitVec]) -> &[BitVec]
     ensures first { result.now ≡ take (length result.now) rows.now }
     ensures within { length result.now ≤ length rows.now }
     ensures nonzero { HasNoZeroRow result.now }
-    ensures others { (i : ℕ) → length result.now ≤ i → IsZero (row rows.now i) }
+    ensures others { (i : ℕ) → length result.now ≤ i → IsZero (row_at rows.now i) }
 {
     let mut end = rows.len();
     while end > 0 && rows[end - 1].is_zero() {
@@ -138,20 +189,26 @@ fn split_up_to(rows: &[BitVec], count: usize) -> (&[BitVec], &[BitVec])
     rows.split_at(count.min(rows.len()))
 }
 
-/// The rows with their pivots and all their sums.
+/// Makes all sums of the rows at the first places of the table, and gives the pivots of the rows.
 ///
 /// # Errors
-/// `Memory` if allocation fails.
-fn part_of<'a>(alloc: Global, n: usize, rows: &'a [BitVec]) -> Result<Part<'a>, Memory>
+/// `Memory` if allocation fails; the table is then of no use.
+fn fill_part(
+    alloc: Global,
+    n: usize,
+    rows: &[BitVec],
+    table: &mut Vec<BitVec>,
+) -> Result<Vec<usize>, Memory>
+    requires table { IsTable n table.old.items }
     requires widths { HaveWidth n rows.now }
     requires few { length rows.now ≤ 8 }
     requires nonzero { HasNoZeroRow rows.now }
-    ensures rows { IfOk result (λ part. part.rows.now ≡ rows.now) }
-    ensures sums { IfOk result (λ part. AreSumsOf n part.rows.now part.pivots.items part.sums.items) }
+    ensures table { OnOk result (IsTable n table.new.items) }
+    ensures sums { IfOk result (λ pivots. AreSumsOf n rows.now pivots.items table.new.items) }
 {
     let pivots = pivots_of(alloc, rows)?;
-    let sums = sums_of(alloc, n, rows)?;
-    Ok(Part { rows, pivots, sums })
+    fill_sums(alloc, n, table, rows)?;
+    Ok(pivots)
 }
 
 /// The echelon form of the rows, of length `n`.
@@ -196,38 +253,60 @@ fn pivots_of(alloc: Global, rows: &[BitVec]) -> Result<Vec<usize>, Memory>
     Ok(pivots)
 }
 
-/// All sums of the rows, of length `n`: the coefficients of a sum are the digits of its number, that of the first row
-/// the highest.
+/// Makes all sums of the rows, of length `n`, at the first places of the table: the coefficients of a sum are the digits
+/// of its number, that of the first row the highest.
 ///
 /// # Errors
-/// `Memory` if allocation fails.
-pub fn sums_of(alloc: Global, n: usize, rows: &[BitVec]) -> Result<Vec<BitVec>, Memory>
-    requires { HaveWidth n rows.now }
-    ensures { IfOk result (λ sums. sums.items ≡ sums_of_all n rows.now) }
+/// `Memory` if allocation fails; the table is then of no use.
+pub fn fill_sums(
+    alloc: Global,
+    n: usize,
+    table: &mut Vec<BitVec>,
+    rows: &[BitVec],
+) -> Result<(), Memory>
+    requires table { IsTable n table.old.items }
+    requires rows { HaveWidth n rows.now }
+    requires few { length rows.now ≤ 8 }
+    ensures table { OnOk result (IsTable n table.new.items) }
+    ensures sums { OnOk result (BeginsWithSums n rows.now table.new.items) }
 {
-    let mut sums = Vec::new(alloc);
-    sums.push(BitVec::zero(alloc, n)?)?;
+    grow(alloc, n, table, 1)?;
+    let mut made = 1;
     for i in (0..rows.len()).rev() {
-        double(alloc, n, &mut sums, &rows[i])?;
-    }
-    Ok(sums)
-}
-
-/// Puts the sum of the row with each of the sums behind these.
-///
-/// # Errors
-/// `Memory` if allocation fails; the sums are then of no use.
-fn double(alloc: Global, n: usize, sums: &mut Vec<BitVec>, row: &BitVec) -> Result<(), Memory>
-    requires sums { HaveWidth n sums.old.items }
-    requires row { length row.now ≡ n }
-    ensures { OnOk result (sums.new.items ≡ sums.old.items ++ map (sum_of row.now) sums.old.items) }
-{
-    for k in 0..sums.len() {
-        let mut sum = row.try_copy(alloc)?;
-        sum.xor_with(&sums[k]);
-        sums.push(sum)?;
+        grow(alloc, n, table, 2 * made)?;
+        double(n, table.as_mut_slice(), made, &rows[i]);
+        made *= 2;
     }
     Ok(())
+}
+
+/// Puts zero vectors of length `n` behind those of the table where it has fewer than `count`.
+///
+/// # Errors
+/// `Memory` if allocation fails; the table is then as before.
+fn grow(alloc: Global, n: usize, table: &mut Vec<BitVec>, count: usize) -> Result<(), Memory>
+    ensures { OnOk result (table.new.items
+        ≡ table.old.items ++ replicate (count - length table.old.items) (zeros n)) }
+{
+    let mut more = BitVec::zero_rows(alloc, count.saturating_sub(table.len()), n)?;
+    table.append(&mut more)?;
+    Ok(())
+}
+
+/// Makes the vectors behind the first `made` ones of the table the sums of the row with these.
+fn double(n: usize, table: &mut [BitVec], made: usize, row: &BitVec)
+    requires table { HaveWidth n table.old }
+    requires row { length row.now ≡ n }
+    requires room { made + made ≤ length table.old }
+    ensures widths { HaveWidth n table.new }
+    ensures room { length table.new ≡ length table.old }
+    ensures before { (k : ℕ) → k < made → row_at table.new k ≡ row_at table.old k }
+    ensures sums { (k : ℕ) → k < made → row_at table.new (made + k) ≡ sum_of row.now (row_at table.old k) }
+{
+    let (sums, rest) = table.split_at_mut(made);
+    for k in 0..made {
+        rest[k].set_sum(row, &sums[k]);
+    }
 }
 
 /// Adds to each of the vectors the sum of each part whose coefficients are its coordinates at the pivots of the part's
@@ -241,10 +320,10 @@ fn add_sums(
     fourth: &Part,
 )
     requires vectors { HaveWidth n vectors.old }
-    requires first { AreSumsOf n first.now.rows.now first.now.pivots.items first.now.sums.items }
-    requires second { AreSumsOf n second.now.rows.now second.now.pivots.items second.now.sums.items }
-    requires third { AreSumsOf n third.now.rows.now third.now.pivots.items third.now.sums.items }
-    requires fourth { AreSumsOf n fourth.now.rows.now fourth.now.pivots.items fourth.now.sums.items }
+    requires first { AreSumsOf n first.now.rows.now first.now.pivots.items first.now.sums.now }
+    requires second { AreSumsOf n second.now.rows.now second.now.pivots.items second.now.sums.now }
+    requires third { AreSumsOf n third.now.rows.now third.now.pivots.items third.now.sums.now }
+    requires fourth { AreSumsOf n fourth.now.rows.now fourth.now.pivots.items fourth.now.sums.now }
     ensures { vectors.new
         ≡ map (with_sums n first.now.rows.now second.now.rows.now third.now.rows.now fourth.now.rows.now) vectors.old }
 {
@@ -256,10 +335,10 @@ fn add_sums(
 /// Adds to the vector the sum of each part whose coefficients are its coordinates at the pivots of the part's rows.
 fn add_four(n: usize, vector: &mut BitVec, first: &Part, second: &Part, third: &Part, fourth: &Part)
     requires vector { length vector.old ≡ n }
-    requires first { AreSumsOf n first.now.rows.now first.now.pivots.items first.now.sums.items }
-    requires second { AreSumsOf n second.now.rows.now second.now.pivots.items second.now.sums.items }
-    requires third { AreSumsOf n third.now.rows.now third.now.pivots.items third.now.sums.items }
-    requires fourth { AreSumsOf n fourth.now.rows.now fourth.now.pivots.items fourth.now.sums.items }
+    requires first { AreSumsOf n first.now.rows.now first.now.pivots.items first.now.sums.now }
+    requires second { AreSumsOf n second.now.rows.now second.now.pivots.items second.now.sums.now }
+    requires third { AreSumsOf n third.now.rows.now third.now.pivots.items third.now.sums.now }
+    requires fourth { AreSumsOf n fourth.now.rows.now fourth.now.pivots.items fourth.now.sums.now }
     ensures { vector.new ≡ with_sums n first.now.rows.now second.now.rows.now third.now.rows.now fourth.now.rows.now
         vector.old }
 {
@@ -273,7 +352,7 @@ fn add_four(n: usize, vector: &mut BitVec, first: &Part, second: &Part, third: &
 /// The sum of the part whose coefficients are the coordinates of the vector at the pivots of its rows.
 fn sum_for<'a>(n: usize, vector: &BitVec, part: &'a Part) -> &'a BitVec
     requires vector { length vector.now ≡ n }
-    requires part { AreSumsOf n part.now.rows.now part.now.pivots.items part.now.sums.items }
+    requires part { AreSumsOf n part.now.rows.now part.now.pivots.items part.now.sums.now }
     ensures sum { result.now ≡ sum_at n part.now.rows.now vector.now }
     ensures width { length result.now ≡ n }
     ensures within { IsWithinWords 0 (div_ceil n 64) result.now }

@@ -3,9 +3,9 @@ ghost use Rattle.std.specs.Prelude.{◌≡◌, ℕ, ◌+◌, ◌-◌, ◌<◌, �
 ghost use Rattle.f2_vec.specs.Vectors.{sum_of};
 ghost use Rattle.f2_vec.specs.Spans.{row, HaveWidth, combination};
 ghost use Rattle.f2_kernel.specs.Inside.Products.{AreProductsAdded};
-ghost use Rattle.f2_kernel.specs.Inside.Sums.{sums as sums_of_all, number as number_of};
+ghost use Rattle.f2_kernel.specs.Inside.Sums.{number as number_of, BeginsWithSums};
 
-use crate::blocks::sums_of;
+use crate::blocks::fill_sums;
 use f2_vec::BitVec;
 use memory::Memory;
 use std::alloc::Global;
@@ -36,11 +36,12 @@ pub fn add_products(
     ensures second { OnOk result (AreProductsAdded n rows.now second.now second_sums.old second_sums.new) }
 {
     let most = rows_of_table(first.len(), second.len());
+    let mut table = Vec::new(alloc);
     let mut from = 0;
     while from < rows.len() {
         let to = from + most.min(rows.len() - from);
         let block = &rows[from..to];
-        let table = sums_of(alloc, n, block)?;
+        fill_sums(alloc, n, &mut table, block)?;
         add_block(n, from, to, block, table.as_slice(), first, first_sums);
         add_block(n, from, to, block, table.as_slice(), second, second_sums);
         from = to;
@@ -78,7 +79,7 @@ fn add_block(
     requires block { HaveWidth n block.now }
     requires places { to ≡ from + length block.now }
     requires few { length block.now ≤ 8 }
-    requires table { table.now ≡ sums_of_all n block.now }
+    requires table { BeginsWithSums n block.now table.now }
     requires vectors { (i : ℕ) → i < length vectors.now → to ≤ length (row vectors.now i) }
     requires sums { HaveWidth n sums.old }
     requires as_many { length sums.old ≡ length vectors.now }

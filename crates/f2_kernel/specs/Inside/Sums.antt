@@ -1,9 +1,10 @@
 -- All sums of a few rows, and the numbers at which they stand.
-use Rattle.std.specs.Prelude.{◌≡◌, ℕ, ◌+◌, ◌^◌, ◌≤◌, Bool, if◌then◌else◌, List, [], ◌∷◌, ◌++◌, length, map}
+use Rattle.std.specs.Prelude.{◌≡◌, ℕ, ◌+◌, ◌^◌, ◌<◌, ◌≤◌, Bool, if◌then◌else◌, List, [], ◌∷◌, ◌++◌, length, map}
 use Rattle.f2_vec.specs.Vectors.{sum_of, zeros}
 use Rattle.f2_vec.specs.Spans.{row, HaveWidth}
 use Rattle.f2_matrix.specs.Echelon.{HasNoZeroRow}
 use Rattle.f2_matrix.specs.Preimages.{pivot_of, at_pivots}
+use Rattle.f2_kernel.specs.declared.blocks.Tables.{Tables}
 
 -- the sums of the rows, of length n: those without the first row, and behind them those with it
 abbrev pub sums : ℕ → List (List Bool) → List (List Bool)
@@ -23,10 +24,27 @@ sum_at n rows v = row (sums n rows) (number (at_pivots rows v))
 abbrev pub with_sums : ℕ → (a b c d : List (List Bool)) → List Bool → List Bool
 with_sums n a b c d v = sum_of (sum_of (sum_of (sum_of v (sum_at n a v)) (sum_at n b v)) (sum_at n c v)) (sum_at n d v)
 
--- up to eight rows of length n, none of them zero, have these pivots and these sums
-pub record AreSumsOf (n : ℕ) (rows : List (List Bool)) (pivots : List ℕ) (all : List (List Bool)) : Type 0 where
+-- a table of vectors of length n, the first of which is zero
+pub record IsTable (n : ℕ) (table : List (List Bool)) : Type 0 where
+  pub widths : HaveWidth n table
+  pub first : 0 < length table → row table 0 ≡ zeros n
+
+-- four such tables
+pub record AreTables (n : ℕ) (tables : Tables) : Type 0 where
+  pub first : IsTable n tables.first.items
+  pub second : IsTable n tables.second.items
+  pub third : IsTable n tables.third.items
+  pub fourth : IsTable n tables.fourth.items
+
+-- the table begins with the sums of the rows, in order
+pub record BeginsWithSums (n : ℕ) (rows table : List (List Bool)) : Type 0 where
+  pub room : 2 ^ length rows ≤ length table
+  pub sums_are : (k : ℕ) → k < 2 ^ length rows → row table k ≡ row (sums n rows) k
+
+-- up to eight rows of length n, none of them zero, have these pivots, and the table begins with their sums
+pub record AreSumsOf (n : ℕ) (rows : List (List Bool)) (pivots : List ℕ) (table : List (List Bool)) : Type 0 where
   pub widths : HaveWidth n rows
   pub few : length rows ≤ 8
   pub nonzero : HasNoZeroRow rows
   pub pivots_are : pivots ≡ map pivot_of rows
-  pub sums_are : all ≡ sums n rows
+  pub sums : BeginsWithSums n rows table

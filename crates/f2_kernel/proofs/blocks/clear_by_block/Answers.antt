@@ -2,6 +2,7 @@ use Rattle.std.proofs.Common.{◌≡◌, ◌++◌, ◌≤◌, ℕ, Bool, List, l
 use Rattle.f2_vec.specs.Vectors.{IsZero}
 use Rattle.f2_vec.specs.Spans.{row}
 use Rattle.f2_matrix.specs.Echelon.{IsEchelonForm, IsRowBasis, HasNoZeroRow}
+use Rattle.f2_kernel.specs.Inside.Sums.{AreSumsOf}
 use Rattle.f2_kernel.proofs.Blocked.{all_cleared, each_of_parts, without_zeros-IsRowBasis}
 use Rattle.f2_kernel.proofs.blocks.clear_by_block.Goals as goal
 
@@ -12,51 +13,71 @@ basis_of n block form rows basis h e f m nonzero zero = without_zeros-IsRowBasis
 pub without_zeros-requires : goal.without_zeros-requires
 without_zeros-requires c = (subst (IsEchelonForm c.args.n c.args.block.now) (sym c.rows.ensures.rows) c.in_ok-form.ensures.rows).reduced
 
-pub part_of-requires-clause-widths : goal.part_of-requires-clause-widths
-part_of-requires-clause-widths c =
+pub fill_part-requires-clause-widths : goal.fill_part-requires-clause-widths
+fill_part-requires-clause-widths c =
     let b = basis_of c.args.n c.args.block.now c.in_ok-form.form.rows c.rows.result.now c.without_zeros.result.now c.in_ok-form.ensures.rows c.rows.ensures.rows c.without_zeros.ensures.first c.without_zeros.ensures.within c.without_zeros.ensures.nonzero c.without_zeros.ensures.others in
     (each_of_parts (λ r. length r ≡ c.args.n) c.without_zeros.result.now c.split_up_to.result.0.now c.split_up_to-2.result.0.now c.split_up_to-3.result.0.now c.split_up_to-3.result.1.now c.split_up_to.result.1.now c.split_up_to-2.result.1.now b.widths c.split_up_to.ensures.whole c.split_up_to-2.ensures.whole c.split_up_to-3.ensures.whole).0
 
-pub part_of-requires-clause-nonzero : goal.part_of-requires-clause-nonzero
-part_of-requires-clause-nonzero c =
+pub fill_part-requires-clause-nonzero : goal.fill_part-requires-clause-nonzero
+fill_part-requires-clause-nonzero c =
     (each_of_parts (λ r. IsZero r → ⊥) c.without_zeros.result.now c.split_up_to.result.0.now c.split_up_to-2.result.0.now c.split_up_to-3.result.0.now c.split_up_to-3.result.1.now c.split_up_to.result.1.now c.split_up_to-2.result.1.now c.without_zeros.ensures.nonzero c.split_up_to.ensures.whole c.split_up_to-2.ensures.whole c.split_up_to-3.ensures.whole).0
 
-pub part_of-requires-2-clause-widths : goal.part_of-requires-2-clause-widths
-part_of-requires-2-clause-widths c =
+pub fill_part-requires-2-clause-widths : goal.fill_part-requires-2-clause-widths
+fill_part-requires-2-clause-widths c =
     let b = basis_of c.args.n c.args.block.now c.in_ok-form.form.rows c.rows.result.now c.without_zeros.result.now c.in_ok-form.ensures.rows c.rows.ensures.rows c.without_zeros.ensures.first c.without_zeros.ensures.within c.without_zeros.ensures.nonzero c.without_zeros.ensures.others in
     (each_of_parts (λ r. length r ≡ c.args.n) c.without_zeros.result.now c.split_up_to.result.0.now c.split_up_to-2.result.0.now c.split_up_to-3.result.0.now c.split_up_to-3.result.1.now c.split_up_to.result.1.now c.split_up_to-2.result.1.now b.widths c.split_up_to.ensures.whole c.split_up_to-2.ensures.whole c.split_up_to-3.ensures.whole).1.0
 
-pub part_of-requires-2-clause-nonzero : goal.part_of-requires-2-clause-nonzero
-part_of-requires-2-clause-nonzero c =
+pub fill_part-requires-2-clause-nonzero : goal.fill_part-requires-2-clause-nonzero
+fill_part-requires-2-clause-nonzero c =
     (each_of_parts (λ r. IsZero r → ⊥) c.without_zeros.result.now c.split_up_to.result.0.now c.split_up_to-2.result.0.now c.split_up_to-3.result.0.now c.split_up_to-3.result.1.now c.split_up_to.result.1.now c.split_up_to-2.result.1.now c.without_zeros.ensures.nonzero c.split_up_to.ensures.whole c.split_up_to-2.ensures.whole c.split_up_to-3.ensures.whole).1.0
 
-pub part_of-requires-3-clause-widths : goal.part_of-requires-3-clause-widths
-part_of-requires-3-clause-widths c =
+pub fill_part-requires-3-clause-widths : goal.fill_part-requires-3-clause-widths
+fill_part-requires-3-clause-widths c =
     let b = basis_of c.args.n c.args.block.now c.in_ok-form.form.rows c.rows.result.now c.without_zeros.result.now c.in_ok-form.ensures.rows c.rows.ensures.rows c.without_zeros.ensures.first c.without_zeros.ensures.within c.without_zeros.ensures.nonzero c.without_zeros.ensures.others in
     (each_of_parts (λ r. length r ≡ c.args.n) c.without_zeros.result.now c.split_up_to.result.0.now c.split_up_to-2.result.0.now c.split_up_to-3.result.0.now c.split_up_to-3.result.1.now c.split_up_to.result.1.now c.split_up_to-2.result.1.now b.widths c.split_up_to.ensures.whole c.split_up_to-2.ensures.whole c.split_up_to-3.ensures.whole).1.1.0
 
-pub part_of-requires-3-clause-nonzero : goal.part_of-requires-3-clause-nonzero
-part_of-requires-3-clause-nonzero c =
+pub fill_part-requires-3-clause-nonzero : goal.fill_part-requires-3-clause-nonzero
+fill_part-requires-3-clause-nonzero c =
     (each_of_parts (λ r. IsZero r → ⊥) c.without_zeros.result.now c.split_up_to.result.0.now c.split_up_to-2.result.0.now c.split_up_to-3.result.0.now c.split_up_to-3.result.1.now c.split_up_to.result.1.now c.split_up_to-2.result.1.now c.without_zeros.ensures.nonzero c.split_up_to.ensures.whole c.split_up_to-2.ensures.whole c.split_up_to-3.ensures.whole).1.1.0
 
-pub part_of-requires-4-clause-widths : goal.part_of-requires-4-clause-widths
-part_of-requires-4-clause-widths c =
+pub fill_part-requires-4-clause-widths : goal.fill_part-requires-4-clause-widths
+fill_part-requires-4-clause-widths c =
     let b = basis_of c.args.n c.args.block.now c.in_ok-form.form.rows c.rows.result.now c.without_zeros.result.now c.in_ok-form.ensures.rows c.rows.ensures.rows c.without_zeros.ensures.first c.without_zeros.ensures.within c.without_zeros.ensures.nonzero c.without_zeros.ensures.others in
     (each_of_parts (λ r. length r ≡ c.args.n) c.without_zeros.result.now c.split_up_to.result.0.now c.split_up_to-2.result.0.now c.split_up_to-3.result.0.now c.split_up_to-3.result.1.now c.split_up_to.result.1.now c.split_up_to-2.result.1.now b.widths c.split_up_to.ensures.whole c.split_up_to-2.ensures.whole c.split_up_to-3.ensures.whole).1.1.1
 
-pub part_of-requires-4-clause-nonzero : goal.part_of-requires-4-clause-nonzero
-part_of-requires-4-clause-nonzero c =
+pub fill_part-requires-4-clause-nonzero : goal.fill_part-requires-4-clause-nonzero
+fill_part-requires-4-clause-nonzero c =
     (each_of_parts (λ r. IsZero r → ⊥) c.without_zeros.result.now c.split_up_to.result.0.now c.split_up_to-2.result.0.now c.split_up_to-3.result.0.now c.split_up_to-3.result.1.now c.split_up_to.result.1.now c.split_up_to-2.result.1.now c.without_zeros.ensures.nonzero c.split_up_to.ensures.whole c.split_up_to-2.ensures.whole c.split_up_to-3.ensures.whole).1.1.1
 
-pub returns : goal.returns
-returns c =
+pub add_sums-requires-clause-first : goal.add_sums-requires-clause-first
+add_sums-requires-clause-first c = subst (AreSumsOf c.args.n c.split_up_to.result.0.now c.in_ok-first_pivots.first_pivots.items) (sym c.as_slice.ensures.value) c.in_ok-first_pivots.ensures.sums
+
+pub add_sums-requires-clause-second : goal.add_sums-requires-clause-second
+add_sums-requires-clause-second c = subst (AreSumsOf c.args.n c.split_up_to-2.result.0.now c.in_ok-second_pivots.second_pivots.items) (sym c.as_slice-2.ensures.value) c.in_ok-second_pivots.ensures.sums
+
+pub add_sums-requires-clause-third : goal.add_sums-requires-clause-third
+add_sums-requires-clause-third c = subst (AreSumsOf c.args.n c.split_up_to-3.result.0.now c.in_ok-third_pivots.third_pivots.items) (sym c.as_slice-3.ensures.value) c.in_ok-third_pivots.ensures.sums
+
+pub add_sums-requires-clause-fourth : goal.add_sums-requires-clause-fourth
+add_sums-requires-clause-fourth c = subst (AreSumsOf c.args.n c.split_up_to-3.result.1.now c.in_ok-fourth_pivots.fourth_pivots.items) (sym c.as_slice-4.ensures.value) c.in_ok-fourth_pivots.ensures.sums
+
+pub returns-clause-rows : goal.returns-clause-rows
+returns-clause-rows c =
     let n = c.args.n in
     let basis = c.without_zeros.result.now in
-    let a = c.in_ok-first.first.rows.now in
-    let b = c.in_ok-second.second.rows.now in
-    let x = c.in_ok-third.third.rows.now in
-    let y = c.in_ok-fourth.fourth.rows.now in
-    let whole : basis ≡ a ++ (b ++ (x ++ y)) = cc (c.split_up_to.ensures.whole, c.split_up_to-2.ensures.whole, c.split_up_to-3.ensures.whole, c.in_ok-first.ensures.rows, c.in_ok-second.ensures.rows, c.in_ok-third.ensures.rows, c.in_ok-fourth.ensures.rows) in
+    let a = c.split_up_to.result.0.now in
+    let b = c.split_up_to-2.result.0.now in
+    let x = c.split_up_to-3.result.0.now in
+    let y = c.split_up_to-3.result.1.now in
+    let whole : basis ≡ a ++ (b ++ (x ++ y)) = cc (c.split_up_to.ensures.whole, c.split_up_to-2.ensures.whole, c.split_up_to-3.ensures.whole) in
     all_cleared n c.args.block.now basis a b x y c.args.rows.now c.add_sums.new.vectors c.requires.block
     (basis_of c.args.n c.args.block.now c.in_ok-form.form.rows c.rows.result.now c.without_zeros.result.now c.in_ok-form.ensures.rows c.rows.ensures.rows c.without_zeros.ensures.first c.without_zeros.ensures.within c.without_zeros.ensures.nonzero c.without_zeros.ensures.others)
-    whole c.in_ok-first.ensures.sums.widths c.in_ok-second.ensures.sums.widths c.in_ok-third.ensures.sums.widths c.in_ok-fourth.ensures.sums.widths c.requires.rows c.add_sums.ensures
+    whole c.in_ok-first_pivots.ensures.sums.widths c.in_ok-second_pivots.ensures.sums.widths c.in_ok-third_pivots.ensures.sums.widths c.in_ok-fourth_pivots.ensures.sums.widths c.requires.rows c.add_sums.ensures
+
+pub returns-clause-tables : goal.returns-clause-tables
+returns-clause-tables c = record {
+  first = c.in_ok-first_pivots.ensures.table;
+  second = c.in_ok-second_pivots.ensures.table;
+  third = c.in_ok-third_pivots.ensures.table;
+  fourth = c.in_ok-fourth_pivots.ensures.table;
+}

@@ -1,32 +1,39 @@
-use Rattle.std.proofs.Common.{◌≡◌, ℕ, ◌<◌, ◌≤◌, Bool, List, [], map, length, get_or, ap, ◌∙◌, arith}
-use Rattle.std.proofs.lemmas.List.{get_or_read, get_or-map, length-map}
+use Rattle.std.proofs.Common.{◌≡◌, ℕ, ◌^◌, ◌<◌, ◌≤◌, Bool, List, [], map, length, get_or, ap, ◌∙◌, arith}
+use Rattle.std.proofs.lemmas.List.{get_or_default, get_or-map, length-map}
 use Rattle.f2_vec.specs.Vectors.{bit}
 use Rattle.f2_vec.specs.Spans.{row}
 use Rattle.f2_vec.proofs.Combinations.{map-map}
 use Rattle.f2_matrix.specs.Preimages.{pivot_of, at_pivots}
 use Rattle.f2_matrix.proofs.Pivots.{pivot_within}
 use Rattle.f2_kernel.specs.Inside.Sums.{sums, number, sum_at, AreSumsOf}
-use Rattle.f2_kernel.proofs.Blocked.{sum_within, length-sum_at, IsWithinWords-all}
+use Rattle.f2_kernel.proofs.Blocked.{length-sums, sum_within, length-sum_at, IsWithinWords-all}
 use Rattle.f2_kernel.proofs.blocks.sum_for.Goals as goal
 
 -- the number of the sum
-number_is : (n : ℕ) (rows : List (List Bool)) (ps : List ℕ) (all : List (List Bool)) (v : List Bool) (x : ℕ) → AreSumsOf n rows ps all → x ≡ number (map (bit v) ps) → x ≡ number (at_pivots rows v)
-number_is n rows ps all v x h e = e ∙ ap (λ z. number (map (bit v) z)) h.pivots_are ∙ ap number (map-map (bit v) pivot_of rows)
+number_is : (n : ℕ) (rows : List (List Bool)) (ps : List ℕ) (table : List (List Bool)) (v : List Bool) (x : ℕ) → AreSumsOf n rows ps table → x ≡ number (map (bit v) ps) → x ≡ number (at_pivots rows v)
+number_is n rows ps table v x h e = e ∙ ap (λ z. number (map (bit v) z)) h.pivots_are ∙ ap number (map-map (bit v) pivot_of rows)
 
-few : (n : ℕ) (rows : List (List Bool)) (ps : List ℕ) (all : List (List Bool)) → AreSumsOf n rows ps all → length ps ≤ 8
-few n rows ps all h = omega (arith, ap length h.pivots_are, length-map rows pivot_of, h.few)
+few : (n : ℕ) (rows : List (List Bool)) (ps : List ℕ) (table : List (List Bool)) → AreSumsOf n rows ps table → length ps ≤ 8
+few n rows ps table h = omega (arith, ap length h.pivots_are, length-map rows pivot_of, h.few)
 
-within : (n : ℕ) (rows : List (List Bool)) (ps : List ℕ) (all : List (List Bool)) (v : List Bool) (x : ℕ) → AreSumsOf n rows ps all → x ≡ number (map (bit v) ps) → x < length all
-within n rows ps all v x h e = omega (arith, sum_within n rows v, ap length h.sums_are, number_is n rows ps all v x h e)
+small : (n : ℕ) (rows : List (List Bool)) (ps : List ℕ) (table : List (List Bool)) (v : List Bool) (x : ℕ) → AreSumsOf n rows ps table → x ≡ number (map (bit v) ps) → x < 2 ^ length rows
+small n rows ps table v x h e = omega (arith, sum_within n rows v, length-sums n rows, number_is n rows ps table v x h e)
 
-sum_is : (n : ℕ) (rows : List (List Bool)) (ps : List ℕ) (all : List (List Bool)) (v r : List Bool) (x : ℕ) → AreSumsOf n rows ps all → x ≡ number (map (bit v) ps) → r ≡ row all x → r ≡ sum_at n rows v
-sum_is n rows ps all v r x h e at = at ∙ ap (λ z. row z x) h.sums_are ∙ ap (row (sums n rows)) (number_is n rows ps all v x h e)
+sum_is : (n : ℕ) (rows : List (List Bool)) (ps : List ℕ) (table : List (List Bool)) (v r : List Bool) (x : ℕ) → AreSumsOf n rows ps table → x ≡ number (map (bit v) ps) → r ≡ row table x → r ≡ sum_at n rows v
+sum_is n rows ps table v r x h e at = at ∙ h.sums.sums_are x (small n rows ps table v x h e) ∙ ap (row (sums n rows)) (number_is n rows ps table v x h e)
 
-pub index-requires : goal.index-requires
-index-requires c =
+pub bounds-part-number : goal.bounds-part-number
+bounds-part-number c =
     let p = c.args.part.now in
     let e = c.number_at-number.ensures ∙ ap (λ z. number (map (bit c.args.vector.now) z)) c.as_slice.ensures.value in
-    omega (arith, within c.args.n p.rows.now p.pivots.items p.sums.items c.args.vector.now c.number_at-number.result c.requires.part e, p.sums.ok.0)
+    omega (arith, small c.args.n p.rows.now p.pivots.items p.sums.now c.args.vector.now c.number_at-number.result c.requires.part e, c.requires.part.sums.room)
+
+pub offset_bounds-part-number : goal.offset_bounds-part-number
+offset_bounds-part-number c =
+    let p = c.args.part.now in
+    let e = c.number_at-number.ensures ∙ ap (λ z. number (map (bit c.args.vector.now) z)) c.as_slice.ensures.value in
+    let l : c.number_at-number.result < length p.sums.now = omega (arith, small c.args.n p.rows.now p.pivots.items p.sums.now c.args.vector.now c.number_at-number.result c.requires.part e, c.requires.part.sums.room) in
+    omega arith
 
 pub returns-clause-sum : goal.returns-clause-sum
 returns-clause-sum c =
@@ -34,14 +41,14 @@ returns-clause-sum c =
     let v = c.args.vector.now in
     let x = c.number_at-number.result in
     let e = c.number_at-number.ensures ∙ ap (λ z. number (map (bit v) z)) c.as_slice.ensures.value in
-    let l = within c.args.n p.rows.now p.pivots.items p.sums.items v x c.requires.part e in
-    sum_is c.args.n p.rows.now p.pivots.items p.sums.items v c.index.result.now x c.requires.part e (get_or_read p.sums.items x c.index.result.now l c.index.ensures [])
+    let l : x < length p.sums.now = omega (arith, small c.args.n p.rows.now p.pivots.items p.sums.now v x c.requires.part e, c.requires.part.sums.room) in
+    sum_is c.args.n p.rows.now p.pivots.items p.sums.now v (get_or p.sums.now x c.index-part-number.result) x c.requires.part e (get_or_default p.sums.now x c.index-part-number.result [] l)
 
 pub returns-clause-width : goal.returns-clause-width
 returns-clause-width c = ap length (returns-clause-sum c) ∙ length-sum_at c.args.n c.args.part.now.rows.now c.args.vector.now c.requires.part.widths
 
 pub returns-clause-within : goal.returns-clause-within
-returns-clause-within c = IsWithinWords-all c.args.n c.index.result.now (returns-clause-width c)
+returns-clause-within c = IsWithinWords-all c.args.n (get_or c.args.part.now.sums.now c.number_at-number.result c.index-part-number.result) (returns-clause-width c)
 
 pub number_at-number-requires-clause-within : goal.number_at-number-requires-clause-within
 number_at-number-requires-clause-within c = λ i l.

@@ -3,18 +3,18 @@ use Rattle.std.proofs.lemmas.List.{get_or_read, get_or_default}
 use Rattle.f2_vec.specs.Vectors.{sum_of}
 use Rattle.f2_vec.specs.Spans.{row, combination}
 use Rattle.f2_vec.proofs.Spans.{length-combination}
-use Rattle.f2_kernel.specs.Inside.Sums.{sums, number}
+use Rattle.f2_kernel.specs.Inside.Sums.{number, BeginsWithSums}
 use Rattle.f2_kernel.proofs.BlockProducts.{number_within, product_is, none_below, one_below, widths_below}
 use Rattle.f2_kernel.proofs.products.add_block.Goals as goal
 
 -- the number is that of a sum in the table, and the sum there is the product
-found : (n from to i x : ℕ) (block table vectors : List (List Bool)) (v : List Bool) → table ≡ sums n block → to ≡ from + length block → to ≤ length (row vectors i) → v ≡ row vectors i → x ≡ number (take (to - from) (drop from v))
+found : (n from to i x : ℕ) (block table vectors : List (List Bool)) (v : List Bool) → BeginsWithSums n block table → to ≡ from + length block → to ≤ length (row vectors i) → v ≡ row vectors i → x ≡ number (take (to - from) (drop from v))
     → (x < length table) × (row table x ≡ combination n (take (length block) (drop from (row vectors i))) block)
-found n from to i x block table vectors v is places within same e =
+found n from to i x block table vectors v h places within same e =
     let few : to - from ≡ length block = omega (arith, places) in
     let inside : from + length block ≤ length (row vectors i) = omega (arith, places, within) in
     let at : x ≡ number (take (length block) (drop from (row vectors i))) = e ∙ ap (λ j. number (take j (drop from v))) few ∙ ap (λ (u : List Bool). number (take (length block) (drop from u))) same in
-    (number_within n from x block table (row vectors i) is inside at, product_is n from x block table (row vectors i) is inside at)
+    (number_within n from x block table (row vectors i) h inside at, product_is n from x block table (row vectors i) h inside at)
 
 pub loop-i-init : goal.loop-i-init
 loop-i-init c = none_below c.args.n c.args.from c.args.block.now c.args.vectors.now c.args.sums.now
