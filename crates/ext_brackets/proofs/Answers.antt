@@ -19,8 +19,9 @@ use Rattle.ext_chart.specs.Classes.{bracket_text}
 use Rattle.ext_products.specs.declared.refusal.Pair.{Pair}
 use Rattle.ext_products.specs.declared.refusal.Pair.TheVariants.{Ab, Bc}
 use Rattle.ext_products.specs.declared.refusal.Refusal.{Refusal}
+use Rattle.ext_products.specs.Products.{HasAnswer}
 use Rattle.ext_products.proofs.Answers.{IsFound, found, product-exists}
-use Rattle.ext_brackets.specs.Brackets.{absent, past, not_zero, refusal_of, IsBracketText, IsToldOf, IsTold, BracketAnswerExists}
+use Rattle.ext_brackets.specs.Brackets.{absent, past, not_zero, refusal_of, IsBracketText, IsToldOf, IsTold, IsBracketAnswer}
 use Rattle.ext_brackets.proofs.Exists.{AreLaws, AreInRange, bracket_exists}
 
 -- ---- what no refusal says
@@ -109,10 +110,10 @@ in_range range a b c r q sphere there none =
 
 -- ---- what is told of classes that are there, in the range
 
-abbrev HasAnswer : (Result (List ℕ) Refusal → Type 0) → Type 0
-HasAnswer P = (answer : Result (List ℕ) Refusal) × P answer
+abbrev IsSome : (Result (List ℕ) Refusal → Type 0) → Type 0
+IsSome P = (answer : Result (List ℕ) Refusal) × P answer
 
-product-told : (pair : Pair) (a x : Class) (r q : Resolution) (y z : ClassAbove) (v : List Bool) → IsYonedaProduct r q y z v → (P : Result (List ℕ) Refusal → Type 0) → (IsZero v → HasAnswer P) → HasAnswer (λ answer. IsToldOf pair a x r q y z answer (P answer))
+product-told : (pair : Pair) (a x : Class) (r q : Resolution) (y z : ClassAbove) (v : List Bool) → IsYonedaProduct r q y z v → (P : Result (List ℕ) Refusal → Type 0) → (IsZero v → IsSome P) → IsSome (λ answer. IsToldOf pair a x r q y z answer (P answer))
 product-told pair a x r q y z v is P rest = elim (zero_or_first v) [
   | inl zero ↦ let told = rest zero in (told.0, record { value = v; product = is; nonzero = λ not. absurd (not zero); zero = λ w. told.1 })
   | inr first ↦ (Err (not_zero pair a x v), record { value = v; product = is; nonzero = λ not. refl; zero = λ zero. absurd (true≢false (sym first.1.one ∙ zero first.0)) })
@@ -129,7 +130,7 @@ module _ (laws : AreLaws) (one : LiftsGiveOneProduct) (r q : Resolution) (range 
     abbrev z : ClassAbove
     z = there.c_is.class
 
-    lower-exists : (ab : List Bool) → IsYonedaProduct q q x y ab → IsZero ab → HasAnswer (λ answer. IsToldOf Bc b c r q y z answer (IsOkAnd answer (IsBracketText a b c r q x y z)))
+    lower-exists : (ab : List Bool) → IsYonedaProduct q q x y ab → IsZero ab → IsSome (λ answer. IsToldOf Bc b c r q y z answer (IsOkAnd answer (IsBracketText a b c r q x y z)))
     lower-exists ab ab_is ab_zero =
         let row = inside.yz_row in
         let product = product-exists laws.lifts one r q range y z canonical canonical_q sphere (record { row = omega arith; degree = inside.yz_degree; number = inside.z_there }) inside.y_there in
@@ -137,7 +138,7 @@ module _ (laws : AreLaws) (one : LiftsGiveOneProduct) (r q : Resolution) (range 
         let bracket = bracket_exists laws r q range canonical canonical_q sphere x y z inside ab product.0 ab_is product.1 ab_zero zero in
         (Ok (bracket_text (pos (a.s + b.s + c.s) -ℤ pos 1) (a.t +ℤ b.t +ℤ c.t) bracket.value bracket.rows), record { value = bracket.value; rows = bracket.rows; bracket = bracket.is_bracket; is = refl }))
 
-    told-exists : HasAnswer (IsTold a b c r q)
+    told-exists : IsSome (IsTold a b c r q)
     told-exists =
         let row = inside.xy_row in
         let product = product-exists laws.lifts one q q range x y canonical_q canonical_q sphere (record { row = omega arith; degree = inside.xy_degree; number = inside.y_there }) inside.x_there in
@@ -151,5 +152,5 @@ module _ (laws : AreLaws) (one : LiftsGiveOneProduct) (r q : Resolution) (range 
       told-exists there (in_range range a b c r q sphere there parts.1)
   answer-exists (Some e) some = (Err e, refl)
 
-pub answers-exist : AreLaws → LiftsGiveOneProduct → BracketAnswerExists
-answers-exist laws one r q range a b c canonical canonical_q sphere = answer-exists laws one r q range canonical canonical_q sphere a b c (refusal_of range a b c r q) refl
+pub answers-exist : AreLaws → LiftsGiveOneProduct → (range : Range) (a b c : Class) → HasAnswer (IsBracketAnswer range a b c) range
+answers-exist laws one range a b c r q canonical canonical_q sphere = answer-exists laws one r q range canonical canonical_q sphere a b c (refusal_of range a b c r q) refl

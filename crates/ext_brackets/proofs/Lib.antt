@@ -2,5 +2,6 @@ mod Members
 pub mod Unique
 mod Exists
 mod Answers
+mod SphereModule
 mod Transport
 mod Limits

@@ -2,12 +2,11 @@
 use Rattle.std.proofs.Common.{◌≡◌, ◌≢◌, ℕ, zero, suc, ◌+◌, ℤ, pos, ◌+ℤ◌, ◌-ℤ◌, Bool, List, refl, ap, sym, subst, ◌∙◌, arith}
 use Rattle.std.specs.Prelude.{Option, Some, None, MatchOption, option_map, Result, Ok, Err, IsOkAnd}
 use Rattle.std.proofs.lemmas.Int.{ints}
-use Rattle.finite_module.specs.Module.{Module as SteenrodModule}
 use Rattle.finite_module.specs.Checked.{sphere_file}
 use Rattle.finite_module.specs.DerivedAction.{derived_module}
 use Rattle.finite_module.specs.Graded.{ModulesAreSteenrodModules}
 use Rattle.f2_vec.specs.Vectors.{IsZero}
-use Rattle.resolution_laws.specs.Resolution.{Content, IsCanonicalTable, CanonicalTableIsUnique}
+use Rattle.resolution_laws.specs.Resolution.{Module, Content, IsCanonicalTable, CanonicalTableIsUnique}
 use Rattle.square.specs.declared.range.Range.{Range}
 use Rattle.square.specs.Squares.{over, module_over}
 use Rattle.square.specs.Tables.{Staircase, plain_rows, IsTable, IsThrough, cut}
@@ -29,9 +28,9 @@ use Rattle.ext_products.specs.declared.refusal.Pair.TheVariants.{Ab, Bc}
 use Rattle.ext_products.specs.declared.refusal.Refusal.{Refusal}
 use Rattle.ext_products.specs.declared.refusal.ClassesFault.{ClassesFault}
 use Rattle.ext_products.specs.declared.refusal.ClassesFault.TheVariants.{Refused, Memory}
-use Rattle.ext_products.specs.Products.{resolution}
+use Rattle.ext_products.specs.Products.{IsAnswerIn}
 use Rattle.ext_products.proofs.Answers.{class-unique}
-use Rattle.ext_brackets.specs.Brackets.{absent, past, not_zero, refusal_of, IsBracketText, IsToldOf, IsTold, IsBracketAnswer, IsBracketAnswerOver, IsBracketAnswerIn, IsOfPlaces}
+use Rattle.ext_brackets.specs.Brackets.{absent, past, not_zero, refusal_of, IsBracketText, IsToldOf, IsTold, IsBracketAnswer, IsOfPlaces}
 use Rattle.ext_brackets.specs.Inside.{fault_of}
 use Rattle.ext_brackets.proofs.Answers.{AreThere, classes_there, parts_none}
 
@@ -77,7 +76,7 @@ module _ (table sphere : Staircase) (range : Range) (all : IsCanonicalIn range t
 
 -- ---- what is told
 
-module _ (modules : ModulesAreSteenrodModules) (table sphere : Staircase) (hq : IsTable sphere) (range : Range) (whole_q : IsThrough range sphere.rows) (is_sphere : IsSphere (resolution_of sphere)) (all_q : IsCanonicalIn range sphere) (a b c : Class) where
+module _ (table sphere : Staircase) (range : Range) (is_sphere : IsSphere (resolution_of sphere)) (a b c : Class) where
   told_answer : (answer : Result (List ℕ) Refusal) → first_fault table sphere range a b c ≡ None → IsTold a b c (through range table) (through range sphere) answer → IsBracketAnswer range a b c (through range table) (through range sphere) answer
   told_answer answer none is = subst (λ (o : Option Refusal). MatchOption o (IsTold a b c (through range table) (through range sphere) answer) (λ e. answer ≡ Err e)) (sym (none_same table sphere range a b c none)) is
 
@@ -89,7 +88,7 @@ module _ (modules : ModulesAreSteenrodModules) (table sphere : Staircase) (hq : 
   there : first_fault table sphere range a b c ≡ None → AreThere a b c (through range table) (through range sphere)
   there none = classes_there a b c (through range table) (through range sphere) (parts_none range a b c (through range table) (through range sphere) (none_same table sphere range a b c none)).0
 
-  module _ (all : IsCanonicalIn range table) where
+  module _ (all : IsCanonicalIn range table) (all_q : IsCanonicalIn range sphere) where
     product_ab : (v : List Bool) → IsProductOver sphere sphere range a b v → (x y : ClassAbove) → IsAt (through range sphere) a x → IsAt (through range sphere) b y → IsYonedaProduct (through range sphere) (through range sphere) x y v
     product_ab v p x y = product_at sphere sphere range all_q all_q a b v p x y
 
@@ -158,40 +157,45 @@ module _ (modules : ModulesAreSteenrodModules) (table sphere : Staircase) (hq : 
         told_by (there none) k.0.product k.0.is_product (Err (not_zero Bc b c v)) (λ not. absurd (not k.0.is_zero))
         (λ t w. record { value = v; product = product_bc v k.1 t.b_is.class t.c_is.class t.b_is.at t.c_is.at; nonzero = λ not. refl; zero = λ u. absurd (k.2 u) })
 
-  -- over the canonical table of the sphere's module
-  module _ (unique : CanonicalTableIsUnique) (is_sphere_module : sphere.resolved.plain ≡ derived_module sphere_file) where
-    answer_in : (answer : Result (List ℕ) Refusal) → IsBracketAnswer range a b c (through range table) (through range sphere) answer → IsBracketAnswerIn table range a b c answer
-    answer_in answer here =
-        let P : SteenrodModule → Type 0 = λ m. (full : List (List Content)) → IsCanonicalTable (module_over m) range.s range.t full → IsBracketAnswer range a b c (through range table) (resolution m full) answer in
-        let near = cut range (plain_rows sphere.rows) in
-        let canonical = is_canonical sphere hq range (whole_q range.s (omega arith)) modules all_q in
-        subst P is_sphere_module (λ full is_full.
-        subst (λ (t : List (List Content)). IsBracketAnswer range a b c (through range table) (resolution sphere.resolved.plain t) answer) (unique (over sphere.resolved) range.s range.t near full canonical.canonical is_full) here)
+  -- what is told, where both tables are canonical in the range
+  abbrev IsToldOver : Result (List ℕ) Refusal → Type 0
+  IsToldOver answer = IsCanonicalIn range table → IsCanonicalIn range sphere → IsBracketAnswer range a b c (through range table) (through range sphere) answer
 
-    pub text_answer : (made : Made) → first_fault table sphere range a b c ≡ None → IsBracketOver table sphere range a b c made → (text : List ℕ) → text ≡ bracket_text made.s made.t made.value made.indeterminacy.rows → IsBracketAnswerOver table range a b c (Ok text)
-    text_answer made none is text shown all = answer_in (Ok text) (told_answer (Ok text) none (text_told all made is text shown))
+  pub text_answer : (made : Made) → first_fault table sphere range a b c ≡ None → IsBracketOver table sphere range a b c made → (text : List ℕ) → text ≡ bracket_text made.s made.t made.value made.indeterminacy.rows → IsToldOver (Ok text)
+  text_answer made none is text shown all all_q = told_answer (Ok text) none (text_told all all_q made is text shown)
 
-    -- why there is no text
-    pub record IsToldAs (f : MasseyFault) : Type 0 where
-      pub refusal : Refusal
-      pub is : fault_of a b c f ≡ Refused refusal
-      pub answer : IsBracketAnswerOver table range a b c (Err refusal)
-      pub sure : IsOfPlaces refusal → IsBracketAnswerIn table range a b c (Err refusal)
+  -- why there is no text
+  pub record IsToldAs (f : MasseyFault) : Type 0 where
+    pub refusal : Refusal
+    pub is : fault_of a b c f ≡ Refused refusal
+    pub answer : IsToldOver (Err refusal)
+    pub sure : IsOfPlaces refusal → IsBracketAnswer range a b c (through range table) (through range sphere) (Err refusal)
 
-    -- a refusal of a place, whatever the squares are
-    of_places : (f : MasseyFault) (e : Refusal) → fault_of a b c f ≡ Refused e → first_fault table sphere range a b c ≡ Some f → IsToldAs f
-    of_places f e is cause =
-        let answer = answer_in (Err e) (refused_answer f e is cause) in
-        record { refusal = e; is = is; answer = λ all. answer; sure = λ o. answer }
+  -- a refusal of a place, whatever the squares are
+  of_places : (f : MasseyFault) (e : Refusal) → fault_of a b c f ≡ Refused e → first_fault table sphere range a b c ≡ Some f → IsToldAs f
+  of_places f e is cause =
+      let answer = refused_answer f e is cause in
+      record { refusal = e; is = is; answer = λ all all_q. answer; sure = λ o. answer }
 
-    pub fault_answer : (f : MasseyFault) → IsCause table sphere range a b c f → fault_of a b c f ≢ Memory → IsToldAs f
-    fault_answer (Absent which count) cause other = of_places (Absent which count) (absent a b c which count) refl cause
-    fault_answer (Past which s t) cause other = of_places (Past which s t) (past which s t) refl cause
-    fault_answer (NotZero zero v) cause other =
-        let e : Refusal = not_zero Ab a b v in
-        record { refusal = e; is = refl; answer = λ all. answer_in (Err e) (told_answer (Err e) cause.0 (first_told all v cause.0 cause.1)); sure = λ o. absurd o }
-    fault_answer (NotZero (suc zero) v) cause other =
-        let e : Refusal = not_zero Bc b c v in
-        record { refusal = e; is = refl; answer = λ all. answer_in (Err e) (told_answer (Err e) cause.0 (second_told all v cause.0 cause.1)); sure = λ o. absurd o }
-    fault_answer (NotZero (suc (suc n)) v) cause other = absurd cause.1
-    fault_answer NoMemory cause other = absurd (other refl)
+  pub fault_answer : (f : MasseyFault) → IsCause table sphere range a b c f → fault_of a b c f ≢ Memory → IsToldAs f
+  fault_answer (Absent which count) cause other = of_places (Absent which count) (absent a b c which count) refl cause
+  fault_answer (Past which s t) cause other = of_places (Past which s t) (past which s t) refl cause
+  fault_answer (NotZero zero v) cause other =
+      let e : Refusal = not_zero Ab a b v in
+      record { refusal = e; is = refl; answer = λ all all_q. told_answer (Err e) cause.0 (first_told all all_q v cause.0 cause.1); sure = λ o. absurd o }
+  fault_answer (NotZero (suc zero) v) cause other =
+      let e : Refusal = not_zero Bc b c v in
+      record { refusal = e; is = refl; answer = λ all all_q. told_answer (Err e) cause.0 (second_told all all_q v cause.0 cause.1); sure = λ o. absurd o }
+  fault_answer (NotZero (suc (suc n)) v) cause other = absurd cause.1
+  fault_answer NoMemory cause other = absurd (other refl)
+
+-- ---- over a canonical table of the sphere
+
+module _ (modules : ModulesAreSteenrodModules) (unique : CanonicalTableIsUnique) (table sphere : Staircase) (hq : IsTable sphere) (range : Range) (whole_q : IsThrough range sphere.rows) (is_module : over sphere.resolved ≡ module_over (derived_module sphere_file)) (a b c : Class) where
+  pub answer_in : IsCanonicalIn range sphere → (answer : Result (List ℕ) Refusal) → IsBracketAnswer range a b c (through range table) (through range sphere) answer → IsAnswerIn (IsBracketAnswer range a b c) table range answer
+  answer_in all_q answer here =
+      let P : Module → Type 0 = λ m. (full : List (List Content)) → IsCanonicalTable m range.s range.t full → IsBracketAnswer range a b c (through range table) (record { base = m; table = full }) answer in
+      let near = cut range (plain_rows sphere.rows) in
+      let canonical = is_canonical sphere hq range (whole_q range.s (omega arith)) modules all_q in
+      subst P is_module (λ full is_full.
+      subst (λ (t : List (List Content)). IsBracketAnswer range a b c (through range table) (record { base = over sphere.resolved; table = t }) answer) (unique (over sphere.resolved) range.s range.t near full canonical.canonical is_full) here)

@@ -8,6 +8,7 @@ use Rattle.f2_vec.proofs.Sums.{bit-sum_of, length-sum_of, sum_of-assoc, sum_of-s
 use Rattle.f2_vec.proofs.Spans.{length-IsInSpan, sum-IsInSpan}
 use Rattle.f2_matrix.specs.Echelon.{IsReduced, IsRowBasis, RowBasisIsUnique}
 use Rattle.f2_matrix.proofs.Unique.{zero_or_first, zero_without_first, span_first-IsPivot}
+use Rattle.square.specs.declared.range.Range.{Range}
 use Rattle.lift_laws.specs.Lifts.{Resolution}
 use Rattle.lift_laws.specs.Products.{Class as ClassAbove, count_of}
 use Rattle.bracket_laws.specs.Brackets.{top_of, IsBracketMember}
@@ -17,8 +18,9 @@ use Rattle.ext_chart.specs.Classes.{bracket_text}
 use Rattle.ext_products.specs.declared.refusal.Pair.{Pair}
 use Rattle.ext_products.specs.declared.refusal.Pair.TheVariants.{Ab, Bc}
 use Rattle.ext_products.specs.declared.refusal.Refusal.{Refusal}
+use Rattle.ext_products.specs.Products.{HasOneAnswer}
 use Rattle.ext_products.proofs.Answers.{class-unique}
-use Rattle.ext_brackets.specs.Brackets.{refusal_of, not_zero, IsBracketText, IsToldOf, IsTold, BracketAnswerIsUnique}
+use Rattle.ext_brackets.specs.Brackets.{refusal_of, not_zero, IsBracketText, IsToldOf, IsTold, IsBracketAnswer}
 use Rattle.ext_brackets.proofs.Members.{length-member}
 
 -- ---- vectors
@@ -153,5 +155,5 @@ module _ (unique : RowBasisIsUnique) (r q : Resolution) (a b c : Class) where
   answer-unique None s t p k = told-unique s t p k
   answer-unique (Some e) s t p k = p ∙ sym k
 
-pub answers-unique : RowBasisIsUnique → BracketAnswerIsUnique
-answers-unique unique r q range a b c s t p k = answer-unique unique r q a b c (refusal_of range a b c r q) s t p k
+pub answers-unique : RowBasisIsUnique → (range : Range) (a b c : Class) → HasOneAnswer (IsBracketAnswer range a b c)
+answers-unique unique range a b c r q s t p k = answer-unique unique r q a b c (refusal_of range a b c r q) s t p k

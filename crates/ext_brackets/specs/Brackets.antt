@@ -2,17 +2,11 @@
 -- modules).
 use Rattle.std.specs.Prelude.{◌≡◌, ℕ, zero, suc, ◌+◌, ℤ, pos, ◌+ℤ◌, ◌-ℤ◌, Bool, List, Option, MatchOption, Result, Err, IsOkAnd, ⊤}
 use Rattle.f2_vec.specs.Vectors.{IsZero}
-use Rattle.finite_module.specs.Checked.{sphere_file}
-use Rattle.finite_module.specs.DerivedAction.{derived_module}
-use Rattle.resolution_laws.specs.Resolution.{Content, IsCanonicalTable}
 use Rattle.square.specs.declared.range.Range.{Range}
-use Rattle.square.specs.Squares.{module_over}
-use Rattle.square.specs.Tables.{Staircase}
-use Rattle.lift_laws.specs.Lifts.{Resolution, IsCanonical, IsSphere}
+use Rattle.lift_laws.specs.Lifts.{Resolution}
 use Rattle.lift_laws.specs.Products.{Class as ClassAbove}
 use Rattle.chain_map.specs.declared.class.Class.{Class}
-use Rattle.chain_map.specs.Classes.{IsAt, first_refusal, through}
-use Rattle.chain_map.specs.Lifting.{IsCanonicalIn}
+use Rattle.chain_map.specs.Classes.{IsAt, first_refusal}
 use Rattle.yoneda.specs.Products.{IsYonedaProduct}
 use Rattle.massey.specs.Brackets.{IsBracketOf}
 use Rattle.ext_chart.specs.Classes.{bracket_text}
@@ -23,7 +17,6 @@ use Rattle.ext_products.specs.declared.refusal.Target.{Target}
 use Rattle.ext_products.specs.declared.refusal.Target.TheVariants.{Product, Bracket}
 use Rattle.ext_products.specs.declared.refusal.Refusal.{Refusal}
 use Rattle.ext_products.specs.declared.refusal.Refusal.TheVariants.{NoClass, OutOfRange, Nonzero}
-use Rattle.ext_products.specs.Products.{resolution}
 
 -- ---- classes that are not there, squares that are past the range, and products that are not zero
 
@@ -81,30 +74,8 @@ abbrev pub IsBracketAnswer : Range → Class → Class → Class → Resolution 
 IsBracketAnswer range a b c r q answer =
     MatchOption (refusal_of range a b c r q) (IsTold a b c r q answer) (λ refusal. answer ≡ Err refusal)
 
--- what is told is right of the squares that the table has in the range
-abbrev pub IsBracketAnswerIn : Staircase → Range → Class → Class → Class → Result (List ℕ) Refusal → Type 0
-IsBracketAnswerIn table range a b c answer =
-    (sphere : List (List Content)) →
-    IsCanonicalTable (module_over (derived_module sphere_file)) range.s range.t sphere →
-    IsBracketAnswer range a b c (through range table) (resolution (derived_module sphere_file) sphere) answer
-
--- what is told is right, where the table is that of the canonical resolution in the range
-abbrev pub IsBracketAnswerOver : Staircase → Range → Class → Class → Class → Result (List ℕ) Refusal → Type 0
-IsBracketAnswerOver table range a b c answer = IsCanonicalIn range table → IsBracketAnswerIn table range a b c answer
-
 -- a refusal of a place: that a class is not there, or that a square is past the range
 abbrev pub IsOfPlaces : Refusal → Type 0
 IsOfPlaces (NoClass named class count) = ⊤
 IsOfPlaces (OutOfRange target s t) = ⊤
 IsOfPlaces (Nonzero pair s t product) = ⊥
-
--- The canonical resolutions of a module and of the sphere have an answer for any three classes,
-abbrev pub BracketAnswerExists : Type 0
-BracketAnswerExists = (r q : Resolution) (range : Range) (a b c : Class) → IsCanonical r range.s range.t →
-    IsCanonical q range.s range.t → IsSphere q →
-    (answer : Result (List ℕ) Refusal) × IsBracketAnswer range a b c r q answer
-
--- and any two resolutions at most one.
-abbrev pub BracketAnswerIsUnique : Type 0
-BracketAnswerIsUnique = (r q : Resolution) (range : Range) (a b c : Class) (x y : Result (List ℕ) Refusal) →
-    IsBracketAnswer range a b c r q x → IsBracketAnswer range a b c r q y → x ≡ y

@@ -1,5 +1,5 @@
 -- What contracts of private functions cite: why there is no bracket, told of the classes that were asked for.
-use Rattle.std.specs.Prelude.{zero, suc, ◌+◌, ◌+ℤ◌, ◌<◌, ◌^◌, ◌≤ℤ◌, ◌<ℤ◌, pos, neg_ℤ, ⊤}
+use Rattle.std.specs.Prelude.{zero, suc, ◌+◌, ◌+ℤ◌, ◌<◌, ◌^◌, ◌≤ℤ◌, ◌<ℤ◌, pos, neg_ℤ}
 use Rattle.chain_map.specs.declared.class.Class.{Class}
 use Rattle.massey.specs.declared.fault.MasseyFault.{MasseyFault}
 use Rattle.massey.specs.declared.fault.MasseyFault.TheVariants.{NoClass as Absent, OutOfRange as Past, Nonzero as NotZero, Memory as NoMemory}
@@ -21,11 +21,3 @@ pub record HasSquare (a x : Class) : Type 0 where
   pub row : a.s + x.s < 2 ^ 31
   pub least : neg_ℤ (pos (2 ^ 31)) ≤ℤ (a.t +ℤ x.t)
   pub most : (a.t +ℤ x.t) <ℤ pos (2 ^ 31)
-
--- so are those of the product that a fault names
-abbrev pub HasSquares : Class → Class → Class → MasseyFault → Type 0
-HasSquares a b c (Absent which count) = ⊤
-HasSquares a b c (Past which s t) = ⊤
-HasSquares a b c (NotZero zero product) = HasSquare a b
-HasSquares a b c (NotZero (suc n) product) = HasSquare b c
-HasSquares a b c NoMemory = ⊤

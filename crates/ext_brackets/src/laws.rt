@@ -1,9 +1,12 @@
 //! Laws over the definitions, as contracts of functions that do nothing.
-ghost use Rattle.ext_brackets.specs.Brackets.{BracketAnswerExists, BracketAnswerIsUnique};
+ghost use Rattle.square.specs.declared.range.Range.{Range};
+ghost use Rattle.chain_map.specs.declared.class.Class.{Class};
+ghost use Rattle.ext_products.specs.Products.{HasAnswer, HasOneAnswer};
+ghost use Rattle.ext_brackets.specs.Brackets.{IsBracketAnswer};
 
 /// The canonical resolutions of a module and of the sphere have an answer for any three classes.
 pub fn bracket_answer_exists()
-    ensures { BracketAnswerExists }
+    ensures { (range : Range) (a b c : Class) → HasAnswer (IsBracketAnswer range a b c) range }
 {
     lift_laws::each_class_lifts();
     lift_laws::lifts_give_one_product();
@@ -15,7 +18,7 @@ pub fn bracket_answer_exists()
 
 /// Two resolutions have at most one answer.
 pub fn bracket_answer_is_unique()
-    ensures { BracketAnswerIsUnique }
+    ensures { (range : Range) (a b c : Class) → HasOneAnswer (IsBracketAnswer range a b c) }
 {
     f2_matrix::row_basis_is_unique();
 }

@@ -1,7 +1,10 @@
 //! Why there is no bracket, told of the classes that were asked for.
-ghost use Rattle.std.specs.Prelude.{◌≡◌};
-ghost use Rattle.ext_brackets.specs.Brackets.{absent, target_numbered, not_zero};
-ghost use Rattle.ext_brackets.specs.Inside.{fault_of, HasSquare, HasSquares};
+ghost use Rattle.std.specs.Prelude.{◌≡◌, ◌↔◌, ℕ, suc, Bool, List, IfErr, IsTrue};
+ghost use Rattle.massey.specs.declared.fault.MasseyFault.TheVariants.{Nonzero as NotZero};
+ghost use Rattle.ext_products.specs.declared.refusal.Refusal.{Refusal as WhyNot};
+ghost use Rattle.ext_products.specs.declared.refusal.ClassesFault.TheVariants.{Refused};
+ghost use Rattle.ext_brackets.specs.Brackets.{absent, target_numbered, not_zero, IsOfPlaces};
+ghost use Rattle.ext_brackets.specs.Inside.{fault_of, HasSquare};
 
 use chain_map::Class;
 use ext_products::{ClassesFault, Named, Pair, Refusal, Target};
@@ -10,7 +13,8 @@ use massey::MasseyFault;
 
 /// What a fault of the bracket <a, b, c> says of the classes.
 pub(crate) fn fault_of(fault: MasseyFault, a: Class, b: Class, c: Class) -> ClassesFault
-    requires squares { HasSquares a b c fault }
+    requires ab { (product : List Bool) → fault ≡ NotZero 0 product → HasSquare a b }
+    requires bc { (n : ℕ) (product : List Bool) → fault ≡ NotZero (suc n) product → HasSquare b c }
     ensures { result ≡ fault_of a b c fault }
 {
     let refusal = match fault {
@@ -27,6 +31,16 @@ pub(crate) fn fault_of(fault: MasseyFault, a: Class, b: Class, c: Class) -> Clas
         MasseyFault::Memory => return ClassesFault::Memory,
     };
     ClassesFault::Refused(refusal)
+}
+
+/// Whether it is a refusal of a place: that a class is not there, or that a square is past the range.
+pub(crate) fn is_of_place(text: &Result<Vec<u8>, ClassesFault>) -> bool
+    ensures { IfErr text.now (λ e. (refusal : WhyNot) → e ≡ Refused refusal → IsTrue result ↔ IsOfPlaces refusal) }
+{
+    match text {
+        Err(ClassesFault::Refused(refusal)) => !matches!(refusal, Refusal::Nonzero { .. }),
+        _ => false,
+    }
 }
 
 /// That there is no class with this number, 0 for a, 1 for b and 2 for c.

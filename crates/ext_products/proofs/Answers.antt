@@ -21,7 +21,7 @@ use Rattle.ext_chart.specs.Classes.{product_lines_text}
 use Rattle.ext_products.specs.declared.refusal.Refusal.{Refusal}
 use Rattle.ext_products.specs.declared.refusal.Refusal.TheVariants.{NoClass}
 use Rattle.ext_products.specs.declared.refusal.Named.TheVariants.{By}
-use Rattle.ext_products.specs.Products.{OneEach, class_at, factors, IsProductLine, IsProductsText, ProductsAnswerExists, ProductsAnswerIsUnique}
+use Rattle.ext_products.specs.Products.{OneEach, class_at, factors, IsProductLine, IsProductsText, IsProductsAnswer, HasAnswer, HasOneAnswer}
 use Rattle.ext_products.proofs.OneEach.{OneEach-unique, OneEach-made}
 use Rattle.ext_products.proofs.Factors.{IsFactor, are_factors}
 
@@ -33,11 +33,11 @@ line_of s t i target_s target_t value = record { s = s; t = t; i = i; target_s =
 -- a line has what its class determines
 line-unique : (r q : Resolution) (a x : ClassAbove) (y z : ProductLine) → IsProductLine r q a x y → IsProductLine r q a x z → y ≡ z
 line-unique r q a x y z p k =
-    let s : y.s ≡ z.s = p.places.s ∙ sym k.places.s in
-    let t : y.t ≡ z.t = p.places.t ∙ sym k.places.t in
-    let i : y.i ≡ z.i = p.places.i ∙ sym k.places.i in
-    let target_s : y.target_s ≡ z.target_s = p.places.target_s ∙ sym k.places.target_s in
-    let target_t : y.target_t ≡ z.target_t = p.places.target_t ∙ sym k.places.target_t in
+    let s : y.s ≡ z.s = p.s ∙ sym k.s in
+    let t : y.t ≡ z.t = p.t ∙ sym k.t in
+    let i : y.i ≡ z.i = p.i ∙ sym k.i in
+    let target_s : y.target_s ≡ z.target_s = p.target_s ∙ sym k.target_s in
+    let target_t : y.target_t ≡ z.target_t = p.target_t ∙ sym k.target_t in
     let value : y.value ≡ z.value = p.product.each z.value k.product.some in
     ap (λ (n : ℕ). line_of n y.t y.i y.target_s y.target_t y.value) s
     ∙ (ap (λ (n : ℤ). line_of z.s n y.i y.target_s y.target_t y.value) t
@@ -66,8 +66,8 @@ answer-unique range by r q None (Ok x) (Ok y) p k = ap (λ (t : List ℕ). Ok t)
 answer-unique range by r q None (Ok x) (Err e) p k = absurd k
 answer-unique range by r q None (Err e) y p k = absurd p
 
-pub answers-unique : ProductsAnswerIsUnique
-answers-unique r q range by a b p k = answer-unique range by r q (missing_in q by) a b p k
+pub answers-unique : (range : Range) (by : Class) → HasOneAnswer (IsProductsAnswer range by)
+answers-unique range by r q a b p k = answer-unique range by r q (missing_in q by) a b p k
 
 -- ---- one
 
@@ -88,7 +88,7 @@ line-exists : EachClassLifts → LiftsGiveOneProduct → (r q : Resolution) (ran
 line-exists lifts one r q range a canonical canonical_q sphere there x factor =
     let product = product-exists lifts one r q range a x canonical canonical_q sphere factor there in (
       record { s = x.s; t = r.base.bottom +ℤ pos x.above; i = x.i; target_s = x.s + a.s; target_t = r.base.bottom +ℤ pos (a.above + x.above); value = product.0 },
-      record { places = record { s = refl; t = refl; i = refl; target_s = refl; target_t = refl }; product = product.1 },
+      record { s = refl; t = refl; i = refl; target_s = refl; target_t = refl; product = product.1 },
     )
 
 -- ---- the class that is asked for
@@ -161,6 +161,6 @@ answer-by range by r q count text = elim (cases_lt by.i count) [
       (answer, subst P (sym test) refl)
 ]
 
-pub answers-exist : EachClassLifts → LiftsGiveOneProduct → ProductsAnswerExists
-answers-exist lifts one r q range by canonical canonical_q sphere =
+pub answers-exist : EachClassLifts → LiftsGiveOneProduct → (range : Range) (by : Class) → HasAnswer (IsProductsAnswer range by) range
+answers-exist lifts one range by r q canonical canonical_q sphere =
     answer-by range by r q (class_count q by.s by.t) (λ l. text-exists lifts one r q range by canonical canonical_q sphere (found q by (above_of q.base.bottom by.t) refl l))

@@ -1,6 +1,6 @@
 -- What is made over the tables that there are is what the canonical tables through the range have.
 use Rattle.std.proofs.Common.{◌≡◌, ℕ, ◌+◌, ◌<◌, ◌≤◌, inl, inr, ℤ, pos, ◌+ℤ◌, ◌-ℤ◌, Bool, nat_lt, if◌then◌else◌, List, [], length, take, min, Option, Some, None, refl, ap, sym, subst, ◌∙◌, arith}
-use Rattle.std.specs.Prelude.{MatchOption, IsOkAnd, Result, Ok, Err}
+use Rattle.std.specs.Prelude.{MatchOption, option_map, unwrap_or, IsOkAnd, Result, Ok, Err}
 use Rattle.std.proofs.lemmas.Bool.{cases_lt}
 use Rattle.std.proofs.lemmas.Int.{ints}
 use Rattle.std.proofs.lemmas.List.{ext_get_or, get_or-take, length-take-le, take-take}
@@ -38,7 +38,7 @@ use Rattle.ext_products.specs.declared.refusal.Refusal.{Refusal}
 use Rattle.ext_products.specs.declared.refusal.Refusal.TheVariants.{NoClass}
 use Rattle.ext_products.specs.declared.refusal.Named.TheVariants.{By}
 use Rattle.ext_products.specs.Products.{OneEach, resolution, factors, IsProductLine, IsProductsText, IsProductsAnswer, IsAnswerOver, IsAnswerIn}
-use Rattle.ext_products.specs.Inside.{reach_of, degrees_within, IsLineOver}
+use Rattle.ext_products.specs.Inside.{reach_of, IsLineOver}
 use Rattle.ext_products.proofs.OneEach.{OneEach-all}
 use Rattle.ext_products.proofs.Factors.{IsFactor, are_factors, factors-same}
 use Rattle.ext_products.proofs.Answers.{none_past}
@@ -70,6 +70,10 @@ module _ (sphere : Staircase) (far : Range) (are_q : IsCanonicalIn far sphere) (
 
 -- ---- how many classes there are at the place of a class
 
+-- the degrees of the range that are asked of the sphere
+abbrev degrees_asked : Range → Option ℕ → ℕ
+degrees_asked range o = unwrap_or (option_map (λ k. min k range.t) o) 0
+
 module _ (sphere : Staircase) (range : Range) (by : Class) (are_q : IsCanonicalIn (reach_of range by) sphere) (full : List (List Content)) (is_full : IsCanonicalTable (over sphere.resolved) range.s range.t full) (bottom : bottom_of sphere.resolved ≡ pos 0) where
   abbrev reach : Range
   reach = reach_of range by
@@ -91,7 +95,7 @@ module _ (sphere : Staircase) (range : Range) (by : Class) (are_q : IsCanonicalI
 
   counted_at : (o : Option ℕ) → above_of (bottom_of sphere.resolved) by.t ≡ o → classes_over (through reach sphere) by.s o ≡ classes_over q by.s o
   counted_at None e = refl
-  counted_at (Some k) e = counted k (ap (degrees_within range.t) (ap (λ (b : ℤ). above_of b by.t) (sym bottom) ∙ e))
+  counted_at (Some k) e = counted k (ap (degrees_asked range) (ap (λ (b : ℤ). above_of b by.t) (sym bottom) ∙ e))
 
   same_missing : missing_in (through reach sphere) by ≡ missing_in q by
   same_missing = ap (λ (count : ℕ). if nat_lt by.i count then None else Some count) (counted_at (above_of (bottom_of sphere.resolved) by.t) refl)
@@ -100,7 +104,7 @@ module _ (sphere : Staircase) (range : Range) (by : Class) (are_q : IsCanonicalI
 pub within-reach : (range : Range) (by : Class) (b : ℤ) → b ≡ pos 0 → (k : ℕ) → by.t ≡ b +ℤ pos k → (reach_of range by).t ≡ min k range.t
 within-reach range by b zero k e =
     let d : by.t -ℤ pos 0 ≡ pos k = omega (arith, ints) in
-    ap (degrees_within range.t) (ap natural d)
+    ap (degrees_asked range) (ap natural d)
 
 -- ---- a product
 
@@ -164,7 +168,11 @@ module _ (one : LiftsGiveOneProduct) (modules : ModulesAreSteenrodModules)
 
   line-through : (x : ClassAbove) (line : ProductLine) → IsFactor cut_r range (class_above a) x → IsLineOver table sphere a x line → IsProductLine cut_r whole_q (class_above a) x line
   line-through x line factor is = record {
-    places = is.places;
+    s = is.s;
+    t = is.t;
+    i = is.i;
+    target_s = is.target_s;
+    target_t = is.target_t;
     product = product-through x factor line.value (is.product range near whole near_through factor.row factor.degree (omega arith) (omega arith) all are_q);
   }
 
@@ -177,7 +185,7 @@ module _ (one : LiftsGiveOneProduct) (modules : ModulesAreSteenrodModules)
 -- ---- what is told
 
 module _ (table sphere : Staircase) (range : Range) (by : Class) (are_q : IsCanonicalIn (reach_of range by) sphere) (is_sphere : IsSphere (resolution_of sphere)) (is_sphere_module : sphere.resolved.plain ≡ derived_module sphere_file) where
-  pub refused-answer : (count : ℕ) → missing_in (through (reach_of range by) sphere) by ≡ Some count → IsAnswerIn table range by (Err (NoClass By by count))
+  pub refused-answer : (count : ℕ) → missing_in (through (reach_of range by) sphere) by ≡ Some count → IsAnswerIn (IsProductsAnswer range by) table range (Err (NoClass By by count))
   refused-answer count missed =
       let answer : Result (List ℕ) Refusal = Err (NoClass By by count) in
       let P : SteenrodModule → Type 0 = λ m. (full : List (List Content)) → IsCanonicalTable (module_over m) range.s range.t full → IsProductsAnswer range by (through range table) (resolution m full) answer in
@@ -186,7 +194,7 @@ module _ (table sphere : Staircase) (range : Range) (by : Class) (are_q : IsCano
       subst (λ (o : Option ℕ). MatchOption o (IsOkAnd answer (IsProductsText range by (through range table) (resolution sphere.resolved.plain full))) (λ n. answer ≡ Err (NoClass By by n))) (sym none) refl)
 
   module _ (one : LiftsGiveOneProduct) (modules : ModulesAreSteenrodModules) (h : IsTable table) (hq : IsTable sphere) (whole : IsThrough range table.rows) (near : IsThrough (reach_of range by) sphere.rows) where
-    pub text-answer : (a : Place) → IsPlaceOf sphere (reach_of range by) by a → missing_in (through (reach_of range by) sphere) by ≡ None → (lines : List ProductLine) → OneEach (IsLineOver table sphere a) (factors (resolution_of table) range (class_above a)) lines → (text : List ℕ) → text ≡ product_lines_text lines → IsAnswerOver table range by (Ok text)
+    pub text-answer : (a : Place) → IsPlaceOf sphere (reach_of range by) by a → missing_in (through (reach_of range by) sphere) by ≡ None → (lines : List ProductLine) → OneEach (IsLineOver table sphere a) (factors (resolution_of table) range (class_above a)) lines → (text : List ℕ) → text ≡ product_lines_text lines → IsAnswerOver (IsProductsAnswer range by) table range (Ok text)
     text-answer a is there lines are text told all =
         let answer : Result (List ℕ) Refusal = Ok text in
         let P : SteenrodModule → Type 0 = λ m. (full : List (List Content)) → IsCanonicalTable (module_over m) range.s range.t full → IsProductsAnswer range by (through range table) (resolution m full) answer in

@@ -1,5 +1,5 @@
 -- What contracts of private functions cite: the lines that are made over the tables that there are.
-use Rattle.std.specs.Prelude.{ℕ, pos, min, Option, Some, None}
+use Rattle.std.specs.Prelude.{ℕ, pos, min, option_map, unwrap_or}
 use Rattle.degrees.specs.Above.{above_of}
 use Rattle.square.specs.declared.range.Range.{Range}
 use Rattle.square.specs.Squares.{bottom_of}
@@ -9,17 +9,14 @@ use Rattle.chain_map.specs.declared.class.Class.{Class}
 use Rattle.yoneda.specs.declared.place.Place.{Place}
 use Rattle.yoneda.specs.Products.{class_above, IsProductThrough}
 use Rattle.ext_chart.specs.declared.class_products.ProductLine.{ProductLine}
-use Rattle.ext_products.specs.Products.{HasPlaces}
+use Rattle.ext_products.specs.Products.{IsLine}
 
 -- how far the sphere's resolution is asked: as far as the class, within the range
-abbrev pub degrees_within : ℕ → Option ℕ → ℕ
-degrees_within t None = 0
-degrees_within t (Some k) = min k t
-
 abbrev pub reach_of : Range → Class → Range
-reach_of range by = record { s = min by.s range.s; t = degrees_within range.t (above_of (pos 0) by.t) }
+reach_of range by =
+    record { s = min by.s range.s; t = unwrap_or (option_map (λ k. min k range.t) (above_of (pos 0) by.t)) 0 }
 
 -- the line is that of the product of a and x, where the tables are those of the canonical resolutions
-pub record IsLineOver (table sphere : Staircase) (a : Place) (x : ClassAbove) (line : ProductLine) : Type 0 where
-  pub places : HasPlaces (bottom_of table.resolved) (class_above a) x line
-  pub product : IsProductThrough table sphere (class_above a) x line.value
+abbrev pub IsLineOver : Staircase → Staircase → Place → ClassAbove → ProductLine → Type 0
+IsLineOver table sphere a x =
+    IsLine (bottom_of table.resolved) (IsProductThrough table sphere (class_above a) x) (class_above a) x

@@ -1,6 +1,6 @@
 -- What is told of the products of a class of the sphere with the classes of a module, through a range (Adams, On the structure and
 -- applications of the Steenrod algebra; Bruner, Calculation of large Ext modules).
-use Rattle.std.specs.Prelude.{List, [], ◌∷◌, ⊤, ◌≡◌, ℕ, ◌+◌, ◌-◌, ℤ, pos, ◌+ℤ◌, map, MatchOption, Result, Err, IsOkAnd}
+use Rattle.std.specs.Prelude.{List, [], ◌∷◌, ⊤, ◌≡◌, ℕ, ◌+◌, ◌-◌, ℤ, pos, ◌+ℤ◌, Bool, map, MatchOption, Result, Err, IsOkAnd}
 use Rattle.std.specs.List.{flat_map, range_with_len}
 use Rattle.finite_module.specs.Module.{Module as SteenrodModule}
 use Rattle.finite_module.specs.Checked.{sphere_file}
@@ -34,7 +34,7 @@ resolution m table = record { base = module_over m; table = table }
 
 -- ---- classes
 
--- class i of the square (s, k), all of them, those of the first n squares of row s, and those of the first n squares of the first m rows
+-- class i of the square (s, k), all of them, and those of the first n squares of row s
 abbrev pub class_at : ℕ → ℕ → ℕ → ClassAbove
 class_at s k i = record { s = s; above = k; i = i }
 
@@ -44,27 +44,23 @@ classes_of r s k = map (class_at s k) (range_with_len 0 (count_of r s k))
 abbrev pub classes_in_row : Resolution → ℕ → ℕ → List ClassAbove
 classes_in_row r n s = flat_map (classes_of r s) (range_with_len 0 n)
 
-abbrev pub classes_through : Resolution → ℕ → ℕ → List ClassAbove
-classes_through r m n = flat_map (classes_in_row r n) (range_with_len 0 m)
-
 -- the classes whose product with a is in the range: by row, then by degree, then by number
 abbrev pub factors : Resolution → Range → ClassAbove → List ClassAbove
-factors r range a = classes_through r (range.s + 1 - a.s) (range.t + 1 - a.above)
+factors r range a = flat_map (classes_in_row r (range.t + 1 - a.above)) (range_with_len 0 (range.s + 1 - a.s))
 
 -- ---- products
 
--- the line has the place of x, the place of its product with a, and a vector
-pub record HasPlaces (bottom : ℤ) (a x : ClassAbove) (line : ProductLine) : Type 0 where
+-- the line has the places of x and of its product with a, and the product
+pub record IsLine (bottom : ℤ) (IsProduct : List Bool → Type 0) (a x : ClassAbove) (line : ProductLine) : Type 0 where
   pub s : line.s ≡ x.s
   pub t : line.t ≡ bottom +ℤ pos x.above
   pub i : line.i ≡ x.i
   pub target_s : line.target_s ≡ x.s + a.s
   pub target_t : line.target_t ≡ bottom +ℤ pos (a.above + x.above)
+  pub product : IsProduct line.value
 
--- the line is that of the product of a and x
-pub record IsProductLine (r q : Resolution) (a x : ClassAbove) (line : ProductLine) : Type 0 where
-  pub places : HasPlaces r.base.bottom a x line
-  pub product : IsYonedaProduct r q a x line.value
+abbrev pub IsProductLine : Resolution → Resolution → ClassAbove → ClassAbove → ProductLine → Type 0
+IsProductLine r q a x = IsLine r.base.bottom (IsYonedaProduct r q a x) a x
 
 -- ---- what is told
 
@@ -82,24 +78,27 @@ abbrev pub IsProductsAnswer : Range → Class → Resolution → Resolution → 
 IsProductsAnswer range by r q answer = MatchOption (missing_in q by) (IsOkAnd answer (IsProductsText range by r q))
     (λ count. answer ≡ Err (NoClass By by count))
 
+-- ---- what is told of the classes of two resolutions, of a module and of the sphere
+
+abbrev pub Telling : Type 1
+Telling = Resolution → Resolution → Result (List ℕ) Refusal → Type 0
+
 -- what is told is right of the squares that the table has in the range
-abbrev pub IsAnswerIn : Staircase → Range → Class → Result (List ℕ) Refusal → Type 0
-IsAnswerIn table range by answer =
+abbrev pub IsAnswerIn : Telling → Staircase → Range → Result (List ℕ) Refusal → Type 0
+IsAnswerIn Tells table range answer =
     (sphere : List (List Content)) →
     IsCanonicalTable (module_over (derived_module sphere_file)) range.s range.t sphere →
-    IsProductsAnswer range by (through range table) (resolution (derived_module sphere_file) sphere) answer
+    Tells (through range table) (resolution (derived_module sphere_file) sphere) answer
 
 -- what is told is right, where the table is that of the canonical resolution in the range
-abbrev pub IsAnswerOver : Staircase → Range → Class → Result (List ℕ) Refusal → Type 0
-IsAnswerOver table range by answer = IsCanonicalIn range table → IsAnswerIn table range by answer
+abbrev pub IsAnswerOver : Telling → Staircase → Range → Result (List ℕ) Refusal → Type 0
+IsAnswerOver Tells table range answer = IsCanonicalIn range table → IsAnswerIn Tells table range answer
 
--- The canonical resolutions of a module and of the sphere have an answer for each class,
-abbrev pub ProductsAnswerExists : Type 0
-ProductsAnswerExists = (r q : Resolution) (range : Range) (by : Class) → IsCanonical r range.s range.t →
-    IsCanonical q range.s range.t → IsSphere q →
-    (answer : Result (List ℕ) Refusal) × IsProductsAnswer range by r q answer
+-- There is something to tell of the canonical resolutions of a module and of the sphere through the range,
+abbrev pub HasAnswer : Telling → Range → Type 0
+HasAnswer Tells range = (r q : Resolution) → IsCanonical r range.s range.t → IsCanonical q range.s range.t →
+    IsSphere q → (answer : Result (List ℕ) Refusal) × Tells r q answer
 
--- and any two resolutions at most one.
-abbrev pub ProductsAnswerIsUnique : Type 0
-ProductsAnswerIsUnique = (r q : Resolution) (range : Range) (by : Class) (a b : Result (List ℕ) Refusal) →
-    IsProductsAnswer range by r q a → IsProductsAnswer range by r q b → a ≡ b
+-- and at most one thing of any two resolutions.
+abbrev pub HasOneAnswer : Telling → Type 0
+HasOneAnswer Tells = (r q : Resolution) (x y : Result (List ℕ) Refusal) → Tells r q x → Tells r q y → x ≡ y

@@ -1,9 +1,11 @@
 //! Laws over the definitions, as contracts of functions that do nothing.
-ghost use Rattle.ext_products.specs.Products.{ProductsAnswerExists, ProductsAnswerIsUnique};
+ghost use Rattle.square.specs.declared.range.Range.{Range};
+ghost use Rattle.chain_map.specs.declared.class.Class.{Class};
+ghost use Rattle.ext_products.specs.Products.{IsProductsAnswer, HasAnswer, HasOneAnswer};
 
 /// The canonical resolutions of a module and of the sphere have an answer for each class that products are asked with.
 pub fn products_answer_exists()
-    ensures { ProductsAnswerExists }
+    ensures { (range : Range) (by : Class) → HasAnswer (IsProductsAnswer range by) range }
 {
     lift_laws::each_class_lifts();
     lift_laws::lifts_give_one_product();
@@ -11,5 +13,5 @@ pub fn products_answer_exists()
 
 /// Two resolutions have at most one answer.
 pub fn products_answer_is_unique()
-    ensures { ProductsAnswerIsUnique }
+    ensures { (range : Range) (by : Class) → HasOneAnswer (IsProductsAnswer range by) }
 {}

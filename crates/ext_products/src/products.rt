@@ -2,7 +2,7 @@
 ghost use Rattle.std.specs.Prelude.{◌≡◌, ◌≢◌, ◌≤◌, IfOk, IfErr, Ok, Err};
 ghost use Rattle.square.specs.Tables.{IsThrough};
 ghost use Rattle.square.specs.declared.range.TheConstants.{MAX_S, MAX_T};
-ghost use Rattle.ext_products.specs.Products.{IsAnswerOver, IsAnswerIn};
+ghost use Rattle.ext_products.specs.Products.{IsProductsAnswer, IsAnswerOver, IsAnswerIn};
 ghost use Rattle.ext_products.specs.Inside.{reach_of};
 ghost use Rattle.ext_products.specs.declared.refusal.ClassesFault.TheVariants.{Refused, Memory as OutOfMemory};
 ghost use Rattle.ext_products.specs.declared.refusal.Refusal.{Refusal as WhyNot};
@@ -31,9 +31,10 @@ pub fn products_text(
     requires rows { range.s ≤ MAX_S }
     requires degrees { range.t ≤ MAX_T }
     requires through { IsThrough range table.now.rows }
-    ensures text { IfOk result (λ text. IsAnswerOver table.now range by (Ok text.items)) }
+    ensures text { IfOk result (λ text. IsAnswerOver (IsProductsAnswer range by) table.now range (Ok text.items)) }
     ensures refused { IfErr result (λ e. e ≢ OutOfMemory →
-        (refusal : WhyNot) × (e ≡ Refused refusal) × IsAnswerIn table.now range by (Err refusal)) }
+        (refusal : WhyNot) × (e ≡ Refused refusal) ×
+        IsAnswerIn (IsProductsAnswer range by) table.now range (Err refusal)) }
 {
     finite_module::modules_are_graded_modules();
     lift_laws::lifts_give_one_product();

@@ -33,11 +33,10 @@ use Rattle.ext_chart.specs.Check.{check_line}
 use Rattle.ext_chart.specs.Dump.{dump_text}
 use Rattle.ext_chart.specs.Product.{product_text}
 use Rattle.ext_chart.specs.Summary.{summary_text}
-use Rattle.lift_laws.specs.Lifts.{Resolution as Resolved, IsCanonical, IsSphere}
+use Rattle.lift_laws.specs.Lifts.{IsCanonical}
 use Rattle.chain_map.specs.declared.class.Class.{Class}
-use Rattle.ext_products.specs.declared.refusal.Refusal.{Refusal}
-use Rattle.ext_products.specs.Products.{resolution, IsProductsAnswer, ProductsAnswerExists}
-use Rattle.ext_brackets.specs.Brackets.{IsBracketAnswer, BracketAnswerExists}
+use Rattle.ext_products.specs.Products.{resolution, Telling, HasAnswer, IsProductsAnswer}
+use Rattle.ext_brackets.specs.Brackets.{IsBracketAnswer}
 use Rattle.ext_products.proofs.SphereTables.{sphere-is}
 use Rattle.ext_report.specs.declared.failure.Failure.{Failure}
 use Rattle.ext_report.specs.declared.failure.Failure.TheVariants.{Words, Malformed as NoModuleFile, NotModule}
@@ -66,8 +65,8 @@ pub record TableLaws : Type 0 where
 
 pub record Laws : Type 0 where
   pub tables : TableLaws
-  pub products : ProductsAnswerExists
-  pub brackets : BracketAnswerExists
+  pub products : (range : Range) (by : Class) → HasAnswer (IsProductsAnswer range by) range
+  pub brackets : (range : Range) (a b c : Class) → HasAnswer (IsBracketAnswer range a b c) range
 
 -- ---- the table
 
@@ -111,17 +110,7 @@ one_alone i j d l k = absurd (omega arith)
 canonical_by : TableLaws → (range : Range) (m : SteenrodModule) → IsModule m → NeverFall m.generators → (table : List (List Content)) → IsResolved range m table → IsCanonical (resolution m table) range.s range.t
 canonical_by laws range m is order table resolved = record { steenrod = laws.modules m is; bounded = below_all m.generators order; canonical = resolved.canonical }
 
--- there is something to tell of the canonical resolutions of each module and of the sphere
-abbrev Tells : (Resolved → Resolved → Result (List ℕ) Refusal → Type 0) → Range → Type 0
-Tells IsToldOf range = (r q : Resolved) → IsCanonical r range.s range.t → IsCanonical q range.s range.t → IsSphere q → (told : Result (List ℕ) Refusal) × IsToldOf r q told
-
-products_tell : Laws → (range : Range) (by : Class) → Tells (IsProductsAnswer range by) range
-products_tell laws range by r q = laws.products r q range by
-
-brackets_tell : Laws → (range : Range) (a b c : Class) → Tells (IsBracketAnswer range a b c) range
-brackets_tell laws range a b c r q = laws.brackets r q range a b c
-
-classes_exist : TableLaws → (IsToldOf : Resolved → Resolved → Result (List ℕ) Refusal → Type 0) (range : Range) → Tells IsToldOf range → Makes (IsToldOfClasses IsToldOf range)
+classes_exist : TableLaws → (IsToldOf : Telling) (range : Range) → HasAnswer IsToldOf range → Makes (IsToldOfClasses IsToldOf range)
 classes_exist laws IsToldOf range tells m is order =
     let sphere_module = derived_module sphere_file in
     let sphere_is = laws.accepted sphere_file one_alone refl in
@@ -136,8 +125,8 @@ form_exists : Laws → (form : Form) (range : Range) → Makes (IsInForm form ra
 form_exists laws Chart range = read_off_exists laws.tables (chart_of range) range
 form_exists laws Differentials range = read_off_exists laws.tables (dump_of range) range
 form_exists laws Summary range = read_off_exists laws.tables (summary_of range) range
-form_exists laws (ProductsOf by) range = classes_exist laws.tables (IsProductsAnswer range by) range (products_tell laws range by)
-form_exists laws (BracketOf a b c) range = classes_exist laws.tables (IsBracketAnswer range a b c) range (brackets_tell laws range a b c)
+form_exists laws (ProductsOf by) range = classes_exist laws.tables (IsProductsAnswer range by) range (laws.products range by)
+form_exists laws (BracketOf a b c) range = classes_exist laws.tables (IsBracketAnswer range a b c) range (laws.brackets range a b c)
 
 -- the file of bytes that have a value
 file_of_value : (bytes : List ℕ) → HasValue bytes → (file : Result File Malformed) × IsFileOf bytes file

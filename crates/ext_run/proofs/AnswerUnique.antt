@@ -19,10 +19,8 @@ use Rattle.resolution_laws.specs.Resolution.{Content}
 use Rattle.resolution_laws.proofs.TableIsUnique.{table_is_unique}
 use Rattle.square.specs.Squares.{module_over}
 use Rattle.square.specs.declared.range.Range.{Range}
-use Rattle.lift_laws.specs.Lifts.{Resolution as Resolved}
 use Rattle.ext_chart.specs.Product.{product_text}
-use Rattle.ext_products.specs.Products.{resolution, IsProductsAnswer}
-use Rattle.ext_products.specs.declared.refusal.Refusal.{Refusal}
+use Rattle.ext_products.specs.Products.{resolution, Telling, HasOneAnswer, IsProductsAnswer}
 use Rattle.ext_products.proofs.Answers.{answers-unique}
 use Rattle.ext_brackets.specs.Brackets.{IsBracketAnswer}
 use Rattle.ext_brackets.proofs.Unique.{answers-unique as bracket-answers-unique}
@@ -54,7 +52,7 @@ product-unique numbers x y a b =
 abbrev IsOne : ModuleAnswers → Type 0
 IsOne P = (m : SteenrodModule) (x y : Result (List ℕ) Failure) → P m x → P m y → x ≡ y
 
-classes-unique : (range : Range) (IsToldOf : Resolved → Resolved → Result (List ℕ) Refusal → Type 0) → ((r q : Resolved) (u v : Result (List ℕ) Refusal) → IsToldOf r q u → IsToldOf r q v → u ≡ v) → IsOne (IsToldOfClasses IsToldOf range)
+classes-unique : (range : Range) (IsToldOf : Telling) → HasOneAnswer IsToldOf → IsOne (IsToldOfClasses IsToldOf range)
 classes-unique range IsToldOf one m x y a b =
     let unique = table_is_unique kernel_basis_unique in
     let sphere_module = derived_module sphere_file in
@@ -74,8 +72,8 @@ form_unique : (form : Form) (range : Range) → IsOne (IsInForm form range)
 form_unique Chart range = one-text (IsChart range) (read_off_unique (chart_of range) range)
 form_unique Differentials range = one-text (IsDump range) (read_off_unique (dump_of range) range)
 form_unique Summary range = one-text (IsSummary range) (read_off_unique (summary_of range) range)
-form_unique (Products by) range = classes-unique range (IsProductsAnswer range by) (λ r k u v. answers-unique r k range by u v)
-form_unique (Bracket a b c) range = classes-unique range (IsBracketAnswer range a b c) (λ r k u v. bracket-answers-unique row_basis_unique r k range a b c u v)
+form_unique (Products by) range = classes-unique range (IsProductsAnswer range by) (answers-unique range by)
+form_unique (Bracket a b c) range = classes-unique range (IsBracketAnswer range a b c) (bracket-answers-unique row_basis_unique range a b c)
 
 module _ (P : ModuleAnswers) (one : IsOne P) where
   of_refusal : (f : File) (found : Option CheckFault) (a b : Result (List ℕ) Failure) → MatchOption found (P (derived_module f) a) (λ e. a ≡ Err (NotModule f e)) → MatchOption found (P (derived_module f) b) (λ e. b ≡ Err (NotModule f e)) → a ≡ b

@@ -14,8 +14,7 @@ use Rattle.ext_chart.specs.Dump.{dump_text}
 use Rattle.ext_chart.specs.Summary.{summary_text}
 use Rattle.chain_map.specs.declared.class.Class.{Class}
 use Rattle.ext_products.specs.declared.refusal.Refusal.{Refusal}
-use Rattle.lift_laws.specs.Lifts.{Resolution}
-use Rattle.ext_products.specs.Products.{resolution, IsProductsAnswer}
+use Rattle.ext_products.specs.Products.{resolution, Telling, IsProductsAnswer}
 use Rattle.ext_brackets.specs.Brackets.{IsBracketAnswer}
 use Rattle.ext_run.specs.declared.plan.Form.{Form}
 use Rattle.ext_run.specs.declared.plan.Form.TheVariants.{Chart, Differentials, Summary, Products, Bracket}
@@ -67,8 +66,8 @@ told_of_classes (Err refusal) = Err (Classes refusal)
 
 -- The answer is what is told, as IsToldOf says, of that table's classes and of those of the sphere's canonical resolution
 -- through the range.
-pub record IsToldOfClasses (IsToldOf : Resolution → Resolution → Result (List ℕ) Refusal → Type 0) (range : Range)
-    (m : SteenrodModule) (answer : Result (List ℕ) Failure) : Type 0 where
+pub record IsToldOfClasses (IsToldOf : Telling) (range : Range) (m : SteenrodModule)
+    (answer : Result (List ℕ) Failure) : Type 0 where
   pub table : List (List Content)
   pub resolved : IsResolved range m table
   pub sphere : List (List Content)

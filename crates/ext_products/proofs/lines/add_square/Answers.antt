@@ -20,13 +20,11 @@ loop-i-preserved c = λ before h.
     let value : c.in_ok-try_copy.field-0 ≡ row values i = c.in_ok-try_copy.ensures ∙ (c.index-values-i.is ∙ get_or_default values i c.index-values-i.result [] l) in
     line-more (IsLineOver table sphere a) (class_at c.args.s c.args.above) before i c.loop-i.lines.items c.push.new.self.items _ (c.loop-i.invariant before h)
     (record {
-      places = record {
-        s = refl;
-        t = to_z-of_z w32 c.degree-t.result (record { sfits = c.degree-t.type_inv }) ∙ c.degree-t.ensures;
-        i = refl;
-        target_s = refl;
-        target_t = to_z-of_z w32 c.degree-target_t.result (record { sfits = c.degree-target_t.type_inv }) ∙ c.degree-target_t.ensures;
-      };
+      s = refl;
+      t = to_z-of_z w32 c.degree-t.result (record { sfits = c.degree-t.type_inv }) ∙ c.degree-t.ensures;
+      i = refl;
+      target_s = refl;
+      target_t = to_z-of_z w32 c.degree-target_t.result (record { sfits = c.degree-target_t.type_inv }) ∙ c.degree-target_t.ensures;
       product = subst (IsProductThrough table sphere (class_above a) x) (sym value) (c.requires.products i l);
     })
     c.in_ok-push.ensures.items

@@ -2,8 +2,8 @@ use Rattle.std.proofs.Common.{sym, subst, ◌∙◌, ap}
 use Rattle.std.specs.Prelude.{Ok, Err}
 use Rattle.std.proofs.lemmas.Result.{err_from_is_err_and}
 use Rattle.chain_map.proofs.Resolved.{canonical_in}
-use Rattle.ext_products.specs.Products.{IsAnswerIn, IsProductsAnswer}
-use Rattle.ext_brackets.specs.Brackets.{IsBracketAnswer, IsBracketAnswerOver}
+use Rattle.ext_products.specs.Products.{IsAnswerIn, IsAnswerOver, IsProductsAnswer}
+use Rattle.ext_brackets.specs.Brackets.{IsBracketAnswer}
 use Rattle.ext_run.specs.declared.plan.Form.{Form}
 use Rattle.ext_run.specs.Forms.{IsToldOfClasses, IsInForm}
 use Rattle.ext_run.specs.Work.{answer_of}
@@ -47,7 +47,7 @@ returns-in_err-products_text-in-Products-clause-told c = λ has resolved.
     let laws : TableLaws = record { exists = c.canonical_table_exists.ensures; minimal = c.canonical_table_is_minimal_resolution.ensures; modules = c.modules_are_graded_modules.ensures; accepted = c.accepted_is_module.ensures } in
     let p = err_from_is_err_and c.from_residual-in_err-products_text-in-Products.result c.from_residual-in_err-products_text-in-Products.ensures.1 in
     let is = p.1 ∙ ap Err p.2 in
-    let known = classes_failed (IsAnswerIn c.args.table.now c.args.range c.in-Products.by) c.in_err-products_text-in-Products.field-0.0 c.from_residual-in_err-products_text-in-Products.result is c.in_err-products_text-in-Products.ensures.refused has in
+    let known = classes_failed (IsAnswerIn (IsProductsAnswer c.args.range c.in-Products.by) c.args.table.now c.args.range) c.in_err-products_text-in-Products.field-0.0 c.from_residual-in_err-products_text-in-Products.result is c.in_err-products_text-in-Products.ensures.refused has in
     subst (λ (form : Form). IsInForm form c.args.range c.args.table.now.resolved.plain (answer_of c.from_residual-in_err-products_text-in-Products.result)) (sym c.in-Products.is)
     (subst (IsToldOfClasses (IsProductsAnswer c.args.range c.in-Products.by) c.args.range c.args.table.now.resolved.plain) (sym known.1) (is_told_of_classes laws (IsProductsAnswer c.args.range c.in-Products.by) c.args.range c.args.table.now known.0 resolved known.2))
 
@@ -62,6 +62,6 @@ returns-in_err-bracket_text-in-Bracket-clause-told c = λ has resolved.
     let laws : TableLaws = record { exists = c.canonical_table_exists.ensures; minimal = c.canonical_table_is_minimal_resolution.ensures; modules = c.modules_are_graded_modules.ensures; accepted = c.accepted_is_module.ensures } in
     let p = err_from_is_err_and c.from_residual-in_err-bracket_text-in-Bracket.result c.from_residual-in_err-bracket_text-in-Bracket.ensures.1 in
     let is = p.1 ∙ ap Err p.2 in
-    let known = classes_failed (IsBracketAnswerOver c.args.table.now c.args.range c.in-Bracket.a c.in-Bracket.b c.in-Bracket.c) c.in_err-bracket_text-in-Bracket.field-0.0 c.from_residual-in_err-bracket_text-in-Bracket.result is c.in_err-bracket_text-in-Bracket.ensures.refused has in
+    let known = classes_failed (IsAnswerOver (IsBracketAnswer c.args.range c.in-Bracket.a c.in-Bracket.b c.in-Bracket.c) c.args.table.now c.args.range) c.in_err-bracket_text-in-Bracket.field-0.0 c.from_residual-in_err-bracket_text-in-Bracket.result is c.in_err-bracket_text-in-Bracket.ensures.refused has in
     subst (λ (form : Form). IsInForm form c.args.range c.args.table.now.resolved.plain (answer_of c.from_residual-in_err-bracket_text-in-Bracket.result)) (sym c.in-Bracket.is)
     (subst (IsToldOfClasses (IsBracketAnswer c.args.range c.in-Bracket.a c.in-Bracket.b c.in-Bracket.c) c.args.range c.args.table.now.resolved.plain) (sym known.1) (is_told_of_classes laws (IsBracketAnswer c.args.range c.in-Bracket.a c.in-Bracket.b c.in-Bracket.c) c.args.range c.args.table.now known.0 resolved (known.2 (canonical_in c.args.table.now c.args.range resolved.canonical))))
