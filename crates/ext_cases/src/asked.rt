@@ -61,6 +61,7 @@ fn tell(text: &mut String, name: &str, common: &Common) -> Result<(), Fault> {
         range,
         workers,
         save,
+        live,
     } = *common;
     write!(
         text,
@@ -69,6 +70,9 @@ fn tell(text: &mut String, name: &str, common: &Common) -> Result<(), Fault> {
     )?;
     if save {
         text.push_str(", saved")?;
+    }
+    if live {
+        text.push_str(", live")?;
     }
     Ok(())
 }

@@ -51,7 +51,7 @@ pub fn program<W: Threads + Wait + Clock + Sync>(rt: &HostRuntime, wait: &W) -> 
 }
 
 /// Answers the arguments after the program's name on these streams, or tells the failure in their place.
-fn on_streams<W: Threads + Wait + Clock + Sync, S: Source, O: Sink, E: Sink, D: Disk + Send>(
+fn on_streams<W: Threads + Wait + Clock + Sync, S: Source, O: Sink, E: Sink + Send, D: Disk + Send>(
     rt: &HostRuntime,
     wait: &W,
     arguments: Result<Vec<String>, Failure>,
@@ -77,7 +77,7 @@ fn on_streams<W: Threads + Wait + Clock + Sync, S: Source, O: Sink, E: Sink, D: 
 }
 
 /// Answers the arguments after the program's name: what `run` answers to their texts.
-fn answer<W: Threads + Wait + Clock + Sync, S: Source, O: Sink, E: Sink, D: Disk + Send>(
+fn answer<W: Threads + Wait + Clock + Sync, S: Source, O: Sink, E: Sink + Send, D: Disk + Send>(
     rt: &HostRuntime,
     wait: &W,
     arguments: &[String],

@@ -1,7 +1,7 @@
 -- What a run promises, by how it ends: by a text that answers the words, or by a failure, which may be an answer too.
 use Rattle.std.proofs.Common.{◌≡◌, ◌≢◌, ◌∙◌, ℕ, ◌≤◌, ◌⊎◌, inl, inr, List, Option, None, IfSome, refl, sym, subst, ap, arith}
 use Rattle.std.specs.declared.alloc.Global.{Global}
-use Rattle.std.specs.Prelude.{Vec, Result, Ok, Err, IfOk, IfErr}
+use Rattle.std.specs.Prelude.{Vec, Result, Ok, Err, IfOk, IfErr, OnOk, OnErr}
 use Rattle.edge.specs.Faults.{HasRisen}
 use Rattle.edge.specs.Source.{without_first, HasGivenUpTo}
 use Rattle.module_json.specs.ModuleFile.{File}
@@ -15,15 +15,17 @@ use Rattle.ext_build.specs.Input.{most_read}
 use Rattle.ext_run.specs.declared.plan.Plan.{Plan}
 use Rattle.ext_run.specs.declared.task.Task.{Task}
 use Rattle.ext_run.specs.Devices.{Device, Store}
-use Rattle.ext_run.specs.Plan.{Reads}
+use Rattle.ext_run.specs.Plan.{Reads, live_for}
 use Rattle.ext_run.specs.Answer.{IsAskedAnswer, IsTaskCause, IsTaskCauseFrom}
 use Rattle.ext_run.specs.Saving.{Outcome, IsUsable, HasSaved}
 use Rattle.ext_run.specs.Task.{IsDoneBy, HasItsAnswer, IsTaskFor}
 use Rattle.ext_run.specs.Work.{Told, HasAnswer, answer_of, HasWorked}
 use Rattle.ext_run.specs.Ending.{HasTold, HasGotWhole, HasGotPart}
-use Rattle.ext_run.specs.Run.{IsCause, IsPrevented, HasRead, HasPrinted, HasReported, IsRun}
+use Rattle.ext_run.specs.Live.{live_in, HasHeard}
+use Rattle.ext_run.specs.Run.{IsCause, IsPrevented, HasRead, HasPrinted, HasReported, HasSaid, IsRun}
 use Rattle.ext_run.proofs.Asked.{task_told, space_asked, read_whole}
 use Rattle.ext_run.proofs.AnswerUnique.{asked_unique}
+use Rattle.ext_run.proofs.Reporting.{reported_early, reported_task}
 use Rattle.ext_run.proofs.Tasks.{task_answers, input_of}
 use Rattle.ext_run.proofs.Lasting.{AreDisks}
 use Rattle.ext_run.proofs.Saved.{IsLate, saving, save_file, classes, memory, IsEndedBy, IsWorked, worked, kept_early, after_text, after_cut}
@@ -51,8 +53,8 @@ HasNoSpace input failure = IsSpaceFile input → (file : File) (fault : CheckFau
 
 module _ {S O E D : Type 0} (source : Device S) (out : Device O) (err : Device E) (disk : Store D) (laws : AreDisks disk) (asked : Option Plan) (s t : S) (e f : E) (d : D) where
   -- the line of a failure
-  reported : (failure : Failure) (status : ℕ) → HasTold err.shows err.faults failure status e f → HasReported err (Err failure) e f
-  reported failure status told = record { status_is = refl; line = told.line; whole_line = told.whole_line; never_falls = told.never_falls }
+  reported : (failure : Failure) (status : ℕ) → HasTold err.shows err.faults failure status e f → HasReported err (live_for asked) (Err failure) e f
+  reported failure status told = reported_early err (live_for asked) failure e f (record { status_is = refl; line = told.line; whole_line = told.whole_line; never_falls = told.never_falls })
 
   abbrev Usable : List ℕ → Type 0
   Usable input = IsUsable disk asked input d
@@ -145,8 +147,8 @@ module _ {S O E D : Type 0} (source : Device S) (out : Device O) (err : Device E
     made_answers text did has usable = task_answers asked input task (answer_of text) is_task (did.made has usable)
 
     -- the text is written whole
-    run_of_text : (x : Vec ℕ Global) → IsWorked disk laws asked input (Ok x) task d g → HasGotWhole out.shows out.faults x.items o p → status ≡ 0 → f ≡ e → IsRun source out err disk asked status s t o p e f d g
-    run_of_text x did got is silent = record {
+    run_of_text : (x : Vec ℕ Global) → IsWorked disk laws asked input (Ok x) task d g → HasGotWhole out.shows out.faults x.items o p → status ≡ 0 → HasReported err (live_for asked) (Ok x.items) e f → IsRun source out err disk asked status s t o p e f d g
+    run_of_text x did got is reported = record {
       input = input;
       told = all;
       outcome = Ok x.items;
@@ -156,23 +158,23 @@ module _ {S O E D : Type 0} (source : Device S) (out : Device O) (err : Device E
       no_space_refused = λ space file fault h. cc;
       read = has_read (Ok x.items) (λ h. cc);
       printed = got;
-      reported = silent;
+      reported = reported;
       saved = did.kept (Ok x.items) (after_text x) tt;
     }
 
     -- it is not
-    run_of_part : (x : Vec ℕ Global) → IsWorked disk laws asked input (Ok x) task d g → HasGotPart out.shows out.faults x.items o p → HasTold err.shows err.faults Writing status e f → IsRun source out err disk asked status s t o p e f d g
-    run_of_part x did got told = record {
+    run_of_part : (x : Vec ℕ Global) → IsWorked disk laws asked input (Ok x) task d g → HasGotPart out.shows out.faults x.items o p → status ≡ status_of Writing → HasReported err (live_for asked) (Err Writing) e f → IsRun source out err disk asked status s t o p e f d g
+    run_of_part x did got is reported = record {
       input = input;
       told = all;
       outcome = Err Writing;
-      status_is = told.status_is;
+      status_is = is;
       cause = tt;
       comes = λ answer right usable. inr (x.items, asked_unique asked input answer (Ok x.items) right (made_answers (Ok x) did tt (usable (answer_told answer right))));
       no_space_refused = λ space file fault h. cc;
       read = has_read (Err Writing) (λ h. cc);
       printed = (x.items, made_answers (Ok x) did tt, got);
-      reported = reported Writing status told;
+      reported = reported;
       saved = did.kept (Err Writing) (after_cut x) tt;
     }
 
@@ -189,30 +191,34 @@ module _ {S O E D : Type 0} (source : Device S) (out : Device O) (err : Device E
     late_end failure (classes x) made accepted = record { comes = λ answer right usable. inl (asked_unique asked input (Err (Classes x)) answer (made tt (usable (answer_told answer right))) right); printed = λ same. same; not_read = λ h. cc; no_space_refused = λ space file fault h. cc }
     late_end failure memory made accepted = record { comes = λ answer right usable. inr tt; printed = λ same. same; not_read = λ h. cc; no_space_refused = λ space file fault h. cc }
 
-    run_without : (failure : Failure) → IsWorked disk laws asked input (Err failure) task d g → IsEndedBy disk laws asked input failure d g → p ≡ o → HasTold err.shows err.faults failure status e f → IsRun source out err disk asked status s t o p e f d g
-    run_without failure did ended same told =
+    run_without : (failure : Failure) → IsWorked disk laws asked input (Err failure) task d g → IsEndedBy disk laws asked input failure d g → p ≡ o → status ≡ status_of failure → HasReported err (live_for asked) (Err failure) e f → IsRun source out err disk asked status s t o p e f d g
+    run_without failure did ended same is reported =
         let made = made_answers (Err failure) did in
         let end = late_end failure ended.late made ended.accepted in
         record {
           input = input;
           told = all;
           outcome = Err failure;
-          status_is = told.status_is;
+          status_is = is;
           cause = ended.cause made;
           comes = end.comes;
           no_space_refused = end.no_space_refused;
           read = has_read (Err failure) end.not_read;
           printed = end.printed same;
-          reported = reported failure status told;
+          reported = reported;
           saved = ended.saved;
         }
 
-    pub run_of_task : (text : Told) → HasWorked disk task text d g
-        → IfOk text (λ x. (HasGotWhole out.shows out.faults x.items o p × (status ≡ 0) × (f ≡ e)) ⊎ (HasGotPart out.shows out.faults x.items o p × HasTold err.shows err.faults Writing status e f))
-        → IfErr text (λ failure. (p ≡ o) × HasTold err.shows err.faults failure status e f)
-        → IsRun source out err disk asked status s t o p e f d g
-    run_of_task (Ok x) did (inl got) none = run_of_text x (worked disk laws asked input task (Ok x) d g is_task did) got.0 got.1 got.2
-    run_of_task (Ok x) did (inr got) none = run_of_part x (worked disk laws asked input task (Ok x) d g is_task did) got.0 got.1
-    run_of_task (Err failure) did got none =
-        let work = worked disk laws asked input task (Err failure) d g is_task did in
-        run_without failure work work.failed none.0 none.1
+    module _ {F : Type 0} (mid : E) (heard : Result (Unit {0}) F) where
+      said : (text : Told) (outcome : Outcome) → OnOk outcome (OnErr text ⊥) → HasHeard err (live_in task) text heard e mid → HasSaid err heard outcome mid f → HasReported err (live_for asked) outcome e f
+      said text outcome there h last = reported_task err asked input task text heard outcome e mid f is_task there h last
+
+      pub run_of_task : (text : Told) → HasWorked disk task text d g → HasHeard err (live_in task) text heard e mid
+          → IfOk text (λ x. (HasGotWhole out.shows out.faults x.items o p × (status ≡ 0) × HasSaid err heard (Ok x.items) mid f) ⊎ (HasGotPart out.shows out.faults x.items o p × (status ≡ status_of Writing) × HasSaid err heard (Err Writing) mid f))
+          → IfErr text (λ failure. (p ≡ o) × (status ≡ status_of failure) × HasSaid err heard (Err failure) mid f)
+          → IsRun source out err disk asked status s t o p e f d g
+      run_of_task (Ok x) did h (inl got) none = run_of_text x (worked disk laws asked input task (Ok x) d g is_task did) got.0 got.1 (said (Ok x) (Ok x.items) tt h got.2)
+      run_of_task (Ok x) did h (inr got) none = run_of_part x (worked disk laws asked input task (Ok x) d g is_task did) got.0 got.1 (said (Ok x) (Err Writing) tt h got.2)
+      run_of_task (Err failure) did h got none =
+          let work = worked disk laws asked input task (Err failure) d g is_task did in
+          run_without failure work work.failed none.0 none.1 (said (Err failure) (Err failure) tt h none.2)

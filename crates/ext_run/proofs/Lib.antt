@@ -6,6 +6,7 @@ mod Continuing
 mod KeptOn
 mod Lasting
 mod NextRun
+mod Reporting
 mod Resolved
 mod Saved
 mod Tasks

@@ -7,5 +7,6 @@ pub mod Saving
 pub mod NextRun
 pub mod Work
 pub mod Ending
+pub mod Live
 pub mod Existence
 pub mod Run

@@ -98,6 +98,21 @@ TellsFor None = ⊥
 TellsFor (Some (ToResolve origin form common)) = TellsOfClasses form
 TellsFor (Some plan) = ⊥
 
+-- ---- reports
+
+-- the range of which it is reported how far it is resolved; none where nothing is reported
+abbrev pub live_where : Bool → Range → Option Range
+live_where true range = Some range
+live_where false range = None
+
+abbrev pub live_of : Plan → Option Range
+live_of (ToResolve origin form common) = live_where common.live common.range
+live_of plan = None
+
+abbrev pub live_for : Option Plan → Option Range
+live_for None = None
+live_for (Some plan) = live_of plan
+
 -- ---- the disk
 
 -- What is used of it: its save file keeps the squares of a range, and those that it has are taken up.

@@ -1,20 +1,23 @@
 -- What a run promises: how it ended, and what it did with its source, its sink, standard error and its disk.
-use Rattle.std.specs.Prelude.{◌≡◌, ◌≢◌, ℕ, ◌≤◌, ◌⊎◌, List, [], Option, None, IsSome, IfSome, Ok, Err, ⊤}
+use Rattle.std.specs.Prelude.{◌≡◌, ◌≢◌, ℕ, ◌≤◌, ◌⊎◌, List, [], Option, Some, None, IsSome, IfSome, Result, Ok, Err, ⊤}
 use Rattle.edge.specs.Faults.{HasRisen}
 use Rattle.edge.specs.Source.{without_first, HasGivenUpTo}
 use Rattle.module_json.specs.ModuleFile.{File}
 use Rattle.module_check.specs.declared.fault.CheckFault.{CheckFault}
+use Rattle.square.specs.declared.range.Range.{Range}
 use Rattle.space_laws.specs.Spaces.{IsSpaceFile}
+use Rattle.live_worker.specs.Reports.{squares_of}
 use Rattle.ext_report.specs.declared.status.TheConstants.{WRITTEN}
 use Rattle.ext_report.specs.declared.failure.Failure.TheVariants.{Words, NotModule, Reading, Writing, Saving, SaveFile, Classes, Memory}
 use Rattle.ext_report.specs.Failure.{IsTold, status_of}
 use Rattle.ext_build.specs.Input.{most_read}
 use Rattle.ext_run.specs.declared.plan.Plan.{Plan}
 use Rattle.ext_run.specs.Devices.{Device, Store}
-use Rattle.ext_run.specs.Plan.{Reads, TellsFor, use_for}
+use Rattle.ext_run.specs.Plan.{Reads, TellsFor, live_for, use_for}
 use Rattle.ext_run.specs.Answer.{IsAskedAnswer}
 use Rattle.ext_run.specs.Saving.{Outcome, IsRefused, IsUsable, HasSaved}
 use Rattle.ext_run.specs.Ending.{HasTold, HasGotWhole, HasGotPart}
+use Rattle.ext_run.specs.Live.{HasToldLive}
 
 abbrev pub status_after : Outcome → ℕ
 status_after (Ok text) = WRITTEN
@@ -68,10 +71,17 @@ HasPrinted out IsTheAnswer (Err Writing) old new =
     (text : List ℕ) × IsTheAnswer text × HasGotPart out.shows out.faults text old new
 HasPrinted out IsTheAnswer (Err failure) old new = new ≡ old
 
--- What becomes of standard error: an answer is silent, and else it got the line of the failure.
-abbrev pub HasReported : {E : Type 0} → Device E → Outcome → E → E → Type 0
-HasReported err (Ok text) old new = new ≡ old
-HasReported err (Err failure) old new = HasTold err.shows err.faults failure (status_of failure) old new
+-- What becomes of standard error: an answer is silent, and else it got the line of the failure. Where it is reported how far a range
+-- is, the reports stand before that.
+abbrev pub HasReported : {E : Type 0} → Device E → Option Range → Outcome → E → E → Type 0
+HasReported err None (Ok text) old new = new ≡ old
+HasReported err None (Err failure) old new = HasTold err.shows err.faults failure (status_of failure) old new
+HasReported err (Some range) outcome old new = HasToldLive err (squares_of range) outcome old new
+
+-- What becomes of it at the end of a run: it gets no call where it failed at the reports before.
+abbrev pub HasSaid : {E F : Type 0} → Device E → Result (Unit {0}) F → Outcome → E → E → Type 0
+HasSaid err (Ok heard) outcome old new = HasReported err None outcome old new
+HasSaid err (Err unheard) outcome old new = new ≡ old
 
 -- The promise of a run, of which something is asked by its words. The devices are seen before and after it.
 pub record IsRun {S O E D : Type 0} (source : Device S) (out : Device O) (err : Device E) (disk : Store D)
@@ -91,5 +101,5 @@ pub record IsRun {S O E D : Type 0} (source : Device S) (out : Device O) (err : 
   -- and this became of the devices
   pub read : HasRead source (Reads asked) outcome s t
   pub printed : HasPrinted out (λ text. IsUsable disk asked input d → IsAskedAnswer asked input (Ok text)) outcome o p
-  pub reported : HasReported err outcome e f
+  pub reported : HasReported err (live_for asked) outcome e f
   pub saved : HasSaved disk asked input outcome d g

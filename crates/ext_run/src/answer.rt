@@ -1,11 +1,12 @@
 //! The answer to words: from a command line, and a module file where the command reads one, to the text on a sink.
-ghost use Rattle.std.specs.Prelude.{◌≡◌, ◌⊎◌, IfOk, IfErr};
-ghost use Rattle.ext_words.specs.Words.{texts_of};
+ghost use Rattle.std.specs.Prelude.{◌≡◌, ◌⊎◌, false, Ok, Err, IfOk, IfErr};
+ghost use Rattle.ext_words.specs.Words.{texts_of, has_live};
 ghost use Rattle.ext_report.specs.declared.failure.Failure as Failure;
+ghost use Rattle.ext_report.specs.Failure.{status_of};
 ghost use Rattle.ext_run.specs.Devices.{device_of, store_of};
 ghost use Rattle.ext_run.specs.Plan.{asked_by};
-ghost use Rattle.ext_run.specs.Ending.{HasTold, HasGotWhole, HasGotPart};
-ghost use Rattle.ext_run.specs.Run.{IsRun};
+ghost use Rattle.ext_run.specs.Ending.{HasGotWhole, HasGotPart};
+ghost use Rattle.ext_run.specs.Run.{HasSaid, IsRun};
 
 use crate::task::task_from;
 use crate::texts::{text_alone, text_by_workers};
@@ -27,12 +28,16 @@ pub struct Ended<D> {
 /// Answers the words after a program's name, and the module file that `source` has left where the command reads one:
 /// the answer goes to `out`, and the line of a failure to `err`. As many workers make squares as the words say, each in a
 /// thread of its own where one can be made; each calls the gate with each square that it has taken. Where the words say
-/// one worker, and where nothing is resolved, all is done as by `run_one`, which waits for nothing.
+/// one worker and no `--live`, and where nothing is resolved, all is done as by `run_one`, which waits for nothing.
+///
+/// Where the words say `--live`, lines on `err` tell how many squares of the range are finished, each time that more of them are, some
+/// ten times a second at most. The last line before a text has all squares. The line of a failure comes behind them. After a failed
+/// write, `err` gets nothing more.
 ///
 /// Where the words say `--save`, the squares of the module's save file on `disk` are taken up, and each new one is kept there. Else
 /// the disk gets no call.
 ///
-/// What is made of a resolution stays in memory until the process ends. Where the words say one worker and no `--save`,
+/// What is made of a resolution stays in memory until the process ends. Where the words say one worker and neither `--save` nor `--live`,
 /// a chart, the differentials and a summary are made from the images of generators alone, which take less of it.
 ///
 /// The first argument is the runtime, without any bound, since no command asks anything of it. The second starts threads,
@@ -48,7 +53,7 @@ pub fn run<
     W: Threads + Wait + Clock + Sync,
     S: Source,
     O: Sink,
-    E: Sink,
+    E: Sink + Send,
     D: Disk + Send,
     G: Gate + Sync,
 >(
@@ -68,19 +73,19 @@ pub fn run<
 {
     match task_from(alloc, words, source) {
         Ok(task) => {
-            let (text, disk) = text_by_workers(wait, alloc, task, disk, gate);
-            let status = outcome(text, out, err);
+            let (text, disk, heard) = text_by_workers(wait, alloc, task, err, disk, gate);
+            let status = outcome(text, heard, out, err);
             Ended { status, disk }
         }
         Err(failure) => {
-            let status = failed(&failure, err);
+            let status = failed(&failure, Ok(()), err);
             Ended { status, disk }
         }
     }
 }
 
 /// Answers the words as `run` does, by one worker, whatever the words say: squares are made on the caller's thread, and
-/// nothing waits.
+/// nothing waits. `--live` is not among the words: `has_live` tells whether it is.
 pub fn run_one<R, S: Source, O: Sink, E: Sink, D: Disk>(
     _rt: &R,
     alloc: Global,
@@ -90,6 +95,7 @@ pub fn run_one<R, S: Source, O: Sink, E: Sink, D: Disk>(
     err: &mut E,
     disk: D,
 ) -> Ended<D>
+    requires { has_live words.now ≡ false }
     ensures { IsRun (device_of S.left S.faults) (device_of O.written O.faults) (device_of E.written E.faults)
         (store_of D.now D.moment D.images D.images_at D.since D.faults) (asked_by (texts_of words.now)) result.status
         source.old source.new out.old out.new err.old err.new disk result.disk }
@@ -97,38 +103,51 @@ pub fn run_one<R, S: Source, O: Sink, E: Sink, D: Disk>(
     match task_from(alloc, words, source) {
         Ok(task) => {
             let (text, disk) = text_alone(alloc, task, disk);
-            let status = outcome(text, out, err);
+            let status = outcome(text, Ok(()), out, err);
             Ended { status, disk }
         }
         Err(failure) => {
-            let status = failed(&failure, err);
+            let status = failed(&failure, Ok(()), err);
             Ended { status, disk }
         }
     }
 }
 
-/// The status of a run that has a text, or a failure in its place. The text is written to `out`; the line of a failure goes to `err`.
-fn outcome<O: Sink, E: Sink>(text: Result<Vec<u8>, Failure>, out: &mut O, err: &mut E) -> u8
-    ensures text { IfOk text (λ t. (HasGotWhole O.written O.faults t.items out.old out.new × (result ≡ 0)
-        × (err.new ≡ err.old))
-        ⊎ (HasGotPart O.written O.faults t.items out.old out.new
-        × HasTold E.written E.faults Failure.Writing result err.old err.new)) }
-    ensures failed { IfErr text (λ failure. (out.new ≡ out.old)
-        × HasTold E.written E.faults failure result err.old err.new) }
+/// The status of a run that has a text, or a failure in its place. The text is written to `out`; the line of a failure goes to `err`,
+/// unless that failed before.
+#[tactic(auto, using(crate::proofs::Reporting::said_none))]
+fn outcome<O: Sink, E: Sink>(
+    text: Result<Vec<u8>, Failure>,
+    heard: Result<(), Failed>,
+    out: &mut O,
+    err: &mut E,
+) -> u8
+    ensures text { IfOk text (λ t.
+        (HasGotWhole O.written O.faults t.items out.old out.new × (result ≡ 0)
+        × HasSaid (device_of E.written E.faults) heard (Ok t.items) err.old err.new)
+        ⊎ (HasGotPart O.written O.faults t.items out.old out.new × (result ≡ status_of Failure.Writing)
+        × HasSaid (device_of E.written E.faults) heard (Err Failure.Writing) err.old err.new)) }
+    ensures failed { IfErr text (λ failure. (out.new ≡ out.old) × (result ≡ status_of failure)
+        × HasSaid (device_of E.written E.faults) heard (Err failure) err.old err.new) }
 {
     match text {
         Ok(text) => match write_all(out, text.as_slice()) {
             Ok(()) => WRITTEN,
-            Err(Failed) => failed(&Failure::Writing, err),
+            Err(Failed) => failed(&Failure::Writing, heard, err),
         },
-        Err(failure) => failed(&failure, err),
+        Err(failure) => failed(&failure, heard, err),
     }
 }
 
-/// The status of a failure, with its line written to `err`.
-fn failed<E: Sink>(failure: &Failure, err: &mut E) -> u8
-    ensures { HasTold E.written E.faults failure.now result err.old err.new }
+/// The status of a failure, with its line written to `err`, unless that failed before.
+fn failed<E: Sink>(failure: &Failure, heard: Result<(), Failed>, err: &mut E) -> u8
+    ensures status { result ≡ status_of failure.now }
+    ensures said { HasSaid (device_of E.written E.faults) heard (Err failure.now) err.old err.new }
 {
-    report(failure, err);
-    failure.status()
+    let status = failure.status();
+    match heard {
+        Ok(()) => report(failure, err),
+        Err(Failed) => {}
+    }
+    status
 }

@@ -10,7 +10,7 @@ mod texts;
 
 pub use answer::{Ended, run, run_one};
 pub use ext_report::{Failure, report};
-pub use ext_words::{Build, Command, Common, WordsFault, parse};
+pub use ext_words::{Build, Command, Common, WordsFault, has_live, parse};
 pub use laws::{
     answer_exists, answer_is_unique, next_run_may_use_what_is_left, short_disk_is_ours,
 };

@@ -1,11 +1,14 @@
 //! The text of a task: a module is resolved, by the caller alone or by workers, over its save file if the words say so,
-//! and what is made of it is told: a table, or the images of generators alone.
-ghost use Rattle.std.specs.Prelude.{◌≡◌, ◌≤◌, ◌<◌, ◌⊎◌, IfErr};
+//! and what is made of it is told: a table, or the images of generators alone. Workers may report how far they are.
+ghost use Rattle.std.specs.Prelude.{◌≡◌, ◌≤◌, ◌⊎◌, false, None, IfErr};
+ghost use Rattle.board_core.specs.declared.event.Cause as Cause;
+ghost use Rattle.resolution_step.specs.Alone.{AreApart, HasResolved};
 ghost use Rattle.square.specs.declared.range.TheConstants.{MAX_S, MAX_T};
 ghost use Rattle.square.specs.Keeping.{IsKeeperOf};
 ghost use Rattle.square.specs.Tables.{plain_rows, IsThrough, cut};
-ghost use Rattle.ext_run.specs.Devices.{store_of};
-ghost use Rattle.ext_run.specs.Plan.{TellsOfClasses};
+ghost use Rattle.ext_run.specs.Devices.{device_of, store_of};
+ghost use Rattle.ext_run.specs.Plan.{TellsOfClasses, live_where};
+ghost use Rattle.ext_run.specs.Live.{live_in, HasHeard};
 ghost use Rattle.ext_run.specs.Forms.{IsResolved, IsInForm};
 ghost use Rattle.ext_words.specs.Words.{IsWithin};
 ghost use Rattle.ext_run.specs.Task.{IsTaskWithin};
@@ -17,12 +20,14 @@ use crate::from_images::{chart_alone, dump_alone, summary_alone};
 use crate::plan::Form;
 use crate::task::{Resolution, Task};
 use board_core::Cause;
-use edge::Disk;
+use edge::{Disk, Failed, Sink};
 use ext_brackets::bracket_text;
 use ext_chart::{chart, dump, summary};
 use ext_products::products_text;
 use ext_report::Failure;
 use ext_words::Common;
+use live_worker::resolve_live;
+use memory::Memory;
 use module_check::{accepted_is_module, modules_are_graded_modules};
 use resolution_existence::canonical_table_exists;
 use resolution_laws::canonical_table_is_minimal_resolution;
@@ -54,27 +59,48 @@ pub(crate) fn text_alone<D: Disk>(
     }
 }
 
-/// The text of a task, made by as many workers as it says. Where that is one, or none is needed, nothing waits.
-pub(crate) fn text_by_workers<W: Threads + Wait + Clock + Sync, D: Disk + Send, G: Gate + Sync>(
+/// The text of a task, made by as many workers as it says, which report on `err` how far they are if it says so. Where there is one
+/// worker and no report, or nothing to resolve, nothing waits. The last of what it gives says whether `err` failed; then nothing was
+/// written to it since.
+pub(crate) fn text_by_workers<
+    W: Threads + Wait + Clock + Sync,
+    E: Sink + Send,
+    D: Disk + Send,
+    G: Gate + Sync,
+>(
     wait: &W,
     alloc: Global,
     task: Task,
+    err: &mut E,
     disk: D,
     gate: &G,
-) -> (Result<Vec<u8>, Failure>, D)
+) -> (Result<Vec<u8>, Failure>, D, Result<(), Failed>)
     requires { IsTaskWithin task }
-    ensures { HasWorked (store_of D.now D.moment D.images D.images_at D.since D.faults) task result.0 disk result.1 }
+    ensures worked { HasWorked (store_of D.now D.moment D.images D.images_at D.since D.faults) task
+        result.0 disk result.1 }
+    ensures heard { HasHeard (device_of E.written E.faults) (live_in task) result.0 result.2 err.old err.new }
 {
     match task {
-        Task::Resolution(resolution) if resolution.common.workers > 1 => {
+        Task::Resolution(resolution) if is_by_workers(resolution.common) => {
             if resolution.common.save {
-                saved_by_workers(wait, alloc, resolution, disk, gate)
+                saved_by_workers(wait, alloc, resolution, err, disk, gate)
             } else {
-                (unsaved_by_workers(wait, alloc, resolution, gate), disk)
+                let (text, heard) = unsaved_by_workers(wait, alloc, resolution, err, gate);
+                (text, disk, heard)
             }
         }
-        task => text_alone(alloc, task, disk),
+        task => {
+            let (text, disk) = text_alone(alloc, task, disk);
+            (text, disk, Ok(()))
+        }
     }
+}
+
+/// Whether workers make the squares, and not the caller. One that reports has a watcher beside it.
+fn is_by_workers(common: Common) -> bool
+    ensures { result ≡ false → live_where common.live common.range ≡ None }
+{
+    common.workers > 1 || common.live
 }
 
 /// The text of a resolution, made on the caller's thread. Nothing is kept. Where the text speaks of generators and
@@ -98,30 +124,34 @@ fn unsaved_alone(alloc: Global, resolution: Resolution) -> Result<Vec<u8>, Failu
 }
 
 /// The text of a resolution, made by as many workers as it says. Nothing is kept.
-fn unsaved_by_workers<W: Threads + Wait + Clock + Sync, G: Gate + Sync>(
+fn unsaved_by_workers<W: Threads + Wait + Clock + Sync, E: Sink + Send, G: Gate + Sync>(
     wait: &W,
     alloc: Global,
     resolution: Resolution,
+    err: &mut E,
     gate: &G,
-) -> Result<Vec<u8>, Failure>
+) -> (Result<Vec<u8>, Failure>, Result<(), Failed>)
     requires { IsWithin resolution.common }
-    ensures told { HasAnswer result →
-        IsInForm resolution.form resolution.common.range resolution.resolved.plain (answer_of result) }
-    ensures why { IfErr result (λ e. (e ≡ WantOfMemory) ⊎ IsRefusalIn resolution.form e) }
+    ensures told { HasAnswer result.0 →
+        IsInForm resolution.form resolution.common.range resolution.resolved.plain (answer_of result.0) }
+    ensures why { IfErr result.0 (λ e. (e ≡ WantOfMemory) ⊎ IsRefusalIn resolution.form e) }
+    ensures heard { HasHeard (device_of E.written E.faults) (live_where resolution.common.live resolution.common.range)
+        result.0 result.1 err.old err.new }
 {
-    let Common { range, workers, .. } = resolution.common;
-    let table = Table::new(alloc, resolution.resolved)?;
-    told_by_workers(
-        wait,
-        alloc,
-        workers,
-        table,
-        range,
-        resolution.form,
-        NoKeep,
-        gate,
-    )
-    .0
+    let Resolution {
+        resolved,
+        form,
+        common,
+    } = resolution;
+    match Table::new(alloc, resolved) {
+        Ok(table) => {
+            let (text, _keeper, heard) = told_by_workers(
+                wait, alloc, common, table, form, NoKeep, err, gate,
+            );
+            (text, heard)
+        }
+        Err(Memory) => (Err(Failure::Memory), Ok(())),
+    }
 }
 
 /// The text of a resolution over the save file of its module, made on the caller's thread.
@@ -145,27 +175,38 @@ fn saved_alone<D: Disk>(
 }
 
 /// The text of a resolution over the save file of its module, made by as many workers as it says.
-fn saved_by_workers<W: Threads + Wait + Clock + Sync, D: Disk + Send, G: Gate + Sync>(
+fn saved_by_workers<
+    W: Threads + Wait + Clock + Sync,
+    E: Sink + Send,
+    D: Disk + Send,
+    G: Gate + Sync,
+>(
     wait: &W,
     alloc: Global,
     resolution: Resolution,
+    err: &mut E,
     disk: D,
     gate: &G,
-) -> (Result<Vec<u8>, Failure>, D)
+) -> (Result<Vec<u8>, Failure>, D, Result<(), Failed>)
     requires { IsWithin resolution.common }
-    ensures { HasKeptOn (store_of D.now D.moment D.images D.images_at D.since D.faults) resolution
+    ensures kept { HasKeptOn (store_of D.now D.moment D.images D.images_at D.since D.faults) resolution
         result.0 disk result.1 }
+    ensures heard { HasHeard (device_of E.written E.faults) (live_where resolution.common.live resolution.common.range)
+        result.0 result.2 err.old err.new }
 {
-    let Common { range, workers, .. } = resolution.common;
-    match resume(alloc, resolution.resolved, disk) {
+    let Resolution {
+        resolved,
+        form,
+        common,
+    } = resolution;
+    match resume(alloc, resolved, disk) {
         Ok((table, keeper)) => {
-            let form = resolution.form;
-            let (text, keeper) = told_by_workers(
-                wait, alloc, workers, table, range, form, keeper, gate,
+            let (text, keeper, heard) = told_by_workers(
+                wait, alloc, common, table, form, keeper, err, gate,
             );
-            (text, keeper.into_disk())
+            (text, keeper.into_disk(), heard)
         }
-        Err((fault, disk)) => (Err(Failure::from(fault)), disk),
+        Err((fault, disk)) => (Err(Failure::from(fault)), disk, Ok(())),
     }
 }
 
@@ -197,36 +238,82 @@ fn told_alone<K: Keep>(
     }
 }
 
-/// Continues a table through the range by so many workers and formats it; the keeper gets the new squares.
-fn told_by_workers<W: Threads + Wait + Clock + Sync, K: Keep + Send, G: Gate + Sync>(
+/// Continues a table through the range by as many workers as are asked for and formats it; the keeper gets the new squares.
+#[tactic(auto, using(crate::proofs::Reporting::heard_of))]
+fn told_by_workers<
+    W: Threads + Wait + Clock + Sync,
+    K: Keep + Send,
+    E: Sink + Send,
+    G: Gate + Sync,
+>(
     wait: &W,
     alloc: Global,
-    workers: u32,
+    common: Common,
     table: Table,
-    range: Range,
     form: Form,
     keeper: K,
+    err: &mut E,
     gate: &G,
-) -> (Result<Vec<u8>, Failure>, K)
-    requires some { 0 < workers }
-    requires rows { range.s ≤ MAX_S }
-    requires degrees { range.t ≤ MAX_T }
+) -> (Result<Vec<u8>, Failure>, K, Result<(), Failed>)
+    requires within { IsWithin common }
     requires live { (K.telling keeper).live }
     requires of_table { IsKeeperOf (K.telling keeper) table }
-    ensures { HasContinued range form table result.0 (K.telling keeper) (K.telling result.1) }
+    ensures continued { HasContinued common.range form table result.0 (K.telling keeper) (K.telling result.1) }
+    ensures heard { HasHeard (device_of E.written E.faults) (live_where common.live common.range) result.0 result.2
+        err.old err.new }
 {
     canonical_table_is_minimal_resolution();
     modules_are_graded_modules();
-    let workers = workers as usize;
-    let (resolved, keeper) = resolve_with(wait, alloc, workers, table, range, keeper, gate);
+    let (resolved, keeper, heard) = resolved_by_workers(
+        wait, alloc, common, table, keeper, err, gate,
+    );
     match resolved {
         Ok(table) => {
-            let text = told(alloc, form, &table, range);
+            let text = told(alloc, form, &table, common.range);
             leave(table);
-            (text, keeper)
+            (text, keeper, heard)
         }
-        Err(Cause::Memory) => (Err(Failure::Memory), keeper),
-        Err(Cause::Failed) => (Err(Failure::Saving), keeper),
+        Err(Cause::Memory) => (Err(Failure::Memory), keeper, heard),
+        Err(Cause::Failed) => (Err(Failure::Saving), keeper, heard),
+    }
+}
+
+/// Continues a table through the range by as many workers as are asked for; the keeper gets the new squares, and `err` the
+/// reports if those are asked for.
+fn resolved_by_workers<
+    W: Threads + Wait + Clock + Sync,
+    K: Keep + Send,
+    E: Sink + Send,
+    G: Gate + Sync,
+>(
+    wait: &W,
+    alloc: Global,
+    common: Common,
+    table: Table,
+    keeper: K,
+    err: &mut E,
+    gate: &G,
+) -> (Result<Table, Cause>, K, Result<(), Failed>)
+    requires within { IsWithin common }
+    requires live { (K.telling keeper).live }
+    requires of_table { IsKeeperOf (K.telling keeper) table }
+    ensures resolved { HasResolved Cause.Failed Cause.Memory AreApart common.range table result.0 (K.telling keeper)
+        (K.telling result.1) }
+    ensures heard { HasHeard (device_of E.written E.faults) (live_where common.live common.range) result.0 result.2
+        err.old err.new }
+{
+    let Common {
+        range,
+        workers,
+        live,
+        ..
+    } = common;
+    let workers = workers as usize;
+    if live {
+        resolve_live(wait, alloc, workers, table, range, keeper, gate, err)
+    } else {
+        let (resolved, keeper) = resolve_with(wait, alloc, workers, table, range, keeper, gate);
+        (resolved, keeper, Ok(()))
     }
 }
 

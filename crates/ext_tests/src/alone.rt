@@ -3,19 +3,23 @@ use crate::runs::{
     C2, Devices, Outcome, SOUND, STEMS_8, assert_outcome, narrow_devices, sound_disk,
 };
 use edge::MemDisk;
-use ext_run::{answer_is_unique, next_run_may_use_what_is_left, run_one, short_disk_is_ours};
+use ext_run::{
+    answer_is_unique, has_live, next_run_may_use_what_is_left, run_one, short_disk_is_ours,
+};
 use resolution_laws::canonical_table_is_unique;
 use std::alloc::Global;
+use std::process::Abort;
 use std::test::Fail;
 
-/// What these words come to.
-fn ran_alone<R>(rt: &R, alloc: Global, words: &[&str], devices: Devices) -> Outcome {
+/// What these words come to, which have no `--live`.
+fn ran_alone<R: Abort>(rt: &R, alloc: Global, words: &[&str], devices: Devices) -> Outcome {
     let Devices {
         mut source,
         mut out,
         mut err,
         disk,
     } = devices;
+    assert!(rt; !has_live(words));
     let ended = run_one(rt, alloc, words, &mut source, &mut out, &mut err, disk);
     Outcome {
         status: ended.status,

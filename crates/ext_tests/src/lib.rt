@@ -7,6 +7,8 @@ mod alone;
 #[cfg(test)]
 mod bytes;
 #[cfg(test)]
+mod live;
+#[cfg(test)]
 mod runs;
 #[cfg(test)]
 mod stops;

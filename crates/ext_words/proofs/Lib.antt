@@ -8,3 +8,4 @@ mod CommandNames
 mod Digits
 mod Factors
 mod Strays
+pub mod Unasked

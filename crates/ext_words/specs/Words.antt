@@ -17,6 +17,10 @@ use Rattle.ext_words.specs.declared.command.Common.{Common}
 abbrev pub texts_of : List (Bor (List ℕ)) → List (List ℕ)
 texts_of words = map (λ w. w.now) words
 
+-- whether `--live` is among them
+abbrev pub has_live : List (Bor (List ℕ)) → Bool
+has_live words = list_any (λ word. bytes_eq word.now (codes "--live")) words
+
 -- ---- the words behind a command's name, and its options among them
 
 -- a word that is no option, an option with its value, or a flag, which is an option that has none
@@ -217,7 +221,13 @@ abbrev pub common_of : List Argument → Option Common
 common_of given =
     option_and_then (λ s.
     option_and_then (λ t.
-    option_map (λ n. record { range = record { s = s; t = t }; workers = n; save = is_given (codes "save") given })
+    option_map
+    (λ n. record {
+      range = record { s = s; t = t };
+      workers = n;
+      save = is_given (codes "save") given;
+      live = is_given (codes "live") given;
+    })
     (workers_of (text_given (codes "workers") given)))
     (number_given (codes "T") MAX_T given))
     (number_given (codes "S") MAX_S given)
@@ -278,21 +288,22 @@ grammar name words valued flags make =
 
 -- a command that resolves a module: the words S and T stand behind its own, and the options that all such commands have
 -- beside its own
-abbrev pub resolving : List ℕ → List (List ℕ) → List (List ℕ) → (List Argument → Option Command) → Grammar
-resolving name words valued make =
-    grammar name (words ++ codes "S" ∷ codes "T" ∷ []) (codes "workers" ∷ valued) (codes "save" ∷ []) make
+abbrev pub resolving :
+    List ℕ → List (List ℕ) → List (List ℕ) → List (List ℕ) → (List Argument → Option Command) → Grammar
+resolving name words valued flags make =
+    grammar name (words ++ codes "S" ∷ codes "T" ∷ []) (codes "workers" ∷ valued) (codes "save" ∷ flags) make
 
 -- the commands
 abbrev pub commands : List Grammar
 commands =
-    resolving (codes "sphere") [] [] (λ given. option_map Sphere (common_of given))
-    ∷ resolving (codes "resolve") [] [] (λ given. option_map Resolve (common_of given))
-    ∷ resolving (codes "dump") [] [] (λ given. option_map Dump (common_of given))
-    ∷ resolving (codes "products") [] (codes "by" ∷ []) products_of
-    ∷ resolving (codes "massey") [] (codes "a" ∷ codes "b" ∷ codes "c" ∷ []) massey_of
+    resolving (codes "sphere") [] [] (codes "live" ∷ []) (λ given. option_map Sphere (common_of given))
+    ∷ resolving (codes "resolve") [] [] (codes "live" ∷ []) (λ given. option_map Resolve (common_of given))
+    ∷ resolving (codes "dump") [] [] [] (λ given. option_map Dump (common_of given))
+    ∷ resolving (codes "products") [] (codes "by" ∷ []) [] products_of
+    ∷ resolving (codes "massey") [] (codes "a" ∷ codes "b" ∷ codes "c" ∷ []) [] massey_of
     ∷ grammar (codes "check") [] [] [] (λ given. Some Check)
     ∷ grammar (codes "build") (codes "OP" ∷ []) (codes "degrees" ∷ []) [] (λ given. option_map Built (build_of given))
-    ∷ resolving (codes "sample") (codes "N" ∷ []) [] sample_of
+    ∷ resolving (codes "sample") (codes "N" ∷ []) [] [] sample_of
     ∷ grammar (codes "sq") (codes "W" ∷ []) [] [] (λ given. option_map Sq (product_given given))
     ∷ []
 

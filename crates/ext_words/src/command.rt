@@ -28,6 +28,8 @@ pub struct Common {
     pub workers: u32,
     /// Whether the squares are kept in the save file, and those that it has are taken up.
     pub save: bool,
+    /// Whether lines on standard error say how far the run is. `sphere` and `resolve` alone have the option.
+    pub live: bool,
 }
 
 /// What is built from the modules on standard input.

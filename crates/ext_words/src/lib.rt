@@ -10,4 +10,4 @@ pub use command::{
     Build, Command, Common, MAX_SHIFT, MAX_SQUARES, MAX_SQUARES_DEGREE, MAX_WORKERS, WordsFault,
 };
 pub use constants::limits_are_these;
-pub use words::parse;
+pub use words::{has_live, parse};

@@ -2,11 +2,12 @@
 ghost use Rattle.std.specs.Prelude.{◌≡◌, ◌≢◌, ◌≤◌, ◌⊎◌, Some, None, [], Err, IfOk, IfSome, OnSome, IfNone, false, codes, option_map, option_and_then};
 ghost use Rattle.clap.specs.Words.{app_of, fault_of, found_of, rows_of, rule_of, subcommand_of, subcommand_rows_of};
 ghost use Rattle.std.specs.List.{list_any};
+ghost use Rattle.std.specs.Str.{bytes_eq};
 ghost use Rattle.clap.specs.declared.builder.command.Command.TheViews.{out-Command};
 ghost use Rattle.ext_words.specs.Inside.CommandLine.{is_stray, option_named, flag_named, command_with, no_command, command_line, given_in, command_named, command_in};
 ghost use Rattle.ext_words.specs.declared.command.TheConstants.{MAX_WORKERS};
 ghost use Rattle.ext_words.specs.declared.command.WordsFault as WordsFault;
-ghost use Rattle.ext_words.specs.Words.{texts_of, text_given, is_given, number_given, workers_of, common_of, class_given, products_of, massey_of, built_by, build_of, seed_of, sample_of, product_given, command_of, IsWithin, IsShort, IsWithinShift, IsWithinDegree, IsWithinLimits};
+ghost use Rattle.ext_words.specs.Words.{texts_of, has_live, text_given, is_given, number_given, workers_of, common_of, class_given, products_of, massey_of, built_by, build_of, seed_of, sample_of, product_given, command_of, IsWithin, IsShort, IsWithinShift, IsWithinDegree, IsWithinLimits};
 
 use crate::command::{Build, Command, Common, MAX_WORKERS, WordsFault};
 use crate::numbers::{class_of, number_up_to, positive_up_to, product_of, seed_of, shift_of};
@@ -80,8 +81,20 @@ fn command_line<'a>(alloc: Global) -> Result<clap::Command<'a>, AllocError>
     ensures { IfOk result (λ line. app_of line ≡ command_line) }
 {
     no_command(alloc)
-        .subcommand(command_with(alloc, "sphere", &["S", "T"], &["workers"], &["save"])?)?
-        .subcommand(command_with(alloc, "resolve", &["S", "T"], &["workers"], &["save"])?)?
+        .subcommand(command_with(
+            alloc,
+            "sphere",
+            &["S", "T"],
+            &["workers"],
+            &["save", "live"],
+        )?)?
+        .subcommand(command_with(
+            alloc,
+            "resolve",
+            &["S", "T"],
+            &["workers"],
+            &["save", "live"],
+        )?)?
         .subcommand(command_with(alloc, "dump", &["S", "T"], &["workers"], &["save"])?)?
         .subcommand(command_with(
             alloc,
@@ -143,11 +156,11 @@ fn workers_in(matches: &ArgMatches) -> Option<u32>
     }
 }
 
-/// Whether a command's matches have the option `--save`.
-fn saves_in(matches: &ArgMatches) -> bool
-    ensures { result ≡ is_given (codes "save") (given_in matches.now) }
+/// Whether a command's matches have the option of this name.
+fn has_flag(matches: &ArgMatches, name: &str) -> bool
+    ensures { result ≡ is_given name.now (given_in matches.now) }
 {
-    matches.contains_id("save")
+    matches.contains_id(name)
 }
 
 /// The numbers S and T of a command's matches, and its options.
@@ -161,7 +174,8 @@ fn common_in(matches: &ArgMatches) -> Option<Common>
     Some(Common {
         range: Range { s, t },
         workers,
-        save: saves_in(matches),
+        save: has_flag(matches, "save"),
+        live: has_flag(matches, "live"),
     })
 }
 
@@ -324,6 +338,20 @@ fn command_of(alloc: Global, words: &[&str]) -> Result<Option<Command>, Memory>
         Some(matches) => command_in(alloc, &matches),
         None => Ok(None),
     }
+}
+
+/// Whether a word is `--live`.
+fn is_live(word: &str) -> bool
+    ensures { result ≡ bytes_eq word.now (codes "--live") }
+{
+    word == "--live"
+}
+
+/// Whether `--live` is among the words. Where it is not, they ask for no reports.
+pub fn has_live(words: &[&str]) -> bool
+    ensures { result ≡ has_live words.now }
+{
+    words.iter().any(|word| is_live(word))
 }
 
 /// The command that the words after a program's name give.

@@ -1,5 +1,9 @@
 use Rattle.std.proofs.Common.{arith, inl, inr}
 use Rattle.edge.specs.Faults.{HasRisen}
+use Rattle.ext_report.specs.declared.failure.Failure.TheVariants.{Memory}
+use Rattle.ext_run.specs.Devices.{device_of}
+use Rattle.ext_run.specs.Plan.{live_where}
+use Rattle.ext_run.proofs.Reporting.{heard_none}
 use Rattle.ext_run.proofs.Working.{told_unsaved, why_unsaved}
 use Rattle.ext_run.proofs.texts.unsaved_by_workers.Goals as goal
 
@@ -7,12 +11,17 @@ none : HasRisen 0 0 → ⊥
 none (inl h) = omega arith
 none (inr h) = omega (arith, h)
 
-pub returns-clause-told : goal.returns-clause-told
-returns-clause-told g c =
+pub returns-in-Ok-clause-told : goal.returns-in-Ok-clause-told
+returns-in-Ok-clause-told g c =
     let r = c.args.resolution in
-    told_unsaved r.common.range r.form r.resolved _ _ c.in_ok-table.table c.told_by_workers.result.0 _ _ c.in_ok-table.ensures c.told_by_workers.ensures
+    told_unsaved r.common.range r.form r.resolved _ _ c.in-Ok.table c.told_by_workers-text.result.0 _ _ c.in-Ok.ensures c.told_by_workers-text.ensures.continued
 
-pub returns-clause-why : goal.returns-clause-why
-returns-clause-why g c =
+pub returns-in-Ok-clause-why : goal.returns-in-Ok-clause-why
+returns-in-Ok-clause-why g c =
     let r = c.args.resolution in
-    why_unsaved r.common.range r.form c.in_ok-table.table c.told_by_workers.result.0 _ _ none c.told_by_workers.ensures
+    why_unsaved r.common.range r.form c.in-Ok.table c.told_by_workers-text.result.0 _ _ none c.told_by_workers-text.ensures.continued
+
+pub returns-in-Err-clause-heard : goal.returns-in-Err-clause-heard
+returns-in-Err-clause-heard g c =
+    let common = c.args.resolution.common in
+    heard_none _ _ (device_of g.E.Sink.written g.E.Sink.faults) (live_where common.live common.range) Memory c.args.err.now
