@@ -16,13 +16,35 @@ use std::thread::Threads;
 use std::time::Clock;
 
 /// Runs the roles, each in a thread of its own where one can be made. The watcher ends when so many workers have. It is the
-/// last role: where no thread can be made the roles run one after another, and it would wait for the workers for ever.
+/// last role, and is called as the first: where no thread can be made for the first ones they run last, and a watcher that
+/// ran before a worker would wait for it for ever.
 pub(crate) fn run_roles<
     R: Threads + Wait + Clock + Sync,
     K: Keep + Send,
     G: Gate + Sync,
     E: Sink + Send,
 >(
+    wait: &R,
+    alloc: Global,
+    board: &Board<K>,
+    roles: &mut [Role<K, E>],
+    gate: &G,
+    ended: &AtomicU64,
+    workers: u64,
+)
+    requires some { 0 < length roles.old }
+    requires can { All (CanRun board.now) roles.old }
+    ensures count { length roles.new ≡ length roles.old }
+    ensures ran { (i : ℕ) → i < length roles.old → (d : _) →
+        HasRun E.written E.faults board.now (slice_index_or roles.old i d) (slice_index_or roles.new i d) }
+{
+    roles.reverse();
+    run_each(wait, alloc, board, roles, gate, ended, workers);
+    roles.reverse();
+}
+
+/// Runs the roles, each in a thread of its own where one can be made. The watcher ends when so many workers have.
+fn run_each<R: Threads + Wait + Clock + Sync, K: Keep + Send, G: Gate + Sync, E: Sink + Send>(
     wait: &R,
     alloc: Global,
     board: &Board<K>,

@@ -13,7 +13,7 @@ use Rattle.square_board.specs.contracts.board.Board as Board
 use Rattle.square_board.proofs.Crossing.{Board-sync}
 use Rattle.live_worker.specs.contracts.role.Role as Role
 use Rattle.live_worker.proofs.Crossing.{Role-send, captures_sync}
-use Rattle.live_worker.proofs.run.run_roles.Goals as goal
+use Rattle.live_worker.proofs.run.run_each.Goals as goal
 
 pub for_each_mut-requires-send-T : goal.for_each_mut-requires-send-T
 for_each_mut-requires-send-T g c κs within =
