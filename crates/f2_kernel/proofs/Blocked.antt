@@ -1,11 +1,10 @@
 -- Rows cleared by blocks, the last one first: a block clears the rows before it by its sums.
 use Rattle.std.proofs.Common.{◌≡◌, ◌≢◌, inl, inr, ℕ, suc, ◌+◌, ◌-◌, ◌*◌, ◌^◌, ◌<◌, ◌≤◌, Bool, true, false, cond, List, [], ◌∷◌, ◌++◌, length, map, take, drop, refl, ap, sym, subst, ◌∙◌, arith}
 use Rattle.std.proofs.lemmas.Bool.{cases_lt, both_ways}
-use Rattle.std.specs.Int.{div_ceil}
 use Rattle.std.proofs.lemmas.List.{get_or_past, get_or-take, get_or-map, get_or_append_left, get_or-append_right, length-append, length-map, length-take-le, length-drop, append_assoc, append-nil, nil_from_length, take_all, map-id, map-append, take-map, drop-map, take-append-drop, take_more, take_at, drop_at, take-append-le, drop-append-le}
 use Rattle.std.proofs.Math.Nat.{pow-suc}
 use Rattle.std.proofs.Math.Pow.{pow_mono}
-use Rattle.f2_vec.specs.Vectors.{plus, sum_of, zeros, bit, IsZero, IsFirstOne, IsWithinWords}
+use Rattle.f2_vec.specs.Vectors.{plus, sum_of, zeros, bit, IsZero, IsFirstOne}
 use Rattle.f2_vec.specs.Spans.{row, HaveWidth, combination, IsInSpan, HaveSameSpan}
 use Rattle.f2_vec.proofs.Sums.{bit-sum_of, length-sum_of, length-zeros, plus-self, sum_of-comm, sum_of-assoc, sum_of-cancel, sum_of-zeros_right, zeros_from_bits}
 use Rattle.f2_vec.proofs.Spans.{HaveWidth-head, HaveWidth-tail, HaveWidth-cons, HaveWidth-append, length-combination, combination-append, row-IsInSpan, zeros-IsInSpan, HaveSameSpan_from_rows, sum-IsInSpan, bit-combination_alone}
@@ -194,13 +193,6 @@ with_sum-clears n rows v w h lv j l =
 -- the sum for a vector is of the rows' length
 pub length-sum_at : (n : ℕ) (rows : List (List Bool)) (v : List Bool) → HaveWidth n rows → length (sum_at n rows v) ≡ n
 length-sum_at n rows v w = HaveWidth-sums n rows w (number (at_pivots rows v)) (sum_within n rows v)
-
--- all words are all of a vector
-pub IsWithinWords-all : (n : ℕ) (v : List Bool) → length v ≡ n → IsWithinWords 0 (div_ceil n 64) v
-IsWithinWords-all n v e = record {
-  before = λ k l. absurd (omega arith);
-  behind = λ k l. get_or_past v k false (omega (arith, e));
-}
 
 pub sum_at-combination : (n : ℕ) (rows : List (List Bool)) (v : List Bool) → sum_at n rows v ≡ combination n (at_pivots rows v) rows
 sum_at-combination n rows v = sums_at n (at_pivots rows v) rows (length-at_pivots rows v)

@@ -6,8 +6,9 @@ mod Steps
 mod Words
 mod Blocked
 mod Tables
+mod Within
 mod CommonOnes
 pub mod Basis
 mod BlockProducts
 mod Marks
-mod Tested
+pub mod Tested

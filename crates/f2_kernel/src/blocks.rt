@@ -1,13 +1,12 @@
 //! Rows cleared from the last one up, by blocks: each block clears the rows before it, by one sum of each of its
 //! quarters. Few rows are cleared one by one.
 ghost use Rattle.std.specs.Prelude.{◌≡◌, ℕ, ◌+◌, ◌-◌, ◌<◌, ◌≤◌, ◌++◌, map, length, take, replicate, slice_index_or, IfOk, OnOk};
-ghost use Rattle.std.specs.Int.{div_ceil};
 ghost use Rattle.f2_vec.specs.Vectors.{bit, sum_of, zeros, IsZero, IsWithinWords};
 ghost use Rattle.f2_vec.specs.Spans.{row as row_at, HaveWidth};
 ghost use Rattle.f2_matrix.specs.Echelon.{IsEchelonForm, IsReduced, HasNoZeroRow};
-ghost use Rattle.f2_matrix.specs.Preimages.{pivot_of};
+ghost use Rattle.f2_matrix.specs.Preimages.{pivot_of, at_pivots};
 ghost use Rattle.f2_kernel.specs.Inside.Upward.{upward, cleared_by, AreCleared, IsBlockCleared};
-ghost use Rattle.f2_kernel.specs.Inside.Sums.{number as number_of, sum_at, with_sums, IsTable, AreTables, BeginsWithSums, AreSumsOf};
+ghost use Rattle.f2_kernel.specs.Inside.Sums.{number as number_of, sum_at, with_sums, IsTable, AreTables, BeginsWithSums, AreSumsOf, AreWithinWords};
 
 use crate::form::{clear_one_by_one, pivot};
 use f2_matrix::Matrix;
@@ -21,6 +20,13 @@ struct Part<'a> {
     rows: &'a [BitVec],
     pivots: Vec<usize>,
     sums: &'a [BitVec],
+}
+
+/// Words of vectors, of 64 coordinates each: from the first up to one past the last.
+#[derive(Drop)]
+struct Words {
+    from: usize,
+    to: usize,
 }
 
 /// Tables in which the sums of the four parts of a block are made. They are kept from block to block, and grow where a
@@ -134,7 +140,9 @@ fn clear_by_block(
 {
     let form = echelon_form(alloc, n, block)?;
     let quarter = block.len().div_ceil(4);
-    let (first, rest) = split_up_to(without_zeros(form.rows()), quarter);
+    let basis = without_zeros(form.rows());
+    let words = words_of(basis);
+    let (first, rest) = split_up_to(basis, quarter);
     let (second, rest) = split_up_to(rest, quarter);
     let (third, fourth) = split_up_to(rest, quarter);
     let first_pivots = fill_part(alloc, n, first, &mut tables.first)?;
@@ -161,7 +169,7 @@ fn clear_by_block(
         pivots: fourth_pivots,
         sums: tables.fourth.as_slice(),
     };
-    add_sums(n, rows, &first, &second, &third, &fourth);
+    add_sums(n, rows, &words, &first, &second, &third, &fourth);
     Ok(())
 }
 
@@ -178,6 +186,22 @@ fn without_zeros(rows: &[BitVec]) -> &[BitVec]
         end -= 1;
     }
     rows.split_at(end).0
+}
+
+/// The words from the first up to the last in which one of the rows is not zero.
+fn words_of(rows: &[BitVec]) -> Words
+    ensures { AreWithinWords result.from result.to rows.now }
+{
+    let mut from = usize::MAX;
+    let mut to = 0;
+    for row in rows {
+        from = from.min(pivot(row) / 64);
+        let end = row.words_up_to_last();
+        if to < end {
+            to = end;
+        }
+    }
+    Words { from, to }
 }
 
 /// The first `count` rows, or all where there are fewer, and the others.
@@ -310,10 +334,11 @@ fn double(n: usize, table: &mut [BitVec], made: usize, row: &BitVec)
 }
 
 /// Adds to each of the vectors the sum of each part whose coefficients are its coordinates at the pivots of the part's
-/// rows.
+/// rows. These are zero outside of the words.
 fn add_sums(
     n: usize,
     vectors: &mut [BitVec],
+    words: &Words,
     first: &Part,
     second: &Part,
     third: &Part,
@@ -324,40 +349,81 @@ fn add_sums(
     requires second { AreSumsOf n second.now.rows.now second.now.pivots.items second.now.sums.now }
     requires third { AreSumsOf n third.now.rows.now third.now.pivots.items third.now.sums.now }
     requires fourth { AreSumsOf n fourth.now.rows.now fourth.now.pivots.items fourth.now.sums.now }
+    requires first_within { AreWithinWords words.now.from words.now.to first.now.rows.now }
+    requires second_within { AreWithinWords words.now.from words.now.to second.now.rows.now }
+    requires third_within { AreWithinWords words.now.from words.now.to third.now.rows.now }
+    requires fourth_within { AreWithinWords words.now.from words.now.to fourth.now.rows.now }
     ensures { vectors.new
         ≡ map (with_sums n first.now.rows.now second.now.rows.now third.now.rows.now fourth.now.rows.now) vectors.old }
 {
     for vector in vectors.iter_mut() {
-        add_four(n, vector, first, second, third, fourth);
+        add_four(n, vector, words, first, second, third, fourth);
     }
 }
 
-/// Adds to the vector the sum of each part whose coefficients are its coordinates at the pivots of the part's rows.
-fn add_four(n: usize, vector: &mut BitVec, first: &Part, second: &Part, third: &Part, fourth: &Part)
+/// Adds to the vector the sum of each part whose coefficients are its coordinates at the pivots of the part's rows. These
+/// are zero outside of the words.
+fn add_four(
+    n: usize,
+    vector: &mut BitVec,
+    words: &Words,
+    first: &Part,
+    second: &Part,
+    third: &Part,
+    fourth: &Part,
+)
     requires vector { length vector.old ≡ n }
     requires first { AreSumsOf n first.now.rows.now first.now.pivots.items first.now.sums.now }
     requires second { AreSumsOf n second.now.rows.now second.now.pivots.items second.now.sums.now }
     requires third { AreSumsOf n third.now.rows.now third.now.pivots.items third.now.sums.now }
     requires fourth { AreSumsOf n fourth.now.rows.now fourth.now.pivots.items fourth.now.sums.now }
+    requires first_within { AreWithinWords words.now.from words.now.to first.now.rows.now }
+    requires second_within { AreWithinWords words.now.from words.now.to second.now.rows.now }
+    requires third_within { AreWithinWords words.now.from words.now.to third.now.rows.now }
+    requires fourth_within { AreWithinWords words.now.from words.now.to fourth.now.rows.now }
     ensures { vector.new ≡ with_sums n first.now.rows.now second.now.rows.now third.now.rows.now fourth.now.rows.now
         vector.old }
 {
-    let a = sum_for(n, vector, first);
-    let b = sum_for(n, vector, second);
-    let c = sum_for(n, vector, third);
-    let d = sum_for(n, vector, fourth);
-    vector.xor_with_four(0, n.div_ceil(64), a, b, c, d);
+    let a = number_for(n, vector, first);
+    let b = number_for(n, vector, second);
+    let c = number_for(n, vector, third);
+    let d = number_for(n, vector, fourth);
+    // The sum at number 0 is zero.
+    if a + b + c + d > 0 {
+        let a = sum_of_part(n, vector, words, first, a);
+        let b = sum_of_part(n, vector, words, second, b);
+        let c = sum_of_part(n, vector, words, third, c);
+        let d = sum_of_part(n, vector, words, fourth, d);
+        vector.xor_with_four(words.from, words.to, a, b, c, d);
+    }
 }
 
-/// The sum of the part whose coefficients are the coordinates of the vector at the pivots of its rows.
-fn sum_for<'a>(n: usize, vector: &BitVec, part: &'a Part) -> &'a BitVec
+/// The number of the sum of the part whose coefficients are the coordinates of the vector at the pivots of its rows.
+fn number_for(n: usize, vector: &BitVec, part: &Part) -> usize
     requires vector { length vector.now ≡ n }
     requires part { AreSumsOf n part.now.rows.now part.now.pivots.items part.now.sums.now }
+    ensures number { result ≡ number_of (at_pivots part.now.rows.now vector.now) }
+    ensures few { result < 256 }
+{
+    number_at(vector, part.pivots.as_slice())
+}
+
+/// The sum of the part at this number, that of the coordinates of the vector at the pivots of its rows. These are zero
+/// outside of the words.
+fn sum_of_part<'a>(
+    n: usize,
+    vector: &BitVec,
+    words: &Words,
+    part: &'a Part,
+    number: usize,
+) -> &'a BitVec
+    requires part { AreSumsOf n part.now.rows.now part.now.pivots.items part.now.sums.now }
+    requires within { AreWithinWords words.now.from words.now.to part.now.rows.now }
+    requires number { number ≡ number_of (at_pivots part.now.rows.now vector.now) }
     ensures sum { result.now ≡ sum_at n part.now.rows.now vector.now }
     ensures width { length result.now ≡ n }
-    ensures within { IsWithinWords 0 (div_ceil n 64) result.now }
+    ensures within { IsWithinWords words.now.from words.now.to result.now }
 {
-    let number = number_at(vector, part.pivots.as_slice());
     &part.sums[number]
 }
 

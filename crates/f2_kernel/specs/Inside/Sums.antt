@@ -1,6 +1,6 @@
 -- All sums of a few rows, and the numbers at which they stand.
 use Rattle.std.specs.Prelude.{◌≡◌, ℕ, ◌+◌, ◌^◌, ◌<◌, ◌≤◌, Bool, if◌then◌else◌, List, [], ◌∷◌, ◌++◌, length, map}
-use Rattle.f2_vec.specs.Vectors.{sum_of, zeros}
+use Rattle.f2_vec.specs.Vectors.{sum_of, zeros, IsWithinWords}
 use Rattle.f2_vec.specs.Spans.{row, HaveWidth}
 use Rattle.f2_matrix.specs.Echelon.{HasNoZeroRow}
 use Rattle.f2_matrix.specs.Preimages.{pivot_of, at_pivots}
@@ -48,3 +48,7 @@ pub record AreSumsOf (n : ℕ) (rows : List (List Bool)) (pivots : List ℕ) (ta
   pub nonzero : HasNoZeroRow rows
   pub pivots_are : pivots ≡ map pivot_of rows
   pub sums : BeginsWithSums n rows table
+
+-- each of the rows is zero outside of words `from` up to `to`
+abbrev pub AreWithinWords : ℕ → ℕ → List (List Bool) → Type 0
+AreWithinWords from to rows = (i : ℕ) → i < length rows → IsWithinWords from to (row rows i)

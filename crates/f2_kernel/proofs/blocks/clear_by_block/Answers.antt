@@ -1,5 +1,5 @@
 use Rattle.std.proofs.Common.{◌≡◌, ◌++◌, ◌≤◌, ℕ, Bool, List, length, take, sym, subst}
-use Rattle.f2_vec.specs.Vectors.{IsZero}
+use Rattle.f2_vec.specs.Vectors.{IsZero, IsWithinWords}
 use Rattle.f2_vec.specs.Spans.{row}
 use Rattle.f2_matrix.specs.Echelon.{IsEchelonForm, IsRowBasis, HasNoZeroRow}
 use Rattle.f2_kernel.specs.Inside.Sums.{AreSumsOf}
@@ -10,44 +10,44 @@ use Rattle.f2_kernel.proofs.blocks.clear_by_block.Goals as goal
 basis_of : (n : ℕ) (block form rows basis : List (List Bool)) → IsEchelonForm n block form → rows ≡ form → basis ≡ take (length basis) rows → length basis ≤ length rows → HasNoZeroRow basis → ((i : ℕ) → length basis ≤ i → IsZero (row rows i)) → IsRowBasis n block basis
 basis_of n block form rows basis h e f m nonzero zero = without_zeros-IsRowBasis n block rows basis (subst (IsEchelonForm n block) (sym e) h) f m nonzero zero
 
-pub without_zeros-requires : goal.without_zeros-requires
-without_zeros-requires c = (subst (IsEchelonForm c.args.n c.args.block.now) (sym c.rows.ensures.rows) c.in_ok-form.ensures.rows).reduced
+pub without_zeros-basis-requires : goal.without_zeros-basis-requires
+without_zeros-basis-requires c = (subst (IsEchelonForm c.args.n c.args.block.now) (sym c.rows.ensures.rows) c.in_ok-form.ensures.rows).reduced
 
 pub fill_part-requires-clause-widths : goal.fill_part-requires-clause-widths
 fill_part-requires-clause-widths c =
-    let b = basis_of c.args.n c.args.block.now c.in_ok-form.form.rows c.rows.result.now c.without_zeros.result.now c.in_ok-form.ensures.rows c.rows.ensures.rows c.without_zeros.ensures.first c.without_zeros.ensures.within c.without_zeros.ensures.nonzero c.without_zeros.ensures.others in
-    (each_of_parts (λ r. length r ≡ c.args.n) c.without_zeros.result.now c.split_up_to.result.0.now c.split_up_to-2.result.0.now c.split_up_to-3.result.0.now c.split_up_to-3.result.1.now c.split_up_to.result.1.now c.split_up_to-2.result.1.now b.widths c.split_up_to.ensures.whole c.split_up_to-2.ensures.whole c.split_up_to-3.ensures.whole).0
+    let b = basis_of c.args.n c.args.block.now c.in_ok-form.form.rows c.rows.result.now c.without_zeros-basis.result.now c.in_ok-form.ensures.rows c.rows.ensures.rows c.without_zeros-basis.ensures.first c.without_zeros-basis.ensures.within c.without_zeros-basis.ensures.nonzero c.without_zeros-basis.ensures.others in
+    (each_of_parts (λ r. length r ≡ c.args.n) c.without_zeros-basis.result.now c.split_up_to.result.0.now c.split_up_to-2.result.0.now c.split_up_to-3.result.0.now c.split_up_to-3.result.1.now c.split_up_to.result.1.now c.split_up_to-2.result.1.now b.widths c.split_up_to.ensures.whole c.split_up_to-2.ensures.whole c.split_up_to-3.ensures.whole).0
 
 pub fill_part-requires-clause-nonzero : goal.fill_part-requires-clause-nonzero
 fill_part-requires-clause-nonzero c =
-    (each_of_parts (λ r. IsZero r → ⊥) c.without_zeros.result.now c.split_up_to.result.0.now c.split_up_to-2.result.0.now c.split_up_to-3.result.0.now c.split_up_to-3.result.1.now c.split_up_to.result.1.now c.split_up_to-2.result.1.now c.without_zeros.ensures.nonzero c.split_up_to.ensures.whole c.split_up_to-2.ensures.whole c.split_up_to-3.ensures.whole).0
+    (each_of_parts (λ r. IsZero r → ⊥) c.without_zeros-basis.result.now c.split_up_to.result.0.now c.split_up_to-2.result.0.now c.split_up_to-3.result.0.now c.split_up_to-3.result.1.now c.split_up_to.result.1.now c.split_up_to-2.result.1.now c.without_zeros-basis.ensures.nonzero c.split_up_to.ensures.whole c.split_up_to-2.ensures.whole c.split_up_to-3.ensures.whole).0
 
 pub fill_part-requires-2-clause-widths : goal.fill_part-requires-2-clause-widths
 fill_part-requires-2-clause-widths c =
-    let b = basis_of c.args.n c.args.block.now c.in_ok-form.form.rows c.rows.result.now c.without_zeros.result.now c.in_ok-form.ensures.rows c.rows.ensures.rows c.without_zeros.ensures.first c.without_zeros.ensures.within c.without_zeros.ensures.nonzero c.without_zeros.ensures.others in
-    (each_of_parts (λ r. length r ≡ c.args.n) c.without_zeros.result.now c.split_up_to.result.0.now c.split_up_to-2.result.0.now c.split_up_to-3.result.0.now c.split_up_to-3.result.1.now c.split_up_to.result.1.now c.split_up_to-2.result.1.now b.widths c.split_up_to.ensures.whole c.split_up_to-2.ensures.whole c.split_up_to-3.ensures.whole).1.0
+    let b = basis_of c.args.n c.args.block.now c.in_ok-form.form.rows c.rows.result.now c.without_zeros-basis.result.now c.in_ok-form.ensures.rows c.rows.ensures.rows c.without_zeros-basis.ensures.first c.without_zeros-basis.ensures.within c.without_zeros-basis.ensures.nonzero c.without_zeros-basis.ensures.others in
+    (each_of_parts (λ r. length r ≡ c.args.n) c.without_zeros-basis.result.now c.split_up_to.result.0.now c.split_up_to-2.result.0.now c.split_up_to-3.result.0.now c.split_up_to-3.result.1.now c.split_up_to.result.1.now c.split_up_to-2.result.1.now b.widths c.split_up_to.ensures.whole c.split_up_to-2.ensures.whole c.split_up_to-3.ensures.whole).1.0
 
 pub fill_part-requires-2-clause-nonzero : goal.fill_part-requires-2-clause-nonzero
 fill_part-requires-2-clause-nonzero c =
-    (each_of_parts (λ r. IsZero r → ⊥) c.without_zeros.result.now c.split_up_to.result.0.now c.split_up_to-2.result.0.now c.split_up_to-3.result.0.now c.split_up_to-3.result.1.now c.split_up_to.result.1.now c.split_up_to-2.result.1.now c.without_zeros.ensures.nonzero c.split_up_to.ensures.whole c.split_up_to-2.ensures.whole c.split_up_to-3.ensures.whole).1.0
+    (each_of_parts (λ r. IsZero r → ⊥) c.without_zeros-basis.result.now c.split_up_to.result.0.now c.split_up_to-2.result.0.now c.split_up_to-3.result.0.now c.split_up_to-3.result.1.now c.split_up_to.result.1.now c.split_up_to-2.result.1.now c.without_zeros-basis.ensures.nonzero c.split_up_to.ensures.whole c.split_up_to-2.ensures.whole c.split_up_to-3.ensures.whole).1.0
 
 pub fill_part-requires-3-clause-widths : goal.fill_part-requires-3-clause-widths
 fill_part-requires-3-clause-widths c =
-    let b = basis_of c.args.n c.args.block.now c.in_ok-form.form.rows c.rows.result.now c.without_zeros.result.now c.in_ok-form.ensures.rows c.rows.ensures.rows c.without_zeros.ensures.first c.without_zeros.ensures.within c.without_zeros.ensures.nonzero c.without_zeros.ensures.others in
-    (each_of_parts (λ r. length r ≡ c.args.n) c.without_zeros.result.now c.split_up_to.result.0.now c.split_up_to-2.result.0.now c.split_up_to-3.result.0.now c.split_up_to-3.result.1.now c.split_up_to.result.1.now c.split_up_to-2.result.1.now b.widths c.split_up_to.ensures.whole c.split_up_to-2.ensures.whole c.split_up_to-3.ensures.whole).1.1.0
+    let b = basis_of c.args.n c.args.block.now c.in_ok-form.form.rows c.rows.result.now c.without_zeros-basis.result.now c.in_ok-form.ensures.rows c.rows.ensures.rows c.without_zeros-basis.ensures.first c.without_zeros-basis.ensures.within c.without_zeros-basis.ensures.nonzero c.without_zeros-basis.ensures.others in
+    (each_of_parts (λ r. length r ≡ c.args.n) c.without_zeros-basis.result.now c.split_up_to.result.0.now c.split_up_to-2.result.0.now c.split_up_to-3.result.0.now c.split_up_to-3.result.1.now c.split_up_to.result.1.now c.split_up_to-2.result.1.now b.widths c.split_up_to.ensures.whole c.split_up_to-2.ensures.whole c.split_up_to-3.ensures.whole).1.1.0
 
 pub fill_part-requires-3-clause-nonzero : goal.fill_part-requires-3-clause-nonzero
 fill_part-requires-3-clause-nonzero c =
-    (each_of_parts (λ r. IsZero r → ⊥) c.without_zeros.result.now c.split_up_to.result.0.now c.split_up_to-2.result.0.now c.split_up_to-3.result.0.now c.split_up_to-3.result.1.now c.split_up_to.result.1.now c.split_up_to-2.result.1.now c.without_zeros.ensures.nonzero c.split_up_to.ensures.whole c.split_up_to-2.ensures.whole c.split_up_to-3.ensures.whole).1.1.0
+    (each_of_parts (λ r. IsZero r → ⊥) c.without_zeros-basis.result.now c.split_up_to.result.0.now c.split_up_to-2.result.0.now c.split_up_to-3.result.0.now c.split_up_to-3.result.1.now c.split_up_to.result.1.now c.split_up_to-2.result.1.now c.without_zeros-basis.ensures.nonzero c.split_up_to.ensures.whole c.split_up_to-2.ensures.whole c.split_up_to-3.ensures.whole).1.1.0
 
 pub fill_part-requires-4-clause-widths : goal.fill_part-requires-4-clause-widths
 fill_part-requires-4-clause-widths c =
-    let b = basis_of c.args.n c.args.block.now c.in_ok-form.form.rows c.rows.result.now c.without_zeros.result.now c.in_ok-form.ensures.rows c.rows.ensures.rows c.without_zeros.ensures.first c.without_zeros.ensures.within c.without_zeros.ensures.nonzero c.without_zeros.ensures.others in
-    (each_of_parts (λ r. length r ≡ c.args.n) c.without_zeros.result.now c.split_up_to.result.0.now c.split_up_to-2.result.0.now c.split_up_to-3.result.0.now c.split_up_to-3.result.1.now c.split_up_to.result.1.now c.split_up_to-2.result.1.now b.widths c.split_up_to.ensures.whole c.split_up_to-2.ensures.whole c.split_up_to-3.ensures.whole).1.1.1
+    let b = basis_of c.args.n c.args.block.now c.in_ok-form.form.rows c.rows.result.now c.without_zeros-basis.result.now c.in_ok-form.ensures.rows c.rows.ensures.rows c.without_zeros-basis.ensures.first c.without_zeros-basis.ensures.within c.without_zeros-basis.ensures.nonzero c.without_zeros-basis.ensures.others in
+    (each_of_parts (λ r. length r ≡ c.args.n) c.without_zeros-basis.result.now c.split_up_to.result.0.now c.split_up_to-2.result.0.now c.split_up_to-3.result.0.now c.split_up_to-3.result.1.now c.split_up_to.result.1.now c.split_up_to-2.result.1.now b.widths c.split_up_to.ensures.whole c.split_up_to-2.ensures.whole c.split_up_to-3.ensures.whole).1.1.1
 
 pub fill_part-requires-4-clause-nonzero : goal.fill_part-requires-4-clause-nonzero
 fill_part-requires-4-clause-nonzero c =
-    (each_of_parts (λ r. IsZero r → ⊥) c.without_zeros.result.now c.split_up_to.result.0.now c.split_up_to-2.result.0.now c.split_up_to-3.result.0.now c.split_up_to-3.result.1.now c.split_up_to.result.1.now c.split_up_to-2.result.1.now c.without_zeros.ensures.nonzero c.split_up_to.ensures.whole c.split_up_to-2.ensures.whole c.split_up_to-3.ensures.whole).1.1.1
+    (each_of_parts (λ r. IsZero r → ⊥) c.without_zeros-basis.result.now c.split_up_to.result.0.now c.split_up_to-2.result.0.now c.split_up_to-3.result.0.now c.split_up_to-3.result.1.now c.split_up_to.result.1.now c.split_up_to-2.result.1.now c.without_zeros-basis.ensures.nonzero c.split_up_to.ensures.whole c.split_up_to-2.ensures.whole c.split_up_to-3.ensures.whole).1.1.1
 
 pub add_sums-requires-clause-first : goal.add_sums-requires-clause-first
 add_sums-requires-clause-first c = subst (AreSumsOf c.args.n c.split_up_to.result.0.now c.in_ok-first_pivots.first_pivots.items) (sym c.as_slice.ensures.value) c.in_ok-first_pivots.ensures.sums
@@ -61,17 +61,29 @@ add_sums-requires-clause-third c = subst (AreSumsOf c.args.n c.split_up_to-3.res
 pub add_sums-requires-clause-fourth : goal.add_sums-requires-clause-fourth
 add_sums-requires-clause-fourth c = subst (AreSumsOf c.args.n c.split_up_to-3.result.1.now c.in_ok-fourth_pivots.fourth_pivots.items) (sym c.as_slice-4.ensures.value) c.in_ok-fourth_pivots.ensures.sums
 
+pub add_sums-requires-clause-first_within : goal.add_sums-requires-clause-first_within
+add_sums-requires-clause-first_within c = (each_of_parts (IsWithinWords c.words_of-words.result.from c.words_of-words.result.to) c.without_zeros-basis.result.now c.split_up_to.result.0.now c.split_up_to-2.result.0.now c.split_up_to-3.result.0.now c.split_up_to-3.result.1.now c.split_up_to.result.1.now c.split_up_to-2.result.1.now c.words_of-words.ensures c.split_up_to.ensures.whole c.split_up_to-2.ensures.whole c.split_up_to-3.ensures.whole).0
+
+pub add_sums-requires-clause-second_within : goal.add_sums-requires-clause-second_within
+add_sums-requires-clause-second_within c = (each_of_parts (IsWithinWords c.words_of-words.result.from c.words_of-words.result.to) c.without_zeros-basis.result.now c.split_up_to.result.0.now c.split_up_to-2.result.0.now c.split_up_to-3.result.0.now c.split_up_to-3.result.1.now c.split_up_to.result.1.now c.split_up_to-2.result.1.now c.words_of-words.ensures c.split_up_to.ensures.whole c.split_up_to-2.ensures.whole c.split_up_to-3.ensures.whole).1.0
+
+pub add_sums-requires-clause-third_within : goal.add_sums-requires-clause-third_within
+add_sums-requires-clause-third_within c = (each_of_parts (IsWithinWords c.words_of-words.result.from c.words_of-words.result.to) c.without_zeros-basis.result.now c.split_up_to.result.0.now c.split_up_to-2.result.0.now c.split_up_to-3.result.0.now c.split_up_to-3.result.1.now c.split_up_to.result.1.now c.split_up_to-2.result.1.now c.words_of-words.ensures c.split_up_to.ensures.whole c.split_up_to-2.ensures.whole c.split_up_to-3.ensures.whole).1.1.0
+
+pub add_sums-requires-clause-fourth_within : goal.add_sums-requires-clause-fourth_within
+add_sums-requires-clause-fourth_within c = (each_of_parts (IsWithinWords c.words_of-words.result.from c.words_of-words.result.to) c.without_zeros-basis.result.now c.split_up_to.result.0.now c.split_up_to-2.result.0.now c.split_up_to-3.result.0.now c.split_up_to-3.result.1.now c.split_up_to.result.1.now c.split_up_to-2.result.1.now c.words_of-words.ensures c.split_up_to.ensures.whole c.split_up_to-2.ensures.whole c.split_up_to-3.ensures.whole).1.1.1
+
 pub returns-clause-rows : goal.returns-clause-rows
 returns-clause-rows c =
     let n = c.args.n in
-    let basis = c.without_zeros.result.now in
+    let basis = c.without_zeros-basis.result.now in
     let a = c.split_up_to.result.0.now in
     let b = c.split_up_to-2.result.0.now in
     let x = c.split_up_to-3.result.0.now in
     let y = c.split_up_to-3.result.1.now in
     let whole : basis ≡ a ++ (b ++ (x ++ y)) = cc (c.split_up_to.ensures.whole, c.split_up_to-2.ensures.whole, c.split_up_to-3.ensures.whole) in
     all_cleared n c.args.block.now basis a b x y c.args.rows.now c.add_sums.new.vectors c.requires.block
-    (basis_of c.args.n c.args.block.now c.in_ok-form.form.rows c.rows.result.now c.without_zeros.result.now c.in_ok-form.ensures.rows c.rows.ensures.rows c.without_zeros.ensures.first c.without_zeros.ensures.within c.without_zeros.ensures.nonzero c.without_zeros.ensures.others)
+    (basis_of c.args.n c.args.block.now c.in_ok-form.form.rows c.rows.result.now c.without_zeros-basis.result.now c.in_ok-form.ensures.rows c.rows.ensures.rows c.without_zeros-basis.ensures.first c.without_zeros-basis.ensures.within c.without_zeros-basis.ensures.nonzero c.without_zeros-basis.ensures.others)
     whole c.in_ok-first_pivots.ensures.sums.widths c.in_ok-second_pivots.ensures.sums.widths c.in_ok-third_pivots.ensures.sums.widths c.in_ok-fourth_pivots.ensures.sums.widths c.requires.rows c.add_sums.ensures
 
 pub returns-clause-tables : goal.returns-clause-tables
