@@ -1,7 +1,7 @@
 -- Rows cleared by blocks, the last one first: a block clears the rows before it by its sums.
 use Rattle.std.proofs.Common.{◌≡◌, ◌≢◌, inl, inr, ℕ, suc, ◌+◌, ◌-◌, ◌*◌, ◌^◌, ◌<◌, ◌≤◌, Bool, true, false, cond, List, [], ◌∷◌, ◌++◌, length, map, take, drop, refl, ap, sym, subst, ◌∙◌, arith}
 use Rattle.std.proofs.lemmas.Bool.{cases_lt, both_ways}
-use Rattle.std.proofs.lemmas.List.{get_or_past, get_or-take, get_or-map, get_or_append_left, get_or-append_right, length-append, length-map, length-take-le, length-drop, append_assoc, append-nil, nil_from_length, take_all, map-id, map-append, take-map, drop-map, take-append-drop, take_more, take_at, drop_at, take-append-le, drop-append-le}
+use Rattle.std.proofs.lemmas.List.{get_or_past, get_or-take, get_or-map, get_or_append_left, get_or-append_right, length-append, length-map, length-take-le, length-drop, append-nil, nil_from_length, take_all, map-id, map-append, take-map, drop-map, take-append-drop, take_at, drop_at, take-append-le, drop-append-le}
 use Rattle.std.proofs.Math.Nat.{pow-suc}
 use Rattle.std.proofs.Math.Pow.{pow_mono}
 use Rattle.f2_vec.specs.Vectors.{plus, sum_of, zeros, bit, IsZero, IsFirstOne}

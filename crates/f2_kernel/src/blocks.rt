@@ -1,13 +1,14 @@
 //! Rows cleared from the last one up, by blocks: each block clears the rows before it, by one sum of each of its
 //! quarters. Few rows are cleared one by one.
-ghost use Rattle.std.specs.Prelude.{◌≡◌, ℕ, ◌+◌, ◌-◌, ◌<◌, ◌≤◌, ◌++◌, map, length, take, replicate, slice_index_or, IfOk, OnOk};
+ghost use Rattle.std.specs.Prelude.{◌≡◌, ◌↔◌, ℕ, ◌+◌, ◌-◌, ◌/◌, ◌<◌, ◌≤◌, ◌++◌, true, map, length, take, replicate, slice_index_or, IsTrue, IfOk, OnOk};
 ghost use Rattle.f2_vec.specs.Vectors.{bit, sum_of, zeros, IsZero, IsWithinWords};
 ghost use Rattle.f2_vec.specs.Spans.{row as row_at, HaveWidth};
 ghost use Rattle.f2_matrix.specs.Echelon.{IsEchelonForm, IsReduced, HasNoZeroRow};
-ghost use Rattle.f2_matrix.specs.Preimages.{pivot_of, at_pivots};
+ghost use Rattle.f2_matrix.specs.Preimages.{pivot_of};
 ghost use Rattle.f2_kernel.specs.Inside.Upward.{upward, cleared_by, AreCleared, IsBlockCleared};
-ghost use Rattle.f2_kernel.specs.Inside.Sums.{number as number_of, sum_at, with_sums, IsTable, AreTables, BeginsWithSums, AreSumsOf, AreWithinWords};
+ghost use Rattle.f2_kernel.specs.Inside.Sums.{number as number_of, sum_at, with_sums, IsTable, AreTables, BeginsWithSums, AreSumsOf, AreWithinWords, AreMarksOf};
 
+use crate::echelon::marks_of;
 use crate::form::{clear_one_by_one, pivot};
 use f2_matrix::Matrix;
 use f2_vec::BitVec;
@@ -27,6 +28,13 @@ struct Part<'a> {
 struct Words {
     from: usize,
     to: usize,
+}
+
+/// A vector with a 1 at the pivots of a few rows, and the words, of 64 coordinates each, in which these are.
+#[derive(Drop)]
+struct Marks {
+    vector: BitVec,
+    words: Vec<usize>,
 }
 
 /// Tables in which the sums of the four parts of a block are made. They are kept from block to block, and grow where a
@@ -142,6 +150,7 @@ fn clear_by_block(
     let quarter = block.len().div_ceil(4);
     let basis = without_zeros(form.rows());
     let words = words_of(basis);
+    let marks = marks_at_pivots(alloc, n, basis)?;
     let (first, rest) = split_up_to(basis, quarter);
     let (second, rest) = split_up_to(rest, quarter);
     let (third, fourth) = split_up_to(rest, quarter);
@@ -169,7 +178,7 @@ fn clear_by_block(
         pivots: fourth_pivots,
         sums: tables.fourth.as_slice(),
     };
-    add_sums(n, rows, &words, &first, &second, &third, &fourth);
+    add_sums(n, rows, &marks, &words, &first, &second, &third, &fourth);
     Ok(())
 }
 
@@ -202,6 +211,26 @@ fn words_of(rows: &[BitVec]) -> Words
         }
     }
     Words { from, to }
+}
+
+/// Marks at the pivots of the rows, of length `n`.
+///
+/// # Errors
+/// `Memory` if allocation fails.
+fn marks_at_pivots(alloc: Global, n: usize, rows: &[BitVec]) -> Result<Marks, Memory>
+    requires widths { HaveWidth n rows.now }
+    requires nonzero { HasNoZeroRow rows.now }
+    ensures { IfOk result (λ marks. AreMarksOf rows.now marks.vector marks.words.items) }
+{
+    let vector = marks_of(alloc, n, rows)?;
+    let mut words = Vec::with_capacity(alloc, rows.len())?;
+    for i in 0..rows.len() {
+        let word = pivot(&rows[i]) / 64;
+        if i == 0 || pivot(&rows[i - 1]) / 64 != word {
+            words.push(word)?;
+        }
+    }
+    Ok(Marks { vector, words })
 }
 
 /// The first `count` rows, or all where there are fewer, and the others.
@@ -338,6 +367,7 @@ fn double(n: usize, table: &mut [BitVec], made: usize, row: &BitVec)
 fn add_sums(
     n: usize,
     vectors: &mut [BitVec],
+    marks: &Marks,
     words: &Words,
     first: &Part,
     second: &Part,
@@ -353,11 +383,13 @@ fn add_sums(
     requires second_within { AreWithinWords words.now.from words.now.to second.now.rows.now }
     requires third_within { AreWithinWords words.now.from words.now.to third.now.rows.now }
     requires fourth_within { AreWithinWords words.now.from words.now.to fourth.now.rows.now }
+    requires marks { AreMarksOf (first.now.rows.now ++ (second.now.rows.now ++ (third.now.rows.now ++ fourth.now.rows.now)))
+        marks.now.vector marks.now.words.items }
     ensures { vectors.new
         ≡ map (with_sums n first.now.rows.now second.now.rows.now third.now.rows.now fourth.now.rows.now) vectors.old }
 {
     for vector in vectors.iter_mut() {
-        add_four(n, vector, words, first, second, third, fourth);
+        add_four(n, vector, marks, words, first, second, third, fourth);
     }
 }
 
@@ -366,6 +398,7 @@ fn add_sums(
 fn add_four(
     n: usize,
     vector: &mut BitVec,
+    marks: &Marks,
     words: &Words,
     first: &Part,
     second: &Part,
@@ -381,49 +414,46 @@ fn add_four(
     requires second_within { AreWithinWords words.now.from words.now.to second.now.rows.now }
     requires third_within { AreWithinWords words.now.from words.now.to third.now.rows.now }
     requires fourth_within { AreWithinWords words.now.from words.now.to fourth.now.rows.now }
+    requires marks { AreMarksOf (first.now.rows.now ++ (second.now.rows.now ++ (third.now.rows.now ++ fourth.now.rows.now)))
+        marks.now.vector marks.now.words.items }
     ensures { vector.new ≡ with_sums n first.now.rows.now second.now.rows.now third.now.rows.now fourth.now.rows.now
         vector.old }
 {
-    let a = number_for(n, vector, first);
-    let b = number_for(n, vector, second);
-    let c = number_for(n, vector, third);
-    let d = number_for(n, vector, fourth);
-    // The sum at number 0 is zero.
-    if a + b + c + d > 0 {
-        let a = sum_of_part(n, vector, words, first, a);
-        let b = sum_of_part(n, vector, words, second, b);
-        let c = sum_of_part(n, vector, words, third, c);
-        let d = sum_of_part(n, vector, words, fourth, d);
+    if has_mark(vector, marks) {
+        let a = sum_for(n, vector, words, first);
+        let b = sum_for(n, vector, words, second);
+        let c = sum_for(n, vector, words, third);
+        let d = sum_for(n, vector, words, fourth);
         vector.xor_with_four(words.from, words.to, a, b, c, d);
     }
 }
 
-/// The number of the sum of the part whose coefficients are the coordinates of the vector at the pivots of its rows.
-fn number_for(n: usize, vector: &BitVec, part: &Part) -> usize
-    requires vector { length vector.now ≡ n }
-    requires part { AreSumsOf n part.now.rows.now part.now.pivots.items part.now.sums.now }
-    ensures number { result ≡ number_of (at_pivots part.now.rows.now vector.now) }
-    ensures few { result < 256 }
+/// Whether the vector has a 1 at one of the marks in these words.
+fn has_mark(vector: &BitVec, marks: &Marks) -> bool
+    ensures { IsTrue result ↔ ((m : ℕ) × (p : ℕ) × (m < length marks.now.words.items)
+        × (slice_index_or marks.now.words.items m 0 ≡ p / 64) × (bit vector.now p ≡ true)
+        × (bit marks.now.vector p ≡ true)) }
 {
-    number_at(vector, part.pivots.as_slice())
+    for i in 0..marks.words.len() {
+        let word = marks.words[i];
+        if vector.word(word) & marks.vector.word(word) != 0 {
+            return true;
+        }
+    }
+    false
 }
 
-/// The sum of the part at this number, that of the coordinates of the vector at the pivots of its rows. These are zero
+/// The sum of the part whose coefficients are the coordinates of the vector at the pivots of its rows. These are zero
 /// outside of the words.
-fn sum_of_part<'a>(
-    n: usize,
-    vector: &BitVec,
-    words: &Words,
-    part: &'a Part,
-    number: usize,
-) -> &'a BitVec
+fn sum_for<'a>(n: usize, vector: &BitVec, words: &Words, part: &'a Part) -> &'a BitVec
+    requires vector { length vector.now ≡ n }
     requires part { AreSumsOf n part.now.rows.now part.now.pivots.items part.now.sums.now }
     requires within { AreWithinWords words.now.from words.now.to part.now.rows.now }
-    requires number { number ≡ number_of (at_pivots part.now.rows.now vector.now) }
     ensures sum { result.now ≡ sum_at n part.now.rows.now vector.now }
     ensures width { length result.now ≡ n }
     ensures within { IsWithinWords words.now.from words.now.to result.now }
 {
+    let number = number_at(vector, part.pivots.as_slice());
     &part.sums[number]
 }
 

@@ -1,7 +1,7 @@
-//! The test of the reduced echelon form.
+//! The test of the reduced echelon form, and marks at the pivots of rows.
 ghost use Rattle.std.specs.Prelude.{◌≡◌, ◌↔◌, ℕ, true, IsTrue, IfOk};
-ghost use Rattle.f2_vec.specs.Vectors.{bit};
-ghost use Rattle.f2_vec.specs.Spans.{HaveWidth};
+ghost use Rattle.f2_vec.specs.Vectors.{bit, IsFirstOne};
+ghost use Rattle.f2_vec.specs.Spans.{row, HaveWidth};
 ghost use Rattle.f2_matrix.specs.Echelon.{IsReduced, HasNoZeroRow};
 
 use f2_vec::BitVec;
@@ -42,4 +42,22 @@ pub(crate) fn have_common_one(a: &BitVec, b: &BitVec) -> bool
         }
     }
     false
+}
+
+/// The vector of length `n` with a 1 at just the pivots of the rows.
+///
+/// # Errors
+/// `Memory` if allocation fails.
+pub(crate) fn marks_of(alloc: Global, n: usize, rows: &[BitVec]) -> Result<BitVec, Memory>
+    requires { HaveWidth n rows.now }
+    ensures marked { IfOk result (λ marks. (p : ℕ) → bit marks p ≡ true → (j : ℕ) × IsFirstOne (row rows.now j) p) }
+    ensures marks_all { IfOk result (λ marks. (j p : ℕ) → IsFirstOne (row rows.now j) p → bit marks p ≡ true) }
+{
+    let mut marks = BitVec::zero(alloc, n)?;
+    for row in rows {
+        if let Some(pivot) = row.first_one() {
+            marks.set(pivot, true);
+        }
+    }
+    Ok(marks)
 }

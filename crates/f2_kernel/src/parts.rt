@@ -5,7 +5,7 @@ ghost use Rattle.f2_vec.specs.Spans.{row, HaveWidth, combination};
 ghost use Rattle.f2_matrix.specs.Echelon.{IsReduced, HasNoZeroRow};
 ghost use Rattle.f2_matrix.specs.Parts.{AreReductionParts};
 
-use crate::echelon::{have_common_one, is_row_basis};
+use crate::echelon::{have_common_one, is_row_basis, marks_of};
 use crate::products::add_products;
 use f2_matrix::Matrix;
 use f2_vec::BitVec;
@@ -73,24 +73,6 @@ fn are_zero_at(vectors: &[BitVec], marks: &BitVec) -> bool
         }
     }
     true
-}
-
-/// The vector of length `n` with a 1 at just the pivots of the rows.
-///
-/// # Errors
-/// `Memory` if allocation fails.
-fn marks_of(alloc: Global, n: usize, rows: &[BitVec]) -> Result<BitVec, Memory>
-    requires { HaveWidth n rows.now }
-    ensures marked { IfOk result (λ marks. (p : ℕ) → bit marks p ≡ true → (j : ℕ) × IsFirstOne (row rows.now j) p) }
-    ensures marks_all { IfOk result (λ marks. (j p : ℕ) → IsFirstOne (row rows.now j) p → bit marks p ≡ true) }
-{
-    let mut marks = BitVec::zero(alloc, n)?;
-    for row in rows {
-        if let Some(pivot) = row.first_one() {
-            marks.set(pivot, true);
-        }
-    }
-    Ok(marks)
 }
 
 /// Whether the products of the chosen rows with the matrix are the image rows, and those of the kernel rows are zero.

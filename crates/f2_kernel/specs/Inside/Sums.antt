@@ -1,6 +1,6 @@
 -- All sums of a few rows, and the numbers at which they stand.
-use Rattle.std.specs.Prelude.{◌≡◌, ℕ, ◌+◌, ◌^◌, ◌<◌, ◌≤◌, Bool, if◌then◌else◌, List, [], ◌∷◌, ◌++◌, length, map}
-use Rattle.f2_vec.specs.Vectors.{sum_of, zeros, IsWithinWords}
+use Rattle.std.specs.Prelude.{◌≡◌, ℕ, ◌+◌, ◌/◌, ◌^◌, ◌<◌, ◌≤◌, Bool, true, slice_index_or, if◌then◌else◌, List, [], ◌∷◌, ◌++◌, length, map}
+use Rattle.f2_vec.specs.Vectors.{sum_of, zeros, bit, IsWithinWords}
 use Rattle.f2_vec.specs.Spans.{row, HaveWidth}
 use Rattle.f2_matrix.specs.Echelon.{HasNoZeroRow}
 use Rattle.f2_matrix.specs.Preimages.{pivot_of, at_pivots}
@@ -52,3 +52,8 @@ pub record AreSumsOf (n : ℕ) (rows : List (List Bool)) (pivots : List ℕ) (ta
 -- each of the rows is zero outside of words `from` up to `to`
 abbrev pub AreWithinWords : ℕ → ℕ → List (List Bool) → Type 0
 AreWithinWords from to rows = (i : ℕ) → i < length rows → IsWithinWords from to (row rows i)
+
+-- marks has a 1 at the pivot of each of the rows, and the words are those of these pivots
+pub record AreMarksOf (rows : List (List Bool)) (marks : List Bool) (words : List ℕ) : Type 0 where
+  pub marked : (j : ℕ) → j < length rows → bit marks (pivot_of (row rows j)) ≡ true
+  pub listed : (j : ℕ) → j < length rows → (m : ℕ) × (m < length words) × (slice_index_or words m 0 ≡ pivot_of (row rows j) / 64)

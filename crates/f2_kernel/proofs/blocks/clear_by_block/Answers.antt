@@ -2,7 +2,7 @@ use Rattle.std.proofs.Common.{◌≡◌, ◌++◌, ◌≤◌, ℕ, Bool, List, l
 use Rattle.f2_vec.specs.Vectors.{IsZero, IsWithinWords}
 use Rattle.f2_vec.specs.Spans.{row}
 use Rattle.f2_matrix.specs.Echelon.{IsEchelonForm, IsRowBasis, HasNoZeroRow}
-use Rattle.f2_kernel.specs.Inside.Sums.{AreSumsOf}
+use Rattle.f2_kernel.specs.Inside.Sums.{AreSumsOf, AreMarksOf}
 use Rattle.f2_kernel.proofs.Blocked.{all_cleared, each_of_parts, without_zeros-IsRowBasis}
 use Rattle.f2_kernel.proofs.blocks.clear_by_block.Goals as goal
 
@@ -48,6 +48,19 @@ fill_part-requires-4-clause-widths c =
 pub fill_part-requires-4-clause-nonzero : goal.fill_part-requires-4-clause-nonzero
 fill_part-requires-4-clause-nonzero c =
     (each_of_parts (λ r. IsZero r → ⊥) c.without_zeros-basis.result.now c.split_up_to.result.0.now c.split_up_to-2.result.0.now c.split_up_to-3.result.0.now c.split_up_to-3.result.1.now c.split_up_to.result.1.now c.split_up_to-2.result.1.now c.without_zeros-basis.ensures.nonzero c.split_up_to.ensures.whole c.split_up_to-2.ensures.whole c.split_up_to-3.ensures.whole).1.1.1
+
+pub marks_at_pivots-requires-clause-widths : goal.marks_at_pivots-requires-clause-widths
+marks_at_pivots-requires-clause-widths c =
+    (basis_of c.args.n c.args.block.now c.in_ok-form.form.rows c.rows.result.now c.without_zeros-basis.result.now c.in_ok-form.ensures.rows c.rows.ensures.rows c.without_zeros-basis.ensures.first c.without_zeros-basis.ensures.within c.without_zeros-basis.ensures.nonzero c.without_zeros-basis.ensures.others).widths
+
+pub add_sums-requires-clause-marks : goal.add_sums-requires-clause-marks
+add_sums-requires-clause-marks c =
+    let a = c.split_up_to.result.0.now in
+    let b = c.split_up_to-2.result.0.now in
+    let x = c.split_up_to-3.result.0.now in
+    let y = c.split_up_to-3.result.1.now in
+    let whole : c.without_zeros-basis.result.now ≡ a ++ (b ++ (x ++ y)) = cc (c.split_up_to.ensures.whole, c.split_up_to-2.ensures.whole, c.split_up_to-3.ensures.whole) in
+    subst (λ (z : List (List Bool)). AreMarksOf z c.in_ok-marks.marks.vector c.in_ok-marks.marks.words.items) whole c.in_ok-marks.ensures
 
 pub add_sums-requires-clause-first : goal.add_sums-requires-clause-first
 add_sums-requires-clause-first c = subst (AreSumsOf c.args.n c.split_up_to.result.0.now c.in_ok-first_pivots.first_pivots.items) (sym c.as_slice.ensures.value) c.in_ok-first_pivots.ensures.sums

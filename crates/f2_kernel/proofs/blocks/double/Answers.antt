@@ -1,4 +1,4 @@
-use Rattle.std.proofs.Common.{set, ◌≡◌, ◌+◌, ◌<◌, ℕ, Bool, List, [], length, ap, sym, ◌∙◌, arith, inl, inr, ◌++◌}
+use Rattle.std.proofs.Common.{set, ◌≡◌, ◌+◌, ◌<◌, [], length, ap, sym, ◌∙◌, arith, inl, inr, ◌++◌}
 use Rattle.std.proofs.lemmas.Bool.{cases_eq}
 use Rattle.std.proofs.lemmas.List.{length-set, get_or_default, get_or-set_same, get_or-set_other, get_or_append_left, get_or-append-add}
 use Rattle.f2_vec.specs.Vectors.{sum_of}

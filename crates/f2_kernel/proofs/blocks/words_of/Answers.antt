@@ -1,4 +1,4 @@
-use Rattle.std.proofs.Common.{[], ◌<◌, ◌≤◌, length, arith}
+use Rattle.std.proofs.Common.{[], ◌<◌, length, arith}
 use Rattle.std.proofs.lemmas.List.{get_or_read}
 use Rattle.f2_kernel.proofs.Within.{one_row_more}
 use Rattle.f2_kernel.proofs.blocks.words_of.Goals as goal

@@ -4,8 +4,8 @@ use Rattle.f2_vec.specs.Vectors.{IsZero, IsFirstOne}
 use Rattle.f2_vec.specs.Spans.{row}
 use Rattle.f2_matrix.proofs.Pivots.{first_within}
 use Rattle.f2_kernel.proofs.Marks.{AreMarked, none_marked, one_marked, zero_marked}
-use Rattle.f2_kernel.proofs.parts.marks_of.Goals as goal
-use Rattle.f2_kernel.proofs.parts.marks_of.Goals.{in-Some, in_default}
+use Rattle.f2_kernel.proofs.echelon.marks_of.Goals as goal
+use Rattle.f2_kernel.proofs.echelon.marks_of.Goals.{in-Some, in_default}
 
 pub loop-row-init : goal.loop-row-init
 loop-row-init c = subst (AreMarked c.args.n 0 c.args.rows.now) (sym c.in_ok-marks.ensures) (none_marked c.args.n c.args.rows.now)
