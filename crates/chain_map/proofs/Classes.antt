@@ -1,18 +1,19 @@
 -- How many classes a table has through a range, and what a refusal says in other words.
-use Rattle.std.proofs.Common.{◌≡◌, inl, inr, ℕ, ◌+◌, ◌≤◌, ℤ, Bool, true, false, List, [], length, map, take, get_or, Option, Some, None, refl, ap, subst, ◌∙◌, arith}
+use Rattle.std.proofs.Common.{◌≡◌, inl, inr, ℕ, ◌+◌, ◌≤◌, ℤ, Bool, true, false, List, [], length, map, take, get_or, Option, Some, None, refl, ap, sym, subst, ◌∙◌, arith}
 use Rattle.std.specs.Prelude.{◌+ℤ◌, ◌-ℤ◌, pos, if◌then◌else◌, option_map}
 use Rattle.std.specs.Option.{option_or}
 use Rattle.std.proofs.Math.ListN.{get_or-map as map-get_or}
 use Rattle.std.proofs.Math.Seq.{take-nil}
 use Rattle.std.proofs.lemmas.Bool.{cases_lt}
+use Rattle.std.proofs.lemmas.Int.{ints}
 use Rattle.std.proofs.lemmas.List.{get_or-take, get_or_past, length-map, length-take}
 use Rattle.resolution_laws.specs.Resolution.{Content, no_content, square_in, row_of}
 use Rattle.square.specs.declared.range.Range.{Range}
 use Rattle.square.specs.Tables.{Staircase, plain_rows, content_at}
 use Rattle.lift_laws.specs.Lifts.{Resolution}
-use Rattle.lift_laws.specs.Products.{count_of}
+use Rattle.lift_laws.specs.Products.{Class as ClassAbove, count_of}
 use Rattle.chain_map.specs.declared.class.Class.{Class}
-use Rattle.chain_map.specs.Classes.{through, missing_in, passes, first_refusal}
+use Rattle.chain_map.specs.Classes.{through, missing_in, IsAt, passes, first_refusal}
 
 -- ---- the rows of a table, cut
 
@@ -37,15 +38,22 @@ module _ (table : Staircase) (range : Range) where
   pub count_outside : (s k : ℕ) → (s ≤ range.s → k ≤ range.t → ⊥) → count_of (through range table) s k ≡ 0
   count_outside s k out = elim (cases_lt range.s s) [
     | inl past ↦
-        let len = length-map (take (range.s + 1) rows) (take (range.t + 1)) ∙ length-take (range.s + 1) rows in
-        ap (λ (squares : List Content). length (square_in squares k).images) (get_or_past (map (take (range.t + 1)) (take (range.s + 1) rows)) s [] (omega arith))
+        ap (λ (squares : List Content). length (square_in squares k).images) (get_or_past (map (take (range.t + 1)) (take (range.s + 1) rows)) s [] (omega (arith, length-map (take (range.s + 1) rows) (take (range.t + 1)) ∙ length-take (range.s + 1) rows)))
     | inr row ↦ elim (cases_lt range.t k) [
       | inl past ↦
-          let len = length-take (range.t + 1) (row_of rows s) in
-          ap (λ (squares : List Content). length (square_in squares k).images) (rows_through s row) ∙ ap (λ (c : Content). length c.images) (get_or_past (take (range.t + 1) (row_of rows s)) k no_content (omega arith))
+          ap (λ (squares : List Content). length (square_in squares k).images) (rows_through s row) ∙ ap (λ (c : Content). length c.images) (get_or_past (take (range.t + 1) (row_of rows s)) k no_content (omega (arith, length-take (range.t + 1) (row_of rows s))))
       | inr degree ↦ absurd (out row degree)
     ]
   ]
+
+-- a class is one of the resolution's alone
+pub class_is_once : (r : Resolution) (c : Class) (x y : ClassAbove) → IsAt r c x → IsAt r c y → x ≡ y
+class_is_once r c x y p k =
+    let s : x.s ≡ y.s = sym p.row ∙ k.row in
+    let above : x.above ≡ y.above = omega (arith, ints, sym p.degree ∙ k.degree) in
+    let i : x.i ≡ y.i = sym p.number ∙ k.number in
+    let at : ℕ → ℕ → ℕ → ClassAbove = λ s above i. record { s = s; above = above; i = i } in
+    ap (λ (n : ℕ). at n x.above x.i) s ∙ (ap (λ (n : ℕ). at y.s n x.i) above ∙ ap (at y.s y.above) i)
 
 -- ---- a refusal in other words
 

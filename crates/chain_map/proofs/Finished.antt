@@ -25,8 +25,7 @@ use Rattle.chain_map.proofs.Images.{chain_map_of}
 no_generator : (table : Staircase) (i g : ℕ) → g < length (gens (resolution_of table) i) → degree (resolution_of table) i g ≤ℤ greatest table 0 → ⊥
 no_generator table i g l low =
     let b = degrees_from-between (bottom_of table.resolved) (row_of (plain_rows table.rows) i) g l in
-    let from = b.from in
-    absurd (omega (arith, ints))
+    absurd (omega (arith, ints, b.from))
 
 -- through no degree all is a lift
 lift_below : (table sphere : Staircase) (s above c upto : ℕ) (lift : LiftValues) (m : ℕ) → m ≡ 0 → IsLift (resolution_of table) (resolution_of sphere) s (bottom_of table.resolved +ℤ pos above) (class_of table sphere s above c) upto (greatest table m) (map_of lift)
@@ -124,7 +123,7 @@ module _ (minimal : CanonicalTableIsMinimalResolution) (modules : ModulesAreStee
         let inside : k < upto + 1 = omega (arith, made.rows) in
         let v = made.values k inside in
         let Q : ℕ → Type 0 = λ n. AreValues table sphere s x n k (row_values lift k) in
-        subst Q n_is (record { firsts = v.firsts; one_each = v.chosen.one_each; widths = λ g b. value-fits table sphere reaches.is_table reaches.is_sphere_table is_sphere s above n far c (upto + 1) upto lift made reaches.here reaches.enough reaches.there (omega arith) k g inside b });
+        subst Q n_is (record { one_each = v.one_each; widths = λ g b. value-fits table sphere reaches.is_table reaches.is_sphere_table is_sphere s above n far c (upto + 1) upto lift made reaches.here reaches.enough reaches.there (omega arith) k g inside b });
     is_lift = lifted;
     chain_map = λ m most e a b. chain_map_of table sphere reaches.is_table reaches.is_sphere_table s x z upto (greatest table m) (map_of lift) (lifted m most e a b);
   }

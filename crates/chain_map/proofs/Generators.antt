@@ -1,16 +1,22 @@
 -- The generators of a row by squares: number i of a square is that many behind the row's generators before it.
-use Rattle.std.proofs.Common.{◌≡◌, ℕ, zero, suc, ◌+◌, ◌<◌, ◌≤◌, ℤ, pos, ◌+ℤ◌, ◌-ℤ◌, ◌<ℤ◌, ◌≤ℤ◌, List, [], ◌∷◌, ◌++◌, length, map, replicate, take, drop, refl, ap, sym, ◌∙◌, arith}
+use Rattle.std.proofs.Common.{◌≡◌, ℕ, zero, suc, ◌+◌, ◌<◌, ◌≤◌, ℤ, pos, ◌+ℤ◌, ◌-ℤ◌, ◌<ℤ◌, ◌≤ℤ◌, Bool, List, [], ◌∷◌, ◌++◌, length, map, replicate, take, drop, refl, ap, sym, subst, ◌∙◌, arith}
+use Rattle.std.specs.List.{sum}
 use Rattle.std.proofs.lemmas.Int.{ints}
-use Rattle.std.proofs.lemmas.List.{get_or_append_left, get_or-append-add, get_or-map, length-append, length-take-le, map-append, take_more}
+use Rattle.std.proofs.lemmas.List.{get_or_append_left, get_or-append-add, get_or-map, length-append, length-take-le, map-append}
+use Rattle.std.proofs.lemmas.List.Concat.{length-flat_map}
+use Rattle.std.proofs.lemmas.List.FromFn.{sum_by-map-range_with_len_more}
+use Rattle.std.proofs.lemmas.List.Sums.{sum-map}
 use Rattle.f2_vec.specs.Spans.{row}
-use Rattle.resolution_laws.specs.Resolution.{Content, no_content, square_in, degrees_from, images_of, row_of}
-use Rattle.resolution_laws.proofs.Rows.{images_of-push, degrees_from-between, degrees_from-split}
+use Rattle.resolution_laws.specs.Resolution.{Content, square_in, degrees_from, images_of, row_of}
+use Rattle.resolution_laws.proofs.Rows.{degrees_from-between, degrees_from-split}
 use Rattle.resolution_laws.proofs.Generators.{length-images_of}
 use Rattle.free_module.specs.FreeModule.{degree_at, IsWithinReach}
 use Rattle.lift_laws.specs.Maps.{lowered_by}
 use Rattle.lift_laws.specs.Lifts.{Resolution, gens, degree, image}
 use Rattle.lift_laws.specs.Products.{first_of, count_of}
 use Rattle.lift_laws.proofs.Coefficients.{is_new}
+use Rattle.square.specs.Tables.{Staircase}
+use Rattle.chain_map.specs.Lifting.{joined, counts, resolution_of}
 
 -- the image of number h of square n
 image_in : (squares : List Content) (n h : ℕ) → n < length squares → h < length (square_in squares n).images → row (images_of squares) (length (images_of (take n squares)) + h) ≡ row (square_in squares n).images h
@@ -42,11 +48,29 @@ images_taken (c ∷ squares) (suc m) (suc n) h =
     omega (arith, length-append c.images (images_of (take m squares)), length-append c.images (images_of (take n squares)))
 
 -- the squares before the next
-pub first_of-more : (r : Resolution) (i n : ℕ) → n < length (row_of r.table i) → first_of r i (n + 1) ≡ first_of r i n + count_of r i n
-first_of-more r i n l =
-    let squares = row_of r.table i in
-    let c = square_in squares n in
-    ap length (ap images_of (take_more squares n no_content l) ∙ images_of-push (take n squares) c) ∙ length-append (images_of (take n squares)) c.images
+images-next : (squares : List Content) (n : ℕ) → length (images_of (take (suc n) squares)) ≡ length (images_of (take n squares)) + length (square_in squares n).images
+images-next [] zero = refl
+images-next [] (suc n) = refl
+images-next (c ∷ squares) zero = let len = length-append c.images [] in omega arith
+images-next (c ∷ squares) (suc n) =
+    omega (arith, length-append c.images (images_of (take (suc n) squares)), length-append c.images (images_of (take n squares)), images-next squares n)
+
+pub first_of-more : (r : Resolution) (i n : ℕ) → first_of r i (n + 1) ≡ first_of r i n + count_of r i n
+first_of-more r i n = let next : n + 1 ≡ suc n = omega arith in ap (first_of r i) next ∙ images-next (row_of r.table i) n
+
+-- values on squares are as many as the generators before the next square
+pub length-joined : (table : Staircase) (i n : ℕ) (squares : List (List (List Bool))) → map length squares ≡ counts table i n → length (joined squares) ≡ first_of (resolution_of table) i n
+length-joined table i n squares each = length-flat_map (λ (z : List (List Bool)). z) squares ∙ (sym (sum-map length squares) ∙ (ap sum each ∙ sums n))
+  where
+    sums : (n : ℕ) → sum (counts table i n) ≡ first_of (resolution_of table) i n
+    sums zero = refl
+    sums (suc n) =
+        let before = sums n in
+        let last = sum_by-map-range_with_len_more (λ (z : ℕ). z) (count_of (resolution_of table) i) 0 n n (omega arith) in
+        let next : suc n ≡ n + 1 = omega arith in
+        let more : sum (counts table i (n + 1)) ≡ first_of (resolution_of table) i (n + 1) = omega (arith, first_of-more (resolution_of table) i n) in
+        let P : ℕ → Type 0 = λ m. sum (counts table i m) ≡ first_of (resolution_of table) i m in
+        subst P (sym next) more
 
 -- a number is in one square alone, at one place
 pub record IsSame (n m h c : ℕ) : Type 0 where
@@ -93,8 +117,7 @@ degree-first r i n g b =
     let base = r.base.bottom in
     let first = degrees_from base (take n squares) in
     let later = degrees_from (base +ℤ pos n) (drop n squares) in
-    let count = length-images_of base (take n squares) in
-    sym (ap (λ (z : List ℤ). degree_at z g) (degrees_from-split base squares n) ∙ get_or_append_left first later (pos 0) g (omega arith))
+    sym (ap (λ (z : List ℤ). degree_at z g) (degrees_from-split base squares n) ∙ get_or_append_left first later (pos 0) g (omega (arith, length-images_of base (take n squares))))
 
 -- it is of a lower degree than the square behind them
 pub degree-below : (r : Resolution) (i n g : ℕ) → n ≤ length (row_of r.table i) → g < first_of r i n → degree r i g <ℤ (r.base.bottom +ℤ pos n)

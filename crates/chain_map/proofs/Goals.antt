@@ -45,9 +45,8 @@ module _ (table sphere : Staircase) (s above k n far m : ℕ) (is_sphere : IsSph
 
   pub reach_target : (max : ℕ) (t : ℤ) → m ≤ max → t ≡ pos m -ℤ pos above → (i : ℕ) (gens : List ℤ) → gens ≡ target_of sphere i far → IsWithinReach max gens t
   reach_target max t e at i gens same =
-      let zero = is_sphere.bottom in
       let P : List ℤ → Type 0 = λ z. IsWithinReach max z t in
-      subst P (sym same) (within-reach (bottom_of sphere.resolved) (take far (row_of (plain_rows sphere.rows) i)) max t (omega (arith, ints)))
+      subst P (sym same) (within-reach (bottom_of sphere.resolved) (take far (row_of (plain_rows sphere.rows) i)) max t (omega (arith, ints, is_sphere.bottom)))
 
 length-class_value : (width : ℕ) (own : Bool) → length (class_value width own) ≡ width
 length-class_value width true = length-unit_vector width 0
@@ -66,6 +65,4 @@ mapped_width sphere k far t u source target images v at low target_is are =
 -- so a quasi-inverse takes them
 pub image_goal_fits : (table sphere : Staircase) (s above k n far m : ℕ) → IsSphere (resolution_of sphere) → Reaches table sphere s above (suc k) n far → m < n → (inverse : Option Reduction) (source target : List ℤ) (images : List (List Bool)) (goal v : List Bool) (t : ℤ) → t ≡ pos m -ℤ pos above → target ≡ target_of sphere k far → AreImages (free_graded target) source images → goal ≡ mapped (free_graded target) source images t v → IsInverseAt sphere (suc k) (pos m -ℤ pos above) inverse → IfSome inverse (λ r. length goal ≡ r.cols)
 image_goal_fits table sphere s above k n far m is_sphere reaches within inverse source target images goal v t at target_is are same is =
-    let zero = is_sphere.bottom in
-    let enough = reaches.enough in
-    next_goal_fits sphere k (pos m -ℤ pos above) inverse goal (place_there table sphere s above (suc k) n far m is_sphere reaches within) is (ap length same ∙ mapped_width sphere k far t (pos m -ℤ pos above) source target images v at (omega (arith, ints)) target_is are)
+    next_goal_fits sphere k (pos m -ℤ pos above) inverse goal (place_there table sphere s above (suc k) n far m is_sphere reaches within) is (ap length same ∙ mapped_width sphere k far t (pos m -ℤ pos above) source target images v at (omega (arith, ints, reaches.enough, is_sphere.bottom)) target_is are)

@@ -18,9 +18,7 @@ table_images table h from rows top = record {
       let P : ℕ → Type 0 = λ i. FitThrough (free r j) (gens r i) top (image r i) in
       let each : P (suc j) = λ g l b.
       let at = generator_at r.base.bottom (row_of r.table (suc j)) g l in
-      let square = at.square in
-      let len = length-row_of table.rows (suc j) in
-      ap length at.image ∙ (image_widths table h j at.k (omega arith) at.h at.within ∙ ap (λ (t : ℤ). free_width (gens r j) t) (sym at.degree)) in
+      ap length at.image ∙ (image_widths table h j at.k (omega (arith, length-row_of table.rows (suc j), at.square)) at.h at.within ∙ ap (λ (t : ℤ). free_width (gens r j) t) (sym at.degree)) in
       subst P (sym e) each;
 }
 

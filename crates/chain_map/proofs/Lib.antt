@@ -7,6 +7,7 @@ mod MadeLifts
 mod Images
 pub mod Goals
 pub mod Places
+mod Squares
 mod Growing
 mod Finished
 pub mod Classes

@@ -21,7 +21,7 @@ use Rattle.lift_laws.proofs.Linear.{length-extended, IsSteenrodModule-shifted}
 use Rattle.lift_laws.proofs.Resolved.{IsResolved}
 use Rattle.lift_laws.proofs.Existence.{cycle}
 use Rattle.lift_laws.proofs.Cut.{degree-cut, image-cut, basis-cut, lowered-cut, IsLift-uncut}
-use Rattle.chain_map.specs.Lifting.{IsInverseAt, chosen_preimage, resolution_of, LiftValues, row_values, map_of, IsChosenFor, next_goal}
+use Rattle.chain_map.specs.Lifting.{IsInverseAt, chosen_preimage, resolution_of, LiftValues, row_values, joined, map_of, IsChosenFor, next_goal}
 use Rattle.chain_map.specs.Classes.{through}
 use Rattle.chain_map.specs.Inside.{class_of, goal_of, IsMade}
 use Rattle.chain_map.proofs.Applied.{mapped-is}
@@ -50,8 +50,7 @@ module _ (table sphere : Staircase) (h : IsTable table) (hq : IsTable sphere) (i
   long-at : (k : ℕ) → k ≤ upto → n ≤ length (row_of r.table (s + k))
   long-at k l =
       let more = never_rises table h (s + k) (s + upto) (omega arith) in
-      let len = length-row_of table.rows (s + k) in
-      omega arith
+      omega (arith, length-row_of table.rows (s + k))
 
   reach-at : (k : ℕ) → k ≤ upto → far ≤ length (row_in sphere.rows k)
   reach-at k l = let more = never_rises sphere hq k upto l in omega arith
@@ -65,7 +64,7 @@ module _ (table sphere : Staircase) (h : IsTable table) (hq : IsTable sphere) (i
       let at : j < far = omega (arith, ints) in
       omega arith
 
-  pub value-fits : (k g : ℕ) → k < count → g < length (row_values lift k).vectors → length (phi k g) ≡ free_width (gens q k) (degree r (s + k) g -ℤ x)
+  pub value-fits : (k g : ℕ) → k < count → g < length (joined (row_values lift k)) → length (phi k g) ≡ free_width (gens q k) (degree r (s + k) g -ℤ x)
   value-fits k g l b =
       let row_made = made.values k l in
       let one = row_made.chosen.one_each in
@@ -122,8 +121,7 @@ module _ (table sphere : Staircase) (h : IsTable table) (hq : IsTable sphere) (i
         let row_made = made.values k (omega arith) in
         let one = row_made.chosen.one_each in
         let there = with-value (s + k) g (omega arith) b in
-        let more = images_taken (row_of r.table (s + k)) (t + 1) n n_more in
-        row_made.chosen.each g (omega arith)
+        row_made.chosen.each g (omega (arith, images_taken (row_of r.table (s + k)) (t + 1) n n_more))
 
     fits-part : (k g : ℕ) → k ≤ upto → g < length (gens rc (s + k)) → length (phi k g) ≡ free_width (gens qc k) (degree rc (s + k) g -ℤ x)
     fits-part k g l b =
@@ -148,8 +146,7 @@ module _ (table sphere : Staircase) (h : IsTable table) (hq : IsTable sphere) (i
     z-fits-at g b = elim (eqb_tells g (first_of r s above + c)) [
       | inl m ↦
           let own = is_number r s above c (let len = length-row_of table.rows s in omega arith) class in
-          let deg = ap (degree r s) m.1 ∙ own.degree_is in
-          let at : degree r s g -ℤ x ≡ pos 0 = omega (arith, ints) in
+          let at : degree r s g -ℤ x ≡ pos 0 = omega (arith, ints, ap (degree r s) m.1 ∙ own.degree_is) in
           ap (λ (y : Bool). length (if y then true ∷ [] else zeros (q.base.graded.width (degree r s g -ℤ x)))) m.0 ∙ sym (ap q.base.graded.width at ∙ is_sphere.one)
       | inr m ↦ ap (λ (y : Bool). length (if y then true ∷ [] else zeros (q.base.graded.width (degree r s g -ℤ x)))) m.0 ∙ length-zeros (q.base.graded.width (degree r s g -ℤ x))
     ]
@@ -180,7 +177,7 @@ module _ (table sphere : Staircase) (h : IsTable table) (hq : IsTable sphere) (i
         let same = same-degree (suc i) g (omega arith) b in
         let im = same-image (suc i) g (omega arith) b in
         let u = degree rc (suc i) g -ℤ x in
-        let P : ℕ → Type 0 = λ i'. g < length (gens rc i') → IsChosenFor sphere (suc k) (degree r i' g -ℤ x) (next_goal table sphere i k above n far (row_values lift k).vectors g) (phi (suc k) g) in
+        let P : ℕ → Type 0 = λ i'. g < length (gens rc i') → IsChosenFor sphere (suc k) (degree r i' g -ℤ x) (next_goal table sphere i k above n far (joined (row_values lift k)) g) (phi (suc k) g) in
         let made_here = subst P e (chosen (suc k) g (omega arith)) b in
         let Q : ℕ → Type 0 = λ i'. g < length (gens rc i') → length (phi (suc k) g) ≡ free_width (gens qc (suc k)) (degree rc i' g -ℤ x) in
         let fits = subst Q e (fits-part (suc k) g (omega arith)) b in
@@ -188,8 +185,8 @@ module _ (table sphere : Staircase) (h : IsTable table) (hq : IsTable sphere) (i
         let im_g = image r (suc i) g in
         let low_g = low-degree (suc i) g (omega arith) b in
         let zero = is_sphere.bottom in
-        let goal_is : next_goal table sphere i k above n far (row_values lift k).vectors g ≡ wanted =
-        mapped-is table sphere i k above n far x (row_values lift k).vectors (phi k) deg im_g refl (omega (arith, ints)) (omega (arith, ints)) (λ g l. refl)
+        let goal_is : next_goal table sphere i k above n far (joined (row_values lift k)) g ≡ wanted =
+        mapped-is table sphere i k above n far x (joined (row_values lift k)) (phi k) deg im_g refl (omega (arith, ints)) (omega (arith, ints)) (λ g l. refl)
         ∙ (sym (lowered-cut (over table.resolved) (over sphere.resolved) (s + upto) (t + 1) upto (tq + 1) (plain_rows table.rows) rc.table (plain_rows sphere.rows) qc.table r_rows q_rows i k x (phi k) deg im_g (omega arith) (omega arith) (omega (arith, ints)) (omega (arith, ints)))
         ∙ (ap (λ (w : ℤ). lowered rc i qc k x (phi k) w im_g) (sym same) ∙ ap (lowered rc i qc k x (phi k) (degree rc (suc i) g)) (sym im))) in
         let good = IsSteenrodModule-shifted x (free qc k) (free_modules_are_modules (gens qc k)) in

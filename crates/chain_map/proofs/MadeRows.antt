@@ -1,17 +1,24 @@
 -- Values that quasi-inverses give grow value by value, and those on a row by a square.
 use Rattle.std.proofs.Common.{◌≡◌, inl, inr, ℕ, ◌+◌, ◌<◌, Bool, ℤ, pos, ◌+ℤ◌, ◌-ℤ◌, List, [], ◌∷◌, ◌++◌, length, map, refl, ap, sym, subst, ◌∙◌, arith}
-use Rattle.std.specs.List.{range_with_len}
 use Rattle.std.proofs.lemmas.Bool.{cases_lt}
-use Rattle.std.proofs.lemmas.List.{get_or_append_left, get_or_push, length_push}
+use Rattle.std.proofs.lemmas.List.{append-nil, get_or_append_left, get_or_push, length-map, length_push, map-append}
+use Rattle.std.proofs.lemmas.List.Concat.{flat_map-append}
 use Rattle.std.proofs.lemmas.List.FromFn.{map-range_with_len_more}
 use Rattle.f2_vec.specs.Spans.{row}
 use Rattle.resolution_laws.specs.Resolution.{row_of}
 use Rattle.square.specs.Tables.{Staircase}
 use Rattle.lift_laws.specs.Lifts.{degree}
 use Rattle.lift_laws.specs.Products.{first_of, count_of}
-use Rattle.chain_map.specs.Lifting.{RowValues, resolution_of, IsChosenFor, AreChosen}
-use Rattle.chain_map.specs.Inside.{AreMade, AreMadeTo}
+use Rattle.chain_map.specs.Lifting.{joined, counts, resolution_of, IsChosenFor, AreChosen}
+use Rattle.chain_map.specs.Inside.{with_value, AreMade}
 use Rattle.chain_map.proofs.Generators.{is_number, first_of-more}
+use Rattle.chain_map.proofs.Squares.{joined-pushed, counts-pushed}
+
+-- The values on the generators of the first n squares of row i, and on the first h of the square behind them.
+pub record AreMadeTo (table sphere : Staircase) (i k : ℕ) (x : ℤ) (goal : ℕ → List Bool) (n h : ℕ)
+    (squares : List (List (List Bool))) : Type 0 where
+  pub one_each : map length squares ≡ counts table i n ++ h ∷ []
+  pub chosen : AreChosen table sphere i k x goal (first_of (resolution_of table) i n + h) (joined squares)
 
 module _ (table sphere : Staircase) (i k : ℕ) (x : ℤ) (goal : ℕ → List Bool) where
   pub chosen_more : (count : ℕ) (old new : List (List Bool)) (u : ℤ) (wanted w : List Bool) → new ≡ old ++ w ∷ [] → u ≡ degree (resolution_of table) i count -ℤ x → wanted ≡ goal count → IsChosenFor sphere k u wanted w → AreChosen table sphere i k x goal count old → AreChosen table sphere i k x goal (count + 1) new
@@ -35,35 +42,43 @@ module _ (table sphere : Staircase) (i k : ℕ) (x : ℤ) (goal : ℕ → List B
 
   -- ---- on a row of squares
 
-  pub made_none : AreMade table sphere i k x goal 0 (record { vectors = []; firsts = [] })
-  made_none = record { firsts = refl; chosen = record { one_each = refl; each = λ g l. absurd (omega arith) } }
+  pub made_none : AreMade table sphere i k x goal 0 []
+  made_none = record { one_each = refl; chosen = record { one_each = refl; each = λ g l. absurd (omega arith) } }
 
   -- the next square
-  pub made_square : (n : ℕ) (old new : RowValues) → new ≡ record { vectors = old.vectors; firsts = old.firsts ++ length old.vectors ∷ [] } → AreMade table sphere i k x goal n old → AreMadeTo table sphere i k x goal n 0 new
+  pub made_square : (n : ℕ) (old new : List (List (List Bool))) → new ≡ old ++ [] ∷ [] → AreMade table sphere i k x goal n old → AreMadeTo table sphere i k x goal n 0 new
   made_square n old new e p =
-      let first : ℕ → ℕ = λ j. first_of (resolution_of table) i j in
-      let here : AreMadeTo table sphere i k x goal n 0 (record { vectors = old.vectors; firsts = old.firsts ++ length old.vectors ∷ [] }) = record {
-        firsts = ap (λ (z : List ℕ). z ++ length old.vectors ∷ []) p.firsts ∙ (ap (λ (z : ℕ). map first (range_with_len 0 n) ++ z ∷ []) p.chosen.one_each ∙ sym (map-range_with_len_more first 0 n n (omega arith)));
-        chosen = chosen_in (first n) (first n + 0) old.vectors (omega arith) p.chosen;
+      let first = first_of (resolution_of table) i n in
+      let same : joined (old ++ [] ∷ []) ≡ joined old = flat_map-append (λ (z : List (List Bool)). z) old ([] ∷ []) ∙ append-nil (joined old) in
+      let here : AreMadeTo table sphere i k x goal n 0 (old ++ [] ∷ []) = record {
+        one_each = map-append length old ([] ∷ []) ∙ ap (λ (z : List ℕ). z ++ 0 ∷ []) p.one_each;
+        chosen = subst (AreChosen table sphere i k x goal (first + 0)) (sym same) (chosen_in first (first + 0) (joined old) (omega arith) p.chosen);
       } in
       subst (AreMadeTo table sphere i k x goal n 0) (sym e) here
 
+  -- it is there
+  pub square_begun : (n h : ℕ) (squares : List (List (List Bool))) → AreMadeTo table sphere i k x goal n h squares → 0 < length squares
+  square_begun n h squares p = omega (arith, ap length p.one_each, length-map squares length, length_push (counts table i n) h)
+
   -- one value more in it
-  pub made_value : (n h : ℕ) (old new : RowValues) (u : ℤ) (wanted w : List Bool) → n < length (row_of (resolution_of table).table i) → h < count_of (resolution_of table) i n → new ≡ record { vectors = old.vectors ++ w ∷ []; firsts = old.firsts }
-      → ((resolution_of table).base.bottom +ℤ pos n) -ℤ x ≡ u → wanted ≡ goal (first_of (resolution_of table) i n + h) → IsChosenFor sphere k u wanted w → AreMadeTo table sphere i k x goal n h old → AreMadeTo table sphere i k x goal n (h + 1) new
+  pub made_value : (n h : ℕ) (old new : List (List (List Bool))) (u : ℤ) (wanted w : List Bool) → n < length (row_of (resolution_of table).table i) → h < count_of (resolution_of table) i n → new ≡ with_value old w → ((resolution_of table).base.bottom +ℤ pos n) -ℤ x ≡ u → wanted ≡ goal (first_of (resolution_of table) i n + h) → IsChosenFor sphere k u wanted w
+      → AreMadeTo table sphere i k x goal n h old → AreMadeTo table sphere i k x goal n (h + 1) new
   made_value n h old new u wanted w l b e at same chosen p =
       let first = first_of (resolution_of table) i n in
       let number = is_number (resolution_of table) i n h l b in
-      let grown = chosen_more (first + h) old.vectors (old.vectors ++ w ∷ []) u wanted w refl (sym at ∙ ap (λ (z : ℤ). z -ℤ x) (sym number.degree_is)) same chosen p.chosen in
-      let more : AreMadeTo table sphere i k x goal n (h + 1) (record { vectors = old.vectors ++ w ∷ []; firsts = old.firsts }) = record {
-        firsts = p.firsts;
-        chosen = chosen_in (first + h + 1) (first + (h + 1)) (old.vectors ++ w ∷ []) (omega arith) grown;
+      let grown = chosen_more (first + h) (joined old) (joined (with_value old w)) u wanted w (joined-pushed old w (square_begun n h old p)) (sym at ∙ ap (λ (z : ℤ). z -ℤ x) (sym number.degree_is)) same chosen p.chosen in
+      let more : AreMadeTo table sphere i k x goal n (h + 1) (with_value old w) = record {
+        one_each = counts-pushed old w (counts table i n) h p.one_each;
+        chosen = chosen_in (first + h + 1) (first + (h + 1)) (joined (with_value old w)) (omega arith) grown;
       } in
       subst (AreMadeTo table sphere i k x goal n (h + 1)) (sym e) more
 
   -- all of its values
-  pub made_end : (n h : ℕ) (v : RowValues) → n < length (row_of (resolution_of table).table i) → h ≡ count_of (resolution_of table) i n → AreMadeTo table sphere i k x goal n h v → AreMade table sphere i k x goal (n + 1) v
-  made_end n h v l e p =
+  pub made_end : (n h : ℕ) (squares : List (List (List Bool))) → h ≡ count_of (resolution_of table) i n → AreMadeTo table sphere i k x goal n h squares → AreMade table sphere i k x goal (n + 1) squares
+  made_end n h squares e p =
       let first = first_of (resolution_of table) i n in
-      let more = first_of-more (resolution_of table) i n l in
-      record { firsts = p.firsts; chosen = chosen_in (first + h) (first_of (resolution_of table) i (n + 1)) v.vectors (omega arith) p.chosen }
+      let more = first_of-more (resolution_of table) i n in
+      record {
+        one_each = p.one_each ∙ (ap (λ (z : ℕ). counts table i n ++ z ∷ []) e ∙ sym (map-range_with_len_more (count_of (resolution_of table) i) 0 n n (omega arith)));
+        chosen = chosen_in (first + h) (first_of (resolution_of table) i (n + 1)) (joined squares) (omega arith) p.chosen;
+      }

@@ -16,7 +16,7 @@ use Rattle.lift_laws.specs.Maps.{lowered_by}
 use Rattle.lift_laws.specs.Lifts.{gens, degree, image, IsSphere}
 use Rattle.lift_laws.specs.Products.{first_of, count_of}
 use Rattle.lift_laws.proofs.Bridge.{basis-lowered}
-use Rattle.chain_map.specs.Lifting.{lowered_row, resolution_of, LiftValues, row_values, next_goal, target_of}
+use Rattle.chain_map.specs.Lifting.{lowered_row, resolution_of, LiftValues, row_values, joined, next_goal, target_of}
 use Rattle.chain_map.specs.Inside.{class_of, class_value, IsMade, Reaches}
 use Rattle.chain_map.proofs.Generators.{is_number, number_is_once, lowered-row, degree-below, degree-lowered}
 use Rattle.chain_map.proofs.Widths.{image_widths, width-take}
@@ -38,8 +38,7 @@ module _ (table sphere : Staircase) (s above class n h : ℕ) (is_sphere : IsSph
 
   width-is : (resolution_of sphere).base.graded.width (degree (resolution_of table) s g -ℤ (bottom_of table.resolved +ℤ pos above)) ≡ width
   width-is =
-      let deg = (is_number (resolution_of table) s n h n_there h_there).degree_is in
-      let at : degree (resolution_of table) s g -ℤ (bottom_of table.resolved +ℤ pos above) ≡ pos n -ℤ pos above = omega (arith, ints) in
+      let at : degree (resolution_of table) s g -ℤ (bottom_of table.resolved +ℤ pos above) ≡ pos n -ℤ pos above = omega (arith, ints, (is_number (resolution_of table) s n h n_there h_there).degree_is) in
       ap (over sphere.resolved).graded.width at
 
   -- its own generator
@@ -91,10 +90,9 @@ pub next_goal_is : (table sphere : Staircase) (i k above n far m h : ℕ) (sourc
 next_goal_is table sphere i k above n far m h source target images v there b source_is target_is at =
     let r = resolution_of table in
     let number = is_number r (suc i) m h there b in
-    let deg = number.degree_is in
     let x = bottom_of table.resolved +ℤ pos above in
     let g = first_of r (suc i) m + h in
-    let low : pos m -ℤ pos above ≡ degree r (suc i) g -ℤ x = omega (arith, ints) in
+    let low : pos m -ℤ pos above ≡ degree r (suc i) g -ℤ x = omega (arith, ints, number.degree_is) in
     let same : v ≡ image r (suc i) g = at ∙ sym number.image_is in
     ap (λ (z : List ℤ). mapped (free_graded z) source images (pos m -ℤ pos above) v) target_is
     ∙ (ap (λ (z : List ℤ). mapped (free_graded (target_of sphere k far)) z images (pos m -ℤ pos above) v) source_is
@@ -123,12 +121,12 @@ are_images table sphere i k above n far vectors is_sphere here enough one widths
     }
 
 -- the values of map k of a lift
-pub values_are_images : (table sphere : Staircase) (s above n far c count k : ℕ) (lift : LiftValues) → IsSphere (resolution_of sphere) → Reaches table sphere s above (suc k) n far → IsMade table sphere s above n far c count lift → count ≡ suc k → AreImages (free_graded (target_of sphere k far)) (lowered_row table (s + k) n above) (row_values lift k).vectors
+pub values_are_images : (table sphere : Staircase) (s above n far c count k : ℕ) (lift : LiftValues) → IsSphere (resolution_of sphere) → Reaches table sphere s above (suc k) n far → IsMade table sphere s above n far c count lift → count ≡ suc k → AreImages (free_graded (target_of sphere k far)) (lowered_row table (s + k) n above) (joined (row_values lift k))
 values_are_images table sphere s above n far c count k lift is_sphere reaches made count_is =
     let i = s + k in
     let rise = reaches.is_table.never_rise i in
     let e : s + suc k ≡ suc i = omega arith in
     let same_row = ap (λ (z : ℕ). length (row_in table.rows z)) e in
     let here = reaches.here in
-    are_images table sphere i k above n far (row_values lift k).vectors is_sphere (omega arith) reaches.enough (made.values k (omega arith)).chosen.one_each
+    are_images table sphere i k above n far (joined (row_values lift k)) is_sphere (omega arith) reaches.enough (made.values k (omega arith)).chosen.one_each
     (λ g l. value-fits table sphere reaches.is_table reaches.is_sphere_table is_sphere s above n far c count (suc k) lift made reaches.here reaches.enough reaches.there (omega arith) k g (omega arith) l)

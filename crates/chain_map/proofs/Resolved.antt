@@ -30,15 +30,11 @@ module _ (table : Staircase) (h : IsTable table) (range : Range) (long : range.t
 
   length-part : length part ≡ range.s + 1
   length-part =
-      let there = row_within table.rows range.s range.t long in
-      let all = length-map table.rows contents in
-      length-map (take (range.s + 1) (plain_rows table.rows)) (take (range.t + 1)) ∙ length-take-le (range.s + 1) (plain_rows table.rows) (omega arith)
+      length-map (take (range.s + 1) (plain_rows table.rows)) (take (range.t + 1)) ∙ length-take-le (range.s + 1) (plain_rows table.rows) (omega (arith, length-map table.rows contents, row_within table.rows range.s range.t long))
 
   pub long-row : (i : ℕ) → i ≤ range.s → range.t < length (row_of (plain_rows table.rows) i)
   long-row i l =
-      let more = never_rises table h i range.s l in
-      let len = length-row_of table.rows i in
-      omega arith
+      omega (arith, length-row_of table.rows i, never_rises table h i range.s l)
 
   canonical-part : IsCanonicalIn range table → IsCanonicalTable (over table.resolved) range.s range.t part
   canonical-part are =

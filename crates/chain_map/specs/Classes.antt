@@ -1,5 +1,5 @@
 -- The classes of a resolution that are named by row, degree and number, and what is refused of them in a range.
-use Rattle.std.specs.Prelude.{◌≡◌, ℕ, ◌+◌, ℤ, pos, ◌+ℤ◌, ◌-ℤ◌, Bool, ◌||◌, nat_lt, int_lt, if◌then◌else◌, Option, Some, None, option_map}
+use Rattle.std.specs.Prelude.{◌≡◌, ℕ, ◌+◌, ℤ, pos, ◌+ℤ◌, ◌-ℤ◌, Bool, ◌||◌, nat_lt, int_lt, if◌then◌else◌, Option, Some, None, option_map, unwrap_or}
 use Rattle.std.specs.Option.{option_or}
 use Rattle.degrees.specs.Above.{above_of}
 use Rattle.square.specs.declared.range.Range.{Range}
@@ -16,12 +16,8 @@ through range table = record { base = over table.resolved; table = cut range (pl
 -- ---- classes
 
 -- how many classes there are at (s, t): the generators of that square, and none where the resolution has not that square
-abbrev pub classes_over : Resolution → ℕ → Option ℕ → ℕ
-classes_over r s None = 0
-classes_over r s (Some k) = count_of r s k
-
 abbrev pub class_count : Resolution → ℕ → ℤ → ℕ
-class_count r s t = classes_over r s (above_of r.base.bottom t)
+class_count r s t = unwrap_or (option_map (count_of r s) (above_of r.base.bottom t)) 0
 
 -- how many classes there are at the place of a class, where it is none of them
 abbrev pub missing_in : Resolution → Class → Option ℕ

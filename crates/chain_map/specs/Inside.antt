@@ -1,6 +1,5 @@
 -- What contracts of private functions cite: how the values of a lift are made, by quasi-inverses, row by row and square by square.
-use Rattle.std.specs.Prelude.{◌≡◌, ℕ, zero, suc, ◌+◌, ◌<◌, ◌≤◌, ℤ, pos, ◌+ℤ◌, ◌-ℤ◌, Bool, if◌then◌else◌, List, length, map, slice_index_or, Option, None}
-use Rattle.std.specs.List.{range_with_len}
+use Rattle.std.specs.Prelude.{◌≡◌, ℕ, zero, suc, ◌+◌, ◌-◌, ◌<◌, ◌≤◌, ℤ, pos, ◌+ℤ◌, ◌-ℤ◌, Bool, if◌then◌else◌, List, [], ◌∷◌, ◌++◌, length, map, take, drop, slice_index_or, Option, None}
 use Rattle.f2_vec.specs.Vectors.{zeros}
 use Rattle.f2_vec.specs.Spans.{unit_vector}
 use Rattle.f2_matrix.specs.Reduction.{Reduction}
@@ -9,7 +8,7 @@ use Rattle.square.specs.Squares.{bottom_of}
 use Rattle.square.specs.Tables.{Staircase, row_in, IsTable}
 use Rattle.lift_laws.specs.Lifts.{dual_of}
 use Rattle.lift_laws.specs.Products.{first_of, count_of}
-use Rattle.chain_map.specs.Lifting.{RowValues, IsInverseAt, resolution_of, LiftValues, row_values, no_lift, AreChosen, next_goal}
+use Rattle.chain_map.specs.Lifting.{IsInverseAt, resolution_of, LiftValues, row_values, joined, no_lift, counts, AreChosen, next_goal}
 
 -- the quasi-inverses of d_k in the degrees of the first n squares of row i, `above` lower, where the square has generators
 pub record AreInverses (table sphere : Staircase) (i k above n : ℕ) (list : List (Option Reduction)) : Type 0 where
@@ -19,17 +18,29 @@ pub record AreInverses (table sphere : Staircase) (i k above n : ℕ) (list : Li
 
 -- ---- the values of one row
 
--- The values on the generators of the first n squares of row i, and on the first h of the square behind them.
-pub record AreMadeTo (table sphere : Staircase) (i k : ℕ) (x : ℤ) (goal : ℕ → List Bool) (n h : ℕ) (v : RowValues)
-    : Type 0 where
-  pub firsts : v.firsts ≡ map (λ j. first_of (resolution_of table) i j) (range_with_len 0 (n + 1))
-  pub chosen : AreChosen table sphere i k x goal (first_of (resolution_of table) i n + h) v.vectors
+-- the values on the generators of the first n squares of row i
+pub record AreMade (table sphere : Staircase) (i k : ℕ) (x : ℤ) (goal : ℕ → List Bool) (n : ℕ)
+    (squares : List (List (List Bool))) : Type 0 where
+  pub one_each : map length squares ≡ counts table i n
+  pub chosen : AreChosen table sphere i k x goal (first_of (resolution_of table) i n) (joined squares)
 
--- the same of the first n squares
-pub record AreMade (table sphere : Staircase) (i k : ℕ) (x : ℤ) (goal : ℕ → List Bool) (n : ℕ) (v : RowValues)
-    : Type 0 where
-  pub firsts : v.firsts ≡ map (λ j. first_of (resolution_of table) i j) (range_with_len 0 n)
-  pub chosen : AreChosen table sphere i k x goal (first_of (resolution_of table) i n) v.vectors
+-- one value more in the last square
+abbrev pub with_value : List (List (List Bool)) → List Bool → List (List (List Bool))
+with_value [] value = []
+with_value (square ∷ []) value = (square ++ value ∷ []) ∷ []
+with_value (square ∷ next ∷ squares) value = square ∷ with_value (next ∷ squares) value
+
+-- one list of vectors, cut into squares at the places where these begin
+abbrev pub by_square : List ℕ → List (List Bool) → List (List (List Bool))
+by_square [] vectors = []
+by_square (at ∷ []) vectors = vectors ∷ []
+by_square (at ∷ next ∷ firsts) vectors = take (next - at) vectors ∷ by_square (next ∷ firsts) (drop (next - at) vectors)
+
+-- the places never fall, and none is past the end, n; where there is none, there are no vectors
+abbrev pub AreInOrder : List ℕ → ℕ → Type 0
+AreInOrder [] n = n ≡ 0
+AreInOrder (first ∷ []) n = first ≤ n
+AreInOrder (first ∷ next ∷ firsts) n = (first ≤ next) × AreInOrder (next ∷ firsts) n
 
 -- ---- the rows of a lift
 
@@ -46,7 +57,7 @@ class_value width own = if own then unit_vector width 0 else zeros width
 abbrev pub goal_of : Staircase → Staircase → ℕ → ℕ → ℕ → ℕ → ℕ → LiftValues → ℕ → ℕ → List Bool
 goal_of table sphere s above n far c lift zero g = class_of table sphere s above c g
 goal_of table sphere s above n far c lift (suc k) g =
-    next_goal table sphere (s + k) k above n far (row_values lift k).vectors g
+    next_goal table sphere (s + k) k above n far (joined (row_values lift k)) g
 
 -- the rows below `count` are made
 pub record IsMade (table sphere : Staircase) (s above n far c count : ℕ) (lift : LiftValues) : Type 0 where

@@ -1,6 +1,6 @@
 -- Lifts of classes over the squares of two tables, and what quasi-inverses give.
 use Rattle.std.specs.Prelude.{◌≡◌, ℕ, ◌+◌, ◌<◌, ℤ, pos, ◌-ℤ◌, ◌<ℤ◌, Bool, List, [], length, take, slice_index_or, Option, Some, None, zero, suc, ◌≤◌, ◌+ℤ◌, min, map, IfSome}
-use Rattle.std.specs.List.{range_with_len}
+use Rattle.std.specs.List.{range_with_len, flat_map}
 use Rattle.f2_vec.specs.Spans.{row}
 use Rattle.f2_matrix.specs.Reduction.{Reduction}
 use Rattle.f2_matrix.specs.Preimages.{quasi_of}
@@ -17,23 +17,6 @@ use Rattle.square.specs.declared.range.Range.{Range}
 use Rattle.lift_laws.specs.Lifts.{Resolution, IsSphere, gens, degree, image, HasImages, IsChainMap}
 use Rattle.lift_laws.specs.Products.{first_of, count_of, IsLiftOfClass}
 use Rattle.chain_map.specs.declared.class.Class.{Class}
-
--- The values of a map on the generators of a row, in their order, and for each of its squares, from the bottom degree on, the
--- number of its first generator.
-pub record RowValues : Type 0 where
-  pub vectors : List (List Bool)
-  pub firsts : List ℕ
-
-abbrev pub first_in : RowValues → ℕ → ℕ
-first_in v n = slice_index_or v.firsts n 0
-
--- there is a value for number i of the square that is `above` above the bottom
-pub record HasValueAt (v : RowValues) (above i : ℕ) : Type 0 where
-  pub square : above < length v.firsts
-  pub generator : first_in v above + i < length v.vectors
-
-abbrev pub value_at : RowValues → ℕ → ℕ → List Bool
-value_at v above i = row v.vectors (first_in v above + i)
 
 -- The degrees of the generators of the first n squares of row s, each lower by that of the squares that are `above` above the
 -- bottom: the bottom degree becomes -above.
@@ -110,37 +93,47 @@ greatest table n = (bottom_of table.resolved +ℤ pos n) -ℤ pos 1
 -- ---- lifts
 
 -- The values of the maps of a lift, which it has for each row where it goes through any degree, and the bottom degree of the rows.
+-- Those of a map stand by the squares of its row, from the bottom degree on, and in a square in the order of its generators.
 pub record LiftValues : Type 0 where
   pub bottom : ℤ
-  pub rows : List RowValues
-
-abbrev pub no_values : RowValues
-no_values = record { vectors = []; firsts = [] }
+  pub rows : List (List (List (List Bool)))
 
 abbrev pub no_lift : LiftValues
 no_lift = record { bottom = pos 0; rows = [] }
 
-abbrev pub row_values : LiftValues → ℕ → RowValues
-row_values lift k = slice_index_or lift.rows k no_values
+abbrev pub row_values : LiftValues → ℕ → List (List (List Bool))
+row_values lift k = slice_index_or lift.rows k []
+
+-- the values on the generators of a row, one square behind another
+abbrev pub joined : List (List (List Bool)) → List (List Bool)
+joined squares = flat_map (λ square. square) squares
 
 -- map k on generator g of its row
 abbrev pub map_of : LiftValues → ℕ → ℕ → List Bool
-map_of lift k g = row (row_values lift k).vectors g
+map_of lift k g = row (joined (row_values lift k)) g
+
+-- the values on the square that is `above` above the bottom
+abbrev pub square_values : List (List (List Bool)) → ℕ → List (List Bool)
+square_values squares above = slice_index_or squares above []
 
 -- map k has a value on number i of the square of degree t
 pub record HasValue (lift : LiftValues) (k : ℕ) (t : ℤ) (i : ℕ) : Type 0 where
   pub row : k < length lift.rows
   pub above : ℕ
   pub degree : t ≡ lift.bottom +ℤ pos above
-  pub there : HasValueAt (row_values lift k) above i
+  pub there : i < length (square_values (row_values lift k) above)
+
+-- how many generators each of the first n squares of row i has
+abbrev pub counts : Staircase → ℕ → ℕ → List ℕ
+counts table i n = map (count_of (resolution_of table) i) (range_with_len 0 n)
 
 -- Map k has its values on the generators of row s + k of the table in the first n degrees, and they are vectors of F_k of the
 -- sphere's resolution, the class's degree x lower.
-pub record AreValues (table sphere : Staircase) (s : ℕ) (x : ℤ) (n k : ℕ) (v : RowValues) : Type 0 where
-  pub firsts : v.firsts ≡ map (λ j. first_of (resolution_of table) (s + k) j) (range_with_len 0 n)
-  pub one_each : length v.vectors ≡ first_of (resolution_of table) (s + k) n
-  pub widths : (g : ℕ) → g < length v.vectors →
-      length (row v.vectors g)
+pub record AreValues (table sphere : Staircase) (s : ℕ) (x : ℤ) (n k : ℕ) (squares : List (List (List Bool)))
+    : Type 0 where
+  pub one_each : map length squares ≡ counts table (s + k) n
+  pub widths : (g : ℕ) → g < length (joined squares) →
+      length (row (joined squares) g)
       ≡ free_width (gens (resolution_of sphere) k) (degree (resolution_of table) (s + k) g -ℤ x)
 
 -- The first m degrees of the lift need the first `far` of row `upto` of the sphere's table, of which there are some where m is not 0.

@@ -15,4 +15,3 @@ pub use laws::{tables_have_images, tables_of_the_sphere};
 pub use making::{lift, lifts};
 pub use maps::Lift;
 pub use rows::lowered_generators;
-pub use values::Values;

@@ -1,6 +1,7 @@
 //! Lifts of classes.
 ghost use Rattle.std.specs.Prelude.{◌≡◌, ◌+ℤ◌, ◌<◌, ◌++◌, [], ◌∷◌, pos, length, ℕ, OnOk};
-ghost use Rattle.chain_map.specs.Lifting.{value_at, HasValue, row_values};
+ghost use Rattle.f2_vec.specs.Spans.{row};
+ghost use Rattle.chain_map.specs.Lifting.{HasValue, row_values, joined, square_values};
 
 use crate::values::Values;
 use f2_vec::BitVec;
@@ -30,7 +31,7 @@ impl Lift {
     pub fn value(&self, k: u16, t: i32, i: usize) -> &BitVec
         requires { HasValue self.now k t i }
         ensures { (above : ℕ) → t ≡ self.now.bottom +ℤ pos above →
-            result.now ≡ value_at (row_values self.now k) above i }
+            result.now ≡ row (square_values (row_values self.now k) above) i }
     {
         match degrees::above_of(self.bottom, t) {
             Some(above) => self.rows[usize::from(k)].at(above as usize, i),
@@ -41,7 +42,7 @@ impl Lift {
     /// The values of phi_k on all generators that it has them for, in their order.
     pub fn vectors(&self, k: u16) -> &[BitVec]
         requires { k < length self.now.rows }
-        ensures { result.now ≡ (row_values self.now k).vectors }
+        ensures { result.now ≡ joined (row_values self.now k) }
     {
         self.rows[usize::from(k)].vectors()
     }

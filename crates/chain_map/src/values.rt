@@ -1,6 +1,8 @@
 //! The values of a map on the generators of a row.
-ghost use Rattle.std.specs.Prelude.{◌≡◌, ◌++◌, [], ◌∷◌, length, OnOk, OnErr};
-ghost use Rattle.chain_map.specs.Lifting.{HasValueAt, value_at};
+ghost use Rattle.std.specs.Prelude.{◌≡◌, ◌<◌, ◌++◌, [], ◌∷◌, length, OnOk, OnErr};
+ghost use Rattle.f2_vec.specs.Spans.{row};
+ghost use Rattle.chain_map.specs.Inside.{with_value};
+ghost use Rattle.chain_map.specs.Lifting.{joined, square_values};
 
 use f2_vec::BitVec;
 use memory::Memory;
@@ -9,23 +11,27 @@ use std::marker::Model;
 
 /// The values of a map on the generators of a row of squares, square by square from the bottom degree on.
 #[derive(Drop)]
-pub struct Values {
+pub(crate) struct Values {
     vectors: Vec<BitVec>,
     firsts: Vec<usize>,
 }
 
 impl Model for Values {
-    ghost use Rattle.chain_map.specs.Lifting.{RowValues};
+    ghost use Rattle.std.specs.Prelude.{◌≡◌, List, Bool, length, slice_index_or};
+    ghost use Rattle.chain_map.specs.Inside.{by_square, AreInOrder};
 
-    ghost Value = { RowValues };
+    ghost Value = { List (List (List Bool)) };
 
-    ghost view = { λ v. record { vectors = v.vectors.items; firsts = v.firsts.items } };
+    ghost view = { λ v. by_square v.firsts.items v.vectors.items };
+
+    ghost invariant = { λ v. (slice_index_or v.firsts.items 0 0 ≡ 0)
+        × AreInOrder v.firsts.items (length v.vectors.items) };
 }
 
 impl Values {
     /// No square, and no values.
-    pub fn new(alloc: Global) -> Self
-        ensures { result ≡ record { vectors = []; firsts = [] } }
+    pub(crate) fn new(alloc: Global) -> Self
+        ensures { result ≡ [] }
     {
         Values {
             vectors: Vec::new(alloc),
@@ -37,11 +43,8 @@ impl Values {
     ///
     /// # Errors
     /// `Memory` if allocation fails.
-    pub fn begin_square(&mut self) -> Result<(), Memory>
-        ensures ok { OnOk result (self.new ≡ record {
-          vectors = self.old.vectors;
-          firsts = self.old.firsts ++ length self.old.vectors ∷ [];
-        }) }
+    pub(crate) fn begin_square(&mut self) -> Result<(), Memory>
+        ensures ok { OnOk result (self.new ≡ self.old ++ [] ∷ []) }
         ensures err { OnErr result (self.new ≡ self.old) }
     {
         self.firsts.push(self.vectors.len())?;
@@ -52,11 +55,9 @@ impl Values {
     ///
     /// # Errors
     /// `Memory` if allocation fails.
-    pub fn push(&mut self, value: BitVec) -> Result<(), Memory>
-        ensures ok { OnOk result (self.new ≡ record {
-          vectors = self.old.vectors ++ value ∷ [];
-          firsts = self.old.firsts;
-        }) }
+    pub(crate) fn push(&mut self, value: BitVec) -> Result<(), Memory>
+        requires { 0 < length self.old }
+        ensures ok { OnOk result (self.new ≡ with_value self.old value) }
         ensures err { OnErr result (self.new ≡ self.old) }
     {
         self.vectors.push(value)?;
@@ -64,16 +65,16 @@ impl Values {
     }
 
     /// The values on all generators, in their order.
-    pub fn vectors(&self) -> &[BitVec]
-        ensures { result.now ≡ self.now.vectors }
+    pub(crate) fn vectors(&self) -> &[BitVec]
+        ensures { result.now ≡ joined self.now }
     {
         self.vectors.as_slice()
     }
 
     /// The value on number `i` of the square that is `above` degrees above the bottom.
-    pub fn at(&self, above: usize, i: usize) -> &BitVec
-        requires { HasValueAt self.now above i }
-        ensures { result.now ≡ value_at self.now above i }
+    pub(crate) fn at(&self, above: usize, i: usize) -> &BitVec
+        requires { i < length (square_values self.now above) }
+        ensures { result.now ≡ row (square_values self.now above) i }
     {
         &self.vectors[self.firsts[above] + i]
     }

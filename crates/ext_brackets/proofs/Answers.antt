@@ -132,16 +132,14 @@ module _ (laws : AreLaws) (one : LiftsGiveOneProduct) (r q : Resolution) (range 
 
     lower-exists : (ab : List Bool) → IsYonedaProduct q q x y ab → IsZero ab → IsSome (λ answer. IsToldOf Bc b c r q y z answer (IsOkAnd answer (IsBracketText a b c r q x y z)))
     lower-exists ab ab_is ab_zero =
-        let row = inside.yz_row in
-        let product = product-exists laws.lifts one r q range y z canonical canonical_q sphere (record { row = omega arith; degree = inside.yz_degree; number = inside.z_there }) inside.y_there in
+        let product = product-exists laws.lifts one r q range y z canonical canonical_q sphere (record { row = omega (arith, inside.yz_row); degree = inside.yz_degree; number = inside.z_there }) inside.y_there in
         product-told Bc b c r q y z product.0 product.1 (λ answer. IsOkAnd answer (IsBracketText a b c r q x y z)) (λ zero.
         let bracket = bracket_exists laws r q range canonical canonical_q sphere x y z inside ab product.0 ab_is product.1 ab_zero zero in
         (Ok (bracket_text (pos (a.s + b.s + c.s) -ℤ pos 1) (a.t +ℤ b.t +ℤ c.t) bracket.value bracket.rows), record { value = bracket.value; rows = bracket.rows; bracket = bracket.is_bracket; is = refl }))
 
     told-exists : IsSome (IsTold a b c r q)
     told-exists =
-        let row = inside.xy_row in
-        let product = product-exists laws.lifts one q q range x y canonical_q canonical_q sphere (record { row = omega arith; degree = inside.xy_degree; number = inside.y_there }) inside.x_there in
+        let product = product-exists laws.lifts one q q range x y canonical_q canonical_q sphere (record { row = omega (arith, inside.xy_row); degree = inside.xy_degree; number = inside.y_there }) inside.x_there in
         let told = product-told Ab a b q q x y product.0 product.1 (λ answer. IsToldOf Bc b c r q y z answer (IsOkAnd answer (IsBracketText a b c r q x y z))) (lower-exists product.0 product.1) in
         (told.0, record { x = x; y = y; z = z; a_at = there.a_is.at; b_at = there.b_is.at; c_at = there.c_is.at; told = told.1 })
 

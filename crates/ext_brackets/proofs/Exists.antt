@@ -119,9 +119,7 @@ module _ (laws : AreLaws) (r q : Resolution) (range : Range) (canonical : IsCano
 
     low_top : (top -ℤ degree_of_class r z) ≤ℤ (q.base.bottom +ℤ pos range.t)
     low_top =
-        let k = inside.xy_degree in
-        let bottom = sphere.bottom in
-        omega (arith, ints)
+        omega (arith, ints, sphere.bottom, inside.xy_degree)
 
     product_zero : HasZeroProduct r q x y z l top
     product_zero =

@@ -1,7 +1,6 @@
 -- What is made over the tables that there are is what the canonical tables through the range have.
 use Rattle.std.proofs.Common.{◌≡◌, ◌≢◌, ℕ, zero, suc, ◌+◌, ℤ, pos, ◌+ℤ◌, ◌-ℤ◌, Bool, List, refl, ap, sym, subst, ◌∙◌, arith}
 use Rattle.std.specs.Prelude.{Option, Some, None, MatchOption, option_map, Result, Ok, Err, IsOkAnd}
-use Rattle.std.proofs.lemmas.Int.{ints}
 use Rattle.finite_module.specs.Checked.{sphere_file}
 use Rattle.finite_module.specs.DerivedAction.{derived_module}
 use Rattle.finite_module.specs.Graded.{ModulesAreSteenrodModules}
@@ -10,32 +9,27 @@ use Rattle.resolution_laws.specs.Resolution.{Module, Content, IsCanonicalTable, 
 use Rattle.square.specs.declared.range.Range.{Range}
 use Rattle.square.specs.Squares.{over, module_over}
 use Rattle.square.specs.Tables.{Staircase, plain_rows, IsTable, IsThrough, cut}
-use Rattle.lift_laws.specs.Lifts.{IsSphere}
 use Rattle.lift_laws.specs.Products.{Class as ClassAbove}
 use Rattle.chain_map.specs.declared.class.Class.{Class}
-use Rattle.chain_map.specs.Lifting.{resolution_of, IsCanonicalIn}
-use Rattle.yoneda.specs.declared.place.Place.{Place}
+use Rattle.chain_map.specs.Lifting.{IsCanonicalIn}
 use Rattle.chain_map.specs.Classes.{through, IsAt}
-use Rattle.chain_map.proofs.Classes.{refusal_in_words}
-use Rattle.yoneda.specs.Products.{class_above, IsPlaceOf, IsProductOver, IsYonedaProduct}
+use Rattle.chain_map.proofs.Classes.{class_is_once, refusal_in_words}
+use Rattle.yoneda.specs.Products.{class_above, IsProductOver, IsYonedaProduct}
+use Rattle.yoneda.proofs.OneProduct.{at_place}
 use Rattle.chain_map.proofs.Resolved.{is_canonical}
 use Rattle.massey.specs.declared.answer.Bracket.{Bracket as Made}
 use Rattle.massey.specs.declared.fault.MasseyFault.{MasseyFault}
 use Rattle.massey.specs.declared.fault.MasseyFault.TheVariants.{NoClass as Absent, OutOfRange as Past, Nonzero as NotZero, Memory as NoMemory}
-use Rattle.massey.specs.Brackets.{absent as no_class, past as out_of_range, refusal_of as first_fault, IsBracketOver, IsNonzero, IsCause}
+use Rattle.massey.specs.Brackets.{refusal_of as first_fault, IsBracketOver, IsNonzero, IsCause}
 use Rattle.ext_chart.specs.Classes.{bracket_text}
 use Rattle.ext_products.specs.declared.refusal.Pair.TheVariants.{Ab, Bc}
 use Rattle.ext_products.specs.declared.refusal.Refusal.{Refusal}
 use Rattle.ext_products.specs.declared.refusal.ClassesFault.{ClassesFault}
 use Rattle.ext_products.specs.declared.refusal.ClassesFault.TheVariants.{Refused, Memory}
 use Rattle.ext_products.specs.Products.{IsAnswerIn}
-use Rattle.ext_products.proofs.Answers.{class-unique}
 use Rattle.ext_brackets.specs.Brackets.{absent, past, not_zero, refusal_of, IsBracketText, IsToldOf, IsTold, IsBracketAnswer, IsOfPlaces}
 use Rattle.ext_brackets.specs.Inside.{fault_of}
 use Rattle.ext_brackets.proofs.Answers.{AreThere, classes_there, parts_none}
-
-at_place : (table : Staircase) (range : Range) (c : Class) (place : Place) → IsPlaceOf table range c place → IsAt (through range table) c (class_above place)
-at_place table range c place is = record { row = is.row; degree = is.degree; number = is.number }
 
 -- ---- refusals
 
@@ -47,7 +41,7 @@ module _ (table sphere : Staircase) (range : Range) (a b c : Class) where
   refusals_told =
       let r = through range table in
       let q = through range sphere in
-      refusal_in_words (fault_of a b c) no_class out_of_range range r q a b c ∙ sym (refusal_in_words refused (absent a b c) past range r q a b c)
+      refusal_in_words (fault_of a b c) Absent Past range r q a b c ∙ sym (refusal_in_words refused (absent a b c) past range r q a b c)
 
   none_from : (u : Option Refusal) → None ≡ option_map refused u → u ≡ None
   none_from None e = refl
@@ -70,13 +64,13 @@ module _ (table sphere : Staircase) (range : Range) (a b c : Class) where
 module _ (table sphere : Staircase) (range : Range) (all : IsCanonicalIn range table) (all_q : IsCanonicalIn range sphere) where
   product_at : (a x : Class) (v : List Bool) → IsProductOver table sphere range a x v → (u w : ClassAbove) → IsAt (through range sphere) a u → IsAt (through range table) x w → IsYonedaProduct (through range table) (through range sphere) u w v
   product_at a x v p u w a_at x_at =
-      let first : class_above p.a_place ≡ u = class-unique (through range sphere) a (class_above p.a_place) u (at_place sphere range a p.a_place p.places.a_is) a_at in
-      let second : class_above p.x_place ≡ w = class-unique (through range table) x (class_above p.x_place) w (at_place table range x p.x_place p.places.x_is) x_at in
+      let first : class_above p.a_place ≡ u = class_is_once (through range sphere) a (class_above p.a_place) u (at_place sphere range a p.a_place p.places.a_is) a_at in
+      let second : class_above p.x_place ≡ w = class_is_once (through range table) x (class_above p.x_place) w (at_place table range x p.x_place p.places.x_is) x_at in
       subst (λ (o : ClassAbove). IsYonedaProduct (through range table) (through range sphere) u o v) second (subst (λ (o : ClassAbove). IsYonedaProduct (through range table) (through range sphere) o (class_above p.x_place) v) first (p.product all all_q))
 
 -- ---- what is told
 
-module _ (table sphere : Staircase) (range : Range) (is_sphere : IsSphere (resolution_of sphere)) (a b c : Class) where
+module _ (table sphere : Staircase) (range : Range) (a b c : Class) where
   told_answer : (answer : Result (List ℕ) Refusal) → first_fault table sphere range a b c ≡ None → IsTold a b c (through range table) (through range sphere) answer → IsBracketAnswer range a b c (through range table) (through range sphere) answer
   told_answer answer none is = subst (λ (o : Option Refusal). MatchOption o (IsTold a b c (through range table) (through range sphere) answer) (λ e. answer ≡ Err e)) (sym (none_same table sphere range a b c none)) is
 
@@ -95,47 +89,6 @@ module _ (table sphere : Staircase) (range : Range) (is_sphere : IsSphere (resol
     product_bc : (v : List Bool) → IsProductOver table sphere range b c v → (y z : ClassAbove) → IsAt (through range sphere) b y → IsAt (through range table) c z → IsYonedaProduct (through range table) (through range sphere) y z v
     product_bc v p y z = product_at table sphere range all all_q b c v p y z
 
-    text_told : (made : Made) → IsBracketOver table sphere range a b c made → (text : List ℕ) → text ≡ bracket_text made.s made.t made.value made.indeterminacy.rows → IsTold a b c (through range table) (through range sphere) (Ok text)
-    text_told made is text shown =
-        let a_at = at_place sphere range a is.a_place is.a_is in
-        let b_at = at_place sphere range b is.b_place is.b_is in
-        let c_at = at_place table range c is.c_place is.c_is in
-        let a_row = a_at.row in
-        let b_row = b_at.row in
-        let c_row = c_at.row in
-        let a_degree = a_at.degree in
-        let b_degree = b_at.degree in
-        let c_degree = c_at.degree in
-        let bottom = is_sphere.bottom in
-        let made_s = is.s in
-        let made_t = is.t in
-        let s : made.s ≡ pos (a.s + b.s + c.s) -ℤ pos 1 = omega (arith, ints) in
-        let t : made.t ≡ a.t +ℤ b.t +ℤ c.t = omega (arith, ints) in
-        record {
-          x = class_above is.a_place;
-          y = class_above is.b_place;
-          z = class_above is.c_place;
-          a_at = a_at;
-          b_at = b_at;
-          c_at = c_at;
-          told = record {
-            value = is.ab_zero.product;
-            product = product_ab is.ab_zero.product is.ab_zero.is_product (class_above is.a_place) (class_above is.b_place) a_at b_at;
-            nonzero = λ not. absurd (not is.ab_zero.is_zero);
-            zero = λ w. record {
-              value = is.bc_zero.product;
-              product = product_bc is.bc_zero.product is.bc_zero.is_product (class_above is.b_place) (class_above is.c_place) b_at c_at;
-              nonzero = λ not. absurd (not is.bc_zero.is_zero);
-              zero = λ k. record {
-                value = made.value;
-                rows = made.indeterminacy.rows;
-                bracket = is.is_bracket all all_q;
-                is = shown ∙ (ap (λ (i : ℤ). bracket_text i made.t made.value made.indeterminacy.rows) s ∙ ap (λ (i : ℤ). bracket_text (pos (a.s + b.s + c.s) -ℤ pos 1) i made.value made.indeterminacy.rows) t);
-              };
-            };
-          };
-        }
-
     told_by : AreThere a b c (through range table) (through range sphere) → (ab : List Bool) → IsProductOver sphere sphere range a b ab → (answer : Result (List ℕ) Refusal) → ((IsZero ab → ⊥) → answer ≡ Err (not_zero Ab a b ab))
         → ((t : AreThere a b c (through range table) (through range sphere)) → IsZero ab → IsToldOf Bc b c (through range table) (through range sphere) t.b_is.class t.c_is.class answer (IsOkAnd answer (IsBracketText a b c (through range table) (through range sphere) t.a_is.class t.b_is.class t.c_is.class)))
         → IsTold a b c (through range table) (through range sphere) answer
@@ -148,6 +101,21 @@ module _ (table sphere : Staircase) (range : Range) (is_sphere : IsSphere (resol
       c_at = t.c_is.at;
       told = record { value = ab; product = product_ab ab p t.a_is.class t.b_is.class t.a_is.at t.b_is.at; nonzero = nonzero; zero = lower t };
     }
+
+    text_told : AreThere a b c (through range table) (through range sphere) → (made : Made) → IsBracketOver table sphere range a b c made → (text : List ℕ) → text ≡ bracket_text made.s made.t made.value made.indeterminacy.rows → IsTold a b c (through range table) (through range sphere) (Ok text)
+    text_told there made is text shown =
+        told_by there is.ab_zero.product is.ab_zero.is_product (Ok text) (λ not. absurd (not is.ab_zero.is_zero))
+        (λ t w. record {
+          value = is.bc_zero.product;
+          product = product_bc is.bc_zero.product is.bc_zero.is_product t.b_is.class t.c_is.class t.b_is.at t.c_is.at;
+          nonzero = λ not. absurd (not is.bc_zero.is_zero);
+          zero = λ k. record {
+            value = made.value;
+            rows = made.indeterminacy.rows;
+            bracket = is.is_bracket all all_q t.a_is.class t.b_is.class t.c_is.class t.a_is.at t.b_is.at t.c_is.at;
+            is = shown ∙ (ap (λ (i : ℤ). bracket_text i made.t made.value made.indeterminacy.rows) is.s ∙ ap (λ (i : ℤ). bracket_text (pos (a.s + b.s + c.s) -ℤ pos 1) i made.value made.indeterminacy.rows) is.t);
+          };
+        })
 
     first_told : (v : List Bool) → first_fault table sphere range a b c ≡ None → IsNonzero table sphere range a b c 0 v → IsTold a b c (through range table) (through range sphere) (Err (not_zero Ab a b v))
     first_told v none k = told_by (there none) v k.0 (Err (not_zero Ab a b v)) (λ not. refl) (λ t w. absurd (k.1 w))
@@ -162,7 +130,7 @@ module _ (table sphere : Staircase) (range : Range) (is_sphere : IsSphere (resol
   IsToldOver answer = IsCanonicalIn range table → IsCanonicalIn range sphere → IsBracketAnswer range a b c (through range table) (through range sphere) answer
 
   pub text_answer : (made : Made) → first_fault table sphere range a b c ≡ None → IsBracketOver table sphere range a b c made → (text : List ℕ) → text ≡ bracket_text made.s made.t made.value made.indeterminacy.rows → IsToldOver (Ok text)
-  text_answer made none is text shown all all_q = told_answer (Ok text) none (text_told all all_q made is text shown)
+  text_answer made none is text shown all all_q = told_answer (Ok text) none (text_told all all_q (there none) made is text shown)
 
   -- why there is no text
   pub record IsToldAs (f : MasseyFault) : Type 0 where

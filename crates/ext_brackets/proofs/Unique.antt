@@ -13,13 +13,13 @@ use Rattle.lift_laws.specs.Lifts.{Resolution}
 use Rattle.lift_laws.specs.Products.{Class as ClassAbove, count_of}
 use Rattle.bracket_laws.specs.Brackets.{top_of, IsBracketMember}
 use Rattle.chain_map.specs.declared.class.Class.{Class}
+use Rattle.chain_map.proofs.Classes.{class_is_once}
 use Rattle.massey.specs.Brackets.{IsZeroAtPivots, IsBracketOf}
 use Rattle.ext_chart.specs.Classes.{bracket_text}
 use Rattle.ext_products.specs.declared.refusal.Pair.{Pair}
 use Rattle.ext_products.specs.declared.refusal.Pair.TheVariants.{Ab, Bc}
 use Rattle.ext_products.specs.declared.refusal.Refusal.{Refusal}
 use Rattle.ext_products.specs.Products.{HasOneAnswer}
-use Rattle.ext_products.proofs.Answers.{class-unique}
 use Rattle.ext_brackets.specs.Brackets.{refusal_of, not_zero, IsBracketText, IsToldOf, IsTold, IsBracketAnswer}
 use Rattle.ext_brackets.proofs.Members.{length-member}
 
@@ -144,9 +144,9 @@ module _ (unique : RowBasisIsUnique) (r q : Resolution) (a b c : Class) where
 
   told-unique : (s t : Result (List ℕ) Refusal) → IsTold a b c r q s → IsTold a b c r q t → s ≡ t
   told-unique s t p k =
-      let x : k.x ≡ p.x = class-unique q a k.x p.x k.a_at p.a_at in
-      let y : k.y ≡ p.y = class-unique q b k.y p.y k.b_at p.b_at in
-      let z : k.z ≡ p.z = class-unique r c k.z p.z k.c_at p.c_at in
+      let x : k.x ≡ p.x = class_is_once q a k.x p.x k.a_at p.a_at in
+      let y : k.y ≡ p.y = class_is_once q b k.y p.y k.b_at p.b_at in
+      let z : k.z ≡ p.z = class_is_once r c k.z p.z k.c_at p.c_at in
       let told : IsToldAt p.x p.y p.z t = subst (λ (o : ClassAbove). IsToldAt p.x p.y o t) z (subst (λ (o : ClassAbove). IsToldAt p.x o k.z t) y (subst (λ (o : ClassAbove). IsToldAt o k.y k.z t) x k.told)) in
       let text : Result (List ℕ) Refusal → Type 0 = λ s. IsOkAnd s (IsBracketText a b c r q p.x p.y p.z) in
       product-unique Ab a b q q p.x p.y s t (IsLowerAt p.x p.y p.z s) (IsLowerAt p.x p.y p.z t) (product-unique Bc b c r q p.y p.z s t (text s) (text t) (made-unique p.x p.y p.z s t)) p.told told

@@ -1,6 +1,6 @@
 -- There is one answer to what is asked of products.
 use Rattle.std.proofs.Common.{◌≡◌, ℕ, ◌+◌, ◌<◌, ◌≤◌, inl, inr, ℤ, pos, ◌+ℤ◌, ◌-ℤ◌, Bool, true, false, List, [], length, refl, ap, sym, subst, ◌∙◌, arith}
-use Rattle.std.specs.Prelude.{Option, Some, None, MatchOption, Result, Ok, Err, IsOkAnd, nat_lt, if◌then◌else◌}
+use Rattle.std.specs.Prelude.{Option, Some, None, MatchOption, Result, Ok, Err, IsOkAnd, option_map, unwrap_or, nat_lt, if◌then◌else◌}
 use Rattle.std.proofs.lemmas.Bool.{cases_lt}
 use Rattle.std.proofs.lemmas.Bool.Decides.{nat_tests}
 use Rattle.std.proofs.lemmas.Int.{ints}
@@ -12,7 +12,8 @@ use Rattle.resolution_laws.specs.Resolution.{Content, no_content, square_in, row
 use Rattle.lift_laws.specs.Lifts.{Resolution, IsCanonical, IsSphere, EachClassLifts}
 use Rattle.lift_laws.specs.Products.{Class as ClassAbove, count_of, degree_of_class, number_of, product_by, LiftsGiveOneProduct}
 use Rattle.chain_map.specs.declared.class.Class.{Class}
-use Rattle.chain_map.specs.Classes.{classes_over, class_count, missing_in, IsAt}
+use Rattle.chain_map.specs.Classes.{class_count, missing_in, IsAt}
+use Rattle.chain_map.proofs.Classes.{class_is_once}
 use Rattle.chain_map.proofs.Generators.{is_number}
 use Rattle.yoneda.specs.Products.{IsYonedaProduct}
 use Rattle.yoneda.proofs.OneProduct.{product-of-lift}
@@ -45,17 +46,9 @@ line-unique r q a x y z p k =
     ∙ (ap (λ (n : ℕ). line_of z.s z.t z.i n y.target_t y.value) target_s
     ∙ (ap (λ (n : ℤ). line_of z.s z.t z.i z.target_s n y.value) target_t ∙ ap (λ (v : List Bool). line_of z.s z.t z.i z.target_s z.target_t v) value))))
 
-pub class-unique : (q : Resolution) (c : Class) (a b : ClassAbove) → IsAt q c a → IsAt q c b → a ≡ b
-class-unique q c a b p k =
-    let s : a.s ≡ b.s = sym p.row ∙ k.row in
-    let same : degree_of_class q a ≡ degree_of_class q b = sym p.degree ∙ k.degree in
-    let above : a.above ≡ b.above = omega (arith, ints, same) in
-    let i : a.i ≡ b.i = sym p.number ∙ k.number in
-    ap (λ (n : ℕ). class_at n a.above a.i) s ∙ (ap (λ (n : ℕ). class_at b.s n a.i) above ∙ ap (λ (n : ℕ). class_at b.s b.above n) i)
-
 text-unique : (range : Range) (by : Class) (r q : Resolution) (x y : List ℕ) → IsProductsText range by r q x → IsProductsText range by r q y → x ≡ y
 text-unique range by r q x y p k =
-    let a = class-unique q by p.a k.a p.at k.at in
+    let a = class_is_once q by p.a k.a p.at k.at in
     let here : OneEach (IsProductLine r q k.a) (factors r range k.a) p.lines = subst (λ (c : ClassAbove). OneEach (IsProductLine r q c) (factors r range c) p.lines) a p.are_lines in
     let lines : p.lines ≡ k.lines = OneEach-unique (IsProductLine r q k.a) (line-unique r q k.a) (factors r range k.a) p.lines k.lines here k.are_lines in
     p.is ∙ (ap product_lines_text lines ∙ sym k.is)
@@ -97,13 +90,11 @@ line-exists lifts one r q range a canonical canonical_q sphere there x factor =
 pub none_past : (q : Resolution) (s t : ℕ) → IsCanonicalTable q.base s t q.table → (i k : ℕ) → (i ≤ s → k ≤ t → ⊥) → count_of q i k ≡ 0
 none_past q s t canonical i k out = elim (cases_lt s i) [
   | inl past ↦
-      let rows = canonical.rows in
-      let none : row_of q.table i ≡ [] = get_or_past q.table i [] (omega arith) in
+      let none : row_of q.table i ≡ [] = get_or_past q.table i [] (omega (arith, canonical.rows)) in
       ap (λ (squares : List Content). length (square_in squares k).images) none
   | inr within ↦ elim (cases_lt t k) [
     | inl past ↦
-        let squares = canonical.squares i within in
-        ap (λ (c : Content). length c.images) (get_or_past (row_of q.table i) k no_content (omega arith))
+        ap (λ (c : Content). length c.images) (get_or_past (row_of q.table i) k no_content (omega (arith, canonical.squares i within)))
     | inr near ↦ absurd (out within near)
   ]
 ]
@@ -114,13 +105,12 @@ pub record IsFound (q : Resolution) (c : Class) : Type 0 where
   pub at : IsAt q c class
   pub there : class.i < count_of q class.s class.above
 
-pub found : (q : Resolution) (c : Class) (o : Option ℕ) → above_of q.base.bottom c.t ≡ o → c.i < classes_over q c.s o → IsFound q c
+pub found : (q : Resolution) (c : Class) (o : Option ℕ) → above_of q.base.bottom c.t ≡ o → c.i < unwrap_or (option_map (count_of q c.s) o) 0 → IsFound q c
 found q c None e l = absurd (omega (arith, l))
 found q c (Some k) e l =
-    let d = natural-is (c.t -ℤ q.base.bottom) k e in
     record {
       class = record { s = c.s; above = k; i = c.i };
-      at = record { row = refl; degree = omega (arith, ints); number = refl };
+      at = record { row = refl; degree = omega (arith, ints, natural-is (c.t -ℤ q.base.bottom) k e); number = refl };
       there = l;
     }
 

@@ -24,7 +24,7 @@ use Rattle.lift_laws.specs.Products.{Class as ClassAbove, count_of, number_of, d
 use Rattle.lift_laws.proofs.Cut.{IsLift-uncut}
 use Rattle.chain_map.specs.declared.class.Class.{Class}
 use Rattle.chain_map.specs.Lifting.{resolution_of, IsCanonicalIn}
-use Rattle.chain_map.specs.Classes.{through, classes_over, missing_in}
+use Rattle.chain_map.specs.Classes.{through, missing_in}
 use Rattle.chain_map.proofs.Classes.{rows_through, count_inside, count_outside}
 use Rattle.chain_map.proofs.Resolved.{is_canonical}
 use Rattle.yoneda.specs.declared.place.Place.{Place}
@@ -93,7 +93,7 @@ module _ (sphere : Staircase) (range : Range) (by : Class) (are_q : IsCanonicalI
     ]
   ]
 
-  counted_at : (o : Option ℕ) → above_of (bottom_of sphere.resolved) by.t ≡ o → classes_over (through reach sphere) by.s o ≡ classes_over q by.s o
+  counted_at : (o : Option ℕ) → above_of (bottom_of sphere.resolved) by.t ≡ o → unwrap_or (option_map (count_of (through reach sphere) by.s) o) 0 ≡ unwrap_or (option_map (count_of q by.s) o) 0
   counted_at None e = refl
   counted_at (Some k) e = counted k (ap (degrees_asked range) (ap (λ (b : ℤ). above_of b by.t) (sym bottom) ∙ e))
 
@@ -143,8 +143,7 @@ module _ (one : LiftsGiveOneProduct) (modules : ModulesAreSteenrodModules)
   a_count =
       let few = count_through sphere near a.s a.above (omega arith) (omega arith) in
       let all_of = count_of-part (over sphere.resolved) full cut_q.table a.s a.above (full_rows a.s (omega arith)) a.above (omega arith) in
-      let there = a_there.generator in
-      omega arith
+      omega (arith, a_there.generator)
 
   module _ (x : ClassAbove) (factor : IsFactor cut_r range (class_above a) x) where
     abbrev less : ℤ

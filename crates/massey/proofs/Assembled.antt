@@ -110,8 +110,7 @@ module _ (coset : BracketIsCoset) (modules : ModulesAreSteenrodModules)
       let f = i.ab_row in
       let g = i.ab_degree in
       let same = count_through sphere range p.a.s p.a.above (omega arith) (omega arith) in
-      let h = s.a_in.generator in
-      omega arith
+      omega (arith, s.a_in.generator)
 
   assembled : (first value : List Bool) (rows basis : List (List Bool)) → length value ≡ size → IsMemberBy table sphere range p n first → AreSpanning table sphere range p n rows → IsRowBasis size rows basis → IsInSpan size basis (sum_of first value) → IsZeroAtPivots basis value → IsBracket table sphere range p value basis
   assembled first value rows basis len member spanning is_basis in_span clear =
@@ -122,8 +121,7 @@ module _ (coset : BracketIsCoset) (modules : ModulesAreSteenrodModules)
   pub assembled_in : (first value : List Bool) (rows given basis : List (List Bool)) (cols basis_cols : ℕ) → length first ≡ count_of (resolution_of table) (n + p.a.s) (above_of p) → length value ≡ length first → cols ≡ length first → basis_cols ≡ cols → given ≡ rows → IsMemberBy table sphere range p n first → AreSpanning table sphere range p n rows → IsRowBasis cols given basis → IsInSpan basis_cols basis (sum_of first value) → IsZeroAtPivots basis value → IsBracket table sphere range p value basis
   assembled_in first value rows given basis cols basis_cols len_first len cols_are basis_cols_are given_are member spanning is_basis in_span clear =
       let i = s.inside in
-      let r = i.row in
-      let through_is : size ≡ count_of (resolution_of table) (n + p.a.s) (above_of p) = count_through table range (n + p.a.s) (above_of p) (omega arith) i.degree in
+      let through_is : size ≡ count_of (resolution_of table) (n + p.a.s) (above_of p) = count_through table range (n + p.a.s) (above_of p) (omega (arith, i.row)) i.degree in
       let first_size : length first ≡ size = len_first ∙ sym through_is in
       let cols_size : cols ≡ size = cols_are ∙ first_size in
       assembled first value rows basis (len ∙ first_size) member spanning (subst (λ (w : List (List Bool)). IsRowBasis size w basis) given_are (subst (λ (k : ℕ). IsRowBasis k given basis) cols_size is_basis)) (subst (λ (k : ℕ). IsInSpan k basis (sum_of first value)) (basis_cols_are ∙ cols_size) in_span) clear

@@ -7,42 +7,20 @@ use Rattle.f2_vec.specs.Vectors.{IsZero}
 use Rattle.square.specs.declared.range.Range.{Range}
 use Rattle.square.specs.Tables.{Staircase, row_in, IsTable, IsThrough}
 use Rattle.lift_laws.specs.Lifts.{IsSphere}
-use Rattle.lift_laws.specs.Products.{count_of, coefficient_of, product_by, LiftsGiveOneProduct}
+use Rattle.lift_laws.specs.Products.{Class as ClassAbove, count_of, coefficient_of, product_by, LiftsGiveOneProduct}
 use Rattle.bracket_laws.proofs.Vectors.{length-on_square}
 use Rattle.chain_map.specs.declared.class.Class.{Class}
 use Rattle.chain_map.specs.Lifting.{LiftValues, resolution_of, IsCanonicalIn, map_of, IsLiftOver, IsClassOf}
 use Rattle.yoneda.specs.declared.place.Place.{Place}
-use Rattle.chain_map.specs.Classes.{through, missing_in, passes, no_class, out_of_range, class_refusal}
+use Rattle.chain_map.specs.Classes.{through, missing_in, IsAt, passes, no_class, out_of_range, class_refusal}
+use Rattle.chain_map.proofs.Classes.{class_is_once}
 use Rattle.yoneda.specs.Products.{class_above, IsPlaceOf, IsYonedaProduct, IsProductOver, ArePlacesOf}
-use Rattle.yoneda.proofs.OneProduct.{place_there, product_of_lift}
+use Rattle.yoneda.proofs.OneProduct.{at_place, product_by_lift}
 use Rattle.massey.specs.declared.fault.MasseyFault.{MasseyFault}
 use Rattle.massey.specs.declared.fault.MasseyFault.TheVariants.{NoClass, OutOfRange, Nonzero, Memory}
 use Rattle.massey.specs.declared.places.Places.{Places}
-use Rattle.massey.specs.Brackets.{absent, past, refusal_of, AreInside, IsCause}
-use Rattle.massey.specs.Inside.{AreFound, above_ab, above_bc, IsSetting}
-use Rattle.massey.proofs.Values.{reaches}
-
-module _ (one : LiftsGiveOneProduct) (modules : ModulesAreSteenrodModules)
-    (table sphere : Staircase) (h : IsTable table) (hq : IsTable sphere) (range : Range) (whole : IsThrough range table.rows) (whole_q : IsThrough range sphere.rows) (is_sphere : IsSphere (resolution_of sphere))
-    (a_class x_class : Class) (a x : Place) (places : ArePlacesOf table sphere range a_class x_class a x) (upto : ℕ) (enough : a.s ≤ upto) (rows : x.s + upto ≤ range.s)
-    (lift : LiftValues) (lifted : IsLiftOver table sphere x.s x.above x.i upto lift) (v : List Bool) (gives : v ≡ product_by (resolution_of table) (resolution_of sphere) (class_above a) (map_of lift) (x.s + a.s) (a.above + x.above)) where
-  is_product : IsCanonicalIn range table → IsCanonicalIn range sphere → IsYonedaProduct (through range table) (through range sphere) (class_above a) (class_above x) v
-  is_product all all_q =
-      let row = places.row_within in
-      let small = places.degree_within in
-      let there = whole_q upto (omega arith) in
-      let far = reaches table sphere range whole whole_q x.s x.above upto (a.above + x.above) rows small in
-      product_of_lift one modules table sphere h hq is_sphere a x (place_there sphere range a_class a whole_q places.a_is) v upto (range.t + 1) lift enough lifted
-      (record { within = omega arith; some = λ m. omega arith; there = omega arith; enough = omega arith }) gives range range whole whole_q rows small (omega arith) (omega arith) all all_q
-
-  pub product_by_lift : IsProductOver table sphere range a_class x_class v
-  product_by_lift = record {
-    a_place = a;
-    x_place = x;
-    places = places;
-    one_each = ap length gives ∙ length-on_square (resolution_of table) (x.s + a.s) (a.above + x.above) (λ g. coefficient_of (resolution_of sphere) (class_above a) (map_of lift a.s g));
-    product = is_product;
-  }
+use Rattle.massey.specs.Brackets.{refusal_of, IsBracketOf, IsCause}
+use Rattle.massey.specs.Inside.{AreFound, AreInside, above_ab, above_bc, IsBracket, IsSetting}
 
 -- ---- refusals
 
@@ -69,10 +47,10 @@ refusal_is : (table sphere : Staircase) (range : Range) (a b c : Class) → IfSo
 refusal_is table sphere range a b c =
     let r = through range table in
     let q = through range sphere in
-    or_refusal (class_refusal absent r q a b c) _
-    (or_refusal (no_class (absent 0) q a) _ (class_is_refusal 0 (missing_in q a)) (or_refusal (no_class (absent 1) q b) (no_class (absent 2) r c) (class_is_refusal 1 (missing_in q b)) (class_is_refusal 2 (missing_in r c))))
-    (or_refusal (out_of_range (past 0) range q (pos (a.s + b.s)) (a.t +ℤ b.t)) _ (range_is_refusal 0 (pos (a.s + b.s)) (a.t +ℤ b.t) (passes range q (pos (a.s + b.s)) (a.t +ℤ b.t)))
-    (or_refusal (out_of_range (past 1) range r (pos (b.s + c.s)) (b.t +ℤ c.t)) _ (range_is_refusal 1 (pos (b.s + c.s)) (b.t +ℤ c.t) (passes range r (pos (b.s + c.s)) (b.t +ℤ c.t)))
+    or_refusal (class_refusal NoClass r q a b c) _
+    (or_refusal (no_class (NoClass 0) q a) _ (class_is_refusal 0 (missing_in q a)) (or_refusal (no_class (NoClass 1) q b) (no_class (NoClass 2) r c) (class_is_refusal 1 (missing_in q b)) (class_is_refusal 2 (missing_in r c))))
+    (or_refusal (out_of_range (OutOfRange 0) range q (pos (a.s + b.s)) (a.t +ℤ b.t)) _ (range_is_refusal 0 (pos (a.s + b.s)) (a.t +ℤ b.t) (passes range q (pos (a.s + b.s)) (a.t +ℤ b.t)))
+    (or_refusal (out_of_range (OutOfRange 1) range r (pos (b.s + c.s)) (b.t +ℤ c.t)) _ (range_is_refusal 1 (pos (b.s + c.s)) (b.t +ℤ c.t) (passes range r (pos (b.s + c.s)) (b.t +ℤ c.t)))
     (range_is_refusal 2 (pos (a.s + b.s + c.s) -ℤ pos 1) (a.t +ℤ b.t +ℤ c.t) (passes range r (pos (a.s + b.s + c.s) -ℤ pos 1) (a.t +ℤ b.t +ℤ c.t)))))
 
 named : (table sphere : Staircase) (range : Range) (a b c : Class) (f : MasseyFault) → IsRefusal f → refusal_of table sphere range a b c ≡ Some f → IsCause table sphere range a b c f
@@ -114,16 +92,25 @@ module _ (one : LiftsGiveOneProduct) (modules : ModulesAreSteenrodModules)
       let t = i.row in
       product_by_lift one modules table sphere s.is_table s.is_sphere_table range s.through_table s.through_sphere s.is_sphere b c p.b p.c (record { a_is = found.b_is; x_is = found.c_is; row_within = i.bc_row; degree_within = i.bc_degree }) (p.b.s + (p.a.s - 1)) (omega arith) (omega arith) gamma lifted v gives
 
+-- the bracket, by the classes that stand at the places
+pub bracket_at : (table sphere : Staircase) (range : Range) (a b c : Class) (p : Places) → AreFound table sphere range a b c p → (value : List Bool) (rows : List (List Bool)) → IsBracket table sphere range p value rows → (x y z : ClassAbove) → IsAt (through range sphere) a x → IsAt (through range sphere) b y → IsAt (through range table) c z → IsBracketOf (through range table) (through range sphere) x y z value rows
+bracket_at table sphere range a b c p found value rows is x y z a_at b_at c_at =
+    let r = through range table in
+    let q = through range sphere in
+    let first = class_is_once q a (class_above p.a) x (at_place sphere range a p.a found.a_is) a_at in
+    let second = class_is_once q b (class_above p.b) y (at_place sphere range b p.b found.b_is) b_at in
+    let third = class_is_once r c (class_above p.c) z (at_place table range c p.c found.c_is) c_at in
+    subst (λ (o : ClassAbove). IsBracketOf r q x y o value rows) third (subst (λ (o : ClassAbove). IsBracketOf r q x o (class_above p.c) value rows) second (subst (λ (o : ClassAbove). IsBracketOf r q o (class_above p.b) (class_above p.c) value rows) first is))
+
 pub class_there : (table : Staircase) (range : Range) → IsThrough range table.rows → (class : Class) (x : Place) → IsPlaceOf table range class x → IsClassOf table class
 class_there table range whole class x is =
     let row = is.row in
     let number = is.number in
-    let near = is.inside.degree_within in
     let long : range.t < length (row_in table.rows class.s) = subst (λ (s : ℕ). range.t < length (row_in table.rows s)) (sym row) (whole x.s is.inside.row_within) in
     record {
       above = x.above;
       degree = is.degree;
-      square = omega arith;
+      square = omega (arith, is.inside.degree_within);
       generator = subst (λ (s : ℕ). class.i < count_of (resolution_of table) s x.above) (sym row) (subst (λ (i : ℕ). i < count_of (resolution_of table) x.s x.above) (sym number) is.inside.generator);
     }
 

@@ -4,7 +4,7 @@ use Rattle.std.proofs.lemmas.Bool.{cases_lt}
 use Rattle.square.specs.Tables.{Staircase}
 use Rattle.chain_map.specs.Lifting.{LiftValues}
 use Rattle.massey.specs.declared.places.Places.{Places}
-use Rattle.massey.specs.Inside.{AreNext, AreMaps, zero_map}
+use Rattle.massey.specs.Inside.{AreNext, zero_map}
 
 -- the maps through one, and another behind them
 grown_by : (maps : ℕ → List (List Bool)) (new : List (List Bool)) (j k : ℕ) → (k < j) ⊎ (j ≤ k) → List (List Bool)
@@ -20,6 +20,14 @@ new_map : (maps : ℕ → List (List Bool)) (new : List (List Bool)) (j k : ℕ)
 unfolding grown_by
 new_map maps new j k (inl l) b = refl
 new_map maps new j k (inr l) b = absurd (omega arith)
+
+-- the maps through H_k, with the values of the last of them
+pub record AreMaps (table sphere : Staircase) (p : Places) (n : ℕ) (beta gamma : LiftValues) (k : ℕ)
+    (last : List (List Bool)) : Type 0 where
+  pub maps : ℕ → List (List Bool)
+  pub here : maps k ≡ last
+  pub first : maps 0 ≡ zero_map table sphere p n
+  pub next : (j : ℕ) → j < k → AreNext table sphere p n beta gamma j (maps j) (maps (suc j))
 
 module _ (table sphere : Staircase) (p : Places) (n : ℕ) (beta gamma : LiftValues) where
   pub maps_first : (first : List (List Bool)) → first ≡ zero_map table sphere p n → AreMaps table sphere p n beta gamma 0 first

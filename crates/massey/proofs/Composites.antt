@@ -17,14 +17,14 @@ use Rattle.square.proofs.Places.{length-row_of}
 use Rattle.square.proofs.Targets.{row_short}
 use Rattle.lift_laws.specs.Lifts.{Resolution, degree}
 use Rattle.lift_laws.specs.Products.{first_of, count_of}
-use Rattle.chain_map.specs.Lifting.{lowered_row, LiftValues, resolution_of, row_values, degrees_through, AreValues, target_of}
+use Rattle.chain_map.specs.Lifting.{lowered_row, LiftValues, resolution_of, row_values, joined, degrees_through, AreValues, target_of}
 use Rattle.chain_map.specs.Inside.{Reaches}
-use Rattle.chain_map.proofs.Generators.{is_number, images_taken, first_of-more, within-reach, degree-below, degree-lowered}
+use Rattle.chain_map.proofs.Generators.{is_number, images_taken, first_of-more, length-joined, within-reach, degree-below, degree-lowered}
 use Rattle.chain_map.proofs.Places.{low_width, are_images}
 use Rattle.chain_map.proofs.Widths.{HasPlace}
 use Rattle.massey.specs.declared.places.Places.{Places}
 use Rattle.massey.specs.Inside.{above_of, above_ab, above_bc, IsComposite, beta_values}
-use Rattle.massey.proofs.Values.{reaches}
+use Rattle.yoneda.proofs.Lifted.{reaches}
 
 module _ (table sphere : Staircase) (range : Range) (p : Places) (n : ℕ) (beta gamma : LiftValues) (c : IsComposite table sphere range p n beta gamma) where
   abbrev r : Resolution
@@ -86,15 +86,14 @@ module _ (table sphere : Staircase) (range : Range) (p : Places) (n : ℕ) (beta
   beta_are k l = c.lifts.beta_lift.values k (beta_row k l)
 
   -- it has a value on each of the generators that are taken
-  pub beta_count : (k : ℕ) → k ≤ p.a.s → first_of q (p.b.s + k) (above_ab p + 1) ≤ length (row_values beta k).vectors
+  pub beta_count : (k : ℕ) → k ≤ p.a.s → first_of q (p.b.s + k) (above_ab p + 1) ≤ length (joined (row_values beta k))
   beta_count k l =
       let far = beta_far in
       let fewer = images_taken (row_of q.table (p.b.s + k)) (above_ab p + 1) beta_reach (omega arith) in
-      let one = (beta_are k l).one_each in
-      omega arith
+      omega (arith, length-joined sphere (p.b.s + k) beta_reach (row_values beta k) (beta_are k l).one_each)
 
-  pub beta_taken : (k g : ℕ) → k ≤ p.a.s → g < first_of q (p.b.s + k) (above_ab p + 1) → row (beta_values sphere p beta k) g ≡ row (row_values beta k).vectors g
-  beta_taken k g l there = let count = beta_count k l in get_or-take (first_of q (p.b.s + k) (above_ab p + 1)) (row_values beta k).vectors g [] (omega arith)
+  pub beta_taken : (k g : ℕ) → k ≤ p.a.s → g < first_of q (p.b.s + k) (above_ab p + 1) → row (beta_values sphere p beta k) g ≡ row (joined (row_values beta k)) g
+  beta_taken k g l there = let count = beta_count k l in get_or-take (first_of q (p.b.s + k) (above_ab p + 1)) (joined (row_values beta k)) g [] (omega arith)
 
   pub inner_count : (k : ℕ) → length (lowered_row sphere (p.b.s + k) (above_ab p + 1) p.b.above) ≡ first_of q (p.b.s + k) (above_ab p + 1)
   inner_count k = sym (length-images_of (pos 0 -ℤ pos p.b.above) (take (above_ab p + 1) (row_of (plain_rows sphere.rows) (p.b.s + k))))
@@ -102,7 +101,7 @@ module _ (table sphere : Staircase) (range : Range) (p : Places) (n : ℕ) (beta
   pub beta_images : (k : ℕ) → k ≤ p.a.s → AreImages (free_graded (target_of sphere k (p.a.above + 1))) (lowered_row sphere (p.b.s + k) (above_ab p + 1) p.b.above) (beta_values sphere p beta k)
   beta_images k l =
       let here = inner_row_there k l in
-      let count = length-take-le (first_of q (p.b.s + k) (above_ab p + 1)) (row_values beta k).vectors (beta_count k l) in
+      let count = length-take-le (first_of q (p.b.s + k) (above_ab p + 1)) (joined (row_values beta k)) (beta_count k l) in
       let most = beta_count k l in
       are_images sphere sphere (p.b.s + k) k p.b.above (above_ab p + 1) (p.a.above + 1) (beta_values sphere p beta k) c.setting.is_sphere (omega arith) (omega arith) count
       (λ g b. ap length (beta_taken k g l (omega arith)) ∙ (beta_are k l).widths g (omega arith))
@@ -123,21 +122,19 @@ module _ (table sphere : Staircase) (range : Range) (p : Places) (n : ℕ) (beta
   gamma_at k = let e = c.n_row in omega arith
 
   -- it has a value on number h of the square j
-  pub gamma_there : (k j h : ℕ) → k < p.a.s → j ≤ above_of p → h < count_of r (suc (n + k)) j → first_of r (suc (n + k)) j + h < length (row_values gamma (p.b.s + k)).vectors
+  pub gamma_there : (k j h : ℕ) → k < p.a.s → j ≤ above_of p → h < count_of r (suc (n + k)) j → first_of r (suc (n + k)) j + h < length (joined (row_values gamma (p.b.s + k)))
   gamma_there k j h l b there =
       let e : suc (n + k) ≡ n + suc k = omega arith in
       let same = ap (λ (i : ℕ). length (row_in table.rows i)) e in
       let long = row_there (suc k) (omega arith) in
       let len = length-row_of table.rows (suc (n + k)) in
-      let more = first_of-more r (suc (n + k)) j (omega arith) in
+      let more = first_of-more r (suc (n + k)) j in
       let far = gamma_far k l in
       let fewer = images_taken (row_of r.table (suc (n + k))) (j + 1) (degrees_through table sphere p.c.s p.c.above (p.b.s + c.lifts.last)) (omega arith) in
-      let one = (gamma_are k l).one_each in
-      let same_row = ap (λ (i : ℕ). first_of r i (degrees_through table sphere p.c.s p.c.above (p.b.s + c.lifts.last))) (gamma_at k) in
-      omega arith
+      omega (arith, ap (λ (i : ℕ). first_of r i (degrees_through table sphere p.c.s p.c.above (p.b.s + c.lifts.last))) (gamma_at k), length-joined table (p.c.s + (p.b.s + k)) (degrees_through table sphere p.c.s p.c.above (p.b.s + c.lifts.last)) (row_values gamma (p.b.s + k)) (gamma_are k l).one_each)
 
   -- which beta_k takes
-  pub gamma_width : (k j h : ℕ) → k < p.a.s → j ≤ above_of p → h < count_of r (suc (n + k)) j → length (row (row_values gamma (p.b.s + k)).vectors (first_of r (suc (n + k)) j + h)) ≡ free_width (lowered_row sphere (p.b.s + k) (above_ab p + 1) p.b.above) (pos j -ℤ pos (above_bc p))
+  pub gamma_width : (k j h : ℕ) → k < p.a.s → j ≤ above_of p → h < count_of r (suc (n + k)) j → length (row (joined (row_values gamma (p.b.s + k))) (first_of r (suc (n + k)) j + h)) ≡ free_width (lowered_row sphere (p.b.s + k) (above_ab p + 1) p.b.above) (pos j -ℤ pos (above_bc p))
   gamma_width k j h l b there =
       let e : suc (n + k) ≡ n + suc k = omega arith in
       let same = ap (λ (i : ℕ). length (row_in table.rows i)) e in
@@ -172,8 +169,4 @@ module _ (table sphere : Staircase) (range : Range) (p : Places) (n : ℕ) (beta
       let count = length-images_of (pos 0 -ℤ pos (above_bc p)) (take (above_of p + 1) (row_of (plain_rows table.rows) n)) in
       let there : g < first_of r n (above_of p + 1) = omega (arith, ap length source_is) in
       let low = degree-below r n (above_of p + 1) g (omega arith) there in
-      let lower = degree-lowered r n (above_of p + 1) (above_bc p) g there in
-      let at = ap (λ (z : List ℤ). degree_at z g) source_is in
-      let zero = c.setting.is_sphere.bottom in
-      let small = c.setting.a_in.degree_small in
-      subst (λ (z : List ℤ). IsWithinReach max z (degree_at source g)) (sym target_is) (within-reach (bottom_of sphere.resolved) (take (p.a.above + 1) (row_of (plain_rows sphere.rows) 0)) max (degree_at source g) (omega (arith, ints)))
+      subst (λ (z : List ℤ). IsWithinReach max z (degree_at source g)) (sym target_is) (within-reach (bottom_of sphere.resolved) (take (p.a.above + 1) (row_of (plain_rows sphere.rows) 0)) max (degree_at source g) (omega (arith, ints, c.setting.a_in.degree_small, c.setting.is_sphere.bottom, ap (λ (z : List ℤ). degree_at z g) source_is, degree-lowered r n (above_of p + 1) (above_bc p) g there)))

@@ -28,7 +28,7 @@ use Rattle.chain_map.proofs.Widths.{width-take}
 use Rattle.yoneda.specs.Products.{class_above}
 use Rattle.massey.specs.declared.places.Places.{Places}
 use Rattle.chain_map.specs.Classes.{through}
-use Rattle.massey.specs.Inside.{above_of, above_ab, above_bc, IsLastMap, IsComposite, beta_values, homotopy_goal, AreMaps}
+use Rattle.massey.specs.Inside.{above_of, above_ab, above_bc, IsLastMap, IsComposite, beta_values, homotopy_goal}
 use Rattle.chain_map.proofs.Classes.{rows_through}
 use Rattle.chain_map.proofs.Resolved.{is_canonical}
 use Rattle.yoneda.proofs.Through.{count_through, product_through}
@@ -38,6 +38,7 @@ use Rattle.massey.proofs.Assembled.{no_coefficient}
 use Rattle.massey.proofs.Maps.{among_first, part_map}
 use Rattle.massey.proofs.Composites.{row_inside, sphere_row_inside, beta_taken}
 use Rattle.massey.proofs.MapValues.{next_width}
+use Rattle.massey.proofs.Chosen.{AreMaps}
 
 module _ (minimal : CanonicalTableIsMinimalResolution) (modules : ModulesAreSteenrodModules) (table sphere : Staircase) (range : Range) (p : Places) (n : ℕ) (beta gamma : LiftValues) (c : IsComposite table sphere range p n beta gamma)
     (all : IsCanonicalIn range table) (all_q : IsCanonicalIn range sphere) (last : List (List Bool)) (made : AreMaps table sphere p n beta gamma p.a.s last) where

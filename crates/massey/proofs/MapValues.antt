@@ -20,8 +20,9 @@ use Rattle.chain_map.proofs.Places.{are_images}
 use Rattle.chain_map.proofs.Widths.{value_width}
 use Rattle.yoneda.specs.Products.{AreOnSquare}
 use Rattle.massey.specs.declared.places.Places.{Places}
-use Rattle.massey.specs.Inside.{above_of, above_bc, IsComposite, beta_values, homotopy_goal, zero_map, AreNext, AreMaps}
+use Rattle.massey.specs.Inside.{above_of, above_bc, IsComposite, beta_values, homotopy_goal, zero_map, AreNext}
 use Rattle.massey.proofs.Composites.{row_there, has_place}
+use Rattle.massey.proofs.Chosen.{AreMaps}
 
 module _ (table sphere : Staircase) (range : Range) (p : Places) (n : ℕ) (beta gamma : LiftValues) (c : IsComposite table sphere range p n beta gamma) where
   abbrev r : Resolution
@@ -85,7 +86,7 @@ module _ (table sphere : Staircase) (range : Range) (p : Places) (n : ℕ) (beta
       let one = next.one_each in
       let here = next_row_there k (omega arith) in
       let len = length-row_of table.rows (suc (n + k)) in
-      let more = first_of-more r (suc (n + k)) (above_of p) (omega arith) in
+      let more = first_of-more r (suc (n + k)) (above_of p) in
       let zero = c.setting.is_sphere.bottom in
       let P : ℕ → List (List Bool) → Type 0 = λ i v. AreOnSquare table sphere p.a i (above_of p) v in
       let Q : ℕ → ℕ → Type 0 = λ s h. length (row (m.maps (suc k)) (first_of r (suc (n + k)) (above_of p) + h)) ≡ free_width (gens q s) (bottom_of sphere.resolved +ℤ pos p.a.above) in

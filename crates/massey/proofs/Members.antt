@@ -20,7 +20,7 @@ use Rattle.massey.specs.declared.places.Places.{Places}
 use Rattle.chain_map.specs.Classes.{through}
 use Rattle.massey.specs.Inside.{above_of, above_ab, IsSetting, AreLifts, IsLastMap, IsMemberBy}
 use Rattle.yoneda.proofs.Through.{on_square_through, coefficient_through, class_through}
-use Rattle.massey.proofs.Values.{reaches}
+use Rattle.yoneda.proofs.Lifted.{reaches}
 
 module _ (table sphere : Staircase) (range : Range) (p : Places) (s : IsSetting table sphere range p) (all : IsCanonicalIn range table) (all_q : IsCanonicalIn range sphere) where
   abbrev r : Resolution

@@ -6,39 +6,13 @@ use Rattle.square.specs.Tables.{Staircase, row_in, content_at, IsThrough}
 use Rattle.f2_vec.specs.Vectors.{IsZero}
 use Rattle.lift_laws.specs.Lifts.{IsSphere}
 use Rattle.lift_laws.specs.Products.{product_by}
-use Rattle.chain_map.specs.Lifting.{LiftValues, resolution_of, map_of, row_values, degrees_through, IsLiftOver}
+use Rattle.chain_map.specs.Lifting.{LiftValues, resolution_of, map_of, row_values, joined, degrees_through, IsLiftOver}
 use Rattle.yoneda.specs.declared.place.Place.{Place}
 use Rattle.yoneda.specs.Products.{class_above, IsThere, AreOnSquare}
-use Rattle.yoneda.proofs.Lifted.{on_square_of, shifted_length-positive}
+use Rattle.yoneda.proofs.Lifted.{HasRow, has_row}
 use Rattle.massey.specs.declared.places.Places.{Places}
-use Rattle.massey.specs.Inside.{above_of, above_ab, above_bc, IsSetting, AreLifts}
-use Rattle.massey.specs.Brackets.{AreInside}
+use Rattle.massey.specs.Inside.{above_of, above_ab, above_bc, AreInside, IsSetting, AreLifts}
 use Rattle.bracket_laws.specs.Brackets.{HasRoom}
-
--- a lift over tables with the range goes through its degrees
-pub reaches : (table sphere : Staircase) (range : Range) → IsThrough range table.rows → IsThrough range sphere.rows → (s above upto at : ℕ) → s + upto ≤ range.s → at ≤ range.t → at < degrees_through table sphere s above upto
-reaches table sphere range whole whole_q s above upto at rows small =
-    let one = whole (s + upto) rows in
-    let two = whole_q upto (omega arith) in
-    let e = shifted_length-positive above (length (row_in sphere.rows upto)) (omega arith) in
-    omega arith
-
--- what a lift of x has for the coefficients of a
-pub record HasValues (table sphere : Staircase) (a x : Place) (lift : LiftValues) : Type 0 where
-  pub row : a.s < length lift.rows
-  pub there : a.above + x.above < length (row_in table.rows (x.s + a.s))
-  pub on_square : AreOnSquare table sphere a (x.s + a.s) (a.above + x.above) (row_values lift a.s).vectors
-
-pub has_values : (table sphere : Staircase) (range : Range) → IsThrough range table.rows → IsThrough range sphere.rows → IsSphere (resolution_of sphere) → (a x : Place) (upto : ℕ) (lift : LiftValues) → x.s + upto ≤ range.s → a.above + x.above ≤ range.t → a.s ≤ upto → IsLiftOver table sphere x.s x.above x.i upto lift → HasValues table sphere a x lift
-has_values table sphere range whole whole_q is_sphere a x upto lift rows small h l =
-    let far = reaches table sphere range whole whole_q x.s x.above upto (a.above + x.above) rows small in
-    let count = l.rows (omega arith) in
-    let long = whole (x.s + a.s) (omega arith) in
-    record {
-      row = omega arith;
-      there = omega arith;
-      on_square = on_square_of table sphere is_sphere a x (degrees_through table sphere x.s x.above upto) (row_values lift a.s) (l.values a.s (omega arith)) far (omega arith);
-    }
 
 module _ (table sphere : Staircase) (range : Range) (p : Places) (s : IsSetting table sphere range p) where
   pub a_is_there : IsThere sphere p.a
@@ -48,12 +22,12 @@ module _ (table sphere : Staircase) (range : Range) (p : Places) (s : IsSetting 
   b_is_there = let i = s.inside in let b = i.ab_row in let d = i.ab_degree in let long = s.through_sphere p.b.s (omega arith) in record { square = omega arith; generator = s.b_in.generator }
 
   -- the lift of b, for ab
-  pub values_ab : (beta : LiftValues) → IsLiftOver sphere sphere p.b.s p.b.above p.b.i p.a.s beta → HasValues sphere sphere p.a p.b beta
-  values_ab beta l = let i = s.inside in let b = i.ab_row in has_values sphere sphere range s.through_sphere s.through_sphere s.is_sphere p.a p.b p.a.s beta (omega arith) i.ab_degree (omega arith) l
+  pub values_ab : (beta : LiftValues) → IsLiftOver sphere sphere p.b.s p.b.above p.b.i p.a.s beta → HasRow sphere sphere p.a p.b p.a.s beta
+  values_ab beta l = let i = s.inside in let b = i.ab_row in let d = i.ab_degree in let long = s.through_sphere p.a.s (omega arith) in has_row sphere sphere range s.through_sphere s.is_sphere p.a p.b p.a.s beta (omega arith) (omega arith) d (omega arith) l
 
   -- the lift of c, for bc
-  pub values_bc : (gamma : LiftValues) → IsLiftOver table sphere p.c.s p.c.above p.c.i (p.b.s + (p.a.s - 1)) gamma → HasValues table sphere p.b p.c gamma
-  values_bc gamma l = let i = s.inside in let r = i.row in let b = i.bc_row in has_values table sphere range s.through_table s.through_sphere s.is_sphere p.b p.c (p.b.s + (p.a.s - 1)) gamma (omega arith) i.bc_degree (omega arith) l
+  pub values_bc : (gamma : LiftValues) → IsLiftOver table sphere p.c.s p.c.above p.c.i (p.b.s + (p.a.s - 1)) gamma → HasRow table sphere p.b p.c (p.b.s + (p.a.s - 1)) gamma
+  values_bc gamma l = let i = s.inside in let r = i.row in let b = i.bc_row in let d = i.bc_degree in let long = s.through_sphere (p.b.s + (p.a.s - 1)) (omega arith) in has_row table sphere range s.through_table s.is_sphere p.b p.c (p.b.s + (p.a.s - 1)) gamma (omega arith) (omega arith) d (omega arith) l
 
   -- the square of the bracket
   pub bracket_there : (n : ℕ) → suc n ≡ p.c.s + p.b.s → above_of p < length (row_in table.rows (n + p.a.s))
@@ -66,8 +40,8 @@ module _ (table sphere : Staircase) (range : Range) (p : Places) (s : IsSetting 
   pub lower_there : (l i : ℕ) → suc l ≡ p.b.s + p.a.s → i < length (content_at sphere.rows l (above_ab p)).images → IsThere sphere (lower l i)
   lower_there l i e h = let n = s.inside in let b = n.ab_row in let d = n.ab_degree in let long = s.through_sphere l (omega arith) in record { square = omega arith; generator = h }
 
-  pub lower_values : (beta gamma : LiftValues) → AreLifts table sphere p beta gamma → (l i : ℕ) → suc l ≡ p.b.s + p.a.s → HasValues table sphere (lower l i) p.c gamma
-  lower_values beta gamma lifts l i e = let n = s.inside in let r = n.row in let a = lifts.a_row in has_values table sphere range s.through_table s.through_sphere s.is_sphere (lower l i) p.c (p.b.s + lifts.last) gamma (omega arith) n.degree (omega arith) lifts.gamma_lift
+  pub lower_values : (beta gamma : LiftValues) (lifts : AreLifts table sphere p beta gamma) (l i : ℕ) → suc l ≡ p.b.s + p.a.s → HasRow table sphere (lower l i) p.c (p.b.s + lifts.last) gamma
+  lower_values beta gamma lifts l i e = let n = s.inside in let r = n.row in let a = lifts.a_row in let d = n.degree in let long = s.through_sphere (p.b.s + lifts.last) (omega arith) in has_row table sphere range s.through_table s.is_sphere (lower l i) p.c (p.b.s + lifts.last) gamma (omega arith) (omega arith) d (omega arith) lifts.gamma_lift
 
 -- where a and b are not in row 0
 pub are_lifts : (table sphere : Staircase) (p : Places) (beta gamma : LiftValues) → (p.a.s ≡ 0 → ⊥) → (p.b.s ≡ 0 → ⊥) → IsLiftOver sphere sphere p.b.s p.b.above p.b.i p.a.s beta → IsLiftOver table sphere p.c.s p.c.above p.c.i (p.b.s + (p.a.s - 1)) gamma

@@ -1,6 +1,6 @@
 -- Three-fold Massey products on the tables of two resolutions (May, Matric Massey products; Bruner, Calculation of large Ext
 -- modules).
-use Rattle.std.specs.Prelude.{◌≡◌, ℕ, Bool, false, List, ◌+◌, ◌≤◌, ℤ, Option, ◌↔◌, zero, suc, Some, None, pos, ◌+ℤ◌, ◌-ℤ◌, length}
+use Rattle.std.specs.Prelude.{◌≡◌, ℕ, Bool, false, List, ◌+◌, ℤ, Option, ◌↔◌, zero, suc, Some, None, pos, ◌+ℤ◌, ◌-ℤ◌, length}
 use Rattle.f2_vec.specs.Vectors.{bit, IsFirstOne, sum_of, IsZero}
 use Rattle.f2_vec.specs.Spans.{row, IsInSpan}
 use Rattle.f2_matrix.specs.Echelon.{IsRowBasis}
@@ -11,10 +11,9 @@ use Rattle.lift_laws.specs.Lifts.{Resolution}
 use Rattle.lift_laws.specs.Products.{Class as ClassAbove, count_of}
 use Rattle.bracket_laws.specs.Brackets.{top_of, IsBracketMember, IsIndeterminacy}
 use Rattle.chain_map.specs.declared.class.Class.{Class}
-use Rattle.chain_map.specs.Classes.{through, first_refusal}
+use Rattle.chain_map.specs.Classes.{through, IsAt, first_refusal}
 use Rattle.chain_map.specs.Lifting.{resolution_of, IsCanonicalIn}
-use Rattle.yoneda.specs.declared.place.Place.{Place}
-use Rattle.yoneda.specs.Products.{class_above, IsPlaceOf, IsProductOver}
+use Rattle.yoneda.specs.Products.{IsProductOver}
 use Rattle.massey.specs.declared.fault.MasseyFault.{MasseyFault}
 use Rattle.massey.specs.declared.fault.MasseyFault.TheVariants.{NoClass, OutOfRange, Nonzero, Memory}
 use Rattle.massey.specs.declared.answer.Bracket.{Bracket}
@@ -23,26 +22,10 @@ use Rattle.massey.specs.declared.answer.Bracket.{Bracket}
 abbrev pub IsZeroAtPivots : List (List Bool) → List Bool → Type 0
 IsZeroAtPivots rows v = (i p : ℕ) → IsFirstOne (row rows i) p → bit v p ≡ false
 
--- the faults, by the numbers of a class and of a square
-abbrev pub absent : ℕ → ℕ → MasseyFault
-absent which count = NoClass which count
-
-abbrev pub past : ℕ → ℤ → ℤ → MasseyFault
-past which s t = OutOfRange which s t
-
 -- why there is no bracket in the range
 abbrev pub refusal_of : Staircase → Staircase → Range → Class → Class → Class → Option MasseyFault
 refusal_of table sphere range a b c =
-    first_refusal absent past range (through range table) (through range sphere) a b c
-
--- ab, bc and the bracket are in the range
-pub record AreInside (range : Range) (a b c : Place) : Type 0 where
-  pub ab_row : a.s + b.s ≤ range.s
-  pub ab_degree : a.above + b.above ≤ range.t
-  pub bc_row : b.s + c.s ≤ range.s
-  pub bc_degree : b.above + c.above ≤ range.t
-  pub row : a.s + b.s + c.s ≤ range.s + 1
-  pub degree : a.above + b.above + c.above ≤ range.t
+    first_refusal NoClass OutOfRange range (through range table) (through range sphere) a b c
 
 -- The bracket <a, b, c> of classes a and b of the sphere's resolution q and c of r, in the square of its degree in row n + a.s, where n is
 -- one row below that of bc and l one below that of ab: the value is one of its values, by lifts and a null homotopy; it is zero at the
@@ -72,23 +55,16 @@ pub record HasZeroProduct (table sphere : Staircase) (range : Range) (a x : Clas
 
 -- where a bracket is, that ab and bc are zero, and what it is where the tables are those of the canonical resolutions in the range
 pub record IsBracketOver (table sphere : Staircase) (range : Range) (a b c : Class) (bracket : Bracket) : Type 0 where
-  pub a_place : Place
-  pub b_place : Place
-  pub c_place : Place
-  pub a_is : IsPlaceOf sphere range a a_place
-  pub b_is : IsPlaceOf sphere range b b_place
-  pub c_is : IsPlaceOf table range c c_place
-  pub inside : AreInside range a_place b_place c_place
-  pub s : bracket.s ≡ pos (a_place.s + b_place.s + c_place.s) -ℤ pos 1
-  pub t : bracket.t ≡ bottom_of table.resolved +ℤ pos (a_place.above + b_place.above + c_place.above)
+  pub s : bracket.s ≡ pos (a.s + b.s + c.s) -ℤ pos 1
+  pub t : bracket.t ≡ a.t +ℤ b.t +ℤ c.t
   pub widths : bracket.indeterminacy.cols ≡ length bracket.value
-  pub one_each : (row : ℕ) → suc row ≡ a_place.s + b_place.s + c_place.s →
-      length bracket.value ≡ count_of (resolution_of table) row (a_place.above + b_place.above + c_place.above)
+  pub one_each : (row above : ℕ) → suc row ≡ a.s + b.s + c.s → bracket.t ≡ bottom_of table.resolved +ℤ pos above →
+      length bracket.value ≡ count_of (resolution_of table) row above
   pub ab_zero : HasZeroProduct sphere sphere range a b
   pub bc_zero : HasZeroProduct table sphere range b c
-  pub is_bracket : IsCanonicalIn range table → IsCanonicalIn range sphere →
-      IsBracketOf (through range table) (through range sphere) (class_above a_place) (class_above b_place)
-      (class_above c_place) bracket.value bracket.indeterminacy.rows
+  pub is_bracket : IsCanonicalIn range table → IsCanonicalIn range sphere → (x y z : ClassAbove) →
+      IsAt (through range sphere) a x → IsAt (through range sphere) b y → IsAt (through range table) c z →
+      IsBracketOf (through range table) (through range sphere) x y z bracket.value bracket.indeterminacy.rows
 
 -- ab is not zero, for 0, or ab is zero and bc is not, for 1
 abbrev pub IsNonzero : Staircase → Staircase → Range → Class → Class → Class → ℕ → List Bool → Type 0
@@ -99,10 +75,7 @@ IsNonzero table sphere range a b c (suc (suc n)) product = ⊥
 
 -- why there is no bracket; want of memory needs no cause
 abbrev pub IsCause : Staircase → Staircase → Range → Class → Class → Class → MasseyFault → Type 0
-IsCause table sphere range a b c (NoClass which count) =
-    refusal_of table sphere range a b c ≡ Some (NoClass which count)
-IsCause table sphere range a b c (OutOfRange which s t) =
-    refusal_of table sphere range a b c ≡ Some (OutOfRange which s t)
 IsCause table sphere range a b c (Nonzero which product) =
     (refusal_of table sphere range a b c ≡ None) × IsNonzero table sphere range a b c which product
 IsCause table sphere range a b c Memory = Unit {0}
+IsCause table sphere range a b c refusal = refusal_of table sphere range a b c ≡ Some refusal

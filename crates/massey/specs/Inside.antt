@@ -13,12 +13,14 @@ use Rattle.lift_laws.specs.Lifts.{IsSphere, degree}
 use Rattle.lift_laws.specs.Products.{degree_of_class, coefficient_of, on_square, product_by, first_of}
 use Rattle.bracket_laws.specs.Brackets.{IsNullHomotopy, composed, top_of, IsBracketMember, IsIndeterminacy}
 use Rattle.chain_map.specs.declared.class.Class.{Class}
-use Rattle.chain_map.specs.Lifting.{LiftValues, resolution_of, map_of, IsLiftOver, row_values, AreChosen, target_of, next_goal, lowered_row}
+use Rattle.chain_map.specs.Lifting.{LiftValues, resolution_of, map_of, IsLiftOver, row_values, joined, AreChosen, target_of, next_goal, lowered_row}
 use Rattle.chain_map.specs.Classes.{through, range_refusal}
+use Rattle.yoneda.specs.declared.place.Place.{Place}
 use Rattle.yoneda.specs.Products.{class_above, IsPlaceIn, IsPlaceOf}
 use Rattle.massey.specs.declared.fault.MasseyFault.{MasseyFault}
+use Rattle.massey.specs.declared.fault.MasseyFault.TheVariants.{OutOfRange}
 use Rattle.massey.specs.declared.places.Places.{Places}
-use Rattle.massey.specs.Brackets.{past, AreInside, IsBracketOf}
+use Rattle.massey.specs.Brackets.{IsBracketOf}
 
 -- how many degrees the bracket is above the bottom, and ab, and bc
 abbrev pub above_of : Places → ℕ
@@ -32,6 +34,15 @@ above_bc p = p.b.above + p.c.above
 
 -- ---- places
 
+-- ab, bc and the bracket are in the range
+pub record AreInside (range : Range) (a b c : Place) : Type 0 where
+  pub ab_row : a.s + b.s ≤ range.s
+  pub ab_degree : a.above + b.above ≤ range.t
+  pub bc_row : b.s + c.s ≤ range.s
+  pub bc_degree : b.above + c.above ≤ range.t
+  pub row : a.s + b.s + c.s ≤ range.s + 1
+  pub degree : a.above + b.above + c.above ≤ range.t
+
 -- where the classes stand
 pub record AreFound (table sphere : Staircase) (range : Range) (a b c : Class) (places : Places) : Type 0 where
   pub a_is : IsPlaceOf sphere range a places.a
@@ -41,7 +52,7 @@ pub record AreFound (table sphere : Staircase) (range : Range) (a b c : Class) (
 -- what the fault names of places
 abbrev pub place_refusal : Staircase → Staircase → Range → Places → Option MasseyFault
 place_refusal table sphere range p =
-    range_refusal past range (through range table) (through range sphere) p.a.s p.b.s p.c.s
+    range_refusal OutOfRange range (through range table) (through range sphere) p.a.s p.b.s p.c.s
     (bottom_of sphere.resolved +ℤ pos (p.a.above + p.b.above))
     (bottom_of table.resolved +ℤ pos (p.b.above + p.c.above))
     (bottom_of table.resolved +ℤ pos (p.a.above + p.b.above + p.c.above))
@@ -129,7 +140,7 @@ pub record AreMapsOf (table sphere : Staircase) (p : Places) (n k : ℕ) (beta_b
 -- the values of beta_k on the generators of its row through the degree of ab
 abbrev pub beta_values : Staircase → Places → LiftValues → ℕ → List (List Bool)
 beta_values sphere p beta k =
-    take (first_of (resolution_of sphere) (p.b.s + k) (above_ab p + 1)) (row_values beta k).vectors
+    take (first_of (resolution_of sphere) (p.b.s + k) (above_ab p + 1)) (joined (row_values beta k))
 
 -- What d has to take the value of H_(k+1) on generator g of row n + k + 1 to, where beta_k and H_k have these values: beta_k on the
 -- value of gamma, and H_k on d of the generator.
@@ -155,11 +166,3 @@ AreNext table sphere p n beta gamma k below vectors =
 abbrev pub zero_map : Staircase → Staircase → Places → ℕ → List (List Bool)
 zero_map table sphere p n = map (λ d. zeros (free_width (target_of sphere 0 (p.a.above + 1)) d))
     (lowered_row table n (above_of p + 1) (above_bc p))
-
--- the maps through H_k, with the values of the last of them
-pub record AreMaps (table sphere : Staircase) (p : Places) (n : ℕ) (beta gamma : LiftValues) (k : ℕ)
-    (last : List (List Bool)) : Type 0 where
-  pub maps : ℕ → List (List Bool)
-  pub here : maps k ≡ last
-  pub first : maps 0 ≡ zero_map table sphere p n
-  pub next : (j : ℕ) → j < k → AreNext table sphere p n beta gamma j (maps j) (maps (suc j))

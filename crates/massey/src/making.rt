@@ -6,7 +6,7 @@ ghost use Rattle.f2_vec.specs.Spans.{HaveWidth};
 ghost use Rattle.square.specs.Squares.{bottom_of};
 ghost use Rattle.square.specs.Tables.{IsThrough};
 ghost use Rattle.lift_laws.specs.Lifts.{IsSphere};
-ghost use Rattle.lift_laws.specs.Products.{count_of, product_by, on_square, coefficient_of};
+ghost use Rattle.lift_laws.specs.Products.{count_of, product_by};
 ghost use Rattle.chain_map.specs.Lifting.{resolution_of, IsCanonicalIn, map_of, IsLiftOver};
 ghost use Rattle.yoneda.specs.Products.{class_above, IsPlaceOf, AreProducts};
 ghost use Rattle.massey.specs.Brackets.{refusal_of, IsBracketOver, IsCause};
@@ -15,7 +15,7 @@ ghost use Rattle.massey.specs.Inside.{above_of, above_ab, above_bc, IsSetting, A
 use crate::answer::Bracket;
 use crate::fault::MasseyFault;
 use crate::homotopy::last_map;
-use crate::places::places_of;
+use crate::places::{Places, places_of};
 use crate::setting::Setting;
 use bracket_laws::{bracket_is_coset, units_have_no_zero_products};
 use chain_map::{Class, Lift, lift};
@@ -27,7 +27,7 @@ use memory::Memory;
 use resolution_laws::canonical_table_is_minimal_resolution;
 use square::{Range, Table};
 use std::alloc::Global;
-use yoneda::{Place, coefficients, products};
+use yoneda::{Place, coefficients, product_by_lift, products};
 
 /// The bracket <a, b, c> of the classes a and b of the sphere with the class c of the module, where ab and bc are zero: the values that lifts of b
 /// and c and null homotopies give, in the square (a.s + b.s + c.s - 1, a.t + b.t + c.t), are one of them and the indeterminacy, which is spanned by
@@ -63,7 +63,8 @@ pub fn bracket(
         places,
     };
     let beta = lift_of_b(alloc, &setting, b)?;
-    let ab = first_product(alloc, &setting, &beta)?;
+    let (s, above) = (places.b.s + places.a.s, places.a.above + places.b.above);
+    let ab = product_by_lift(alloc, sphere, sphere, &beta, places.a, s, above)?;
     if !ab.is_zero() {
         return Err(MasseyFault::Nonzero {
             which: 0,
@@ -71,7 +72,8 @@ pub fn bracket(
         });
     }
     let gamma = lift_of_c(alloc, &setting, c)?;
-    let bc = second_product(alloc, &setting, &gamma)?;
+    let (s, above) = (places.c.s + places.b.s, places.b.above + places.c.above);
+    let bc = product_by_lift(alloc, table, sphere, &gamma, places.b, s, above)?;
     if !bc.is_zero() {
         return Err(MasseyFault::Nonzero {
             which: 1,
@@ -173,49 +175,6 @@ fn empty(alloc: Global, setting: &Setting<'_>) -> Result<Bracket, Memory>
         value: BitVec::zero(alloc, count)?,
         indeterminacy: Matrix::from_rows(count, Vec::new(alloc)),
     })
-}
-
-/// ab, by a lift of b.
-fn first_product(alloc: Global, setting: &Setting<'_>, beta: &Lift) -> Result<BitVec, Memory>
-    requires setting { IsSetting setting.now.table.now setting.now.sphere.now setting.now.range setting.now.places }
-    requires lift { IsLiftOver setting.now.sphere.now setting.now.sphere.now setting.now.places.b.s
-        setting.now.places.b.above setting.now.places.b.i setting.now.places.a.s beta.now }
-    ensures { IfOk result (λ v. v ≡ product_by (resolution_of setting.now.sphere.now)
-        (resolution_of setting.now.sphere.now) (class_above setting.now.places.a) (map_of beta.now)
-        (setting.now.places.b.s + setting.now.places.a.s) (above_ab setting.now.places)) }
-{
-    let places = setting.places;
-    coefficients(
-        alloc,
-        setting.sphere,
-        setting.sphere,
-        beta.vectors(places.a.s),
-        places.a,
-        places.b.s + places.a.s,
-        setting.above_ab(),
-    )
-}
-
-/// bc, by a lift of c.
-fn second_product(alloc: Global, setting: &Setting<'_>, gamma: &Lift) -> Result<BitVec, Memory>
-    requires setting { IsSetting setting.now.table.now setting.now.sphere.now setting.now.range setting.now.places }
-    requires lift { IsLiftOver setting.now.table.now setting.now.sphere.now setting.now.places.c.s
-        setting.now.places.c.above setting.now.places.c.i (setting.now.places.b.s + (setting.now.places.a.s - 1))
-        gamma.now }
-    ensures { IfOk result (λ v. v ≡ product_by (resolution_of setting.now.table.now)
-        (resolution_of setting.now.sphere.now) (class_above setting.now.places.b) (map_of gamma.now)
-        (setting.now.places.c.s + setting.now.places.b.s) (above_bc setting.now.places)) }
-{
-    let places = setting.places;
-    coefficients(
-        alloc,
-        setting.table,
-        setting.sphere,
-        gamma.vectors(places.b.s),
-        places.b,
-        places.c.s + places.b.s,
-        setting.above_bc(),
-    )
 }
 
 /// The bracket, by lifts of b and c.
@@ -361,18 +320,19 @@ fn lower_row(
     ensures { IfOk result
         (λ v. v ≡ lower_product setting.now.table.now setting.now.sphere.now setting.now.places gamma.now l i) }
 {
+    let Places { a, b, c } = setting.places;
     let y = Place {
         s: l,
-        above: setting.above_ab(),
+        above: a.above + b.above,
         i,
     };
-    coefficients(
+    product_by_lift(
         alloc,
         setting.table,
         setting.sphere,
-        gamma.vectors(l),
+        gamma,
         y,
-        setting.places.c.s + l,
-        setting.above(),
+        c.s + l,
+        a.above + b.above + c.above,
     )
 }

@@ -6,8 +6,9 @@ ghost use Rattle.lift_laws.specs.Lifts.{IsSphere};
 ghost use Rattle.chain_map.specs.Lifting.{resolution_of};
 ghost use Rattle.chain_map.specs.Classes.{through, no_class, out_of_range, class_refusal};
 ghost use Rattle.yoneda.specs.Products.{IsPlaceIn, IsPlaceOf};
-ghost use Rattle.massey.specs.Brackets.{absent, past, refusal_of, AreInside};
-ghost use Rattle.massey.specs.Inside.{place_refusal, AreFound, IsSetting};
+ghost use Rattle.massey.specs.Brackets.{refusal_of};
+ghost use Rattle.massey.specs.declared.fault.MasseyFault.TheVariants.{NoClass, OutOfRange};
+ghost use Rattle.massey.specs.Inside.{place_refusal, AreFound, AreInside, IsSetting};
 
 use crate::fault::MasseyFault;
 use chain_map::Class;
@@ -57,9 +58,9 @@ fn classes_of(
     requires table { IsThrough range table.now.rows }
     requires sphere_table { IsThrough range sphere.now.rows }
     ensures made { OnOk result
-        (class_refusal absent (through range table.now) (through range sphere.now) a b c ≡ None) }
+        (class_refusal NoClass (through range table.now) (through range sphere.now) a b c ≡ None) }
     ensures refused { IfErr result
-        (λ e. class_refusal absent (through range table.now) (through range sphere.now) a b c ≡ Some e) }
+        (λ e. class_refusal NoClass (through range table.now) (through range sphere.now) a b c ≡ Some e) }
     ensures found { IfOk result (AreFound table.now sphere.now range a b c) }
     ensures is_table { OnOk result (IsTable table.now) }
     ensures is_sphere_table { OnOk result (IsTable sphere.now) }
@@ -99,8 +100,8 @@ fn are_inside(
 /// Where the class stands in the table, or that it does not.
 fn found(table: &Table, range: Range, class: Class, which: u8) -> Result<Place, MasseyFault>
     requires { IsThrough range table.now.rows }
-    ensures found { OnOk result (no_class (absent which) (through range table.now) class ≡ None) }
-    ensures missing { IfErr result (λ e. no_class (absent which) (through range table.now) class ≡ Some e) }
+    ensures found { OnOk result (no_class (NoClass which) (through range table.now) class ≡ None) }
+    ensures missing { IfErr result (λ e. no_class (NoClass which) (through range table.now) class ≡ Some e) }
     ensures there { IfOk result (IsPlaceOf table.now range class) }
     ensures is_table { OnOk result (IsTable table.now) }
 {
@@ -113,10 +114,10 @@ fn found(table: &Table, range: Range, class: Class, which: u8) -> Result<Place, 
 /// Checks that the square in row `rows - 1`, `above` degrees above the bottom, lies in the range. Rows are compared as
 /// signed numbers, so classes that are all in row 0 are refused for ab, which is not zero, and not for the row -1.
 fn within(table: &Table, range: Range, which: u8, rows: u16, above: u16) -> Result<(), MasseyFault>
-    ensures within { OnOk result (out_of_range (past which) range (through range table.now) (pos rows -ℤ pos 1)
+    ensures within { OnOk result (out_of_range (OutOfRange which) range (through range table.now) (pos rows -ℤ pos 1)
         (bottom_of table.now.resolved +ℤ pos above) ≡ None) }
-    ensures past { IfErr result (λ e. out_of_range (past which) range (through range table.now) (pos rows -ℤ pos 1)
-        (bottom_of table.now.resolved +ℤ pos above) ≡ Some e) }
+    ensures past { IfErr result (λ e. out_of_range (OutOfRange which) range (through range table.now)
+        (pos rows -ℤ pos 1) (bottom_of table.now.resolved +ℤ pos above) ≡ Some e) }
     ensures row { OnOk result (rows ≤ range.s + 1) }
     ensures degree { OnOk result (above ≤ range.t) }
 {

@@ -25,8 +25,7 @@ row_part values first end i h l =
 
 pub length_part : (values : List (List Bool)) (first end : ℕ) → first ≤ end → end ≤ length values → length (take (end - first) (drop first values)) ≡ end - first
 length_part values first end h l =
-    let d = length-drop first values in
-    length-take-le (end - first) (drop first values) (omega arith)
+    length-take-le (end - first) (drop first values) (omega (arith, length-drop first values))
 
 pub coefficients_are : (values : List (List Bool)) (first count back old new i : ℕ) → first + count ≤ length values → ((j : ℕ) → j < count → length (row values (first + j)) ≡ old + new) → i < new → back ≡ new - i → map (coefficients_back back) (take ((first + count) - first) (drop first values)) ≡ map (λ j. bit (row values (first + j)) (old + i)) (range_with_len 0 count)
 coefficients_are values first count back old new i h wide l e =
@@ -73,7 +72,6 @@ module _ (table sphere : Staircase) (a : Place) (s above : ℕ) (values : List (
 
   pub coefficients_on : map (coefficients_back (new - a.i)) (take ((first + count) - first) (drop first values)) ≡ on_square (resolution_of table) s above (λ g. coefficient_of (resolution_of sphere) (class_above a) (row values g))
   coefficients_on =
-      let inside = there.generator in
-      coefficients_are values first count (new - a.i) old new a.i enough wide (omega arith) refl
+      coefficients_are values first count (new - a.i) old new a.i enough wide (omega (arith, there.generator)) refl
       ∙ (ap (λ (n : ℕ). map (λ j. bit (row values (n + j)) (old + a.i)) (range_with_len 0 count)) first_is
       ∙ ap (λ (n : ℕ). map (λ j. bit (row values (first_of (resolution_of table) s above + j)) (old + a.i)) (range_with_len 0 n)) count_is)

@@ -11,8 +11,8 @@ use Rattle.square.proofs.Places.{length-row_of}
 use Rattle.lift_laws.specs.Lifts.{IsSphere, gens, degree}
 use Rattle.lift_laws.specs.Products.{first_of}
 use Rattle.chain_map.specs.declared.class.Class.{Class}
-use Rattle.chain_map.specs.Lifting.{RowValues, LiftValues, resolution_of, row_values, shifted_length, degrees_through, AreValues, IsLiftOver}
-use Rattle.chain_map.proofs.Generators.{is_number, first_of-more, images_taken}
+use Rattle.chain_map.specs.Lifting.{LiftValues, resolution_of, row_values, joined, shifted_length, degrees_through, AreValues, IsLiftOver}
+use Rattle.chain_map.proofs.Generators.{is_number, first_of-more, length-joined, images_taken}
 use Rattle.yoneda.specs.declared.place.Place.{Place}
 use Rattle.yoneda.specs.Products.{IsPlaceOf, AreOnSquare}
 
@@ -20,22 +20,23 @@ pub shifted_length-positive : (above n : ℕ) → 0 < n → shifted_length above
 shifted_length-positive above zero h = absurd (omega arith)
 shifted_length-positive above (suc n) h = refl
 
--- a lift of x goes through the degree of its product with a
-pub goes_through : (table sphere : Staircase) (a x : Place) → a.above + x.above < length (row_in table.rows (x.s + a.s)) → a.above < length (row_in sphere.rows a.s) → a.above + x.above < degrees_through table sphere x.s x.above a.s
-goes_through table sphere a x h l =
-    let e = shifted_length-positive x.above (length (row_in sphere.rows a.s)) (omega arith) in
-    omega arith
+-- a lift over tables with the range goes through its degrees
+pub reaches : (table sphere : Staircase) (range : Range) → IsThrough range table.rows → IsThrough range sphere.rows → (s above upto at : ℕ) → s + upto ≤ range.s → at ≤ range.t → at < degrees_through table sphere s above upto
+reaches table sphere range whole whole_q s above upto at rows small =
+    let long = whole_q upto (omega arith) in
+    let e = shifted_length-positive above (length (row_in sphere.rows upto)) (omega arith) in
+    omega (arith, whole (s + upto) rows)
 
-pub on_square_of : (table sphere : Staircase) → IsSphere (resolution_of sphere) → (a x : Place) (n : ℕ) (v : RowValues) → AreValues table sphere x.s (bottom_of table.resolved +ℤ pos x.above) n a.s v → a.above + x.above < n → a.above + x.above < length (row_in table.rows (x.s + a.s)) → AreOnSquare table sphere a (x.s + a.s) (a.above + x.above) v.vectors
+pub on_square_of : (table sphere : Staircase) → IsSphere (resolution_of sphere) → (a x : Place) (n : ℕ) (v : List (List (List Bool))) → AreValues table sphere x.s (bottom_of table.resolved +ℤ pos x.above) n a.s v → a.above + x.above < n → a.above + x.above < length (row_in table.rows (x.s + a.s)) → AreOnSquare table sphere a (x.s + a.s) (a.above + x.above) (joined v)
 on_square_of table sphere is_sphere a x n v values far there =
     let r = resolution_of table in
     let i = x.s + a.s in
     let at = a.above + x.above in
     let same = length-row_of table.rows i in
     let long : at < length (row_of r.table i) = omega arith in
-    let more = first_of-more r i at long in
+    let more = first_of-more r i at in
     let fewer = images_taken (row_of r.table i) (at + 1) n (omega arith) in
-    let one = values.one_each in
+    let one = length-joined table i n v values.one_each in
     let bottom = is_sphere.bottom in
     record {
       enough = omega arith;
@@ -51,24 +52,25 @@ lift_at table sphere range class x upto lift is l =
     let P : ℕ → Type 0 = λ s. IsLiftOver table sphere s x.above class.i upto lift in
     subst (λ (i : ℕ). IsLiftOver table sphere x.s x.above i upto lift) is.number (subst P is.row l)
 
--- what the lift of x has for its product with a
-pub record HasRow (table sphere : Staircase) (a x : Place) (lift : LiftValues) : Type 0 where
+-- what a lift of x has for its product with a
+pub record HasRow (table sphere : Staircase) (a x : Place) (upto : ℕ) (lift : LiftValues) : Type 0 where
   pub there : a.above + x.above < length (row_in table.rows (x.s + a.s))
-  pub far : a.above + x.above < degrees_through table sphere x.s x.above a.s
+  pub far : a.above + x.above < degrees_through table sphere x.s x.above upto
   pub row : a.s < length lift.rows
-  pub on_square : AreOnSquare table sphere a (x.s + a.s) (a.above + x.above) (row_values lift a.s).vectors
+  pub on_square : AreOnSquare table sphere a (x.s + a.s) (a.above + x.above) (joined (row_values lift a.s))
 
-pub has_row : (table sphere : Staircase) (range : Range) → IsThrough range table.rows → IsSphere (resolution_of sphere) → (a x : Place) (upto : ℕ) (lift : LiftValues) → a.above < length (row_in sphere.rows a.s) → a.s + x.s ≤ range.s → a.above + x.above ≤ range.t → upto ≡ a.s → IsLiftOver table sphere x.s x.above x.i upto lift → HasRow table sphere a x lift
-has_row table sphere range through is_sphere a x upto lift there rows degrees e l =
-    let p = through (x.s + a.s) (omega arith) in
-    let far = goes_through table sphere a x (omega arith) (omega arith) in
-    let lifted : IsLiftOver table sphere x.s x.above x.i a.s lift = subst (λ (k : ℕ). IsLiftOver table sphere x.s x.above x.i k lift) e l in
-    let count = lifted.rows (omega arith) in
+pub has_row : (table sphere : Staircase) (range : Range) → IsThrough range table.rows → IsSphere (resolution_of sphere) → (a x : Place) (upto : ℕ) (lift : LiftValues) → a.above < length (row_in sphere.rows upto) → x.s + upto ≤ range.s → a.above + x.above ≤ range.t → a.s ≤ upto → IsLiftOver table sphere x.s x.above x.i upto lift → HasRow table sphere a x upto lift
+has_row table sphere range through is_sphere a x upto lift there rows degrees enough l =
+    let last = through (x.s + upto) rows in
+    let here = through (x.s + a.s) (omega arith) in
+    let e = shifted_length-positive x.above (length (row_in sphere.rows upto)) (omega arith) in
+    let far : a.above + x.above < degrees_through table sphere x.s x.above upto = omega arith in
+    let count = l.rows (omega arith) in
     record {
       there = omega arith;
       far = far;
       row = omega arith;
-      on_square = on_square_of table sphere is_sphere a x (degrees_through table sphere x.s x.above a.s) (row_values lift a.s) (lifted.values a.s (omega arith)) far (omega arith);
+      on_square = on_square_of table sphere is_sphere a x (degrees_through table sphere x.s x.above upto) (row_values lift a.s) (l.values a.s (omega arith)) far (omega arith);
     }
 
 -- one row more

@@ -13,12 +13,12 @@ use Rattle.lift_laws.specs.Lifts.{Resolution, IsCanonical, IsSphere, IsLift, dua
 use Rattle.lift_laws.specs.Products.{Class, first_of, count_of, coefficient_of, on_square, product_by, degree_of_class, number_of, IsLiftOfClass, LiftsGiveOneProduct}
 use Rattle.lift_laws.proofs.ChainMaps.{IsLift-less}
 use Rattle.chain_map.specs.declared.class.Class.{Class as Named}
-use Rattle.chain_map.specs.Lifting.{LiftValues, no_lift, resolution_of, AreCanonical, IsCanonicalIn, row_values, map_of, greatest, AreReached, IsLiftOver}
-use Rattle.chain_map.specs.Classes.{through}
+use Rattle.chain_map.specs.Lifting.{LiftValues, no_lift, resolution_of, AreCanonical, IsCanonicalIn, row_values, joined, map_of, greatest, AreReached, IsLiftOver}
+use Rattle.chain_map.specs.Classes.{through, IsAt}
 use Rattle.chain_map.proofs.Resolved.{is_canonical}
 use Rattle.yoneda.specs.declared.place.Place.{Place}
 use Rattle.yoneda.specs.Products.{class_above, IsPlaceOf, IsThere, IsGivenBy, IsYonedaProduct, IsProductThrough, IsProductOver, ArePlacesOf, AreProducts}
-use Rattle.yoneda.proofs.Lifted.{HasRow, has_row}
+use Rattle.yoneda.proofs.Lifted.{HasRow, has_row, reaches}
 use Rattle.yoneda.proofs.Through.{count_through, product_through, class_through}
 
 pub place_there : (sphere : Staircase) (range : Range) (class : Named) (a : Place) → IsThrough range sphere.rows → IsPlaceOf sphere range class a → IsThere sphere a
@@ -26,6 +26,9 @@ place_there sphere range class a whole is = record {
   square = let row = whole a.s is.inside.row_within in let degree = is.inside.degree_within in omega arith;
   generator = is.inside.generator;
 }
+
+pub at_place : (table : Staircase) (range : Range) (class : Named) (place : Place) → IsPlaceOf table range class place → IsAt (through range table) class (class_above place)
+at_place table range class place is = record { row = is.row; degree = is.degree; number = is.number }
 
 -- fewer squares of canonical ones
 pub canonical_less : (table : Staircase) (s n i k : ℕ) → AreCanonical table s n → i ≤ s → k ≤ n → AreCanonical table i k
@@ -93,30 +96,33 @@ module _ (one : LiftsGiveOneProduct) (modules : ModulesAreSteenrodModules) (tabl
     (gives : v ≡ product_by (resolution_of table) (resolution_of sphere) (class_above a) (map_of lift) (x.s + a.s) (a.above + x.above)) where
   pub product_of : IsProductThrough table sphere (class_above a) (class_above x) v
   product_of near far near_whole far_whole row degree a_row a_degree are are_q =
-      let made = has_row table sphere range whole is_sphere a x a.s lift a_there.square rows degrees refl lifted in
+      let made = has_row table sphere range whole is_sphere a x a.s lift a_there.square (omega (arith, rows)) degrees (omega arith) lifted in
       let reached = made.far in
       let square = a_there.square in
       product_of_lift one modules table sphere h hq is_sphere a x a_there v a.s (a.above + 1) lift (omega arith) lifted
       (record { within = omega arith; some = λ m. omega arith; there = omega arith; enough = omega arith }) gives near far near_whole far_whole row degree a_row (omega arith) are are_q
 
-pub product_over : LiftsGiveOneProduct → ModulesAreSteenrodModules → (table sphere : Staircase) → IsTable table → IsTable sphere → (range : Range) → IsThrough range table.rows → IsThrough range sphere.rows → IsSphere (resolution_of sphere) → (a_class x_class : Named) (a x : Place) → ArePlacesOf table sphere range a_class x_class a x
-    → (lift : LiftValues) → IsLiftOver table sphere x.s x.above x.i a.s lift → (values : List (List Bool)) (v : List Bool) → values ≡ (row_values lift a.s).vectors
-    → v ≡ on_square (resolution_of table) (x.s + a.s) (a.above + x.above) (λ g. coefficient_of (resolution_of sphere) (class_above a) (row values g)) → IsProductOver table sphere range a_class x_class v
-product_over one modules table sphere h hq range whole whole_q is_sphere a_class x_class a x p lift lifted values v values_are gives =
-    let r = resolution_of table in
-    let q = resolution_of sphere in
-    let by_lift : v ≡ product_by r q (class_above a) (map_of lift) (x.s + a.s) (a.above + x.above) = gives ∙ ap (λ (w : List (List Bool)). on_square r (x.s + a.s) (a.above + x.above) (λ g. coefficient_of q (class_above a) (row w g))) values_are in
-    record {
-      a_place = a;
-      x_place = x;
-      places = p;
-      one_each = ap length gives ∙ length-map-range_with_len (λ j. coefficient_of q (class_above a) (row values (first_of r (x.s + a.s) (a.above + x.above) + j))) 0 (count_of r (x.s + a.s) (a.above + x.above));
-      product = λ all all_q.
-          let row = p.row_within in
-          let degree = p.degree_within in
-          product_of one modules table sphere h hq range whole is_sphere a x (place_there sphere range a_class a whole_q p.a_is) p.row_within p.degree_within lift lifted v by_lift
-          range range whole whole_q (omega arith) (omega arith) (omega arith) (omega arith) all all_q;
-    }
+module _ (one : LiftsGiveOneProduct) (modules : ModulesAreSteenrodModules)
+    (table sphere : Staircase) (h : IsTable table) (hq : IsTable sphere) (range : Range) (whole : IsThrough range table.rows) (whole_q : IsThrough range sphere.rows) (is_sphere : IsSphere (resolution_of sphere))
+    (a_class x_class : Named) (a x : Place) (places : ArePlacesOf table sphere range a_class x_class a x) (upto : ℕ) (enough : a.s ≤ upto) (rows : x.s + upto ≤ range.s)
+    (lift : LiftValues) (lifted : IsLiftOver table sphere x.s x.above x.i upto lift) (v : List Bool) (gives : v ≡ product_by (resolution_of table) (resolution_of sphere) (class_above a) (map_of lift) (x.s + a.s) (a.above + x.above)) where
+  is_product : IsCanonicalIn range table → IsCanonicalIn range sphere → IsYonedaProduct (through range table) (through range sphere) (class_above a) (class_above x) v
+  is_product all all_q =
+      let row = places.row_within in
+      let small = places.degree_within in
+      let there = whole_q upto (omega arith) in
+      let far = reaches table sphere range whole whole_q x.s x.above upto (a.above + x.above) rows small in
+      product_of_lift one modules table sphere h hq is_sphere a x (place_there sphere range a_class a whole_q places.a_is) v upto (range.t + 1) lift enough lifted
+      (record { within = omega arith; some = λ m. omega arith; there = omega arith; enough = omega arith }) gives range range whole whole_q rows small (omega arith) (omega arith) all all_q
+
+  pub product_by_lift : IsProductOver table sphere range a_class x_class v
+  product_by_lift = record {
+    a_place = a;
+    x_place = x;
+    places = places;
+    one_each = ap length gives ∙ length-map-range_with_len (λ j. coefficient_of (resolution_of sphere) (class_above a) (map_of lift a.s (first_of (resolution_of table) (x.s + a.s) (a.above + x.above) + j))) 0 (count_of (resolution_of table) (x.s + a.s) (a.above + x.above));
+    product = is_product;
+  }
 
 -- ---- the products that a call made
 
@@ -131,8 +137,8 @@ module _ (one : LiftsGiveOneProduct) (modules : ModulesAreSteenrodModules) (tabl
   abbrev place : ℕ → Place
   place j = record { s = s; above = above; i = j }
 
-  pub row_made : (j : ℕ) → j < length lifts → HasRow table sphere a (place j) (slice_index_or lifts j no_lift)
-  row_made j l = has_row table sphere range whole is_sphere a (place j) a.s (slice_index_or lifts j no_lift) a_there.square rows degrees refl (lifted j l)
+  pub row_made : (j : ℕ) → j < length lifts → HasRow table sphere a (place j) a.s (slice_index_or lifts j no_lift)
+  row_made j l = has_row table sphere range whole is_sphere a (place j) a.s (slice_index_or lifts j no_lift) a_there.square (omega (arith, rows)) degrees (omega arith) (lifted j l)
 
   abbrev product : LiftValues → List Bool
   product lift = product_by (resolution_of table) (resolution_of sphere) (class_above a) (map_of lift) (s + a.s) (a.above + above)

@@ -17,13 +17,6 @@ use Rattle.yoneda.specs.declared.place.Place.{Place}
 use Rattle.yoneda.specs.declared.fault.YonedaFault.{YonedaFault}
 use Rattle.yoneda.specs.declared.fault.YonedaFault.TheVariants.{NoClass, OutOfRange}
 
--- (s, t) is the square p.1 above the bottom in row p.0, in the range
-pub record IsInsideAt (table : Staircase) (range : Range) (s : ℕ) (t : ℤ) (p : ℕ × ℕ) : Type 0 where
-  pub row : s ≡ p.0
-  pub degree : t ≡ bottom_of table.resolved +ℤ pos p.1
-  pub row_within : p.0 ≤ range.s
-  pub degree_within : p.1 ≤ range.t
-
 -- the table has a generator at the place, which is within the range and the limits of ranges
 pub record IsPlaceIn (table : Staircase) (range : Range) (place : Place) : Type 0 where
   pub row_within : place.s ≤ range.s
@@ -53,9 +46,9 @@ class_above place = record { s = place.s; above = place.above; i = place.i }
 -- The first of: a is no class of the sphere's table through the range, nor x of the module's; the product passes the range.
 abbrev pub refusal_of : Staircase → Staircase → Range → Class → Class → Option YonedaFault
 refusal_of table sphere range a x =
-    option_or (no_class (λ n. NoClass 0 n) (through range sphere) a)
-    (option_or (no_class (λ n. NoClass 1 n) (through range table) x)
-    (out_of_range (λ s t. OutOfRange s t) range (through range table) (pos (a.s + x.s)) (a.t +ℤ x.t)))
+    option_or (no_class (NoClass 0) (through range sphere) a)
+    (option_or (no_class (NoClass 1) (through range table) x)
+    (out_of_range OutOfRange range (through range table) (pos (a.s + x.s)) (a.t +ℤ x.t)))
 
 -- ---- products
 

@@ -9,4 +9,4 @@ mod values;
 pub use fault::YonedaFault;
 pub use multiply::{product, products};
 pub use place::{Place, known, place_of};
-pub use values::coefficients;
+pub use values::{coefficients, product_by_lift};

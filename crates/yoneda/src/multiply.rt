@@ -4,7 +4,7 @@ ghost use Rattle.f2_vec.specs.Spans.{HaveWidth};
 ghost use Rattle.square.specs.Tables.{row_in, IsTable, IsThrough};
 ghost use Rattle.lift_laws.specs.Lifts.{IsSphere};
 ghost use Rattle.lift_laws.specs.Products.{count_of, product_by};
-ghost use Rattle.chain_map.specs.Lifting.{resolution_of, row_values, no_lift, map_of};
+ghost use Rattle.chain_map.specs.Lifting.{resolution_of, row_values, joined, no_lift, map_of};
 ghost use Rattle.chain_map.specs.Classes.{through, no_class};
 ghost use Rattle.yoneda.specs.Products.{class_above, IsPlaceOf, IsThere, refusal_of, ArePlacesOf, IsProductOver, AreProducts, AreOnSquare};
 ghost use Rattle.yoneda.specs.declared.fault.YonedaFault as YonedaFault;
@@ -12,7 +12,7 @@ ghost use Rattle.yoneda.specs.declared.fault.YonedaFault.TheVariants.{NoClass, M
 
 use crate::fault::YonedaFault;
 use crate::place::{Place, known, place_of};
-use crate::values::coefficients;
+use crate::values::product_by_lift;
 use chain_map::{Class, Lift, lift, lifts};
 use f2_vec::BitVec;
 use finite_module::modules_are_graded_modules;
@@ -49,7 +49,7 @@ pub fn product(
     let s = second.s + first.s;
     let above = first.above + second.above;
     let lift = lift(alloc, table, sphere, x, first.s)?;
-    let product = coefficients(alloc, table, sphere, lift.vectors(first.s), first, s, above)?;
+    let product = product_by_lift(alloc, table, sphere, &lift, first, s, above)?;
     Ok(product)
 }
 
@@ -108,14 +108,14 @@ fn products_by(
     requires square { above < length (row_in table.now.rows s) }
     requires rows { (j : ℕ) → j < length lifts.now → a.s < length (slice_index_or lifts.now j no_lift).rows }
     requires values { (j : ℕ) → j < length lifts.now →
-        AreOnSquare table.now sphere.now a s above (row_values (slice_index_or lifts.now j no_lift) a.s).vectors }
+        AreOnSquare table.now sphere.now a s above (joined (row_values (slice_index_or lifts.now j no_lift) a.s)) }
     ensures { IfOk result (λ rows. rows.items ≡ map
         (λ lift. product_by (resolution_of table.now) (resolution_of sphere.now) (class_above a) (map_of lift) s above)
         lifts.now) }
 {
     let mut rows = Vec::new(alloc);
     for lift in lifts {
-        rows.push(coefficients(alloc, table, sphere, lift.vectors(a.s), a, s, above)?)?;
+        rows.push(product_by_lift(alloc, table, sphere, lift, a, s, above)?)?;
     }
     Ok(rows)
 }
@@ -153,8 +153,8 @@ fn places(
 /// Where the class stands in the table, or that it does not.
 fn found(table: &Table, range: Range, class: Class, which: u8) -> Result<Place, YonedaFault>
     requires { IsThrough range table.now.rows }
-    ensures found { OnOk result (no_class (λ n. NoClass which n) (through range table.now) class ≡ None) }
-    ensures missing { IfErr result (λ e. no_class (λ n. NoClass which n) (through range table.now) class ≡ Some e) }
+    ensures found { OnOk result (no_class (NoClass which) (through range table.now) class ≡ None) }
+    ensures missing { IfErr result (λ e. no_class (NoClass which) (through range table.now) class ≡ Some e) }
     ensures there { IfOk result (IsPlaceOf table.now range class) }
     ensures is_table { OnOk result (IsTable table.now) }
 {

@@ -1,11 +1,10 @@
 //! Where a class stands in a table.
-ghost use Rattle.std.specs.Prelude.{◌≡◌, ◌≤ℤ◌, ℕ, neg_ℤ, MatchOption, IfOk, IfErr, OnOk, None, Some};
-ghost use Rattle.degrees.specs.Above.{above_of as above};
+ghost use Rattle.std.specs.Prelude.{◌≡◌, ◌≤ℤ◌, neg_ℤ, IfOk, IfErr, OnOk, None, Some};
 ghost use Rattle.module_json.specs.declared.limits.TheConstants.{MAX_DEGREE};
 ghost use Rattle.square.specs.Squares.{bottom_of};
 ghost use Rattle.square.specs.Tables.{IsTable, IsThrough};
 ghost use Rattle.chain_map.specs.Classes.{through, missing_in};
-ghost use Rattle.yoneda.specs.Products.{IsInsideAt, IsPlaceOf};
+ghost use Rattle.yoneda.specs.Products.{IsPlaceOf};
 
 use chain_map::Class;
 use degrees::above_of;
@@ -31,9 +30,13 @@ pub fn place_of(table: &Table, range: Range, class: Class) -> Result<Place, usiz
     ensures place { IfOk result (IsPlaceOf table.now range class) }
     ensures is_table { OnOk result (IsTable table.now) }
 {
-    let Some((s, above)) = inside(table, range, class.s, class.t) else {
+    let Some(above) = above_of(table.module().bottom(), class.t) else {
         return Err(0);
     };
+    if class.s > u32::from(range.s) || above > u64::from(range.t) {
+        return Err(0);
+    }
+    let (s, above) = (class.s as u16, above as u16);
     let count = table.images_of(s, above).len();
     if class.i < count {
         Ok(Place {
@@ -44,18 +47,6 @@ pub fn place_of(table: &Table, range: Range, class: Class) -> Result<Place, usiz
     } else {
         Err(count)
     }
-}
-
-/// Row `s`, and how many degrees `t` is above the bottom, where the square (s, t) is in the range.
-fn inside(table: &Table, range: Range, s: u32, t: i32) -> Option<(u16, u16)>
-    ensures { MatchOption result ((p : ℕ × ℕ) → IsInsideAt table.now range s t p → ⊥)
-        (IsInsideAt table.now range s t) }
-{
-    let above = above_of(table.module().bottom(), t)?;
-    if s > u32::from(range.s) || above > u64::from(range.t) {
-        return None;
-    }
-    Some((s as u16, above as u16))
 }
 
 /// Hands what holds of every table to the proof of whoever calls it.

@@ -5,11 +5,12 @@ ghost use Rattle.f2_vec.specs.Spans.{row};
 ghost use Rattle.resolution_laws.specs.Resolution.{row_of, degrees_from};
 ghost use Rattle.square.specs.Squares.{bottom_of};
 ghost use Rattle.square.specs.Tables.{row_in, plain_rows};
-ghost use Rattle.lift_laws.specs.Products.{coefficient_of, first_of, on_square};
-ghost use Rattle.chain_map.specs.Lifting.{resolution_of};
+ghost use Rattle.lift_laws.specs.Products.{coefficient_of, first_of, on_square, product_by};
+ghost use Rattle.chain_map.specs.Lifting.{resolution_of, row_values, joined, map_of};
 ghost use Rattle.yoneda.specs.Products.{class_above, IsThere, AreOnSquare};
 
 use crate::place::Place;
+use chain_map::Lift;
 use f2_vec::BitVec;
 use memory::Memory;
 use square::Table;
@@ -40,6 +41,30 @@ pub fn coefficients(
     let count = table.images_of(s, above).len();
     let back = sphere.images_of(a.s, a.above).len() - a.i;
     coordinates_back(alloc, &values[first..first + count], back)
+}
+
+/// The product of the class `a` of the sphere with the class that the lift lifts, on the generators of the square in row `s`, `above`
+/// degrees above the bottom.
+///
+/// # Errors
+/// `Memory` if allocation fails.
+pub fn product_by_lift(
+    alloc: Global,
+    table: &Table,
+    sphere: &Table,
+    lift: &Lift,
+    a: Place,
+    s: u16,
+    above: u16,
+) -> Result<BitVec, Memory>
+    requires class { IsThere sphere.now a }
+    requires square { above < length (row_in table.now.rows s) }
+    requires row { a.s < length lift.now.rows }
+    requires values { AreOnSquare table.now sphere.now a s above (joined (row_values lift.now a.s)) }
+    ensures { IfOk result (λ v. v
+        ≡ product_by (resolution_of table.now) (resolution_of sphere.now) (class_above a) (map_of lift.now) s above) }
+{
+    coefficients(alloc, table, sphere, lift.vectors(a.s), a, s, above)
 }
 
 /// The number in row `s` of the first generator that is `above` degrees above the bottom.

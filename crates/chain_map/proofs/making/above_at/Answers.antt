@@ -8,15 +8,13 @@ use Rattle.chain_map.proofs.making.above_at.Goals.{After-above}
 
 pub unreachable-requires : goal.unreachable-requires
 unreachable-requires c =
-    let table = c.args.table.now in
-    square_not_missing table c.args.s c.requires.above _ (to_z-of_z w32 c.args.t c.ranges.t ∙ c.requires.degree) c.requires.square c.in-None.ensures.square
+    square_not_missing c.args.table.now c.args.s c.requires.above _ (to_z-of_z w32 c.args.t c.ranges.t ∙ c.requires.degree) c.requires.square c.in-None.ensures.square
 
 -- how far the square is above the bottom
 above-is : (c : After-above) → c.above.result ≡ c.requires.above
 above-is c =
-    let table = c.args.table.now in
     c.above.ensures.above
-    ∙ (ap (λ (q : Placed). q.above) c.deref.ensures ∙ square_place table c.in-Some.ensures.is_table c.args.s c.requires.above _ (arc_value c.in-Some.square.now) (to_z-of_z w32 c.args.t c.ranges.t ∙ c.requires.degree) c.in-Some.ensures.square)
+    ∙ (ap (λ (q : Placed). q.above) c.deref.ensures ∙ square_place c.args.table.now c.in-Some.ensures.is_table c.args.s c.requires.above _ (arc_value c.in-Some.square.now) (to_z-of_z w32 c.args.t c.ranges.t ∙ c.requires.degree) c.in-Some.ensures.square)
 
 pub returns-clause-above : goal.returns-clause-above
 returns-clause-above c =
@@ -25,6 +23,4 @@ returns-clause-above c =
 
 pub returns-clause-there : goal.returns-clause-there
 returns-clause-there c =
-    let same = above-is ((goal.at.returns-clause-there c).After-above) in
-    let there = c.requires.square in
-    omega arith
+    omega (arith, c.requires.square, above-is ((goal.at.returns-clause-there c).After-above))

@@ -15,10 +15,7 @@ loop-j-init c = record { one_each = refl; done = λ i l. absurd (omega arith); l
 -- the lift, which has the rows below
 lift-at : (c : After-index) → c.index.result.now ≡ slice_index_or c.loop-j.lifts.items c.loop-j.j no_lift
 lift-at c =
-    let test = c.loop-j-test.true in
-    let end = c.len-j-end.ensures in
-    let same = c.loop-j.invariant.one_each in
-    c.index.ensures ∙ get_or_default c.loop-j.lifts.items c.loop-j.j c.index.result.now no_lift (omega arith)
+    c.index.ensures ∙ get_or_default c.loop-j.lifts.items c.loop-j.j c.index.result.now no_lift (omega (arith, c.loop-j.invariant.one_each, c.len-j-end.ensures, c.loop-j-test.true))
 
 made-at : (c : After-index) → IsMade c.args.course.now.table.now c.args.course.now.sphere.now c.args.course.now.s c.args.course.now.above c.args.course.now.reach c.args.course.now.far (c.args.from + c.loop-j.j) c.args.k (slice_index_or c.loop-j.lifts.items c.loop-j.j no_lift)
 made-at c =
@@ -29,11 +26,7 @@ made-at c =
 
 pub overflow_add-from : goal.overflow_add-from
 overflow_add-from c =
-    let test = c.loop-j-test.true in
-    let end = c.len-j-end.ensures in
-    let same = c.loop-j.invariant.one_each in
-    let small = c.requires.small in
-    omega arith
+    omega (arith, c.requires.small, c.loop-j.invariant.one_each, c.len-j-end.ensures, c.loop-j-test.true)
 
 pub row-requires-clause-made : goal.row-requires-clause-made
 row-requires-clause-made c =

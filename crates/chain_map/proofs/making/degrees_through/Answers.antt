@@ -18,16 +18,8 @@ returns-in_default c =
 
 pub overflow_add-from : goal.overflow_add-from
 overflow_add-from c =
-    let short = row_short c.args.sphere.now c.front-far.ensures.is_table c.args.upto in
-    let front = c.front-far.ensures.front in
-    let from = c.from.ensures in
-    let range = c.ranges.above in
-    omega arith
+    omega (arith, c.ranges.above, c.from.ensures, c.front-far.ensures.front, row_short c.args.sphere.now c.front-far.ensures.is_table c.args.upto)
 
 pub overflow_cast-result : goal.overflow_cast-result
 overflow_cast-result c =
-    let short = row_short c.args.table.now c.front.ensures.is_table c.in-Some.row in
-    let front = c.front.ensures.front in
-    let least = min-le_left c.front.result (c.from.result + c.front-far.result) in
-    let same = c.min.ensures in
-    omega arith
+    omega (arith, c.min.ensures, min-le_left c.front.result (c.from.result + c.front-far.result), c.front.ensures.front, row_short c.args.table.now c.front.ensures.is_table c.in-Some.row)

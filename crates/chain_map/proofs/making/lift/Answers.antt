@@ -11,13 +11,10 @@ use Rattle.chain_map.proofs.making.lift.Goals.{After-above_at-above}
 
 pub prove-unreachable-requires : goal.prove-unreachable-requires
 prove-unreachable-requires c =
-    let table = c.args.table.now in
     let is = c.front-longest.ensures.is_table in
     let front = c.front-longest.ensures.front in
-    let more = never_rises table is 0 c.args.class.s (omega arith) in
-    let there = c.requires.class.square in
-    let none = c.if-prove.true in
-    omega arith
+    let more = never_rises c.args.table.now is 0 c.args.class.s (omega arith) in
+    omega (arith, c.if-prove.true, c.requires.class.square)
 
 -- how far the square is above the bottom
 above-is : (c : After-above_at-above) (above : ℕ) → to_z w32 (of_z w32 c.args.class.t) ≡ c.args.class.t → c.args.class.t ≡ bottom_of c.args.table.now.resolved +ℤ pos above → c.above_at-above.result ≡ above
@@ -28,9 +25,7 @@ lifts_of-requires-clause-classes c =
     let class = c.requires.class in
     let t : to_z w32 (of_z w32 c.args.class.t) ≡ c.args.class.t = search rules in
     let same = above-is ((goal.at.lifts_of-requires-clause-classes c).After-above_at-above) class.above t class.degree in
-    let count = ap (count_of (resolution_of c.args.table.now) c.args.class.s) same in
-    let generator = class.generator in
-    omega arith
+    omega (arith, class.generator, ap (count_of (resolution_of c.args.table.now) c.args.class.s) same)
 
 pub returns : goal.returns
 returns c = λ above e.

@@ -30,6 +30,4 @@ returns-clause-lifts c = λ j l.
     let some = c.if-course-eq0.false in
     let positive : 0 < course.reach = elim (cases_eq course.reach 0) [ inl e ↦ absurd (some e) | inr f ↦ omega arith ] in
     let reaches = reaches_all course.table.now course.sphere.now c.requires.is_table c.requires.is_sphere_table course.s course.above c.args.upto course.reach course.far c.requires.there c.requires.reach c.requires.far positive in
-    let count = c.in_ok-add_rows.ensures.one_each in
-    let classes = c.requires.classes in
-    lift_of_made c.canonical_table_is_minimal_resolution.ensures c.modules_are_graded_modules.ensures course.table.now course.sphere.now course.s course.above (c.args.from + j) c.args.upto course.reach course.far (slice_index_or c.add_rows.new.lifts.items j no_lift) c.requires.sphere reaches c.requires.far c.requires.reach (omega arith) (c.in_ok-add_rows.ensures.made j l)
+    lift_of_made c.canonical_table_is_minimal_resolution.ensures c.modules_are_graded_modules.ensures course.table.now course.sphere.now course.s course.above (c.args.from + j) c.args.upto course.reach course.far (slice_index_or c.add_rows.new.lifts.items j no_lift) c.requires.sphere reaches c.requires.far c.requires.reach (omega (arith, c.requires.classes, c.in_ok-add_rows.ensures.one_each)) (c.in_ok-add_rows.ensures.made j l)

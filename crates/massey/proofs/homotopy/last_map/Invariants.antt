@@ -1,4 +1,4 @@
-use Rattle.massey.specs.Inside.{AreMaps}
+use Rattle.massey.proofs.Chosen.{AreMaps}
 use Rattle.massey.proofs.homotopy.last_map.Given as goal
 
 abbrev pub invariant-loop-k : goal.invariant-loop-k

@@ -1,7 +1,12 @@
-use Rattle.std.proofs.Common.{subst}
+use Rattle.std.proofs.Common.{ℕ, pos, ◌-ℤ◌, ap, sym, subst, ◌∙◌, arith}
+use Rattle.std.proofs.lemmas.Int.{ints}
 use Rattle.std.proofs.lemmas.Result.{err_from_is_err_and}
 use Rattle.f2_vec.specs.Vectors.{IsZero}
-use Rattle.massey.proofs.Causes.{cause_of_refusal, ab_product, bc_product, zero_when, nonzero_when}
+use Rattle.lift_laws.specs.Products.{count_of}
+use Rattle.chain_map.specs.Lifting.{resolution_of}
+use Rattle.massey.proofs.Refusals.{rows_are, degrees_are}
+use Rattle.massey.proofs.Values.{a_is_there, b_is_there, values_ab, values_bc}
+use Rattle.massey.proofs.Causes.{cause_of_refusal, ab_product, bc_product, bracket_at, zero_when, nonzero_when}
 use Rattle.massey.proofs.making.bracket.Goals as goal
 
 pub returns-in_err-places-clause-cause : goal.returns-in_err-places-clause-cause
@@ -15,11 +20,17 @@ lift_of_b-requires-clause-setting c = c.in_ok-places.ensures.setting
 pub lift_of_b-requires-clause-class : goal.lift_of_b-requires-clause-class
 lift_of_b-requires-clause-class c = c.in_ok-places.ensures.found.b_is
 
-pub first_product-requires-clause-setting : goal.first_product-requires-clause-setting
-first_product-requires-clause-setting c = c.in_ok-places.ensures.setting
+pub product_by_lift-requires-clause-class : goal.product_by_lift-requires-clause-class
+product_by_lift-requires-clause-class c = a_is_there c.args.table.now c.args.sphere.now c.args.range c.in_ok-places.places c.in_ok-places.ensures.setting
 
-pub first_product-requires-clause-lift : goal.first_product-requires-clause-lift
-first_product-requires-clause-lift c = c.in_ok-beta.ensures
+pub product_by_lift-requires-clause-square : goal.product_by_lift-requires-clause-square
+product_by_lift-requires-clause-square c = (values_ab c.args.table.now c.args.sphere.now c.args.range c.in_ok-places.places c.in_ok-places.ensures.setting c.in_ok-beta.beta c.in_ok-beta.ensures).there
+
+pub product_by_lift-requires-clause-row : goal.product_by_lift-requires-clause-row
+product_by_lift-requires-clause-row c = (values_ab c.args.table.now c.args.sphere.now c.args.range c.in_ok-places.places c.in_ok-places.ensures.setting c.in_ok-beta.beta c.in_ok-beta.ensures).row
+
+pub product_by_lift-requires-clause-values : goal.product_by_lift-requires-clause-values
+product_by_lift-requires-clause-values c = (values_ab c.args.table.now c.args.sphere.now c.args.range c.in_ok-places.places c.in_ok-places.ensures.setting c.in_ok-beta.beta c.in_ok-beta.ensures).on_square
 
 pub lift_of_c-requires-clause-setting : goal.lift_of_c-requires-clause-setting
 lift_of_c-requires-clause-setting c = c.in_ok-places.ensures.setting
@@ -27,11 +38,17 @@ lift_of_c-requires-clause-setting c = c.in_ok-places.ensures.setting
 pub lift_of_c-requires-clause-class : goal.lift_of_c-requires-clause-class
 lift_of_c-requires-clause-class c = c.in_ok-places.ensures.found.c_is
 
-pub second_product-requires-clause-setting : goal.second_product-requires-clause-setting
-second_product-requires-clause-setting c = c.in_ok-places.ensures.setting
+pub product_by_lift-requires-2-clause-class : goal.product_by_lift-requires-2-clause-class
+product_by_lift-requires-2-clause-class c = b_is_there c.args.table.now c.args.sphere.now c.args.range c.in_ok-places.places c.in_ok-places.ensures.setting
 
-pub second_product-requires-clause-lift : goal.second_product-requires-clause-lift
-second_product-requires-clause-lift c = c.in_ok-gamma.ensures
+pub product_by_lift-requires-2-clause-square : goal.product_by_lift-requires-2-clause-square
+product_by_lift-requires-2-clause-square c = (values_bc c.args.table.now c.args.sphere.now c.args.range c.in_ok-places.places c.in_ok-places.ensures.setting c.in_ok-gamma.gamma c.in_ok-gamma.ensures).there
+
+pub product_by_lift-requires-2-clause-row : goal.product_by_lift-requires-2-clause-row
+product_by_lift-requires-2-clause-row c = (values_bc c.args.table.now c.args.sphere.now c.args.range c.in_ok-places.places c.in_ok-places.ensures.setting c.in_ok-gamma.gamma c.in_ok-gamma.ensures).row
+
+pub product_by_lift-requires-2-clause-values : goal.product_by_lift-requires-2-clause-values
+product_by_lift-requires-2-clause-values c = (values_bc c.args.table.now c.args.sphere.now c.args.range c.in_ok-places.places c.in_ok-places.ensures.setting c.in_ok-gamma.gamma c.in_ok-gamma.ensures).on_square
 
 pub by_lifts-requires-clause-setting : goal.by_lifts-requires-clause-setting
 by_lifts-requires-clause-setting c = c.in_ok-places.ensures.setting
@@ -56,18 +73,11 @@ returns-then-not-is_zero-2-clause-cause c = (c.in_ok-places.ensures.made, (recor
 
 pub returns-clause-bracket : goal.returns-clause-bracket
 returns-clause-bracket c = record {
-  a_place = c.in_ok-places.places.a;
-  b_place = c.in_ok-places.places.b;
-  c_place = c.in_ok-places.places.c;
-  a_is = c.in_ok-places.ensures.found.a_is;
-  b_is = c.in_ok-places.ensures.found.b_is;
-  c_is = c.in_ok-places.ensures.found.c_is;
-  inside = c.in_ok-places.ensures.setting.inside;
-  s = c.in_ok-bracket.ensures.s;
-  t = c.in_ok-bracket.ensures.t;
+  s = c.in_ok-bracket.ensures.s ∙ ap (λ (n : ℕ). pos n -ℤ pos 1) (rows_are c.args.table.now c.args.sphere.now c.args.range c.args.a c.args.b c.args.c c.in_ok-places.places c.in_ok-places.ensures.found);
+  t = c.in_ok-bracket.ensures.t ∙ sym (degrees_are c.args.table.now c.args.sphere.now c.args.range c.requires.sphere c.args.a c.args.b c.args.c c.in_ok-places.places c.in_ok-places.ensures.found).abc;
   widths = c.in_ok-bracket.ensures.widths;
-  one_each = c.in_ok-bracket.ensures.one_each;
+  one_each = λ row above e at. c.in_ok-bracket.ensures.one_each row (e ∙ sym (rows_are c.args.table.now c.args.sphere.now c.args.range c.args.a c.args.b c.args.c c.in_ok-places.places c.in_ok-places.ensures.found)) ∙ ap (count_of (resolution_of c.args.table.now) row) (omega (arith, ints, at, c.in_ok-bracket.ensures.t));
   ab_zero = record { product = c.in_ok-ab.ab; is_product = ab_product c.lifts_give_one_product.ensures c.modules_are_graded_modules.ensures c.args.table.now c.args.sphere.now c.args.range c.args.a c.args.b c.args.c c.in_ok-places.places c.in_ok-places.ensures.setting c.in_ok-places.ensures.found c.in_ok-beta.beta c.in_ok-beta.ensures c.in_ok-ab.ab c.in_ok-ab.ensures; is_zero = (zero_when c.is_zero.result c.in_ok-ab.ab c.is_zero.ensures c.if-not-is_zero.false) };
   bc_zero = record { product = c.in_ok-bc.bc; is_product = bc_product c.lifts_give_one_product.ensures c.modules_are_graded_modules.ensures c.args.table.now c.args.sphere.now c.args.range c.args.a c.args.b c.args.c c.in_ok-places.places c.in_ok-places.ensures.setting c.in_ok-places.ensures.found c.in_ok-gamma.gamma c.in_ok-gamma.ensures c.in_ok-bc.bc c.in_ok-bc.ensures; is_zero = (zero_when c.is_zero-2.result c.in_ok-bc.bc c.is_zero-2.ensures c.if-not-is_zero-2.false) };
-  is_bracket = c.in_ok-bracket.ensures.bracket;
+  is_bracket = λ all all_q. bracket_at c.args.table.now c.args.sphere.now c.args.range c.args.a c.args.b c.args.c c.in_ok-places.places c.in_ok-places.ensures.found _ _ (c.in_ok-bracket.ensures.bracket all all_q);
 }

@@ -7,7 +7,7 @@ use Rattle.square.proofs.Places.{length-row_of}
 use Rattle.lift_laws.specs.Products.{count_of}
 use Rattle.chain_map.specs.Lifting.{resolution_of}
 use Rattle.chain_map.specs.Inside.{class_of}
-use Rattle.chain_map.proofs.MadeRows.{made_square, made_value, made_end}
+use Rattle.chain_map.proofs.MadeRows.{made_square, square_begun, made_value, made_end}
 use Rattle.chain_map.proofs.Places.{class_value_is}
 use Rattle.chain_map.proofs.rows.Course.first_square.Goals as goal
 use Rattle.chain_map.proofs.rows.Course.first_square.Goals.{After-images_of-i-end}
@@ -17,10 +17,7 @@ there : (c : After-images_of-i-end) → c.args.n < length (row_of (plain_rows c.
 there c =
     let self = c.args.self.now in
     let e : self.s + 0 ≡ self.s = omega arith in
-    let same = ap (λ (i : ℕ). length (row_in self.table.now.rows i)) e in
-    let here = c.requires.reaches.here in
-    let within = c.requires.within in
-    omega (arith, length-row_of self.table.now.rows self.s)
+    omega (arith, length-row_of self.table.now.rows self.s, c.requires.within, c.requires.reaches.here, ap (λ (i : ℕ). length (row_in self.table.now.rows i)) e)
 
 pub loop-i-init : goal.loop-i-init
 loop-i-init c =
@@ -42,11 +39,14 @@ loop-i-preserved c =
     let u = pos c.args.n -ℤ pos self.above in
     made_value table sphere self.s 0 x (class_of table sphere self.s self.above c.args.class) c.args.n i c.loop-i.values c.push.new.self u _ c.in_ok-value.value l b c.in_ok-push.ensures.ok (omega (arith, ints)) (class_value_is table sphere self.s self.above c.args.class c.args.n i c.requires.sphere (omega arith) c.requires.class l b) c.in_ok-value.ensures c.loop-i.invariant
 
+pub push-requires : goal.push-requires
+push-requires c =
+    let self = c.args.self.now in
+    let table = self.table.now in
+    square_begun table self.sphere.now self.s 0 (bottom_of table.resolved +ℤ pos self.above) (class_of table self.sphere.now self.s self.above c.args.class) c.args.n c.loop-i.i c.loop-i.values c.loop-i.invariant
+
 pub returns : goal.returns
 returns c =
     let self = c.args.self.now in
     let table = self.table.now in
-    let l = there ((goal.at.returns c).After-images_of-i-end) in
-    let test = c.loop-i-test.false in
-    let most = c.loop-i.auto.i-end in
-    made_end table self.sphere.now self.s 0 (bottom_of table.resolved +ℤ pos self.above) (class_of table self.sphere.now self.s self.above c.args.class) c.args.n c.loop-i.i c.loop-i.values l (omega (arith, ap length c.images_of-i-end.ensures.images)) c.loop-i.invariant
+    made_end table self.sphere.now self.s 0 (bottom_of table.resolved +ℤ pos self.above) (class_of table self.sphere.now self.s self.above c.args.class) c.args.n c.loop-i.i c.loop-i.values (omega (arith, ap length c.images_of-i-end.ensures.images, c.loop-i.auto.i-end, c.loop-i-test.false)) c.loop-i.invariant

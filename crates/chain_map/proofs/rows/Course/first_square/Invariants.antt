@@ -1,6 +1,7 @@
 use Rattle.std.proofs.Common.{pos, ◌+ℤ◌}
 use Rattle.square.specs.Squares.{bottom_of}
-use Rattle.chain_map.specs.Inside.{AreMadeTo, class_of}
+use Rattle.chain_map.specs.Inside.{class_of}
+use Rattle.chain_map.proofs.MadeRows.{AreMadeTo}
 use Rattle.chain_map.proofs.rows.Course.first_square.Given as goal
 
 abbrev pub invariant-loop-i : goal.invariant-loop-i

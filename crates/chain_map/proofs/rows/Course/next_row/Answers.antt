@@ -5,6 +5,4 @@ use Rattle.chain_map.proofs.rows.Course.next_row.Goals as goal
 pub basis-requires : goal.basis-requires
 basis-requires c =
     let self = c.args.self.now in
-    let short = row_short self.table.now c.requires.reaches.is_table (self.s + suc c.args.k) in
-    let here = c.requires.reaches.here in
-    omega arith
+    omega (arith, c.requires.reaches.here, row_short self.table.now c.requires.reaches.is_table (self.s + suc c.args.k))

@@ -8,7 +8,7 @@ use Rattle.square.specs.Tables.{row_in, plain_rows, content_at}
 use Rattle.square.proofs.Places.{length-row_of}
 use Rattle.lift_laws.specs.Products.{count_of}
 use Rattle.chain_map.specs.Lifting.{resolution_of, next_goal}
-use Rattle.chain_map.proofs.MadeRows.{made_square, made_value, made_end}
+use Rattle.chain_map.proofs.MadeRows.{made_square, square_begun, made_value, made_end}
 use Rattle.chain_map.proofs.Places.{image_width, next_goal_is}
 use Rattle.chain_map.proofs.rows.Course.next_square.Goals as goal
 use Rattle.chain_map.proofs.rows.Course.next_square.Goals.{After-images_of-images, After-index-images-i}
@@ -18,10 +18,7 @@ there : (c : After-images_of-images) → c.args.n < length (row_in c.args.self.n
 there c =
     let self = c.args.self.now in
     let e : self.s + suc c.args.k ≡ suc (self.s + c.args.k) = omega arith in
-    let same = ap (λ (i : ℕ). length (row_in self.table.now.rows i)) e in
-    let here = c.requires.reaches.here in
-    let within = c.requires.within in
-    omega arith
+    omega (arith, c.requires.within, c.requires.reaches.here, ap (λ (i : ℕ). length (row_in self.table.now.rows i)) e)
 
 -- with these images
 images-are : (c : After-images_of-images) → c.images_of-images.result.now ≡ (content_at c.args.self.now.table.now.rows (suc (c.args.self.now.s + c.args.k)) c.args.n).images
@@ -36,8 +33,7 @@ number c same = let test = c.loop-i-test.true in omega (arith, ap length same)
 
 image-is : (c : After-index-images-i) → c.images_of-images.result.now ≡ (content_at c.args.self.now.table.now.rows (suc (c.args.self.now.s + c.args.k)) c.args.n).images → c.index-images-i.result ≡ row (content_at c.args.self.now.table.now.rows (suc (c.args.self.now.s + c.args.k)) c.args.n).images c.loop-i.i
 image-is c same =
-    let images = c.images_of-images.result.now in
-    c.index-images-i.is ∙ (get_or_default images c.loop-i.i c.index-images-i.result [] c.loop-i-test.true ∙ ap (λ (z : List (List Bool)). row z c.loop-i.i) same)
+    c.index-images-i.is ∙ (get_or_default c.images_of-images.result.now c.loop-i.i c.index-images-i.result [] c.loop-i-test.true ∙ ap (λ (z : List (List Bool)). row z c.loop-i.i) same)
 
 pub loop-i-init : goal.loop-i-init
 loop-i-init c =
@@ -66,12 +62,15 @@ loop-i-preserved c =
     let map = c.args.map.now in
     made_value table sphere i (suc c.args.k) x (next_goal table sphere (self.s + c.args.k) c.args.k self.above self.reach self.far map.images.now) c.args.n c.loop-i.i c.loop-i.values c.push.new.self u _ c.in_ok-value.value l (number here same) c.in_ok-push.ensures.ok (omega (arith, ints)) (next_goal_is table sphere (self.s + c.args.k) c.args.k self.above self.reach self.far c.args.n c.loop-i.i map.source.now map.target.now map.images.now c.index-images-i.result l (number here same) c.requires.source c.requires.target (image-is here same)) c.in_ok-value.ensures c.loop-i.invariant
 
+pub push-requires : goal.push-requires
+push-requires c =
+    let self = c.args.self.now in
+    let table = self.table.now in
+    square_begun table self.sphere.now (suc (self.s + c.args.k)) (suc c.args.k) (bottom_of table.resolved +ℤ pos self.above) (next_goal table self.sphere.now (self.s + c.args.k) c.args.k self.above self.reach self.far c.args.map.now.images.now) c.args.n c.loop-i.i c.loop-i.values c.loop-i.invariant
+
 pub returns : goal.returns
 returns c =
     let self = c.args.self.now in
     let table = self.table.now in
     let i = suc (self.s + c.args.k) in
-    let l : c.args.n < length (row_of (plain_rows table.rows) i) = omega (arith, there ((goal.at.returns c).After-images_of-images), length-row_of table.rows i) in
-    let test = c.loop-i-test.false in
-    let most = c.loop-i.auto.i-end in
-    made_end table self.sphere.now i (suc c.args.k) (bottom_of table.resolved +ℤ pos self.above) (next_goal table self.sphere.now (self.s + c.args.k) c.args.k self.above self.reach self.far c.args.map.now.images.now) c.args.n c.loop-i.i c.loop-i.values l (omega (arith, ap length (images-are ((goal.at.returns c).After-images_of-images)))) c.loop-i.invariant
+    made_end table self.sphere.now i (suc c.args.k) (bottom_of table.resolved +ℤ pos self.above) (next_goal table self.sphere.now (self.s + c.args.k) c.args.k self.above self.reach self.far c.args.map.now.images.now) c.args.n c.loop-i.i c.loop-i.values (omega (arith, ap length (images-are ((goal.at.returns c).After-images_of-images)), c.loop-i.auto.i-end, c.loop-i-test.false)) c.loop-i.invariant

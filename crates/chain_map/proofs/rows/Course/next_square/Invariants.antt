@@ -1,7 +1,7 @@
 use Rattle.std.proofs.Common.{suc, ◌+◌, pos, ◌+ℤ◌}
 use Rattle.square.specs.Squares.{bottom_of}
 use Rattle.chain_map.specs.Lifting.{next_goal}
-use Rattle.chain_map.specs.Inside.{AreMadeTo}
+use Rattle.chain_map.proofs.MadeRows.{AreMadeTo}
 use Rattle.chain_map.proofs.rows.Course.next_square.Given as goal
 
 abbrev pub invariant-loop-i : goal.invariant-loop-i

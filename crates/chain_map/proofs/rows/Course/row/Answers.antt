@@ -4,7 +4,7 @@ use Rattle.std.proofs.lemmas.Result.{IfOk-weaker}
 use Rattle.free_module.specs.Graded.{free_graded}
 use Rattle.free_module.specs.LinearMap.{AreImages}
 use Rattle.square.specs.Squares.{bottom_of}
-use Rattle.chain_map.specs.Lifting.{RowValues, lowered_row, row_values, next_goal, target_of}
+use Rattle.chain_map.specs.Lifting.{lowered_row, row_values, joined, next_goal, target_of}
 use Rattle.chain_map.specs.Inside.{AreMade, class_of, goal_of, Reaches}
 use Rattle.chain_map.proofs.Places.{values_are_images}
 use Rattle.chain_map.proofs.rows.Course.row.Goals as goal
@@ -30,7 +30,7 @@ returns-in-None c =
     let x = bottom_of table.resolved +ℤ pos self.above in
     let none : 0 ≡ c.args.k = elim (cases_lt 0 c.args.k) [ inl l ↦ absurd (c.in-None.ensures (omega arith)) | inr l ↦ omega arith ] in
     let e : self.s ≡ self.s + 0 = omega arith in
-    let P : ℕ → RowValues → Type 0 = λ k v. AreMade table sphere (self.s + k) k x (goal_of table sphere self.s self.above self.reach self.far c.args.class c.args.lift.now k) self.reach v in
+    let P : ℕ → List (List (List Bool)) → Type 0 = λ k v. AreMade table sphere (self.s + k) k x (goal_of table sphere self.s self.above self.reach self.far c.args.class c.args.lift.now k) self.reach v in
     IfOk-weaker c.first_row.result (AreMade table sphere self.s 0 x (class_of table sphere self.s self.above c.args.class) self.reach) (P c.args.k) (λ v made. subst (λ (k : ℕ). P k v) none (subst (λ (i : ℕ). AreMade table sphere i 0 x (class_of table sphere self.s self.above c.args.class) self.reach v) e made)) c.first_row.ensures
 
 pub returns-in-Some : goal.returns-in-Some
@@ -42,9 +42,9 @@ returns-in-Some c =
     let x = bottom_of table.resolved +ℤ pos self.above in
     let more = one_more ((goal.at.returns-in-Some c).After-vectors) in
     let e : suc (self.s + below) ≡ self.s + suc below = omega arith in
-    let P : ℕ → RowValues → Type 0 = λ k v. AreMade table sphere (self.s + k) k x (goal_of table sphere self.s self.above self.reach self.far c.args.class c.args.lift.now k) self.reach v in
-    let Q : List (List Bool) → RowValues → Type 0 = λ vs v. AreMade table sphere (suc (self.s + below)) (suc below) x (next_goal table sphere (self.s + below) below self.above self.reach self.far vs) self.reach v in
+    let P : ℕ → List (List (List Bool)) → Type 0 = λ k v. AreMade table sphere (self.s + k) k x (goal_of table sphere self.s self.above self.reach self.far c.args.class c.args.lift.now k) self.reach v in
+    let Q : List (List Bool) → List (List (List Bool)) → Type 0 = λ vs v. AreMade table sphere (suc (self.s + below)) (suc below) x (next_goal table sphere (self.s + below) below self.above self.reach self.far vs) self.reach v in
     IfOk-weaker c.next_row.result (Q c.vectors.result.now) (P c.args.k)
     (λ v made.
-    let named : Q (row_values c.args.lift.now below).vectors v = subst (λ (vs : List (List Bool)). Q vs v) c.vectors.ensures made in
-    subst (λ (k : ℕ). P k v) (sym more) (subst (λ (i : ℕ). AreMade table sphere i (suc below) x (next_goal table sphere (self.s + below) below self.above self.reach self.far (row_values c.args.lift.now below).vectors) self.reach v) e named)) c.next_row.ensures
+    let named : Q (joined (row_values c.args.lift.now below)) v = subst (λ (vs : List (List Bool)). Q vs v) c.vectors.ensures made in
+    subst (λ (k : ℕ). P k v) (sym more) (subst (λ (i : ℕ). AreMade table sphere i (suc below) x (next_goal table sphere (self.s + below) below self.above self.reach self.far (joined (row_values c.args.lift.now below))) self.reach v) e named)) c.next_row.ensures

@@ -16,8 +16,7 @@ generators-requires c =
 pub basis-requires : goal.basis-requires
 basis-requires c =
     let self = c.args.self.now in
-    let reach = bracket_reach self.setting.table.now self.setting.sphere.now self.setting.range self.setting.places self.n self.beta.now self.gamma.now c.requires in
-    omega (arith, c.above-2.ensures)
+    omega (arith, c.above-2.ensures, bracket_reach self.setting.table.now self.setting.sphere.now self.setting.range self.setting.places self.n self.beta.now self.gamma.now c.requires)
 
 pub zero_values-requires : goal.zero_values-requires
 zero_values-requires c =
@@ -31,8 +30,7 @@ pub returns : goal.returns
 returns c =
     let self = c.args.self.now in
     let table = self.setting.table.now in
-    let sphere = self.setting.sphere.now in
     let p = self.setting.places in
     let source : c.in_ok-source.source ≡ lowered_row table self.n (above_of p + 1) (above_bc p) = c.in_ok-source.ensures ∙ (ap (λ m. lowered_row table self.n (m + 1) c.above_bc.result) c.above.ensures ∙ ap (lowered_row table self.n (above_of p + 1)) c.above_bc.ensures) in
     let zero_of : List ℤ → ℤ → List Bool = λ target d. zeros (free_width target d) in
-    IfOk-weaker c.zero_values.result _ _ (λ v is. is ∙ (ap (λ (t : List ℤ). map (zero_of t) c.in_ok-source.source) c.in_ok-target.ensures ∙ ap (map (zero_of (target_of sphere 0 (p.a.above + 1)))) source)) c.zero_values.ensures
+    IfOk-weaker c.zero_values.result _ _ (λ v is. is ∙ (ap (λ (t : List ℤ). map (zero_of t) c.in_ok-source.source) c.in_ok-target.ensures ∙ ap (map (zero_of (target_of self.setting.sphere.now 0 (p.a.above + 1)))) source)) c.zero_values.ensures

@@ -5,7 +5,7 @@ use Rattle.free_module.specs.LinearMap.{AreImages}
 use Rattle.square.specs.Squares.{bottom_of}
 use Rattle.square.specs.Tables.{Staircase}
 use Rattle.lift_laws.specs.Products.{first_of}
-use Rattle.chain_map.specs.Lifting.{lowered_row, LiftValues, resolution_of, row_values, target_of, AreChosen}
+use Rattle.chain_map.specs.Lifting.{lowered_row, LiftValues, resolution_of, row_values, joined, target_of, AreChosen}
 use Rattle.massey.specs.declared.places.Places.{Places}
 use Rattle.massey.specs.Inside.{above_of, above_ab, above_bc, homotopy_goal, beta_values}
 use Rattle.massey.proofs.Composites.{beta_row, bracket_reach, beta_count, inner_count, beta_images}
@@ -15,21 +15,19 @@ use Rattle.massey.proofs.homotopy.Composite.next_map.Goals as goal
 inner-is : (sphere : Staircase) (p : Places) (k m : ℕ) (inner : List ℤ) → inner ≡ lowered_row sphere (p.b.s + k) (m + 1) p.b.above → m ≡ above_ab p → inner ≡ lowered_row sphere (p.b.s + k) (above_ab p + 1) p.b.above
 inner-is sphere p k m inner e same = e ∙ ap (λ (m : ℕ). lowered_row sphere (p.b.s + k) (m + 1) p.b.above) same
 
-taken-is : (sphere : Staircase) (p : Places) (beta : LiftValues) (k : ℕ) (degrees inner : List ℤ) (vectors : List (List Bool)) → length inner ≡ first_of (resolution_of sphere) (p.b.s + k) (above_ab p + 1) → degrees ≡ inner → vectors ≡ (row_values beta k).vectors → take (length degrees) vectors ≡ beta_values sphere p beta k
+taken-is : (sphere : Staircase) (p : Places) (beta : LiftValues) (k : ℕ) (degrees inner : List ℤ) (vectors : List (List Bool)) → length inner ≡ first_of (resolution_of sphere) (p.b.s + k) (above_ab p + 1) → degrees ≡ inner → vectors ≡ (joined (row_values beta k)) → take (length degrees) vectors ≡ beta_values sphere p beta k
 taken-is sphere p beta k degrees inner vectors count same is =
     ap (λ (m : ℕ). take m vectors) (ap length same ∙ count) ∙ ap (take (first_of (resolution_of sphere) (p.b.s + k) (above_ab p + 1))) is
 
 pub vectors-requires : goal.vectors-requires
 vectors-requires c =
     let self = c.args.self.now in
-    let row = c.requires.row in
-    beta_row self.setting.table.now self.setting.sphere.now self.setting.range self.setting.places self.n self.beta.now self.gamma.now c.requires.composite c.args.k (omega arith)
+    beta_row self.setting.table.now self.setting.sphere.now self.setting.range self.setting.places self.n self.beta.now self.gamma.now c.requires.composite c.args.k (omega (arith, c.requires.row))
 
 pub basis-requires : goal.basis-requires
 basis-requires c =
     let self = c.args.self.now in
-    let reach = bracket_reach self.setting.table.now self.setting.sphere.now self.setting.range self.setting.places self.n self.beta.now self.gamma.now c.requires.composite in
-    omega (arith, c.above-2.ensures)
+    omega (arith, c.above-2.ensures, bracket_reach self.setting.table.now self.setting.sphere.now self.setting.range self.setting.places self.n self.beta.now self.gamma.now c.requires.composite)
 
 pub slice_bounds-new-end : goal.slice_bounds-new-end
 slice_bounds-new-end c =
@@ -49,7 +47,6 @@ new-beta-requires c =
     let sphere = self.setting.sphere.now in
     let p = self.setting.places in
     let k = c.args.k in
-    let row = c.requires.row in
     let inner = inner-is sphere p k c.above_ab.result c.in_ok-inner.inner c.in_ok-inner.ensures c.above_ab.ensures in
     let count = inner_count self.setting.table.now sphere self.setting.range p self.n self.beta.now self.gamma.now c.requires.composite k in
     let taken = taken-is sphere p self.beta.now k c.degrees-count.result.now c.in_ok-inner.inner c.vectors.result.now (ap length inner ∙ count) c.degrees-count.ensures c.vectors.ensures in
@@ -59,7 +56,7 @@ new-beta-requires c =
     subst (λ (t : List ℤ). AreImages (free_graded t) c.in_ok-inner.inner values) (sym c.in_ok-target.ensures)
     (subst (λ (i : List ℤ). AreImages (free_graded target) i values) (sym inner)
     (subst (AreImages (free_graded target) source) (sym taken)
-    (beta_images self.setting.table.now sphere self.setting.range p self.n self.beta.now self.gamma.now c.requires.composite k (omega arith))))
+    (beta_images self.setting.table.now sphere self.setting.range p self.n self.beta.now self.gamma.now c.requires.composite k (omega (arith, c.requires.row)))))
 
 pub returns : goal.returns
 returns c =
@@ -72,9 +69,7 @@ returns c =
     let inner = inner-is sphere p k c.above_ab.result c.in_ok-inner.inner c.in_ok-inner.ensures c.above_ab.ensures in
     let count = inner_count table sphere self.setting.range p n self.beta.now self.gamma.now c.requires.composite k in
     let taken = taken-is sphere p self.beta.now k c.degrees-count.result.now c.in_ok-inner.inner c.vectors.result.now (ap length inner ∙ count) c.degrees-count.ensures c.vectors.ensures in
-    let test = c.loop-j-test.false in
-    let most = c.loop-j.auto.j-end in
-    let last : c.loop-j.j ≡ above_of p + 1 = omega (arith, c.above-j-end.ensures) in
+    let last : c.loop-j.j ≡ above_of p + 1 = omega (arith, c.above-j-end.ensures, c.loop-j.auto.j-end, c.loop-j-test.false) in
     let P : List (List Bool) → List (List Bool) → ℕ → Type 0 = λ images below j. AreChosen table sphere (suc (n + k)) (suc k) (bottom_of table.resolved +ℤ pos (above_bc p)) (homotopy_goal table sphere p n k images self.gamma.now below) (first_of (resolution_of table) (suc (n + k)) j) c.loop-j.values.items in
     subst (P (beta_values sphere p self.beta.now k) c.args.below.now) last
     (subst (λ (below : List (List Bool)). P (beta_values sphere p self.beta.now k) below c.loop-j.j) c.new-map.ensures.images

@@ -10,7 +10,7 @@ use Rattle.square.specs.Squares.{bottom_of}
 use Rattle.square.specs.Tables.{Staircase, row_in, plain_rows, content_at}
 use Rattle.square.proofs.Places.{length-row_of}
 use Rattle.lift_laws.specs.Products.{first_of, count_of}
-use Rattle.chain_map.specs.Lifting.{lowered_row, IsInverseAt, resolution_of, row_values, target_of}
+use Rattle.chain_map.specs.Lifting.{lowered_row, IsInverseAt, resolution_of, row_values, joined, target_of}
 use Rattle.chain_map.proofs.Generators.{first_of-more}
 use Rattle.chain_map.proofs.Goals.{place_there, sphere_square, reach_low, reach_target}
 use Rattle.chain_map.proofs.Places.{image_width}
@@ -49,18 +49,15 @@ bound c are =
 image-is : (c : After-index-images-i) → c.images_of-images.result.now ≡ (content_at c.args.self.now.setting.table.now.rows (suc (c.args.self.now.n + c.args.k)) c.args.j).images → c.index-images-i.result ≡ row (content_at c.args.self.now.setting.table.now.rows (suc (c.args.self.now.n + c.args.k)) c.args.j).images c.loop-i.i
 image-is c are = c.index-images-i.is ∙ (get_or_default c.images_of-images.result.now c.loop-i.i c.index-images-i.result [] c.loop-i-test.true ∙ ap (λ (z : List (List Bool)). row z c.loop-i.i) are)
 
-value-is : (c : After-index-inner-len) → c.len.result < length c.vectors-inner.result.now → c.index-inner-len.result ≡ row (row_values c.args.self.now.gamma.now (c.args.self.now.setting.places.b.s + c.args.k)).vectors (first_of (resolution_of c.args.self.now.setting.table.now) (suc (c.args.self.now.n + c.args.k)) c.args.j + c.loop-i.i)
+value-is : (c : After-index-inner-len) → c.len.result < length c.vectors-inner.result.now → c.index-inner-len.result ≡ row (joined (row_values c.args.self.now.gamma.now (c.args.self.now.setting.places.b.s + c.args.k))) (first_of (resolution_of c.args.self.now.setting.table.now) (suc (c.args.self.now.n + c.args.k)) c.args.j + c.loop-i.i)
 value-is c b =
-    let one = c.loop-i.invariant.one_each in
-    let last : c.len.result ≡ first_of (resolution_of c.args.self.now.setting.table.now) (suc (c.args.self.now.n + c.args.k)) c.args.j + c.loop-i.i = omega (arith, c.len.ensures) in
-    c.index-inner-len.is ∙ (get_or_default c.vectors-inner.result.now c.len.result c.index-inner-len.result [] b ∙ (ap (λ (z : List (List Bool)). row z c.len.result) c.vectors-inner.ensures ∙ ap (row (row_values c.args.self.now.gamma.now (c.args.self.now.setting.places.b.s + c.args.k)).vectors) last))
+    let last : c.len.result ≡ first_of (resolution_of c.args.self.now.setting.table.now) (suc (c.args.self.now.n + c.args.k)) c.args.j + c.loop-i.i = omega (arith, c.len.ensures, c.loop-i.invariant.one_each) in
+    c.index-inner-len.is ∙ (get_or_default c.vectors-inner.result.now c.len.result c.index-inner-len.result [] b ∙ (ap (λ (z : List (List Bool)). row z c.len.result) c.vectors-inner.ensures ∙ ap (row (joined (row_values c.args.self.now.gamma.now (c.args.self.now.setting.places.b.s + c.args.k)))) last))
 
 -- the generators of a square end where those of the next begin
 all-of : (table : Staircase) (i j h : ℕ) (images : List (List Bool)) → j < length (row_in table.rows i) → images ≡ (content_at table.rows i j).images → h ≡ length images → first_of (resolution_of table) i j + h ≡ first_of (resolution_of table) i (j + 1)
 all-of table i j h images l is e =
-    let len = length-row_of table.rows i in
-    let more = first_of-more (resolution_of table) i j (omega arith) in
-    omega (arith, ap length is)
+    omega (arith, ap length is, first_of-more (resolution_of table) i j, length-row_of table.rows i)
 
 inverse-in : (sphere : Staircase) (k : ℕ) (t u : ℤ) (inverse : Option Reduction) → t ≡ u → IsInverseAt sphere (k + 1) t inverse → IsInverseAt sphere (suc k) u inverse
 inverse-in sphere k t u inverse at is = let e : k + 1 ≡ suc k = omega arith in subst (λ (i : ℕ). IsInverseAt sphere i u inverse) e (subst (λ (z : ℤ). IsInverseAt sphere (k + 1) z inverse) at is)
@@ -87,30 +84,26 @@ of-requires c = λ low.
     let table = self.setting.table.now in
     let sphere = self.setting.sphere.now in
     let p = self.setting.places in
-    let row = c.requires.row in
     let u = to_z w32 (of_z w32 c.over-u.result) in
     let at = u-is ((goal.at.of-requires c).After-over-u) in
-    sphere_square table sphere self.n (above_bc p) (c.args.k + 1) (above_of p + 1) (p.a.above + 1) c.args.j c.requires.composite.setting.is_sphere (through_bracket table sphere self.setting.range p self.n self.beta.now self.gamma.now c.requires.composite (c.args.k + 1) (omega arith)) c.requires.within u at low
+    sphere_square table sphere self.n (above_bc p) (c.args.k + 1) (above_of p + 1) (p.a.above + 1) c.args.j c.requires.composite.setting.is_sphere (through_bracket table sphere self.setting.range p self.n self.beta.now self.gamma.now c.requires.composite (c.args.k + 1) (omega (arith, c.requires.row))) c.requires.within u at low
 
 pub bounds-inner-len : goal.bounds-inner-len
 bounds-inner-len c =
-    let b = bound ((goal.at.bounds-inner-len c).After-len) (images-are ((goal.at.bounds-inner-len c).After-images_of-images)) in
-    omega arith
+    omega (arith, bound ((goal.at.bounds-inner-len c).After-len) (images-are ((goal.at.bounds-inner-len c).After-images_of-images)))
 
 pub offset_bounds-inner-len : goal.offset_bounds-inner-len
 offset_bounds-inner-len c =
-    let b = bound ((goal.at.offset_bounds-inner-len c).After-len) (images-are ((goal.at.offset_bounds-inner-len c).After-images_of-images)) in
-    omega arith
+    omega (arith, bound ((goal.at.offset_bounds-inner-len c).After-len) (images-are ((goal.at.offset_bounds-inner-len c).After-images_of-images)))
 
 pub goal-requires-clause-beta_source : goal.goal-requires-clause-beta_source
 goal-requires-clause-beta_source c =
     let self = c.args.self.now in
     let p = self.setting.places in
     let beta = c.args.beta.now in
-    let within = c.requires.within in
     let u = to_z w32 (of_z w32 c.over-u.result) in
     let at = u-is ((goal.at.goal-requires-clause-beta_source c).After-over-u) in
-    inner_reach self.setting.table.now self.setting.sphere.now self.setting.range p self.n self.beta.now self.gamma.now c.requires.composite c.args.k c.args.j beta.basis.now beta.source.now u (omega arith) c.requires.maps.beta_basis_reaches c.requires.maps.beta_source_is at
+    inner_reach self.setting.table.now self.setting.sphere.now self.setting.range p self.n self.beta.now self.gamma.now c.requires.composite c.args.k c.args.j beta.basis.now beta.source.now u (omega (arith, c.requires.within)) c.requires.maps.beta_basis_reaches c.requires.maps.beta_source_is at
 
 pub goal-requires-clause-beta_target : goal.goal-requires-clause-beta_target
 goal-requires-clause-beta_target c =
@@ -152,13 +145,12 @@ pub goal-requires-clause-gamma : goal.goal-requires-clause-gamma
 goal-requires-clause-gamma c =
     let self = c.args.self.now in
     let p = self.setting.places in
-    let within = c.requires.within in
     let here = (goal.at.goal-requires-clause-gamma c).After-len in
     let are = images-are ((goal.at.goal-requires-clause-gamma c).After-images_of-images) in
     let u = to_z w32 (of_z w32 c.over-u.result) in
     let at = u-is ((goal.at.goal-requires-clause-gamma c).After-over-u) in
     ap length (value-is ((goal.at.goal-requires-clause-gamma c).After-index-inner-len) (bound here are))
-    ∙ (gamma_width self.setting.table.now self.setting.sphere.now self.setting.range p self.n self.beta.now self.gamma.now c.requires.composite c.args.k c.args.j c.loop-i.i c.requires.row (omega arith) (inside here are)
+    ∙ (gamma_width self.setting.table.now self.setting.sphere.now self.setting.range p self.n self.beta.now self.gamma.now c.requires.composite c.args.k c.args.j c.loop-i.i c.requires.row (omega (arith, c.requires.within)) (inside here are)
     ∙ sym (ap (λ (z : List ℤ). free_width z u) c.requires.maps.beta_source_is ∙ ap (free_width (lowered_row self.setting.sphere.now (p.b.s + c.args.k) (above_ab p + 1) p.b.above)) at))
 
 pub goal-requires-clause-image : goal.goal-requires-clause-image
@@ -233,10 +225,9 @@ returns c =
     let n = self.n in
     let k = c.args.k in
     let j = c.args.j in
-    let images = c.images_of-images.result.now in
     let within = c.requires.within in
     let test = c.loop-i-test.false in
     let most = c.loop-i.auto.i-end in
     let long = next_row_there table sphere self.setting.range p n self.beta.now self.gamma.now c.requires.composite k c.requires.row in
-    let all = all-of table (suc (n + k)) j c.loop-i.i images (omega arith) (images-are ((goal.at.returns c).After-images_of-images)) (omega arith) in
+    let all = all-of table (suc (n + k)) j c.loop-i.i c.images_of-images.result.now (omega arith) (images-are ((goal.at.returns c).After-images_of-images)) (omega arith) in
     chosen_in table sphere (suc (n + k)) (suc k) (bottom_of table.resolved +ℤ pos (above_bc p)) (homotopy_goal table sphere p n k c.args.beta.now.images.now self.gamma.now c.args.map.now.images.now) (first_of (resolution_of table) (suc (n + k)) j + c.loop-i.i) (first_of (resolution_of table) (suc (n + k)) (j + 1)) c.loop-i.values.items all c.loop-i.invariant
