@@ -15,7 +15,7 @@ use Rattle.square.specs.Squares.{bottom_of, over}
 use Rattle.square.specs.Tables.{Staircase, plain_rows, IsQuasiAt, row_in, content_at, IsTable}
 use Rattle.square.specs.declared.range.Range.{Range}
 use Rattle.lift_laws.specs.Lifts.{Resolution, IsSphere, gens, degree, image, HasImages, IsChainMap}
-use Rattle.lift_laws.specs.Products.{first_of, count_of, IsLiftOfClass}
+use Rattle.lift_laws.specs.Products.{count_of, IsLiftOfClass}
 use Rattle.chain_map.specs.declared.class.Class.{Class}
 
 -- The degrees of the generators of the first n squares of row s, each lower by that of the squares that are `above` above the

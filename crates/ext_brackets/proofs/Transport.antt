@@ -1,5 +1,5 @@
 -- What is made over the tables that there are is what the canonical tables through the range have.
-use Rattle.std.proofs.Common.{◌≡◌, ◌≢◌, ℕ, zero, suc, ◌+◌, ℤ, pos, ◌+ℤ◌, ◌-ℤ◌, Bool, List, refl, ap, sym, subst, ◌∙◌, arith}
+use Rattle.std.proofs.Common.{◌≡◌, ◌≢◌, ℕ, zero, suc, ◌+◌, ℤ, pos, ◌-ℤ◌, Bool, List, refl, ap, sym, subst, ◌∙◌, arith}
 use Rattle.std.specs.Prelude.{Option, Some, None, MatchOption, option_map, Result, Ok, Err, IsOkAnd}
 use Rattle.finite_module.specs.Checked.{sphere_file}
 use Rattle.finite_module.specs.DerivedAction.{derived_module}

@@ -22,7 +22,7 @@ use Rattle.ext_chart.specs.Classes.{product_lines_text}
 use Rattle.ext_products.specs.declared.refusal.Refusal.{Refusal}
 use Rattle.ext_products.specs.declared.refusal.Refusal.TheVariants.{NoClass}
 use Rattle.ext_products.specs.declared.refusal.Named.TheVariants.{By}
-use Rattle.ext_products.specs.Products.{OneEach, class_at, factors, IsProductLine, IsProductsText, IsProductsAnswer, HasAnswer, HasOneAnswer}
+use Rattle.ext_products.specs.Products.{OneEach, factors, IsProductLine, IsProductsText, IsProductsAnswer, HasAnswer, HasOneAnswer}
 use Rattle.ext_products.proofs.OneEach.{OneEach-unique, OneEach-made}
 use Rattle.ext_products.proofs.Factors.{IsFactor, are_factors}
 

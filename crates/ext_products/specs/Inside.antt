@@ -1,5 +1,5 @@
 -- What contracts of private functions cite: the lines that are made over the tables that there are.
-use Rattle.std.specs.Prelude.{ℕ, pos, min, option_map, unwrap_or}
+use Rattle.std.specs.Prelude.{pos, min, option_map, unwrap_or}
 use Rattle.degrees.specs.Above.{above_of}
 use Rattle.square.specs.declared.range.Range.{Range}
 use Rattle.square.specs.Squares.{bottom_of}

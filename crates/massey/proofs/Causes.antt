@@ -1,20 +1,19 @@
 -- The products that decide whether there is a bracket.
 use Rattle.std.specs.Prelude.{IsTrue, ◌↔◌, IfSome, option_map, if◌then◌else◌}
 use Rattle.std.specs.Option.{option_or}
-use Rattle.std.proofs.Common.{rules, ◌≡◌, Option, Some, None, true, ℕ, ◌+◌, ◌-◌, ◌<◌, ◌≤◌, ℤ, pos, ◌+ℤ◌, ◌-ℤ◌, Bool, false, List, length, ap, sym, subst, ◌∙◌, arith}
+use Rattle.std.proofs.Common.{rules, ◌≡◌, Option, Some, None, true, ℕ, ◌+◌, ◌-◌, ◌<◌, ℤ, pos, ◌+ℤ◌, ◌-ℤ◌, Bool, false, List, length, sym, subst, arith}
 use Rattle.finite_module.specs.Graded.{ModulesAreSteenrodModules}
 use Rattle.f2_vec.specs.Vectors.{IsZero}
 use Rattle.square.specs.declared.range.Range.{Range}
 use Rattle.square.specs.Tables.{Staircase, row_in, IsTable, IsThrough}
 use Rattle.lift_laws.specs.Lifts.{IsSphere}
-use Rattle.lift_laws.specs.Products.{Class as ClassAbove, count_of, coefficient_of, product_by, LiftsGiveOneProduct}
-use Rattle.bracket_laws.proofs.Vectors.{length-on_square}
+use Rattle.lift_laws.specs.Products.{Class as ClassAbove, count_of, product_by, LiftsGiveOneProduct}
 use Rattle.chain_map.specs.declared.class.Class.{Class}
-use Rattle.chain_map.specs.Lifting.{LiftValues, resolution_of, IsCanonicalIn, map_of, IsLiftOver, IsClassOf}
+use Rattle.chain_map.specs.Lifting.{LiftValues, resolution_of, map_of, IsLiftOver, IsClassOf}
 use Rattle.yoneda.specs.declared.place.Place.{Place}
 use Rattle.chain_map.specs.Classes.{through, missing_in, IsAt, passes, no_class, out_of_range, class_refusal}
 use Rattle.chain_map.proofs.Classes.{class_is_once}
-use Rattle.yoneda.specs.Products.{class_above, IsPlaceOf, IsYonedaProduct, IsProductOver, ArePlacesOf}
+use Rattle.yoneda.specs.Products.{class_above, IsPlaceOf, IsProductOver}
 use Rattle.yoneda.proofs.OneProduct.{at_place, product_by_lift}
 use Rattle.massey.specs.declared.fault.MasseyFault.{MasseyFault}
 use Rattle.massey.specs.declared.fault.MasseyFault.TheVariants.{NoClass, OutOfRange, Nonzero, Memory}

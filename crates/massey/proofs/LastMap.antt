@@ -1,5 +1,5 @@
 -- Over canonical resolutions the maps that are made are a null homotopy.
-use Rattle.std.proofs.Common.{◌≡◌, ℕ, suc, ◌+◌, ◌<◌, ◌≤◌, Bool, false, ℤ, pos, ◌+ℤ◌, ◌-ℤ◌, ◌≤ℤ◌, List, [], length, take, refl, ap, sym, subst, ◌∙◌, arith}
+use Rattle.std.proofs.Common.{◌≡◌, ℕ, suc, ◌+◌, ◌<◌, ◌≤◌, Bool, ℤ, pos, ◌+ℤ◌, ◌-ℤ◌, ◌≤ℤ◌, List, [], length, take, refl, ap, sym, subst, ◌∙◌, arith}
 use Rattle.std.proofs.lemmas.Int.{ints}
 use Rattle.std.proofs.lemmas.List.{get_or-map}
 use Rattle.f2_vec.specs.Vectors.{bit, sum_of, zeros}
@@ -15,7 +15,7 @@ use Rattle.square.specs.declared.range.Range.{Range}
 use Rattle.square.specs.Squares.{over, bottom_of}
 use Rattle.square.specs.Tables.{Staircase, plain_rows}
 use Rattle.lift_laws.specs.Lifts.{Resolution, IsSphere, gens, degree, image, d, lowered}
-use Rattle.lift_laws.specs.Products.{first_of, count_of, coefficient_of, degree_of_class}
+use Rattle.lift_laws.specs.Products.{first_of, degree_of_class}
 use Rattle.lift_laws.proofs.Cut.{degree-cut, image-cut, basis-cut}
 use Rattle.lift_laws.proofs.Resolved.{IsResolved, is_resolved}
 use Rattle.bracket_laws.specs.Brackets.{composed, top_of, HasZeroLower}

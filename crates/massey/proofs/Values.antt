@@ -1,14 +1,13 @@
 -- The values of lifts on the squares of the products and of the bracket.
-use Rattle.std.proofs.Common.{◌≡◌, ℕ, suc, ◌+◌, ◌-◌, ◌<◌, ◌≤◌, pos, ◌-ℤ◌, length, arith}
+use Rattle.std.proofs.Common.{◌≡◌, ℕ, suc, ◌+◌, ◌-◌, ◌<◌, pos, ◌-ℤ◌, length, arith}
 use Rattle.std.proofs.lemmas.Int.{ints}
 use Rattle.square.specs.declared.range.Range.{Range}
-use Rattle.square.specs.Tables.{Staircase, row_in, content_at, IsThrough}
+use Rattle.square.specs.Tables.{Staircase, row_in, content_at}
 use Rattle.f2_vec.specs.Vectors.{IsZero}
-use Rattle.lift_laws.specs.Lifts.{IsSphere}
 use Rattle.lift_laws.specs.Products.{product_by}
-use Rattle.chain_map.specs.Lifting.{LiftValues, resolution_of, map_of, row_values, joined, degrees_through, IsLiftOver}
+use Rattle.chain_map.specs.Lifting.{LiftValues, resolution_of, map_of, IsLiftOver}
 use Rattle.yoneda.specs.declared.place.Place.{Place}
-use Rattle.yoneda.specs.Products.{class_above, IsThere, AreOnSquare}
+use Rattle.yoneda.specs.Products.{class_above, IsThere}
 use Rattle.yoneda.proofs.Lifted.{HasRow, has_row}
 use Rattle.massey.specs.declared.places.Places.{Places}
 use Rattle.massey.specs.Inside.{above_of, above_ab, above_bc, AreInside, IsSetting, AreLifts}

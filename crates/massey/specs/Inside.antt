@@ -1,6 +1,6 @@
 -- What contracts of private functions cite: where the classes of a bracket stand, lifts of b and c, and how a null homotopy of their
 -- composite is made, by quasi-inverses, map by map and square by square.
-use Rattle.std.specs.Prelude.{◌≡◌, ℕ, suc, ◌+◌, ◌<◌, ◌≤◌, pos, ◌+ℤ◌, Bool, List, length, Option, ℤ, ◌-ℤ◌, map, take}
+use Rattle.std.specs.Prelude.{◌≡◌, ℕ, suc, ◌+◌, ◌≤◌, pos, ◌+ℤ◌, Bool, List, Option, ℤ, ◌-ℤ◌, map, take}
 use Rattle.f2_vec.specs.Vectors.{IsZero, sum_of, zeros}
 use Rattle.f2_vec.specs.Spans.{row}
 use Rattle.free_module.specs.FreeModule.{free_width}

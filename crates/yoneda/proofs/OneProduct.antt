@@ -1,5 +1,5 @@
 -- The product is that of every lift.
-use Rattle.std.proofs.Common.{◌≡◌, ℕ, ◌+◌, ◌<◌, ◌≤◌, ℤ, pos, ◌+ℤ◌, ◌-ℤ◌, ◌≤ℤ◌, Bool, List, [], length, map, slice_index_or, refl, ap, sym, subst, ◌∙◌, arith}
+use Rattle.std.proofs.Common.{◌≡◌, ℕ, ◌+◌, ◌<◌, ◌≤◌, ℤ, pos, ◌+ℤ◌, ◌-ℤ◌, ◌≤ℤ◌, Bool, List, [], length, map, slice_index_or, ap, sym, subst, ◌∙◌, arith}
 use Rattle.std.proofs.lemmas.Int.{ints}
 use Rattle.std.proofs.lemmas.List.FromFn.{length-map-range_with_len}
 use Rattle.std.proofs.lemmas.List.{length-map, get_or-map}
@@ -10,10 +10,10 @@ use Rattle.square.specs.declared.range.Range.{Range}
 use Rattle.square.specs.Squares.{bottom_of}
 use Rattle.square.specs.Tables.{Staircase, IsTable, IsThrough}
 use Rattle.lift_laws.specs.Lifts.{Resolution, IsCanonical, IsSphere, IsLift, dual_of}
-use Rattle.lift_laws.specs.Products.{Class, first_of, count_of, coefficient_of, on_square, product_by, degree_of_class, number_of, IsLiftOfClass, LiftsGiveOneProduct}
+use Rattle.lift_laws.specs.Products.{Class, first_of, count_of, coefficient_of, product_by, degree_of_class, number_of, IsLiftOfClass, LiftsGiveOneProduct}
 use Rattle.lift_laws.proofs.ChainMaps.{IsLift-less}
 use Rattle.chain_map.specs.declared.class.Class.{Class as Named}
-use Rattle.chain_map.specs.Lifting.{LiftValues, no_lift, resolution_of, AreCanonical, IsCanonicalIn, row_values, joined, map_of, greatest, AreReached, IsLiftOver}
+use Rattle.chain_map.specs.Lifting.{LiftValues, no_lift, resolution_of, AreCanonical, IsCanonicalIn, map_of, greatest, AreReached, IsLiftOver}
 use Rattle.chain_map.specs.Classes.{through, IsAt}
 use Rattle.chain_map.proofs.Resolved.{is_canonical}
 use Rattle.yoneda.specs.declared.place.Place.{Place}

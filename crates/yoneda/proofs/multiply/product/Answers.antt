@@ -1,4 +1,4 @@
-use Rattle.std.proofs.Common.{◌≤◌, ◌+◌, arith}
+use Rattle.std.proofs.Common.{arith}
 use Rattle.yoneda.proofs.Lifted.{lift_at, has_row}
 use Rattle.yoneda.proofs.OneProduct.{place_there, product_by_lift}
 use Rattle.yoneda.proofs.multiply.product.Goals as goal

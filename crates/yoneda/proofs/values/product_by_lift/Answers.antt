@@ -3,7 +3,7 @@ use Rattle.std.specs.Prelude.{IfOk}
 use Rattle.f2_vec.specs.Spans.{row}
 use Rattle.lift_laws.specs.Products.{coefficient_of, on_square}
 use Rattle.chain_map.specs.Lifting.{resolution_of}
-use Rattle.yoneda.specs.Products.{class_above, AreOnSquare}
+use Rattle.yoneda.specs.Products.{class_above}
 use Rattle.yoneda.proofs.values.product_by_lift.Goals as goal
 
 pub returns : goal.returns

@@ -1,4 +1,4 @@
-use Rattle.std.proofs.Common.{◌≡◌, ◌<◌, List, Bool, length, get_or, ap, sym, subst, ◌∙◌}
+use Rattle.std.proofs.Common.{◌<◌, List, Bool, length, ap, sym, subst, ◌∙◌}
 use Rattle.chain_map.specs.Inside.{with_value, by_square, AreInOrder}
 use Rattle.chain_map.proofs.Squares.{by_square-pushed, order-pushed}
 use Rattle.chain_map.proofs.values.Values.push.Goals as goal
