@@ -19,7 +19,7 @@ size_at : (table : Staircase) (i n at : ℕ) (squares : List (List (List Bool)))
 size_at table i n at squares each far =
     let r = resolution_of table in
     let there : at < length squares = omega (arith, ap length each, length-map squares length, length-map-range_with_len (count_of r i) 0 n) in
-    sym (get_or-map length squares at 0 [] there) ∙ (ap (λ (z : List ℕ). get_or z at 0) each ∙ get_or-map-range_with_len (count_of r i) 0 n at at 0 far (omega arith))
+    sym (get_or-map length squares at [] 0 there) ∙ (ap (λ (z : List ℕ). get_or z at 0) each ∙ get_or-map-range_with_len (count_of r i) 0 n at at 0 far (omega arith))
 
 pub has_value : (table sphere : Staircase) (range : Range) → IsThrough range table.rows → IsThrough range sphere.rows → (class generator : Class) (x g : Place) (lift : LiftValues) → IsPlaceOf table range class x → IsPlaceOf table range generator g → generator.s ≡ class.s + 1 → IsLiftOver table sphere class.s x.above class.i 1 lift → HasValue lift 1 generator.t generator.i
 has_value table sphere range through sphere_through class generator x g lift x_is g_is row l =
