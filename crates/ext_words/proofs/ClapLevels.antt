@@ -1,21 +1,21 @@
 -- What `clap` makes of the words behind a command's name: it uses the parts that the grammar finds in them, one after another.
-use Rattle.std.proofs.Common.{◌≡◌, ℕ, refl, List, [], ◌∷◌, Bool, true, false, Option, Some, None, ap, sym, subst, ◌∙◌}
-use Rattle.std.specs.Prelude.{◌&&◌, option_and_then, IfSome, MatchOption, if◌then◌else◌}
+use Rattle.std.proofs.Common.{◌≡◌, ℕ, refl, inl, inr, ◌⊎◌, List, [], ◌∷◌, ◌++◌, Bool, true, false, Option, Some, None, ap, ap₂, sym, subst, ◌∙◌}
+use Rattle.std.specs.Prelude.{◌&&◌, option_and_then, option_to_list, is_some, MatchOption, if◌then◌else◌}
 use Rattle.std.specs.List.{fold}
 use Rattle.std.specs.Option.{option_map_or}
 use Rattle.std.specs.Str.{bytes_eq}
 use Rattle.std.proofs.lemmas.Bool.{or_parts, and_right}
 use Rattle.std.proofs.lemmas.Slice.Eq.{bytes_eq-Decides}
-use Rattle.clap.specs.Walk.{Row, Rule, Text, Held, Waiting, idle, option as waits_for, Step, next, value, Walk, arg_by_id, arg_by_index, walked, to_positional, settled, settled_rows, finished, used, used_by_id, has_row, is_pending, next_position, long_or_other, option_word, after_step, subcommand_met, word_met, after_flag, long_met}
+use Rattle.clap.specs.Walk.{Row, Rule, Text, Held, Waiting, idle, option as waits_for, Step, next, value, Walk, arg_by_id, arg_by_index, walked, to_positional, reacted, settled, finished, used_by_id, has_row, is_pending, next_position, long_or_other, option_word, after_step, subcommand_met, word_met}
 use Rattle.clap.specs.Lexer.{long_of}
 use Rattle.clap.specs.Simple.{Shape}
 use Rattle.clap.specs.Kinds.{Kinds, or_else}
-use Rattle.clap.specs.Faults.{flag_word_fault, long_fault, positional_fault, react_fault, step_fault, turn_fault, use_fault, walk_fault, word_fault, settle_fault, defaults_fault, check_fault}
+use Rattle.clap.specs.Faults.{flag_word_fault, positional_fault, step_fault, turn_fault, use_fault, walk_fault, word_fault, settle_fault, defaults_fault, check_fault}
 use Rattle.clap.specs.declared.error.kind.ErrorKind.TheVariants.{UnknownArgument, MissingRequiredArgument, InvalidValue}
-use Rattle.ext_words.specs.Words.{Part, plain, option, flag, with_next, with_word, parts_of}
+use Rattle.ext_words.specs.Words.{Part, plain, option, with_next, with_word, parts_of, fits, plain_words}
 use Rattle.ext_words.specs.Inside.CommandLine.{is_stray, has_stray}
-use Rattle.ext_words.proofs.ClapWords.{Fails, fails-first, fails-as, held, Arguments, IsOption, IsFlag, Passes, Meets, meets_plain, meets_none, meets_alone, meets_joined, meets_flag, meets, no-dashes, option_rule, flag_rule}
-use Rattle.ext_words.proofs.ClapParts.{leaf, word_rule, after_parts, IsWordOf, IsCommand, no-defaults, word-free, word-taken, option-free, option-taken, flag-free, flag-taken, next-of-next, next-of-option, next-of-flag, swap-word, swap-past, swap-option, swap-flag, swap-next, no, nothing}
+use Rattle.ext_words.proofs.ClapWords.{Fails, fails-first, fails-as, Arguments, IsOption, Passes, Uses, Meets, meets_plain, meets_none, meets_alone, meets_used, meets, no-dashes, option_rule}
+use Rattle.ext_words.proofs.ClapParts.{leaf, word_rule, Stand, IsCommand, no-defaults, use_row, IsUse, word-use, option-use, uses, once, appended, after_parts}
 
 -- ---- the errors and the end of a level, from where its walk stands
 
@@ -30,330 +30,257 @@ rest_fault s w words = or_else (walk_fault s [] w words) (end_fault s (fold (wal
 abbrev pub Ends : Shape → Walk → List Text → Option (List Row) → Type 0
 Ends s w words rows = MatchOption rows (Fails (rest_fault s w words)) (λ r. (rest_fault s w words ≡ []) × (finished s.rules (fold (walked s.rules []) w words).held ≡ r))
 
+ends-none : (s : Shape) (w : Walk) (words : List Text) (rows : Option (List Row)) → rows ≡ None → Fails (rest_fault s w words) → Ends s w words rows
+ends-none s w words rows none fails = subst (Ends s w words) (sym none) fails
+
 -- a word that is refused
 turn-fails : (s : Shape) (w : Walk) (word : Text) (words : List Text) → Fails (turn_fault s [] w word) → Fails (rest_fault s w (word ∷ words))
 unfolding walk_fault
 turn-fails s w word words fails = fails-first _ _ (fails-first _ _ fails)
 
 -- a word behind which the walk goes on
-pub turn-passes : (s : Shape) (w after : Walk) (word : Text) (words : List Text) (rows : Option (List Row)) → turn_fault s [] w word ≡ [] → walked s.rules [] w word ≡ after → Ends s after words rows → Ends s w (word ∷ words) rows
+turn-passes : (s : Shape) (w after : Walk) (word : Text) (words : List Text) (rows : Option (List Row)) → turn_fault s [] w word ≡ [] → walked s.rules [] w word ≡ after → Ends s after words rows → Ends s w (word ∷ words) rows
 unfolding walk_fault
 turn-passes s w after word words rows passes goes ends = go rows ends
   where
     fault : rest_fault s w (word ∷ words) ≡ rest_fault s after words
-    fault = ap (λ (turn : Kinds). or_else (or_else turn (walk_fault s [] (walked s.rules [] w word) words)) (end_fault s (fold (walked s.rules []) (walked s.rules [] w word) words).held)) passes
-        ∙ ap (λ (v : Walk). or_else (walk_fault s [] v words) (end_fault s (fold (walked s.rules []) v words).held)) goes
+    fault = ap₂ (λ (turn : Kinds) (v : Walk). or_else (or_else turn (walk_fault s [] v words)) (end_fault s (fold (walked s.rules []) v words).held)) passes goes
 
     go : (o : Option (List Row)) → Ends s after words o → Ends s w (word ∷ words) o
     go None fails = fails-as _ _ fault fails
     go (Some r) ends = (fault ∙ ends.0, ap (λ (v : Walk). finished s.rules (fold (walked s.rules []) v words).held) goes ∙ ends.1)
 
 -- where a walk stands between two words
-abbrev pub stand : Waiting → List Row → Option (Text × List Text) → ℕ → Walk
-stand waiting rows pending position = record { held = held rows pending; waiting = waiting; position = position; is_trailing = false; stopped = None }
+abbrev pub stand : Waiting → Held → ℕ → Walk
+stand waiting h position = record { held = h; waiting = waiting; position = position; is_trailing = false; stopped = None }
 
-abbrev pub at : List Row → Option (Text × List Text) → ℕ → Walk
-at = stand idle
+-- an argument with these values is to be used
+abbrev pub holding : Text → List Text → Held → Held
+holding id values h = record h { pending = Some (id, values) }
 
--- where the walk of a level begins
-abbrev pub start : Walk
-start = at [] None 1
+-- ---- what the parts give
 
--- ---- what is to be shown of the words
+alike : {X Y : Type 0} (f g : X → Option Y) → ((x : X) → f x ≡ g x) → (o : Option X) → option_and_then f o ≡ option_and_then g o
+alike f g same None = refl
+alike f g same (Some x) = same x
 
-pub first-kept : (word : Text) (words : List Text) → has_stray (word ∷ words) ≡ false → (is_stray word ≡ false) × (has_stray words ≡ false)
-first-kept word words kept = or_parts (is_stray word) (has_stray words) kept
+nothing : {X Y : Type 0} (f : X → Option Y) → ((x : X) → f x ≡ None) → (o : Option X) → option_and_then f o ≡ None
+nothing f none None = refl
+nothing f none (Some x) = none x
 
--- the walk where an option waits for its value
-abbrev pub waits : Text → List Row → ℕ → Walk
-waits name rows position = stand (waits_for name) rows (Some (name, [])) position
+one-use : (has fit : Bool) (before : List Row) (rows : List Row → Option (List Row)) →
+    option_and_then (λ (r : List Row). if fit then rows r else None) (if has then None else Some before) ≡ (if fit then (if has then None else rows before) else None)
+one-use true true before rows = refl
+one-use true false before rows = refl
+one-use false fit before rows = refl
 
--- `clap` uses the parts that the grammar finds
+-- the parts, with what a word makes of them
+module _ (make : Option (List Part) → Option (List Part)) (none : make None ≡ None) where
+  no-rows : (rows : List Part → Option (List Row)) → ((parts : List Part) → option_and_then rows (make (Some parts)) ≡ None) → (taken : Option (List Part)) → option_and_then rows (make taken) ≡ None
+  no-rows rows gone None = ap (option_and_then rows) none
+  no-rows rows gone (Some parts) = gone parts
+
+  -- one more part, which is used first
+  part-used : (u : Row) (part : Part) (ids others : List Text) (r : List Row) → ((parts : List Part) → make (Some parts) ≡ Some (part ∷ parts)) →
+      ((parts : List Part) → after_parts ids r (part ∷ parts) ≡ (if fits (plain_words parts) others then appended r (u ∷ uses parts others) else None)) → (taken : Option (List Part)) →
+      option_and_then (λ more. option_and_then (after_parts others more) taken) (once u r) ≡ option_and_then (after_parts ids r) (make taken)
+  part-used u part ids others r given same None = nothing (λ more. option_and_then (after_parts others more) None) (λ more. refl) (once u r) ∙ sym (ap (option_and_then (after_parts ids r)) none)
+  part-used u part ids others r given same (Some parts) =
+      one-use (has_row u.id r) (fits (plain_words parts) others) (r ++ u ∷ []) (λ more. appended more (uses parts others))
+      ∙ sym (ap (option_and_then (after_parts ids r)) (given parts) ∙ same parts)
+
+next-of-next : (n other : Text) (parts : List Part) → option_and_then (with_next n) (with_next other parts) ≡ None
+next-of-next n other [] = refl
+next-of-next n other (plain word ∷ parts) = refl
+next-of-next n other (option third text ∷ parts) = refl
+
+-- `clap` uses the parts that the grammar finds, where the words with these names are still to come
 pub record Follows (name : Text) (c : Arguments) (words : List Text) : Type 0 where
-  pub goes : (rows : List Row) (pending : Option (Text × List Text)) (position : ℕ) → settle_fault c.rules false (held rows pending) ≡ [] →
-      Ends (leaf name c.rules) (at rows pending position) words (option_and_then (after_parts c.rules (settled_rows c.rules pending rows) position) (parts_of c.options words))
-  pub waits_on : (option_name : Text) → IsOption c option_name → (rows : List Row) (position : ℕ) →
-      Ends (leaf name c.rules) (waits option_name rows position) words (option_and_then (after_parts c.rules rows position) (option_and_then (with_next option_name) (parts_of c.options words)))
-
--- ---- the turn of a word
-
-module _ (name : Text) (rules : List Rule) where
-  turn-of : (waiting : Waiting) (rows : List Row) (pending : Option (Text × List Text)) (position : ℕ) (word : Text) → subcommand_met [] waiting word ≡ None → is_stray word ≡ false →
-      (m : Held × Step) → long_or_other rules waiting word (long_of word) (held rows pending) ≡ m →
-      (turn_fault (leaf name rules) [] (stand waiting rows pending position) word ≡ or_else (flag_word_fault rules false (long_of word) word (held rows pending)) (step_fault (leaf name rules) position m.0 m.1))
-      × (walked rules [] (stand waiting rows pending position) word ≡ after_step rules word (stand waiting rows pending position) m.0 m.1)
-  unfolding walked
-  turn-of waiting rows pending position word unnamed kept m is =
-      let dashes = no-dashes word kept in
-      let met : word_met rules [] false waiting position word (held rows pending) ≡ m = rw (unnamed, dashes) is in
-      let fault : word_fault (leaf name rules) [] false waiting word (held rows pending) ≡ flag_word_fault rules false (long_of word) word (held rows pending) = rw (unnamed, dashes) refl in (
-        ap (λ (k : Kinds). or_else k (step_fault (leaf name rules) position (word_met rules [] false waiting position word (held rows pending)).0 (word_met rules [] false waiting position word (held rows pending)).1)) fault
-            ∙ ap (λ (n : Held × Step). or_else (flag_word_fault rules false (long_of word) word (held rows pending)) (step_fault (leaf name rules) position n.0 n.1)) met,
-        ap (λ (n : Held × Step). after_step rules word (stand waiting rows pending position) n.0 n.1) met,
-      )
-
-  pub flag-fails : (waiting : Waiting) (rows : List Row) (pending : Option (Text × List Text)) (position : ℕ) (word : Text) (words : List Text) → subcommand_met [] waiting word ≡ None → is_stray word ≡ false →
-      Fails (flag_word_fault rules false (long_of word) word (held rows pending)) → Fails (rest_fault (leaf name rules) (stand waiting rows pending position) (word ∷ words))
-  flag-fails waiting rows pending position word words unnamed kept fails =
-      turn-fails (leaf name rules) _ word words (fails-as _ _ (turn-of waiting rows pending position word unnamed kept _ refl).0 (fails-first _ _ fails))
-
-  -- a word that is no flag
-  plain-turn : (rows : List Row) (pending : Option (Text × List Text)) (position : ℕ) (word : Text) → is_stray word ≡ false → Passes rules word →
-      (turn_fault (leaf name rules) [] (at rows pending position) word ≡ step_fault (leaf name rules) position (held rows pending) value)
-      × (walked rules [] (at rows pending position) word ≡ to_positional rules (arg_by_index rules position) word (at rows pending position) (held rows pending))
-  plain-turn rows pending position word kept passes =
-      let turn = turn-of idle rows pending position word refl kept (held rows pending, value) (passes.met idle rows pending) in
-      (turn.0 ∙ ap (λ (k : Kinds). or_else k (step_fault (leaf name rules) position (held rows pending) value)) (passes.fault rows pending), turn.1)
-
-  -- where no word stands at this position
-  pub past-fails : (rows : List Row) (pending : Option (Text × List Text)) (position : ℕ) (word : Text) (words : List Text) → is_stray word ≡ false → Passes rules word → arg_by_index rules position ≡ None →
-      Fails (rest_fault (leaf name rules) (at rows pending position) (word ∷ words))
-  past-fails rows pending position word words kept passes none =
-      let is = (plain-turn rows pending position word kept passes).0
-      ∙ ap (λ (found : Option Rule). option_map_or (λ a. positional_fault rules false a (held rows pending)) found (UnknownArgument ∷ [])) none in
-      turn-fails (leaf name rules) _ word words (record { first = UnknownArgument; others = []; is = is })
-
-  pub word-turn : (rows : List Row) (pending : Option (Text × List Text)) (position : ℕ) (word : Text) → is_stray word ≡ false → Passes rules word → (a : Rule) → IsWordOf rules a → arg_by_index rules position ≡ Some a →
-      (turn_fault (leaf name rules) [] (at rows pending position) word ≡ settle_fault rules false (held rows pending))
-      × (walked rules [] (at rows pending position) word ≡ at (settled_rows rules pending rows) (Some (a.id, word ∷ [])) (next_position a position))
-  word-turn rows pending position word kept passes a word_of found =
-      let turn = plain-turn rows pending position word kept passes in
-      let here : arg_by_index rules position ≡ Some (word_rule word_of.position word_of.id) = found ∙ ap Some word_of.is in
-      let single : (is_pending (word_rule word_of.position word_of.id) pending && false) ≡ false = and_right _ false refl in (
-        turn.0 ∙ (ap (λ (o : Option Rule). option_map_or (λ b. positional_fault rules false b (held rows pending)) o (UnknownArgument ∷ [])) here
-            ∙ ap (λ (b : Bool). if b then [] else settle_fault rules false (held rows pending)) single),
-        turn.1 ∙ (ap (λ (o : Option Rule). to_positional rules o word (at rows pending position) (held rows pending)) here
-            ∙ (rw single refl ∙ ap (λ (b : Rule). at (settled_rows rules pending rows) (Some (b.id, word ∷ [])) (next_position b position)) (sym word_of.is))),
-      )
+  pub goes : (h : Held) (ids : List Text) (position : ℕ) → Stand c.rules position ids → settle_fault c.rules false h ≡ [] →
+      Ends (leaf name c.rules) (stand idle h position) words (option_and_then (after_parts ids (settled c.rules h).rows) (parts_of c.options words))
+  pub waits_on : (n : Text) → IsOption c true n → (h : Held) (ids : List Text) (position : ℕ) → Stand c.rules position ids →
+      Ends (leaf name c.rules) (stand (waits_for n) (holding n [] h) position) words (option_and_then (after_parts ids h.rows) (option_and_then (with_next n) (parts_of c.options words)))
 
 -- ---- a command with these arguments
 
 module _ (name : Text) (c : Arguments) (command : IsCommand c) where
-  -- the command's rules
-  abbrev rules : List Rule
-  rules = c.rules
+  abbrev level : Shape
+  level = leaf name c.rules
 
-  -- `--name`
-  alone-fault : (word option_name : Text) → IsOption c option_name → (rows : List Row) (pending : Option (Text × List Text)) → long_of word ≡ Some (option_name, None) → flag_word_fault rules false (long_of word) word (held rows pending) ≡ settle_fault rules false (held rows pending)
-  alone-fault word option_name is_option rows pending is =
-      ap (λ (l : Option (Text × Option Text)). flag_word_fault rules false l word (held rows pending)) is ∙ ap (λ (found : Option Rule). long_fault rules false found None (held rows pending)) is_option.by_long
+  -- the errors of a word as a flag
+  abbrev flagged : Text → Held → Kinds
+  flagged word h = flag_word_fault c.rules false (long_of word) word h
 
-  alone-met : (word option_name : Text) → IsOption c option_name → (rows : List Row) (pending : Option (Text × List Text)) → long_of word ≡ Some (option_name, None) →
-      long_or_other rules idle word (long_of word) (held rows pending) ≡ (held (settled_rows rules pending rows) (Some (option_name, [])), next (waits_for option_name))
-  alone-met word option_name is_option rows pending is =
-      ap (λ (l : Option (Text × Option Text)). long_or_other rules idle word l (held rows pending)) is
-      ∙ ap (λ (found : Option Rule). after_flag rules idle word (long_met rules found None (held rows pending)).0 (long_met rules found None (held rows pending)).1) is_option.by_long
+  -- ---- the turn of a word
 
-  -- `--name=value`
-  joined-fault : (word option_name text : Text) → IsOption c option_name → (rows : List Row) (pending : Option (Text × List Text)) → long_of word ≡ Some (option_name, Some text) →
-      flag_word_fault rules false (long_of word) word (held rows pending) ≡ react_fault rules false (option_rule option_name) (text ∷ []) (held rows pending)
-  joined-fault word option_name text is_option rows pending is =
-      ap (λ (l : Option (Text × Option Text)). flag_word_fault rules false l word (held rows pending)) is ∙ ap (λ (found : Option Rule). long_fault rules false found (Some text) (held rows pending)) is_option.by_long
+  turn : (waiting : Waiting) (h : Held) (position : ℕ) (word : Text) → subcommand_met [] waiting word ≡ None → is_stray word ≡ false → (m : Held × Step) → long_or_other c.rules waiting word (long_of word) h ≡ m →
+      (turn_fault level [] (stand waiting h position) word ≡ or_else (flagged word h) (step_fault level position m.0 m.1))
+      × (walked c.rules [] (stand waiting h position) word ≡ after_step c.rules word (stand waiting h position) m.0 m.1)
+  unfolding walked
+  turn waiting h position word unnamed kept m is =
+      let dashes = no-dashes word kept in
+      let met : word_met c.rules [] false waiting position word h ≡ m = rw (unnamed, dashes) is in
+      let fault : word_fault level [] false waiting word h ≡ flagged word h = rw (unnamed, dashes) refl in
+      (ap₂ (λ (k : Kinds) (n : Held × Step). or_else k (step_fault level position n.0 n.1)) fault met, ap (λ (n : Held × Step). after_step c.rules word (stand waiting h position) n.0 n.1) met)
 
-  joined-met : (word option_name text : Text) → IsOption c option_name → (rows : List Row) (pending : Option (Text × List Text)) → long_of word ≡ Some (option_name, Some text) →
-      long_or_other rules idle word (long_of word) (held rows pending) ≡ (held (used (option_rule option_name) (text ∷ []) (settled_rows rules pending rows)) None, next idle)
-  joined-met word option_name text is_option rows pending is =
-      ap (λ (l : Option (Text × Option Text)). long_or_other rules idle word l (held rows pending)) is
-      ∙ ap (λ (found : Option Rule). after_flag rules idle word (long_met rules found (Some text) (held rows pending)).0 (long_met rules found (Some text) (held rows pending)).1) is_option.by_long
+  flag-fails : (waiting : Waiting) (h : Held) (position : ℕ) (word : Text) (words : List Text) → subcommand_met [] waiting word ≡ None → is_stray word ≡ false → Fails (flagged word h) → Fails (rest_fault level (stand waiting h position) (word ∷ words))
+  flag-fails waiting h position word words unnamed kept fails = turn-fails level _ word words (fails-as _ _ (turn waiting h position word unnamed kept _ refl).0 (fails-first _ _ fails))
 
-  -- a flag
-  flag-fault : (word flag_name : Text) → IsFlag c flag_name → (rows : List Row) (pending : Option (Text × List Text)) → long_of word ≡ Some (flag_name, None) →
-      flag_word_fault rules false (long_of word) word (held rows pending) ≡ react_fault rules false (flag_rule flag_name) [] (held rows pending)
-  flag-fault word flag_name is_flag rows pending is =
-      ap (λ (l : Option (Text × Option Text)). flag_word_fault rules false l word (held rows pending)) is ∙ ap (λ (found : Option Rule). long_fault rules false found None (held rows pending)) is_flag.by_long
+  -- a word that is no value, behind which the walk goes on
+  steps : (waiting : Waiting) (h : Held) (position : ℕ) (word : Text) (words : List Text) → subcommand_met [] waiting word ≡ None → is_stray word ≡ false → (after : Held) (waits : Waiting) → long_or_other c.rules waiting word (long_of word) h ≡ (after, next waits) → flagged word h ≡ [] →
+      (rows : Option (List Row)) → Ends level (stand waits after position) words rows → Ends level (stand waiting h position) (word ∷ words) rows
+  steps waiting h position word words unnamed kept after waits met fault rows ends =
+      let t = turn waiting h position word unnamed kept (after, next waits) met in
+      turn-passes level _ (stand waits after position) word words rows (t.0 ∙ ap (λ (k : Kinds). or_else k []) fault) t.1 ends
 
-  flag-met : (word flag_name : Text) → IsFlag c flag_name → (rows : List Row) (pending : Option (Text × List Text)) → long_of word ≡ Some (flag_name, None) →
-      long_or_other rules idle word (long_of word) (held rows pending) ≡ (held (used (flag_rule flag_name) [] (settled_rows rules pending rows)) None, next idle)
-  flag-met word flag_name is_flag rows pending is =
-      ap (λ (l : Option (Text × Option Text)). long_or_other rules idle word l (held rows pending)) is
-      ∙ ap (λ (found : Option Rule). after_flag rules idle word (long_met rules found None (held rows pending)).0 (long_met rules found None (held rows pending)).1) is_flag.by_long
+  -- a word that is no flag, by what stands at its position
+  plain-turn : (h : Held) (position : ℕ) (word : Text) → is_stray word ≡ false → Passes c.rules word → (found : Option Rule) → arg_by_index c.rules position ≡ found →
+      (turn_fault level [] (stand idle h position) word ≡ option_map_or (λ a. positional_fault c.rules false a h) found (UnknownArgument ∷ []))
+      × (walked c.rules [] (stand idle h position) word ≡ to_positional c.rules found word (stand idle h position) h)
+  plain-turn h position word kept passes found is =
+      let t = turn idle h position word refl kept (h, value) (passes.met idle h) in (
+        t.0 ∙ ap₂ (λ (k : Kinds) (o : Option Rule). or_else k (option_map_or (λ a. positional_fault c.rules false a h) o (UnknownArgument ∷ []))) (passes.fault h) is,
+        t.1 ∙ ap (λ (o : Option Rule). to_positional c.rules o word (stand idle h position) h) is,
+      )
+
+  no-word-fails : (h : Held) (position : ℕ) (word : Text) (words : List Text) → is_stray word ≡ false → Passes c.rules word → arg_by_index c.rules position ≡ None → Fails (rest_fault level (stand idle h position) (word ∷ words))
+  no-word-fails h position word words kept passes none = turn-fails level _ word words (record { first = UnknownArgument; others = []; is = (plain-turn h position word kept passes None none).0 })
+
+  word-turn : (h : Held) (position : ℕ) (id word : Text) → is_stray word ≡ false → Passes c.rules word → arg_by_index c.rules position ≡ Some (word_rule position id) →
+      (turn_fault level [] (stand idle h position) word ≡ settle_fault c.rules false h)
+      × (walked c.rules [] (stand idle h position) word ≡ stand idle (holding id (word ∷ []) (settled c.rules h)) (next_position (word_rule position id) position))
+  word-turn h position id word kept passes found =
+      let t = plain-turn h position word kept passes _ found in
+      let single : (is_pending (word_rule position id) h.pending && false) ≡ false = and_right _ false refl in
+      (t.0 ∙ ap (λ (b : Bool). if b then [] else settle_fault c.rules false h) single, t.1 ∙ rw single refl)
 
   -- ---- a use that waits, and fails, fails with the next word
 
-  doomed-plain : (rows : List Row) (pending : Option (Text × List Text)) (position : ℕ) (word : Text) (words : List Text) → is_stray word ≡ false → Passes rules word → Fails (settle_fault rules false (held rows pending)) →
-      (found : Option Rule) → arg_by_index rules position ≡ found → IfSome found (IsWordOf rules) → Fails (rest_fault (leaf name rules) (at rows pending position) (word ∷ words))
-  doomed-plain rows pending position word words kept passes fails None none h = past-fails name rules rows pending position word words kept passes none
-  doomed-plain rows pending position word words kept passes fails (Some a) found word_of =
-      turn-fails (leaf name rules) _ word words (fails-as _ _ (word-turn name rules rows pending position word kept passes a word_of found).0 fails)
+  -- a word that is a flag fails then, and no option takes it as its value
+  record Dooms (word : Text) : Type 0 where
+    fails : (h : Held) → Fails (settle_fault c.rules false h) → Fails (flagged word h)
+    no_value : (n : Text) (parts : List Part) → option_and_then (with_next n) (with_word c.options word parts) ≡ None
 
-  doomed : (rows : List Row) (pending : Option (Text × List Text)) (position : ℕ) (words : List Text) → has_stray words ≡ false → Fails (settle_fault rules false (held rows pending)) → Fails (rest_fault (leaf name rules) (at rows pending position) words)
+  sorted : (word : Text) → Meets c word → (Passes c.rules word × ((parts : List Part) → with_word c.options word parts ≡ Some (plain word ∷ parts))) ⊎ Dooms word
+  sorted word (meets_plain passes given) = inl (passes, given)
+  sorted word (meets_none refuses given) = inr (record { fails = λ h _. refuses h; no_value = λ n parts. ap (option_and_then (with_next n)) (given parts) })
+  sorted word (meets_alone other is starts given) =
+      inr (record { fails = λ h fails. fails-as _ _ (starts.fault h) fails; no_value = λ n parts. ap (option_and_then (with_next n)) (given parts) ∙ next-of-next n other parts })
+  sorted word (meets_used other text is used given) =
+      inr (record { fails = λ h fails. fails-as _ _ (used.fault h) (fails-first _ _ fails); no_value = λ n parts. ap (option_and_then (with_next n)) (given parts) })
+
+  plain-doomed : (h : Held) (ids : List Text) (position : ℕ) (word : Text) (words : List Text) → is_stray word ≡ false → Passes c.rules word → Stand c.rules position ids → Fails (settle_fault c.rules false h) → Fails (rest_fault level (stand idle h position) (word ∷ words))
+  plain-doomed h [] position word words kept passes none fails = no-word-fails h position word words kept passes none
+  plain-doomed h (id ∷ ids) position word words kept passes stands fails = turn-fails level _ word words (fails-as _ _ (word-turn h position id word kept passes stands.0).0 fails)
+
+  doomed : (h : Held) (ids : List Text) (position : ℕ) (words : List Text) → has_stray words ≡ false → Stand c.rules position ids → Fails (settle_fault c.rules false h) → Fails (rest_fault level (stand idle h position) words)
   unfolding walk_fault
-  doomed rows pending position [] all_kept fails = fails-first _ _ fails
-  doomed rows pending position (word ∷ words) all_kept fails =
-      let kept = (first-kept word words all_kept).0 in
-      elim (meets c command.named word kept) [
-        | meets_plain passes given ↦ doomed-plain rows pending position word words kept passes fails (arg_by_index rules position) refl (command.at_position position)
-        | meets_none refuses given ↦ flag-fails name rules idle rows pending position word words refl kept (refuses rows pending)
-        | meets_alone n o is given ↦ flag-fails name rules idle rows pending position word words refl kept (fails-as _ _ (alone-fault word n o rows pending is) fails)
-        | meets_joined n v o is given ↦ flag-fails name rules idle rows pending position word words refl kept (fails-as _ _ (joined-fault word n v o rows pending is) (fails-first _ _ fails))
-        | meets_flag n f is given ↦ flag-fails name rules idle rows pending position word words refl kept (fails-as _ _ (flag-fault word n f rows pending is) (fails-first _ _ fails))
+  doomed h ids position [] all_kept stands fails = fails-first _ _ fails
+  doomed h ids position (word ∷ words) all_kept stands fails =
+      let kept = (or_parts (is_stray word) (has_stray words) all_kept).0 in
+      elim (sorted word (meets c command.named word kept)) [
+        | inl taken ↦ plain-doomed h ids position word words kept taken.0 stands fails
+        | inr dooms ↦ flag-fails idle h position word words refl kept (dooms.fails h fails)
       ]
 
-  -- ---- the walk, in front of one more word
+  -- an option without its value
+  unsettled : (n : Text) → IsOption c true n → (h : Held) → Fails (settle_fault c.rules false (holding n [] h))
+  unsettled n is h = record { first = InvalidValue; others = []; is = ap (λ (found : Option Rule). option_map_or (λ b. use_fault false b [] h.rows) found []) is.by_id }
 
-  -- a word is the value of an argument, which is used with the next word
-  after-use : (a : Rule) (rows : List Row) (word : Text) (position : ℕ) (words : List Text) → has_stray words ≡ false → arg_by_id rules a.id ≡ Some a →
-      (has_row a.id rows ≡ false → use_fault false a (word ∷ []) rows ≡ []) → (has_row a.id rows ≡ true → Fails (use_fault false a (word ∷ []) rows)) → Follows name c words →
-      (has : Bool) → has_row a.id rows ≡ has → Ends (leaf name rules) (at rows (Some (a.id, word ∷ [])) position) words (option_and_then (λ more. option_and_then (after_parts rules more position) (parts_of c.options words)) (if has then None else Some (used a (word ∷ []) rows)))
-  after-use a rows word position words all_kept own free again rest true has =
-      doomed rows (Some (a.id, word ∷ [])) position words all_kept (fails-as _ _ (ap (λ (found : Option Rule). option_map_or (λ b. use_fault false b (word ∷ []) rows) found []) own) (again has))
-  after-use a rows word position words all_kept own free again rest false has =
-      let settles : settle_fault rules false (held rows (Some (a.id, word ∷ []))) ≡ [] = ap (λ (found : Option Rule). option_map_or (λ b. use_fault false b (word ∷ []) rows) found []) own ∙ free has in
-      let rows_are : settled_rows rules (Some (a.id, word ∷ [])) rows ≡ used a (word ∷ []) rows = ap (λ (found : Option Rule). used_by_id found (word ∷ []) rows) own in
-      subst (λ (r : List Row). Ends (leaf name rules) (at rows (Some (a.id, word ∷ [])) position) words (option_and_then (after_parts rules r position) (parts_of c.options words))) rows_are (rest.goes rows (Some (a.id, word ∷ [])) position settles)
-
-  go-plain : (word : Text) (words : List Text) → is_stray word ≡ false → has_stray words ≡ false → Passes rules word → Follows name c words →
-      (rows : List Row) (pending : Option (Text × List Text)) (position : ℕ) → settle_fault rules false (held rows pending) ≡ [] → (found : Option Rule) → arg_by_index rules position ≡ found → IfSome found (IsWordOf rules) →
-      Ends (leaf name rules) (at rows pending position) (word ∷ words) (option_and_then (after_parts rules (settled_rows rules pending rows) position) (option_and_then (λ parts. Some (plain word ∷ parts)) (parts_of c.options words)))
-  go-plain word words kept all_kept passes rest rows pending position settles None none h =
-      subst (λ (o : Option (List Row)). Ends (leaf name rules) (at rows pending position) (word ∷ words) o) (swap-past rules (settled_rows rules pending rows) position word none (parts_of c.options words)) (past-fails name rules rows pending position word words kept passes none)
-  go-plain word words kept all_kept passes rest rows pending position settles (Some a) found word_of =
-      let r = settled_rows rules pending rows in
-      let turn = word-turn name rules rows pending position word kept passes a word_of found in
-      let own : arg_by_id rules a.id ≡ Some a = ap (λ (b : Rule). arg_by_id rules b.id) word_of.is ∙ word_of.own in
-      let free = subst (λ (b : Rule). has_row b.id r ≡ false → use_fault false b (word ∷ []) r ≡ []) (sym word_of.is) (word-free word_of.position word_of.id word r) in
-      let again = subst (λ (b : Rule). has_row b.id r ≡ true → Fails (use_fault false b (word ∷ []) r)) (sym word_of.is) (word-taken word_of.position word_of.id word r) in
-      turn-passes (leaf name rules) (at rows pending position) (at r (Some (a.id, word ∷ [])) (next_position a position)) word words _ (turn.0 ∙ settles) turn.1
-      (subst (λ (o : Option (List Row)). Ends (leaf name rules) (at r (Some (a.id, word ∷ [])) (next_position a position)) words o) (swap-word rules r position word a found (parts_of c.options words))
-      (after-use a r word (next_position a position) words all_kept own free again rest (has_row a.id r) refl))
-
-  go-alone : (word option_name : Text) (words : List Text) → is_stray word ≡ false → IsOption c option_name → long_of word ≡ Some (option_name, None) → Follows name c words →
-      (rows : List Row) (pending : Option (Text × List Text)) (position : ℕ) → settle_fault rules false (held rows pending) ≡ [] →
-      Ends (leaf name rules) (at rows pending position) (word ∷ words) (option_and_then (after_parts rules (settled_rows rules pending rows) position) (option_and_then (with_next option_name) (parts_of c.options words)))
-  go-alone word option_name words kept is_option is rest rows pending position settles =
-      let r = settled_rows rules pending rows in
-      let turn = turn-of name rules idle rows pending position word refl kept (held r (Some (option_name, [])), next (waits_for option_name)) (alone-met word option_name is_option rows pending is) in
-      turn-passes (leaf name rules) (at rows pending position) (waits option_name r position) word words _ (turn.0 ∙ ap (λ (k : Kinds). or_else k []) (alone-fault word option_name is_option rows pending is ∙ settles)) turn.1 (rest.waits_on option_name is_option r position)
-
-  -- a word that is an option with all its values
-  go-used : (a : Rule) (given : List Text) (word : Text) (words : List Text) → is_stray word ≡ false → Follows name c words →
-      (rows : List Row) (pending : Option (Text × List Text)) (position : ℕ) → settle_fault rules false (held rows pending) ≡ [] →
-      flag_word_fault rules false (long_of word) word (held rows pending) ≡ react_fault rules false a given (held rows pending) →
-      long_or_other rules idle word (long_of word) (held rows pending) ≡ (held (used a given (settled_rows rules pending rows)) None, next idle) →
-      (has_row a.id (settled_rows rules pending rows) ≡ false → use_fault false a given (settled_rows rules pending rows) ≡ []) →
-      (has_row a.id (settled_rows rules pending rows) ≡ true → Fails (use_fault false a given (settled_rows rules pending rows))) →
-      (has : Bool) → has_row a.id (settled_rows rules pending rows) ≡ has →
-      Ends (leaf name rules) (at rows pending position) (word ∷ words) (option_and_then (λ more. option_and_then (after_parts rules more position) (parts_of c.options words)) (if has then None else Some (used a given (settled_rows rules pending rows))))
-  go-used a given word words kept rest rows pending position settles reacts met free taken true has =
-      let r = settled_rows rules pending rows in
-      let fault = reacts ∙ ap (λ (k : Kinds). or_else k (use_fault false a given r)) settles in
-      flag-fails name rules idle rows pending position word words refl kept (fails-as _ _ fault (taken has))
-  go-used a given word words kept rest rows pending position settles reacts met free taken false has =
-      let r = settled_rows rules pending rows in
-      let fault = reacts ∙ (ap (λ (k : Kinds). or_else k (use_fault false a given r)) settles ∙ free has) in
-      let after = used a given r in
-      let turn = turn-of name rules idle rows pending position word refl kept (held after None, next idle) met in
-      turn-passes (leaf name rules) (at rows pending position) (at after None position) word words _ (turn.0 ∙ ap (λ (k : Kinds). or_else k []) fault) turn.1 (rest.goes after None position refl)
-
-  -- ---- the walk that waits for a value
-
-  unsettled : (option_name : Text) → IsOption c option_name → (rows : List Row) → Fails (settle_fault rules false (held rows (Some (option_name, []))))
-  unsettled option_name is_option rows = record { first = InvalidValue; others = []; is = ap (λ (found : Option Rule). option_map_or (λ b. use_fault false b [] rows) found []) is_option.by_id }
-
-  -- a word that settles what waits, where it has no value
-  wait-fails : (option_name : Text) → IsOption c option_name → (word : Text) (words : List Text) → is_stray word ≡ false → (rows : List Row) (position : ℕ) → Fails (flag_word_fault rules false (long_of word) word (held rows (Some (option_name, [])))) →
-      (taken : Option (List Row)) → taken ≡ None → Ends (leaf name rules) (waits option_name rows position) (word ∷ words) taken
-  wait-fails option_name is_option word words kept rows position fails taken none =
-      subst (λ (o : Option (List Row)). Ends (leaf name rules) (waits option_name rows position) (word ∷ words) o) (sym none)
-      (flag-fails name rules (waits_for option_name) rows (Some (option_name, [])) position word words refl kept fails)
-
-  wait-plain : (option_name : Text) → IsOption c option_name → (word : Text) (words : List Text) → is_stray word ≡ false → has_stray words ≡ false → Passes rules word → Follows name c words → (rows : List Row) (position : ℕ) →
-      Ends (leaf name rules) (waits option_name rows position) (word ∷ words) (option_and_then (after_parts rules rows position) (option_and_then (with_next option_name) (option_and_then (λ parts. Some (plain word ∷ parts)) (parts_of c.options words))))
-  wait-plain option_name is_option word words kept all_kept passes rest rows position =
-      let waiting = waits_for option_name in
-      let before = held rows (Some (option_name, [])) in
-      let after = at rows (Some (option_name, word ∷ [])) position in
-      let a = option_rule option_name in
-      let same : bytes_eq option_name option_name ≡ true = (bytes_eq-Decides option_name option_name).1 refl in
-      let whole : ((option_word (Some a) option_name word before).0, next (option_word (Some a) option_name word before).1) ≡ (held rows (Some (option_name, word ∷ [])), next idle) = rw same refl in
-      let is : long_or_other rules waiting word (long_of word) before ≡ (held rows (Some (option_name, word ∷ [])), next idle) =
-      passes.met waiting rows (Some (option_name, [])) ∙ (ap (λ (found : Option Rule). ((option_word found option_name word before).0, next (option_word found option_name word before).1)) is_option.by_id ∙ whole) in
-      let turn = turn-of name rules waiting rows (Some (option_name, [])) position word refl kept (held rows (Some (option_name, word ∷ [])), next idle) is in
-      turn-passes (leaf name rules) (waits option_name rows position) after word words _ (turn.0 ∙ ap (λ (k : Kinds). or_else k []) (passes.fault rows (Some (option_name, [])))) turn.1
-      (subst (λ (o : Option (List Row)). Ends (leaf name rules) after words o) (swap-next rules rows position option_name a is_option.by_id word (parts_of c.options words))
-      (after-use a rows word position words all_kept is_option.by_id (option-free option_name word rows) (option-taken option_name word rows) rest (has_row option_name rows) refl))
+  -- an argument that has its values is used with the next word
+  after-use : (id : Text) (a : Rule) (values : List Text) → IsUse id a values → arg_by_id c.rules id ≡ Some a → (h : Held) (ids : List Text) (position : ℕ) (words : List Text) → has_stray words ≡ false → Stand c.rules position ids → Follows name c words →
+      (has : Bool) → has_row id h.rows ≡ has → Ends level (stand idle (holding id values h) position) words (option_and_then (λ more. option_and_then (after_parts ids more) (parts_of c.options words)) (if has then None else Some (h.rows ++ use_row id values ∷ [])))
+  after-use id a values may own h ids position words all_kept stands rest true has =
+      doomed (holding id values h) ids position words all_kept stands (fails-as _ _ (ap (λ (found : Option Rule). option_map_or (λ b. use_fault false b values h.rows) found []) own) (may.taken h.rows has))
+  after-use id a values may own h ids position words all_kept stands rest false has =
+      let settles : settle_fault c.rules false (holding id values h) ≡ [] = ap (λ (found : Option Rule). option_map_or (λ b. use_fault false b values h.rows) found []) own ∙ may.free h.rows has in
+      let rows_are : (settled c.rules (holding id values h)).rows ≡ h.rows ++ use_row id values ∷ [] = ap (λ (found : Option Rule). used_by_id found values h.rows) own ∙ may.new h.rows has in
+      subst (λ (r : List Row). Ends level (stand idle (holding id values h) position) words (option_and_then (after_parts ids r) (parts_of c.options words))) rows_are (rest.goes (holding id values h) ids position stands settles)
 
   -- ---- the words, one after another
 
-  go-none : (rows : List Row) (pending : Option (Text × List Text)) (position : ℕ) → settle_fault rules false (held rows pending) ≡ [] →
-      Ends (leaf name rules) (at rows pending position) [] (Some (settled_rows rules pending rows))
+  none-left : Follows name c []
   unfolding walk_fault
-  go-none rows pending position settles =
-      let r = settled_rows rules pending rows in
-      let defaults = no-defaults rules r command.no_defaults in
-      let ended : or_else (defaults_fault r rules) (check_fault (leaf name rules) (finished rules (held rows pending)) false) ≡ [] =
-      ap (λ (k : Kinds). or_else k (check_fault (leaf name rules) (finished rules (held rows pending)) false)) defaults.0
-      ∙ ap (λ (b : Bool). if b then MissingRequiredArgument ∷ [] else []) (command.none_lacking (finished rules (held rows pending))) in
-      (ap (λ (k : Kinds). or_else k (or_else (defaults_fault r rules) (check_fault (leaf name rules) (finished rules (held rows pending)) false))) settles ∙ ended, defaults.1)
-
-  wait-none : (option_name : Text) → IsOption c option_name → (rows : List Row) (position : ℕ) → Fails (rest_fault (leaf name rules) (waits option_name rows position) [])
-  unfolding walk_fault
-  wait-none option_name is_option rows position = fails-first _ _ (unsettled option_name is_option rows)
-
-  -- the grammar's part of one more word
-  by-step : (word : Text) (step : List Part → Option (List Part)) → ((parts : List Part) → with_word c.options word parts ≡ step parts) → (taken : Option (List Part)) → option_and_then step taken ≡ option_and_then (with_word c.options word) taken
-  by-step word step same None = refl
-  by-step word step same (Some parts) = sym (same parts)
+  none-left = record {
+    goes = λ h ids position stands settles.
+        let defaults = no-defaults c.rules (settled c.rules h).rows command.no_defaults in
+        let ended : or_else (defaults_fault (settled c.rules h).rows c.rules) (check_fault level (finished c.rules h) false) ≡ [] =
+        ap₂ (λ (k : Kinds) (b : Bool). or_else k (if b then MissingRequiredArgument ∷ [] else [])) defaults.0 (command.none_lacking (finished c.rules h)) in
+        (ap (λ (k : Kinds). or_else k (or_else (defaults_fault (settled c.rules h).rows c.rules) (check_fault level (finished c.rules h) false))) settles ∙ ended, defaults.1);
+    waits_on = λ n is h ids position stands. fails-first _ _ (unsettled n is h);
+  }
 
   module _ (word : Text) (words : List Text) (kept : is_stray word ≡ false) (all_kept : has_stray words ≡ false) (rest : Follows name c words) where
-    abbrev Before : Walk → (List Part → Option (List Row)) → (List Part → Option (List Part)) → Type 0
-    Before w rows step = Ends (leaf name rules) w (word ∷ words) (option_and_then rows (option_and_then step (parts_of c.options words)))
+    -- the parts behind the word, and those with it
+    abbrev taken : Option (List Part)
+    taken = parts_of c.options words
 
-    abbrev Waited : Walk → Text → (List Part → Option (List Row)) → (List Part → Option (List Part)) → Type 0
-    Waited w n rows step = Ends (leaf name rules) w (word ∷ words) (option_and_then rows (option_and_then (with_next n) (option_and_then step (parts_of c.options words))))
+    abbrev made : Option (List Part) → Option (List Part)
+    made = option_and_then (with_word c.options word)
 
-    -- with the part that a word is
-    more-by : (step : List Part → Option (List Part)) → ((parts : List Part) → with_word c.options word parts ≡ step parts) →
-        ((rows : List Row) (pending : Option (Text × List Text)) (position : ℕ) → settle_fault rules false (held rows pending) ≡ [] → Before (at rows pending position) (after_parts rules (settled_rows rules pending rows) position) step) →
-        ((n : Text) → IsOption c n → (rows : List Row) (position : ℕ) → Waited (waits n rows position) n (after_parts rules rows position) step) → Follows name c (word ∷ words)
-    more-by step same goes waits_on = record {
-      goes = λ rows pending position settles. subst (λ (o : Option (List Part)). Ends (leaf name rules) (at rows pending position) (word ∷ words) (option_and_then (after_parts rules (settled_rows rules pending rows) position) o)) (by-step word step same (parts_of c.options words)) (goes rows pending position settles);
-      waits_on = λ n is_option rows position. subst (λ (o : Option (List Part)). Ends (leaf name rules) (waits n rows position) (word ∷ words) (option_and_then (after_parts rules rows position) (option_and_then (with_next n) o))) (by-step word step same (parts_of c.options words)) (waits_on n is_option rows position);
+    go-plain : Passes c.rules word → ((parts : List Part) → with_word c.options word parts ≡ Some (plain word ∷ parts)) → (h : Held) (ids : List Text) (position : ℕ) → Stand c.rules position ids → settle_fault c.rules false h ≡ [] →
+        Ends level (stand idle h position) (word ∷ words) (option_and_then (after_parts ids (settled c.rules h).rows) (made taken))
+    go-plain passes given h [] position none settles =
+        ends-none level (stand idle h position) (word ∷ words) _ (no-rows made refl (after_parts [] (settled c.rules h).rows) (λ parts. ap (option_and_then (after_parts [] (settled c.rules h).rows)) (given parts)) taken) (no-word-fails h position word words kept passes none)
+    go-plain passes given h (id ∷ ids) position stands settles =
+        let t = word-turn h position id word kept passes stands.0 in
+        let s = settled c.rules h in
+        let next_place = next_position (word_rule position id) position in
+        turn-passes level (stand idle h position) (stand idle (holding id (word ∷ []) s) next_place) word words _ (t.0 ∙ settles) t.1
+        (subst (Ends level (stand idle (holding id (word ∷ []) s) next_place) words) (part-used made refl (use_row id (word ∷ [])) (plain word) (id ∷ ids) ids s.rows given (λ parts. refl) taken)
+        (after-use id (word_rule position id) (word ∷ []) (word-use position id word) stands.1 s ids next_place words all_kept stands.2 rest (has_row id s.rows) refl))
+
+    go-used : (n : Text) (text : Option Text) → Uses c.rules (option_rule (is_some text) n) (option_to_list text) word → (h : Held) (ids : List Text) (position : ℕ) → Stand c.rules position ids → settle_fault c.rules false h ≡ [] →
+        (has : Bool) → has_row n (settled c.rules h).rows ≡ has → Ends level (stand idle h position) (word ∷ words) (option_and_then (λ more. option_and_then (after_parts ids more) taken) (if has then None else Some ((settled c.rules h).rows ++ use_row n (option_to_list text) ∷ [])))
+    go-used n text used_is h ids position stands settles true has =
+        let fault = used_is.fault h ∙ ap (λ (k : Kinds). or_else k (use_fault false (option_rule (is_some text) n) (option_to_list text) (settled c.rules h).rows)) settles in
+        flag-fails idle h position word words refl kept (fails-as _ _ fault ((option-use n text).taken (settled c.rules h).rows has))
+    go-used n text used_is h ids position stands settles false has =
+        let may = option-use n text in
+        let fault = used_is.fault h ∙ (ap (λ (k : Kinds). or_else k (use_fault false (option_rule (is_some text) n) (option_to_list text) (settled c.rules h).rows)) settles ∙ may.free (settled c.rules h).rows has) in
+        let after = reacted c.rules (option_rule (is_some text) n) (option_to_list text) h in
+        steps idle h position word words refl kept after idle (used_is.met h) fault _
+        (subst (λ (r : List Row). Ends level (stand idle after position) words (option_and_then (after_parts ids r) taken)) (may.new (settled c.rules h).rows has) (rest.goes after ids position stands refl))
+
+    wait-plain : Passes c.rules word → ((parts : List Part) → with_word c.options word parts ≡ Some (plain word ∷ parts)) → (n : Text) → IsOption c true n → (h : Held) (ids : List Text) (position : ℕ) → Stand c.rules position ids →
+        Ends level (stand (waits_for n) (holding n [] h) position) (word ∷ words) (option_and_then (after_parts ids h.rows) (option_and_then (with_next n) (made taken)))
+    wait-plain passes given n is h ids position stands =
+        let before = holding n [] h in
+        let same : bytes_eq n n ≡ true = (bytes_eq-Decides n n).1 refl in
+        let whole : ((option_word (Some (option_rule true n)) n word before).0, next (option_word (Some (option_rule true n)) n word before).1) ≡ (holding n (word ∷ []) h, next idle) = rw same refl in
+        let met : long_or_other c.rules (waits_for n) word (long_of word) before ≡ (holding n (word ∷ []) h, next idle) =
+        passes.met (waits_for n) before ∙ (ap (λ (found : Option Rule). ((option_word found n word before).0, next (option_word found n word before).1)) is.by_id ∙ whole) in
+        steps (waits_for n) before position word words refl kept (holding n (word ∷ []) h) idle met (passes.fault before) _
+        (subst (Ends level (stand idle (holding n (word ∷ []) h) position) words) (part-used (λ t. option_and_then (with_next n) (made t)) refl (use_row n (word ∷ [])) (option n (Some word)) ids ids h.rows (λ parts. ap (option_and_then (with_next n)) (given parts)) (λ parts. refl) taken)
+        (after-use n (option_rule true n) (word ∷ []) (option-use n (Some word)) is.by_id h ids position words all_kept stands rest (has_row n h.rows) refl))
+
+    go : Meets c word → (h : Held) (ids : List Text) (position : ℕ) → Stand c.rules position ids → settle_fault c.rules false h ≡ [] →
+        Ends level (stand idle h position) (word ∷ words) (option_and_then (after_parts ids (settled c.rules h).rows) (made taken))
+    go (meets_plain passes given) h ids position stands settles = go-plain passes given h ids position stands settles
+    go (meets_none refuses given) h ids position stands settles =
+        let rows = after_parts ids (settled c.rules h).rows in
+        ends-none level (stand idle h position) (word ∷ words) _ (no-rows made refl rows (λ parts. ap (option_and_then rows) (given parts)) taken) (flag-fails idle h position word words refl kept (refuses h))
+    go (meets_alone n is starts given) h ids position stands settles =
+        subst (λ (o : Option (List Part)). Ends level (stand idle h position) (word ∷ words) (option_and_then (after_parts ids (settled c.rules h).rows) o)) (alike (with_next n) (with_word c.options word) (λ parts. sym (given parts)) taken)
+        (steps idle h position word words refl kept (holding n [] (settled c.rules h)) (waits_for n) (starts.met h) (starts.fault h ∙ settles) _ (rest.waits_on n is (settled c.rules h) ids position stands))
+    go (meets_used n text is used_is given) h ids position stands settles =
+        let r = (settled c.rules h).rows in
+        subst (Ends level (stand idle h position) (word ∷ words)) (part-used made refl (use_row n (option_to_list text)) (option n text) ids ids r given (λ parts. refl) taken)
+        (go-used n text used_is h ids position stands settles (has_row n r) refl)
+
+    one-more : Follows name c (word ∷ words)
+    one-more = record {
+      goes = go (meets c command.named word kept);
+      waits_on = λ n is h ids position stands. elim (sorted word (meets c command.named word kept)) [
+        | inl free ↦ wait-plain free.0 free.1 n is h ids position stands
+        | inr dooms ↦ ends-none level (stand (waits_for n) (holding n [] h) position) (word ∷ words) _
+            (no-rows (λ t. option_and_then (with_next n) (made t)) refl (after_parts ids h.rows) (λ parts. ap (option_and_then (after_parts ids h.rows)) (dooms.no_value n parts)) taken)
+            (flag-fails (waits_for n) (holding n [] h) position word words refl kept (dooms.fails (holding n [] h) (unsettled n is h)))
+      ];
     }
 
-    none-after : (rows : List Row) (position : ℕ) (taken : Option (List Part)) → taken ≡ None → option_and_then (after_parts rules rows position) taken ≡ None
-    none-after rows position taken none = ap (option_and_then (after_parts rules rows position)) none
-
-    no-part : (taken : Option (List Part)) → option_and_then (λ (parts : List Part). no (List Part)) taken ≡ None
-    no-part taken = nothing taken
-
-    one-more : Meets c word → Follows name c (word ∷ words)
-    one-more (meets_plain passes given) =
-        more-by (λ parts. Some (plain word ∷ parts)) given
-        (λ rows pending position settles. go-plain word words kept all_kept passes rest rows pending position settles (arg_by_index rules position) refl (command.at_position position))
-        (λ n is_option rows position. wait-plain n is_option word words kept all_kept passes rest rows position)
-    one-more (meets_none refuses given) =
-        more-by (λ parts. None) given
-        (λ rows pending position settles. subst (λ (o : Option (List Row)). Ends (leaf name rules) (at rows pending position) (word ∷ words) o) (sym (none-after (settled_rows rules pending rows) position _ (no-part (parts_of c.options words))))
-        (flag-fails name rules idle rows pending position word words refl kept (refuses rows pending)))
-        (λ n is_option rows position. wait-fails n is_option word words kept rows position (refuses rows (Some (n, []))) _ (none-after rows position _ (ap (option_and_then (with_next n)) (no-part (parts_of c.options words)))))
-    one-more (meets_alone option_name is_option is given) =
-        more-by (with_next option_name) given
-        (λ rows pending position settles. go-alone word option_name words kept is_option is rest rows pending position settles)
-        (λ n waits_too rows position. wait-fails n waits_too word words kept rows position (fails-as _ _ (alone-fault word option_name is_option rows (Some (n, [])) is) (unsettled n waits_too rows)) _
-        (none-after rows position _ (next-of-next n option_name (parts_of c.options words))))
-    one-more (meets_joined option_name text is_option is given) =
-        more-by (λ parts. Some (option option_name text ∷ parts)) given
-        (λ rows pending position settles.
-        let r = settled_rows rules pending rows in
-        subst (λ (o : Option (List Row)). Ends (leaf name rules) (at rows pending position) (word ∷ words) o) (swap-option rules r position option_name (option_rule option_name) is_option.by_id text (parts_of c.options words))
-        (go-used (option_rule option_name) (text ∷ []) word words kept rest rows pending position settles (joined-fault word option_name text is_option rows pending is) (joined-met word option_name text is_option rows pending is) (option-free option_name text r) (option-taken option_name text r) (has_row option_name r) refl))
-        (λ n waits_too rows position. wait-fails n waits_too word words kept rows position (fails-as _ _ (joined-fault word option_name text is_option rows (Some (n, [])) is) (fails-first _ _ (unsettled n waits_too rows))) _
-        (none-after rows position _ (next-of-option n option_name text (parts_of c.options words))))
-    one-more (meets_flag flag_name is_flag is given) =
-        more-by (λ parts. Some (flag flag_name ∷ parts)) given
-        (λ rows pending position settles.
-        let r = settled_rows rules pending rows in
-        subst (λ (o : Option (List Row)). Ends (leaf name rules) (at rows pending position) (word ∷ words) o) (swap-flag rules r position flag_name (flag_rule flag_name) is_flag.by_id (parts_of c.options words))
-        (go-used (flag_rule flag_name) [] word words kept rest rows pending position settles (flag-fault word flag_name is_flag rows pending is) (flag-met word flag_name is_flag rows pending is) (flag-free flag_name r) (flag-taken flag_name r) (has_row flag_name r) refl))
-        (λ n waits_too rows position. wait-fails n waits_too word words kept rows position (fails-as _ _ (flag-fault word flag_name is_flag rows (Some (n, [])) is) (fails-first _ _ (unsettled n waits_too rows))) _
-        (none-after rows position _ (next-of-flag n flag_name (parts_of c.options words))))
-
   pub follows : (words : List Text) → has_stray words ≡ false → Follows name c words
-  follows [] all_kept = record {
-    goes = λ rows pending position settles. go-none rows pending position settles;
-    waits_on = λ n is_option rows position. wait-none n is_option rows position;
-  }
+  follows [] all_kept = none-left
   follows (word ∷ words) all_kept =
-      let parts = first-kept word words all_kept in
-      one-more word words parts.0 parts.1 (follows words parts.1) (meets c command.named word parts.0)
+      let parts = or_parts (is_stray word) (has_stray words) all_kept in
+      one-more word words parts.0 parts.1 (follows words parts.1)

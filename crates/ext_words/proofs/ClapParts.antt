@@ -1,18 +1,19 @@
 -- The arguments of a command, and its parts as they are used one after another.
-use Rattle.std.proofs.Common.{◌≡◌, ℕ, refl, List, [], ◌∷◌, Bool, true, false, Option, Some, None, arith, ap, sym, ◌∙◌}
-use Rattle.std.specs.Prelude.{length, not, ◌&&◌, ◌||◌, option_and_then, IfSome, if◌then◌else◌}
+use Rattle.std.proofs.Common.{◌≡◌, ℕ, refl, List, [], ◌∷◌, ◌++◌, Bool, true, false, Option, Some, None, arith, ap, ◌∙◌, append-nil}
+use Rattle.std.specs.Prelude.{length, not, ◌&&◌, option_to_list, is_some, if◌then◌else◌}
 use Rattle.std.specs.List.{fold, list_all, list_any}
-use Rattle.std.proofs.lemmas.Bool.{and_parts, eqb-true}
-use Rattle.clap.specs.Walk.{Row, Rule, Text, arg_by_id, arg_by_index, used, has_row, is_empty, next_position, with_default, default_rows, reading_by}
+use Rattle.std.specs.Str.{bytes_eq}
+use Rattle.std.proofs.lemmas.Bool.{and_parts, eqb-true, or_parts, or_right}
+use Rattle.clap.specs.Walk.{Row, Rule, Text, arg_by_id, arg_by_index, at_row, used, has_row, is_empty, more_values, next_position, with_default, with_values, without, reading_by}
 use Rattle.clap.specs.Simple.{Shape, filled, new_shape, with_index}
-use Rattle.clap.specs.Kinds.{Kinds, or_else}
+use Rattle.clap.specs.Kinds.{or_else}
 use Rattle.clap.specs.Takes.{is_given}
 use Rattle.clap.specs.Faults.{given_default_fault, use_fault, defaults_fault}
 use Rattle.clap.specs.declared.error.kind.ErrorKind.TheVariants.{ArgumentConflict}
-use Rattle.clap.specs.declared.builder.value_parser.Reading.{Reading}
-use Rattle.ext_words.specs.Words.{Part, plain, option, flag, with_next}
+use Rattle.clap.specs.declared.parser.matches.ValueSource.TheVariants.{CommandLine}
+use Rattle.ext_words.specs.Words.{Part, plain, option, fits, plain_words}
 use Rattle.ext_words.specs.Inside.CommandLine.{word_named}
-use Rattle.ext_words.proofs.ClapWords.{Fails, Arguments, Named, option_rule, flag_rule}
+use Rattle.ext_words.proofs.ClapWords.{Fails, Arguments, Named, option_rule}
 
 -- ---- the commands, as they are built
 
@@ -28,123 +29,98 @@ leaf name rules = settings (record (new_shape name) { rules = rules })
 abbrev pub word_rule : ℕ → Text → Rule
 word_rule position id = with_index position (filled (word_named id))
 
--- the argument is a word
-pub record IsWordOf (rules : List Rule) (a : Rule) : Type 0 where
-  pub position : ℕ
-  pub id : Text
-  pub is : a ≡ word_rule position id
-  pub own : arg_by_id rules id ≡ Some a
+-- the words stand from a position on, and none behind them
+abbrev pub Stand : List Rule → ℕ → List Text → Type 0
+Stand rules position [] = arg_by_index rules position ≡ None
+Stand rules position (id ∷ ids) = (arg_by_index rules position ≡ Some (word_rule position id)) × (arg_by_id rules id ≡ Some (word_rule position id))
+    × Stand rules (next_position (word_rule position id) position) ids
 
 -- the command has these arguments and no others; none of them has a default value, and none is required
 pub record IsCommand (c : Arguments) : Type 0 where
   pub named : (name : Text) → Named c name
-  pub at_position : (position : ℕ) → IfSome (arg_by_index c.rules position) (IsWordOf c.rules)
   pub no_defaults : list_all (λ a. is_empty a.defaults) c.rules ≡ true
   pub none_lacking : (rows : List Row) → list_any (λ a. a.required && not (is_given a.id rows)) c.rules ≡ false
 
--- ---- the parts, used one after another
+empty-is : {X : Type 0} (xs : List X) → is_empty xs ≡ true → xs ≡ []
+empty-is [] e = refl
+empty-is (x ∷ xs) e = let none : length (x ∷ xs) ≡ 0 = eqb-true (length (x ∷ xs)) 0 e in absurd (omega arith)
 
--- the rows with one more use of an argument, with these values, none where it has been used
-abbrev pub used_once : Rule → List Text → List Row → Option (List Row)
-used_once a values rows = if has_row a.id rows then None else Some (used a values rows)
-
--- the rows after the parts, none where one of them cannot be used
-abbrev pub after_parts : List Rule → List Row → ℕ → List Part → Option (List Row)
-after_parts rules rows position [] = Some rows
-after_parts rules rows position (plain word ∷ parts) = option_and_then (λ a. option_and_then (λ more. after_parts rules more (next_position a position) parts) (used_once a (word ∷ []) rows)) (arg_by_index rules position)
-after_parts rules rows position (option name value ∷ parts) = option_and_then (λ a. option_and_then (λ more. after_parts rules more position parts) (used_once a (value ∷ []) rows)) (arg_by_id rules name)
-after_parts rules rows position (flag name ∷ parts) = option_and_then (λ a. option_and_then (λ more. after_parts rules more position parts) (used_once a [] rows)) (arg_by_id rules name)
-
-as-it-is : (id : Text) (how : Reading) (defaults : List Text) (rows : List Row) (given : Bool) → is_empty defaults ≡ true → (if given then rows else default_rows id how defaults rows) ≡ rows
-as-it-is id how [] rows true e = refl
-as-it-is id how [] rows false e = refl
-as-it-is id how (v ∷ vs) rows given e = let none : length (v ∷ vs) ≡ 0 = eqb-true (length (v ∷ vs)) 0 e in absurd (omega arith)
-
-unasked : (given empty : Bool) (fault : Kinds) → empty ≡ true → (if given || empty then [] else fault) ≡ []
-unasked true empty fault e = refl
-unasked false true fault e = refl
-unasked false false fault e = absurd (cc)
+same-both : (given : Bool) (rows : List Row) → (if given then rows else rows) ≡ rows
+same-both true rows = refl
+same-both false rows = refl
 
 pub no-defaults : (rules : List Rule) (rows : List Row) → list_all (λ a. is_empty a.defaults) rules ≡ true → (defaults_fault rows rules ≡ []) × (fold with_default rows rules ≡ rows)
 unfolding defaults_fault
 no-defaults [] rows e = (refl, refl)
 no-defaults (a ∷ rules) rows e =
     let parts = and_parts _ _ e in
-    let same : with_default rows a ≡ rows = as-it-is a.id (reading_by a) a.defaults rows (has_row a.id rows) parts.0 in
+    let same : with_default rows a ≡ rows = rw (empty-is a.defaults parts.0) (same-both (has_row a.id rows) rows) in
     let rest = no-defaults rules rows parts.1 in (
-      ap (λ (fault : Kinds). or_else fault (defaults_fault (with_default rows a) rules)) (unasked (has_row a.id rows) (is_empty a.defaults) (given_default_fault a a.defaults) parts.0) ∙ (ap (λ (r : List Row). defaults_fault r rules) same ∙ rest.0),
+      ap (λ (b : Bool). or_else (if b then [] else given_default_fault a a.defaults) (defaults_fault (with_default rows a) rules)) (or_right (has_row a.id rows) (is_empty a.defaults) parts.0)
+          ∙ (ap (λ (r : List Row). defaults_fault r rules) same ∙ rest.0),
       ap (λ (r : List Row). fold with_default r rules) same ∙ rest.1,
     )
 
 -- ---- one use
 
-pub word-free : (position : ℕ) (id word : Text) (rows : List Row) → has_row id rows ≡ false → use_fault false (word_rule position id) (word ∷ []) rows ≡ []
-word-free position id word rows e = rw e refl
+-- what is found for an argument that is used once, with these values
+abbrev pub use_row : Text → List Text → Row
+use_row id values = record { id = id; values = values; count = None; source = Some CommandLine; reading = reading_by (option_rule true []) }
 
-pub word-taken : (position : ℕ) (id word : Text) (rows : List Row) → has_row id rows ≡ true → Fails (use_fault false (word_rule position id) (word ∷ []) rows)
-word-taken position id word rows e = record { first = ArgumentConflict; others = []; is = rw e refl }
+at-end : (id : Text) (change : Row → List Row) (missing rows : List Row) → has_row id rows ≡ false → at_row id change missing rows ≡ rows ++ missing
+at-end id change missing [] none = refl
+at-end id change missing (r ∷ rows) none =
+    let parts = or_parts (bytes_eq r.id id) (has_row id rows) none in
+    rw (parts.0) (ap (λ (rest : List Row). r ∷ rest) (at-end id change missing rows parts.1))
 
-pub option-free : (name word : Text) (rows : List Row) → has_row name rows ≡ false → use_fault false (option_rule name) (word ∷ []) rows ≡ []
-option-free name word rows e = rw e refl
+one-more : (id : Text) (values : List Text) (rows : List Row) → has_row id rows ≡ false → with_values id (reading_by (option_rule true [])) CommandLine values (without id rows) ≡ rows ++ use_row id values ∷ []
+one-more id values rows none =
+    ap (λ (r : List Row). with_values id (reading_by (option_rule true [])) CommandLine values r) (at-end id (λ _. []) [] rows none ∙ append-nil rows)
+    ∙ at-end id (more_values CommandLine values) (use_row id values ∷ []) rows none
 
-pub option-taken : (name word : Text) (rows : List Row) → has_row name rows ≡ true → Fails (use_fault false (option_rule name) (word ∷ []) rows)
-option-taken name word rows e = record { first = ArgumentConflict; others = []; is = rw e refl }
+-- an argument that may be used once, with these values
+pub record IsUse (id : Text) (a : Rule) (values : List Text) : Type 0 where
+  pub free : (rows : List Row) → has_row id rows ≡ false → use_fault false a values rows ≡ []
+  pub new : (rows : List Row) → has_row id rows ≡ false → used a values rows ≡ rows ++ use_row id values ∷ []
+  pub taken : (rows : List Row) → has_row id rows ≡ true → Fails (use_fault false a values rows)
 
-pub flag-free : (name : Text) (rows : List Row) → has_row name rows ≡ false → use_fault false (flag_rule name) [] rows ≡ []
-flag-free name rows e = rw e refl
+pub word-use : (position : ℕ) (id word : Text) → IsUse id (word_rule position id) (word ∷ [])
+word-use position id word = record {
+  free = λ rows e. rw e refl;
+  new = λ rows e. one-more id (word ∷ []) rows e;
+  taken = λ rows e. record { first = ArgumentConflict; others = []; is = rw e refl };
+}
 
-pub flag-taken : (name : Text) (rows : List Row) → has_row name rows ≡ true → Fails (use_fault false (flag_rule name) [] rows)
-flag-taken name rows e = record { first = ArgumentConflict; others = []; is = rw e refl }
+pub option-use : (name : Text) (value : Option Text) → IsUse name (option_rule (is_some value) name) (option_to_list value)
+option-use name (Some text) = record {
+  free = λ rows e. rw e refl;
+  new = λ rows e. one-more name (text ∷ []) rows e;
+  taken = λ rows e. record { first = ArgumentConflict; others = []; is = rw e refl };
+}
+option-use name None = record {
+  free = λ rows e. rw e refl;
+  new = λ rows e. one-more name [] rows e;
+  taken = λ rows e. record { first = ArgumentConflict; others = []; is = rw e refl };
+}
 
--- ---- an option takes no option as its value
+-- ---- the parts, used one after another
 
-pub next-of-next : (name other : Text) (taken : Option (List Part)) → option_and_then (with_next name) (option_and_then (with_next other) taken) ≡ None
-next-of-next name other None = refl
-next-of-next name other (Some []) = refl
-next-of-next name other (Some (plain word ∷ parts)) = refl
-next-of-next name other (Some (option third word ∷ parts)) = refl
-next-of-next name other (Some (flag third ∷ parts)) = refl
+-- the rows of parts, whose words have these names
+abbrev pub uses : List Part → List Text → List Row
+uses [] ids = []
+uses (plain word ∷ parts) [] = uses parts []
+uses (plain word ∷ parts) (id ∷ ids) = use_row id (word ∷ []) ∷ uses parts ids
+uses (option name value ∷ parts) ids = use_row name (option_to_list value) ∷ uses parts ids
 
-pub next-of-option : (name other text : Text) (taken : Option (List Part)) → option_and_then (with_next name) (option_and_then (λ parts. Some (option other text ∷ parts)) taken) ≡ None
-next-of-option name other text None = refl
-next-of-option name other text (Some parts) = refl
+-- the rows with one more, none where they have one of its name
+abbrev pub once : Row → List Row → Option (List Row)
+once r rows = if has_row r.id rows then None else Some (rows ++ r ∷ [])
 
-pub next-of-flag : (name other : Text) (taken : Option (List Part)) → option_and_then (with_next name) (option_and_then (λ parts. Some (flag other ∷ parts)) taken) ≡ None
-next-of-flag name other None = refl
-next-of-flag name other (Some parts) = refl
+-- the rows with more of them, one after another
+abbrev pub appended : List Row → List Row → Option (List Row)
+appended rows [] = Some rows
+appended rows (r ∷ more) = if has_row r.id rows then None else appended (rows ++ r ∷ []) more
 
--- ---- the rows after a part, and after those behind it
-
-abbrev pub no : (Y : Type 0) → Option Y
-no Y = None
-
-pub nothing : {X Y : Type 0} (o : Option X) → option_and_then (λ (x : X). no Y) o ≡ None
-nothing None = refl
-nothing (Some x) = refl
-
-pub swap-word : (rules : List Rule) (rows : List Row) (position : ℕ) (word : Text) (a : Rule) → arg_by_index rules position ≡ Some a → (taken : Option (List Part)) →
-    option_and_then (λ more. option_and_then (after_parts rules more (next_position a position)) taken) (used_once a (word ∷ []) rows) ≡ option_and_then (after_parts rules rows position) (option_and_then (λ parts. Some (plain word ∷ parts)) taken)
-swap-word rules rows position word a found None = nothing (used_once a (word ∷ []) rows)
-swap-word rules rows position word a found (Some parts) = sym (ap (λ (o : Option Rule). option_and_then (λ b. option_and_then (λ more. after_parts rules more (next_position b position) parts) (used_once b (word ∷ []) rows)) o) found)
-
-pub swap-past : (rules : List Rule) (rows : List Row) (position : ℕ) (word : Text) → arg_by_index rules position ≡ None → (taken : Option (List Part)) →
-    None ≡ option_and_then (after_parts rules rows position) (option_and_then (λ parts. Some (plain word ∷ parts)) taken)
-swap-past rules rows position word none None = refl
-swap-past rules rows position word none (Some parts) = sym (ap (λ (o : Option Rule). option_and_then (λ b. option_and_then (λ more. after_parts rules more (next_position b position) parts) (used_once b (word ∷ []) rows)) o) none)
-
--- an argument that is used with these values by a part with this name
-module _ (rules : List Rule) (rows : List Row) (position : ℕ) (name : Text) (a : Rule) (found : arg_by_id rules name ≡ Some a) where
-  pub swap-option : (value : Text) (taken : Option (List Part)) →
-      option_and_then (λ more. option_and_then (after_parts rules more position) taken) (used_once a (value ∷ []) rows) ≡ option_and_then (after_parts rules rows position) (option_and_then (λ parts. Some (option name value ∷ parts)) taken)
-  swap-option value None = nothing (used_once a (value ∷ []) rows)
-  swap-option value (Some parts) = sym (ap (λ (o : Option Rule). option_and_then (λ b. option_and_then (λ more. after_parts rules more position parts) (used_once b (value ∷ []) rows)) o) found)
-
-  pub swap-flag : (taken : Option (List Part)) →
-      option_and_then (λ more. option_and_then (after_parts rules more position) taken) (used_once a [] rows) ≡ option_and_then (after_parts rules rows position) (option_and_then (λ parts. Some (flag name ∷ parts)) taken)
-  swap-flag None = nothing (used_once a [] rows)
-  swap-flag (Some parts) = sym (ap (λ (o : Option Rule). option_and_then (λ b. option_and_then (λ more. after_parts rules more position parts) (used_once b [] rows)) o) found)
-
-  pub swap-next : (word : Text) (taken : Option (List Part)) →
-      option_and_then (λ more. option_and_then (after_parts rules more position) taken) (used_once a (word ∷ []) rows) ≡ option_and_then (after_parts rules rows position) (option_and_then (with_next name) (option_and_then (λ parts. Some (plain word ∷ parts)) taken))
-  swap-next word None = nothing (used_once a (word ∷ []) rows)
-  swap-next word (Some parts) = sym (ap (λ (o : Option Rule). option_and_then (λ b. option_and_then (λ more. after_parts rules more position parts) (used_once b (word ∷ []) rows)) o) found)
+-- the rows after the parts, none where one of them cannot be used
+abbrev pub after_parts : List Text → List Row → List Part → Option (List Row)
+after_parts ids rows parts = if fits (plain_words parts) ids then appended rows (uses parts ids) else None

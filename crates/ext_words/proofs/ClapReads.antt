@@ -1,10 +1,10 @@
 -- The matches of `clap` are those of the grammar, where no word is stray.
-use Rattle.std.proofs.Common.{◌≡◌, refl, List, [], ◌∷◌, Bool, true, false, Option, Some, None, ◌⊎◌, inl, inr, ap, sym, subst, ◌∙◌}
+use Rattle.std.proofs.Common.{◌≡◌, refl, List, [], ◌∷◌, drop, Bool, true, false, Option, Some, None, ◌⊎◌, inl, inr, ap, sym, subst, ◌∙◌}
 use Rattle.std.specs.Prelude.{◌&&◌, ◌||◌, cond, codes, find, map, option_map, option_and_then, is_some, IfSome, ◌≢◌}
-use Rattle.std.specs.List.{fold, list_all}
+use Rattle.std.specs.List.{fold}
 use Rattle.std.specs.Option.{option_map_or}
 use Rattle.std.specs.Str.{bytes_eq}
-use Rattle.std.proofs.lemmas.Bool.{and_parts, and_right}
+use Rattle.std.proofs.lemmas.Bool.{and_right, or_parts}
 use Rattle.std.proofs.lemmas.Slice.Eq.{bytes_eq-Decides}
 use Rattle.clap.specs.Lexer.{long_of}
 use Rattle.clap.specs.Walk.{Names, Row, Text, Held, Step, idle, Walk, answers_to, nothing_held, walked, stop_after, subcommand_met, finished, settled, word_met, long_or_other}
@@ -16,10 +16,10 @@ use Rattle.clap.proofs.WalkLemmas.{walk_stopped, find-map}
 use Rattle.clap.proofs.FaultLemmas.{stopped_fault}
 use Rattle.ext_words.specs.Words.{Grammar, commands, parts_of, read_by, grammar_of, command_of}
 use Rattle.ext_words.specs.Inside.CommandLine.{is_stray, has_stray, command_line, given_by, command_named, command_in}
-use Rattle.ext_words.proofs.ClapWords.{Fails, fails-first, fails-as, held, Arguments, Passes, no-dashes, meets, meets_plain, meets_none, meets_alone, meets_joined, meets_flag, is_unknown}
+use Rattle.ext_words.proofs.ClapWords.{Fails, fails-first, fails-as, Arguments, Passes, no-dashes, meets, meets_plain, meets_none, meets_alone, meets_used, is_unknown}
 use Rattle.ext_words.proofs.ClapParts.{settings, leaf, after_parts}
-use Rattle.ext_words.proofs.ClapLevels.{start, rest_fault, first-kept, Ends, follows}
-use Rattle.ext_words.proofs.ClapCommands.{rules_of, arguments, is_sound, IsSound, sound-from, is_command, reads-same}
+use Rattle.ext_words.proofs.ClapLevels.{stand, rest_fault, Ends, follows}
+use Rattle.ext_words.proofs.ClapCommands.{rules_of, arguments, IsSound, AreSound, is_command, reads-same}
 
 -- ---- a command line as it is built
 
@@ -33,30 +33,33 @@ level g = leaf g.name (rules_of g)
 abbrev ready : List Grammar → App
 ready list = record { top = top; subs = map level list }
 
+-- where the walk of a level begins
+abbrev start : Walk
+start = stand idle nothing_held 1
+
 -- ---- words where there are no arguments
 
 abbrev no_arguments : Arguments
 no_arguments = record { rules = []; words = []; options = record { valued = []; flags = [] } }
 
-flag-or-word : (word : Text) → is_stray word ≡ false → Fails (flag_word_fault [] false (long_of word) word (held [] None)) ⊎ Passes [] word
+flag-or-word : (word : Text) → is_stray word ≡ false → Fails (flag_word_fault [] false (long_of word) word nothing_held) ⊎ Passes [] word
 flag-or-word word kept = elim (meets no_arguments (λ name. is_unknown refl refl refl) word kept) [
   | meets_plain passes given ↦ inr passes
-  | meets_none refused given ↦ inl (refused [] None)
-  | meets_alone name is long given ↦ absurd (let bad = is.listed in cc)
-  | meets_joined name value is long given ↦ absurd (let bad = is.listed in cc)
-  | meets_flag name is long given ↦ absurd (let bad = is.listed in cc)
+  | meets_none refused given ↦ inl (refused nothing_held)
+  | meets_alone name is starts given ↦ absurd (let bad = is.by_long in cc)
+  | meets_used name value is used given ↦ absurd (let bad = is.by_long in cc)
 ]
 
 top-fails : (names : Names) (word : Text) → subcommand_met names idle word ≡ None → is_stray word ≡ false → Fails (turn_fault top names start word)
 top-fails names word unnamed kept =
     let dashes = no-dashes word kept in
-    let h = held [] None in
+    let h = nothing_held in
     let met : word_met [] names false idle 1 word h ≡ long_or_other [] idle word (long_of word) h = rw (unnamed, dashes) refl in
     let fault : word_fault top names false idle word h ≡ flag_word_fault [] false (long_of word) word h = rw (unnamed, dashes) refl in
     elim (flag-or-word word kept) [
       | inl fails ↦ fails-first _ _ (fails-as _ _ fault fails)
-      | inr passes ↦ fails-as _ _ (ap (λ (k : Kinds). or_else k (step_fault top 1 (word_met [] names false idle 1 word h).0 (word_met [] names false idle 1 word h).1)) (fault ∙ passes.fault [] None)
-          ∙ ap (λ (m : Held × Step). step_fault top 1 m.0 m.1) (met ∙ passes.met idle [] None)) (record { first = UnknownArgument; others = InvalidSubcommand ∷ []; is = refl })
+      | inr passes ↦ fails-as _ _ (ap (λ (k : Kinds). or_else k (step_fault top 1 (word_met [] names false idle 1 word h).0 (word_met [] names false idle 1 word h).1)) (fault ∙ passes.fault h)
+          ∙ ap (λ (m : Held × Step). step_fault top 1 m.0 m.1) (met ∙ passes.met idle h)) (record { first = UnknownArgument; others = InvalidSubcommand ∷ []; is = refl })
     ]
 
 -- ---- a first word that names a command
@@ -104,13 +107,13 @@ module _ (name : Text) where
       label-name None = refl
       label-name (Some g) = refl
 
-  found-sound : (list : List Grammar) → list_all is_sound list ≡ true → IfSome (find (λ g. bytes_eq g.name name) list) (λ g. (is_sound g ≡ true) × (bytes_eq g.name name ≡ true))
+  found-sound : (list : List Grammar) → AreSound list → IfSome (find (λ g. bytes_eq g.name name) list) (λ g. IsSound g × (bytes_eq g.name name ≡ true))
   found-sound [] all = tt
-  found-sound (g ∷ list) all = here (bytes_eq g.name name) refl (found-sound list (and_parts _ _ all).1)
+  found-sound (g ∷ list) all = here (bytes_eq g.name name) refl (found-sound list all.1)
     where
-      here : (b : Bool) → bytes_eq g.name name ≡ b → IfSome (find (λ h. bytes_eq h.name name) list) (λ h. (is_sound h ≡ true) × (bytes_eq h.name name ≡ true)) →
-          IfSome (cond b (Some g) (find (λ h. bytes_eq h.name name) list)) (λ h. (is_sound h ≡ true) × (bytes_eq h.name name ≡ true))
-      here true e rest = ((and_parts _ _ all).0, e)
+      here : (b : Bool) → bytes_eq g.name name ≡ b → IfSome (find (λ h. bytes_eq h.name name) list) (λ h. IsSound h × (bytes_eq h.name name ≡ true)) →
+          IfSome (cond b (Some g) (find (λ h. bytes_eq h.name name) list)) (λ h. IsSound h × (bytes_eq h.name name ≡ true))
+      here true e rest = (all.0, e)
       here false e rest = rest
 
 -- a command of a list that its name finds
@@ -141,8 +144,17 @@ module _ (list : List Grammar) (g : Grammar) (own : find (λ h. bytes_eq h.name 
 
 -- ---- the program's command line
 
-are_sound : list_all is_sound commands ≡ true
-are_sound = refl
+are_sound : AreSound commands
+are_sound =
+    let sq : AreSound (drop 8 commands) = (record { words = refl; valued = refl; flags = refl; stands = (refl, refl, refl); no_defaults = refl; none_lacking = λ rows. refl }, tt) in
+    let sample : AreSound (drop 7 commands) = (record { words = refl; valued = refl; flags = refl; stands = (refl, refl, (refl, refl, (refl, refl, refl))); no_defaults = refl; none_lacking = λ rows. refl }, sq) in
+    let build : AreSound (drop 6 commands) = (record { words = refl; valued = refl; flags = refl; stands = (refl, refl, refl); no_defaults = refl; none_lacking = λ rows. refl }, sample) in
+    let check : AreSound (drop 5 commands) = (record { words = refl; valued = refl; flags = refl; stands = refl; no_defaults = refl; none_lacking = λ rows. refl }, build) in
+    let massey : AreSound (drop 4 commands) = (record { words = refl; valued = refl; flags = refl; stands = (refl, refl, (refl, refl, refl)); no_defaults = refl; none_lacking = λ rows. refl }, check) in
+    let products : AreSound (drop 3 commands) = (record { words = refl; valued = refl; flags = refl; stands = (refl, refl, (refl, refl, refl)); no_defaults = refl; none_lacking = λ rows. refl }, massey) in
+    let dump : AreSound (drop 2 commands) = (record { words = refl; valued = refl; flags = refl; stands = (refl, refl, (refl, refl, refl)); no_defaults = refl; none_lacking = λ rows. refl }, products) in
+    let resolve : AreSound (drop 1 commands) = (record { words = refl; valued = refl; flags = refl; stands = (refl, refl, (refl, refl, refl)); no_defaults = refl; none_lacking = λ rows. refl }, dump) in
+    (record { words = refl; valued = refl; flags = refl; stands = (refl, refl, (refl, refl, refl)); no_defaults = refl; none_lacking = λ rows. refl }, resolve)
 
 is_ready : built command_line ≡ ready commands
 is_ready = refl
@@ -173,7 +185,7 @@ module _ (g : Grammar) (own : grammar_of g.name ≡ Some g) where
 
   reads-own : IsSound g → (words : List Text) → has_stray words ≡ false → Reads (g.name ∷ words)
   reads-own sound words kept =
-      reads-ended words (option_and_then (after_parts (rules_of g) [] 1) (parts_of g.options words)) ((follows g.name (arguments g) (is_command g sound) words kept).goes [] None 1 refl) (reads-same g sound words kept)
+      reads-ended words (option_and_then (after_parts g.words []) (parts_of g.options words)) ((follows g.name (arguments g) (is_command g sound) words kept).goes nothing_held g.words 1 sound.stands refl) (reads-same g sound words kept)
 
 -- ---- the words, by the first of them
 
@@ -181,7 +193,7 @@ reads-nothing : Reads []
 unfolding walk_fault defaults_fault
 reads-nothing = refused_words (fails-as _ _ (fault-is []) (record { first = MissingSubcommand; others = []; is = refl })) refl
 
-by-first : (word : Text) (words : List Text) (found : Option Grammar) → grammar_of word ≡ found → IfSome found (λ g. (is_sound g ≡ true) × (bytes_eq g.name word ≡ true)) → is_stray word ≡ false → has_stray words ≡ false → Reads (word ∷ words)
+by-first : (word : Text) (words : List Text) (found : Option Grammar) → grammar_of word ≡ found → IfSome found (λ g. IsSound g × (bytes_eq g.name word ≡ true)) → is_stray word ≡ false → has_stray words ≡ false → Reads (word ∷ words)
 unfolding walk_fault
 by-first word words None none is kept more =
     let unnamed = names-met word commands ∙ ap (option_map (λ g. g.name)) none in
@@ -189,12 +201,12 @@ by-first word words None none is kept more =
     refused_words (fails-as _ _ (fault-is (word ∷ words)) fails) (ap (option_and_then (λ g. read_by g words)) none)
 by-first word words (Some g) found is kept more =
     let same = (bytes_eq-Decides g.name word).0 is.1 in
-    subst (λ (w : Text). Reads (w ∷ words)) same (reads-own g (ap grammar_of same ∙ found) (sound-from g is.0) words more)
+    subst (λ (w : Text). Reads (w ∷ words)) same (reads-own g (ap grammar_of same ∙ found) is.0 words more)
 
 pub clap-reads : (words : List Text) → has_stray words ≡ false → Reads words
 clap-reads [] kept = reads-nothing
 clap-reads (word ∷ words) kept =
-    let parts = first-kept word words kept in
+    let parts = or_parts (is_stray word) (has_stray words) kept in
     by-first word words (grammar_of word) refl (found-sound word commands are_sound) parts.0 parts.1
 
 -- the matches of words that are taken give their command

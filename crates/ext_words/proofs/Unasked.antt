@@ -1,7 +1,7 @@
 -- Words without `--live` ask for no reports.
-use Rattle.std.proofs.Common.{◌≡◌, ◌≢◌, ◌∙◌, ℕ, refl, List, [], ◌∷◌, ◌++◌, ◌+◌, length, take, drop, arith, Bool, true, false, Option, Some, None, ap, ap₂, sym, subst, take-append-drop}
+use Rattle.std.proofs.Common.{◌≡◌, ◌≢◌, ◌∙◌, ℕ, refl, List, [], ◌∷◌, ◌++◌, ◌+◌, length, take, drop, arith, Bool, true, false, Option, Some, None, ap, ap₂, sym, take-append-drop}
 use Rattle.std.specs.Prelude.{◌==◌, ◌&&◌, cond, find, codes, option_map, option_and_then, IfSome, ⊤, if◌then◌else◌}
-use Rattle.std.specs.List.{list_any, position_or_len}
+use Rattle.std.specs.List.{position_or_len}
 use Rattle.std.specs.Borrow.{Bor}
 use Rattle.std.specs.Str.{bytes_eq}
 use Rattle.std.proofs.lemmas.Bool.{or_parts, true≢false, false_from_ne_true}
@@ -12,9 +12,9 @@ use Rattle.square.specs.declared.range.TheConstants.{MAX_S, MAX_T}
 use Rattle.clap.proofs.WalkLemmas.{list_any-map}
 use Rattle.ext_words.specs.declared.command.Build.{Build}
 use Rattle.ext_words.specs.declared.command.Command.{Command}
-use Rattle.ext_words.specs.declared.command.Command.TheVariants.{Sphere, Resolve, Dump, Products, Massey, Check, Build as Built, Sample, Sq}
+use Rattle.ext_words.specs.declared.command.Command.TheVariants.{Sphere, Resolve, Dump, Products, Massey, Build as Built, Sample, Sq}
 use Rattle.ext_words.specs.declared.command.Common.{Common}
-use Rattle.ext_words.specs.Words.{Part, plain, option, flag, Options, Argument, Grammar, texts_of, has_live, is_in, is_among, begins_with, has_equals, before_equals, with_next, with_option, with_text, with_word, parts_of, plain_words, each_once, fits, arguments_of, is_given, text_given, number_given, class_given, workers_of, seed_of, common_of, products_of, massey_of, build_of, sample_of, product_given, commands, read_by, grammar_of, command_of}
+use Rattle.ext_words.specs.Words.{Part, plain, option, Options, Argument, Grammar, texts_of, has_live, is_in, is_among, begins_with, has_equals, before_equals, with_next, with_option, with_text, with_word, parts_of, plain_words, each_once, fits, arguments_of, is_given, text_given, number_given, class_given, workers_of, seed_of, common_of, products_of, massey_of, build_of, sample_of, product_given, commands, read_by, grammar_of, command_of}
 
 abbrev Text : Type 0
 Text = List ℕ
@@ -57,8 +57,7 @@ module _ (options : Options) (name : Text) (no_value : is_in options.valued name
   next-lacks : (other : Text) → other ≢ name → (parts : List Part) → Lacks parts → IfSome (with_next other parts) Lacks
   next-lacks other apart [] lacks = tt
   next-lacks other apart (plain value ∷ parts) lacks = rw (differs other name apart) lacks
-  next-lacks other apart (option n value ∷ parts) lacks = tt
-  next-lacks other apart (flag n ∷ parts) lacks = tt
+  next-lacks other apart (option n given ∷ parts) lacks = tt
 
   option-lacks : (other : Text) (parts : List Part) → Lacks parts → (value : Option Text) → (value ≡ None → other ≢ name) → IfSome (with_option options other value parts) Lacks
   option-lacks other parts lacks (Some value) alone = by (is_in options.valued other) refl
@@ -112,9 +111,6 @@ none-given name (plain word ∷ parts) (n ∷ names) lacks other =
 none-given name (option n value ∷ parts) names lacks other =
     let apart = or_parts (bytes_eq n name) (is_among name parts) lacks in
     rw (apart.0) (none-given name parts names apart.1 other)
-none-given name (flag n ∷ parts) names lacks other =
-    let apart = or_parts (bytes_eq n name) (is_among name parts) lacks in
-    rw (apart.0) (none-given name parts names apart.1 other)
 
 -- ---- commands
 
@@ -131,10 +127,8 @@ AsksNone (Resolve common) = IsSilent common
 AsksNone (Dump common) = IsSilent common
 AsksNone (Products common by) = IsSilent common
 AsksNone (Massey common a b c) = IsSilent common
-AsksNone Check = ⊤
-AsksNone (Built made) = ⊤
 AsksNone (Sample n common) = IsSilent common
-AsksNone (Sq numbers) = ⊤
+AsksNone command = ⊤
 
 -- what is made of options that all have to be there
 abbrev common_with : Bool → Bool → ℕ → ℕ → ℕ → Common
@@ -210,34 +204,16 @@ ArePlain [] = ⊤
 ArePlain (g ∷ list) = IsPlain g × ArePlain list
 
 all-plain : ArePlain commands
-all-plain = (
-  record { valued = refl; words = refl; makes = sphere-silent },
-  (
-    record { valued = refl; words = refl; makes = resolve-silent },
-    (
-      record { valued = refl; words = refl; makes = dump-silent },
-      (
-        record { valued = refl; words = refl; makes = products-silent },
-        (
-          record { valued = refl; words = refl; makes = massey-silent },
-          (
-            record { valued = refl; words = refl; makes = λ given none. tt },
-            (
-              record { valued = refl; words = refl; makes = build-silent },
-              (
-                record { valued = refl; words = refl; makes = sample-silent },
-                (
-                  record { valued = refl; words = refl; makes = product-silent },
-                  tt,
-                ),
-              ),
-            ),
-          ),
-        ),
-      ),
-    ),
-  ),
-)
+all-plain =
+    let sq : ArePlain (drop 8 commands) = (record { valued = refl; words = refl; makes = product-silent }, tt) in
+    let sample : ArePlain (drop 7 commands) = (record { valued = refl; words = refl; makes = sample-silent }, sq) in
+    let build : ArePlain (drop 6 commands) = (record { valued = refl; words = refl; makes = build-silent }, sample) in
+    let check : ArePlain (drop 5 commands) = (record { valued = refl; words = refl; makes = λ given none. tt }, build) in
+    let massey : ArePlain (drop 4 commands) = (record { valued = refl; words = refl; makes = massey-silent }, check) in
+    let products : ArePlain (drop 3 commands) = (record { valued = refl; words = refl; makes = products-silent }, massey) in
+    let dump : ArePlain (drop 2 commands) = (record { valued = refl; words = refl; makes = dump-silent }, products) in
+    let resolve : ArePlain (drop 1 commands) = (record { valued = refl; words = refl; makes = resolve-silent }, dump) in
+    (record { valued = refl; words = refl; makes = sphere-silent }, resolve)
 
 found-plain : (test : Grammar → Bool) (list : List Grammar) → ArePlain list → IfSome (find test list) IsPlain
 found-plain test [] all = tt

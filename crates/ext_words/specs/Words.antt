@@ -23,11 +23,10 @@ has_live words = list_any (λ word. bytes_eq word.now (codes "--live")) words
 
 -- ---- the words behind a command's name, and its options among them
 
--- a word that is no option, an option with its value, or a flag, which is an option that has none
+-- a word that is no option, or an option with its value; one that has none is a flag
 pub data Part : Type 0 where
   plain : List ℕ → Part
-  option : List ℕ → List ℕ → Part
-  flag : List ℕ → Part
+  option : List ℕ → Option (List ℕ) → Part
 
 -- the options that a command has, and its flags, by their names
 pub record Options : Type 0 where
@@ -51,16 +50,16 @@ after_equals text = after_first (λ c. c == 61) text
 
 -- an option takes the plain word behind it as its value
 abbrev pub with_next : List ℕ → List Part → Option (List Part)
-with_next name (plain value ∷ parts) = Some (option name value ∷ parts)
+with_next name (plain value ∷ parts) = Some (option name (Some value) ∷ parts)
 with_next name _ = None
 
 -- the parts with an option in front, whose value follows in the same word or in the next; or with a flag, which takes none
 abbrev pub with_option : Options → List ℕ → Option (List ℕ) → List Part → Option (List Part)
 with_option options name (Some value) parts =
-    if is_in options.valued name then Some (option name value ∷ parts) else None
+    if is_in options.valued name then Some (option name (Some value) ∷ parts) else None
 with_option options name None parts =
     if is_in options.valued name then with_next name parts
-    else if is_in options.flags name then Some (flag name ∷ parts)
+    else if is_in options.flags name then Some (option name None ∷ parts)
     else None
 
 -- `name=value` or `name`; no option is without a name
@@ -85,21 +84,18 @@ abbrev pub plain_words : List Part → List (List ℕ)
 plain_words [] = []
 plain_words (plain word ∷ parts) = word ∷ plain_words parts
 plain_words (option name value ∷ parts) = plain_words parts
-plain_words (flag name ∷ parts) = plain_words parts
 
--- whether an option or a flag of this name is among them
+-- whether an option of this name is among them
 abbrev pub is_among : List ℕ → List Part → Bool
 is_among name [] = false
 is_among name (plain word ∷ parts) = is_among name parts
 is_among name (option other value ∷ parts) = bytes_eq other name || is_among name parts
-is_among name (flag other ∷ parts) = bytes_eq other name || is_among name parts
 
--- no option and no flag is among them twice
+-- no option is among them twice
 abbrev pub each_once : List Part → Bool
 each_once [] = true
 each_once (plain word ∷ parts) = each_once parts
 each_once (option name value ∷ parts) = not (is_among name parts) && each_once parts
-each_once (flag name ∷ parts) = not (is_among name parts) && each_once parts
 
 -- ---- numbers
 
@@ -191,8 +187,7 @@ arguments_of [] names = []
 arguments_of (plain word ∷ parts) [] = arguments_of parts []
 arguments_of (plain word ∷ parts) (name ∷ names) =
     record { name = name; text = Some word } ∷ arguments_of parts names
-arguments_of (option name value ∷ parts) names = record { name = name; text = Some value } ∷ arguments_of parts names
-arguments_of (flag name ∷ parts) names = record { name = name; text = None } ∷ arguments_of parts names
+arguments_of (option name value ∷ parts) names = record { name = name; text = value } ∷ arguments_of parts names
 
 -- the text that is given under a name
 abbrev pub text_given : List ℕ → List Argument → Option (List ℕ)
