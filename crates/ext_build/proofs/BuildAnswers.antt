@@ -1,6 +1,6 @@
 -- The answer of `build`: bytes describe one list of files, of which at most one module is built, which passes one limit at most.
 use Rattle.std.proofs.Common.{◌≡◌, ◌≢◌, ℕ, ◌+◌, ◌^◌, ◌<◌, ◌≤◌, ℤ, Bool, true, false, List, [], ◌∷◌, length, get_or, map, refl, sym, ap, subst, ◌∙◌, arith}
-use Rattle.std.specs.Prelude.{◌==◌, Option, Some, None, MatchOption, IfSome, Result, Ok, Err, IfOk, IfErr, ⊤}
+use Rattle.std.specs.Prelude.{◌==◌, Option, Some, None, MatchOption, IfSome, Result, Ok, Err, IfOk, IfErr}
 use Rattle.std.specs.Option.{option_or}
 use Rattle.std.proofs.lemmas.List.{length-map}
 use Rattle.std.proofs.lemmas.Bool.{eqb-true}
@@ -27,44 +27,28 @@ use Rattle.module_build.specs.declared.fault.BuildFault.TheVariants.{Limit, Memo
 use Rattle.ext_words.specs.declared.command.Build.{Build}
 use Rattle.ext_words.specs.declared.command.Build.TheVariants.{Sum, Tensor, Dual, Shift}
 use Rattle.ext_report.specs.declared.failure.Failure.{Failure}
-use Rattle.ext_report.specs.declared.failure.Failure.TheVariants.{Words, Malformed as NoModuleFile, NotModule, PastLimit, Reading, Writing, Saving, SaveFile, Classes, Memory}
+use Rattle.ext_report.specs.declared.failure.Failure.TheVariants.{Words, Malformed as NoModuleFile, NotModule, PastLimit, Reading, Memory}
 use Rattle.ext_build.specs.Building.{wanted, built_of, first_refused, IsBuilt, IsAnswerToFiles, no_module, past_limit, file_of as file_of_built, IsBuildAnswer, no_files, of_files, IsBuildable, ArePartsFrom, IsBuildAnswerFrom, IsBuildCauseFrom}
 use Rattle.ext_report.specs.Failure.{IsTold, build_failure}
 use Rattle.ext_build.specs.Input.{HasValue}
 
 -- ---- one answer
 
-one_built : (made : Build) (files : List File) (m k : SteenrodModule) → IsBuilt made files m → IsBuilt made files k → m ≡ k
-one_built made files m k p q = let same : Some m ≡ Some k = sym p.is_built ∙ q.is_built in cc
+-- the answer by the first file that is refused, by what is built, and by the limit that this passes
+abbrev limit_answer : SteenrodModule → Option BuildFault → Result (List ℕ) Failure
+limit_answer m (Some (Limit what)) = Err (PastLimit what)
+limit_answer m (Some NoRoom) = Err Memory
+limit_answer m None = Ok (file_text m)
 
-refused_and_built : (made : Build) (files : List File) (m : SteenrodModule) (x : File × CheckFault) → first_refused files ≡ Some x → IsBuilt made files m → ⊥
-refused_and_built made files m x p q = let never : Some x ≡ None = sym p ∙ q.accepted in cc
+abbrev answer_by : Option (File × CheckFault) → Option SteenrodModule → Result (List ℕ) Failure
+answer_by (Some refused) built = Err (NotModule refused.0 refused.1)
+answer_by None (Some m) = limit_answer m (limit_passed m.generators)
+answer_by None None = Err Memory
 
-passed_and_kept : (made : Build) (files : List File) (m k : SteenrodModule) (e : BuildFault) → IsBuilt made files m → IsBuilt made files k → limit_passed m.generators ≡ Some e → limit_passed k.generators ≡ None → ⊥
-passed_and_kept made files m k e p q passed kept =
-    let never : Some e ≡ None = sym passed ∙ (ap (λ (x : SteenrodModule). limit_passed x.generators) (one_built made files m k p q) ∙ kept) in
-    cc
-
-one_limit : (made : Build) (files : List File) (m k : SteenrodModule) (d e : BuildFault) → IsBuilt made files m → IsBuilt made files k → limit_passed m.generators ≡ Some d → limit_passed k.generators ≡ Some e → d ≡ e
-one_limit made files m k d e p q passed other =
-    let same : Some d ≡ Some e = sym passed ∙ (ap (λ (x : SteenrodModule). limit_passed x.generators) (one_built made files m k p q) ∙ other) in
-    cc
-
-files_answer_unique : (made : Build) (files : List File) (a b : Result (List ℕ) Failure) → IsAnswerToFiles made files a → IsAnswerToFiles made files b → a ≡ b
-files_answer_unique made files a b (no_module f e p) (no_module g d q) =
-    let same : Some (f, e) ≡ Some (g, d) = sym p ∙ q in
-    let both : (f, e) ≡ (g, d) = cc in
-    ap (λ (x : File × CheckFault). Err (NotModule x.0 x.1)) both
-files_answer_unique made files a b (no_module f e p) (past_limit m what built passed) = absurd (refused_and_built made files m (f, e) p built)
-files_answer_unique made files a b (no_module f e p) (file_of_built m built kept) = absurd (refused_and_built made files m (f, e) p built)
-files_answer_unique made files a b (past_limit m what built passed) (no_module f e p) = absurd (refused_and_built made files m (f, e) p built)
-files_answer_unique made files a b (past_limit m what built passed) (past_limit k other also more) =
-    let same : Limit what ≡ Limit other = one_limit made files m k (Limit what) (Limit other) built also passed more in
-    cc
-files_answer_unique made files a b (past_limit m what built passed) (file_of_built k also kept) = absurd (passed_and_kept made files m k (Limit what) built also passed kept)
-files_answer_unique made files a b (file_of_built m built kept) (no_module f e p) = absurd (refused_and_built made files m (f, e) p built)
-files_answer_unique made files a b (file_of_built m built kept) (past_limit k other also passed) = absurd (passed_and_kept made files k m (Limit other) also built passed kept)
-files_answer_unique made files a b (file_of_built m built kept) (file_of_built k also more) = ap (λ (x : SteenrodModule). Ok (file_text x)) (one_built made files m k built also)
+files_answer_is : (made : Build) (files : List File) (a : Result (List ℕ) Failure) → IsAnswerToFiles made files a → a ≡ answer_by (first_refused files) (built_of made (map derived_module files))
+files_answer_is made files a (no_module f e p) = rw p refl
+files_answer_is made files a (past_limit m what built passed) = rw (built.accepted, built.is_built, passed) refl
+files_answer_is made files a (file_of_built m built kept) = rw (built.accepted, built.is_built, kept) refl
 
 pub build_answer_unique : (made : Build) (bytes : List ℕ) (a b : Result (List ℕ) Failure) → IsBuildAnswer made bytes a → IsBuildAnswer made bytes b → a ≡ b
 build_answer_unique made bytes a b (no_files e p) (no_files d q) = let same = parts_unique (wanted made) bytes (Err e) (Err d) p q in cc
@@ -73,7 +57,7 @@ build_answer_unique made bytes a b (of_files files x p answer) (no_files e q) = 
 build_answer_unique made bytes a b (of_files files x p answer) (of_files others y q other) =
     let same = parts_unique (wanted made) bytes (Ok files) (Ok others) p q in
     let one : files ≡ others = cc in
-    files_answer_unique made others a b (subst (λ (fs : List File). IsAnswerToFiles made fs a) one answer) other
+    files_answer_is made others a (subst (λ (fs : List File). IsAnswerToFiles made fs a) one answer) ∙ sym (files_answer_is made others b other)
 
 -- ---- what the answer is not
 
@@ -139,20 +123,11 @@ count_of_parts want bytes files p = parts_count want bytes files (Ok files) p re
 -- ---- an answer
 
 there_of : (made : Build) (modules : List SteenrodModule) → length modules ≡ wanted made → (m : SteenrodModule) × (built_of made modules ≡ Some m)
-there_of Sum [] h = absurd (omega (arith, h))
-there_of Sum (m ∷ []) h = absurd (omega (arith, h))
 there_of Sum (m ∷ k ∷ []) h = (_, refl)
-there_of Sum (m ∷ k ∷ l ∷ ms) h = absurd (omega (arith, h))
-there_of Tensor [] h = absurd (omega (arith, h))
-there_of Tensor (m ∷ []) h = absurd (omega (arith, h))
 there_of Tensor (m ∷ k ∷ []) h = (_, refl)
-there_of Tensor (m ∷ k ∷ l ∷ ms) h = absurd (omega (arith, h))
-there_of Dual [] h = absurd (omega (arith, h))
 there_of Dual (m ∷ []) h = (_, refl)
-there_of Dual (m ∷ k ∷ ms) h = absurd (omega (arith, h))
-there_of (Shift n) [] h = absurd (omega (arith, h))
 there_of (Shift n) (m ∷ []) h = (_, refl)
-there_of (Shift n) (m ∷ k ∷ ms) h = absurd (omega (arith, h))
+there_of made modules h = absurd (omega (arith, h))
 
 -- no limit that is passed is want of memory
 never_memory : (few within near : Bool) → option_or (unless few Gens) (option_or (unless within Degree) (unless near Span)) ≡ Some NoRoom → ⊥
@@ -244,17 +219,6 @@ built_files made files modules m text accepted same is within told =
 
 -- ---- from what a source has left to an answer
 
--- a failure of files is the refusal of one, or a limit
-abbrev IsOfFiles : Failure → Type 0
-IsOfFiles (NotModule f e) = ⊤
-IsOfFiles (PastLimit what) = ⊤
-IsOfFiles failure = ⊥
-
-of_files_alone : (made : Build) (files : List File) (a : Result (List ℕ) Failure) (failure : Failure) → IsAnswerToFiles made files a → a ≡ Err failure → IsOfFiles failure
-of_files_alone made files a failure (no_module f e p) h = let same : NotModule f e ≡ failure = cc in subst IsOfFiles same tt
-of_files_alone made files a failure (past_limit m what built passed) h = let same : PastLimit what ≡ failure = cc in subst IsOfFiles same tt
-of_files_alone made files a failure (file_of_built m built kept) h = absurd cc
-
 module _ (made : Build) (left : Option (List ℕ)) (files : List File) where
   pub count_of_input : ArePartsFrom (wanted made) left (Ok files) → length files ≡ wanted made
   count_of_input p = count_of_parts (wanted made) p.bytes files p.holds
@@ -262,23 +226,20 @@ module _ (made : Build) (left : Option (List ℕ)) (files : List File) where
   pub files_answer : (answer : Result (List ℕ) Failure) → ArePartsFrom (wanted made) left (Ok files) → IsAnswerToFiles made files answer → IsBuildAnswerFrom made left answer
   files_answer answer p q = record { bytes = p.bytes; all = p.all; holds = of_files files answer p.holds q }
 
-  pub files_cause : (failure : Failure) → ArePartsFrom (wanted made) left (Ok files) → (failure ≢ Memory → IsAnswerToFiles made files (Err failure)) → IsBuildCauseFrom made left failure
-  files_cause Words p w = absurd (of_files_alone made files (Err Words) Words (w (λ h. cc)) refl)
-  files_cause (NoModuleFile e) p w = absurd (of_files_alone made files (Err (NoModuleFile e)) (NoModuleFile e) (w (λ h. cc)) refl)
-  files_cause (NotModule f e) p w = files_answer (Err (NotModule f e)) p (w (λ h. cc))
-  files_cause (PastLimit what) p w = files_answer (Err (PastLimit what)) p (w (λ h. cc))
-  files_cause Reading p w = tt
-  files_cause Writing p w = absurd (of_files_alone made files (Err Writing) Writing (w (λ h. cc)) refl)
-  files_cause Saving p w = absurd (of_files_alone made files (Err Saving) Saving (w (λ h. cc)) refl)
-  files_cause (SaveFile e) p w = absurd (of_files_alone made files (Err (SaveFile e)) (SaveFile e) (w (λ h. cc)) refl)
-  files_cause (Classes e) p w = absurd (of_files_alone made files (Err (Classes e)) (Classes e) (w (λ h. cc)) refl)
-  files_cause Memory p w = tt
+  by_answer : (a : Result (List ℕ) Failure) (failure : Failure) → ArePartsFrom (wanted made) left (Ok files) → IsAnswerToFiles made files a → a ≡ Err failure → IsBuildCauseFrom made left failure
+  by_answer a failure p (no_module f e refused) h = let same : NotModule f e ≡ failure = cc in subst (IsBuildCauseFrom made left) same (files_answer (Err (NotModule f e)) p (no_module f e refused))
+  by_answer a failure p (past_limit m what built passed) h = let same : PastLimit what ≡ failure = cc in subst (IsBuildCauseFrom made left) same (files_answer (Err (PastLimit what)) p (past_limit m what built passed))
+  by_answer a failure p (file_of_built m built kept) h = absurd cc
 
-  files_not_reading : (failure : Failure) → (failure ≢ Memory → IsAnswerToFiles made files (Err failure)) → failure ≡ Reading → ⊥
-  files_not_reading failure w h =
-      let read = subst (λ (x : Failure). IsAnswerToFiles made files (Err x)) h (w (λ m. cc)) in
-      of_files_alone made files (Err Reading) Reading read refl
+  pub files_cause : (failure : Failure) → ArePartsFrom (wanted made) left (Ok files) → (failure ≢ Memory → IsAnswerToFiles made files (Err failure)) → IsBuildCauseFrom made left failure
+  files_cause Memory p w = tt
+  files_cause failure p w = by_answer (Err failure) failure p (w (λ h. cc)) refl
+
+  not_reading : (a : Result (List ℕ) Failure) → IsAnswerToFiles made files a → a ≡ Err Reading → ⊥
+  not_reading a (no_module f e p) h = cc
+  not_reading a (past_limit m what built passed) h = cc
+  not_reading a (file_of_built m built kept) h = cc
 
   pub result_not_reading : {X : Type 0} (r : Result X Failure) → IfErr r (λ e. e ≢ Memory → IsAnswerToFiles made files (Err e)) → r ≡ Err Reading → ⊥
   result_not_reading (Ok x) w h = absurd cc
-  result_not_reading (Err e) w h = let same : e ≡ Reading = cc in files_not_reading e w same
+  result_not_reading (Err e) w h = let same : e ≡ Reading = cc in not_reading (Err e) (w (λ m. cc)) (ap Err same)

@@ -8,7 +8,7 @@ use Rattle.module_json.specs.ModuleFile.{File, IsFileOf, no_value, described}
 use Rattle.module_json.specs.Parts.{ArePartsOf, no_value as none, described as some}
 use Rattle.module_json.proofs.Sizes.{value_of_longer}
 use Rattle.module_json.specs.declared.malformed.Malformed.{Malformed}
-use Rattle.module_json.specs.declared.malformed.Malformed.TheVariants.{Limit, Json, Shape, Kind, Prime, Name, Degree, Action, Bounds, Parts, Memory}
+use Rattle.module_json.specs.declared.malformed.Malformed.TheVariants.{Memory}
 use Rattle.ext_words.specs.declared.command.Build.{Build}
 use Rattle.ext_report.specs.declared.failure.Failure.{Failure}
 use Rattle.ext_report.specs.declared.failure.Failure.TheVariants.{Malformed as NoModuleFile}
@@ -59,17 +59,8 @@ rest-read (Some l) new read n count e r =
 
 -- Why there is no file: the first thing wrong with what was read, as Is says of it, or want of memory.
 malformed_cause : (Is : Failure → Type 0) (e : Malformed) → (e ≢ Memory → Is (NoModuleFile e)) → IsCauseOf ⊤ ⊥ Is (file_failure e)
-malformed_cause Is (Limit what) p = p (λ h. cc)
-malformed_cause Is Json p = p (λ h. cc)
-malformed_cause Is (Shape at) p = p (λ h. cc)
-malformed_cause Is Kind p = p (λ h. cc)
-malformed_cause Is (Prime given) p = p (λ h. cc)
-malformed_cause Is (Name generator) p = p (λ h. cc)
-malformed_cause Is (Degree generator) p = p (λ h. cc)
-malformed_cause Is (Action index why) p = p (λ h. cc)
-malformed_cause Is (Bounds min max) p = p (λ h. cc)
-malformed_cause Is (Parts want given) p = p (λ h. cc)
 malformed_cause Is Memory p = tt
+malformed_cause Is e p = p (λ h. cc)
 
 pub file_cause : (left : Option (List ℕ)) (e : Malformed) → (e ≢ Memory → IsFileFrom left (Err e)) → IsFileCauseFrom left (file_failure e)
 file_cause left e p = malformed_cause (IsRefusalFrom left) e p
