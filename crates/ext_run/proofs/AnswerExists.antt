@@ -1,5 +1,5 @@
 -- The answer: for a module that a file describes there is a canonical table through each range, and the texts are made of it.
-use Rattle.std.proofs.Common.{◌≡◌, ℕ, ℤ, pos, ◌<ℤ◌, ◌≤ℤ◌, List, [], ◌∷◌, length, Option, Some, None, refl, sym, ◌∙◌, ap, arith, inl, inr}
+use Rattle.std.proofs.Common.{◌≡◌, ℕ, ℤ, pos, ◌<ℤ◌, List, [], ◌∷◌, length, Option, Some, None, refl, sym, ◌∙◌, ap, arith, inl, inr}
 use Rattle.std.specs.Prelude.{Result, Ok, Err, IfOk, MatchOption}
 use Rattle.std.specs.List.{sum}
 use Rattle.std.proofs.lemmas.Bool.{cases_eq}
@@ -18,21 +18,18 @@ use Rattle.finite_module.specs.DerivedAction.{derived_module, top}
 use Rattle.finite_module.specs.Axioms.{IsModule}
 use Rattle.module_check.specs.Acceptance.{AcceptedIsModule, refusal_of}
 use Rattle.finite_module.specs.Graded.{ModulesAreSteenrodModules}
-use Rattle.finite_module.specs.Checked.{Checked, sphere_file}
+use Rattle.finite_module.specs.Checked.{sphere_file}
 use Rattle.finite_module.specs.Sample.{sample_generators, sample_file}
 use Rattle.finite_module.proofs.SampleFile.{sample_is_module, sample_by_degree}
 use Rattle.finite_module.specs.ModuleLaws.{numbers_from-none}
 use Rattle.module_check.specs.declared.fault.CheckFault.{CheckFault}
-use Rattle.resolution_laws.specs.Resolution.{Content, generator_count}
+use Rattle.resolution_laws.specs.Resolution.{Content}
 use Rattle.resolution_laws.specs.Exactness.{IsBoundedBelow, CanonicalTableIsMinimalResolution}
 use Rattle.resolution_existence.specs.Existence.{CanonicalTableExists}
 use Rattle.square.specs.Squares.{module_over}
 use Rattle.square.specs.declared.range.Range.{Range}
-use Rattle.ext_chart.specs.Chart.{chart_text}
 use Rattle.ext_chart.specs.Check.{check_line}
-use Rattle.ext_chart.specs.Dump.{dump_text}
 use Rattle.ext_chart.specs.Product.{product_text}
-use Rattle.ext_chart.specs.Summary.{summary_text}
 use Rattle.lift_laws.specs.Lifts.{IsCanonical}
 use Rattle.chain_map.specs.declared.class.Class.{Class}
 use Rattle.ext_products.specs.Products.{resolution, Telling, HasAnswer, IsProductsAnswer}

@@ -33,7 +33,7 @@ use Rattle.ext_run.specs.declared.plan.Form.{Form}
 use Rattle.ext_run.specs.declared.plan.Form.TheVariants.{Chart, Differentials, Summary, Products, Bracket}
 use Rattle.ext_run.specs.declared.plan.Plan.{Plan}
 use Rattle.ext_run.specs.declared.plan.Plan.TheVariants.{Resolve, Check, Build, Multiply}
-use Rattle.ext_run.specs.Forms.{IsReadOff, IsChart, IsDump, IsSummary, chart_of, dump_of, summary_of, IsText, IsToldOfClasses, told_of_classes, IsInForm}
+use Rattle.ext_run.specs.Forms.{IsReadOff, chart_of, dump_of, summary_of, IsText, IsToldOfClasses, told_of_classes, IsInForm}
 use Rattle.ext_run.specs.Plan.{asked_by}
 use Rattle.ext_run.specs.Answer.{IsLineOn, IsProduct, ModuleAnswers, IsAnswerOfFile, IsModuleAnswer, IsAnswerAt, IsAnswerTo, IsAskedAnswer, AnswerIsUnique}
 
@@ -69,9 +69,9 @@ one-text IsTextOf texts m (Ok x) (Err e) p q = absurd q
 one-text IsTextOf texts m (Err e) b p q = absurd p
 
 form_unique : (form : Form) (range : Range) → IsOne (IsInForm form range)
-form_unique Chart range = one-text (IsChart range) (read_off_unique (chart_of range) range)
-form_unique Differentials range = one-text (IsDump range) (read_off_unique (dump_of range) range)
-form_unique Summary range = one-text (IsSummary range) (read_off_unique (summary_of range) range)
+form_unique Chart range = one-text (IsReadOff (chart_of range) range) (read_off_unique (chart_of range) range)
+form_unique Differentials range = one-text (IsReadOff (dump_of range) range) (read_off_unique (dump_of range) range)
+form_unique Summary range = one-text (IsReadOff (summary_of range) range) (read_off_unique (summary_of range) range)
 form_unique (Products by) range = classes-unique range (IsProductsAnswer range by) (answers-unique range by)
 form_unique (Bracket a b c) range = classes-unique range (IsBracketAnswer range a b c) (bracket-answers-unique row_basis_unique range a b c)
 

@@ -1,7 +1,7 @@
 -- What the answers to what is asked are, and what they exclude.
-use Rattle.serde_json.specs.Data.{Data, null, boolean, number, string, array, object}
+use Rattle.serde_json.specs.Data.{Data, array}
 use Rattle.std.proofs.Common.{◌≡◌, ℕ, true, ◌^◌, ◌≤◌, List, [], length, drop, Option, Some, None, IfSome, refl, sym, subst, ◌∙◌, arith}
-use Rattle.std.specs.Prelude.{MatchOption, Result, Ok, Err, ⊤}
+use Rattle.std.specs.Prelude.{MatchOption, Result, Ok, Err}
 use Rattle.std.proofs.lemmas.List.{drop_all}
 use Rattle.edge.specs.Source.{without_first}
 use Rattle.module_json.specs.ModuleFile.{File, IsFileOf, no_value, described}
@@ -40,7 +40,7 @@ use Rattle.ext_run.specs.declared.plan.Plan.TheVariants.{Resolve, Check, Build, 
 use Rattle.ext_run.specs.declared.task.Task.{Task}
 use Rattle.ext_run.specs.declared.task.Task.TheVariants.{Text, Resolution}
 use Rattle.ext_run.specs.Plan.{IsModuleIn, IsModuleAt, IsModuleOf, IsModuleFor, PlanReads, Reads}
-use Rattle.ext_run.specs.Forms.{IsChart, IsDump, IsSummary, IsText, IsToldOfClasses, told_of_classes, IsInForm}
+use Rattle.ext_run.specs.Forms.{IsReadOff, chart_of, dump_of, summary_of, IsText, IsToldOfClasses, told_of_classes, IsInForm}
 use Rattle.ext_run.specs.Answer.{IsLineOn, ModuleAnswers, IsAnswerOfFile, IsModuleAnswer, IsAnswerAt, IsAnswerTo, IsAskedAnswer}
 use Rattle.ext_run.specs.Task.{IsDoneBy}
 
@@ -61,9 +61,9 @@ classes_told : (range : Range) (IsToldOf : Resolved → Resolved → Result (Lis
 classes_told range IsToldOf m answer p = subst IsTold (sym p.is) (one_told p.told)
 
 form_told : (form : Form) (range : Range) → OnlyTold (IsInForm form range)
-form_told Chart range = text_told (IsChart range)
-form_told Differentials range = text_told (IsDump range)
-form_told Summary range = text_told (IsSummary range)
+form_told Chart range = text_told (IsReadOff (chart_of range) range)
+form_told Differentials range = text_told (IsReadOff (dump_of range) range)
+form_told Summary range = text_told (IsReadOff (summary_of range) range)
 form_told (Products by) range = classes_told range (IsProductsAnswer range by)
 form_told (Bracket a b c) range = classes_told range (IsBracketAnswer range a b c)
 
@@ -97,8 +97,7 @@ module _ (P : ModuleAnswers) (only : OnlyTold P) where
 plan_told : (plan : Plan) (bytes : List ℕ) (m : SteenrodModule) (a : Result (List ℕ) Failure) → IsModuleOf plan bytes m → IsAnswerTo plan bytes a → IsTold a
 plan_told (Resolve origin form common) bytes m a q p = at_told (IsInForm form common.range) (form_told form common.range) origin bytes m a q p
 plan_told Check bytes m a q p = module_told (IsText IsLineOn) (text_told IsLineOn) bytes m a q p
-plan_told (Build made) bytes m a q p = absurd q
-plan_told (Multiply numbers) bytes m a q p = absurd q
+plan_told plan bytes m a q p = absurd q
 
 pub asked_told : (asked : Option Plan) (bytes : List ℕ) (m : SteenrodModule) (a : Result (List ℕ) Failure) → IsModuleFor asked bytes m → IsAskedAnswer asked bytes a → IsTold a
 asked_told None bytes m a q p = absurd q
@@ -107,12 +106,8 @@ asked_told (Some plan) bytes m a q p = plan_told plan bytes m a q p
 -- ---- the file of a real projective space, which is no array of modules
 
 space_no_parts : (want : ℕ) (d : Data) (files : List File) → is_space d ≡ true → modules_of want d ≡ Ok files → ⊥
-space_no_parts want null files s h = cc
-space_no_parts want (boolean b) files s h = cc
-space_no_parts want (number n) files s h = cc
-space_no_parts want (string t) files s h = cc
 space_no_parts want (array ds) files s h = cc
-space_no_parts want (object ms) files s h = cc
+space_no_parts want d files s h = cc
 
 space_not_built : (made : Made) (bytes : List ℕ) (f : File) (e : CheckFault) (a : Result (List ℕ) Failure) → IsSpaceFile bytes → IsBuildAnswer made bytes a → a ≡ Err (NotModule f e) → ⊥
 space_not_built made bytes f e a space (no_files d p) h = cc
@@ -146,12 +141,10 @@ module_fits P bytes (Ok f) a told is p = file_fits bytes f (Ok f) is refl
 module_fits P bytes (Err e) a told is p = absurd (subst IsTold p told)
 
 plan_fits : (plan : Plan) (bytes : List ℕ) (a : Result (List ℕ) Failure) → IsTold a → PlanReads plan → IsAnswerTo plan bytes a → length bytes ≤ 2 ^ 20
-plan_fits (Resolve Sphere form common) bytes a told reads p = absurd reads
-plan_fits (Resolve (Sample n) form common) bytes a told reads p = absurd reads
 plan_fits (Resolve OfFile form common) bytes a told reads p = module_fits (IsInForm form common.range) bytes p.file a told p.is_file p.is_answer
 plan_fits Check bytes a told reads p = module_fits (IsText IsLineOn) bytes p.file a told p.is_file p.is_answer
 plan_fits (Build made) bytes a told reads p = build_fits made bytes a told p
-plan_fits (Multiply numbers) bytes a told reads p = absurd reads
+plan_fits plan bytes a told reads p = absurd reads
 
 asked_fits : (asked : Option Plan) (bytes : List ℕ) (a : Result (List ℕ) Failure) → IsTold a → Reads asked → IsAskedAnswer asked bytes a → length bytes ≤ 2 ^ 20
 asked_fits None bytes a told reads p = absurd reads

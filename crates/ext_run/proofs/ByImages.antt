@@ -1,5 +1,5 @@
 -- The texts that are made from the images of a canonical resolution are those of the resolution.
-use Rattle.std.proofs.Common.{◌≡◌, ℕ, ◌+◌, ◌<◌, ◌≤◌, List, length, map, ap, sym, ◌∙◌, arith}
+use Rattle.std.proofs.Common.{◌≡◌, ℕ, List, length, ap, ◌∙◌, arith}
 use Rattle.std.proofs.lemmas.List.{length-map}
 use Rattle.finite_module.specs.Module.{Module}
 use Rattle.finite_module.specs.Checked.{Checked}
@@ -14,7 +14,7 @@ use Rattle.square.specs.declared.range.Range.{Range}
 use Rattle.square.specs.Squares.{over, bottom_of}
 use Rattle.ext_chart.specs.Seen.{IsSeenThrough}
 use Rattle.ext_chart.proofs.Bare.{chart_of_images, dump_of_images, summary_of_images}
-use Rattle.ext_run.specs.Forms.{IsResolved, IsReadOff, chart_of, dump_of, summary_of, IsChart, IsDump, IsSummary}
+use Rattle.ext_run.specs.Forms.{IsResolved, IsReadOff, chart_of, dump_of, summary_of}
 
 module _ (exists : CanonicalTableExists) (minimal : CanonicalTableIsMinimalResolution) (modules : ModulesAreSteenrodModules) (range : Range) (m : Checked) (lines : List BareRow) (h : AreOfCanonical (over m) range.s range.t lines) where
   resolved : (table : List (List Content)) × IsResolved range m.plain table
@@ -35,11 +35,11 @@ module _ (exists : CanonicalTableExists) (minimal : CanonicalTableIsMinimalResol
       let r = resolved in
       record { table = r.0; resolved = r.1; is = is ∙ ap (λ (x : Checked). text_of x.plain (squares_of lines)) same ∙ alike r.0 r.1.canonical }
 
-  pub is_chart_of : (given : Checked) (text : List ℕ) → given ≡ m → text ≡ chart_of range given.plain (squares_of lines) → IsChart range m.plain text
+  pub is_chart_of : (given : Checked) (text : List ℕ) → given ≡ m → text ≡ chart_of range given.plain (squares_of lines) → IsReadOff (chart_of range) range m.plain text
   is_chart_of = read_off (chart_of range) (λ table canonical. chart_of_images (over m) range.s range.t lines table canonical h (bottom_of m))
 
-  pub is_dump_of : (given : Checked) (text : List ℕ) → given ≡ m → text ≡ dump_of range given.plain (squares_of lines) → IsDump range m.plain text
+  pub is_dump_of : (given : Checked) (text : List ℕ) → given ≡ m → text ≡ dump_of range given.plain (squares_of lines) → IsReadOff (dump_of range) range m.plain text
   is_dump_of = read_off (dump_of range) (λ table canonical. dump_of_images (over m) range.s range.t lines table canonical h m.plain.generators)
 
-  pub is_summary_of : (given : Checked) (text : List ℕ) → given ≡ m → text ≡ summary_of range given.plain (squares_of lines) → IsSummary range m.plain text
+  pub is_summary_of : (given : Checked) (text : List ℕ) → given ≡ m → text ≡ summary_of range given.plain (squares_of lines) → IsReadOff (summary_of range) range m.plain text
   is_summary_of = read_off (summary_of range) (λ table canonical. summary_of_images (over m) range.s range.t lines table canonical h (length m.plain.generators) (bottom_of m))

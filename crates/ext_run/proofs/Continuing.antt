@@ -15,7 +15,6 @@ use Rattle.square.specs.Tables.{Staircase, row_in, plain_rows, IsThrough, cut}
 use Rattle.square.specs.Growing.{HasGrown}
 use Rattle.square.specs.Keeping.{Keeper, HoldsTable}
 use Rattle.resolution_step.specs.Alone.{HasResolved}
-use Rattle.ext_report.specs.declared.failure.Failure.{Failure}
 use Rattle.ext_report.specs.declared.failure.Failure.TheVariants.{Saving, Memory}
 use Rattle.ext_run.specs.declared.plan.Form.{Form}
 use Rattle.ext_run.specs.Plan.{TellsOfClasses}

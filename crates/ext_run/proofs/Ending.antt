@@ -1,5 +1,5 @@
 -- What a run promises, by how it ends: by a text that answers the words, or by a failure, which may be an answer too.
-use Rattle.std.proofs.Common.{◌≡◌, ◌≢◌, ◌∙◌, ℕ, ◌≤◌, ◌⊎◌, inl, inr, List, Option, None, IfSome, refl, sym, subst, ap, arith}
+use Rattle.std.proofs.Common.{◌≡◌, ◌≢◌, ℕ, ◌≤◌, ◌⊎◌, inl, inr, List, Option, None, IfSome, refl, sym, subst, ap}
 use Rattle.std.specs.declared.alloc.Global.{Global}
 use Rattle.std.specs.Prelude.{Vec, Result, Ok, Err, IfOk, IfErr, OnOk, OnErr}
 use Rattle.edge.specs.Faults.{HasRisen}
@@ -17,8 +17,8 @@ use Rattle.ext_run.specs.declared.task.Task.{Task}
 use Rattle.ext_run.specs.Devices.{Device, Store}
 use Rattle.ext_run.specs.Plan.{Reads, live_for}
 use Rattle.ext_run.specs.Answer.{IsAskedAnswer, IsTaskCause, IsTaskCauseFrom}
-use Rattle.ext_run.specs.Saving.{Outcome, IsUsable, HasSaved}
-use Rattle.ext_run.specs.Task.{IsDoneBy, HasItsAnswer, IsTaskFor}
+use Rattle.ext_run.specs.Saving.{Outcome, IsUsable}
+use Rattle.ext_run.specs.Task.{HasItsAnswer, IsTaskFor}
 use Rattle.ext_run.specs.Work.{Told, HasAnswer, answer_of, HasWorked}
 use Rattle.ext_run.specs.Ending.{HasTold, HasGotWhole, HasGotPart}
 use Rattle.ext_run.specs.Live.{live_in, HasHeard}

@@ -1,8 +1,8 @@
 -- What is left of the disk of a run that kept its squares, at each moment and in the end.
-use Rattle.std.proofs.Common.{◌≡◌, ℕ, ◌≤◌, ◌⊎◌, inl, inr, List, [], ◌∷◌, ◌++◌, length, Bool, true, false, ap, sym, subst, ◌∙◌, refl, arith}
+use Rattle.std.proofs.Common.{◌≡◌, ℕ, ◌≤◌, ◌⊎◌, inl, inr, List, [], ◌∷◌, ◌++◌, length, Bool, true, false, ap, sym, subst, ◌∙◌, refl, arith, append-nil}
 use Rattle.std.proofs.lemmas.Bool.{and_parts, eqb-true}
 use Rattle.std.proofs.lemmas.List.Elements.{All-nil, All-cons, All-head, All-tail, All-append, All-weaker}
-use Rattle.std.specs.Prelude.{Option, Some, None, IfSome, Ok, Err, nat_eq, ◌&&◌, ◌↔◌, if◌then◌else◌}
+use Rattle.std.specs.Prelude.{Option, Some, None, IfSome, IsSome, Ok, Err, nat_eq, ◌&&◌, ◌↔◌, if◌then◌else◌}
 use Rattle.std.specs.List.{All}
 use Rattle.std.specs.Result.{result_ok}
 use Rattle.edge.specs.Disk.{LeavesOnly}
@@ -11,14 +11,15 @@ use Rattle.finite_module.specs.Module.{Module as SteenrodModule}
 use Rattle.resolution_laws.specs.Resolution.{Module, Content}
 use Rattle.resolution_laws.specs.Start.{Entry, entry_at, IsOf, AreOf, IsCanonicalStart}
 use Rattle.resolution_laws.proofs.StartLaws.{canonical_content}
-use Rattle.square.specs.Squares.{over}
+use Rattle.square.specs.Squares.{over, module_over}
 use Rattle.square.specs.Keeping.{Keeper, HasFirst, Retains, HasKept, IsImageWith, IsImageAmid, IsImagePart, with_squares}
 use Rattle.square.specs.declared.range.Range.{Range}
-use Rattle.save_journal.specs.Records.{Records, records_of}
+use Rattle.save_journal.specs.Records.{Records}
 use Rattle.save_journal.specs.Journals.{HasRecordsOf}
 use Rattle.save_file.specs.Files.{Standing, digest_of, of_records, standing_of, squares_in}
 use Rattle.save_file.specs.Saving.{SaveState, TakesSquares, kept_in, telling_of}
 use Rattle.save_file.specs.Inside.SavingLaws.{left_is_kept}
+use Rattle.save_file.proofs.Entries.{some_is}
 use Rattle.resolution_step.specs.Alone.{IsInRange}
 use Rattle.ext_run.specs.Devices.{Store}
 use Rattle.ext_run.specs.Saving.{AreCanonical, StandsWith, StandsAmid, StandsAtPart, StandsAsOneOf, squares_of, IsOurs, MayBeLeft, IsUnwritten, HasRetained, HasLasted, HasRange}
@@ -81,25 +82,11 @@ stands_amid m start list given c reads canonical more image =
       with_more = stands_with m start (list ++ image.first) c reads (All-append P list image.first canonical front) image.with_more;
     }
 
--- a file with the records of one that stands for a list stands for it
-pub as_another : (m : Checked) (list : List Entry) (c d : List ℕ) → records_of (digest_of m.plain) c ≡ records_of (digest_of m.plain) d → StandsWith m.plain list d → StandsWith m.plain list c
-as_another m list c d same with = record {
-  more = with.more;
-  at_most_one = with.at_most_one;
-  canonical = with.canonical;
-  stands = ap (λ (r : Records). of_records (over m) r) same ∙ with.stands;
-}
+-- a file that stands for what another one does stands for its list
+as_one : (m : SteenrodModule) (list : List Entry) (c d : List ℕ) → standing_of m c ≡ standing_of m d → StandsWith m list d → StandsWith m list c
+as_one m list c d same with = record { more = with.more; at_most_one = with.at_most_one; canonical = with.canonical; stands = same ∙ with.stands }
 
--- and so does one of which the same squares are read
-as_read : (m : Checked) (list : List Entry) (c d : List ℕ) → squares_in m c ≡ squares_in m d → StandsWith m.plain list d → StandsWith m.plain list c
-as_read m list c d same with = record {
-  more = with.more;
-  at_most_one = with.at_most_one;
-  canonical = with.canonical;
-  stands = standing_ok (standing_of m.plain c) (list ++ with.more) (same ∙ ap (λ (s : Standing). result_ok s) with.stands);
-}
-
--- and so does one of which the same squares are read, as they are of one that stands for squares
+-- a file of which the same squares are read as of one that stands for squares stands for them
 standing_same : (m : Checked) (list : List Entry) (c d : List ℕ) → squares_in m c ≡ squares_in m d → standing_of m.plain d ≡ Ok list → standing_of m.plain c ≡ standing_of m.plain d
 standing_same m list c d same stands = standing_ok (standing_of m.plain c) list (same ∙ ap (λ (s : Standing). result_ok s) stands) ∙ sym stands
 
@@ -152,6 +139,29 @@ module _ {D : Type 0} (store : Store D) (laws : AreDisks store) where
       (c : List ℕ) → store.images_at d u c → HasFirst first (squares_of m c)
   at_once m d first t u from le within all c there = let same : u ≡ t = omega (arith, from, le, within) in all c (subst (λ (v : ℕ). store.images_at d v c) same there)
 
+  -- on a disk no square was put: what is left of it stands for what was there
+  pub none_put : (m : SteenrodModule) (range : Range) (list : List Entry) (had_answer unfailed : Type 0) (disk d : D) → (had_answer → ⊥) → (unfailed → IsUnwritten store disk d) → IsSome (store.now disk) → IsOurs m list (store.images disk) → store.moment disk ≤ store.moment d →
+      ((c : List ℕ) → store.since d (store.moment disk) c → StandsAsOneOf m (store.images disk) c) → HasLasted store m range list had_answer unfailed disk d
+  none_put m range list had_answer unfailed disk d never unwritten told ours later stood =
+      let found = some_is (store.now disk) told in
+      let here = ours found.0 (at_some (store.now disk) (λ f. store.images disk f) found.0 found.1 (laws.now_is_image disk)) in
+      let same : (list ++ []) ++ [] ≡ list = append-nil (list ++ []) ∙ append-nil list in
+      let stands : (c : List ℕ) → store.since d (store.moment disk) c → StandsWith m list c = λ c was. let one = stood c was in as_one m list c one.0 one.2 (ours one.0 one.1) in
+      record {
+        more = [];
+        given = [];
+        places = All-nil (λ e. IsInRange range e.s e.above);
+        at_most_one = omega arith;
+        canonical = subst (AreCanonical m) (sym same) (all_first (λ e. IsOf (module_over m) [] e.s e.above e.content) list here.more here.canonical);
+        moments = λ c was. inl (stands c was);
+        ours = subst (λ (l : List Entry). IsOurs m l (store.images d)) (sym same) (λ c image. stands c (laws.since_earlier d (store.moment disk) (store.moment d) c later (laws.counts_now d c image)));
+        retained = record { taken_up = store.moment d; until = λ t from upto c there. stood c (laws.since_at d (store.moment disk) t c from upto there); from = at_once m d };
+        keeps = λ worked c was. inl (stood c was);
+        settled = λ worked. inl (refl, refl, unwritten worked);
+        exact = λ h. absurd (never h);
+        whole = λ h. absurd (never h);
+      }
+
   module _ (m : Checked) (range : Range) (list more given : List Entry) (had_answer unfailed : Type 0) (disk : D) (k after : SaveState D)
       (at_most_one : length more ≤ 1) (canonical : AreCanonical m.plain (list ++ more)) (ours : IsOurs m.plain list (store.images disk)) (resolved : k.resolved ≡ m) (kept_is : kept_in store.now k ≡ Some (list ++ more))
       (opening : LeavesOnly store.moment store.since disk k.journal.disk (HasRecordsOf (digest_of m.plain) (store.images disk))) (kept : HasKept (over m) (list ++ more) (telling k) (telling after) given) (places : All (λ e. IsInRange range e.s e.above) given)
@@ -181,6 +191,15 @@ module _ {D : Type 0} (store : Store D) (laws : AreDisks store) where
     after_kept : kept_in store.now after ≡ Some (start ++ given)
     after_kept = kept.kept ∙ ap (λ (o : Option (List Entry)). with_squares o given) kept_is
 
+    -- what was left before the file was taken up stands for what a file from before the run stands for
+    stood : (c d : List ℕ) → store.since k.journal.disk (store.moment disk) d → squares_in after.resolved c ≡ squares_in k.resolved d → StandsAsOneOf m.plain (store.images disk) c
+    stood c d was is =
+        let found = opening.each d was in
+        let read : squares_in m c ≡ squares_in m d = sym (read_after c) ∙ is ∙ ap (λ (q : Checked). squares_in q d) resolved in
+        let with = ours found.0 found.1 in
+        let alike = ap (λ (r : Records). of_records (over m) r) found.2 in
+        (found.0, found.1, standing_same m (list ++ with.more) c d read (alike ∙ with.stands) ∙ alike)
+
     moments : (c : List ℕ) → store.since after.journal.disk (store.moment disk) c → StandsWith m.plain list c ⊎ StandsAmid m.plain start given c
     moments c left =
         let image = squares_in after.resolved c in
@@ -189,11 +208,7 @@ module _ {D : Type 0} (store : Store D) (laws : AreDisks store) where
         let earlier = at_start (λ (l : List Entry). (t : ℕ) (i : Option (List Entry)) → t ≤ T.moment → U.since t i ↔ (T.since t i ⊎ U.since T.moment i)) kept.earlier in
         let between = at_start (λ (l : List Entry). (i : Option (List Entry)) → U.since T.moment i → IsImageAmid (over m) start l given i) kept.since in
         elim ((earlier (store.moment disk) image opening.later).0 (c, left, refl)) [
-          | inl before ↦
-              let d = before.0 in
-              let found = opening.each d before.1 in
-              let read : squares_in m c ≡ squares_in m d = sym (read_after c) ∙ before.2 ∙ ap (λ (q : Checked). squares_in q d) resolved in
-              inl (as_read m list c d read (as_another m list d found.0 found.2 (ours found.0 found.1)))
+          | inl before ↦ let one = stood c before.0 before.1 before.2 in inl (as_one m.plain list c one.0 one.2 (ours one.0 one.1))
           | inr now_left ↦
               inr (stands_amid m start start given c reads canonical given_canonical (subst (IsImageAmid (over m) start start given) (read_after c) (between image now_left)))
         ]
@@ -204,14 +219,6 @@ module _ {D : Type 0} (store : Store D) (laws : AreDisks store) where
         let ending = at_start (λ (l : List Entry). (i : Option (List Entry)) → U.since U.moment i → IsImageWith (over m) start (l ++ given) i) kept.now in
         stands_with m start (start ++ given) c reads all_canonical
         (subst (IsImageWith (over m) start (start ++ given)) (read_after c) (ending (squares_in after.resolved c) (c, laws.counts_now after.journal.disk c image, refl)))
-
-    -- what was left before the file was taken up stands for what a file from before the run stands for
-    stood : (c d : List ℕ) → store.since k.journal.disk (store.moment disk) d → squares_in after.resolved c ≡ squares_in k.resolved d → StandsAsOneOf m.plain (store.images disk) c
-    stood c d was is =
-        let found = opening.each d was in
-        let read : squares_in m c ≡ squares_in m d = sym (read_after c) ∙ is ∙ ap (λ (q : Checked). squares_in q d) resolved in
-        let as_found = as_another m list d found.0 found.2 (ours found.0 found.1) in
-        (found.0, found.1, standing_same m (list ++ as_found.more) c d read as_found.stands ∙ ap (λ (r : Records). of_records (over m) r) found.2)
 
     retained : HasRetained store m.plain disk after.journal.disk
     retained = record {

@@ -1,6 +1,6 @@
 -- What a run left stands for squares of the module, and what is asked names one module of an input.
 use Rattle.std.proofs.Common.{◌≡◌, ℕ, ◌≤◌, inl, inr, List, [], ◌++◌, length, take, drop, ap, sym, subst, refl, arith}
-use Rattle.std.specs.Prelude.{cond, Option, Some, IsSome, Ok}
+use Rattle.std.specs.Prelude.{cond, Option, IsSome, Ok}
 use Rattle.std.proofs.lemmas.Bool.{le-leb}
 use Rattle.std.proofs.lemmas.List.Elements.{All-nil}
 use Rattle.finite_module.specs.Module.{Module as SteenrodModule}

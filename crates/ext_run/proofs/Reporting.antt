@@ -1,7 +1,6 @@
 -- What becomes of standard error, where it may be reported how far a range is.
-use Rattle.std.proofs.Common.{◌≡◌, ℕ, ◌≤◌, Bool, true, false, List, [], ◌++◌, Option, Some, None, refl, ap, sym, subst, ◌∙◌, arith, append-nil}
-use Rattle.std.specs.declared.alloc.Global.{Global}
-use Rattle.std.specs.Prelude.{Vec, Result, Ok, Err, OnOk, OnErr, IfSome, option_map}
+use Rattle.std.proofs.Common.{◌≡◌, ℕ, Bool, true, false, List, [], ◌++◌, Option, Some, None, refl, ap, sym, subst, ◌∙◌, arith, append-nil}
+use Rattle.std.specs.Prelude.{Result, Ok, Err, OnOk, OnErr, IfSome, option_map}
 use Rattle.std.specs.Borrow.{Bor}
 use Rattle.edge.specs.Faults.{HasRisen}
 use Rattle.edge.specs.Sink.{with_more, HasPrefixMore}
@@ -10,7 +9,7 @@ use Rattle.square.specs.declared.range.Range.{Range}
 use Rattle.live_worker.specs.Reports.{squares_of, live_lines, HasReported as Reported}
 use Rattle.live_worker.proofs.Reported.{on_ok, reported_none}
 use Rattle.ext_words.specs.declared.command.Command.{Command}
-use Rattle.ext_words.specs.declared.command.Command.TheVariants.{Sphere, Resolve as OfFile, Dump, Products, Massey, Check as CheckFile, Build as Built, Sample, Sq}
+use Rattle.ext_words.specs.declared.command.Command.TheVariants.{Sphere, Resolve as OfFile, Dump, Products, Massey, Sample}
 use Rattle.ext_words.specs.declared.command.Common.{Common}
 use Rattle.ext_words.specs.Words.{texts_of, has_live, command_of}
 use Rattle.ext_words.proofs.Unasked.{AsksNone, asks_none}
@@ -18,10 +17,9 @@ use Rattle.ext_report.specs.declared.failure.Failure.{Failure}
 use Rattle.ext_report.specs.Failure.{status_of}
 use Rattle.ext_report.specs.Lines.{line_of}
 use Rattle.ext_run.specs.declared.plan.Plan.{Plan}
-use Rattle.ext_run.specs.declared.plan.Plan.TheVariants.{Resolve, Check, Build, Multiply}
+use Rattle.ext_run.specs.declared.plan.Plan.TheVariants.{Resolve}
 use Rattle.ext_run.specs.declared.task.Task.{Task}
 use Rattle.ext_run.specs.declared.task.Task.TheVariants.{Text, Resolution}
-use Rattle.ext_run.specs.declared.task.Resolution.{Resolution as ToResolve}
 use Rattle.ext_run.specs.Devices.{Device}
 use Rattle.ext_run.specs.Plan.{plan_of, asked_by, live_where, live_for}
 use Rattle.ext_run.specs.Saving.{Outcome}
@@ -143,15 +141,10 @@ reported_early err (Some range) failure e f told = record {
 
 -- a task reports as it is asked
 live_as : (asked : Option Plan) (input : List ℕ) (task : Task) → IsTaskFor asked input task → live_for asked ≡ live_in task
-live_as None input task is = absurd is
-live_as (Some (Resolve origin form common)) input (Text made) is = absurd is
 live_as (Some (Resolve origin form common)) input (Resolution r) is = ap (λ (c : Common). live_where c.live c.range) (sym is.1)
-live_as (Some Check) input (Text made) is = refl
-live_as (Some Check) input (Resolution r) is = absurd is
-live_as (Some (Build build)) input (Text made) is = refl
-live_as (Some (Build build)) input (Resolution r) is = absurd is
-live_as (Some (Multiply numbers)) input (Text made) is = refl
-live_as (Some (Multiply numbers)) input (Resolution r) is = absurd is
+live_as (Some (Resolve origin form common)) input (Text made) is = absurd is
+live_as (Some plan) input (Text made) is = refl
+live_as asked input task is = absurd is
 
 pub reported_task : {T C E F : Type 0} (err : Device E) (asked : Option Plan) (input : List ℕ) (task : Task) (made : Result T C) (heard : Result (Unit {0}) F) (outcome : Outcome) (old mid new : E) → IsTaskFor asked input task → OnOk outcome (OnErr made ⊥) → HasHeard err (live_in task) made heard old mid → HasSaid err heard outcome mid new → HasReported err (live_for asked) outcome old new
 reported_task err asked input task made heard outcome old mid new is there h said =
@@ -164,16 +157,13 @@ quiet_at true range is = absurd (cc)
 quiet_at false range is = refl
 
 none_for : (command : Option Command) → IfSome command AsksNone → live_for (option_map plan_of command) ≡ None
-none_for None is = refl
 none_for (Some (Sphere common)) is = quiet_at common.live common.range is
 none_for (Some (OfFile common)) is = quiet_at common.live common.range is
 none_for (Some (Dump common)) is = quiet_at common.live common.range is
 none_for (Some (Products common by)) is = quiet_at common.live common.range is
 none_for (Some (Massey common a b c)) is = quiet_at common.live common.range is
-none_for (Some CheckFile) is = refl
-none_for (Some (Built made)) is = refl
 none_for (Some (Sample n common)) is = quiet_at common.live common.range is
-none_for (Some (Sq numbers)) is = refl
+none_for command is = refl
 
 -- nothing is reported by a task whose words have no `--live`
 pub unheard : (F : Type 0) {T C E : Type 0} (err : Device E) (words : List (Bor (List ℕ))) (input : List ℕ) (task : Task) (made : Result T C) (e : E) → has_live words ≡ false → IsTaskFor (asked_by (texts_of words)) input task → HasHeard {F = F} err (live_in task) made (Ok tt) e e

@@ -15,7 +15,7 @@ use Rattle.finite_module.specs.DerivedAction.{derived_module}
 use Rattle.ext_products.specs.declared.refusal.Refusal.{Refusal}
 use Rattle.ext_products.specs.Products.{resolution}
 use Rattle.chain_map.specs.Classes.{through}
-use Rattle.ext_run.specs.Forms.{IsResolved, IsReadOff, chart_of, dump_of, summary_of, IsChart, IsDump, IsSummary, IsToldOfClasses, told_of_classes}
+use Rattle.ext_run.specs.Forms.{IsResolved, IsReadOff, chart_of, dump_of, summary_of, IsToldOfClasses, told_of_classes}
 use Rattle.ext_products.specs.declared.refusal.ClassesFault.{ClassesFault}
 use Rattle.ext_products.specs.declared.refusal.ClassesFault.TheVariants.{Refused, Memory as NoSpace}
 use Rattle.ext_report.specs.Failure.{classes_failure}
@@ -33,13 +33,13 @@ read_off : (text_of : Module → List (List Content) → List ℕ) (range : Rang
 read_off text_of range table text resolved is alike = record { table = cut range (plain_rows table.rows); resolved = resolved; is = is ∙ alike }
 
 module _ (range : Range) (table : Staircase) (text : List ℕ) (resolved : IsResolved range table.resolved.plain (cut range (plain_rows table.rows))) (through : IsThrough range table.rows) where
-  pub is_chart : text ≡ chart_of range table.resolved.plain (plain_rows table.rows) → IsChart range table.resolved.plain text
+  pub is_chart : text ≡ chart_of range table.resolved.plain (plain_rows table.rows) → IsReadOff (chart_of range) range table.resolved.plain text
   is_chart is = read_off (chart_of range) range table text resolved is (chart_text-agree range.s range.t _ _ (cut-agrees range table through) (bottom_of table.resolved))
 
-  pub is_dump : text ≡ dump_of range table.resolved.plain (plain_rows table.rows) → IsDump range table.resolved.plain text
+  pub is_dump : text ≡ dump_of range table.resolved.plain (plain_rows table.rows) → IsReadOff (dump_of range) range table.resolved.plain text
   is_dump is = read_off (dump_of range) range table text resolved is (dump_text-agree range.s range.t _ _ (cut-agrees range table through) table.resolved.plain.generators)
 
-  pub is_summary : text ≡ summary_of range table.resolved.plain (plain_rows table.rows) → IsSummary range table.resolved.plain text
+  pub is_summary : text ≡ summary_of range table.resolved.plain (plain_rows table.rows) → IsReadOff (summary_of range) range table.resolved.plain text
   is_summary is = read_off (summary_of range) range table text resolved is (summary_text-agree range.s range.t _ _ (cut-agrees range table through) (length table.resolved.plain.generators) (bottom_of table.resolved))
 
 -- what is told of a table's classes is told of the canonical resolutions

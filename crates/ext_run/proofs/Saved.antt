@@ -1,13 +1,9 @@
 -- What becomes of the disk of a run, by how the run ends.
-use Rattle.std.proofs.Common.{◌≡◌, ◌≢◌, ◌∙◌, ℕ, ◌≤◌, ◌⊎◌, inl, inr, List, [], ◌++◌, Bool, true, false, Option, Some, None, refl, sym, subst, ap, arith, append-nil}
+use Rattle.std.proofs.Common.{◌≡◌, ◌≢◌, ◌∙◌, ℕ, ◌⊎◌, inl, inr, List, Bool, true, false, Option, Some, None, refl, sym, subst, ap, arith}
 use Rattle.std.specs.declared.alloc.Global.{Global}
-use Rattle.std.specs.Prelude.{Vec, Result, Ok, Err, IfErr, IfSome, IsSome}
-use Rattle.std.proofs.lemmas.List.Elements.{All-nil}
-use Rattle.edge.specs.Faults.{HasRisen}
+use Rattle.std.specs.Prelude.{Vec, Ok, Err, IfErr, IfSome, IsSome}
 use Rattle.finite_module.specs.Module.{Module as SteenrodModule}
-use Rattle.resolution_laws.specs.Start.{Entry, IsOf}
-use Rattle.resolution_step.specs.Alone.{IsInRange}
-use Rattle.square.specs.Squares.{module_over}
+use Rattle.resolution_laws.specs.Start.{Entry}
 use Rattle.square.specs.declared.range.Range.{Range}
 use Rattle.save_file.specs.Files.{standing_of}
 use Rattle.save_file.specs.declared.fault.ResumeFault.{ResumeFault}
@@ -23,13 +19,13 @@ use Rattle.ext_run.specs.declared.task.Resolution.{Resolution as ToResolve}
 use Rattle.ext_run.specs.Devices.{Store}
 use Rattle.ext_run.specs.Plan.{IsModuleFor, TellsOfClasses, TellsFor, Use, keeping, use_where, use_for}
 use Rattle.ext_run.specs.Answer.{IsAskedAnswer, IsTaskCause}
-use Rattle.ext_run.specs.Saving.{AreCanonical, StandsAsOneOf, IsOurs, IsUnwritten, HasLasted, Outcome, IsOnDisk, IsRefused, IsUsable, IsEarly, IsAnswered, IsCutOff, HasSpared, HasSaved}
+use Rattle.ext_run.specs.Saving.{StandsAsOneOf, IsOurs, HasLasted, Outcome, IsOnDisk, IsRefused, IsUsable, IsEarly, IsAnswered, IsCutOff, HasSaved}
 use Rattle.ext_run.specs.Task.{IsDoneBy, IsTaskFor}
 use Rattle.ext_run.specs.Work.{Told, HasAnswer, answer_of, IsRefusalIn, IsTaskRefusal, IsUnsaved, IsRefusedFor, HasKeptOn, HasWorked}
 use Rattle.ext_run.specs.Run.{IsCause}
 use Rattle.ext_run.proofs.Asked.{asked_told}
 use Rattle.ext_run.proofs.Tasks.{module_same, resolution_use, resolution_module, resolution_tells, text_use}
-use Rattle.ext_run.proofs.Lasting.{at_some, all_first, unwritten_same, AreDisks, at_once}
+use Rattle.ext_run.proofs.Lasting.{at_some, unwritten_same, none_put, AreDisks}
 use Rattle.ext_run.proofs.KeptOn.{answer_unfailed}
 
 -- ---- failures of a task
@@ -42,16 +38,8 @@ pub data IsLate : Failure → Type 0 where
   memory : IsLate Memory
 
 pub of_classes : (failure : Failure) → IsOfClasses failure → (e : Refusal) × (failure ≡ Classes e)
-of_classes Words h = absurd h
-of_classes (NoModuleFile e) h = absurd h
-of_classes (NotModule f e) h = absurd h
-of_classes (PastLimit what) h = absurd h
-of_classes Reading h = absurd h
-of_classes Writing h = absurd h
-of_classes Saving h = absurd h
-of_classes (SaveFile e) h = absurd h
 of_classes (Classes e) h = (e, refl)
-of_classes Memory h = absurd h
+of_classes failure h = absurd h
 
 late_failure : (failure : Failure) → IsLate failure → IsEarly (Err failure) → ⊥
 late_failure failure saving h = h
@@ -123,31 +111,6 @@ module _ {D : Type 0} (disk : Store D) (laws : AreDisks disk) (asked : Option Pl
 
   -- ---- a disk that got no call
 
-  -- nothing was kept and nothing is lost
-  as_it_was : (m : SteenrodModule) (range : Range) (list : List Entry) (had_answer unfailed : Type 0) (d : D) → (had_answer → ⊥) → IsSome (disk.now d) → IsOurs m list (disk.images d) → HasLasted disk m range list had_answer unfailed d d
-  as_it_was m range list had_answer unfailed d never told ours =
-      let found = some_is (disk.now d) told in
-      let here = ours found.0 (file_of d found.0 found.1) in
-      let same : (list ++ []) ++ [] ≡ list = append-nil (list ++ []) ∙ append-nil list in
-      record {
-        more = [];
-        given = [];
-        places = All-nil (λ e. IsInRange range e.s e.above);
-        at_most_one = omega arith;
-        canonical = subst (AreCanonical m) (sym same) (all_first (λ e. IsOf (module_over m) [] e.s e.above e.content) list here.more here.canonical);
-        moments = λ c was. inl (ours c (laws.only_now d c was));
-        ours = subst (λ (l : List Entry). IsOurs m l (disk.images d)) (sym same) ours;
-        retained = record {
-          taken_up = disk.moment d;
-          until = λ t from upto c there. (c, laws.only_now d c (laws.since_at d (disk.moment d) t c from upto there), refl);
-          from = at_once disk laws m d;
-        };
-        keeps = λ worked c was. inl (c, laws.only_now d c was, refl);
-        settled = λ worked. inl (refl, refl, unwritten_same disk laws d);
-        exact = λ h. absurd (never h);
-        whole = λ h. absurd (never h);
-      }
-
   -- a run that did not come to the disk, or does not use it
   pub kept_untouched : (outcome : Outcome) (d : D) → outcome ≢ Err Saving → ((e : ResumeFault) → outcome ≢ Err (SaveFile e)) → ((m : SteenrodModule) → IsOnDisk asked input m → IsCutOff outcome × (IsAnswered outcome → ⊥)) → HasSaved disk asked input outcome d d
   kept_untouched outcome d working taken cut = record {
@@ -162,7 +125,9 @@ module _ {D : Type 0} (disk : Store D) (laws : AreDisks disk) (asked : Option Pl
       unwritten = λ h. unwritten_same disk laws d;
       stands = λ c was. (c, laws.only_now d c was, refl);
     };
-    lasts = λ m range list usage here told ours. let c = cut m (used_for (keeping range) m usage here) in as_it_was m range list _ _ d c.1 told ours;
+    lasts = λ m range list usage here told ours.
+        let cut_off = cut m (used_for (keeping range) m usage here) in
+        none_put disk laws m range list _ _ d d cut_off.1 (λ worked. unwritten_same disk laws d) told ours (omega arith) (λ c was. (c, laws.only_now d c was, refl));
   }
 
   pub kept_unused : (outcome : Outcome) (d : D) → use_for asked ≡ None → outcome ≢ Err Saving → ((e : ResumeFault) → outcome ≢ Err (SaveFile e)) → HasSaved disk asked input outcome d d
@@ -350,8 +315,5 @@ module _ {D : Type 0} (disk : Store D) (laws : AreDisks disk) (asked : Option Pl
   kept_early (NotModule f e) d p = kept_untouched (Err (NotModule f e)) d (λ h. cc) (λ k h. cc) (λ m on. absurd (no_other (NotModule f e) p (λ h. h) m on))
   kept_early (PastLimit what) d p = kept_untouched (Err (PastLimit what)) d (λ h. cc) (λ e h. cc) (λ m on. absurd (no_other (PastLimit what) p (λ h. h) m on))
   kept_early Reading d p = kept_untouched (Err Reading) d (λ h. cc) (λ e h. cc) (λ m on. (tt, λ h. h))
-  kept_early Writing d p = absurd p
-  kept_early Saving d p = absurd p
-  kept_early (SaveFile e) d p = absurd p
-  kept_early (Classes e) d p = absurd p
   kept_early Memory d p = kept_untouched (Err Memory) d (λ h. cc) (λ e h. cc) (λ m on. (tt, λ h. h))
+  kept_early failure d p = absurd p

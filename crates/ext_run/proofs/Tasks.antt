@@ -1,5 +1,5 @@
 -- The task of a plan: its answers are the plan's, and it uses the disk as the plan does.
-use Rattle.std.proofs.Common.{◌≡◌, ◌∙◌, ℕ, ◌⊎◌, inl, inr, List, [], Option, Some, None, IfSome, refl, sym, subst, ap}
+use Rattle.std.proofs.Common.{◌≡◌, ◌∙◌, ℕ, inl, inr, List, [], Option, Some, None, IfSome, refl, sym, subst, ap}
 use Rattle.std.specs.declared.alloc.Global.{Global}
 use Rattle.std.specs.Prelude.{MatchOption, option_map, Vec, Result, Ok, Err, IsOkAnd}
 use Rattle.module_json.proofs.Reading.{file_unique}
@@ -10,13 +10,13 @@ use Rattle.finite_module.specs.DerivedAction.{derived_module}
 use Rattle.module_check.specs.declared.fault.CheckFault.{CheckFault}
 use Rattle.ext_words.specs.declared.command.Common.{Common}
 use Rattle.ext_words.specs.declared.command.Command.{Command}
-use Rattle.ext_words.specs.declared.command.Command.TheVariants.{Sphere, Resolve, Dump, Products, Massey, Check, Build, Sample, Sq}
+use Rattle.ext_words.specs.declared.command.Command.TheVariants.{Products, Massey, Build, Sq}
 use Rattle.ext_words.specs.declared.command.Build.{Build as Made}
 use Rattle.ext_words.specs.declared.command.WordsFault.{WordsFault}
 use Rattle.ext_words.specs.declared.command.WordsFault.TheVariants.{Words as Outside, Memory as NoSpace}
 use Rattle.ext_words.specs.Words.{command_of, IsWithinLimits}
 use Rattle.ext_report.specs.declared.failure.Failure.{Failure}
-use Rattle.ext_report.specs.declared.failure.Failure.TheVariants.{Words, Malformed as NoModuleFile, NotModule, PastLimit, Reading, Writing, Saving, SaveFile, Classes, Memory}
+use Rattle.ext_report.specs.declared.failure.Failure.TheVariants.{Words, Malformed as NoModuleFile, NotModule, PastLimit, Reading, Memory}
 use Rattle.ext_report.specs.Failure.{words_failure}
 use Rattle.ext_build.proofs.BuildAnswers.{build_not_words}
 use Rattle.ext_build.specs.Input.{IsOfInput, IsFileCauseFrom, IsModuleFrom}
@@ -37,15 +37,11 @@ use Rattle.ext_run.specs.Task.{IsDoneBy, IsTaskOf, IsTaskFor}
 -- ---- the limits
 
 pub plan_within : (command : Command) → IsWithinLimits command → IsPlanWithin (plan_of command)
-plan_within (Sphere common) h = h
-plan_within (Resolve common) h = h
-plan_within (Dump common) h = h
 plan_within (Products common by) h = h.0
 plan_within (Massey common a b c) h = h.0
-plan_within Check h = tt
 plan_within (Build made) h = tt
-plan_within (Sample n common) h = h
 plan_within (Sq numbers) h = h.2
+plan_within command h = h
 
 -- ---- one module
 
@@ -58,11 +54,9 @@ at_same OfFile bytes m n p q =
     p.is_derived ∙ (ap derived_module file ∙ sym q.is_derived)
 
 pub module_same : (asked : Option Plan) (bytes : List ℕ) (m n : SteenrodModule) → IsModuleFor asked bytes m → IsModuleFor asked bytes n → m ≡ n
-module_same None bytes m n p q = absurd p
 module_same (Some (ToResolve origin form common)) bytes m n p q = at_same origin bytes m n p q
 module_same (Some ToCheck) bytes m n p q = at_same OfFile bytes m n p q
-module_same (Some (ToBuild made)) bytes m n p q = absurd p
-module_same (Some (Multiply numbers)) bytes m n p q = absurd p
+module_same asked bytes m n p q = absurd p
 
 -- ---- the answers
 
@@ -80,8 +74,6 @@ at_answer P (OfSample k) bytes m answer is p = subst (λ (n : SteenrodModule). P
 at_answer P OfFile bytes m answer is p = module_answer P bytes m answer is p
 
 pub task_answers : (asked : Option Plan) (bytes : List ℕ) (task : Task) (answer : Result (List ℕ) Failure) → IsTaskFor asked bytes task → IsDoneBy task answer → IsAskedAnswer asked bytes answer
-task_answers None bytes task answer h is = absurd h
-task_answers (Some (ToResolve origin form common)) bytes (Text made) answer h is = absurd h
 task_answers (Some (ToResolve origin form common)) bytes (Resolution r) answer h is =
     let told : IsInForm form r.common.range r.resolved.plain answer = subst (λ (f : Form). IsInForm f r.common.range r.resolved.plain answer) h.0 is in
     let here : IsInForm form common.range r.resolved.plain answer = subst (λ (c : Common). IsInForm form c.range r.resolved.plain answer) h.1 told in
@@ -89,45 +81,31 @@ task_answers (Some (ToResolve origin form common)) bytes (Resolution r) answer h
 task_answers (Some ToCheck) bytes (Text made) answer h is =
     let text : IsText IsLineOn h.0 (Ok made.items) = h.2 in
     module_answer (IsText IsLineOn) bytes h.0 answer h.1 (subst (IsText IsLineOn h.0) (sym is) text)
-task_answers (Some ToCheck) bytes (Resolution r) answer h is = absurd h
 task_answers (Some (ToBuild made)) bytes (Text text) answer h is = subst (IsBuildAnswer made bytes) (sym is) h
-task_answers (Some (ToBuild made)) bytes (Resolution r) answer h is = absurd h
 task_answers (Some (Multiply numbers)) bytes (Text text) answer h is =
     let made : Result (List ℕ) Failure = Ok text.items in
     let there : IsOkAnd made (IsProduct numbers) = h in
     subst (λ (a : Result (List ℕ) Failure). IsOkAnd a (IsProduct numbers)) (sym is) there
-task_answers (Some (Multiply numbers)) bytes (Resolution r) answer h is = absurd h
+task_answers asked bytes task answer h is = absurd h
 
 -- ---- the disk
 
 pub resolution_use : (asked : Option Plan) (bytes : List ℕ) (r : Resolved) → IsTaskFor asked bytes (Resolution r) → use_for asked ≡ use_where r.common.save r.common.range
-resolution_use None bytes r h = absurd h
 resolution_use (Some (ToResolve origin form common)) bytes r h = ap (λ (c : Common). use_where c.save c.range) (sym h.1)
-resolution_use (Some ToCheck) bytes r h = absurd h
-resolution_use (Some (ToBuild made)) bytes r h = absurd h
-resolution_use (Some (Multiply numbers)) bytes r h = absurd h
+resolution_use asked bytes r h = absurd h
 
 pub resolution_module : (asked : Option Plan) (bytes : List ℕ) (r : Resolved) → IsTaskFor asked bytes (Resolution r) → IsModuleFor asked bytes r.resolved.plain
-resolution_module None bytes r h = absurd h
 resolution_module (Some (ToResolve origin form common)) bytes r h = h.2
-resolution_module (Some ToCheck) bytes r h = absurd h
-resolution_module (Some (ToBuild made)) bytes r h = absurd h
-resolution_module (Some (Multiply numbers)) bytes r h = absurd h
+resolution_module asked bytes r h = absurd h
 
 pub resolution_tells : (asked : Option Plan) (bytes : List ℕ) (r : Resolved) → IsTaskFor asked bytes (Resolution r) → TellsOfClasses r.form → TellsFor asked
-resolution_tells None bytes r h tells = absurd h
 resolution_tells (Some (ToResolve origin form common)) bytes r h tells = subst TellsOfClasses h.0 tells
-resolution_tells (Some ToCheck) bytes r h tells = absurd h
-resolution_tells (Some (ToBuild made)) bytes r h tells = absurd h
-resolution_tells (Some (Multiply numbers)) bytes r h tells = absurd h
+resolution_tells asked bytes r h tells = absurd h
 
 -- a text that is made leaves the disk alone
 pub text_use : (asked : Option Plan) (bytes : List ℕ) (made : Vec ℕ Global) → IsTaskFor asked bytes (Text made) → use_for asked ≡ None
-text_use None bytes made h = refl
 text_use (Some (ToResolve origin form common)) bytes made h = absurd h
-text_use (Some ToCheck) bytes made h = refl
-text_use (Some (ToBuild what)) bytes made h = refl
-text_use (Some (Multiply numbers)) bytes made h = refl
+text_use asked bytes made h = refl
 
 -- ---- the input
 
@@ -151,28 +129,20 @@ input_of asked left (NoModuleFile e) p = p
 input_of asked left (NotModule f e) p = p
 input_of asked left (PastLimit what) p = p
 input_of asked left Reading p = some_input left _ (λ bytes. p)
-input_of asked left Writing p = absurd p
-input_of asked left Saving p = absurd p
-input_of asked left (SaveFile e) p = absurd p
-input_of asked left (Classes e) p = absurd p
 input_of asked left Memory p = some_input left _ (λ bytes. tt)
+input_of asked left failure p = absurd p
 
 -- there is no answer where there is no module
 module _ (plan : Plan) (P : ModuleAnswers) (reads : PlanReads plan) (answers : (bytes : List ℕ) (a : Result (List ℕ) Failure) → IsModuleAnswer P bytes a → IsAnswerTo plan bytes a) (left : Option (List ℕ)) where
   pub file_cause : (failure : Failure) → IsFileCauseFrom left failure → IsTaskCauseFrom (Some plan) left failure
-  file_cause Words p = absurd p
   file_cause (NoModuleFile e) p = record { bytes = p.bytes; all = p.all; holds = answers p.bytes (Err (NoModuleFile e)) (record { file = Err e; is_file = p.holds; is_answer = refl }) }
   file_cause (NotModule f e) p =
       let none : Result (List ℕ) Failure = Err (NotModule f e) in
       let refused : IsAnswerOfFile P (Ok f) none = subst (λ (o : Option CheckFault). MatchOption o (P (derived_module f) none) (λ d. none ≡ Err (NotModule f d))) (sym p.1) refl in
       record { bytes = p.0.bytes; all = p.0.all; holds = answers p.0.bytes none (record { file = Ok f; is_file = p.0.holds; is_answer = refused }) }
-  file_cause (PastLimit what) p = absurd p
   file_cause Reading p = reads
-  file_cause Writing p = absurd p
-  file_cause Saving p = absurd p
-  file_cause (SaveFile e) p = absurd p
-  file_cause (Classes e) p = absurd p
   file_cause Memory p = tt
+  file_cause failure p = absurd p
 
 pub resolve_cause : (origin : Origin) (form : Form) (common : Common) (left : Option (List ℕ)) (failure : Failure) → IsOriginCauseFrom origin left failure → IsTaskCauseFrom (Some (ToResolve origin form common)) left failure
 resolve_cause origin form common left failure (inl memory) = subst (IsTaskCauseFrom (Some (ToResolve origin form common)) left) (sym memory) tt
@@ -189,11 +159,8 @@ build_cause made left (NoModuleFile e) p = p
 build_cause made left (NotModule f e) p = p
 build_cause made left (PastLimit what) p = p
 build_cause made left Reading p = tt
-build_cause made left Writing p = absurd p
-build_cause made left Saving p = absurd p
-build_cause made left (SaveFile e) p = absurd p
-build_cause made left (Classes e) p = absurd p
 build_cause made left Memory p = tt
+build_cause made left failure p = absurd p
 
 -- ---- the words
 

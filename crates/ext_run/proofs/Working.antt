@@ -1,7 +1,7 @@
 -- What becomes of a task, by its kind.
 use Rattle.std.proofs.Common.{◌≡◌, ℕ, List, [], true, false, ◌⊎◌, sym, subst, refl, inl, inr}
 use Rattle.std.specs.declared.alloc.Global.{Global}
-use Rattle.std.specs.Prelude.{Option, Vec, Ok, Err, IfErr}
+use Rattle.std.specs.Prelude.{Vec, Ok, Err, IfErr}
 use Rattle.edge.specs.Faults.{HasRisen}
 use Rattle.finite_module.specs.Checked.{Checked}
 use Rattle.resolution_laws.specs.Start.{IsCanonicalStart}
@@ -17,7 +17,6 @@ use Rattle.ext_run.specs.declared.task.Resolution.{Resolution as ToResolve}
 use Rattle.ext_run.specs.Devices.{Store}
 use Rattle.ext_run.specs.Forms.{IsInForm}
 use Rattle.ext_run.specs.Work.{Told, HasAnswer, answer_of, IsRefusalIn, HasContinued, HasKeptOn, HasWorked}
-use Rattle.ext_report.specs.Failure.{IsOfClasses}
 
 -- ---- without a save file
 

@@ -12,7 +12,6 @@ use Rattle.square.specs.declared.range.Range.{Range}
 use Rattle.ext_chart.specs.Chart.{chart_text}
 use Rattle.ext_chart.specs.Dump.{dump_text}
 use Rattle.ext_chart.specs.Summary.{summary_text}
-use Rattle.chain_map.specs.declared.class.Class.{Class}
 use Rattle.ext_products.specs.declared.refusal.Refusal.{Refusal}
 use Rattle.ext_products.specs.Products.{resolution, Telling, IsProductsAnswer}
 use Rattle.ext_brackets.specs.Brackets.{IsBracketAnswer}
@@ -33,6 +32,7 @@ pub record IsReadOff (text_of : SteenrodModule → List (List Content) → List 
   pub resolved : IsResolved range m table
   pub is : text ≡ text_of m table
 
+-- the chart, the differentials and the summary of a table
 abbrev pub chart_of : Range → SteenrodModule → List (List Content) → List ℕ
 chart_of range m table = chart_text (bottom m.generators) range.s range.t (generator_count table)
 
@@ -42,16 +42,6 @@ dump_of range m table = dump_text m.generators range.s range.t table
 abbrev pub summary_of : Range → SteenrodModule → List (List Content) → List ℕ
 summary_of range m table =
     summary_text (length m.generators) (bottom m.generators) range.s range.t (generator_count table)
-
--- text is the chart, the differentials or the summary
-abbrev pub IsChart : Range → SteenrodModule → List ℕ → Type 0
-IsChart range = IsReadOff (chart_of range) range
-
-abbrev pub IsDump : Range → SteenrodModule → List ℕ → Type 0
-IsDump range = IsReadOff (dump_of range) range
-
-abbrev pub IsSummary : Range → SteenrodModule → List ℕ → Type 0
-IsSummary range = IsReadOff (summary_of range) range
 
 -- the answer is a text that is right for the module
 abbrev pub IsText : (SteenrodModule → List ℕ → Type 0) → SteenrodModule → Result (List ℕ) Failure → Type 0
@@ -76,20 +66,12 @@ pub record IsToldOfClasses (IsToldOf : Telling) (range : Range) (m : SteenrodMod
   pub is_told : IsToldOf (resolution m table) (resolution (derived_module sphere_file) sphere) told
   pub is : answer ≡ told_of_classes told
 
--- the products of the class `by` of the sphere with the module's classes
-abbrev pub IsProducts : Range → Class → SteenrodModule → Result (List ℕ) Failure → Type 0
-IsProducts range by = IsToldOfClasses (IsProductsAnswer range by) range
-
--- the bracket of the classes a and b of the sphere with the class c of the module
-abbrev pub IsBracket : Range → Class → Class → Class → SteenrodModule → Result (List ℕ) Failure → Type 0
-IsBracket range a b c = IsToldOfClasses (IsBracketAnswer range a b c) range
-
 -- ---- the forms
 
 -- the answer is that of the module's canonical resolution through the range, in this form
 abbrev pub IsInForm : Form → Range → SteenrodModule → Result (List ℕ) Failure → Type 0
-IsInForm Chart range m answer = IsText (IsChart range) m answer
-IsInForm Differentials range m answer = IsText (IsDump range) m answer
-IsInForm Summary range m answer = IsText (IsSummary range) m answer
-IsInForm (Products by) range m answer = IsProducts range by m answer
-IsInForm (Bracket a b c) range m answer = IsBracket range a b c m answer
+IsInForm Chart range = IsText (IsReadOff (chart_of range) range)
+IsInForm Differentials range = IsText (IsReadOff (dump_of range) range)
+IsInForm Summary range = IsText (IsReadOff (summary_of range) range)
+IsInForm (Products by) range = IsToldOfClasses (IsProductsAnswer range by) range
+IsInForm (Bracket a b c) range = IsToldOfClasses (IsBracketAnswer range a b c) range

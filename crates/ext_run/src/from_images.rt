@@ -1,7 +1,7 @@
 //! Texts of a resolution of which the images of generators are made, and no table of squares.
 ghost use Rattle.std.specs.Prelude.{◌≡◌, ◌≤◌, IfOk};
 ghost use Rattle.square.specs.declared.range.TheConstants.{MAX_S, MAX_T};
-ghost use Rattle.ext_run.specs.Forms.{IsChart, IsDump, IsSummary};
+ghost use Rattle.ext_run.specs.Forms.{IsReadOff, chart_of, dump_of, summary_of};
 
 use ext_chart::{chart, dump, summary};
 use finite_module::Module;
@@ -21,7 +21,7 @@ use std::mem::forget;
 pub(crate) fn chart_alone(alloc: Global, resolved: Module, range: Range) -> Result<Vec<u8>, Memory>
     requires rows { range.s ≤ MAX_S }
     requires degrees { range.t ≤ MAX_T }
-    ensures { IfOk result (λ text. IsChart range resolved.plain text.items) }
+    ensures { IfOk result (λ text. IsReadOff (chart_of range) range resolved.plain text.items) }
 {
     canonical_table_exists();
     canonical_table_is_minimal_resolution();
@@ -39,7 +39,7 @@ pub(crate) fn chart_alone(alloc: Global, resolved: Module, range: Range) -> Resu
 pub(crate) fn dump_alone(alloc: Global, resolved: Module, range: Range) -> Result<Vec<u8>, Memory>
     requires rows { range.s ≤ MAX_S }
     requires degrees { range.t ≤ MAX_T }
-    ensures { IfOk result (λ text. IsDump range resolved.plain text.items) }
+    ensures { IfOk result (λ text. IsReadOff (dump_of range) range resolved.plain text.items) }
 {
     canonical_table_exists();
     canonical_table_is_minimal_resolution();
@@ -61,7 +61,7 @@ pub(crate) fn summary_alone(
 ) -> Result<Vec<u8>, Memory>
     requires rows { range.s ≤ MAX_S }
     requires degrees { range.t ≤ MAX_T }
-    ensures { IfOk result (λ text. IsSummary range resolved.plain text.items) }
+    ensures { IfOk result (λ text. IsReadOff (summary_of range) range resolved.plain text.items) }
 {
     canonical_table_exists();
     canonical_table_is_minimal_resolution();

@@ -1,8 +1,7 @@
-use Rattle.std.proofs.Common.{Some, sym, subst, refl}
+use Rattle.std.proofs.Common.{Some, sym, subst}
 use Rattle.std.proofs.lemmas.Result.{err_from_is_err_and}
 use Rattle.ext_run.specs.declared.plan.Plan.{Plan}
-use Rattle.ext_run.specs.declared.plan.Plan.TheVariants.{Resolve, Check, Build, Multiply}
-use Rattle.ext_run.specs.declared.task.Task.{Task}
+use Rattle.ext_run.specs.declared.plan.Plan.TheVariants.{Resolve, Check, Build}
 use Rattle.ext_run.specs.Answer.{IsTaskCauseFrom}
 use Rattle.ext_run.proofs.Tasks.{resolve_cause, check_cause, build_cause, resolve_task, check_task, build_task, multiply_task}
 use Rattle.ext_run.proofs.task.task_for.Goals as goal
