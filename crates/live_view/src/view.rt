@@ -1,14 +1,17 @@
 //! Views in memory: how many generators each finished square has.
-ghost use Rattle.std.specs.Prelude.{◌≡◌, ◌+◌, ◌<◌, ◌≤◌, [], ◌∷◌, ◌++◌, length, slice_get, IfOk};
+ghost use Rattle.std.specs.Prelude.{◌≡◌, ◌+◌, ◌<◌, ◌≤◌, [], ◌∷◌, ◌++◌, length, slice_get, vec_capacity, IfOk, IfNone, IfSome};
 ghost use Rattle.square.specs.declared.range.TheConstants.{MAX_S, MAX_T};
 ghost use Rattle.live_view.specs.Views.{row_of, blank};
 ghost use Rattle.live_view.specs.Chart.{squares_within};
-ghost use Rattle.live_view.specs.Inside.Rows.{with_count};
+ghost use Rattle.live_view.specs.Inside.Rows.{numbers_of, rows_of, IsRow, AreRows, with_count};
 
 use memory::Memory;
 use square::{MAX_S, MAX_T, Range};
 use std::alloc::Global;
 use std::marker::Model;
+
+/// How many rows a table has.
+const ROWS: usize = MAX_S as usize + 1;
 
 /// How many squares a row may have.
 const WIDTH: usize = MAX_T as usize + 1;
@@ -22,14 +25,15 @@ pub struct Row {
 }
 
 /// For each row that a table has, the numbers of generators of its finished squares. There is room for all squares of a
-/// table, so a view takes no memory as it grows or becomes another.
+/// table, so a view takes no memory as it grows or becomes another. Rows are written only through the last one that has had
+/// a square, so that little is copied.
 #[derive(Drop)]
 pub(crate) struct View {
     rows: Vec<Row>,
 }
 
 impl Model for View {
-    ghost use Rattle.std.specs.Prelude.{◌≡◌, ◌+◌, ℕ, List, length};
+    ghost use Rattle.std.specs.Prelude.{◌+◌, ◌≤◌, ℕ, List, vec_capacity};
     ghost use Rattle.square.specs.declared.range.TheConstants.{MAX_S};
 
     ghost Value = { List (List ℕ) };
@@ -38,7 +42,7 @@ impl Model for View {
 
     ghost view = { λ v. rows_of v.rows.items };
 
-    ghost invariant = { λ v. AreRows v.rows.items };
+    ghost invariant = { λ v. AreRows v.rows.items × (MAX_S + 1 ≤ vec_capacity v.rows) };
 }
 
 impl View {
@@ -46,13 +50,7 @@ impl View {
     pub(crate) fn blank(alloc: Global) -> Result<View, Memory>
         ensures { IfOk result (λ v. v ≡ blank) }
     {
-        let mut rows = Vec::new(alloc);
-        for _ in 0..=MAX_S {
-            rows.push(Row {
-                done: 0,
-                counts: [0; WIDTH],
-            })?;
-        }
+        let rows = Vec::with_capacity(alloc, ROWS)?;
         Ok(View { rows })
     }
 
@@ -60,7 +58,8 @@ impl View {
     pub(crate) fn again(&self, alloc: Global) -> Result<View, Memory>
         ensures { IfOk result (λ v. v ≡ self.now) }
     {
-        let rows = Vec::from_slice(alloc, self.rows.as_slice())?;
+        let mut rows = Vec::with_capacity(alloc, ROWS)?;
+        rows.extend_from_slice(self.rows.as_slice())?;
         Ok(View { rows })
     }
 
@@ -68,9 +67,21 @@ impl View {
     pub(crate) fn copy_from(&mut self, other: &View)
         ensures { self.new ≡ other.now }
     {
-        self.rows
-            .as_mut_slice()
-            .copy_from_slice(other.rows.as_slice());
+        self.rows.clear();
+        let Ok(()) = self.rows.extend_from_slice(other.rows.as_slice()) else {
+            unreachable!()
+        };
+    }
+
+    /// Row `s` as it is written, none if none is written from there on.
+    fn row(&self, s: u16) -> Option<&Row>
+        requires { s ≤ MAX_S }
+        ensures none { IfNone result (row_of self.now s ≡ []) }
+        ensures row { IfSome result (λ row. numbers_of row.now ≡ row_of self.now s) }
+        ensures is_row { IfSome result (λ row. IsRow row.now) }
+        ensures rows { length self.now ≡ MAX_S + 1 }
+    {
+        self.rows.get(usize::from(s))
     }
 
     /// How many squares row `s` has.
@@ -80,7 +91,10 @@ impl View {
         ensures most { result ≤ MAX_T + 1 }
         ensures rows { length self.now ≡ MAX_S + 1 }
     {
-        self.rows[usize::from(s)].done
+        match self.row(s) {
+            Some(row) => row.done,
+            None => 0,
+        }
     }
 
     /// The number of generators of the square in row `s` and `above` degrees above the bottom, none if the view does not
@@ -89,7 +103,7 @@ impl View {
         requires { s ≤ MAX_S }
         ensures { result ≡ slice_get (row_of self.now s) above }
     {
-        let row = &self.rows[usize::from(s)];
+        let row = self.row(s)?;
         let above = usize::from(above);
         if above < row.done {
             Some(row.counts[above])
@@ -104,7 +118,9 @@ impl View {
         requires room { length (row_of self.old s) ≤ MAX_T }
         ensures { self.new ≡ with_count self.old s count }
     {
-        let row = &mut self.rows[usize::from(s)];
+        let s = usize::from(s);
+        reach(&mut self.rows, s);
+        let row = &mut self.rows[s];
         row.counts[row.done] = count;
         row.done += 1;
     }
@@ -121,4 +137,26 @@ impl View {
         }
         squares
     }
+}
+
+/// Writes rows without a square, until row `s` is written.
+fn reach(rows: &mut Vec<Row>, s: usize)
+    requires rows { AreRows rows.old.items }
+    requires room { MAX_S + 1 ≤ vec_capacity rows.old }
+    requires row { s ≤ MAX_S }
+    ensures rows { AreRows rows.new.items }
+    ensures room { MAX_S + 1 ≤ vec_capacity rows.new }
+    ensures written { s < length rows.new.items }
+    ensures same { rows_of rows.new.items ≡ rows_of rows.old.items }
+{
+    if s < rows.len() {
+        return;
+    }
+    let empty = Row {
+        done: 0,
+        counts: [0; WIDTH],
+    };
+    let Ok(()) = rows.resize(s + 1, empty) else {
+        unreachable!()
+    };
 }

@@ -1,5 +1,5 @@
 -- How a view lies in memory.
-use Rattle.std.specs.Prelude.{◌≡◌, ℕ, zero, suc, ◌+◌, ◌≤◌, List, [], ◌∷◌, ◌++◌, map, take, length, replicate, All}
+use Rattle.std.specs.Prelude.{◌≡◌, ℕ, zero, suc, ◌+◌, ◌-◌, ◌≤◌, List, [], ◌∷◌, ◌++◌, map, take, length, replicate, All}
 use Rattle.square.specs.declared.range.TheConstants.{MAX_S, MAX_T}
 use Rattle.live_view.specs.declared.view.Row.{Row}
 
@@ -7,14 +7,19 @@ use Rattle.live_view.specs.declared.view.Row.{Row}
 abbrev pub numbers_of : Row → List ℕ
 numbers_of row = take row.done row.counts
 
+-- the rows that are written, and the rows of a table behind them, which have no square
 abbrev pub rows_of : List Row → List (List ℕ)
-rows_of rows = map numbers_of rows
+rows_of rows = map numbers_of rows ++ replicate (MAX_S + 1 - length rows) []
 
--- there is a row for each that a table has, and each has room for all of its squares
+-- a row has room for all of its squares
+pub record IsRow (row : Row) : Type 0 where
+  pub room : row.done ≤ MAX_T + 1
+  pub whole : length row.counts ≡ MAX_T + 1
+
+-- no more rows are written than a table has
 pub record AreRows (rows : List Row) : Type 0 where
-  pub count : length rows ≡ MAX_S + 1
-  pub room : All (λ row. row.done ≤ MAX_T + 1) rows
-  pub whole : All (λ row. length row.counts ≡ MAX_T + 1) rows
+  pub count : length rows ≤ MAX_S + 1
+  pub each : All IsRow rows
 
 -- a row without a square
 abbrev pub empty_row : Row

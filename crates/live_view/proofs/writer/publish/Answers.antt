@@ -24,16 +24,21 @@ returns-in_err-read_board-clause-may g c =
     let after = c.in_err-read_board.ensures in
     may_still c.args.board.now c.args.pass.now c.read_board.new.pass c.args.writer.now c.args.writer.now c.requires after.pass after.seen refl
 
-pub returns-clause-may : goal.returns-clause-may
-returns-clause-may g c =
+pub returns-clause-published : goal.returns-clause-published
+returns-clause-published g c =
     let after = c.in_ok-read_board.ensures in
     let old = c.args.writer.now.known in
     let new = c.show.new.self.known in
     let list : List Shown = old.published ++ c.of_board-shown.result ∷ [] in
     let events = events_of c.args.pass.now.seen in
     let since = events_of c.read_board.new.pass.seen in
-    may_either c.args.board.now c.args.pass.now c.read_board.new.pass c.show.result c.args.writer.now c.show.new.self c.requires after.pass after.seen c.show.ensures.same
-    (IfOk-weaker c.show.result (λ note. new ≡ record old { published = list }) (λ note. HasPublished c.args.board.now.name events since old new)
+    IfOk-weaker c.show.result (λ note. new ≡ record old { published = list }) (λ note. HasPublished c.args.board.now.name events since old new)
     (λ note is. was_published c.args.board.now.name c.of_board-shown.result events since _ _ old new is after.read c.of_board-shown.ensures.of c.of_board-shown.ensures.view)
-    c.show.ensures.published)
+    c.show.ensures.published
+
+pub returns-clause-may : goal.returns-clause-may
+returns-clause-may g c =
+    let after = c.in_ok-read_board.ensures in
+    may_either c.args.board.now c.args.pass.now c.read_board.new.pass c.show.result c.args.writer.now c.show.new.self c.requires after.pass after.seen c.show.ensures.same
+    (returns-clause-published g c)
     c.show.ensures.memory
