@@ -383,7 +383,8 @@ fn add_sums(
     requires second_within { AreWithinWords words.now.from words.now.to second.now.rows.now }
     requires third_within { AreWithinWords words.now.from words.now.to third.now.rows.now }
     requires fourth_within { AreWithinWords words.now.from words.now.to fourth.now.rows.now }
-    requires marks { AreMarksOf (first.now.rows.now ++ (second.now.rows.now ++ (third.now.rows.now ++ fourth.now.rows.now)))
+    requires marks { AreMarksOf
+        (first.now.rows.now ++ (second.now.rows.now ++ (third.now.rows.now ++ fourth.now.rows.now)))
         marks.now.vector marks.now.words.items }
     ensures { vectors.new
         ≡ map (with_sums n first.now.rows.now second.now.rows.now third.now.rows.now fourth.now.rows.now) vectors.old }
@@ -414,7 +415,8 @@ fn add_four(
     requires second_within { AreWithinWords words.now.from words.now.to second.now.rows.now }
     requires third_within { AreWithinWords words.now.from words.now.to third.now.rows.now }
     requires fourth_within { AreWithinWords words.now.from words.now.to fourth.now.rows.now }
-    requires marks { AreMarksOf (first.now.rows.now ++ (second.now.rows.now ++ (third.now.rows.now ++ fourth.now.rows.now)))
+    requires marks { AreMarksOf
+        (first.now.rows.now ++ (second.now.rows.now ++ (third.now.rows.now ++ fourth.now.rows.now)))
         marks.now.vector marks.now.words.items }
     ensures { vector.new ≡ with_sums n first.now.rows.now second.now.rows.now third.now.rows.now fourth.now.rows.now
         vector.old }

@@ -56,4 +56,5 @@ AreWithinWords from to rows = (i : ℕ) → i < length rows → IsWithinWords fr
 -- marks has a 1 at the pivot of each of the rows, and the words are those of these pivots
 pub record AreMarksOf (rows : List (List Bool)) (marks : List Bool) (words : List ℕ) : Type 0 where
   pub marked : (j : ℕ) → j < length rows → bit marks (pivot_of (row rows j)) ≡ true
-  pub listed : (j : ℕ) → j < length rows → (m : ℕ) × (m < length words) × (slice_index_or words m 0 ≡ pivot_of (row rows j) / 64)
+  pub listed : (j : ℕ) → j < length rows →
+      (m : ℕ) × (m < length words) × (slice_index_or words m 0 ≡ pivot_of (row rows j) / 64)
