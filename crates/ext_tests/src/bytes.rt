@@ -48,9 +48,9 @@ fn bytes_of_no_text(rt: HostRuntime) -> Result<(), Fail> {
 }
 
 /// The save file of `sphere 0 0`: `EXTSAVE1`; the digest of `gen x0 0` and a newline; an open gate; the length and the body of the square
-/// (0, 0); the digest of that body; and a gate that is not open. Digests are those of another program.
+/// (0, 0) with its quasi-inverse; the digest of that body; and a gate that is not open. Digests are those of another program.
 const FIRST: &str =
-    "4558545341564531498fadf13dde22e6898175cb947cb18f477cda6d5603c7a14c475e229eaaa943a50000000000000026010000000000000000000000010000000000000001010000000000000000000000000000000169b7c844de9a6419754dc7e857dbba1a6f8b2f2ddeaefedb344ea3bea60d395300";
+    "4558545341564531498fadf13dde22e6898175cb947cb18f477cda6d5603c7a14c475e229eaaa943a50000000000000030020000000000000000000000010000000000000001010000000000000000000000000000000100000000000000010101f05124cf50d664fdde5f2e7f9feda263aa7d54495d5fee9f171b8e2d2508e20100";
 
 /// The file of the square (0, 0) without a generator.
 const EMPTY: &str =
@@ -60,7 +60,7 @@ const SPHERE_0: &[&str] = &["sphere", "0", "0", "--save"];
 
 /// Why the file of one square is refused where the byte at this place is changed, none where it is taken up.
 fn why_at(alloc: Global, place: usize, file: &[u8]) -> Result<Option<String>, Fail> {
-    if file.len() != 120 {
+    if file.len() != 130 {
         return Err("a file of another length".into());
     }
     Ok(match place {
@@ -72,9 +72,9 @@ fn why_at(alloc: Global, place: usize, file: &[u8]) -> Result<Option<String>, Fa
         }
         // The body would be longer than what is there.
         41..49 => Some("short at place 40".to_string(alloc)?),
-        49..119 => {
-            let kept = hex::encode(alloc, &file[87..119])?;
-            let found = hex::encode(alloc, Sha256::digest(&file[49..87]))?;
+        49..129 => {
+            let kept = hex::encode(alloc, &file[97..129])?;
+            let found = hex::encode(alloc, Sha256::digest(&file[49..97]))?;
             Some(format!(in alloc; "record 0 damaged, kept {kept}, found {found}")?)
         }
         // A gate that is not open.
@@ -86,7 +86,7 @@ fn why_at(alloc: Global, place: usize, file: &[u8]) -> Result<Option<String>, Fa
 #[test]
 fn one_byte_changed(rt: HostRuntime) -> Result<(), Fail> {
     let alloc = rt.alloc();
-    for place in 0..120 {
+    for place in 0..130 {
         let mut file = hex::decode(alloc, FIRST)?;
         if let Some(byte) = file.get_mut(place) {
             *byte ^= 1;

@@ -1,104 +1,177 @@
 -- A save file with one record more.
-use Rattle.std.proofs.Common.{◌≡◌, ◌⊎◌, ◌↔◌, inl, inr, ⊎_elim, ℕ, suc, ◌+◌, ◌≤◌, List, [], ◌∷◌, ◌++◌, Option, None, Some, refl, sym, ◌∙◌, ap, subst, arith, length, length-append}
+use Rattle.std.proofs.Common.{◌≡◌, ◌⊎◌, ◌↔◌, inl, inr, ⊎_elim, ℕ, suc, ◌+◌, ◌≤◌, ℤ, List, [], ◌∷◌, ◌++◌, Option, None, Some, refl, sym, ◌∙◌, ap, subst, arith, length, length-append}
 use Rattle.std.specs.Prelude.{IfSome, Result, Ok}
 use Rattle.std.specs.Option.{option_map}
-use Rattle.std.proofs.lemmas.List.{append-nil, take_at}
+use Rattle.std.proofs.lemmas.List.{append-nil, take_at, take_all, map-append}
 use Rattle.std.proofs.lemmas.List.Elements.{All-nil, All-cons, All-append}
 use Rattle.finite_module.specs.Checked.{Checked}
 use Rattle.resolution_laws.specs.Resolution.{Module}
 use Rattle.resolution_laws.specs.Start.{Entry, IsOf, AreOf}
 use Rattle.square.specs.Squares.{Placed, IsSquare, entry_of, over}
-use Rattle.square.specs.Keeping.{IsNextIn, with_squares, IsImageBetween, HasFirst}
+use Rattle.square.specs.Tables.{Staircase}
+use Rattle.square.specs.Keeping.{IsNextIn, HoldsTable, HasFirst}
 use Rattle.square.proofs.Retaining.{retained_entries}
 use Rattle.edge.specs.Disk.{LeavesOnly, HavePast, WasImageSince, IsTold, AreTold}
 use Rattle.save_journal.specs.Records.{Records, records_of, and_last}
-use Rattle.save_journal.specs.Journals.{IsBeforeOrAfter, RetainsRecords, HasFirst as HasFirstRecords}
-use Rattle.save_file.specs.Reading.{square_in, and_then_squares, squares_from, squares_of}
-use Rattle.save_file.specs.Saved.{IsReadAs}
-use Rattle.save_file.specs.Files.{of_squares, of_records, digest_of, squares_in, first_records, list_in, first_squares}
-use Rattle.save_file.specs.Saving.{HasSquares}
+use Rattle.save_journal.specs.Journals.{IsBeforeOrAfter, ComeFromEarlier}
+use Rattle.save_journal.proofs.Retaining.{HasFirst as HasFirstRecords, more_first}
+use Rattle.save_file.specs.Bodies.{Kept, kept_of, entries, kept_at, with_quasi_at}
+use Rattle.save_file.specs.Reading.{square_in, addition_in, with_square_read, reduction_of_square, with_addition_read, after_body, and_then_kept, kept_from, kept_of_bodies, squares_alone, squares_of}
+use Rattle.save_file.specs.Saved.{IsReadAs, IsReadAsQuasi}
+use Rattle.save_file.specs.Files.{of_records, digest_of, squares_in, first_records, list_in, first_squares, kept_list, kept_by, kept_in_file, first_kept}
+use Rattle.save_file.specs.Saving.{HasSquares, IsKeptBare}
 use Rattle.save_file.specs.Inside.SavingLaws.{first_are_all, all_in}
-use Rattle.save_file.proofs.Rules.{ok, same_Ok, not_Ok, squares_closed}
+use Rattle.save_file.proofs.Rules.{ok, kept_ok, same_kept, not_kept_ok, squares_closed, entries-with_quasi_at, read_as_addition}
+use Rattle.save_file.proofs.Keeps.{list_is}
 
 -- ---- one body more
 
-last_step : (m : Module) (o : Option Entry) (number : ℕ) (rest more : Entry → Result (List Entry) ℕ) (list : List Entry) (e : Entry) → ((x : Entry) → rest x ≡ ok list → more x ≡ ok (list ++ e ∷ [])) → and_then_squares o number rest ≡ ok list → and_then_squares o number more ≡ ok (list ++ e ∷ [])
-last_step m None number rest more list e next h = absurd (not_Ok number list h)
-last_step m (Some x) number rest more list e next h = next x h
+last_step : (o : Option (List Kept)) (number : ℕ) (rest more : List Kept → Result (List Kept) ℕ) (kept new : List Kept) → ((x : List Kept) → rest x ≡ kept_ok kept → more x ≡ kept_ok new) → and_then_kept o number rest ≡ kept_ok kept → and_then_kept o number more ≡ kept_ok new
+last_step None number rest more kept new next h = absurd (not_kept_ok number kept h)
+last_step (Some x) number rest more kept new next h = next x h
 
-last_from : (m : Module) (bodies : List (List ℕ)) (before : List Entry) (number : ℕ) (list : List Entry) (body : List ℕ) (e : Entry) → squares_from m before number bodies ≡ ok list → square_in m list body ≡ Some e → squares_from m before number (bodies ++ body ∷ []) ≡ ok (list ++ e ∷ [])
-last_from m [] before number list body e h here =
-    let same = same_Ok before list h in
-    let read : square_in m before body ≡ Some e = ap (λ l. square_in m l body) same ∙ here in
-    ap (λ o. and_then_squares o number (λ x. squares_from m (before ++ x ∷ []) (suc number) [])) read ∙ ap (λ (l : List Entry). ok (l ++ e ∷ [])) same
-last_from m (b ∷ bodies) before number list body e h here =
-    last_step m (square_in m before b) number (λ x. squares_from m (before ++ x ∷ []) (suc number) bodies) (λ x. squares_from m (before ++ x ∷ []) (suc number) (bodies ++ body ∷ [])) list e
-    (λ x q. last_from m bodies (before ++ x ∷ []) (suc number) list body e q here) h
+last_from : (m : Module) (bodies : List (List ℕ)) (before : List Kept) (number : ℕ) (kept new : List Kept) (body : List ℕ) → kept_from m before number bodies ≡ kept_ok kept → after_body m kept body ≡ Some new → kept_from m before number (bodies ++ body ∷ []) ≡ kept_ok new
+last_from m [] before number kept new body h here =
+    let same = same_kept before kept h in
+    let read : after_body m before body ≡ Some new = ap (λ k. after_body m k body) same ∙ here in
+    ap (λ o. and_then_kept o number (λ x. kept_from m x (suc number) [])) read
+last_from m (b ∷ bodies) before number kept new body h here =
+    last_step (after_body m before b) number (λ x. kept_from m x (suc number) bodies) (λ x. kept_from m x (suc number) (bodies ++ body ∷ [])) kept new
+    (λ x q. last_from m bodies x (suc number) kept new body q here) h
 
--- ---- a file with squares, and a body that is read as a square behind them
+-- ---- what a file keeps
 
-pub record Adds (m : Checked) (start : List Entry) (n : ℕ) (file body : List ℕ) (e : Entry) : Type 0 where
+kept_first : (m : Checked) (start : List Entry) (n : ℕ) (file : List ℕ) (h : HasSquares m start n file) → first_kept m n file ≡ h.kept
+kept_first m start n file h =
+    let few = h.counted in
+    ap (λ (r : Records). kept_by (over m) (first_records n r)) h.records ∙ ap (λ (l : List (List ℕ)). kept_by (over m) (Ok l)) (take_all n h.bodies (omega arith)) ∙ ap kept_list h.kept_are
+
+kept_whole : (m : Checked) (start : List Entry) (n : ℕ) (file : List ℕ) (h : HasSquares m start n file) → kept_in_file m file ≡ h.kept
+kept_whole m start n file h = ap (λ (r : Records). kept_by (over m) r) h.records ∙ ap kept_list h.kept_are
+
+pub all_kept : (m : Checked) (start : List Entry) (n : ℕ) (file : List ℕ) → HasSquares m start n file → kept_in_file m file ≡ first_kept m n file
+all_kept m start n file h = kept_whole m start n file h ∙ sym (kept_first m start n file h)
+
+-- ---- a file with squares, and a body that is read behind them
+
+-- With the body the file has one record more: a square, or a quasi-inverse for one of its squares. `more` are the squares that it
+-- adds, one or none, and `next` says what is kept then.
+pub record Adds (m : Checked) (start : List Entry) (n : ℕ) (file body : List ℕ) (more : List Entry) (next : List Kept → List Kept) : Type 0 where
   pub has : HasSquares m start n file
-  pub read : square_in (over m) has.list body ≡ Some e
-  pub is_of : IsOf (over m) start e.s e.above e.content
+  pub read : after_body (over m) has.kept body ≡ Some (next has.kept)
+  pub entries_are : entries (next has.kept) ≡ has.list ++ more
+  pub are_of : AreOf (over m) start more
 
-adds : (q : Placed) (m : Checked) (start : List Entry) (n : ℕ) (file body : List ℕ) → HasSquares m start n file → IsReadAs q body → IsSquare q → q.resolved ≡ m → q.start ≡ start → IsNextIn (first_squares m n file) q → Adds m start n file body (entry_of q)
+abbrev pub and_square : Placed → List Kept → List Kept
+and_square q kept = kept ++ kept_of q ∷ []
+
+pub adds : (q : Placed) (m : Checked) (start : List Entry) (n : ℕ) (file body : List ℕ) → HasSquares m start n file → IsReadAs q body → IsSquare q → q.resolved ≡ m → q.start ≡ start → IsNextIn (first_squares m n file) q → Adds m start n file body (entry_of q ∷ []) (and_square q)
 adds q m start n file body h reads square resolved same next =
     let all = first_are_all m start n file h in
     let are : AreOf (over q.resolved) q.start h.list = subst (λ (x : Checked). AreOf (over x) q.start h.list) (sym resolved) (subst (λ (x : List Entry). AreOf (over m) x h.list) (sym same) h.are_of) in
     let closed = squares_closed (over m) h.bodies h.list h.squares in
-    let read = reads h.list are closed (subst (λ (x : List Entry). IsNextIn x q) all next) in
+    let there = reads h.list are closed (subst (λ (x : List Entry). IsNextIn x q) all next) in
+    let read : square_in (over m) (entries h.kept) body ≡ Some (kept_of q) = subst (λ (x : List Entry). square_in (over m) x body ≡ Some (kept_of q)) (list_is m start n file h) (subst (λ (x : Checked). square_in (over x) h.list body ≡ Some (kept_of q)) resolved there) in
+    let here : IsOf (over m) start q.s q.above q.content = subst (λ (x : Checked). IsOf (over x) start q.s q.above q.content) resolved (subst (λ (x : List Entry). IsOf (over q.resolved) x q.s q.above q.content) same square.is_of) in
     record {
       has = h;
-      read = subst (λ (x : Checked). square_in (over x) h.list body ≡ Some (entry_of q)) resolved read;
-      is_of = subst (λ (x : Checked). IsOf (over x) start q.s q.above q.content) resolved (subst (λ (x : List Entry). IsOf (over q.resolved) x q.s q.above q.content) same square.is_of);
+      read = ap (λ o. with_square_read h.kept o (with_addition_read h.kept (addition_in (over m) h.kept body))) read;
+      entries_are = map-append (λ (k : Kept). k.entry) h.kept (kept_of q ∷ []) ∙ ap (λ (l : List Entry). l ++ entry_of q ∷ []) (sym (list_is m start n file h));
+      are_of = All-cons (λ (x : Entry). IsOf (over m) start x.s x.above x.content) (entry_of q) [] here (All-nil (λ (x : Entry). IsOf (over m) start x.s x.above x.content));
     }
 
-module _ (m : Checked) (start : List Entry) (n : ℕ) (file body : List ℕ) (e : Entry) (a : Adds m start n file body e) where
+pub adds_quasi : (table : Staircase) (s : ℕ) (t : ℤ) (m : Checked) (start : List Entry) (n : ℕ) (file body : List ℕ) → HasSquares m start n file → (r : IsReadAsQuasi table s t body) → table.resolved ≡ m → HoldsTable (first_squares m n file) table.rows → IsKeptBare (first_kept m n file) s r.above → Adds m start n file body [] (λ kept. with_quasi_at kept s r.above r.quasi)
+adds_quasi table s t m start n file body h r resolved holds bare =
+    let list : first_squares m n file ≡ entries h.kept = first_are_all m start n file h ∙ list_is m start n file h in
+    let kept = kept_first m start n file h in
+    let there : kept_at h.kept s r.above ≡ Some bare.square = ap (λ (l : List Kept). kept_at l s r.above) (sym kept) ∙ bare.there in
+    let found = r.read h.kept bare.square (subst (λ (l : List Entry). HoldsTable l table.rows) list holds) there bare.bare in
+    let a = r.addition in
+    let read : addition_in (over m) h.kept body ≡ Some a = ap (λ (x : Checked). addition_in (over x) h.kept body) (sym resolved) ∙ found.0 in
+    let reduction : reduction_of_square a (kept_at h.kept a.s a.above) ≡ r.quasi = ap (λ i. reduction_of_square a (kept_at h.kept i a.above)) r.place.0 ∙ ap (λ k. reduction_of_square a (kept_at h.kept s k)) r.place.1 ∙ ap (reduction_of_square a) there ∙ found.1 in
+    record {
+      has = h;
+      read =
+          read_as_addition (over m) h.kept body a read
+          ∙ ap (λ x. Some (with_quasi_at h.kept a.s a.above x)) reduction
+          ∙ ap (λ i. Some (with_quasi_at h.kept i a.above r.quasi)) r.place.0
+          ∙ ap (λ k. Some (with_quasi_at h.kept s k r.quasi)) r.place.1;
+      entries_are = entries-with_quasi_at h.kept s r.above r.quasi ∙ sym (list_is m start n file h) ∙ sym (append-nil h.list);
+      are_of = All-nil (λ (x : Entry). IsOf (over m) start x.s x.above x.content);
+    }
+
+module _ (m : Checked) (start : List Entry) (n : ℕ) (file body : List ℕ) (more : List Entry) (next : List Kept → List Kept) (a : Adds m start n file body more next) where
   -- the records after it
   more_records : (c : List ℕ) → records_of (digest_of m.plain) c ≡ and_last (records_of (digest_of m.plain) file) body → records_of (digest_of m.plain) c ≡ Ok (a.has.bodies ++ body ∷ [])
   more_records c is = is ∙ ap (λ (r : Records). and_last r body) a.has.records
 
-  more_squares : squares_of (over m) (a.has.bodies ++ body ∷ []) ≡ ok (a.has.list ++ e ∷ [])
-  more_squares = last_from (over m) a.has.bodies [] 0 a.has.list body e a.has.squares a.read
+  more_kept : kept_of_bodies (over m) (a.has.bodies ++ body ∷ []) ≡ kept_ok (next a.has.kept)
+  more_kept = last_from (over m) a.has.bodies [] 0 a.has.kept (next a.has.kept) body a.has.kept_are a.read
+
+  more_squares : squares_of (over m) (a.has.bodies ++ body ∷ []) ≡ ok (a.has.list ++ more)
+  more_squares = ap squares_alone more_kept ∙ ap (λ (l : List Entry). ok l) a.entries_are
 
   has_more : (c : List ℕ) → records_of (digest_of m.plain) c ≡ and_last (records_of (digest_of m.plain) file) body → HasSquares m start (n + 1) c
   has_more c is = record {
     bodies = a.has.bodies ++ body ∷ [];
-    list = a.has.list ++ e ∷ [];
+    list = a.has.list ++ more;
     records = more_records c is;
-    counted = let few = a.has.counted in let more = length-append a.has.bodies (body ∷ []) in omega arith;
+    counted = let few = a.has.counted in let len = length-append a.has.bodies (body ∷ []) in omega arith;
     squares = more_squares;
-    are_of = All-append (λ (x : Entry). IsOf (over m) start x.s x.above x.content) a.has.list (e ∷ []) a.has.are_of (All-cons (λ (x : Entry). IsOf (over m) start x.s x.above x.content) e [] a.is_of (All-nil (λ (x : Entry). IsOf (over m) start x.s x.above x.content)));
+    kept = next a.has.kept;
+    kept_are = more_kept;
+    are_of = All-append (λ (x : Entry). IsOf (over m) start x.s x.above x.content) a.has.list more a.has.are_of a.are_of;
   }
 
-  first_more : (c : List ℕ) → records_of (digest_of m.plain) c ≡ and_last (records_of (digest_of m.plain) file) body → first_squares m (n + 1) c ≡ first_squares m n file ++ e ∷ []
+  first_more : (c : List ℕ) → records_of (digest_of m.plain) c ≡ and_last (records_of (digest_of m.plain) file) body → first_squares m (n + 1) c ≡ first_squares m n file ++ more
   unfolding has_more
-  first_more c is = first_are_all m start (n + 1) c (has_more c is) ∙ ap (λ (l : List Entry). l ++ e ∷ []) (sym (first_are_all m start n file a.has))
+  first_more c is = first_are_all m start (n + 1) c (has_more c is) ∙ ap (λ (l : List Entry). l ++ more) (sym (first_are_all m start n file a.has))
 
-  pub has_same : (c : List ℕ) → records_of (digest_of m.plain) c ≡ records_of (digest_of m.plain) file → HasSquares m start n c
-  has_same c is = record { bodies = a.has.bodies; list = a.has.list; records = is ∙ a.has.records; counted = a.has.counted; squares = a.has.squares; are_of = a.has.are_of }
+  kept_more : (c : List ℕ) → records_of (digest_of m.plain) c ≡ and_last (records_of (digest_of m.plain) file) body → first_kept m (n + 1) c ≡ next (first_kept m n file)
+  unfolding has_more
+  kept_more c is = kept_first m start (n + 1) c (has_more c is) ∙ ap next (sym (kept_first m start n file a.has))
+
+  has_same : (c : List ℕ) → records_of (digest_of m.plain) c ≡ records_of (digest_of m.plain) file → HasSquares m start n c
+  has_same c is = record { bodies = a.has.bodies; list = a.has.list; records = is ∙ a.has.records; counted = a.has.counted; squares = a.has.squares; kept = a.has.kept; kept_are = a.has.kept_are; are_of = a.has.are_of }
 
   -- the first so many stay
-  first_stay : (c : List ℕ) → IsBeforeOrAfter (digest_of m.plain) (records_of (digest_of m.plain) file) body c → first_squares m n c ≡ first_squares m n file
-  first_stay c (inl is) = ap (λ (r : Records). list_in (of_records (over m) (first_records n r))) is
-  first_stay c (inr is) =
+  first_bodies : (c : List ℕ) → IsBeforeOrAfter (digest_of m.plain) (records_of (digest_of m.plain) file) body c → first_records n (records_of (digest_of m.plain) c) ≡ first_records n (records_of (digest_of m.plain) file)
+  first_bodies c (inl is) = ap (first_records n) is
+  first_bodies c (inr is) =
       let few = a.has.counted in
-      ap (λ (r : Records). list_in (of_records (over m) (first_records n r))) (more_records c is)
-      ∙ ap (λ (l : List (List ℕ)). list_in (of_records (over m) (Ok l))) (take_at a.has.bodies (body ∷ []) n few)
-      ∙ ap (λ r. list_in (of_squares r)) a.has.squares
-      ∙ sym (first_are_all m start n file a.has)
+      ap (first_records n) (more_records c is)
+      ∙ ap (λ (l : List (List ℕ)). Ok l) (take_at a.has.bodies (body ∷ []) n few ∙ sym (take_all n a.has.bodies (omega arith)))
+      ∙ sym (ap (first_records n) a.has.records)
+
+  first_stay : (c : List ℕ) → IsBeforeOrAfter (digest_of m.plain) (records_of (digest_of m.plain) file) body c → first_squares m n c ≡ first_squares m n file
+  first_stay c ends = ap (λ (r : Records). list_in (of_records (over m) r)) (first_bodies c ends)
+
+  kept_stay : (c : List ℕ) → IsBeforeOrAfter (digest_of m.plain) (records_of (digest_of m.plain) file) body c → first_kept m n c ≡ first_kept m n file
+  kept_stay c ends = ap (λ (r : Records). kept_by (over m) r) (first_bodies c ends)
 
   -- the squares that an image stands for
   image_before : (c : List ℕ) → records_of (digest_of m.plain) c ≡ records_of (digest_of m.plain) file → squares_in m c ≡ Some (first_squares m n file)
   image_before c is = all_in m start n c (has_same c is) ∙ ap (λ (l : List Entry). Some l) (first_stay c (inl is))
 
-  image_after : (c : List ℕ) → records_of (digest_of m.plain) c ≡ and_last (records_of (digest_of m.plain) file) body → squares_in m c ≡ Some (first_squares m n file ++ e ∷ [])
+  image_after : (c : List ℕ) → records_of (digest_of m.plain) c ≡ and_last (records_of (digest_of m.plain) file) body → squares_in m c ≡ Some (first_squares m n file ++ more)
   image_after c is = all_in m start (n + 1) c (has_more c is) ∙ ap (λ (l : List Entry). Some l) (first_more c is)
 
-  image_between : (c : List ℕ) → IsBeforeOrAfter (digest_of m.plain) (records_of (digest_of m.plain) file) body c → (squares_in m c ≡ Some (first_squares m n file)) ⊎ (squares_in m c ≡ Some (first_squares m n file ++ e ∷ []))
+  image_between : (c : List ℕ) → IsBeforeOrAfter (digest_of m.plain) (records_of (digest_of m.plain) file) body c → (squares_in m c ≡ Some (first_squares m n file)) ⊎ (squares_in m c ≡ Some (first_squares m n file ++ more))
   image_between c (inl is) = inl (image_before c is)
   image_between c (inr is) = inr (image_after c is)
+
+  -- what it keeps
+  kept_before : (c : List ℕ) → records_of (digest_of m.plain) c ≡ records_of (digest_of m.plain) file → kept_in_file m c ≡ first_kept m n file
+  unfolding has_same
+  kept_before c is = kept_whole m start n c (has_same c is) ∙ sym (kept_first m start n file a.has)
+
+  kept_after : (c : List ℕ) → records_of (digest_of m.plain) c ≡ and_last (records_of (digest_of m.plain) file) body → kept_in_file m c ≡ next (first_kept m n file)
+  unfolding has_more
+  kept_after c is = kept_whole m start (n + 1) c (has_more c is) ∙ ap next (sym (kept_first m start n file a.has))
+
+  kept_between : (c : List ℕ) → IsBeforeOrAfter (digest_of m.plain) (records_of (digest_of m.plain) file) body c → (kept_in_file m c ≡ first_kept m n file) ⊎ (kept_in_file m c ≡ next (first_kept m n file))
+  kept_between c (inl is) = inl (kept_before c is)
+  kept_between c (inr is) = inr (kept_after c is)
 
 -- ---- moments of a disk, seen as squares
 
@@ -118,10 +191,7 @@ past_images moment at old new m past t image le = (
 
 -- ---- where the disk tells
 
-module _ (q : Placed) (m : Checked) (start : List Entry) (n : ℕ) (digest body : List ℕ) (named : digest ≡ digest_of m.plain) (reads : IsReadAs q body) (square : IsSquare q) (resolved : q.resolved ≡ m) (same : q.start ≡ start) where
-  abbrev IsNextFor : Option (List ℕ) → Type 0
-  IsNextFor o = IfSome (option_map (first_squares m n) o) (λ list. IsNextIn list q)
-
+module _ (m : Checked) (start : List Entry) (n : ℕ) (digest body : List ℕ) (named : digest ≡ digest_of m.plain) (more : List Entry) (next : List Kept → List Kept) (Ready : List ℕ → Type 0) (added : (file : List ℕ) → HasSquares m start n file → Ready file → Adds m start n file body more next) where
   abbrev Ends : List ℕ → List ℕ → Type 0
   Ends file c = IsBeforeOrAfter digest (records_of digest file) body c
 
@@ -134,33 +204,47 @@ module _ (q : Placed) (m : Checked) (start : List Entry) (n : ℕ) (digest body 
   lasts : (file c : List ℕ) → IsLast file c → records_of (digest_of m.plain) c ≡ and_last (records_of (digest_of m.plain) file) body
   lasts file c h = subst (λ d. records_of d c ≡ and_last (records_of d file) body) named h
 
-  added : (file : List ℕ) → HasSquares m start n file → IsNextIn (first_squares m n file) q → Adds m start n file body (entry_of q)
-  added file h next = adds q m start n file body h reads square resolved same next
+  pub put : (o p : Option (List ℕ)) → IfSome o (HasSquares m start n) → IfSome o Ready → AreTold Ends o p → IfSome o (λ file. IsTold p (IsLast file)) → option_map (first_squares m (n + 1)) p ≡ option_map (λ (l : List Entry). l ++ more) (option_map (first_squares m n) o)
+  put None None has ready told last = refl
+  put None (Some c) has ready told last = absurd told
+  put (Some file) None has ready told last = absurd told
+  put (Some file) (Some c) has ready told last = ap (λ (l : List Entry). Some l) (first_more m start n file body more next (added file has ready) c (lasts file c last))
 
-  pub put : (o p : Option (List ℕ)) → IfSome o (HasSquares m start n) → IsNextFor o → AreTold Ends o p → IfSome o (λ file. IsTold p (IsLast file)) → option_map (first_squares m (n + 1)) p ≡ with_squares (option_map (first_squares m n) o) (entry_of q ∷ [])
-  put None None has next told last = refl
-  put None (Some c) has next told last = absurd told
-  put (Some file) None has next told last = absurd told
-  put (Some file) (Some c) has next told last = ap (λ (l : List Entry). Some l) (first_more m start n file body (entry_of q) (added file has next) c (lasts file c last))
+  pub put_kept : (o p : Option (List ℕ)) → IfSome o (HasSquares m start n) → IfSome o Ready → AreTold Ends o p → IfSome o (λ file. IsTold p (IsLast file)) → option_map (first_kept m (n + 1)) p ≡ option_map next (option_map (first_kept m n) o)
+  put_kept None None has ready told last = refl
+  put_kept None (Some c) has ready told last = absurd told
+  put_kept (Some file) None has ready told last = absurd told
+  put_kept (Some file) (Some c) has ready told last = ap (λ (l : List Kept). Some l) (kept_more m start n file body more next (added file has ready) c (lasts file c last))
 
-  pub counted : (o p : Option (List ℕ)) → IfSome o (HasSquares m start n) → IsNextFor o → AreTold Ends o p → IfSome o (λ file. IsTold p (IsLast file)) → IfSome p (HasSquares m start (n + 1))
-  counted None None has next told last = tt
-  counted None (Some c) has next told last = absurd told
-  counted (Some file) None has next told last = absurd told
-  counted (Some file) (Some c) has next told last = has_more m start n file body (entry_of q) (added file has next) c (lasts file c last)
+  pub counted : (o p : Option (List ℕ)) → IfSome o (HasSquares m start n) → IfSome o Ready → AreTold Ends o p → IfSome o (λ file. IsTold p (IsLast file)) → IfSome p (HasSquares m start (n + 1))
+  counted None None has ready told last = tt
+  counted None (Some c) has ready told last = absurd told
+  counted (Some file) None has ready told last = absurd told
+  counted (Some file) (Some c) has ready told last = has_more m start n file body more next (added file has ready) c (lasts file c last)
 
-  pub unput : (o p : Option (List ℕ)) → IfSome o (HasSquares m start n) → IsNextFor o → AreTold Ends o p → option_map (first_squares m n) p ≡ option_map (first_squares m n) o
-  unput None None has next told = refl
-  unput None (Some c) has next told = absurd told
-  unput (Some file) None has next told = absurd told
-  unput (Some file) (Some c) has next told = ap (λ (l : List Entry). Some l) (first_stay m start n file body (entry_of q) (added file has next) c (ends file c told))
+  pub unput : (o p : Option (List ℕ)) → IfSome o (HasSquares m start n) → IfSome o Ready → AreTold Ends o p → option_map (first_squares m n) p ≡ option_map (first_squares m n) o
+  unput None None has ready told = refl
+  unput None (Some c) has ready told = absurd told
+  unput (Some file) None has ready told = absurd told
+  unput (Some file) (Some c) has ready told = ap (λ (l : List Entry). Some l) (first_stay m start n file body more next (added file has ready) c (ends file c told))
+
+  pub unput_kept : (o p : Option (List ℕ)) → IfSome o (HasSquares m start n) → IfSome o Ready → AreTold Ends o p → option_map (first_kept m n) p ≡ option_map (first_kept m n) o
+  unput_kept None None has ready told = refl
+  unput_kept None (Some c) has ready told = absurd told
+  unput_kept (Some file) None has ready told = absurd told
+  unput_kept (Some file) (Some c) has ready told = ap (λ (l : List Kept). Some l) (kept_stay m start n file body more next (added file has ready) c (ends file c told))
 
   -- what was left since the call began
-  pub between : {D : Type 0} (moment : D → ℕ) (since : D → ℕ → List ℕ → Type 0) (old new : D) (o : Option (List ℕ)) → IfSome o (HasSquares m start n) → IsNextFor o → IfSome o (λ file. LeavesOnly moment since old new (Ends file))
-      → IfSome (option_map (first_squares m n) o) (λ list. (image : Option (List Entry)) → ((c : List ℕ) × since new (moment old) c × (image ≡ squares_in m c)) → IsImageBetween list q image)
-  between moment since old new None has next leaves = tt
-  between moment since old new (Some file) has next leaves = λ image left.
-      ⊎_elim (λ e. inl (left.2 ∙ e)) (λ e. inr (left.2 ∙ e)) (image_between m start n file body (entry_of q) (added file has next) left.0 (ends file left.0 (leaves.each left.0 left.1)))
+  pub between : {D : Type 0} (moment : D → ℕ) (since : D → ℕ → List ℕ → Type 0) (old new : D) (o : Option (List ℕ)) → IfSome o (HasSquares m start n) → IfSome o Ready → IfSome o (λ file. LeavesOnly moment since old new (Ends file))
+      → IfSome (option_map (first_squares m n) o) (λ list. (image : Option (List Entry)) → ((c : List ℕ) × since new (moment old) c × (image ≡ squares_in m c)) → (image ≡ Some list) ⊎ (image ≡ Some (list ++ more)))
+  between moment since old new None has ready leaves = tt
+  between moment since old new (Some file) has ready leaves = λ image left.
+      ⊎_elim (λ e. inl (left.2 ∙ e)) (λ e. inr (left.2 ∙ e)) (image_between m start n file body more next (added file has ready) left.0 (ends file left.0 (leaves.each left.0 left.1)))
+
+  pub between_kept : {D : Type 0} (moment : D → ℕ) (since : D → ℕ → List ℕ → Type 0) (old new : D) (o : Option (List ℕ)) → IfSome o (HasSquares m start n) → IfSome o Ready → IfSome o (λ file. LeavesOnly moment since old new (Ends file))
+      → IfSome (option_map (first_kept m n) o) (λ kept. (c : List ℕ) → since new (moment old) c → (kept_in_file m c ≡ kept) ⊎ (kept_in_file m c ≡ next kept))
+  between_kept moment since old new None has ready leaves = tt
+  between_kept moment since old new (Some file) has ready leaves = λ c left. kept_between m start n file body more next (added file has ready) c (ends file c (leaves.each c left))
 
   -- all records of the file, and those with the body behind them
   records_before : (file : List ℕ) (h : HasSquares m start n file) → records_of digest file ≡ Ok h.bodies
@@ -183,27 +267,72 @@ module _ (q : Placed) (m : Checked) (start : List Entry) (n : ℕ) (digest body 
       let one = length-append h.bodies (body ∷ []) in
       absurd (omega arith)
 
-  -- What each image has, each later one has. An image at a moment stands for what was kept, or that and the new square: where each
-  -- has more than was kept, each has the new record, and so has each later one.
-  pub retained : {D : Type 0} (moment : D → ℕ) (at since : D → ℕ → List ℕ → Type 0) (old new : D) (o p : Option (List ℕ)) → ((t : ℕ) (c : List ℕ) → WasImageSince (moment new) (at new) t c → since new t c) → IfSome p (λ _. (t : ℕ) → t ≤ moment new → (c : List ℕ) × at new t c) → IfSome o (HasSquares m start n) → IsNextFor o → AreTold Ends o p
-      → IfSome o (λ file. LeavesOnly moment since old new (Ends file)) → IfSome o (λ _. RetainsRecords moment at old new digest) → IfSome (option_map (first_squares m n) o) (λ _. RetainsSquares moment at old new m)
-  retained moment at since old new None p law some has next told leaves records = tt
-  retained moment at since old new (Some file) None law some has next told leaves records = absurd told
-  retained moment at since old new (Some file) (Some d) law some has next told leaves records = λ first u v from le within all image left.
-      let a = added file has next in
-      let ends_at : (t : ℕ) (c : List ℕ) → moment old ≤ t → t ≤ moment new → at new t c → Ends file c = λ t c early late there. leaves.each c (law (moment old) c (record { moment = t; from = early; within = late; image = there })) in
-      let bodies = has.bodies ++ body ∷ [] in
-      let lasting : ((c : List ℕ) → at new u c → IsLast file c) → (c : List ℕ) → at new v c → IsLast file c = λ each c there. is_last file has c (ends_at v c (omega arith) within there) (records bodies u v from le within (λ b here. records_after file has b (each b here)) c there) in
-      subst (HasFirst first) (sym left.2)
-      (retained_entries (at new u) (at new v) (λ c. records_of digest c ≡ records_of digest file) (IsLast file) (squares_in m) (first_squares m n file) (entry_of q)
-      (λ c there. ends_at u c from (omega arith) there)
-      (λ c there. ends_at v c (omega arith) within there)
-      (λ c is. image_before m start n file body (entry_of q) a c (subst (λ d. records_of d c ≡ records_of d file) named is))
-      (λ c is. image_after m start n file body (entry_of q) a c (lasts file c is))
-      (some u (omega arith))
-      lasting first
-      (λ c there. all (squares_in m c) (c, there, refl))
-      left.0 left.1)
+  -- an image at a moment of the call
+  ends_at : {D : Type 0} (moment : D → ℕ) (at since : D → ℕ → List ℕ → Type 0) (old new : D) (file : List ℕ) → ((t : ℕ) (c : List ℕ) → WasImageSince (moment new) (at new) t c → since new t c) → LeavesOnly moment since old new (Ends file) → (t : ℕ) (c : List ℕ) → moment old ≤ t → t ≤ moment new → at new t c → Ends file c
+  ends_at moment at since old new file law leaves t c early late there = leaves.each c (law (moment old) c (record { moment = t; from = early; within = late; image = there }))
+
+  -- what an image keeps that comes from one before it
+  kept_comes : (file : List ℕ) (h : HasSquares m start n file) → Ready file → (d c : List ℕ) → Ends file d → Ends file c → IsBeforeOrAfter digest (records_of digest d) body c → (kept_in_file m c ≡ kept_in_file m d) ⊎ (kept_in_file m c ≡ next (kept_in_file m d))
+  kept_comes file h ready d c before now (inl is) = inl (ap (kept_by (over m)) (subst (λ x. records_of x c ≡ records_of x d) named is))
+  kept_comes file h ready d c (inl b) now (inr is) =
+      let a = added file h ready in
+      let last : IsLast file c = is ∙ ap (λ (r : Records). and_last r body) b in
+      let old : kept_in_file m d ≡ first_kept m n file = kept_before m start n file body more next a d (subst (λ x. records_of x d ≡ records_of x file) named b) in
+      inr (kept_after m start n file body more next a c (lasts file c last) ∙ ap next (sym old))
+  kept_comes file h ready d c (inr l) now (inr is) =
+      let last : IsLast file c = is_last file h c now (more_first digest (h.bodies ++ body ∷ []) body d c (records_after file h d l) (inr is)) in
+      inl (ap (kept_by (over m)) (subst (λ x. records_of x c ≡ records_of x d) named (last ∙ sym l)))
+
+  pub come_kept : {D : Type 0} (moment : D → ℕ) (at since : D → ℕ → List ℕ → Type 0) (old new : D) (o : Option (List ℕ)) → ((t : ℕ) (c : List ℕ) → WasImageSince (moment new) (at new) t c → since new t c) → IfSome o (HasSquares m start n) → IfSome o Ready → IfSome o (λ file. LeavesOnly moment since old new (Ends file))
+      → IfSome o (λ _. ComeFromEarlier moment at old new Ends) → IfSome (option_map (first_kept m n) o) (λ _. ComeFromEarlier moment at old new (λ d c. (kept_in_file m c ≡ kept_in_file m d) ⊎ (kept_in_file m c ≡ next (kept_in_file m d))))
+  come_kept moment at since old new None law has ready leaves come = tt
+  come_kept moment at since old new (Some file) law has ready leaves come = λ u v from le within c image.
+      let d = come u v from le within c image in
+      (d.0, d.1, kept_comes file has ready d.0 c (ends_at moment at since old new file law leaves u d.0 from (omega arith) d.1) (ends_at moment at since old new file law leaves v c (omega arith) within image) d.2)
+
+-- ---- what is retained
+
+-- What each image has, each later one has. An image at a moment stands for what was kept, or that and the new square: where each
+-- has more than was kept, each has the new record, and so has each later one.
+pub retained : (m : Checked) (start : List Entry) (n : ℕ) (digest body : List ℕ) (named : digest ≡ digest_of m.plain) (e : Entry) (next : List Kept → List Kept) (Ready : List ℕ → Type 0) (added : (file : List ℕ) → HasSquares m start n file → Ready file → Adds m start n file body (e ∷ []) next)
+    → {D : Type 0} (moment : D → ℕ) (at since : D → ℕ → List ℕ → Type 0) (old new : D) (o p : Option (List ℕ)) → ((t : ℕ) (c : List ℕ) → WasImageSince (moment new) (at new) t c → since new t c) → IfSome p (λ _. (t : ℕ) → t ≤ moment new → (c : List ℕ) × at new t c) → IfSome o (HasSquares m start n) → IfSome o Ready → AreTold (λ file c. IsBeforeOrAfter digest (records_of digest file) body c) o p
+    → IfSome o (λ file. LeavesOnly moment since old new (λ c. IsBeforeOrAfter digest (records_of digest file) body c)) → IfSome o (λ _. ComeFromEarlier moment at old new (λ d c. IsBeforeOrAfter digest (records_of digest d) body c)) → IfSome (option_map (first_squares m n) o) (λ _. RetainsSquares moment at old new m)
+retained m start n digest body named e next Ready added moment at since old new None p law some has ready told leaves records = tt
+retained m start n digest body named e next Ready added moment at since old new (Some file) None law some has ready told leaves records = absurd told
+retained m start n digest body named e next Ready added moment at since old new (Some file) (Some d) law some has ready told leaves records = λ first u v from le within all image left.
+    let more = e ∷ [] in
+    let a = added file has ready in
+    let ends = ends_at m start n digest body named more next Ready added moment at since old new file law leaves in
+    let IsEnd : List ℕ → Type 0 = λ c. records_of digest c ≡ and_last (records_of digest file) body in
+    let lasting : ((c : List ℕ) → at new u c → IsEnd c) → (c : List ℕ) → at new v c → IsEnd c = λ each c there.
+    let b = records u v from le within c there in
+    is_last m start n digest body named more next Ready added file has c (ends v c (omega arith) within there) (more_first digest (has.bodies ++ body ∷ []) body b.0 c (records_after m start n digest body named more next Ready added file has b.0 (each b.0 b.1)) b.2) in
+    subst (HasFirst first) (sym left.2)
+    (retained_entries (at new u) (at new v) (λ c. records_of digest c ≡ records_of digest file) IsEnd (squares_in m) (first_squares m n file) e
+    (λ c there. ends u c from (omega arith) there)
+    (λ c there. ends v c (omega arith) within there)
+    (λ c is. image_before m start n file body more next a c (subst (λ d. records_of d c ≡ records_of d file) named is))
+    (λ c is. image_after m start n file body more next a c (lasts m start n digest body named more next Ready added file c is))
+    (some u (omega arith))
+    lasting first
+    (λ c there. all (squares_in m c) (c, there, refl))
+    left.0 left.1)
+
+-- where no square is added, each image stands for what was kept
+pub retained_alone : (m : Checked) (start : List Entry) (n : ℕ) (digest body : List ℕ) (named : digest ≡ digest_of m.plain) (next : List Kept → List Kept) (Ready : List ℕ → Type 0) (added : (file : List ℕ) → HasSquares m start n file → Ready file → Adds m start n file body [] next)
+    → {D : Type 0} (moment : D → ℕ) (at since : D → ℕ → List ℕ → Type 0) (old new : D) (o p : Option (List ℕ)) → ((t : ℕ) (c : List ℕ) → WasImageSince (moment new) (at new) t c → since new t c) → IfSome p (λ _. (t : ℕ) → t ≤ moment new → (c : List ℕ) × at new t c) → IfSome o (HasSquares m start n) → IfSome o Ready → AreTold (λ file c. IsBeforeOrAfter digest (records_of digest file) body c) o p
+    → IfSome o (λ file. LeavesOnly moment since old new (λ c. IsBeforeOrAfter digest (records_of digest file) body c)) → IfSome (option_map (first_squares m n) o) (λ _. RetainsSquares moment at old new m)
+retained_alone m start n digest body named next Ready added moment at since old new None p law some has ready told leaves = tt
+retained_alone m start n digest body named next Ready added moment at since old new (Some file) None law some has ready told leaves = absurd told
+retained_alone m start n digest body named next Ready added moment at since old new (Some file) (Some d) law some has ready told leaves = λ first u v from le within all image left.
+    let a = added file has ready in
+    let list = first_squares m n file in
+    let stands : (t : ℕ) (c : List ℕ) → moment old ≤ t → t ≤ moment new → at new t c → squares_in m c ≡ Some list = λ t c early late there.
+    let end = ends m start n digest body named [] next Ready added file c (ends_at m start n digest body named [] next Ready added moment at since old new file law leaves t c early late there) in
+    ⊎_elim (λ e. e) (λ e. e ∙ ap (λ (l : List Entry). Some l) (append-nil list)) (image_between m start n file body [] next a c end) in
+    let x = some u (omega arith) in
+    let here : HasFirst first (Some list) = subst (HasFirst first) (stands u x.0 from (omega arith) x.1) (all (squares_in m x.0) (x.0, x.1, refl)) in
+    subst (HasFirst first) (sym (left.2 ∙ stands v left.0 (omega arith) within left.1)) here
 
 -- ---- moments
 

@@ -6,10 +6,13 @@ mod Examples
 mod Rules
 pub mod Entries
 mod Decoding
+mod DecodingQuasi
 mod Encoding
 mod Appending
 pub mod Pushing
+mod Reductions
 mod Adding
-mod Keeping
-mod TakingUp
+pub mod Keeping
+pub mod TakingUp
 mod TakenUp
+mod Keeps

@@ -1,5 +1,5 @@
 -- A save file that was taken up, or refused.
-use Rattle.std.proofs.Common.{◌≡◌, ◌≢◌, ◌⊎◌, inl, inr, ℕ, ◌≤◌, List, [], length, Option, None, Some, refl, sym, ◌∙◌, ap, subst, arith}
+use Rattle.std.proofs.Common.{◌≡◌, ◌≢◌, ◌⊎◌, inl, inr, ℕ, ◌≤◌, List, [], length, map, Option, None, Some, refl, sym, ◌∙◌, ap, subst, arith}
 use Rattle.std.specs.Prelude.{IfSome, Result, Ok, Err}
 use Rattle.std.specs.Option.{option_map}
 use Rattle.std.proofs.lemmas.List.{take_all}
@@ -9,21 +9,27 @@ use Rattle.resolution_laws.specs.Start.{Entry}
 use Rattle.square.specs.Squares.{over}
 use Rattle.square.specs.Tables.{Staircase, AllRead, IsTable}
 use Rattle.square.specs.Keeping.{HoldsTable, IsKeeperOf}
-use Rattle.edge.specs.Disk.{LeavesOnly}
+use Rattle.edge.specs.Disk.{LeavesOnly, HavePast}
 use Rattle.edge.proofs.Moments.{Lawful, where_told, at_told, where_some, started}
 use Rattle.save_journal.specs.Records.{Records, records_of, opened}
-use Rattle.save_journal.specs.Journals.{JournalState, IsLive, HasRecordsOf}
+use Rattle.save_journal.specs.Journals.{JournalState, IsLive, HasRecordsOf, HaveSameRecords, ComeFromEarlier}
+use Rattle.save_journal.proofs.Retaining.{come_started}
 use Rattle.save_journal.specs.declared.fault.OpenFault.{OpenFault}
 use Rattle.save_journal.specs.declared.fault.OpenFault.TheVariants.{Failed as DiskFailed, Memory as OpenMemory}
 use Rattle.save_journal.proofs.Opened.{HasBodies, records_before, kept_file, file_kept}
-use Rattle.save_file.specs.Reading.{squares_from, squares_of}
-use Rattle.save_file.specs.Files.{opening_refusal, body_refusal, of_squares, of_records, digest_of, standing_of, list_in, first_records, first_squares}
-use Rattle.save_file.specs.Saving.{SaveState, HasSquares, TakesSquares, kept_in, telling_of}
+use Rattle.save_file.specs.Bodies.{Kept}
+use Rattle.save_file.specs.Reading.{kept_from, kept_of_bodies, squares_alone, squares_of}
+use Rattle.save_file.specs.Saved.{quasi_kept, kept_of_table}
+use Rattle.save_file.specs.Files.{opening_refusal, body_refusal, of_squares, of_records, digest_of, standing_of, list_in, first_records, first_squares, kept_list, kept_by, first_kept}
+use Rattle.save_file.specs.Saving.{SaveState, HasSquares, TakesSquares, kept_in, quasis_in, telling_of}
 use Rattle.save_file.specs.declared.fault.DecodeFault.{DecodeFault}
 use Rattle.save_file.specs.declared.fault.DecodeFault.TheVariants.{Strange as StrangeBody, Memory as BodyMemory}
 use Rattle.save_file.specs.declared.fault.ResumeFault.{ResumeFault}
 use Rattle.save_file.specs.declared.fault.ResumeFault.TheVariants.{Open, Strange, Memory as OutOfMemory}
-use Rattle.save_file.proofs.TakingUp.{holds_start, start_are_of, squares_plain}
+use Rattle.resolution_laws.specs.Resolution.{Module}
+use Rattle.save_file.proofs.Rules.{ok}
+use Rattle.save_file.proofs.Entries.{entries_of_table}
+use Rattle.save_file.proofs.TakingUp.{ArePlain, holds_start, start_are_of, squares_plain}
 
 -- ---- a file that was opened
 
@@ -50,26 +56,42 @@ is_opened now images m old journal digest bodies named width live same few file 
 
 -- ---- what it stands for
 
-has_squares : (m : Checked) (table : Staircase) (bodies : List (List ℕ)) → table.resolved ≡ m → squares_of (over m) bodies ≡ Ok table.start → IsTable table → AllRead table.rows → (file : List ℕ) → records_of (digest_of m.plain) file ≡ Ok bodies → HasSquares table.resolved table.start (length bodies) file
+-- the squares of what was read
+squares_read : (m : Module) (bodies : List (List ℕ)) (table : Staircase) → kept_of_bodies m bodies ≡ Ok (kept_of_table table) → squares_of m bodies ≡ Ok table.start
+squares_read m bodies table e = ap squares_alone e ∙ ap (λ (l : List Entry). ok l) (entries_of_table table)
+
+has_squares : (m : Checked) (table : Staircase) (bodies : List (List ℕ)) → table.resolved ≡ m → kept_of_bodies (over m) bodies ≡ Ok (kept_of_table table) → IsTable table → AllRead table.rows → (file : List ℕ) → records_of (digest_of m.plain) file ≡ Ok bodies → HasSquares table.resolved table.start (length bodies) file
 has_squares m table bodies same e h read file is =
-    let here : squares_of (over table.resolved) bodies ≡ Ok table.start = ap (λ (x : Checked). squares_of (over x) bodies) same ∙ e in
+    let here : kept_of_bodies (over table.resolved) bodies ≡ Ok (kept_of_table table) = ap (λ (x : Checked). kept_of_bodies (over x) bodies) same ∙ e in
+    let plain = subst ArePlain (entries_of_table table) (squares_plain (over table.resolved) bodies (kept_of_table table) here) in
     record {
       bodies = bodies;
       list = table.start;
       records = ap (λ (x : Checked). records_of (digest_of x.plain) file) same ∙ is;
       counted = refl;
-      squares = here;
-      are_of = start_are_of table h read (squares_plain (over table.resolved) bodies table.start here);
+      squares = squares_read (over table.resolved) bodies table here;
+      kept = kept_of_table table;
+      kept_are = here;
+      are_of = start_are_of table h read plain;
     }
 
+-- the first so many records are all of them
+first_of_all : (m : Checked) (bodies : List (List ℕ)) (file : List ℕ) → records_of (digest_of m.plain) file ≡ Ok bodies → first_records (length bodies) (records_of (digest_of m.plain) file) ≡ Ok bodies
+first_of_all m bodies file is = ap (first_records (length bodies)) is ∙ ap (λ (l : List (List ℕ)). Ok l) (take_all (length bodies) bodies (omega arith))
+
+-- what is told of a disk that was opened
+told_of : {A : Type 0} (f : List ℕ → A) (x : A) (digest : List ℕ) (bodies : List (List ℕ)) → ((file : List ℕ) → records_of digest file ≡ Ok bodies → f file ≡ x) → (o p : Option (List ℕ)) → p ≡ option_map (opened digest) o → HasBodies digest bodies p → option_map f p ≡ option_map (λ _. x) o
+told_of f x digest bodies is None p same has = ap (option_map f) same
+told_of f x digest bodies is (Some file) p same has =
+    let here : HasBodies digest bodies (Some (opened digest file)) = subst (HasBodies digest bodies) same has in
+    ap (option_map f) same ∙ ap (λ y. Some y) (is (opened digest file) here)
+
 kept_told : (m : Checked) (start : List Entry) (bodies : List (List ℕ)) → squares_of (over m) bodies ≡ Ok start → (o p : Option (List ℕ)) → p ≡ option_map (opened (digest_of m.plain)) o → HasBodies (digest_of m.plain) bodies p → option_map (first_squares m (length bodies)) p ≡ option_map (λ _. start) o
-kept_told m start bodies e None p same is = ap (option_map (first_squares m (length bodies))) same
-kept_told m start bodies e (Some file) p same is =
-    let here : HasBodies (digest_of m.plain) bodies (Some (opened (digest_of m.plain) file)) = subst (HasBodies (digest_of m.plain) bodies) same is in
-    ap (option_map (first_squares m (length bodies))) same
-    ∙ ap (λ (r : Records). Some (list_in (of_records (over m) (first_records (length bodies) r)))) here
-    ∙ ap (λ (l : List (List ℕ)). Some (list_in (of_records (over m) (Ok l)))) (take_all (length bodies) bodies (omega arith))
-    ∙ ap (λ s. Some (list_in (of_squares s))) e
+kept_told m start bodies e = told_of (first_squares m (length bodies)) start (digest_of m.plain) bodies (λ file is.
+    ap (λ (r : Records). list_in (of_records (over m) r)) (first_of_all m bodies file is) ∙ ap (λ s. list_in (of_squares s)) e)
+
+quasis_told : (m : Checked) (kept : List Kept) (bodies : List (List ℕ)) → kept_of_bodies (over m) bodies ≡ Ok kept → (o p : Option (List ℕ)) → p ≡ option_map (opened (digest_of m.plain)) o → HasBodies (digest_of m.plain) bodies p → option_map (first_kept m (length bodies)) p ≡ option_map (λ _. kept) o
+quasis_told m kept bodies e = told_of (first_kept m (length bodies)) kept (digest_of m.plain) bodies (λ file is. ap (kept_by (over m)) (first_of_all m bodies file is) ∙ ap kept_list e)
 
 where_mapped : {A B : Type 0} (o : Option A) (x : B) (Q : B → Type 0) → Q x → IfSome (option_map (λ _. x) o) Q
 where_mapped None x Q q = tt
@@ -80,8 +102,11 @@ abbrev pub Taken : {D : Type 0} → JournalState D → Staircase → ℕ → Sav
 Taken journal table n = record { journal = journal; count = n; resolved = table.resolved; start = table.start }
 
 module _ {D : Type 0} (now : D → Option (List ℕ)) (images : D → List ℕ → Type 0) (m : Checked) (old : D) (journal : JournalState D) (bodies : List (List ℕ)) (h : IsOpened now images m old journal bodies) where
-  pub stands : (s : Result (List Entry) ℕ) → squares_of (over m) bodies ≡ s → IfSome (now old) (λ file. standing_of m.plain file ≡ of_squares s)
-  stands s e = IfSome_then (now old) h.was (λ file is. ap (of_records (over m)) is ∙ ap of_squares e)
+  pub stands : (r : Result (List Kept) ℕ) → kept_of_bodies (over m) bodies ≡ r → IfSome (now old) (λ file. standing_of m.plain file ≡ of_squares (squares_alone r))
+  stands r e = IfSome_then (now old) h.was (λ file is. ap (of_records (over m)) is ∙ ap (λ x. of_squares (squares_alone x)) e)
+
+  pub stands_for : (table : Staircase) → kept_of_bodies (over m) bodies ≡ Ok (kept_of_table table) → IfSome (now old) (λ file. standing_of m.plain file ≡ Ok table.start)
+  stands_for table e = IfSome_then (now old) h.was (λ file is. ap (of_records (over m)) is ∙ ap of_squares (squares_read (over m) bodies table e))
 
   -- where there is a record
   pub as_was : (bodies ≡ [] → ⊥) → now journal.disk ≡ now old
@@ -95,18 +120,22 @@ module _ {D : Type 0} (now : D → Option (List ℕ)) (images : D → List ℕ �
 
   -- ---- the keeper of a table whose squares the bodies are
 
-  module _ (table x : Staircase) (n : ℕ) (taken : x ≡ table) (counted : n ≡ length bodies) (same : table.resolved ≡ m) (squares : squares_of (over m) bodies ≡ Ok table.start) (is_table : IsTable table) (read : AllRead table.rows) where
+  module _ (table x : Staircase) (n : ℕ) (taken : x ≡ table) (counted : n ≡ length bodies) (same : table.resolved ≡ m) (read_as : kept_of_bodies (over m) bodies ≡ Ok (kept_of_table table)) (is_table : IsTable table) (read : AllRead table.rows) where
     pub takes : TakesSquares now images (Taken journal x n)
     takes = subst (λ t. TakesSquares now images (Taken journal t n)) (sym taken) (subst (λ k. TakesSquares now images (Taken journal table k)) (sym counted) (record {
       live = h.live;
       digest = h.digest ∙ ap (λ (x : Checked). digest_of x.plain) (sym same);
       few = h.few;
-      has = IfSome_then (now journal.disk) h.is (has_squares m table bodies same squares is_table read);
+      has = IfSome_then (now journal.disk) h.is (has_squares m table bodies same read_as is_table read);
     }))
 
     pub kept : kept_in now (Taken journal x n) ≡ option_map (λ _. table.start) (now old)
     kept = subst (λ t. kept_in now (Taken journal t n) ≡ option_map (λ _. table.start) (now old)) (sym taken) (subst (λ k. kept_in now (Taken journal table k) ≡ option_map (λ _. table.start) (now old)) (sym counted)
-        (ap (λ (y : Checked). option_map (first_squares y (length bodies)) (now journal.disk)) same ∙ kept_told m table.start bodies squares (now old) (now journal.disk) h.file h.is))
+        (ap (λ (y : Checked). option_map (first_squares y (length bodies)) (now journal.disk)) same ∙ kept_told m table.start bodies (squares_read (over m) bodies table read_as) (now old) (now journal.disk) h.file h.is))
+
+    pub quasis : quasis_in now (Taken journal x n) ≡ option_map (λ _. kept_of_table table) (now old)
+    quasis = subst (λ t. quasis_in now (Taken journal t n) ≡ option_map (λ _. kept_of_table table) (now old)) (sym taken) (subst (λ k. quasis_in now (Taken journal table k) ≡ option_map (λ _. kept_of_table table) (now old)) (sym counted)
+        (ap (λ (y : Checked). option_map (first_kept y (length bodies)) (now journal.disk)) same ∙ quasis_told m (kept_of_table table) bodies read_as (now old) (now journal.disk) h.file h.is))
 
     pub keeper : (moment : D → ℕ) (images_at since : D → ℕ → List ℕ → Type 0) (faults : D → ℕ) → IsKeeperOf (telling_of now moment images images_at since faults (Taken journal x n)) table
     keeper moment images_at since faults = record {
@@ -116,8 +145,9 @@ module _ {D : Type 0} (now : D → Option (List ℕ)) (images : D → List ℕ �
     }
 
 -- what is read behind no square
-pub from_none : (m : Checked) (bodies : List (List ℕ)) (s : Result (List Entry) ℕ) (table : Staircase) → table.resolved ≡ m → table.start ≡ [] → squares_from (over table.resolved) table.start 0 bodies ≡ s → squares_of (over m) bodies ≡ s
-from_none m bodies s table same none e = ap (λ (y : Checked). squares_from (over y) [] 0 bodies) (sym same) ∙ ap (λ (l : List Entry). squares_from (over table.resolved) l 0 bodies) (sym none) ∙ e
+pub from_none : (m : Checked) (bodies : List (List ℕ)) (r : Result (List Kept) ℕ) (table : Staircase) → table.resolved ≡ m → table.start ≡ [] → kept_from (over table.resolved) (kept_of_table table) 0 bodies ≡ r → kept_of_bodies (over m) bodies ≡ r
+from_none m bodies r table same none e =
+    ap (λ (y : Checked). kept_from (over y) [] 0 bodies) (sym same) ∙ ap (λ (l : List Entry). kept_from (over table.resolved) (map (λ (x : Entry). let k : Kept = record { entry = x; quasi = quasi_kept table.rows x.s x.above } in k) l) 0 bodies) (sym none) ∙ e
 
 -- ---- refusals
 
@@ -162,3 +192,9 @@ not_called now moment images since laws digest d = where_some (now d) (λ _. Lea
 
 pub untouched : {D : Type 0} (now : D → Option (List ℕ)) (moment : D → ℕ) (images : D → List ℕ → Type 0) (since : D → ℕ → List ℕ → Type 0) → Lawful now moment images since → (d : D) → IfSome (now d) (λ _. LeavesOnly moment since d d (images d))
 untouched now moment images since laws d = where_some (now d) (λ _. LeavesOnly moment since d d (images d)) (λ _ _. started now moment images since laws d (images d) (λ c image. image))
+
+pub not_moved : {D : Type 0} (moment : D → ℕ) (at : D → ℕ → List ℕ → Type 0) (d : D) → HavePast moment at d d
+not_moved moment at d t c le = (λ x. x, λ x. x)
+
+pub nothing_lost : {D : Type 0} (now : D → Option (List ℕ)) (moment : D → ℕ) (at : D → ℕ → List ℕ → Type 0) (digest : List ℕ) (d : D) → IfSome (now d) (λ _. ComeFromEarlier moment at d d (HaveSameRecords digest))
+nothing_lost now moment at digest d = where_some (now d) (λ _. ComeFromEarlier moment at d d (HaveSameRecords digest)) (λ _ _. come_started moment at d (HaveSameRecords digest) (λ c. refl))

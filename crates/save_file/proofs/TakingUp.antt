@@ -1,26 +1,31 @@
 -- A table of squares that were all read, and the bodies that they were read from.
-use Rattle.std.proofs.Common.{◌≡◌, inl, inr, ℕ, zero, suc, ◌+◌, ◌<◌, ◌≤◌, List, [], ◌∷◌, ◌++◌, length, drop, get_or, Option, None, Some, refl, sym, ◌∙◌, ap, subst, arith}
+use Rattle.std.proofs.Common.{◌≡◌, inl, inr, ℕ, zero, suc, ◌+◌, ◌<◌, ◌≤◌, ℤ, pos, ◌+ℤ◌, List, [], ◌∷◌, ◌++◌, length, drop, get_or, Option, None, Some, refl, sym, ◌∙◌, ap, subst, arith}
 use Rattle.std.specs.Prelude.{Result, Err, Vec}
 use Rattle.std.specs.List.{AllByRecursion, slice_get}
 use Rattle.std.specs.Option.{option_map, is_some}
 use Rattle.std.proofs.lemmas.Bool.{cases_lt, false≢true}
 use Rattle.std.proofs.lemmas.Option.{same_Some, slice_get_past}
-use Rattle.std.proofs.lemmas.List.{length-map, drop_all}
+use Rattle.std.proofs.lemmas.List.{length-map, drop_all, map-append}
 use Rattle.finite_module.specs.Checked.{Checked}
 use Rattle.std.proofs.lemmas.List.Elements.{All-from_recursion}
 use Rattle.resolution_laws.specs.Resolution.{Module, Content}
 use Rattle.resolution_laws.specs.Start.{Entry, entry_at, IsOf, AreOf}
 use Rattle.resolution_laws.proofs.StartLaws.{entry_at-other, entry_at-new, IsElsewhere}
-use Rattle.square.specs.Squares.{Placed, over}
-use Rattle.square.specs.Tables.{Staircase, row_in, AllRead, IsTable}
+use Rattle.f2_matrix.specs.Reduction.{Reduction}
+use Rattle.square.specs.Squares.{Placed, bottom_of, over}
+use Rattle.square.specs.declared.range.TheConstants.{MAX_S}
+use Rattle.square.specs.Tables.{Staircase, row_in, with_quasi, AllRead, IsTable}
 use Rattle.square.specs.Keeping.{HoldsTable}
 use Rattle.square.proofs.Places.{slice_get-there, content_at-is}
+use Rattle.square.proofs.ByDegree.{square_at-above}
 use Rattle.std.specs.declared.alloc.Global.{Global}
 use Rattle.save_journal.specs.Journals.{contents}
-use Rattle.save_file.specs.Bodies.{IsNextPlace}
-use Rattle.save_file.specs.Reading.{square_in, and_then_squares, squares_from, squares_of}
-use Rattle.save_file.proofs.Entries.{entry_there, none_or_some}
-use Rattle.save_file.proofs.Rules.{ok, same_Ok, not_Ok, read_at}
+use Rattle.save_file.specs.Bodies.{Kept, kept_of, entries, with_quasi_at, IsNextPlace}
+use Rattle.save_file.specs.Reading.{square_in, addition_in, with_square_read, with_addition_read, after_body, and_then_kept, kept_from, kept_of_bodies}
+use Rattle.save_file.specs.Saved.{kept_of_table, IsDecodedSquare, IsDecodedQuasi}
+use Rattle.save_file.proofs.Entries.{is_within, entry_there, entries_of_table, none_or_some}
+use Rattle.save_file.proofs.Rules.{kept_ok, same_kept, not_kept_ok, read_at, one_more_or_quasi, read_as_addition}
+use Rattle.save_file.proofs.Pushing.{kept_given, AllRead-given}
 
 -- ---- the start of a table whose squares were all read
 
@@ -67,15 +72,11 @@ start_are_of table h read plain = All-from_recursion (λ (e : Entry). IsOf (over
 -- ---- bodies, one after the other
 
 -- what is still to be read of the bodies gives what all of them give
-one_read : (m : Module) (all : Result (List Entry) ℕ) (before : List Entry) (number : ℕ) (body : List ℕ) (rest : List (List ℕ)) (e : Entry) (after : List Entry) → squares_from m before number (body ∷ rest) ≡ all → square_in m before body ≡ Some e → after ≡ before ++ e ∷ [] → squares_from m after (suc number) rest ≡ all
-one_read m all before number body rest e after h here is =
-    ap (λ (l : List Entry). squares_from m l (suc number) rest) is
-    ∙ sym (ap (λ o. and_then_squares o number (λ x. squares_from m (before ++ x ∷ []) (suc number) rest)) here)
-    ∙ h
+one_read : (m : Module) (all : Result (List Kept) ℕ) (before : List Kept) (number : ℕ) (body : List ℕ) (rest : List (List ℕ)) (after : List Kept) → kept_from m before number (body ∷ rest) ≡ all → after_body m before body ≡ Some after → kept_from m after (suc number) rest ≡ all
+one_read m all before number body rest after h here = sym (ap (λ o. and_then_kept o number (λ x. kept_from m x (suc number) rest)) here) ∙ h
 
-one_strange : (m : Module) (all : Result (List Entry) ℕ) (before : List Entry) (number : ℕ) (body : List ℕ) (rest : List (List ℕ)) → squares_from m before number (body ∷ rest) ≡ all → square_in m before body ≡ None → all ≡ Err number
-one_strange m all before number body rest h none =
-    sym h ∙ ap (λ o. and_then_squares o number (λ x. squares_from m (before ++ x ∷ []) (suc number) rest)) none
+one_strange : (m : Module) (all : Result (List Kept) ℕ) (before : List Kept) (number : ℕ) (body : List ℕ) (rest : List (List ℕ)) → kept_from m before number (body ∷ rest) ≡ all → after_body m before body ≡ None → all ≡ Err number
+one_strange m all before number body rest h none = sym h ∙ ap (λ o. and_then_kept o number (λ x. kept_from m x (suc number) rest)) none
 
 -- ---- no place comes twice
 
@@ -88,22 +89,30 @@ plain_still : (list : List Entry) (e : Entry) → entry_at list e.s e.above ≡ 
 plain_still list e absent [] first = (entry_at-new list e absent, tt)
 plain_still list e absent (x ∷ part) first = (first_still list e x absent first.0, plain_still list e absent part first.1)
 
-plain_step : (m : Module) (list : List Entry) (body : List ℕ) (number : ℕ) (all : List Entry) → ArePlain list → (rest : Entry → Result (List Entry) ℕ) → ((x : Entry) → ArePlain (list ++ x ∷ []) → rest x ≡ ok all → ArePlain all)
-    → (o : Option Entry) → square_in m list body ≡ o → and_then_squares o number rest ≡ ok all → ArePlain all
-plain_step m list body number all h rest next None p q = absurd (not_Ok number all q)
-plain_step m list body number all h rest next (Some x) p q =
-    let r = read_at m list body x p in
-    let place : IsNextPlace list x.s x.above = subst (λ (y : Entry). IsNextPlace list y.s y.above) (sym r.square) r.rules.place in
-    next x (plain_still list x place.absent list h) q
+plain_after : (m : Module) (kept new : List Kept) (body : List ℕ) → ArePlain (entries kept) → after_body m kept body ≡ Some new → ArePlain (entries new)
+plain_after m kept new body h e = elim (one_more_or_quasi m kept new body e) [
+  | inr same ↦ subst ArePlain (sym same) h
+  | inl more ↦
+      let k = more.0 in
+      let r = read_at m (entries kept) body k more.1 in
+      let place : IsNextPlace (entries kept) k.entry.s k.entry.above = subst (λ (y : Kept). IsNextPlace (entries kept) y.entry.s y.entry.above) (sym r.square) r.rules.place in
+      let is : entries new ≡ entries kept ++ k.entry ∷ [] = ap entries more.2 ∙ map-append (λ (x : Kept). x.entry) kept (k ∷ []) in
+      subst ArePlain (sym is) (plain_still (entries kept) k.entry place.absent (entries kept) h)
+]
 
-plain_from : (m : Module) (bodies : List (List ℕ)) (list : List Entry) (number : ℕ) (all : List Entry) → ArePlain list → squares_from m list number bodies ≡ ok all → ArePlain all
-plain_from m [] list number all h e = subst ArePlain (same_Ok list all e) h
-plain_from m (body ∷ bodies) list number all h e =
-    plain_step m list body number all h (λ x. squares_from m (list ++ x ∷ []) (suc number) bodies) (λ x plain q. plain_from m bodies (list ++ x ∷ []) (suc number) all plain q) (square_in m list body) refl e
+plain_step : (m : Module) (kept : List Kept) (body : List ℕ) (number : ℕ) (all : List Kept) (rest : List Kept → Result (List Kept) ℕ) → ArePlain (entries kept) → ((new : List Kept) → ArePlain (entries new) → rest new ≡ kept_ok all → ArePlain (entries all))
+    → (o : Option (List Kept)) → after_body m kept body ≡ o → and_then_kept o number rest ≡ kept_ok all → ArePlain (entries all)
+plain_step m kept body number all rest h next None same q = absurd (not_kept_ok number all q)
+plain_step m kept body number all rest h next (Some new) same q = next new (plain_after m kept new body h same) q
+
+plain_from : (m : Module) (bodies : List (List ℕ)) (kept : List Kept) (number : ℕ) (all : List Kept) → ArePlain (entries kept) → kept_from m kept number bodies ≡ kept_ok all → ArePlain (entries all)
+plain_from m [] kept number all h e = subst (λ (l : List Kept). ArePlain (entries l)) (same_kept kept all e) h
+plain_from m (body ∷ bodies) kept number all h e =
+    plain_step m kept body number all (λ more. kept_from m more (suc number) bodies) h (λ new g q. plain_from m bodies new (suc number) all g q) (after_body m kept body) refl e
 
 -- the squares of bodies stand at places of their own
-pub squares_plain : (m : Module) (bodies : List (List ℕ)) (list : List Entry) → squares_of m bodies ≡ ok list → ArePlain list
-squares_plain m bodies list e = plain_from m bodies [] 0 list tt e
+pub squares_plain : (m : Module) (bodies : List (List ℕ)) (kept : List Kept) → kept_of_bodies m bodies ≡ kept_ok kept → ArePlain (entries kept)
+squares_plain m bodies kept e = plain_from m bodies [] 0 kept tt e
 
 -- the bodies from the place of this one on
 pub body_there : (bodies : List (Vec ℕ Global)) (i : ℕ) (v : Vec ℕ Global) → i < length bodies → v ≡ get_or bodies i v → drop i (contents bodies) ≡ v.items ∷ drop (suc i) (contents bodies)
@@ -114,23 +123,65 @@ body_there (x ∷ bodies) (suc i) v l e = body_there bodies i v (omega arith) e
 -- ---- one body after the other
 
 -- a body was read
-pub goes_on : (m : Checked) (resolved : Checked) (all : Result (List Entry) ℕ) (before after : List Entry) (i : ℕ) (bodies : List (Vec ℕ Global)) (v : Vec ℕ Global) (body : List ℕ) → resolved ≡ m → i < length bodies → v ≡ get_or bodies i v → body ≡ v.items
-    → ((e : Entry) × (square_in (over resolved) before body ≡ Some e) × (after ≡ before ++ e ∷ [])) → squares_from (over m) before i (drop i (contents bodies)) ≡ all → squares_from (over m) after (i + 1) (drop (i + 1) (contents bodies)) ≡ all
+pub goes_on : (m : Checked) (resolved : Checked) (all : Result (List Kept) ℕ) (before after : List Kept) (i : ℕ) (bodies : List (Vec ℕ Global)) (v : Vec ℕ Global) (body : List ℕ) → resolved ≡ m → i < length bodies → v ≡ get_or bodies i v → body ≡ v.items
+    → after_body (over resolved) before body ≡ Some after → kept_from (over m) before i (drop i (contents bodies)) ≡ all → kept_from (over m) after (i + 1) (drop (i + 1) (contents bodies)) ≡ all
 goes_on m resolved all before after i bodies v body same l at is read h =
-    let here : square_in (over m) before v.items ≡ Some read.0 = ap (square_in (over m) before) (sym is) ∙ ap (λ (x : Checked). square_in (over x) before body) (sym same) ∙ read.1 in
+    let here : after_body (over m) before v.items ≡ Some after = ap (after_body (over m) before) (sym is) ∙ ap (λ (x : Checked). after_body (over x) before body) (sym same) ∙ read in
     let next : suc i ≡ i + 1 = omega arith in
-    subst (λ n. squares_from (over m) after n (drop n (contents bodies)) ≡ all) next
-    (one_read (over m) all before i v.items (drop (suc i) (contents bodies)) read.0 after (sym (ap (squares_from (over m) before i) (body_there bodies i v l at)) ∙ h) here read.2)
+    subst (λ n. kept_from (over m) after n (drop n (contents bodies)) ≡ all) next
+    (one_read (over m) all before i v.items (drop (suc i) (contents bodies)) after (sym (ap (kept_from (over m) before i) (body_there bodies i v l at)) ∙ h) here)
 
 -- a body was none
-pub stops_at : (m : Checked) (resolved : Checked) (all : Result (List Entry) ℕ) (before : List Entry) (i n : ℕ) (bodies : List (Vec ℕ Global)) (v : Vec ℕ Global) (body : List ℕ) → resolved ≡ m → i < length bodies → v ≡ get_or bodies i v → body ≡ v.items
-    → (n ≡ i) × (square_in (over resolved) before body ≡ None) → squares_from (over m) before i (drop i (contents bodies)) ≡ all → all ≡ Err n
+pub stops_at : (m : Checked) (resolved : Checked) (all : Result (List Kept) ℕ) (before : List Kept) (i n : ℕ) (bodies : List (Vec ℕ Global)) (v : Vec ℕ Global) (body : List ℕ) → resolved ≡ m → i < length bodies → v ≡ get_or bodies i v → body ≡ v.items
+    → (n ≡ i) × (after_body (over resolved) before body ≡ None) → kept_from (over m) before i (drop i (contents bodies)) ≡ all → all ≡ Err n
 stops_at m resolved all before i n bodies v body same l at is read h =
-    let here : square_in (over m) before v.items ≡ None = ap (square_in (over m) before) (sym is) ∙ ap (λ (x : Checked). square_in (over x) before body) (sym same) ∙ read.1 in
-    one_strange (over m) all before i v.items (drop (suc i) (contents bodies)) (sym (ap (squares_from (over m) before i) (body_there bodies i v l at)) ∙ h) here ∙ ap (λ k. Err k) (sym read.0)
+    let here : after_body (over m) before v.items ≡ None = ap (after_body (over m) before) (sym is) ∙ ap (λ (x : Checked). after_body (over x) before body) (sym same) ∙ read.1 in
+    one_strange (over m) all before i v.items (drop (suc i) (contents bodies)) (sym (ap (kept_from (over m) before i) (body_there bodies i v l at)) ∙ h) here ∙ ap (λ k. Err k) (sym read.0)
 
 -- all were read
-pub ends_with : (m : Checked) (all : Result (List Entry) ℕ) (before : List Entry) (i : ℕ) (bodies : List (Vec ℕ Global)) → length bodies ≤ i → squares_from (over m) before i (drop i (contents bodies)) ≡ all → all ≡ ok before
+pub ends_with : (m : Checked) (all : Result (List Kept) ℕ) (before : List Kept) (i : ℕ) (bodies : List (Vec ℕ Global)) → length bodies ≤ i → kept_from (over m) before i (drop i (contents bodies)) ≡ all → all ≡ kept_ok before
 ends_with m all before i bodies l h =
     let len = length-map bodies (λ (v : Vec ℕ Global). v.items) in
-    sym h ∙ ap (squares_from (over m) before i) (drop_all i (contents bodies) (omega arith))
+    sym h ∙ ap (kept_from (over m) before i) (drop_all i (contents bodies) (omega arith))
+
+-- ---- what a body that was read makes of a table
+
+-- a square stands behind those that were there
+pub square_behind : (table new : Staircase) (bytes : List ℕ) (q : Placed) → IsDecodedSquare table bytes q → kept_of_table new ≡ kept_of_table table ++ kept_of q ∷ [] → after_body (over table.resolved) (kept_of_table table) bytes ≡ Some (kept_of_table new)
+square_behind table new bytes q d more =
+    let m = over table.resolved in
+    let kept = kept_of_table table in
+    let read : square_in m (entries kept) bytes ≡ Some (kept_of q) = ap (λ (l : List Entry). square_in m l bytes) (entries_of_table table) ∙ d.square in
+    ap (λ o. with_square_read kept o (with_addition_read kept (addition_in m kept bytes))) read ∙ ap (λ (l : List Kept). Some l) (sym more)
+
+-- a square has its quasi-inverse
+pub quasi_behind : (table new : Staircase) (bytes : List ℕ) (s : ℕ) (t : ℤ) (r : Reduction) → IsDecodedQuasi table bytes s t r → ((k : ℕ) → t ≡ bottom_of table.resolved +ℤ pos k → new.rows ≡ with_quasi table.rows s k r) → new.start ≡ table.start → after_body (over table.resolved) (kept_of_table table) bytes ≡ Some (kept_of_table new)
+quasi_behind table new bytes s t r d rows start =
+    let m = over table.resolved in
+    let kept = kept_of_table table in
+    let a = d.addition in
+    let q = d.lacks.square in
+    let there : slice_get (row_in table.rows s) a.above ≡ Some q = sym (square_at-above table s a.above t d.degree) ∙ d.lacks.there in
+    let given = kept_given table new s a.above r (is_within (row_in table.rows s) a.above q there) (rows a.above d.degree) start in
+    read_as_addition m kept bytes a d.read
+    ∙ ap (λ x. Some (with_quasi_at kept a.s a.above x)) (sym d.reduction)
+    ∙ ap (λ i. Some (with_quasi_at kept i a.above r)) d.row
+    ∙ ap (λ (l : List Kept). Some l) (sym given)
+
+-- bytes that are neither
+pub neither : (table : Staircase) (bytes : List ℕ) → square_in (over table.resolved) table.start bytes ≡ None → addition_in (over table.resolved) (kept_of_table table) bytes ≡ None → after_body (over table.resolved) (kept_of_table table) bytes ≡ None
+neither table bytes no_square no_quasi =
+    let m = over table.resolved in
+    let kept = kept_of_table table in
+    let none : square_in m (entries kept) bytes ≡ None = ap (λ (l : List Entry). square_in m l bytes) (entries_of_table table) ∙ no_square in
+    ap (λ o. with_square_read kept o (with_addition_read kept (addition_in m kept bytes))) none ∙ ap (with_addition_read kept) no_quasi
+
+-- a square that was read is within the limits of a range
+pub row_read : (table : Staircase) (bytes : List ℕ) (q : Placed) → IsDecodedSquare table bytes q → q.s ≤ MAX_S
+row_read table bytes q d =
+    let r = read_at (over table.resolved) table.start bytes (kept_of q) d.square in
+    subst (λ (k : Kept). k.entry.s ≤ MAX_S) (sym r.square) r.rules.row
+
+-- a table where a square has its quasi-inverse has been read as before
+pub all_read_still : (table : Staircase) (new : List (List Placed)) (bytes : List ℕ) (s : ℕ) (t : ℤ) (r : Reduction) → IsDecodedQuasi table bytes s t r → ((k : ℕ) → t ≡ bottom_of table.resolved +ℤ pos k → new ≡ with_quasi table.rows s k r) → AllRead table.rows → AllRead new
+all_read_still table new bytes s t r d rows read = AllRead-given table.rows new s d.addition.above r (rows d.addition.above d.degree) read

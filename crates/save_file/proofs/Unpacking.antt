@@ -60,3 +60,9 @@ unpacked_row n (r ∷ rows) rest (suc i) wide l =
     ∙ ap (λ (x : List ℕ). drop (i * len) (drop len x)) (append_assoc (packed r) (flat_map packed rows) rest)
     ∙ ap (drop (i * len)) (drop_at (packed r) (flat_map packed rows ++ rest) len first) in
     ap (unpacked n) behind ∙ unpacked_row n rows rest i (HaveWidth-tail n r rows wide) (omega arith)
+
+-- rows are determined by their bytes
+pub unpacked_once : (n : ℕ) (xs ys : List (List Bool)) → HaveWidth n xs → HaveWidth n ys → length xs ≡ length ys → flat_map packed xs ≡ flat_map packed ys → xs ≡ ys
+unpacked_once n xs ys wide wide' many same = ext_get_or [] xs ys many (λ i l.
+    let within : i < length ys = omega arith in
+    sym (unpacked_row n xs [] i wide l) ∙ ap (λ (b : List ℕ). unpacked n (drop (i * packed_len n) (b ++ []))) same ∙ unpacked_row n ys [] i wide' within)

@@ -9,7 +9,8 @@ use Rattle.resolution_laws.specs.Resolution.{Module}
 use Rattle.resolution_laws.specs.Start.{Entry}
 use Rattle.square.specs.Squares.{module_over, over}
 use Rattle.save_journal.specs.Records.{Records, records_of}
-use Rattle.save_file.specs.Reading.{squares_of}
+use Rattle.save_file.specs.Bodies.{Kept}
+use Rattle.save_file.specs.Reading.{kept_of_bodies, squares_of}
 use Rattle.save_journal.specs.declared.fault.OpenFault.{OpenFault}
 use Rattle.save_journal.specs.declared.fault.OpenFault.TheVariants.{Memory as OpenMemory}
 use Rattle.save_file.specs.declared.fault.DecodeFault.{DecodeFault}
@@ -53,6 +54,21 @@ list_in (Err fault) = []
 
 abbrev pub first_squares : Checked → ℕ → List ℕ → List Entry
 first_squares m n file = list_in (of_records (over m) (first_records n (records_of (digest_of m.plain) file)))
+
+-- the same with the quasi-inverses that the file keeps: each square with its own, if there is one
+abbrev pub kept_list : Result (List Kept) ℕ → List Kept
+kept_list (Ok kept) = kept
+kept_list (Err number) = []
+
+abbrev pub kept_by : Module → Records → List Kept
+kept_by m (Ok bodies) = kept_list (kept_of_bodies m bodies)
+kept_by m (Err fault) = []
+
+abbrev pub kept_in_file : Checked → List ℕ → List Kept
+kept_in_file m file = kept_by (over m) (records_of (digest_of m.plain) file)
+
+abbrev pub first_kept : Checked → ℕ → List ℕ → List Kept
+first_kept m n file = kept_by (over m) (first_records n (records_of (digest_of m.plain) file))
 
 -- ---- why a file was not taken up
 

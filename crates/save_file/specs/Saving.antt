@@ -1,14 +1,17 @@
 -- The keeper of a save file.
-use Rattle.std.specs.Prelude.{◌≡◌, ℕ, ◌≤◌, List, length, Option, Some, Ok, IfSome}
+use Rattle.std.specs.Prelude.{◌≡◌, ◌⊎◌, ℕ, ◌≤◌, ℤ, pos, ◌+ℤ◌, List, length, Option, Some, None, Ok, IfSome}
 use Rattle.std.specs.Option.{option_map}
 use Rattle.finite_module.specs.Checked.{Checked}
 use Rattle.resolution_laws.specs.Start.{Entry, AreOf}
-use Rattle.square.specs.Squares.{over}
+use Rattle.square.specs.Squares.{over, bottom_of}
 use Rattle.square.specs.Keeping.{Keeper}
 use Rattle.save_journal.specs.Records.{records_of}
 use Rattle.save_journal.specs.Journals.{JournalState, IsLive}
-use Rattle.save_file.specs.Reading.{squares_of}
-use Rattle.save_file.specs.Files.{digest_of, squares_in, first_squares}
+use Rattle.f2_matrix.specs.Reduction.{Reduction}
+use Rattle.square.specs.Tables.{Staircase, IsQuasiAt}
+use Rattle.save_file.specs.Bodies.{Kept, kept_at, with_quasi_at}
+use Rattle.save_file.specs.Reading.{kept_of_bodies, squares_of}
+use Rattle.save_file.specs.Files.{digest_of, squares_in, first_squares, first_kept}
 
 -- What contracts see of a save file: its journal, how many records were read or appended, and the module and the start that it
 -- was taken up with.
@@ -25,6 +28,8 @@ pub record HasSquares (m : Checked) (start : List Entry) (count : ℕ) (file : L
   pub records : records_of (digest_of m.plain) file ≡ Ok bodies
   pub counted : length bodies ≡ count
   pub squares : squares_of (over m) bodies ≡ Ok list
+  pub kept : List Kept
+  pub kept_are : kept_of_bodies (over m) bodies ≡ Ok kept
   pub are_of : AreOf (over m) start list
 
 -- The save file takes squares: its journal takes records, which belong to its module, and where the disk tells, all records are
@@ -35,6 +40,22 @@ pub record TakesSquares {D : Type 0} (now : D → Option (List ℕ)) (images : D
   pub digest : k.journal.digest ≡ digest_of k.resolved.plain
   pub few : k.count ≤ k.journal.end
   pub has : IfSome (now k.journal.disk) (HasSquares k.resolved k.start k.count)
+
+-- the same with the quasi-inverses that are kept
+abbrev pub quasis_in : {D : Type 0} → (D → Option (List ℕ)) → SaveState D → Option (List Kept)
+quasis_in now k = option_map (first_kept k.resolved k.count) (now k.journal.disk)
+
+-- the square (s, k) is kept, without a quasi-inverse
+pub record IsKeptBare (kept : List Kept) (s k : ℕ) : Type 0 where
+  pub square : Kept
+  pub there : kept_at kept s k ≡ Some square
+  pub bare : square.quasi ≡ None
+
+-- what is kept now is what was kept, or that with the quasi-inverse of the table's square in row s and of degree t
+abbrev pub HasQuasiOrNot : Staircase → ℕ → ℤ → List Kept → List Kept → Type 0
+HasQuasiOrNot table s t before now = (now ≡ before)
+    ⊎ ((k : ℕ) × (r : Reduction) × (t ≡ bottom_of table.resolved +ℤ pos k) × IsQuasiAt table s t r
+    × (now ≡ with_quasi_at before s k r))
 
 -- the squares of the records that are counted, told where the disk tells
 abbrev pub kept_in : {D : Type 0} → (D → Option (List ℕ)) → SaveState D → Option (List Entry)

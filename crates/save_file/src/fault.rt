@@ -10,7 +10,8 @@ use thiserror::Error;
 /// Why a body was not read.
 #[derive(Clone, Copy, Debug, PartialEq, Eq, Error)]
 pub enum DecodeFault {
-    /// The bytes of the record of this number are no square that may stand behind those before it.
+    /// The bytes of the record of this number are no square that may stand behind those before it, and no quasi-inverse of one of
+    /// these.
     #[error("record {number} is strange")]
     Strange { number: u64 },
     /// Memory allocation failed.
@@ -32,7 +33,8 @@ pub enum ResumeFault {
     /// The file was not opened. Where that was for want of memory the answer is `Memory`.
     #[error("{0}")]
     Open(OpenFault),
-    /// The body of the record of this number, counted from 0, is no square that may stand behind those before it.
+    /// The body of the record of this number, counted from 0, is no square that may stand behind those before it, and no
+    /// quasi-inverse of one of these.
     #[error("record {number} is strange")]
     Strange { number: u64 },
     /// Memory allocation failed.

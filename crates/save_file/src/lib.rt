@@ -1,6 +1,8 @@
-//! Save files: the bytes of a square, written and read behind the squares before it, and the keeper that puts them into a journal.
+//! Save files: the bytes of squares and of quasi-inverses, written and read behind the squares before them, and the keeper that
+//! puts them into a journal.
 #![tactic(auto)]
 
+mod body;
 mod fault;
 mod laws;
 mod outline;
@@ -10,9 +12,13 @@ mod rows;
 mod saving;
 mod writing;
 
+pub use body::Body;
 pub use fault::{DecodeFault, ResumeFault};
-pub use laws::{bodies_have_the_rules, each_body_is_read, one_body, squares_are_closed};
+pub use laws::{
+    additions_have_the_rules, bodies_have_the_rules, each_addition_is_read, each_body_is_read,
+    kinds_are_apart, one_addition, one_body, squares_are_closed,
+};
 pub use reading::decode;
 pub use resuming::resume;
 pub use saving::SaveFile;
-pub use writing::encode;
+pub use writing::{encode, encode_quasi};

@@ -1,40 +1,54 @@
-//! Squares out of bytes.
-ghost use Rattle.std.specs.Prelude.{◌≡◌, ◌↔◌, ℕ, ◌≤◌, None, Err, IsTrue, IfOk, MatchOption};
+//! Squares and quasi-inverses out of bytes.
+ghost use Rattle.std.specs.Prelude.{◌≡◌, ◌↔◌, ℕ, ◌*◌, ◌≤◌, None, Err, Bool, List, length, IsTrue, IfOk, MatchOption};
+ghost use Rattle.std.specs.Arc.{arc_value};
+ghost use Rattle.f2_vec.specs.Spans.{HaveWidth};
+ghost use Rattle.f2_matrix.specs.Reduction.{IsReductionOf};
 ghost use Rattle.square.specs.declared.range.TheConstants.{MAX_S, MAX_T};
-ghost use Rattle.square.specs.Squares.{over};
+ghost use Rattle.square.specs.Squares.{Placed, over};
 ghost use Rattle.square.specs.Tables.{AllRead, IsNext, IsTable};
-ghost use Rattle.save_file.specs.Reading.{square_in};
-ghost use Rattle.save_file.specs.Saved.{IsDecoded};
-ghost use Rattle.save_file.specs.Inside.Outline.{outline_of, IsPlaceFor, HasDimensions};
+ghost use Rattle.f2_matrix.specs.Echelon.{IsReduced, HasNoZeroRow};
+ghost use Rattle.save_file.specs.Reading.{packed_len, square_in, addition_in, after_body};
+ghost use Rattle.save_file.specs.Saved.{IsDecoded, IsDecodedSquare, IsDecodedQuasi, kept_of_table};
+ghost use Rattle.save_file.specs.Inside.Outline.{outline_of, addition_outline_of, pair_of, IsPlaceFor, HasDimensions, IsBareAt, ArePackedParts};
 ghost use Rattle.save_file.specs.declared.fault.DecodeFault.TheVariants.{Strange};
 
+use crate::body::Body;
 use crate::fault::DecodeFault;
-use crate::outline::{Parts, parts_of};
+use crate::outline::{AdditionParts, PackedPreimages, Parts, addition_parts_of, parts_of};
 use crate::rows::unpack;
-use f2_kernel::is_row_basis;
+use f2_kernel::{are_parts, is_row_basis};
+use f2_matrix::{Matrix, Reduced, Rows, parts_are_reduction};
+use f2_vec::BitVec;
 use memory::Memory;
 use square::{MAX_S, MAX_T, Square, Table};
 use std::alloc::Global;
+use std::sync::Arc;
 
-/// The square that these bytes are behind those of the table, all of which were read. `number` is that of the record they stand
-/// in, from 0, and is told where the bytes are strange. The list of the squares that were read is the table's start; the
-/// table has them at their places, so it is asked.
+/// The square that these bytes are behind those of the table, all of which were read, or the quasi-inverse of one of them. `number`
+/// is that of the record they stand in, from 0, and is told where the bytes are strange. The list of the squares that were read is
+/// the table's start; the table has them at their places, so it is asked.
 ///
-/// The bytes are a square's if they are its body, byte by byte, and the square may stand there: its kind is 1 and its place within
-/// the limits of a range; it is not in the table, and those that it stands on are; the dimensions are those of the target of d_s and of F_s with the
-/// new generators, in its degree; there are no more images and kernel rows than that; and the kernel rows are in reduced echelon form
-/// without a zero row. That the content is that of the canonical resolution is not looked at.
+/// The bytes are a square's if they are its body, byte by byte, and the square may stand there: its kind is 1 or 2 and its place
+/// within the limits of a range; it is not in the table, and those that it stands on are; the dimensions are those of the target of
+/// d_s and of F_s with the new generators, in its degree; there are no more images and kernel rows than that; and the kernel rows are
+/// in reduced echelon form without a zero row. They are a quasi-inverse's if the kind is 3 and the square is in the table, without
+/// one, with these dimensions. Where there are image rows and chosen preimages, these are with the kernel rows the parts of the
+/// reduction of the matrix of d_s: that is seen by products, and nothing is eliminated. That the content is that of the canonical
+/// resolution is not looked at.
 ///
 /// # Errors
-/// `Strange` exactly where they are no such square, and `Memory` if allocation fails.
-pub fn decode(alloc: Global, table: &Table, number: u64, body: &[u8]) -> Result<Square, DecodeFault>
+/// `Strange` exactly where they are neither, and `Memory` if allocation fails.
+pub fn decode(alloc: Global, table: &Table, number: u64, body: &[u8]) -> Result<Body, DecodeFault>
     requires { AllRead table.now.rows }
-    ensures decoded { IfOk result (λ q. IsDecoded table.now body.now q) }
+    ensures decoded { IfOk result (λ b. IsDecoded table.now body.now b) }
     ensures strange { (n : ℕ) → result ≡ Err (Strange n) →
-        (n ≡ number) × (square_in (over table.now.resolved) table.now.start body.now ≡ None) }
+        (n ≡ number) × (after_body (over table.now.resolved) (kept_of_table table.now) body.now ≡ None) }
 {
-    match read_square(alloc, table, body)? {
-        Some(square) => Ok(square),
+    if let Some(square) = read_square(alloc, table, body)? {
+        return Ok(Body::Square(square));
+    }
+    match read_quasi(alloc, table, body)? {
+        Some((s, t, quasi)) => Ok(Body::Quasi { s, t, quasi }),
         None => Err(DecodeFault::Strange { number }),
     }
 }
@@ -43,7 +57,8 @@ pub fn decode(alloc: Global, table: &Table, number: u64, body: &[u8]) -> Result<
 fn read_square(alloc: Global, table: &Table, body: &[u8]) -> Result<Option<Square>, Memory>
     requires { AllRead table.now.rows }
     ensures { IfOk result (λ found. MatchOption found
-        (square_in (over table.now.resolved) table.now.start body.now ≡ None) (λ q. IsDecoded table.now body.now q)) }
+        (square_in (over table.now.resolved) table.now.start body.now ≡ None)
+        (λ q. IsDecodedSquare table.now body.now q)) }
 {
     let Some(parts) = parts_of(body) else {
         return Ok(None);
@@ -64,7 +79,156 @@ fn read_square(alloc: Global, table: &Table, body: &[u8]) -> Result<Option<Squar
     if !is_basis {
         return Ok(None);
     }
-    Ok(Some(Square::read(table, parts.s, t, images, kernel, None)))
+    let Some(packed) = parts.quasi else {
+        let square = Square::read(table, parts.s, t, images, kernel, None);
+        return Ok(Some(square));
+    };
+    let matrix = table.next_matrix(alloc, parts.s, t, images.as_slice())?;
+    let below = square_below(table, parts.s, parts.above);
+    let Some(quasi) = reduction(alloc, &matrix, &packed, kernel.as_slice(), below)? else {
+        return Ok(None);
+    };
+    Ok(Some(Square::read(table, parts.s, t, images, kernel, Some(quasi))))
+}
+
+/// The quasi-inverse that the bytes are, with the row and the degree of its square, or `None` if they are none of a square that is
+/// there without one.
+fn read_quasi(
+    alloc: Global,
+    table: &Table,
+    body: &[u8],
+) -> Result<Option<(u16, i32, Reduced)>, Memory>
+    requires { AllRead table.now.rows }
+    ensures { IfOk result (λ found. MatchOption found
+        (addition_in (over table.now.resolved) (kept_of_table table.now) body.now ≡ None)
+        (λ r. IsDecodedQuasi table.now body.now r.0 r.1 r.2)) }
+{
+    let Some(parts) = addition_parts_of(body) else {
+        return Ok(None);
+    };
+    let Some(square) = bare_square(table, &parts) else {
+        return Ok(None);
+    };
+    let matrix = table.matrix(alloc, parts.s, square.t())?;
+    let below = square_below(table, parts.s, parts.above);
+    let Some(quasi) = reduction(alloc, &matrix, &parts.quasi, square.kernel(), below)? else {
+        return Ok(None);
+    };
+    Ok(Some((parts.s, square.t(), quasi)))
+}
+
+/// The square of the table at the place of a quasi-inverse, none where it is not there, or has one, or has other dimensions.
+fn bare_square<'a>(table: &'a Table, parts: &AdditionParts<'_>) -> Option<&'a Arc<Square>>
+    requires { AllRead table.now.rows }
+    ensures square { MatchOption result ((q : Placed) → IsBareAt table.now (addition_outline_of parts.now) q → ⊥)
+        (λ q. IsBareAt table.now (addition_outline_of parts.now) (arc_value q.now)) }
+    ensures is_table { IsTable table.now }
+{
+    let square = table.square(parts.s, parts.above)?;
+    if square.kept_quasi().is_some() {
+        return None;
+    }
+    let (target, source) = square.widths();
+    if target != parts.quasi.image.cols || source != parts.quasi.chosen.cols {
+        return None;
+    }
+    Some(square)
+}
+
+/// The square below a place, whose kernel rows are the image rows there wherever the squares were made. There is none below row 0.
+fn square_below(table: &Table, s: u16, above: u16) -> Option<&Square> {
+    let below = s.checked_sub(1)?;
+    Some(table.square(below, above)?)
+}
+
+/// The reduction of the matrix with these packed parts and these kernel rows, none where they are not its parts. Image rows that
+/// are the kernel rows of the square below are shared with it. That there are no more of them than the matrix has rows is tested
+/// first, so that a body of rows without a coordinate is refused at once.
+///
+/// # Errors
+/// `Memory` if allocation fails.
+fn reduction(
+    alloc: Global,
+    matrix: &Matrix,
+    packed: &PackedPreimages<'_>,
+    kernel: &[BitVec],
+    below: Option<&Square>,
+) -> Result<Option<Reduced>, Memory>
+    requires image { length packed.now.image.bytes.now ≡ packed.now.image.height * packed_len packed.now.image.cols }
+    requires chosen { length packed.now.chosen.bytes.now
+        ≡ packed.now.chosen.height * packed_len packed.now.chosen.cols }
+    requires cols { packed.now.image.cols ≡ matrix.now.cols }
+    requires height { packed.now.chosen.cols ≡ length matrix.now.rows }
+    requires widths { HaveWidth (length matrix.now.rows) kernel.now }
+    requires reduced { IsReduced kernel.now }
+    requires nonzero { HasNoZeroRow kernel.now }
+    ensures { IfOk result (λ found. MatchOption found
+        ((image chosen : List (List Bool)) →
+        ArePackedParts (pair_of packed.now) matrix.now image chosen kernel.now → ⊥)
+        (λ r. ArePackedParts (pair_of packed.now) matrix.now r.image r.chosen r.kernel × (r.kernel ≡ kernel.now)
+        × IsReductionOf matrix.now.cols matrix.now.rows r)) }
+{
+    if packed.image.height > packed.chosen.cols {
+        return Ok(None);
+    }
+    let Some(image) = unpack(alloc, &packed.image)? else {
+        return Ok(None);
+    };
+    let Some(chosen) = unpack(alloc, &packed.chosen)? else {
+        return Ok(None);
+    };
+    let fits = are_parts(alloc, matrix, image.as_slice(), chosen.as_slice(), kernel)?;
+    if !fits {
+        return Ok(None);
+    }
+    parts_are_reduction(); // Rows that are the parts are those of the reduction, which proofs learn here.
+    let kernel = Rows::of(alloc, Vec::from_clones(alloc, kernel)?)?;
+    let image = shared_rows(alloc, image, below)?;
+    let height = matrix.rows().len();
+    Ok(Some(Reduced::from_shared_rows(matrix.cols(), height, image, chosen, kernel)))
+}
+
+/// The rows, shared with the kernel of the square below where they are the same.
+///
+/// # Errors
+/// `Memory` if allocation fails.
+fn shared_rows(alloc: Global, rows: Vec<BitVec>, below: Option<&Square>) -> Result<Rows, Memory>
+    ensures { IfOk result (λ shared. shared ≡ rows.items) }
+{
+    match below {
+        Some(square) if are_same(square.kernel(), rows.as_slice()) => square.kernel_rows(alloc),
+        _ => Rows::of(alloc, rows),
+    }
+}
+
+/// Whether two lists of rows are the same.
+fn are_same(a: &[BitVec], b: &[BitVec]) -> bool
+    ensures { IsTrue result → a.now ≡ b.now }
+{
+    if a.len() != b.len() {
+        return false;
+    }
+    for i in 0..a.len() {
+        if !is_same(&a[i], &b[i]) {
+            return false;
+        }
+    }
+    true
+}
+
+/// Whether two vectors are the same.
+fn is_same(a: &BitVec, b: &BitVec) -> bool
+    ensures { IsTrue result → a.now ≡ b.now }
+{
+    if a.len() != b.len() {
+        return false;
+    }
+    for i in 0..a.len().div_ceil(64) {
+        if a.word(i) != b.word(i) {
+            return false;
+        }
+    }
+    true
 }
 
 /// The degree of the square in row `s`, `above` degrees above the bottom, none where it is past the limits, or not the next of

@@ -1,22 +1,25 @@
 //! How a save file is taken up.
 ghost use Rattle.std.specs.Prelude.{◌≡◌, ◌≢◌, ◌⊎◌, ℕ, ◌≤◌, [], ◌++◌, ◌∷◌, Some, None, Ok, Err, IfOk, IfErr, IfSome, OnOk, OnErr, IsOk, MatchResult};
 ghost use Rattle.std.specs.Option.{option_map};
-ghost use Rattle.edge.specs.Disk.{LeavesOnly};
+ghost use Rattle.edge.specs.Disk.{LeavesOnly, HavePast};
 ghost use Rattle.edge.specs.Faults.{HasRisen};
 ghost use Rattle.finite_module.specs.Text.{canonical_text};
-ghost use Rattle.resolution_laws.specs.Start.{Entry};
-ghost use Rattle.square.specs.Squares.{over};
-ghost use Rattle.square.specs.Tables.{AllRead, IsTable};
+ghost use Rattle.square.specs.Squares.{entry_of, over};
+ghost use Rattle.square.specs.Tables.{AllRead, IsNext, IsTable};
+ghost use Rattle.square.specs.declared.range.TheConstants.{MAX_S};
+ghost use Rattle.save_file.specs.Bodies.{kept_of};
 ghost use Rattle.square.specs.Keeping.{IsKeeperOf};
 ghost use Rattle.save_journal.specs.Records.{opened};
-ghost use Rattle.save_journal.specs.Journals.{HasRecordsOf, contents};
+ghost use Rattle.save_journal.specs.Journals.{HasRecordsOf, HaveSameRecords, ComeFromEarlier, contents};
 ghost use Rattle.save_journal.specs.declared.fault.OpenFault.TheVariants.{Failed as DiskFailed, Memory as OpenMemory};
-ghost use Rattle.save_file.specs.Reading.{square_in, squares_from};
+ghost use Rattle.save_file.specs.Reading.{after_body, kept_from};
+ghost use Rattle.save_file.specs.Saved.{kept_of_table};
 ghost use Rattle.save_file.specs.Files.{digest_of, standing_of};
-ghost use Rattle.save_file.specs.Saving.{TakesSquares, kept_in, telling_of};
+ghost use Rattle.save_file.specs.Saving.{TakesSquares, kept_in, quasis_in, telling_of};
 ghost use Rattle.save_file.specs.declared.fault.DecodeFault.TheVariants.{Strange as StrangeBody, Memory as WantOfMemory};
 ghost use Rattle.save_file.specs.declared.fault.ResumeFault.TheVariants.{Open, Memory as OutOfMemory};
 
+use crate::body::Body;
 use crate::fault::{DecodeFault, ResumeFault};
 use crate::reading::decode;
 use crate::saving::SaveFile;
@@ -25,13 +28,13 @@ use finite_module::Module;
 use memory::Memory;
 use save_journal::Journal;
 use sha2::{Digest, Sha256};
-use square::Table;
+use square::{Square, Table};
 use std::alloc::Global;
 use std::snapshot::Snapshot;
 use std::sync::Arc;
 
-/// Takes up the save file of a module that the disk holds: the table of its squares, all of them read, and the keeper that puts more
-/// squares behind them.
+/// Takes up the save file of a module that the disk holds: the table of its squares, all of them read, with the quasi-inverses that the
+/// file keeps, and the keeper that puts more squares behind them.
 ///
 /// The file's records belong to SHA-256 of the module's canonical text. A file of at most 41 bytes has no room for a record, and is
 /// written anew, unless it is what it would be then; a longer one is left as it is.
@@ -39,8 +42,8 @@ use std::sync::Arc;
 /// # Errors
 /// Each comes with the disk, on which a refusal writes nothing. `Open` with `Failed` if the disk failed, `Memory` if allocation fails,
 /// and otherwise the refusal of the file: `Open` with that of its records, or `Strange` with the number of the first record whose body
-/// is no square that may stand behind those before it. If the journal could not be opened for lack of memory, that is
-/// `Memory`, and never `Open` with it.
+/// is no square that may stand behind those before it, and no quasi-inverse of one of these. If the journal could not be opened for
+/// lack of memory, that is `Memory`, and never `Open` with it.
 pub fn resume<D: Disk>(
     alloc: Global,
     module: Module,
@@ -50,9 +53,10 @@ pub fn resume<D: Disk>(
     ensures resolved { IfOk result (λ r. r.0.resolved ≡ «module») }
     ensures all_read { IfOk result (λ r. AllRead r.0.rows) }
     ensures live { IfOk result (λ r. TakesSquares D.now D.images r.1) }
-    ensures keeper { IfOk result
-        (λ r. IsKeeperOf (telling_of D.now D.moment D.images D.images_at D.since D.faults r.1) r.0) }
+    ensures keeper { IfOk result (λ r. IsKeeperOf (telling_of D.now D.moment D.images D.images_at D.since D.faults r.1)
+        r.0) }
     ensures kept { IfOk result (λ r. kept_in D.now r.1 ≡ option_map (λ _. r.0.start) (D.now disk)) }
+    ensures quasis { IfOk result (λ r. quasis_in D.now r.1 ≡ option_map (λ _. kept_of_table r.0) (D.now disk)) }
     ensures file { IfOk result
         (λ r. D.now r.1.journal.disk ≡ option_map (opened (digest_of «module».plain)) (D.now disk)) }
     ensures refused { IfErr result (λ e. (e.0 ≡ Open DiskFailed) ⊎ (e.0 ≡ OutOfMemory)
@@ -69,6 +73,11 @@ pub fn resume<D: Disk>(
         (λ r. LeavesOnly D.moment D.since disk r.1.journal.disk
         (HasRecordsOf (digest_of «module».plain) (D.images disk)))
         (λ e. LeavesOnly D.moment D.since disk e.1 (HasRecordsOf (digest_of «module».plain) (D.images disk)))) }
+    ensures past { MatchResult result (λ r. HavePast D.moment D.images_at disk r.1.journal.disk)
+        (λ e. HavePast D.moment D.images_at disk e.1) }
+    ensures retained { IfSome (D.now disk) (λ _. MatchResult result
+        (λ r. ComeFromEarlier D.moment D.images_at disk r.1.journal.disk (HaveSameRecords (digest_of «module».plain)))
+        (λ e. ComeFromEarlier D.moment D.images_at disk e.1 (HaveSameRecords (digest_of «module».plain)))) }
     ensures no_fault { IfOk result (λ r. D.faults r.1.journal.disk ≡ D.faults disk) }
     ensures quiet { IfErr result (λ e. e.0 ≢ Open DiskFailed → D.faults e.1 ≡ D.faults disk) }
     ensures never_fall { IfErr result (λ e. D.faults disk ≤ D.faults e.1) }
@@ -113,19 +122,19 @@ fn prepared(alloc: Global, module: Module) -> Result<(Table, Vec<u8>), Memory>
     Ok((table, text))
 }
 
-/// Puts the squares of these bodies behind those of the table, in order.
+/// Puts the squares of these bodies behind those of the table, in order, and gives squares their quasi-inverses.
 ///
 /// # Errors
-/// `Strange` exactly where one of them is no such square, with the number of the first, and `Memory` if allocation fails.
+/// `Strange` exactly where one of them is neither, with the number of the first, and `Memory` if allocation fails.
 fn read_bodies(alloc: Global, table: &mut Table, bodies: &[Vec<u8>]) -> Result<(), DecodeFault>
     requires { AllRead table.old.rows }
-    ensures read { OnOk result
-        (squares_from (over table.old.resolved) table.old.start 0 (contents bodies.now) ≡ Ok table.new.start) }
+    ensures read { OnOk result (kept_from (over table.old.resolved) (kept_of_table table.old) 0 (contents bodies.now)
+        ≡ Ok (kept_of_table table.new)) }
     ensures resolved { table.new.resolved ≡ table.old.resolved }
     ensures all_read { AllRead table.new.rows }
     ensures is_table { OnOk result (IsTable table.new) }
     ensures strange { (n : ℕ) → result ≡ Err (StrangeBody n) →
-        squares_from (over table.old.resolved) table.old.start 0 (contents bodies.now) ≡ Err n }
+        kept_from (over table.old.resolved) (kept_of_table table.old) 0 (contents bodies.now) ≡ Err n }
     ensures none { contents bodies.now ≡ [] → IsOk result }
 {
     for i in 0..bodies.len() {
@@ -138,21 +147,44 @@ fn read_bodies(alloc: Global, table: &mut Table, bodies: &[Vec<u8>]) -> Result<(
     Ok(())
 }
 
-/// Puts the square of a body behind those of the table. `number` is that of its record.
+/// Puts the square of a body behind those of the table, or gives one of them its quasi-inverse. `number` is that of its record.
 ///
 /// # Errors
-/// `Strange` exactly where it is no such square, and `Memory` if allocation fails; the table is then as before.
+/// `Strange` exactly where it is neither, and `Memory` if allocation fails; the table is then as before.
 fn read_body(alloc: Global, table: &mut Table, number: u64, body: &[u8]) -> Result<(), DecodeFault>
     requires { AllRead table.old.rows }
-    ensures read { OnOk result ((e : Entry) × (square_in (over table.old.resolved) table.old.start body.now ≡ Some e)
-        × (table.new.start ≡ table.old.start ++ e ∷ [])) }
+    ensures read { OnOk result (after_body (over table.old.resolved) (kept_of_table table.old) body.now
+        ≡ Some (kept_of_table table.new)) }
     ensures resolved { table.new.resolved ≡ table.old.resolved }
     ensures all_read { AllRead table.new.rows }
     ensures strange { (n : ℕ) → result ≡ Err (StrangeBody n) →
-        (n ≡ number) × (square_in (over table.old.resolved) table.old.start body.now ≡ None) }
+        (n ≡ number) × (after_body (over table.old.resolved) (kept_of_table table.old) body.now ≡ None) }
     ensures err { OnErr result (table.new ≡ table.old) }
 {
-    let square = decode(alloc, table, number, body)?;
+    match decode(alloc, table, number, body)? {
+        Body::Square(square) => put_square(alloc, table, square),
+        Body::Quasi { s, t, quasi } => match table.add_quasi(alloc, s, t, quasi) {
+            Ok(()) => Ok(()),
+            Err(_) => Err(DecodeFault::Memory),
+        },
+    }
+}
+
+/// Puts a square that was read behind those of the table.
+///
+/// # Errors
+/// `Memory` if allocation fails; the table is then as before.
+fn put_square(alloc: Global, table: &mut Table, square: Square) -> Result<(), DecodeFault>
+    requires all_read { AllRead table.old.rows }
+    requires row { square.s ≤ MAX_S }
+    requires resolved { square.resolved ≡ table.old.resolved }
+    requires start { square.start ≡ table.old.start ++ entry_of square ∷ [] }
+    requires next { IsNext table.old.rows square.s square.above }
+    ensures put { OnOk result (kept_of_table table.new ≡ kept_of_table table.old ++ kept_of square ∷ []) }
+    ensures resolved { table.new.resolved ≡ table.old.resolved }
+    ensures all_read { AllRead table.new.rows }
+    ensures err { OnErr result ((table.new ≡ table.old) × (result ≡ Err WantOfMemory)) }
+{
     table.front(square.s()); // It is a table, which proofs learn here.
     let Ok(square) = Arc::new(alloc, square) else {
         return Err(DecodeFault::Memory);

@@ -1,5 +1,5 @@
 -- The four calls of an append, over any disk.
-use Rattle.std.proofs.Common.{◌≡◌, ◌⊎◌, ◌↔◌, inl, ℕ, ◌+◌, ◌≤◌, List, [], ◌∷◌, ◌++◌, length, drop, Option, Some, sym, ◌∙◌, ap, subst, arith}
+use Rattle.std.proofs.Common.{◌≡◌, ◌⊎◌, ◌↔◌, inl, ℕ, ◌+◌, ◌≤◌, List, [], ◌∷◌, ◌++◌, length, drop, Option, Some, refl, sym, ◌∙◌, ap, subst, arith}
 use Rattle.std.specs.Prelude.{IfSome}
 use Rattle.std.specs.Option.{option_map}
 use Rattle.std.proofs.lemmas.Option.{same_Some}
@@ -7,10 +7,10 @@ use Rattle.edge.specs.Disk.{written, Torn, Follows, Only, IsTold, AreTold, Elaps
 use Rattle.edge.proofs.Moments.{Lawful}
 use Rattle.edge.proofs.Moments.{where_told, at_told, is_told, both_told, told_before, where_some, started, goes_on}
 use Rattle.save_journal.specs.Records.{records_of, and_last, framed, encoded, header}
-use Rattle.save_journal.specs.Journals.{IsSayable, IsAtRest, IsSettled, IsBeforeOrAfter, RetainsRecords}
+use Rattle.save_journal.specs.Journals.{IsSayable, IsAtRest, IsSettled, IsBeforeOrAfter, HaveSameRecords, ComeFromEarlier}
 use Rattle.save_journal.proofs.Frames.{length-framed}
 use Rattle.save_journal.proofs.Walk.{at_rest_records}
-use Rattle.save_journal.proofs.Retaining.{Goes, stays, shrinks, adds}
+use Rattle.save_journal.proofs.Retaining.{Goes, WithBody, come_also, stays, shrinks, adds_none, adds_body}
 use Rattle.save_journal.proofs.Torn.{length-at_rest, torn_behind, staged, with_gate, length-with_gate, open_gate, torn_gate, written_gate}
 
 module _ {D : Type 0} {now : D → Option (List ℕ)} {moment : D → ℕ} {images : D → List ℕ → Type 0} {since : D → ℕ → List ℕ → Type 0} (laws : Lawful now moment images since) (digest : List ℕ) (end : ℕ) (body bytes : List ℕ) (is : bytes ≡ framed body) (says : IsSayable body) (d0 : D) where
@@ -19,6 +19,15 @@ module _ {D : Type 0} {now : D → Option (List ℕ)} {moment : D → ℕ} {imag
 
   abbrev P : List ℕ → List ℕ → Type 0
   P file = IsBeforeOrAfter digest (records_of digest file) body
+
+  abbrev Same : List ℕ → List ℕ → Type 0
+  Same = HaveSameRecords digest
+
+  same_itself : (c : List ℕ) → Same c c
+  same_itself c = refl
+
+  abbrev Step : List ℕ → List ℕ → Type 0
+  Step = WithBody digest body
 
   -- what a read gives after the call, where it was told before
   pub told_of : (d : D) → AreTold (λ _ _. Unit {0}) (now d0) (now d) → IfSome (now d0) (λ file. LeavesOnly moment since d0 d (P file)) → AreTold P (now d0) (now d)
@@ -31,8 +40,11 @@ module _ {D : Type 0} {now : D → Option (List ℕ)} {moment : D → ℕ} {imag
     pub place_behind : IfSome (now d0) (λ file. end + 1 ≤ length file)
     place_behind = where_told (now d0) Settled (λ file. end + 1 ≤ length file) settled (λ file _ s. omega (arith, length-at_rest digest end s.list file s.at_rest))
 
+    same_before : (file : List ℕ) (s : Settled file) (c : List ℕ) → IsAtRest digest end s.list c → Same file c
+    same_before file s c r = at_rest_records digest end s.list c r ∙ sym (at_rest_records digest end s.list file s.at_rest)
+
     before : (file : List ℕ) (s : Settled file) (c : List ℕ) → IsAtRest digest end s.list c → P file c
-    before file s c r = inl (at_rest_records digest end s.list c r ∙ sym (at_rest_records digest end s.list file s.at_rest))
+    before file s c r = inl (same_before file s c r)
 
     opening : (file : List ℕ) (s : Settled file) → LeavesOnly moment since d0 d0 (P file)
     opening file s = started now moment images since laws d0 (P file) (λ c left. inl (ap (records_of digest) (s.only c left)))
@@ -49,14 +61,14 @@ module _ {D : Type 0} {now : D → Option (List ℕ)} {moment : D → ℕ} {imag
       pub leaves1 : IfSome (now d0) (λ file. LeavesOnly moment since d0 d1 (P file))
       leaves1 = where_told (now d0) Settled (λ file. LeavesOnly moment since d0 d1 (P file)) settled (λ file _ s. leaves1_at file s)
 
-      adds1 : (file : List ℕ) (s : Settled file) → now d0 ≡ Some file → (c : List ℕ) → images d1 c → (d : List ℕ) × images d0 d × IsBeforeOrAfter digest (records_of digest d) body c
-      adds1 file s here c left = (file, at_told (now d0) (λ f. images d0 f) file here (laws.now_is_image d0), before file s c (stage1 file s c left))
+      adds1 : (file : List ℕ) (s : Settled file) → now d0 ≡ Some file → (c : List ℕ) → images d1 c → (d : List ℕ) × images d0 d × Same d c
+      adds1 file s here c left = (file, at_told (now d0) (λ f. images d0 f) file here (laws.now_is_image d0), same_before file s c (stage1 file s c left))
 
-      goes1 : (at : D → ℕ → List ℕ → Type 0) (law : (d : D) (c : List ℕ) → at d (moment d) c ↔ images d c) (passes1 : Passes (moment d0) (moment d1) (at d0) (at d1) (images d1)) (file : List ℕ) (s : Settled file) → now d0 ≡ Some file → Goes moment at digest d0 d1
-      goes1 at law passes1 file s here = adds moment images at law digest body d0 d0 d1 (stays moment at digest d0) time1.later passes1 (adds1 file s here)
+      goes1 : (at : D → ℕ → List ℕ → Type 0) (law : (d : D) (c : List ℕ) → at d (moment d) c ↔ images d c) (passes1 : Passes (moment d0) (moment d1) (at d0) (at d1) (images d1)) (file : List ℕ) (s : Settled file) → now d0 ≡ Some file → Goes moment at Same d0 d1
+      goes1 at law passes1 file s here = adds_none moment images at law digest d0 d0 d1 (stays moment at digest d0) time1.later passes1 (adds1 file s here)
 
-      pub retained1 : (at : D → ℕ → List ℕ → Type 0) (law : (d : D) (c : List ℕ) → at d (moment d) c ↔ images d c) (passes1 : Passes (moment d0) (moment d1) (at d0) (at d1) (images d1)) → IfSome (now d0) (λ _. RetainsRecords moment at d0 d1 digest)
-      retained1 at law passes1 = where_told (now d0) Settled (λ _. RetainsRecords moment at d0 d1 digest) settled (λ file here s. (goes1 at law passes1 file s here).2)
+      pub retained1 : (at : D → ℕ → List ℕ → Type 0) (law : (d : D) (c : List ℕ) → at d (moment d) c ↔ images d c) (passes1 : Passes (moment d0) (moment d1) (at d0) (at d1) (images d1)) → IfSome (now d0) (λ _. ComeFromEarlier moment at d0 d1 Step)
+      retained1 at law passes1 = where_told (now d0) Settled (λ _. ComeFromEarlier moment at d0 d1 Step) settled (λ file here s. come_also moment at d0 d1 Same Step (λ d c s. inl s) (goes1 at law passes1 file s here).2)
 
       module _ (d2 : D) (fewer2 : (c : List ℕ) → images d2 c → images d1 c) (time2 : Elapses (moment d1) (moment d2) (since d1) (since d2) (images d2)) where
         leaves2_at : (file : List ℕ) (s : Settled file) → LeavesOnly moment since d0 d2 (P file)
@@ -65,11 +77,11 @@ module _ {D : Type 0} {now : D → Option (List ℕ)} {moment : D → ℕ} {imag
         pub leaves2 : IfSome (now d0) (λ file. LeavesOnly moment since d0 d2 (P file))
         leaves2 = where_told (now d0) Settled (λ file. LeavesOnly moment since d0 d2 (P file)) settled (λ file _ s. leaves2_at file s)
 
-        goes2 : (at : D → ℕ → List ℕ → Type 0) (law : (d : D) (c : List ℕ) → at d (moment d) c ↔ images d c) (passes1 : Passes (moment d0) (moment d1) (at d0) (at d1) (images d1)) (passes2 : Passes (moment d1) (moment d2) (at d1) (at d2) (images d2)) (file : List ℕ) (s : Settled file) → now d0 ≡ Some file → Goes moment at digest d0 d2
-        goes2 at law passes1 passes2 file s here = shrinks moment images at law digest d0 d1 d2 (goes1 at law passes1 file s here) time2.later passes2 fewer2
+        goes2 : (at : D → ℕ → List ℕ → Type 0) (law : (d : D) (c : List ℕ) → at d (moment d) c ↔ images d c) (passes1 : Passes (moment d0) (moment d1) (at d0) (at d1) (images d1)) (passes2 : Passes (moment d1) (moment d2) (at d1) (at d2) (images d2)) (file : List ℕ) (s : Settled file) → now d0 ≡ Some file → Goes moment at Same d0 d2
+        goes2 at law passes1 passes2 file s here = shrinks moment images at law Same same_itself d0 d1 d2 (goes1 at law passes1 file s here) time2.later passes2 fewer2
 
-        pub retained2 : (at : D → ℕ → List ℕ → Type 0) (law : (d : D) (c : List ℕ) → at d (moment d) c ↔ images d c) (passes1 : Passes (moment d0) (moment d1) (at d0) (at d1) (images d1)) (passes2 : Passes (moment d1) (moment d2) (at d1) (at d2) (images d2)) → IfSome (now d0) (λ _. RetainsRecords moment at d0 d2 digest)
-        retained2 at law passes1 passes2 = where_told (now d0) Settled (λ _. RetainsRecords moment at d0 d2 digest) settled (λ file here s. (goes2 at law passes1 passes2 file s here).2)
+        pub retained2 : (at : D → ℕ → List ℕ → Type 0) (law : (d : D) (c : List ℕ) → at d (moment d) c ↔ images d c) (passes1 : Passes (moment d0) (moment d1) (at d0) (at d1) (images d1)) (passes2 : Passes (moment d1) (moment d2) (at d1) (at d2) (images d2)) → IfSome (now d0) (λ _. ComeFromEarlier moment at d0 d2 Step)
+        retained2 at law passes1 passes2 = where_told (now d0) Settled (λ _. ComeFromEarlier moment at d0 d2 Step) settled (λ file here s. come_also moment at d0 d2 Same Step (λ d c s. inl s) (goes2 at law passes1 passes2 file s here).2)
 
         module _ (written1 : now d1 ≡ option_map (written (end + 1) bytes) (now d0)) (same2 : now d2 ≡ now d1) (durable2 : IfSome (now d1) (λ f. Only f (images d2))) where
           abbrev rest : List ℕ → List ℕ
@@ -117,11 +129,11 @@ module _ {D : Type 0} {now : D → Option (List ℕ)} {moment : D → ℕ} {imag
                 let same : records_of digest from.0 ≡ records_of digest file = at_rest_records digest end s.list from.0 (stage1 file s from.0 (fewer2 from.0 from.1)) ∙ sym (at_rest_records digest end s.list file s.at_rest) in
                 (from.0, from.1, subst (λ r. (records_of digest c ≡ r) ⊎ (records_of digest c ≡ and_last r body)) (sym same) (stage3 file s here c left))
 
-            goes3 : (at : D → ℕ → List ℕ → Type 0) (law : (d : D) (c : List ℕ) → at d (moment d) c ↔ images d c) (passes1 : Passes (moment d0) (moment d1) (at d0) (at d1) (images d1)) (passes2 : Passes (moment d1) (moment d2) (at d1) (at d2) (images d2)) (passes3 : Passes (moment d2) (moment d3) (at d2) (at d3) (images d3)) (file : List ℕ) (s : Settled file) → now d0 ≡ Some file → Goes moment at digest d0 d3
-            goes3 at law passes1 passes2 passes3 file s here = adds moment images at law digest body d0 d2 d3 (goes2 at law passes1 passes2 file s here) time3.later passes3 (adds3 file s here)
+            goes3 : (at : D → ℕ → List ℕ → Type 0) (law : (d : D) (c : List ℕ) → at d (moment d) c ↔ images d c) (passes1 : Passes (moment d0) (moment d1) (at d0) (at d1) (images d1)) (passes2 : Passes (moment d1) (moment d2) (at d1) (at d2) (images d2)) (passes3 : Passes (moment d2) (moment d3) (at d2) (at d3) (images d3)) (file : List ℕ) (s : Settled file) → now d0 ≡ Some file → Goes moment at Step d0 d3
+            goes3 at law passes1 passes2 passes3 file s here = adds_body moment images at law digest body d0 d2 d3 (goes2 at law passes1 passes2 file s here) time3.later passes3 (adds3 file s here)
 
-            pub retained3 : (at : D → ℕ → List ℕ → Type 0) (law : (d : D) (c : List ℕ) → at d (moment d) c ↔ images d c) (passes1 : Passes (moment d0) (moment d1) (at d0) (at d1) (images d1)) (passes2 : Passes (moment d1) (moment d2) (at d1) (at d2) (images d2)) (passes3 : Passes (moment d2) (moment d3) (at d2) (at d3) (images d3)) → IfSome (now d0) (λ _. RetainsRecords moment at d0 d3 digest)
-            retained3 at law passes1 passes2 passes3 = where_told (now d0) Settled (λ _. RetainsRecords moment at d0 d3 digest) settled (λ file here s. (goes3 at law passes1 passes2 passes3 file s here).2)
+            pub retained3 : (at : D → ℕ → List ℕ → Type 0) (law : (d : D) (c : List ℕ) → at d (moment d) c ↔ images d c) (passes1 : Passes (moment d0) (moment d1) (at d0) (at d1) (images d1)) (passes2 : Passes (moment d1) (moment d2) (at d1) (at d2) (images d2)) (passes3 : Passes (moment d2) (moment d3) (at d2) (at d3) (images d3)) → IfSome (now d0) (λ _. ComeFromEarlier moment at d0 d3 Step)
+            retained3 at law passes1 passes2 passes3 = where_told (now d0) Settled (λ _. ComeFromEarlier moment at d0 d3 Step) settled (λ file here s. (goes3 at law passes1 passes2 passes3 file s here).2)
 
             module _ (d4 : D) (fewer4 : (c : List ℕ) → images d4 c → images d3 c) (time4 : Elapses (moment d3) (moment d4) (since d3) (since d4) (images d4)) where
               leaves4_at : (file : List ℕ) (s : Settled file) → now d0 ≡ Some file → LeavesOnly moment since d0 d4 (P file)
@@ -130,11 +142,11 @@ module _ {D : Type 0} {now : D → Option (List ℕ)} {moment : D → ℕ} {imag
               pub leaves4 : IfSome (now d0) (λ file. LeavesOnly moment since d0 d4 (P file))
               leaves4 = where_told (now d0) Settled (λ file. LeavesOnly moment since d0 d4 (P file)) settled (λ file here s. leaves4_at file s here)
 
-              goes4 : (at : D → ℕ → List ℕ → Type 0) (law : (d : D) (c : List ℕ) → at d (moment d) c ↔ images d c) (passes1 : Passes (moment d0) (moment d1) (at d0) (at d1) (images d1)) (passes2 : Passes (moment d1) (moment d2) (at d1) (at d2) (images d2)) (passes3 : Passes (moment d2) (moment d3) (at d2) (at d3) (images d3)) (passes4 : Passes (moment d3) (moment d4) (at d3) (at d4) (images d4)) (file : List ℕ) (s : Settled file) → now d0 ≡ Some file → Goes moment at digest d0 d4
-              goes4 at law passes1 passes2 passes3 passes4 file s here = shrinks moment images at law digest d0 d3 d4 (goes3 at law passes1 passes2 passes3 file s here) time4.later passes4 fewer4
+              goes4 : (at : D → ℕ → List ℕ → Type 0) (law : (d : D) (c : List ℕ) → at d (moment d) c ↔ images d c) (passes1 : Passes (moment d0) (moment d1) (at d0) (at d1) (images d1)) (passes2 : Passes (moment d1) (moment d2) (at d1) (at d2) (images d2)) (passes3 : Passes (moment d2) (moment d3) (at d2) (at d3) (images d3)) (passes4 : Passes (moment d3) (moment d4) (at d3) (at d4) (images d4)) (file : List ℕ) (s : Settled file) → now d0 ≡ Some file → Goes moment at Step d0 d4
+              goes4 at law passes1 passes2 passes3 passes4 file s here = shrinks moment images at law Step (λ c. inl refl) d0 d3 d4 (goes3 at law passes1 passes2 passes3 file s here) time4.later passes4 fewer4
 
-              pub retained4 : (at : D → ℕ → List ℕ → Type 0) (law : (d : D) (c : List ℕ) → at d (moment d) c ↔ images d c) (passes1 : Passes (moment d0) (moment d1) (at d0) (at d1) (images d1)) (passes2 : Passes (moment d1) (moment d2) (at d1) (at d2) (images d2)) (passes3 : Passes (moment d2) (moment d3) (at d2) (at d3) (images d3)) (passes4 : Passes (moment d3) (moment d4) (at d3) (at d4) (images d4)) → IfSome (now d0) (λ _. RetainsRecords moment at d0 d4 digest)
-              retained4 at law passes1 passes2 passes3 passes4 = where_told (now d0) Settled (λ _. RetainsRecords moment at d0 d4 digest) settled (λ file here s. (goes4 at law passes1 passes2 passes3 passes4 file s here).2)
+              pub retained4 : (at : D → ℕ → List ℕ → Type 0) (law : (d : D) (c : List ℕ) → at d (moment d) c ↔ images d c) (passes1 : Passes (moment d0) (moment d1) (at d0) (at d1) (images d1)) (passes2 : Passes (moment d1) (moment d2) (at d1) (at d2) (images d2)) (passes3 : Passes (moment d2) (moment d3) (at d2) (at d3) (images d3)) (passes4 : Passes (moment d3) (moment d4) (at d3) (at d4) (images d4)) → IfSome (now d0) (λ _. ComeFromEarlier moment at d0 d4 Step)
+              retained4 at law passes1 passes2 passes3 passes4 = where_told (now d0) Settled (λ _. ComeFromEarlier moment at d0 d4 Step) settled (λ file here s. (goes4 at law passes1 passes2 passes3 passes4 file s here).2)
 
               module _ (written3 : now d3 ≡ option_map (written end (0xA5 ∷ [])) (now d2)) (same4 : now d4 ≡ now d3) (durable4 : IfSome (now d3) (λ f. Only f (images d4))) where
                 now3 : (file : List ℕ) (s : Settled file) → now d0 ≡ Some file → now d3 ≡ Some (gated file s 0xA5)

@@ -1,5 +1,5 @@
 mod Append
-mod Retaining
+pub mod Retaining
 pub mod Bytes
 mod Entry
 mod Examples

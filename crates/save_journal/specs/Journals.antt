@@ -1,7 +1,7 @@
 -- A journal over a disk.
-use Rattle.std.specs.Prelude.{◌≡◌, ◌≢◌, ◌⊎◌, ℕ, ◌+◌, ◌^◌, ◌<◌, Bool, true, List, ◌∷◌, ◌++◌, length, map, Option, IfSome, Ok, Vec, All}
+use Rattle.std.specs.Prelude.{◌≡◌, ◌≢◌, ◌⊎◌, ℕ, ◌+◌, ◌^◌, ◌<◌, ◌≤◌, Bool, true, List, ◌∷◌, ◌++◌, length, map, Option, IfSome, Vec, All}
 use Rattle.std.specs.declared.alloc.Global.{Global}
-use Rattle.edge.specs.Disk.{Only, Retains}
+use Rattle.edge.specs.Disk.{Follows, Only}
 use Rattle.save_journal.specs.Records.{Records, records_of, and_last, encoded, header}
 
 -- What contracts see of a journal: its disk, the digest that its records belong to, the place of the gate behind the last of
@@ -48,16 +48,16 @@ HasRecordsOf digest images c = (d : List ℕ) × images d × (records_of digest 
 abbrev pub IsBeforeOrAfter : List ℕ → Records → List ℕ → List ℕ → Type 0
 IsBeforeOrAfter digest before body c = (records_of digest c ≡ before) ⊎ (records_of digest c ≡ and_last before body)
 
--- the file has these records, and maybe more behind them
-pub record HasFirst (digest : List ℕ) (first : List (List ℕ)) (c : List ℕ) : Type 0 where
-  pub more : List (List ℕ)
-  pub records : records_of digest c ≡ Ok (first ++ more)
+-- the second file has the records, or the refusal, of the first
+abbrev pub HaveSameRecords : List ℕ → List ℕ → List ℕ → Type 0
+HaveSameRecords digest d c = records_of digest c ≡ records_of digest d
 
--- From old to new no record is away again, not even for a moment: if each image at a moment has these records, so has each image
--- at every later moment.
-abbrev pub RetainsRecords : {D : Type 0} (moment : D → ℕ) (at : D → ℕ → List ℕ → Type 0) (old new : D) (digest : List ℕ) →
-    Type 0
-RetainsRecords moment at old new digest = (first : List (List ℕ)) → Retains moment at old new (HasFirst digest first)
+-- From old to new each image comes from one before it, by this step: an image at a moment, from some image at each earlier one.
+-- So what all images have at a moment is not away later, not even for a moment, if the step keeps it.
+abbrev pub ComeFromEarlier : {D : Type 0} (moment : D → ℕ) (at : D → ℕ → List ℕ → Type 0) (old new : D)
+    (step : List ℕ → List ℕ → Type 0) → Type 0
+ComeFromEarlier moment at old new step = (u v : ℕ) → moment old ≤ u → u ≤ v → v ≤ moment new →
+    Follows step (at new u) (at new v)
 
 -- the contents of vectors
 abbrev pub contents : List (Vec ℕ Global) → List (List ℕ)

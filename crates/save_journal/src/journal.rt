@@ -4,7 +4,7 @@ ghost use Rattle.std.specs.Option.{option_map};
 ghost use Rattle.edge.specs.Disk.{LeavesOnly, HavePast, IsTold, AreTold};
 ghost use Rattle.edge.specs.Faults.{HasRisen};
 ghost use Rattle.save_journal.specs.Records.{records_of, opened, and_last};
-ghost use Rattle.save_journal.specs.Journals.{IsLive, HasRecordsOf, IsBeforeOrAfter, RetainsRecords, contents};
+ghost use Rattle.save_journal.specs.Journals.{IsLive, HasRecordsOf, IsBeforeOrAfter, HaveSameRecords, ComeFromEarlier, contents};
 ghost use Rattle.save_journal.specs.declared.fault.OpenFault.TheVariants.{Failed as DiskFailed, Memory as WantOfMemory};
 
 use crate::fault::OpenFault;
@@ -68,8 +68,8 @@ impl<D: Disk> Journal<D> {
         ensures past { MatchResult result (λ r. HavePast D.moment D.images_at disk r.0.disk)
             (λ e. HavePast D.moment D.images_at disk e.1) }
         ensures retained { IfSome (D.now disk) (λ _. MatchResult result
-            (λ r. RetainsRecords D.moment D.images_at disk r.0.disk digest)
-            (λ e. RetainsRecords D.moment D.images_at disk e.1 digest)) }
+            (λ r. ComeFromEarlier D.moment D.images_at disk r.0.disk (HaveSameRecords digest))
+            (λ e. ComeFromEarlier D.moment D.images_at disk e.1 (HaveSameRecords digest))) }
         ensures no_fault { IfOk result (λ r. D.faults r.0.disk ≡ D.faults disk) }
         ensures quiet { IfErr result (λ e. e.0 ≢ DiskFailed → D.faults e.1 ≡ D.faults disk) }
         ensures never_fall { IfErr result (λ e. D.faults disk ≤ D.faults e.1) }
@@ -112,7 +112,8 @@ impl<D: Disk> Journal<D> {
             self.new.disk (IsBeforeOrAfter self.old.digest (records_of self.old.digest file) framed.now)) }
         ensures past { HavePast D.moment D.images_at self.old.disk self.new.disk }
         ensures retained { IfSome (D.now self.old.disk)
-            (λ _. RetainsRecords D.moment D.images_at self.old.disk self.new.disk self.old.digest) }
+            (λ _. ComeFromEarlier D.moment D.images_at self.old.disk self.new.disk
+            (λ d c. IsBeforeOrAfter self.old.digest (records_of self.old.digest d) framed.now c)) }
         ensures same { self.new.digest ≡ self.old.digest }
         ensures never_fall { D.faults self.old.disk ≤ D.faults self.new.disk }
         ensures no_fault { OnOk result (D.faults self.new.disk ≡ D.faults self.old.disk) }

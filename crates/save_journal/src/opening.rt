@@ -4,7 +4,7 @@ ghost use Rattle.std.specs.Option.{option_map};
 ghost use Rattle.edge.specs.Disk.{LeavesOnly, HavePast, Passes};
 ghost use Rattle.edge.specs.Faults.{HasRisen};
 ghost use Rattle.save_journal.specs.Records.{records_of, opened};
-ghost use Rattle.save_journal.specs.Journals.{HasRecordsOf, RetainsRecords, contents};
+ghost use Rattle.save_journal.specs.Journals.{HasRecordsOf, HaveSameRecords, ComeFromEarlier, contents};
 ghost use Rattle.save_journal.specs.Inside.Held.{IsHeld};
 ghost use Rattle.save_journal.specs.declared.fault.OpenFault.TheVariants.{Failed as DiskFailed, Memory as WantOfMemory};
 
@@ -37,7 +37,7 @@ pub fn open_on<D: Disk>(
         (λ _. LeavesOnly D.moment D.since disk.old disk.new (HasRecordsOf digest.now (D.images disk.old))) }
     ensures past { HavePast D.moment D.images_at disk.old disk.new }
     ensures retained { IfSome (D.now disk.old)
-        (λ _. RetainsRecords D.moment D.images_at disk.old disk.new digest.now) }
+        (λ _. ComeFromEarlier D.moment D.images_at disk.old disk.new (HaveSameRecords digest.now)) }
     ensures never_fall { D.faults disk.old ≤ D.faults disk.new }
     ensures no_fault { OnOk result (D.faults disk.new ≡ D.faults disk.old) }
     ensures quiet { IfErr result (λ e. e ≢ DiskFailed → D.faults disk.new ≡ D.faults disk.old) }

@@ -7,19 +7,23 @@ use f2_vec::BitVec;
 use finite_module::Module;
 use memory::Memory;
 use resolution_step::resolved;
-use save_file::{DecodeFault, decode, encode};
+use save_file::{Body, DecodeFault, decode, encode};
 use square::{Range, Square, Table};
 use std::alloc::Global;
 use std::sync::Arc;
 use std::test::Fail;
 
 // The body of the sphere's square (0, 0), in hexadecimal digits: its kind, row and degrees above the bottom; one image in the
-// module's one dimension; and no kernel row in the one dimension of F_0.
-const PLACE: &str = "0100000000";
+// module's one dimension; no kernel row in the one dimension of F_0; and of the quasi-inverse one image row and its preimage.
+const PLACE: &str = "0200000000";
+
+const BARE_PLACE: &str = "0100000000";
 
 const IMAGES: &str = "0000000000000001000000000000000101";
 
 const KERNEL: &str = "00000000000000000000000000000001";
+
+const QUASI: &str = "00000000000000010101";
 
 // The sphere's table of no square.
 fn nothing_read(alloc: Global) -> Result<Table, Memory>
@@ -38,7 +42,9 @@ fn with_body(
     requires { AllRead table.rows }
     ensures { IfOk result (λ table. AllRead table.rows) }
 {
-    let square = decode(alloc, &table, number, body)?;
+    let Body::Square(square) = decode(alloc, &table, number, body)? else {
+        return Err(DecodeFault::Strange { number });
+    };
     // What is asked of a table stands in the contract of a look at it.
     let _front = table.front(0);
     let Ok(square) = Arc::new(alloc, square) else {
@@ -114,15 +120,29 @@ fn are_same_through(alloc: Global, a: &Table, b: &Table, range: Range) -> Result
 #[test]
 fn the_first_body(rt: HostRuntime) -> Result<(), Fail> {
     let alloc = rt.alloc();
-    let first = bytes(alloc, &[PLACE, IMAGES, KERNEL])?;
+    let first = bytes(alloc, &[PLACE, IMAGES, KERNEL, QUASI])?;
     let table = nothing_read(alloc)?;
     let whole = resolved(alloc, Module::sphere(alloc)?, Range { s: 0, t: 0 }, None)?;
     let made = whole.at(0, 0).ok_or("the square was made")?;
     assert_eq!(rt; encode(alloc, made)?, first);
-    let read = decode(alloc, &table, 0, first.as_slice())?;
+    let table = with_body(alloc, table, 0, first.as_slice())?;
+    let read = table.at(0, 0).ok_or("the square was read")?;
     assert!(rt; read.s() == 0 && read.t() == 0);
-    assert!(rt; is_same(alloc, made, &read)?);
+    assert!(rt; is_same(alloc, made, read)?);
+    assert!(rt; read.kept_quasi().is_some());
+    assert_eq!(rt; encode(alloc, read)?, first);
+    Ok(())
+}
+
+// A square that was read without its quasi-inverse is written without it.
+#[test]
+fn the_first_body_bare(rt: HostRuntime) -> Result<(), Fail> {
+    let alloc = rt.alloc();
+    let first = bytes(alloc, &[BARE_PLACE, IMAGES, KERNEL])?;
+    let table = with_body(alloc, nothing_read(alloc)?, 0, first.as_slice())?;
+    let read = table.at(0, 0).ok_or("the square was read")?;
     assert!(rt; read.kept_quasi().is_none());
+    assert_eq!(rt; encode(alloc, read)?, first);
     Ok(())
 }
 

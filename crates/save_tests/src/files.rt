@@ -17,6 +17,10 @@ pub(crate) const THEIRS: &str = "5b01a2fd981bf610268cc97171b55385829b01d2e57240e
 pub(crate) const SQUARE: &str =
     "0000000000000026010000000000000000000000010000000000000001010000000000000000000000000000000169b7c844de9a6419754dc7e857dbba1a6f8b2f2ddeaefedb344ea3bea60d3953";
 
+/// The record of the quasi-inverse of that square behind its gate.
+pub(crate) const QUASI: &str =
+    "000000000000001f03000000000000000000000001000000000000000100000000000000010101d4201fc0b393336e09ca924e50b041dcd9ecb8f101abddc636aa29ca8d73b287";
+
 /// The bytes of a text of these parts.
 pub(crate) fn bytes(alloc: Global, parts: &[&str]) -> Result<Vec<u8>, Fail> {
     let mut text = String::new(alloc);

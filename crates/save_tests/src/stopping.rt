@@ -21,19 +21,20 @@ fn their_module(alloc: Global) -> Result<Module, Memory> {
     Module::sample(alloc, 12)
 }
 
-/// The table of those four squares, which are taken up from this disk or made and kept there, none where the disk failed; and the
-/// disk.
+/// The table of those four squares, which are taken up from this disk or made and kept there, with how many were taken up, none
+/// where the disk failed; and the disk.
 fn resolved(
     alloc: Global,
     module: Module,
     disk: MemDisk,
-) -> Result<(Option<Table>, MemDisk), Fail> {
+) -> Result<(Option<(Table, u64)>, MemDisk), Fail> {
     match resume(alloc, module, disk) {
         Ok((table, keeper)) => {
+            let count = (table.front(0) as u64).saturating_add(table.front(1) as u64);
             let (resolved, keeper) = resolve_alone(alloc, table, Range { s: 1, t: 1 }, keeper);
             let disk = keeper.into_disk();
             match resolved {
-                Ok(table) => Ok((Some(table), disk)),
+                Ok(table) => Ok((Some((table, count)), disk)),
                 Err(KeepFault::Failed) => Ok((None, disk)),
                 Err(KeepFault::Memory) => Err("out of memory".into()),
             }
@@ -43,16 +44,14 @@ fn resolved(
     }
 }
 
-/// Whether a table has the four squares as another one has them, and just the first `count` of them were read: these have no
-/// reduction.
-fn were_read(alloc: Global, table: &Table, whole: &Table, count: u64) -> Result<bool, Fail> {
+/// Whether a table has the four squares as another one has them, each with its quasi-inverse.
+fn are_same(alloc: Global, table: &Table, whole: &Table) -> Result<bool, Fail> {
     let bottom = whole.module().bottom();
-    for (i, (s, above)) in PLACES.iter().enumerate() {
-        let t = bottom + i32::from(*above);
-        let square = table.at(*s, t).ok_or("a square is missing")?;
-        let other = whole.at(*s, t).ok_or("a square is missing")?;
-        let was_read = square.kept_quasi().is_none();
-        if encode(alloc, square)? != encode(alloc, other)? || was_read != ((i as u64) < count) {
+    for (s, above) in PLACES {
+        let t = bottom + i32::from(above);
+        let square = table.at(s, t).ok_or("a square is missing")?;
+        let other = whole.at(s, t).ok_or("a square is missing")?;
+        if square.kept_quasi().is_none() || encode(alloc, square)? != encode(alloc, other)? {
             return Ok(false);
         }
     }
@@ -86,8 +85,11 @@ fn is_gone_on_with(
     for pick in 0..3 {
         let image = sound_disk(alloc, stopped.image(alloc, pick)?)?;
         let (table, ended) = resolved(alloc, Module::sphere(alloc)?, image)?;
-        let table = table.ok_or("not resolved")?;
-        if ended.bytes() != finished || !were_read(alloc, &table, whole, kept_after(calls, pick))? {
+        let (table, count) = table.ok_or("not resolved")?;
+        if ended.bytes() != finished
+            || count != kept_after(calls, pick)
+            || !are_same(alloc, &table, whole)?
+        {
             return Ok(false);
         }
     }
@@ -100,7 +102,7 @@ fn stops(rt: HostRuntime) -> Result<(), Fail> {
     let alloc = rt.alloc();
     let empty = sound_disk(alloc, Vec::new(alloc))?;
     let (whole, finished) = resolved(alloc, Module::sphere(alloc)?, empty)?;
-    let whole = whole.ok_or("not resolved")?;
+    let (whole, _) = whole.ok_or("not resolved")?;
     assert_eq!(rt; finished.calls(), CALLS);
     for calls in 0..CALLS {
         let once = disk(alloc, Vec::new(alloc), &[calls + 1], u64::MAX)?;
@@ -122,7 +124,7 @@ fn another_module(rt: HostRuntime) -> Result<(), Fail> {
     let alloc = rt.alloc();
     let empty = sound_disk(alloc, Vec::new(alloc))?;
     let (whole, finished) = resolved(alloc, their_module(alloc)?, empty)?;
-    let whole = whole.ok_or("not resolved")?;
+    let (whole, _) = whole.ok_or("not resolved")?;
     assert!(rt;
         finished
             .bytes()
@@ -133,8 +135,8 @@ fn another_module(rt: HostRuntime) -> Result<(), Fail> {
         let again = disk(alloc, finished.image(alloc, 0)?, &[], calls)?;
         let (table, after) = resolved(alloc, their_module(alloc)?, again)?;
         assert_eq!(rt; table.is_some(), calls == 3);
-        if let Some(table) = table {
-            assert!(rt; were_read(alloc, &table, &whole, 4)?);
+        if let Some((table, count)) = table {
+            assert!(rt; count == 4 && are_same(alloc, &table, &whole)?);
         }
         assert_eq!(rt; after.bytes(), finished.bytes());
     }

@@ -1,7 +1,7 @@
 //! Save files on disks in memory that are cut or changed.
 ghost use Rattle.std.specs.Prelude.{◌<◌};
 
-use crate::files::{MAGIC, OURS, SQUARE, bytes, digest, sound_disk};
+use crate::files::{MAGIC, OURS, QUASI, SQUARE, bytes, digest, sound_disk};
 use edge::MemDisk;
 use finite_module::Module;
 use save_file::{ResumeFault, resume};
@@ -18,6 +18,9 @@ const SECOND: &str =
 
 /// How many bytes the sphere's file of one square has.
 const ONE: usize = 120;
+
+/// How many bytes that of two squares has.
+const TWO: usize = 199;
 
 /// How many squares of row 0 the sphere's save file of these bytes has, or why it is refused; and the disk.
 fn taken_up(alloc: Global, file: Vec<u8>) -> Result<(Result<usize, ResumeFault>, MemDisk), Fail> {
@@ -61,19 +64,23 @@ fn zeros(rt: HostRuntime) -> Result<(), Fail> {
     Ok(())
 }
 
-/// A file of two squares, cut at each length.
+/// A file of two squares and of a quasi-inverse, cut at each length.
 #[test]
 fn cuts(rt: HostRuntime) -> Result<(), Fail> {
     let alloc = rt.alloc();
-    let whole = bytes(alloc, &[MAGIC, OURS, "a5", SQUARE, "a5", SECOND, "00"])?;
-    assert_eq!(rt; whole.len(), 199);
-    for len in 0..200 {
+    let whole = bytes(
+        alloc,
+        &[MAGIC, OURS, "a5", SQUARE, "a5", SECOND, "a5", QUASI, "00"],
+    )?;
+    assert_eq!(rt; whole.len(), 271);
+    for len in 0..272 {
         let mut file = whole.clone()?;
         file.truncate(len);
         let want = match len {
             0..=41 => Ok(0),
             42..ONE => refused(OpenFault::Short { place: 40 }),
-            ONE..199 => refused(OpenFault::Short { place: 119 }),
+            ONE..TWO => refused(OpenFault::Short { place: 119 }),
+            TWO..271 => refused(OpenFault::Short { place: 198 }),
             _ => Ok(2),
         };
         assert!(rt; is_answer(alloc, file.as_slice(), want)?, "{len} bytes");

@@ -5,15 +5,16 @@ use Rattle.std.proofs.lemmas.List.{length-map}
 use Rattle.sha2.specs.Sha256.{sha256}
 use Rattle.edge.specs.Disk.{LeavesOnly}
 use Rattle.edge.proofs.Moments.{Lawful}
-use Rattle.resolution_laws.specs.Start.{Entry}
 use Rattle.square.specs.Squares.{over}
 use Rattle.save_journal.specs.Records.{opened}
-use Rattle.save_journal.specs.Journals.{HasRecordsOf, contents}
-use Rattle.save_file.specs.Reading.{squares_from, squares_of}
+use Rattle.save_journal.specs.Journals.{HasRecordsOf, HaveSameRecords, ComeFromEarlier, contents}
+use Rattle.save_file.specs.Bodies.{Kept}
+use Rattle.save_file.specs.Reading.{kept_from, kept_of_bodies}
+use Rattle.save_file.specs.Saved.{kept_of_table}
 use Rattle.save_file.specs.Files.{opening_refusal, digest_of}
 use Rattle.save_file.specs.declared.fault.DecodeFault.{DecodeFault}
 use Rattle.save_file.proofs.Adding.{anyway}
-use Rattle.save_file.proofs.TakenUp.{IsOpened, is_opened, stands, as_was, not_written, takes, kept, keeper, from_none, refused, failed, not_open, strange, not_called, untouched}
+use Rattle.save_file.proofs.TakenUp.{IsOpened, is_opened, stands, stands_for, as_was, not_written, takes, kept, quasis, keeper, from_none, refused, failed, not_open, strange, not_called, untouched, not_moved, nothing_lost}
 use Rattle.save_file.proofs.resuming.resume.Given.{Over}
 use Rattle.save_file.proofs.resuming.resume.Goals.{After-open, After-read_bodies}
 use Rattle.save_file.proofs.resuming.resume.Goals as goal
@@ -37,10 +38,10 @@ opened_here g c =
     c.in-Ok-open.ensures.live c.in-Ok-open.ensures.digest few c.in-Ok-open.ensures.file c.in-Ok-open.ensures.bodies
 
 -- what was read behind the empty table
-squares_here : (g : Over) (c : After-read_bodies g) (s : Result (List Entry) ℕ) → squares_from (over c.in-Ok.table.resolved) c.in-Ok.table.start 0 (contents c.as_slice-2.result.now) ≡ s → squares_of (over c.args.module) (contents c.in-Ok-open.opened.1.items) ≡ s
-squares_here g c s e =
-    from_none c.args.module (contents c.in-Ok-open.opened.1.items) s c.in-Ok.table c.in-Ok.ensures.resolved c.in-Ok.ensures.start
-    (ap (λ l. squares_from (over c.in-Ok.table.resolved) c.in-Ok.table.start 0 (contents l)) (sym c.as_slice-2.ensures.value) ∙ e)
+kept_here : (g : Over) (c : After-read_bodies g) (r : Result (List Kept) ℕ) → kept_from (over c.in-Ok.table.resolved) (kept_of_table c.in-Ok.table) 0 (contents c.as_slice-2.result.now) ≡ r → kept_of_bodies (over c.args.module) (contents c.in-Ok-open.opened.1.items) ≡ r
+kept_here g c r e =
+    from_none c.args.module (contents c.in-Ok-open.opened.1.items) r c.in-Ok.table c.in-Ok.ensures.resolved c.in-Ok.ensures.start
+    (ap (λ l. kept_from (over c.in-Ok.table.resolved) (kept_of_table c.in-Ok.table) 0 (contents l)) (sym c.as_slice-2.ensures.value) ∙ e)
 
 -- an opening that leaves the file as it is writes nothing
 alone_here : (g : Over) (c : After-read_bodies g) → IfSome (g.D.Disk.now c.args.disk) (λ file. opened (digest_of c.args.module.plain) file ≡ file → LeavesOnly g.D.Disk.moment g.D.Disk.since c.args.disk c.in-Ok-open.opened.0.disk (g.D.Disk.images c.args.disk))
@@ -82,7 +83,7 @@ pub returns-in-Err-read_bodies-clause-refused : goal.returns-in-Err-read_bodies-
 returns-in-Err-read_bodies-clause-refused g c =
     let at = (goal.at.returns-in-Err-read_bodies-clause-refused g c).After-read_bodies in
     strange c.args.module c.in-Err-read_bodies.fault c.from-in-Err-read_bodies.result (g.D.Disk.now c.args.disk) c.from-in-Err-read_bodies.ensures (λ n e.
-    stands g.D.Disk.now g.D.Disk.images c.args.module c.args.disk c.in-Ok-open.opened.0 (contents c.in-Ok-open.opened.1.items) (opened_here g at) (Err n) (squares_here g at (Err n) (c.in-Err-read_bodies.ensures.strange n (ap (λ (f : DecodeFault). Err f) e))))
+    stands g.D.Disk.now g.D.Disk.images c.args.module c.args.disk c.in-Ok-open.opened.0 (contents c.in-Ok-open.opened.1.items) (opened_here g at) (Err n) (kept_here g at (Err n) (c.in-Err-read_bodies.ensures.strange n (ap (λ (f : DecodeFault). Err f) e))))
 
 pub returns-in-Err-read_bodies-clause-same : goal.returns-in-Err-read_bodies-clause-same
 returns-in-Err-read_bodies-clause-same g c = λ _.
@@ -101,26 +102,56 @@ returns-in-Err-read_bodies-clause-unwritten g c = λ _.
 pub returns-in-Ok-read_bodies-clause-squares : goal.returns-in-Ok-read_bodies-clause-squares
 returns-in-Ok-read_bodies-clause-squares g c =
     let at = (goal.at.returns-in-Ok-read_bodies-clause-squares g c).After-read_bodies in
-    stands g.D.Disk.now g.D.Disk.images c.args.module c.args.disk c.in-Ok-open.opened.0 (contents c.in-Ok-open.opened.1.items) (opened_here g at) (Ok c.read_bodies.new.table.start) (squares_here g at (Ok c.read_bodies.new.table.start) c.in-Ok-read_bodies.ensures.read)
+    stands_for g.D.Disk.now g.D.Disk.images c.args.module c.args.disk c.in-Ok-open.opened.0 (contents c.in-Ok-open.opened.1.items) (opened_here g at) c.read_bodies.new.table (kept_here g at (Ok (kept_of_table c.read_bodies.new.table)) c.in-Ok-read_bodies.ensures.read)
 
 pub returns-in-Ok-read_bodies-clause-live : goal.returns-in-Ok-read_bodies-clause-live
 returns-in-Ok-read_bodies-clause-live g c =
     let at = (goal.at.returns-in-Ok-read_bodies-clause-live g c).After-read_bodies in
     takes g.D.Disk.now g.D.Disk.images c.args.module c.args.disk c.in-Ok-open.opened.0 (contents c.in-Ok-open.opened.1.items) (opened_here g at) c.read_bodies.new.table c.of-opened.result.value c.len-count.result c.of-opened.ensures
-    (omega (arith, length-map c.in-Ok-open.opened.1.items (λ v. v.items), c.len-count.ensures, c.in-Ok-open.opened.1.ok)) (c.read_bodies.ensures.resolved ∙ c.in-Ok.ensures.resolved) (squares_here g at (Ok c.read_bodies.new.table.start) c.in-Ok-read_bodies.ensures.read) c.in-Ok-read_bodies.ensures.is_table c.read_bodies.ensures.all_read
+    (omega (arith, length-map c.in-Ok-open.opened.1.items (λ v. v.items), c.len-count.ensures, c.in-Ok-open.opened.1.ok)) (c.read_bodies.ensures.resolved ∙ c.in-Ok.ensures.resolved) (kept_here g at (Ok (kept_of_table c.read_bodies.new.table)) c.in-Ok-read_bodies.ensures.read) c.in-Ok-read_bodies.ensures.is_table c.read_bodies.ensures.all_read
 
 pub returns-in-Ok-read_bodies-clause-keeper : goal.returns-in-Ok-read_bodies-clause-keeper
 returns-in-Ok-read_bodies-clause-keeper g c =
     let at = (goal.at.returns-in-Ok-read_bodies-clause-keeper g c).After-read_bodies in
     keeper g.D.Disk.now g.D.Disk.images c.args.module c.args.disk c.in-Ok-open.opened.0 (contents c.in-Ok-open.opened.1.items) (opened_here g at) c.read_bodies.new.table c.of-opened.result.value c.len-count.result c.of-opened.ensures
-    (omega (arith, length-map c.in-Ok-open.opened.1.items (λ v. v.items), c.len-count.ensures, c.in-Ok-open.opened.1.ok)) (c.read_bodies.ensures.resolved ∙ c.in-Ok.ensures.resolved) (squares_here g at (Ok c.read_bodies.new.table.start) c.in-Ok-read_bodies.ensures.read) c.in-Ok-read_bodies.ensures.is_table c.read_bodies.ensures.all_read
+    (omega (arith, length-map c.in-Ok-open.opened.1.items (λ v. v.items), c.len-count.ensures, c.in-Ok-open.opened.1.ok)) (c.read_bodies.ensures.resolved ∙ c.in-Ok.ensures.resolved) (kept_here g at (Ok (kept_of_table c.read_bodies.new.table)) c.in-Ok-read_bodies.ensures.read) c.in-Ok-read_bodies.ensures.is_table c.read_bodies.ensures.all_read
     g.D.Disk.moment g.D.Disk.images_at g.D.Disk.since g.D.Disk.faults
 
 pub returns-in-Ok-read_bodies-clause-kept : goal.returns-in-Ok-read_bodies-clause-kept
 returns-in-Ok-read_bodies-clause-kept g c =
     let at = (goal.at.returns-in-Ok-read_bodies-clause-kept g c).After-read_bodies in
     kept g.D.Disk.now g.D.Disk.images c.args.module c.args.disk c.in-Ok-open.opened.0 (contents c.in-Ok-open.opened.1.items) (opened_here g at) c.read_bodies.new.table c.of-opened.result.value c.len-count.result c.of-opened.ensures
-    (omega (arith, length-map c.in-Ok-open.opened.1.items (λ v. v.items), c.len-count.ensures, c.in-Ok-open.opened.1.ok)) (c.read_bodies.ensures.resolved ∙ c.in-Ok.ensures.resolved) (squares_here g at (Ok c.read_bodies.new.table.start) c.in-Ok-read_bodies.ensures.read) c.in-Ok-read_bodies.ensures.is_table c.read_bodies.ensures.all_read
+    (omega (arith, length-map c.in-Ok-open.opened.1.items (λ v. v.items), c.len-count.ensures, c.in-Ok-open.opened.1.ok)) (c.read_bodies.ensures.resolved ∙ c.in-Ok.ensures.resolved) (kept_here g at (Ok (kept_of_table c.read_bodies.new.table)) c.in-Ok-read_bodies.ensures.read) c.in-Ok-read_bodies.ensures.is_table c.read_bodies.ensures.all_read
+
+pub returns-in-Ok-read_bodies-clause-quasis : goal.returns-in-Ok-read_bodies-clause-quasis
+returns-in-Ok-read_bodies-clause-quasis g c =
+    let at = (goal.at.returns-in-Ok-read_bodies-clause-quasis g c).After-read_bodies in
+    quasis g.D.Disk.now g.D.Disk.images c.args.module c.args.disk c.in-Ok-open.opened.0 (contents c.in-Ok-open.opened.1.items) (opened_here g at) c.read_bodies.new.table c.of-opened.result.value c.len-count.result c.of-opened.ensures
+    (omega (arith, length-map c.in-Ok-open.opened.1.items (λ v. v.items), c.len-count.ensures, c.in-Ok-open.opened.1.ok)) (c.read_bodies.ensures.resolved ∙ c.in-Ok.ensures.resolved) (kept_here g at (Ok (kept_of_table c.read_bodies.new.table)) c.in-Ok-read_bodies.ensures.read) c.in-Ok-read_bodies.ensures.is_table c.read_bodies.ensures.all_read
 
 pub returns-in-Ok-read_bodies-clause-left_alone : goal.returns-in-Ok-read_bodies-clause-left_alone
 returns-in-Ok-read_bodies-clause-left_alone g c = alone_here g (goal.at.returns-in-Ok-read_bodies-clause-left_alone g c).After-read_bodies
+
+-- ---- moments
+
+pub returns-in_default-clause-past : goal.returns-in_default-clause-past
+returns-in_default-clause-past g c = not_moved g.D.Disk.moment g.D.Disk.images_at c.args.disk
+
+pub returns-in_default-clause-retained : goal.returns-in_default-clause-retained
+returns-in_default-clause-retained g c = nothing_lost g.D.Disk.now g.D.Disk.moment g.D.Disk.images_at (digest_of c.args.module.plain) c.args.disk
+
+pub returns-in-Err-clause-retained : goal.returns-in-Err-clause-retained
+returns-in-Err-clause-retained g c =
+    subst (λ d. IfSome (g.D.Disk.now c.args.disk) (λ _. ComeFromEarlier g.D.Disk.moment g.D.Disk.images_at c.args.disk c.in-Err.disk (HaveSameRecords d))) (named g (goal.at.returns-in-Err-clause-retained g c).After-open) c.in-Err.ensures.retained
+
+-- what is retained by the opening
+retained_here : (g : Over) (c : After-read_bodies g) → IfSome (g.D.Disk.now c.args.disk) (λ _. ComeFromEarlier g.D.Disk.moment g.D.Disk.images_at c.args.disk c.in-Ok-open.opened.0.disk (HaveSameRecords (digest_of c.args.module.plain)))
+retained_here g c =
+    subst (λ d. IfSome (g.D.Disk.now c.args.disk) (λ _. ComeFromEarlier g.D.Disk.moment g.D.Disk.images_at c.args.disk c.in-Ok-open.opened.0.disk (HaveSameRecords d))) (c.digest-digest.ensures ∙ ap sha256 (c.as_slice.ensures.value ∙ c.in-Ok.ensures.text)) c.in-Ok-open.ensures.retained
+
+pub returns-in-Ok-read_bodies-clause-retained : goal.returns-in-Ok-read_bodies-clause-retained
+returns-in-Ok-read_bodies-clause-retained g c = retained_here g (goal.at.returns-in-Ok-read_bodies-clause-retained g c).After-read_bodies
+
+pub returns-in-Err-read_bodies-clause-retained : goal.returns-in-Err-read_bodies-clause-retained
+returns-in-Err-read_bodies-clause-retained g c =
+    subst (λ d. IfSome (g.D.Disk.now c.args.disk) (λ _. ComeFromEarlier g.D.Disk.moment g.D.Disk.images_at c.args.disk d (HaveSameRecords (digest_of c.args.module.plain)))) (sym c.into_disk.ensures) (retained_here g (goal.at.returns-in-Err-read_bodies-clause-retained g c).After-read_bodies)

@@ -1,12 +1,12 @@
-use Rattle.std.proofs.Common.{ap, sym, subst, ◌∙◌}
-use Rattle.square.specs.Squares.{Placed}
-use Rattle.square.specs.Tables.{AllRead, with_square}
-use Rattle.save_file.proofs.Pushing.{AllRead-decoded}
+use Rattle.std.proofs.Common.{subst}
+use Rattle.save_file.specs.Saved.{IsDecoded, IsDecodedSquare}
+use Rattle.save_file.proofs.Pushing.{AllRead-pushed}
+use Rattle.save_file.proofs.TakingUp.{row_read}
 use Rattle.save_tests.proofs.bodies.with_body.Goals as goal
 
 pub returns-in-Ok-push : goal.returns-in-Ok-push
 returns-in-Ok-push c =
     let table = c.args.table in
-    let q = c.in_ok-square.square in
-    let rows = c.in-Ok-push.ensures.rows ∙ ap (λ (x : Placed). with_square table.rows x.s x) c.in-Ok.ensures.ok in
-    subst AllRead (sym rows) (AllRead-decoded table c.args.body.now q c.front-front.ensures.is_table c.requires c.in_ok-square.ensures.decoded)
+    let q = c.in-Square.square in
+    let d : IsDecodedSquare table c.args.body.now q = subst (IsDecoded table c.args.body.now) c.in-Square.is c.in_ok-square.ensures.decoded in
+    AllRead-pushed table q _ _ c.front-front.ensures.is_table c.requires (row_read table c.args.body.now q d) d.start d.next c.in-Ok.ensures.ok c.in-Ok-push.ensures.rows

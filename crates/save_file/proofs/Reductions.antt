@@ -1,0 +1,37 @@
+-- A reduction that is put together of packed rows and kernel rows, or why it is none.
+use Rattle.std.proofs.Common.{◌≡◌, ◌<◌, Bool, List, length, refl, sym, ◌∙◌, subst, arith}
+use Rattle.f2_vec.specs.Spans.{HaveWidth}
+use Rattle.f2_matrix.specs.Parts.{AreReductionParts, PartsAreReduction}
+use Rattle.f2_matrix.specs.Reduction.{Rows, Reduction, IsReductionOf}
+use Rattle.save_file.specs.Inside.Outline.{Packed, PackedPair, AreUnpacked, ArePackedParts}
+use Rattle.save_file.proofs.Unpacking.{unpacked_once}
+
+-- rows are packed once
+packed_once : (p : Packed) (xs ys : List (List Bool)) → AreUnpacked p xs → AreUnpacked p ys → xs ≡ ys
+packed_once p xs ys a b = unpacked_once p.cols xs ys a.widths b.widths (a.as_many ∙ sym b.as_many) (a.bytes ∙ sym b.bytes)
+
+-- rows that are not the parts
+pub not_parts : (p : PackedPair) (matrix : Rows) (image chosen kernel : List (List Bool)) → AreUnpacked p.image image → AreUnpacked p.chosen chosen → (AreReductionParts matrix.cols matrix.rows image chosen kernel → ⊥) → (i c : List (List Bool)) → ArePackedParts p matrix i c kernel → ⊥
+not_parts p matrix image chosen kernel is_image is_chosen none i c parts =
+    let one = subst (λ x. AreReductionParts matrix.cols matrix.rows x c kernel) (packed_once p.image i image parts.image_rows is_image) parts.parts in
+    none (subst (λ x. AreReductionParts matrix.cols matrix.rows image x kernel) (packed_once p.chosen c chosen parts.chosen_rows is_chosen) one)
+
+-- what is known of the reduction
+abbrev pub IsPutTogether : PackedPair → Rows → List (List Bool) → Reduction → Type 0
+IsPutTogether p matrix kernel r = ArePackedParts p matrix r.image r.chosen r.kernel × (r.kernel ≡ kernel) × IsReductionOf matrix.cols matrix.rows r
+
+pub put_together : PartsAreReduction → (p : PackedPair) (matrix : Rows) (image chosen kernel : List (List Bool)) (r : Reduction) → HaveWidth matrix.cols matrix.rows → AreUnpacked p.image image → AreUnpacked p.chosen chosen → AreReductionParts matrix.cols matrix.rows image chosen kernel
+    → r ≡ record { cols = matrix.cols; height = length matrix.rows; image = image; chosen = chosen; kernel = kernel } → IsPutTogether p matrix kernel r
+put_together law p matrix image chosen kernel r wide is_image is_chosen parts e =
+    subst (IsPutTogether p matrix kernel) (sym e) (
+      record { image_rows = is_image; chosen_rows = is_chosen; parts = parts },
+      refl,
+      (law matrix.cols matrix.rows image chosen kernel wide).0 parts,
+    )
+
+-- the image rows of a reduction are no more than the matrix has rows
+pub too_many : (p : PackedPair) (matrix : Rows) (kernel : List (List Bool)) → p.chosen.cols ≡ length matrix.rows → p.chosen.cols < p.image.height → (i c : List (List Bool)) → ArePackedParts p matrix i c kernel → ⊥
+too_many p matrix kernel height many i c parts =
+    let as_many = parts.image_rows.as_many in
+    let sum = parts.parts.rank_and_nullity in
+    omega arith
