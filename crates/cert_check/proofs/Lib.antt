@@ -1,4 +1,5 @@
 mod Vectors
 mod Part
-mod Faults
+pub mod Faults
 mod Verdict
+pub mod Alike

@@ -8,3 +8,4 @@ mod rows;
 
 pub use checking::verify;
 pub use fault::CertFault;
+pub use rows::are_same;

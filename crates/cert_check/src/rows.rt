@@ -21,7 +21,7 @@ fn is_same(a: &BitVec, b: &BitVec) -> bool
 }
 
 /// Whether two lists of vectors are equal.
-pub(crate) fn are_same(a: &[BitVec], b: &[BitVec]) -> bool
+pub fn are_same(a: &[BitVec], b: &[BitVec]) -> bool
     ensures { IsTrue result ↔ (a.now ≡ b.now) }
 {
     if a.len() != b.len() {

@@ -9,7 +9,7 @@ use Rattle.finite_module.specs.Module.{Module as SteenrodModule}
 use Rattle.finite_module.specs.DerivedAction.{derived_module}
 use Rattle.module_check.specs.Acceptance.{refusal_of}
 use Rattle.ext_report.specs.declared.failure.Failure.{Failure}
-use Rattle.ext_report.specs.declared.failure.Failure.TheVariants.{Malformed as NoModuleFile, NotModule, Reading, Writing, Saving, SaveFile, Classes, Memory}
+use Rattle.ext_report.specs.declared.failure.Failure.TheVariants.{Malformed as NoModuleFile, NotModule, Reading, Writing, Saving, SaveFile, Certificate, Classes, Memory}
 
 -- P holds of all that a source has left; where it does not tell that, of some bytes.
 pub record IsOfInput (P : List ℕ → Type 0) (left : Option (List ℕ)) : Type 0 where
@@ -25,6 +25,7 @@ IsCauseOf MayRead MayWrite Is Writing = MayWrite
 IsCauseOf MayRead MayWrite Is Memory = ⊤
 IsCauseOf MayRead MayWrite Is Saving = ⊥
 IsCauseOf MayRead MayWrite Is (SaveFile e) = ⊥
+IsCauseOf MayRead MayWrite Is (Certificate fault) = ⊥
 IsCauseOf MayRead MayWrite Is (Classes refusal) = ⊥
 IsCauseOf MayRead MayWrite Is failure = Is failure
 

@@ -45,6 +45,8 @@ fn told(alloc: Global, command: &Command) -> Result<String, Fault> {
             write!(text, "sample {n}")?;
             tell(&mut text, "", common)?;
         }
+        Command::Migrate => text.push_str("migrate")?,
+        Command::Verify(range) => write!(text, "verify, through {} {}", range.s, range.t)?,
         Command::Sq(product) => {
             text.push_str("sq")?;
             for number in product.numbers() {

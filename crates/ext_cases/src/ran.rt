@@ -47,8 +47,8 @@ const SINK_ROOM: usize = 10_000;
 const DISK_ROOM: usize = 100_000;
 
 /// What differs between what comes of a run of `ext` on the words of a case and its answer. `left` has the bytes of the disk that the
-/// run before left, and then those that this one leaves. A sink or source that is to fail has to fail once. If the words do not say
-/// `--save`, the disk has to get no call.
+/// run before left, and then those that this one leaves. A sink or source that is to fail has to fail once. If the words do not use
+/// the disk, it has to get no call.
 pub(crate) fn ran_difference<W: Threads + Wait + Clock + Sync>(
     wait: &W,
     alloc: Global,
@@ -90,12 +90,17 @@ pub(crate) fn ran_difference<W: Threads + Wait + Clock + Sync>(
             compare_bytes(alloc, &mut all, disk.bytes(), bytes.as_slice())?;
         }
     }
-    if case.text("calls").is_some() || !words.contains(&"--save") {
+    if case.text("calls").is_some() || !use_the_disk(words.as_slice()) {
         let calls = case.number("calls", 0)?;
         all.compare_numbers("calls", disk.calls(), calls)?;
     }
     *left = disk.bytes().to_vec(alloc)?;
     Ok(all.into_line())
+}
+
+/// Whether the words use the disk: those that say `--save`, and those that bring a save file up to date or verify one.
+fn use_the_disk(words: &[&str]) -> bool {
+    words.contains(&"--save") || matches!(words.first(), Some(&"migrate" | &"verify"))
 }
 
 /// The source of a run.

@@ -68,6 +68,30 @@ free_sum_text-take s b squares n t v h =
     ap (λ (z : List (ℕ × List ℕ)). joined_by_plus (map (term_text whole) (items_where_true v z))) (free_basis-take b squares n t h)
     ∙ ap joined_by_plus (map-items_where_true (term_text whole) v basis ∙ ap (items_where_true v) same ∙ sym (map-items_where_true (term_text front) v basis))
 
+-- ---- two counts that agree through a range
+
+module _ (s t : ℕ) (f g : ℕ → ℕ → ℕ) (same : (i k : ℕ) → i ≤ s → k ≤ t → f i k ≡ g i k) where
+  same_row_line : (i : ℕ) → i ≤ s → row_line (count_marks f) t i ≡ row_line (count_marks g) t i
+  same_row_line i l =
+      let marks : map (count_marks f i) (range_with_len i (t + 1 - i)) ≡ map (count_marks g i) (range_with_len i (t + 1 - i)) =
+      map_range (count_marks f i) (count_marks g i) i (t + 1 - i) (λ j m. ap mark (same i (i + j) l (omega arith))) in
+      ap (λ (z : List ℕ). row_label i ++ (codes " |" ++ (z ++ newline))) marks
+
+  same_row_lines : (n : ℕ) → n ≤ s + 1 → row_lines (count_marks f) t n ≡ row_lines (count_marks g) t n
+  same_row_lines zero l = refl
+  same_row_lines (suc n) l = cc (same_row_line n (omega arith), same_row_lines n (omega arith))
+
+  pub chart_text-counts : (bottom : ℤ) → chart_text bottom s t f ≡ chart_text bottom s t g
+  chart_text-counts bottom = ap (λ (z : List ℕ). z ++ stems_line bottom t) (same_row_lines (s + 1) (omega arith))
+
+  same_row_total : (i : ℕ) → i ≤ s → row_total f t i ≡ row_total g t i
+  same_row_total i l = ap sum (map_range (f i) (g i) 0 (t + 1) (λ j m. same i (0 + j) l (omega arith)))
+
+  summary_text-counts : (gens : ℕ) (bottom : ℤ) → summary_text gens bottom s t f ≡ summary_text gens bottom s t g
+  summary_text-counts gens bottom =
+      ap (λ (totals : List ℕ). module_line gens bottom ++ (squares_line s t ++ (gens_line (sum totals) ++ total_lines 0 totals)))
+      (map_range (row_total f t) (row_total g t) 0 (s + 1) (λ j m. same_row_total (0 + j) (omega arith)))
+
 -- ---- two tables that have the same squares through a range
 
 abbrev pub AgreeThrough : ℕ → ℕ → List (List Content) → List (List Content) → Type 0
@@ -82,26 +106,11 @@ module _ (s t : ℕ) (a b : List (List Content)) (agree : AgreeThrough s t a b) 
   same_count : (i k : ℕ) → i ≤ s → k ≤ t → generator_count a i k ≡ generator_count b i k
   same_count i k l m = ap (λ c. length c.images) (same_square i k l m)
 
-  same_row_line : (i : ℕ) → i ≤ s → row_line (count_marks (generator_count a)) t i ≡ row_line (count_marks (generator_count b)) t i
-  same_row_line i l =
-      let marks : map (count_marks (generator_count a) i) (range_with_len i (t + 1 - i)) ≡ map (count_marks (generator_count b) i) (range_with_len i (t + 1 - i)) =
-      map_range (count_marks (generator_count a) i) (count_marks (generator_count b) i) i (t + 1 - i) (λ j m. ap mark (same_count i (i + j) l (omega arith))) in
-      ap (λ (z : List ℕ). row_label i ++ (codes " |" ++ (z ++ newline))) marks
-
-  same_row_lines : (n : ℕ) → n ≤ s + 1 → row_lines (count_marks (generator_count a)) t n ≡ row_lines (count_marks (generator_count b)) t n
-  same_row_lines zero l = refl
-  same_row_lines (suc n) l = cc (same_row_line n (omega arith), same_row_lines n (omega arith))
-
   pub chart_text-agree : (bottom : ℤ) → chart_text bottom s t (generator_count a) ≡ chart_text bottom s t (generator_count b)
-  chart_text-agree bottom = ap (λ (z : List ℕ). z ++ stems_line bottom t) (same_row_lines (s + 1) (omega arith))
-
-  same_row_total : (i : ℕ) → i ≤ s → row_total (generator_count a) t i ≡ row_total (generator_count b) t i
-  same_row_total i l = ap sum (map_range (generator_count a i) (generator_count b i) 0 (t + 1) (λ j m. same_count i (0 + j) l (omega arith)))
+  chart_text-agree = chart_text-counts s t (generator_count a) (generator_count b) same_count
 
   pub summary_text-agree : (gens : ℕ) (bottom : ℤ) → summary_text gens bottom s t (generator_count a) ≡ summary_text gens bottom s t (generator_count b)
-  summary_text-agree gens bottom =
-      ap (λ (totals : List ℕ). module_line gens bottom ++ (squares_line s t ++ (gens_line (sum totals) ++ total_lines 0 totals)))
-      (map_range (row_total (generator_count a) t) (row_total (generator_count b) t) 0 (s + 1) (λ j m. same_row_total (0 + j) (omega arith)))
+  summary_text-agree = summary_text-counts s t (generator_count a) (generator_count b) same_count
 
   module _ (gs : List Generator) where
     same_image_text : (i k : ℕ) (v : List Bool) → i ≤ s → k ≤ t → image_text gs a i (bottom gs +ℤ pos k) v ≡ image_text gs b i (bottom gs +ℤ pos k) v

@@ -2,6 +2,7 @@ pub mod Chart
 pub mod Check
 pub mod Classes
 pub mod Dump
+pub mod Files
 pub mod Inside
 pub mod Product
 pub mod Seen

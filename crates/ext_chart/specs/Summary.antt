@@ -18,9 +18,12 @@ abbrev pub module_line : ℕ → ℤ → List ℕ
 module_line gens bottom =
     codes "module gens " ++ (decimal gens ++ (codes " bottom " ++ (signed_decimal bottom ++ newline)))
 
--- the squares of rows 0 to s through degree bottom + t
+-- how many squares rows 0 to s have through degree bottom + t
+abbrev pub square_count : ℕ → ℕ → ℕ
+square_count s t = (s + 1) * (t + 1)
+
 abbrev pub squares_line : ℕ → ℕ → List ℕ
-squares_line s t = codes "squares " ++ (decimal ((s + 1) * (t + 1)) ++ newline)
+squares_line s t = codes "squares " ++ (decimal (square_count s t) ++ newline)
 
 abbrev pub gens_line : ℕ → List ℕ
 gens_line total = codes "gens " ++ (decimal total ++ newline)

@@ -1,4 +1,5 @@
-//! Tables of squares, products of classes and brackets as text, the line on an accepted module, and products of Steenrod's squares.
+//! Tables of squares, products of classes and brackets as text, the line on an accepted module, what is told of save files, and
+//! products of Steenrod's squares.
 #![tactic(auto)]
 
 mod bracket_text;
@@ -7,6 +8,7 @@ mod check_text;
 mod class_products;
 mod classes;
 mod dump_text;
+mod files_text;
 mod lines;
 mod named_target;
 mod place;
@@ -21,6 +23,7 @@ pub use chart_text::{chart, mark, row_label, stems_line};
 pub use check_text::check_line;
 pub use class_products::{ProductLine, product_lines};
 pub use dump_text::dump;
+pub use files_text::{migrated_line, verified_chart};
 pub use place::Place;
 pub use shown::Shown;
 pub use squares_text::product;

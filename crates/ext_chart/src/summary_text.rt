@@ -2,7 +2,7 @@
 ghost use Rattle.std.specs.Prelude.{◌≡◌, ◌+◌, ◌<◌, length, IfOk};
 ghost use Rattle.std.specs.List.{sum};
 ghost use Rattle.resolution_laws.specs.Resolution.{row_of, generator_count};
-ghost use Rattle.ext_chart.specs.Summary.{row_total, row_totals, module_line, squares_line, gens_line, total_line, total_lines, summary_text};
+ghost use Rattle.ext_chart.specs.Summary.{row_total, row_totals, module_line, square_count, squares_line, gens_line, total_line, total_lines, summary_text};
 ghost use Rattle.square.specs.Squares.{bottom_of};
 ghost use Rattle.ext_chart.specs.Seen.{IsSeenThrough};
 
@@ -70,14 +70,20 @@ fn module_line(alloc: Global, gens: usize, bottom: i32) -> Result<Vec<u8>, Memor
     Ok(line)
 }
 
+/// How many squares the range has.
+pub(crate) fn square_count(range: Range) -> u64
+    ensures { result ≡ square_count range.s range.t }
+{
+    (u64::from(range.s) + 1) * (u64::from(range.t) + 1)
+}
+
 /// The line on the squares of the range.
 fn squares_line(alloc: Global, range: Range) -> Result<Vec<u8>, Memory>
     ensures { IfOk result (λ line. line.items ≡ squares_line range.s range.t) }
 {
     let mut buffer = Buffer::new();
-    let squares = (u64::from(range.s) + 1) * (u64::from(range.t) + 1);
     let mut line = Vec::from_slice(alloc, b"squares ")?;
-    line.extend_from_slice(buffer.format(squares).as_bytes())?;
+    line.extend_from_slice(buffer.format(square_count(range)).as_bytes())?;
     line.push(b'\n')?;
     Ok(line)
 }

@@ -18,8 +18,8 @@ use Rattle.ext_products.specs.declared.refusal.ClassesFault.TheVariants.{Refused
 use Rattle.ext_words.specs.declared.command.WordsFault.{WordsFault}
 use Rattle.ext_words.specs.declared.command.WordsFault.TheVariants.{Words as Outside, Memory as NoSpaceForWords}
 use Rattle.ext_report.specs.declared.failure.Failure.{Failure}
-use Rattle.ext_report.specs.declared.failure.Failure.TheVariants.{Words, Malformed as NoModuleFile, NotModule, PastLimit, Reading, Writing, Saving, SaveFile, Classes, Memory}
-use Rattle.ext_report.specs.declared.status.TheConstants.{OUTSIDE_GRAMMAR, MALFORMED, NO_MODULE, READING, WRITING, SAVING, SAVE_FILE, NONZERO, NO_CLASS, NO_MEMORY, PAST_LIMIT}
+use Rattle.ext_report.specs.declared.failure.Failure.TheVariants.{Words, Malformed as NoModuleFile, NotModule, PastLimit, Reading, Writing, Saving, SaveFile, Certificate, Classes, Memory}
+use Rattle.ext_report.specs.declared.status.TheConstants.{OUTSIDE_GRAMMAR, MALFORMED, NO_MODULE, READING, WRITING, SAVING, SAVE_FILE, NONZERO, NO_CLASS, NO_MEMORY, NO_CERTIFICATE, PAST_LIMIT}
 
 -- what stands for a fault of a call: want of memory is one for all
 abbrev pub words_failure : WordsFault → Failure
@@ -64,6 +64,7 @@ class_status (Nonzero pair s t product) = NONZERO
 abbrev pub status_of : Failure → ℕ
 status_of Saving = SAVING
 status_of (SaveFile fault) = SAVE_FILE
+status_of (Certificate fault) = NO_CERTIFICATE
 status_of (Classes refusal) = class_status refusal
 status_of Words = OUTSIDE_GRAMMAR
 status_of (NoModuleFile malformed) = malformed_status malformed

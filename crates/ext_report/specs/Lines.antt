@@ -18,6 +18,8 @@ use Rattle.save_journal.specs.declared.fault.OpenFault.{OpenFault}
 use Rattle.save_journal.specs.declared.fault.OpenFault.TheVariants.{Failed as OpenFailed, NotSave, Other, Damaged, Short, Memory as OpenMemory}
 use Rattle.save_file.specs.declared.fault.ResumeFault.{ResumeFault}
 use Rattle.save_file.specs.declared.fault.ResumeFault.TheVariants.{Open, Strange, Memory as ResumeMemory}
+use Rattle.cert_check.specs.declared.fault.CertFault.{CertFault}
+use Rattle.cert_check.specs.declared.fault.CertFault.TheVariants.{Missing, NoQuasi, Inexact, NotMinimal}
 use Rattle.ext_products.specs.declared.refusal.Named.{Named}
 use Rattle.ext_products.specs.declared.refusal.Named.TheVariants.{By, A, B, C}
 use Rattle.ext_products.specs.declared.refusal.Pair.{Pair}
@@ -29,7 +31,7 @@ use Rattle.ext_products.specs.declared.refusal.Refusal.TheVariants.{NoClass, Out
 use Rattle.ext_chart.specs.Classes.{class_text, class_sum_text}
 use Rattle.ext_report.specs.Parts.{square_place}
 use Rattle.ext_report.specs.declared.failure.Failure.{Failure}
-use Rattle.ext_report.specs.declared.failure.Failure.TheVariants.{Words, Malformed as NoModuleFile, NotModule, PastLimit, Reading, Writing, Saving, SaveFile, Classes, Memory}
+use Rattle.ext_report.specs.declared.failure.Failure.TheVariants.{Words, Malformed as NoModuleFile, NotModule, PastLimit, Reading, Writing, Saving, SaveFile, Certificate, Classes, Memory}
 
 abbrev pub what_text : What → List ℕ
 what_text Bytes = codes "bytes"
@@ -109,6 +111,13 @@ refusal_line (Open fault) = open_line fault
 refusal_line (Strange number) = codes "ext: save file: record " ++ (decimal number ++ codes " strange\n")
 refusal_line ResumeMemory = memory_line
 
+-- why a save file is no certificate
+abbrev pub certificate_line : CertFault → List ℕ
+certificate_line (Missing s t) = codes "ext: certificate: missing square " ++ (square_place (pos s) t ++ newline)
+certificate_line (NoQuasi s t) = codes "ext: certificate: no quasi-inverse at " ++ (square_place (pos s) t ++ newline)
+certificate_line (Inexact s t) = codes "ext: certificate: not exact at " ++ (square_place (pos s) t ++ newline)
+certificate_line (NotMinimal s t) = codes "ext: certificate: not minimal at " ++ (square_place (pos s) t ++ newline)
+
 -- what a class is asked for as
 abbrev pub named_text : Named → List ℕ
 named_text By = codes "by"
@@ -139,6 +148,7 @@ class_line (Nonzero pair s t product) =
 abbrev pub line_of : Failure → List ℕ
 line_of Saving = saving_line
 line_of (SaveFile fault) = refusal_line fault
+line_of (Certificate fault) = certificate_line fault
 line_of (Classes refusal) = class_line refusal
 line_of Words = codes "ext: words outside the command grammar\n"
 line_of (NoModuleFile malformed) = malformed_line malformed

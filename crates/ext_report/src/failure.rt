@@ -1,12 +1,13 @@
 //! Why a run has no answer, and its status.
 ghost use Rattle.std.specs.Prelude.{◌≡◌};
-ghost use Rattle.ext_report.specs.declared.failure.Failure.TheVariants.{Memory as WantOfMemory};
+ghost use Rattle.ext_report.specs.declared.failure.Failure.TheVariants.{Certificate as NoCertificate, Memory as WantOfMemory};
 ghost use Rattle.ext_report.specs.Failure.{status_of, words_failure, read_failure, file_failure, build_failure, resume_failure, classes_failure};
 
 use crate::status::{
-    MALFORMED, NO_CLASS, NO_MEMORY, NO_MODULE, NONZERO, OUTSIDE_GRAMMAR, PAST_LIMIT, READING,
-    SAVE_FILE, SAVING, WRITING,
+    MALFORMED, NO_CERTIFICATE, NO_CLASS, NO_MEMORY, NO_MODULE, NONZERO, OUTSIDE_GRAMMAR,
+    PAST_LIMIT, READING, SAVE_FILE, SAVING, WRITING,
 };
+use cert_check::CertFault;
 use edge::ReadFault;
 use ext_products::{ClassesFault, Refusal};
 use ext_words::WordsFault;
@@ -38,6 +39,8 @@ pub enum Failure {
     /// What is in the save file's place is none of the module. A disk that failed is `Saving`, and memory that ran out is
     /// `Memory`.
     SaveFile(ResumeFault),
+    /// The save file is one of the module, and no certificate of the range.
+    Certificate(CertFault),
     /// There is nothing to tell of the classes that the words name.
     Classes(Refusal),
     /// There was no memory.
@@ -124,6 +127,14 @@ impl From<ResumeFault> for Failure {
     }
 }
 
+impl From<CertFault> for Failure {
+    ghost from_gives = { λ fault failure. failure ≡ NoCertificate fault };
+
+    fn from(fault: CertFault) -> Self {
+        Failure::Certificate(fault)
+    }
+}
+
 impl From<ClassesFault> for Failure {
     ghost from_gives = { λ fault failure. failure ≡ classes_failure fault };
 
@@ -151,6 +162,7 @@ impl Failure {
             Failure::Writing => WRITING,
             Failure::Saving => SAVING,
             Failure::SaveFile(_) => SAVE_FILE,
+            Failure::Certificate(_) => NO_CERTIFICATE,
             Failure::Classes(Refusal::NoClass { .. } | Refusal::OutOfRange { .. }) => NO_CLASS,
             Failure::Classes(Refusal::Nonzero { .. }) => NONZERO,
             Failure::Memory => NO_MEMORY,

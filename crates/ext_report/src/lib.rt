@@ -9,6 +9,6 @@ mod writing;
 pub use failure::Failure;
 pub use lines::report;
 pub use status::{
-    MALFORMED, NO_CLASS, NO_MEMORY, NO_MODULE, NONZERO, OUTSIDE_GRAMMAR, PAST_LIMIT, READING,
-    SAVE_FILE, SAVING, WRITING, WRITTEN, statuses_are_these,
+    MALFORMED, NO_CERTIFICATE, NO_CLASS, NO_MEMORY, NO_MODULE, NONZERO, OUTSIDE_GRAMMAR,
+    PAST_LIMIT, READING, SAVE_FILE, SAVING, WRITING, WRITTEN, statuses_are_these,
 };

@@ -4,11 +4,12 @@ ghost use Rattle.edge.specs.Faults.{HasRisen};
 ghost use Rattle.edge.specs.Sink.{HasPrefixMore, with_more};
 ghost use Rattle.finite_module.specs.Text.{name_at, newline};
 ghost use Rattle.ext_report.specs.Parts.{part_text, parts_text};
-ghost use Rattle.ext_report.specs.Lines.{what_text, place_text, action_line, malformed_line, fault_line, open_line, refusal_line, built_line, line_of, named_text, pair_text, target_text, class_line};
+ghost use Rattle.ext_report.specs.Lines.{what_text, place_text, action_line, malformed_line, fault_line, open_line, refusal_line, certificate_line, built_line, line_of, named_text, pair_text, target_text, class_line};
 
 use crate::failure::Failure;
 use crate::writing::Part::{self, Class, Digest, Nothing, Number, Place, Square, Sum, Text};
 use crate::writing::write_parts;
+use cert_check::CertFault;
 use edge::{Failed, Sink, write_all};
 use ext_products::{Named, Pair, Refusal, Target};
 use module_check::CheckFault;
@@ -235,6 +236,30 @@ fn refusal_line(fault: &ResumeFault) -> Line<'_>
     }
 }
 
+/// Why a save file is no certificate.
+fn certificate_line(fault: CertFault) -> Line<'static>
+    ensures { parts_text result ≡ certificate_line fault }
+{
+    match fault {
+        CertFault::Missing { s, t } => ended(
+            b"ext: certificate: missing square ",
+            Place(i32::from(s), t),
+        ),
+        CertFault::NoQuasi { s, t } => ended(
+            b"ext: certificate: no quasi-inverse at ",
+            Place(i32::from(s), t),
+        ),
+        CertFault::Inexact { s, t } => ended(
+            b"ext: certificate: not exact at ",
+            Place(i32::from(s), t),
+        ),
+        CertFault::NotMinimal { s, t } => ended(
+            b"ext: certificate: not minimal at ",
+            Place(i32::from(s), t),
+        ),
+    }
+}
+
 /// What a class is asked for as.
 fn named_text(named: &Named) -> &[u8]
     ensures { result.now ≡ named_text named.now }
@@ -327,6 +352,7 @@ fn write_line<E: Sink>(failure: &Failure, err: &mut E) -> Result<(), Failed>
         Failure::Writing => write_all(err, b"ext: writing failed\n"),
         Failure::Saving => write_all(err, SAVING_LINE),
         Failure::SaveFile(fault) => write_parts(err, &refusal_line(fault)),
+        Failure::Certificate(fault) => write_parts(err, &certificate_line(*fault)),
         Failure::Classes(refusal) => write_parts(err, &class_line(refusal)),
         Failure::Memory => write_all(err, MEMORY_LINE),
     }

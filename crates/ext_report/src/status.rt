@@ -1,6 +1,6 @@
 //! The statuses that a program ends with, by name.
 ghost use Rattle.std.specs.Prelude.{◌≡◌};
-ghost use Rattle.ext_report.specs.declared.status.TheConstants.{WRITTEN, OUTSIDE_GRAMMAR, MALFORMED, NO_MODULE, READING, WRITING, SAVING, SAVE_FILE, NONZERO, NO_CLASS, NO_MEMORY, PAST_LIMIT};
+ghost use Rattle.ext_report.specs.declared.status.TheConstants.{WRITTEN, OUTSIDE_GRAMMAR, MALFORMED, NO_MODULE, READING, WRITING, SAVING, SAVE_FILE, NONZERO, NO_CLASS, NO_MEMORY, NO_CERTIFICATE, PAST_LIMIT};
 
 /// The answer is written whole.
 pub const WRITTEN: u8 = 0;
@@ -35,6 +35,9 @@ pub const NO_CLASS: u8 = 11;
 /// There was no memory.
 pub const NO_MEMORY: u8 = 12;
 
+/// The save file is one of the module, and no certificate of the range.
+pub const NO_CERTIFICATE: u8 = 13;
+
 /// What was to be built passes a limit.
 pub const PAST_LIMIT: u8 = 14;
 
@@ -51,5 +54,6 @@ pub fn statuses_are_these()
     ensures nonzero { NONZERO ≡ 10 }
     ensures class { NO_CLASS ≡ 11 }
     ensures memory { NO_MEMORY ≡ 12 }
+    ensures certificate { NO_CERTIFICATE ≡ 13 }
     ensures limit { PAST_LIMIT ≡ 14 }
 {}

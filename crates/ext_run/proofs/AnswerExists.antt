@@ -29,6 +29,7 @@ use Rattle.resolution_existence.specs.Existence.{CanonicalTableExists}
 use Rattle.square.specs.Squares.{module_over}
 use Rattle.square.specs.declared.range.Range.{Range}
 use Rattle.ext_chart.specs.Check.{check_line}
+use Rattle.ext_chart.specs.Files.{migrated_line}
 use Rattle.ext_chart.specs.Product.{product_text}
 use Rattle.lift_laws.specs.Lifts.{IsCanonical}
 use Rattle.chain_map.specs.declared.class.Class.{Class}
@@ -44,12 +45,12 @@ use Rattle.ext_run.specs.declared.plan.Origin.TheVariants.{Sphere, Sample, File 
 use Rattle.ext_run.specs.declared.plan.Form.{Form}
 use Rattle.ext_run.specs.declared.plan.Form.TheVariants.{Chart, Differentials, Summary, Products as ProductsOf, Bracket as BracketOf}
 use Rattle.ext_run.specs.declared.plan.Plan.{Plan}
-use Rattle.ext_run.specs.declared.plan.Plan.TheVariants.{Resolve, Check, Build, Multiply}
+use Rattle.ext_run.specs.declared.plan.Plan.TheVariants.{Resolve, Check, Build, Multiply, Migrate, Verify}
 use Rattle.ext_run.specs.declared.task.Task.{Task}
-use Rattle.ext_run.specs.declared.task.Task.TheVariants.{Text, Resolution}
+use Rattle.ext_run.specs.declared.task.Task.TheVariants.{Text, Resolution, Migration, Verification}
 use Rattle.ext_run.specs.Plan.{asked_by, IsRead, PlanReads, Reads}
-use Rattle.ext_run.specs.Forms.{IsResolved, IsReadOff, chart_of, dump_of, summary_of, IsText, IsToldOfClasses, told_of_classes, IsInForm}
-use Rattle.ext_run.specs.Answer.{IsLineOn, IsProduct, ModuleAnswers, IsModuleAnswer, IsAnswerAt, IsAnswerTo, IsAskedAnswer}
+use Rattle.ext_run.specs.Forms.{IsResolved, IsReadOff, IsVerifiedChart, chart_of, verified_of, dump_of, summary_of, IsText, IsToldOfClasses, told_of_classes, IsInForm}
+use Rattle.ext_run.specs.Answer.{IsLineOn, IsMigrated, IsProduct, ModuleAnswers, IsModuleAnswer, IsAnswerAt, IsAnswerTo, IsAskedAnswer}
 use Rattle.ext_run.specs.Task.{HasItsAnswer}
 use Rattle.ext_run.specs.Existence.{AnswerExists}
 
@@ -93,6 +94,9 @@ read_off_exists laws text_of range m is order =
 
 line_exists : Makes (IsText IsLineOn)
 line_exists m is order = (Ok (check_line (length m.generators) (bottom m.generators) (top m.generators)), refl)
+
+migrated_exists : Makes (IsText IsMigrated)
+migrated_exists m is order = (Ok migrated_line, refl)
 
 product_exists : AdmissibleFormIsUnique → (numbers : List ℕ) → (text : List ℕ) × IsProduct numbers text
 product_exists forms numbers =
@@ -159,6 +163,8 @@ to_plan laws forms (Resolve origin form common) bytes has = at_origin laws.table
 to_plan laws forms Check bytes has = of_bytes laws.tables.accepted (IsText IsLineOn) line_exists bytes (has tt)
 to_plan laws forms (Build made) bytes has = build_answer_exists made bytes (has tt)
 to_plan laws forms (Multiply numbers) bytes has = let x = product_exists forms numbers in (Ok x.0, x.1)
+to_plan laws forms Migrate bytes has = of_bytes laws.tables.accepted (IsText IsMigrated) migrated_exists bytes (has tt)
+to_plan laws forms (Verify range) bytes has = of_bytes laws.tables.accepted (IsText (IsVerifiedChart range)) (read_off_exists laws.tables (verified_of range) range) bytes (has tt)
 
 to_asked : Laws → AdmissibleFormIsUnique → (asked : Option Plan) (bytes : List ℕ) → (Reads asked → HasValue bytes) → (answer : Result (List ℕ) Failure) × IsAskedAnswer asked bytes answer
 to_asked laws forms None bytes has = (Err Words, refl)
@@ -172,6 +178,8 @@ answer_is_there laws forms words bytes has = to_asked laws forms (asked_by words
 pub task_is_done : Laws → (task : Task) → HasItsAnswer task
 task_is_done laws (Text made) = (Ok made.items, refl)
 task_is_done laws (Resolution r) = form_exists laws r.form r.common.range r.resolved.plain r.resolved.is_module r.resolved.by_degree.ordered
+task_is_done laws (Migration m) = migrated_exists m.plain m.is_module m.by_degree.ordered
+task_is_done laws (Verification m range) = read_off_exists laws.tables (verified_of range) range m.plain m.is_module m.by_degree.ordered
 
 pub all_ok : {X E : Type 0} (r : Result X E) (P : X → Type 0) → ((x : X) → P x) → IfOk r P
 all_ok (Ok x) P p = p x

@@ -32,10 +32,10 @@ use Rattle.ext_run.specs.declared.plan.Origin.TheVariants.{Sphere, Sample, File 
 use Rattle.ext_run.specs.declared.plan.Form.{Form}
 use Rattle.ext_run.specs.declared.plan.Form.TheVariants.{Chart, Differentials, Summary, Products, Bracket}
 use Rattle.ext_run.specs.declared.plan.Plan.{Plan}
-use Rattle.ext_run.specs.declared.plan.Plan.TheVariants.{Resolve, Check, Build, Multiply}
-use Rattle.ext_run.specs.Forms.{IsReadOff, chart_of, dump_of, summary_of, IsText, IsToldOfClasses, told_of_classes, IsInForm}
+use Rattle.ext_run.specs.declared.plan.Plan.TheVariants.{Resolve, Check, Build, Multiply, Migrate, Verify}
+use Rattle.ext_run.specs.Forms.{IsReadOff, IsVerifiedChart, chart_of, verified_of, dump_of, summary_of, IsText, IsToldOfClasses, told_of_classes, IsInForm}
 use Rattle.ext_run.specs.Plan.{asked_by}
-use Rattle.ext_run.specs.Answer.{IsLineOn, IsProduct, ModuleAnswers, IsAnswerOfFile, IsModuleAnswer, IsAnswerAt, IsAnswerTo, IsAskedAnswer, AnswerIsUnique}
+use Rattle.ext_run.specs.Answer.{IsLineOn, IsMigrated, IsProduct, ModuleAnswers, IsAnswerOfFile, IsModuleAnswer, IsAnswerAt, IsAnswerTo, IsAskedAnswer, AnswerIsUnique}
 
 -- two texts that are made of tables of one module and range
 read_off_unique : (text_of : SteenrodModule → List (List Content) → List ℕ) (range : Range) (m : SteenrodModule) (x y : List ℕ) → IsReadOff text_of range m x → IsReadOff text_of range m y → x ≡ y
@@ -99,6 +99,8 @@ plan_unique (Resolve origin form common) bytes a b p q = at_unique (IsInForm for
 plan_unique Check bytes a b p q = module_answer_unique (IsText IsLineOn) (one-text IsLineOn (λ m x y s t. s ∙ sym t)) bytes a b p q
 plan_unique (Build made) bytes a b p q = build_answer_unique made bytes a b p q
 plan_unique (Multiply numbers) bytes a b p q = one-text (λ m. IsProduct numbers) (λ m. product-unique numbers) (derived_module sphere_file) a b p q
+plan_unique Migrate bytes a b p q = module_answer_unique (IsText IsMigrated) (one-text IsMigrated (λ m x y s t. s ∙ sym t)) bytes a b p q
+plan_unique (Verify range) bytes a b p q = module_answer_unique (IsText (IsVerifiedChart range)) (one-text (IsVerifiedChart range) (read_off_unique (verified_of range) range)) bytes a b p q
 
 pub asked_unique : (asked : Option Plan) (bytes : List ℕ) (a b : Result (List ℕ) Failure) → IsAskedAnswer asked bytes a → IsAskedAnswer asked bytes b → a ≡ b
 asked_unique None bytes a b p q = p ∙ sym q

@@ -36,12 +36,12 @@ use Rattle.ext_run.specs.declared.plan.Origin.TheVariants.{Sphere, Sample, File 
 use Rattle.ext_run.specs.declared.plan.Form.{Form}
 use Rattle.ext_run.specs.declared.plan.Form.TheVariants.{Chart, Differentials, Summary, Products, Bracket}
 use Rattle.ext_run.specs.declared.plan.Plan.{Plan}
-use Rattle.ext_run.specs.declared.plan.Plan.TheVariants.{Resolve, Check, Build, Multiply}
+use Rattle.ext_run.specs.declared.plan.Plan.TheVariants.{Resolve, Check, Build, Multiply, Migrate, Verify}
 use Rattle.ext_run.specs.declared.task.Task.{Task}
-use Rattle.ext_run.specs.declared.task.Task.TheVariants.{Text, Resolution}
+use Rattle.ext_run.specs.declared.task.Task.TheVariants.{Text, Resolution, Migration, Verification}
 use Rattle.ext_run.specs.Plan.{IsModuleIn, IsModuleAt, IsModuleOf, IsModuleFor, PlanReads, Reads}
-use Rattle.ext_run.specs.Forms.{IsReadOff, chart_of, dump_of, summary_of, IsText, IsToldOfClasses, told_of_classes, IsInForm}
-use Rattle.ext_run.specs.Answer.{IsLineOn, ModuleAnswers, IsAnswerOfFile, IsModuleAnswer, IsAnswerAt, IsAnswerTo, IsAskedAnswer}
+use Rattle.ext_run.specs.Forms.{IsReadOff, IsVerifiedChart, chart_of, dump_of, summary_of, IsText, IsToldOfClasses, told_of_classes, IsInForm}
+use Rattle.ext_run.specs.Answer.{IsLineOn, IsMigrated, ModuleAnswers, IsAnswerOfFile, IsModuleAnswer, IsAnswerAt, IsAnswerTo, IsAskedAnswer}
 use Rattle.ext_run.specs.Task.{IsDoneBy}
 
 -- ---- an answer of what is resolved is a text, or a failure of classes
@@ -70,6 +70,8 @@ form_told (Bracket a b c) range = classes_told range (IsBracketAnswer range a b 
 pub task_told : (task : Task) (answer : Result (List ℕ) Failure) → IsDoneBy task answer → IsTold answer
 task_told (Text made) answer is = subst IsTold (sym is) tt
 task_told (Resolution r) answer is = form_told r.form r.common.range r.resolved.plain answer is
+task_told (Migration m) answer is = text_told IsMigrated m.plain answer is
+task_told (Verification m range) answer is = text_told (IsVerifiedChart range) m.plain answer is
 
 -- ---- where there is a module, nothing else is answered
 
@@ -97,6 +99,8 @@ module _ (P : ModuleAnswers) (only : OnlyTold P) where
 plan_told : (plan : Plan) (bytes : List ℕ) (m : SteenrodModule) (a : Result (List ℕ) Failure) → IsModuleOf plan bytes m → IsAnswerTo plan bytes a → IsTold a
 plan_told (Resolve origin form common) bytes m a q p = at_told (IsInForm form common.range) (form_told form common.range) origin bytes m a q p
 plan_told Check bytes m a q p = module_told (IsText IsLineOn) (text_told IsLineOn) bytes m a q p
+plan_told Migrate bytes m a q p = module_told (IsText IsMigrated) (text_told IsMigrated) bytes m a q p
+plan_told (Verify range) bytes m a q p = module_told (IsText (IsVerifiedChart range)) (text_told (IsVerifiedChart range)) bytes m a q p
 plan_told plan bytes m a q p = absurd q
 
 pub asked_told : (asked : Option Plan) (bytes : List ℕ) (m : SteenrodModule) (a : Result (List ℕ) Failure) → IsModuleFor asked bytes m → IsAskedAnswer asked bytes a → IsTold a
@@ -125,6 +129,8 @@ space_plan (Resolve origin form common) bytes f e a space p h = space_at form co
 space_plan Check bytes f e a space p h = space_told (IsText IsLineOn) (text_told IsLineOn) bytes p.file f e a space p.is_file p.is_answer h
 space_plan (Build made) bytes f e a space p h = space_not_built made bytes f e a space p h
 space_plan (Multiply numbers) bytes f e a space p h = subst (IsAnswerTo (Multiply numbers) bytes) h p
+space_plan Migrate bytes f e a space p h = space_told (IsText IsMigrated) (text_told IsMigrated) bytes p.file f e a space p.is_file p.is_answer h
+space_plan (Verify range) bytes f e a space p h = space_told (IsText (IsVerifiedChart range)) (text_told (IsVerifiedChart range)) bytes p.file f e a space p.is_file p.is_answer h
 
 pub space_asked : (asked : Option Plan) (bytes : List ℕ) (f : File) (e : CheckFault) → IsSpaceFile bytes → IsAskedAnswer asked bytes (Err (NotModule f e)) → ⊥
 space_asked None bytes f e space p = cc
@@ -144,6 +150,8 @@ plan_fits : (plan : Plan) (bytes : List ℕ) (a : Result (List ℕ) Failure) →
 plan_fits (Resolve OfFile form common) bytes a told reads p = module_fits (IsInForm form common.range) bytes p.file a told p.is_file p.is_answer
 plan_fits Check bytes a told reads p = module_fits (IsText IsLineOn) bytes p.file a told p.is_file p.is_answer
 plan_fits (Build made) bytes a told reads p = build_fits made bytes a told p
+plan_fits Migrate bytes a told reads p = module_fits (IsText IsMigrated) bytes p.file a told p.is_file p.is_answer
+plan_fits (Verify range) bytes a told reads p = module_fits (IsText (IsVerifiedChart range)) bytes p.file a told p.is_file p.is_answer
 plan_fits plan bytes a told reads p = absurd reads
 
 asked_fits : (asked : Option Plan) (bytes : List ℕ) (a : Result (List ℕ) Failure) → IsTold a → Reads asked → IsAskedAnswer asked bytes a → length bytes ≤ 2 ^ 20

@@ -44,7 +44,7 @@ range_kept range rows None through holds = tt
 range_kept range rows (Some list) through holds = range_held range rows list through holds
 
 -- the canonical table is exact and minimal
-resolved_by : CanonicalTableIsMinimalResolution → ModulesAreSteenrodModules → (range : Range) (m : Checked) (table : List (List Content)) → IsCanonicalTable (over m) range.s range.t table → IsResolved range m.plain table
+pub resolved_by : CanonicalTableIsMinimalResolution → ModulesAreSteenrodModules → (range : Range) (m : Checked) (table : List (List Content)) → IsCanonicalTable (over m) range.s range.t table → IsResolved range m.plain table
 resolved_by minimal modules range m table canonical = record {
   canonical = canonical;
   minimal = minimal (over m) range.s range.t table (modules m.plain m.is_module) (width-below m.plain.generators m.by_degree) canonical;

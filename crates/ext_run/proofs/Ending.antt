@@ -7,9 +7,10 @@ use Rattle.edge.specs.Source.{without_first, HasGivenUpTo}
 use Rattle.module_json.specs.ModuleFile.{File}
 use Rattle.module_check.specs.declared.fault.CheckFault.{CheckFault}
 use Rattle.space_laws.specs.Spaces.{IsSpaceFile}
+use Rattle.cert_check.specs.declared.fault.CertFault.{CertFault}
 use Rattle.save_file.specs.declared.fault.ResumeFault.{ResumeFault}
 use Rattle.ext_report.specs.declared.failure.Failure.{Failure}
-use Rattle.ext_report.specs.declared.failure.Failure.TheVariants.{Words, Malformed as NoModuleFile, NotModule, PastLimit, Reading, Writing, Saving, SaveFile, Classes, Memory}
+use Rattle.ext_report.specs.declared.failure.Failure.TheVariants.{Words, Malformed as NoModuleFile, NotModule, PastLimit, Reading, Writing, Saving, SaveFile, Certificate, Classes, Memory}
 use Rattle.ext_report.specs.Failure.{IsOfClasses, IsTold, status_of}
 use Rattle.ext_build.specs.Input.{most_read}
 use Rattle.ext_run.specs.declared.plan.Plan.{Plan}
@@ -17,7 +18,7 @@ use Rattle.ext_run.specs.declared.task.Task.{Task}
 use Rattle.ext_run.specs.Devices.{Device, Store}
 use Rattle.ext_run.specs.Plan.{Reads, live_for}
 use Rattle.ext_run.specs.Answer.{IsAskedAnswer, IsTaskCause, IsTaskCauseFrom}
-use Rattle.ext_run.specs.Saving.{Outcome, IsUsable}
+use Rattle.ext_run.specs.Disks.{Outcome, IsUsable, IsCertified, HasSaved}
 use Rattle.ext_run.specs.Task.{HasItsAnswer, IsTaskFor}
 use Rattle.ext_run.specs.Work.{Told, HasAnswer, answer_of, HasWorked}
 use Rattle.ext_run.specs.Ending.{HasTold, HasGotWhole, HasGotPart}
@@ -28,7 +29,7 @@ use Rattle.ext_run.proofs.AnswerUnique.{asked_unique}
 use Rattle.ext_run.proofs.Reporting.{reported_early, reported_task}
 use Rattle.ext_run.proofs.Tasks.{task_answers, input_of}
 use Rattle.ext_run.proofs.Lasting.{AreDisks}
-use Rattle.ext_run.proofs.Saved.{IsLate, saving, save_file, classes, memory, IsEndedBy, IsWorked, worked, kept_early, after_text, after_cut}
+use Rattle.ext_run.proofs.Saved.{IsLate, saving, save_file, certificate, classes, memory, IsEndedBy, IsWorked, worked, kept_early, after_text, after_cut}
 
 -- what becomes of the source if its words have a task
 pub record IsRead {S : Type 0} (source : Device S) (reads : Type 0) (s t : S) : Type 0 where
@@ -59,6 +60,10 @@ module _ {S O E D : Type 0} (source : Device S) (out : Device O) (err : Device E
   abbrev Usable : List ℕ → Type 0
   Usable input = IsUsable disk asked input d
 
+  -- of which an answer comes, if a device or memory does not prevent it
+  abbrev Ready : List ℕ → Type 0
+  Ready input = IsUsable disk asked input d × IsCertified asked input (disk.now d)
+
   abbrev IsTheText : List ℕ → List ℕ → Type 0
   IsTheText input text = Usable input → IsAskedAnswer asked input (Ok text)
 
@@ -85,6 +90,7 @@ module _ {S O E D : Type 0} (source : Device S) (out : Device O) (err : Device E
   early_end input o Writing p = absurd p
   early_end input o Saving p = absurd p
   early_end input o (SaveFile x) p = absurd p
+  early_end input o (Certificate x) p = absurd p
   early_end input o (Classes x) p = absurd p
   early_end input o Memory p = record { cause = tt; comes = λ answer is. inr tt; printed = refl }
 
@@ -154,7 +160,7 @@ module _ {S O E D : Type 0} (source : Device S) (out : Device O) (err : Device E
       outcome = Ok x.items;
       status_is = is;
       cause = made_answers (Ok x) did tt;
-      comes = λ answer right usable. inl (asked_unique asked input (Ok x.items) answer (made_answers (Ok x) did tt (usable (answer_told answer right))) right);
+      comes = λ answer right ready. inl (asked_unique asked input (Ok x.items) answer (made_answers (Ok x) did tt (ready (answer_told answer right)).0) right);
       no_space_refused = λ space file fault h. cc;
       read = has_read (Ok x.items) (λ h. cc);
       printed = got;
@@ -170,7 +176,7 @@ module _ {S O E D : Type 0} (source : Device S) (out : Device O) (err : Device E
       outcome = Err Writing;
       status_is = is;
       cause = tt;
-      comes = λ answer right usable. inr (x.items, asked_unique asked input answer (Ok x.items) right (made_answers (Ok x) did tt (usable (answer_told answer right))));
+      comes = λ answer right ready. inr (x.items, asked_unique asked input answer (Ok x.items) right (made_answers (Ok x) did tt (ready (answer_told answer right)).0));
       no_space_refused = λ space file fault h. cc;
       read = has_read (Err Writing) (λ h. cc);
       printed = (x.items, made_answers (Ok x) did tt, got);
@@ -180,21 +186,22 @@ module _ {S O E D : Type 0} (source : Device S) (out : Device O) (err : Device E
 
     -- there is a failure in place of the text
     record IsLateEnd (failure : Failure) : Type 0 where
-      comes : (answer : Outcome) → IsAskedAnswer asked input answer → (IsTold answer → Usable input) → (◌≡◌ {A = Outcome} (Err failure) answer) ⊎ IsPrevented answer (Err failure)
+      comes : (answer : Outcome) → IsAskedAnswer asked input answer → (IsTold answer → Ready input) → (◌≡◌ {A = Outcome} (Err failure) answer) ⊎ IsPrevented answer (Err failure)
       printed : p ≡ o → HasPrinted out (IsTheText input) (Err failure) o p
       not_read : ◌≡◌ {A = Outcome} (Err failure) (Err Reading) → ⊥
       no_space_refused : HasNoSpace input failure
 
-    late_end : (failure : Failure) → IsLate failure → (IsOfClasses failure → Usable input → IsAskedAnswer asked input (Err failure)) → (Usable input → (fault : ResumeFault) → failure ≡ SaveFile fault → ⊥) → IsLateEnd failure
-    late_end failure saving made accepted = record { comes = λ answer right usable. inr (answer_told answer right); printed = λ same. same; not_read = λ h. cc; no_space_refused = λ space file fault h. cc }
-    late_end failure (save_file x) made accepted = record { comes = λ answer right usable. absurd (accepted (usable (answer_told answer right)) x refl); printed = λ same. same; not_read = λ h. cc; no_space_refused = λ space file fault h. cc }
-    late_end failure (classes x) made accepted = record { comes = λ answer right usable. inl (asked_unique asked input (Err (Classes x)) answer (made tt (usable (answer_told answer right))) right); printed = λ same. same; not_read = λ h. cc; no_space_refused = λ space file fault h. cc }
-    late_end failure memory made accepted = record { comes = λ answer right usable. inr tt; printed = λ same. same; not_read = λ h. cc; no_space_refused = λ space file fault h. cc }
+    late_end : (failure : Failure) → IsLate failure → (IsOfClasses failure → Usable input → IsAskedAnswer asked input (Err failure)) → (Ready input → (fault : ResumeFault) → failure ≡ SaveFile fault → ⊥) → (Ready input → (fault : CertFault) → failure ≡ Certificate fault → ⊥) → IsLateEnd failure
+    late_end failure saving made accepted certified = record { comes = λ answer right ready. inr (answer_told answer right); printed = λ same. same; not_read = λ h. cc; no_space_refused = λ space file fault h. cc }
+    late_end failure (save_file x) made accepted certified = record { comes = λ answer right ready. absurd (accepted (ready (answer_told answer right)) x refl); printed = λ same. same; not_read = λ h. cc; no_space_refused = λ space file fault h. cc }
+    late_end failure (certificate x) made accepted certified = record { comes = λ answer right ready. absurd (certified (ready (answer_told answer right)) x refl); printed = λ same. same; not_read = λ h. cc; no_space_refused = λ space file fault h. cc }
+    late_end failure (classes x) made accepted certified = record { comes = λ answer right ready. inl (asked_unique asked input (Err (Classes x)) answer (made tt (ready (answer_told answer right)).0) right); printed = λ same. same; not_read = λ h. cc; no_space_refused = λ space file fault h. cc }
+    late_end failure memory made accepted certified = record { comes = λ answer right ready. inr tt; printed = λ same. same; not_read = λ h. cc; no_space_refused = λ space file fault h. cc }
 
     run_without : (failure : Failure) → IsWorked disk laws asked input (Err failure) task d g → IsEndedBy disk laws asked input failure d g → p ≡ o → status ≡ status_of failure → HasReported err (live_for asked) (Err failure) e f → IsRun source out err disk asked status s t o p e f d g
     run_without failure did ended same is reported =
         let made = made_answers (Err failure) did in
-        let end = late_end failure ended.late made ended.accepted in
+        let end = late_end failure ended.late made (λ ready. ended.accepted ready.0 ready.1) (λ ready. ended.certified ready.0 ready.1) in
         record {
           input = input;
           told = all;

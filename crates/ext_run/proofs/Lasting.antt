@@ -5,7 +5,7 @@ use Rattle.std.proofs.lemmas.List.Elements.{All-nil, All-cons, All-head, All-tai
 use Rattle.std.specs.Prelude.{Option, Some, None, IfSome, IsSome, Ok, Err, nat_eq, ◌&&◌, ◌↔◌, if◌then◌else◌}
 use Rattle.std.specs.List.{All}
 use Rattle.std.specs.Result.{result_ok}
-use Rattle.edge.specs.Disk.{LeavesOnly}
+use Rattle.edge.specs.Disk.{LeavesOnly, WasImageSince}
 use Rattle.finite_module.specs.Checked.{Checked}
 use Rattle.finite_module.specs.Module.{Module as SteenrodModule}
 use Rattle.resolution_laws.specs.Resolution.{Module, Content}
@@ -83,7 +83,7 @@ stands_amid m start list given c reads canonical more image =
     }
 
 -- a file that stands for what another one does stands for its list
-as_one : (m : SteenrodModule) (list : List Entry) (c d : List ℕ) → standing_of m c ≡ standing_of m d → StandsWith m list d → StandsWith m list c
+pub as_one : (m : SteenrodModule) (list : List Entry) (c d : List ℕ) → standing_of m c ≡ standing_of m d → StandsWith m list d → StandsWith m list c
 as_one m list c d same with = record { more = with.more; at_most_one = with.at_most_one; canonical = with.canonical; stands = same ∙ with.stands }
 
 -- a file of which the same squares are read as of one that stands for squares stands for them
@@ -96,7 +96,7 @@ where_some : {X : Type 0} (o : Option X) (P Q : Type 0) → (P → Q) → IfSome
 where_some None P Q f p = tt
 where_some (Some x) P Q f p = f p
 
-if_some : {X : Type 0} (o : Option X) (P : Type 0) → P → IfSome o (λ _. P)
+pub if_some : {X : Type 0} (o : Option X) (P : Type 0) → P → IfSome o (λ _. P)
 if_some None P p = tt
 if_some (Some x) P p = p
 
@@ -109,6 +109,7 @@ pub record AreDisks {D : Type 0} (store : Store D) : Type 0 where
   pub only_now : (d : D) (c : List ℕ) → store.since d (store.moment d) c → store.images d c
   pub since_earlier : (d : D) (t u : ℕ) (c : List ℕ) → t ≤ u → store.since d u c → store.since d t c
   pub since_at : (d : D) (t u : ℕ) (c : List ℕ) → t ≤ u → u ≤ store.moment d → store.images_at d u c → store.since d t c
+  pub at_since : (d : D) (t : ℕ) (c : List ℕ) → store.since d t c → WasImageSince (store.moment d) (store.images_at d) t c
 
 module _ {D : Type 0} (store : Store D) (laws : AreDisks store) where
   -- what contracts see of a save file as a keeper

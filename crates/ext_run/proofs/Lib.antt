@@ -1,14 +1,21 @@
+mod Added
 mod AnswerExists
 mod AnswerUnique
 mod Asked
 mod ByImages
+mod Certificates
 mod Continuing
+mod Filled
+mod Filling
+mod Giving
 mod KeptOn
 mod Lasting
+mod Migrated
 mod NextRun
 mod Reporting
 mod Resolved
 mod Saved
 mod Tasks
+mod Verified
 mod Working
 pub mod Ending

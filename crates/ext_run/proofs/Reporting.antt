@@ -17,12 +17,12 @@ use Rattle.ext_report.specs.declared.failure.Failure.{Failure}
 use Rattle.ext_report.specs.Failure.{status_of}
 use Rattle.ext_report.specs.Lines.{line_of}
 use Rattle.ext_run.specs.declared.plan.Plan.{Plan}
-use Rattle.ext_run.specs.declared.plan.Plan.TheVariants.{Resolve}
+use Rattle.ext_run.specs.declared.plan.Plan.TheVariants.{Resolve, Migrate, Verify}
 use Rattle.ext_run.specs.declared.task.Task.{Task}
-use Rattle.ext_run.specs.declared.task.Task.TheVariants.{Text, Resolution}
+use Rattle.ext_run.specs.declared.task.Task.TheVariants.{Text, Resolution, Migration, Verification}
 use Rattle.ext_run.specs.Devices.{Device}
 use Rattle.ext_run.specs.Plan.{plan_of, asked_by, live_where, live_for}
-use Rattle.ext_run.specs.Saving.{Outcome}
+use Rattle.ext_run.specs.Disks.{Outcome}
 use Rattle.ext_run.specs.Task.{IsTaskFor}
 use Rattle.ext_run.specs.Ending.{HasTold}
 use Rattle.ext_run.specs.Live.{live_in, HasHeard, last_line, HasToldLive}
@@ -144,6 +144,8 @@ live_as : (asked : Option Plan) (input : List ℕ) (task : Task) → IsTaskFor a
 live_as (Some (Resolve origin form common)) input (Resolution r) is = ap (λ (c : Common). live_where c.live c.range) (sym is.1)
 live_as (Some (Resolve origin form common)) input (Text made) is = absurd is
 live_as (Some plan) input (Text made) is = refl
+live_as (Some Migrate) input (Migration m) is = refl
+live_as (Some (Verify range)) input (Verification m r) is = refl
 live_as asked input task is = absurd is
 
 pub reported_task : {T C E F : Type 0} (err : Device E) (asked : Option Plan) (input : List ℕ) (task : Task) (made : Result T C) (heard : Result (Unit {0}) F) (outcome : Outcome) (old mid new : E) → IsTaskFor asked input task → OnOk outcome (OnErr made ⊥) → HasHeard err (live_in task) made heard old mid → HasSaid err heard outcome mid new → HasReported err (live_for asked) outcome old new

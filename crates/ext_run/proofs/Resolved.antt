@@ -23,7 +23,7 @@ use Rattle.ext_run.specs.Work.{Told, HasAnswer, answer_of}
 use Rattle.ext_run.proofs.AnswerExists.{TableLaws, table_exists, one_alone}
 
 -- a table has the same squares through a range as what is cut of it
-cut-agrees : (range : Range) (table : Staircase) → IsThrough range table.rows → AgreeThrough range.s range.t (plain_rows table.rows) (cut range (plain_rows table.rows))
+pub cut-agrees : (range : Range) (table : Staircase) → IsThrough range table.rows → AgreeThrough range.s range.t (plain_rows table.rows) (cut range (plain_rows table.rows))
 cut-agrees range table holds i h =
     let rows = plain_rows table.rows in
     sym (take-take (range.t + 1) (range.t + 1) (row_of rows i) (omega arith)) ∙ ap (take (range.t + 1)) (sym (row_of-cut range table.rows holds i h))

@@ -10,7 +10,7 @@ use Rattle.finite_module.specs.DerivedAction.{derived_module}
 use Rattle.module_check.specs.declared.fault.CheckFault.{CheckFault}
 use Rattle.ext_words.specs.declared.command.Common.{Common}
 use Rattle.ext_words.specs.declared.command.Command.{Command}
-use Rattle.ext_words.specs.declared.command.Command.TheVariants.{Products, Massey, Build, Sq}
+use Rattle.ext_words.specs.declared.command.Command.TheVariants.{Products, Massey, Build, Sq, Migrate}
 use Rattle.ext_words.specs.declared.command.Build.{Build as Made}
 use Rattle.ext_words.specs.declared.command.WordsFault.{WordsFault}
 use Rattle.ext_words.specs.declared.command.WordsFault.TheVariants.{Words as Outside, Memory as NoSpace}
@@ -25,14 +25,15 @@ use Rattle.ext_run.specs.declared.plan.Origin.{Origin}
 use Rattle.ext_run.specs.declared.plan.Origin.TheVariants.{Sphere as OfSphere, Sample as OfSample, File as OfFile}
 use Rattle.ext_run.specs.declared.plan.Form.{Form}
 use Rattle.ext_run.specs.declared.plan.Plan.{Plan}
-use Rattle.ext_run.specs.declared.plan.Plan.TheVariants.{Resolve as ToResolve, Check as ToCheck, Build as ToBuild, Multiply}
+use Rattle.ext_run.specs.declared.plan.Plan.TheVariants.{Resolve as ToResolve, Check as ToCheck, Build as ToBuild, Multiply, Migrate as ToMigrate, Verify as ToVerify}
 use Rattle.ext_run.specs.declared.task.Task.{Task}
-use Rattle.ext_run.specs.declared.task.Task.TheVariants.{Text, Resolution}
+use Rattle.ext_run.specs.declared.task.Task.TheVariants.{Text, Resolution, Migration, Verification}
 use Rattle.ext_run.specs.declared.task.Resolution.{Resolution as Resolved}
-use Rattle.ext_run.specs.Plan.{plan_of, asked_by, IsPlanWithin, IsModuleIn, IsModuleAt, IsModuleFor, PlanReads, TellsOfClasses, TellsFor, use_where, use_for}
-use Rattle.ext_run.specs.Forms.{IsText, IsInForm}
-use Rattle.ext_run.specs.Answer.{IsLineOn, IsProduct, ModuleAnswers, IsAnswerOfFile, IsModuleAnswer, IsAnswerAt, IsAnswerTo, IsAskedAnswer, IsTaskCause, IsTaskCauseFrom, IsOriginCauseFrom}
-use Rattle.ext_run.specs.Task.{IsDoneBy, IsTaskOf, IsTaskFor}
+use Rattle.ext_run.specs.Plan.{plan_of, asked_by, IsPlanWithin, IsModuleIn, IsModuleAt, IsModuleFor, PlanReads, TellsOfClasses, TellsFor, verifying, use_where, use_for}
+use Rattle.square.specs.declared.range.Range.{Range}
+use Rattle.ext_run.specs.Forms.{IsVerifiedChart, IsText, IsInForm}
+use Rattle.ext_run.specs.Answer.{IsLineOn, IsMigrated, IsProduct, ModuleAnswers, IsAnswerOfFile, IsModuleAnswer, IsAnswerAt, IsAnswerTo, IsAskedAnswer, IsTaskCause, IsTaskCauseFrom, IsOriginCauseFrom}
+use Rattle.ext_run.specs.Task.{IsDoneBy, use_in, IsTaskOf, IsTaskFor}
 
 -- ---- the limits
 
@@ -41,6 +42,7 @@ plan_within (Products common by) h = h.0
 plan_within (Massey common a b c) h = h.0
 plan_within (Build made) h = tt
 plan_within (Sq numbers) h = h.2
+plan_within Migrate h = tt
 plan_within command h = h
 
 -- ---- one module
@@ -56,6 +58,8 @@ at_same OfFile bytes m n p q =
 pub module_same : (asked : Option Plan) (bytes : List ℕ) (m n : SteenrodModule) → IsModuleFor asked bytes m → IsModuleFor asked bytes n → m ≡ n
 module_same (Some (ToResolve origin form common)) bytes m n p q = at_same origin bytes m n p q
 module_same (Some ToCheck) bytes m n p q = at_same OfFile bytes m n p q
+module_same (Some ToMigrate) bytes m n p q = at_same OfFile bytes m n p q
+module_same (Some (ToVerify range)) bytes m n p q = at_same OfFile bytes m n p q
 module_same asked bytes m n p q = absurd p
 
 -- ---- the answers
@@ -78,6 +82,9 @@ task_answers (Some (ToResolve origin form common)) bytes (Resolution r) answer h
     let told : IsInForm form r.common.range r.resolved.plain answer = subst (λ (f : Form). IsInForm f r.common.range r.resolved.plain answer) h.0 is in
     let here : IsInForm form common.range r.resolved.plain answer = subst (λ (c : Common). IsInForm form c.range r.resolved.plain answer) h.1 told in
     at_answer (IsInForm form common.range) origin bytes r.resolved.plain answer h.2 here
+task_answers (Some (ToResolve origin form common)) bytes (Text made) answer h is = absurd h
+task_answers (Some (ToResolve origin form common)) bytes (Migration m) answer h is = absurd h
+task_answers (Some (ToResolve origin form common)) bytes (Verification m r) answer h is = absurd h
 task_answers (Some ToCheck) bytes (Text made) answer h is =
     let text : IsText IsLineOn h.0 (Ok made.items) = h.2 in
     module_answer (IsText IsLineOn) bytes h.0 answer h.1 (subst (IsText IsLineOn h.0) (sym is) text)
@@ -86,26 +93,39 @@ task_answers (Some (Multiply numbers)) bytes (Text text) answer h is =
     let made : Result (List ℕ) Failure = Ok text.items in
     let there : IsOkAnd made (IsProduct numbers) = h in
     subst (λ (a : Result (List ℕ) Failure). IsOkAnd a (IsProduct numbers)) (sym is) there
+task_answers (Some ToMigrate) bytes (Migration m) answer h is = module_answer (IsText IsMigrated) bytes m.plain answer h is
+task_answers (Some (ToVerify range)) bytes (Verification m r) answer h is =
+    module_answer (IsText (IsVerifiedChart range)) bytes m.plain answer h.1 (subst (λ (x : Range). IsText (IsVerifiedChart x) m.plain answer) h.0 is)
 task_answers asked bytes task answer h is = absurd h
 
 -- ---- the disk
 
-pub resolution_use : (asked : Option Plan) (bytes : List ℕ) (r : Resolved) → IsTaskFor asked bytes (Resolution r) → use_for asked ≡ use_where r.common.save r.common.range
-resolution_use (Some (ToResolve origin form common)) bytes r h = ap (λ (c : Common). use_where c.save c.range) (sym h.1)
-resolution_use asked bytes r h = absurd h
+-- the task uses it as the plan does
+pub task_use : (asked : Option Plan) (bytes : List ℕ) (task : Task) → IsTaskFor asked bytes task → use_for asked ≡ use_in task
+task_use (Some (ToResolve origin form common)) bytes (Resolution r) h = ap (λ (c : Common). use_where c.save c.range) (sym h.1)
+task_use (Some ToCheck) bytes (Text made) h = refl
+task_use (Some (ToBuild what)) bytes (Text made) h = refl
+task_use (Some (Multiply numbers)) bytes (Text made) h = refl
+task_use (Some ToMigrate) bytes (Migration m) h = refl
+task_use (Some (ToVerify range)) bytes (Verification m r) h = ap (λ (x : Range). Some (verifying x)) (sym h.0)
+task_use asked bytes task h = absurd h
 
+-- and its module is the plan's
 pub resolution_module : (asked : Option Plan) (bytes : List ℕ) (r : Resolved) → IsTaskFor asked bytes (Resolution r) → IsModuleFor asked bytes r.resolved.plain
 resolution_module (Some (ToResolve origin form common)) bytes r h = h.2
 resolution_module asked bytes r h = absurd h
 
+pub migration_module : (asked : Option Plan) (bytes : List ℕ) (m : Checked) → IsTaskFor asked bytes (Migration m) → IsModuleFor asked bytes m.plain
+migration_module (Some ToMigrate) bytes m h = h
+migration_module asked bytes m h = absurd h
+
+pub verification_module : (asked : Option Plan) (bytes : List ℕ) (m : Checked) (r : Range) → IsTaskFor asked bytes (Verification m r) → IsModuleFor asked bytes m.plain
+verification_module (Some (ToVerify range)) bytes m r h = h.1
+verification_module asked bytes m r h = absurd h
+
 pub resolution_tells : (asked : Option Plan) (bytes : List ℕ) (r : Resolved) → IsTaskFor asked bytes (Resolution r) → TellsOfClasses r.form → TellsFor asked
 resolution_tells (Some (ToResolve origin form common)) bytes r h tells = subst TellsOfClasses h.0 tells
 resolution_tells asked bytes r h tells = absurd h
-
--- a text that is made leaves the disk alone
-pub text_use : (asked : Option Plan) (bytes : List ℕ) (made : Vec ℕ Global) → IsTaskFor asked bytes (Text made) → use_for asked ≡ None
-text_use (Some (ToResolve origin form common)) bytes made h = absurd h
-text_use asked bytes made h = refl
 
 -- ---- the input
 
@@ -152,6 +172,12 @@ resolve_cause OfFile form common left failure (inr p) = file_cause (ToResolve Of
 
 pub check_cause : (left : Option (List ℕ)) (failure : Failure) → IsFileCauseFrom left failure → IsTaskCauseFrom (Some ToCheck) left failure
 check_cause = file_cause ToCheck (IsText IsLineOn) tt (λ bytes a q. q)
+
+pub migrate_cause : (left : Option (List ℕ)) (failure : Failure) → IsFileCauseFrom left failure → IsTaskCauseFrom (Some ToMigrate) left failure
+migrate_cause = file_cause ToMigrate (IsText IsMigrated) tt (λ bytes a q. q)
+
+pub verify_cause : (range : Range) (left : Option (List ℕ)) (failure : Failure) → IsFileCauseFrom left failure → IsTaskCauseFrom (Some (ToVerify range)) left failure
+verify_cause range = file_cause (ToVerify range) (IsText (IsVerifiedChart range)) tt (λ bytes a q. q)
 
 pub build_cause : (made : Made) (left : Option (List ℕ)) (failure : Failure) → IsBuildCauseFrom made left failure → IsTaskCauseFrom (Some (ToBuild made)) left failure
 build_cause made left Words p = absurd (build_not_words made p.bytes (Err Words) p.holds refl)
@@ -216,3 +242,15 @@ module _ (plan : Plan) where
   multiply_task numbers left made is product =
       let here : IsTaskFrom (Multiply numbers) left (Text made) = some_input left _ (λ bytes. product) in
       subst (λ (p : Plan). IsTaskFrom p left (Text made)) (sym is) here
+
+  pub migrate_task : (left : Option (List ℕ)) (m : Checked) → plan ≡ ToMigrate → IsModuleFrom left m.plain → IsTaskFrom plan left (Migration m)
+  migrate_task left m is from =
+      let there = module_in left m.plain from in
+      let here : IsTaskFrom ToMigrate left (Migration m) = record { bytes = there.bytes; all = there.all; holds = there.holds } in
+      subst (λ (p : Plan). IsTaskFrom p left (Migration m)) (sym is) here
+
+  pub verify_task : (range : Range) (left : Option (List ℕ)) (m : Checked) → plan ≡ ToVerify range → IsModuleFrom left m.plain → IsTaskFrom plan left (Verification m range)
+  verify_task range left m is from =
+      let there = module_in left m.plain from in
+      let here : IsTaskFrom (ToVerify range) left (Verification m range) = record { bytes = there.bytes; all = there.all; holds = (refl, there.holds) } in
+      subst (λ (p : Plan). IsTaskFrom p left (Verification m range)) (sym is) here

@@ -12,11 +12,12 @@ use Rattle.square.specs.Keeping.{Keeper}
 use Rattle.ext_report.specs.declared.failure.Failure.TheVariants.{Memory}
 use Rattle.ext_run.specs.declared.plan.Form.{Form}
 use Rattle.ext_run.specs.declared.task.Task.{Task}
-use Rattle.ext_run.specs.declared.task.Task.TheVariants.{Text, Resolution}
+use Rattle.ext_run.specs.declared.task.Task.TheVariants.{Text, Resolution, Migration, Verification}
 use Rattle.ext_run.specs.declared.task.Resolution.{Resolution as ToResolve}
 use Rattle.ext_run.specs.Devices.{Store}
+use Rattle.ext_run.specs.Plan.{keeping, migrating, verifying}
 use Rattle.ext_run.specs.Forms.{IsInForm}
-use Rattle.ext_run.specs.Work.{Told, HasAnswer, answer_of, IsRefusalIn, HasContinued, HasKeptOn, HasWorked}
+use Rattle.ext_run.specs.Work.{Told, HasAnswer, answer_of, IsRefusalIn, HasContinued, HasUsed, HasWorked}
 
 -- ---- without a save file
 
@@ -43,8 +44,14 @@ module _ {D : Type 0} (disk : Store D) (task : Task) where
   pub worked_text : (made : Vec ℕ Global) (d : D) → task ≡ Text made → HasWorked disk task (Ok made) d d
   worked_text made d is = subst (λ (t : Task). HasWorked disk t (Ok made) d d) (sym is) (record { told = λ has. refl; why = tt; same = refl })
 
-  pub worked_saved : (r : ToResolve) (text : Told) (d g : D) → task ≡ Resolution r → r.common.save ≡ true → HasKeptOn disk r text d g → HasWorked disk task text d g
+  pub worked_saved : (r : ToResolve) (text : Told) (d g : D) → task ≡ Resolution r → r.common.save ≡ true → HasUsed disk (keeping r.common.range) r.resolved.plain (Resolution r) text d g → HasWorked disk task text d g
   worked_saved r text d g is saves on = subst (λ (t : Task). HasWorked disk t text d g) (sym is) (λ h. absurd (cc), λ h. on)
 
   pub worked_unsaved : (r : ToResolve) (text : Told) (d : D) → task ≡ Resolution r → r.common.save ≡ false → (HasAnswer text → IsInForm r.form r.common.range r.resolved.plain (answer_of text)) → IfErr text (λ e. (e ≡ Memory) ⊎ IsRefusalIn r.form e) → HasWorked disk task text d d
   worked_unsaved r text d is saves told why = subst (λ (t : Task). HasWorked disk t text d d) (sym is) (λ h. record { told = told; why = why; same = refl }, λ h. absurd (cc))
+
+  pub worked_migration : (m : Checked) (text : Told) (d g : D) → task ≡ Migration m → HasUsed disk migrating m.plain (Migration m) text d g → HasWorked disk task text d g
+  worked_migration m text d g is on = subst (λ (t : Task). HasWorked disk t text d g) (sym is) on
+
+  pub worked_verification : (m : Checked) (range : Range) (text : Told) (d g : D) → task ≡ Verification m range → HasUsed disk (verifying range) m.plain (Verification m range) text d g → HasWorked disk task text d g
+  worked_verification m range text d g is on = subst (λ (t : Task). HasWorked disk t text d g) (sym is) on

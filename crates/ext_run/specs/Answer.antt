@@ -10,21 +10,26 @@ use Rattle.finite_module.specs.Sample.{sample_file}
 use Rattle.module_check.specs.Acceptance.{refusal_of}
 use Rattle.adem_laws.specs.Admissible.{value, IsAdmissibleForm}
 use Rattle.ext_chart.specs.Check.{check_line}
+use Rattle.ext_chart.specs.Files.{migrated_line}
 use Rattle.ext_chart.specs.Product.{product_text}
 use Rattle.ext_report.specs.declared.failure.Failure.{Failure}
-use Rattle.ext_report.specs.declared.failure.Failure.TheVariants.{Words, Malformed as NoModuleFile, NotModule, Reading, Writing, Saving, SaveFile, Classes, Memory}
+use Rattle.ext_report.specs.declared.failure.Failure.TheVariants.{Words, Malformed as NoModuleFile, NotModule, Reading, Writing, Saving, SaveFile, Certificate, Classes, Memory}
 use Rattle.ext_build.specs.Input.{IsOfInput, IsFileCauseFrom}
 use Rattle.ext_build.specs.Building.{IsBuildAnswer}
 use Rattle.ext_run.specs.declared.plan.Origin.{Origin}
 use Rattle.ext_run.specs.declared.plan.Origin.TheVariants.{Sphere, Sample, File as OfFile}
 use Rattle.ext_run.specs.declared.plan.Plan.{Plan}
-use Rattle.ext_run.specs.declared.plan.Plan.TheVariants.{Resolve, Check, Build, Multiply}
+use Rattle.ext_run.specs.declared.plan.Plan.TheVariants.{Resolve, Check, Build, Multiply, Migrate, Verify}
 use Rattle.ext_run.specs.Plan.{asked_by, IsRead, Reads}
-use Rattle.ext_run.specs.Forms.{IsText, IsInForm}
+use Rattle.ext_run.specs.Forms.{IsVerifiedChart, IsText, IsInForm}
 
 -- text is the line on the module
 abbrev pub IsLineOn : SteenrodModule → List ℕ → Type 0
 IsLineOn m text = text ≡ check_line (length m.generators) (bottom m.generators) (top m.generators)
+
+-- text is the line on the module's save file that has all quasi-inverses; it is one for all modules
+abbrev pub IsMigrated : SteenrodModule → List ℕ → Type 0
+IsMigrated m text = text ≡ migrated_line
 
 -- text is the value of the product of these squares in Milnor's basis, and that value as a sum of admissible monomials
 pub record IsProduct (numbers : List ℕ) (text : List ℕ) : Type 0 where
@@ -64,9 +69,11 @@ IsAnswerTo (Resolve origin form common) bytes answer = IsAnswerAt origin (IsInFo
 IsAnswerTo Check bytes answer = IsModuleAnswer (IsText IsLineOn) bytes answer
 IsAnswerTo (Build made) bytes answer = IsBuildAnswer made bytes answer
 IsAnswerTo (Multiply numbers) bytes answer = IsOkAnd answer (IsProduct numbers)
+IsAnswerTo Migrate bytes answer = IsModuleAnswer (IsText IsMigrated) bytes answer
+IsAnswerTo (Verify range) bytes answer = IsModuleAnswer (IsText (IsVerifiedChart range)) bytes answer
 
--- The answer to what is asked, where the input is these bytes: a text, or why there is none. (Devices that fail and want of
--- memory are no part of it.)
+-- The answer to what is asked, where the input is these bytes: a text, or why there is none. (Devices that fail, want of
+-- memory and what a save file holds are no part of it.)
 abbrev pub IsAskedAnswer : Option Plan → List ℕ → Result (List ℕ) Failure → Type 0
 IsAskedAnswer asked bytes answer = MatchOption asked (answer ≡ Err Words) (λ plan. IsAnswerTo plan bytes answer)
 
@@ -88,6 +95,7 @@ IsTaskCause asked IsAnswered Memory = ⊤
 IsTaskCause asked IsAnswered Writing = ⊥
 IsTaskCause asked IsAnswered Saving = ⊥
 IsTaskCause asked IsAnswered (SaveFile e) = ⊥
+IsTaskCause asked IsAnswered (Certificate e) = ⊥
 IsTaskCause asked IsAnswered (Classes refusal) = ⊥
 IsTaskCause asked IsAnswered failure = IsAnswered failure
 

@@ -10,6 +10,7 @@ use Rattle.resolution_laws.specs.Exactness.{IsMinimalResolution}
 use Rattle.square.specs.Squares.{module_over}
 use Rattle.square.specs.declared.range.Range.{Range}
 use Rattle.ext_chart.specs.Chart.{chart_text}
+use Rattle.ext_chart.specs.Files.{verified_text}
 use Rattle.ext_chart.specs.Dump.{dump_text}
 use Rattle.ext_chart.specs.Summary.{summary_text}
 use Rattle.ext_products.specs.declared.refusal.Refusal.{Refusal}
@@ -36,12 +37,20 @@ pub record IsReadOff (text_of : SteenrodModule → List (List Content) → List 
 abbrev pub chart_of : Range → SteenrodModule → List (List Content) → List ℕ
 chart_of range m table = chart_text (bottom m.generators) range.s range.t (generator_count table)
 
+-- the same with the number of squares that were verified
+abbrev pub verified_of : Range → SteenrodModule → List (List Content) → List ℕ
+verified_of range m table = verified_text (bottom m.generators) range.s range.t (generator_count table)
+
 abbrev pub dump_of : Range → SteenrodModule → List (List Content) → List ℕ
 dump_of range m table = dump_text m.generators range.s range.t table
 
 abbrev pub summary_of : Range → SteenrodModule → List (List Content) → List ℕ
 summary_of range m table =
     summary_text (length m.generators) (bottom m.generators) range.s range.t (generator_count table)
+
+-- text is the chart of a verified save file
+abbrev pub IsVerifiedChart : Range → SteenrodModule → List ℕ → Type 0
+IsVerifiedChart range = IsReadOff (verified_of range) range
 
 -- the answer is a text that is right for the module
 abbrev pub IsText : (SteenrodModule → List ℕ → Type 0) → SteenrodModule → Result (List ℕ) Failure → Type 0

@@ -4,6 +4,10 @@ pub mod Forms
 pub mod Answer
 pub mod Task
 pub mod Saving
+pub mod Migrating
+pub mod Certificates
+pub mod Disks
+pub mod Inside
 pub mod NextRun
 pub mod Work
 pub mod Ending

@@ -6,15 +6,15 @@ use Rattle.square.specs.declared.range.Range.{Range}
 use Rattle.live_worker.specs.Reports.{squares_of, live_lines, RiseTo, HasReported}
 use Rattle.ext_report.specs.Lines.{line_of}
 use Rattle.ext_run.specs.declared.task.Task.{Task}
-use Rattle.ext_run.specs.declared.task.Task.TheVariants.{Text, Resolution}
+use Rattle.ext_run.specs.declared.task.Task.TheVariants.{Resolution}
 use Rattle.ext_run.specs.Devices.{Device}
 use Rattle.ext_run.specs.Plan.{live_where}
-use Rattle.ext_run.specs.Saving.{Outcome}
+use Rattle.ext_run.specs.Disks.{Outcome}
 
 -- the range of which a task reports how far it is; none where it does not
 abbrev pub live_in : Task → Option Range
-live_in (Text made) = None
 live_in (Resolution r) = live_where r.common.live r.common.range
+live_in task = None
 
 -- What became of standard error while something was made, and whether it failed: it got the reports of a range, and no call where
 -- there is none.

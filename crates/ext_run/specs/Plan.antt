@@ -11,14 +11,14 @@ use Rattle.module_check.specs.Acceptance.{refusal_of}
 use Rattle.square.specs.declared.range.Range.{Range}
 use Rattle.ext_words.specs.declared.command.TheConstants.{MAX_SQUARES_DEGREE}
 use Rattle.ext_words.specs.declared.command.Command.{Command}
-use Rattle.ext_words.specs.declared.command.Command.TheVariants.{Sphere, Resolve, Dump, Products, Massey, Check, Build, Sample, Sq}
-use Rattle.ext_words.specs.Words.{command_of, IsWithin}
+use Rattle.ext_words.specs.declared.command.Command.TheVariants.{Sphere, Resolve, Dump, Products, Massey, Check, Build, Sample, Sq, Migrate, Verify}
+use Rattle.ext_words.specs.Words.{command_of, IsRangeWithin, IsWithin}
 use Rattle.ext_run.specs.declared.plan.Origin.{Origin}
 use Rattle.ext_run.specs.declared.plan.Origin.TheVariants.{Sphere as OfSphere, Sample as OfSample, File as OfFile}
 use Rattle.ext_run.specs.declared.plan.Form.{Form}
 use Rattle.ext_run.specs.declared.plan.Form.TheVariants.{Chart, Differentials, Summary, Products as ProductsOf, Bracket}
 use Rattle.ext_run.specs.declared.plan.Plan.{Plan}
-use Rattle.ext_run.specs.declared.plan.Plan.TheVariants.{Resolve as ToResolve, Check as ToCheck, Build as ToBuild, Multiply}
+use Rattle.ext_run.specs.declared.plan.Plan.TheVariants.{Resolve as ToResolve, Check as ToCheck, Build as ToBuild, Multiply, Migrate as ToMigrate, Verify as ToVerify}
 
 abbrev pub plan_of : Command → Plan
 plan_of (Sphere common) = ToResolve OfSphere Chart common
@@ -30,6 +30,8 @@ plan_of Check = ToCheck
 plan_of (Build made) = ToBuild made
 plan_of (Sample n common) = ToResolve (OfSample n) Summary common
 plan_of (Sq numbers) = Multiply numbers
+plan_of Migrate = ToMigrate
+plan_of (Verify range) = ToVerify range
 
 -- what the words ask for, none where they are outside the grammar
 abbrev pub asked_by : List (List ℕ) → Option Plan
@@ -39,6 +41,7 @@ asked_by words = option_map plan_of (command_of words)
 abbrev pub IsPlanWithin : Plan → Type 0
 IsPlanWithin (ToResolve origin form common) = IsWithin common
 IsPlanWithin (Multiply numbers) = sum numbers ≤ MAX_SQUARES_DEGREE
+IsPlanWithin (ToVerify range) = IsRangeWithin range
 IsPlanWithin plan = ⊤
 
 -- ---- the module
@@ -56,10 +59,12 @@ IsModuleAt OfSphere bytes m = m ≡ derived_module sphere_file
 IsModuleAt (OfSample n) bytes m = m ≡ derived_module (sample_file n)
 IsModuleAt OfFile bytes m = IsModuleIn bytes m
 
--- the module that is resolved or told of; none where none is
+-- the module that is resolved or told of, or whose save file is used; none where none is
 abbrev pub IsModuleOf : Plan → List ℕ → SteenrodModule → Type 0
 IsModuleOf (ToResolve origin form common) bytes m = IsModuleAt origin bytes m
 IsModuleOf ToCheck bytes m = IsModuleIn bytes m
+IsModuleOf ToMigrate bytes m = IsModuleIn bytes m
+IsModuleOf (ToVerify range) bytes m = IsModuleIn bytes m
 IsModuleOf plan bytes m = ⊥
 
 abbrev pub IsModuleFor : Option Plan → List ℕ → SteenrodModule → Type 0
@@ -77,6 +82,8 @@ PlanReads (ToResolve origin form common) = IsRead origin
 PlanReads ToCheck = ⊤
 PlanReads (ToBuild made) = ⊤
 PlanReads (Multiply numbers) = ⊥
+PlanReads ToMigrate = ⊤
+PlanReads (ToVerify range) = ⊤
 
 -- the words ask for something that is read
 abbrev pub Reads : Option Plan → Type 0
@@ -115,9 +122,14 @@ live_for (Some plan) = live_of plan
 
 -- ---- the disk
 
--- What is used of it: its save file keeps the squares of a range, and those that it has are taken up.
+-- What its save file, of which the squares are taken up, is used for.
 pub data Use : Type 0 where
+  -- it keeps the squares of a range
   keeping : Range → Use
+  -- it gets the quasi-inverses that it lacks
+  migrating : Use
+  -- it has to be a certificate of a range, and gets nothing
+  verifying : Range → Use
 
 abbrev pub use_where : Bool → Range → Option Use
 use_where true range = Some (keeping range)
@@ -126,6 +138,8 @@ use_where false range = None
 -- none where the disk gets no call
 abbrev pub use_of : Plan → Option Use
 use_of (ToResolve origin form common) = use_where common.save common.range
+use_of ToMigrate = Some migrating
+use_of (ToVerify range) = Some (verifying range)
 use_of plan = None
 
 abbrev pub use_for : Option Plan → Option Use

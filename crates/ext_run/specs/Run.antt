@@ -8,14 +8,14 @@ use Rattle.square.specs.declared.range.Range.{Range}
 use Rattle.space_laws.specs.Spaces.{IsSpaceFile}
 use Rattle.live_worker.specs.Reports.{squares_of}
 use Rattle.ext_report.specs.declared.status.TheConstants.{WRITTEN}
-use Rattle.ext_report.specs.declared.failure.Failure.TheVariants.{Words, NotModule, Reading, Writing, Saving, SaveFile, Classes, Memory}
+use Rattle.ext_report.specs.declared.failure.Failure.TheVariants.{Words, NotModule, Reading, Writing, Saving, SaveFile, Certificate, Classes, Memory}
 use Rattle.ext_report.specs.Failure.{IsTold, status_of}
 use Rattle.ext_build.specs.Input.{most_read}
 use Rattle.ext_run.specs.declared.plan.Plan.{Plan}
 use Rattle.ext_run.specs.Devices.{Device, Store}
-use Rattle.ext_run.specs.Plan.{Reads, TellsFor, live_for, use_for}
+use Rattle.ext_run.specs.Plan.{Reads, TellsFor, live_for, verifying, use_for}
 use Rattle.ext_run.specs.Answer.{IsAskedAnswer}
-use Rattle.ext_run.specs.Saving.{Outcome, IsRefused, IsUsable, HasSaved}
+use Rattle.ext_run.specs.Disks.{Outcome, IsRefused, IsUncertified, IsUsable, IsCertified, HasSaved}
 use Rattle.ext_run.specs.Ending.{HasTold, HasGotWhole, HasGotPart}
 use Rattle.ext_run.specs.Live.{HasToldLive}
 
@@ -24,7 +24,7 @@ status_after (Ok text) = WRITTEN
 status_after (Err failure) = status_of failure
 
 -- Why a run ended as it did, where the disk held this: its text is the answer, or the failure's cause stands in the words,
--- in the input, or in the save file. What is resolved is asked for if the save file may be used.
+-- in the input, or in the save file. What is told of a resolution is the answer if the save file may be used.
 abbrev pub IsCause : Option Plan → List ℕ → Option (List ℕ) → Type 0 → Outcome → Type 0
 IsCause asked input now usable (Ok text) = usable → IsAskedAnswer asked input (Ok text)
 IsCause asked input now usable (Err Words) = asked ≡ None
@@ -33,6 +33,9 @@ IsCause asked input now usable (Err Writing) = ⊤
 IsCause asked input now usable (Err Saving) = IsSome (use_for asked)
 IsCause asked input now usable (Err (SaveFile e)) =
     IsSome (use_for asked) × IfSome now (λ file. IsRefused asked input file e)
+IsCause asked input now usable (Err (Certificate fault)) =
+    ((range : Range) × (use_for asked ≡ Some (verifying range)))
+    × IfSome now (λ file. IsUncertified asked input file fault)
 IsCause asked input now usable (Err (Classes refusal)) =
     TellsFor asked × (usable → IsAskedAnswer asked input (Err (Classes refusal)))
 IsCause asked input now usable (Err Memory) = ⊤
@@ -93,9 +96,11 @@ pub record IsRun {S O E D : Type 0} (source : Device S) (out : Device O) (err : 
   pub outcome : Outcome
   pub status_is : status ≡ status_after outcome
   pub cause : IsCause asked input (disk.now d) (IsUsable disk asked input d) outcome
-  -- the answer comes, if a device or memory does not prevent it
+  -- the answer comes, if a device or memory does not prevent it; what is resolved, if the save file may be used, and what is
+  -- verified, if it is a certificate
   pub comes : (answer : Outcome) → IsAskedAnswer asked input answer →
-      (IsTold answer → IsUsable disk asked input d) → (outcome ≡ answer) ⊎ IsPrevented answer outcome
+      (IsTold answer → IsUsable disk asked input d × IsCertified asked input (disk.now d)) →
+      (outcome ≡ answer) ⊎ IsPrevented answer outcome
   -- the file of a real projective space is a module
   pub no_space_refused : IsSpaceFile input → (file : File) (e : CheckFault) → outcome ≢ Err (NotModule file e)
   -- and this became of the devices

@@ -1,21 +1,17 @@
--- What a run does with its save file.
-use Rattle.std.specs.Prelude.{◌≡◌, ◌≢◌, ℕ, ◌≤◌, ◌⊎◌, List, [], ◌++◌, length, Option, Some, None, IsSome, IfSome, Result, Ok, Err, ⊤}
-use Rattle.finite_module.specs.Module.{Module as SteenrodModule}
+-- What a run that keeps squares does with its save file.
+use Rattle.std.specs.Prelude.{◌≡◌, ℕ, ◌≤◌, ◌⊎◌, List, [], ◌++◌, length, Option, IsSome, IfSome, Ok}
 use Rattle.std.specs.List.{All}
 use Rattle.std.specs.Result.{result_ok}
+use Rattle.finite_module.specs.Module.{Module as SteenrodModule}
 use Rattle.resolution_step.specs.Alone.{IsInRange}
-use Rattle.edge.specs.Faults.{HasRisen}
 use Rattle.resolution_laws.specs.Start.{Entry, entry_at, AreOf}
 use Rattle.square.specs.Keeping.{HasFirst}
 use Rattle.square.specs.Squares.{module_over}
 use Rattle.square.specs.declared.range.Range.{Range}
-use Rattle.save_file.specs.Files.{standing_of}
-use Rattle.save_file.specs.declared.fault.ResumeFault.{ResumeFault}
-use Rattle.ext_report.specs.declared.failure.Failure.{Failure}
-use Rattle.ext_report.specs.declared.failure.Failure.TheVariants.{Words, Malformed as NoModuleFile, NotModule, PastLimit, Reading, Writing, Saving, SaveFile, Classes, Memory}
-use Rattle.ext_run.specs.declared.plan.Plan.{Plan}
+use Rattle.save_journal.specs.Records.{records_of}
+use Rattle.save_file.specs.Bodies.{Kept}
+use Rattle.save_file.specs.Files.{digest_of, standing_of, kept_by}
 use Rattle.ext_run.specs.Devices.{Store}
-use Rattle.ext_run.specs.Plan.{IsModuleFor, keeping, use_for}
 
 -- ---- the file
 
@@ -51,6 +47,10 @@ StandsAsOneOf m images file = (d : List ℕ) × images d × (standing_of m file 
 -- the squares that the file stands for, none where it is refused
 abbrev pub squares_of : SteenrodModule → List ℕ → Option (List Entry)
 squares_of m file = result_ok (standing_of m file)
+
+-- what the file keeps: its squares, each with its quasi-inverse or none, and nothing where it is refused
+abbrev pub kept_of : SteenrodModule → List ℕ → List Kept
+kept_of m file = kept_by (module_over m) (records_of (digest_of m) file)
 
 -- The disk is ours for the list: whatever a crash now leaves of it stands for the list, or it and one square more.
 abbrev pub IsOurs : SteenrodModule → List Entry → (List ℕ → Type 0) → Type 0
@@ -109,73 +109,3 @@ pub record HasLasted {D : Type 0} (disk : Store D) (m : SteenrodModule) (range :
       ⊎ ((c : List ℕ) → disk.images new c → standing_of m c ≡ Ok ((list ++ more) ++ given))
   pub exact : had_answer → (c : List ℕ) → disk.images new c → standing_of m c ≡ Ok ((list ++ more) ++ given)
   pub whole : had_answer → HasRange range ((list ++ more) ++ given)
-
--- ---- the disk of a run
-
--- how a run ended: with the text that was written, or with the failure that came in its place
-abbrev pub Outcome : Type 0
-Outcome = Result (List ℕ) Failure
-
--- The disk is used, and the file on it is to be one of this module, where the input is these bytes.
-abbrev pub IsOnDisk : Option Plan → List ℕ → SteenrodModule → Type 0
-IsOnDisk asked input m = IsSome (use_for asked) × IsModuleFor asked input m
-
--- the file is refused
-abbrev pub IsRefused : Option Plan → List ℕ → List ℕ → ResumeFault → Type 0
-IsRefused asked input file e = (m : SteenrodModule) × IsOnDisk asked input m × (standing_of m file ≡ Err e)
-
--- If the disk is used, it tells what it holds, and is ours for some squares of the module.
-abbrev pub IsUsable : {D : Type 0} → Store D → Option Plan → List ℕ → D → Type 0
-IsUsable disk asked input d = (m : SteenrodModule) → IsOnDisk asked input m →
-    IsSome (disk.now d) × ((list : List Entry) × IsOurs m list (disk.images d))
-
--- it ended before the disk's turn
-abbrev pub IsEarly : Outcome → Type 0
-IsEarly (Err Words) = ⊤
-IsEarly (Err (NoModuleFile e)) = ⊤
-IsEarly (Err (NotModule f e)) = ⊤
-IsEarly (Err (PastLimit what)) = ⊤
-IsEarly (Err Reading) = ⊤
-IsEarly outcome = ⊥
-
--- it ended behind the disk's turn: the range is resolved, and there is an answer
-abbrev pub IsAnswered : Outcome → Type 0
-IsAnswered (Ok text) = ⊤
-IsAnswered (Err Writing) = ⊤
-IsAnswered (Err (Classes refusal)) = ⊤
-IsAnswered outcome = ⊥
-
--- a device failed, or memory ended, before the save file was looked at
-abbrev pub IsCutOff : Outcome → Type 0
-IsCutOff (Err Reading) = ⊤
-IsCutOff (Err Saving) = ⊤
-IsCutOff (Err Memory) = ⊤
-IsCutOff outcome = ⊥
-
--- What becomes of a file that is refused for this reason: that is told, and nothing is written. Whether the disk fails or
--- not, a crash leaves what is refused alike.
-pub record HasSpared {D : Type 0} (disk : Store D) (m : SteenrodModule) (e : ResumeFault) (outcome : Outcome)
-    (old new : D) : Type 0 where
-  pub comes : (outcome ≡ Err (SaveFile e)) ⊎ IsCutOff outcome
-  pub unwritten : outcome ≢ Err Saving → IsUnwritten disk old new
-  pub stands : (c : List ℕ) → disk.since new (disk.moment old) c → StandsAsOneOf m (disk.images old) c
-
--- What becomes of the disk of a run, by how the run ended.
-pub record HasSaved {D : Type 0} (disk : Store D) (asked : Option Plan) (input : List ℕ) (outcome : Outcome)
-    (old new : D) : Type 0 where
-  -- no call is made unless the disk is used, nor before its turn
-  pub unused : use_for asked ≡ None → new ≡ old
-  pub early : IsEarly outcome → new ≡ old
-  -- a failed call is told, and an answer comes only if none failed
-  pub failed : outcome ≡ Err Saving → HasRisen (disk.faults old) (disk.faults new)
-  pub no_fault : outcome ≢ Err Saving → disk.faults new ≡ disk.faults old
-  pub never_falls : disk.faults old ≤ disk.faults new
-  -- where a file was refused, nothing is written
-  pub unwritten : (e : ResumeFault) → outcome ≡ Err (SaveFile e) →
-      IsUnwritten disk old new
-  pub spared : (m : SteenrodModule) (file : List ℕ) (e : ResumeFault) → IsOnDisk asked input m →
-      disk.now old ≡ Some file → standing_of m file ≡ Err e → HasSpared disk m e outcome old new
-  -- squares last
-  pub lasts : (m : SteenrodModule) (range : Range) (list : List Entry) → use_for asked ≡ Some (keeping range) →
-      IsModuleFor asked input m → IsSome (disk.now old) → IsOurs m list (disk.images old) →
-      HasLasted disk m range list (IsAnswered outcome) (outcome ≢ Err Saving) old new

@@ -13,16 +13,17 @@ use Rattle.square.specs.declared.range.Range.{Range}
 use Rattle.save_file.specs.Files.{standing_of}
 use Rattle.save_file.specs.declared.fault.ResumeFault.{ResumeFault}
 use Rattle.ext_report.specs.declared.failure.Failure.{Failure}
-use Rattle.ext_report.specs.declared.failure.Failure.TheVariants.{Saving, SaveFile, Memory}
+use Rattle.ext_report.specs.declared.failure.Failure.TheVariants.{Saving, SaveFile, Certificate, Memory}
 use Rattle.ext_run.specs.declared.plan.Form.{Form}
 use Rattle.ext_run.specs.declared.task.Task.{Task}
-use Rattle.ext_run.specs.declared.task.Task.TheVariants.{Text, Resolution}
-use Rattle.ext_run.specs.declared.task.Resolution.{Resolution as ToResolve}
+use Rattle.ext_run.specs.declared.task.Task.TheVariants.{Text, Resolution, Migration, Verification}
 use Rattle.ext_run.specs.Devices.{Store}
-use Rattle.ext_run.specs.Plan.{TellsOfClasses}
+use Rattle.ext_run.specs.Plan.{TellsOfClasses, Use, keeping, migrating, verifying}
 use Rattle.ext_run.specs.Forms.{IsInForm}
 use Rattle.ext_run.specs.Task.{IsDoneBy}
-use Rattle.ext_run.specs.Saving.{StandsAsOneOf, IsOurs, IsUnwritten, HasLasted, HasRange}
+use Rattle.ext_run.specs.Saving.{StandsAsOneOf, IsUnwritten, HasRange}
+use Rattle.ext_run.specs.Certificates.{IsNoCertificate}
+use Rattle.ext_run.specs.Disks.{IsFitFor, HasServed}
 use Rattle.ext_report.specs.Failure.{IsOfClasses}
 
 -- a text, or why there is none
@@ -43,8 +44,8 @@ abbrev pub IsRefusalIn : Form → Failure → Type 0
 IsRefusalIn form e = IsOfClasses e × TellsOfClasses form
 
 abbrev pub IsTaskRefusal : Task → Failure → Type 0
-IsTaskRefusal (Text made) e = ⊥
 IsTaskRefusal (Resolution r) e = IsRefusalIn r.form e
+IsTaskRefusal task e = ⊥
 
 -- A table was continued through the range and told of, and the keeper got the new squares. If the table began with canonical squares,
 -- the answer is that of the canonical resolution.
@@ -67,34 +68,44 @@ pub record IsUnsaved {D : Type 0} (task : Task) (text : Told) (old new : D) : Ty
   pub why : IfErr text (λ e. (e ≡ Memory) ⊎ IsTaskRefusal task e)
   pub same : new ≡ old
 
--- the file is refused as one of the module
-abbrev pub IsRefusedFor : SteenrodModule → Option (List ℕ) → ResumeFault → Type 0
-IsRefusedFor m now fault = IfSome now (λ file. standing_of m file ≡ Err fault)
+-- the failure is a refusal of the file as one of the module
+abbrev pub IsFileRefusal : SteenrodModule → Option (List ℕ) → Failure → Type 0
+IsFileRefusal m now (SaveFile fault) = IfSome now (λ file. standing_of m file ≡ Err fault)
+IsFileRefusal m now failure = ⊥
 
--- A resolution was made over the save file on a disk.
-pub record HasKeptOn {D : Type 0} (disk : Store D) (r : ToResolve) (text : Told) (old new : D) : Type 0 where
-  pub told : HasAnswer text → IsSome (disk.now old) → (list : List Entry) → IsOurs r.resolved.plain list (disk.images old) →
-      IsDoneBy (Resolution r) (answer_of text)
-  pub why : IfErr text (λ e. (e ≡ Saving) ⊎ (e ≡ Memory) ⊎ IsRefusalIn r.form e
-      ⊎ ((fault : ResumeFault) × (e ≡ SaveFile fault) × IsRefusedFor r.resolved.plain (disk.now old) fault))
+-- the failure is that the file, which is verified, is no certificate
+abbrev pub IsCertificateRefusal : Use → SteenrodModule → Option (List ℕ) → Failure → Type 0
+IsCertificateRefusal (verifying range) m now (Certificate fault) =
+    IfSome now (λ file. IsNoCertificate range m file fault)
+IsCertificateRefusal usage m now failure = ⊥
+
+-- The task was worked on over the save file of this module on a disk, which it uses so.
+pub record HasUsed {D : Type 0} (disk : Store D) (usage : Use) (m : SteenrodModule) (task : Task) (text : Told)
+    (old new : D) : Type 0 where
+  pub told : HasAnswer text → IsSome (disk.now old) → IsFitFor usage m (disk.images old) →
+      IsDoneBy task (answer_of text)
+  pub why : IfErr text (λ e. (e ≡ Saving) ⊎ (e ≡ Memory) ⊎ IsTaskRefusal task e ⊎ IsFileRefusal m (disk.now old) e
+      ⊎ IsCertificateRefusal usage m (disk.now old) e)
   pub failed : text ≡ Err Saving → HasRisen (disk.faults old) (disk.faults new)
   pub no_fault : text ≢ Err Saving → disk.faults new ≡ disk.faults old
   pub never_falls : disk.faults old ≤ disk.faults new
   pub accepted : HasAnswer text → (file : List ℕ) → disk.now old ≡ Some file →
-      (list : List Entry) × (standing_of r.resolved.plain file ≡ Ok list)
+      (list : List Entry) × (standing_of m file ≡ Ok list)
   pub unwritten : (fault : ResumeFault) → text ≡ Err (SaveFile fault) → IsUnwritten disk old new
-  pub spared : (file : List ℕ) (fault : ResumeFault) → disk.now old ≡ Some file →
-      standing_of r.resolved.plain file ≡ Err fault → text ≢ Err Saving → IsUnwritten disk old new
-  pub stands : (file : List ℕ) (fault : ResumeFault) → disk.now old ≡ Some file →
-      standing_of r.resolved.plain file ≡ Err fault → (c : List ℕ) → disk.since new (disk.moment old) c →
-      StandsAsOneOf r.resolved.plain (disk.images old) c
-  pub lasts : IsSome (disk.now old) → (list : List Entry) → IsOurs r.resolved.plain list (disk.images old) →
-      HasLasted disk r.resolved.plain r.common.range list (HasAnswer text) (text ≢ Err Saving) old
-      new
+  pub spared : (file : List ℕ) (fault : ResumeFault) → disk.now old ≡ Some file → standing_of m file ≡ Err fault →
+      text ≢ Err Saving → IsUnwritten disk old new
+  pub stands : (file : List ℕ) (fault : ResumeFault) → disk.now old ≡ Some file → standing_of m file ≡ Err fault →
+      (c : List ℕ) → disk.since new (disk.moment old) c → StandsAsOneOf m (disk.images old) c
+  pub served : HasServed disk usage m (HasAnswer text) (text ≢ Err Saving)
+      (λ fault. (text ≡ Err (Certificate fault)) ⊎ (text ≡ Err Saving) ⊎ (text ≡ Err Memory)) old new
 
 -- what became of the task and of the disk
 abbrev pub HasWorked : {D : Type 0} → Store D → Task → Told → D → D → Type 0
 HasWorked disk (Text made) text old new = IsUnsaved (Text made) text old new
 HasWorked disk (Resolution r) text old new =
     (r.common.save ≡ false → IsUnsaved (Resolution r) text old new)
-    × (r.common.save ≡ true → HasKeptOn disk r text old new)
+    × (r.common.save ≡ true →
+    HasUsed disk (keeping r.common.range) r.resolved.plain (Resolution r) text old new)
+HasWorked disk (Migration m) text old new = HasUsed disk migrating m.plain (Migration m) text old new
+HasWorked disk (Verification m range) text old new =
+    HasUsed disk (verifying range) m.plain (Verification m range) text old new

@@ -34,8 +34,9 @@ pub struct Ended<D> {
 /// ten times a second at most. The last line before a text has all squares. The line of a failure comes behind them. After a failed
 /// write, `err` gets nothing more.
 ///
-/// Where the words say `--save`, the squares of the module's save file on `disk` are taken up, and each new one is kept there. Else
-/// the disk gets no call.
+/// Where the words say `--save`, the squares of the module's save file on `disk` are taken up, and each new one is kept there. Where they
+/// ask for the file to be brought up to date or to be verified, its squares are taken up too, and no square is made. Else the disk gets
+/// no call.
 ///
 /// What is made of a resolution stays in memory until the process ends. Where the words say one worker and neither `--save` nor `--live`,
 /// a chart, the differentials and a summary are made from the images of generators alone, which take less of it.
@@ -46,8 +47,8 @@ pub struct Ended<D> {
 /// The status is 0 where the answer is written whole, 2 for words outside the grammar, 3 where what was read is no module
 /// file, 4 where it describes no module, 6 where reading failed, 7 where writing failed, 8 where the disk failed, 9 where what it
 /// holds is no save file of the module, 10 where a product of the classes that the words name has to be zero and is not, 11 where
-/// one of them is not there or what is asked for is out of the range, 12 where memory ended, and 14 where what was to be built passes
-/// a limit.
+/// one of them is not there or what is asked for is out of the range, 12 where memory ended, 13 where the save file is no certificate,
+/// and 14 where what was to be built passes a limit.
 pub fn run<
     R,
     W: Threads + Wait + Clock + Sync,

@@ -1,5 +1,6 @@
 //! Laws over the definitions, as contracts of functions that do nothing.
 ghost use Rattle.ext_run.specs.Answer.{AnswerIsUnique};
+ghost use Rattle.ext_run.specs.Certificates.{CertificateIsDecided};
 ghost use Rattle.ext_run.specs.Devices.{store_of};
 ghost use Rattle.ext_run.specs.Existence.{AnswerExists};
 ghost use Rattle.ext_run.specs.NextRun.{NextRunMayUse, ShortDiskIsOurs};
@@ -25,8 +26,13 @@ pub fn answer_exists()
     adem_laws::admissible_basis();
 }
 
+/// No save file of a module is a certificate of a range and none, and it is none for one reason at most.
+pub fn certificate_is_decided()
+    ensures { CertificateIsDecided }
+{}
+
 /// What a run for a module has left of the disk of its save file, a run for the same module may use that finds it: wherever the
-/// first one was cut off, and through whatever range each of them goes. (`run` and `run_one` promise their text where the disk
+/// first one was cut off, and whatever each of them uses it for. (`run` and `run_one` promise their text where the disk
 /// may be used.)
 pub fn next_run_may_use_what_is_left<D: Disk>()
     ensures { NextRunMayUse (store_of D.now D.moment D.images D.images_at D.since D.faults) }

@@ -4,14 +4,17 @@
 mod answer;
 mod from_images;
 mod laws;
+mod migrating;
 mod plan;
 mod task;
 mod texts;
+mod verifying;
 
 pub use answer::{Ended, run, run_one};
 pub use ext_report::{Failure, report};
 pub use ext_words::{Build, Command, Common, WordsFault, has_live, parse};
 pub use laws::{
-    answer_exists, answer_is_unique, next_run_may_use_what_is_left, short_disk_is_ours,
+    answer_exists, answer_is_unique, certificate_is_decided, next_run_may_use_what_is_left,
+    short_disk_is_ours,
 };
 pub use square::Range;

@@ -7,6 +7,7 @@ ghost use Rattle.ext_run.specs.declared.plan.Plan as Plan;
 use chain_map::Class;
 use ext_words::{Build, Command, Common};
 use sq_calc::Mono;
+use square::Range;
 
 /// Where a module comes from.
 #[derive(Clone, Copy, Debug)]
@@ -46,6 +47,10 @@ pub enum Plan {
     Build(Build),
     /// Squares are multiplied.
     Multiply(Mono),
+    /// The save file of a file's module gets the quasi-inverses that it lacks.
+    Migrate,
+    /// A file's module is told of in a chart, if its save file is a certificate of the range.
+    Verify(Range),
 }
 
 /// What the command asks for.
@@ -64,6 +69,8 @@ pub(crate) fn plan_of(command: Command) -> Plan
         Command::Build(made) => Plan::Build(made),
         Command::Sample { n, common } => resolve(Origin::Sample(n), Form::Summary, common),
         Command::Sq(squares) => Plan::Multiply(squares),
+        Command::Migrate => Plan::Migrate,
+        Command::Verify(range) => Plan::Verify(range),
     }
 }
 

@@ -1,5 +1,5 @@
-//! What is still to be done for words, once they and their module file are read: a text that is there, or a resolution
-//! to make.
+//! What is still to be done for words, once they and their module file are read: a text that is there, a resolution to make,
+//! or a save file to bring up to date or to verify.
 ghost use Rattle.std.specs.Prelude.{◌≡◌, ◌≢◌, ◌≤◌, Some, Err, IfOk, IfErr};
 ghost use Rattle.std.specs.List.{sum};
 ghost use Rattle.edge.specs.Faults.{HasRisen};
@@ -27,6 +27,7 @@ use module_check::{Module, accepted_is_module, modules_are_graded_modules};
 use resolution_existence::canonical_table_exists;
 use resolution_laws::canonical_table_is_minimal_resolution;
 use sq_calc::{Mono, to_admissible, to_milnor};
+use square::Range;
 use std::alloc::Global;
 
 /// What is still to be done for words.
@@ -36,6 +37,10 @@ pub enum Task {
     Text(Vec<u8>),
     /// A module is to be resolved.
     Resolution(Resolution),
+    /// The save file of this module is to get the quasi-inverses that it lacks.
+    Migration(Module),
+    /// The save file of this module is to be verified through this range.
+    Verification(Module, Range),
 }
 
 /// A module that is to be resolved, how far and by how many workers, and what is to be told of it.
@@ -104,6 +109,8 @@ fn task_for<S: Source>(alloc: Global, plan: Plan, source: &mut S) -> Result<Task
         }
         Plan::Build(made) => Ok(Task::Text(built_text(alloc, made, source)?)),
         Plan::Multiply(squares) => Ok(Task::Text(product_lines(alloc, &squares)?)),
+        Plan::Migrate => Ok(Task::Migration(read_module(alloc, source)?)),
+        Plan::Verify(range) => Ok(Task::Verification(read_module(alloc, source)?, range)),
     }
 }
 

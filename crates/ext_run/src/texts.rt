@@ -1,24 +1,28 @@
 //! The text of a task: a module is resolved, by the caller alone or by workers, over its save file if the words say so,
 //! and what is made of it is told: a table, or the images of generators alone. Workers may report how far they are.
+//! Or the save file is all that is used.
 ghost use Rattle.std.specs.Prelude.{◌≡◌, ◌≤◌, ◌⊎◌, false, None, IfErr};
 ghost use Rattle.board_core.specs.declared.event.Cause as Cause;
 ghost use Rattle.resolution_step.specs.Alone.{AreApart, HasResolved};
 ghost use Rattle.square.specs.declared.range.TheConstants.{MAX_S, MAX_T};
 ghost use Rattle.square.specs.Keeping.{IsKeeperOf};
 ghost use Rattle.square.specs.Tables.{plain_rows, IsThrough, cut};
+ghost use Rattle.ext_run.specs.declared.task.Task.TheVariants.{Resolution as ToResolve};
 ghost use Rattle.ext_run.specs.Devices.{device_of, store_of};
-ghost use Rattle.ext_run.specs.Plan.{TellsOfClasses, live_where};
+ghost use Rattle.ext_run.specs.Plan.{TellsOfClasses, keeping, live_where};
 ghost use Rattle.ext_run.specs.Live.{live_in, HasHeard};
 ghost use Rattle.ext_run.specs.Forms.{IsResolved, IsInForm};
 ghost use Rattle.ext_words.specs.Words.{IsWithin};
 ghost use Rattle.ext_run.specs.Task.{IsTaskWithin};
-ghost use Rattle.ext_run.specs.Work.{HasAnswer, answer_of, IsRefusalIn, HasContinued, HasKeptOn, HasWorked};
+ghost use Rattle.ext_run.specs.Work.{HasAnswer, answer_of, IsRefusalIn, HasContinued, HasUsed, HasWorked};
 ghost use Rattle.ext_report.specs.declared.failure.Failure.TheVariants.{Memory as WantOfMemory};
 ghost use Rattle.ext_report.specs.Failure.{IsOfClasses};
 
 use crate::from_images::{chart_alone, dump_alone, summary_alone};
+use crate::migrating::migrated;
 use crate::plan::Form;
 use crate::task::{Resolution, Task};
+use crate::verifying::verified;
 use board_core::Cause;
 use edge::{Disk, Failed, Sink};
 use ext_brackets::bracket_text;
@@ -56,6 +60,8 @@ pub(crate) fn text_alone<D: Disk>(
             saved_alone(alloc, resolution, disk)
         }
         Task::Resolution(resolution) => (unsaved_alone(alloc, resolution), disk),
+        Task::Migration(module) => migrated(alloc, module, disk),
+        Task::Verification(module, range) => verified(alloc, module, range, disk),
     }
 }
 
@@ -161,8 +167,8 @@ fn saved_alone<D: Disk>(
     disk: D,
 ) -> (Result<Vec<u8>, Failure>, D)
     requires { IsWithin resolution.common }
-    ensures { HasKeptOn (store_of D.now D.moment D.images D.images_at D.since D.faults) resolution
-        result.0 disk result.1 }
+    ensures { HasUsed (store_of D.now D.moment D.images D.images_at D.since D.faults) (keeping resolution.common.range)
+        resolution.resolved.plain (ToResolve resolution) result.0 disk result.1 }
 {
     let range = resolution.common.range;
     match resume(alloc, resolution.resolved, disk) {
@@ -189,8 +195,8 @@ fn saved_by_workers<
     gate: &G,
 ) -> (Result<Vec<u8>, Failure>, D, Result<(), Failed>)
     requires { IsWithin resolution.common }
-    ensures kept { HasKeptOn (store_of D.now D.moment D.images D.images_at D.since D.faults) resolution
-        result.0 disk result.1 }
+    ensures kept { HasUsed (store_of D.now D.moment D.images D.images_at D.since D.faults)
+        (keeping resolution.common.range) resolution.resolved.plain (ToResolve resolution) result.0 disk result.1 }
     ensures heard { HasHeard (device_of E.written E.faults) (live_where resolution.common.live resolution.common.range)
         result.0 result.2 err.old err.new }
 {
@@ -319,7 +325,7 @@ fn resolved_by_workers<
 
 /// Leaks the table on purpose: the process is about to end, and the system takes the memory back at once, while letting go of some
 /// hundred thousand rows one by one took a twentieth of a run.
-fn leave(table: Table) {
+pub(crate) fn leave(table: Table) {
     forget(table);
 }
 

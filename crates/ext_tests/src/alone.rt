@@ -4,7 +4,8 @@ use crate::runs::{
 };
 use edge::MemDisk;
 use ext_run::{
-    answer_is_unique, has_live, next_run_may_use_what_is_left, run_one, short_disk_is_ours,
+    answer_is_unique, certificate_is_decided, has_live, next_run_may_use_what_is_left, run_one,
+    short_disk_is_ours,
 };
 use resolution_laws::canonical_table_is_unique;
 use std::alloc::Global;
@@ -83,4 +84,5 @@ fn laws(_rt: HostRuntime) {
     answer_is_unique();
     next_run_may_use_what_is_left::<MemDisk>();
     short_disk_is_ours::<MemDisk>();
+    certificate_is_decided();
 }

@@ -9,6 +9,8 @@ mod bytes;
 #[cfg(test)]
 mod live;
 #[cfg(test)]
+mod migrated;
+#[cfg(test)]
 mod runs;
 #[cfg(test)]
 mod stops;

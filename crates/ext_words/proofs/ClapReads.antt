@@ -146,7 +146,9 @@ module _ (list : List Grammar) (g : Grammar) (own : find (λ h. bytes_eq h.name 
 
 are_sound : AreSound commands
 are_sound =
-    let sq : AreSound (drop 8 commands) = (record { words = refl; valued = refl; flags = refl; stands = (refl, refl, refl); no_defaults = refl; none_lacking = λ rows. refl }, tt) in
+    let verify : AreSound (drop 10 commands) = (record { words = refl; valued = refl; flags = refl; stands = (refl, refl, (refl, refl, refl)); no_defaults = refl; none_lacking = λ rows. refl }, tt) in
+    let migrate : AreSound (drop 9 commands) = (record { words = refl; valued = refl; flags = refl; stands = refl; no_defaults = refl; none_lacking = λ rows. refl }, verify) in
+    let sq : AreSound (drop 8 commands) = (record { words = refl; valued = refl; flags = refl; stands = (refl, refl, refl); no_defaults = refl; none_lacking = λ rows. refl }, migrate) in
     let sample : AreSound (drop 7 commands) = (record { words = refl; valued = refl; flags = refl; stands = (refl, refl, (refl, refl, (refl, refl, refl))); no_defaults = refl; none_lacking = λ rows. refl }, sq) in
     let build : AreSound (drop 6 commands) = (record { words = refl; valued = refl; flags = refl; stands = (refl, refl, refl); no_defaults = refl; none_lacking = λ rows. refl }, sample) in
     let check : AreSound (drop 5 commands) = (record { words = refl; valued = refl; flags = refl; stands = refl; no_defaults = refl; none_lacking = λ rows. refl }, build) in

@@ -8,13 +8,13 @@ use Rattle.std.proofs.lemmas.Bool.{or_parts, true≢false, false_from_ne_true}
 use Rattle.std.proofs.lemmas.List.{take_all}
 use Rattle.std.proofs.lemmas.Slice.Eq.{bytes_eq-Decides}
 use Rattle.chain_map.specs.declared.class.Class.{Class}
-use Rattle.square.specs.declared.range.TheConstants.{MAX_S, MAX_T}
+use Rattle.square.specs.declared.range.Range.{Range}
 use Rattle.clap.proofs.WalkLemmas.{list_any-map}
 use Rattle.ext_words.specs.declared.command.Build.{Build}
 use Rattle.ext_words.specs.declared.command.Command.{Command}
-use Rattle.ext_words.specs.declared.command.Command.TheVariants.{Sphere, Resolve, Dump, Products, Massey, Build as Built, Sample, Sq}
+use Rattle.ext_words.specs.declared.command.Command.TheVariants.{Sphere, Resolve, Dump, Products, Massey, Build as Built, Sample, Sq, Verify}
 use Rattle.ext_words.specs.declared.command.Common.{Common}
-use Rattle.ext_words.specs.Words.{Part, plain, option, Options, Argument, Grammar, texts_of, has_live, is_in, is_among, begins_with, has_equals, before_equals, with_next, with_option, with_text, with_word, parts_of, plain_words, each_once, fits, arguments_of, is_given, text_given, number_given, class_given, workers_of, seed_of, common_of, products_of, massey_of, build_of, sample_of, product_given, commands, read_by, grammar_of, command_of}
+use Rattle.ext_words.specs.Words.{Part, plain, option, Options, Argument, Grammar, texts_of, has_live, is_in, is_among, begins_with, has_equals, before_equals, with_next, with_option, with_text, with_word, parts_of, plain_words, each_once, fits, arguments_of, is_given, text_given, class_given, workers_of, seed_of, range_of, common_of, products_of, massey_of, build_of, sample_of, product_given, commands, read_by, grammar_of, command_of}
 
 abbrev Text : Type 0
 Text = List ℕ
@@ -131,14 +131,13 @@ AsksNone (Sample n common) = IsSilent common
 AsksNone command = ⊤
 
 -- what is made of options that all have to be there
-abbrev common_with : Bool → Bool → ℕ → ℕ → ℕ → Common
-common_with save live s t n = record { range = record { s = s; t = t }; workers = n; save = save; live = live }
+abbrev common_with : Bool → Bool → Range → ℕ → Common
+common_with save live range n = record { range = range; workers = n; save = save; live = live }
 
-common-by : (save live : Bool) → live ≡ false → (s t n : Option ℕ) → IfSome (option_and_then (λ s. option_and_then (λ t. option_map (common_with save live s t) n) t) s) IsSilent
-common-by save live none None t n = tt
-common-by save live none (Some s) None n = tt
-common-by save live none (Some s) (Some t) None = tt
-common-by save live none (Some s) (Some t) (Some n) = none
+common-by : (save live : Bool) → live ≡ false → (range : Option Range) (n : Option ℕ) → IfSome (option_and_then (λ range. option_map (common_with save live range) n) range) IsSilent
+common-by save live none None n = tt
+common-by save live none (Some range) None = tt
+common-by save live none (Some range) (Some n) = none
 
 products-by : (common : Option Common) → IfSome common IsSilent → (by : Option Class) → IfSome (option_and_then (λ common. option_map (λ by. Products common by) by) common) AsksNone
 products-by None is by = tt
@@ -165,9 +164,13 @@ product-by : (numbers : Option (List ℕ)) → IfSome (option_map Sq numbers) As
 product-by None = tt
 product-by (Some numbers) = tt
 
+verify-by : (range : Option Range) → IfSome (option_map Verify range) AsksNone
+verify-by None = tt
+verify-by (Some range) = tt
+
 module _ (given : List Argument) (none : is_given live given ≡ false) where
   common-silent : IfSome (common_of given) IsSilent
-  common-silent = common-by (is_given (codes "save") given) (is_given live given) none (number_given (codes "S") MAX_S given) (number_given (codes "T") MAX_T given) (workers_of (text_given (codes "workers") given))
+  common-silent = common-by (is_given (codes "save") given) (is_given live given) none (range_of given) (workers_of (text_given (codes "workers") given))
 
   sphere-silent : IfSome (option_map Sphere (common_of given)) AsksNone
   sphere-silent = with_map IsSilent AsksNone Sphere (λ common is. is) (common_of given) common-silent
@@ -193,6 +196,9 @@ module _ (given : List Argument) (none : is_given live given ≡ false) where
   product-silent : IfSome (option_map Sq (product_given given)) AsksNone
   product-silent = product-by (product_given given)
 
+  verify-silent : IfSome (option_map Verify (range_of given)) AsksNone
+  verify-silent = verify-by (range_of given)
+
 -- no word and no option with a value has the name, and what is made of what is given asks for nothing else
 record IsPlain (g : Grammar) : Type 0 where
   valued : is_in g.options.valued live ≡ false
@@ -205,7 +211,9 @@ ArePlain (g ∷ list) = IsPlain g × ArePlain list
 
 all-plain : ArePlain commands
 all-plain =
-    let sq : ArePlain (drop 8 commands) = (record { valued = refl; words = refl; makes = product-silent }, tt) in
+    let verify : ArePlain (drop 10 commands) = (record { valued = refl; words = refl; makes = verify-silent }, tt) in
+    let migrate : ArePlain (drop 9 commands) = (record { valued = refl; words = refl; makes = λ given none. tt }, verify) in
+    let sq : ArePlain (drop 8 commands) = (record { valued = refl; words = refl; makes = product-silent }, migrate) in
     let sample : ArePlain (drop 7 commands) = (record { valued = refl; words = refl; makes = sample-silent }, sq) in
     let build : ArePlain (drop 6 commands) = (record { valued = refl; words = refl; makes = build-silent }, sample) in
     let check : ArePlain (drop 5 commands) = (record { valued = refl; words = refl; makes = λ given none. tt }, build) in

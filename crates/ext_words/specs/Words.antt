@@ -5,12 +5,13 @@ use Rattle.std.specs.List.{All, fold, list_all, list_any, before_first, after_fi
 use Rattle.std.specs.Str.{bytes_eq}
 use Rattle.std.specs.Char.{is_ascii_digit}
 use Rattle.chain_map.specs.declared.class.Class.{Class}
+use Rattle.square.specs.declared.range.Range.{Range}
 use Rattle.square.specs.declared.range.TheConstants.{MAX_S, MAX_T}
 use Rattle.ext_words.specs.declared.command.TheConstants.{MAX_WORKERS, MAX_SQUARES, MAX_SQUARES_DEGREE, MAX_SHIFT}
 use Rattle.ext_words.specs.declared.command.Build.{Build}
 use Rattle.ext_words.specs.declared.command.Build.TheVariants as build
 use Rattle.ext_words.specs.declared.command.Command.{Command}
-use Rattle.ext_words.specs.declared.command.Command.TheVariants.{Sphere, Resolve, Dump, Products, Massey, Check, Build as Built, Sample, Sq}
+use Rattle.ext_words.specs.declared.command.Command.TheVariants.{Sphere, Resolve, Dump, Products, Massey, Check, Build as Built, Sample, Sq, Migrate, Verify}
 use Rattle.ext_words.specs.declared.command.Common.{Common}
 
 -- the bytes of the words
@@ -210,22 +211,25 @@ abbrev pub workers_of : Option (List ℕ) → Option ℕ
 workers_of None = Some 1
 workers_of (Some value) = positive_up_to MAX_WORKERS value
 
--- the words S and T, within the greatest row and the greatest degree of a range, and the options of all commands that
--- resolve a module
+-- the words S and T, within the greatest row and the greatest degree of a range
+abbrev pub range_of : List Argument → Option Range
+range_of given =
+    option_and_then (λ s. option_map (λ t. record { s = s; t = t }) (number_given (codes "T") MAX_T given))
+    (number_given (codes "S") MAX_S given)
+
+-- a range, and the options of all commands that resolve a module
 abbrev pub common_of : List Argument → Option Common
 common_of given =
-    option_and_then (λ s.
-    option_and_then (λ t.
+    option_and_then (λ range.
     option_map
     (λ n. record {
-      range = record { s = s; t = t };
+      range = range;
       workers = n;
       save = is_given (codes "save") given;
       live = is_given (codes "live") given;
     })
     (workers_of (text_given (codes "workers") given)))
-    (number_given (codes "T") MAX_T given))
-    (number_given (codes "S") MAX_S given)
+    (range_of given)
 
 -- ---- what is made of it
 
@@ -300,6 +304,8 @@ commands =
     ∷ grammar (codes "build") (codes "OP" ∷ []) (codes "degrees" ∷ []) [] (λ given. option_map Built (build_of given))
     ∷ resolving (codes "sample") (codes "N" ∷ []) [] [] sample_of
     ∷ grammar (codes "sq") (codes "W" ∷ []) [] [] (λ given. option_map Sq (product_given given))
+    ∷ grammar (codes "migrate") [] [] [] (λ given. Some Migrate)
+    ∷ grammar (codes "verify") (codes "S" ∷ codes "T" ∷ []) [] [] (λ given. option_map Verify (range_of given))
     ∷ []
 
 -- what a command makes of words: each of its options is among them at most once, and there are no more other words than
@@ -320,9 +326,11 @@ command_of (name ∷ words) = option_and_then (λ g. read_by g words) (grammar_o
 
 -- ---- limits
 
+abbrev pub IsRangeWithin : Range → Type 0
+IsRangeWithin range = (range.s ≤ MAX_S) × (range.t ≤ MAX_T)
+
 abbrev pub IsWithin : Common → Type 0
-IsWithin common =
-    (common.range.s ≤ MAX_S) × (common.range.t ≤ MAX_T) × (1 ≤ common.workers) × (common.workers ≤ MAX_WORKERS)
+IsWithin common = IsRangeWithin common.range × (1 ≤ common.workers) × (common.workers ≤ MAX_WORKERS)
 
 -- numbers of at most five digits
 abbrev pub IsShort : Class → Type 0
@@ -348,3 +356,5 @@ IsWithinLimits Check = ⊤
 IsWithinLimits (Built made) = IsWithinShift made
 IsWithinLimits (Sample n common) = IsWithin common
 IsWithinLimits (Sq numbers) = IsWithinDegree numbers
+IsWithinLimits Migrate = ⊤
+IsWithinLimits (Verify range) = IsRangeWithin range

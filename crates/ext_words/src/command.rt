@@ -79,6 +79,10 @@ pub enum Command {
     },
     /// `sq W`: the product of these squares, in Milnor's basis and as a sum of admissible monomials.
     Sq(Mono),
+    /// `migrate`: the save file of the module on standard input gets the quasi-inverses that it lacks.
+    Migrate,
+    /// `verify S T`: the chart of the module on standard input, if its save file is a certificate of that chart.
+    Verify(Range),
 }
 
 /// Why words gave no command.

@@ -7,7 +7,7 @@ ghost use Rattle.clap.specs.declared.builder.command.Command.TheViews.{out-Comma
 ghost use Rattle.ext_words.specs.Inside.CommandLine.{is_stray, option_named, flag_named, command_with, no_command, command_line, given_in, command_named, command_in};
 ghost use Rattle.ext_words.specs.declared.command.TheConstants.{MAX_WORKERS};
 ghost use Rattle.ext_words.specs.declared.command.WordsFault as WordsFault;
-ghost use Rattle.ext_words.specs.Words.{texts_of, has_live, text_given, is_given, number_given, workers_of, common_of, class_given, products_of, massey_of, built_by, build_of, seed_of, sample_of, product_given, command_of, IsWithin, IsShort, IsWithinShift, IsWithinDegree, IsWithinLimits};
+ghost use Rattle.ext_words.specs.Words.{texts_of, has_live, text_given, is_given, number_given, workers_of, range_of, common_of, class_given, products_of, massey_of, built_by, build_of, seed_of, sample_of, product_given, command_of, IsRangeWithin, IsWithin, IsShort, IsWithinShift, IsWithinDegree, IsWithinLimits};
 
 use crate::command::{Build, Command, Common, MAX_WORKERS, WordsFault};
 use crate::numbers::{class_of, number_up_to, positive_up_to, product_of, seed_of, shift_of};
@@ -113,7 +113,9 @@ fn command_line<'a>(alloc: Global) -> Result<clap::Command<'a>, AllocError>
         .subcommand(command_with(alloc, "check", &[], &[], &[])?)?
         .subcommand(command_with(alloc, "build", &["OP"], &["degrees"], &[])?)?
         .subcommand(command_with(alloc, "sample", &["N", "S", "T"], &["workers"], &["save"])?)?
-        .subcommand(command_with(alloc, "sq", &["W"], &[], &[])?)
+        .subcommand(command_with(alloc, "sq", &["W"], &[], &[])?)?
+        .subcommand(command_with(alloc, "migrate", &[], &[], &[])?)?
+        .subcommand(command_with(alloc, "verify", &["S", "T"], &[], &[])?)
 }
 
 /// The matches of the words, none where `clap` refuses them.
@@ -163,16 +165,25 @@ fn has_flag(matches: &ArgMatches, name: &str) -> bool
     matches.contains_id(name)
 }
 
+/// The numbers S and T of a command's matches.
+fn range_in(matches: &ArgMatches) -> Option<Range>
+    ensures range { result ≡ range_of (given_in matches.now) }
+    ensures within { IfSome result IsRangeWithin }
+{
+    let s = number_in(matches, "S", MAX_S)?;
+    let t = number_in(matches, "T", MAX_T)?;
+    Some(Range { s, t })
+}
+
 /// The numbers S and T of a command's matches, and its options.
 fn common_in(matches: &ArgMatches) -> Option<Common>
     ensures common { result ≡ common_of (given_in matches.now) }
     ensures within { IfSome result IsWithin }
 {
-    let s = number_in(matches, "S", MAX_S)?;
-    let t = number_in(matches, "T", MAX_T)?;
+    let range = range_in(matches)?;
     let workers = workers_in(matches)?;
     Some(Common {
-        range: Range { s, t },
+        range,
         workers,
         save: has_flag(matches, "save"),
         live: has_flag(matches, "live"),
@@ -292,6 +303,8 @@ fn command_named(alloc: Global, name: &str, matches: &ArgMatches) -> Result<Opti
         "build" => Ok(build_in(matches).map(Command::Build)),
         "sample" => Ok(sample_in(matches)),
         "sq" => Ok(product_in(alloc, matches)?.map(Command::Sq)),
+        "migrate" => Ok(Some(Command::Migrate)),
+        "verify" => Ok(range_in(matches).map(Command::Verify)),
         _ => Ok(None),
     }
 }

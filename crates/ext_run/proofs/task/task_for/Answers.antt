@@ -1,9 +1,9 @@
 use Rattle.std.proofs.Common.{Some, sym, subst}
 use Rattle.std.proofs.lemmas.Result.{err_from_is_err_and}
 use Rattle.ext_run.specs.declared.plan.Plan.{Plan}
-use Rattle.ext_run.specs.declared.plan.Plan.TheVariants.{Resolve, Check, Build}
+use Rattle.ext_run.specs.declared.plan.Plan.TheVariants.{Resolve, Check, Build, Migrate, Verify}
 use Rattle.ext_run.specs.Answer.{IsTaskCauseFrom}
-use Rattle.ext_run.proofs.Tasks.{resolve_cause, check_cause, build_cause, resolve_task, check_task, build_task, multiply_task}
+use Rattle.ext_run.proofs.Tasks.{resolve_cause, check_cause, migrate_cause, verify_cause, build_cause, resolve_task, check_task, build_task, multiply_task, migrate_task, verify_task}
 use Rattle.ext_run.proofs.task.task_for.Goals as goal
 
 pub returns-in_err-resolved-in-Resolve-clause-cause : goal.returns-in_err-resolved-in-Resolve-clause-cause
@@ -44,3 +44,25 @@ returns-in_ok-built_text-in-Build-clause-task g c = build_task c.args.plan c.in-
 
 pub returns-in_ok-product_lines-in-Multiply-clause-task : goal.returns-in_ok-product_lines-in-Multiply-clause-task
 returns-in_ok-product_lines-in-Multiply-clause-task g c = multiply_task c.args.plan c.in-Multiply.squares _ c.in_ok-product_lines-in-Multiply.field-0 c.in-Multiply.is c.in_ok-product_lines-in-Multiply.ensures
+
+pub returns-in_err-read_module-in-Migrate-clause-cause : goal.returns-in_err-read_module-in-Migrate-clause-cause
+returns-in_err-read_module-in-Migrate-clause-cause g c =
+    let p = err_from_is_err_and c.from_residual-in_err-read_module-in-Migrate.result c.from_residual-in_err-read_module-in-Migrate.ensures.1 in
+    let failure = c.in_err-read_module-in-Migrate.field-0.0 in
+    let cause : IsTaskCauseFrom (Some Migrate) (g.S.Source.left c.args.source.now) failure = migrate_cause _ failure c.in_err-read_module-in-Migrate.ensures.cause in
+    let here : IsTaskCauseFrom (Some c.args.plan) (g.S.Source.left c.args.source.now) failure = subst (λ (plan : Plan). IsTaskCauseFrom (Some plan) (g.S.Source.left c.args.source.now) failure) (sym c.in-Migrate.is) cause in
+    rw (p.1, p.2) here
+
+pub returns-in_err-read_module-in-Verify-clause-cause : goal.returns-in_err-read_module-in-Verify-clause-cause
+returns-in_err-read_module-in-Verify-clause-cause g c =
+    let p = err_from_is_err_and c.from_residual-in_err-read_module-in-Verify.result c.from_residual-in_err-read_module-in-Verify.ensures.1 in
+    let failure = c.in_err-read_module-in-Verify.field-0.0 in
+    let cause : IsTaskCauseFrom (Some (Verify c.in-Verify.range)) (g.S.Source.left c.args.source.now) failure = verify_cause c.in-Verify.range _ failure c.in_err-read_module-in-Verify.ensures.cause in
+    let here : IsTaskCauseFrom (Some c.args.plan) (g.S.Source.left c.args.source.now) failure = subst (λ (plan : Plan). IsTaskCauseFrom (Some plan) (g.S.Source.left c.args.source.now) failure) (sym c.in-Verify.is) cause in
+    rw (p.1, p.2) here
+
+pub returns-in_ok-read_module-in-Migrate-clause-task : goal.returns-in_ok-read_module-in-Migrate-clause-task
+returns-in_ok-read_module-in-Migrate-clause-task g c = migrate_task c.args.plan _ c.in_ok-read_module-in-Migrate.field-0 c.in-Migrate.is c.in_ok-read_module-in-Migrate.ensures.module
+
+pub returns-in_ok-read_module-in-Verify-clause-task : goal.returns-in_ok-read_module-in-Verify-clause-task
+returns-in_ok-read_module-in-Verify-clause-task g c = verify_task c.args.plan c.in-Verify.range _ c.in_ok-read_module-in-Verify.field-0 c.in-Verify.is c.in_ok-read_module-in-Verify.ensures.module

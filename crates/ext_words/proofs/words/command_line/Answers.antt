@@ -20,4 +20,6 @@ returns c =
     let check = more _ _ _ _ _ massey c.in_ok-command_with-6.ensures.app c.in_ok-command_with-6.ensures.local c.in_ok-subcommand-6.ensures in
     let build = more _ _ _ _ _ check c.in_ok-command_with-7.ensures.app c.in_ok-command_with-7.ensures.local c.in_ok-subcommand-7.ensures in
     let sample = more _ _ _ _ _ build c.in_ok-command_with-8.ensures.app c.in_ok-command_with-8.ensures.local c.in_ok-subcommand-8.ensures in
-    IfOk-weaker c.subcommand-9.result _ _ (λ line added. more _ _ _ _ _ sample c.in_ok-command_with-9.ensures.app c.in_ok-command_with-9.ensures.local added) c.subcommand-9.ensures
+    let sq = more _ _ _ _ _ sample c.in_ok-command_with-9.ensures.app c.in_ok-command_with-9.ensures.local c.in_ok-subcommand-9.ensures in
+    let migrate = more _ _ _ _ _ sq c.in_ok-command_with-10.ensures.app c.in_ok-command_with-10.ensures.local c.in_ok-subcommand-10.ensures in
+    IfOk-weaker c.subcommand-11.result _ _ (λ line added. more _ _ _ _ _ migrate c.in_ok-command_with-11.ensures.app c.in_ok-command_with-11.ensures.local added) c.subcommand-11.ensures

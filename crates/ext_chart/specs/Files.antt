@@ -1,0 +1,15 @@
+-- What is told of a save file: that it has all quasi-inverses, and the chart of which it is a certificate.
+use Rattle.std.specs.Prelude.{ℕ, ℤ, List, ◌++◌, codes, decimal}
+use Rattle.ext_chart.specs.Chart.{chart_text}
+use Rattle.ext_chart.specs.Summary.{square_count}
+
+abbrev pub migrated_line : List ℕ
+migrated_line = codes "migrated\n"
+
+-- how many squares rows 0 to s have through degree bottom + t, all of which were verified
+abbrev pub verified_line : ℕ → ℕ → List ℕ
+verified_line s t = codes "verified " ++ (decimal (square_count s t) ++ codes " squares\n")
+
+-- The chart, and that line. count s k is the number of generators of the square (s, k).
+abbrev pub verified_text : ℤ → ℕ → ℕ → (ℕ → ℕ → ℕ) → List ℕ
+verified_text bottom s t count = chart_text bottom s t count ++ verified_line s t

@@ -1,0 +1,159 @@
+-- A save file that is verified, whoever left it.
+use Rattle.std.proofs.Common.{◌≡◌, ◌≢◌, ℕ, ◌<◌, ◌≤◌, ◌⊎◌, inl, inr, List, ◌++◌, length, take, Option, Some, None, ap, sym, subst, ◌∙◌, refl, arith}
+use Rattle.std.specs.Prelude.{cond, Ok, Err, IfOk, IfErr, OnOk, IfSome, IsSome}
+use Rattle.std.specs.Option.{option_map}
+use Rattle.std.proofs.lemmas.Bool.{lt-leb}
+use Rattle.std.proofs.lemmas.List.{take_all}
+use Rattle.std.proofs.lemmas.Option.{same_Some, slice_get_within}
+use Rattle.sha2.proofs.Facts256.{length-sha256}
+use Rattle.edge.specs.Disk.{LeavesOnly}
+use Rattle.finite_module.specs.Module.{Module as SteenrodModule}
+use Rattle.finite_module.specs.Checked.{Checked}
+use Rattle.finite_module.specs.Text.{canonical_text}
+use Rattle.finite_module.specs.Graded.{ModulesAreSteenrodModules}
+use Rattle.resolution_laws.specs.Resolution.{generator_count}
+use Rattle.resolution_laws.specs.Exactness.{CanonicalTableIsMinimalResolution}
+use Rattle.square.specs.Squares.{over, bottom_of}
+use Rattle.square.specs.Tables.{Staircase, row_in, plain_rows, IsThrough, AllRead, IsTable}
+use Rattle.square.specs.declared.range.Range.{Range}
+use Rattle.cert_check.specs.Certified.{part_of, Certifies, HasCanonicalCounts, IsFirstFault}
+use Rattle.cert_check.specs.declared.fault.CertFault.{CertFault}
+use Rattle.save_journal.specs.Records.{Records, records_of, fresh, opened}
+use Rattle.save_journal.specs.Journals.{HasRecordsOf}
+use Rattle.save_journal.proofs.Opened.{records_before}
+use Rattle.save_file.specs.Files.{digest_of, standing_of, first_records, kept_by, first_kept}
+use Rattle.save_file.specs.Saved.{kept_of_table}
+use Rattle.save_file.specs.Saving.{SaveState, HasSquares, TakesSquares, quasis_in}
+use Rattle.ext_chart.specs.Files.{verified_line}
+use Rattle.ext_chart.proofs.Agreement.{chart_text-agree, chart_text-counts}
+use Rattle.ext_report.specs.declared.failure.Failure.{Failure}
+use Rattle.ext_report.specs.declared.failure.Failure.TheVariants.{Saving, Certificate, Memory}
+use Rattle.ext_report.specs.Failure.{IsOfClasses}
+use Rattle.ext_run.specs.declared.task.Task.TheVariants.{Verification}
+use Rattle.ext_run.specs.Devices.{Store}
+use Rattle.ext_run.specs.Plan.{verifying}
+use Rattle.ext_run.specs.Saving.{kept_of, IsUnwritten}
+use Rattle.ext_run.specs.Forms.{IsVerifiedChart, verified_of}
+use Rattle.ext_run.specs.Certificates.{IsTakenUpAs, IsNoCertificate, HasVerified}
+use Rattle.ext_run.specs.Task.{IsDoneBy}
+use Rattle.ext_run.specs.Work.{Told, HasAnswer, answer_of, IsCertificateRefusal, HasUsed}
+use Rattle.ext_run.proofs.Certificates.{certificate_decided}
+use Rattle.ext_run.proofs.Lasting.{at_some, if_some, AreDisks, unwritten_since}
+use Rattle.ext_run.proofs.Continuing.{resolved_by}
+use Rattle.ext_run.proofs.Resolved.{cut-agrees}
+use Rattle.ext_run.proofs.KeptOn.{IsToldBy, WhyTaken, records_left, start_is, used_on}
+
+-- what holds of what is told
+where_is : {X : Type 0} (o : Option X) (P : X → Type 0) → ((x : X) → o ≡ Some x → P x) → IfSome o P
+where_is None P f = tt
+where_is (Some x) P f = f x refl
+
+-- ---- the chart of a table that certifies a range
+
+pub through_certified : (range : Range) (table : Staircase) → Certifies table range → IsThrough range table.rows
+through_certified range table certified s l =
+    let c = certified s range.t l (omega arith) in
+    slice_get_within (row_in table.rows s) range.t c.quasi.square c.quasi.there
+
+-- it has as many generators as the canonical one
+pub is_verified : CanonicalTableIsMinimalResolution → ModulesAreSteenrodModules → (range : Range) (table : Staircase) (text : List ℕ) → IsThrough range table.rows → HasCanonicalCounts table range → text ≡ verified_of range table.resolved.plain (plain_rows table.rows) → IsVerifiedChart range table.resolved.plain text
+is_verified minimal modules range table text through counts is = record {
+  table = counts.canonical;
+  resolved = resolved_by minimal modules range table.resolved counts.canonical counts.is_canonical;
+  is = is
+      ∙ ap (λ (z : List ℕ). z ++ verified_line range.s range.t)
+      (chart_text-agree range.s range.t _ _ (cut-agrees range table through) (bottom_of table.resolved)
+      ∙ chart_text-counts range.s range.t (generator_count (part_of table range)) (generator_count counts.canonical) counts.counts (bottom_of table.resolved));
+}
+
+-- ---- the table that a file is taken up as
+
+module _ {D : Type 0} (store : Store D) (m : Checked) (disk : D) (table : Staircase) (k : SaveState D) (resolved : table.resolved ≡ m) (k_resolved : k.resolved ≡ m) (live : TakesSquares store.now store.images k) (file_is : store.now k.journal.disk ≡ option_map (opened (digest_of m.plain)) (store.now disk))
+    (quasis : quasis_in store.now k ≡ option_map (λ _. kept_of_table table) (store.now disk)) (file : List ℕ) (is : store.now disk ≡ Some file) where
+  now_opened : store.now k.journal.disk ≡ Some (opened (digest_of m.plain) file)
+  now_opened = file_is ∙ ap (option_map (opened (digest_of m.plain))) is
+
+  has : HasSquares m k.start k.count (opened (digest_of m.plain) file)
+  has = subst (λ (c : Checked). HasSquares c k.start k.count (opened (digest_of m.plain) file)) k_resolved (at_some (store.now k.journal.disk) (HasSquares k.resolved k.start k.count) (opened (digest_of m.plain) file) now_opened live.has)
+
+  records : records_of (digest_of m.plain) file ≡ Ok has.bodies
+  records = records_before (digest_of m.plain) has.bodies (length-sha256 (canonical_text m.plain)) (Some file) (Some (opened (digest_of m.plain) file)) refl has.records
+
+  counted_is : first_kept m k.count (opened (digest_of m.plain) file) ≡ kept_of_table table
+  counted_is =
+      let both : Some (first_kept k.resolved k.count (opened (digest_of m.plain) file)) ≡ Some (kept_of_table table) =
+      sym (ap (option_map (first_kept k.resolved k.count)) now_opened) ∙ quasis ∙ ap (option_map (λ (f : List ℕ). kept_of_table table)) is in
+      ap (λ (c : Checked). first_kept c k.count (opened (digest_of m.plain) file)) (sym k_resolved) ∙ same_Some _ _ both
+
+  -- it has counted all of its records
+  pub keeps_table : kept_of m.plain file ≡ kept_of_table table
+  keeps_table =
+      let all : take k.count has.bodies ≡ has.bodies = take_all k.count has.bodies (let n = has.counted in omega (arith, n)) in
+      ap (kept_by (over m)) records
+      ∙ ap (λ (r : Records). kept_by (over m) r) (sym (ap (first_records k.count) has.records ∙ ap (λ (l : List (List ℕ)). Ok l) all))
+      ∙ counted_is
+
+  pub taken_up_as : IsTable table → AllRead table.rows → standing_of m.plain file ≡ Ok table.start → IsTakenUpAs m.plain file table
+  taken_up_as is_table all_read stands = record { of_module = ap (λ (c : Checked). c.plain) resolved; is_table = is_table; all_read = all_read; stands = stands; keeps = keeps_table }
+
+-- ---- the answer
+
+module _ {D : Type 0} (store : Store D) (laws : AreDisks store) (m : Checked) (range : Range) (disk : D) (text : Told) (table : Staircase) (k : SaveState D) (squares : IfSome (store.now disk) (λ file. standing_of m.plain file ≡ Ok table.start)) (resolved : table.resolved ≡ m) (all_read : AllRead table.rows)
+    (k_resolved : k.resolved ≡ m) (live : TakesSquares store.now store.images k) (file_is : store.now k.journal.disk ≡ option_map (opened (digest_of m.plain)) (store.now disk)) (quasis : quasis_in store.now k ≡ option_map (λ _. kept_of_table table) (store.now disk)) (no_fault : store.faults k.journal.disk ≡ store.faults disk)
+    (opening : IfSome (store.now disk) (λ _. LeavesOnly store.moment store.since disk k.journal.disk (HasRecordsOf (digest_of m.plain) (store.images disk)))) (alone : IfSome (store.now disk) (λ file. opened (digest_of m.plain) file ≡ file → LeavesOnly store.moment store.since disk k.journal.disk (store.images disk)))
+    (told : IfOk text (λ t. IsVerifiedChart range table.resolved.plain t.items)) (certified : OnOk text (Certifies table range)) (why : IfErr text (λ e. (e ≡ Memory) ⊎ ((fault : CertFault) × (e ≡ Certificate fault) × IsFirstFault table range fault))) (is_table : IsTable table) where
+  taken : (file : List ℕ) → store.now disk ≡ Some file → IsTakenUpAs m.plain file table
+  taken file is = taken_up_as store m disk table k resolved k_resolved live file_is quasis file is is_table all_read (start_is store laws m.plain disk table k squares no_fault file is)
+
+  -- by what was told
+  abbrev Why : Told → Type 0
+  Why t = IfErr t (λ e. (e ≡ Memory) ⊎ ((fault : CertFault) × (e ≡ Certificate fault) × IsFirstFault table range fault))
+
+  why_taken : (t : Told) → Why t → WhyTaken (verifying range) m.plain (store.now disk) (Verification m range) t
+  why_taken (Ok x) h = tt
+  why_taken (Err e) (inl h) = inr (inl h)
+  why_taken (Err e) (inr h) =
+      let none : IsCertificateRefusal (verifying range) m.plain (store.now disk) (Certificate h.0) = where_is (store.now disk) (λ file. IsNoCertificate range m.plain file h.0) (λ file is. (table, taken file is, h.2)) in
+      inr (inr (inr (subst (IsCertificateRefusal (verifying range) m.plain (store.now disk)) (sym h.1) none)))
+
+  not_saving : (t : Told) → Why t → t ≢ Err Saving
+  not_saving (Ok x) h is = cc
+  not_saving (Err e) (inl h) is = cc
+  not_saving (Err e) (inr h) is = let bad = h.1 in cc
+
+  no_classes : (e : Failure) → Why (Err e) → IsOfClasses e → ⊥
+  no_classes e (inl h) of = subst IsOfClasses h of
+  no_classes e (inr h) of = subst IsOfClasses h.1 of
+
+  done_by : (t : Told) → IfOk t (λ x. IsVerifiedChart range table.resolved.plain x.items) → Why t → HasAnswer t → IsDoneBy (Verification m range) (answer_of t)
+  done_by (Ok x) chart h answered = subst (λ (c : Checked). IsVerifiedChart range c.plain x.items) resolved chart
+  done_by (Err e) chart h answered = absurd (no_classes e h answered)
+
+  certifies : (t : Told) → OnOk t (Certifies table range) → Why t → HasAnswer t → Certifies table range
+  certifies (Ok x) certified_by h answered = certified_by
+  certifies (Err e) certified_by h answered = absurd (no_classes e h answered)
+
+  none_told : (file : List ℕ) → store.now disk ≡ Some file → (fault : CertFault) → IsNoCertificate range m.plain file fault → (t : Told) → OnOk t (Certifies table range) → Why t → IsToldBy t fault
+  none_told file is fault none (Ok x) certified_by h = absurd (certificate_decided.apart range m.plain file fault (table, taken file is, certified_by) none)
+  none_told file is fault none (Err e) certified_by (inl h) = inr (inr (ap (λ (x : Failure). Err x) h))
+  none_told file is fault none (Err e) certified_by (inr h) =
+      let same = certificate_decided.one_fault range m.plain file h.0 fault (table, taken file is, h.2) none in
+      inl (ap (λ (x : Failure). Err x) (h.1 ∙ ap (λ (f : CertFault). Certificate f) same))
+
+  left_alone : (file : List ℕ) → store.now disk ≡ Some file → 41 < length file → IsUnwritten store disk k.journal.disk
+  left_alone file is long =
+      let same : opened (digest_of m.plain) file ≡ file = ap (λ b. cond b (fresh (digest_of m.plain)) file) (lt-leb (length file) 41 long) in
+      let leaves = at_some (store.now disk) (λ f. opened (digest_of m.plain) f ≡ f → LeavesOnly store.moment store.since disk k.journal.disk (store.images disk)) file is alone same in
+      unwritten_since store laws disk k.journal.disk (file_is ∙ ap (option_map (opened (digest_of m.plain))) is ∙ ap (λ (f : List ℕ). Some f) same ∙ sym is) (if_some (store.now disk) (LeavesOnly store.moment store.since disk k.journal.disk (store.images disk)) leaves)
+
+  verified_file : (file : List ℕ) → store.now disk ≡ Some file → HasVerified store range m.plain file (HasAnswer text) (text ≢ Err Saving) (IsToldBy text) disk k.journal.disk
+  verified_file file is = record {
+    certified = λ has. (table, taken file is, certifies text certified why has);
+    told = λ fault none. none_told file is fault none text certified why;
+    moments = records_left store laws m.plain disk k.journal.disk (at_some (store.now disk) (λ _. LeavesOnly store.moment store.since disk k.journal.disk (HasRecordsOf (digest_of m.plain) (store.images disk))) file is opening);
+    left_alone = λ worked long. left_alone file is long;
+  }
+
+  pub verified_on : HasUsed store (verifying range) m.plain (Verification m range) text disk k.journal.disk
+  verified_on =
+      used_on store laws m.plain disk table k squares no_fault (verifying range) (Verification m range) text k.journal.disk (λ has some fit. done_by text told why has) (why_taken text why) (λ h. absurd (not_saving text why h)) (λ h. refl) (omega arith) verified_file

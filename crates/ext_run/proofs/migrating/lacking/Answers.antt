@@ -1,0 +1,25 @@
+use Rattle.std.proofs.Common.{◌≡◌, Bool, true, false, Option, Some, None, sym, ap}
+use Rattle.std.specs.Option.{option_map, is_some}
+use Rattle.std.specs.Arc.{arc_value}
+use Rattle.square.specs.Squares.{Placed}
+use Rattle.ext_run.proofs.migrating.lacking.Goals as goal
+
+none_kept : {X Y : Type 0} (f : X → Y) (o : Option X) (q : Option Y) (b : Bool) → b ≡ is_some o → b ≡ false → option_map f o ≡ q → q ≡ None
+none_kept f None q b is off kept = sym kept
+none_kept f (Some x) q b is off kept = absurd (cc)
+
+pub returns-then-are_same-clause-lacks : goal.returns-then-are_same-clause-lacks
+returns-then-are_same-clause-lacks c = record {
+  square = arc_value c.in-Some.square.now;
+  there = sym c.in-Some.ensures.square;
+  bare =
+      let here = ap (λ (x : Placed). x.quasi) c.deref.ensures in
+      let none = none_kept _ c.kept_quasi.result _ c.is_some.result c.is_some.ensures c.if-is_some.false c.kept_quasi.ensures.kept in
+      cc;
+  kernel =
+      let same = c.are_same.ensures.0 c.if-are_same.true in
+      let content = ap (λ (x : Placed). x.content.kernel) c.deref-2.ensures in
+      let first = c.kernel.ensures.rows in
+      let second = c.kernel-2.ensures in
+      cc;
+}
