@@ -38,19 +38,23 @@ same_rows (x ∷ p) [] few same = absurd (omega arith)
 same_rows (x ∷ p) (y ∷ q) few same =
     ap₂ (λ (r : List Content) (l : List (List Content)). r ∷ l) (same_row x y (λ k. same 0 k)) (same_rows p q (omega arith) (λ s k. same (suc s) k))
 
+-- a square with the quasi-inverse at its place
+abbrev kept_with : (ℕ → ℕ → Option Reduction) → Entry → Kept
+kept_with f e = record { entry = e; quasi = f e.s e.above }
+
 -- the quasi-inverses of two lists of what is kept, at the place of one of its squares
-same_kept : (f g : ℕ → ℕ → Option Reduction) (start : List Entry) (s k : ℕ) (c : Content) → map (λ (e : Entry). record { entry = e; quasi = f e.s e.above }) start ≡ map (λ (e : Entry). record { entry = e; quasi = g e.s e.above }) start →
+same_kept : (f g : ℕ → ℕ → Option Reduction) (start : List Entry) (s k : ℕ) (c : Content) → map (kept_with f) start ≡ map (kept_with g) start →
     entry_at start s k ≡ Some c → f s k ≡ g s k
 same_kept f g [] s k c both is = absurd (cc)
 same_kept f g (e ∷ es) s k c both is = by_place (nat_eq e.s s && nat_eq e.above k) refl (same_kept f g es s k c tails) is
   where
-    first : ◌≡◌ {A = Kept} (record { entry = e; quasi = f e.s e.above }) (record { entry = e; quasi = g e.s e.above })
+    first : kept_with f e ≡ kept_with g e
     first = cc
 
     heads : f e.s e.above ≡ g e.s e.above
     heads = ap (λ (k : Kept). k.quasi) first
 
-    tails : map (λ (x : Entry). record { entry = x; quasi = f x.s x.above }) es ≡ map (λ (x : Entry). record { entry = x; quasi = g x.s x.above }) es
+    tails : map (kept_with f) es ≡ map (kept_with g) es
     tails = cc
 
     by_place : (here : Bool) → (nat_eq e.s s && nat_eq e.above k) ≡ here → (entry_at es s k ≡ Some c → f s k ≡ g s k) → (if here then Some e.content else entry_at es s k) ≡ Some c → f s k ≡ g s k
@@ -80,8 +84,8 @@ module _ (m : SteenrodModule) (file : List ℕ) (a b : Staircase) (p : IsTakenUp
   same_quasi : (s k : ℕ) (c : Content) → content_in (slice_get (row_in a.rows s) k) ≡ Some c → quasi_kept a.rows s k ≡ quasi_kept b.rows s k
   same_quasi s k c there =
       let lists : kept_of_table a ≡ kept_of_table b = sym p.keeps ∙ q.keeps in
-      let here : map (λ (e : Entry). record { entry = e; quasi = quasi_kept a.rows e.s e.above }) a.start ≡ map (λ (e : Entry). record { entry = e; quasi = quasi_kept b.rows e.s e.above }) a.start =
-      lists ∙ ap (map (λ (e : Entry). record { entry = e; quasi = quasi_kept b.rows e.s e.above })) (sym same_start) in
+      let here : map (kept_with (quasi_kept a.rows)) a.start ≡ map (kept_with (quasi_kept b.rows)) a.start =
+      lists ∙ ap (map (kept_with (quasi_kept b.rows))) (sym same_start) in
       same_kept (quasi_kept a.rows) (quasi_kept b.rows) a.start s k c here (holds_start a p.is_table p.all_read s k ∙ there)
 
   alike : AreAlike a b

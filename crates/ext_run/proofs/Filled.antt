@@ -36,8 +36,8 @@ use Rattle.ext_run.specs.Saving.{kept_of}
 use Rattle.ext_run.specs.Migrating.{Added, IsAddedBefore, with_added, KeepsAmid, KeepsAtPart, KeepsOn}
 use Rattle.ext_run.specs.Inside.Adding.{IsFileOf, HasAdded, HasFilled}
 use Rattle.ext_run.proofs.Lasting.{at_some, AreDisks}
-use Rattle.ext_run.proofs.Filling.{kernel_at, none_added, weaker_added, then_added}
-use Rattle.ext_run.proofs.Giving.{given_one, amid_one, part_one, amid_none, come_here}
+use Rattle.ext_run.proofs.Filling.{neither_given, kernel_at, none_added, weaker_added, weaker_given, then_added, then_given}
+use Rattle.ext_run.proofs.Giving.{amid_one, part_one, amid_none, come_here}
 
 abbrev Done : Result (Unit {0}) KeepFault
 Done = Ok tt
@@ -76,6 +76,7 @@ module _ {D : Type 0} (store : Store D) (laws : AreDisks store) where
       is_file = file;
       no_fault = refl;
       whole = whole;
+      idle = λ worked none. refl;
       failed = λ h. absurd (cc);
       memory = λ h. absurd (cc);
     }
@@ -91,6 +92,7 @@ module _ {D : Type 0} (store : Store D) (laws : AreDisks store) where
       is_file = tt;
       no_fault = tt;
       whole = tt;
+      idle = λ worked none. refl;
       failed = λ h. absurd (cc);
       memory = λ h. (file.live, refl);
     }
@@ -134,6 +136,7 @@ module _ {D : Type 0} (store : Store D) (laws : AreDisks store) where
       is_file = q.is_file;
       no_fault = fault_both result q.no_fault;
       whole = whole_both result refl q.whole;
+      idle = λ worked none. let parts = neither_given p.added.given q.added.given (sym (then_given store laws at then both first second apart a b c p.is_file.live p.added q.added) ∙ none) in q.idle worked parts.1 ∙ p.idle (λ h. cc) parts.0;
       failed = λ h. let risen = q.failed h in subst (λ (n : ℕ). HasRisen n (store.faults c.journal.disk)) p.no_fault risen;
       memory = λ h. let m = q.memory h in (m.0, m.1 ∙ p.no_fault);
     }
@@ -149,6 +152,10 @@ module _ {D : Type 0} (store : Store D) (laws : AreDisks store) where
           | inr behind ↦ all (subst (λ (m : Checked). IsCanonicalStart (over m) y.start) (sym p.resolved) (subst (IsCanonicalStart (over x.resolved)) (sym p.start) reads)) i j behind l
         ]
 
+  -- it went well, and that is all that is answered
+  pub filled_ok : (at : ℕ → ℕ → Type 0) (x y : Staircase) (a b : SaveState D) (result : Result (Unit {0}) KeepFault) (done : Unit {0}) → result ≡ Ok done → HasFilled store at result x y a b → HasFilled store at Done x y a b
+  filled_ok at x y a b result done is h = subst (λ (r : Result (Unit {0}) KeepFault). HasFilled store at r x y a b) is h
+
   pub filled_wider : (at more : ℕ → ℕ → Type 0) → ((i j : ℕ) → at i j → more i j) → (x y : Staircase) (a b : SaveState D) → ((i j : ℕ) → more i j → j < length (row_in y.rows i) → at i j) → HasFilled store at Done x y a b → HasFilled store more Done x y a b
   filled_wider at more wide x y a b narrow h = record {
     added = weaker_added store laws at more wide a b h.added;
@@ -159,6 +166,7 @@ module _ {D : Type 0} (store : Store D) (laws : AreDisks store) where
     is_file = h.is_file;
     no_fault = h.no_fault;
     whole = λ reads i j here l. h.whole reads i j (narrow i j here l) l;
+    idle = λ worked none. h.idle worked (sym (weaker_given store laws at more wide a b h.added) ∙ none);
     failed = λ f. absurd (cc);
     memory = λ f. absurd (cc);
   }
@@ -201,12 +209,12 @@ module _ {D : Type 0} (store : Store D) (laws : AreDisks store) where
       start = start_same ∙ h.start;
     }
       where
+        content_same : (i j : ℕ) → option_map (λ (q : Placed). q.content) (slice_get (row_in table.rows i) j) ≡ option_map (λ (q : Placed). q.content) (slice_get (row_in after.rows i) j)
+        content_same i j = sym (content_slice table.rows i j) ∙ ap (λ (x : List (List Content)). slice_get (row_of x i) j) (sym contents) ∙ content_slice after.rows i j
+
         holds_after : (o : Option (List Entry)) → IfSome o (λ list. HoldsTable list table.rows) → IfSome o (λ list. HoldsTable list after.rows)
         holds_after None h = tt
         holds_after (Some list) h = λ i j. h i j ∙ content_same i j
-
-        content_same : (i j : ℕ) → option_map (λ (q : Placed). q.content) (slice_get (row_in table.rows i) j) ≡ option_map (λ (q : Placed). q.content) (slice_get (row_in after.rows i) j)
-        content_same i j = sym (content_slice table.rows i j) ∙ ap (λ (x : List (List Content)). slice_get (row_of x i) j) (sym contents) ∙ content_slice after.rows i j
 
     -- ---- what the call asks for
 
@@ -281,7 +289,7 @@ module _ {D : Type 0} (store : Store D) (laws : AreDisks store) where
         come_told None b h c = tt
         come_told (Some f) b h c = come_here store laws after s k t r degree_after quasi_after old new past kept.later (first_kept old.resolved old.count f) b h c
 
-        one : Added
+        abbrev one : Added
         one = record { s = s; above = k; reduction = r }
 
         same_kept : kept_in store.now new ≡ kept_in store.now old
@@ -319,6 +327,10 @@ module _ {D : Type 0} (store : Store D) (laws : AreDisks store) where
           retained = come_told (store.now old.journal.disk) bare between come;
         }
 
+        given_added : (put : quasis_in store.now new ≡ option_map (λ x. with_quasi_at x s k r) (quasis_in store.now old)) → (added_one put).given ≡ one ∷ []
+        unfolding added_one
+        given_added put = refl
+
         -- it was not, and the file takes no more
         added_none : quasis_in store.now new ≡ quasis_in store.now old → (TakesSquares store.now store.images new → ⊥) → HasAdded store At old new
         added_none unput dead = record {
@@ -347,6 +359,10 @@ module _ {D : Type 0} (store : Store D) (laws : AreDisks store) where
             added_by Failed is = added_none (unput is) (dead is)
             added_by Memory is = subst (HasAdded store At old) (sym (memory is)) (none_added store laws At old file.live)
 
+            idle_by : (e : KeepFault) → result ≡ Err e → ◌≢◌ {A = Result (Unit {0}) KeepFault} (Err e) (Err Failed) → new ≡ old
+            idle_by Failed is worked = absurd (worked refl)
+            idle_by Memory is worked = memory is
+
             quasis_after : IfSome (quasis_in store.now old) (λ x. x ≡ kept_of_table table) → quasis_in store.now new ≡ option_map (λ x. with_quasi_at x s k r) (quasis_in store.now old) → IfSome (quasis_in store.now new) (λ x. x ≡ kept_of_table after)
             quasis_after = by_kept (quasis_in store.now old) (quasis_in store.now new)
               where
@@ -366,6 +382,7 @@ module _ {D : Type 0} (store : Store D) (laws : AreDisks store) where
                   is_file = record { live = live; of_table = keeper_after new keeper_new; quasis = quasis_after file.quasis quasis; is_table = table_after file.is_table; all_read = AllRead-given table.rows after.rows s k r rows file.all_read };
                   no_fault = no_fault;
                   whole = λ reads i j here within. subst (λ (n : ℕ). IsSome (quasi_kept after.rows n j)) (sym here.0) (subst (λ (n : ℕ). IsSome (quasi_kept after.rows s n)) (sym here.1) (subst (λ (x : Option Reduction). IsSome x) (sym given_at) refl));
+                  idle = λ worked none. let some : one ∷ [] ≡ [] = sym (given_added quasis) ∙ none in absurd (cc);
                   failed = λ h. absurd (cc);
                   memory = λ h. absurd (cc);
                 }
@@ -378,6 +395,7 @@ module _ {D : Type 0} (store : Store D) (laws : AreDisks store) where
               is_file = tt;
               no_fault = tt;
               whole = tt;
+              idle = λ worked none. idle_by e is worked;
               failed = λ h. failed (is ∙ h);
               memory = λ h. let same = memory (is ∙ h) in (subst (TakesSquares store.now store.images) (sym same) file.live, ap (λ (x : SaveState D). store.faults x.journal.disk) same);
             }

@@ -1,6 +1,6 @@
 -- How a save file and its table get quasi-inverses, one after the other.
 use Rattle.std.proofs.Common.{◌≡◌, ◌≢◌, ℕ, zero, suc, ◌<◌, ◌≤◌, ◌⊎◌, inl, inr, ℤ, pos, ◌+ℤ◌, Bool, true, false, List, [], ◌∷◌, ◌++◌, length, map, take, Option, Some, None, Result, ap, sym, subst, ◌∙◌, refl, arith, append-nil, append_assoc}
-use Rattle.std.specs.Prelude.{Ok, Err, OnOk, IfSome, IsSome, if◌then◌else◌, slice_get}
+use Rattle.std.specs.Prelude.{Ok, Err, OnOk, IfSome, IsSome, slice_get}
 use Rattle.std.specs.Option.{option_map, option_and_then}
 use Rattle.std.specs.List.{All, AllPairs}
 use Rattle.std.proofs.lemmas.Bool.{cases_lt}
@@ -59,6 +59,10 @@ added_both at then a b before p q h k =
     let B : Added → Type 0 = λ e. then e.s e.above in
     let Q : Added → Type 0 = λ e. All (IsAddedBefore e) b in
     AllPairs-append IsAddedBefore a b h k (All-weaker A Q (λ e x. All-weaker B (IsAddedBefore e) (λ f y. before e.s e.above f.s f.above x y) b q) a p)
+
+pub neither_given : (a b : List Added) → a ++ b ≡ [] → (a ≡ []) × (b ≡ [])
+neither_given [] b none = (refl, none)
+neither_given (q ∷ a) b none = absurd (cc)
 
 -- what is kept with a first part of what is given, with more given behind it
 amid_more : (m : SteenrodModule) (kept : List Kept) (a b : List Added) (c : List ℕ) → KeepsAmid m kept a c → KeepsAmid m kept (a ++ b) c
@@ -126,7 +130,7 @@ module _ {D : Type 0} (store : Store D) (laws : AreDisks store) where
   lawful = record { now_is_image = laws.now_is_image; counts_now = laws.counts_now; only_now = laws.only_now; since_earlier = laws.since_earlier }
 
   -- what is left of a file that takes records is what it keeps
-  settled_keeps : (k : SaveState D) → TakesSquares store.now store.images k → (o : Option (List ℕ)) → store.now k.journal.disk ≡ o → IfSome (option_map (first_kept k.resolved k.count) o) (λ kept. (c : List ℕ) → store.images k.journal.disk c → Keeps k.resolved.plain kept c)
+  pub settled_keeps : (k : SaveState D) → TakesSquares store.now store.images k → (o : Option (List ℕ)) → store.now k.journal.disk ≡ o → IfSome (option_map (first_kept k.resolved k.count) o) (λ kept. (c : List ℕ) → store.images k.journal.disk c → Keeps k.resolved.plain kept c)
   settled_keeps k takes None is = tt
   settled_keeps k takes (Some file) is = λ c image.
       let has = at_some (store.now k.journal.disk) (HasSquares k.resolved k.start k.count) file is takes.has in
@@ -190,8 +194,12 @@ module _ {D : Type 0} (store : Store D) (laws : AreDisks store) where
     retained = h.retained;
   }
 
+  pub weaker_given : (at more : ℕ → ℕ → Type 0) (wide : (i j : ℕ) → at i j → more i j) (a b : SaveState D) (h : HasAdded store at a b) → (weaker_added at more wide a b h).given ≡ h.given
+  unfolding weaker_added
+  weaker_given at more wide a b h = refl
+
   -- images that come from images, and these from others
-  come_then : (m : SteenrodModule) (a b c : D) → HavePast store.moment store.images_at b c → ComeFromEarlier store.moment store.images_at a b (KeepsOn m) → ComeFromEarlier store.moment store.images_at b c (KeepsOn m) → ComeFromEarlier store.moment store.images_at a c (KeepsOn m)
+  pub come_then : (m : SteenrodModule) (a b c : D) → HavePast store.moment store.images_at b c → ComeFromEarlier store.moment store.images_at a b (KeepsOn m) → ComeFromEarlier store.moment store.images_at b c (KeepsOn m) → ComeFromEarlier store.moment store.images_at a c (KeepsOn m)
   come_then m a b c past first second u v from le within x image = elim (cases_lt (store.moment b) v) [
     | inr before ↦
         let was = first u v from le before x ((past v x before).0 image) in
@@ -258,3 +266,7 @@ module _ {D : Type 0} (store : Store D) (laws : AreDisks store) where
           past = past_then store.moment store.images_at a.journal.disk b.journal.disk c.journal.disk p.later p.past q.past;
           retained = come_both (store.now a.journal.disk) (store.now b.journal.disk) told p.retained come_b;
         }
+
+    pub then_given : then_added.given ≡ p.given ++ q.given
+    unfolding then_added
+    then_given = refl

@@ -143,28 +143,28 @@ module _ {D : Type 0} (store : Store D) (laws : AreDisks store) (table : Stairca
       each_keeps : (c : List ℕ) → store.since after (store.moment before) c → Keeps old.resolved.plain kept c ⊎ Keeps old.resolved.plain (with_quasi_at kept s k r) c
       each_keeps c left = image_keeps old.resolved.plain kept bare c (between c left)
 
-      come_here : ComeFromEarlier store.moment store.images_at before after (λ d c. HasQuasiOrNot table s t (kept_of old.resolved.plain d) (kept_of old.resolved.plain c)) → ComeFromEarlier store.moment store.images_at before after (KeepsOn old.resolved.plain)
+      pub come_here : ComeFromEarlier store.moment store.images_at before after (λ d c. HasQuasiOrNot table s t (kept_of old.resolved.plain d) (kept_of old.resolved.plain c)) → ComeFromEarlier store.moment store.images_at before after (KeepsOn old.resolved.plain)
       come_here come u v from le within c image =
           let was = come u v from le within c image in
           (was.0, was.1, keeps_on old.resolved.plain kept bare was.0 c (each_keeps was.0 (laws.since_at after (store.moment before) u was.0 from (omega (arith, le, within)) was.1)) (each_keeps c (laws.since_at after (store.moment before) v c (omega (arith, from, le)) within image)) (named (kept_of old.resolved.plain was.0) (kept_of old.resolved.plain c) was.2))
 
-      given_one : Added
+      abbrev given_one : Added
       given_one = record { s = s; above = k; reduction = r }
 
-      amid_one : LeavesOnly store.moment store.since before after (KeepsAmid old.resolved.plain kept (given_one ∷ []))
+      pub amid_one : LeavesOnly store.moment store.since before after (KeepsAmid old.resolved.plain kept (given_one ∷ []))
       amid_one = leaves_of (KeepsAmid old.resolved.plain kept (given_one ∷ [])) (λ c left. elim (each_keeps c left) [
         | inl h ↦ record { first = []; rest = given_one ∷ []; parts = refl; more = []; at_most_one = omega arith; keeps = h }
         | inr h ↦ record { first = given_one ∷ []; rest = []; parts = refl; more = []; at_most_one = omega arith; keeps = h }
       ])
 
-      part_one : LeavesOnly store.moment store.since before after (KeepsAtPart old.resolved.plain kept (given_one ∷ []))
+      pub part_one : LeavesOnly store.moment store.since before after (KeepsAtPart old.resolved.plain kept (given_one ∷ []))
       part_one = leaves_of (KeepsAtPart old.resolved.plain kept (given_one ∷ [])) (λ c left. elim (each_keeps c left) [
         | inl h ↦ record { first = []; rest = given_one ∷ []; parts = refl; keeps = h }
         | inr h ↦ record { first = given_one ∷ []; rest = []; parts = refl; keeps = h }
       ])
 
       -- where it was not put there, an image may have it all the same
-      amid_none : LeavesOnly store.moment store.since before after (KeepsAmid old.resolved.plain kept [])
+      pub amid_none : LeavesOnly store.moment store.since before after (KeepsAmid old.resolved.plain kept [])
       amid_none = leaves_of (KeepsAmid old.resolved.plain kept []) (λ c left. elim (each_keeps c left) [
         | inl h ↦ record { first = []; rest = []; parts = refl; more = []; at_most_one = omega arith; keeps = h }
         | inr h ↦ record { first = []; rest = []; parts = refl; more = given_one ∷ []; at_most_one = omega arith; keeps = h }

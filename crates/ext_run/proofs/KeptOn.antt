@@ -184,6 +184,7 @@ module _ {D : Type 0} (store : Store D) (laws : AreDisks store) (m : SteenrodMod
             kept = bare list;
             more = [];
             given = [];
+            from_file = λ h. absurd (never h);
             squares = entries_bare list ∙ sym same;
             at_most_one = omega arith;
             canonical = subst (AreCanonical m) (sym same) canonical;
@@ -192,6 +193,7 @@ module _ {D : Type 0} (store : Store D) (laws : AreDisks store) (m : SteenrodMod
             ours = subst (λ (l : List Entry). IsOurs m l (store.images d)) (sym same) (λ c image. stands c (inr image));
             keeps = λ worked c was. inl (leaves.each c was);
             settled = λ worked. inl (refl, refl, unwritten worked);
+            idle = λ worked none file is whole. unwritten worked;
             exact = λ h. absurd (never h);
             whole = λ h. absurd (never h);
             retained = let found = some_is (store.now disk) told in records_keep d (at_some (store.now disk) (λ _. ComeFromEarlier store.moment store.images_at disk d (HaveSameRecords (digest_of m))) found.0 found.1 come);
@@ -204,7 +206,7 @@ module _ {D : Type 0} (store : Store D) (laws : AreDisks store) (m : SteenrodMod
       certified = λ has. absurd (never has);
       told = λ f none. told_not file is range f none;
       moments = records_left d (opened file is);
-      left_alone = λ worked long. unwritten worked;
+      left_alone = λ worked file is whole. unwritten worked;
     }
 
   -- what stands for a refusal of the file

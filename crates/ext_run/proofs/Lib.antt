@@ -15,6 +15,7 @@ mod NextRun
 mod Reporting
 mod Resolved
 mod Saved
+mod TakenUp
 mod Tasks
 mod Verified
 mod Working

@@ -16,6 +16,7 @@ use Rattle.square.specs.declared.range.TheConstants.{MAX_S}
 use Rattle.square.specs.Squares.{over}
 use Rattle.square.specs.Tables.{Staircase, row_in, IsTable}
 use Rattle.square.proofs.Found.{row_within}
+use Rattle.save_journal.specs.Records.{opened}
 use Rattle.save_journal.specs.Journals.{HasRecordsOf, HaveSameRecords, ComeFromEarlier}
 use Rattle.save_file.specs.Bodies.{Kept, entries}
 use Rattle.save_file.specs.Files.{digest_of, standing_of}
@@ -29,7 +30,7 @@ use Rattle.ext_report.specs.Failure.{IsOfClasses}
 use Rattle.ext_run.specs.declared.task.Task.TheVariants.{Migration}
 use Rattle.ext_run.specs.Devices.{Store}
 use Rattle.ext_run.specs.Plan.{migrating}
-use Rattle.ext_run.specs.Saving.{AreCanonical, StandsWith, IsOurs}
+use Rattle.ext_run.specs.Saving.{AreCanonical, StandsWith, IsOurs, StaysIfWhole}
 use Rattle.ext_run.specs.Migrating.{Added, with_added, Keeps, KeepsAmid, KeepsAtPart, KeepsOn, HasMigrated}
 use Rattle.ext_run.specs.Inside.Adding.{LeavesOf, HasFilled}
 use Rattle.ext_run.specs.Task.{IsDoneBy}
@@ -37,6 +38,7 @@ use Rattle.ext_run.specs.Work.{Told, HasAnswer, answer_of, HasUsed}
 use Rattle.ext_run.proofs.Added.{same_entries}
 use Rattle.ext_run.proofs.Lasting.{at_some, canonical_start, AreDisks}
 use Rattle.ext_run.proofs.KeptOn.{WhyTaken, here, begun, records_keep, used_on}
+use Rattle.ext_run.proofs.TakenUp.{keeps_table, stays_if_whole}
 use Rattle.ext_run.proofs.Filling.{come_then, settled_keeps}
 
 -- each entry of a list is at its place
@@ -77,7 +79,7 @@ all_reduced table is all =
 
 module _ {D : Type 0} (store : Store D) (laws : AreDisks store) (m : Checked) (disk : D) (text : Told) (table after : Staircase) (k new : SaveState D) (result : Result (Unit {0}) KeepFault) (squares : IfSome (store.now disk) (λ file. standing_of m.plain file ≡ Ok table.start)) (resolved : table.resolved ≡ m) (k_resolved : k.resolved ≡ m)
     (quasis : quasis_in store.now k ≡ option_map (λ _. kept_of_table table) (store.now disk)) (no_fault : store.faults k.journal.disk ≡ store.faults disk) (opening : IfSome (store.now disk) (λ _. LeavesOnly store.moment store.since disk k.journal.disk (HasRecordsOf (digest_of m.plain) (store.images disk))))
-    (come : IfSome (store.now disk) (λ _. ComeFromEarlier store.moment store.images_at disk k.journal.disk (HaveSameRecords (digest_of m.plain)))) (told_there : IsSome (store.now disk) → IsSome (store.now k.journal.disk)) (filled : HasFilled store (λ i j. i ≤ MAX_S) result table after k new)
+    (come : IfSome (store.now disk) (λ _. ComeFromEarlier store.moment store.images_at disk k.journal.disk (HaveSameRecords (digest_of m.plain)))) (live : TakesSquares store.now store.images k) (file_is : store.now k.journal.disk ≡ option_map (opened (digest_of m.plain)) (store.now disk)) (alone : IfSome (store.now disk) (λ file. opened (digest_of m.plain) file ≡ file → LeavesOnly store.moment store.since disk k.journal.disk (store.images disk))) (filled : HasFilled store (λ i j. i ≤ MAX_S) result table after k new)
     (line : IfOk text (λ t. t.items ≡ migrated_line)) (done : OnOk text (IsOk result)) (failed : (text ≡ Err Saving) ↔ (result ≡ Err Failed)) (why : IfErr text (λ e. (e ≡ Saving) ⊎ (e ≡ Memory))) where
   why_taken : (t : Told) → IfErr t (λ e. (e ≡ Saving) ⊎ (e ≡ Memory)) → WhyTaken migrating m.plain (store.now disk) (Migration m) t
   why_taken (Ok x) h = tt
@@ -128,8 +130,8 @@ module _ {D : Type 0} (store : Store D) (laws : AreDisks store) (m : Checked) (d
     told_new : quasis_in store.now new ≡ Some (with_added (kept_of_table table) filled.added.given)
     told_new = filled.added.quasis ∙ ap (option_map (λ (x : List Kept). with_added x filled.added.given)) told_kept
 
-    opened : LeavesOnly store.moment store.since disk k.journal.disk (HasRecordsOf (digest_of m.plain) (store.images disk))
-    opened = at_some (store.now disk) (λ _. LeavesOnly store.moment store.since disk k.journal.disk (HasRecordsOf (digest_of m.plain) (store.images disk))) at_start.0 at_start.1 opening
+    leaves_opened : LeavesOnly store.moment store.since disk k.journal.disk (HasRecordsOf (digest_of m.plain) (store.images disk))
+    leaves_opened = at_some (store.now disk) (λ _. LeavesOnly store.moment store.since disk k.journal.disk (HasRecordsOf (digest_of m.plain) (store.images disk))) at_start.0 at_start.1 opening
 
     leaves_of : (P : Checked → List Kept → List ℕ → Type 0) → LeavesOf store k new (P k.resolved) → LeavesOnly store.moment store.since k.journal.disk new.journal.disk (P m (kept_of_table table))
     leaves_of P h =
@@ -144,8 +146,8 @@ module _ {D : Type 0} (store : Store D) (laws : AreDisks store) (m : Checked) (d
 
     -- what was left before the file was taken up, and what behind it
     left_by : (P : List ℕ → Type 0) → LeavesOnly store.moment store.since k.journal.disk new.journal.disk P → (c : List ℕ) → store.since new.journal.disk (store.moment disk) c → HasRecordsOf (digest_of m.plain) (store.images disk) c ⊎ P c
-    left_by P leaves c left = elim (leaves.earlier (store.moment disk) c opened.later left) [
-      | inl was ↦ inl (opened.each c was)
+    left_by P leaves c left = elim (leaves.earlier (store.moment disk) c leaves_opened.later left) [
+      | inl was ↦ inl (leaves_opened.each c was)
       | inr behind ↦ inr (leaves.each c behind)
     ]
 
@@ -180,10 +182,14 @@ module _ {D : Type 0} (store : Store D) (laws : AreDisks store) (m : Checked) (d
         let same : with_added (kept_of_table table) filled.added.given ≡ kept_of_table after = subst (λ (o : Option (List Kept)). IfSome o (λ x. x ≡ kept_of_table after)) told_new h.is_file.quasis in
         subst (All (λ x. IsSome x.quasi)) (sym same) reduced
 
+    opened_there : (o p : Option (List ℕ)) → p ≡ option_map (opened (digest_of m.plain)) o → IsSome o → (f : List ℕ) × (p ≡ Some f)
+    opened_there None p is h = absurd (cc)
+    opened_there (Some f) p is h = (opened (digest_of m.plain) f, is)
+
     kept_on : ComeFromEarlier store.moment store.images_at disk new.journal.disk (KeepsOn m.plain)
     kept_on =
         let first = records_keep store laws m.plain disk k.journal.disk (at_some (store.now disk) (λ _. ComeFromEarlier store.moment store.images_at disk k.journal.disk (HaveSameRecords (digest_of m.plain))) at_start.0 at_start.1 come) in
-        let there = some_is (store.now k.journal.disk) (told_there some) in
+        let there = opened_there (store.now disk) (store.now k.journal.disk) file_is some in
         let second = at_some (store.now k.journal.disk) (λ _. ComeFromEarlier store.moment store.images_at k.journal.disk new.journal.disk (KeepsOn k.resolved.plain)) there.0 there.1 filled.added.retained in
         come_then store laws m.plain disk k.journal.disk new.journal.disk filled.added.past first (subst (λ (q : Checked). ComeFromEarlier store.moment store.images_at k.journal.disk new.journal.disk (KeepsOn q.plain)) k_resolved second)
 
@@ -192,6 +198,7 @@ module _ {D : Type 0} (store : Store D) (laws : AreDisks store) (m : Checked) (d
       kept = kept_of_table table;
       more = at_start.2.more;
       given = filled.added.given;
+      from_file = λ has file is. keeps_table store m disk table k resolved k_resolved live file_is quasis file is;
       squares = entries_of_table table ∙ starts;
       at_most_one = at_start.2.at_most_one;
       canonical = at_start.2.canonical;
@@ -200,6 +207,7 @@ module _ {D : Type 0} (store : Store D) (laws : AreDisks store) (m : Checked) (d
       ours = ours_new;
       keeps = λ worked. let u = unfailed worked in left_by (KeepsAtPart m.plain (kept_of_table table) filled.added.given) (part u.0);
       settled = λ worked. let u = unfailed worked in inr (only u.0);
+      idle = λ worked none. subst (λ (s : SaveState D). StaysIfWhole store m.plain disk s.journal.disk) (sym (filled.idle (λ h. worked (failed.1 h)) none)) (stays_if_whole store laws m.plain disk k.journal.disk file_is alone);
       exact = λ has. let is = done_answered text done why has in only (whole_live result is filled);
       whole = λ has. whole result (done_answered text done why has) filled;
       retained = kept_on;

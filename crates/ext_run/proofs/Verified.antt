@@ -1,29 +1,23 @@
 -- A save file that is verified, whoever left it.
-use Rattle.std.proofs.Common.{◌≡◌, ◌≢◌, ℕ, ◌<◌, ◌≤◌, ◌⊎◌, inl, inr, List, ◌++◌, length, take, Option, Some, None, ap, sym, subst, ◌∙◌, refl, arith}
-use Rattle.std.specs.Prelude.{cond, Ok, Err, IfOk, IfErr, OnOk, IfSome, IsSome}
+use Rattle.std.proofs.Common.{◌≡◌, ◌≢◌, ℕ, ◌≤◌, ◌⊎◌, inl, inr, List, ◌++◌, Option, Some, None, ap, sym, subst, ◌∙◌, refl, arith}
+use Rattle.std.specs.Prelude.{Ok, Err, IfOk, IfErr, OnOk, IfSome, IsSome}
 use Rattle.std.specs.Option.{option_map}
-use Rattle.std.proofs.lemmas.Bool.{lt-leb}
-use Rattle.std.proofs.lemmas.List.{take_all}
-use Rattle.std.proofs.lemmas.Option.{same_Some, slice_get_within}
-use Rattle.sha2.proofs.Facts256.{length-sha256}
+use Rattle.std.proofs.lemmas.Option.{slice_get_within}
 use Rattle.edge.specs.Disk.{LeavesOnly}
-use Rattle.finite_module.specs.Module.{Module as SteenrodModule}
 use Rattle.finite_module.specs.Checked.{Checked}
-use Rattle.finite_module.specs.Text.{canonical_text}
 use Rattle.finite_module.specs.Graded.{ModulesAreSteenrodModules}
 use Rattle.resolution_laws.specs.Resolution.{generator_count}
 use Rattle.resolution_laws.specs.Exactness.{CanonicalTableIsMinimalResolution}
-use Rattle.square.specs.Squares.{over, bottom_of}
+use Rattle.square.specs.Squares.{bottom_of}
 use Rattle.square.specs.Tables.{Staircase, row_in, plain_rows, IsThrough, AllRead, IsTable}
 use Rattle.square.specs.declared.range.Range.{Range}
 use Rattle.cert_check.specs.Certified.{part_of, Certifies, HasCanonicalCounts, IsFirstFault}
 use Rattle.cert_check.specs.declared.fault.CertFault.{CertFault}
-use Rattle.save_journal.specs.Records.{Records, records_of, fresh, opened}
+use Rattle.save_journal.specs.Records.{opened}
 use Rattle.save_journal.specs.Journals.{HasRecordsOf}
-use Rattle.save_journal.proofs.Opened.{records_before}
-use Rattle.save_file.specs.Files.{digest_of, standing_of, first_records, kept_by, first_kept}
+use Rattle.save_file.specs.Files.{digest_of, standing_of}
 use Rattle.save_file.specs.Saved.{kept_of_table}
-use Rattle.save_file.specs.Saving.{SaveState, HasSquares, TakesSquares, quasis_in}
+use Rattle.save_file.specs.Saving.{SaveState, TakesSquares, quasis_in}
 use Rattle.ext_chart.specs.Files.{verified_line}
 use Rattle.ext_chart.proofs.Agreement.{chart_text-agree, chart_text-counts}
 use Rattle.ext_report.specs.declared.failure.Failure.{Failure}
@@ -32,16 +26,16 @@ use Rattle.ext_report.specs.Failure.{IsOfClasses}
 use Rattle.ext_run.specs.declared.task.Task.TheVariants.{Verification}
 use Rattle.ext_run.specs.Devices.{Store}
 use Rattle.ext_run.specs.Plan.{verifying}
-use Rattle.ext_run.specs.Saving.{kept_of, IsUnwritten}
 use Rattle.ext_run.specs.Forms.{IsVerifiedChart, verified_of}
 use Rattle.ext_run.specs.Certificates.{IsTakenUpAs, IsNoCertificate, HasVerified}
 use Rattle.ext_run.specs.Task.{IsDoneBy}
 use Rattle.ext_run.specs.Work.{Told, HasAnswer, answer_of, IsCertificateRefusal, HasUsed}
 use Rattle.ext_run.proofs.Certificates.{certificate_decided}
-use Rattle.ext_run.proofs.Lasting.{at_some, if_some, AreDisks, unwritten_since}
+use Rattle.ext_run.proofs.Lasting.{at_some, AreDisks}
 use Rattle.ext_run.proofs.Continuing.{resolved_by}
 use Rattle.ext_run.proofs.Resolved.{cut-agrees}
 use Rattle.ext_run.proofs.KeptOn.{IsToldBy, WhyTaken, records_left, start_is, used_on}
+use Rattle.ext_run.proofs.TakenUp.{taken_up_as, stays_if_whole}
 
 -- what holds of what is told
 where_is : {X : Type 0} (o : Option X) (P : X → Type 0) → ((x : X) → o ≡ Some x → P x) → IfSome o P
@@ -65,36 +59,6 @@ is_verified minimal modules range table text through counts is = record {
       (chart_text-agree range.s range.t _ _ (cut-agrees range table through) (bottom_of table.resolved)
       ∙ chart_text-counts range.s range.t (generator_count (part_of table range)) (generator_count counts.canonical) counts.counts (bottom_of table.resolved));
 }
-
--- ---- the table that a file is taken up as
-
-module _ {D : Type 0} (store : Store D) (m : Checked) (disk : D) (table : Staircase) (k : SaveState D) (resolved : table.resolved ≡ m) (k_resolved : k.resolved ≡ m) (live : TakesSquares store.now store.images k) (file_is : store.now k.journal.disk ≡ option_map (opened (digest_of m.plain)) (store.now disk))
-    (quasis : quasis_in store.now k ≡ option_map (λ _. kept_of_table table) (store.now disk)) (file : List ℕ) (is : store.now disk ≡ Some file) where
-  now_opened : store.now k.journal.disk ≡ Some (opened (digest_of m.plain) file)
-  now_opened = file_is ∙ ap (option_map (opened (digest_of m.plain))) is
-
-  has : HasSquares m k.start k.count (opened (digest_of m.plain) file)
-  has = subst (λ (c : Checked). HasSquares c k.start k.count (opened (digest_of m.plain) file)) k_resolved (at_some (store.now k.journal.disk) (HasSquares k.resolved k.start k.count) (opened (digest_of m.plain) file) now_opened live.has)
-
-  records : records_of (digest_of m.plain) file ≡ Ok has.bodies
-  records = records_before (digest_of m.plain) has.bodies (length-sha256 (canonical_text m.plain)) (Some file) (Some (opened (digest_of m.plain) file)) refl has.records
-
-  counted_is : first_kept m k.count (opened (digest_of m.plain) file) ≡ kept_of_table table
-  counted_is =
-      let both : Some (first_kept k.resolved k.count (opened (digest_of m.plain) file)) ≡ Some (kept_of_table table) =
-      sym (ap (option_map (first_kept k.resolved k.count)) now_opened) ∙ quasis ∙ ap (option_map (λ (f : List ℕ). kept_of_table table)) is in
-      ap (λ (c : Checked). first_kept c k.count (opened (digest_of m.plain) file)) (sym k_resolved) ∙ same_Some _ _ both
-
-  -- it has counted all of its records
-  pub keeps_table : kept_of m.plain file ≡ kept_of_table table
-  keeps_table =
-      let all : take k.count has.bodies ≡ has.bodies = take_all k.count has.bodies (let n = has.counted in omega (arith, n)) in
-      ap (kept_by (over m)) records
-      ∙ ap (λ (r : Records). kept_by (over m) r) (sym (ap (first_records k.count) has.records ∙ ap (λ (l : List (List ℕ)). Ok l) all))
-      ∙ counted_is
-
-  pub taken_up_as : IsTable table → AllRead table.rows → standing_of m.plain file ≡ Ok table.start → IsTakenUpAs m.plain file table
-  taken_up_as is_table all_read stands = record { of_module = ap (λ (c : Checked). c.plain) resolved; is_table = is_table; all_read = all_read; stands = stands; keeps = keeps_table }
 
 -- ---- the answer
 
@@ -140,18 +104,12 @@ module _ {D : Type 0} (store : Store D) (laws : AreDisks store) (m : Checked) (r
       let same = certificate_decided.one_fault range m.plain file h.0 fault (table, taken file is, h.2) none in
       inl (ap (λ (x : Failure). Err x) (h.1 ∙ ap (λ (f : CertFault). Certificate f) same))
 
-  left_alone : (file : List ℕ) → store.now disk ≡ Some file → 41 < length file → IsUnwritten store disk k.journal.disk
-  left_alone file is long =
-      let same : opened (digest_of m.plain) file ≡ file = ap (λ b. cond b (fresh (digest_of m.plain)) file) (lt-leb (length file) 41 long) in
-      let leaves = at_some (store.now disk) (λ f. opened (digest_of m.plain) f ≡ f → LeavesOnly store.moment store.since disk k.journal.disk (store.images disk)) file is alone same in
-      unwritten_since store laws disk k.journal.disk (file_is ∙ ap (option_map (opened (digest_of m.plain))) is ∙ ap (λ (f : List ℕ). Some f) same ∙ sym is) (if_some (store.now disk) (LeavesOnly store.moment store.since disk k.journal.disk (store.images disk)) leaves)
-
   verified_file : (file : List ℕ) → store.now disk ≡ Some file → HasVerified store range m.plain file (HasAnswer text) (text ≢ Err Saving) (IsToldBy text) disk k.journal.disk
   verified_file file is = record {
     certified = λ has. (table, taken file is, certifies text certified why has);
     told = λ fault none. none_told file is fault none text certified why;
     moments = records_left store laws m.plain disk k.journal.disk (at_some (store.now disk) (λ _. LeavesOnly store.moment store.since disk k.journal.disk (HasRecordsOf (digest_of m.plain) (store.images disk))) file is opening);
-    left_alone = λ worked long. left_alone file is long;
+    left_alone = λ worked. stays_if_whole store laws m.plain disk k.journal.disk file_is alone;
   }
 
   pub verified_on : HasUsed store (verifying range) m.plain (Verification m range) text disk k.journal.disk

@@ -1,5 +1,5 @@
 -- Save files as certificates, and what becomes of one that is verified.
-use Rattle.std.specs.Prelude.{◌≡◌, ◌≢◌, ℕ, ◌<◌, ◌⊎◌, List, length, Ok, Err}
+use Rattle.std.specs.Prelude.{◌≡◌, ℕ, ◌⊎◌, List, Ok}
 use Rattle.finite_module.specs.Module.{Module as SteenrodModule}
 use Rattle.square.specs.declared.range.Range.{Range}
 use Rattle.square.specs.Tables.{Staircase, AllRead, IsTable}
@@ -9,7 +9,7 @@ use Rattle.save_journal.specs.Journals.{HasRecordsOf}
 use Rattle.save_file.specs.Files.{digest_of, standing_of}
 use Rattle.save_file.specs.Saved.{kept_of_table}
 use Rattle.ext_run.specs.Devices.{Store}
-use Rattle.ext_run.specs.Saving.{kept_of, MayBeLeft, IsUnwritten}
+use Rattle.ext_run.specs.Saving.{kept_of, MayBeLeft, StaysIfWhole}
 
 -- ---- the file
 
@@ -43,10 +43,11 @@ pub record CertificateIsDecided : Type 0 where
 
 -- What becomes of a save file that is verified and of its disk, from old to new, whoever left it there. The file is a
 -- certificate if there was an answer; where it is none, that is told, unless it was not looked at. Nothing is put behind its
--- records: each image since the run began, and each now, has the records of one from before. A file that has room for a record stays as it is.
+-- records: each image since the run began, and each now, has the records of one from before. Unless the disk failed, a file
+-- that opening it leaves as it is was not written.
 pub record HasVerified {D : Type 0} (disk : Store D) (range : Range) (m : SteenrodModule) (file : List ℕ)
     (had_answer unfailed : Type 0) (IsTold : CertFault → Type 0) (old new : D) : Type 0 where
   pub certified : had_answer → IsCertificate range m file
   pub told : (fault : CertFault) → IsNoCertificate range m file fault → IsTold fault
   pub moments : (c : List ℕ) → MayBeLeft disk old new c → HasRecordsOf (digest_of m) (disk.images old) c
-  pub left_alone : unfailed → 41 < length file → IsUnwritten disk old new
+  pub left_alone : unfailed → StaysIfWhole disk m old new

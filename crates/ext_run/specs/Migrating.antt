@@ -8,7 +8,7 @@ use Rattle.save_journal.specs.Journals.{HasRecordsOf, ComeFromEarlier}
 use Rattle.save_file.specs.Bodies.{Kept, entries, kept_at, with_quasi_at}
 use Rattle.save_file.specs.Files.{digest_of, standing_of}
 use Rattle.ext_run.specs.Devices.{Store}
-use Rattle.ext_run.specs.Saving.{AreCanonical, kept_of, IsOurs, IsUnwritten}
+use Rattle.ext_run.specs.Saving.{AreCanonical, kept_of, IsOurs, IsUnwritten, StaysIfWhole}
 
 -- ---- the file
 
@@ -68,7 +68,8 @@ pub record KeepsOn (m : SteenrodModule) (d c : List ℕ) : Type 0 where
 -- were taken up.
 --
 -- Unless the disk failed, there is none more, and in the end each image is just what was taken up with all that was given, or nothing
--- was written. If there was an answer, each square has its quasi-inverse then.
+-- was written. Where nothing was given, a file that opening it leaves as it is was not written. If there was an answer, what was taken up
+-- is what the file kept, and each square has its quasi-inverse in the end.
 --
 -- No square and no quasi-inverse is away again, not even for a moment: an image at a moment comes from one at each earlier moment, and
 -- keeps what that has.
@@ -77,6 +78,7 @@ pub record HasMigrated {D : Type 0} (disk : Store D) (m : SteenrodModule) (list 
   pub kept : List Kept
   pub more : List Entry
   pub given : List Added
+  pub from_file : had_answer → (file : List ℕ) → disk.now old ≡ Some file → kept_of m file ≡ kept
   pub squares : entries kept ≡ list ++ more
   pub at_most_one : length more ≤ 1
   pub canonical : AreCanonical m (list ++ more)
@@ -89,6 +91,7 @@ pub record HasMigrated {D : Type 0} (disk : Store D) (m : SteenrodModule) (list 
   pub settled : unfailed →
       ((more ≡ []) × (given ≡ []) × IsUnwritten disk old new)
       ⊎ ((c : List ℕ) → disk.images new c → Keeps m (with_added kept given) c)
+  pub idle : unfailed → given ≡ [] → StaysIfWhole disk m old new
   pub exact : had_answer → (c : List ℕ) → disk.images new c → Keeps m (with_added kept given) c
   pub whole : had_answer → All (λ k. IsSome k.quasi) (with_added kept given)
   pub retained : ComeFromEarlier disk.moment disk.images_at old new (KeepsOn m)

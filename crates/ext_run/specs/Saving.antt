@@ -1,5 +1,5 @@
 -- What a run that keeps squares does with its save file.
-use Rattle.std.specs.Prelude.{◌≡◌, ℕ, ◌≤◌, ◌⊎◌, List, [], ◌++◌, length, Option, IsSome, IfSome, Ok}
+use Rattle.std.specs.Prelude.{◌≡◌, ℕ, ◌≤◌, ◌⊎◌, List, [], ◌++◌, length, Option, Some, IsSome, IfSome, Ok}
 use Rattle.std.specs.List.{All}
 use Rattle.std.specs.Result.{result_ok}
 use Rattle.finite_module.specs.Module.{Module as SteenrodModule}
@@ -8,7 +8,7 @@ use Rattle.resolution_laws.specs.Start.{Entry, entry_at, AreOf}
 use Rattle.square.specs.Keeping.{HasFirst}
 use Rattle.square.specs.Squares.{module_over}
 use Rattle.square.specs.declared.range.Range.{Range}
-use Rattle.save_journal.specs.Records.{records_of}
+use Rattle.save_journal.specs.Records.{records_of, opened}
 use Rattle.save_file.specs.Bodies.{Kept}
 use Rattle.save_file.specs.Files.{digest_of, standing_of, kept_by}
 use Rattle.ext_run.specs.Devices.{Store}
@@ -67,6 +67,11 @@ abbrev pub IsUnwritten : {D : Type 0} → Store D → D → D → Type 0
 IsUnwritten disk old new =
     (disk.now new ≡ disk.now old)
     × IfSome (disk.now old) (λ _. (c : List ℕ) → MayBeLeft disk old new c → disk.images old c)
+
+-- The disk was not written if it held a file that opening it leaves as it is, which is one that is not short of a header and a gate.
+abbrev pub StaysIfWhole : {D : Type 0} → Store D → SteenrodModule → D → D → Type 0
+StaysIfWhole disk m old new = (file : List ℕ) → disk.now old ≡ Some file → opened (digest_of m) file ≡ file →
+    IsUnwritten disk old new
 
 -- the list has each square of the range
 abbrev pub HasRange : Range → List Entry → Type 0

@@ -117,7 +117,7 @@ fn fill_square<D: Disk>(
     ensures { HasFilled (store_of D.now D.moment D.images D.images_at D.since D.faults) (λ i k. (i ≡ s) × (k ≡ above))
         result table.old table.new file.old file.new }
 {
-    let t = table.module().bottom() + i32::from(above);
+    let t = table.degree(above);
     let Some(quasi) = lacking(alloc, table, s, t)? else {
         return Ok(());
     };

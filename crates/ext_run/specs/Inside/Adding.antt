@@ -1,5 +1,5 @@
 -- How the quasi-inverses that a save file lacks are put behind its squares.
-use Rattle.std.specs.Prelude.{◌≡◌, ℕ, ◌≤◌, ◌<◌, List, length, Option, Some, IsSome, IfSome, Result, Err, OnOk}
+use Rattle.std.specs.Prelude.{◌≡◌, ◌≢◌, ℕ, ◌≤◌, ◌<◌, List, [], length, Option, Some, IsSome, IfSome, Result, Err, OnOk}
 use Rattle.std.specs.Option.{option_map}
 use Rattle.std.specs.List.{All, AllPairs}
 use Rattle.edge.specs.Disk.{LeavesOnly, HavePast}
@@ -52,7 +52,7 @@ pub record HasAdded {D : Type 0} (disk : Store D) (at : ℕ → ℕ → Type 0) 
       new.journal.disk (KeepsOn old.resolved.plain))
 
 -- So did the table, if none of it failed: it has the same squares. If they are canonical, each at such a place has its
--- quasi-inverse then.
+-- quasi-inverse then. Where none was given, and the disk did not fail, the file is as it was.
 pub record HasFilled {D T : Type 0} (disk : Store D) (at : ℕ → ℕ → Type 0) (result : Result T KeepFault)
     (before after : Staircase) (old new : SaveState D) : Type 0 where
   pub added : HasAdded disk at old new
@@ -64,6 +64,7 @@ pub record HasFilled {D T : Type 0} (disk : Store D) (at : ℕ → ℕ → Type 
   pub no_fault : OnOk result (disk.faults new.journal.disk ≡ disk.faults old.journal.disk)
   pub whole : OnOk result (IsCanonicalStart (over before.resolved) before.start → (s k : ℕ) → at s k →
       k < length (row_in after.rows s) → IsSome (quasi_kept after.rows s k))
+  pub idle : result ≢ Err Failed → added.given ≡ [] → new ≡ old
   pub failed : result ≡ Err Failed → HasRisen (disk.faults old.journal.disk) (disk.faults new.journal.disk)
   pub memory : result ≡ Err Memory →
       TakesSquares disk.now disk.images new × (disk.faults new.journal.disk ≡ disk.faults old.journal.disk)

@@ -1,12 +1,13 @@
 use Rattle.std.proofs.Common.{◌≡◌, ◌+◌, ◌<◌, ◌≤◌, ℕ, inl, inr, refl, sym, ◌∙◌, arith}
 use Rattle.std.specs.Prelude.{Ok}
 use Rattle.std.proofs.lemmas.Bool.{cases_lt}
+use Rattle.std.proofs.lemmas.Result.{err_from_is_err_and}
 use Rattle.square.specs.declared.range.TheConstants.{MAX_T}
 use Rattle.square.specs.Tables.{row_in}
 use Rattle.square.proofs.Places.{slice_get-there}
 use Rattle.ext_run.specs.Devices.{store_of}
 use Rattle.ext_run.proofs.Lasting.{AreDisks}
-use Rattle.ext_run.proofs.Filled.{filled_same, filled_then, filled_wider}
+use Rattle.ext_run.proofs.Filled.{filled_same, filled_then, filled_ok, filled_wider}
 use Rattle.ext_run.proofs.migrating.fill_row.Given.{Over}
 use Rattle.ext_run.proofs.migrating.fill_row.Goals as goal
 
@@ -30,8 +31,9 @@ pub returns-in_err-fill_square : goal.returns-in_err-fill_square
 returns-in_err-fill_square g c =
     let s = c.args.s in
     let n = c.loop-above.above in
-    filled_then (store_of g.D.Disk.now g.D.Disk.moment g.D.Disk.images g.D.Disk.images_at g.D.Disk.since g.D.Disk.faults) (laws g) (IsSoFar s n) (IsThat s n) (λ i j. i ≡ s) (λ i j h. h.0) (λ i j h. h.0) (λ i j k l h e. inr (h.0 ∙ sym e.0, let a = h.1 in let b = e.1 in omega (arith, a, b)))
-    _ _ _ _ _ _ c.fill_square.result (λ is. absurd (let bad = c.in_err-fill_square.was in cc)) c.loop-above.invariant c.fill_square.ensures
+    let p = err_from_is_err_and c.from_residual.result c.from_residual.ensures.1 in
+    rw (p.1, p.2, ← c.in_err-fill_square.was) (filled_then (store_of g.D.Disk.now g.D.Disk.moment g.D.Disk.images g.D.Disk.images_at g.D.Disk.since g.D.Disk.faults) (laws g) (IsSoFar s n) (IsThat s n) (λ i j. i ≡ s) (λ i j h. h.0) (λ i j h. h.0) (λ i j k l h e. inr (h.0 ∙ sym e.0, let a = h.1 in let b = e.1 in omega (arith, a, b)))
+    _ _ _ _ _ _ c.fill_square.result (λ is. absurd (let bad = c.in_err-fill_square.was in cc)) c.loop-above.invariant c.fill_square.ensures)
 
 pub loop-above-preserved : goal.loop-above-preserved
 loop-above-preserved g c =
@@ -41,7 +43,7 @@ loop-above-preserved g c =
     _ _ _ _ _ _ (Ok tt) (λ is i j h l. elim (cases_lt j n) [
       | inl low ↦ inl (h.0, low)
       | inr high ↦ inr (h.0, let a = h.1 in omega (arith, a, high))
-    ]) c.loop-above.invariant c.fill_square.ensures
+    ]) c.loop-above.invariant (filled_ok (store_of g.D.Disk.now g.D.Disk.moment g.D.Disk.images g.D.Disk.images_at g.D.Disk.since g.D.Disk.faults) (laws g) _ _ _ _ _ c.fill_square.result _ c.in_ok-fill_square.was c.fill_square.ensures)
 
 -- no square stands past the last degree
 pub returns : goal.returns

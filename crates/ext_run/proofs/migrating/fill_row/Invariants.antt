@@ -5,4 +5,4 @@ use Rattle.ext_run.specs.Inside.Adding.{HasFilled}
 use Rattle.ext_run.proofs.migrating.fill_row.Given as goal
 
 abbrev pub invariant-loop-above : goal.invariant-loop-above
-invariant-loop-above g l = HasFilled (store_of g.D.Disk.now g.D.Disk.moment g.D.Disk.images g.D.Disk.images_at g.D.Disk.since g.D.Disk.faults) (λ i j. (i ≡ l.s) × (j < l.above)) (Ok tt) l.fn.table l.table l.fn.file l.file
+invariant-loop-above g l = HasFilled {T = Unit {0}} (store_of g.D.Disk.now g.D.Disk.moment g.D.Disk.images g.D.Disk.images_at g.D.Disk.since g.D.Disk.faults) (λ i j. (i ≡ l.s) × (j < l.above)) (Ok tt) l.fn.table l.table l.fn.file l.file

@@ -1,4 +1,5 @@
-use Rattle.std.proofs.Common.{rules, ◌≡◌, ℕ, ◌∙◌, sym, subst, pos, ◌+ℤ◌, to_z, of_z, w32, Err, length}
+use Rattle.std.proofs.Common.{◌≡◌, ℕ, ◌∙◌, sym, subst, pos, ◌+ℤ◌, to_z, of_z, w32, Err, length}
+use Rattle.std.proofs.lemmas.Int.{to_z-of_z}
 use Rattle.std.proofs.lemmas.Option.{slice_get_within}
 use Rattle.std.proofs.lemmas.Result.{err_from_is_err_and}
 use Rattle.f2_matrix.specs.Reduction.{Reduction}
@@ -28,8 +29,9 @@ returns-in_err-quasi g c =
 
 pub returns-in_default : goal.returns-in_default
 returns-in_default g c =
-    let degree : (to_z w32 (of_z w32 (to_z w32 (of_z w32 c.bottom.result) +ℤ to_z w32 (of_z w32 c.from.result)))) ≡ bottom_of c.args.table.now.resolved +ℤ pos c.args.above = search rules in
-    filled_left (store_of g.D.Disk.now g.D.Disk.moment g.D.Disk.images g.D.Disk.images_at g.D.Disk.since g.D.Disk.faults) (laws g) c.args.table.now c.args.file.now c.requires.file c.args.s c.args.above (to_z w32 (of_z w32 (to_z w32 (of_z w32 c.bottom.result) +ℤ to_z w32 (of_z w32 c.from.result)))) degree (rw c.in_default.is at c.in_ok-quasi.ensures.none)
+    let t = to_z w32 (of_z w32 c.degree-t.result) in
+    let degree : t ≡ bottom_of c.args.table.now.resolved +ℤ pos c.args.above = to_z-of_z w32 c.degree-t.result (record { sfits = c.degree-t.type_inv }) ∙ c.degree-t.ensures in
+    filled_left (store_of g.D.Disk.now g.D.Disk.moment g.D.Disk.images g.D.Disk.images_at g.D.Disk.since g.D.Disk.faults) (laws g) c.args.table.now c.args.file.now c.requires.file c.args.s c.args.above t degree (rw c.in_default.is at c.in_ok-quasi.ensures.none)
 
 pub returns-in_default-add_quasi : goal.returns-in_default-add_quasi
 returns-in_default-add_quasi g c =
@@ -38,41 +40,46 @@ returns-in_default-add_quasi g c =
 
 pub keep_quasi-requires-clause-there : goal.keep_quasi-requires-clause-there
 keep_quasi-requires-clause-there g c =
-    let degree : (to_z w32 (of_z w32 (to_z w32 (of_z w32 c.bottom.result) +ℤ to_z w32 (of_z w32 c.from.result)))) ≡ bottom_of c.args.table.now.resolved +ℤ pos c.args.above = search rules in
-    let lacks = at_some c.in_ok-quasi.field-0 (λ (q : Reduction). LacksQuasi c.args.table.now c.args.s (to_z w32 (of_z w32 (to_z w32 (of_z w32 c.bottom.result) +ℤ to_z w32 (of_z w32 c.from.result)))) q) c.in-Some.quasi c.in-Some.is c.in_ok-quasi.ensures.lacks in
-    let is_quasi = at_some c.in_ok-quasi.field-0 (λ (q : Reduction). IsQuasiAt c.args.table.now c.args.s (to_z w32 (of_z w32 (to_z w32 (of_z w32 c.bottom.result) +ℤ to_z w32 (of_z w32 c.from.result)))) q) c.in-Some.quasi c.in-Some.is c.in_ok-quasi.ensures.quasi in
-    let within = slice_get_within (row_in c.args.table.now.rows c.args.s) c.args.above lacks.square (sym (square_at-above c.args.table.now c.args.s c.args.above (to_z w32 (of_z w32 (to_z w32 (of_z w32 c.bottom.result) +ℤ to_z w32 (of_z w32 c.from.result)))) degree) ∙ lacks.there) in
-    there_after (store_of g.D.Disk.now g.D.Disk.moment g.D.Disk.images g.D.Disk.images_at g.D.Disk.since g.D.Disk.faults) (laws g) c.args.table.now c.add_quasi.new.self c.args.s c.args.above (to_z w32 (of_z w32 (to_z w32 (of_z w32 c.bottom.result) +ℤ to_z w32 (of_z w32 c.from.result)))) c.in-Some.quasi degree is_quasi within (c.in-Ok.ensures.rows c.args.above degree) c.in-Ok.ensures.contents c.in-Ok.ensures.same
+    let t = to_z w32 (of_z w32 c.degree-t.result) in
+    let degree : t ≡ bottom_of c.args.table.now.resolved +ℤ pos c.args.above = to_z-of_z w32 c.degree-t.result (record { sfits = c.degree-t.type_inv }) ∙ c.degree-t.ensures in
+    let lacks = at_some c.in_ok-quasi.field-0 (λ (q : Reduction). LacksQuasi c.args.table.now c.args.s t q) c.in-Some.quasi c.in-Some.is c.in_ok-quasi.ensures.lacks in
+    let is_quasi = at_some c.in_ok-quasi.field-0 (λ (q : Reduction). IsQuasiAt c.args.table.now c.args.s t q) c.in-Some.quasi c.in-Some.is c.in_ok-quasi.ensures.quasi in
+    let within = slice_get_within (row_in c.args.table.now.rows c.args.s) c.args.above lacks.square (sym (square_at-above c.args.table.now c.args.s c.args.above t degree) ∙ lacks.there) in
+    there_after (store_of g.D.Disk.now g.D.Disk.moment g.D.Disk.images g.D.Disk.images_at g.D.Disk.since g.D.Disk.faults) (laws g) c.args.table.now c.add_quasi.new.self c.args.s c.args.above t c.in-Some.quasi degree is_quasi within (c.in-Ok.ensures.rows c.args.above degree) c.in-Ok.ensures.contents c.in-Ok.ensures.same
 
 pub keep_quasi-requires-clause-kernel : goal.keep_quasi-requires-clause-kernel
 keep_quasi-requires-clause-kernel g c =
-    let degree : (to_z w32 (of_z w32 (to_z w32 (of_z w32 c.bottom.result) +ℤ to_z w32 (of_z w32 c.from.result)))) ≡ bottom_of c.args.table.now.resolved +ℤ pos c.args.above = search rules in
-    let lacks = at_some c.in_ok-quasi.field-0 (λ (q : Reduction). LacksQuasi c.args.table.now c.args.s (to_z w32 (of_z w32 (to_z w32 (of_z w32 c.bottom.result) +ℤ to_z w32 (of_z w32 c.from.result)))) q) c.in-Some.quasi c.in-Some.is c.in_ok-quasi.ensures.lacks in
-    let is_quasi = at_some c.in_ok-quasi.field-0 (λ (q : Reduction). IsQuasiAt c.args.table.now c.args.s (to_z w32 (of_z w32 (to_z w32 (of_z w32 c.bottom.result) +ℤ to_z w32 (of_z w32 c.from.result)))) q) c.in-Some.quasi c.in-Some.is c.in_ok-quasi.ensures.quasi in
-    let within = slice_get_within (row_in c.args.table.now.rows c.args.s) c.args.above lacks.square (sym (square_at-above c.args.table.now c.args.s c.args.above (to_z w32 (of_z w32 (to_z w32 (of_z w32 c.bottom.result) +ℤ to_z w32 (of_z w32 c.from.result)))) degree) ∙ lacks.there) in
-    λ r h. kernel_after (store_of g.D.Disk.now g.D.Disk.moment g.D.Disk.images g.D.Disk.images_at g.D.Disk.since g.D.Disk.faults) (laws g) c.args.table.now c.add_quasi.new.self c.args.s c.args.above (to_z w32 (of_z w32 (to_z w32 (of_z w32 c.bottom.result) +ℤ to_z w32 (of_z w32 c.from.result)))) c.in-Some.quasi degree is_quasi within (c.in-Ok.ensures.rows c.args.above degree) c.in-Ok.ensures.contents c.in-Ok.ensures.same lacks r h
+    let t = to_z w32 (of_z w32 c.degree-t.result) in
+    let degree : t ≡ bottom_of c.args.table.now.resolved +ℤ pos c.args.above = to_z-of_z w32 c.degree-t.result (record { sfits = c.degree-t.type_inv }) ∙ c.degree-t.ensures in
+    let lacks = at_some c.in_ok-quasi.field-0 (λ (q : Reduction). LacksQuasi c.args.table.now c.args.s t q) c.in-Some.quasi c.in-Some.is c.in_ok-quasi.ensures.lacks in
+    let is_quasi = at_some c.in_ok-quasi.field-0 (λ (q : Reduction). IsQuasiAt c.args.table.now c.args.s t q) c.in-Some.quasi c.in-Some.is c.in_ok-quasi.ensures.quasi in
+    let within = slice_get_within (row_in c.args.table.now.rows c.args.s) c.args.above lacks.square (sym (square_at-above c.args.table.now c.args.s c.args.above t degree) ∙ lacks.there) in
+    λ r h. kernel_after (store_of g.D.Disk.now g.D.Disk.moment g.D.Disk.images g.D.Disk.images_at g.D.Disk.since g.D.Disk.faults) (laws g) c.args.table.now c.add_quasi.new.self c.args.s c.args.above t c.in-Some.quasi degree is_quasi within (c.in-Ok.ensures.rows c.args.above degree) c.in-Ok.ensures.contents c.in-Ok.ensures.same lacks r h
 
 pub keep_quasi-requires-clause-of_table : goal.keep_quasi-requires-clause-of_table
 keep_quasi-requires-clause-of_table g c =
-    let degree : (to_z w32 (of_z w32 (to_z w32 (of_z w32 c.bottom.result) +ℤ to_z w32 (of_z w32 c.from.result)))) ≡ bottom_of c.args.table.now.resolved +ℤ pos c.args.above = search rules in
-    let lacks = at_some c.in_ok-quasi.field-0 (λ (q : Reduction). LacksQuasi c.args.table.now c.args.s (to_z w32 (of_z w32 (to_z w32 (of_z w32 c.bottom.result) +ℤ to_z w32 (of_z w32 c.from.result)))) q) c.in-Some.quasi c.in-Some.is c.in_ok-quasi.ensures.lacks in
-    let is_quasi = at_some c.in_ok-quasi.field-0 (λ (q : Reduction). IsQuasiAt c.args.table.now c.args.s (to_z w32 (of_z w32 (to_z w32 (of_z w32 c.bottom.result) +ℤ to_z w32 (of_z w32 c.from.result)))) q) c.in-Some.quasi c.in-Some.is c.in_ok-quasi.ensures.quasi in
-    let within = slice_get_within (row_in c.args.table.now.rows c.args.s) c.args.above lacks.square (sym (square_at-above c.args.table.now c.args.s c.args.above (to_z w32 (of_z w32 (to_z w32 (of_z w32 c.bottom.result) +ℤ to_z w32 (of_z w32 c.from.result)))) degree) ∙ lacks.there) in
-    keeper_after (store_of g.D.Disk.now g.D.Disk.moment g.D.Disk.images g.D.Disk.images_at g.D.Disk.since g.D.Disk.faults) (laws g) c.args.table.now c.add_quasi.new.self c.args.s c.args.above (to_z w32 (of_z w32 (to_z w32 (of_z w32 c.bottom.result) +ℤ to_z w32 (of_z w32 c.from.result)))) c.in-Some.quasi degree is_quasi within (c.in-Ok.ensures.rows c.args.above degree) c.in-Ok.ensures.contents c.in-Ok.ensures.same c.args.file.now c.requires.file.of_table
+    let t = to_z w32 (of_z w32 c.degree-t.result) in
+    let degree : t ≡ bottom_of c.args.table.now.resolved +ℤ pos c.args.above = to_z-of_z w32 c.degree-t.result (record { sfits = c.degree-t.type_inv }) ∙ c.degree-t.ensures in
+    let lacks = at_some c.in_ok-quasi.field-0 (λ (q : Reduction). LacksQuasi c.args.table.now c.args.s t q) c.in-Some.quasi c.in-Some.is c.in_ok-quasi.ensures.lacks in
+    let is_quasi = at_some c.in_ok-quasi.field-0 (λ (q : Reduction). IsQuasiAt c.args.table.now c.args.s t q) c.in-Some.quasi c.in-Some.is c.in_ok-quasi.ensures.quasi in
+    let within = slice_get_within (row_in c.args.table.now.rows c.args.s) c.args.above lacks.square (sym (square_at-above c.args.table.now c.args.s c.args.above t degree) ∙ lacks.there) in
+    keeper_after (store_of g.D.Disk.now g.D.Disk.moment g.D.Disk.images g.D.Disk.images_at g.D.Disk.since g.D.Disk.faults) (laws g) c.args.table.now c.add_quasi.new.self c.args.s c.args.above t c.in-Some.quasi degree is_quasi within (c.in-Ok.ensures.rows c.args.above degree) c.in-Ok.ensures.contents c.in-Ok.ensures.same c.args.file.now c.requires.file.of_table
 
 pub keep_quasi-requires-clause-bare : goal.keep_quasi-requires-clause-bare
 keep_quasi-requires-clause-bare g c =
-    let degree : (to_z w32 (of_z w32 (to_z w32 (of_z w32 c.bottom.result) +ℤ to_z w32 (of_z w32 c.from.result)))) ≡ bottom_of c.args.table.now.resolved +ℤ pos c.args.above = search rules in
-    let lacks = at_some c.in_ok-quasi.field-0 (λ (q : Reduction). LacksQuasi c.args.table.now c.args.s (to_z w32 (of_z w32 (to_z w32 (of_z w32 c.bottom.result) +ℤ to_z w32 (of_z w32 c.from.result)))) q) c.in-Some.quasi c.in-Some.is c.in_ok-quasi.ensures.lacks in
-    let is_quasi = at_some c.in_ok-quasi.field-0 (λ (q : Reduction). IsQuasiAt c.args.table.now c.args.s (to_z w32 (of_z w32 (to_z w32 (of_z w32 c.bottom.result) +ℤ to_z w32 (of_z w32 c.from.result)))) q) c.in-Some.quasi c.in-Some.is c.in_ok-quasi.ensures.quasi in
-    let within = slice_get_within (row_in c.args.table.now.rows c.args.s) c.args.above lacks.square (sym (square_at-above c.args.table.now c.args.s c.args.above (to_z w32 (of_z w32 (to_z w32 (of_z w32 c.bottom.result) +ℤ to_z w32 (of_z w32 c.from.result)))) degree) ∙ lacks.there) in
-    bare_there (store_of g.D.Disk.now g.D.Disk.moment g.D.Disk.images g.D.Disk.images_at g.D.Disk.since g.D.Disk.faults) (laws g) c.args.table.now c.add_quasi.new.self c.args.s c.args.above (to_z w32 (of_z w32 (to_z w32 (of_z w32 c.bottom.result) +ℤ to_z w32 (of_z w32 c.from.result)))) c.in-Some.quasi degree is_quasi within (c.in-Ok.ensures.rows c.args.above degree) c.in-Ok.ensures.contents c.in-Ok.ensures.same (quasis_in g.D.Disk.now c.args.file.now) (bare_before (store_of g.D.Disk.now g.D.Disk.moment g.D.Disk.images g.D.Disk.images_at g.D.Disk.since g.D.Disk.faults) (laws g) c.args.table.now c.add_quasi.new.self c.args.s c.args.above (to_z w32 (of_z w32 (to_z w32 (of_z w32 c.bottom.result) +ℤ to_z w32 (of_z w32 c.from.result)))) c.in-Some.quasi degree is_quasi within (c.in-Ok.ensures.rows c.args.above degree) c.in-Ok.ensures.contents c.in-Ok.ensures.same c.requires.file.is_table c.requires.file.all_read lacks (quasis_in g.D.Disk.now c.args.file.now) c.requires.file.quasis)
+    let t = to_z w32 (of_z w32 c.degree-t.result) in
+    let degree : t ≡ bottom_of c.args.table.now.resolved +ℤ pos c.args.above = to_z-of_z w32 c.degree-t.result (record { sfits = c.degree-t.type_inv }) ∙ c.degree-t.ensures in
+    let lacks = at_some c.in_ok-quasi.field-0 (λ (q : Reduction). LacksQuasi c.args.table.now c.args.s t q) c.in-Some.quasi c.in-Some.is c.in_ok-quasi.ensures.lacks in
+    let is_quasi = at_some c.in_ok-quasi.field-0 (λ (q : Reduction). IsQuasiAt c.args.table.now c.args.s t q) c.in-Some.quasi c.in-Some.is c.in_ok-quasi.ensures.quasi in
+    let within = slice_get_within (row_in c.args.table.now.rows c.args.s) c.args.above lacks.square (sym (square_at-above c.args.table.now c.args.s c.args.above t degree) ∙ lacks.there) in
+    bare_there (store_of g.D.Disk.now g.D.Disk.moment g.D.Disk.images g.D.Disk.images_at g.D.Disk.since g.D.Disk.faults) (laws g) c.args.table.now c.add_quasi.new.self c.args.s c.args.above t c.in-Some.quasi degree is_quasi within (c.in-Ok.ensures.rows c.args.above degree) c.in-Ok.ensures.contents c.in-Ok.ensures.same (quasis_in g.D.Disk.now c.args.file.now) (bare_before (store_of g.D.Disk.now g.D.Disk.moment g.D.Disk.images g.D.Disk.images_at g.D.Disk.since g.D.Disk.faults) (laws g) c.args.table.now c.add_quasi.new.self c.args.s c.args.above t c.in-Some.quasi degree is_quasi within (c.in-Ok.ensures.rows c.args.above degree) c.in-Ok.ensures.contents c.in-Ok.ensures.same c.requires.file.is_table c.requires.file.all_read lacks (quasis_in g.D.Disk.now c.args.file.now) c.requires.file.quasis)
 
 pub returns : goal.returns
 returns g c =
-    let degree : (to_z w32 (of_z w32 (to_z w32 (of_z w32 c.bottom.result) +ℤ to_z w32 (of_z w32 c.from.result)))) ≡ bottom_of c.args.table.now.resolved +ℤ pos c.args.above = search rules in
-    let lacks = at_some c.in_ok-quasi.field-0 (λ (q : Reduction). LacksQuasi c.args.table.now c.args.s (to_z w32 (of_z w32 (to_z w32 (of_z w32 c.bottom.result) +ℤ to_z w32 (of_z w32 c.from.result)))) q) c.in-Some.quasi c.in-Some.is c.in_ok-quasi.ensures.lacks in
-    let is_quasi = at_some c.in_ok-quasi.field-0 (λ (q : Reduction). IsQuasiAt c.args.table.now c.args.s (to_z w32 (of_z w32 (to_z w32 (of_z w32 c.bottom.result) +ℤ to_z w32 (of_z w32 c.from.result)))) q) c.in-Some.quasi c.in-Some.is c.in_ok-quasi.ensures.quasi in
-    let within = slice_get_within (row_in c.args.table.now.rows c.args.s) c.args.above lacks.square (sym (square_at-above c.args.table.now c.args.s c.args.above (to_z w32 (of_z w32 (to_z w32 (of_z w32 c.bottom.result) +ℤ to_z w32 (of_z w32 c.from.result)))) degree) ∙ lacks.there) in
+    let t = to_z w32 (of_z w32 c.degree-t.result) in
+    let degree : t ≡ bottom_of c.args.table.now.resolved +ℤ pos c.args.above = to_z-of_z w32 c.degree-t.result (record { sfits = c.degree-t.type_inv }) ∙ c.degree-t.ensures in
+    let lacks = at_some c.in_ok-quasi.field-0 (λ (q : Reduction). LacksQuasi c.args.table.now c.args.s t q) c.in-Some.quasi c.in-Some.is c.in_ok-quasi.ensures.lacks in
+    let is_quasi = at_some c.in_ok-quasi.field-0 (λ (q : Reduction). IsQuasiAt c.args.table.now c.args.s t q) c.in-Some.quasi c.in-Some.is c.in_ok-quasi.ensures.quasi in
+    let within = slice_get_within (row_in c.args.table.now.rows c.args.s) c.args.above lacks.square (sym (square_at-above c.args.table.now c.args.s c.args.above t degree) ∙ lacks.there) in
     let k = c.keep_quasi.ensures in
-    filled_given (store_of g.D.Disk.now g.D.Disk.moment g.D.Disk.images g.D.Disk.images_at g.D.Disk.since g.D.Disk.faults) (laws g) c.args.table.now c.add_quasi.new.self c.args.s c.args.above (to_z w32 (of_z w32 (to_z w32 (of_z w32 c.bottom.result) +ℤ to_z w32 (of_z w32 c.from.result)))) c.in-Some.quasi degree is_quasi within (c.in-Ok.ensures.rows c.args.above degree) c.in-Ok.ensures.contents c.in-Ok.ensures.same c.args.file.now c.keep_quasi.new.self c.requires.file c.keep_quasi.result k.kept (bare_before (store_of g.D.Disk.now g.D.Disk.moment g.D.Disk.images g.D.Disk.images_at g.D.Disk.since g.D.Disk.faults) (laws g) c.args.table.now c.add_quasi.new.self c.args.s c.args.above (to_z w32 (of_z w32 (to_z w32 (of_z w32 c.bottom.result) +ℤ to_z w32 (of_z w32 c.from.result)))) c.in-Some.quasi degree is_quasi within (c.in-Ok.ensures.rows c.args.above degree) c.in-Ok.ensures.contents c.in-Ok.ensures.same c.requires.file.is_table c.requires.file.all_read lacks (quasis_in g.D.Disk.now c.args.file.now) c.requires.file.quasis) k.between k.past k.retained k.never_fall k.live k.no_fault k.put k.failed k.dead k.unput k.memory
+    filled_given (store_of g.D.Disk.now g.D.Disk.moment g.D.Disk.images g.D.Disk.images_at g.D.Disk.since g.D.Disk.faults) (laws g) c.args.table.now c.add_quasi.new.self c.args.s c.args.above t c.in-Some.quasi degree is_quasi within (c.in-Ok.ensures.rows c.args.above degree) c.in-Ok.ensures.contents c.in-Ok.ensures.same c.args.file.now c.keep_quasi.new.self c.requires.file c.keep_quasi.result k.kept (bare_before (store_of g.D.Disk.now g.D.Disk.moment g.D.Disk.images g.D.Disk.images_at g.D.Disk.since g.D.Disk.faults) (laws g) c.args.table.now c.add_quasi.new.self c.args.s c.args.above t c.in-Some.quasi degree is_quasi within (c.in-Ok.ensures.rows c.args.above degree) c.in-Ok.ensures.contents c.in-Ok.ensures.same c.requires.file.is_table c.requires.file.all_read lacks (quasis_in g.D.Disk.now c.args.file.now) c.requires.file.quasis) k.between k.past k.retained k.never_fall k.live k.no_fault k.put k.failed k.dead k.unput k.memory

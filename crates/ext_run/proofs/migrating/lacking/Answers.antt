@@ -1,7 +1,9 @@
-use Rattle.std.proofs.Common.{◌≡◌, Bool, true, false, Option, Some, None, sym, ap}
+use Rattle.std.proofs.Common.{◌≡◌, ℤ, w32, Bool, true, false, Option, Some, None, sym, ap, subst}
 use Rattle.std.specs.Option.{option_map, is_some}
 use Rattle.std.specs.Arc.{arc_value}
+use Rattle.std.proofs.lemmas.Int.{to_z-of_z}
 use Rattle.square.specs.Squares.{Placed}
+use Rattle.square.specs.Tables.{square_at}
 use Rattle.ext_run.proofs.migrating.lacking.Goals as goal
 
 none_kept : {X Y : Type 0} (f : X → Y) (o : Option X) (q : Option Y) (b : Bool) → b ≡ is_some o → b ≡ false → option_map f o ≡ q → q ≡ None
@@ -11,7 +13,7 @@ none_kept f (Some x) q b is off kept = absurd (cc)
 pub returns-then-are_same-clause-lacks : goal.returns-then-are_same-clause-lacks
 returns-then-are_same-clause-lacks c = record {
   square = arc_value c.in-Some.square.now;
-  there = sym c.in-Some.ensures.square;
+  there = subst (λ (t : ℤ). square_at c.args.table.now c.args.s t ≡ Some (arc_value c.in-Some.square.now)) (to_z-of_z w32 c.args.t c.ranges.t) (sym c.in-Some.ensures.square);
   bare =
       let here = ap (λ (x : Placed). x.quasi) c.deref.ensures in
       let none = none_kept _ c.kept_quasi.result _ c.is_some.result c.is_some.ensures c.if-is_some.false c.kept_quasi.ensures.kept in
