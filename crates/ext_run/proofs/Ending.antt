@@ -18,7 +18,7 @@ use Rattle.ext_run.specs.declared.task.Task.{Task}
 use Rattle.ext_run.specs.Devices.{Device, Store}
 use Rattle.ext_run.specs.Plan.{Reads, live_for}
 use Rattle.ext_run.specs.Answer.{IsAskedAnswer, IsTaskCause, IsTaskCauseFrom}
-use Rattle.ext_run.specs.Disks.{Outcome, IsUsable, IsCertified, HasSaved}
+use Rattle.ext_run.specs.Disks.{Outcome, IsUsable, IsCertified}
 use Rattle.ext_run.specs.Task.{HasItsAnswer, IsTaskFor}
 use Rattle.ext_run.specs.Work.{Told, HasAnswer, answer_of, HasWorked}
 use Rattle.ext_run.specs.Ending.{HasTold, HasGotWhole, HasGotPart}

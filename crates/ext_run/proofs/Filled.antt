@@ -1,8 +1,7 @@
 -- How a save file and its table fare when they get quasi-inverses.
-use Rattle.std.proofs.Common.{◌≡◌, ◌≢◌, ℕ, zero, suc, ◌<◌, ◌≤◌, ◌⊎◌, inl, inr, ℤ, pos, ◌+ℤ◌, Bool, true, false, nat_eq, ◌&&◌, List, [], ◌∷◌, length, map, take, Option, Some, None, Result, ap, sym, subst, ◌∙◌, refl, arith, append-nil}
+use Rattle.std.proofs.Common.{◌≡◌, ◌≢◌, ℕ, zero, suc, ◌<◌, ◌≤◌, ◌⊎◌, inl, inr, ℤ, pos, ◌+ℤ◌, List, [], ◌∷◌, length, take, Option, Some, None, Result, ap, sym, subst, ◌∙◌, refl, arith, append-nil}
 use Rattle.std.specs.Prelude.{Ok, Err, OnOk, IfSome, IsSome, slice_get}
 use Rattle.std.specs.Option.{option_map, option_and_then}
-use Rattle.std.specs.List.{All, AllPairs}
 use Rattle.std.proofs.lemmas.Bool.Decides.{eqb_tells}
 use Rattle.std.proofs.lemmas.Int.{ints}
 use Rattle.std.proofs.lemmas.Option.{same_Some}
@@ -33,7 +32,7 @@ use Rattle.save_file.proofs.Keeping.{quasi_once}
 use Rattle.save_file.proofs.Pushing.{quasi_given, quasi_stays, kept_given, AllRead-given}
 use Rattle.ext_run.specs.Devices.{Store}
 use Rattle.ext_run.specs.Saving.{kept_of}
-use Rattle.ext_run.specs.Migrating.{Added, IsAddedBefore, with_added, KeepsAmid, KeepsAtPart, KeepsOn}
+use Rattle.ext_run.specs.Migrating.{Added, IsAddedBefore, KeepsOn}
 use Rattle.ext_run.specs.Inside.Adding.{IsFileOf, HasAdded, HasFilled}
 use Rattle.ext_run.proofs.Lasting.{at_some, AreDisks}
 use Rattle.ext_run.proofs.Filling.{neither_given, kernel_at, none_added, weaker_added, weaker_given, then_added, then_given}

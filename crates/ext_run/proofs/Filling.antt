@@ -1,36 +1,35 @@
 -- How a save file and its table get quasi-inverses, one after the other.
-use Rattle.std.proofs.Common.{◌≡◌, ◌≢◌, ℕ, zero, suc, ◌<◌, ◌≤◌, ◌⊎◌, inl, inr, ℤ, pos, ◌+ℤ◌, Bool, true, false, List, [], ◌∷◌, ◌++◌, length, map, take, Option, Some, None, Result, ap, sym, subst, ◌∙◌, refl, arith, append-nil, append_assoc}
-use Rattle.std.specs.Prelude.{Ok, Err, OnOk, IfSome, IsSome, slice_get}
-use Rattle.std.specs.Option.{option_map, option_and_then}
+use Rattle.std.proofs.Common.{◌≡◌, ℕ, suc, ◌<◌, ◌⊎◌, inl, inr, List, [], ◌∷◌, ◌++◌, length, take, Option, Some, None, Result, ap, sym, subst, ◌∙◌, refl, arith, append_assoc}
+use Rattle.std.specs.Prelude.{Ok, IfSome, IsSome}
+use Rattle.std.specs.Option.{option_map}
 use Rattle.std.specs.List.{All, AllPairs}
 use Rattle.std.proofs.lemmas.Bool.{cases_lt}
 use Rattle.std.proofs.lemmas.List.{take_all}
-use Rattle.std.proofs.lemmas.List.Elements.{All-nil, All-cons, All-append, All-weaker}
+use Rattle.std.proofs.lemmas.List.Elements.{All-nil, All-append, All-weaker}
 use Rattle.edge.specs.Disk.{LeavesOnly, HavePast}
 use Rattle.edge.proofs.Moments.{Lawful, started, weaker, then_on, past_then}
 use Rattle.f2_matrix.proofs.Unique.{kernel_basis_unique}
 use Rattle.f2_matrix.specs.Reduction.{Reduction}
 use Rattle.finite_module.specs.Checked.{Checked}
 use Rattle.finite_module.specs.Module.{Module as SteenrodModule}
-use Rattle.resolution_laws.specs.Resolution.{Module, Content, row_of, below_of, IsStep}
+use Rattle.resolution_laws.specs.Resolution.{Content, row_of, below_of, IsStep}
 use Rattle.resolution_laws.specs.Start.{Entry, IsOf, IsCanonicalStart, squares_below, row_below}
 use Rattle.resolution_laws.proofs.StartLaws.{canonical_content, content_is_unique, IsOf-over, squares_below-same, row_below-same}
 use Rattle.resolution_step.proofs.Orders.{AllPairs-nil, AllPairs-append}
-use Rattle.square.specs.declared.keep.KeepFault.{KeepFault}
 use Rattle.square.specs.Squares.{IsQuasi, over}
 use Rattle.square.specs.Tables.{Staircase, row_in, plain_rows, content_at, IsTable}
 use Rattle.square.proofs.Footings.{kernel_of_reduction}
 use Rattle.square.proofs.Places.{table_content, table_before, table_below}
-use Rattle.save_journal.specs.Records.{Records, records_of}
+use Rattle.save_journal.specs.Records.{Records}
 use Rattle.save_journal.specs.Journals.{IsSettled, ComeFromEarlier}
-use Rattle.save_file.specs.Bodies.{Kept, entries, with_quasi_at}
-use Rattle.save_file.specs.Reading.{squares_alone, kept_of_bodies}
-use Rattle.save_file.specs.Files.{digest_of, standing_of, of_squares, of_records, first_records, kept_list, kept_by, first_kept}
-use Rattle.save_file.specs.Saving.{SaveState, HasSquares, TakesSquares, kept_in, quasis_in}
+use Rattle.save_file.specs.Bodies.{Kept, entries}
+use Rattle.save_file.specs.Reading.{squares_alone}
+use Rattle.save_file.specs.Files.{standing_of, of_squares, of_records, first_records, kept_list, kept_by, first_kept}
+use Rattle.save_file.specs.Saving.{SaveState, HasSquares, TakesSquares, quasis_in}
 use Rattle.ext_run.specs.Devices.{Store}
 use Rattle.ext_run.specs.Saving.{kept_of}
 use Rattle.ext_run.specs.Migrating.{Added, IsAddedBefore, with_added, Keeps, KeepsAmid, KeepsAtPart, KeepsOn}
-use Rattle.ext_run.specs.Inside.Adding.{IsFileOf, LeavesOf, HasAdded, HasFilled}
+use Rattle.ext_run.specs.Inside.Adding.{LeavesOf, HasAdded}
 use Rattle.ext_run.proofs.Added.{with_added-append}
 use Rattle.ext_run.proofs.Lasting.{at_some, AreDisks}
 

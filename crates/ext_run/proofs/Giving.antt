@@ -1,18 +1,15 @@
 -- A save file gets the quasi-inverse of one square, which it has without one.
-use Rattle.std.proofs.Common.{◌≡◌, ◌≢◌, ℕ, ◌<◌, ◌≤◌, ◌⊎◌, inl, inr, ℤ, pos, ◌+ℤ◌, Bool, true, false, nat_eq, ◌&&◌, if◌then◌else◌, List, [], ◌∷◌, ◌++◌, length, map, Option, Some, None, Result, ap, sym, subst, ◌∙◌, refl, arith, append-nil}
-use Rattle.std.specs.Prelude.{Ok, Err, IfSome}
+use Rattle.std.proofs.Common.{◌≡◌, ℕ, ◌<◌, ◌≤◌, ◌⊎◌, inl, inr, ℤ, pos, ◌+ℤ◌, true, nat_eq, List, [], ◌∷◌, length, Some, None, Result, ap, sym, subst, ◌∙◌, refl, arith}
+use Rattle.std.specs.Prelude.{Ok, Err}
 use Rattle.std.specs.Option.{option_map}
 use Rattle.std.proofs.lemmas.Bool.{cases_lt, and_parts, eqb-true}
 use Rattle.std.proofs.lemmas.Int.{ints}
 use Rattle.std.proofs.lemmas.Option.{same_Some}
-use Rattle.std.proofs.lemmas.List.Elements.{All-nil, All-cons}
 use Rattle.edge.specs.Disk.{LeavesOnly, HavePast}
 use Rattle.f2_matrix.specs.Reduction.{Reduction}
 use Rattle.finite_module.specs.Module.{Module as SteenrodModule}
 use Rattle.resolution_laws.specs.Resolution.{Module}
 use Rattle.resolution_laws.specs.Start.{Entry}
-use Rattle.resolution_step.proofs.Orders.{AllPairs-nil}
-use Rattle.std.proofs.lemmas.List.Kept.{AllPairs-cons}
 use Rattle.square.specs.Squares.{module_over, bottom_of}
 use Rattle.square.specs.Tables.{Staircase, IsQuasiAt}
 use Rattle.save_journal.specs.Records.{Records, records_of}
@@ -20,12 +17,11 @@ use Rattle.save_journal.specs.Journals.{ComeFromEarlier}
 use Rattle.save_file.specs.Bodies.{Kept, entries, is_at, kept_at, given_quasi, with_quasi_at}
 use Rattle.save_file.specs.Reading.{squares_alone, kept_of_bodies}
 use Rattle.save_file.specs.Files.{digest_of, standing_of, of_squares, of_records, kept_list, kept_by}
-use Rattle.save_file.specs.Saving.{SaveState, TakesSquares, kept_in, quasis_in, IsKeptBare, HasQuasiOrNot}
+use Rattle.save_file.specs.Saving.{SaveState, IsKeptBare, HasQuasiOrNot}
 use Rattle.save_file.proofs.Keeping.{quasi_once}
 use Rattle.ext_run.specs.Devices.{Store}
 use Rattle.ext_run.specs.Saving.{kept_of}
-use Rattle.ext_run.specs.Migrating.{Added, IsAddedBefore, with_added, Keeps, KeepsAmid, KeepsAtPart, HasQuasi, KeepsOn}
-use Rattle.ext_run.specs.Inside.Adding.{HasAdded}
+use Rattle.ext_run.specs.Migrating.{Added, Keeps, KeepsAmid, KeepsAtPart, KeepsOn}
 use Rattle.ext_run.proofs.Lasting.{AreDisks}
 use Rattle.ext_run.proofs.Added.{one_added, longer_given, found_given, place_is, quasi_given_is, quasi_stays_given}
 

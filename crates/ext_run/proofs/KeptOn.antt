@@ -2,7 +2,6 @@
 use Rattle.std.proofs.Common.{◌≡◌, ◌≢◌, ℕ, ◌<◌, ◌≤◌, ◌⊎◌, inl, inr, List, [], ◌∷◌, ◌++◌, map, Option, Some, None, ap, sym, subst, ◌∙◌, refl, arith, append-nil}
 use Rattle.std.specs.Prelude.{Ok, Err, IfErr, IfSome, IsSome}
 use Rattle.std.specs.Option.{option_map}
-use Rattle.std.specs.List.{All, AllPairs}
 use Rattle.edge.specs.Faults.{HasRisen}
 use Rattle.edge.specs.Disk.{LeavesOnly}
 use Rattle.finite_module.specs.Checked.{Checked}
@@ -23,7 +22,6 @@ use Rattle.save_file.specs.declared.fault.ResumeFault.{ResumeFault}
 use Rattle.save_file.specs.declared.fault.ResumeFault.TheVariants.{Open, Strange, Memory as OutOfMemory}
 use Rattle.ext_report.specs.declared.failure.Failure.{Failure}
 use Rattle.ext_report.specs.declared.failure.Failure.TheVariants.{Saving, SaveFile, Certificate, Memory}
-use Rattle.ext_run.specs.declared.plan.Form.{Form}
 use Rattle.ext_run.specs.declared.task.Task.{Task}
 use Rattle.ext_run.specs.declared.task.Task.TheVariants.{Text, Resolution, Migration, Verification}
 use Rattle.ext_run.specs.declared.task.Resolution.{Resolution as ToResolve}
@@ -32,8 +30,8 @@ use Rattle.ext_run.specs.Forms.{IsInForm}
 use Rattle.ext_run.specs.Devices.{Store}
 use Rattle.ext_run.specs.Plan.{Use, keeping, migrating, verifying}
 use Rattle.ext_run.specs.Saving.{AreCanonical, StandsWith, StandsAsOneOf, IsOurs, MayBeLeft, IsUnwritten, HasLasted}
-use Rattle.ext_run.specs.Migrating.{IsAddedBefore, KeepsOn, HasMigrated}
-use Rattle.ext_run.specs.Certificates.{IsNoCertificate, HasVerified}
+use Rattle.ext_run.specs.Migrating.{KeepsOn, HasMigrated}
+use Rattle.ext_run.specs.Certificates.{IsNoCertificate}
 use Rattle.ext_run.specs.Disks.{IsFitFor, HasServed}
 use Rattle.ext_run.specs.Task.{IsDoneBy}
 use Rattle.ext_run.specs.Work.{Told, HasAnswer, answer_of, IsRefusalIn, IsTaskRefusal, IsFileRefusal, IsCertificateRefusal, HasContinued, HasUsed}

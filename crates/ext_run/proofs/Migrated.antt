@@ -6,9 +6,7 @@ use Rattle.std.specs.List.{All}
 use Rattle.std.proofs.lemmas.Bool.{eq-eqb}
 use Rattle.std.proofs.lemmas.List.Elements.{All-nil, All-cons, All-head, All-tail, All-weaker}
 use Rattle.edge.specs.Disk.{LeavesOnly}
-use Rattle.edge.specs.Faults.{HasRisen}
 use Rattle.finite_module.specs.Checked.{Checked}
-use Rattle.resolution_laws.specs.Resolution.{Content}
 use Rattle.resolution_laws.specs.Start.{Entry, entry_at, IsCanonicalStart}
 use Rattle.square.specs.declared.keep.KeepFault.{KeepFault}
 use Rattle.square.specs.declared.keep.KeepFault.TheVariants.{Failed, Memory as NoSpace}

@@ -1,6 +1,6 @@
 -- What a run left stands for squares of the module, and what is asked names one module of an input.
-use Rattle.std.proofs.Common.{◌≡◌, ℕ, ◌≤◌, inl, inr, List, [], ◌∷◌, ◌++◌, Bool, true, false, length, take, drop, ap, sym, subst, refl, ◌∙◌, arith, append-nil}
-use Rattle.std.specs.Prelude.{cond, if◌then◌else◌, Option, Some, None, IsSome, Ok}
+use Rattle.std.proofs.Common.{◌≡◌, ℕ, ◌≤◌, inl, inr, List, [], ◌++◌, length, take, drop, ap, sym, subst, refl, ◌∙◌, arith, append-nil}
+use Rattle.std.specs.Prelude.{cond, Option, Some, IsSome, Ok}
 use Rattle.std.proofs.lemmas.Bool.{le-leb}
 use Rattle.std.proofs.lemmas.List.Elements.{All-nil}
 use Rattle.finite_module.specs.Module.{Module as SteenrodModule}
@@ -17,8 +17,7 @@ use Rattle.ext_run.specs.Devices.{Store}
 use Rattle.ext_run.specs.Plan.{Use, keeping, migrating, verifying, IsModuleFor, use_for}
 use Rattle.ext_run.specs.Saving.{AreCanonical, StandsWith, IsOurs, MayBeLeft, HasLasted}
 use Rattle.ext_run.specs.Migrating.{HasMigrated}
-use Rattle.ext_run.specs.Certificates.{HasVerified}
-use Rattle.ext_run.specs.Disks.{Outcome, IsFitFor, IsUsable, HasSaved}
+use Rattle.ext_run.specs.Disks.{Outcome, IsFitFor, HasSaved}
 use Rattle.ext_run.specs.NextRun.{IsFoundWith, NextRunMayUse, ShortDiskIsOurs}
 use Rattle.ext_run.proofs.Added.{same_entries}
 use Rattle.ext_run.proofs.Tasks.{module_same}

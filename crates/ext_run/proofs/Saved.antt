@@ -1,9 +1,8 @@
 -- What becomes of the disk of a run, by how the run ends.
-use Rattle.std.proofs.Common.{◌≡◌, ◌≢◌, ◌∙◌, ℕ, ◌<◌, ◌≤◌, ◌⊎◌, inl, inr, List, [], ◌++◌, length, Bool, true, false, Option, Some, None, refl, sym, subst, ap, arith}
+use Rattle.std.proofs.Common.{◌≡◌, ◌≢◌, ◌∙◌, ℕ, ◌⊎◌, inl, inr, List, ◌++◌, Bool, true, false, Option, Some, None, refl, sym, subst, ap, arith}
 use Rattle.std.specs.declared.alloc.Global.{Global}
-use Rattle.std.specs.Prelude.{Vec, Result, Ok, Err, IfErr, IfSome, IsSome}
+use Rattle.std.specs.Prelude.{Vec, Ok, Err, IfErr, IfSome, IsSome}
 use Rattle.edge.specs.Disk.{LeavesOnly}
-use Rattle.edge.specs.Faults.{HasRisen}
 use Rattle.finite_module.specs.Module.{Module as SteenrodModule}
 use Rattle.resolution_laws.specs.Start.{Entry}
 use Rattle.square.specs.declared.range.Range.{Range}
@@ -23,10 +22,10 @@ use Rattle.ext_run.specs.declared.task.Resolution.{Resolution as ToResolve}
 use Rattle.ext_run.specs.Devices.{Store}
 use Rattle.ext_run.specs.Plan.{IsModuleFor, TellsFor, Use, keeping, migrating, verifying, use_where, use_for}
 use Rattle.ext_run.specs.Answer.{IsAskedAnswer, IsTaskCause}
-use Rattle.ext_run.specs.Saving.{StandsWith, StandsAsOneOf, IsOurs, MayBeLeft, IsUnwritten, HasLasted}
+use Rattle.ext_run.specs.Saving.{StandsAsOneOf, HasLasted}
 use Rattle.ext_run.specs.Migrating.{HasMigrated}
-use Rattle.ext_run.specs.Certificates.{IsCertificate, IsNoCertificate, HasVerified}
-use Rattle.ext_run.specs.Disks.{Outcome, IsOnDisk, IsRefused, IsUncertified, IsFitFor, IsUsable, IsCertified, IsEarly, IsAnswered, IsCutOff, HasSpared, HasServed, HasSaved}
+use Rattle.ext_run.specs.Certificates.{IsCertificate, IsNoCertificate}
+use Rattle.ext_run.specs.Disks.{Outcome, IsOnDisk, IsRefused, IsUncertified, IsFitFor, IsUsable, IsCertified, IsEarly, IsAnswered, IsCutOff, HasServed, HasSaved}
 use Rattle.ext_run.specs.Task.{IsDoneBy, IsTaskFor}
 use Rattle.ext_run.specs.Work.{Told, HasAnswer, answer_of, IsTaskRefusal, IsFileRefusal, IsCertificateRefusal, IsUnsaved, HasUsed, HasWorked}
 use Rattle.ext_run.specs.Run.{IsCause}
@@ -34,7 +33,7 @@ use Rattle.ext_run.proofs.Asked.{asked_told}
 use Rattle.ext_run.proofs.Certificates.{certificate_decided}
 use Rattle.ext_run.proofs.Tasks.{module_same, task_use, resolution_module, migration_module, verification_module, resolution_tells}
 use Rattle.ext_run.proofs.Lasting.{at_some, if_some, unwritten_same, AreDisks}
-use Rattle.ext_run.proofs.KeptOn.{IsToldBy, answer_unfailed, stood_of, served_nothing}
+use Rattle.ext_run.proofs.KeptOn.{IsToldBy, answer_unfailed, served_nothing}
 
 -- ---- failures of a task
 

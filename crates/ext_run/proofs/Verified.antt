@@ -1,6 +1,6 @@
 -- A save file that is verified, whoever left it.
-use Rattle.std.proofs.Common.{◌≡◌, ◌≢◌, ℕ, ◌≤◌, ◌⊎◌, inl, inr, List, ◌++◌, Option, Some, None, ap, sym, subst, ◌∙◌, refl, arith}
-use Rattle.std.specs.Prelude.{Ok, Err, IfOk, IfErr, OnOk, IfSome, IsSome}
+use Rattle.std.proofs.Common.{◌≡◌, ◌≢◌, ℕ, ◌⊎◌, inl, inr, List, ◌++◌, Option, Some, None, ap, sym, subst, ◌∙◌, refl, arith}
+use Rattle.std.specs.Prelude.{Ok, Err, IfOk, IfErr, OnOk, IfSome}
 use Rattle.std.specs.Option.{option_map}
 use Rattle.std.proofs.lemmas.Option.{slice_get_within}
 use Rattle.edge.specs.Disk.{LeavesOnly}

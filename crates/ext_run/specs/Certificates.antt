@@ -1,5 +1,5 @@
 -- Save files as certificates, and what becomes of one that is verified.
-use Rattle.std.specs.Prelude.{◌≡◌, ℕ, ◌⊎◌, List, Ok}
+use Rattle.std.specs.Prelude.{◌≡◌, ℕ, List, Ok}
 use Rattle.finite_module.specs.Module.{Module as SteenrodModule}
 use Rattle.square.specs.declared.range.Range.{Range}
 use Rattle.square.specs.Tables.{Staircase, AllRead, IsTable}

@@ -1,11 +1,10 @@
 -- How the quasi-inverses that a save file lacks are put behind its squares.
-use Rattle.std.specs.Prelude.{◌≡◌, ◌≢◌, ℕ, ◌≤◌, ◌<◌, List, [], length, Option, Some, IsSome, IfSome, Result, Err, OnOk}
+use Rattle.std.specs.Prelude.{◌≡◌, ◌≢◌, ℕ, ◌≤◌, ◌<◌, List, [], length, IsSome, IfSome, Result, Err, OnOk}
 use Rattle.std.specs.Option.{option_map}
 use Rattle.std.specs.List.{All, AllPairs}
 use Rattle.edge.specs.Disk.{LeavesOnly, HavePast}
 use Rattle.edge.specs.Faults.{HasRisen}
-use Rattle.f2_matrix.specs.Reduction.{Reduction}
-use Rattle.resolution_laws.specs.Start.{Entry, IsCanonicalStart}
+use Rattle.resolution_laws.specs.Start.{IsCanonicalStart}
 use Rattle.square.specs.declared.keep.KeepFault.{KeepFault}
 use Rattle.square.specs.declared.keep.KeepFault.TheVariants.{Failed, Memory}
 use Rattle.square.specs.Squares.{over}

@@ -1,4 +1,4 @@
-use Rattle.std.proofs.Common.{ℕ, ◌<◌, ◌≡◌}
+use Rattle.std.proofs.Common.{◌<◌, ◌≡◌}
 use Rattle.std.specs.Prelude.{Ok}
 use Rattle.ext_run.specs.Devices.{store_of}
 use Rattle.ext_run.specs.Inside.Adding.{HasFilled}
