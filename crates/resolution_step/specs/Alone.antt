@@ -43,6 +43,11 @@ pub record HasGiven (order : Entry → Entry → Type 0) (m : Module) (start : L
   pub ordered : AllPairs order given
   pub kept : HasKept m start old new given
 
+-- A keeper that is still live, and tells that it has kept no square more, is as it was before.
+abbrev pub IsUntouched : {K : Type 0} → (K → Keeper) → K → K → Type 0
+IsUntouched telling old new = (telling new).live → (list : List Entry) → (telling old).kept ≡ Some list →
+    (telling new).kept ≡ Some list → new ≡ old
+
 -- ---- a call that resolves a range
 
 -- The table was continued through the range and nowhere else, unless the result is an error. Its keeper was given the new squares

@@ -6,7 +6,7 @@ ghost use Rattle.square.specs.declared.range.TheConstants.{MAX_S, MAX_T};
 ghost use Rattle.square.specs.Squares.{over};
 ghost use Rattle.square.specs.Tables.{row_in, plain_rows, cut, IsThrough, IsNextAt};
 ghost use Rattle.square.specs.Keeping.{IsKeeperOf, HasFared};
-ghost use Rattle.resolution_step.specs.Alone.{AreOfStart, IsInRange, IsBefore, HasResolved};
+ghost use Rattle.resolution_step.specs.Alone.{AreOfStart, IsInRange, IsBefore, IsUntouched, HasResolved};
 ghost use Rattle.resolution_step.specs.Inside.Adding.{IsNewAt, IsEndOf, IsInRow, HasAdded};
 
 use crate::step_on::step;
@@ -31,8 +31,9 @@ pub fn resolve_alone<K: Keep>(
     requires degrees { range.t ≤ MAX_T }
     requires live { (K.telling keeper).live }
     requires of_table { IsKeeperOf (K.telling keeper) table }
-    ensures { HasResolved KeepFault.Failed KeepFault.Memory IsBefore range table result.0 (K.telling keeper)
+    ensures resolved { HasResolved KeepFault.Failed KeepFault.Memory IsBefore range table result.0 (K.telling keeper)
         (K.telling result.1) }
+    ensures untouched { IsUntouched K.telling keeper result.1 }
 {
     match add_rows(alloc, &mut table, range, &mut keeper) {
         Ok(()) => (Ok(table), keeper),
@@ -101,6 +102,7 @@ fn add_rows<K: Keep>(
     ensures keeper { HasFared KeepFault.Failed KeepFault.Memory (λ _. table.new) result (K.telling keeper.old)
         (K.telling keeper.new) }
     ensures added { HasAdded (IsInRange range) (K.telling keeper.old) (K.telling keeper.new) table.old table.new }
+    ensures untouched { IsUntouched K.telling keeper.old keeper.new }
 {
     for s in 0..range.s + 1 {
         add_row(alloc, table, s, range.t, keeper)?;
@@ -126,6 +128,7 @@ fn add_row<K: Keep>(
     ensures keeper { HasFared KeepFault.Failed KeepFault.Memory (λ _. table.new) result (K.telling keeper.old)
         (K.telling keeper.new) }
     ensures added { HasAdded (IsInRow s t) (K.telling keeper.old) (K.telling keeper.new) table.old table.new }
+    ensures untouched { IsUntouched K.telling keeper.old keeper.new }
 {
     let bottom = table.module().bottom();
     for k in table.front(s)..usize::from(t) + 1 {
@@ -151,6 +154,7 @@ fn add_square<K: Keep>(
     ensures keeper { HasFared KeepFault.Failed KeepFault.Memory (λ _. table.new) result (K.telling keeper.old)
         (K.telling keeper.new) }
     ensures added { HasAdded (IsEndOf table.old s) (K.telling keeper.old) (K.telling keeper.new) table.old table.new }
+    ensures untouched { IsUntouched K.telling keeper.old keeper.new }
 {
     let square = next_square(alloc, table, s, t)?;
     put(alloc, table, keeper, square)

@@ -6,6 +6,7 @@ use Rattle.square.specs.Tables.{row_in}
 use Rattle.resolution_step.specs.Inside.Adding.{IsEndOf, IsInRow}
 use Rattle.square.proofs.Growing.{length-IsMore}
 use Rattle.resolution_step.proofs.Progress.{HasAdded-start, HasAdded-weaker, HasAdded-then}
+use Rattle.resolution_step.proofs.Untouched.{untouched_same, untouched_then}
 use Rattle.square.proofs.Puts.{fared_at, fared_ok}
 use Rattle.resolution_step.proofs.alone.add_row.Goals as goal
 use Rattle.square.specs.Squares.{bottom_of}
@@ -25,6 +26,7 @@ loop-k-init g c =
       no_fault = refl;
       of_table = c.requires.of_table;
       added = HasAdded-start _ _ table (record { images = g.met.K.Keep.image_is_kept keeper c.requires.live; earlier = g.met.K.Keep.since_earlier keeper });
+      untouched = untouched_same g.K.Keep.telling keeper;
     }
 
 pub add_square-requires-clause-next : goal.add_square-requires-clause-next
@@ -61,6 +63,10 @@ returns-in_err-add_square-clause-added g c =
     (λ i j a b h e. inr (h.0 ∙ sym e.0, let l = h.1 in let f = e.1 in omega (arith, len)))
     _ _ _ c.args.table.now table c.add_square.new.table c.loop-k.invariant.added c.add_square.ensures.added
 
+pub returns-in_err-add_square-clause-untouched : goal.returns-in_err-add_square-clause-untouched
+returns-in_err-add_square-clause-untouched g c =
+    untouched_then g.K.Keep.telling _ _ _ _ _ _ _ _ c.loop-k.invariant.added c.add_square.ensures.added c.loop-k.invariant.untouched c.add_square.ensures.untouched
+
 pub loop-k-preserved : goal.loop-k-preserved
 loop-k-preserved g c =
     let before = c.loop-k.invariant in
@@ -83,6 +89,7 @@ loop-k-preserved g c =
           (λ i j h. (h.0, (let e = h.1 in omega (arith, len)), let e = h.1 in omega (arith, len)))
           (λ i j a b h e. inr (h.0 ∙ sym e.0, let l = h.1 in let f = e.1 in omega (arith, len)))
           _ _ _ c.args.table.now table c.add_square.new.table before.added c.add_square.ensures.added;
+      untouched = untouched_then g.K.Keep.telling _ _ _ _ _ _ _ _ before.added c.add_square.ensures.added before.untouched c.add_square.ensures.untouched;
     }
 
 pub returns-clause-keeper : goal.returns-clause-keeper

@@ -6,6 +6,7 @@ use Rattle.resolution_step.specs.Alone.{IsInRange}
 use Rattle.resolution_step.specs.Inside.Adding.{IsInRow}
 use Rattle.square.proofs.Growing.{length-IsMore}
 use Rattle.resolution_step.proofs.Progress.{HasAdded-start, HasAdded-weaker, HasAdded-then}
+use Rattle.resolution_step.proofs.Untouched.{untouched_same, untouched_then}
 use Rattle.square.proofs.Puts.{fared_at, fared_ok}
 use Rattle.resolution_step.proofs.alone.add_rows.Goals as goal
 
@@ -23,6 +24,7 @@ loop-s-init g c =
       no_fault = refl;
       of_table = c.requires.of_table;
       added = HasAdded-start _ _ c.args.table.now (record { images = g.met.K.Keep.image_is_kept keeper c.requires.live; earlier = g.met.K.Keep.since_earlier keeper });
+      untouched = untouched_same g.K.Keep.telling keeper;
     }
 
 pub returns-in_err-add_row-clause-added : goal.returns-in_err-add_row-clause-added
@@ -35,6 +37,10 @@ returns-in_err-add_row-clause-added g c =
     (λ i j h. ((let e = h.0 in omega arith), h.1))
     (λ i j a b h e. inl (let l = h.0 in let f = e.0 in omega arith))
     _ _ _ c.args.table.now c.loop-s.table c.add_row.new.table c.loop-s.invariant.added c.add_row.ensures.added
+
+pub returns-in_err-add_row-clause-untouched : goal.returns-in_err-add_row-clause-untouched
+returns-in_err-add_row-clause-untouched g c =
+    untouched_then g.K.Keep.telling _ _ _ _ _ _ _ _ c.loop-s.invariant.added c.add_row.ensures.added c.loop-s.invariant.untouched c.add_row.ensures.untouched
 
 pub loop-s-preserved : goal.loop-s-preserved
 loop-s-preserved g c =
@@ -61,6 +67,7 @@ loop-s-preserved g c =
           (λ i j h. ((let e = h.0 in omega arith), ((let e = h.0 in omega arith), h.1)))
           (λ i j a b h e. inl (let l = h.0 in let f = e.0 in omega arith))
           _ _ _ c.args.table.now c.loop-s.table new before.added c.add_row.ensures.added;
+      untouched = untouched_then g.K.Keep.telling _ _ _ _ _ _ _ _ before.added c.add_row.ensures.added before.untouched c.add_row.ensures.untouched;
     }
 
 pub returns-clause-keeper : goal.returns-clause-keeper

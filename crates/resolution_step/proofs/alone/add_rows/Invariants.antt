@@ -1,7 +1,7 @@
 use Rattle.std.proofs.Common.{◌≡◌, ◌<◌, ℕ, length}
 use Rattle.square.specs.Tables.{row_in}
 use Rattle.square.specs.Keeping.{IsKeeperOf}
-use Rattle.resolution_step.specs.Alone.{AreOfStart, IsInRange}
+use Rattle.resolution_step.specs.Alone.{AreOfStart, IsInRange, IsUntouched}
 use Rattle.resolution_step.specs.Inside.Adding.{HasAdded}
 use Rattle.resolution_step.proofs.alone.add_rows.Given as goal
 
@@ -13,4 +13,5 @@ invariant-loop-s g l = record {
   no_fault : (g.K.Keep.telling l.keeper).faults ≡ (g.K.Keep.telling l.fn.keeper).faults;
   of_table : IsKeeperOf (g.K.Keep.telling l.keeper) l.table;
   added : HasAdded (λ i k. (i < l.s) × IsInRange l.range i k) (g.K.Keep.telling l.fn.keeper) (g.K.Keep.telling l.keeper) l.fn.table l.table;
+  untouched : IsUntouched g.K.Keep.telling l.fn.keeper l.keeper;
 }

@@ -4,8 +4,8 @@ use Rattle.square.proofs.Puts.{fared_at, fared_err, fared_ok}
 use Rattle.resolution_step.proofs.Canonical.{IsCanonicalTable-cut}
 use Rattle.resolution_step.proofs.alone.resolve_alone.Goals as goal
 
-pub returns-in-Ok : goal.returns-in-Ok
-returns-in-Ok g c =
+pub returns-in-Ok-clause-resolved : goal.returns-in-Ok-clause-resolved
+returns-in-Ok-clause-resolved g c =
     let added = c.add_rows.ensures.added in
     let made = c.in-Ok.ensures in
     let fared = fared_at _ _ _ c.add_rows.result _ _ _ c.in-Ok.is c.add_rows.ensures.keeper in
@@ -19,8 +19,8 @@ returns-in-Ok g c =
       given = added.given;
     }
 
-pub returns-in-Err : goal.returns-in-Err
-returns-in-Err g c = record {
+pub returns-in-Err-clause-resolved : goal.returns-in-Err-clause-resolved
+returns-in-Err-clause-resolved g c = record {
   through = tt;
   only = tt;
   grown = tt;
