@@ -29,7 +29,7 @@ use Rattle.square.proofs.Pushing.{row_in-same, row_in-other}
 use Rattle.square_board.specs.declared.opening.Opening.{Opening}
 use Rattle.square_board.specs.Courses.{Course, state_of, with_event}
 use Rattle.square_board.specs.Openings.{first_table, bottom_of, module_of, low_of, course_of, ListsSquares}
-use Rattle.square_board.specs.Desks.{has_fail, HasKeptGiven, IsAsWell, IsDesk}
+use Rattle.square_board.specs.Desks.{has_fail, HasKeptGiven, IsAsWell, IsAsOpened, IsDesk}
 use Rattle.square.specs.Keeping.{HaveSameSquares, HasPut}
 use Rattle.square_board.proofs.Courses.{state_of-then, legal-then}
 use Rattle.square_board.proofs.Failing.{none_fails}
@@ -74,6 +74,22 @@ fail-then (Take who s t snapshot ∷ events) event = fail-then events event
 fail-then (Give who s t ∷ events) event = fail-then events event
 fail-then (Back who s t ∷ events) event = fail-then events event
 fail-then (Fail who s t ∷ events) event = refl
+
+-- ---- the keeper, as long as it was given nothing
+
+module _ {K : Type 0} (opening : Opening K) (events : List Event) where
+  pub as_opened_then : (event : Event) (keeper : K) → given (event ∷ []) ≡ [] → has_fail (event ∷ []) ≡ false → IsAsOpened opening events keeper → IsAsOpened opening (events ++ event ∷ []) keeper
+  as_opened_then event keeper no_give no_fail as_before none well =
+      let given_before : given events ++ [] ≡ [] = sym (given-then events event ∙ ap (λ (l : List (ℕ × ℤ)). given events ++ l) no_give) ∙ none in
+      let well_before : (has_fail events || false) ≡ false = sym (fail-then events event ∙ ap (λ (b : Bool). has_fail events || b) no_fail) ∙ well in
+      as_before (sym (append-nil (given events)) ∙ given_before) (sym (or-false (has_fail events)) ∙ well_before)
+
+  -- behind a Give, and behind a Fail, it need not be
+  pub as_opened_given : (who s : ℕ) (t : ℤ) (keeper : K) → IsAsOpened opening (events ++ Give who s t ∷ []) keeper
+  as_opened_given who s t keeper none well = absurd (let long = length_push (given events) (s, t) in let all = ap (λ (l : List (ℕ × ℤ)). length l) (sym (given-then events (Give who s t)) ∙ none) in omega arith)
+
+  pub as_opened_failed : (who s : ℕ) (t : ℤ) (keeper : K) → IsAsOpened opening (events ++ Fail who s t ∷ []) keeper
+  as_opened_failed who s t keeper none well = absurd (let failed = fail-then events (Fail who s t) ∙ or-true (has_fail events) in cc)
 
 -- no event but a Give changes what is done
 done-other : (state : State) (event : Event) → given (event ∷ []) ≡ [] → (after state event).done ≡ state.done

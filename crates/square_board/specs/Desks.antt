@@ -86,6 +86,10 @@ pub record IsAsWell (before now : Keeper) (events : List Event) : Type 0 where
   pub risen : has_fail events ≡ true → HasRisen before.faults now.faults
   pub dead : has_fail events ≡ true → now.live → ⊥
 
+-- The keeper is as it was at the opening, as long as no event gives a square and none is a Fail.
+abbrev pub IsAsOpened : {K : Type 0} → Opening K → List Event → K → Type 0
+IsAsOpened opening events keeper = given events ≡ [] → has_fail events ≡ false → keeper ≡ opening.keeper.value
+
 -- What is so of each desk. The machine accepted the events of its course, one after another. The table has just the squares that are done,
 -- and it continues that of the opening. The keeper is that of the table, and was given what the events give.
 pub record IsDesk {K : Type 0} (before now : Keeper) (opening : Opening K) (course : Course) (table : Staircase)

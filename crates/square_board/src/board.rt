@@ -14,7 +14,7 @@ ghost use Rattle.square_board.specs.declared.job.Taken.TheVariants.{Idle, Over, 
 ghost use Rattle.square_board.specs.Courses.{numbered, events_of};
 ghost use Rattle.square_board.specs.Jobs.{degree_of};
 ghost use Rattle.square_board.specs.Openings.{IsOpenedWith, bottom_of, course_of, front_after};
-ghost use Rattle.square_board.specs.Desks.{IsDesk, IsOver, IsIdle, IsMadeFrom, IsJobOf, MatchTaken};
+ghost use Rattle.square_board.specs.Desks.{IsDesk, IsAsOpened, IsOver, IsIdle, IsMadeFrom, IsJobOf, MatchTaken};
 ghost use Rattle.square_board.specs.Boards.{IsPassOf, IsSamePass, HasTurned, HasTakenJob, StoodBefore, IsSquareAt, AreFalling, entry_of_give, state_seen};
 
 use crate::desk::Desk;
@@ -273,6 +273,7 @@ impl<K: Keep> Board<K> {
         ensures history { numbered result.2.items ≡ pass.seen }
         ensures is_desk { IsDesk (K.telling self.name.keeper.value) (K.telling result.1) self.name
             (course_of self.name result.2.items) result.0 }
+        ensures as_opened { IsAsOpened self.name result.2.items result.1 }
         ensures fronts { All (λ t. t.1 ≤ front_after self.name result.2.items t.0) pass.told }
     {
         let Board { turn } = self;

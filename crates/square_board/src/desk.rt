@@ -17,7 +17,7 @@ ghost use Rattle.square_board.specs.declared.job.GiveFault.TheVariants.{Failed, 
 ghost use Rattle.square_board.specs.declared.job.Taken.TheVariants.{Job as AJob, Idle, Over, Stopped};
 ghost use Rattle.square_board.specs.Courses.{state_of, with_event, numbered, events_of};
 ghost use Rattle.square_board.specs.Openings.{IsOpenedWith, front_after};
-ghost use Rattle.square_board.specs.Desks.{DeskState, IsDesk, IsOver, IsIdle, IsJobOf, IsMadeFrom, MatchTaken, HasTaken, IsDeskState, having_entered};
+ghost use Rattle.square_board.specs.Desks.{DeskState, IsDesk, IsOver, IsIdle, IsJobOf, IsMadeFrom, MatchTaken, HasTaken, IsAsOpened, IsDeskState, having_entered};
 ghost use Rattle.square_board.specs.Jobs.{degree_of};
 ghost use Rattle.square_board.specs.Boards.{entry_of_give};
 
@@ -44,14 +44,14 @@ pub struct Desk<K: Keep> {
 }
 
 impl<K: Keep> Model for Desk<K> {
-    ghost use Rattle.square_board.specs.Desks.{DeskState, IsDesk};
+    ghost use Rattle.square_board.specs.Desks.{DeskState, IsDesk, IsAsOpened};
 
     ghost Value = { DeskState K };
 
     ghost view = { λ d. record { opening = d.opening; course = d.schedule; table = d.table; keeper = d.keeper } };
 
-    ghost invariant = { λ d. IsDesk (K.telling d.opening.keeper.value) (K.telling d.keeper) d.opening d.schedule
-        d.table };
+    ghost invariant = { λ d. IsDesk (K.telling d.opening.keeper.value) (K.telling d.keeper) d.opening d.schedule d.table
+        × IsAsOpened d.opening d.schedule.history d.keeper };
 }
 
 impl<K: Keep> Desk<K> {
@@ -257,6 +257,7 @@ impl<K: Keep> Desk<K> {
         ensures keeper { result.1 ≡ self.keeper }
         ensures history { result.2.items ≡ self.course.history }
         ensures is_desk { IsDeskState K.telling self }
+        ensures as_opened { IsAsOpened self.opening self.course.history self.keeper }
     {
         let Desk {
             schedule,

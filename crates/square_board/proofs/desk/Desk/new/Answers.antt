@@ -28,4 +28,4 @@ invariant_of-result g c =
     let base : IsDesk keeper keeper opening c.in-Ok-new.schedule c.args.table = desk_opened keeper opening c.in-Ok-new.schedule c.args.table table_is course c.requires.rows c.requires.degrees
     (subst (λ (l : List (ℕ × ℤ)). ListsSquares (low_of c.args.table) l c.args.table.rows) (sym (c.of-3.ensures ∙ c.as_slice-2.ensures.value)) c.in-Ok.ensures.listed)
     c.in-Ok.ensures.is_table settled c.requires.live c.requires.of_table in
-    subst (λ (k : g.row.K.Denot). IsDesk (telling k) keeper opening c.in-Ok-new.schedule c.args.table) (sym same) base
+    (subst (λ (k : g.row.K.Denot). IsDesk (telling k) keeper opening c.in-Ok-new.schedule c.args.table) (sym same) base, λ _ _. sym same)

@@ -11,14 +11,14 @@ pub returns-clause-row : goal.returns-clause-row
 returns-clause-row g c =
     let inside = c.self.inside in
     let course : inside.schedule ≡ c.args.self.now.course = ap (λ (d : DeskState g.row.K.Denot). d.course) c.self.view_is in
-    subst (λ (x : Course). IsRowNumber (state_of x).done c.args.s c.front-2.result) course (row_number _ _ _ _ _ c.self.invariant c.args.s c.front-2.result c.front-2.ensures.front)
+    subst (λ (x : Course). IsRowNumber (state_of x).done c.args.s c.front-2.result) course (row_number _ _ _ _ _ c.self.invariant.0 c.args.s c.front-2.result c.front-2.ensures.front)
 
 pub returns-clause-below : goal.returns-clause-below
 returns-clause-below g c =
     let inside = c.self.inside in
     let course : inside.schedule ≡ c.args.self.now.course = ap (λ (d : DeskState g.row.K.Denot). d.course) c.self.view_is in
     let below : IsRowNumberBelow (state_of inside.schedule).done c.args.s c.if-s-eq0.below =
-    row_number_below _ _ _ _ _ c.self.invariant c.args.s c.if-s-eq0.below
+    row_number_below _ _ _ _ _ c.self.invariant.0 c.args.s c.if-s-eq0.below
     (λ zero. elim c.if-s-eq0.branch [ then-s-eq0 w ↦ w.below-is | else-s-eq0 w ↦ absurd (w.if-s-eq0.false zero) ])
     (λ i next. elim c.if-s-eq0.branch [
       | then-s-eq0 w ↦ let zero = w.if-s-eq0.true in absurd (omega arith)

@@ -13,7 +13,7 @@ returns-then-front-from g c =
     let front = c.front.ensures.front in
     let from = c.from.ensures in
     let test : c.from.result < c.front.result = c.if-front-from.true in
-    let all = all_done _ _ _ _ _ c.self.invariant c.front.ensures.is_table (omega arith) in
+    let all = all_done _ _ _ _ _ c.self.invariant.0 c.front.ensures.is_table (omega arith) in
     record { idle = inr (refl, subst (λ (x : Course). (s k : ℕ) → IsInRange (state_of x) s k → (state_of x).done s k ≡ true) course all) }
 
 pub returns-else-front-from : goal.returns-else-front-from
@@ -23,5 +23,5 @@ returns-else-front-from g c =
     let front = c.front.ensures.front in
     let from = c.from.ensures in
     let test : c.front.result ≤ c.from.result = c.if-front-from.false in
-    let some = last_unfinished _ _ _ _ _ c.self.invariant (omega arith) in
+    let some = last_unfinished _ _ _ _ _ c.self.invariant.0 (omega arith) in
     record { idle = inl (refl, subst (λ (x : Course). HasUnfinished (state_of x)) course some) }
