@@ -1,10 +1,10 @@
 -- What a board that was closed came to, in the words of the table, the range and the keeper that it was made with.
-use Rattle.std.proofs.Common.{◌≡◌, ◌≢◌, ℕ, ℤ, pos, ◌+ℤ◌, true, ◌&&◌, nat_eq, nat_lt, List, ◌++◌, length, get_or, Option, Some, None, Result, Ok, Err, IfOk, IfErr, sym, ◌∙◌, ap, ap₂, subst, refl, arith, inl, inr}
+use Rattle.std.proofs.Common.{◌≡◌, ◌≢◌, ℕ, ℤ, pos, ◌+ℤ◌, Bool, true, false, ◌&&◌, nat_eq, nat_lt, List, [], ◌++◌, length, get_or, Option, Some, None, Result, Ok, Err, IfOk, IfErr, sym, ◌∙◌, ap, ap₂, subst, refl, arith, inl, inr}
 use Rattle.std.specs.List.{All, AllPairs, list_any}
 use Rattle.std.specs.Result.{OnOk}
 use Rattle.std.proofs.Math.ListN.{get_or-map}
 use Rattle.std.proofs.lemmas.Bool.Decides.{nat_tests}
-use Rattle.std.proofs.lemmas.List.{length-map}
+use Rattle.std.proofs.lemmas.List.{length-map, length-append, nil_from_length}
 use Rattle.std.proofs.lemmas.List.Folds.{list_any-append, Any-from_list_any}
 use Rattle.edge.specs.Faults.{HasRisen}
 use Rattle.degrees.specs.Above.{above_of}
@@ -21,14 +21,14 @@ use Rattle.resolution_laws.specs.Start.{Entry}
 use Rattle.square.specs.declared.range.Range.{Range}
 use Rattle.square.specs.Squares.{over}
 use Rattle.square.specs.Tables.{Staircase, IsTable, IsThrough, row_in}
-use Rattle.square.specs.Keeping.{Keeper, HasFared}
+use Rattle.square.specs.Keeping.{Keeper, with_squares, HasFared}
 use Rattle.square.proofs.Puts.{fared_ok}
-use Rattle.resolution_step.specs.Alone.{AreNewAt, IsInRange, AreApart, HasGiven, HasResolved}
+use Rattle.resolution_step.specs.Alone.{AreNewAt, IsInRange, AreApart, HasGiven, IsUntouched, HasResolved}
 use Rattle.resolution_step.proofs.Canonical.{IsCanonicalTable-cut}
 use Rattle.square_board.specs.declared.opening.Opening.{Opening}
 use Rattle.square_board.specs.Courses.{state_of}
 use Rattle.square_board.specs.Openings.{first_table, bottom_of, course_of}
-use Rattle.square_board.specs.Desks.{IsDesk}
+use Rattle.square_board.specs.Desks.{has_fail, IsDesk, IsAsOpened}
 use Rattle.square_board.proofs.Failing.{none_fails, one_fails, back_stops}
 use Rattle.square_worker.specs.Inside.Outcomes.{IsWhy}
 
@@ -123,6 +123,22 @@ module _ {K : Type 0} (telling : K → Keeper) (opening : Opening K) (last : K) 
 
   once : HasGiven AreApart (over table.resolved) table.start (IsInRange range) before now
   once = let kept = desk.given in record { given = kept.squares; places = given_in kept.squares kept.places_are; ordered = given_apart_at kept.squares kept.places_are; kept = kept.kept }
+
+  -- ---- the keeper, where it was given nothing
+
+  no_fail : (fails : Bool) → has_fail history ≡ fails → now.live → has_fail history ≡ false
+  no_fail false is live = is
+  no_fail true is live = absurd (desk.well.dead is live)
+
+  pub untouched : IsAsOpened opening history last → IsUntouched telling opening.keeper.value last
+  untouched as_opened live list told same =
+      let squares = desk.given.squares in
+      let more : Some (list ++ squares) ≡ Some list = sym (desk.given.kept.kept ∙ ap (λ o. with_squares o squares) told) ∙ same in
+      let lists : list ++ squares ≡ list = cc in
+      let long = ap length lists in
+      let sum = length-append list squares in
+      let none : squares ≡ [] = nil_from_length squares (omega arith) in
+      as_opened (sym desk.given.places_are ∙ ap (places low) none) (no_fail (has_fail history) refl live)
 
   -- ---- all of it
 

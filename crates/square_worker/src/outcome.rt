@@ -2,7 +2,7 @@
 ghost use Rattle.std.specs.Prelude.{◌≡◌, OnOk, IfOk, IfErr, None};
 ghost use Rattle.board_core.specs.Laws.{first_cause};
 ghost use Rattle.board_core.specs.declared.event.Cause as Cause;
-ghost use Rattle.resolution_step.specs.Alone.{AreApart, HasResolved};
+ghost use Rattle.resolution_step.specs.Alone.{AreApart, IsUntouched, HasResolved};
 ghost use Rattle.square.specs.Tables.{IsTable, IsThrough};
 ghost use Rattle.square_board.specs.Boards.{IsPassOf};
 ghost use Rattle.square_board.specs.Openings.{first_table};
@@ -27,8 +27,9 @@ pub fn conclude<K: Keep>(
     requires pass { IsPassOf board pass }
     requires joined { HasAll pass }
     requires range { board.name.range ≡ range }
-    ensures { HasResolved Cause.Failed Cause.Memory AreApart range (first_table board.name) result.0
+    ensures resolved { HasResolved Cause.Failed Cause.Memory AreApart range (first_table board.name) result.0
         (K.telling board.name.keeper.value) (K.telling result.1) }
+    ensures untouched { IsUntouched K.telling board.name.keeper.value result.1 }
 {
     let (table, keeper, history) = board.close(pass);
     (outcome(table, range, history.as_slice()), keeper)

@@ -1,7 +1,7 @@
 //! A range resolved by several workers.
 ghost use Rattle.std.specs.Prelude.{◌≡◌, ◌<◌, ◌≤◌, length};
 ghost use Rattle.board_core.specs.declared.event.Cause as Cause;
-ghost use Rattle.resolution_step.specs.Alone.{AreApart, HasResolved};
+ghost use Rattle.resolution_step.specs.Alone.{AreApart, IsUntouched, HasResolved};
 ghost use Rattle.square.specs.declared.range.TheConstants.{MAX_S, MAX_T};
 ghost use Rattle.square.specs.Keeping.{IsKeeperOf};
 ghost use Rattle.square_board.specs.Boards.{IsPassOf};
@@ -40,8 +40,9 @@ pub fn resolve_with<R: Threads + Wait + Clock + Sync, K: Keep + Send, G: Gate + 
     requires degrees { range.t ≤ MAX_T }
     requires live { (K.telling keeper).live }
     requires of_table { IsKeeperOf (K.telling keeper) table }
-    ensures { HasResolved Cause.Failed Cause.Memory AreApart range table result.0 (K.telling keeper)
+    ensures resolved { HasResolved Cause.Failed Cause.Memory AreApart range table result.0 (K.telling keeper)
         (K.telling result.1) }
+    ensures untouched { IsUntouched K.telling keeper result.1 }
 {
     let (board, mut passes) = match Board::new(alloc, table, range, keeper, workers) {
         Ok(made) => made,

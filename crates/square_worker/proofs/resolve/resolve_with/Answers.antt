@@ -1,7 +1,7 @@
 use Rattle.std.proofs.Common.{◌≡◌, List, [], length, drop, Err, sym, subst, arith}
 use Rattle.board_core.specs.declared.event.Cause.TheVariants.{Failed, Memory}
 use Rattle.board_core.specs.declared.event.Entry.{Entry as Event}
-use Rattle.resolution_step.specs.Alone.{IsInRange, AreApart, HasResolved}
+use Rattle.resolution_step.specs.Alone.{IsInRange, AreApart, IsUntouched, HasResolved}
 use Rattle.resolution_step.proofs.Progress.{given_none}
 use Rattle.square.specs.Squares.{over}
 use Rattle.square.specs.Tables.{Staircase}
@@ -15,8 +15,8 @@ use Rattle.square_worker.proofs.resolve.resolve_with.Goals as goal
 
 -- ---- no board
 
-pub returns-in-Err : goal.returns-in-Err
-returns-in-Err g c =
+pub returns-in-Err-clause-resolved : goal.returns-in-Err-clause-resolved
+returns-in-Err-clause-resolved g c =
     let telling = g.K.Keep.telling in
     let keeper = telling c.args.keeper in
     let table = c.args.table in
@@ -33,6 +33,9 @@ returns-in-Err g c =
       given = given_none AreApart (over table.resolved) table.start (IsInRange c.args.range) keeper keeper (HasKept-none (over table.resolved) table.start keeper settled);
     } in
     subst (λ (k : g.row.K.Denot). HasResolved Failed Memory AreApart c.args.range table (Err Memory) keeper (telling k)) (sym c.in-Err.ensures.err) none
+
+pub returns-in-Err-clause-untouched : goal.returns-in-Err-clause-untouched
+returns-in-Err-clause-untouched g c live list told same = c.in-Err.ensures.err
 
 -- ---- the passes
 
@@ -53,9 +56,12 @@ join_all-pass-requires-clause-passes g c =
 
 -- ---- the end
 
-pub returns : goal.returns
-returns g c =
+pub returns-clause-resolved : goal.returns-clause-resolved
+returns-clause-resolved g c =
     let telling = g.K.Keep.telling in
     let opened = c.in-Ok.ensures.opened in
     let at = λ (t : Staircase) (k : g.row.K.Denot). HasResolved Failed Memory AreApart c.args.range t c.conclude.result.0 (telling k) (telling c.conclude.result.1) in
-    subst (λ (k : g.row.K.Denot). at c.args.table k) opened.keeper_is (subst (λ (t : Staircase). at t c.in-Ok.made.0.name.keeper.value) opened.table_is c.conclude.ensures)
+    subst (λ (k : g.row.K.Denot). at c.args.table k) opened.keeper_is (subst (λ (t : Staircase). at t c.in-Ok.made.0.name.keeper.value) opened.table_is c.conclude.ensures.resolved)
+
+pub returns-clause-untouched : goal.returns-clause-untouched
+returns-clause-untouched g c = subst (λ (k : g.row.K.Denot). IsUntouched g.K.Keep.telling k c.conclude.result.1) c.in-Ok.ensures.opened.keeper_is c.conclude.ensures.untouched
