@@ -1,7 +1,7 @@
 //! A range resolved by several workers, with reports of how far it is.
 ghost use Rattle.std.specs.Prelude.{◌≡◌, ◌<◌, ◌≤◌, true, false, OnOk, OnErr};
 ghost use Rattle.board_core.specs.declared.event.Cause as Cause;
-ghost use Rattle.resolution_step.specs.Alone.{AreApart, HasResolved};
+ghost use Rattle.resolution_step.specs.Alone.{AreApart, IsUntouched, HasResolved};
 ghost use Rattle.square.specs.declared.range.TheConstants.{MAX_S, MAX_T};
 ghost use Rattle.square.specs.Keeping.{IsKeeperOf};
 ghost use Rattle.square_board.specs.Openings.{first_table};
@@ -75,6 +75,7 @@ pub fn resolve_live<
     requires of_table { IsKeeperOf (K.telling keeper) table }
     ensures resolved { HasResolved Cause.Failed Cause.Memory AreApart range table result.0 (K.telling keeper)
         (K.telling result.1) }
+    ensures untouched { IsUntouched K.telling keeper result.1 }
     ensures reported { HasReported (squares_of range) result.0 result.2 (E.written err.old) (E.written err.new)
         (E.faults err.old) (E.faults err.new) }
 {
@@ -98,6 +99,7 @@ pub fn resolve_live<
             requires of_table { IsKeeperOf (K.telling task.keeper) task.table }
             ensures resolved { HasResolved Cause.Failed Cause.Memory AreApart task.entry.range task.entry.table
                 result.1.0 (K.telling task.entry.keeper) (K.telling result.1.1) }
+            ensures untouched { IsUntouched K.telling task.entry.keeper result.1.1 }
             ensures reported { HasReported (squares_of task.entry.range) result.1.0 result.1.2 (E.written err)
                 (E.written result.0) (E.faults err) (E.faults result.0) }
         { resolve_telling(err, task) },
@@ -118,6 +120,7 @@ fn resolve_telling<
     requires of_table { IsKeeperOf (K.telling task.keeper) task.table }
     ensures resolved { HasResolved Cause.Failed Cause.Memory AreApart task.entry.range task.entry.table result.1.0
         (K.telling task.entry.keeper) (K.telling result.1.1) }
+    ensures untouched { IsUntouched K.telling task.entry.keeper result.1.1 }
     ensures reported { HasReported (squares_of task.entry.range) result.1.0 result.1.2 (E.written err)
         (E.written result.0) (E.faults err) (E.faults result.0) }
 {
@@ -182,6 +185,7 @@ fn concluded<R: Wait + Clock, K: Keep, E: Sink>(
     requires range { board.name.range ≡ range }
     ensures resolved { HasResolved Cause.Failed Cause.Memory AreApart range (first_table board.name) result.1.0
         (K.telling board.name.keeper.value) (K.telling result.1.1) }
+    ensures untouched { IsUntouched K.telling board.name.keeper.value result.1.1 }
     ensures told { (start : Reports E) → start.most ≡ 0 → start.failed ≡ false → start.all ≡ squares_of range →
         HasTold E.written E.faults start watcher.reports →
         HasReported (squares_of range) result.1.0 result.1.2 (E.written start.err) (E.written result.0)

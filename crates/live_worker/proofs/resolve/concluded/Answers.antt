@@ -13,7 +13,7 @@ conclude-made-requires-clause-joined g c =
     all_still c.args.board c.args.watcher.pass c.report-last.new.watcher.pass c.requires.can.may.pass_of after.can.may.pass_of after.same c.requires.joined
 
 pub returns-clause-resolved : goal.returns-clause-resolved
-returns-clause-resolved g c = made_or_memory c.args.range (first_table c.args.board.name) _ _ c.conclude-made.result.0 c.reported_whole-given.result c.conclude-made.ensures c.reported_whole-given.ensures.is
+returns-clause-resolved g c = made_or_memory c.args.range (first_table c.args.board.name) _ _ c.conclude-made.result.0 c.reported_whole-given.result c.conclude-made.ensures.resolved c.reported_whole-given.ensures.is
 
 pub returns-clause-told : goal.returns-clause-told
 returns-clause-told g c start zero well of_all told =

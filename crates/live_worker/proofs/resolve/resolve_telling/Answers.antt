@@ -1,6 +1,6 @@
 use Rattle.std.proofs.Common.{◌≡◌, ℕ, ◌-◌, false, List, length, drop, Err, refl, sym, ◌∙◌, ap, subst, arith}
 use Rattle.board_core.specs.declared.event.Cause.TheVariants.{Failed, Memory}
-use Rattle.resolution_step.specs.Alone.{IsInRange, AreApart, HasResolved}
+use Rattle.resolution_step.specs.Alone.{IsInRange, AreApart, IsUntouched, HasResolved}
 use Rattle.resolution_step.proofs.Progress.{given_none}
 use Rattle.square.specs.declared.range.Range.{Range}
 use Rattle.square.specs.Squares.{over}
@@ -35,6 +35,9 @@ returns-in-Err-clause-resolved g c =
       given = given_none AreApart (over table.resolved) table.start (IsInRange c.args.task.range) keeper keeper (HasKept-none (over table.resolved) table.start keeper settled);
     } in
     subst (λ (k : g.row.K.Denot). HasResolved Failed Memory AreApart c.args.task.range table (Err Memory) keeper (telling k)) (sym c.in-Err.ensures.refused) none
+
+pub returns-in-Err-clause-untouched : goal.returns-in-Err-clause-untouched
+returns-in-Err-clause-untouched g c live list told same = c.in-Err.ensures.refused
 
 pub returns-in-Err-clause-reported : goal.returns-in-Err-clause-reported
 returns-in-Err-clause-reported g c = reported_none (squares_of c.args.task.range) Memory (g.E.Sink.written c.args.err) (g.E.Sink.faults c.args.err)
@@ -102,6 +105,9 @@ returns-clause-resolved g c =
     let with = c.in-Ok.ensures.opened.with in
     let at = λ (t : Staircase) (k : g.row.K.Denot). HasResolved Failed Memory AreApart c.args.task.range t c.concluded.result.1.0 (telling k) (telling c.concluded.result.1.1) in
     subst (λ (k : g.row.K.Denot). at c.args.task.table k) with.keeper_is (subst (λ (t : Staircase). at t c.in-Ok.opened.board.name.keeper.value) with.table_is c.concluded.ensures.resolved)
+
+pub returns-clause-untouched : goal.returns-clause-untouched
+returns-clause-untouched g c = subst (λ (k : g.row.K.Denot). IsUntouched g.K.Keep.telling k c.concluded.result.1.1) c.in-Ok.ensures.opened.with.keeper_is c.concluded.ensures.untouched
 
 pub returns-clause-reported : goal.returns-clause-reported
 returns-clause-reported g c =
