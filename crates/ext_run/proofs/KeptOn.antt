@@ -11,6 +11,7 @@ use Rattle.square.specs.Squares.{over, module_over}
 use Rattle.square.specs.Tables.{Staircase}
 use Rattle.square.specs.Keeping.{Keeper, IsKeeperOf, HasKept}
 use Rattle.square.specs.declared.range.Range.{Range}
+use Rattle.resolution_step.specs.Alone.{IsUntouched}
 use Rattle.cert_check.specs.declared.fault.CertFault.{CertFault}
 use Rattle.save_journal.specs.Records.{Records}
 use Rattle.save_journal.specs.Journals.{HasRecordsOf, HaveSameRecords, ComeFromEarlier}
@@ -29,7 +30,7 @@ use Rattle.ext_report.specs.Failure.{resume_failure, IsOfClasses}
 use Rattle.ext_run.specs.Forms.{IsInForm}
 use Rattle.ext_run.specs.Devices.{Store}
 use Rattle.ext_run.specs.Plan.{Use, keeping, migrating, verifying}
-use Rattle.ext_run.specs.Saving.{AreCanonical, StandsWith, StandsAsOneOf, IsOurs, MayBeLeft, IsUnwritten, HasLasted}
+use Rattle.ext_run.specs.Saving.{AreCanonical, StandsWith, StandsAsOneOf, IsOurs, MayBeLeft, IsUnwritten, StaysIfWhole, HasLasted}
 use Rattle.ext_run.specs.Migrating.{KeepsOn, HasMigrated}
 use Rattle.ext_run.specs.Certificates.{IsNoCertificate}
 use Rattle.ext_run.specs.Disks.{IsFitFor, HasServed}
@@ -298,7 +299,7 @@ module _ {D : Type 0} (store : Store D) (laws : AreDisks store) (r : ToResolve) 
 
   module _ (text : Told) (table : Staircase) (k after : SaveState D) (squares : IfSome (store.now disk) (λ file. standing_of r.resolved.plain file ≡ Ok table.start)) (resolved : table.resolved ≡ r.resolved) (keeper : IsKeeperOf (telling k) table)
       (kept : kept_in store.now k ≡ option_map (λ _. table.start) (store.now disk)) (opening : IfSome (store.now disk) (λ _. LeavesOnly store.moment store.since disk k.journal.disk (HasRecordsOf (digest_of r.resolved.plain) (store.images disk)))) (no_fault : store.faults k.journal.disk ≡ store.faults disk)
-      (continued : HasContinued r.common.range r.form table text (telling k) (telling after)) where
+      (continued : HasContinued r.common.range r.form table text (telling k) (telling after)) (untouched : IsUntouched telling k after) (stays : StaysIfWhole store r.resolved.plain disk k.journal.disk) where
     answer_told : HasAnswer text → IsSome (store.now disk) → (list : List Entry) → IsOurs r.resolved.plain list (store.images disk) → IsInForm r.form r.common.range r.resolved.plain (answer_of text)
     answer_told has told list ours =
         let found = here store laws r.resolved.plain disk list told ours in
@@ -318,7 +319,7 @@ module _ {D : Type 0} (store : Store D) (laws : AreDisks store) (r : ToResolve) 
         let given = subst (λ (m : Checked). HasKept (over m) table.start (telling k) (telling after) continued.given) resolved continued.kept in
         let given_behind = subst (λ (l : List Entry). HasKept (over r.resolved) l (telling k) (telling after) continued.given) is given in
         lasting store laws r.resolved r.common.range list with.more continued.given (HasAnswer text) (text ≢ Err Saving) disk k after with.at_most_one with.canonical ours k_resolved kept_is opened given_behind continued.places
-        (answer_unfailed text) continued.live continued.whole
+        (answer_unfailed text) continued.live untouched stays continued.whole
 
     pub kept_on : HasUsed store (keeping r.common.range) r.resolved.plain (Resolution r) text disk after.journal.disk
     kept_on =

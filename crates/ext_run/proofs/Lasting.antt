@@ -20,9 +20,9 @@ use Rattle.save_file.specs.Files.{Standing, digest_of, of_records, standing_of, 
 use Rattle.save_file.specs.Saving.{SaveState, TakesSquares, kept_in, telling_of}
 use Rattle.save_file.specs.Inside.SavingLaws.{left_is_kept}
 use Rattle.save_file.proofs.Entries.{some_is}
-use Rattle.resolution_step.specs.Alone.{IsInRange}
+use Rattle.resolution_step.specs.Alone.{IsInRange, IsUntouched}
 use Rattle.ext_run.specs.Devices.{Store}
-use Rattle.ext_run.specs.Saving.{AreCanonical, StandsWith, StandsAmid, StandsAtPart, StandsAsOneOf, squares_of, IsOurs, MayBeLeft, IsUnwritten, HasRetained, HasLasted, HasRange}
+use Rattle.ext_run.specs.Saving.{AreCanonical, StandsWith, StandsAmid, StandsAtPart, StandsAsOneOf, squares_of, IsOurs, MayBeLeft, IsUnwritten, StaysIfWhole, HasRetained, HasLasted, HasRange}
 
 -- ---- what is told
 
@@ -159,6 +159,7 @@ module _ {D : Type 0} (store : Store D) (laws : AreDisks store) where
         retained = record { taken_up = store.moment d; until = λ t from upto c there. stood c (laws.since_at d (store.moment disk) t c from upto there); from = at_once m d };
         keeps = λ worked c was. inl (stood c was);
         settled = λ worked. inl (refl, refl, unwritten worked);
+        idle = λ worked none file is whole. unwritten worked;
         exact = λ h. absurd (never h);
         whole = λ h. absurd (never h);
       }
@@ -166,7 +167,7 @@ module _ {D : Type 0} (store : Store D) (laws : AreDisks store) where
   module _ (m : Checked) (range : Range) (list more given : List Entry) (had_answer unfailed : Type 0) (disk : D) (k after : SaveState D)
       (at_most_one : length more ≤ 1) (canonical : AreCanonical m.plain (list ++ more)) (ours : IsOurs m.plain list (store.images disk)) (resolved : k.resolved ≡ m) (kept_is : kept_in store.now k ≡ Some (list ++ more))
       (opening : LeavesOnly store.moment store.since disk k.journal.disk (HasRecordsOf (digest_of m.plain) (store.images disk))) (kept : HasKept (over m) (list ++ more) (telling k) (telling after) given) (places : All (λ e. IsInRange range e.s e.above) given)
-      (answered : had_answer → unfailed) (live : unfailed → TakesSquares store.now store.images after) (whole : had_answer → IfSome (kept_in store.now after) (HasRange range)) where
+      (answered : had_answer → unfailed) (live : unfailed → TakesSquares store.now store.images after) (untouched : IsUntouched telling k after) (stays : StaysIfWhole store m.plain disk k.journal.disk) (whole : had_answer → IfSome (kept_in store.now after) (HasRange range)) where
     abbrev start : List Entry
     start = list ++ more
 
@@ -255,6 +256,12 @@ module _ {D : Type 0} (store : Store D) (laws : AreDisks store) where
         let exact = subst (λ (o : Option (List Entry)). IfSome o (λ (l : List Entry). (i : Option (List Entry)) → U.since U.moment i → i ≡ Some l)) after_kept is_kept in
         standing_ok (standing_of m.plain c) (start ++ given) (sym (read_after c) ∙ exact (squares_in after.resolved c) (c, laws.counts_now after.journal.disk c image, refl))
 
+    -- where nothing was given, nothing was written since the file was taken up
+    same_file : unfailed → given ≡ [] → after ≡ k
+    same_file worked none =
+        let still : kept_in store.now after ≡ Some start = after_kept ∙ ap (λ (l : List Entry). Some (start ++ l)) none ∙ ap (λ (l : List Entry). Some l) (append-nil start) in
+        untouched (live worked) start kept_is still
+
     pub lasting : HasLasted store m.plain range list had_answer unfailed disk after.journal.disk
     lasting = record {
       more = more;
@@ -267,6 +274,7 @@ module _ {D : Type 0} (store : Store D) (laws : AreDisks store) where
       ours = in_the_end;
       keeps = keeps;
       settled = λ worked. inr (only worked);
+      idle = λ worked none. subst (λ (s : SaveState D). StaysIfWhole store m.plain disk s.journal.disk) (sym (same_file worked none)) stays;
       exact = λ has. only (answered has);
       whole = λ has. subst (λ (o : Option (List Entry)). IfSome o (HasRange range)) after_kept (whole has);
     }

@@ -94,8 +94,9 @@ pub record HasRetained {D : Type 0} (disk : Store D) (m : SteenrodModule) (old n
 -- ours for all of them.
 --
 -- Unless the disk failed, there is no square more: at every moment an image stands for what one from before the run stood for, or for
--- just what was taken up and a first part of what was given; and in the end each image has just all of them, or nothing was written. If
--- there was an answer, each has just all of them, and each square of the range is among them.
+-- just what was taken up and a first part of what was given; and in the end each image has just all of them, or nothing was written. Where
+-- nothing was given, a file that opening it leaves as it is was not written. If there was an answer, each image has just all of them, and
+-- each square of the range is among them.
 pub record HasLasted {D : Type 0} (disk : Store D) (m : SteenrodModule) (range : Range) (list : List Entry)
     (had_answer unfailed : Type 0) (old new : D) : Type 0 where
   pub more : List Entry
@@ -112,5 +113,6 @@ pub record HasLasted {D : Type 0} (disk : Store D) (m : SteenrodModule) (range :
   pub settled : unfailed →
       ((more ≡ []) × (given ≡ []) × IsUnwritten disk old new)
       ⊎ ((c : List ℕ) → disk.images new c → standing_of m c ≡ Ok ((list ++ more) ++ given))
+  pub idle : unfailed → given ≡ [] → StaysIfWhole disk m old new
   pub exact : had_answer → (c : List ℕ) → disk.images new c → standing_of m c ≡ Ok ((list ++ more) ++ given)
   pub whole : had_answer → HasRange range ((list ++ more) ++ given)

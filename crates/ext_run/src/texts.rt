@@ -3,7 +3,7 @@
 //! Or the save file is all that is used.
 ghost use Rattle.std.specs.Prelude.{◌≡◌, ◌≤◌, ◌⊎◌, false, None, IfErr};
 ghost use Rattle.board_core.specs.declared.event.Cause as Cause;
-ghost use Rattle.resolution_step.specs.Alone.{AreApart, HasResolved};
+ghost use Rattle.resolution_step.specs.Alone.{AreApart, IsUntouched, HasResolved};
 ghost use Rattle.square.specs.declared.range.TheConstants.{MAX_S, MAX_T};
 ghost use Rattle.square.specs.Keeping.{IsKeeperOf};
 ghost use Rattle.square.specs.Tables.{plain_rows, IsThrough, cut};
@@ -228,7 +228,8 @@ fn told_alone<K: Keep>(
     requires degrees { range.t ≤ MAX_T }
     requires live { (K.telling keeper).live }
     requires of_table { IsKeeperOf (K.telling keeper) table }
-    ensures { HasContinued range form table result.0 (K.telling keeper) (K.telling result.1) }
+    ensures continued { HasContinued range form table result.0 (K.telling keeper) (K.telling result.1) }
+    ensures untouched { IsUntouched K.telling keeper result.1 }
 {
     canonical_table_is_minimal_resolution();
     modules_are_graded_modules();
@@ -265,6 +266,7 @@ fn told_by_workers<
     requires live { (K.telling keeper).live }
     requires of_table { IsKeeperOf (K.telling keeper) table }
     ensures continued { HasContinued common.range form table result.0 (K.telling keeper) (K.telling result.1) }
+    ensures untouched { IsUntouched K.telling keeper result.1 }
     ensures heard { HasHeard (device_of E.written E.faults) (live_where common.live common.range) result.0 result.2
         err.old err.new }
 {
@@ -305,6 +307,7 @@ fn resolved_by_workers<
     requires of_table { IsKeeperOf (K.telling keeper) table }
     ensures resolved { HasResolved Cause.Failed Cause.Memory AreApart common.range table result.0 (K.telling keeper)
         (K.telling result.1) }
+    ensures untouched { IsUntouched K.telling keeper result.1 }
     ensures heard { HasHeard (device_of E.written E.faults) (live_where common.live common.range) result.0 result.2
         err.old err.new }
 {
