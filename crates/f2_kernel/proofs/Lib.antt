@@ -9,6 +9,6 @@ mod Tables
 mod Within
 mod CommonOnes
 pub mod Basis
-mod BlockProducts
+mod ByColumns
 mod Marks
 pub mod Tested

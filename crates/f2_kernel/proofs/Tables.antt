@@ -7,13 +7,9 @@ use Rattle.std.proofs.Math.Pow.{pow_mono}
 use Rattle.f2_vec.specs.Vectors.{sum_of, zeros}
 use Rattle.f2_vec.specs.Spans.{row, HaveWidth}
 use Rattle.f2_vec.proofs.Sums.{length-zeros}
-use Rattle.f2_vec.proofs.Spans.{HaveWidth-nil, HaveWidth-append}
+use Rattle.f2_vec.proofs.Spans.{HaveWidth-append}
 use Rattle.f2_kernel.specs.Inside.Sums.{sums, IsTable, BeginsWithSums}
 use Rattle.f2_kernel.proofs.Blocked.{length-sums}
-
--- no vectors are a table
-pub no_table : (n : ℕ) → IsTable n []
-no_table n = record { widths = HaveWidth-nil n; first = λ l. absurd (omega arith) }
 
 -- a table has room for one sum
 pub one_sum : (k : ℕ) → 1 ≤ 2 ^ k

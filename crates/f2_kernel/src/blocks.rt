@@ -311,7 +311,7 @@ fn pivots_of(alloc: Global, rows: &[BitVec]) -> Result<Vec<usize>, Memory>
 ///
 /// # Errors
 /// `Memory` if allocation fails; the table is then of no use.
-pub fn fill_sums(
+fn fill_sums(
     alloc: Global,
     n: usize,
     table: &mut Vec<BitVec>,

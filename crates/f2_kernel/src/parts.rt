@@ -1,12 +1,12 @@
 //! Whether rows are the parts of a matrix's reduction.
-ghost use Rattle.std.specs.Prelude.{◌≡◌, ◌↔◌, ℕ, ◌<◌, true, false, length, IsTrue, IfOk};
-ghost use Rattle.f2_vec.specs.Vectors.{bit, zeros, IsZero, IsFirstOne};
+ghost use Rattle.std.specs.Prelude.{◌≡◌, ◌↔◌, ℕ, ◌<◌, ◌++◌, true, false, map, length, replicate, IsTrue, IfOk, OnOk};
+ghost use Rattle.f2_vec.specs.Vectors.{bit, zeros, IsFirstOne};
 ghost use Rattle.f2_vec.specs.Spans.{row, HaveWidth, combination};
 ghost use Rattle.f2_matrix.specs.Echelon.{IsReduced, HasNoZeroRow};
 ghost use Rattle.f2_matrix.specs.Parts.{AreReductionParts};
 
 use crate::echelon::{have_common_one, is_row_basis, marks_of};
-use crate::products::add_products;
+use crate::products::are_products;
 use f2_matrix::Matrix;
 use f2_vec::BitVec;
 use memory::Memory;
@@ -95,31 +95,37 @@ fn have_products(
         × ((i : ℕ) → i < length kernel.now →
         combination matrix.now.cols (row kernel.now i) matrix.now.rows ≡ zeros matrix.now.cols))) }
 {
-    let n = matrix.cols();
-    let mut rests = Vec::from_clones(alloc, image)?;
-    let mut relations = BitVec::zero_rows(alloc, kernel.len(), n)?;
-    add_products(
-        alloc,
-        n,
-        matrix.rows(),
-        chosen,
-        rests.as_mut_slice(),
-        kernel,
-        relations.as_mut_slice(),
-    )?;
-    let products = are_zero(rests.as_slice());
-    let vanish = are_zero(relations.as_slice());
-    Ok(products && vanish)
+    let zero = BitVec::zero(alloc, matrix.cols())?;
+    let mut vectors = Vec::new(alloc);
+    append(&mut vectors, chosen)?;
+    append(&mut vectors, kernel)?;
+    let mut products = Vec::new(alloc);
+    append(&mut products, image)?;
+    append_copies(&mut products, kernel.len(), &zero)?;
+    are_products(alloc, matrix, vectors.as_slice(), products.as_slice())
 }
 
-/// Whether each row is zero.
-fn are_zero(rows: &[BitVec]) -> bool
-    ensures { IsTrue result ↔ ((i : ℕ) → i < length rows.now → IsZero (row rows.now i)) }
+/// Puts rows behind the others.
+fn append<'a>(rows: &mut Vec<&'a BitVec>, more: &'a [BitVec]) -> Result<(), Memory>
+    ensures { OnOk result (map (λ v. v.now) rows.new.items ≡ map (λ v. v.now) rows.old.items ++ more.now) }
 {
-    for row in rows {
-        if !row.is_zero() {
-            return false;
-        }
+    for row in more {
+        rows.push(row)?;
     }
-    true
+    Ok(())
+}
+
+/// Puts one row `count` times behind the others.
+fn append_copies<'a>(
+    rows: &mut Vec<&'a BitVec>,
+    count: usize,
+    row: &'a BitVec,
+) -> Result<(), Memory>
+    ensures { OnOk result (map (λ v. v.now) rows.new.items
+        ≡ map (λ v. v.now) rows.old.items ++ replicate count row.now) }
+{
+    for _ in 0..count {
+        rows.push(row)?;
+    }
+    Ok(())
 }

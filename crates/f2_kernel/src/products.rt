@@ -1,109 +1,106 @@
-//! Products of vectors with a matrix, by the sums of a few of its rows at a time.
-ghost use Rattle.std.specs.Prelude.{◌≡◌, ℕ, ◌+◌, ◌-◌, ◌<◌, ◌≤◌, length, take, drop, OnOk};
-ghost use Rattle.f2_vec.specs.Vectors.{sum_of};
-ghost use Rattle.f2_vec.specs.Spans.{row, HaveWidth, combination};
+//! Products of vectors with a matrix, column by column. That is quick for a matrix of few ones.
+ghost use Rattle.std.specs.Prelude.{◌≡◌, ◌↔◌, ℕ, ◌<◌, map, length, if◌then◌else◌, IsTrue, IfOk};
+ghost use Rattle.std.specs.List.{range_with_len};
+ghost use Rattle.f2_vec.specs.Vectors.{bit, sum_of, IsZero};
+ghost use Rattle.f2_vec.specs.Spans.{row as row_at, HaveWidth, combination};
+ghost use Rattle.f2_dual.specs.Inside.Columns.{columns};
 ghost use Rattle.f2_kernel.specs.Inside.Products.{AreProductsAdded};
-ghost use Rattle.f2_kernel.specs.Inside.Sums.{number as number_of, BeginsWithSums};
 
-use crate::blocks::fill_sums;
+use f2_dual::columns_at;
+use f2_matrix::Matrix;
 use f2_vec::BitVec;
 use memory::Memory;
 use std::alloc::Global;
 
-/// Adds to each of the first sums the product of the first vector beside it with the matrix of these rows, of length `n`, and to
-/// each of the second sums that of the second vector: the sum of those rows at whose places the vector has a 1. The sums of
-/// a few rows are made once for all vectors.
+/// Whether the products of the vectors with the matrix are these. They are made by columns: each is a sum of columns of the
+/// vectors, one for each 1 in that column of the matrix.
 ///
 /// # Errors
-/// `Memory` if allocation fails; the sums are then of no use.
-pub fn add_products(
+/// `Memory` if allocation fails.
+pub fn are_products(
     alloc: Global,
-    n: usize,
-    rows: &[BitVec],
-    first: &[BitVec],
-    first_sums: &mut [BitVec],
-    second: &[BitVec],
-    second_sums: &mut [BitVec],
-) -> Result<(), Memory>
-    requires rows { HaveWidth n rows.now }
-    requires first { HaveWidth (length rows.now) first.now }
-    requires first_widths { HaveWidth n first_sums.old }
-    requires first_many { length first_sums.old ≡ length first.now }
-    requires second { HaveWidth (length rows.now) second.now }
-    requires second_widths { HaveWidth n second_sums.old }
-    requires second_many { length second_sums.old ≡ length second.now }
-    ensures first { OnOk result (AreProductsAdded n rows.now first.now first_sums.old first_sums.new) }
-    ensures second { OnOk result (AreProductsAdded n rows.now second.now second_sums.old second_sums.new) }
+    matrix: &Matrix,
+    vectors: &[&BitVec],
+    products: &[&BitVec],
+) -> Result<bool, Memory>
+    requires vectors { HaveWidth (length matrix.now.rows) (map (λ v. v.now) vectors.now) }
+    requires products { HaveWidth matrix.now.cols (map (λ v. v.now) products.now) }
+    requires as_many { length products.now ≡ length vectors.now }
+    ensures { IfOk result (λ are. IsTrue are ↔ ((i : ℕ) → i < length vectors.now →
+        combination matrix.now.cols (row_at (map (λ v. v.now) vectors.now) i) matrix.now.rows
+        ≡ row_at (map (λ v. v.now) products.now) i)) }
 {
-    let most = rows_of_table(first.len(), second.len());
-    let mut table = Vec::new(alloc);
-    let mut from = 0;
-    while from < rows.len() {
-        let to = from + most.min(rows.len() - from);
-        let block = &rows[from..to];
-        fill_sums(alloc, n, &mut table, block)?;
-        add_block(n, from, to, block, table.as_slice(), first, first_sums);
-        add_block(n, from, to, block, table.as_slice(), second, second_sums);
-        from = to;
-    }
-    Ok(())
+    let rows = matrix.rows();
+    let parts = columns_of(alloc, rows.len(), vectors)?;
+    let mut rests = columns_of(alloc, matrix.cols(), products)?;
+    add_products(vectors.len(), rows, parts.as_slice(), rests.as_mut_slice());
+    Ok(are_zero(rests.as_slice()))
 }
 
-/// Of how many rows all sums are made: more vectors pay for more of them.
-fn rows_of_table(first: usize, second: usize) -> usize
-    ensures least { 1 ≤ result }
-    ensures most { result ≤ 8 }
+/// The columns of the rows, of length `n`.
+///
+/// # Errors
+/// `Memory` if allocation fails.
+fn columns_of(alloc: Global, n: usize, rows: &[&BitVec]) -> Result<Vec<BitVec>, Memory>
+    ensures { IfOk result (λ made. made.items ≡ columns n (map (λ v. v.now) rows.now)) }
 {
-    match first.saturating_add(second) {
-        0..64 => 2,
-        64..160 => 3,
-        160..320 => 4,
-        320..512 => 5,
-        512..1024 => 6,
-        1024..2048 => 7,
-        _ => 8,
-    }
+    let places = places_below(alloc, n)?;
+    columns_at(alloc, places.as_slice(), rows)
 }
 
-/// Adds to each of the sums that of the rows of the block at whose places, from place `from` up to `to`, the vector beside it has
-/// a 1.
-fn add_block(
-    n: usize,
-    from: usize,
-    to: usize,
-    block: &[BitVec],
-    table: &[BitVec],
-    vectors: &[BitVec],
-    sums: &mut [BitVec],
-)
-    requires block { HaveWidth n block.now }
-    requires places { to ≡ from + length block.now }
-    requires few { length block.now ≤ 8 }
-    requires table { BeginsWithSums n block.now table.now }
-    requires vectors { (i : ℕ) → i < length vectors.now → to ≤ length (row vectors.now i) }
+/// The places below `n`.
+///
+/// # Errors
+/// `Memory` if allocation fails.
+fn places_below(alloc: Global, n: usize) -> Result<Vec<usize>, Memory>
+    ensures { IfOk result (λ places. places.items ≡ range_with_len 0 n) }
+{
+    let mut places = Vec::with_capacity(alloc, n)?;
+    for place in 0..n {
+        places.push(place)?;
+    }
+    Ok(places)
+}
+
+/// Adds to each of the sums those of the vectors, of length `n`, beside which the row has a 1 at the sum's place.
+fn add_products(n: usize, rows: &[BitVec], vectors: &[BitVec], sums: &mut [BitVec])
+    requires rows { HaveWidth (length sums.old) rows.now }
+    requires vectors { HaveWidth n vectors.now }
+    requires as_many { length vectors.now ≡ length rows.now }
     requires sums { HaveWidth n sums.old }
-    requires as_many { length sums.old ≡ length vectors.now }
-    ensures as_many { length sums.new ≡ length sums.old }
-    ensures widths { HaveWidth n sums.new }
-    ensures each { (i : ℕ) → i < length sums.old → row sums.new i
-        ≡ sum_of (row sums.old i) (combination n (take (length block.now) (drop from (row vectors.now i))) block.now) }
+    ensures { AreProductsAdded n rows.now vectors.now sums.old sums.new }
 {
-    for i in 0..vectors.len() {
-        let number = number_from(&vectors[i], from, to);
-        sums[i].xor_with(&table[number]);
+    for j in 0..rows.len() {
+        add_at_ones(n, &rows[j], &vectors[j], sums);
     }
 }
 
-/// The number whose digits are the coordinates of the vector from place `from` up to `to`, the first one the highest.
-fn number_from(vector: &BitVec, from: usize, to: usize) -> usize
-    requires start { from ≤ to }
-    requires few { to ≤ from + 8 }
-    requires within { to ≤ length vector.now }
-    ensures { result ≡ number_of (take (to - from) (drop from vector.now)) }
+/// Adds the vector, of length `n`, to the sums at whose places the row has a 1.
+fn add_at_ones(n: usize, row: &BitVec, vector: &BitVec, sums: &mut [BitVec])
+    requires row { length row.now ≡ length sums.old }
+    requires vector { length vector.now ≡ n }
+    requires sums { HaveWidth n sums.old }
+    ensures as_many { length sums.new ≡ length sums.old }
+    ensures each { (p : ℕ) → p < length sums.old → row_at sums.new p
+        ≡ (if bit row.now p then sum_of (row_at sums.old p) vector.now else row_at sums.old p) }
 {
-    let mut number = 0;
-    for place in from..to {
-        number = 2 * number + vector.get_number(place);
+    let mut from = 0;
+    while let Some(place) = row.next_one(from) {
+        sums[place].xor_with(vector);
+        // A length fits `usize`, so what follows a place of the row does.
+        prove!(place < row.len());
+        from = place + 1;
     }
-    number
+}
+
+/// Whether each row is zero.
+fn are_zero(rows: &[BitVec]) -> bool
+    ensures { IsTrue result ↔ ((i : ℕ) → i < length rows.now → IsZero (row_at rows.now i)) }
+{
+    for row in rows {
+        if !row.is_zero() {
+            return false;
+        }
+    }
+    true
 }

@@ -1,35 +1,26 @@
-use Rattle.std.proofs.Common.{◌+◌, ◌≤◌, length, sym, subst, arith}
-use Rattle.f2_kernel.specs.Inside.Sums.{IsTable}
-use Rattle.f2_kernel.proofs.Tables.{no_table}
-use Rattle.f2_kernel.proofs.BlockProducts.{none_added, block_added, all_added}
+use Rattle.std.proofs.Common.{◌≡◌, ◌<◌, List, Bool, [], length, cond, ap, ◌∙◌, arith}
+use Rattle.std.proofs.lemmas.List.{get_or_read}
+use Rattle.f2_vec.specs.Vectors.{bit, sum_of}
+use Rattle.f2_vec.specs.Spans.{row}
+use Rattle.f2_kernel.proofs.ByColumns.{none_added, one_added, all_added}
 use Rattle.f2_kernel.proofs.products.add_products.Goals as goal
 
-pub loop-from-init : goal.loop-from-init
-loop-from-init c = record {
-  within = omega arith;
-  table = subst (IsTable c.args.n) (sym c.new-table.ensures.items) (no_table c.args.n);
-  first = none_added c.args.n c.args.rows.now c.args.first.now c.args.first_sums.now c.requires.first_widths;
-  second = none_added c.args.n c.args.rows.now c.args.second.now c.args.second_sums.now c.requires.second_widths;
-}
+pub loop-j-init : goal.loop-j-init
+loop-j-init c = none_added c.args.n c.args.rows.now c.args.vectors.now c.args.sums.now c.requires.sums
 
-pub loop-from-preserved : goal.loop-from-preserved
-loop-from-preserved c =
-    let n = c.args.n in
+pub loop-j-preserved : goal.loop-j-preserved
+loop-j-preserved c =
     let rows = c.args.rows.now in
-    let from = c.loop-from.from in
-    let to = from + c.min.result in
-    let start : from ≤ to = omega arith in
-    let within : to ≤ length rows = omega (arith, c.min.ensures, c.loop-from-test.true) in
-    let h = c.loop-from.invariant in
-    record {
-      within = within;
-      table = c.in_ok-fill_sums.ensures.table;
-      first = block_added n from to rows c.args.first.now c.args.first_sums.now c.loop-from.first_sums c.add_block.new.sums c.requires.rows c.requires.first c.requires.first_many start within h.first c.add_block.ensures.as_many c.add_block.ensures.widths c.add_block.ensures.each;
-      second = block_added n from to rows c.args.second.now c.args.second_sums.now c.loop-from.second_sums c.add_block-in-loop-from.new.sums c.requires.rows c.requires.second c.requires.second_many start within h.second c.add_block-in-loop-from.ensures.as_many c.add_block-in-loop-from.ensures.widths c.add_block-in-loop-from.ensures.each;
-    }
+    let vectors = c.args.vectors.now in
+    let j = c.loop-j.j in
+    let there : j < length vectors = omega (arith, c.requires.as_many, c.loop-j-test.true) in
+    let r : c.index-rows-j.result ≡ row rows j = get_or_read rows j c.index-rows-j.result c.loop-j-test.true c.index-rows-j.is [] in
+    let v : c.index-vectors-j.result ≡ row vectors j = get_or_read vectors j c.index-vectors-j.result there c.index-vectors-j.is [] in
+    one_added c.args.n j rows vectors c.args.sums.now c.loop-j.sums c.add_at_ones.new.sums c.requires.vectors c.requires.as_many c.loop-j-test.true c.loop-j.invariant c.add_at_ones.ensures.as_many
+    (λ p l.
+    c.add_at_ones.ensures.each p l
+    ∙ ap (λ (x : List Bool). cond (bit x p) (sum_of (row c.loop-j.sums p) c.index-vectors-j.result) (row c.loop-j.sums p)) r
+    ∙ ap (λ (x : List Bool). cond (bit (row rows j) p) (sum_of (row c.loop-j.sums p) x) (row c.loop-j.sums p)) v)
 
-pub returns-clause-first : goal.returns-clause-first
-returns-clause-first c = all_added c.args.n c.loop-from.from c.args.rows.now c.args.first.now c.args.first_sums.now c.loop-from.first_sums c.requires.first c.requires.first_many (omega (arith, c.loop-from.invariant.within, c.loop-from-test.false)) c.loop-from.invariant.first
-
-pub returns-clause-second : goal.returns-clause-second
-returns-clause-second c = all_added c.args.n c.loop-from.from c.args.rows.now c.args.second.now c.args.second_sums.now c.loop-from.second_sums c.requires.second c.requires.second_many (omega (arith, c.loop-from.invariant.within, c.loop-from-test.false)) c.loop-from.invariant.second
+pub returns : goal.returns
+returns c = all_added c.args.n c.loop-j.j c.args.rows.now c.args.vectors.now c.args.sums.now c.loop-j.sums c.requires.as_many (omega (arith, c.loop-j-test.false)) c.loop-j.invariant

@@ -3,7 +3,7 @@ use Rattle.std.proofs.lemmas.Bool.{cases_eq, false≢true, iff_false}
 use Rattle.std.proofs.lemmas.List.{get_or_read}
 use Rattle.f2_vec.specs.Vectors.{IsZero}
 use Rattle.f2_vec.specs.Spans.{row}
-use Rattle.f2_kernel.proofs.parts.are_zero.Goals as goal
+use Rattle.f2_kernel.proofs.products.are_zero.Goals as goal
 
 pub loop-row-preserved : goal.loop-row-preserved
 loop-row-preserved c = λ i l.
