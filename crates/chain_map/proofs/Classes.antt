@@ -49,11 +49,10 @@ module _ (table : Staircase) (range : Range) where
 -- a class is one of the resolution's alone
 pub class_is_once : (r : Resolution) (c : Class) (x y : ClassAbove) → IsAt r c x → IsAt r c y → x ≡ y
 class_is_once r c x y p k =
-    let s : x.s ≡ y.s = sym p.row ∙ k.row in
-    let above : x.above ≡ y.above = omega (arith, ints, sym p.degree ∙ k.degree) in
-    let i : x.i ≡ y.i = sym p.number ∙ k.number in
+    let above : x.above ≡ y.above = omega (arith, ints) in
     let at : ℕ → ℕ → ℕ → ClassAbove = λ s above i. record { s = s; above = above; i = i } in
-    ap (λ (n : ℕ). at n x.above x.i) s ∙ (ap (λ (n : ℕ). at y.s n x.i) above ∙ ap (at y.s y.above) i)
+    let same : at x.s x.above x.i ≡ at y.s y.above y.i = cc in
+    same
 
 -- ---- a refusal in other words
 

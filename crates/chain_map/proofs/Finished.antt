@@ -44,7 +44,6 @@ lift_of_none table sphere is_table is_sphere_table s above c upto lift bottom no
     let x = bottom_of table.resolved +ℤ pos above in
     let z = class_of table sphere s above c in
     let lifted : (m far : ℕ) → AreReached table sphere s above upto m far → IsLift (resolution_of table) (resolution_of sphere) s x z upto (greatest table m) (map_of lift) = λ m far e.
-    let within = e.within in
     lift_below table sphere s above c upto lift m (omega arith) in
     record {
       bottom = bottom;
@@ -66,7 +65,6 @@ reaches_all table sphere is_table is_sphere_table s above upto n far class_there
     let left = min-le_left here wide in
     let right = min-le_right here wide in
     let there = row_within table.rows (s + upto) 0 (omega arith) in
-    let all = is_table.rows in
     let shift = shifted-sum above (length (row_in sphere.rows upto)) in
     record { is_table = is_table; is_sphere_table = is_sphere_table; row = omega arith; some = some; here = omega arith; there = omega arith; enough = omega arith; class_there = class_there }
 
@@ -92,12 +90,7 @@ module _ (minimal : CanonicalTableIsMinimalResolution) (modules : ModulesAreStee
     | inr some ↦
         let t = m - 1 in
         let tq = most - 1 in
-        let within = e.within in
         let some_q = e.some (omega arith) in
-        let there_q = e.there in
-        let enough_q = e.enough in
-        let here = reaches.here in
-        let there = reaches.there in
         let class_there = reaches.class_there in
         let m_t : m ≡ t + 1 = omega arith in
         let most_t : most ≡ tq + 1 = omega arith in

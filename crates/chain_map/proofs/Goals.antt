@@ -25,15 +25,11 @@ module _ (table sphere : Staircase) (s above k n far m : ℕ) (is_sphere : IsSph
   -- the square of the sphere in that degree, if it is not below the bottom
   pub place_there : HasPlace sphere k (pos m -ℤ pos above)
   place_there j e =
-      let zero = is_sphere.bottom in
-      let there = reaches.there in
-      let enough = reaches.enough in
       let at : j < far = omega (arith, ints) in
       omega arith
 
   pub sphere_square : (u : ℤ) → u ≡ pos m -ℤ pos above → bottom_of sphere.resolved ≤ℤ u → IsSome (square_at sphere k u)
   sphere_square u e low =
-      let zero = is_sphere.bottom in
       let h : above ≤ m = omega (arith, ints) in
       let at : pos m -ℤ pos above ≡ bottom_of sphere.resolved +ℤ pos (m - above) = omega (arith, ints) in
       square_is_there sphere k (m - above) u (e ∙ at) (place_there (m - above) at)

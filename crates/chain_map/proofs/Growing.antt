@@ -51,7 +51,4 @@ pub reaches_below : (table sphere : Staircase) (s above k upto n far : ℕ) → 
 reaches_below table sphere s above k upto n far l p =
     let more = never_rises table p.is_table (s + k) (s + upto) (omega arith) in
     let more_q = never_rises sphere p.is_sphere_table k upto l in
-    let row = p.row in
-    let here = p.here in
-    let there = p.there in
     record { is_table = p.is_table; is_sphere_table = p.is_sphere_table; row = omega arith; some = p.some; here = omega arith; there = omega arith; enough = p.enough; class_there = p.class_there }

@@ -59,7 +59,6 @@ module _ (table sphere : Staircase) (h : IsTable table) (hq : IsTable sphere) (i
   pub has-place : (k g : ℕ) → k ≤ upto → g < first_of r (s + k) n → HasPlace sphere k (degree r (s + k) g -ℤ x)
   has-place k g l b j e =
       let low = degree-below r (s + k) n g (long-at k l) b in
-      let zero = is_sphere.bottom in
       let there = reach-at k l in
       let at : j < far = omega (arith, ints) in
       omega arith
@@ -67,7 +66,6 @@ module _ (table sphere : Staircase) (h : IsTable table) (hq : IsTable sphere) (i
   pub value-fits : (k g : ℕ) → k < count → g < length (joined (row_values lift k)) → length (phi k g) ≡ free_width (gens q k) (degree r (s + k) g -ℤ x)
   value-fits k g l b =
       let row_made = made.values k l in
-      let one = row_made.chosen.one_each in
       value_width sphere k (degree r (s + k) g -ℤ x) (has-place k g (omega arith) (omega arith)) (goal_of table sphere s above n far c lift k g) (phi k g) (row_made.chosen.each g b)
 
   -- ---- over canonical squares
@@ -119,7 +117,6 @@ module _ (table sphere : Staircase) (h : IsTable table) (hq : IsTable sphere) (i
     chosen : (k g : ℕ) → k ≤ upto → g < length (gens rc (s + k)) → IsChosenFor sphere k (degree r (s + k) g -ℤ x) (goal_of table sphere s above n far c lift k g) (phi k g)
     chosen k g l b =
         let row_made = made.values k (omega arith) in
-        let one = row_made.chosen.one_each in
         let there = with-value (s + k) g (omega arith) b in
         row_made.chosen.each g (omega (arith, images_taken (row_of r.table (s + k)) (t + 1) n n_more))
 
@@ -128,11 +125,9 @@ module _ (table sphere : Staircase) (h : IsTable table) (hq : IsTable sphere) (i
         let i = s + k in
         let there = with-value i g (omega arith) b in
         let row_made = made.values k (omega arith) in
-        let one = row_made.chosen.one_each in
         let more = images_taken (row_of r.table i) (t + 1) n n_more in
         let same = same-degree i g (omega arith) b in
         let low = low-degree i g (omega arith) b in
-        let zero = is_sphere.bottom in
         value-fits k g (omega arith) (omega arith)
         ∙ (ap (λ (u : ℤ). free_width (gens q k) (u -ℤ x)) (sym same)
         ∙ sym (ap length (basis-cut (over sphere.resolved) upto (tq + 1) (plain_rows sphere.rows) qc.table q_rows k (degree rc i g -ℤ x) l (omega (arith, ints)))))
@@ -165,7 +160,6 @@ module _ (table sphere : Staircase) (h : IsTable table) (hq : IsTable sphere) (i
         let Q : ℕ → Type 0 = λ i. g < length (gens rc i) → length (phi 0 g) ≡ free_width (gens qc 0) (degree rc i g -ℤ x) in
         let fits = subst Q e (fits-part 0 g (omega arith)) b in
         let S : ℤ → Type 0 = λ w. IsInverseAt sphere 0 (w -ℤ x) made_here.inverse in
-        let zero = is_sphere.bottom in
         let low_g = low-degree s g (omega arith) b in
         gives-of sphere hq near_q inside_q o 0 (degree rc s g -ℤ x) (z g) (phi 0 g) made_here.inverse (omega arith) (omega (arith, ints)) (subst S (sym same) made_here.is) made_here.value fits (z-fits g b low) tt
 
@@ -184,7 +178,6 @@ module _ (table sphere : Staircase) (h : IsTable table) (hq : IsTable sphere) (i
         let deg = degree r (suc i) g in
         let im_g = image r (suc i) g in
         let low_g = low-degree (suc i) g (omega arith) b in
-        let zero = is_sphere.bottom in
         let goal_is : next_goal table sphere i k above n far (joined (row_values lift k)) g ≡ wanted =
         mapped-is table sphere i k above n far x (joined (row_values lift k)) (phi k) deg im_g refl (omega (arith, ints)) (omega (arith, ints)) (λ g l. refl)
         ∙ (sym (lowered-cut (over table.resolved) (over sphere.resolved) (s + upto) (t + 1) upto (tq + 1) (plain_rows table.rows) rc.table (plain_rows sphere.rows) qc.table r_rows q_rows i k x (phi k) deg im_g (omega arith) (omega arith) (omega (arith, ints)) (omega (arith, ints)))
@@ -218,5 +211,4 @@ module _ (table sphere : Staircase) (h : IsTable table) (hq : IsTable sphere) (i
 
     pub is-lift : IsLift r q s x z upto top phi
     is-lift =
-        let zero = is_sphere.bottom in
         IsLift-uncut (over table.resolved) (over sphere.resolved) (s + upto) (t + 1) upto (tq + 1) (plain_rows table.rows) rc.table (plain_rows sphere.rows) qc.table r_rows q_rows s x z upto top phi (omega arith) (omega arith) (omega (arith, ints)) (omega (arith, ints)) (lift-part upto (omega arith))

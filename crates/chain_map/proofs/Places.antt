@@ -94,10 +94,7 @@ next_goal_is table sphere i k above n far m h source target images v there b sou
     let g = first_of r (suc i) m + h in
     let low : pos m -ℤ pos above ≡ degree r (suc i) g -ℤ x = omega (arith, ints, number.degree_is) in
     let same : v ≡ image r (suc i) g = at ∙ sym number.image_is in
-    ap (λ (z : List ℤ). mapped (free_graded z) source images (pos m -ℤ pos above) v) target_is
-    ∙ (ap (λ (z : List ℤ). mapped (free_graded (target_of sphere k far)) z images (pos m -ℤ pos above) v) source_is
-    ∙ (ap (λ (u : ℤ). mapped (free_graded (target_of sphere k far)) (lowered_row table i n above) images u v) low
-    ∙ ap (mapped (free_graded (target_of sphere k far)) (lowered_row table i n above) images (degree r (suc i) g -ℤ x)) same))
+    cc
 
 -- ---- values as images
 
@@ -114,7 +111,6 @@ are_images table sphere i k above n far vectors is_sphere here enough one widths
       widths = λ g l.
           let there : g < first_of r i n = omega arith in
           let low = degree-below r i n g (omega arith) there in
-          let zero = is_sphere.bottom in
           let u = degree r i g -ℤ (b0 +ℤ pos above) in
           let v : degree_at (lowered_row table i n above) g ≡ u = degree-lowered r i n above g there in
           widths g (omega arith) ∙ (sym (width-take (bottom_of sphere.resolved) (row_of (plain_rows sphere.rows) k) far u (omega (arith, ints))) ∙ ap (free_width (target_of sphere k far)) (sym v));
@@ -127,6 +123,5 @@ values_are_images table sphere s above n far c count k lift is_sphere reaches ma
     let rise = reaches.is_table.never_rise i in
     let e : s + suc k ≡ suc i = omega arith in
     let same_row = ap (λ (z : ℕ). length (row_in table.rows z)) e in
-    let here = reaches.here in
     are_images table sphere i k above n far (joined (row_values lift k)) is_sphere (omega arith) reaches.enough (made.values k (omega arith)).chosen.one_each
     (λ g l. value-fits table sphere reaches.is_table reaches.is_sphere_table is_sphere s above n far c count (suc k) lift made reaches.here reaches.enough reaches.there (omega arith) k g (omega arith) l)

@@ -57,7 +57,6 @@ with_value-more square (next ∷ squares) value some = refl
 pushed-from : (at : ℕ) (firsts : List ℕ) (n : ℕ) (vectors : List (List Bool)) (value : List Bool) → AreInOrder (at ∷ firsts) n → n ≡ at + length vectors → by_square (at ∷ firsts) (vectors ++ value ∷ []) ≡ with_value (by_square (at ∷ firsts) vectors) value
 pushed-from at [] n vectors value h e = refl
 pushed-from at (next ∷ firsts) n vectors value h e =
-    let here = h.0 in
     let end = end-from next firsts n h.1 in
     let rest = length-drop (next - at) vectors in
     let more = length-by_square (next ∷ firsts) (drop (next - at) vectors) in
@@ -105,7 +104,6 @@ first-from : (at : ℕ) (firsts : List ℕ) (n : ℕ) (vectors : List (List Bool
 first-from at firsts n vectors zero h e l = omega arith
 first-from at [] n vectors (suc above) h e l = absurd (omega arith)
 first-from at (next ∷ firsts) n vectors (suc above) h e l =
-    let here = h.0 in
     let end = end-from next firsts n h.1 in
     let rest = length-drop (next - at) vectors in
     let more = first-from next firsts n (drop (next - at) vectors) above h.1 (omega arith) (omega arith) in

@@ -70,17 +70,11 @@ module _ (laws : AreLaws) (r q : Resolution) (range : Range) (canonical : IsCano
   x_positive : 0 < x.s
   x_positive =
       let some = xy_is.some in
-      let i = inside.xy_row in
-      let k = inside.xy_degree in
-      let low = some.reaches in
       laws.units q q range.s range.t range.s range.t x y x.s some.top some.phi canonical_q canonical_q sphere (omega arith) inside.x_there (omega arith) (omega arith) inside.y_there (omega (arith, ints)) some.is_lift (subst IsZero some.gives xy_zero)
 
   y_positive : 0 < y.s
   y_positive =
       let some = yz_is.some in
-      let i = inside.yz_row in
-      let k = inside.yz_degree in
-      let low = some.reaches in
       laws.units r q range.s range.t range.s range.t y z y.s some.top some.phi canonical canonical_q sphere (omega arith) inside.y_there (omega arith) (omega arith) inside.z_there (omega (arith, ints)) some.is_lift (subst IsZero some.gives yz_zero)
 
   module _ (last low : ℕ) (x_row : x.s ≡ suc last) (y_row : y.s ≡ suc low) where
@@ -98,23 +92,14 @@ module _ (laws : AreLaws) (r q : Resolution) (range : Range) (canonical : IsCano
 
     room : HasRoom range.s range.t range.s range.t x y z n l
     room =
-        let i = inside.row in
-        let k = inside.xy_row in
         record { last = last; low = low; a_row = x_row; b_row = y_row; n_row = omega arith; l_row = omega arith; rows_r = omega arith; rows_q = omega arith; degrees_r = inside.degree; degrees_q = inside.xy_degree }
 
     beta : HasClassLift q q y.s y.above y.i x.s (degree_of_class q y) (top -ℤ degree_of_class r z)
     beta =
-        let i = inside.xy_row in
-        let k = inside.xy_degree in
-        let bottom = sphere.bottom in
         class_lift laws.lifts q q range canonical_q canonical_q sphere y.s y.above y.i x.s (degree_of_class q y) (top -ℤ degree_of_class r z) inside.y_there (omega arith) (omega arith) refl (omega (arith, ints))
 
     gamma : HasClassLift r q z.s z.above z.i l (degree_of_class r z) top
     gamma =
-        let i = inside.row in
-        let k = inside.xy_degree in
-        let m = inside.degree in
-        let bottom = sphere.bottom in
         class_lift laws.lifts r q range canonical canonical_q sphere z.s z.above z.i l (degree_of_class r z) top inside.z_there (omega arith) (omega arith) refl (omega (arith, ints))
 
     low_top : (top -ℤ degree_of_class r z) ≤ℤ (q.base.bottom +ℤ pos range.t)
@@ -123,7 +108,6 @@ module _ (laws : AreLaws) (r q : Resolution) (range : Range) (canonical : IsCano
 
     product_zero : HasZeroProduct r q x y z l top
     product_zero =
-        let bottom = sphere.bottom in
         let given = xy_is.each (product_by q q x beta.phi (y.s + x.s) (x.above + y.above)) (record { top = top -ℤ degree_of_class r z; phi = beta.phi; reaches = omega (arith, ints); is_lift = beta.is_lift; gives = refl }) in
         let same : y.s + x.s ≡ suc l = omega arith in
         record {
@@ -134,7 +118,6 @@ module _ (laws : AreLaws) (r q : Resolution) (range : Range) (canonical : IsCano
 
     lower_zero : HasZeroLower r q x y z n l top gamma.phi
     lower_zero =
-        let m = y.s in
         let less = IsLift-less r q z.s (degree_of_class r z) (dual_of r q z.s (degree_of_class r z) (number_of r z)) l y.s top gamma.phi (omega arith) gamma.is_lift in
         let given = yz_is.each (product_by r q y gamma.phi (z.s + y.s) (y.above + z.above)) (record { top = top; phi = gamma.phi; reaches = omega (arith, ints); is_lift = less; gives = refl }) in
         let same : z.s + y.s ≡ suc n = omega arith in
@@ -174,10 +157,7 @@ module _ (laws : AreLaws) (r q : Resolution) (range : Range) (canonical : IsCano
     lower_lift : (j : ℕ) → HasLowerLift j
     lower_lift j = elim (cases_lt j (count_of r n (y.above + z.above))) [
       | inl there ↦
-          let i = inside.row in
           let k = inside.yz_degree in
-          let m = inside.xy_degree in
-          let bottom = sphere.bottom in
           let lift = class_lift laws.lifts r q range canonical canonical_q sphere n (y.above + z.above) j x.s lower_degree top there (omega arith) k (omega (arith, ints)) (omega (arith, ints)) in
           record { phi = lift.phi; is_lift = λ h. lift.is_lift }
       | inr past ↦ record { phi = λ k g. []; is_lift = λ h. absurd (omega arith) }

@@ -16,14 +16,6 @@ use Rattle.ext_brackets.specs.Inside.{HasSquare}
 
 product_square : (table sphere : Staircase) (range : Range) (a x : Class) (v : List Bool) → bottom_of sphere.resolved ≡ pos 0 → neg_ℤ MAX_DEGREE ≤ℤ bottom_of table.resolved → bottom_of table.resolved ≤ℤ MAX_DEGREE → IsProductOver table sphere range a x v → HasSquare a x
 product_square table sphere range a x v bottom least most p =
-    let a_row = p.places.a_is.row in
-    let a_small = p.places.a_is.inside.row_small in
-    let a_degree = p.places.a_is.degree in
-    let a_most = p.places.a_is.inside.degree_small in
-    let x_row = p.places.x_is.row in
-    let x_small = p.places.x_is.inside.row_small in
-    let x_degree = p.places.x_is.degree in
-    let x_most = p.places.x_is.inside.degree_small in
     record { row = omega arith; least = omega (arith, ints); most = omega (arith, ints) }
 
 module _ (table sphere : Staircase) (range : Range) (a b c : Class) (is_sphere : IsSphere (resolution_of sphere)) (least : neg_ℤ MAX_DEGREE ≤ℤ bottom_of table.resolved) (most : bottom_of table.resolved ≤ℤ MAX_DEGREE) where

@@ -1,5 +1,5 @@
 -- What is made over the tables that there are is what the canonical tables through the range have.
-use Rattle.std.proofs.Common.{◌≡◌, ◌≢◌, ℕ, zero, suc, ◌+◌, ℤ, pos, ◌-ℤ◌, Bool, List, refl, ap, sym, subst, ◌∙◌, arith}
+use Rattle.std.proofs.Common.{◌≡◌, ◌≢◌, ℕ, zero, suc, Bool, List, refl, ap, sym, subst, ◌∙◌, arith}
 use Rattle.std.specs.Prelude.{Option, Some, None, MatchOption, option_map, Result, Ok, Err, IsOkAnd}
 use Rattle.finite_module.specs.Checked.{sphere_file}
 use Rattle.finite_module.specs.DerivedAction.{derived_module}
@@ -83,12 +83,6 @@ module _ (table sphere : Staircase) (range : Range) (a b c : Class) where
   there none = classes_there a b c (through range table) (through range sphere) (parts_none range a b c (through range table) (through range sphere) (none_same table sphere range a b c none)).0
 
   module _ (all : IsCanonicalIn range table) (all_q : IsCanonicalIn range sphere) where
-    product_ab : (v : List Bool) → IsProductOver sphere sphere range a b v → (x y : ClassAbove) → IsAt (through range sphere) a x → IsAt (through range sphere) b y → IsYonedaProduct (through range sphere) (through range sphere) x y v
-    product_ab v p x y = product_at sphere sphere range all_q all_q a b v p x y
-
-    product_bc : (v : List Bool) → IsProductOver table sphere range b c v → (y z : ClassAbove) → IsAt (through range sphere) b y → IsAt (through range table) c z → IsYonedaProduct (through range table) (through range sphere) y z v
-    product_bc v p y z = product_at table sphere range all all_q b c v p y z
-
     told_by : AreThere a b c (through range table) (through range sphere) → (ab : List Bool) → IsProductOver sphere sphere range a b ab → (answer : Result (List ℕ) Refusal) → ((IsZero ab → ⊥) → answer ≡ Err (not_zero Ab a b ab))
         → ((t : AreThere a b c (through range table) (through range sphere)) → IsZero ab → IsToldOf Bc b c (through range table) (through range sphere) t.b_is.class t.c_is.class answer (IsOkAnd answer (IsBracketText a b c (through range table) (through range sphere) t.a_is.class t.b_is.class t.c_is.class)))
         → IsTold a b c (through range table) (through range sphere) answer
@@ -99,7 +93,7 @@ module _ (table sphere : Staircase) (range : Range) (a b c : Class) where
       a_at = t.a_is.at;
       b_at = t.b_is.at;
       c_at = t.c_is.at;
-      told = record { value = ab; product = product_ab ab p t.a_is.class t.b_is.class t.a_is.at t.b_is.at; nonzero = nonzero; zero = lower t };
+      told = record { value = ab; product = product_at sphere sphere range all_q all_q a b ab p t.a_is.class t.b_is.class t.a_is.at t.b_is.at; nonzero = nonzero; zero = lower t };
     }
 
     text_told : AreThere a b c (through range table) (through range sphere) → (made : Made) → IsBracketOver table sphere range a b c made → (text : List ℕ) → text ≡ bracket_text made.s made.t made.value made.indeterminacy.rows → IsTold a b c (through range table) (through range sphere) (Ok text)
@@ -107,13 +101,13 @@ module _ (table sphere : Staircase) (range : Range) (a b c : Class) where
         told_by there is.ab_zero.product is.ab_zero.is_product (Ok text) (λ not. absurd (not is.ab_zero.is_zero))
         (λ t w. record {
           value = is.bc_zero.product;
-          product = product_bc is.bc_zero.product is.bc_zero.is_product t.b_is.class t.c_is.class t.b_is.at t.c_is.at;
+          product = product_at table sphere range all all_q b c is.bc_zero.product is.bc_zero.is_product t.b_is.class t.c_is.class t.b_is.at t.c_is.at;
           nonzero = λ not. absurd (not is.bc_zero.is_zero);
           zero = λ k. record {
             value = made.value;
             rows = made.indeterminacy.rows;
             bracket = is.is_bracket all all_q t.a_is.class t.b_is.class t.c_is.class t.a_is.at t.b_is.at t.c_is.at;
-            is = shown ∙ (ap (λ (i : ℤ). bracket_text i made.t made.value made.indeterminacy.rows) is.s ∙ ap (λ (i : ℤ). bracket_text (pos (a.s + b.s + c.s) -ℤ pos 1) i made.value made.indeterminacy.rows) is.t);
+            is = cc;
           };
         })
 
@@ -123,7 +117,7 @@ module _ (table sphere : Staircase) (range : Range) (a b c : Class) where
     second_told : (v : List Bool) → first_fault table sphere range a b c ≡ None → IsNonzero table sphere range a b c 1 v → IsTold a b c (through range table) (through range sphere) (Err (not_zero Bc b c v))
     second_told v none k =
         told_by (there none) k.0.product k.0.is_product (Err (not_zero Bc b c v)) (λ not. absurd (not k.0.is_zero))
-        (λ t w. record { value = v; product = product_bc v k.1 t.b_is.class t.c_is.class t.b_is.at t.c_is.at; nonzero = λ not. refl; zero = λ u. absurd (k.2 u) })
+        (λ t w. record { value = v; product = product_at table sphere range all all_q b c v k.1 t.b_is.class t.c_is.class t.b_is.at t.c_is.at; nonzero = λ not. refl; zero = λ u. absurd (k.2 u) })
 
   -- what is told, where both tables are canonical in the range
   abbrev IsToldOver : Result (List ℕ) Refusal → Type 0

@@ -1,5 +1,5 @@
 -- There is at most one answer to what is asked of a bracket.
-use Rattle.std.proofs.Common.{◌≡◌, inl, inr, ℕ, ◌+◌, pos, ◌+ℤ◌, ◌-ℤ◌, Bool, false, List, length, ap, sym, subst, ◌∙◌, arith}
+use Rattle.std.proofs.Common.{◌≡◌, inl, inr, ℕ, ◌+◌, Bool, false, List, length, ap, sym, subst, ◌∙◌, arith}
 use Rattle.std.specs.Prelude.{◌↔◌, Option, Some, None, MatchOption, Result, Ok, Err, IsOkAnd}
 use Rattle.std.proofs.lemmas.Bool.{true≢false}
 use Rattle.f2_vec.specs.Vectors.{sum_of, bit, plus, zeros, IsZero}
@@ -15,7 +15,6 @@ use Rattle.bracket_laws.specs.Brackets.{top_of, IsBracketMember}
 use Rattle.chain_map.specs.declared.class.Class.{Class}
 use Rattle.chain_map.proofs.Classes.{class_is_once}
 use Rattle.massey.specs.Brackets.{IsZeroAtPivots, IsBracketOf}
-use Rattle.ext_chart.specs.Classes.{bracket_text}
 use Rattle.ext_products.specs.declared.refusal.Pair.{Pair}
 use Rattle.ext_products.specs.declared.refusal.Pair.TheVariants.{Ab, Bc}
 use Rattle.ext_products.specs.declared.refusal.Refusal.{Refusal}
@@ -95,10 +94,6 @@ module _ (unique : RowBasisIsUnique) (r q : Resolution) (a b c : ClassAbove) whe
   module _ (v w : List Bool) (es fs : List (List Bool)) (p : IsBracketOf r q a b c v es) (k : IsBracketOf r q a b c w fs) where
     other : IsCoset p.n p.l w fs
     other =
-        let pn = p.n_row in
-        let kn = k.n_row in
-        let pl = p.l_row in
-        let kl = k.l_row in
         let n : k.n ≡ p.n = omega arith in
         let l : k.l ≡ p.l = omega arith in
         subst (λ (i : ℕ). IsCoset i p.l w fs) n (subst (λ (i : ℕ). IsCoset k.n i w fs) l (coset_of w fs k))
@@ -128,7 +123,7 @@ module _ (unique : RowBasisIsUnique) (r q : Resolution) (a b c : Class) where
   text-unique x y z s t p k =
       let value = bracket_values unique r q x y z p.value k.value p.rows k.rows p.bracket k.bracket in
       let rows = bracket_rows unique r q x y z p.value k.value p.rows k.rows p.bracket k.bracket in
-      p.is ∙ (ap (λ (v : List Bool). bracket_text (pos (a.s + b.s + c.s) -ℤ pos 1) (a.t +ℤ b.t +ℤ c.t) v p.rows) value ∙ (ap (bracket_text (pos (a.s + b.s + c.s) -ℤ pos 1) (a.t +ℤ b.t +ℤ c.t) k.value) rows ∙ sym k.is))
+      cc
 
   made-unique : (x y z : ClassAbove) (s t : Result (List ℕ) Refusal) → IsOkAnd s (IsBracketText a b c r q x y z) → IsOkAnd t (IsBracketText a b c r q x y z) → s ≡ t
   made-unique x y z (Ok s) (Ok t) p k = ap (λ (u : List ℕ). Ok u) (text-unique x y z s t p k)

@@ -13,7 +13,6 @@ use Rattle.ext_chart.specs.Classes.{bracket_text}
 use Rattle.ext_products.specs.declared.refusal.Named.TheVariants.{A, B, C}
 use Rattle.ext_products.specs.declared.refusal.Pair.{Pair}
 use Rattle.ext_products.specs.declared.refusal.Pair.TheVariants.{Ab, Bc}
-use Rattle.ext_products.specs.declared.refusal.Target.{Target}
 use Rattle.ext_products.specs.declared.refusal.Target.TheVariants.{Product, Bracket}
 use Rattle.ext_products.specs.declared.refusal.Refusal.{Refusal}
 use Rattle.ext_products.specs.declared.refusal.Refusal.TheVariants.{NoClass, OutOfRange, Nonzero}
@@ -26,13 +25,10 @@ absent a b c zero count = NoClass A a count
 absent a b c (suc zero) count = NoClass B b count
 absent a b c (suc (suc n)) count = NoClass C c count
 
-abbrev pub target_numbered : ℕ → Target
-target_numbered zero = Product Ab
-target_numbered (suc zero) = Product Bc
-target_numbered (suc (suc n)) = Bracket
-
 abbrev pub past : ℕ → ℤ → ℤ → Refusal
-past which s t = OutOfRange (target_numbered which) s t
+past zero s t = OutOfRange (Product Ab) s t
+past (suc zero) s t = OutOfRange (Product Bc) s t
+past (suc (suc n)) s t = OutOfRange Bracket s t
 
 abbrev pub refusal_of : Range → Class → Class → Class → Resolution → Resolution → Option Refusal
 refusal_of range a b c r q = first_refusal (absent a b c) past range r q a b c

@@ -3,7 +3,7 @@ ghost use Rattle.std.specs.Prelude.{◌≡◌, ◌↔◌, ℕ, suc, Bool, List, 
 ghost use Rattle.massey.specs.declared.fault.MasseyFault.TheVariants.{Nonzero as NotZero};
 ghost use Rattle.ext_products.specs.declared.refusal.Refusal.{Refusal as WhyNot};
 ghost use Rattle.ext_products.specs.declared.refusal.ClassesFault.TheVariants.{Refused};
-ghost use Rattle.ext_brackets.specs.Brackets.{absent, target_numbered, not_zero, IsOfPlaces};
+ghost use Rattle.ext_brackets.specs.Brackets.{absent, past, not_zero, IsOfPlaces};
 ghost use Rattle.ext_brackets.specs.Inside.{fault_of, HasSquare};
 
 use chain_map::Class;
@@ -19,11 +19,7 @@ pub(crate) fn fault_of(fault: MasseyFault, a: Class, b: Class, c: Class) -> Clas
 {
     let refusal = match fault {
         MasseyFault::NoClass { which, count } => no_class(which, count, a, b, c),
-        MasseyFault::OutOfRange { which, s, t } => Refusal::OutOfRange {
-            target: target(which),
-            s,
-            t,
-        },
+        MasseyFault::OutOfRange { which, s, t } => out_of_range(which, s, t),
         MasseyFault::Nonzero { which, product } => match which {
             0 => nonzero(Pair::Ab, a, b, product),
             _ => nonzero(Pair::Bc, b, c, product),
@@ -59,15 +55,16 @@ fn no_class(which: u8, count: usize, a: Class, b: Class, c: Class) -> Refusal
     }
 }
 
-/// The target with this number: 0 for ab, 1 for bc, and 2 for the bracket.
-fn target(which: u8) -> Target
-    ensures { result ≡ target_numbered which }
+/// That the square (s, t) is past the range, by the number of the target: 0 for ab, 1 for bc and 2 for the bracket.
+fn out_of_range(which: u8, s: i32, t: i32) -> Refusal
+    ensures { result ≡ past which s t }
 {
-    match which {
+    let target = match which {
         0 => Target::Product(Pair::Ab),
         1 => Target::Product(Pair::Bc),
         _ => Target::Bracket,
-    }
+    };
+    Refusal::OutOfRange { target, s, t }
 }
 
 /// That the product of the classes `a` and `x` is not zero.

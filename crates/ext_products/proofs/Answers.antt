@@ -34,17 +34,9 @@ line_of s t i target_s target_t value = record { s = s; t = t; i = i; target_s =
 -- a line has what its class determines
 line-unique : (r q : Resolution) (a x : ClassAbove) (y z : ProductLine) → IsProductLine r q a x y → IsProductLine r q a x z → y ≡ z
 line-unique r q a x y z p k =
-    let s : y.s ≡ z.s = p.s ∙ sym k.s in
-    let t : y.t ≡ z.t = p.t ∙ sym k.t in
-    let i : y.i ≡ z.i = p.i ∙ sym k.i in
-    let target_s : y.target_s ≡ z.target_s = p.target_s ∙ sym k.target_s in
-    let target_t : y.target_t ≡ z.target_t = p.target_t ∙ sym k.target_t in
     let value : y.value ≡ z.value = p.product.each z.value k.product.some in
-    ap (λ (n : ℕ). line_of n y.t y.i y.target_s y.target_t y.value) s
-    ∙ (ap (λ (n : ℤ). line_of z.s n y.i y.target_s y.target_t y.value) t
-    ∙ (ap (λ (n : ℕ). line_of z.s z.t n y.target_s y.target_t y.value) i
-    ∙ (ap (λ (n : ℕ). line_of z.s z.t z.i n y.target_t y.value) target_s
-    ∙ (ap (λ (n : ℤ). line_of z.s z.t z.i z.target_s n y.value) target_t ∙ ap (λ (v : List Bool). line_of z.s z.t z.i z.target_s z.target_t v) value))))
+    let same : line_of y.s y.t y.i y.target_s y.target_t y.value ≡ line_of z.s z.t z.i z.target_s z.target_t z.value = cc in
+    same
 
 text-unique : (range : Range) (by : Class) (r q : Resolution) (x y : List ℕ) → IsProductsText range by r q x → IsProductsText range by r q y → x ≡ y
 text-unique range by r q x y p k =
@@ -69,7 +61,6 @@ pub product-exists : EachClassLifts → LiftsGiveOneProduct → (r q : Resolutio
 product-exists lifts one r q range a x canonical canonical_q sphere factor there =
     let row = factor.row in
     let degree = factor.degree in
-    let bottom = sphere.bottom in
     let long = canonical.canonical.squares x.s (omega arith) in
     let number = is_number r x.s x.above x.i (omega arith) factor.number in
     let top : ℤ = r.base.bottom +ℤ pos (a.above + x.above) in
@@ -136,21 +127,11 @@ text-exists lifts one r q range by canonical canonical_q sphere f =
     let lines = OneEach-made (IsFactor r range a) (IsProductLine r q a) (line-exists lifts one r q range a canonical canonical_q sphere f.there) (factors r range a) (are_factors r range a within.row within.degree) in
     (product_lines_text lines.0, record { a = a; at = f.at; lines = lines.0; are_lines = lines.1; is = refl })
 
-answer-by : (range : Range) (by : Class) (r q : Resolution) (count : ℕ) → (by.i < count → (text : List ℕ) × IsProductsText range by r q text) → (answer : Result (List ℕ) Refusal) × MatchOption (if nat_lt by.i count then None else Some count) (IsOkAnd answer (IsProductsText range by r q)) (λ n. answer ≡ Err (NoClass By by n))
-answer-by range by r q count text = elim (cases_lt by.i count) [
-  | inl l ↦
-      let test : nat_lt by.i count ≡ true = grind (arith, nat_tests) in
-      let made = text l in
-      let answer : Result (List ℕ) Refusal = Ok made.0 in
-      let P : Bool → Type 0 = λ b. MatchOption (if b then None else Some count) (IsOkAnd answer (IsProductsText range by r q)) (λ n. answer ≡ Err (NoClass By by n)) in
-      (answer, subst P (sym test) made.1)
-  | inr l ↦
-      let test : nat_lt by.i count ≡ false = grind (arith, nat_tests) in
-      let answer : Result (List ℕ) Refusal = Err (NoClass By by count) in
-      let P : Bool → Type 0 = λ b. MatchOption (if b then None else Some count) (IsOkAnd answer (IsProductsText range by r q)) (λ n. answer ≡ Err (NoClass By by n)) in
-      (answer, subst P (sym test) refl)
-]
+-- whether the class is there decides
+answer-by : (range : Range) (by : Class) (r q : Resolution) (count : ℕ) (there : Bool) → (there ≡ true → (text : List ℕ) × IsProductsText range by r q text) → (answer : Result (List ℕ) Refusal) × MatchOption (if there then None else Some count) (IsOkAnd answer (IsProductsText range by r q)) (λ n. answer ≡ Err (NoClass By by n))
+answer-by range by r q count true text = let made = text refl in (Ok made.0, made.1)
+answer-by range by r q count false text = (Err (NoClass By by count), refl)
 
 pub answers-exist : EachClassLifts → LiftsGiveOneProduct → (range : Range) (by : Class) → HasAnswer (IsProductsAnswer range by) range
 answers-exist lifts one range by r q canonical canonical_q sphere =
-    answer-by range by r q (class_count q by.s by.t) (λ l. text-exists lifts one r q range by canonical canonical_q sphere (found q by (above_of q.base.bottom by.t) refl l))
+    answer-by range by r q (class_count q by.s by.t) (nat_lt by.i (class_count q by.s by.t)) (λ e. text-exists lifts one r q range by canonical canonical_q sphere (found q by (above_of q.base.bottom by.t) refl (grind (arith, nat_tests, e))))

@@ -154,7 +154,6 @@ module _ (one : LiftsGiveOneProduct) (modules : ModulesAreSteenrodModules)
         let some = product.some in
         let rows = factor.row in
         let degrees = factor.degree in
-        let bottom = is_sphere.bottom in
         let x_degree = degree_of_class cut_r x in
         product-of-lift one cut_r whole_q range range (is_canonical table h range (whole range.s (omega arith)) modules all) (q_canonical sphere near are_q range full is_full modules) (record { bottom = is_sphere.bottom; one = is_sphere.one; none = is_sphere.none }) (class_above a) x rows degrees row within a_count v
         (record {
@@ -199,7 +198,6 @@ module _ (table sphere : Staircase) (range : Range) (by : Class) (are_q : IsCano
         let P : SteenrodModule → Type 0 = λ m. (full : List (List Content)) → IsCanonicalTable (module_over m) range.s range.t full → IsProductsAnswer range by (through range table) (resolution m full) answer in
         let row_within = is.inside.row_within in
         let near_range = within-reach range by (bottom_of sphere.resolved) is_sphere.bottom a.above is.degree in
-        let degree_within = is.inside.degree_within in
         subst P is_sphere_module (λ full is_full.
         let none = sym (same_missing sphere range by are_q full is_full is_sphere.bottom) ∙ there in
         subst (λ (o : Option ℕ). MatchOption o (IsOkAnd answer (IsProductsText range by (through range table) (resolution sphere.resolved.plain full))) (λ n. answer ≡ Err (NoClass By by n))) (sym none)

@@ -37,8 +37,6 @@ module _ (coset : BracketIsCoset) (r q : Resolution) (range : Range) (canonical 
 
   pub bracket_of : (first value : List Bool) (rows basis : List (List Bool)) → IsBracketMember r q a b c n l (top_of r a b c) first → length value ≡ whole → IsIndeterminacy r q a b c n l (top_of r a b c) rows → IsRowBasis whole rows basis → IsInSpan whole basis (sum_of first value) → IsZeroAtPivots basis value → IsBracketOf r q a b c value basis
   bracket_of first value rows basis member len spans is_basis in_span clear =
-      let bottom = sphere.bottom in
-      let degrees = room.degrees_q in
       let law = λ (w : List Bool) (is : IsBracketMember r q a b c n l (top_of r a b c) w).
       coset r q range.s range.t range.s range.t a b c n l (top_of r a b c) rows w canonical canonical_q sphere room (omega (arith, ints)) (omega (arith, ints)) a_there zero spans is in
       let reached : IsInSpan whole rows (sum_of value first) = (is_basis.same_span (sum_of value first)).1 (subst (IsInSpan whole basis) (sum_of-comm first value) in_span) in
@@ -96,7 +94,6 @@ module _ (coset : BracketIsCoset) (modules : ModulesAreSteenrodModules)
   zero_product : HasZeroProduct rc qc a b c l top
   zero_product =
       let i = s.inside in
-      let f = i.ab_row in
       let part = product_through sphere sphere range range a (p.b.s + p.a.s) (above_ab p) (map_of beta) (omega arith) i.ab_degree (omega arith) (omega arith) in
       record {
         beta = map_of beta;
@@ -106,22 +103,16 @@ module _ (coset : BracketIsCoset) (modules : ModulesAreSteenrodModules)
 
   a_there : p.a.i < count_of qc p.a.s p.a.above
   a_there =
-      let i = s.inside in
-      let f = i.ab_row in
-      let g = i.ab_degree in
       let same = count_through sphere range p.a.s p.a.above (omega arith) (omega arith) in
       omega (arith, s.a_in.generator)
 
-  assembled : (first value : List Bool) (rows basis : List (List Bool)) → length value ≡ size → IsMemberBy table sphere range p n first → AreSpanning table sphere range p n rows → IsRowBasis size rows basis → IsInSpan size basis (sum_of first value) → IsZeroAtPivots basis value → IsBracket table sphere range p value basis
-  assembled first value rows basis len member spanning is_basis in_span clear =
-      bracket_of coset rc qc range (is_canonical table s.is_table range (s.through_table range.s (omega arith)) modules all) (is_canonical sphere s.is_sphere_table range (s.through_sphere range.s (omega arith)) modules all_q) (record { bottom = s.is_sphere.bottom; one = s.is_sphere.one; none = s.is_sphere.none })
-      a b c n l n_row l_row room a_there zero_product first value rows basis (member l l_row) len (spanning l l_row) is_basis in_span clear
-
-  -- the same, as the call made it
+  -- the bracket, as the call made it
   pub assembled_in : (first value : List Bool) (rows given basis : List (List Bool)) (cols basis_cols : ℕ) → length first ≡ count_of (resolution_of table) (n + p.a.s) (above_of p) → length value ≡ length first → cols ≡ length first → basis_cols ≡ cols → given ≡ rows → IsMemberBy table sphere range p n first → AreSpanning table sphere range p n rows → IsRowBasis cols given basis → IsInSpan basis_cols basis (sum_of first value) → IsZeroAtPivots basis value → IsBracket table sphere range p value basis
   assembled_in first value rows given basis cols basis_cols len_first len cols_are basis_cols_are given_are member spanning is_basis in_span clear =
       let i = s.inside in
       let through_is : size ≡ count_of (resolution_of table) (n + p.a.s) (above_of p) = count_through table range (n + p.a.s) (above_of p) (omega (arith, i.row)) i.degree in
       let first_size : length first ≡ size = len_first ∙ sym through_is in
       let cols_size : cols ≡ size = cols_are ∙ first_size in
-      assembled first value rows basis (len ∙ first_size) member spanning (subst (λ (w : List (List Bool)). IsRowBasis size w basis) given_are (subst (λ (k : ℕ). IsRowBasis k given basis) cols_size is_basis)) (subst (λ (k : ℕ). IsInSpan k basis (sum_of first value)) (basis_cols_are ∙ cols_size) in_span) clear
+      bracket_of coset rc qc range (is_canonical table s.is_table range (s.through_table range.s (omega arith)) modules all) (is_canonical sphere s.is_sphere_table range (s.through_sphere range.s (omega arith)) modules all_q) (record { bottom = s.is_sphere.bottom; one = s.is_sphere.one; none = s.is_sphere.none })
+      a b c n l n_row l_row room a_there zero_product first value rows basis (member l l_row) (len ∙ first_size) (spanning l l_row)
+      (subst (λ (w : List (List Bool)). IsRowBasis size w basis) given_are (subst (λ (k : ℕ). IsRowBasis k given basis) cols_size is_basis)) (subst (λ (k : ℕ). IsInSpan k basis (sum_of first value)) (basis_cols_are ∙ cols_size) in_span) clear

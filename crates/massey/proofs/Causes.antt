@@ -1,17 +1,16 @@
 -- The products that decide whether there is a bracket.
 use Rattle.std.specs.Prelude.{IsTrue, ◌↔◌, IfSome, option_map, if◌then◌else◌}
 use Rattle.std.specs.Option.{option_or}
-use Rattle.std.proofs.Common.{rules, ◌≡◌, Option, Some, None, true, ℕ, ◌+◌, ◌-◌, ◌<◌, ℤ, pos, ◌+ℤ◌, ◌-ℤ◌, Bool, false, List, length, sym, subst, arith}
+use Rattle.std.proofs.Common.{rules, ◌≡◌, Option, Some, None, true, ℕ, ◌+◌, ◌-◌, ◌<◌, ℤ, Bool, false, List, length, sym, subst, arith}
 use Rattle.finite_module.specs.Graded.{ModulesAreSteenrodModules}
 use Rattle.f2_vec.specs.Vectors.{IsZero}
 use Rattle.square.specs.declared.range.Range.{Range}
-use Rattle.square.specs.Tables.{Staircase, row_in, IsTable, IsThrough}
-use Rattle.lift_laws.specs.Lifts.{IsSphere}
+use Rattle.square.specs.Tables.{Staircase, row_in, IsThrough}
 use Rattle.lift_laws.specs.Products.{Class as ClassAbove, count_of, product_by, LiftsGiveOneProduct}
 use Rattle.chain_map.specs.declared.class.Class.{Class}
 use Rattle.chain_map.specs.Lifting.{LiftValues, resolution_of, map_of, IsLiftOver, IsClassOf}
 use Rattle.yoneda.specs.declared.place.Place.{Place}
-use Rattle.chain_map.specs.Classes.{through, missing_in, IsAt, passes, no_class, out_of_range, class_refusal}
+use Rattle.chain_map.specs.Classes.{through, IsAt}
 use Rattle.chain_map.proofs.Classes.{class_is_once}
 use Rattle.yoneda.specs.Products.{class_above, IsPlaceOf, IsProductOver}
 use Rattle.yoneda.proofs.OneProduct.{at_place, product_by_lift}
@@ -19,7 +18,7 @@ use Rattle.massey.specs.declared.fault.MasseyFault.{MasseyFault}
 use Rattle.massey.specs.declared.fault.MasseyFault.TheVariants.{NoClass, OutOfRange, Nonzero, Memory}
 use Rattle.massey.specs.declared.places.Places.{Places}
 use Rattle.massey.specs.Brackets.{refusal_of, IsBracketOf, IsCause}
-use Rattle.massey.specs.Inside.{AreFound, AreInside, above_ab, above_bc, IsBracket, IsSetting}
+use Rattle.massey.specs.Inside.{AreFound, above_ab, above_bc, IsBracket, IsSetting}
 
 -- ---- refusals
 
@@ -43,14 +42,7 @@ range_is_refusal which s t true = tt
 range_is_refusal which s t false = tt
 
 refusal_is : (table sphere : Staircase) (range : Range) (a b c : Class) → IfSome (refusal_of table sphere range a b c) IsRefusal
-refusal_is table sphere range a b c =
-    let r = through range table in
-    let q = through range sphere in
-    or_refusal (class_refusal NoClass r q a b c) _
-    (or_refusal (no_class (NoClass 0) q a) _ (class_is_refusal 0 (missing_in q a)) (or_refusal (no_class (NoClass 1) q b) (no_class (NoClass 2) r c) (class_is_refusal 1 (missing_in q b)) (class_is_refusal 2 (missing_in r c))))
-    (or_refusal (out_of_range (OutOfRange 0) range q (pos (a.s + b.s)) (a.t +ℤ b.t)) _ (range_is_refusal 0 (pos (a.s + b.s)) (a.t +ℤ b.t) (passes range q (pos (a.s + b.s)) (a.t +ℤ b.t)))
-    (or_refusal (out_of_range (OutOfRange 1) range r (pos (b.s + c.s)) (b.t +ℤ c.t)) _ (range_is_refusal 1 (pos (b.s + c.s)) (b.t +ℤ c.t) (passes range r (pos (b.s + c.s)) (b.t +ℤ c.t)))
-    (range_is_refusal 2 (pos (a.s + b.s + c.s) -ℤ pos 1) (a.t +ℤ b.t +ℤ c.t) (passes range r (pos (a.s + b.s + c.s) -ℤ pos 1) (a.t +ℤ b.t +ℤ c.t)))))
+refusal_is table sphere range a b c = search (or_refusal, class_is_refusal, range_is_refusal)
 
 named : (table sphere : Staircase) (range : Range) (a b c : Class) (f : MasseyFault) → IsRefusal f → refusal_of table sphere range a b c ≡ Some f → IsCause table sphere range a b c f
 named table sphere range a b c (NoClass which count) r e = e
@@ -63,32 +55,16 @@ cause_of_refusal table sphere range a b c f e =
     let P : Option MasseyFault → Type 0 = λ o. IfSome o IsRefusal in
     named table sphere range a b c f (subst P e (refusal_is table sphere range a b c)) e
 
-pub setting_of : (table sphere : Staircase) (range : Range) → IsTable table → IsTable sphere → IsThrough range table.rows → IsThrough range sphere.rows → IsSphere (resolution_of sphere) → (a b c : Class) (p : Places) → AreFound table sphere range a b c p → AreInside range p.a p.b p.c → IsSetting table sphere range p
-setting_of table sphere range h hq whole whole_q is_sphere a b c p found inside = record {
-  is_table = h;
-  is_sphere_table = hq;
-  through_table = whole;
-  through_sphere = whole_q;
-  is_sphere = is_sphere;
-  a_in = found.a_is.inside;
-  b_in = found.b_is.inside;
-  c_in = found.c_is.inside;
-  inside = inside;
-}
-
 module _ (one : LiftsGiveOneProduct) (modules : ModulesAreSteenrodModules)
     (table sphere : Staircase) (range : Range) (a b c : Class) (p : Places) (s : IsSetting table sphere range p) (found : AreFound table sphere range a b c p) where
   pub ab_product : (beta : LiftValues) → IsLiftOver sphere sphere p.b.s p.b.above p.b.i p.a.s beta → (v : List Bool) → v ≡ product_by (resolution_of sphere) (resolution_of sphere) (class_above p.a) (map_of beta) (p.b.s + p.a.s) (above_ab p) → IsProductOver sphere sphere range a b v
   ab_product beta lifted v gives =
       let i = s.inside in
-      let r = i.ab_row in
       product_by_lift one modules sphere sphere s.is_sphere_table s.is_sphere_table range s.through_sphere s.through_sphere s.is_sphere a b p.a p.b (record { a_is = found.a_is; x_is = found.b_is; row_within = i.ab_row; degree_within = i.ab_degree }) p.a.s (omega arith) (omega arith) beta lifted v gives
 
   pub bc_product : (gamma : LiftValues) → IsLiftOver table sphere p.c.s p.c.above p.c.i (p.b.s + (p.a.s - 1)) gamma → (v : List Bool) → v ≡ product_by (resolution_of table) (resolution_of sphere) (class_above p.b) (map_of gamma) (p.c.s + p.b.s) (above_bc p) → IsProductOver table sphere range b c v
   bc_product gamma lifted v gives =
       let i = s.inside in
-      let r = i.bc_row in
-      let t = i.row in
       product_by_lift one modules table sphere s.is_table s.is_sphere_table range s.through_table s.through_sphere s.is_sphere b c p.b p.c (record { a_is = found.b_is; x_is = found.c_is; row_within = i.bc_row; degree_within = i.bc_degree }) (p.b.s + (p.a.s - 1)) (omega arith) (omega arith) gamma lifted v gives
 
 -- the bracket, by the classes that stand at the places

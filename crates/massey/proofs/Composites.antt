@@ -54,7 +54,6 @@ module _ (table sphere : Staircase) (range : Range) (p : Places) (n : ℕ) (beta
       let s = c.setting in
       let here = row_there k l in
       let there = sphere_row_there k l in
-      let all = s.is_table.rows in
       let within = row_within table.rows (n + k) 0 (omega arith) in
       let e : n + 0 ≡ n = omega arith in
       let same = ap (λ (i : ℕ). length (row_in table.rows i)) e in
@@ -66,7 +65,6 @@ module _ (table sphere : Staircase) (range : Range) (p : Places) (n : ℕ) (beta
   has_place k i g l long there j e =
       let len = length-row_of table.rows i in
       let low = degree-below r i (above_of p + 1) g (omega arith) there in
-      let zero = c.setting.is_sphere.bottom in
       let far = sphere_row_there k l in
       let at : j ≤ p.a.above = omega (arith, ints) in
       omega arith
@@ -144,14 +142,12 @@ module _ (table sphere : Staircase) (range : Range) (p : Places) (n : ℕ) (beta
       let number = (is_number r (suc (n + k)) j h (omega arith) there).degree_is in
       let at = ap (λ (i : ℕ). degree r i g) (gamma_at k) in
       let t = degree r (p.c.s + (p.b.s + k)) g -ℤ (bottom_of table.resolved +ℤ pos p.c.above) in
-      let zero = c.setting.is_sphere.bottom in
       (gamma_are k l).widths g (gamma_there k j h l b there)
       ∙ sym (low_width (bottom_of sphere.resolved) (row_of (plain_rows sphere.rows) (p.b.s + k)) p.b.above (above_ab p + 1) t (pos j -ℤ pos (above_bc p)) (omega (arith, ints)) (omega (arith, ints)))
 
   -- degrees are within the reach of the Milnor bases
   pub bracket_reach : above_of p ≤ MAX_T
   bracket_reach =
-      let degree = c.setting.inside.degree in
       let short = row_short table c.setting.is_table n in
       let long = c.setting.through_table n (let row = c.setting.inside.row in let e = c.n_row in let a = c.lifts.a_row in omega arith) in
       omega arith

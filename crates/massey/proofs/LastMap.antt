@@ -108,8 +108,6 @@ module _ (minimal : CanonicalTableIsMinimalResolution) (modules : ModulesAreStee
       let count = length-images_of (pos 0 -ℤ pos (above_bc p)) (take (above_of p + 1) (row_of (plain_rows table.rows) n)) in
       let u = degree rc n g -ℤ (x +ℤ y) in
       let e = w-is in
-      let zero = c.setting.is_sphere.bottom in
-      let degree_a = c.setting.inside.degree in
       let lower = degree-lowered r n (above_of p + 1) (above_bc p) g there in
       let at : degree_at source g ≡ u = omega (arith, ints) in
       let wide : free_width target u ≡ free_width (gens qc 0) u = width-take (bottom_of sphere.resolved) (row_of (plain_rows sphere.rows) 0) (p.a.above + 1) u (omega (arith, ints)) ∙ same-width 0 u (omega arith) (omega (arith, ints)) in
@@ -125,14 +123,11 @@ module _ (minimal : CanonicalTableIsMinimalResolution) (modules : ModulesAreStee
   fits : (k g : ℕ) → k < p.a.s → g < length (gens rc (suc (n + k))) → degree rc (suc (n + k)) g ≤ℤ top → length (H (suc k) g) ≡ free_width (gens qc (suc k)) (degree rc (suc (n + k)) g -ℤ (x +ℤ y))
   fits k g l b low =
       let next = made.next k l in
-      let one = next.one_each in
       let i = suc (n + k) in
       let row_in_range = next-row k l in
       let there = with-value i g row_in_range b low in
       let same = same-degree i g row_in_range b in
       let e = w-is in
-      let zero = c.setting.is_sphere.bottom in
-      let degree_a = c.setting.inside.degree in
       let row_q = sphere_row_inside table sphere range p n beta gamma c (suc k) (omega arith) in
       let at : degree r i g -ℤ w ≡ degree rc i g -ℤ (x +ℤ y) = omega (arith, ints) in
       next_width table sphere range p n beta gamma c k g (made.maps k) (made.maps (suc k)) l next (omega arith)
@@ -141,17 +136,12 @@ module _ (minimal : CanonicalTableIsMinimalResolution) (modules : ModulesAreStee
   goal-is : (k g : ℕ) → k < p.a.s → g < length (gens rc (suc (n + k))) → degree rc (suc (n + k)) g ≤ℤ top
       → homotopy_goal table sphere p n k (beta_values sphere p beta k) gamma (made.maps k) g ≡ sum_of (composed qc p.b.s y x (map_of beta) (map_of gamma) k (degree rc (suc (n + k)) g) g) (lowered rc (n + k) qc k (x +ℤ y) (H k) (degree rc (suc (n + k)) g) (image rc (suc (n + k)) g))
   goal-is k g l b low =
-      let s = c.setting in
       let i = suc (n + k) in
       let row_in_range = next-row k l in
       let same = same-degree i g row_in_range b in
       let im = same-image i g row_in_range b in
       let t = degree rc i g in
       let e = w-is in
-      let zero = s.is_sphere.bottom in
-      let inside = s.inside in
-      let degree_of = inside.degree in
-      let degree_ab = inside.ab_degree in
       let row_k = row_inside table sphere range p n beta gamma c k (omega arith) in
       let row_q = sphere_row_inside table sphere range p n beta gamma c k (omega arith) in
       let u = degree r i g -ℤ w in
@@ -174,8 +164,6 @@ module _ (minimal : CanonicalTableIsMinimalResolution) (modules : ModulesAreStee
       let there = with-value i g row_in_range b low in
       let same = same-degree i g row_in_range b in
       let e = w-is in
-      let zero = s.is_sphere.bottom in
-      let degree_of = s.inside.degree in
       let row_q = sphere_row_inside table sphere range p n beta gamma c (suc k) (omega arith) in
       let one = chosen k g l there in
       let long = s.through_sphere range.s (omega arith) in
@@ -209,11 +197,7 @@ module _ (minimal : CanonicalTableIsMinimalResolution) (modules : ModulesAreStee
   zero_lower =
       let s = c.setting in
       let inside = s.inside in
-      let bc_row = inside.bc_row in
-      let ab_row = inside.ab_row in
-      let e = c.n_row in
       let b = class_above p.b in
-      let bc_degree = inside.bc_degree in
       let part = product_through table sphere range range b (p.c.s + p.b.s) (above_bc p) (map_of gamma) (omega arith) inside.bc_degree (omega arith) (omega arith) in
       record {
         gamma_lift = gamma_through table sphere range p s all all_q beta gamma c.lifts l l_row;
@@ -224,13 +208,8 @@ module _ (minimal : CanonicalTableIsMinimalResolution) (modules : ModulesAreStee
   is_last_map =
       let s = c.setting in
       let inside = s.inside in
-      let ab_row = inside.ab_row in
-      let ab_degree = inside.ab_degree in
-      let degree_of = inside.degree in
-      let zero = s.is_sphere.bottom in
       let sphere_c : IsSphere qc = record { bottom = s.is_sphere.bottom; one = s.is_sphere.one; none = s.is_sphere.none } in
       let count = count_through sphere range p.b.s p.b.above (omega arith) (omega arith) in
-      let there = s.b_in.generator in
       record {
         H = H;
         homotopy = made_homotopy rc qc range.s range.t range.s range.t p_resolved q_resolved (class_above p.a) (class_above p.b) (class_above p.c) n l sphere_c (room_of table sphere range p inside beta gamma c.lifts n c.n_row l l_row) top (omega arith) (map_of gamma) (map_of beta) zero_lower (beta_through table sphere range p s all all_q beta gamma c.lifts l l_row) (omega (arith, ints)) H are_made;

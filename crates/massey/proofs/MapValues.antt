@@ -41,7 +41,6 @@ module _ (table sphere : Staircase) (range : Range) (p : Places) (n : ℕ) (beta
 
   pub next_width : (k g : ℕ) (below vectors : List (List Bool)) → k < p.a.s → AreNext table sphere p n beta gamma k below vectors → g < length vectors → length (row vectors g) ≡ free_width (gens q (suc k)) (degree r (suc (n + k)) g -ℤ w)
   next_width k g below vectors l next b =
-      let one = next.one_each in
       value_width sphere (suc k) (degree r (suc (n + k)) g -ℤ w) (has_place table sphere range p n beta gamma c (suc k) (suc (n + k)) g (omega arith) (next_row_there k l) (omega arith)) (homotopy_goal table sphere p n k (beta_values sphere p beta k) gamma below g) (row vectors g) (next.each g b)
 
   -- they are the images of a map
@@ -83,11 +82,9 @@ module _ (table sphere : Staircase) (range : Range) (p : Places) (n : ℕ) (beta
       let e : suc (n + k) ≡ n + p.a.s = omega arith in
       let next = m.next k (omega arith) in
       let all : m.maps (suc k) ≡ last = ap m.maps (sym a_row) ∙ m.here in
-      let one = next.one_each in
       let here = next_row_there k (omega arith) in
       let len = length-row_of table.rows (suc (n + k)) in
       let more = first_of-more r (suc (n + k)) (above_of p) in
-      let zero = c.setting.is_sphere.bottom in
       let P : ℕ → List (List Bool) → Type 0 = λ i v. AreOnSquare table sphere p.a i (above_of p) v in
       let Q : ℕ → ℕ → Type 0 = λ s h. length (row (m.maps (suc k)) (first_of r (suc (n + k)) (above_of p) + h)) ≡ free_width (gens q s) (bottom_of sphere.resolved +ℤ pos p.a.above) in
       let on : P (suc (n + k)) (m.maps (suc k)) = record {

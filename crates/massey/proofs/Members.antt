@@ -59,30 +59,18 @@ module _ (table sphere : Staircase) (range : Range) (p : Places) (s : IsSetting 
   module _ (beta gamma : LiftValues) (lifts : AreLifts table sphere p beta gamma) (l : ℕ) (l_row : suc l ≡ p.b.s + p.a.s) where
     pub gamma_through : IsLiftOfClass rc qc c l top (map_of gamma)
     gamma_through =
-        let i = s.inside in
-        let row = i.row in
-        let degree = i.degree in
-        let bottom = s.is_sphere.bottom in
-        let a_row = lifts.a_row in
         let same : p.b.s + lifts.last ≡ l = omega arith in
         subst (λ (k : ℕ). IsLiftOfClass rc qc c k top (map_of gamma)) same
         (made_through table p.c (p.b.s + lifts.last) gamma top lifts.gamma_lift all s.is_table s.through_table (omega arith) (omega arith) (omega (arith, ints)) (omega (arith, ints)))
 
     pub beta_through : IsLiftOfClass qc qc b p.a.s (top -ℤ degree_of_class rc c) (map_of beta)
     beta_through =
-        let i = s.inside in
-        let row = i.ab_row in
-        let degree = i.ab_degree in
-        let bottom = s.is_sphere.bottom in
         made_through sphere p.b p.a.s beta (top -ℤ degree_of_class rc c) lifts.beta_lift all_q s.is_sphere_table s.through_sphere (omega arith) (omega arith) (omega (arith, ints)) (omega (arith, ints))
 
   pub member_of : (beta gamma : LiftValues) → AreLifts table sphere p beta gamma → (n : ℕ) → suc n ≡ p.c.s + p.b.s → (last : List (List Bool)) → IsLastMap table sphere range p n beta gamma last → (v : List Bool)
       → v ≡ on_square r (n + p.a.s) (above_of p) (λ g. coefficient_of q a (row last g)) → IsMemberBy table sphere range p n v
   member_of beta gamma lifts n n_row last m v gives l l_row =
       let i = s.inside in
-      let in_row = i.row in
-      let in_ab = i.ab_row in
-      let in_ab_degree = i.ab_degree in
       let e = zeros (count_of qc l (above_ab p)) in
       let value : (g : ℕ) → coefficient_of q a (row last g) ≡ plus (coefficient_of qc a (m.H p.a.s g)) (dot e (coefficients qc l (above_ab p) (map_of gamma l g))) = λ g.
       ap (coefficient_of q a) (m.values g)

@@ -1,5 +1,5 @@
 -- What d has to take a value to, by the place of its generator in a square.
-use Rattle.std.proofs.Common.{◌≡◌, ℕ, suc, ◌+◌, ◌<◌, Bool, ℤ, pos, ◌+ℤ◌, ◌-ℤ◌, List, length, ap, ◌∙◌, arith}
+use Rattle.std.proofs.Common.{◌≡◌, ℕ, suc, ◌+◌, ◌<◌, Bool, ℤ, pos, ◌+ℤ◌, ◌-ℤ◌, List, length, ◌∙◌, arith}
 use Rattle.std.proofs.lemmas.Int.{ints}
 use Rattle.f2_vec.specs.Vectors.{sum_of}
 use Rattle.f2_vec.specs.Spans.{row}
@@ -10,11 +10,11 @@ use Rattle.square.specs.Squares.{bottom_of}
 use Rattle.square.specs.Tables.{Staircase, plain_rows, content_at}
 use Rattle.lift_laws.specs.Lifts.{degree}
 use Rattle.lift_laws.specs.Products.{first_of, count_of}
-use Rattle.chain_map.specs.Lifting.{lowered_row, LiftValues, resolution_of, map_of, target_of, next_goal}
+use Rattle.chain_map.specs.Lifting.{LiftValues, resolution_of, map_of}
 use Rattle.chain_map.proofs.Generators.{is_number}
 use Rattle.chain_map.proofs.Places.{next_goal_is}
 use Rattle.massey.specs.declared.places.Places.{Places}
-use Rattle.massey.specs.Inside.{above_of, above_ab, above_bc, AreMapsOf, homotopy_goal}
+use Rattle.massey.specs.Inside.{above_of, above_bc, AreMapsOf, homotopy_goal}
 
 module _ (table sphere : Staircase) (p : Places) (n k j h : ℕ) (there : j < length (row_of (plain_rows table.rows) (suc (n + k)))) (inside : h < count_of (resolution_of table) (suc (n + k)) j) where
   abbrev g : ℕ
@@ -27,16 +27,6 @@ module _ (table sphere : Staircase) (p : Places) (n k j h : ℕ) (there : j < le
   pub goal_is : (beta_basis map_basis : ℕ) (beta_source beta_target map_source map_target : List ℤ) → AreMapsOf table sphere p n k beta_basis map_basis beta_source beta_target map_source map_target → (beta below : List (List Bool)) (gamma : LiftValues) (inner image : List Bool) (u : ℤ) → u ≡ pos j -ℤ pos (above_bc p)
       → inner ≡ map_of gamma (p.b.s + k) g → image ≡ row (content_at table.rows (suc (n + k)) j).images h → sum_of (mapped (free_graded beta_target) beta_source beta u inner) (mapped (free_graded map_target) map_source below u image) ≡ homotopy_goal table sphere p n k beta gamma below g
   goal_is beta_basis map_basis beta_source beta_target map_source map_target m beta below gamma inner image u at inner_is image_is =
-      let target = target_of sphere k (p.a.above + 1) in
-      let source = lowered_row sphere (p.b.s + k) (above_ab p + 1) p.b.above in
-      let low = degree (resolution_of table) (suc (n + k)) g -ℤ (bottom_of table.resolved +ℤ pos (above_bc p)) in
-      let first : mapped (free_graded beta_target) beta_source beta u inner ≡ mapped (free_graded target) source beta low (map_of gamma (p.b.s + k) g) =
-      ap (λ (z : List ℤ). mapped (free_graded z) beta_source beta u inner) m.beta_target_is
-      ∙ (ap (λ (z : List ℤ). mapped (free_graded target) z beta u inner) m.beta_source_is
-      ∙ (ap (λ (z : ℤ). mapped (free_graded target) source beta z inner) (at ∙ degree_is)
-      ∙ ap (mapped (free_graded target) source beta low) inner_is)) in
-      let second : mapped (free_graded map_target) map_source below u image ≡ next_goal table sphere (n + k) k (above_bc p) (above_of p + 1) (p.a.above + 1) below g =
-      ap (λ (z : ℤ). mapped (free_graded map_target) map_source below z image) at
-      ∙ next_goal_is table sphere (n + k) k (above_bc p) (above_of p + 1) (p.a.above + 1) j h map_source map_target below image there inside m.map_source_is m.map_target_is image_is in
-      ap (λ (z : List Bool). sum_of z (mapped (free_graded map_target) map_source below u image)) first
-      ∙ ap (sum_of (mapped (free_graded target) source beta low (map_of gamma (p.b.s + k) g))) second
+      let low = at ∙ degree_is in
+      let below_is = next_goal_is table sphere (n + k) k (above_bc p) (above_of p + 1) (p.a.above + 1) j h map_source map_target below image there inside m.map_source_is m.map_target_is image_is in
+      cc

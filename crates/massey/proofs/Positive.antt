@@ -23,7 +23,6 @@ module _ (units : UnitsHaveNoZeroProducts) (modules : ModulesAreSteenrodModules)
   row_positive : (first : Staircase) → IsTable first → IsThrough range first.rows → IsCanonicalIn range first → (a x : Place) → a.i < length (content_at sphere.rows a.s a.above).images → x.i < length (content_at first.rows x.s x.above).images → (upto : ℕ) (lift : LiftValues) → IsLiftOver first sphere x.s x.above x.i upto lift → x.s + upto ≤ range.s → x.s + a.s ≤ range.s → a.above + x.above ≤ range.t
       → IsZero (product_by (resolution_of first) (resolution_of sphere) (class_above a) (map_of lift) (x.s + a.s) (a.above + x.above)) → 0 < a.s
   row_positive first h whole canonical a x a_there x_there upto lift lifted rows row degrees zero =
-      let bottom = s.is_sphere.bottom in
       let made = made_through table sphere range p s all all_q first x upto lift (bottom_of first.resolved +ℤ pos range.t) lifted canonical h whole rows (omega arith) (omega (arith, ints)) (omega (arith, ints)) in
       let part = product_through first sphere range range (class_above a) (x.s + a.s) (a.above + x.above) (map_of lift) row degrees (omega arith) (omega arith) in
       let count_q = count_through sphere range a.s a.above (omega arith) (omega arith) in
@@ -35,11 +34,8 @@ module _ (units : UnitsHaveNoZeroProducts) (modules : ModulesAreSteenrodModules)
 
   pub a_row_positive : (beta : LiftValues) → IsLiftOver sphere sphere p.b.s p.b.above p.b.i p.a.s beta → IsZero (product_by (resolution_of sphere) (resolution_of sphere) (class_above p.a) (map_of beta) (p.b.s + p.a.s) (above_ab p)) → 0 < p.a.s
   a_row_positive beta lifted zero =
-      let row = s.inside.ab_row in
       row_positive sphere s.is_sphere_table s.through_sphere all_q p.a p.b s.a_in.generator s.b_in.generator p.a.s beta lifted (omega arith) (omega arith) s.inside.ab_degree zero
 
   pub b_row_positive : (gamma : LiftValues) → IsLiftOver table sphere p.c.s p.c.above p.c.i (p.b.s + (p.a.s - 1)) gamma → IsZero (product_by (resolution_of table) (resolution_of sphere) (class_above p.b) (map_of gamma) (p.c.s + p.b.s) (above_bc p)) → 0 < p.b.s
   b_row_positive gamma lifted zero =
-      let row = s.inside.row in
-      let row_bc = s.inside.bc_row in
       row_positive table s.is_table s.through_table all p.b p.c s.b_in.generator s.c_in.generator (p.b.s + (p.a.s - 1)) gamma lifted (omega arith) (omega arith) s.inside.bc_degree zero

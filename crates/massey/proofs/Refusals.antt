@@ -1,5 +1,5 @@
 -- The first refusal of several.
-use Rattle.std.proofs.Common.{◌≡◌, ℕ, ◌+◌, ℤ, pos, ◌+ℤ◌, ◌-ℤ◌, Option, Some, None, ap, ◌∙◌, arith}
+use Rattle.std.proofs.Common.{◌≡◌, ◌+◌, pos, ◌+ℤ◌, ◌-ℤ◌, Option, Some, None, ◌∙◌, arith}
 use Rattle.std.specs.Option.{option_or}
 use Rattle.std.proofs.lemmas.Int.{ints}
 use Rattle.square.specs.declared.range.Range.{Range}
@@ -15,12 +15,6 @@ use Rattle.massey.specs.declared.places.Places.{Places}
 use Rattle.massey.specs.Brackets.{refusal_of}
 use Rattle.massey.specs.Inside.{place_refusal, AreFound}
 
-or_first : (o p : Option MasseyFault) (f : MasseyFault) → o ≡ Some f → option_or o p ≡ Some f
-or_first o p f e = ap (λ (q : Option MasseyFault). option_or q p) e
-
-or_next : (o p : Option MasseyFault) → o ≡ None → option_or o p ≡ p
-or_next o p e = ap (λ (q : Option MasseyFault). option_or q p) e
-
 module _ (table sphere : Staircase) (range : Range) (p : Places) where
   abbrev ab : Option MasseyFault
   ab = out_of_range (OutOfRange 0) range (through range sphere) (pos (p.a.s + p.b.s + 1) -ℤ pos 1) (bottom_of sphere.resolved +ℤ pos (p.a.above + p.b.above))
@@ -35,17 +29,16 @@ module _ (table sphere : Staircase) (range : Range) (p : Places) where
   all =
       let one : pos (p.a.s + p.b.s) ≡ pos (p.a.s + p.b.s + 1) -ℤ pos 1 = omega (arith, ints) in
       let two : pos (p.b.s + p.c.s) ≡ pos (p.b.s + p.c.s + 1) -ℤ pos 1 = omega (arith, ints) in
-      ap (λ (s : ℤ). option_or (out_of_range (OutOfRange 0) range (through range sphere) s (bottom_of sphere.resolved +ℤ pos (p.a.above + p.b.above))) (option_or (out_of_range (OutOfRange 1) range (through range table) (pos (p.b.s + p.c.s)) (bottom_of table.resolved +ℤ pos (p.b.above + p.c.above))) abc)) one
-      ∙ ap (λ (s : ℤ). option_or ab (option_or (out_of_range (OutOfRange 1) range (through range table) s (bottom_of table.resolved +ℤ pos (p.b.above + p.c.above))) abc)) two
+      cc
 
   pub refused_ab : (f : MasseyFault) → ab ≡ Some f → place_refusal table sphere range p ≡ Some f
-  refused_ab f e = all ∙ or_first ab (option_or bc abc) f e
+  refused_ab f e = all ∙ cc
 
   pub refused_bc : (f : MasseyFault) → ab ≡ None → bc ≡ Some f → place_refusal table sphere range p ≡ Some f
-  refused_bc f n e = all ∙ (or_next ab (option_or bc abc) n ∙ or_first bc abc f e)
+  refused_bc f n e = all ∙ cc
 
   pub refused_last : (o : Option MasseyFault) → ab ≡ None → bc ≡ None → abc ≡ o → place_refusal table sphere range p ≡ o
-  refused_last o n m e = all ∙ (or_next ab (option_or bc abc) n ∙ (or_next bc abc m ∙ e))
+  refused_last o n m e = all ∙ cc
 
 -- the rows and the degrees of the classes are those of their places
 pub rows_are : (table sphere : Staircase) (range : Range) (a b c : Class) (p : Places) → AreFound table sphere range a b c p → p.a.s + p.b.s + p.c.s ≡ a.s + b.s + c.s
@@ -60,23 +53,13 @@ pub record HaveDegrees (table sphere : Staircase) (a b c : Class) (p : Places) :
 module _ (table sphere : Staircase) (range : Range) (is_sphere : IsSphere (resolution_of sphere)) (a b c : Class) (p : Places) (found : AreFound table sphere range a b c p) where
   pub degrees_are : HaveDegrees table sphere a b c p
   degrees_are =
-      let bottom = is_sphere.bottom in
-      let da = found.a_is.degree in
-      let db = found.b_is.degree in
-      let dc = found.c_is.degree in
       record { ab = omega (arith, ints); bc = omega (arith, ints); abc = omega (arith, ints) }
 
   placed : range_refusal OutOfRange range (through range table) (through range sphere) a.s b.s c.s (a.t +ℤ b.t) (b.t +ℤ c.t) (a.t +ℤ b.t +ℤ c.t) ≡ place_refusal table sphere range p
-  placed =
-      ap (λ (s : ℕ). range_refusal OutOfRange range (through range table) (through range sphere) s b.s c.s (a.t +ℤ b.t) (b.t +ℤ c.t) (a.t +ℤ b.t +ℤ c.t)) found.a_is.row
-      ∙ (ap (λ (s : ℕ). range_refusal OutOfRange range (through range table) (through range sphere) p.a.s s c.s (a.t +ℤ b.t) (b.t +ℤ c.t) (a.t +ℤ b.t +ℤ c.t)) found.b_is.row
-      ∙ (ap (λ (s : ℕ). range_refusal OutOfRange range (through range table) (through range sphere) p.a.s p.b.s s (a.t +ℤ b.t) (b.t +ℤ c.t) (a.t +ℤ b.t +ℤ c.t)) found.c_is.row
-      ∙ (ap (λ (t : ℤ). range_refusal OutOfRange range (through range table) (through range sphere) p.a.s p.b.s p.c.s t (b.t +ℤ c.t) (a.t +ℤ b.t +ℤ c.t)) degrees_are.ab
-      ∙ (ap (λ (t : ℤ). range_refusal OutOfRange range (through range table) (through range sphere) p.a.s p.b.s p.c.s (bottom_of sphere.resolved +ℤ pos (p.a.above + p.b.above)) t (a.t +ℤ b.t +ℤ c.t)) degrees_are.bc
-      ∙ ap (λ (t : ℤ). range_refusal OutOfRange range (through range table) (through range sphere) p.a.s p.b.s p.c.s (bottom_of sphere.resolved +ℤ pos (p.a.above + p.b.above)) (bottom_of table.resolved +ℤ pos (p.b.above + p.c.above)) t) degrees_are.abc))))
+  placed = cc (found.a_is.row, found.b_is.row, found.c_is.row, degrees_are.ab, degrees_are.bc, degrees_are.abc)
 
   pub refused_by_places : (o : Option MasseyFault) → class_refusal NoClass (through range table) (through range sphere) a b c ≡ None → place_refusal table sphere range p ≡ o → refusal_of table sphere range a b c ≡ o
-  refused_by_places o none e = or_next (class_refusal NoClass (through range table) (through range sphere) a b c) (range_refusal OutOfRange range (through range table) (through range sphere) a.s b.s c.s (a.t +ℤ b.t) (b.t +ℤ c.t) (a.t +ℤ b.t +ℤ c.t)) none ∙ (placed ∙ e)
+  refused_by_places o none e = let same = placed ∙ e in cc
 
 pub refused_by_class : (table sphere : Staircase) (range : Range) (a b c : Class) (f : MasseyFault) → class_refusal NoClass (through range table) (through range sphere) a b c ≡ Some f → refusal_of table sphere range a b c ≡ Some f
-refused_by_class table sphere range a b c f e = or_first (class_refusal NoClass (through range table) (through range sphere) a b c) (range_refusal OutOfRange range (through range table) (through range sphere) a.s b.s c.s (a.t +ℤ b.t) (b.t +ℤ c.t) (a.t +ℤ b.t +ℤ c.t)) f e
+refused_by_class table sphere range a b c f e = cc

@@ -53,11 +53,6 @@ module _ (table sphere : Staircase) (range : Range) (p : Places) (s : IsSetting 
 
   products : (j : ℕ) → j < length rows → IsYonedaProduct rc qc a (z j) (row rows j)
   products j h =
-      let i = s.inside in
-      let in_row = i.row in
-      let in_degree = i.degree in
-      let ab_row = i.ab_row in
-      let ab_degree = i.ab_degree in
       are j h range range s.through_table s.through_sphere (omega arith) (omega arith) (omega arith) (omega arith) all all_q
 
   -- a lift of number j of the square of bc one row lower
@@ -79,12 +74,7 @@ module _ (table sphere : Staircase) (range : Range) (p : Places) (s : IsSetting 
   unfolding chosen
   chosen-is j (inl h) l =
       let made = (products j h).some in
-      let i = s.inside in
-      let degree = i.degree in
-      let ab = i.ab_row in
       let in_row = in_rows in
-      let bottom = s.is_sphere.bottom in
-      let reaches = made.reaches in
       let same : degree_of_class rc (z j) ≡ x = omega (arith, ints) in
       let at : p.a.above + above_bc p ≡ above_of p = omega arith in
       let w = degree_of_class rc (z j) in
@@ -103,9 +93,7 @@ module _ (table sphere : Staircase) (range : Range) (p : Places) (s : IsSetting 
   spanning beta gamma ls whole gives l l_row =
       let i = s.inside in
       let in_row = in_rows in
-      let ab = i.ab_row in
       let ab_degree = i.ab_degree in
-      let bc = i.bc_row in
       let count_rc : count_of rc n (above_bc p) ≡ count_of r n (above_bc p) = count_through table range n (above_bc p) (omega arith) i.bc_degree in
       let count_qc : count_of qc l (above_ab p) ≡ count_of q l (above_ab p) = count_through sphere range l (above_ab p) (omega arith) ab_degree in
       let F : ℕ → List Bool = λ j. product_by rc qc a (lifts j) (n + p.a.s) (above_of p) in

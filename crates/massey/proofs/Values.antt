@@ -3,58 +3,42 @@ use Rattle.std.proofs.Common.{◌≡◌, ℕ, suc, ◌+◌, ◌-◌, ◌<◌, po
 use Rattle.std.proofs.lemmas.Int.{ints}
 use Rattle.square.specs.declared.range.Range.{Range}
 use Rattle.square.specs.Tables.{Staircase, row_in, content_at}
-use Rattle.f2_vec.specs.Vectors.{IsZero}
-use Rattle.lift_laws.specs.Products.{product_by}
-use Rattle.chain_map.specs.Lifting.{LiftValues, resolution_of, map_of, IsLiftOver}
+use Rattle.chain_map.specs.Lifting.{LiftValues, IsLiftOver}
 use Rattle.yoneda.specs.declared.place.Place.{Place}
 use Rattle.yoneda.specs.Products.{class_above, IsThere}
 use Rattle.yoneda.proofs.Lifted.{HasRow, has_row}
 use Rattle.massey.specs.declared.places.Places.{Places}
-use Rattle.massey.specs.Inside.{above_of, above_ab, above_bc, AreInside, IsSetting, AreLifts}
+use Rattle.massey.specs.Inside.{above_of, above_ab, AreInside, IsSetting, AreLifts}
 use Rattle.bracket_laws.specs.Brackets.{HasRoom}
 
 module _ (table sphere : Staircase) (range : Range) (p : Places) (s : IsSetting table sphere range p) where
   pub a_is_there : IsThere sphere p.a
-  a_is_there = let i = s.inside in let b = i.ab_row in let d = i.ab_degree in let long = s.through_sphere p.a.s (omega arith) in record { square = omega arith; generator = s.a_in.generator }
+  a_is_there = let long = s.through_sphere p.a.s (omega arith) in record { square = omega arith; generator = s.a_in.generator }
 
   pub b_is_there : IsThere sphere p.b
-  b_is_there = let i = s.inside in let b = i.ab_row in let d = i.ab_degree in let long = s.through_sphere p.b.s (omega arith) in record { square = omega arith; generator = s.b_in.generator }
+  b_is_there = let long = s.through_sphere p.b.s (omega arith) in record { square = omega arith; generator = s.b_in.generator }
 
   -- the lift of b, for ab
   pub values_ab : (beta : LiftValues) → IsLiftOver sphere sphere p.b.s p.b.above p.b.i p.a.s beta → HasRow sphere sphere p.a p.b p.a.s beta
-  values_ab beta l = let i = s.inside in let b = i.ab_row in let d = i.ab_degree in let long = s.through_sphere p.a.s (omega arith) in has_row sphere sphere range s.through_sphere s.is_sphere p.a p.b p.a.s beta (omega arith) (omega arith) d (omega arith) l
+  values_ab beta l = let long = s.through_sphere p.a.s (omega arith) in has_row sphere sphere range s.through_sphere s.is_sphere p.a p.b p.a.s beta (omega arith) (omega arith) s.inside.ab_degree (omega arith) l
 
   -- the lift of c, for bc
   pub values_bc : (gamma : LiftValues) → IsLiftOver table sphere p.c.s p.c.above p.c.i (p.b.s + (p.a.s - 1)) gamma → HasRow table sphere p.b p.c (p.b.s + (p.a.s - 1)) gamma
-  values_bc gamma l = let i = s.inside in let r = i.row in let b = i.bc_row in let d = i.bc_degree in let long = s.through_sphere (p.b.s + (p.a.s - 1)) (omega arith) in has_row table sphere range s.through_table s.is_sphere p.b p.c (p.b.s + (p.a.s - 1)) gamma (omega arith) (omega arith) d (omega arith) l
+  values_bc gamma l = let long = s.through_sphere (p.b.s + (p.a.s - 1)) (omega arith) in has_row table sphere range s.through_table s.is_sphere p.b p.c (p.b.s + (p.a.s - 1)) gamma (omega arith) (omega arith) s.inside.bc_degree (omega arith) l
 
   -- the square of the bracket
   pub bracket_there : (n : ℕ) → suc n ≡ p.c.s + p.b.s → above_of p < length (row_in table.rows (n + p.a.s))
-  bracket_there n e = let i = s.inside in let r = i.row in let d = i.degree in let long = s.through_table (n + p.a.s) (omega arith) in omega arith
+  bracket_there n e = let long = s.through_table (n + p.a.s) (omega arith) in omega arith
 
   -- the lift of c, for the classes of the square of ab one row lower
   abbrev lower : ℕ → ℕ → Place
   lower l i = record { s = l; above = above_ab p; i = i }
 
   pub lower_there : (l i : ℕ) → suc l ≡ p.b.s + p.a.s → i < length (content_at sphere.rows l (above_ab p)).images → IsThere sphere (lower l i)
-  lower_there l i e h = let n = s.inside in let b = n.ab_row in let d = n.ab_degree in let long = s.through_sphere l (omega arith) in record { square = omega arith; generator = h }
+  lower_there l i e h = let long = s.through_sphere l (omega arith) in record { square = omega arith; generator = h }
 
   pub lower_values : (beta gamma : LiftValues) (lifts : AreLifts table sphere p beta gamma) (l i : ℕ) → suc l ≡ p.b.s + p.a.s → HasRow table sphere (lower l i) p.c (p.b.s + lifts.last) gamma
-  lower_values beta gamma lifts l i e = let n = s.inside in let r = n.row in let a = lifts.a_row in let d = n.degree in let long = s.through_sphere (p.b.s + lifts.last) (omega arith) in has_row table sphere range s.through_table s.is_sphere (lower l i) p.c (p.b.s + lifts.last) gamma (omega arith) (omega arith) d (omega arith) lifts.gamma_lift
-
--- where a and b are not in row 0
-pub are_lifts : (table sphere : Staircase) (p : Places) (beta gamma : LiftValues) → (p.a.s ≡ 0 → ⊥) → (p.b.s ≡ 0 → ⊥) → IsLiftOver sphere sphere p.b.s p.b.above p.b.i p.a.s beta → IsLiftOver table sphere p.c.s p.c.above p.c.i (p.b.s + (p.a.s - 1)) gamma
-    → IsZero (product_by (resolution_of sphere) (resolution_of sphere) (class_above p.a) (map_of beta) (p.b.s + p.a.s) (above_ab p)) → IsZero (product_by (resolution_of table) (resolution_of sphere) (class_above p.b) (map_of gamma) (p.c.s + p.b.s) (above_bc p)) → AreLifts table sphere p beta gamma
-are_lifts table sphere p beta gamma a_row b_row beta_lift gamma_lift ab_zero bc_zero = record {
-  low = p.b.s - 1;
-  last = p.a.s - 1;
-  b_row = let h = b_row in omega arith;
-  a_row = let h = a_row in omega arith;
-  beta_lift = beta_lift;
-  gamma_lift = gamma_lift;
-  ab_zero = ab_zero;
-  bc_zero = bc_zero;
-}
+  lower_values beta gamma lifts l i e = let long = s.through_sphere (p.b.s + lifts.last) (omega arith) in has_row table sphere range s.through_table s.is_sphere (lower l i) p.c (p.b.s + lifts.last) gamma (omega arith) (omega arith) s.inside.degree (omega arith) lifts.gamma_lift
 
 pub bracket_row : (p : Places) → (p.b.s ≡ 0 → ⊥) → pos (((p.c.s + p.b.s) - 1) + p.a.s) ≡ pos (p.a.s + p.b.s + p.c.s) -ℤ pos 1
 bracket_row p h = omega (arith, ints)
@@ -62,6 +46,4 @@ bracket_row p h = omega (arith, ints)
 -- the tables have the rows and degrees of a bracket
 pub room_of : (table sphere : Staircase) (range : Range) (p : Places) → AreInside range p.a p.b p.c → (beta gamma : LiftValues) → AreLifts table sphere p beta gamma → (n : ℕ) → suc n ≡ p.c.s + p.b.s → (l : ℕ) → suc l ≡ p.b.s + p.a.s → HasRoom range.s range.t range.s range.t (class_above p.a) (class_above p.b) (class_above p.c) n l
 room_of table sphere range p i beta gamma lifts n n_row l l_row =
-    let e = i.row in
-    let f = i.ab_row in
     record { last = lifts.last; low = lifts.low; a_row = lifts.a_row; b_row = lifts.b_row; n_row = n_row; l_row = l_row; rows_r = omega arith; rows_q = omega arith; degrees_r = i.degree; degrees_q = i.ab_degree }

@@ -1,6 +1,6 @@
 -- Three-fold Massey products on the tables of two resolutions (May, Matric Massey products; Bruner, Calculation of large Ext
 -- modules).
-use Rattle.std.specs.Prelude.{◌≡◌, ℕ, Bool, false, List, ◌+◌, ℤ, Option, ◌↔◌, zero, suc, Some, None, pos, ◌+ℤ◌, ◌-ℤ◌, length}
+use Rattle.std.specs.Prelude.{◌≡◌, ℕ, Bool, false, List, ◌+◌, Option, ◌↔◌, zero, suc, Some, None, pos, ◌+ℤ◌, ◌-ℤ◌, length}
 use Rattle.f2_vec.specs.Vectors.{bit, IsFirstOne, sum_of, IsZero}
 use Rattle.f2_vec.specs.Spans.{row, IsInSpan}
 use Rattle.f2_matrix.specs.Echelon.{IsRowBasis}
@@ -53,13 +53,18 @@ pub record HasZeroProduct (table sphere : Staircase) (range : Range) (a x : Clas
   pub is_product : IsProductOver table sphere range a x product
   pub is_zero : IsZero product
 
+-- how many generators there are `above` above the bottom in the row below this one: below row 0 there is none
+abbrev pub count_below : Resolution → ℕ → ℕ → ℕ
+count_below r zero above = 0
+count_below r (suc row) above = count_of r row above
+
 -- where a bracket is, that ab and bc are zero, and what it is where the tables are those of the canonical resolutions in the range
 pub record IsBracketOver (table sphere : Staircase) (range : Range) (a b c : Class) (bracket : Bracket) : Type 0 where
   pub s : bracket.s ≡ pos (a.s + b.s + c.s) -ℤ pos 1
   pub t : bracket.t ≡ a.t +ℤ b.t +ℤ c.t
   pub widths : bracket.indeterminacy.cols ≡ length bracket.value
-  pub one_each : (row above : ℕ) → suc row ≡ a.s + b.s + c.s → bracket.t ≡ bottom_of table.resolved +ℤ pos above →
-      length bracket.value ≡ count_of (resolution_of table) row above
+  pub one_each : (above : ℕ) → bracket.t ≡ bottom_of table.resolved +ℤ pos above →
+      length bracket.value ≡ count_below (resolution_of table) (a.s + b.s + c.s) above
   pub ab_zero : HasZeroProduct sphere sphere range a b
   pub bc_zero : HasZeroProduct table sphere range b c
   pub is_bracket : IsCanonicalIn range table → IsCanonicalIn range sphere → (x y z : ClassAbove) →

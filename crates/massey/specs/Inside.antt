@@ -53,9 +53,8 @@ pub record AreFound (table sphere : Staircase) (range : Range) (a b c : Class) (
 abbrev pub place_refusal : Staircase → Staircase → Range → Places → Option MasseyFault
 place_refusal table sphere range p =
     range_refusal OutOfRange range (through range table) (through range sphere) p.a.s p.b.s p.c.s
-    (bottom_of sphere.resolved +ℤ pos (p.a.above + p.b.above))
-    (bottom_of table.resolved +ℤ pos (p.b.above + p.c.above))
-    (bottom_of table.resolved +ℤ pos (p.a.above + p.b.above + p.c.above))
+    (bottom_of sphere.resolved +ℤ pos (above_ab p)) (bottom_of table.resolved +ℤ pos (above_bc p))
+    (bottom_of table.resolved +ℤ pos (above_of p))
 
 -- the bracket of the classes at these places of two tables, through the range
 abbrev pub IsBracket : Staircase → Staircase → Range → Places → List Bool → List (List Bool) → Type 0

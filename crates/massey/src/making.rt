@@ -9,7 +9,7 @@ ghost use Rattle.lift_laws.specs.Lifts.{IsSphere};
 ghost use Rattle.lift_laws.specs.Products.{count_of, product_by};
 ghost use Rattle.chain_map.specs.Lifting.{resolution_of, IsCanonicalIn, map_of, IsLiftOver};
 ghost use Rattle.yoneda.specs.Products.{class_above, IsPlaceOf, AreProducts};
-ghost use Rattle.massey.specs.Brackets.{refusal_of, IsBracketOver, IsCause};
+ghost use Rattle.massey.specs.Brackets.{refusal_of, count_below, IsBracketOver, IsCause};
 ghost use Rattle.massey.specs.Inside.{above_of, above_ab, above_bc, IsSetting, AreLifts, IsMemberBy, AreSpanning, IsBracket, lower_product};
 
 use crate::answer::Bracket;
@@ -130,9 +130,9 @@ fn by_lifts(
     ensures t { IfOk result
         (λ bracket. bracket.t ≡ bottom_of setting.now.table.now.resolved +ℤ pos (above_of setting.now.places)) }
     ensures widths { IfOk result (λ bracket. bracket.indeterminacy.cols ≡ length bracket.value) }
-    ensures one_each { IfOk result (λ bracket. (row : ℕ) →
-        suc row ≡ setting.now.places.a.s + setting.now.places.b.s + setting.now.places.c.s →
-        length bracket.value ≡ count_of (resolution_of setting.now.table.now) row (above_of setting.now.places)) }
+    ensures one_each { IfOk result (λ bracket. length bracket.value ≡ count_below
+        (resolution_of setting.now.table.now)
+        (setting.now.places.a.s + setting.now.places.b.s + setting.now.places.c.s) (above_of setting.now.places)) }
     ensures bracket { IfOk result (λ bracket. IsCanonicalIn setting.now.range setting.now.table.now →
         IsCanonicalIn setting.now.range setting.now.sphere.now →
         IsBracket setting.now.table.now setting.now.sphere.now setting.now.range setting.now.places bracket.value
@@ -160,9 +160,9 @@ fn empty(alloc: Global, setting: &Setting<'_>) -> Result<Bracket, Memory>
     ensures t { IfOk result
         (λ bracket. bracket.t ≡ bottom_of setting.now.table.now.resolved +ℤ pos (above_of setting.now.places)) }
     ensures widths { IfOk result (λ bracket. bracket.indeterminacy.cols ≡ length bracket.value) }
-    ensures one_each { IfOk result (λ bracket. (row : ℕ) →
-        suc row ≡ setting.now.places.a.s + setting.now.places.b.s + setting.now.places.c.s →
-        length bracket.value ≡ count_of (resolution_of setting.now.table.now) row (above_of setting.now.places)) }
+    ensures one_each { IfOk result (λ bracket. length bracket.value ≡ count_below
+        (resolution_of setting.now.table.now)
+        (setting.now.places.a.s + setting.now.places.b.s + setting.now.places.c.s) (above_of setting.now.places)) }
 {
     let places = setting.places;
     let count = match (places.a.s + places.b.s + places.c.s).checked_sub(1) {

@@ -28,12 +28,9 @@ module _ (m : Module) (rows part : List (List Content)) (k t : ℕ) (same : row_
   old_width-part n h = ap (λ (z : List Content). free_width (degrees_from m.bottom z) (m.bottom +ℤ pos n)) (before-part n h)
 
   pub on_square-part : (n : ℕ) (f : ℕ → Bool) → n ≤ t → on_square less k n f ≡ on_square whole k n f
-  on_square-part n f h =
-      ap (λ (first : ℕ). map (λ j. f (first + j)) (range_with_len 0 (count_of less k n))) (first_of-part n h)
-      ∙ ap (λ (count : ℕ). map (λ j. f (first_of whole k n + j)) (range_with_len 0 count)) (count_of-part n h)
+  on_square-part n f h = rw (first_of-part n h, count_of-part n h)
 
 pub product_by-part : (m w : Module) (r_rows r_part q_rows q_part : List (List Content)) (t u k n : ℕ) (a : Class) → row_of r_part k ≡ take (t + 1) (row_of r_rows k) → row_of q_part a.s ≡ take (u + 1) (row_of q_rows a.s) → n ≤ t → a.above ≤ u → (phi : ℕ → ℕ → List Bool) →
     product_by (record { base = m; table = r_part }) (record { base = w; table = q_part }) a phi k n ≡ product_by (record { base = m; table = r_rows }) (record { base = w; table = q_rows }) a phi k n
 product_by-part m w r_rows r_part q_rows q_part t u k n a r_same q_same h l phi =
-    ap (λ (old : ℕ). on_square (record { base = m; table = r_part }) k n (λ g. bit (phi a.s g) (old + a.i))) (old_width-part w q_rows q_part a.s u q_same a.above l)
-    ∙ on_square-part m r_rows r_part k t r_same n (λ g. coefficient_of (record { base = w; table = q_rows }) a (phi a.s g)) h
+    rw (old_width-part w q_rows q_part a.s u q_same a.above l) (on_square-part m r_rows r_part k t r_same n (λ g. coefficient_of (record { base = w; table = q_rows }) a (phi a.s g)) h)

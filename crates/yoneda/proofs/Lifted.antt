@@ -37,7 +37,6 @@ on_square_of table sphere is_sphere a x n v values far there =
     let more = first_of-more r i at in
     let fewer = images_taken (row_of r.table i) (at + 1) n (omega arith) in
     let one = length-joined table i n v values.one_each in
-    let bottom = is_sphere.bottom in
     record {
       enough = omega arith;
       widths = λ j l.

@@ -71,8 +71,6 @@ module _ (one : LiftsGiveOneProduct) (modules : ModulesAreSteenrodModules) (tabl
 
   pub product_of_lift : (range far : Range) → IsThrough range table.rows → IsThrough far sphere.rows → x.s + upto ≤ range.s → a.above + x.above ≤ range.t → upto ≤ far.s → most ≤ far.t + 1 → IsCanonicalIn range table → IsCanonicalIn far sphere → IsYonedaProduct (through range table) (through far sphere) (class_above a) (class_above x) v
   product_of_lift range far whole whole_q row degree row_q degree_q are are_q =
-      let bottom = is_sphere.bottom in
-      let near = reached.enough in
       let top = greatest table (a.above + x.above + 1) in
       let reaches : (bottom_of table.resolved +ℤ pos (a.above + x.above)) ≤ℤ top = omega (arith, ints) in
       let made = lifted.is_lift (a.above + x.above + 1) most reached (canonical_less table range.s (range.t + 1) (x.s + upto) (a.above + x.above + 1) are row (omega arith)) (canonical_less sphere far.s (far.t + 1) upto most are_q row_q degree_q) in
@@ -97,8 +95,6 @@ module _ (one : LiftsGiveOneProduct) (modules : ModulesAreSteenrodModules) (tabl
   pub product_of : IsProductThrough table sphere (class_above a) (class_above x) v
   product_of near far near_whole far_whole row degree a_row a_degree are are_q =
       let made = has_row table sphere range whole is_sphere a x a.s lift a_there.square (omega (arith, rows)) degrees (omega arith) lifted in
-      let reached = made.far in
-      let square = a_there.square in
       product_of_lift one modules table sphere h hq is_sphere a x a_there v a.s (a.above + 1) lift (omega arith) lifted
       (record { within = omega arith; some = λ m. omega arith; there = omega arith; enough = omega arith }) gives near far near_whole far_whole row degree a_row (omega arith) are are_q
 
@@ -108,7 +104,6 @@ module _ (one : LiftsGiveOneProduct) (modules : ModulesAreSteenrodModules)
     (lift : LiftValues) (lifted : IsLiftOver table sphere x.s x.above x.i upto lift) (v : List Bool) (gives : v ≡ product_by (resolution_of table) (resolution_of sphere) (class_above a) (map_of lift) (x.s + a.s) (a.above + x.above)) where
   is_product : IsCanonicalIn range table → IsCanonicalIn range sphere → IsYonedaProduct (through range table) (through range sphere) (class_above a) (class_above x) v
   is_product all all_q =
-      let row = places.row_within in
       let small = places.degree_within in
       let there = whole_q upto (omega arith) in
       let far = reaches table sphere range whole whole_q x.s x.above upto (a.above + x.above) rows small in

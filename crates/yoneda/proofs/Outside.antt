@@ -11,9 +11,6 @@ use Rattle.chain_map.specs.declared.class.Class.{Class}
 use Rattle.chain_map.specs.Classes.{through, class_count, missing_in}
 use Rattle.chain_map.proofs.Classes.{count_inside, count_outside}
 
-pub above_is : (bottom low t u : ℤ) (result : Option ℕ) (k : ℕ) → low ≡ bottom → u ≡ t → result ≡ above_of low u → result ≡ Some k → above_of bottom t ≡ Some k
-above_is bottom low t u result k b d is some = ap (λ (z : ℤ). above_of z t) (sym b) ∙ (ap (above_of low) (sym d) ∙ (sym is ∙ some))
-
 module _ (table : Staircase) (range : Range) (class : Class) where
   -- how many classes there are at its place
   abbrev counted : Option ℕ → ℕ

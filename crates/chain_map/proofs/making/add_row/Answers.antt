@@ -19,9 +19,6 @@ lift-at c =
 
 made-at : (c : After-index) → IsMade c.args.course.now.table.now c.args.course.now.sphere.now c.args.course.now.s c.args.course.now.above c.args.course.now.reach c.args.course.now.far (c.args.from + c.loop-j.j) c.args.k (slice_index_or c.loop-j.lifts.items c.loop-j.j no_lift)
 made-at c =
-    let test = c.loop-j-test.true in
-    let end = c.len-j-end.ensures in
-    let same = c.loop-j.invariant.one_each in
     c.loop-j.invariant.left c.loop-j.j (omega arith) (omega arith)
 
 pub overflow_add-from : goal.overflow_add-from
@@ -44,8 +41,6 @@ loop-j-preserved c =
     let new = c.push.new.self in
     let old = slice_index_or lifts j no_lift in
     let here = (goal.at.loop-j-preserved c).After-index in
-    let test = c.loop-j-test.true in
-    let end = c.len-j-end.ensures in
     let count = c.loop-j.invariant.one_each in
     let at = lift-at here in
     let inside : j < length lifts = omega arith in

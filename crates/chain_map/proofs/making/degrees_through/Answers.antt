@@ -9,7 +9,6 @@ use Rattle.chain_map.proofs.making.degrees_through.Goals as goal
 pub returns-in_default : goal.returns-in_default
 returns-in_default c =
     let row = row_in c.args.table.now.rows (c.args.s + c.args.upto) in
-    let all = c.requires.rows in
     let none : length row ≡ 0 = elim (cases_lt 0 (length row)) [
       | inl l ↦ let there = row_within c.args.table.now.rows (c.args.s + c.args.upto) 0 l in absurd (c.in_default.ensures (omega arith))
       | inr l ↦ omega arith

@@ -12,7 +12,6 @@ use Rattle.chain_map.proofs.making.lift.Goals.{After-above_at-above}
 pub prove-unreachable-requires : goal.prove-unreachable-requires
 prove-unreachable-requires c =
     let is = c.front-longest.ensures.is_table in
-    let front = c.front-longest.ensures.front in
     let more = never_rises c.args.table.now is 0 c.args.class.s (omega arith) in
     omega (arith, c.if-prove.true, c.requires.class.square)
 
@@ -34,14 +33,13 @@ returns c = λ above e.
     let all = c.in_ok-lifts.lifts.items in
     let rest = c.pop.new.self.items in
     let lift = c.in-Some.lift in
-    let one = c.in_ok-lifts.ensures.one_each in
     let parts : all ≡ rest ++ lift ∷ [] = c.in-Some.ensures.items in
     let len = ap length parts in
-    let none : length rest ≡ 0 = omega (arith, length_push rest lift) in
+    let none : length rest ≡ 0 = omega (arith, c.in_ok-lifts.ensures.one_each, length_push rest lift) in
     let at : slice_index_or all 0 no_lift ≡ lift = ap (λ (z : List LiftValues). slice_index_or z 0 no_lift) parts ∙ get_or_push rest lift no_lift 0 none in
     let t : to_z w32 (of_z w32 c.args.class.t) ≡ c.args.class.t = search rules in
     let same = above-is ((goal.at.returns c).After-above_at-above) above t e in
-    let first = subst (λ (k : ℕ). IsLiftOver table c.args.sphere.now class.s k (class.i + 0) c.args.upto (slice_index_or all 0 no_lift)) same (c.in_ok-lifts.ensures.lifts 0 (omega arith)) in
+    let first = subst (λ (k : ℕ). IsLiftOver table c.args.sphere.now class.s k (class.i + 0) c.args.upto (slice_index_or all 0 no_lift)) same (c.in_ok-lifts.ensures.lifts 0 (omega (arith, c.in_ok-lifts.ensures.one_each))) in
     let number : class.i + 0 ≡ class.i = omega arith in
     let P : LiftValues → Type 0 = λ z. IsLiftOver table c.args.sphere.now class.s above (class.i + 0) c.args.upto z in
     let Q : ℕ → Type 0 = λ i. IsLiftOver table c.args.sphere.now class.s above i c.args.upto lift in

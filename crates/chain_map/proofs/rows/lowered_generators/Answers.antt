@@ -13,8 +13,6 @@ push_many-requires c =
     let row = row_of (plain_rows table.rows) c.args.s in
     let len = length-row_of table.rows c.args.s in
     let k = c.loop-k.k in
-    let within = c.requires in
-    let test = c.loop-k-test.true in
     let at : to_z w32 (of_z w32 (to_z w32 (of_z w32 c.from.result) -ℤ to_z w32 (of_z w32 c.from-in-loop-k.result))) ≡ (pos 0 -ℤ pos c.args.above) +ℤ pos k = omega (arith, ints, c.from.ensures, c.from-in-loop-k.ensures, c.ranges.n.fits, c.ranges.above.fits) in
     record { not_below = at_most-row (pos 0 -ℤ pos c.args.above) (take k row) k c.loop-k.gens _ at c.loop-k.invariant (length-take-le k row (omega arith)) }
 
@@ -24,8 +22,6 @@ loop-k-preserved c =
     let row = row_of (plain_rows table.rows) c.args.s in
     let len = length-row_of table.rows c.args.s in
     let k = c.loop-k.k in
-    let within = c.requires in
-    let test = c.loop-k-test.true in
     let t : ℤ = to_z w32 (of_z w32 (to_z w32 (of_z w32 c.from.result) -ℤ to_z w32 (of_z w32 c.from-in-loop-k.result))) in
     let at : t ≡ (pos 0 -ℤ pos c.args.above) +ℤ pos k = omega (arith, ints, c.from.ensures, c.from-in-loop-k.ensures, c.ranges.n.fits, c.ranges.above.fits) in
     degrees_from-more (pos 0 -ℤ pos c.args.above) (take k row) (take (k + 1) row) (square_in row k) k c.loop-k.gens c.push_many.new.self t (take_more row k no_content (omega arith)) (length-take-le k row (omega arith)) at c.loop-k.invariant (c.in_ok-push_many.ensures.ok ∙ ap (λ (n : ℕ). c.loop-k.gens ++ replicate n t) (ap length c.images_of-count.ensures.images))

@@ -1,9 +1,10 @@
-use Rattle.std.proofs.Common.{ℕ, pos, ◌-ℤ◌, ap, sym, subst, ◌∙◌, arith}
+use Rattle.std.proofs.Common.{ℕ, ◌+◌, pos, ◌-ℤ◌, ap, sym, subst, ◌∙◌, arith}
 use Rattle.std.proofs.lemmas.Int.{ints}
 use Rattle.std.proofs.lemmas.Result.{err_from_is_err_and}
 use Rattle.f2_vec.specs.Vectors.{IsZero}
-use Rattle.lift_laws.specs.Products.{count_of}
 use Rattle.chain_map.specs.Lifting.{resolution_of}
+use Rattle.massey.specs.Brackets.{count_below}
+use Rattle.massey.specs.Inside.{above_of}
 use Rattle.massey.proofs.Refusals.{rows_are, degrees_are}
 use Rattle.massey.proofs.Values.{a_is_there, b_is_there, values_ab, values_bc}
 use Rattle.massey.proofs.Causes.{cause_of_refusal, ab_product, bc_product, bracket_at, zero_when, nonzero_when}
@@ -76,7 +77,7 @@ returns-clause-bracket c = record {
   s = c.in_ok-bracket.ensures.s ∙ ap (λ (n : ℕ). pos n -ℤ pos 1) (rows_are c.args.table.now c.args.sphere.now c.args.range c.args.a c.args.b c.args.c c.in_ok-places.places c.in_ok-places.ensures.found);
   t = c.in_ok-bracket.ensures.t ∙ sym (degrees_are c.args.table.now c.args.sphere.now c.args.range c.requires.sphere c.args.a c.args.b c.args.c c.in_ok-places.places c.in_ok-places.ensures.found).abc;
   widths = c.in_ok-bracket.ensures.widths;
-  one_each = λ row above e at. c.in_ok-bracket.ensures.one_each row (e ∙ sym (rows_are c.args.table.now c.args.sphere.now c.args.range c.args.a c.args.b c.args.c c.in_ok-places.places c.in_ok-places.ensures.found)) ∙ ap (count_of (resolution_of c.args.table.now) row) (omega (arith, ints, at, c.in_ok-bracket.ensures.t));
+  one_each = λ above at. c.in_ok-bracket.ensures.one_each ∙ (ap (λ (n : ℕ). count_below (resolution_of c.args.table.now) n (above_of c.in_ok-places.places)) (rows_are c.args.table.now c.args.sphere.now c.args.range c.args.a c.args.b c.args.c c.in_ok-places.places c.in_ok-places.ensures.found) ∙ ap (count_below (resolution_of c.args.table.now) (c.args.a.s + c.args.b.s + c.args.c.s)) (omega (arith, ints, at, c.in_ok-bracket.ensures.t)));
   ab_zero = record { product = c.in_ok-ab.ab; is_product = ab_product c.lifts_give_one_product.ensures c.modules_are_graded_modules.ensures c.args.table.now c.args.sphere.now c.args.range c.args.a c.args.b c.args.c c.in_ok-places.places c.in_ok-places.ensures.setting c.in_ok-places.ensures.found c.in_ok-beta.beta c.in_ok-beta.ensures c.in_ok-ab.ab c.in_ok-ab.ensures; is_zero = (zero_when c.is_zero.result c.in_ok-ab.ab c.is_zero.ensures c.if-not-is_zero.false) };
   bc_zero = record { product = c.in_ok-bc.bc; is_product = bc_product c.lifts_give_one_product.ensures c.modules_are_graded_modules.ensures c.args.table.now c.args.sphere.now c.args.range c.args.a c.args.b c.args.c c.in_ok-places.places c.in_ok-places.ensures.setting c.in_ok-places.ensures.found c.in_ok-gamma.gamma c.in_ok-gamma.ensures c.in_ok-bc.bc c.in_ok-bc.ensures; is_zero = (zero_when c.is_zero-2.result c.in_ok-bc.bc c.is_zero-2.ensures c.if-not-is_zero-2.false) };
   is_bracket = λ all all_q. bracket_at c.args.table.now c.args.sphere.now c.args.range c.args.a c.args.b c.args.c c.in_ok-places.places c.in_ok-places.ensures.found _ _ (c.in_ok-bracket.ensures.bracket all all_q);

@@ -1,20 +1,34 @@
-use Rattle.std.proofs.Common.{ℕ, ◌∙◌, ap, arith}
-use Rattle.lift_laws.specs.Products.{count_of}
+use Rattle.std.proofs.Common.{◌≡◌, ℕ, suc, ◌+◌, ◌-◌, ◌∙◌, ap, arith}
 use Rattle.chain_map.specs.Lifting.{resolution_of}
+use Rattle.massey.specs.Brackets.{count_below}
 use Rattle.massey.specs.Inside.{above_of}
 use Rattle.std.proofs.lemmas.Result.{IfOk-weaker}
 use Rattle.massey.proofs.Positive.{a_row_positive, b_row_positive}
-use Rattle.massey.proofs.Values.{are_lifts, bracket_row}
+use Rattle.massey.proofs.Values.{bracket_row}
 use Rattle.massey.proofs.making.by_lifts.Goals as goal
 
 pub coset-requires-clause-lifts : goal.coset-requires-clause-lifts
-coset-requires-clause-lifts c = are_lifts c.args.setting.now.table.now c.args.setting.now.sphere.now c.args.setting.now.places c.args.beta.now c.args.gamma.now c.if-places-eq0.false c.if-places-eq0-2.false c.requires.beta c.requires.gamma c.requires.ab_zero c.requires.bc_zero
+coset-requires-clause-lifts c =
+    let p = c.args.setting.now.places in
+    record {
+      low = p.b.s - 1;
+      last = p.a.s - 1;
+      b_row = omega (arith, c.if-places-eq0-2.false);
+      a_row = omega (arith, c.if-places-eq0.false);
+      beta_lift = c.requires.beta;
+      gamma_lift = c.requires.gamma;
+      ab_zero = c.requires.ab_zero;
+      bc_zero = c.requires.bc_zero;
+    }
 
 pub coset-requires-clause-n : goal.coset-requires-clause-n
-coset-requires-clause-n c = let h = c.if-places-eq0-2.false in omega arith
+coset-requires-clause-n c = omega (arith, c.if-places-eq0-2.false)
 
 pub returns-clause-one_each : goal.returns-clause-one_each
-returns-clause-one_each c = IfOk-weaker c.coset.result _ _ (λ bracket e row r. let h = c.if-places-eq0-2.false in e ∙ ap (λ (i : ℕ). count_of (resolution_of c.args.setting.now.table.now) i (above_of c.args.setting.now.places)) (omega arith)) c.coset.ensures.one_each
+returns-clause-one_each c =
+    let p = c.args.setting.now.places in
+    let row : suc ((p.c.s + p.b.s - 1) + p.a.s) ≡ p.a.s + p.b.s + p.c.s = omega (arith, c.if-places-eq0-2.false) in
+    IfOk-weaker c.coset.result _ _ (λ bracket e. e ∙ ap (λ (i : ℕ). count_below (resolution_of c.args.setting.now.table.now) i (above_of p)) row) c.coset.ensures.one_each
 
 pub returns-clause-s : goal.returns-clause-s
 returns-clause-s c = IfOk-weaker c.coset.result _ _ (λ bracket e. e ∙ bracket_row c.args.setting.now.places c.if-places-eq0-2.false) c.coset.ensures.s

@@ -1,7 +1,6 @@
 use Rattle.std.proofs.Common.{Some, None}
 use Rattle.std.proofs.lemmas.Result.{err_from_is_err_and}
 use Rattle.massey.proofs.Refusals.{refused_by_places, refused_by_class}
-use Rattle.massey.proofs.Causes.{setting_of}
 use Rattle.massey.proofs.places.places_of.Goals as goal
 
 pub are_inside-requires-clause-a_in : goal.are_inside-requires-clause-a_in
@@ -27,4 +26,16 @@ pub returns-clause-made : goal.returns-clause-made
 returns-clause-made c = refused_by_places c.args.table.now c.args.sphere.now c.args.range c.requires.sphere c.args.a c.args.b c.args.c c.in_ok-places.places c.in_ok-places.ensures.found None c.in_ok-places.ensures.made c.in_ok-are_inside.ensures.made
 
 pub returns-clause-setting : goal.returns-clause-setting
-returns-clause-setting c = setting_of c.args.table.now c.args.sphere.now c.args.range c.in_ok-places.ensures.is_table c.in_ok-places.ensures.is_sphere_table c.requires.table c.requires.sphere_table c.requires.sphere c.args.a c.args.b c.args.c c.in_ok-places.places c.in_ok-places.ensures.found c.in_ok-are_inside.ensures.inside
+returns-clause-setting c =
+    let found = c.in_ok-places.ensures.found in
+    record {
+      is_table = c.in_ok-places.ensures.is_table;
+      is_sphere_table = c.in_ok-places.ensures.is_sphere_table;
+      through_table = c.requires.table;
+      through_sphere = c.requires.sphere_table;
+      is_sphere = c.requires.sphere;
+      a_in = found.a_is.inside;
+      b_in = found.b_is.inside;
+      c_in = found.c_is.inside;
+      inside = c.in_ok-are_inside.ensures.inside;
+    }

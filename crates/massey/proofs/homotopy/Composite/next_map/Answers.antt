@@ -35,7 +35,6 @@ slice_bounds-new-end c =
     let sphere = self.setting.sphere.now in
     let p = self.setting.places in
     let k = c.args.k in
-    let row = c.requires.row in
     let inner = inner-is sphere p k c.above_ab.result c.in_ok-inner.inner c.in_ok-inner.ensures c.above_ab.ensures in
     let count = inner_count self.setting.table.now sphere self.setting.range p self.n self.beta.now self.gamma.now c.requires.composite k in
     let most = beta_count self.setting.table.now sphere self.setting.range p self.n self.beta.now self.gamma.now c.requires.composite k (omega arith) in

@@ -41,8 +41,6 @@ inside c are = let test = c.loop-i-test.true in omega (arith, ap length are)
 bound : (c : After-len) → c.images_of-images.result.now ≡ (content_at c.args.self.now.setting.table.now.rows (suc (c.args.self.now.n + c.args.k)) c.args.j).images → c.len.result < length c.vectors-inner.result.now
 bound c are =
     let self = c.args.self.now in
-    let within = c.requires.within in
-    let one = c.loop-i.invariant.one_each in
     let there = gamma_there self.setting.table.now self.setting.sphere.now self.setting.range self.setting.places self.n self.beta.now self.gamma.now c.requires.composite c.args.k c.args.j c.loop-i.i c.requires.row (omega arith) (inside c are) in
     omega (arith, ap length c.vectors-inner.ensures, c.len.ensures)
 
@@ -73,7 +71,6 @@ returns-then-is_empty c =
     let j = c.args.j in
     let images = c.images_of-images.result.now in
     let none : 0 ≡ length images = grind (arith, nat_tests, c.is_empty.ensures, c.if-is_empty.true) in
-    let within = c.requires.within in
     let long = next_row_there table sphere self.setting.range p n self.beta.now self.gamma.now c.requires.composite k c.requires.row in
     let all = all-of table (suc (n + k)) j 0 images (omega arith) (images-are ((goal.at.returns-then-is_empty c).After-images_of-images)) none in
     chosen_in table sphere (suc (n + k)) (suc k) (bottom_of table.resolved +ℤ pos (above_bc p)) (homotopy_goal table sphere p n k c.args.beta.now.images.now self.gamma.now c.args.map.now.images.now) (first_of (resolution_of table) (suc (n + k)) j) (first_of (resolution_of table) (suc (n + k)) (j + 1)) c.args.values.now.items (omega arith) c.requires.made
@@ -112,7 +109,6 @@ goal-requires-clause-beta_target c =
     let sphere = self.setting.sphere.now in
     let p = self.setting.places in
     let beta = c.args.beta.now in
-    let row = c.requires.row in
     let u = to_z w32 (of_z w32 c.over-u.result) in
     let at = u-is ((goal.at.goal-requires-clause-beta_target c).After-over-u) in
     reach_target table sphere self.n (above_bc p) c.args.k (above_of p + 1) (p.a.above + 1) c.args.j c.requires.composite.setting.is_sphere (through_bracket table sphere self.setting.range p self.n self.beta.now self.gamma.now c.requires.composite c.args.k (omega arith)) c.requires.within beta.basis.now u (omega (arith, c.requires.within, c.requires.maps.beta_basis_reaches)) at c.args.k beta.target.now c.requires.maps.beta_target_is
@@ -124,7 +120,6 @@ goal-requires-clause-map_source c =
     let sphere = self.setting.sphere.now in
     let p = self.setting.places in
     let map = c.args.map.now in
-    let row = c.requires.row in
     let u = to_z w32 (of_z w32 c.over-u.result) in
     let at = u-is ((goal.at.goal-requires-clause-map_source c).After-over-u) in
     reach_low table sphere self.n (above_bc p) c.args.k (above_of p + 1) (p.a.above + 1) c.args.j c.requires.composite.setting.is_sphere (through_bracket table sphere self.setting.range p self.n self.beta.now self.gamma.now c.requires.composite c.args.k (omega arith)) c.requires.within map.basis.now u (omega (arith, c.requires.within, c.requires.maps.map_basis_reaches)) at (self.n + c.args.k) map.source.now c.requires.maps.map_source_is
@@ -136,7 +131,6 @@ goal-requires-clause-map_target c =
     let sphere = self.setting.sphere.now in
     let p = self.setting.places in
     let map = c.args.map.now in
-    let row = c.requires.row in
     let u = to_z w32 (of_z w32 c.over-u.result) in
     let at = u-is ((goal.at.goal-requires-clause-map_target c).After-over-u) in
     reach_target table sphere self.n (above_bc p) c.args.k (above_of p + 1) (p.a.above + 1) c.args.j c.requires.composite.setting.is_sphere (through_bracket table sphere self.setting.range p self.n self.beta.now self.gamma.now c.requires.composite c.args.k (omega arith)) c.requires.within map.basis.now u (omega (arith, c.requires.within, c.requires.maps.map_basis_reaches)) at c.args.k map.target.now c.requires.maps.map_target_is
@@ -158,7 +152,6 @@ goal-requires-clause-image c =
     let self = c.args.self.now in
     let p = self.setting.places in
     let within = c.requires.within in
-    let test = c.loop-i-test.true in
     let are = images-are ((goal.at.goal-requires-clause-image c).After-images_of-images) in
     let long = next_row_there self.setting.table.now self.setting.sphere.now self.setting.range p self.n self.beta.now self.gamma.now c.requires.composite c.args.k c.requires.row in
     let at = u-is ((goal.at.goal-requires-clause-image c).After-over-u) in
@@ -173,12 +166,10 @@ preimage-requires c =
     let p = self.setting.places in
     let k = c.args.k in
     let j = c.args.j in
-    let row = c.requires.row in
     let within = c.requires.within in
     let u = to_z w32 (of_z w32 c.over-u.result) in
     let low = pos j -ℤ pos (above_bc p) in
     let at = u-is ((goal.at.preimage-requires c).After-over-u) in
-    let zero = c.requires.composite.setting.is_sphere.bottom in
     let wide = c.in_ok-goal.ensures.length
     ∙ (ap (λ (z : List ℤ). free_width z u) c.requires.maps.map_target_is
     ∙ (ap (free_width (target_of sphere k (p.a.above + 1))) at ∙ width-take (bottom_of sphere.resolved) (row_of (plain_rows sphere.rows) k) (p.a.above + 1) low (omega (arith, ints)))) in
@@ -196,7 +187,6 @@ loop-i-preserved c =
     let i = c.loop-i.i in
     let beta = c.args.beta.now in
     let map = c.args.map.now in
-    let within = c.requires.within in
     let here = (goal.at.loop-i-preserved c).After-len in
     let are = images-are ((goal.at.loop-i-preserved c).After-images_of-images) in
     let there = inside here are in
@@ -225,9 +215,6 @@ returns c =
     let n = self.n in
     let k = c.args.k in
     let j = c.args.j in
-    let within = c.requires.within in
-    let test = c.loop-i-test.false in
-    let most = c.loop-i.auto.i-end in
     let long = next_row_there table sphere self.setting.range p n self.beta.now self.gamma.now c.requires.composite k c.requires.row in
     let all = all-of table (suc (n + k)) j c.loop-i.i c.images_of-images.result.now (omega arith) (images-are ((goal.at.returns c).After-images_of-images)) (omega arith) in
     chosen_in table sphere (suc (n + k)) (suc k) (bottom_of table.resolved +ℤ pos (above_bc p)) (homotopy_goal table sphere p n k c.args.beta.now.images.now self.gamma.now c.args.map.now.images.now) (first_of (resolution_of table) (suc (n + k)) j + c.loop-i.i) (first_of (resolution_of table) (suc (n + k)) (j + 1)) c.loop-i.values.items all c.loop-i.invariant
