@@ -1,4 +1,4 @@
--- A role may go to any thread where the keeper and the sink may; and a closure over six values that any thread may share, may be shared by any thread.
+-- A role may go to any thread where the keeper and the sink may; and a closure over five values that any thread may share, may be shared by any thread.
 use denote.RattleType.{RattleType}
 use denote.Struct.Field.{row_field}
 use denote.Struct.Tuple.{TupleAt, type_at}
@@ -23,6 +23,6 @@ Watcher-send K E k keeper s = search (crosses, sendable, Pass-send, Desk-send, L
 pub Role-send : (K E : RattleType) (k : keep.Ghosts K.Denot) → IsSend K → IsSend E → IsSend (Role.the_row K E k)
 Role-send K E k keeper s = search (crosses, sendable, Pass-send, Desk-send, Watcher-send) depth 30
 
-pub captures_sync : (name : List ℕ) (A B C D E F : RattleType) → IsSync A → IsSync B → IsSync C → IsSync D → IsSync E → IsSync F → IsSync (TupleAt name (A ∷ B ∷ C ∷ D ∷ E ∷ F ∷ []))
-captures_sync name A B C D E F a b c d e f =
-    declared_sync (type_at name (A ∷ B ∷ C ∷ D ∷ E ∷ F ∷ [])) (as_row_sync (row_field A) a, (as_row_sync (row_field B) b, (as_row_sync (row_field C) c, (as_row_sync (row_field D) d, (as_row_sync (row_field E) e, (as_row_sync (row_field F) f, tt))))))
+pub captures_sync : (name : List ℕ) (A B C D E : RattleType) → IsSync A → IsSync B → IsSync C → IsSync D → IsSync E → IsSync (TupleAt name (A ∷ B ∷ C ∷ D ∷ E ∷ []))
+captures_sync name A B C D E a b c d e =
+    declared_sync (type_at name (A ∷ B ∷ C ∷ D ∷ E ∷ [])) (as_row_sync (row_field A) a, (as_row_sync (row_field B) b, (as_row_sync (row_field C) c, (as_row_sync (row_field D) d, (as_row_sync (row_field E) e, tt)))))

@@ -151,16 +151,8 @@ fn resolve_telling<
     };
     let first = Snapshot::of(&reports);
     fill(&board, &mut roles, passes, writer, reader, reports);
-    let ended = AtomicU64::new(0);
-    run_roles(
-        wait,
-        alloc,
-        &board,
-        roles.as_mut_slice(),
-        gate,
-        &ended,
-        workers as u64,
-    );
+    let working = AtomicU64::new(workers as u64);
+    run_roles(wait, alloc, &board, roles.as_mut_slice(), gate, &working);
     let watcher = gathered(&board, roles, &first);
     concluded(wait, alloc, board, watcher, range)
 }

@@ -15,9 +15,9 @@ use std::thread;
 use std::thread::Threads;
 use std::time::Clock;
 
-/// Runs the roles, each in a thread of its own where one can be made. The watcher ends when so many workers have. It is the
-/// last role, and is called as the first: where no thread can be made for the first ones they run last, and a watcher that
-/// ran before a worker would wait for it for ever.
+/// Runs the roles, each in a thread of its own where one can be made. `working` counts the workers that have not ended, and the
+/// watcher ends when none is left. It is the last role, and is called as the first: where no thread can be made for the first
+/// ones they run last, and a watcher that ran before a worker would wait for it for ever.
 pub(crate) fn run_roles<
     R: Threads + Wait + Clock + Sync,
     K: Keep + Send,
@@ -29,8 +29,7 @@ pub(crate) fn run_roles<
     board: &Board<K>,
     roles: &mut [Role<K, E>],
     gate: &G,
-    ended: &AtomicU64,
-    workers: u64,
+    working: &AtomicU64,
 )
     requires some { 0 < length roles.old }
     requires can { All (CanRun board.now) roles.old }
@@ -39,19 +38,18 @@ pub(crate) fn run_roles<
         HasRun E.written E.faults board.now (slice_index_or roles.old i d) (slice_index_or roles.new i d) }
 {
     roles.reverse();
-    run_each(wait, alloc, board, roles, gate, ended, workers);
+    run_each(wait, alloc, board, roles, gate, working);
     roles.reverse();
 }
 
-/// Runs the roles, each in a thread of its own where one can be made. The watcher ends when so many workers have.
+/// Runs the roles, each in a thread of its own where one can be made.
 fn run_each<R: Threads + Wait + Clock + Sync, K: Keep + Send, G: Gate + Sync, E: Sink + Send>(
     wait: &R,
     alloc: Global,
     board: &Board<K>,
     roles: &mut [Role<K, E>],
     gate: &G,
-    ended: &AtomicU64,
-    workers: u64,
+    working: &AtomicU64,
 )
     requires some { 0 < length roles.old }
     requires can { All (CanRun board.now) roles.old }
@@ -68,20 +66,19 @@ fn run_each<R: Threads + Wait + Clock + Sync, K: Keep + Send, G: Gate + Sync, E:
             requires { CanRun board.now role.now }
             ensures { HasRun E.written E.faults board.entry.now role.entry.now role.exit.now }
         {
-            run_role(wait, alloc, board, role, gate, ended, workers);
+            run_role(wait, alloc, board, role, gate, working);
         },
     );
 }
 
-/// Runs one role.
+/// Runs one role. The last worker to end wakes the watcher.
 fn run_role<R: Wait + Clock, K: Keep, G: Gate, E: Sink>(
     wait: &R,
     alloc: Global,
     board: &Board<K>,
     role: &mut Role<K, E>,
     gate: &G,
-    ended: &AtomicU64,
-    workers: u64,
+    working: &AtomicU64,
 )
     requires { CanRun board.now role.old }
     ensures { HasRun E.written E.faults board.now role.old role.new }
@@ -89,8 +86,10 @@ fn run_role<R: Wait + Clock, K: Keep, G: Gate, E: Sink>(
     match role {
         Role::Work(pass) => {
             let _end = work(wait, alloc, board, pass, gate);
-            ended.fetch_add(1, Ordering::SeqCst);
+            if working.fetch_sub(1, Ordering::SeqCst) == 1 {
+                working.wake_one();
+            }
         }
-        Role::Watch(watcher) => watch(wait, alloc, board, watcher, ended, workers),
+        Role::Watch(watcher) => watch(wait, alloc, board, watcher, working),
     }
 }

@@ -11,15 +11,10 @@ use square_board::Board;
 use std::alloc::Global;
 use std::sync::Wait;
 use std::sync::atomic::{AtomicU64, Ordering};
-use std::thread;
 use std::time::{Clock, Duration};
 
-/// So often the watcher naps between two reports.
-const NAPS: u32 = 100;
-
-/// How long a nap is, in microseconds. So there are some ten reports a second at most, and the watcher ends no later than this
-/// after the workers.
-const NAP_MICROS: u64 = 1000;
+/// How long the watcher sleeps between two reports, in milliseconds. So there are some ten reports a second at most.
+const NAP_MILLIS: u64 = 100;
 
 /// Publishes what is finished, and reports it. It gives the number of the squares of the range that are finished.
 ///
@@ -42,15 +37,13 @@ pub(crate) fn report<R: Wait + Clock, K: Keep, E: Sink>(
     Ok(squares)
 }
 
-/// Reports from time to time, until all squares are finished, or so many workers have ended, or there is no memory for a
-/// report.
+/// Reports from time to time, until all squares are finished, or no worker is left, or there is no memory for a report.
 pub(crate) fn watch<R: Wait + Clock, K: Keep, E: Sink>(
     wait: &R,
     alloc: Global,
     board: &Board<K>,
     watcher: &mut Watcher<K, E>,
-    ended: &AtomicU64,
-    workers: u64,
+    working: &AtomicU64,
 )
     requires { CanWatch board.now watcher.old }
     ensures { HasWatched E.written E.faults board.now watcher.old watcher.new }
@@ -59,7 +52,7 @@ pub(crate) fn watch<R: Wait + Clock, K: Keep, E: Sink>(
         if is_last_report(wait, alloc, board, watcher) {
             return;
         }
-        if nap(wait, ended, workers) {
+        if nap(wait, working) {
             return;
         }
     }
@@ -82,13 +75,13 @@ fn is_last_report<R: Wait + Clock, K: Keep, E: Sink>(
     }
 }
 
-/// Naps until so many workers have ended, but no longer than until the next report. It says whether they have.
-fn nap<C: Clock>(clock: &C, ended: &AtomicU64, workers: u64) -> bool {
-    for _ in 0..NAPS {
-        if ended.load(Ordering::SeqCst) >= workers {
-            return true;
-        }
-        thread::sleep(clock, Duration::from_micros(NAP_MICROS));
+/// Sleeps until no worker is left, but no longer than until the next report. It says whether none is.
+fn nap<R: Wait>(wait: &R, working: &AtomicU64) -> bool {
+    let count = working.load(Ordering::SeqCst);
+    if count == 0 {
+        return true;
     }
-    false
+    let low_bits = (count & 0xffff_ffff) as u32;
+    working.park_timeout(wait, low_bits, Duration::from_millis(NAP_MILLIS));
+    working.load(Ordering::SeqCst) == 0
 }

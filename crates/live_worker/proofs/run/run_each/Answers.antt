@@ -1,7 +1,6 @@
 use mir.Syntax.{named, of_param}
 use denote.Exit.{no}
 use denote.RattleType.{RattleType}
-use denote.Builtin.{u64}
 use denote.Ref.{ShrRef}
 use denote.Param.{param}
 use denote.Param.Send.{IsSend, IsSync, sendable, Quiet-if}
@@ -20,7 +19,7 @@ for_each_mut-requires-send-T g c κs within =
     let role : IsSend (Role.the_row (param 1 g.row.K) (param 3 g.row.E) g.K.Keep) = Role-send (param 1 g.row.K) (param 3 g.row.E) g.K.Keep c.type_bounds.send-K c.type_bounds.send-E in
     record { owned = role.owned; leaving = λ k. Quiet-if (k (of_param 1)) _ _ (role.leaving no) (λ x w. tt) }
 
--- The closure captures references to six values. `search` does not take its type apart.
+-- The closure captures references to five values. `search` does not take its type apart.
 pub for_each_mut-requires-sync-F : goal.for_each_mut-requires-sync-F
 for_each_mut-requires-sync-F g c κs within =
     let keeper : IsSend (param 1 g.row.K) = c.type_bounds.send-K in
@@ -31,7 +30,6 @@ for_each_mut-requires-sync-F g c κs within =
     let to_alloc : RattleType = ShrRef (named 7) κs.1.1.1.1.1.1.1.0 Heap.the_row in
     let to_board : RattleType = ShrRef (named 8) κs.1.1.1.1.1.1.1.1.0 (Board.the_row (param 1 g.row.K) g.K.Keep) in
     let to_gate : RattleType = ShrRef (named 9) κs.1.1.1.1.1.1.1.1.1.0 (param 2 g.row.G) in
-    let to_ended : RattleType = ShrRef (named 10) κs.1.1.1.1.1.1.1.1.1.1.0 Atomic.the_row in
-    let to_workers : RattleType = ShrRef (named 11) κs.1.1.1.1.1.1.1.1.1.1.1.0 u64 in
-    let closure = captures_sync [] to_wait to_alloc to_board to_gate to_ended to_workers (search (sendable, wait)) (search (sendable, sync)) (search (sendable, board)) (search (sendable, gate)) (search (crosses, sendable) depth 20) (search sendable depth 20) in
+    let to_working : RattleType = ShrRef (named 10) κs.1.1.1.1.1.1.1.1.1.1.0 Atomic.the_row in
+    let closure = captures_sync [] to_wait to_alloc to_board to_gate to_working (search (sendable, wait)) (search (sendable, sync)) (search (sendable, board)) (search (sendable, gate)) (search (crosses, sendable) depth 20) in
     record { shared = closure.shared }
