@@ -1,8 +1,6 @@
 -- Products over tables, and over the part of them within a range.
-use Rattle.std.proofs.Common.{◌≡◌, ℕ, ◌+◌, ◌≤◌, pos, ◌+ℤ◌, Bool, List, length, map, take, ap, ◌∙◌, arith}
-use Rattle.std.specs.List.{range_with_len}
+use Rattle.std.proofs.Common.{◌≡◌, ℕ, ◌+◌, ◌≤◌, pos, ◌+ℤ◌, Bool, List, length, take, ap, ◌∙◌, arith}
 use Rattle.std.proofs.lemmas.List.{take-take, get_or-take}
-use Rattle.f2_vec.specs.Vectors.{bit}
 use Rattle.free_module.specs.FreeModule.{free_width}
 use Rattle.resolution_laws.specs.Resolution.{Module, Content, no_content, square_in, degrees_from, images_of, row_of}
 use Rattle.lift_laws.specs.Lifts.{Resolution}
