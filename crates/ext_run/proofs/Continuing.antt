@@ -3,6 +3,7 @@ use Rattle.std.proofs.Common.{◌≡◌, ℕ, ◌<◌, ◌⊎◌, inl, inr, List
 use Rattle.std.proofs.lemmas.Option.{slice_get_cases}
 use Rattle.std.specs.Prelude.{Result, Ok, Err, IfErr, IfSome, IsSome, slice_get}
 use Rattle.std.specs.Option.{option_map}
+use Rattle.finite_module.specs.Module.{Module as SteenrodModule}
 use Rattle.finite_module.specs.Checked.{Checked}
 use Rattle.finite_module.specs.Graded.{ModulesAreSteenrodModules}
 use Rattle.finite_module.specs.ModuleLaws.{width-below}
@@ -15,12 +16,16 @@ use Rattle.square.specs.Tables.{Staircase, row_in, plain_rows, IsThrough, cut}
 use Rattle.square.specs.Growing.{HasGrown}
 use Rattle.square.specs.Keeping.{Keeper, HoldsTable}
 use Rattle.resolution_step.specs.Alone.{HasResolved}
-use Rattle.ext_report.specs.declared.failure.Failure.TheVariants.{Saving, Memory}
+use Rattle.ext_products.specs.declared.refusal.Refusal.{Refusal}
+use Rattle.ext_products.specs.Products.{IsProductsAnswer}
+use Rattle.ext_brackets.specs.Brackets.{IsBracketAnswer, IsOfPlaces}
+use Rattle.ext_report.specs.declared.failure.Failure.{Failure}
+use Rattle.ext_report.specs.declared.failure.Failure.TheVariants.{Saving, Classes, Memory}
 use Rattle.ext_run.specs.declared.plan.Form.{Form}
-use Rattle.ext_run.specs.Plan.{TellsOfClasses}
-use Rattle.ext_run.specs.Forms.{IsResolved, IsInForm}
+use Rattle.ext_run.specs.declared.plan.Form.TheVariants.{Products, Bracket}
+use Rattle.ext_run.specs.Forms.{IsResolved, IsInForm, IsRefusedOver, IsRefusalWith, IsRefusedIn}
 use Rattle.ext_run.specs.Saving.{HasRange}
-use Rattle.ext_run.specs.Work.{Told, HasAnswer, answer_of, IsRefusalIn, HasContinued}
+use Rattle.ext_run.specs.Work.{Told, HasAnswer, answer_of, HasContinued}
 use Rattle.ext_report.specs.Failure.{IsOfClasses}
 
 -- a table with each square of the range, in a list
@@ -62,23 +67,38 @@ told_with minimal modules range form table more text grown canonical told has st
     let P : Checked → Type 0 = λ m. IsResolved range m.plain rows → IsInForm form range m.plain (answer_of text) in
     subst P grown.resolved (λ resolved. told has resolved) here
 
-or_saving : (form : Form) (text : Told) → IfErr text (λ e. (e ≡ Memory) ⊎ IsOfClasses e) → IfErr text (λ e. IsOfClasses e → TellsOfClasses form) → IfErr text (λ e. (e ≡ Saving) ⊎ (e ≡ Memory) ⊎ IsRefusalIn form e)
-or_saving form (Ok t) h named = tt
-or_saving form (Err e) (inl h) named = inr (inl h)
-or_saving form (Err e) (inr h) named = inr (inr (h, named h))
+-- ---- refusals
 
-not_failed : (text : Told) (X : Type 0) → IfErr text (λ e. (e ≡ Memory) ⊎ IsOfClasses e) → text ≡ Err Saving → X
-not_failed (Ok t) X h is = absurd (cc)
-not_failed (Err e) X (inl h) is = absurd (cc)
-not_failed (Err e) X (inr h) is = absurd (let same : e ≡ Saving = cc in subst IsOfClasses same h)
+refusal_classes : (Holds : Refusal → Type 0) (e : Failure) → IsRefusalWith Holds (Err e) → IsOfClasses e
+refusal_classes Holds (Classes refusal) h = tt
+refusal_classes Holds e h = absurd h
 
-pub continued : {E : Type 0} (failing wanting : E) (order : Entry → Entry → Type 0) (range : Range) (form : Form) (table : Staircase) (resolved : Result Staircase E) (old new : Keeper) → HasResolved failing wanting order range table resolved old new → CanonicalTableIsMinimalResolution → ModulesAreSteenrodModules → (more : Staircase) (text : Told) → resolved ≡ Ok more → IsToldOf range form more text → IfErr text (λ e. (e ≡ Memory) ⊎ IsOfClasses e) → IfErr text (λ e. IsOfClasses e → TellsOfClasses form) → HasContinued range form table text old new
-continued {E = E} failing wanting order range form table resolved old new made minimal modules more text is told why named =
+pub refused_classes : (form : Form) (range : Range) (m : SteenrodModule) (e : Failure) → IsRefusedIn form range m (Err e) → IsOfClasses e
+refused_classes (Products by) range m e h = refusal_classes (IsRefusedOver (IsProductsAnswer range by) range m) e h
+refused_classes (Bracket a b c) range m e h = refusal_classes (λ refusal. IsOfPlaces refusal → IsRefusedOver (IsBracketAnswer range a b c) range m refusal) e h
+refused_classes form range m e h = absurd h
+
+-- why a table that was continued is not told of
+abbrev pub WhyUntold : Range → Form → Checked → Told → Type 0
+WhyUntold range form m text = IfErr text (λ e. (e ≡ Memory) ⊎ IsRefusedIn form range m.plain (Err e))
+
+or_saving : (range : Range) (form : Form) (m : Checked) (text : Told) → WhyUntold range form m text → IfErr text (λ e. (e ≡ Saving) ⊎ (e ≡ Memory) ⊎ IsRefusedIn form range m.plain (Err e))
+or_saving range form m (Ok t) h = tt
+or_saving range form m (Err e) h = inr h
+
+not_failed : (range : Range) (form : Form) (m : Checked) (text : Told) (X : Type 0) → WhyUntold range form m text → text ≡ Err Saving → X
+not_failed range form m (Ok t) X h is = absurd (cc)
+not_failed range form m (Err e) X (inl h) is = absurd (cc)
+not_failed range form m (Err e) X (inr h) is = absurd (let same : e ≡ Saving = cc in subst IsOfClasses same (refused_classes form range m.plain e h))
+
+pub continued : {E : Type 0} (failing wanting : E) (order : Entry → Entry → Type 0) (range : Range) (form : Form) (table : Staircase) (resolved : Result Staircase E) (old new : Keeper) → HasResolved failing wanting order range table resolved old new → CanonicalTableIsMinimalResolution → ModulesAreSteenrodModules → (more : Staircase) (text : Told) → resolved ≡ Ok more → IsToldOf range form more text → WhyUntold range form more.resolved text → HasContinued range form table text old new
+continued {E = E} failing wanting order range form table resolved old new made minimal modules more text is told untold =
     let done = subst (λ (r : Result Staircase E). HasResolved failing wanting order range table r old new) is made in
+    let why : WhyUntold range form table.resolved text = subst (λ (m : Checked). WhyUntold range form m text) done.grown.resolved untold in
     record {
       told = told_with minimal modules range form table more text done.grown done.canonical told;
-      why = or_saving form text why named;
-      failed = not_failed text _ why;
+      why = or_saving range form table.resolved text why;
+      failed = not_failed range form table.resolved text _ why;
       no_fault = λ has. done.keeper.no_fault;
       live = λ unfailed. done.keeper.live;
       whole = λ has. range_kept range more.rows new.kept done.through done.keeper.of_table.holds;

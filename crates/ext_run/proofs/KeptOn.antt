@@ -27,7 +27,7 @@ use Rattle.ext_run.specs.declared.task.Task.{Task}
 use Rattle.ext_run.specs.declared.task.Task.TheVariants.{Text, Resolution, Migration, Verification}
 use Rattle.ext_run.specs.declared.task.Resolution.{Resolution as ToResolve}
 use Rattle.ext_report.specs.Failure.{resume_failure, IsOfClasses}
-use Rattle.ext_run.specs.Forms.{IsInForm}
+use Rattle.ext_run.specs.Forms.{IsInForm, IsRefusedIn}
 use Rattle.ext_run.specs.Devices.{Store}
 use Rattle.ext_run.specs.Plan.{Use, keeping, migrating, verifying}
 use Rattle.ext_run.specs.Saving.{AreCanonical, StandsWith, StandsAsOneOf, IsOurs, MayBeLeft, IsUnwritten, StaysIfWhole, HasLasted}
@@ -35,8 +35,9 @@ use Rattle.ext_run.specs.Migrating.{KeepsOn, HasMigrated}
 use Rattle.ext_run.specs.Certificates.{IsNoCertificate}
 use Rattle.ext_run.specs.Disks.{IsFitFor, HasServed}
 use Rattle.ext_run.specs.Task.{IsDoneBy}
-use Rattle.ext_run.specs.Work.{Told, HasAnswer, answer_of, IsRefusalIn, IsTaskRefusal, IsFileRefusal, IsCertificateRefusal, HasContinued, HasUsed}
+use Rattle.ext_run.specs.Work.{Told, HasAnswer, answer_of, IsTaskRefusal, IsFileRefusal, IsCertificateRefusal, HasContinued, HasUsed}
 use Rattle.save_file.proofs.Entries.{some_is}
+use Rattle.ext_run.proofs.Continuing.{refused_classes}
 use Rattle.ext_run.proofs.Lasting.{at_some, all_first, canonical_start, as_one, AreDisks, unwritten_since, none_put, lasting}
 
 -- ---- failures
@@ -48,7 +49,7 @@ IsToldBy text fault = (text ≡ Err (Certificate fault)) ⊎ (text ≡ Err Savin
 -- a refusal of the save file is not one of the task, nor of a certificate
 task_not_file : (task : Task) (fault : ResumeFault) → IsTaskRefusal task (SaveFile fault) → ⊥
 task_not_file (Text made) fault h = h
-task_not_file (Resolution r) fault h = h.0
+task_not_file (Resolution r) fault h = refused_classes r.form r.common.range r.resolved.plain (SaveFile fault) h
 task_not_file (Migration m) fault h = h
 task_not_file (Verification m range) fault h = h
 
@@ -82,7 +83,7 @@ module _ (usage : Use) (m : SteenrodModule) (now : Option (List ℕ)) (task : Ta
   wider (Err e) (inr (inr (inr h))) = inr (inr (inr (inr h)))
 
 -- what continues a table is no certificate
-why_continued : (r : ToResolve) (now : Option (List ℕ)) (text : Told) → IfErr text (λ e. (e ≡ Saving) ⊎ (e ≡ Memory) ⊎ IsRefusalIn r.form e) → WhyTaken (keeping r.common.range) r.resolved.plain now (Resolution r) text
+why_continued : (r : ToResolve) (now : Option (List ℕ)) (text : Told) → IfErr text (λ e. (e ≡ Saving) ⊎ (e ≡ Memory) ⊎ IsRefusedIn r.form r.common.range r.resolved.plain (Err e)) → WhyTaken (keeping r.common.range) r.resolved.plain now (Resolution r) text
 why_continued r now (Ok t) why = tt
 why_continued r now (Err e) (inl h) = inl h
 why_continued r now (Err e) (inr (inl h)) = inr (inl h)
@@ -323,5 +324,5 @@ module _ {D : Type 0} (store : Store D) (laws : AreDisks store) (r : ToResolve) 
 
     pub kept_on : HasUsed store (keeping r.common.range) r.resolved.plain (Resolution r) text disk after.journal.disk
     kept_on =
-        used_on store laws r.resolved.plain disk table k squares no_fault (keeping r.common.range) (Resolution r) text after.journal.disk (λ has told fit. answer_told has told fit.0 fit.1) (why_continued r (store.now disk) text continued.why) continued.failed continued.no_fault
+        used_on store laws r.resolved.plain disk table k squares no_fault (keeping r.common.range) (Resolution r) text after.journal.disk (λ has told fit. answer_told has told fit.0 fit.1) (why_continued r (store.now disk) text (subst (λ (m : Checked). IfErr text (λ e. (e ≡ Saving) ⊎ (e ≡ Memory) ⊎ IsRefusedIn r.form r.common.range m.plain (Err e))) resolved continued.why)) continued.failed continued.no_fault
         continued.kept.never_fall lasted

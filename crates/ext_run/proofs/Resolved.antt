@@ -1,5 +1,5 @@
 -- The table that is resolved, cut to its range, is the module's canonical resolution, and the texts are of that.
-use Rattle.std.proofs.Common.{◌≡◌, ℕ, ◌+◌, List, length, take, refl, sym, subst, ◌∙◌, ap, arith}
+use Rattle.std.proofs.Common.{◌≡◌, ℕ, ◌+◌, ◌⊎◌, inl, inr, List, length, take, refl, sym, subst, ◌∙◌, ap, arith}
 use Rattle.std.proofs.lemmas.List.{take-take}
 use Rattle.resolution_laws.specs.Resolution.{Content, IsCanonicalTable, row_of}
 use Rattle.square.specs.declared.range.Range.{Range}
@@ -13,11 +13,12 @@ use Rattle.finite_module.specs.Module.{Module}
 use Rattle.finite_module.specs.Checked.{sphere_file}
 use Rattle.finite_module.specs.DerivedAction.{derived_module}
 use Rattle.ext_products.specs.declared.refusal.Refusal.{Refusal}
-use Rattle.ext_products.specs.Products.{resolution}
+use Rattle.ext_products.specs.Products.{resolution, Telling, IsAnswerIn}
 use Rattle.chain_map.specs.Classes.{through}
-use Rattle.ext_run.specs.Forms.{IsResolved, IsReadOff, chart_of, dump_of, summary_of, IsToldOfClasses, told_of_classes}
+use Rattle.ext_run.specs.Forms.{IsResolved, IsReadOff, chart_of, dump_of, summary_of, IsToldOfClasses, told_of_classes, IsRefusedOver, IsRefusalWith}
 use Rattle.ext_products.specs.declared.refusal.ClassesFault.{ClassesFault}
 use Rattle.ext_products.specs.declared.refusal.ClassesFault.TheVariants.{Refused, Memory as NoSpace}
+use Rattle.ext_report.specs.declared.failure.Failure.TheVariants.{Memory}
 use Rattle.ext_report.specs.Failure.{classes_failure}
 use Rattle.ext_run.specs.Work.{Told, HasAnswer, answer_of}
 use Rattle.ext_run.proofs.AnswerExists.{TableLaws, table_exists, one_alone}
@@ -55,3 +56,16 @@ classes_failed P (Refused refusal) text is why has =
     let known = why (λ h. cc) in
     (Err known.0, ap answer_of is ∙ ap (λ (fault : ClassesFault). Err (classes_failure fault)) known.1, known.2)
 classes_failed P NoSpace text is why has = absurd (subst HasAnswer is has)
+
+-- what is refused over the table's squares is so over some squares of its module
+pub refused_over : TableLaws → (IsToldOf : Telling) (range : Range) (table : Staircase) (refusal : Refusal) → IsAnswerIn IsToldOf table range (Err refusal) → IsRefusedOver IsToldOf range table.resolved.plain refusal
+refused_over laws IsToldOf range table refusal over =
+    let sphere = table_exists laws range (derived_module sphere_file) (laws.accepted sphere_file one_alone refl) one_alone in
+    record { table = cut range (plain_rows table.rows); sphere = sphere.0; sphere_resolved = sphere.1; is_told = over sphere.0 sphere.1.canonical }
+
+-- a call that tells nothing of classes ends for want of memory, or with a refusal of which this holds
+pub classes_refused : (Holds : Refusal → Type 0) (fault : ClassesFault) → (fault ≢ NoSpace → (refusal : Refusal) × (fault ≡ Refused refusal) × Holds refusal) → (classes_failure fault ≡ Memory) ⊎ IsRefusalWith Holds (Err (classes_failure fault))
+classes_refused Holds (Refused refusal) why =
+    let known = why (λ h. cc) in
+    inr (subst (λ (fault : ClassesFault). IsRefusalWith Holds (Err (classes_failure fault))) (sym known.1) known.2)
+classes_refused Holds NoSpace why = inl refl

@@ -20,8 +20,8 @@ use Rattle.ext_run.specs.declared.task.Task.{Task}
 use Rattle.ext_run.specs.declared.task.Task.TheVariants.{Text, Resolution, Migration, Verification}
 use Rattle.ext_run.specs.declared.task.Resolution.{Resolution as ToResolve}
 use Rattle.ext_run.specs.Devices.{Store}
-use Rattle.ext_run.specs.Plan.{IsModuleFor, TellsFor, Use, keeping, migrating, verifying, use_where, use_for}
-use Rattle.ext_run.specs.Answer.{IsAskedAnswer, IsTaskCause}
+use Rattle.ext_run.specs.Plan.{IsModuleFor, Use, keeping, migrating, verifying, use_where, use_for}
+use Rattle.ext_run.specs.Answer.{IsAskedAnswer, IsAskedRefusal, IsTaskCause}
 use Rattle.ext_run.specs.Saving.{StandsAsOneOf, HasLasted}
 use Rattle.ext_run.specs.Migrating.{HasMigrated}
 use Rattle.ext_run.specs.Certificates.{IsCertificate, IsNoCertificate}
@@ -31,7 +31,8 @@ use Rattle.ext_run.specs.Work.{Told, HasAnswer, answer_of, IsTaskRefusal, IsFile
 use Rattle.ext_run.specs.Run.{IsCause}
 use Rattle.ext_run.proofs.Asked.{asked_told}
 use Rattle.ext_run.proofs.Certificates.{certificate_decided}
-use Rattle.ext_run.proofs.Tasks.{module_same, task_use, resolution_module, migration_module, verification_module, resolution_tells}
+use Rattle.ext_run.proofs.Tasks.{module_same, task_use, resolution_module, migration_module, verification_module, resolution_refused}
+use Rattle.ext_run.proofs.Continuing.{refused_classes}
 use Rattle.ext_run.proofs.Lasting.{at_some, if_some, unwritten_same, AreDisks}
 use Rattle.ext_run.proofs.KeptOn.{IsToldBy, answer_unfailed, served_nothing}
 
@@ -280,7 +281,7 @@ module _ {D : Type 0} (disk : Store D) (laws : AreDisks disk) (asked : Option Pl
     pub accepted : IsUsable disk asked input d → IsCertified asked input (disk.now d) → (fault : ResumeFault) → failure ≡ SaveFile fault → ⊥
     pub certified : IsUsable disk asked input d → IsCertified asked input (disk.now d) → (fault : CertFault) → failure ≡ Certificate fault → ⊥
 
-  ended_unused : (failure : Failure) (d : D) → use_for asked ≡ None → (failure ≡ Memory) ⊎ (IsOfClasses failure × TellsFor asked) → IsEndedBy failure d d
+  ended_unused : (failure : Failure) (d : D) → use_for asked ≡ None → (failure ≡ Memory) ⊎ (IsOfClasses failure × IsAskedRefusal asked input (Err failure)) → IsEndedBy failure d d
   ended_unused failure d none (inl is) = subst (λ (e : Failure). IsEndedBy e d d) (sym is) (record {
     late = memory;
     cause = λ answers. tt;
@@ -290,13 +291,13 @@ module _ {D : Type 0} (disk : Store D) (laws : AreDisks disk) (asked : Option Pl
   })
   ended_unused failure d none (inr h) = let only = of_classes failure h.0 in subst (λ (e : Failure). IsEndedBy e d d) (sym only.1) (record {
     late = classes only.0;
-    cause = λ answers. (h.1, answers tt);
+    cause = λ answers. (subst (λ (e : Failure). IsAskedRefusal asked input (Err e)) only.1 h.1, answers tt);
     saved = kept_unused (Err (Classes only.0)) d none (λ h. cc) (λ e h. cc);
     accepted = λ usable certified fault h. cc;
     certified = λ usable certified fault h. cc;
   })
 
-  module _ (usage : Use) (m : SteenrodModule) (task : Task) (used : use_for asked ≡ Some usage) (here : IsModuleFor asked input m) (tells : (failure : Failure) → IsTaskRefusal task failure → IsOfClasses failure × TellsFor asked) (d g : D) where
+  module _ (usage : Use) (m : SteenrodModule) (task : Task) (used : use_for asked ≡ Some usage) (here : IsModuleFor asked input m) (tells : (failure : Failure) → IsTaskRefusal task failure → IsOfClasses failure × IsAskedRefusal asked input (Err failure)) (d g : D) where
     abbrev Used : Failure → Type 0
     Used failure = HasUsed disk usage m task (Err failure) d g
 
@@ -321,10 +322,10 @@ module _ {D : Type 0} (disk : Store D) (laws : AreDisks disk) (asked : Option Pl
       certified = λ usable certified fault h. cc;
     }
 
-    ended_classes : TellsFor asked → (refusal : Refusal) → Ended (Classes refusal)
-    ended_classes told refusal on = record {
+    ended_classes : (refusal : Refusal) → IsAskedRefusal asked input (Err (Classes refusal)) → Ended (Classes refusal)
+    ended_classes refusal refused on = record {
       late = classes refusal;
-      cause = λ answers. (told, answers tt);
+      cause = λ answers. (refused, answers tt);
       saved = kept_answered usage m task used here d g (Err (Classes refusal)) on (Err (Classes refusal)) (after_failure (Classes refusal) (classes refusal)) tt;
       accepted = λ usable certified fault h. cc;
       certified = λ usable certified fault h. cc;
@@ -370,7 +371,7 @@ module _ {D : Type 0} (disk : Store D) (laws : AreDisks disk) (asked : Option Pl
     ended_used failure (inr (inr (inl h))) =
         let told = tells failure h in
         let only = of_classes failure told.0 in
-        subst Ended (sym only.1) (ended_classes told.1 only.0)
+        subst Ended (sym only.1) (ended_classes only.0 (subst (λ (e : Failure). IsAskedRefusal asked input (Err e)) only.1 told.1))
     ended_used failure (inr (inr (inr (inl h)))) = file_failed failure h
     ended_used failure (inr (inr (inr (inr h)))) = certificate_failed usage failure used h
 
@@ -382,14 +383,14 @@ module _ {D : Type 0} (disk : Store D) (laws : AreDisks disk) (asked : Option Pl
     pub kept : (outcome : Outcome) → IsAfter text outcome → HasAnswer text → HasSaved disk asked input outcome d g
     pub failed : IfErr text (λ failure. IsEndedBy failure d g)
 
-  -- a refusal of the task is of classes, in a form that tells of them
-  told_for : (task : Task) → IsTaskFor asked input task → (failure : Failure) → IsTaskRefusal task failure → IsOfClasses failure × TellsFor asked
+  -- a refusal of the task is of classes, and one of what is asked
+  told_for : (task : Task) → IsTaskFor asked input task → (failure : Failure) → IsTaskRefusal task failure → IsOfClasses failure × IsAskedRefusal asked input (Err failure)
   told_for (Text made) is failure h = absurd h
-  told_for (Resolution r) is failure h = (h.0, resolution_tells asked input r is h.1)
+  told_for (Resolution r) is failure h = (refused_classes r.form r.common.range r.resolved.plain failure h, resolution_refused asked input r (Err failure) is h)
   told_for (Migration m) is failure h = absurd h
   told_for (Verification m range) is failure h = absurd h
 
-  task_refusal : (task : Task) → IsTaskFor asked input task → (failure : Failure) → (failure ≡ Memory) ⊎ IsTaskRefusal task failure → (failure ≡ Memory) ⊎ (IsOfClasses failure × TellsFor asked)
+  task_refusal : (task : Task) → IsTaskFor asked input task → (failure : Failure) → (failure ≡ Memory) ⊎ IsTaskRefusal task failure → (failure ≡ Memory) ⊎ (IsOfClasses failure × IsAskedRefusal asked input (Err failure))
   task_refusal task is failure (inl h) = inl h
   task_refusal task is failure (inr h) = inr (told_for task is failure h)
 

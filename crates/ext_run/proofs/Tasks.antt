@@ -29,10 +29,10 @@ use Rattle.ext_run.specs.declared.plan.Plan.TheVariants.{Resolve as ToResolve, C
 use Rattle.ext_run.specs.declared.task.Task.{Task}
 use Rattle.ext_run.specs.declared.task.Task.TheVariants.{Text, Resolution, Migration, Verification}
 use Rattle.ext_run.specs.declared.task.Resolution.{Resolution as Resolved}
-use Rattle.ext_run.specs.Plan.{plan_of, asked_by, IsPlanWithin, IsModuleIn, IsModuleAt, IsModuleFor, PlanReads, TellsOfClasses, TellsFor, verifying, use_where, use_for}
+use Rattle.ext_run.specs.Plan.{plan_of, asked_by, IsPlanWithin, IsModuleIn, IsModuleAt, IsModuleFor, PlanReads, verifying, use_where, use_for}
 use Rattle.square.specs.declared.range.Range.{Range}
-use Rattle.ext_run.specs.Forms.{IsVerifiedChart, IsText, IsInForm}
-use Rattle.ext_run.specs.Answer.{IsLineOn, IsMigrated, IsProduct, ModuleAnswers, IsAnswerOfFile, IsModuleAnswer, IsAnswerAt, IsAnswerTo, IsAskedAnswer, IsTaskCause, IsTaskCauseFrom, IsOriginCauseFrom}
+use Rattle.ext_run.specs.Forms.{IsVerifiedChart, IsText, IsInForm, IsRefusedIn}
+use Rattle.ext_run.specs.Answer.{IsLineOn, IsMigrated, IsProduct, ModuleAnswers, IsAnswerOfFile, IsModuleAnswer, IsAnswerAt, IsAnswerTo, IsAskedAnswer, IsAskedRefusal, IsTaskCause, IsTaskCauseFrom, IsOriginCauseFrom}
 use Rattle.ext_run.specs.Task.{IsDoneBy, use_in, IsTaskOf, IsTaskFor}
 
 -- ---- the limits
@@ -77,11 +77,15 @@ at_answer P OfSphere bytes m answer is p = subst (λ (n : SteenrodModule). P n a
 at_answer P (OfSample k) bytes m answer is p = subst (λ (n : SteenrodModule). P n answer) is p
 at_answer P OfFile bytes m answer is p = module_answer P bytes m answer is p
 
+-- for the form, the range and the module of a resolution
+resolution_answer : (P : Form → Range → ModuleAnswers) (origin : Origin) (form : Form) (common : Common) (bytes : List ℕ) (r : Resolved) (answer : Result (List ℕ) Failure) → IsTaskOf (ToResolve origin form common) bytes (Resolution r) → P r.form r.common.range r.resolved.plain answer → IsAnswerAt origin (P form common.range) bytes answer
+resolution_answer P origin form common bytes r answer h is =
+    let in_form : P form r.common.range r.resolved.plain answer = subst (λ (f : Form). P f r.common.range r.resolved.plain answer) h.0 is in
+    let here : P form common.range r.resolved.plain answer = subst (λ (c : Common). P form c.range r.resolved.plain answer) h.1 in_form in
+    at_answer (P form common.range) origin bytes r.resolved.plain answer h.2 here
+
 pub task_answers : (asked : Option Plan) (bytes : List ℕ) (task : Task) (answer : Result (List ℕ) Failure) → IsTaskFor asked bytes task → IsDoneBy task answer → IsAskedAnswer asked bytes answer
-task_answers (Some (ToResolve origin form common)) bytes (Resolution r) answer h is =
-    let told : IsInForm form r.common.range r.resolved.plain answer = subst (λ (f : Form). IsInForm f r.common.range r.resolved.plain answer) h.0 is in
-    let here : IsInForm form common.range r.resolved.plain answer = subst (λ (c : Common). IsInForm form c.range r.resolved.plain answer) h.1 told in
-    at_answer (IsInForm form common.range) origin bytes r.resolved.plain answer h.2 here
+task_answers (Some (ToResolve origin form common)) bytes (Resolution r) answer h is = resolution_answer IsInForm origin form common bytes r answer h is
 task_answers (Some (ToResolve origin form common)) bytes (Text made) answer h is = absurd h
 task_answers (Some (ToResolve origin form common)) bytes (Migration m) answer h is = absurd h
 task_answers (Some (ToResolve origin form common)) bytes (Verification m r) answer h is = absurd h
@@ -123,9 +127,10 @@ pub verification_module : (asked : Option Plan) (bytes : List ℕ) (m : Checked)
 verification_module (Some (ToVerify range)) bytes m r h = h.1
 verification_module asked bytes m r h = absurd h
 
-pub resolution_tells : (asked : Option Plan) (bytes : List ℕ) (r : Resolved) → IsTaskFor asked bytes (Resolution r) → TellsOfClasses r.form → TellsFor asked
-resolution_tells (Some (ToResolve origin form common)) bytes r h tells = subst TellsOfClasses h.0 tells
-resolution_tells asked bytes r h tells = absurd h
+-- what is refused of its classes is refused of the plan's
+pub resolution_refused : (asked : Option Plan) (bytes : List ℕ) (r : Resolved) (answer : Result (List ℕ) Failure) → IsTaskFor asked bytes (Resolution r) → IsRefusedIn r.form r.common.range r.resolved.plain answer → IsAskedRefusal asked bytes answer
+resolution_refused (Some (ToResolve origin form common)) bytes r answer h is = resolution_answer IsRefusedIn origin form common bytes r answer h is
+resolution_refused asked bytes r answer h is = absurd h
 
 -- ---- the input
 

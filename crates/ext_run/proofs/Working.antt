@@ -1,7 +1,7 @@
 -- What becomes of a task, by its kind.
-use Rattle.std.proofs.Common.{◌≡◌, ℕ, List, [], true, false, ◌⊎◌, sym, subst, refl, inl, inr}
+use Rattle.std.proofs.Common.{◌≡◌, ℕ, List, [], true, false, sym, subst, refl, inl, inr}
 use Rattle.std.specs.declared.alloc.Global.{Global}
-use Rattle.std.specs.Prelude.{Vec, Ok, Err, IfErr}
+use Rattle.std.specs.Prelude.{Vec, Ok, Err}
 use Rattle.edge.specs.Faults.{HasRisen}
 use Rattle.finite_module.specs.Checked.{Checked}
 use Rattle.resolution_laws.specs.Start.{IsCanonicalStart}
@@ -9,7 +9,6 @@ use Rattle.square.specs.declared.range.Range.{Range}
 use Rattle.square.specs.Squares.{Placed, over}
 use Rattle.square.specs.Tables.{Staircase}
 use Rattle.square.specs.Keeping.{Keeper}
-use Rattle.ext_report.specs.declared.failure.Failure.TheVariants.{Memory}
 use Rattle.ext_run.specs.declared.plan.Form.{Form}
 use Rattle.ext_run.specs.declared.task.Task.{Task}
 use Rattle.ext_run.specs.declared.task.Task.TheVariants.{Text, Resolution, Migration, Verification}
@@ -17,7 +16,8 @@ use Rattle.ext_run.specs.declared.task.Resolution.{Resolution as ToResolve}
 use Rattle.ext_run.specs.Devices.{Store}
 use Rattle.ext_run.specs.Plan.{keeping, migrating, verifying}
 use Rattle.ext_run.specs.Forms.{IsInForm}
-use Rattle.ext_run.specs.Work.{Told, HasAnswer, answer_of, IsRefusalIn, HasContinued, HasUsed, HasWorked}
+use Rattle.ext_run.specs.Work.{Told, HasAnswer, answer_of, HasContinued, HasUsed, HasWorked}
+use Rattle.ext_run.proofs.Continuing.{WhyUntold}
 
 -- ---- without a save file
 
@@ -31,11 +31,11 @@ told_unsaved range form m rows spare table text old new is h has =
     subst P is (h.told has) (none_read m)
 
 -- what keeps nothing does not fail
-pub why_unsaved : (range : Range) (form : Form) (table : Staircase) (text : Told) (old new : Keeper) → (HasRisen old.faults new.faults → ⊥) → HasContinued range form table text old new → IfErr text (λ e. (e ≡ Memory) ⊎ IsRefusalIn form e)
-why_unsaved range form table (Ok t) old new never h = tt
-why_unsaved range form table (Err e) old new never h = elim h.why [
+pub why_unsaved : (range : Range) (form : Form) (m : Checked) (rows : List (List Placed)) (spare : ℕ) (table : Staircase) (text : Told) (old new : Keeper) → table ≡ record { resolved = m; start = []; rows = rows; spare = spare } → (HasRisen old.faults new.faults → ⊥) → HasContinued range form table text old new → WhyUntold range form m text
+why_unsaved range form m rows spare table (Ok t) old new is never h = tt
+why_unsaved range form m rows spare table (Err e) old new is never h = elim h.why [
   | inl failed ↦ absurd (never (h.failed (cc)))
-  | inr others ↦ others
+  | inr others ↦ subst (λ (before : Staircase). WhyUntold range form before.resolved (Err e)) is others
 ]
 
 -- ---- the kinds of tasks
@@ -47,7 +47,7 @@ module _ {D : Type 0} (disk : Store D) (task : Task) where
   pub worked_saved : (r : ToResolve) (text : Told) (d g : D) → task ≡ Resolution r → r.common.save ≡ true → HasUsed disk (keeping r.common.range) r.resolved.plain (Resolution r) text d g → HasWorked disk task text d g
   worked_saved r text d g is saves on = subst (λ (t : Task). HasWorked disk t text d g) (sym is) (λ h. absurd (cc), λ h. on)
 
-  pub worked_unsaved : (r : ToResolve) (text : Told) (d : D) → task ≡ Resolution r → r.common.save ≡ false → (HasAnswer text → IsInForm r.form r.common.range r.resolved.plain (answer_of text)) → IfErr text (λ e. (e ≡ Memory) ⊎ IsRefusalIn r.form e) → HasWorked disk task text d d
+  pub worked_unsaved : (r : ToResolve) (text : Told) (d : D) → task ≡ Resolution r → r.common.save ≡ false → (HasAnswer text → IsInForm r.form r.common.range r.resolved.plain (answer_of text)) → WhyUntold r.common.range r.form r.resolved text → HasWorked disk task text d d
   worked_unsaved r text d is saves told why = subst (λ (t : Task). HasWorked disk t text d d) (sym is) (λ h. record { told = told; why = why; same = refl }, λ h. absurd (cc))
 
   pub worked_migration : (m : Checked) (text : Told) (d g : D) → task ≡ Migration m → HasUsed disk migrating m.plain (Migration m) text d g → HasWorked disk task text d g

@@ -1,5 +1,5 @@
 -- What the program answers to its words, and to the module file that it reads.
-use Rattle.std.specs.Prelude.{◌≡◌, ◌⊎◌, ℕ, List, length, Option, None, MatchOption, IsOkAnd, Result, Ok, Err, ⊤}
+use Rattle.std.specs.Prelude.{◌≡◌, ◌⊎◌, ℕ, List, length, Option, Some, None, MatchOption, IsOkAnd, Result, Ok, Err, ⊤}
 use Rattle.std.specs.List.{sum}
 use Rattle.module_json.specs.ModuleFile.{File, IsFileOf}
 use Rattle.module_json.specs.declared.malformed.Malformed.{Malformed}
@@ -21,7 +21,7 @@ use Rattle.ext_run.specs.declared.plan.Origin.TheVariants.{Sphere, Sample, File 
 use Rattle.ext_run.specs.declared.plan.Plan.{Plan}
 use Rattle.ext_run.specs.declared.plan.Plan.TheVariants.{Resolve, Check, Build, Multiply, Migrate, Verify}
 use Rattle.ext_run.specs.Plan.{asked_by, IsRead, Reads}
-use Rattle.ext_run.specs.Forms.{IsVerifiedChart, IsText, IsInForm}
+use Rattle.ext_run.specs.Forms.{IsVerifiedChart, IsText, IsInForm, IsRefusedIn}
 
 -- text is the line on the module
 abbrev pub IsLineOn : SteenrodModule → List ℕ → Type 0
@@ -80,6 +80,13 @@ IsAskedAnswer asked bytes answer = MatchOption asked (answer ≡ Err Words) (λ 
 -- the answer to the words
 abbrev pub IsAnswer : List (List ℕ) → List ℕ → Result (List ℕ) Failure → Type 0
 IsAnswer words bytes answer = IsAskedAnswer (asked_by words) bytes answer
+
+-- The answer refuses classes that the words name. A refusal of a place is right for the words, and over some squares of the
+-- module that the input describes, whether they are its canonical ones or not.
+abbrev pub IsAskedRefusal : Option Plan → List ℕ → Result (List ℕ) Failure → Type 0
+IsAskedRefusal (Some (Resolve origin form common)) bytes answer =
+    IsAnswerAt origin (IsRefusedIn form common.range) bytes answer
+IsAskedRefusal asked bytes answer = ⊥
 
 abbrev pub AnswerIsUnique : Type 0
 AnswerIsUnique = (words : List (List ℕ)) (bytes : List ℕ) (a b : Result (List ℕ) Failure) → IsAnswer words bytes a →

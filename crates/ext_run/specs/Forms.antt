@@ -15,7 +15,7 @@ use Rattle.ext_chart.specs.Dump.{dump_text}
 use Rattle.ext_chart.specs.Summary.{summary_text}
 use Rattle.ext_products.specs.declared.refusal.Refusal.{Refusal}
 use Rattle.ext_products.specs.Products.{resolution, Telling, IsProductsAnswer}
-use Rattle.ext_brackets.specs.Brackets.{IsBracketAnswer}
+use Rattle.ext_brackets.specs.Brackets.{IsBracketAnswer, IsOfPlaces}
 use Rattle.ext_run.specs.declared.plan.Form.{Form}
 use Rattle.ext_run.specs.declared.plan.Form.TheVariants.{Chart, Differentials, Summary, Products, Bracket}
 
@@ -75,6 +75,19 @@ pub record IsToldOfClasses (IsToldOf : Telling) (range : Range) (m : SteenrodMod
   pub is_told : IsToldOf (resolution m table) (resolution (derived_module sphere_file) sphere) told
   pub is : answer ≡ told_of_classes told
 
+-- The refusal is what is told, as IsToldOf says, of some squares of the module, whatever they hold, and of the classes of the
+-- sphere's canonical resolution through the range.
+pub record IsRefusedOver (IsToldOf : Telling) (range : Range) (m : SteenrodModule) (refusal : Refusal) : Type 0 where
+  pub table : List (List Content)
+  pub sphere : List (List Content)
+  pub sphere_resolved : IsResolved range (derived_module sphere_file) sphere
+  pub is_told : IsToldOf (resolution m table) (resolution (derived_module sphere_file) sphere) (Err refusal)
+
+-- the answer is a refusal of classes, and this holds of it
+abbrev pub IsRefusalWith : (Refusal → Type 0) → Result (List ℕ) Failure → Type 0
+IsRefusalWith Holds (Err (Classes refusal)) = Holds refusal
+IsRefusalWith Holds answer = ⊥
+
 -- ---- the forms
 
 -- the answer is that of the module's canonical resolution through the range, in this form
@@ -84,3 +97,10 @@ IsInForm Differentials range = IsText (IsReadOff (dump_of range) range)
 IsInForm Summary range = IsText (IsReadOff (summary_of range) range)
 IsInForm (Products by) range = IsToldOfClasses (IsProductsAnswer range by) range
 IsInForm (Bracket a b c) range = IsToldOfClasses (IsBracketAnswer range a b c) range
+
+-- The answer is a refusal of classes, in a form that tells of them. A refusal of a place is right over some squares of the module.
+abbrev pub IsRefusedIn : Form → Range → SteenrodModule → Result (List ℕ) Failure → Type 0
+IsRefusedIn (Products by) range m answer = IsRefusalWith (IsRefusedOver (IsProductsAnswer range by) range m) answer
+IsRefusedIn (Bracket a b c) range m answer =
+    IsRefusalWith (λ refusal. IsOfPlaces refusal → IsRefusedOver (IsBracketAnswer range a b c) range m refusal) answer
+IsRefusedIn form range m answer = ⊥

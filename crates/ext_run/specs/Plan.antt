@@ -15,7 +15,6 @@ use Rattle.ext_words.specs.declared.command.Command.TheVariants.{Sphere, Resolve
 use Rattle.ext_words.specs.Words.{command_of, IsRangeWithin, IsWithin}
 use Rattle.ext_run.specs.declared.plan.Origin.{Origin}
 use Rattle.ext_run.specs.declared.plan.Origin.TheVariants.{Sphere as OfSphere, Sample as OfSample, File as OfFile}
-use Rattle.ext_run.specs.declared.plan.Form.{Form}
 use Rattle.ext_run.specs.declared.plan.Form.TheVariants.{Chart, Differentials, Summary, Products as ProductsOf, Bracket}
 use Rattle.ext_run.specs.declared.plan.Plan.{Plan}
 use Rattle.ext_run.specs.declared.plan.Plan.TheVariants.{Resolve as ToResolve, Check as ToCheck, Build as ToBuild, Multiply, Migrate as ToMigrate, Verify as ToVerify}
@@ -88,22 +87,6 @@ PlanReads (ToVerify range) = ⊤
 -- the words ask for something that is read
 abbrev pub Reads : Option Plan → Type 0
 Reads asked = MatchOption asked ⊥ PlanReads
-
--- ---- what is told
-
--- the form tells of classes that the words name
-abbrev pub TellsOfClasses : Form → Type 0
-TellsOfClasses Chart = ⊥
-TellsOfClasses Differentials = ⊥
-TellsOfClasses Summary = ⊥
-TellsOfClasses (ProductsOf by) = ⊤
-TellsOfClasses (Bracket a b c) = ⊤
-
--- what is asked for is told in such a form
-abbrev pub TellsFor : Option Plan → Type 0
-TellsFor None = ⊥
-TellsFor (Some (ToResolve origin form common)) = TellsOfClasses form
-TellsFor (Some plan) = ⊥
 
 -- ---- reports
 

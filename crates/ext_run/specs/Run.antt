@@ -13,8 +13,8 @@ use Rattle.ext_report.specs.Failure.{IsTold, status_of}
 use Rattle.ext_build.specs.Input.{most_read}
 use Rattle.ext_run.specs.declared.plan.Plan.{Plan}
 use Rattle.ext_run.specs.Devices.{Device, Store}
-use Rattle.ext_run.specs.Plan.{Reads, TellsFor, live_for, verifying, use_for}
-use Rattle.ext_run.specs.Answer.{IsAskedAnswer}
+use Rattle.ext_run.specs.Plan.{Reads, live_for, verifying, use_for}
+use Rattle.ext_run.specs.Answer.{IsAskedAnswer, IsAskedRefusal}
 use Rattle.ext_run.specs.Disks.{Outcome, IsRefused, IsUncertified, IsUsable, IsCertified, HasSaved}
 use Rattle.ext_run.specs.Ending.{HasTold, HasGotWhole, HasGotPart}
 use Rattle.ext_run.specs.Live.{HasToldLive}
@@ -24,7 +24,8 @@ status_after (Ok text) = WRITTEN
 status_after (Err failure) = status_of failure
 
 -- Why a run ended as it did, where the disk held this: its text is the answer, or the failure's cause stands in the words,
--- in the input, or in the save file. What is told of a resolution is the answer if the save file may be used.
+-- in the input, or in the save file. What is told of a resolution is the answer if the save file may be used; on any
+-- disk a refusal of a place is right over some squares of the module.
 abbrev pub IsCause : Option Plan → List ℕ → Option (List ℕ) → Type 0 → Outcome → Type 0
 IsCause asked input now usable (Ok text) = usable → IsAskedAnswer asked input (Ok text)
 IsCause asked input now usable (Err Words) = asked ≡ None
@@ -37,7 +38,7 @@ IsCause asked input now usable (Err (Certificate fault)) =
     ((range : Range) × (use_for asked ≡ Some (verifying range)))
     × IfSome now (λ file. IsUncertified asked input file fault)
 IsCause asked input now usable (Err (Classes refusal)) =
-    TellsFor asked × (usable → IsAskedAnswer asked input (Err (Classes refusal)))
+    IsAskedRefusal asked input (Err (Classes refusal)) × (usable → IsAskedAnswer asked input (Err (Classes refusal)))
 IsCause asked input now usable (Err Memory) = ⊤
 IsCause asked input now usable (Err failure) = IsAskedAnswer asked input (Err failure)
 

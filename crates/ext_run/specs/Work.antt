@@ -18,8 +18,8 @@ use Rattle.ext_run.specs.declared.plan.Form.{Form}
 use Rattle.ext_run.specs.declared.task.Task.{Task}
 use Rattle.ext_run.specs.declared.task.Task.TheVariants.{Text, Resolution, Migration, Verification}
 use Rattle.ext_run.specs.Devices.{Store}
-use Rattle.ext_run.specs.Plan.{TellsOfClasses, Use, keeping, migrating, verifying}
-use Rattle.ext_run.specs.Forms.{IsInForm}
+use Rattle.ext_run.specs.Plan.{Use, keeping, migrating, verifying}
+use Rattle.ext_run.specs.Forms.{IsInForm, IsRefusedIn}
 use Rattle.ext_run.specs.Task.{IsDoneBy}
 use Rattle.ext_run.specs.Saving.{StandsAsOneOf, IsUnwritten, HasRange}
 use Rattle.ext_run.specs.Certificates.{IsNoCertificate}
@@ -39,12 +39,9 @@ abbrev pub answer_of : Told → Result (List ℕ) Failure
 answer_of (Ok text) = Ok text.items
 answer_of (Err failure) = Err failure
 
--- a refusal of classes, in a form that tells of them
-abbrev pub IsRefusalIn : Form → Failure → Type 0
-IsRefusalIn form e = IsOfClasses e × TellsOfClasses form
-
+-- a refusal of classes, in the form of the task
 abbrev pub IsTaskRefusal : Task → Failure → Type 0
-IsTaskRefusal (Resolution r) e = IsRefusalIn r.form e
+IsTaskRefusal (Resolution r) e = IsRefusedIn r.form r.common.range r.resolved.plain (Err e)
 IsTaskRefusal task e = ⊥
 
 -- A table was continued through the range and told of, and the keeper got the new squares. If the table began with canonical squares,
@@ -53,7 +50,7 @@ pub record HasContinued (range : Range) (form : Form) (table : Staircase) (text 
     : Type 0 where
   pub told : HasAnswer text → IsCanonicalStart (over table.resolved) table.start →
       IsInForm form range table.resolved.plain (answer_of text)
-  pub why : IfErr text (λ e. (e ≡ Saving) ⊎ (e ≡ Memory) ⊎ IsRefusalIn form e)
+  pub why : IfErr text (λ e. (e ≡ Saving) ⊎ (e ≡ Memory) ⊎ IsRefusedIn form range table.resolved.plain (Err e))
   pub failed : text ≡ Err Saving → HasRisen old.faults new.faults
   pub no_fault : text ≢ Err Saving → new.faults ≡ old.faults
   pub live : text ≢ Err Saving → new.live

@@ -1,7 +1,7 @@
 //! The text of a task: a module is resolved, by the caller alone or by workers, over its save file if the words say so,
 //! and what is made of it is told: a table, or the images of generators alone. Workers may report how far they are.
 //! Or the save file is all that is used.
-ghost use Rattle.std.specs.Prelude.{◌≡◌, ◌≤◌, ◌⊎◌, false, None, IfErr};
+ghost use Rattle.std.specs.Prelude.{◌≡◌, ◌≤◌, ◌⊎◌, false, None, Err, IfErr};
 ghost use Rattle.board_core.specs.declared.event.Cause as Cause;
 ghost use Rattle.resolution_step.specs.Alone.{AreApart, IsUntouched, HasResolved};
 ghost use Rattle.square.specs.declared.range.TheConstants.{MAX_S, MAX_T};
@@ -9,14 +9,13 @@ ghost use Rattle.square.specs.Keeping.{IsKeeperOf};
 ghost use Rattle.square.specs.Tables.{plain_rows, IsThrough, cut};
 ghost use Rattle.ext_run.specs.declared.task.Task.TheVariants.{Resolution as ToResolve};
 ghost use Rattle.ext_run.specs.Devices.{device_of, store_of};
-ghost use Rattle.ext_run.specs.Plan.{TellsOfClasses, keeping, live_where};
+ghost use Rattle.ext_run.specs.Plan.{keeping, live_where};
 ghost use Rattle.ext_run.specs.Live.{live_in, HasHeard};
-ghost use Rattle.ext_run.specs.Forms.{IsResolved, IsInForm};
+ghost use Rattle.ext_run.specs.Forms.{IsResolved, IsInForm, IsRefusedIn};
 ghost use Rattle.ext_words.specs.Words.{IsWithin};
 ghost use Rattle.ext_run.specs.Task.{IsTaskWithin};
-ghost use Rattle.ext_run.specs.Work.{HasAnswer, answer_of, IsRefusalIn, HasContinued, HasUsed, HasWorked};
+ghost use Rattle.ext_run.specs.Work.{HasAnswer, answer_of, HasContinued, HasUsed, HasWorked};
 ghost use Rattle.ext_report.specs.declared.failure.Failure.TheVariants.{Memory as WantOfMemory};
-ghost use Rattle.ext_report.specs.Failure.{IsOfClasses};
 
 use crate::from_images::{chart_alone, dump_alone, summary_alone};
 use crate::migrating::migrated;
@@ -115,7 +114,8 @@ fn unsaved_alone(alloc: Global, resolution: Resolution) -> Result<Vec<u8>, Failu
     requires { IsWithin resolution.common }
     ensures told { HasAnswer result →
         IsInForm resolution.form resolution.common.range resolution.resolved.plain (answer_of result) }
-    ensures why { IfErr result (λ e. (e ≡ WantOfMemory) ⊎ IsRefusalIn resolution.form e) }
+    ensures why { IfErr result (λ e. (e ≡ WantOfMemory)
+        ⊎ IsRefusedIn resolution.form resolution.common.range resolution.resolved.plain (Err e)) }
 {
     let range = resolution.common.range;
     match resolution.form {
@@ -140,7 +140,8 @@ fn unsaved_by_workers<W: Threads + Wait + Clock + Sync, E: Sink + Send, G: Gate 
     requires { IsWithin resolution.common }
     ensures told { HasAnswer result.0 →
         IsInForm resolution.form resolution.common.range resolution.resolved.plain (answer_of result.0) }
-    ensures why { IfErr result.0 (λ e. (e ≡ WantOfMemory) ⊎ IsRefusalIn resolution.form e) }
+    ensures why { IfErr result.0 (λ e. (e ≡ WantOfMemory)
+        ⊎ IsRefusedIn resolution.form resolution.common.range resolution.resolved.plain (Err e)) }
     ensures heard { HasHeard (device_of E.written E.faults) (live_where resolution.common.live resolution.common.range)
         result.0 result.1 err.old err.new }
 {
@@ -340,8 +341,7 @@ fn told(alloc: Global, form: Form, table: &Table, range: Range) -> Result<Vec<u8
     ensures told { HasAnswer result →
         IsResolved range table.now.resolved.plain (cut range (plain_rows table.now.rows)) →
         IsInForm form range table.now.resolved.plain (answer_of result) }
-    ensures why { IfErr result (λ e. (e ≡ WantOfMemory) ⊎ IsOfClasses e) }
-    ensures named { IfErr result (λ e. IsOfClasses e → TellsOfClasses form) }
+    ensures why { IfErr result (λ e. (e ≡ WantOfMemory) ⊎ IsRefusedIn form range table.now.resolved.plain (Err e)) }
 {
     canonical_table_exists();
     canonical_table_is_minimal_resolution();

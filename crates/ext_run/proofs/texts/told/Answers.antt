@@ -1,15 +1,18 @@
-use Rattle.std.proofs.Common.{sym, subst, ◌∙◌, ap}
-use Rattle.std.specs.Prelude.{Ok, Err}
+use Rattle.std.proofs.Common.{◌≡◌, ◌⊎◌, sym, subst, ◌∙◌, ap}
+use Rattle.std.specs.Prelude.{Ok, Err, IfErr}
 use Rattle.std.proofs.lemmas.Result.{err_from_is_err_and}
 use Rattle.chain_map.proofs.Resolved.{canonical_in}
 use Rattle.ext_products.specs.Products.{IsAnswerIn, IsAnswerOver, IsProductsAnswer}
-use Rattle.ext_brackets.specs.Brackets.{IsBracketAnswer}
+use Rattle.ext_products.specs.declared.refusal.Refusal.{Refusal}
+use Rattle.ext_brackets.specs.Brackets.{IsBracketAnswer, IsOfPlaces}
+use Rattle.ext_report.specs.declared.failure.Failure.TheVariants.{Memory}
+use Rattle.ext_report.specs.Failure.{classes_failure}
 use Rattle.ext_run.specs.declared.plan.Form.{Form}
-use Rattle.ext_run.specs.Forms.{IsToldOfClasses, IsInForm}
-use Rattle.ext_run.specs.Work.{answer_of}
+use Rattle.ext_run.specs.Forms.{IsToldOfClasses, IsInForm, IsRefusedOver, IsRefusedIn}
+use Rattle.ext_run.specs.Work.{Told, answer_of}
 use Rattle.ext_chart.proofs.Seen.{through_seen}
 use Rattle.ext_run.proofs.AnswerExists.{TableLaws}
-use Rattle.ext_run.proofs.Resolved.{is_chart, is_dump, is_summary, is_told_of_classes, classes_failed}
+use Rattle.ext_run.proofs.Resolved.{is_chart, is_dump, is_summary, is_told_of_classes, classes_failed, refused_over, classes_refused}
 use Rattle.ext_run.proofs.texts.told.Goals as goal
 
 pub chart-requires : goal.chart-requires
@@ -65,3 +68,21 @@ returns-in_err-bracket_text-in-Bracket-clause-told c = λ has resolved.
     let known = classes_failed (IsAnswerOver (IsBracketAnswer c.args.range c.in-Bracket.a c.in-Bracket.b c.in-Bracket.c) c.args.table.now c.args.range) c.in_err-bracket_text-in-Bracket.field-0.0 c.from_residual-in_err-bracket_text-in-Bracket.result is c.in_err-bracket_text-in-Bracket.ensures.refused has in
     subst (λ (form : Form). IsInForm form c.args.range c.args.table.now.resolved.plain (answer_of c.from_residual-in_err-bracket_text-in-Bracket.result)) (sym c.in-Bracket.is)
     (subst (IsToldOfClasses (IsBracketAnswer c.args.range c.in-Bracket.a c.in-Bracket.b c.in-Bracket.c) c.args.range c.args.table.now.resolved.plain) (sym known.1) (is_told_of_classes laws (IsBracketAnswer c.args.range c.in-Bracket.a c.in-Bracket.b c.in-Bracket.c) c.args.range c.args.table.now known.0 resolved (known.2 (canonical_in c.args.table.now c.args.range resolved.canonical))))
+
+pub returns-in_err-products_text-in-Products-clause-why : goal.returns-in_err-products_text-in-Products-clause-why
+returns-in_err-products_text-in-Products-clause-why c =
+    let laws : TableLaws = record { exists = c.canonical_table_exists.ensures; minimal = c.canonical_table_is_minimal_resolution.ensures; modules = c.modules_are_graded_modules.ensures; accepted = c.accepted_is_module.ensures } in
+    let p = err_from_is_err_and c.from_residual-in_err-products_text-in-Products.result c.from_residual-in_err-products_text-in-Products.ensures.1 in
+    let is = p.1 ∙ ap Err p.2 in
+    let refused = classes_refused (IsRefusedOver (IsProductsAnswer c.args.range c.in-Products.by) c.args.range c.args.table.now.resolved.plain) c.in_err-products_text-in-Products.field-0.0 (λ some. let known = c.in_err-products_text-in-Products.ensures.refused some in (known.0, known.1, refused_over laws (IsProductsAnswer c.args.range c.in-Products.by) c.args.range c.args.table.now known.0 known.2)) in
+    let in_form = subst (λ (form : Form). (classes_failure c.in_err-products_text-in-Products.field-0.0 ≡ Memory) ⊎ IsRefusedIn form c.args.range c.args.table.now.resolved.plain (Err (classes_failure c.in_err-products_text-in-Products.field-0.0))) (sym c.in-Products.is) refused in
+    subst (λ (text : Told). IfErr text (λ e. (e ≡ Memory) ⊎ IsRefusedIn c.args.form c.args.range c.args.table.now.resolved.plain (Err e))) (sym is) in_form
+
+pub returns-in_err-bracket_text-in-Bracket-clause-why : goal.returns-in_err-bracket_text-in-Bracket-clause-why
+returns-in_err-bracket_text-in-Bracket-clause-why c =
+    let laws : TableLaws = record { exists = c.canonical_table_exists.ensures; minimal = c.canonical_table_is_minimal_resolution.ensures; modules = c.modules_are_graded_modules.ensures; accepted = c.accepted_is_module.ensures } in
+    let p = err_from_is_err_and c.from_residual-in_err-bracket_text-in-Bracket.result c.from_residual-in_err-bracket_text-in-Bracket.ensures.1 in
+    let is = p.1 ∙ ap Err p.2 in
+    let refused = classes_refused (λ (refusal : Refusal). IsOfPlaces refusal → IsRefusedOver (IsBracketAnswer c.args.range c.in-Bracket.a c.in-Bracket.b c.in-Bracket.c) c.args.range c.args.table.now.resolved.plain refusal) c.in_err-bracket_text-in-Bracket.field-0.0 (λ some. let known = c.in_err-bracket_text-in-Bracket.ensures.sure some in (known.0, known.1, λ place. refused_over laws (IsBracketAnswer c.args.range c.in-Bracket.a c.in-Bracket.b c.in-Bracket.c) c.args.range c.args.table.now known.0 (known.2 place))) in
+    let in_form = subst (λ (form : Form). (classes_failure c.in_err-bracket_text-in-Bracket.field-0.0 ≡ Memory) ⊎ IsRefusedIn form c.args.range c.args.table.now.resolved.plain (Err (classes_failure c.in_err-bracket_text-in-Bracket.field-0.0))) (sym c.in-Bracket.is) refused in
+    subst (λ (text : Told). IfErr text (λ e. (e ≡ Memory) ⊎ IsRefusedIn c.args.form c.args.range c.args.table.now.resolved.plain (Err e))) (sym is) in_form

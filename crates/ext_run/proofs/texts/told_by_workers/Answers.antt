@@ -7,7 +7,7 @@ use Rattle.ext_run.proofs.Reporting.{heard_of}
 use Rattle.ext_run.proofs.texts.told_by_workers.Goals as goal
 
 pub returns-in-Ok-clause-continued : goal.returns-in-Ok-clause-continued
-returns-in-Ok-clause-continued g c = continued _ _ _ _ c.args.form _ _ _ _ c.resolved_by_workers-resolved.ensures.resolved c.canonical_table_is_minimal_resolution.ensures c.modules_are_graded_modules.ensures c.in-Ok.table c.told-text.result c.in-Ok.is c.told-text.ensures.told c.told-text.ensures.why c.told-text.ensures.named
+returns-in-Ok-clause-continued g c = continued _ _ _ _ c.args.form _ _ _ _ c.resolved_by_workers-resolved.ensures.resolved c.canonical_table_is_minimal_resolution.ensures c.modules_are_graded_modules.ensures c.in-Ok.table c.told-text.result c.in-Ok.is c.told-text.ensures.told c.told-text.ensures.why
 
 -- a text is told of a table
 there : {T C X Y : Type 0} (made : Result T C) (text : Result X Y) (table : T) → made ≡ Ok table → OnOk text (OnErr made ⊥)

@@ -19,7 +19,7 @@ returns-in-Ok-clause-told g c =
 pub returns-in-Ok-clause-why : goal.returns-in-Ok-clause-why
 returns-in-Ok-clause-why g c =
     let r = c.args.resolution in
-    why_unsaved r.common.range r.form c.in-Ok.table c.told_by_workers-text.result.0 _ _ none c.told_by_workers-text.ensures.continued
+    why_unsaved r.common.range r.form r.resolved _ _ c.in-Ok.table c.told_by_workers-text.result.0 _ _ c.in-Ok.ensures none c.told_by_workers-text.ensures.continued
 
 pub returns-in-Err-clause-heard : goal.returns-in-Err-clause-heard
 returns-in-Err-clause-heard g c =
