@@ -3,7 +3,7 @@ mod RowByRow
 mod Outlines
 mod Bodies
 mod Examples
-mod Rules
+pub mod Rules
 pub mod Entries
 mod Decoding
 mod DecodingQuasi

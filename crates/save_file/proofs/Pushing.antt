@@ -49,7 +49,7 @@ AllRead-pushed table q p rows h read within start next same e =
 
 -- ---- squares at the places of a list
 
-some_more : (x : Entry) (list : List Entry) (s k : ℕ) → IsSome (entry_at list s k) → IsSome (entry_at (x ∷ list) s k)
+pub some_more : (x : Entry) (list : List Entry) (s k : ℕ) → IsSome (entry_at list s k) → IsSome (entry_at (x ∷ list) s k)
 some_more x list s k there = by_test (is_at x s k)
   where
     by_test : (b : Bool) → IsSome (if b then Some x.content else entry_at list s k)
@@ -63,7 +63,7 @@ listed_more : (x : Entry) (list part : List Entry) → AllByRecursion (IsListed 
 listed_more x list [] all = tt
 listed_more x list (e ∷ part) all = (some_more x list e.s e.above all.0, listed_more x list part all.1)
 
-first_listed : (x : Entry) (list : List Entry) → IsSome (entry_at (x ∷ list) x.s x.above)
+pub first_listed : (x : Entry) (list : List Entry) → IsSome (entry_at (x ∷ list) x.s x.above)
 first_listed x list =
     let here : is_at x x.s x.above ≡ true = and_from (nat_eq x.s x.s) (nat_eq x.above x.above) (eq-eqb x.s x.s refl) (eq-eqb x.above x.above refl) in
     subst IsSome (sym (cond-true (is_at x x.s x.above) (Some x.content) (entry_at list x.s x.above) here)) refl

@@ -327,7 +327,7 @@ pub record AreBuilt (m : Module) (list : List Entry) : Type 0 where
   pub bases : HaveBases m list
 
 -- a quasi-inverse adds no square
-entry_given : (s k : ℕ) (r : Reduction) (x : Kept) → (given_quasi s k r x).entry ≡ x.entry
+pub entry_given : (s k : ℕ) (r : Reduction) (x : Kept) → (given_quasi s k r x).entry ≡ x.entry
 entry_given s k r x = by_test (is_at x.entry s k)
   where
     by_test : (b : Bool) → (if b then record { entry = x.entry; quasi = Some r } else x).entry ≡ x.entry

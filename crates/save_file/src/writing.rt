@@ -37,7 +37,8 @@ pub fn encode(alloc: Global, square: &Square) -> Result<Vec<u8>, Memory>
 }
 
 /// The body of the quasi-inverse of the square in row `s` and of degree `t`, for a file that has the square without one. It is read
-/// only where its kernel rows are the square's, as they are wherever all squares of the table are those of the canonical resolution.
+/// back only if its kernel rows are those of the square. They are if that square and those that it stands on are squares of the
+/// canonical resolution.
 ///
 /// # Errors
 /// `Memory` if allocation fails.
