@@ -1,29 +1,18 @@
 -- What is kept of squares that get quasi-inverses.
-use Rattle.std.proofs.Common.{◌≡◌, ℕ, suc, ◌⊎◌, inl, inr, Bool, true, false, nat_eq, if◌then◌else◌, List, [], ◌∷◌, ◌++◌, length, Some, ap, ap₂, sym, subst, ◌∙◌, refl}
+use Rattle.std.proofs.Common.{◌≡◌, ℕ, suc, ◌⊎◌, inl, inr, Bool, true, false, nat_eq, if◌then◌else◌, List, [], ◌∷◌, ◌++◌, length, Some, ap, sym, subst, ◌∙◌, refl}
 use Rattle.std.specs.Option.{option_map}
 use Rattle.std.proofs.lemmas.Bool.{and_parts, eqb-true}
 use Rattle.std.proofs.lemmas.Option.{same_Some}
 use Rattle.f2_matrix.specs.Reduction.{Reduction}
-use Rattle.resolution_laws.specs.Start.{Entry}
 use Rattle.save_file.specs.Bodies.{Kept, entries, is_at, kept_at, given_quasi, with_quasi_at}
+use Rattle.save_file.proofs.Rules.{entry_given, entries-with_quasi_at}
 use Rattle.ext_run.specs.Migrating.{Added, with_added}
 
 -- ---- no square is added
 
-entry_same : (s k : ℕ) (r : Reduction) (x : Kept) → (given_quasi s k r x).entry ≡ x.entry
-entry_same s k r x = by_test (is_at x.entry s k)
-  where
-    by_test : (b : Bool) → (if b then record { entry = x.entry; quasi = Some r } else x).entry ≡ x.entry
-    by_test true = refl
-    by_test false = refl
-
-pub one_added : (kept : List Kept) (s k : ℕ) (r : Reduction) → entries (with_quasi_at kept s k r) ≡ entries kept
-one_added [] s k r = refl
-one_added (x ∷ xs) s k r = ap₂ (λ (e : Entry) (l : List Entry). e ∷ l) (entry_same s k r x) (one_added xs s k r)
-
 pub same_entries : (kept : List Kept) (added : List Added) → entries (with_added kept added) ≡ entries kept
 same_entries kept [] = refl
-same_entries kept (q ∷ more) = same_entries (with_quasi_at kept q.s q.above q.reduction) more ∙ one_added kept q.s q.above q.reduction
+same_entries kept (q ∷ more) = same_entries (with_quasi_at kept q.s q.above q.reduction) more ∙ entries-with_quasi_at kept q.s q.above q.reduction
 
 pub with_added-append : (kept : List Kept) (first more : List Added) → with_added kept (first ++ more) ≡ with_added (with_added kept first) more
 with_added-append kept [] more = refl
@@ -38,7 +27,7 @@ module _ (s k : ℕ) (r : Reduction) where
 
   pub found_given : (kept : List Kept) (i j : ℕ) → kept_at (with_quasi_at kept s k r) i j ≡ option_map (given_quasi s k r) (kept_at kept i j)
   found_given [] i j = refl
-  found_given (x ∷ xs) i j = ap (λ (e : Bool). if e then Some (given_quasi s k r x) else kept_at (with_quasi_at xs s k r) i j) (ap (λ e. is_at e i j) (entry_same s k r x)) ∙ by_test (is_at x.entry i j) (found_given xs i j)
+  found_given (x ∷ xs) i j = ap (λ (e : Bool). if e then Some (given_quasi s k r x) else kept_at (with_quasi_at xs s k r) i j) (ap (λ e. is_at e i j) (entry_given s k r x)) ∙ by_test (is_at x.entry i j) (found_given xs i j)
     where
       by_test : (b : Bool) → kept_at (with_quasi_at xs s k r) i j ≡ option_map (given_quasi s k r) (kept_at xs i j) → (if b then Some (given_quasi s k r x) else kept_at (with_quasi_at xs s k r) i j) ≡ option_map (given_quasi s k r) (if b then Some x else kept_at xs i j)
       by_test true rest = refl

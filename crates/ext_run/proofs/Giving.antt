@@ -19,11 +19,12 @@ use Rattle.save_file.specs.Reading.{squares_alone, kept_of_bodies}
 use Rattle.save_file.specs.Files.{digest_of, standing_of, of_squares, of_records, kept_list, kept_by}
 use Rattle.save_file.specs.Saving.{SaveState, IsKeptBare, HasQuasiOrNot}
 use Rattle.save_file.proofs.Keeping.{quasi_once}
+use Rattle.save_file.proofs.Rules.{entries-with_quasi_at}
 use Rattle.ext_run.specs.Devices.{Store}
 use Rattle.ext_run.specs.Saving.{kept_of}
 use Rattle.ext_run.specs.Migrating.{Added, Keeps, KeepsAmid, KeepsAtPart, KeepsOn}
 use Rattle.ext_run.proofs.Lasting.{AreDisks}
-use Rattle.ext_run.proofs.Added.{one_added, longer_given, found_given, place_is, quasi_given_is, quasi_stays_given}
+use Rattle.ext_run.proofs.Added.{longer_given, found_given, place_is, quasi_given_is, quasi_stays_given}
 
 -- ---- files that keep something
 
@@ -69,7 +70,7 @@ module _ {D : Type 0} (store : Store D) (laws : AreDisks store) (table : Stairca
 
     stands_here : (c : List ℕ) → Keeps m kept c ⊎ Keeps m (with_quasi_at kept s k r) c → standing_of m c ≡ Ok (entries kept)
     stands_here c (inl h) = h.stands
-    stands_here c (inr h) = h.stands ∙ ap (λ (l : List Entry). Ok l) (one_added kept s k r)
+    stands_here c (inr h) = h.stands ∙ ap (λ (l : List Entry). Ok l) (entries-with_quasi_at kept s k r)
 
     -- a quasi-inverse that an image has at that place is this one
     at_place : (d : List ℕ) → Keeps m kept d ⊎ Keeps m (with_quasi_at kept s k r) d → (i j : ℕ) (x : Kept) (q : Reduction) → kept_at (kept_of m d) i j ≡ Some x → x.quasi ≡ Some q → is_at x.entry s k ≡ true → q ≡ r

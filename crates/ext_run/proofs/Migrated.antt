@@ -1,9 +1,8 @@
 -- A save file that is brought up to date: what is told, and what becomes of it.
-use Rattle.std.proofs.Common.{◌≡◌, ◌≢◌, ◌↔◌, ℕ, ◌<◌, ◌≤◌, ◌⊎◌, inl, inr, Bool, true, false, nat_eq, ◌&&◌, if◌then◌else◌, List, [], ◌∷◌, ◌++◌, length, map, Option, Some, None, Result, ap, sym, subst, ◌∙◌, refl, arith, append-nil}
+use Rattle.std.proofs.Common.{◌≡◌, ◌≢◌, ◌↔◌, ℕ, ◌<◌, ◌≤◌, ◌⊎◌, inl, inr, List, [], ◌∷◌, ◌++◌, length, map, Option, Some, None, Result, ap, sym, subst, ◌∙◌, refl, arith, append-nil}
 use Rattle.std.specs.Prelude.{Ok, Err, IfOk, IfErr, OnOk, IsOk, IfSome, IsSome}
 use Rattle.std.specs.Option.{option_map}
 use Rattle.std.specs.List.{All}
-use Rattle.std.proofs.lemmas.Bool.{eq-eqb}
 use Rattle.std.proofs.lemmas.List.Elements.{All-nil, All-cons, All-head, All-tail, All-weaker}
 use Rattle.edge.specs.Disk.{LeavesOnly}
 use Rattle.finite_module.specs.Checked.{Checked}
@@ -21,6 +20,7 @@ use Rattle.save_file.specs.Files.{digest_of, standing_of}
 use Rattle.save_file.specs.Saved.{quasi_kept, kept_of_table}
 use Rattle.save_file.specs.Saving.{SaveState, TakesSquares, quasis_in}
 use Rattle.save_file.proofs.Entries.{some_is, entries_of_table}
+use Rattle.save_file.proofs.Pushing.{first_listed, some_more}
 use Rattle.ext_chart.specs.Files.{migrated_line}
 use Rattle.ext_report.specs.declared.failure.Failure.{Failure}
 use Rattle.ext_report.specs.declared.failure.Failure.TheVariants.{Saving, Memory}
@@ -40,25 +40,11 @@ use Rattle.ext_run.proofs.TakenUp.{keeps_table, stays_if_whole}
 use Rattle.ext_run.proofs.Filling.{come_then, settled_keeps}
 
 -- each entry of a list is at its place
-found_at : (e : Entry) (list : List Entry) → IsSome (entry_at (e ∷ list) e.s e.above)
-found_at e list = by_test (nat_eq e.s e.s && nat_eq e.above e.above) (ap (λ (b : Bool). b && nat_eq e.above e.above) (eq-eqb e.s e.s refl) ∙ eq-eqb e.above e.above refl)
-  where
-    by_test : (b : Bool) → b ≡ true → IsSome (if b then Some e.content else entry_at list e.s e.above)
-    by_test true is = refl
-    by_test false is = absurd (cc)
-
-found_behind : (e : Entry) (list : List Entry) (s k : ℕ) → IsSome (entry_at list s k) → IsSome (entry_at (e ∷ list) s k)
-found_behind e list s k h = by_test (nat_eq e.s s && nat_eq e.above k)
-  where
-    by_test : (b : Bool) → IsSome (if b then Some e.content else entry_at list s k)
-    by_test true = refl
-    by_test false = h
-
 all_found : (list : List Entry) → All (λ e. IsSome (entry_at list e.s e.above)) list
 all_found [] = All-nil (λ e. IsSome (entry_at [] e.s e.above))
 all_found (e ∷ list) =
     let P : Entry → Type 0 = λ x. IsSome (entry_at (e ∷ list) x.s x.above) in
-    All-cons P e list (found_at e list) (All-weaker (λ x. IsSome (entry_at list x.s x.above)) P (λ x h. found_behind e list x.s x.above h) list (all_found list))
+    All-cons P e list (first_listed e list) (All-weaker (λ x. IsSome (entry_at list x.s x.above)) P (λ x h. some_more e list x.s x.above h) list (all_found list))
 
 all_mapped : {X Y : Type 0} (f : X → Y) (P : Y → Type 0) (list : List X) → All (λ x. P (f x)) list → All P (map f list)
 all_mapped f P [] h = All-nil P
