@@ -23,6 +23,7 @@ use Rattle.save_file.specs.Reading.{addition_at, addition_in, has_addition_rules
 use Rattle.save_file.specs.Saved.{kept_of_table, IsDecodedQuasi}
 use Rattle.save_file.specs.Laws.{AdditionFits}
 use Rattle.save_file.specs.Inside.Outline.{AdditionOutline, addition_outline_at, IsWholeAddition, IsBareAt, ArePackedParts}
+use Rattle.save_file.proofs.Inverting.{is_quasi_at}
 use Rattle.save_journal.specs.Laws.{AreBytes}
 use Rattle.save_journal.proofs.Bytes.{number_below}
 use Rattle.save_file.proofs.Bodies.{addition_itself, addition_with, whole_addition, wide_addition}
@@ -202,7 +203,6 @@ module _ (table : Staircase) (h : IsTable table) (read : AllRead table.rows) (by
         let is_body : bytes ≡ addition_bytes a = whole_addition bytes (preimages_of r) whole are_bytes (record { image = parts.image_rows; chosen = parts.chosen_rows }) in
         let made = λ (w v : ℕ) (k : List (List Bool)). reduction_with w v (preimages_of r) k in
         let kept : kept_at (kept_of_table table) o.s o.above ≡ Some (kept_as o.s o.above q) = kept_there table h read o.s o.above q bare.there in
-        let square = square_matrix m (below_of (plain_rows table.rows) o.s is.above) (take is.above (row_of (plain_rows table.rows) o.s)) (content_at table.rows o.s is.above) in
         let same : r ≡ made a.cols a.height q.content.kernel = ap (λ w. made w r.height r.kernel) (reduction.cols ∙ cols_here) ∙ ap (λ v. made a.cols v r.kernel) (reduction.height ∙ height_here) ∙ ap (made a.cols a.height) kernel in
         record {
           addition = a;
@@ -210,7 +210,7 @@ module _ (table : Staircase) (h : IsTable table) (read : AllRead table.rows) (by
           row = refl;
           degree = degree;
           reduction = same ∙ sym (ap (reduction_of_square a) kept);
-          is_quasi = record { above = is.above; degree = is.degree; quasi = subst (λ n. IsReductionOf n square r) is.cols (subst (λ x. IsReductionOf matrix.cols x r) is.rows reduction) };
+          is_quasi = is_quasi_at table o.s t matrix r is reduction;
           lacks = record { square = q; there = square_at-above table o.s o.above t degree ∙ bare.there; bare = bare.bare; kernel = kernel };
         }
 

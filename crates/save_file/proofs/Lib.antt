@@ -11,6 +11,7 @@ mod Encoding
 mod Appending
 pub mod Pushing
 mod Reductions
+mod Inverting
 mod Adding
 pub mod Keeping
 pub mod TakingUp

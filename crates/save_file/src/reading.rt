@@ -15,9 +15,10 @@ ghost use Rattle.save_file.specs.declared.fault.DecodeFault.TheVariants.{Strange
 use crate::body::Body;
 use crate::fault::DecodeFault;
 use crate::outline::{AdditionParts, PackedPreimages, Parts, addition_parts_of, parts_of};
+use crate::quasi::with_parts;
 use crate::rows::unpack;
-use f2_kernel::{are_parts, is_row_basis};
-use f2_matrix::{Matrix, Reduced, Rows, parts_are_reduction};
+use f2_kernel::is_row_basis;
+use f2_matrix::{Matrix, Reduced, Rows};
 use f2_vec::BitVec;
 use memory::Memory;
 use square::{MAX_S, MAX_T, Square, Table};
@@ -136,7 +137,7 @@ fn bare_square<'a>(table: &'a Table, parts: &AdditionParts<'_>) -> Option<&'a Ar
 }
 
 /// The square below a place, whose kernel rows are the image rows there wherever the squares were made. There is none below row 0.
-fn square_below(table: &Table, s: u16, above: u16) -> Option<&Square> {
+pub(crate) fn square_below(table: &Table, s: u16, above: u16) -> Option<&Square> {
     let below = s.checked_sub(1)?;
     Some(table.square(below, above)?)
 }
@@ -177,15 +178,8 @@ fn reduction(
     let Some(chosen) = unpack(alloc, &packed.chosen)? else {
         return Ok(None);
     };
-    let fits = are_parts(alloc, matrix, image.as_slice(), chosen.as_slice(), kernel)?;
-    if !fits {
-        return Ok(None);
-    }
-    parts_are_reduction(); // Rows that are the parts are those of the reduction, which proofs learn here.
-    let kernel = Rows::of(alloc, Vec::from_clones(alloc, kernel)?)?;
     let image = shared_rows(alloc, image, below)?;
-    let height = matrix.rows().len();
-    Ok(Some(Reduced::from_shared_rows(matrix.cols(), height, image, chosen, kernel)))
+    with_parts(alloc, matrix, image, chosen, kernel)
 }
 
 /// The rows, shared with the kernel of the square below where they are the same.

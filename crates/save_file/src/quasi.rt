@@ -1,0 +1,218 @@
+//! The quasi-inverse of a square of a table, from the kernel rows of the square below.
+ghost use Rattle.std.specs.Prelude.{◌≡◌, ◌<◌, length, IsTrue, IsSome, IfSome, IfOk, MatchOption};
+ghost use Rattle.f2_vec.specs.Spans.{HaveWidth};
+ghost use Rattle.f2_matrix.specs.Echelon.{IsReduced, HasNoZeroRow};
+ghost use Rattle.f2_matrix.specs.Parts.{AreReductionParts};
+ghost use Rattle.f2_matrix.specs.Reduction.{IsReductionOf};
+ghost use Rattle.square.specs.Tables.{square_at, IsQuasiAt};
+
+use crate::reading::square_below;
+use f2_dual::columns_at;
+use f2_kernel::{are_parts, is_row_basis};
+use f2_matrix::{Matrix, Reduced, Rows, parts_are_reduction};
+use f2_vec::BitVec;
+use memory::Memory;
+use square::Table;
+use std::alloc::Global;
+
+/// The reduction of the matrix of d_s in degree `t`, with the generators of the square there, as `Table::quasi` gives it where the
+/// square has kept none. Where the image rows are the kernel rows of the square below, as in the canonical resolution, the chosen
+/// preimages are made with the inverse of a small part of the matrix, and then tested by products. Elsewhere the table makes it.
+///
+/// # Errors
+/// `Memory` if allocation fails.
+pub fn quasi_by_products(alloc: Global, table: &Table, s: u16, t: i32) -> Result<Reduced, Memory>
+    requires { IsSome (square_at table.now s t) }
+    ensures { IfOk result (λ reduced. IsQuasiAt table.now s t reduced) }
+{
+    match quasi_over_below(alloc, table, s, t)? {
+        Some(quasi) => Ok(quasi),
+        None => table.quasi(alloc, s, t),
+    }
+}
+
+/// The reduction, none where its image rows are not the kernel rows of the square below, or its kernel rows not those of the square.
+///
+/// # Errors
+/// `Memory` if allocation fails.
+fn quasi_over_below(alloc: Global, table: &Table, s: u16, t: i32) -> Result<Option<Reduced>, Memory>
+    requires { IsSome (square_at table.now s t) }
+    ensures { IfOk result (λ found. IfSome found (λ reduced. IsQuasiAt table.now s t reduced)) }
+{
+    let Some(square) = table.at(s, t) else {
+        return Ok(None);
+    };
+    let Some(below) = square_below(table, s, square.above()) else {
+        return Ok(None);
+    };
+    let matrix = table.matrix(alloc, s, t)?;
+    let chosen = preimages(alloc, matrix.rows(), below.kernel(), square.kernel())?;
+    let image = below.kernel_rows(alloc)?;
+    reduction_with(alloc, &matrix, image, chosen, square.kernel())
+}
+
+/// The chosen preimages of the image rows under the matrix of these rows, if these are its image rows and its kernel rows. Then the
+/// rows that are not at pivots of the kernel rows are, in the columns at the pivots of the image rows, an invertible matrix; the
+/// chosen preimages are the rows of its inverse, with zeros at the pivots of the kernel rows. Elsewhere they are any rows.
+///
+/// # Errors
+/// `Memory` if allocation fails.
+fn preimages(
+    alloc: Global,
+    rows: &[BitVec],
+    image: &[BitVec],
+    kernel: &[BitVec],
+) -> Result<Vec<BitVec>, Memory> {
+    let places = pivots_of(alloc, image)?;
+    let columns = columns_of_others(alloc, rows, places.as_slice(), kernel)?;
+    let inverse = Reduced::of(alloc, &columns)?;
+    spread(alloc, rows.len(), places.len(), inverse.chosen(), kernel)
+}
+
+/// The pivots of the rows that are not zero.
+///
+/// # Errors
+/// `Memory` if allocation fails.
+fn pivots_of(alloc: Global, rows: &[BitVec]) -> Result<Vec<usize>, Memory> {
+    let mut pivots = Vec::with_capacity(alloc, rows.len())?;
+    for row in rows {
+        if let Some(pivot) = row.first_one() {
+            pivots.push(pivot)?;
+        }
+    }
+    Ok(pivots)
+}
+
+/// The columns, at these places, of those of the rows that are not at pivots of the kernel rows.
+///
+/// # Errors
+/// `Memory` if allocation fails.
+fn columns_of_others(
+    alloc: Global,
+    rows: &[BitVec],
+    places: &[usize],
+    kernel: &[BitVec],
+) -> Result<Matrix, Memory> {
+    let mut others = Vec::with_capacity(alloc, rows.len())?;
+    let mut passed = 0;
+    for i in 0..rows.len() {
+        if is_pivot_of(kernel, passed, i) {
+            passed += 1;
+        } else {
+            others.push(&rows[i])?;
+        }
+    }
+    let columns = columns_at(alloc, places, others.as_slice())?;
+    Ok(Matrix::from_rows(others.len(), columns))
+}
+
+/// The columns, `count` of them, of rows which are zero at pivots of the kernel rows and these elsewhere, one after the other, as far
+/// as there are any: `height` rows in all.
+///
+/// # Errors
+/// `Memory` if allocation fails.
+fn spread(
+    alloc: Global,
+    height: usize,
+    count: usize,
+    rows: &[BitVec],
+    kernel: &[BitVec],
+) -> Result<Vec<BitVec>, Memory> {
+    let zero = BitVec::zero(alloc, count)?;
+    let mut all = Vec::with_capacity(alloc, height)?;
+    let mut passed = 0;
+    for i in 0..height {
+        if is_pivot_of(kernel, passed, i) {
+            passed += 1;
+            all.push(&zero)?;
+        } else {
+            all.push(rows.get(i - passed).unwrap_or(&zero))?;
+        }
+    }
+    let mut places = Vec::with_capacity(alloc, count)?;
+    for i in 0..count {
+        places.push(i)?;
+    }
+    columns_at(alloc, places.as_slice(), all.as_slice())
+}
+
+/// Whether the row with this number is there and has its pivot at place `i`.
+fn is_pivot_of(rows: &[BitVec], number: usize, i: usize) -> bool
+    ensures { IsTrue result → number < length rows.now }
+{
+    match rows.get(number) {
+        Some(row) => row.first_one() == Some(i),
+        None => false,
+    }
+}
+
+/// The reduction of the matrix with these image rows, chosen preimages and kernel rows, none where they are not its parts.
+///
+/// # Errors
+/// `Memory` if allocation fails.
+fn reduction_with(
+    alloc: Global,
+    matrix: &Matrix,
+    image: Rows,
+    chosen: Vec<BitVec>,
+    kernel: &[BitVec],
+) -> Result<Option<Reduced>, Memory>
+    ensures { IfOk result (λ found. IfSome found (λ r. IsReductionOf matrix.now.cols matrix.now.rows r)) }
+{
+    let height = matrix.rows().len();
+    let wide = have_width(matrix.cols(), image.as_slice())
+        && have_width(height, chosen.as_slice())
+        && have_width(height, kernel);
+    if !wide {
+        return Ok(None);
+    }
+    let is_basis = is_row_basis(alloc, height, kernel)?;
+    if !is_basis {
+        return Ok(None);
+    }
+    with_parts(alloc, matrix, image, chosen, kernel)
+}
+
+/// Whether each of the rows is of length `n`.
+fn have_width(n: usize, rows: &[BitVec]) -> bool
+    ensures { IsTrue result → HaveWidth n rows.now }
+{
+    for i in 0..rows.len() {
+        if rows[i].len() != n {
+            return false;
+        }
+    }
+    true
+}
+
+/// The reduction of the matrix with these parts, none where they are not its parts. The kernel rows are copied.
+///
+/// # Errors
+/// `Memory` if allocation fails.
+pub(crate) fn with_parts(
+    alloc: Global,
+    matrix: &Matrix,
+    image: Rows,
+    chosen: Vec<BitVec>,
+    kernel: &[BitVec],
+) -> Result<Option<Reduced>, Memory>
+    requires image { HaveWidth matrix.now.cols image }
+    requires chosen { HaveWidth (length matrix.now.rows) chosen.items }
+    requires widths { HaveWidth (length matrix.now.rows) kernel.now }
+    requires reduced { IsReduced kernel.now }
+    requires nonzero { HasNoZeroRow kernel.now }
+    ensures { IfOk result (λ found. MatchOption found
+        (AreReductionParts matrix.now.cols matrix.now.rows image chosen.items kernel.now → ⊥)
+        (λ r. AreReductionParts matrix.now.cols matrix.now.rows image chosen.items kernel.now
+        × (r.image ≡ image) × (r.chosen ≡ chosen.items) × (r.kernel ≡ kernel.now)
+        × IsReductionOf matrix.now.cols matrix.now.rows r)) }
+{
+    let fits = are_parts(alloc, matrix, image.as_slice(), chosen.as_slice(), kernel)?;
+    if !fits {
+        return Ok(None);
+    }
+    parts_are_reduction(); // Rows that are the parts are those of the reduction, which proofs learn here.
+    let kernel = Rows::of(alloc, Vec::from_clones(alloc, kernel)?)?;
+    let height = matrix.rows().len();
+    Ok(Some(Reduced::from_shared_rows(matrix.cols(), height, image, chosen, kernel)))
+}
