@@ -6,6 +6,7 @@ use square::{NoKeep, Range, Table};
 use square_worker::Gate;
 use std::sync::atomic::{AtomicU64, Ordering};
 use std::test::*;
+use std::thread;
 
 /// How often a worker looks whether a report has come.
 const MOST_TURNS: u64 = 200_000_000;
@@ -45,6 +46,7 @@ impl Gate for Holding<'_> {
             if self.calls.load(Ordering::SeqCst) > 0 {
                 return;
             }
+            thread::yield_now();
         }
         self.missed.fetch_add(1, Ordering::SeqCst);
     }
