@@ -1,14 +1,10 @@
-//! The file of a module gives the module back, and what the limits of such files are, as contracts of functions that do nothing.
+//! The file of a module gives the module back, as the contract of a function that does nothing.
 //!
 //! The crate stands above `derived_laws`, since a module is the one that its squares determine; `built_laws` does not wait
 //! for that.
 #![tactic(auto)]
 
 ghost use Rattle.file_laws.specs.Files.{FilesGiveBack};
-
-mod limits;
-
-pub use limits::limits_of_files_are_these;
 
 /// The file of a module, its generators and the squares that are not zero, is accepted and gives the module back.
 pub fn files_of_modules()

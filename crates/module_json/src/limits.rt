@@ -1,5 +1,6 @@
 //! The limits of module files.
-ghost use Rattle.std.specs.Prelude.{◌≡◌};
+ghost use Rattle.std.specs.Prelude.{◌≡◌, pos};
+ghost use Rattle.module_json.specs.declared.limits.TheConstants.{MAX_FILE_BYTES, MAX_GENERATORS, MAX_ACTIONS, MAX_DEGREE, MAX_SPAN};
 ghost use Rattle.module_json.specs.ModuleFile.{within_limit, is_near};
 
 /// The greatest size of a module file, in bytes.
@@ -19,6 +20,15 @@ pub const MAX_SPAN: u16 = 64;
 
 /// The powers of two that a difference of two degrees of a module can be: each n for which its texts have Sq^n.
 pub const POWERS: [u16; 7] = [1, 2, 4, 8, 16, 32, 64];
+
+/// The limits of module files, as a law: what the constants are.
+pub fn limits_are_these()
+    ensures bytes { MAX_FILE_BYTES ≡ 1048576 }
+    ensures generators { MAX_GENERATORS ≡ 64 }
+    ensures actions { MAX_ACTIONS ≡ 4096 }
+    ensures degree { MAX_DEGREE ≡ pos 128 }
+    ensures span { MAX_SPAN ≡ 64 }
+{}
 
 /// Whether a generator may have this internal degree.
 pub fn is_degree(degree: i64) -> bool
