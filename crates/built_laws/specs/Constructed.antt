@@ -46,7 +46,7 @@ TensorMakesModule = (names : ℕ → List ℕ) (m k : Module) → IsModule m →
 abbrev pub DualMakesModule : Type 0
 DualMakesModule = (names : ℕ → List ℕ) (m : Module) → IsModule m → IsModule (dual_module names m)
 
--- the same degrees and the same values: all but the names
+-- the generators have equal degrees and equal values, and may have other names
 pub record IsRenamed (a b : Module) : Type 0 where
   pub count : length a.generators ≡ length b.generators
   pub degrees : (i : ℕ) → i < length b.generators → degree_at a.generators i ≡ degree_at b.generators i

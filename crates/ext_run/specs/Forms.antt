@@ -37,7 +37,7 @@ pub record IsReadOff (text_of : SteenrodModule → List (List Content) → List 
 abbrev pub chart_of : Range → SteenrodModule → List (List Content) → List ℕ
 chart_of range m table = chart_text (bottom m.generators) range.s range.t (generator_count table)
 
--- the same with the number of squares that were verified
+-- its chart, and behind that the number of squares that were verified
 abbrev pub verified_of : Range → SteenrodModule → List (List Content) → List ℕ
 verified_of range m table = verified_text (bottom m.generators) range.s range.t (generator_count table)
 

@@ -32,7 +32,7 @@ pub record Keeps (m : SteenrodModule) (kept : List Kept) (file : List ℕ) : Typ
   pub stands : standing_of m file ≡ Ok (entries kept)
   pub quasis : kept_of m file ≡ kept
 
--- the same with a first part of the given quasi-inverses, and at most one more
+-- so it does, where some of them have got a first part of the given quasi-inverses, and at most one more
 pub record KeepsAmid (m : SteenrodModule) (kept : List Kept) (given : List Added) (file : List ℕ) : Type 0 where
   pub first : List Added
   pub rest : List Added
@@ -41,7 +41,7 @@ pub record KeepsAmid (m : SteenrodModule) (kept : List Kept) (given : List Added
   pub at_most_one : length more ≤ 1
   pub keeps : Keeps m (with_added kept (first ++ more)) file
 
--- the same with a first part of them, and no more
+-- so it does, where some of them have got a first part of the given ones, and no more
 pub record KeepsAtPart (m : SteenrodModule) (kept : List Kept) (given : List Added) (file : List ℕ) : Type 0 where
   pub first : List Added
   pub rest : List Added

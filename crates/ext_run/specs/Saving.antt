@@ -26,7 +26,7 @@ pub record StandsWith (m : SteenrodModule) (list : List Entry) (file : List ℕ)
   pub canonical : AreCanonical m (list ++ more)
   pub stands : standing_of m file ≡ Ok (list ++ more)
 
--- the same with a first part of the given squares behind the list
+-- the file stands so for the list with a first part of the given squares behind it
 pub record StandsAmid (m : SteenrodModule) (list given : List Entry) (file : List ℕ) : Type 0 where
   pub first : List Entry
   pub rest : List Entry

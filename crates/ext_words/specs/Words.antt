@@ -111,7 +111,7 @@ decimal_value word = fold (λ n c. 10 * n + (c - 48)) 0 word
 abbrev pub number_of : ℕ → List ℕ → Option ℕ
 number_of most word = if are_digits most word then Some (decimal_value word) else None
 
--- the same, below 0 where a hyphen stands in front
+-- such a number, which is below 0 where a hyphen stands in front
 abbrev pub signed_number_of : ℕ → List ℕ → Option ℤ
 signed_number_of most [] = None
 signed_number_of most (c ∷ word) =

@@ -25,7 +25,7 @@ pub record IsAction {X : Type 0} (m : Action X) : Type 0 where
       odd_by (λ y. m.coefficient s x y && m.coefficient r y z) m.basis
       ≡ odd_by (λ t. m.coefficient t x z) (product_terms r s)
 
--- the same coefficients, n degrees above
+-- its coefficients, on elements that are n degrees above
 abbrev pub shifted : {X : Type 0} → ℤ → Action X → Action X
 shifted n m = record { basis = m.basis; degree = λ x. m.degree x +ℤ n; coefficient = m.coefficient; same = m.same }
 
@@ -67,7 +67,7 @@ dual c m = record {
   same = λ x y. m.same y x;
 }
 
--- the same module on a list of its basis in another order, numbered by it
+-- the module on a list of its basis in another order, numbered by it
 abbrev pub numbered : {X : Type 0} → X → List X → Action X → Action ℕ
 numbered d xs m = record {
   basis = range_with_len 0 (length xs);

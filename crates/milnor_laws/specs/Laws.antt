@@ -15,7 +15,7 @@ ProductIsAssociative = (r s q u : List ℕ) →
     is_odd (count_by (λ t. coefficient t q u) (product_terms r s))
     ≡ is_odd (count_by (λ t. coefficient r t u) (product_terms s q))
 
--- the same of vectors, on the basis of the degree of the products: the sum of Sq(R) Sq(T) over the elements Sq(T) that
+-- so it is with vectors, on the basis of the degree of the products: the sum of Sq(R) Sq(T) over the elements Sq(T) that
 -- Sq(S) Sq(Q) has, and the sum of Sq(T) Sq(Q) over those that Sq(R) Sq(S) has
 abbrev pub ProductIsAssociativeInVectors : Type 0
 ProductIsAssociativeInVectors = (r s q : List ℕ) →

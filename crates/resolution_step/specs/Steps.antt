@@ -14,7 +14,7 @@ pub record IsReducedStep (target : GradedModule) (degrees : List ℤ) (images ca
   pub quasi : IsReductionOf (target.width t)
       (map_rows target (degrees ++ replicate (length content.images) t) (images ++ content.images) t) reduction
 
--- the same over what a square is made from
+-- the step over what a square is made from, and the reduction
 pub record IsStepWith (f : Footing) (content : Content) (reduction : Reduction) : Type 0 where
   pub step : IsStep (over f.resolved) f.below f.squares content
   pub quasi : IsQuasi (over f.resolved) f.below f.squares content reduction

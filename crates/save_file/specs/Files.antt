@@ -43,7 +43,7 @@ standing_of m file = of_records (module_over m) (records_of (digest_of m) file)
 abbrev pub squares_in : Checked → List ℕ → Option (List Entry)
 squares_in m file = result_ok (standing_of m.plain file)
 
--- the same of its first records alone, and no squares where those are refused
+-- its first records alone, and the refusal where those are refused
 abbrev pub first_records : ℕ → Records → Records
 first_records n (Ok bodies) = Ok (take n bodies)
 first_records n (Err fault) = Err fault
@@ -55,7 +55,7 @@ list_in (Err fault) = []
 abbrev pub first_squares : Checked → ℕ → List ℕ → List Entry
 first_squares m n file = list_in (of_records (over m) (first_records n (records_of (digest_of m.plain) file)))
 
--- the same with the quasi-inverses that the file keeps: each square with its own, if there is one
+-- the squares with the quasi-inverses that the file keeps: each square with its own, if there is one
 abbrev pub kept_list : Result (List Kept) ℕ → List Kept
 kept_list (Ok kept) = kept
 kept_list (Err number) = []

@@ -41,7 +41,7 @@ pub record TakesSquares {D : Type 0} (now : D → Option (List ℕ)) (images : D
   pub few : k.count ≤ k.journal.end
   pub has : IfSome (now k.journal.disk) (HasSquares k.resolved k.start k.count)
 
--- the same with the quasi-inverses that are kept
+-- the squares that it has kept, each with the quasi-inverse that the file keeps for it, if there is one
 abbrev pub quasis_in : {D : Type 0} → (D → Option (List ℕ)) → SaveState D → Option (List Kept)
 quasis_in now k = option_map (first_kept k.resolved k.count) (now k.journal.disk)
 

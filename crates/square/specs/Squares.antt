@@ -14,7 +14,7 @@ use Rattle.square.specs.declared.range.TheConstants.{MAX_S, MAX_T}
 abbrev pub module_over : SteenrodModule → Module
 module_over m = record { bottom = bottom m.generators; graded = module_graded m }
 
--- the same of a module with the proof that it is one, and its least degree
+-- what is resolved of a module with the proof that it is one, and its least degree
 abbrev pub over : Checked → Module
 over m = module_over m.plain
 
@@ -100,7 +100,7 @@ pub record IsSquare (q : Placed) : Type 0 where
 abbrev pub KeptWhereMade : Placed → Type 0
 KeptWhereMade q = (WasRead q → ⊥) → IsSome q.quasi
 
--- the same, with the square's degree and its widths, and that it has kept a reduction where it was made
+-- it is a square, with its degree and its widths, and has kept a reduction where it was made
 pub record IsMeasured (q : Placed) (t : ℤ) (w v : ℕ) : Type 0 where
   pub square : IsSquare q
   pub degree : t ≡ bottom_of q.resolved +ℤ pos q.above

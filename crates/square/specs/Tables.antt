@@ -73,7 +73,7 @@ pub record IsNext (rows : List (List Placed)) (s k : ℕ) : Type 0 where
   pub before : (j : ℕ) → suc j ≡ k → j < length (row_in rows s)
   pub below : (i : ℕ) → suc i ≡ s → k < length (row_in rows i)
 
--- The same in degree t, and the place is within the limits of a range.
+-- It is so in degree t, and the place is within the limits of a range.
 pub record IsNextAt (table : Staircase) (s : ℕ) (t : ℤ) : Type 0 where
   pub above : ℕ
   pub degree : t ≡ bottom_of table.resolved +ℤ pos above

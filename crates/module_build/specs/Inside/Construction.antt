@@ -122,7 +122,7 @@ dual_term m order i j p = odd_by
     (λ k. (action_of m).coefficient p.0 (number_at order k) (number_at order i) && dual_by m order p.1 k j)
     (range_with_len 0 (length order))
 
--- the same, and nothing for the splitting whose left part is ()
+-- what it gives there, and nothing for the splitting whose left part is ()
 abbrev pub proper_term : Module → List Placed → ℕ → ℕ → List ℕ × List ℕ → Bool
 proper_term m order i j p = not (is_nothing p.0) && dual_term m order i j p
 
