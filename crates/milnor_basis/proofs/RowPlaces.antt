@@ -2,7 +2,7 @@
 use Rattle.std.proofs.Common.{◌≡◌, ℕ, zero, suc, ◌+◌, ◌-◌, ◌*◌, ◌/◌, ◌^◌, ◌<◌, ◌≤◌, min, Some, List, [], ◌∷◌, length, drop, refl, sym, subst, ap, ◌∙◌, arith, slice_index, slice_get, slice_set, ◌≢◌, inl, bit_and, bit_or}
 use Rattle.std.proofs.Math.Nat.{div-mul-le_self, lt-div-mul-add}
 use Rattle.std.proofs.lemmas.Nat.{div-mul-add, mul-le, pow_pos}
-use Rattle.std.specs.Int.Bits.{or_zero_r}
+use Rattle.std.specs.Int.Bits.{and_zero_l, or_zero_r}
 use Rattle.std.proofs.lemmas.List.{get_or-set_same, get_or-set_other, length-set, set-get_or, drop_more}
 use Rattle.milnor_basis.specs.Exponents.{trimmed}
 use Rattle.milnor_basis.specs.Basis.{lists_of, basis_of}
@@ -12,7 +12,7 @@ use Rattle.milnor_basis.proofs.BasisLemmas.{weight_above}
 use Rattle.milnor_basis.proofs.Steps.{under_quotient}
 use Rattle.milnor_basis.proofs.RowZero.{apart_both}
 use Rattle.milnor_basis.proofs.FirstRow.{drop_agree, least_none}
-use Rattle.milnor_basis.proofs.FreeFill.{TurnsOverAllBelow, free_turn, free_shuts}
+use Rattle.milnor_basis.proofs.FreeFill.{TurnsOverAllBelow, free_start, free_end, free_turn, free_shuts}
 use Rattle.milnor_basis.proofs.PlacesLeft.{chosen_placed, chosen_room, placed_last_one}
 
 -- Numbers.
@@ -230,3 +230,34 @@ taken_none (suc j) columns = let same : slice_index columns j ≡ slice_index co
 
 pub with_none : (k : ℕ) (diagonals : List ℕ) → diagonals ≡ slice_set diagonals k (bit_or (slice_index diagonals k) 0)
 with_none k diagonals = sym (set-get_or diagonals k 0) ∙ ap (slice_set diagonals k) (sym (or_zero_r (slice_index diagonals k)))
+
+added_none : (row n : ℕ) (rows : List ℕ) → n ≡ 0 → rows ≡ added row n rows
+added_none zero n rows e = refl
+added_none (suc i) n rows e = let same : slice_index rows i ≡ slice_index rows i + n = omega arith in sym (set-get_or rows i 0) ∙ ap (slice_set rows i) same
+
+-- Columns in which nothing can stand are passed over.
+module _ (degree product w row room : ℕ) (rows columns diagonals : List ℕ) (small : degree ≤ 255) (past : 1 < row) (high : row ≤ 8) (many : length rows ≡ 8) (wide : length columns ≡ 8) (long : length diagonals ≡ 16)
+    (before after : List (ℕ × ℕ)) where
+  pass_one : (column : ℕ) → suc column ≤ w → greatest_free row (suc column) room columns ≡ 0
+      → TurnsOverAll degree product w row column room rows columns diagonals before after → TurnsOverAll degree product w row (suc column) room rows columns diagonals before after
+  pass_one column right shut turns =
+      let above : 0 < row + suc column = omega arith in
+      let at = row + suc column - 1 in
+      let none : 0 * 2 ^ suc column ≡ 0 = omega arith in
+      let same_room : room ≡ room - 0 * 2 ^ suc column * (2 ^ row - 1) = omega arith in
+      let least : least_free row (suc column) room columns ≡ 0 = least_none row (suc column) room columns past in
+      let start = free_start degree product w row (suc column) room rows columns diagonals small high above right many before in
+      free_end degree product w row (suc column) room rows columns diagonals small high above right many before 1 after (omega arith)
+      (free_turn degree product w row (suc column) room rows columns diagonals small high above right many before 0 row column room before after rows columns diagonals
+      refl refl same_room (added_none row (0 * 2 ^ suc column) rows none) (taken_none (suc column) columns) (with_none at diagonals) wide long (omega arith) (omega arith) (and_zero_l (slice_index diagonals at))
+      (subst (λ (n : ℕ). TurnsOverAllBelow degree product w row (suc column) room rows columns diagonals n before before) least start) turns)
+
+  pub pass_over : (more column : ℕ) → more + column ≤ w → ((j : ℕ) → column < j → j ≤ more + column → greatest_free row j room columns ≡ 0)
+      → TurnsOverAll degree product w row column room rows columns diagonals before after → TurnsOverAll degree product w row (more + column) room rows columns diagonals before after
+  pass_over zero column right shut turns =
+      let e : column ≡ 0 + column = omega arith in
+      subst (λ (n : ℕ). TurnsOverAll degree product w row n room rows columns diagonals before after) e turns
+  pass_over (suc more) column right shut turns =
+      let e : suc (more + column) ≡ suc more + column = omega arith in
+      subst (λ (n : ℕ). TurnsOverAll degree product w row n room rows columns diagonals before after) e
+      (pass_one (more + column) (omega arith) (shut (suc (more + column)) (omega arith) (omega arith)) (pass_over more column (omega arith) (λ j l m. shut j l (omega arith)) turns))

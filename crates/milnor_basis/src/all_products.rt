@@ -50,6 +50,19 @@ impl Open {
         }
     }
 
+    /// The first column from this one down in which something can stand, where `most` is left of the row's sum, or column 0.
+    fn next_open(&self, column: usize, most: u16) -> usize
+        requires { column ≤ 8 }
+        ensures low { result ≤ column }
+        ensures shut { (j : ℕ) → result < j → j ≤ column → greatest_of j most self.now.columns ≡ 0 }
+    {
+        let mut next = column;
+        while next > 0 && self.greatest(next, most) == 0 {
+            next -= 1;
+        }
+        next
+    }
+
     /// What is left with `number` put at this place, which is not in row 0 and shares no binary digit with its diagonal.
     fn put(mut self, row: usize, column: usize, number: u16) -> Self
         requires first { 0 < row }
@@ -304,11 +317,13 @@ fn fill_all(
         let left = own.left;
         return fill_last(counts, degrees, width, left.degree, left.place, open, pairs);
     }
-    let (next_row, next_column) = next_place(width, row, column);
-    let sum = open.diagonals[row + column - 1];
-    let greatest = open.greatest(column, own.most);
+    // Columns in which nothing can stand are passed over.
+    let at = open.next_open(column, own.most);
+    let (next_row, next_column) = next_place(width, row, at);
+    let sum = open.diagonals[row + at - 1];
+    let greatest = open.greatest(at, own.most);
     // Nothing there leaves what is open as it is.
-    let blank = own.after(counts, row, column, 0);
+    let blank = own.after(counts, row, at, 0);
     fill_all(
         counts,
         degrees,
@@ -329,8 +344,8 @@ fn fill_all(
                 width,
                 next_row,
                 next_column,
-                own.after(counts, row, column, put),
-                &open.put(row, column, put),
+                own.after(counts, row, at, put),
+                &open.put(row, at, put),
                 pairs,
             )?;
             number = next_apart(put, sum);

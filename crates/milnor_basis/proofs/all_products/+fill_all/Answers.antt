@@ -10,7 +10,7 @@ use Rattle.milnor_basis.proofs.BasisLemmas.{lists_of_one}
 use Rattle.milnor_basis.proofs.RowZero.{apart_both}
 use Rattle.milnor_basis.proofs.Weights.{put_weight}
 use Rattle.milnor_basis.proofs.FirstRow.{least_none, next_some, next_first}
-use Rattle.milnor_basis.proofs.RowPlaces.{greatest_same, greatest_fits, greatest_column, sum_fits, nothing_taken, first_placed, next_is, row_turn, taken_none, with_none}
+use Rattle.milnor_basis.proofs.RowPlaces.{greatest_same, greatest_fits, greatest_column, sum_fits, nothing_taken, first_placed, next_is, row_turn, taken_none, with_none, pass_over}
 use Rattle.milnor_basis.proofs.FreeFill.{TurnsOverAllBelow, free_start, free_end, free_shut}
 use Rattle.milnor_basis.proofs.all_products.+fill_all.Goals as goal
 
@@ -71,7 +71,7 @@ pub loop-number-init : goal.loop-number-init
 loop-number-init t c =
     let past : 1 < c.args.row = omega (arith, c.requires.some, c.if-row-eq1.false) in
     let row : ℕ = c.args.row in
-    let column : ℕ = c.args.column in
+    let column : ℕ = c.next_open-at.result in
     let own = c.args.own in
     let new = c.after-blank.result in
     let i : ℕ = c.next_place-next_row.result.0 in
@@ -83,12 +83,12 @@ loop-number-init t c =
       turned = λ rows is.
           row_turn c.args.degrees.0 c.args.degrees.1 c.args.width row column 0 own.sum own.left.degree own.left.place new.sum new.most new.left.degree new.left.place i c.next_place-next_row.result.1 c.next_apart-number.result
           c.args.open.now.columns c.args.open.now.diagonals c.args.open.now.columns c.args.open.now.diagonals c.args.pairs.now.items c.args.pairs.now.items c.fill_all.new.pairs.items
-          (omega (arith, c.requires.small, c.requires.smaller)) past c.requires.row c.requires.column known c.next_place-next_row.ensures.row c.next_place-next_row.ensures.column
+          (omega (arith, c.requires.small, c.requires.smaller)) past c.requires.row (omega (arith, c.requires.column, c.next_open-at.ensures.low)) known c.next_place-next_row.ensures.row c.next_place-next_row.ensures.column
           (taken_none column c.args.open.now.columns) (with_none (row + column - 1) c.args.open.now.diagonals) (search rules) (search rules) least (and_zero_l (slice_index c.args.open.now.diagonals (row + column - 1)))
           c.next_apart-number.ensures.above c.next_apart-number.ensures.least c.in_ok-fill_all.ensures.turned rows is
           (subst (λ (n : ℕ). TurnsOverAllBelow c.args.degrees.0 c.args.degrees.1 c.args.width row column room rows c.args.open.now.columns c.args.open.now.diagonals n c.args.pairs.now.items c.args.pairs.now.items) (least_none row column room c.args.open.now.columns past)
           (free_start c.args.degrees.0 c.args.degrees.1 c.args.width row column room rows c.args.open.now.columns c.args.open.now.diagonals
-          (omega (arith, c.requires.small, c.requires.smaller)) c.requires.row (omega arith) c.requires.column is.high c.args.pairs.now.items));
+          (omega (arith, c.requires.small, c.requires.smaller)) c.requires.row (omega arith) (omega (arith, c.requires.column, c.next_open-at.ensures.low)) is.high c.args.pairs.now.items));
       within = c.in_ok-fill_all.ensures.within;
     }
 
@@ -100,7 +100,7 @@ pub fill_all-requires : goal.fill_all-requires
 fill_all-requires t c =
     let past : 1 < c.args.row = omega (arith, c.requires.some, c.if-row-eq1.false) in
     let row : ℕ = c.args.row in
-    let column : ℕ = c.args.column in
+    let column : ℕ = c.next_open-at.result in
     let own = c.args.own in
     let new = c.after-blank.result in
     let i : ℕ = c.next_place-next_row.result.0 in
@@ -122,22 +122,22 @@ pub after-requires-clause-fits : goal.after-requires-clause-fits
 after-requires-clause-fits t c = sum_fits c.args.row c.args.own.sum c.args.own.most c.args.own.left.degree c.requires.some c.requires.fits c.requires.most
 
 pub after-requires-clause-greatest : goal.after-requires-clause-greatest
-after-requires-clause-greatest t c = greatest_fits c.args.column c.args.own.most c.loop-number.number c.args.open.now.columns (omega (arith, c.loop-number-test.true, c.from.ensures, c.greatest-greatest.ensures))
+after-requires-clause-greatest t c = greatest_fits c.next_open-at.result c.args.own.most c.loop-number.number c.args.open.now.columns (omega (arith, c.loop-number-test.true, c.from.ensures, c.greatest-greatest.ensures))
 
 pub put-requires-clause-fits : goal.put-requires-clause-fits
-put-requires-clause-fits t c = greatest_column c.args.column c.args.own.most c.loop-number.number c.args.open.now.columns (omega (arith, c.loop-number-test.true, c.from.ensures, c.greatest-greatest.ensures))
+put-requires-clause-fits t c = greatest_column c.next_open-at.result c.args.own.most c.loop-number.number c.args.open.now.columns (omega (arith, c.loop-number-test.true, c.from.ensures, c.greatest-greatest.ensures))
 
 pub fill_all-requires-then-put-sum-eq0 : goal.fill_all-requires-then-put-sum-eq0
 fill_all-requires-then-put-sum-eq0 t c =
     let past : 1 < c.args.row = omega (arith, c.requires.some, c.if-row-eq1.false) in
     let row : ℕ = c.args.row in
-    let column : ℕ = c.args.column in
+    let column : ℕ = c.next_open-at.result in
     let v : ℕ = c.loop-number.number in
     let own = c.args.own in
     let new = c.after.result in
     let next : ℕ = c.next_place-next_row.result.0 in
     let room : ℕ = own.left.degree - own.sum * (2 ^ row - 1) in
-    let to : c.loop-number.number ≤ greatest_of c.args.column c.args.own.most c.args.open.now.columns = omega (arith, c.loop-number-test.true, c.from.ensures, c.greatest-greatest.ensures) in
+    let to : c.loop-number.number ≤ greatest_of c.next_open-at.result c.args.own.most c.args.open.now.columns = omega (arith, c.loop-number-test.true, c.from.ensures, c.greatest-greatest.ensures) in
     let within : v * 2 ^ column ≤ own.most = greatest_fits column own.most v c.args.open.now.columns to in
     let least : v ≤ greatest_free row column room c.args.open.now.columns = subst (λ n. v ≤ n) (greatest_same row column room own.most c.args.open.now.columns c.requires.some c.requires.most) to in
     let e = c.after.ensures in
@@ -151,7 +151,7 @@ fill_all-requires-then-put-sum-eq0 t c =
     ap (λ xs. degree_of xs + (degree_of (take c.args.width c.put.result.columns) + (new.left.degree - new.sum * (2 ^ next - 1)))) c.put.ensures.diagonals
     ∙ ap (λ xs. degree_of (with_number row column c.args.open.now.diagonals v) + (degree_of (take c.args.width xs) + (new.left.degree - new.sum * (2 ^ next - 1)))) c.put.ensures.columns
     ∙ ap (λ n. degree_of (with_number row column c.args.open.now.diagonals v) + (degree_of (take c.args.width (taken column v c.args.open.now.columns)) + n)) known.room
-    ∙ put_weight c.args.degrees.1 room c.args.width c.args.open.now.columns c.args.open.now.diagonals row column v (omega arith) c.requires.row c.requires.column c.requires.width (search rules) (search rules) least c.if-put-sum-eq0.true c.requires.weight
+    ∙ put_weight c.args.degrees.1 room c.args.width c.args.open.now.columns c.args.open.now.diagonals row column v (omega arith) c.requires.row (omega (arith, c.requires.column, c.next_open-at.ensures.low)) c.requires.width (search rules) (search rules) least c.if-put-sum-eq0.true c.requires.weight
     in
     let some : 0 < next = subst (λ n. 0 < n) (sym c.next_place-next_row.ensures.row) (next_some row column past) in
     let first : next ≡ 1 → c.next_place-next_row.result.1 ≡ c.args.width = λ one. c.next_place-next_row.ensures.column ∙ next_first c.args.width row column past (sym c.next_place-next_row.ensures.row ∙ one) in
@@ -160,14 +160,14 @@ fill_all-requires-then-put-sum-eq0 t c =
     (subst (λ n. next_row row column * 9 + n < row * 9 + column) (sym c.next_place-next_row.ensures.column) (next_falls c.args.width row column past c.requires.width))
     in
     let high : next ≤ 8 = next_high row column next c.next_place-next_row.ensures.row c.requires.row in
-    let right : c.next_place-next_row.result.1 ≤ c.args.width = next_right c.args.width row column c.next_place-next_row.result.1 c.next_place-next_row.ensures.column c.requires.column in
-    (omega (arith, falls, c.decreases), search rules)
+    let right : c.next_place-next_row.result.1 ≤ c.args.width = next_right c.args.width row column c.next_place-next_row.result.1 c.next_place-next_row.ensures.column (omega (arith, c.requires.column, c.next_open-at.ensures.low)) in
+    (omega (arith, falls, c.decreases, c.next_open-at.ensures.low), search rules)
 
 pub loop-number-preserved-then-put-sum-eq0 : goal.loop-number-preserved-then-put-sum-eq0
 loop-number-preserved-then-put-sum-eq0 t c =
     let past : 1 < c.args.row = omega (arith, c.requires.some, c.if-row-eq1.false) in
     let row : ℕ = c.args.row in
-    let column : ℕ = c.args.column in
+    let column : ℕ = c.next_open-at.result in
     let own = c.args.own in
     let new = c.after.result in
     let i : ℕ = c.next_place-next_row.result.0 in
@@ -182,7 +182,7 @@ loop-number-preserved-then-put-sum-eq0 t c =
       turned = λ rows is.
           row_turn c.args.degrees.0 c.args.degrees.1 c.args.width row column n own.sum own.left.degree own.left.place new.sum new.most new.left.degree new.left.place i c.next_place-next_row.result.1 c.next_apart-number-then-put-sum-eq0.result
           c.args.open.now.columns c.args.open.now.diagonals c.put.result.columns c.put.result.diagonals c.args.pairs.now.items c.loop-number.pairs.items c.fill_all-then-put-sum-eq0.new.pairs.items
-          (omega (arith, c.requires.small, c.requires.smaller)) past c.requires.row c.requires.column known c.next_place-next_row.ensures.row c.next_place-next_row.ensures.column
+          (omega (arith, c.requires.small, c.requires.smaller)) past c.requires.row (omega (arith, c.requires.column, c.next_open-at.ensures.low)) known c.next_place-next_row.ensures.row c.next_place-next_row.ensures.column
           c.put.ensures.columns c.put.ensures.diagonals (search rules) (search rules) most c.if-put-sum-eq0.true
           c.next_apart-number-then-put-sum-eq0.ensures.above c.next_apart-number-then-put-sum-eq0.ensures.least c.in_ok-fill_all-2.ensures.turned rows is (c.loop-number.invariant.turned rows is);
       within = c.in_ok-fill_all-2.ensures.within;
@@ -191,24 +191,34 @@ loop-number-preserved-then-put-sum-eq0 t c =
 pub loop-number-preserved : goal.loop-number-preserved
 loop-number-preserved t c =
     let room : ℕ = c.args.own.left.degree - c.args.own.sum * (2 ^ c.args.row - 1) in
-    let sum : ℕ = slice_index c.args.open.now.diagonals (c.args.row + c.args.column - 1) in
-    let above : ℕ = number_above c.args.width c.args.row c.args.column c.args.open.now.columns in
+    let sum : ℕ = slice_index c.args.open.now.diagonals (c.args.row + c.next_open-at.result - 1) in
+    let above : ℕ = number_above c.args.width c.args.row c.next_open-at.result c.args.open.now.columns in
     record {
       turned = λ rows is.
-          subst (λ (n : ℕ). TurnsOverAllBelow c.args.degrees.0 c.args.degrees.1 c.args.width c.args.row c.args.column room rows c.args.open.now.columns c.args.open.now.diagonals n c.args.pairs.now.items c.loop-number.pairs.items) (sym (add-one c.loop-number.number))
-          (free_shut c.args.degrees.0 c.args.degrees.1 c.args.width c.args.row c.args.column room rows c.args.open.now.columns c.args.open.now.diagonals
-          (omega (arith, c.requires.small, c.requires.smaller)) c.requires.row (omega (arith, c.requires.some)) c.requires.column is.high c.args.pairs.now.items c.loop-number.number c.loop-number.pairs.items
+          subst (λ (n : ℕ). TurnsOverAllBelow c.args.degrees.0 c.args.degrees.1 c.args.width c.args.row c.next_open-at.result room rows c.args.open.now.columns c.args.open.now.diagonals n c.args.pairs.now.items c.loop-number.pairs.items) (sym (add-one c.loop-number.number))
+          (free_shut c.args.degrees.0 c.args.degrees.1 c.args.width c.args.row c.next_open-at.result room rows c.args.open.now.columns c.args.open.now.diagonals
+          (omega (arith, c.requires.small, c.requires.smaller)) c.requires.row (omega (arith, c.requires.some)) (omega (arith, c.requires.column, c.next_open-at.ensures.low)) is.high c.args.pairs.now.items c.loop-number.number c.loop-number.pairs.items
           (inl (λ e. c.if-put-sum-eq0.false (apart_both c.loop-number.number sum above e))) (c.loop-number.invariant.turned rows is));
       within = c.loop-number.invariant.within;
     }
 
 pub returns : goal.returns
 returns t c =
-    let room : ℕ = c.args.own.left.degree - c.args.own.sum * (2 ^ c.args.row - 1) in
-    let same = greatest_same c.args.row c.args.column room c.args.own.most c.args.open.now.columns c.requires.some c.requires.most in
+    let row : ℕ = c.args.row in
+    let at : ℕ = c.next_open-at.result in
+    let columns : List ℕ = c.args.open.now.columns in
+    let room : ℕ = c.args.own.left.degree - c.args.own.sum * (2 ^ row - 1) in
+    let right : at ≤ c.args.width = omega (arith, c.requires.column, c.next_open-at.ensures.low) in
+    let same = λ (j : ℕ). greatest_same row j room c.args.own.most columns c.requires.some c.requires.most in
+    let whole : c.args.column - at + at ≡ c.args.column = omega (arith, c.next_open-at.ensures.low) in
     record {
-      turned = λ rows is. free_end c.args.degrees.0 c.args.degrees.1 c.args.width c.args.row c.args.column room rows c.args.open.now.columns c.args.open.now.diagonals
-          (omega (arith, c.requires.small, c.requires.smaller)) c.requires.row (omega (arith, c.requires.some)) c.requires.column is.high c.args.pairs.now.items c.loop-number.number c.loop-number.pairs.items
-          (omega (arith, same, c.loop-number-test.false, c.from.ensures, c.greatest-greatest.ensures)) (c.loop-number.invariant.turned rows is);
+      turned = λ rows is.
+          let ended = free_end c.args.degrees.0 c.args.degrees.1 c.args.width row at room rows columns c.args.open.now.diagonals
+          (omega (arith, c.requires.small, c.requires.smaller)) c.requires.row (omega (arith, c.requires.some)) right is.high c.args.pairs.now.items c.loop-number.number c.loop-number.pairs.items
+          (omega (arith, same at, c.loop-number-test.false, c.from.ensures, c.greatest-greatest.ensures)) (c.loop-number.invariant.turned rows is)
+          in
+          subst (λ (n : ℕ). TurnsOverAll c.args.degrees.0 c.args.degrees.1 c.args.width row n room rows columns c.args.open.now.diagonals c.args.pairs.now.items c.loop-number.pairs.items) whole
+          (pass_over c.args.degrees.0 c.args.degrees.1 c.args.width row room rows columns c.args.open.now.diagonals (omega (arith, c.requires.small, c.requires.smaller)) (omega (arith, c.requires.some, c.if-row-eq1.false)) c.requires.row is.high (search rules) (search rules)
+          c.args.pairs.now.items c.loop-number.pairs.items (c.args.column - at) at (omega (arith, c.requires.column)) (λ j l m. sym (same j) ∙ c.next_open-at.ensures.shut j l (omega arith)) ended);
       within = c.loop-number.invariant.within;
     }

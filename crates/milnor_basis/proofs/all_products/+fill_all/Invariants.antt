@@ -11,7 +11,7 @@ decreases-fill_all l = l.row * 9 + l.column
 abbrev pub invariant-loop-number : goal.invariant-loop-number
 invariant-loop-number l = record {
   turned : (rows : List ℕ) → IsInRow l.degrees.0 l.row l.own.sum l.own.left.degree l.own.left.place rows
-      → TurnsOverAllBelow l.degrees.0 l.degrees.1 l.width l.row l.column (l.own.left.degree - l.own.sum * (2 ^ l.row - 1)) rows l.open.columns l.open.diagonals l.number l.fn.pairs.items l.pairs.items;
+      → TurnsOverAllBelow l.degrees.0 l.degrees.1 l.width l.row l.at (l.own.left.degree - l.own.sum * (2 ^ l.row - 1)) rows l.open.columns l.open.diagonals l.number l.fn.pairs.items l.pairs.items;
   within : AreWithin l.degrees.0 l.degrees.1 l.pairs.items;
 }
 
