@@ -1,14 +1,13 @@
 -- Row 1 with row 0: what a number there leaves, and where the walk has come once all is filled.
-use Rattle.std.proofs.Common.{◌≡◌, ℕ, zero, suc, ◌+◌, ◌-◌, ◌*◌, ◌/◌, ◌<◌, ◌≤◌, ◌^◌, ◌≢◌, inl, inr, nat_lt, Some, List, [], ◌∷◌, ◌++◌, length, take, drop, refl, sym, ◌∙◌, ap, subst, arith, min, slice_index, slice_get, slice_set, bit_and, bit_or}
+use Rattle.std.proofs.Common.{◌≡◌, ℕ, zero, suc, ◌+◌, ◌-◌, ◌*◌, ◌/◌, ◌<◌, ◌≤◌, ◌^◌, ◌≢◌, inl, inr, nat_lt, Some, List, [], ◌∷◌, ◌++◌, length, drop, refl, sym, ◌∙◌, ap, subst, arith, min, slice_index, slice_get, slice_set, bit_and, bit_or}
 use Rattle.std.proofs.lemmas.Bool.{cases_eq, cases_lt, ltb-true, ltb-false, cases_Bool}
 use Rattle.std.proofs.lemmas.Nat.{and_comm, and_or_apart, or_disjoint}
 use Rattle.std.proofs.lemmas.List.{get_or-set_same, get_or-set_other, length-set, ext_get_or, get_or-drop, length-drop, drop_more}
-use Rattle.milnor_basis.specs.Exponents.{entry, degree_of, trimmed}
+use Rattle.milnor_basis.specs.Exponents.{trimmed}
 use Rattle.milnor_basis.specs.Basis.{basis_of}
 use Rattle.milnor_basis.specs.Inside.Walk.{taken, next_row, next_column}
 use Rattle.milnor_basis.specs.Inside.FreeRows.{least_free, greatest_free, number_above, added, IsTurnedOver, are_elements, TurnsOverAll, ArePlaced, topped, IsInFirstRow}
 use Rattle.milnor_basis.proofs.RowZero.{apart_both, or_apart}
-use Rattle.milnor_basis.proofs.Counting.{degree_next}
 use Rattle.milnor_basis.proofs.PlacesLeft.{placed_last_one}
 use Rattle.milnor_basis.proofs.FreeTable.{one_turned}
 use Rattle.milnor_basis.proofs.FreeFill.{TurnsOverAllBelow, free_start, free_end, free_none, free_shut, free_shuts, free_turn, free_at_end, top_turn}
@@ -231,14 +230,6 @@ module _ (degree product w column room above below place left : ℕ) (cs ds rows
       free_none degree product w 1 column room rows columns diagonals small (omega arith) (omega arith) right is.high before
       (λ e. shares (ap (bit_and above) (sym (is.diagonals_so_far column (omega arith))) ∙ ap (λ k. bit_and above (slice_index diagonals k)) (sym at) ∙ ap (λ x. bit_and x (slice_index diagonals (1 + column - 1))) (sym is.above_left) ∙ e))
 
-  pub first_start : 0 < column → TurnsOverAllBelow degree product w 1 column room rows columns diagonals 0 before before
-  first_start some =
-      let j = column - 1 in
-      let at : column ≡ suc j = omega arith in
-      let none : least_free 1 column room columns ≡ 0 = ap (λ c. least_free 1 c room columns) at in
-      subst (λ n. TurnsOverAllBelow degree product w 1 column room rows columns diagonals n before before) none
-      (free_start degree product w 1 column room rows columns diagonals small (omega arith) (omega arith) right is.high before)
-
   pub first_shuts : (more number : ℕ) (after : List (ℕ × ℕ)) → ((v : ℕ) → number ≤ v → v < more + number → bit_and v (bit_or (slice_index ds column) above) ≢ 0)
       → TurnsOverAllBelow degree product w 1 column room rows columns diagonals number before after → TurnsOverAllBelow degree product w 1 column room rows columns diagonals (more + number) before after
   first_shuts more number after shut inv =
@@ -332,20 +323,3 @@ next_some (suc i) zero h = omega arith
 pub next_first : (w row column : ℕ) → 1 < row → next_row row column ≡ 1 → next_column w row column ≡ w
 next_first w row zero h e = refl
 next_first w row (suc c) h e = absurd (omega arith)
-
--- The first place of row 1, as the walk comes to it.
-pub close_none : (degree product w column room above below place left : ℕ) (cs ds rows columns diagonals : List ℕ) → column ≡ 0 → degree ≤ 255 → w ≤ 8
-    → IsInFirstRow degree product w column room above below place left cs ds rows columns diagonals → (before : List (ℕ × ℕ)) → bit_and room (bit_or (slice_index ds column) above) ≢ 0
-    → TurnsOverAll degree product w 1 column room rows columns diagonals before before
-close_none degree product w zero room above below place left cs ds rows columns diagonals e small fits is before shares =
-    first_last_none degree product w room above below place left cs ds rows columns diagonals small fits is before shares
-close_none degree product w (suc j) room above below place left cs ds rows columns diagonals e small fits is before shares = absurd (omega arith)
-
-pub close_one : (degree product w column room above below place left : ℕ) (cs ds rows columns diagonals : List ℕ) → column ≡ 0 → degree ≤ 255 → w ≤ 8
-    → IsInFirstRow degree product w column room above below place left cs ds rows columns diagonals → (before : List (ℕ × ℕ)) → bit_and above (slice_index ds column) ≡ 0 → bit_and room (bit_or (slice_index ds column) above) ≡ 0
-    → below ≡ degree_of (take (column + 1) ds) + (above * (2 ^ (column + 1) - 1) + (degree_of (take column cs) + room)) → length ds ≡ 16
-    → TurnsOverAll degree product w 1 column room rows columns diagonals before (before ++ (left, place) ∷ [])
-close_one degree product w zero room above below place left cs ds rows columns diagonals e small fits is before room_above apart weight long =
-    let first : 0 + entry ds 0 * (2 ^ suc 0 - 1) ≡ degree_of (take (0 + 1) ds) = degree_next ds 0 0 (omega arith) refl in
-    first_last degree product w room above below place left cs ds rows columns diagonals small fits is before room_above apart (omega arith)
-close_one degree product w (suc j) room above below place left cs ds rows columns diagonals e small fits is before room_above apart weight long = absurd (omega arith)

@@ -20,6 +20,7 @@ pub mod FreeTable
 mod PlacesLeft
 mod Weights
 mod FirstRow
+mod FirstTurn
 mod RowPlaces
 mod FreeStart
 pub mod Matrices

@@ -105,3 +105,9 @@ last_left xs k some l =
       ap (λ j. degree_of (take (k - 1) xs) + slice_index xs (k - 1) * (2 ^ j - 1)) (sym back_suc) ∙ degree_next xs (k - 1) (degree_of (take (k - 1) xs)) (omega arith) refl ∙ ap (λ j. degree_of (take j xs)) back,
       sym (drop_more xs (k - 1) 0 (omega arith) ∙ ap (λ j. slice_index xs (k - 1) ∷ drop j xs) back),
     )
+
+-- with one exponent left the place is T's
+pub place_within : (column degree place n : ℕ) → column ≡ 0 → place + length (lists_of (column + 1) degree) ≤ n → place < n
+place_within column degree place n e fits =
+    let one : length (lists_of (column + 1) degree) ≡ 1 = ap (λ k. length (lists_of (k + 1) degree)) e ∙ ap length (lists_of_one degree) in
+    omega arith

@@ -3,7 +3,7 @@ use Rattle.std.proofs.Common.{◌≡◌, ℕ, zero, suc, ◌+◌, ◌-◌, ◌*�
 use Rattle.std.proofs.Math.Nat.{div-mul-le_self, lt-div-mul-add}
 use Rattle.std.proofs.lemmas.Nat.{div-mul-add, mul-le, pow_pos}
 use Rattle.std.specs.Int.Bits.{and_zero_l, or_zero_r}
-use Rattle.std.proofs.lemmas.List.{get_or-set_same, get_or-set_other, length-set, set-get_or, drop_more}
+use Rattle.std.proofs.lemmas.List.{get_or-set_same, get_or-set_other, length-set, set-get_or, set-set, drop_more}
 use Rattle.milnor_basis.specs.Exponents.{trimmed}
 use Rattle.milnor_basis.specs.Basis.{lists_of, basis_of}
 use Rattle.milnor_basis.specs.Inside.Walk.{taken, next_row, next_column}
@@ -230,6 +230,29 @@ taken_none (suc j) columns = let same : slice_index columns j ≡ slice_index co
 
 pub with_none : (k : ℕ) (diagonals : List ℕ) → diagonals ≡ slice_set diagonals k (bit_or (slice_index diagonals k) 0)
 with_none k diagonals = sym (set-get_or diagonals k 0) ∙ ap (slice_set diagonals k) (sym (or_zero_r (slice_index diagonals k)))
+
+-- A number that is put in a column and taken back.
+pub back_fits : (column v : ℕ) (columns : List ℕ) → 0 < column → column ≤ length columns → v ≤ slice_index columns (column - 1) → slice_index (taken column v columns) (column - 1) + v ≡ slice_index columns (column - 1)
+back_fits zero v columns some inside fits = absurd (omega arith)
+back_fits (suc j) v columns some inside fits =
+    let x = slice_index columns j in
+    let back : suc j - 1 ≡ j = omega arith in
+    let there : slice_index columns (suc j - 1) ≡ x = ap (slice_index columns) back in
+    let here : slice_index (slice_set columns j (x - v)) (suc j - 1) ≡ x - v = ap (slice_index (slice_set columns j (x - v))) back ∙ get_or-set_same columns j (x - v) 0 (omega arith) in
+    omega (arith, here, there, fits)
+
+pub taken_back : (column v : ℕ) (columns : List ℕ) → column ≤ length columns → (0 < column → v ≤ slice_index columns (column - 1)) → added column v (taken column v columns) ≡ columns
+taken_back zero v columns inside fits = refl
+taken_back (suc j) v columns inside fits =
+    let x = slice_index columns j in
+    let some : 0 < suc j = omega arith in
+    let back : suc j - 1 ≡ j = omega arith in
+    let there : slice_index columns (suc j - 1) ≡ x = ap (slice_index columns) back in
+    let whole : slice_index (slice_set columns j (x - v)) j + v ≡ x = omega (arith, get_or-set_same columns j (x - v) 0 (omega arith), there, fits some) in
+    set-set columns j (x - v) (slice_index (slice_set columns j (x - v)) j + v) ∙ ap (slice_set columns j) whole ∙ set-get_or columns j 0
+
+pub set_back : (k n : ℕ) (diagonals : List ℕ) → slice_set (slice_set diagonals k n) k (slice_index diagonals k) ≡ diagonals
+set_back k n diagonals = set-set diagonals k n (slice_index diagonals k) ∙ set-get_or diagonals k 0
 
 added_none : (row n : ℕ) (rows : List ℕ) → n ≡ 0 → rows ≡ added row n rows
 added_none zero n rows e = refl

@@ -104,6 +104,14 @@ first_weight below room above v t column columns diagonals some high wide long w
     ring_sum : (a b n : ℕ) → a * n + b * n ≡ (a + b) * n
     ring_sum a b n = grind arith
 
+-- at the first place of row 1
+pub last_weight : (column below room above : ℕ) (columns diagonals : List ℕ) → column ≡ 0 → length diagonals ≡ 16
+    → below ≡ degree_of (take (column + 1) diagonals) + (above * (2 ^ (column + 1) - 1) + (degree_of (take column columns) + room)) → below ≡ slice_index diagonals 0 + above + room
+last_weight zero below room above columns diagonals e long weight =
+    let first : 0 + entry diagonals 0 * (2 ^ suc 0 - 1) ≡ degree_of (take (0 + 1) diagonals) = degree_next diagonals 0 0 (omega arith) refl in
+    omega arith
+last_weight (suc j) below room above columns diagonals e long weight = absurd (omega arith)
+
 -- at first
 pub start_weight : (degree : ℕ) (s columns diagonals : List ℕ) → length s ≤ 8 → length columns ≡ 8 → ((j : ℕ) → j < 8 → slice_index columns j ≡ entry s j) → ((k : ℕ) → slice_index diagonals k ≡ 0)
     → degree_of diagonals + (degree_of (take (length s) columns) + degree) ≡ degree + degree_of s

@@ -1,5 +1,5 @@
 //! The products of all elements of a degree with one element: one walk fills the matrices of all of them.
-ghost use Rattle.std.specs.Prelude.{◌≡◌, ℕ, ◌≤◌, ◌<◌, ◌+◌, ◌-◌, ◌*◌, ◌/◌, ◌^◌, ◌≢◌, ◌++◌, [], List, take, IfOk, OnOk, IfSome, IsNone, Some, length, replicate, slice_index, slice_index_or, slice_set, slice_get, bit_or};
+ghost use Rattle.std.specs.Prelude.{◌≡◌, ℕ, ◌≤◌, ◌<◌, ◌+◌, ◌-◌, ◌*◌, ◌/◌, ◌^◌, ◌≢◌, ◌++◌, [], List, take, IfOk, OnOk, IfSome, IsNone, Some, length, replicate, slice_index, slice_index_or, slice_set, slice_get, bit_and, bit_or};
 ghost use Rattle.milnor_basis.specs.Exponents.{degree_of, entry, trimmed};
 ghost use Rattle.milnor_basis.specs.Basis.{lists_of, basis_of};
 ghost use Rattle.milnor_basis.specs.Product.{AreWithin, ArePairs};
@@ -17,7 +17,7 @@ use std::alloc::Global;
 const MOST_PLACES: usize = 1 << 16;
 
 /// What is left to fill of a matrix whose rows make up any element of a degree.
-#[derive(Clone, Copy, Drop)]
+#[derive(Drop)]
 struct Open {
     /// What is left of the sum of each column, from column 1 on.
     columns: [u16; 8],
@@ -63,22 +63,36 @@ impl Open {
         next
     }
 
-    /// What is left with `number` put at this place, which is not in row 0 and shares no binary digit with its diagonal.
-    fn put(mut self, row: usize, column: usize, number: u16) -> Self
+    /// Puts `number` at this place, which is not in row 0 and shares no binary digit with its diagonal.
+    fn put(&mut self, row: usize, column: usize, number: u16)
         requires first { 0 < row }
         requires row { row ≤ 8 }
         requires column { column ≤ 8 }
-        requires fits { 0 < column → number ≤ slice_index self.columns (column - 1) }
-        ensures columns { result.columns ≡ taken column number self.columns }
-        ensures diagonals { result.diagonals ≡ slice_set self.diagonals (row + column - 1)
-            (bit_or (slice_index self.diagonals (row + column - 1)) number) }
+        requires fits { 0 < column → number ≤ slice_index self.old.columns (column - 1) }
+        ensures columns { self.new.columns ≡ taken column number self.old.columns }
+        ensures diagonals { self.new.diagonals ≡ slice_set self.old.diagonals (row + column - 1)
+            (bit_or (slice_index self.old.diagonals (row + column - 1)) number) }
     {
         if column > 0 {
             self.columns[column - 1] -= number;
         }
         // With no digit in common this is the sum, and it cannot overflow.
         self.diagonals[row + column - 1] |= number;
-        self
+    }
+
+    /// Takes `number` back from this place, which is not in row 0. Without it the sum of its diagonal is `sum`.
+    fn take_back(&mut self, row: usize, column: usize, number: u16, sum: u16)
+        requires first { 0 < row }
+        requires row { row ≤ 8 }
+        requires column { column ≤ 8 }
+        requires room { 0 < column → slice_index self.old.columns (column - 1) + number < 2 ^ 16 }
+        ensures columns { self.new.columns ≡ added column number self.old.columns }
+        ensures diagonals { self.new.diagonals ≡ slice_set self.old.diagonals (row + column - 1) sum }
+    {
+        if column > 0 {
+            self.columns[column - 1] += number;
+        }
+        self.diagonals[row + column - 1] = sum;
     }
 }
 
@@ -166,8 +180,41 @@ struct FirstRow {
     diagonals: [u16; 16],
 }
 
-/// Puts down, for each way to fill row 1 up to `column` and row 0, the places of R and T: `room` is left of the row's
-/// sum, row 0 puts `above` in the next column, and `term` is left of T, up to this place's diagonal.
+/// Puts down the places of R and T if `room`, which is left of the sum of row 1, can stand in the row's first place. All
+/// other places of the row are filled, row 0 puts `above` in column 1, and `term` is left of T, up to the first diagonal.
+fn put_down(
+    first: &FirstRow,
+    room: u16,
+    above: u16,
+    term: Rest,
+    pairs: &mut Vec<(u16, u16)>,
+) -> Result<(), Memory>
+    requires degree { first.now.degrees.0 ≤ 255 }
+    requires width { first.now.width ≤ 8 }
+    requires left { first.now.left < length (basis_of first.now.degrees.0) }
+    requires few { length (basis_of first.now.degrees.0) ≤ 2 ^ 16 }
+    requires many { length (basis_of first.now.degrees.1) ≤ 2 ^ 16 }
+    requires apart { bit_and above (slice_index first.now.diagonals 0) ≡ 0 }
+    requires weight { term.degree ≡ slice_index first.now.diagonals 0 + above + room }
+    requires place { term.place < length (basis_of first.now.degrees.1) }
+    requires within { AreWithin first.now.degrees.0 first.now.degrees.1 pairs.old.items }
+    ensures turned { OnOk result ((rows columns diagonals : List ℕ) →
+        IsInFirstRow first.now.degrees.0 first.now.degrees.1 first.now.width 0 room above term.degree term.place
+        first.now.left first.now.columns first.now.diagonals rows columns diagonals →
+        TurnsOverAll first.now.degrees.0 first.now.degrees.1 first.now.width 1 0 room rows columns diagonals
+        pairs.old.items pairs.new.items) }
+    ensures within { OnOk result (AreWithin first.now.degrees.0 first.now.degrees.1 pairs.new.items) }
+{
+    if room & (first.diagonals[0] | above) != 0 {
+        return Ok(());
+    }
+    pairs.push((first.left as u16, term.place as u16))?;
+    Ok(())
+}
+
+/// Puts down, for each way to fill row 1 up to `column`, which is not its first, and row 0, the places of R and T: `room` is
+/// left of the row's sum, row 0 puts `above` in the next column, which shares no binary digit with the diagonal, and `term`
+/// is left of T, up to this place's diagonal.
 fn fill_first(
     counts: &Counts,
     first: &FirstRow,
@@ -180,12 +227,14 @@ fn fill_first(
     requires degree { first.now.degrees.0 ≤ 255 }
     requires product { first.now.degrees.1 ≤ counts.now }
     requires width { first.now.width ≤ 8 }
+    requires some { 0 < column }
     requires column { column ≤ first.now.width }
     requires left { first.now.left < length (basis_of first.now.degrees.0) }
     requires few { length (basis_of first.now.degrees.0) ≤ 2 ^ 16 }
     requires many { length (basis_of first.now.degrees.1) ≤ 2 ^ 16 }
     requires small { term.degree ≤ 255 }
     requires reach { term.degree ≤ counts.now }
+    requires apart { bit_and above (slice_index first.now.diagonals column) ≡ 0 }
     requires weight { term.degree ≡ degree_of (take (column + 1) first.now.diagonals)
         + (above * (2 ^ (column + 1) - 1) + (degree_of (take column first.now.columns) + room)) }
     requires place { term.place + length (lists_of (column + 1) term.degree) ≤ length (basis_of first.now.degrees.1) }
@@ -197,33 +246,31 @@ fn fill_first(
         pairs.old.items pairs.new.items) }
     ensures within { OnOk result (AreWithin first.now.degrees.0 first.now.degrees.1 pairs.new.items) }
 {
-    let sum = first.diagonals[column];
-    if above & sum != 0 {
-        return Ok(());
-    }
-    let digits = sum | above;
-    if column == 0 {
-        if room & digits != 0 {
-            return Ok(());
-        }
-        pairs.push((first.left as u16, term.place as u16))?;
-        return Ok(());
-    }
+    let digits = first.diagonals[column] | above;
     let left = first.columns[column - 1];
     let greatest = (room >> column).min(left);
     let mut number = 0;
     while number <= u32::from(greatest) {
         let put = number as u16;
         if put & digits == 0 {
-            fill_first(
-                counts,
-                first,
-                column - 1,
-                less(room, put, column),
-                left - put,
-                counts.chosen(term, column + 1, digits | put),
-                pairs,
-            )?;
+            let next_above = left - put;
+            if next_above & first.diagonals[column - 1] == 0 {
+                let next_room = less(room, put, column);
+                let next_term = counts.chosen(term, column + 1, digits | put);
+                if column == 1 {
+                    put_down(first, next_room, next_above, next_term, pairs)?;
+                } else {
+                    fill_first(
+                        counts,
+                        first,
+                        column - 1,
+                        next_room,
+                        next_above,
+                        next_term,
+                        pairs,
+                    )?;
+                }
+            }
             number = next_apart(put, digits);
         } else {
             number += 1;
@@ -275,11 +322,14 @@ fn fill_last(
         columns: open.columns,
         diagonals: open.diagonals,
     };
+    if width == 0 {
+        return put_down(&first, room, 0, term, pairs);
+    }
     fill_first(counts, &first, width, room, 0, term, pairs)
 }
 
 /// Puts down, for each way to fill the places up to (row, column), the places of R and T. `degrees` are those of R and of
-/// the products, and `own` is what is known of this row.
+/// the products, and `own` is what is known of this row. What is open is in the end as it was.
 fn fill_all(
     counts: &Counts,
     degrees: (u16, u16),
@@ -287,7 +337,7 @@ fn fill_all(
     row: usize,
     column: usize,
     own: Row,
-    open: &Open,
+    open: &mut Open,
     pairs: &mut Vec<(u16, u16)>,
 ) -> Result<(), Memory>
     requires product { degrees.1 ≤ counts.now }
@@ -299,8 +349,8 @@ fn fill_all(
     requires place { own.left.place + length (lists_of row own.left.degree) ≤ length (basis_of degrees.0) }
     requires fits { own.sum * (2 ^ row - 1) ≤ own.left.degree }
     requires most { own.most ≡ (own.left.degree - own.sum * (2 ^ row - 1)) / (2 ^ row - 1) }
-    requires weight { degree_of open.now.diagonals
-        + (degree_of (take width open.now.columns) + (own.left.degree - own.sum * (2 ^ row - 1))) ≡ degrees.1 }
+    requires weight { degree_of open.old.diagonals
+        + (degree_of (take width open.old.columns) + (own.left.degree - own.sum * (2 ^ row - 1))) ≡ degrees.1 }
     requires some { 0 < row }
     requires row { row ≤ 8 }
     requires width { width ≤ 8 }
@@ -310,7 +360,9 @@ fn fill_all(
     requires within { AreWithin degrees.0 degrees.1 pairs.old.items }
     ensures turned { OnOk result ((rows : List ℕ) → IsInRow degrees.0 row own.sum own.left.degree own.left.place rows →
         TurnsOverAll degrees.0 degrees.1 width row column (own.left.degree - own.sum * (2 ^ row - 1)) rows
-        open.now.columns open.now.diagonals pairs.old.items pairs.new.items) }
+        open.old.columns open.old.diagonals pairs.old.items pairs.new.items) }
+    ensures columns { OnOk result (open.new.columns ≡ open.old.columns) }
+    ensures diagonals { OnOk result (open.new.diagonals ≡ open.old.diagonals) }
     ensures within { OnOk result (AreWithin degrees.0 degrees.1 pairs.new.items) }
 {
     if row == 1 {
@@ -338,6 +390,7 @@ fn fill_all(
     while number <= u32::from(greatest) {
         let put = number as u16;
         if put & sum == 0 {
+            open.put(row, at, put);
             fill_all(
                 counts,
                 degrees,
@@ -345,9 +398,10 @@ fn fill_all(
                 next_row,
                 next_column,
                 own.after(counts, row, at, put),
-                &open.put(row, at, put),
+                open,
                 pairs,
             )?;
+            open.take_back(row, at, put, sum);
             number = next_apart(put, sum);
         } else {
             number += 1;
@@ -392,6 +446,7 @@ pub(crate) fn pairs_of(
     }
     let height = greatest_len(elements);
     let left = Rest { degree, place: 0 };
+    let mut open = Open::of(s);
     let mut pairs = Vec::new(alloc);
     fill_all(
         basis.counts(),
@@ -400,7 +455,7 @@ pub(crate) fn pairs_of(
         height,
         s.len(),
         Row::begun(left, height),
-        &Open::of(s),
+        &mut open,
         &mut pairs,
     )?;
     pairs.shrink_to_fit();

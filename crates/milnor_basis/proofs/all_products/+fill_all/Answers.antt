@@ -1,16 +1,17 @@
 -- Each number has its turn.
-use Rattle.std.proofs.Common.{◌≡◌, ℕ, ◌<◌, ◌≤◌, ◌-◌, ◌+◌, ◌*◌, ◌/◌, ◌^◌, suc, inl, sym, subst, ap, ◌∙◌, arith, add-one, rules, List, length, take, slice_index, slice_set, slice_get, Some, bit_or, zero}
+use Rattle.std.proofs.Common.{◌≡◌, ℕ, ◌<◌, ◌≤◌, ◌-◌, ◌+◌, ◌*◌, ◌/◌, ◌^◌, suc, inl, refl, sym, subst, ap, ◌∙◌, arith, add-one, rules, List, length, take, slice_index, slice_set, slice_get, Some, bit_or, zero}
 use Rattle.std.specs.Int.Bits.{and_zero_l}
 use Rattle.std.proofs.lemmas.Result.{on_ok_weaker}
 use Rattle.milnor_basis.specs.Exponents.{degree_of, trimmed}
 use Rattle.milnor_basis.specs.Basis.{lists_of, basis_of}
+use Rattle.milnor_basis.specs.Product.{AreWithin}
 use Rattle.milnor_basis.specs.Inside.Walk.{taken, next_row, next_column}
 use Rattle.milnor_basis.specs.Inside.FreeRows.{greatest_free, greatest_of, number_above, added, TurnsOverAll}
 use Rattle.milnor_basis.proofs.BasisLemmas.{lists_of_one}
 use Rattle.milnor_basis.proofs.RowZero.{apart_both}
 use Rattle.milnor_basis.proofs.Weights.{put_weight}
 use Rattle.milnor_basis.proofs.FirstRow.{least_none, next_some, next_first}
-use Rattle.milnor_basis.proofs.RowPlaces.{greatest_same, greatest_fits, greatest_column, sum_fits, nothing_taken, first_placed, next_is, row_turn, taken_none, with_none, pass_over}
+use Rattle.milnor_basis.proofs.RowPlaces.{greatest_same, greatest_fits, greatest_column, sum_fits, nothing_taken, back_fits, taken_back, set_back, first_placed, next_is, row_turn, taken_none, with_none, pass_over}
 use Rattle.milnor_basis.proofs.FreeFill.{TurnsOverAllBelow, free_start, free_end, free_shut}
 use Rattle.milnor_basis.proofs.all_products.+fill_all.Goals as goal
 
@@ -36,6 +37,9 @@ next_right w row (suc c) next e right = omega arith
 -- nothing is put there
 nothing_there : (room a b : ℕ) → room - 0 * a * b ≡ room
 nothing_there room a b = omega arith
+
+eight : (xs : List ℕ) → length xs ≡ 8 → 8 ≤ length xs
+eight xs e = omega arith
 
 -- row 1, before anything is in it
 whole_room : (row sum below : ℕ) → sum ≡ 0 → below - sum * (2 ^ row - 1) ≡ below
@@ -64,6 +68,8 @@ returns-then-row-eq1 t c =
           let with_room = subst (λ (n : ℕ). TurnsOverAll c.args.degrees.0 c.args.degrees.1 c.args.width 1 c.args.width n rows c.args.open.now.columns c.args.open.now.diagonals c.args.pairs.now.items c.fill_last.new.pairs.items) (sym (whole_room c.args.row c.args.own.sum below none)) at_last in
           subst (λ (n : ℕ). TurnsOverAll c.args.degrees.0 c.args.degrees.1 c.args.width n c.args.column room rows c.args.open.now.columns c.args.open.now.diagonals c.args.pairs.now.items c.fill_last.new.pairs.items) (sym one)
           (subst (λ (n : ℕ). TurnsOverAll c.args.degrees.0 c.args.degrees.1 c.args.width 1 n room rows c.args.open.now.columns c.args.open.now.diagonals c.args.pairs.now.items c.fill_last.new.pairs.items) (sym (c.requires.first one)) with_room)) c.fill_last.ensures.turned;
+      columns = on_ok_weaker c.fill_last.result (λ (within : AreWithin c.args.degrees.0 c.args.degrees.1 c.fill_last.new.pairs.items). refl) c.fill_last.ensures.within;
+      diagonals = on_ok_weaker c.fill_last.result (λ (within : AreWithin c.args.degrees.0 c.args.degrees.1 c.fill_last.new.pairs.items). refl) c.fill_last.ensures.within;
       within = c.fill_last.ensures.within;
     }
 
@@ -89,6 +95,8 @@ loop-number-init t c =
           (subst (λ (n : ℕ). TurnsOverAllBelow c.args.degrees.0 c.args.degrees.1 c.args.width row column room rows c.args.open.now.columns c.args.open.now.diagonals n c.args.pairs.now.items c.args.pairs.now.items) (least_none row column room c.args.open.now.columns past)
           (free_start c.args.degrees.0 c.args.degrees.1 c.args.width row column room rows c.args.open.now.columns c.args.open.now.diagonals
           (omega (arith, c.requires.small, c.requires.smaller)) c.requires.row (omega arith) (omega (arith, c.requires.column, c.next_open-at.ensures.low)) is.high c.args.pairs.now.items));
+      columns = c.in_ok-fill_all.ensures.columns;
+      diagonals = c.in_ok-fill_all.ensures.diagonals;
       within = c.in_ok-fill_all.ensures.within;
     }
 
@@ -125,7 +133,19 @@ pub after-requires-clause-greatest : goal.after-requires-clause-greatest
 after-requires-clause-greatest t c = greatest_fits c.next_open-at.result c.args.own.most c.loop-number.number c.args.open.now.columns (omega (arith, c.loop-number-test.true, c.from.ensures, c.greatest-greatest.ensures))
 
 pub put-requires-clause-fits : goal.put-requires-clause-fits
-put-requires-clause-fits t c = greatest_column c.next_open-at.result c.args.own.most c.loop-number.number c.args.open.now.columns (omega (arith, c.loop-number-test.true, c.from.ensures, c.greatest-greatest.ensures))
+put-requires-clause-fits t c some =
+    let at : ℕ = c.next_open-at.result in
+    let v : ℕ = c.loop-number.number in
+    subst (λ (xs : List ℕ). v ≤ slice_index xs (at - 1)) (sym c.loop-number.invariant.columns) (greatest_column at c.args.own.most v c.args.open.now.columns (omega (arith, c.loop-number-test.true, c.from.ensures, c.greatest-greatest.ensures)) some)
+
+-- what is open once the number is put there
+abbrev is_put : ℕ → ℕ → ℕ → List ℕ → List ℕ → List ℕ → List ℕ → Type 0
+is_put row column v columns diagonals columns' diagonals' = (columns' ≡ taken column v columns) × (diagonals' ≡ with_number row column diagonals v)
+
+put_there : (row column v : ℕ) (columns diagonals now_columns now_diagonals columns' diagonals' : List ℕ) → now_columns ≡ columns → now_diagonals ≡ diagonals
+    → columns' ≡ taken column v now_columns → diagonals' ≡ with_number row column now_diagonals v → is_put row column v columns diagonals columns' diagonals'
+put_there row column v columns diagonals now_columns now_diagonals columns' diagonals' same_columns same_diagonals of_columns of_diagonals =
+    (of_columns ∙ ap (taken column v) same_columns, of_diagonals ∙ ap (λ xs. with_number row column xs v) same_diagonals)
 
 pub fill_all-requires-then-put-sum-eq0 : goal.fill_all-requires-then-put-sum-eq0
 fill_all-requires-then-put-sum-eq0 t c =
@@ -142,14 +162,15 @@ fill_all-requires-then-put-sum-eq0 t c =
     let least : v ≤ greatest_free row column room c.args.open.now.columns = subst (λ n. v ≤ n) (greatest_same row column room own.most c.args.open.now.columns c.requires.some c.requires.most) to in
     let e = c.after.ensures in
     let known = next_is row column v own.sum own.most own.left.degree own.left.place new.sum new.most new.left.degree new.left.place next past c.requires.row c.requires.fits c.requires.most within c.next_place-next_row.ensures.row (λ l. ap (λ r. r.degree) (e.same l)) (λ l. ap (λ r. r.place) (e.same l)) e.grown e.less e.begun e.most e.degree e.place in
+    let there = put_there row column v c.args.open.now.columns c.args.open.now.diagonals c.loop-number.open.columns c.loop-number.open.diagonals c.put.new.self.columns c.put.new.self.diagonals c.loop-number.invariant.columns c.loop-number.invariant.diagonals c.put.ensures.columns c.put.ensures.diagonals in
     let fits : new.sum * (2 ^ next - 1) ≤ new.left.degree = known.fits in
     let most : new.most ≡ (new.left.degree - new.sum * (2 ^ next - 1)) / (2 ^ next - 1) = known.most in
     let below : new.left.degree ≤ c.args.degrees.0 = omega (arith, known.less, c.requires.below) in
     let place : new.left.place + length (lists_of next new.left.degree) ≤ length (basis_of c.args.degrees.0) = omega (arith, known.place, c.requires.place) in
     let begun : next ≡ 1 → new.sum ≡ 0 = known.begun in
-    let weight : degree_of c.put.result.diagonals + (degree_of (take c.args.width c.put.result.columns) + (new.left.degree - new.sum * (2 ^ next - 1))) ≡ c.args.degrees.1 =
-    ap (λ xs. degree_of xs + (degree_of (take c.args.width c.put.result.columns) + (new.left.degree - new.sum * (2 ^ next - 1)))) c.put.ensures.diagonals
-    ∙ ap (λ xs. degree_of (with_number row column c.args.open.now.diagonals v) + (degree_of (take c.args.width xs) + (new.left.degree - new.sum * (2 ^ next - 1)))) c.put.ensures.columns
+    let weight : degree_of c.put.new.self.diagonals + (degree_of (take c.args.width c.put.new.self.columns) + (new.left.degree - new.sum * (2 ^ next - 1))) ≡ c.args.degrees.1 =
+    ap (λ xs. degree_of xs + (degree_of (take c.args.width c.put.new.self.columns) + (new.left.degree - new.sum * (2 ^ next - 1)))) there.1
+    ∙ ap (λ xs. degree_of (with_number row column c.args.open.now.diagonals v) + (degree_of (take c.args.width xs) + (new.left.degree - new.sum * (2 ^ next - 1)))) there.0
     ∙ ap (λ n. degree_of (with_number row column c.args.open.now.diagonals v) + (degree_of (take c.args.width (taken column v c.args.open.now.columns)) + n)) known.room
     ∙ put_weight c.args.degrees.1 room c.args.width c.args.open.now.columns c.args.open.now.diagonals row column v (omega arith) c.requires.row (omega (arith, c.requires.column, c.next_open-at.ensures.low)) c.requires.width (search rules) (search rules) least c.if-put-sum-eq0.true c.requires.weight
     in
@@ -162,6 +183,18 @@ fill_all-requires-then-put-sum-eq0 t c =
     let high : next ≤ 8 = next_high row column next c.next_place-next_row.ensures.row c.requires.row in
     let right : c.next_place-next_row.result.1 ≤ c.args.width = next_right c.args.width row column c.next_place-next_row.result.1 c.next_place-next_row.ensures.column (omega (arith, c.requires.column, c.next_open-at.ensures.low)) in
     (omega (arith, falls, c.decreases, c.next_open-at.ensures.low), search rules)
+
+pub take_back-requires-clause-room : goal.take_back-requires-clause-room
+take_back-requires-clause-room t c some =
+    let row : ℕ = c.args.row in
+    let column : ℕ = c.next_open-at.result in
+    let v : ℕ = c.loop-number.number in
+    let to : v ≤ greatest_of column c.args.own.most c.args.open.now.columns = omega (arith, c.loop-number-test.true, c.from.ensures, c.greatest-greatest.ensures) in
+    let there = put_there row column v c.args.open.now.columns c.args.open.now.diagonals c.loop-number.open.columns c.loop-number.open.diagonals c.put.new.self.columns c.put.new.self.diagonals c.loop-number.invariant.columns c.loop-number.invariant.diagonals c.put.ensures.columns c.put.ensures.diagonals in
+    let here : slice_index c.fill_all-then-put-sum-eq0.new.open.columns (column - 1) ≡ slice_index (taken column v c.args.open.now.columns) (column - 1) = ap (λ xs. slice_index xs (column - 1)) (c.in_ok-fill_all-2.ensures.columns ∙ there.0) in
+    let whole = back_fits column v c.args.open.now.columns some (omega (arith, eight c.args.open.now.columns (search rules), c.requires.column, c.requires.width, c.next_open-at.ensures.low)) (greatest_column column c.args.own.most v c.args.open.now.columns to some) in
+    let small : slice_index c.args.open.now.columns (column - 1) < 2 ^ 16 = search rules in
+    omega (arith, here, whole, small)
 
 pub loop-number-preserved-then-put-sum-eq0 : goal.loop-number-preserved-then-put-sum-eq0
 loop-number-preserved-then-put-sum-eq0 t c =
@@ -178,13 +211,21 @@ loop-number-preserved-then-put-sum-eq0 t c =
     let most : n ≤ greatest_free row column room c.args.open.now.columns = subst (λ m. n ≤ m) (greatest_same row column room own.most c.args.open.now.columns c.requires.some c.requires.most) to in
     let e = c.after.ensures in
     let known = next_is row column n own.sum own.most own.left.degree own.left.place new.sum new.most new.left.degree new.left.place i past c.requires.row c.requires.fits c.requires.most within c.next_place-next_row.ensures.row (λ l. ap (λ r. r.degree) (e.same l)) (λ l. ap (λ r. r.place) (e.same l)) e.grown e.less e.begun e.most e.degree e.place in
+    let there = put_there row column n c.args.open.now.columns c.args.open.now.diagonals c.loop-number.open.columns c.loop-number.open.diagonals c.put.new.self.columns c.put.new.self.diagonals c.loop-number.invariant.columns c.loop-number.invariant.diagonals c.put.ensures.columns c.put.ensures.diagonals in
+    let at : ℕ = row + column - 1 in
     record {
       turned = λ rows is.
           row_turn c.args.degrees.0 c.args.degrees.1 c.args.width row column n own.sum own.left.degree own.left.place new.sum new.most new.left.degree new.left.place i c.next_place-next_row.result.1 c.next_apart-number-then-put-sum-eq0.result
-          c.args.open.now.columns c.args.open.now.diagonals c.put.result.columns c.put.result.diagonals c.args.pairs.now.items c.loop-number.pairs.items c.fill_all-then-put-sum-eq0.new.pairs.items
+          c.args.open.now.columns c.args.open.now.diagonals c.put.new.self.columns c.put.new.self.diagonals c.args.pairs.now.items c.loop-number.pairs.items c.fill_all-then-put-sum-eq0.new.pairs.items
           (omega (arith, c.requires.small, c.requires.smaller)) past c.requires.row (omega (arith, c.requires.column, c.next_open-at.ensures.low)) known c.next_place-next_row.ensures.row c.next_place-next_row.ensures.column
-          c.put.ensures.columns c.put.ensures.diagonals (search rules) (search rules) most c.if-put-sum-eq0.true
+          there.0 there.1 (search rules) (search rules) most c.if-put-sum-eq0.true
           c.next_apart-number-then-put-sum-eq0.ensures.above c.next_apart-number-then-put-sum-eq0.ensures.least c.in_ok-fill_all-2.ensures.turned rows is (c.loop-number.invariant.turned rows is);
+      columns =
+          c.take_back.ensures.columns ∙ ap (added column n) (c.in_ok-fill_all-2.ensures.columns ∙ there.0)
+          ∙ taken_back column n c.args.open.now.columns (omega (arith, eight c.args.open.now.columns (search rules), c.requires.column, c.requires.width, c.next_open-at.ensures.low)) (greatest_column column own.most n c.args.open.now.columns to);
+      diagonals =
+          c.take_back.ensures.diagonals ∙ ap (λ xs. slice_set xs at (slice_index c.args.open.now.diagonals at)) (c.in_ok-fill_all-2.ensures.diagonals ∙ there.1)
+          ∙ set_back at (bit_or (slice_index c.args.open.now.diagonals at) n) c.args.open.now.diagonals;
       within = c.in_ok-fill_all-2.ensures.within;
     }
 
@@ -199,6 +240,8 @@ loop-number-preserved t c =
           (free_shut c.args.degrees.0 c.args.degrees.1 c.args.width c.args.row c.next_open-at.result room rows c.args.open.now.columns c.args.open.now.diagonals
           (omega (arith, c.requires.small, c.requires.smaller)) c.requires.row (omega (arith, c.requires.some)) (omega (arith, c.requires.column, c.next_open-at.ensures.low)) is.high c.args.pairs.now.items c.loop-number.number c.loop-number.pairs.items
           (inl (λ e. c.if-put-sum-eq0.false (apart_both c.loop-number.number sum above e))) (c.loop-number.invariant.turned rows is));
+      columns = c.loop-number.invariant.columns;
+      diagonals = c.loop-number.invariant.diagonals;
       within = c.loop-number.invariant.within;
     }
 
@@ -220,5 +263,7 @@ returns t c =
           subst (λ (n : ℕ). TurnsOverAll c.args.degrees.0 c.args.degrees.1 c.args.width row n room rows columns c.args.open.now.diagonals c.args.pairs.now.items c.loop-number.pairs.items) whole
           (pass_over c.args.degrees.0 c.args.degrees.1 c.args.width row room rows columns c.args.open.now.diagonals (omega (arith, c.requires.small, c.requires.smaller)) (omega (arith, c.requires.some, c.if-row-eq1.false)) c.requires.row is.high (search rules) (search rules)
           c.args.pairs.now.items c.loop-number.pairs.items (c.args.column - at) at (omega (arith, c.requires.column)) (λ j l m. sym (same j) ∙ c.next_open-at.ensures.shut j l (omega arith)) ended);
+      columns = c.loop-number.invariant.columns;
+      diagonals = c.loop-number.invariant.diagonals;
       within = c.loop-number.invariant.within;
     }

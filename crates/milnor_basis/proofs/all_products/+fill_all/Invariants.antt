@@ -1,5 +1,5 @@
--- The numbers below `number` have had their turn.
-use Rattle.std.proofs.Common.{◌+◌, ◌*◌, ◌-◌, ◌^◌, suc, ℕ, List}
+-- The numbers below `number` have had their turn, and what is open is as it was.
+use Rattle.std.proofs.Common.{◌≡◌, ◌+◌, ◌*◌, ◌-◌, ◌^◌, suc, ℕ, List}
 use Rattle.milnor_basis.specs.Product.{AreWithin}
 use Rattle.milnor_basis.specs.Inside.FreeRows.{IsInRow}
 use Rattle.milnor_basis.proofs.FreeFill.{TurnsOverAllBelow}
@@ -11,7 +11,9 @@ decreases-fill_all l = l.row * 9 + l.column
 abbrev pub invariant-loop-number : goal.invariant-loop-number
 invariant-loop-number l = record {
   turned : (rows : List ℕ) → IsInRow l.degrees.0 l.row l.own.sum l.own.left.degree l.own.left.place rows
-      → TurnsOverAllBelow l.degrees.0 l.degrees.1 l.width l.row l.at (l.own.left.degree - l.own.sum * (2 ^ l.row - 1)) rows l.open.columns l.open.diagonals l.number l.fn.pairs.items l.pairs.items;
+      → TurnsOverAllBelow l.degrees.0 l.degrees.1 l.width l.row l.at (l.own.left.degree - l.own.sum * (2 ^ l.row - 1)) rows l.fn.open.columns l.fn.open.diagonals l.number l.fn.pairs.items l.pairs.items;
+  columns : l.open.columns ≡ l.fn.open.columns;
+  diagonals : l.open.diagonals ≡ l.fn.open.diagonals;
   within : AreWithin l.degrees.0 l.degrees.1 l.pairs.items;
 }
 

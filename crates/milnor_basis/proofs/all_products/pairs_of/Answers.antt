@@ -55,9 +55,9 @@ fill_all-requires c =
     let small : degree ≤ 255 = omega (arith, c.degree_of_products-product.ensures.sum, c.degree_of_products-product.ensures.small) in
     let lists : length (lists_of h own.left.degree) ≡ length (lists_of h degree) = ap (λ n. length (lists_of h n)) is_left in
     let place : own.left.place + length (lists_of h own.left.degree) ≤ length (basis_of degree) = omega (arith, fits_basis degree h small c.greatest_len-height.ensures.few) in
-    let start = start_weight degree s c.of.result.columns c.of.result.diagonals c.len.ensures.short (search rules) c.of.ensures.columns c.of.ensures.diagonals in
-    let taken : degree_of (take c.len.result c.of.result.columns) ≡ degree_of (take (length s) c.of.result.columns) = ap (λ n. degree_of (take n c.of.result.columns)) c.len.ensures.length in
-    let weight : degree_of c.of.result.diagonals + (degree_of (take c.len.result c.of.result.columns) + (own.left.degree - own.sum * (2 ^ h - 1))) ≡ c.degree_of_products-product.result = omega (arith, c.degree_of_products-product.ensures.sum) in
+    let start = start_weight degree s c.of-open.result.columns c.of-open.result.diagonals c.len.ensures.short (search rules) c.of-open.ensures.columns c.of-open.ensures.diagonals in
+    let taken : degree_of (take c.len.result c.of-open.result.columns) ≡ degree_of (take (length s) c.of-open.result.columns) = ap (λ n. degree_of (take n c.of-open.result.columns)) c.len.ensures.length in
+    let weight : degree_of c.of-open.result.diagonals + (degree_of (take c.len.result c.of-open.result.columns) + (own.left.degree - own.sum * (2 ^ h - 1))) ≡ c.degree_of_products-product.result = omega (arith, c.degree_of_products-product.ensures.sum) in
     search rules
 
 pub returns : goal.returns
@@ -68,9 +68,9 @@ returns c =
     let h : ℕ = c.greatest_len-height.result in
     let pairs : List (ℕ × ℕ) = c.fill_all.new.pairs.items in
     let own = c.begun.result in
-    let columns : List ℕ = c.of.result.columns in
-    let diagonals : List ℕ = c.of.result.diagonals in
-    let start : IsFree degree s h (length s) degree (replicate 8 0) columns diagonals no_sums = all_free degree h s columns diagonals c.of.ensures.columns c.of.ensures.diagonals c.greatest_len-height.ensures.some c.len.ensures.short in
+    let columns : List ℕ = c.of-open.result.columns in
+    let diagonals : List ℕ = c.of-open.result.diagonals in
+    let start : IsFree degree s h (length s) degree (replicate 8 0) columns diagonals no_sums = all_free degree h s columns diagonals c.of-open.ensures.columns c.of-open.ensures.diagonals c.greatest_len-height.ensures.some c.len.ensures.short in
     let room : own.left.degree - own.sum * (2 ^ h - 1) ≡ degree = all_left h own.sum own.left.degree degree c.begun.ensures.sum (ap (λ r. r.degree) c.begun.ensures.left) in
     let with_room : IsFree degree s h (length s) (own.left.degree - own.sum * (2 ^ h - 1)) (replicate 8 0) columns diagonals no_sums = subst (λ (n : ℕ). IsFree degree s h (length s) n (replicate 8 0) columns diagonals no_sums) (sym room) start in
     let free : IsFree degree s h c.len-2.result (own.left.degree - own.sum * (2 ^ h - 1)) (replicate 8 0) columns diagonals no_sums = subst (λ (n : ℕ). IsFree degree s h n (own.left.degree - own.sum * (2 ^ h - 1)) (replicate 8 0) columns diagonals no_sums) (sym c.len-2.ensures.length) with_room in
