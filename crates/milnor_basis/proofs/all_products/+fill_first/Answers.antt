@@ -1,5 +1,5 @@
 -- Each number has its turn.
-use Rattle.std.proofs.Common.{◌≡◌, ◌≢◌, ℕ, ◌<◌, ◌≤◌, ◌-◌, ◌+◌, ◌*◌, ◌/◌, ◌^◌, suc, refl, List, length, take, min, sym, subst, ap, arith, rules, slice_index, bit_and, bit_or}
+use Rattle.std.proofs.Common.{◌≡◌, ◌≢◌, ℕ, ◌<◌, ◌≤◌, ◌-◌, ◌+◌, ◌*◌, ◌/◌, ◌^◌, suc, refl, List, length, take, min, subst, arith, rules, slice_index, bit_and, bit_or}
 use Rattle.milnor_basis.specs.Exponents.{degree_of}
 use Rattle.milnor_basis.specs.Basis.{lists_of, basis_of}
 use Rattle.milnor_basis.specs.Inside.FreeRows.{IsInFirstRow, TurnsOverAll}
