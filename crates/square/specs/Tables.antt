@@ -119,6 +119,17 @@ pub record IsQuasiBehind (table : Staircase) (s : ℕ) (t : ℤ) (content : Cont
       (take above (row_of (plain_rows table.rows) s)) content reduction
   pub kernel : reduction.kernel ≡ content.kernel
 
+-- The square was read at (s, t), the next of its row behind the squares of the table: it has this content, and this reduction if
+-- any, and its start is the table's with the square itself.
+pub record IsReadBehind (table : Staircase) (s : ℕ) (t : ℤ) (content : Content) (quasi : Option Reduction) (q : Placed)
+    : Type 0 where
+  pub resolved_is : q.resolved ≡ table.resolved
+  pub start_is : q.start ≡ table.start ++ entry_of q ∷ []
+  pub s_is : q.s ≡ s
+  pub degree : t ≡ bottom_of table.resolved +ℤ pos q.above
+  pub content_is : q.content ≡ content
+  pub quasi_is : q.quasi ≡ quasi
+
 -- The square continues the table's start: it has that start, or every square so far was read, and so was it.
 abbrev pub IsContinued : Staircase → Placed → Type 0
 IsContinued table q = (q.start ≡ table.start) ⊎ (AllRead table.rows × (q.start ≡ table.start ++ entry_of q ∷ []))

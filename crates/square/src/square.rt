@@ -2,7 +2,8 @@
 ghost use Rattle.std.specs.Prelude.{◌≡◌, ◌<◌, ◌≤◌, ◌^◌, ◌++◌, ◌+ℤ◌, pos, [], ◌∷◌, Some, option_map, IsSome, IfSome, IfOk, IfErr};
 ghost use Rattle.resolution_laws.specs.Resolution.{IsStep};
 ghost use Rattle.square.specs.Squares.{entry_of, IsSquare, IsQuasi, IsKeptOf, AreWidths, KeptWhereMade, over, bottom_of};
-ghost use Rattle.square.specs.Tables.{IsReadable, IsQuasiBehind};
+ghost use Rattle.square.specs.Tables.{IsReadable, IsQuasiBehind, IsReadBehind};
+ghost use Rattle.square.specs.Inside.Kernel.{rows_of, quasi_of};
 
 use crate::inputs::Inputs;
 use crate::kernel::Kernel;
@@ -133,15 +134,32 @@ impl Square {
         ensures content { result.content ≡ record { images = gens.items; kernel = kernel.items } }
         ensures quasi { result.quasi ≡ quasi }
     {
+        Square::read_with(table, s, t, gens, Kernel::of(quasi, kernel))
+    }
+
+    /// The square that was read with this reduction, if nobody holds its kernel rows beside the reduction that has them.
+    pub fn read_reduced(table: &Table, s: u16, t: i32, gens: Vec<BitVec>, quasi: Reduced) -> Square
+        requires content { IsReadable table.now s t (record { images = gens.items; kernel = quasi.kernel }) }
+        requires quasi { IsQuasiBehind table.now s t (record { images = gens.items; kernel = quasi.kernel }) quasi }
+        ensures { IsReadBehind table.now s t (record { images = gens.items; kernel = quasi.kernel }) (Some quasi) result }
+    {
+        Square::read_with(table, s, t, gens, Kernel::Reduced(quasi))
+    }
+
+    /// The square that was read with this kernel.
+    fn read_with(table: &Table, s: u16, t: i32, gens: Vec<BitVec>, kernel: Kernel) -> Square
+        requires content { IsReadable table.now s t (record { images = gens.items; kernel = rows_of kernel }) }
+        requires quasi { IfSome (quasi_of kernel) (IsQuasiBehind table.now s t
+            (record { images = gens.items; kernel = rows_of kernel })) }
+        ensures { IsReadBehind table.now s t (record { images = gens.items; kernel = rows_of kernel }) (quasi_of kernel)
+            result }
+    {
         let above = table.above(t);
         let (target_width, width) = match table.next_widths(s, t, gens.len()) {
             Some(widths) => widths,
             None => unreachable!(),
         };
-        let start = table
-            .start()
-            .then(s, above, gens.as_slice(), kernel.as_slice());
-        let kernel = Kernel::of(quasi, kernel);
+        let start = table.start().then(s, above, gens.as_slice(), kernel.rows());
         Square {
             module: Snapshot::of(table.module()),
             start,

@@ -1,23 +1,32 @@
-use Rattle.std.proofs.Common.{◌≡◌, ℕ, Bool, List, [], ◌∷◌, ◌++◌, length, Option, ap, sym, subst, ◌∙◌, w32, to_z, of_z, arith}
+use Rattle.std.proofs.Common.{ℤ, Bool, List, Option, w32, to_z, of_z, ap, sym, subst, ◌∙◌}
+use Rattle.std.specs.Prelude.{IfSome}
 use Rattle.std.proofs.lemmas.Int.{to_z-of_z}
 use Rattle.f2_matrix.specs.Reduction.{Reduction}
-use Rattle.resolution_laws.specs.Start.{Entry}
-use Rattle.square.specs.Inside.Kernel.{quasi_of}
-use Rattle.square.specs.Squares.{IsMeasured}
-use Rattle.square.specs.Tables.{next_width}
-use Rattle.square.proofs.Places.{IsMeasured-read}
+use Rattle.resolution_laws.specs.Resolution.{Content}
+use Rattle.square.specs.Inside.Kernel.{rows_of}
+use Rattle.square.specs.Tables.{IsReadable, IsQuasiBehind}
 use Rattle.square.proofs.square.Square.read.Goals as goal
 
-pub invariant_of-result : goal.invariant_of-result
-invariant_of-result c =
-    let t = to_z-of_z w32 c.args.t c.ranges.t in
-    let count : c.len.result ≡ length c.args.gens.items = let ok = c.args.gens.ok in omega (arith, c.len.ensures) in
+pub read_with-requires-clause-content : goal.read_with-requires-clause-content
+read_with-requires-clause-content c =
     let table = c.args.table.now in
-    let entry = λ (images kernel : List (List Bool)). let e : Entry = record { s = c.args.s; above = c.above-above.result; content = record { images = images; kernel = kernel } } in e in
-    let put : c.then-start.result ≡ c.start.result.now ++ entry c.args.gens.items c.args.kernel.items ∷ [] =
-    c.then-start.ensures ∙ ap (λ x. c.start.result.now ++ entry x c.as_slice-2.result.now ∷ []) c.as_slice.ensures.value ∙ ap (λ x. c.start.result.now ++ entry c.args.gens.items x ∷ []) c.as_slice-2.ensures.value in
-    let widths = (c.in-Some.ensures c.above-above.result c.above-above.ensures).1 in
-    let measured = IsMeasured-read table c.args.s c.args.t (record { images = c.args.gens.items; kernel = c.args.kernel.items }) c.args.quasi c.requires.quasi c.start.ensures.is_table c.requires.content _ c.start.result.now _ c.above-above.result _ _ _ (sym t ∙ c.above-above.ensures) t (c.of.ensures ∙ c.module.ensures) c.start.ensures.start put
-    (ap (λ (w : ℕ × ℕ). w.0) widths) (ap (λ (w : ℕ × ℕ). w.1) widths ∙ ap (next_width table c.args.s c.above-above.result) count) in
-    let P : List (List Bool) → Option Reduction → Type 0 = λ kernel quasi. IsMeasured (record { resolved = c.of.result.value; start = c.then-start.result; s = c.args.s; above = c.above-above.result; content = record { images = c.args.gens.items; kernel = kernel }; quasi = quasi }) (to_z w32 (of_z w32 c.args.t)) c.in-Some.widths.0 c.in-Some.widths.1 in
-    subst (λ kernel. P kernel (quasi_of c.of-kernel.result)) (sym c.of-kernel.ensures.rows) (subst (P c.args.kernel.items) (sym c.of-kernel.ensures.quasi) measured)
+    let with = λ (rows : List (List Bool)). let x : Content = record { images = c.args.gens.items; kernel = rows } in x in
+    let t : ℤ = to_z w32 (of_z w32 c.args.t) in
+    let here = subst (λ n. IsReadable table c.args.s n (with c.args.kernel.items)) (sym (to_z-of_z w32 c.args.t c.ranges.t)) c.requires.content in
+    subst (λ rows. IsReadable table c.args.s t (with rows)) (sym c.of.ensures.rows) here
+
+pub read_with-requires-clause-quasi : goal.read_with-requires-clause-quasi
+read_with-requires-clause-quasi c =
+    let table = c.args.table.now in
+    let with = λ (rows : List (List Bool)). let x : Content = record { images = c.args.gens.items; kernel = rows } in x in
+    let t : ℤ = to_z w32 (of_z w32 c.args.t) in
+    let P : Option Reduction → ℤ → List (List Bool) → Type 0 = λ q n rows. IfSome q (IsQuasiBehind table c.args.s n (with rows)) in
+    let here = subst (λ n. P c.args.quasi n c.args.kernel.items) (sym (to_z-of_z w32 c.args.t c.ranges.t)) c.requires.quasi in
+    let held = subst (P c.args.quasi t) (sym c.of.ensures.rows) here in
+    subst (λ q. P q t (rows_of c.of.result)) (sym c.of.ensures.quasi) held
+
+pub returns-clause-content : goal.returns-clause-content
+returns-clause-content c = c.read_with.ensures.content_is ∙ ap (λ (rows : List (List Bool)). let x : Content = record { images = c.args.gens.items; kernel = rows } in x) c.of.ensures.rows
+
+pub returns-clause-quasi : goal.returns-clause-quasi
+returns-clause-quasi c = c.read_with.ensures.quasi_is ∙ c.of.ensures.quasi
