@@ -256,7 +256,7 @@ fn fill_first(
             let next_above = left - put;
             if next_above & first.diagonals[column - 1] == 0 {
                 let next_room = less(room, put, column);
-                let next_term = counts.chosen(term, column + 1, digits | put);
+                let next_term = counts.counted(term, column + 1, digits | put);
                 if column == 1 {
                     put_down(first, next_room, next_above, next_term, pairs)?;
                 } else {

@@ -89,6 +89,25 @@ impl Counts {
         if exponent == 0 {
             return rest;
         }
+        self.counted(rest, k, exponent)
+    }
+
+    /// What `chosen` answers, without a test for 0: where most exponents are above it, that is quicker.
+    pub(crate) fn counted(&self, rest: Rest, k: usize, exponent: u16) -> Rest
+        requires degree { rest.degree ≤ self.now }
+        requires small { rest.degree ≤ 255 }
+        requires some { 0 < k }
+        requires few { k ≤ 9 }
+        requires fits { exponent * (2 ^ k - 1) ≤ rest.degree }
+        requires room { rest.place + length (lists_of k rest.degree) ≤ 2 ^ 16 }
+        ensures degree { result.degree ≡ rest.degree - exponent * (2 ^ k - 1) }
+        ensures place { result.place
+            ≡ rest.place + (length (lists_of k rest.degree) - length (lists_of k result.degree)) }
+    {
+        // A ninth exponent is 0 in every degree up to 255.
+        if k > MAX_EXPONENTS {
+            return rest;
+        }
         let degree = rest.degree - exponent * ((1 << k) - 1);
         let passed = self.of(rest.degree, k) - self.of(degree, k);
         Rest {

@@ -11,8 +11,8 @@ use Rattle.milnor_basis.proofs.FirstTurn.{takes, leaves_weight, leaves_place, ne
 use Rattle.milnor_basis.proofs.all_products.+fill_first.Goals as goal
 use Rattle.milnor_basis.proofs.all_products.+fill_first.Goals.{then-next_above-first-eq0+then-column-eq1+in_ok-put_down, then-next_above-first-eq0+else-column-eq1+in_ok-fill_first, else-next_above-first-eq0}
 
-pub chosen-next_term-requires-clause-fits : goal.chosen-next_term-requires-clause-fits
-chosen-next_term-requires-clause-fits t c =
+pub counted-next_term-requires-clause-fits : goal.counted-next_term-requires-clause-fits
+counted-next_term-requires-clause-fits t c =
     let to : c.loop-number.number ≤ min (c.args.room / 2 ^ c.args.column) (slice_index c.args.first.now.columns (c.args.column - 1)) = omega (arith, c.loop-number-test.true, c.from.ensures, c.min-greatest.ensures) in
     takes c.args.first.now.degrees.0 c.args.first.now.degrees.1 c.args.first.now.width c.args.column c.args.room c.args.above c.args.term.degree c.args.term.place c.args.first.now.left c.loop-number.number c.args.first.now.columns c.args.first.now.diagonals
     c.requires.degree c.requires.width c.requires.some c.requires.column (search rules) (search rules) c.requires.weight c.requires.apart c.if-put-digits-eq0.true to
@@ -20,18 +20,18 @@ chosen-next_term-requires-clause-fits t c =
 pub put_down-requires-clause-weight : goal.put_down-requires-clause-weight
 put_down-requires-clause-weight t c =
     let to : c.loop-number.number ≤ min (c.args.room / 2 ^ c.args.column) (slice_index c.args.first.now.columns (c.args.column - 1)) = omega (arith, c.loop-number-test.true, c.from.ensures, c.min-greatest.ensures) in
-    last_weight (c.args.column - 1) c.chosen-next_term.result.degree c.less-next_room.result (slice_index c.args.first.now.columns (c.args.column - 1) - c.loop-number.number) c.args.first.now.columns c.args.first.now.diagonals (omega (arith, c.if-column-eq1.true)) (search rules)
+    last_weight (c.args.column - 1) c.counted-next_term.result.degree c.less-next_room.result (slice_index c.args.first.now.columns (c.args.column - 1) - c.loop-number.number) c.args.first.now.columns c.args.first.now.diagonals (omega (arith, c.if-column-eq1.true)) (search rules)
     (leaves_weight c.args.first.now.degrees.0 c.args.first.now.degrees.1 c.args.first.now.width c.args.column c.args.room c.args.above c.args.term.degree c.args.term.place c.args.first.now.left c.loop-number.number c.args.first.now.columns c.args.first.now.diagonals
     c.requires.degree c.requires.width c.requires.some c.requires.column (search rules) (search rules) c.requires.weight c.requires.apart c.if-put-digits-eq0.true to
-    c.chosen-next_term.result.degree c.chosen-next_term.result.place c.less-next_room.result c.chosen-next_term.ensures.degree c.chosen-next_term.ensures.place c.less-next_room.ensures)
+    c.counted-next_term.result.degree c.counted-next_term.result.place c.less-next_room.result c.counted-next_term.ensures.degree c.counted-next_term.ensures.place c.less-next_room.ensures)
 
 pub put_down-requires-clause-place : goal.put_down-requires-clause-place
 put_down-requires-clause-place t c =
     let to : c.loop-number.number ≤ min (c.args.room / 2 ^ c.args.column) (slice_index c.args.first.now.columns (c.args.column - 1)) = omega (arith, c.loop-number-test.true, c.from.ensures, c.min-greatest.ensures) in
-    place_within (c.args.column - 1) c.chosen-next_term.result.degree c.chosen-next_term.result.place (length (basis_of c.args.first.now.degrees.1)) (omega (arith, c.if-column-eq1.true))
+    place_within (c.args.column - 1) c.counted-next_term.result.degree c.counted-next_term.result.place (length (basis_of c.args.first.now.degrees.1)) (omega (arith, c.if-column-eq1.true))
     (leaves_place c.args.first.now.degrees.0 c.args.first.now.degrees.1 c.args.first.now.width c.args.column c.args.room c.args.above c.args.term.degree c.args.term.place c.args.first.now.left c.loop-number.number c.args.first.now.columns c.args.first.now.diagonals
     c.requires.degree c.requires.width c.requires.some c.requires.column (search rules) (search rules) c.requires.weight c.requires.apart c.if-put-digits-eq0.true to
-    c.chosen-next_term.result.degree c.chosen-next_term.result.place c.less-next_room.result c.chosen-next_term.ensures.degree c.chosen-next_term.ensures.place c.less-next_room.ensures
+    c.counted-next_term.result.degree c.counted-next_term.result.place c.less-next_room.result c.counted-next_term.ensures.degree c.counted-next_term.ensures.place c.less-next_room.ensures
     (length (basis_of c.args.first.now.degrees.1)) c.requires.place)
 
 -- what a number that has its turn leaves
@@ -41,20 +41,20 @@ fill_first-requires t c =
     let cs = c.args.first.now.columns in
     let ds = c.args.first.now.diagonals in
     let to : c.loop-number.number ≤ min (c.args.room / 2 ^ column) (slice_index cs (column - 1)) = omega (arith, c.loop-number-test.true, c.from.ensures, c.min-greatest.ensures) in
-    let weight : c.chosen-next_term.result.degree ≡ degree_of (take (column - 1 + 1) ds) + ((slice_index cs (column - 1) - c.loop-number.number) * (2 ^ (column - 1 + 1) - 1) + (degree_of (take (column - 1) cs) + c.less-next_room.result)) =
+    let weight : c.counted-next_term.result.degree ≡ degree_of (take (column - 1 + 1) ds) + ((slice_index cs (column - 1) - c.loop-number.number) * (2 ^ (column - 1 + 1) - 1) + (degree_of (take (column - 1) cs) + c.less-next_room.result)) =
     leaves_weight c.args.first.now.degrees.0 c.args.first.now.degrees.1 c.args.first.now.width column c.args.room c.args.above c.args.term.degree c.args.term.place c.args.first.now.left c.loop-number.number cs ds
     c.requires.degree c.requires.width c.requires.some c.requires.column (search rules) (search rules) c.requires.weight c.requires.apart c.if-put-digits-eq0.true to
-    c.chosen-next_term.result.degree c.chosen-next_term.result.place c.less-next_room.result c.chosen-next_term.ensures.degree c.chosen-next_term.ensures.place c.less-next_room.ensures
+    c.counted-next_term.result.degree c.counted-next_term.result.place c.less-next_room.result c.counted-next_term.ensures.degree c.counted-next_term.ensures.place c.less-next_room.ensures
     in
-    let place : c.chosen-next_term.result.place + length (lists_of (column - 1 + 1) c.chosen-next_term.result.degree) ≤ length (basis_of c.args.first.now.degrees.1) =
+    let place : c.counted-next_term.result.place + length (lists_of (column - 1 + 1) c.counted-next_term.result.degree) ≤ length (basis_of c.args.first.now.degrees.1) =
     leaves_place c.args.first.now.degrees.0 c.args.first.now.degrees.1 c.args.first.now.width column c.args.room c.args.above c.args.term.degree c.args.term.place c.args.first.now.left c.loop-number.number cs ds
     c.requires.degree c.requires.width c.requires.some c.requires.column (search rules) (search rules) c.requires.weight c.requires.apart c.if-put-digits-eq0.true to
-    c.chosen-next_term.result.degree c.chosen-next_term.result.place c.less-next_room.result c.chosen-next_term.ensures.degree c.chosen-next_term.ensures.place c.less-next_room.ensures
+    c.counted-next_term.result.degree c.counted-next_term.result.place c.less-next_room.result c.counted-next_term.ensures.degree c.counted-next_term.ensures.place c.less-next_room.ensures
     (length (basis_of c.args.first.now.degrees.1)) c.requires.place
     in
     let some : 0 < column - 1 = omega (arith, c.requires.some, c.if-column-eq1.false) in
-    let small : c.chosen-next_term.result.degree ≤ 255 = omega (arith, c.requires.small, c.chosen-next_term.ensures.degree) in
-    let reach : c.chosen-next_term.result.degree ≤ c.args.counts.now = omega (arith, c.requires.reach, c.chosen-next_term.ensures.degree) in
+    let small : c.counted-next_term.result.degree ≤ 255 = omega (arith, c.requires.small, c.counted-next_term.ensures.degree) in
+    let reach : c.counted-next_term.result.degree ≤ c.args.counts.now = omega (arith, c.requires.reach, c.counted-next_term.ensures.degree) in
     search rules
 
 pub loop-number-preserved-then-put-digits-eq0 : goal.loop-number-preserved-then-put-digits-eq0
@@ -80,13 +80,13 @@ loop-number-preserved-then-put-digits-eq0 t c =
       turned = λ rows columns diagonals is. elim c.if-next_above-first-eq0.branch [
         | then-next_above-first-eq0+then-column-eq1+in_ok-put_down w ↦
             let zero : 0 ≡ column - 1 = omega (arith, w.if-column-eq1.true) in
-            rw w.pairs-is (go w.chosen-next_term.result.degree w.chosen-next_term.result.place w.less-next_room.result w.chosen-next_term.ensures.degree w.chosen-next_term.ensures.place w.less-next_room.ensures
+            rw w.pairs-is (go w.counted-next_term.result.degree w.counted-next_term.result.place w.less-next_room.result w.counted-next_term.ensures.degree w.counted-next_term.ensures.place w.less-next_room.ensures
             past c.args.pairs.now.items c.loop-number.pairs.items w.put_down.new.pairs.items least.above least.least
-            (subst (λ (k : ℕ). (rows columns diagonals : List ℕ) → IsInFirstRow c.args.first.now.degrees.0 c.args.first.now.degrees.1 c.args.first.now.width k w.less-next_room.result (slice_index cs (column - 1) - v) w.chosen-next_term.result.degree w.chosen-next_term.result.place c.args.first.now.left cs ds rows columns diagonals
+            (subst (λ (k : ℕ). (rows columns diagonals : List ℕ) → IsInFirstRow c.args.first.now.degrees.0 c.args.first.now.degrees.1 c.args.first.now.width k w.less-next_room.result (slice_index cs (column - 1) - v) w.counted-next_term.result.degree w.counted-next_term.result.place c.args.first.now.left cs ds rows columns diagonals
             → TurnsOverAll c.args.first.now.degrees.0 c.args.first.now.degrees.1 c.args.first.now.width 1 k w.less-next_room.result rows columns diagonals c.loop-number.pairs.items w.put_down.new.pairs.items) zero w.in_ok-put_down.ensures.turned)
             rows columns diagonals is (c.loop-number.invariant.turned rows columns diagonals is))
         | then-next_above-first-eq0+else-column-eq1+in_ok-fill_first w ↦
-            rw w.pairs-is (go w.chosen-next_term.result.degree w.chosen-next_term.result.place w.less-next_room.result w.chosen-next_term.ensures.degree w.chosen-next_term.ensures.place w.less-next_room.ensures
+            rw w.pairs-is (go w.counted-next_term.result.degree w.counted-next_term.result.place w.less-next_room.result w.counted-next_term.ensures.degree w.counted-next_term.ensures.place w.less-next_room.ensures
             past c.args.pairs.now.items c.loop-number.pairs.items w.fill_first.new.pairs.items least.above least.least w.in_ok-fill_first.ensures.turned
             rows columns diagonals is (c.loop-number.invariant.turned rows columns diagonals is))
         | else-next_above-first-eq0 w ↦

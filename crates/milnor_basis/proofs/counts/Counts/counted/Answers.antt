@@ -2,7 +2,7 @@ use Rattle.std.proofs.Common.{◌≡◌, ℕ, ◌+◌, ◌-◌, ◌*◌, ◌^◌
 use Rattle.std.proofs.lemmas.Nat.{one_shl}
 use Rattle.milnor_basis.specs.Basis.{lists_of}
 use Rattle.milnor_basis.proofs.PlacesLeft.{fewer_lists}
-use Rattle.milnor_basis.proofs.counts.Counts.chosen.Goals as goal
+use Rattle.milnor_basis.proofs.counts.Counts.counted.Goals as goal
 
 pub overflow_sub-passed : goal.overflow_sub-passed
 overflow_sub-passed c =
