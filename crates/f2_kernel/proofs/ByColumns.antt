@@ -78,9 +78,6 @@ added : (b : Bool) (u v w : List Bool) → cond b (sum_of (sum_of u v) w) (sum_o
 added true u v w = sum_of-assoc u v w
 added false u v w = refl
 
-length_column : (p : ℕ) (rows : List (List Bool)) → length (column p rows) ≡ length rows
-length_column p rows = length-map rows (λ v. bit v p)
-
 pub one_added : (n j : ℕ) (rows vectors old cur new : List (List Bool)) → HaveWidth n vectors → length vectors ≡ length rows → j < length rows → AreAddedTo n j rows vectors old cur → length new ≡ length cur
     → ((p : ℕ) → p < length cur → row new p ≡ cond (bit (row rows j) p) (sum_of (row cur p) (row vectors j)) (row cur p)) → AreAddedTo n (j + 1) rows vectors old new
 one_added n j rows vectors old cur new wide many l h same each =
@@ -94,7 +91,7 @@ one_added n j rows vectors old cur new wide many l h same each =
       each = λ p m.
           let b = bit (row rows j) p in
           let c = combination n (take j (column p rows)) (take j vectors) in
-          let more = combination_more n j (column p rows) vectors wide (omega (arith, length_column p rows, l)) there in
+          let more = combination_more n j (column p rows) vectors wide (omega (arith, length-map rows (λ v. bit v p), l)) there in
           each p (omega (arith, m, h.as_many))
           ∙ ap (λ (y : List Bool). cond b (sum_of y x) y) (h.each p m)
           ∙ added b (row old p) c x
@@ -107,7 +104,7 @@ all_added n to rows vectors old new many end h = record {
   widths = h.widths;
   each = λ p l.
       h.each p l
-      ∙ ap (λ c. sum_of (row old p) (combination n c (take to vectors))) (take_all to (column p rows) (omega (arith, end, length_column p rows)))
+      ∙ ap (λ c. sum_of (row old p) (combination n c (take to vectors))) (take_all to (column p rows) (omega (arith, end, length-map rows (λ v. bit v p))))
       ∙ ap (λ r. sum_of (row old p) (combination n (column p rows) r)) (take_all to vectors (omega (arith, end, many)));
 }
 
@@ -125,13 +122,13 @@ column_again : (n i : ℕ) (rows : List (List Bool)) → HaveWidth n rows → i 
 column_again n i rows wide l =
     let f : ℕ → List Bool = λ k. column k rows in
     let long : length (columns n rows) ≡ n = length-map-range_with_len f 0 n in
-    ext_get_or false (column i (columns n rows)) (row rows i) (length_column i (columns n rows) ∙ long ∙ sym (wide i l))
+    ext_get_or false (column i (columns n rows)) (row rows i) (length-map (columns n rows) (λ v. bit v i) ∙ long ∙ sym (wide i l))
     (λ k m.
-    let inside : k < n = omega (arith, m, long, length_column i (columns n rows)) in
+    let inside : k < n = omega (arith, m, long, length-map (columns n rows) (λ v. bit v i)) in
     row-column i (columns n rows) k (omega (arith, inside, long)) ∙ ap (λ (v : List Bool). bit v i) (get_or-map-range_with_len f 0 n k k [] inside (omega arith)) ∙ row-column k rows i l)
 
 pub widths_of_columns : (n : ℕ) (rows : List (List Bool)) → HaveWidth (length rows) (columns n rows)
-widths_of_columns n rows = HaveWidth-map (length rows) (λ k. column k rows) (range_with_len 0 n) (λ k. length_column k rows)
+widths_of_columns n rows = HaveWidth-map (length rows) (λ k. column k rows) (range_with_len 0 n) (λ k. length-map rows (λ v. bit v k))
 
 -- what the product of vector i has at place p
 read_by_columns : (n p i : ℕ) (rows vectors : List (List Bool)) → HaveWidth n rows → HaveWidth (length rows) vectors → i < length vectors
@@ -152,7 +149,7 @@ module _ (n : ℕ) (rows vectors products sums : List (List Bool)) (wide : HaveW
   at p l = get_or-map-range_with_len (λ k. column k products) 0 n p p [] l (omega arith)
 
   length_at : (p : ℕ) → length (column p products) ≡ length vectors
-  length_at p = length_column p products ∙ many
+  length_at p = length-map products (λ v. bit v p) ∙ many
 
   length_product : (p : ℕ) → length (product p) ≡ length vectors
   length_product p = length-combination (length vectors) (column p rows) (columns (length rows) vectors) (widths_of_columns (length rows) vectors)

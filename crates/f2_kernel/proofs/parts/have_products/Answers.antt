@@ -13,9 +13,6 @@ use Rattle.f2_kernel.proofs.parts.have_products.Goals as goal
 abbrev now : List (Bor (List Bool)) → List (List Bool)
 now rows = map (λ v. v.now) rows
 
-length-now : (rows : List (Bor (List Bool))) → length (now rows) ≡ length rows
-length-now rows = length-map rows (λ v. v.now)
-
 zeros_wide : (n k : ℕ) → HaveWidth n (replicate k (zeros n))
 zeros_wide n k i l = ap length (get_or-replicate k i (zeros n) _ (omega (arith, l, length-replicate k (zeros n)))) ∙ length-zeros n
 
@@ -82,7 +79,7 @@ returns c =
     let made : now c.as_slice-2.result.now ≡ image ++ replicate k c.in_ok-zero.zero = ap now c.as_slice-2.ensures.value ∙ c.in_ok-append_copies.ensures ∙ ap (λ z. z ++ replicate k c.in_ok-zero.zero) (c.in_ok-append-3.ensures ∙ ap (λ (z : List (Bor (List Bool))). now z ++ image) c.new-products.ensures.items) in
     let zero : c.in_ok-zero.zero ≡ zeros n = c.in_ok-zero.ensures ∙ ap zeros c.cols.ensures in
     let products : now c.as_slice-2.result.now ≡ image ++ replicate k (zeros n) = made ∙ ap (λ (z : List Bool). image ++ replicate k z) zero in
-    let many : length c.as_slice.result.now ≡ length (chosen ++ kernel) = sym (length-now c.as_slice.result.now) ∙ ap length vectors in
+    let many : length c.as_slice.result.now ≡ length (chosen ++ kernel) = sym (length-map c.as_slice.result.now (λ v. v.now)) ∙ ap length vectors in
     IfOk-weaker c.are_products.result _ _
     (λ is e.
     let a = subst (λ (z : List (List Bool)). IsTrue is ↔ ((i : ℕ) → i < length c.as_slice.result.now → combination n (row z i) rows ≡ row (now c.as_slice-2.result.now) i)) vectors e in

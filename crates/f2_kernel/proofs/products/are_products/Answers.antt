@@ -13,9 +13,6 @@ use Rattle.f2_kernel.proofs.products.are_products.Goals as goal
 abbrev now : List (Bor (List Bool)) → List (List Bool)
 now rows = map (λ v. v.now) rows
 
-length-now : (rows : List (Bor (List Bool))) → length (now rows) ≡ length rows
-length-now rows = length-map rows (λ v. v.now)
-
 -- columns as they are made
 length-made : (n : ℕ) (rows made : List (List Bool)) → made ≡ columns n rows → length made ≡ n
 length-made n rows made e = ap length e ∙ length-map-range_with_len (λ k. column k rows) 0 n
@@ -42,14 +39,14 @@ add_products-requires-clause-rows c =
 
 pub add_products-requires-clause-vectors : goal.add_products-requires-clause-vectors
 add_products-requires-clause-vectors c =
-    widths_made (length c.rows-rows.result.now) (length c.args.vectors.now) (now c.args.vectors.now) c.as_slice.result.now (c.as_slice.ensures.value ∙ c.in_ok-parts.ensures) (length-now c.args.vectors.now)
+    widths_made (length c.rows-rows.result.now) (length c.args.vectors.now) (now c.args.vectors.now) c.as_slice.result.now (c.as_slice.ensures.value ∙ c.in_ok-parts.ensures) (length-map c.args.vectors.now (λ v. v.now))
 
 pub add_products-requires-clause-as_many : goal.add_products-requires-clause-as_many
 add_products-requires-clause-as_many c = length-made (length c.rows-rows.result.now) (now c.args.vectors.now) c.as_slice.result.now (c.as_slice.ensures.value ∙ c.in_ok-parts.ensures)
 
 pub add_products-requires-clause-sums : goal.add_products-requires-clause-sums
 add_products-requires-clause-sums c =
-    widths_made c.cols.result (length c.args.vectors.now) (now c.args.products.now) c.as_mut_slice.result.now (c.as_mut_slice.ensures.value ∙ c.in_ok-rests.ensures) (length-now c.args.products.now ∙ c.requires.as_many)
+    widths_made c.cols.result (length c.args.vectors.now) (now c.args.products.now) c.as_mut_slice.result.now (c.as_mut_slice.ensures.value ∙ c.in_ok-rests.ensures) (length-map c.args.products.now (λ v. v.now) ∙ c.requires.as_many)
 
 pub returns : goal.returns
 returns c =
@@ -57,10 +54,10 @@ returns c =
     let rows = c.args.matrix.now.rows in
     let vectors = now c.args.vectors.now in
     let products = now c.args.products.now in
-    let many : length products ≡ length vectors = length-now c.args.products.now ∙ c.requires.as_many ∙ sym (length-now c.args.vectors.now) in
+    let many : length products ≡ length vectors = length-map c.args.products.now (λ v. v.now) ∙ c.requires.as_many ∙ sym (length-map c.args.vectors.now (λ v. v.now)) in
     let parts : c.as_slice.result.now ≡ columns (length rows) vectors = c.as_slice.ensures.value ∙ c.in_ok-parts.ensures ∙ ap (λ (z : List (List Bool)). columns (length z) vectors) c.rows-rows.ensures.rows in
     let old : c.as_mut_slice.result.now ≡ columns n products = c.as_mut_slice.ensures.value ∙ c.in_ok-rests.ensures ∙ ap (λ k. columns k products) c.cols.ensures in
     let last : c.as_slice-2.result.now ≡ c.add_products.new.sums = c.as_slice-2.ensures.value ∙ take_at c.add_products.new.sums _ _ (c.add_products.ensures.as_many ∙ c.as_mut_slice.ensures.len) in
-    subst (λ k. IsTrue c.are_zero.result ↔ ((i : ℕ) → i < k → combination n (row vectors i) rows ≡ row products i)) (length-now c.args.vectors.now)
+    subst (λ k. IsTrue c.are_zero.result ↔ ((i : ℕ) → i < k → combination n (row vectors i) rows ≡ row products i)) (length-map c.args.vectors.now (λ v. v.now))
     (tested n (length c.args.vectors.now) rows c.rows-rows.result.now vectors products c.as_slice.result.now c.as_mut_slice.result.now c.add_products.new.sums c.as_slice-2.result.now c.are_zero.result c.rows-rows.ensures.widths c.requires.vectors c.requires.products many
-    (sym (length-now c.args.vectors.now)) c.rows-rows.ensures.rows parts old c.add_products.ensures last c.are_zero.ensures)
+    (sym (length-map c.args.vectors.now (λ v. v.now))) c.rows-rows.ensures.rows parts old c.add_products.ensures last c.are_zero.ensures)
