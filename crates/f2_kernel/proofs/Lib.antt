@@ -9,6 +9,7 @@ mod Tables
 mod Within
 mod CommonOnes
 pub mod Basis
-mod ByColumns
+mod Split
+mod Numbers
 mod Marks
 pub mod Tested

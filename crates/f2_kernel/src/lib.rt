@@ -10,7 +10,6 @@ mod form;
 mod kernel;
 mod laws;
 mod parts;
-mod products;
 
 pub use choice::{choose, choose_by_coordinates};
 pub use echelon::is_row_basis;

@@ -1,20 +1,22 @@
 //! Whether rows are the parts of a matrix's reduction.
-ghost use Rattle.std.specs.Prelude.{◌≡◌, ◌↔◌, ℕ, ◌<◌, ◌++◌, true, false, map, length, replicate, IsTrue, IfOk, OnOk};
-ghost use Rattle.f2_vec.specs.Vectors.{bit, zeros, IsFirstOne};
+ghost use Rattle.std.specs.Prelude.{◌≡◌, ◌↔◌, ℕ, ◌<◌, ◌≤◌, Bool, false, true, List, length, slice_index_or, IsTrue, IfOk};
+ghost use Rattle.f2_vec.specs.Vectors.{bit, sum_of, IsFirstOne};
 ghost use Rattle.f2_vec.specs.Spans.{row, HaveWidth, combination};
 ghost use Rattle.f2_matrix.specs.Echelon.{IsReduced, HasNoZeroRow};
 ghost use Rattle.f2_matrix.specs.Parts.{AreReductionParts};
+ghost use Rattle.f2_matrix.specs.Preimages.{at_pivots};
+ghost use Rattle.f2_kernel.specs.Inside.Split.{AreSplit, AreNumbersOf};
 
 use crate::echelon::{have_common_one, is_row_basis, marks_of};
-use crate::products::are_products;
-use f2_matrix::Matrix;
+use crate::form::pivot;
+use f2_matrix::{Matrix, parts_are_reduction};
 use f2_vec::BitVec;
 use memory::Memory;
 use std::alloc::Global;
 
 /// Whether these are the image rows, the chosen preimages and the kernel rows of the matrix's reduction, where the kernel rows are
-/// in reduced echelon form without a zero row. Nothing is eliminated: the products of chosen and kernel rows with the matrix are
-/// made, and compared with the image rows and with zero.
+/// in reduced echelon form without a zero row. Nothing is eliminated: each row of the matrix is cleared by the image rows, and the
+/// chosen rows beside these are added.
 ///
 /// # Errors
 /// `Memory` if allocation fails.
@@ -46,7 +48,9 @@ pub fn are_parts(
     if !clear {
         return Ok(false);
     }
-    have_products(alloc, matrix, image, chosen, kernel)
+    // What the parts are to the matrix is learnt here by proofs: nothing runs for it.
+    parts_are_reduction();
+    are_split(alloc, matrix, image, chosen, kernel)
 }
 
 /// Whether each vector, of length `n`, has a 0 at the pivot of each row.
@@ -75,11 +79,12 @@ fn are_zero_at(vectors: &[BitVec], marks: &BitVec) -> bool
     true
 }
 
-/// Whether the products of the chosen rows with the matrix are the image rows, and those of the kernel rows are zero.
+/// Whether each row of the matrix is the sum of the image rows at whose pivots it has a 1, and the chosen rows beside these give its
+/// unit vector, cleared at the pivots of the kernel rows.
 ///
 /// # Errors
 /// `Memory` if allocation fails.
-fn have_products(
+fn are_split(
     alloc: Global,
     matrix: &Matrix,
     image: &[BitVec],
@@ -87,45 +92,84 @@ fn have_products(
     kernel: &[BitVec],
 ) -> Result<bool, Memory>
     requires image { HaveWidth matrix.now.cols image.now }
+    requires image_reduced { IsReduced image.now }
+    requires image_nonzero { HasNoZeroRow image.now }
     requires as_many { length chosen.now ≡ length image.now }
     requires chosen { HaveWidth (length matrix.now.rows) chosen.now }
     requires kernel { HaveWidth (length matrix.now.rows) kernel.now }
-    ensures { IfOk result (λ have. IsTrue have ↔ (((i : ℕ) → i < length image.now →
-        combination matrix.now.cols (row chosen.now i) matrix.now.rows ≡ row image.now i)
-        × ((i : ℕ) → i < length kernel.now →
-        combination matrix.now.cols (row kernel.now i) matrix.now.rows ≡ zeros matrix.now.cols))) }
+    requires reduced { IsReduced kernel.now }
+    requires nonzero { HasNoZeroRow kernel.now }
+    ensures { IfOk result
+        (λ are. IsTrue are ↔ AreSplit matrix.now.cols matrix.now.rows image.now chosen.now kernel.now) }
 {
-    let zero = BitVec::zero(alloc, matrix.cols())?;
-    let mut vectors = Vec::new(alloc);
-    append(&mut vectors, chosen)?;
-    append(&mut vectors, kernel)?;
-    let mut products = Vec::new(alloc);
-    append(&mut products, image)?;
-    append_copies(&mut products, kernel.len(), &zero)?;
-    are_products(alloc, matrix, vectors.as_slice(), products.as_slice())
+    let rows = matrix.rows();
+    let numbers = numbers_of(alloc, matrix.cols(), image)?;
+    let kernel_numbers = numbers_of(alloc, rows.len(), kernel)?;
+    let at_image = numbers.as_slice();
+    let at_kernel = kernel_numbers.as_slice();
+    // Both are zero again after each row that is split.
+    let mut rest = BitVec::zero(alloc, matrix.cols())?;
+    let mut beside = BitVec::zero(alloc, rows.len())?;
+    for j in 0..rows.len() {
+        let row = &rows[j];
+        rest.xor_with(row);
+        add_at_ones(row, at_image, image, &mut rest);
+        add_at_ones(row, at_image, chosen, &mut beside);
+        add_at(j, at_kernel, kernel, &mut beside);
+        beside.flip(j);
+        if !rest.is_zero() || !beside.is_zero() {
+            return Ok(false);
+        }
+    }
+    Ok(true)
 }
 
-/// Puts rows behind the others.
-fn append<'a>(rows: &mut Vec<&'a BitVec>, more: &'a [BitVec]) -> Result<(), Memory>
-    ensures { OnOk result (map (λ v. v.now) rows.new.items ≡ map (λ v. v.now) rows.old.items ++ more.now) }
+/// The number of each row, of length `n`, at its pivot, and at each other place how many rows there are.
+///
+/// # Errors
+/// `Memory` if allocation fails.
+fn numbers_of(alloc: Global, n: usize, rows: &[BitVec]) -> Result<Vec<usize>, Memory>
+    requires widths { HaveWidth n rows.now }
+    requires reduced { IsReduced rows.now }
+    requires nonzero { HasNoZeroRow rows.now }
+    ensures { IfOk result (λ numbers. AreNumbersOf n rows.now numbers.items) }
 {
-    for row in more {
-        rows.push(row)?;
+    let mut numbers = vec![in alloc; rows.len(); n]?;
+    for i in 0..rows.len() {
+        numbers[pivot(&rows[i])] = i;
     }
-    Ok(())
+    Ok(numbers)
 }
 
-/// Puts one row `count` times behind the others.
-fn append_copies<'a>(
-    rows: &mut Vec<&'a BitVec>,
-    count: usize,
-    row: &'a BitVec,
-) -> Result<(), Memory>
-    ensures { OnOk result (map (λ v. v.now) rows.new.items
-        ≡ map (λ v. v.now) rows.old.items ++ replicate count row.now) }
+/// Adds to the sum the rows whose numbers stand where the vector has a 1.
+fn add_at_ones(vector: &BitVec, numbers: &[usize], rows: &[BitVec], sum: &mut BitVec)
+    requires numbers { length numbers.now ≡ length vector.now }
+    requires rows { HaveWidth (length sum.old) rows.now }
+    ensures length { length sum.new ≡ length sum.old }
+    ensures sum { (image : List (List Bool)) → AreNumbersOf (length vector.now) image numbers.now →
+        length rows.now ≡ length image →
+        sum.new ≡ sum_of sum.old (combination (length sum.old) (at_pivots image vector.now) rows.now) }
 {
-    for _ in 0..count {
-        rows.push(row)?;
+    let mut from = 0;
+    while let Some(place) = vector.next_one(from) {
+        add_at(place, numbers, rows, sum);
+        // A length fits `usize`, so what follows a place of the vector does.
+        prove!(place < vector.len());
+        from = place + 1;
     }
-    Ok(())
+}
+
+/// Adds the row whose number stands at this place to the sum, if there is a row of that number.
+fn add_at(place: usize, numbers: &[usize], rows: &[BitVec], sum: &mut BitVec)
+    requires place { place < length numbers.now }
+    requires rows { HaveWidth (length sum.old) rows.now }
+    ensures length { length sum.new ≡ length sum.old }
+    ensures added { slice_index_or numbers.now place 0 < length rows.now →
+        sum.new ≡ sum_of sum.old (row rows.now (slice_index_or numbers.now place 0)) }
+    ensures none { length rows.now ≤ slice_index_or numbers.now place 0 → sum.new ≡ sum.old }
+{
+    let number = numbers[place];
+    if number < rows.len() {
+        sum.xor_with(&rows[number]);
+    }
 }
