@@ -23,14 +23,14 @@ IsPutTogether p matrix kernel r = ArePackedParts p matrix r.image r.chosen r.ker
 abbrev AreTested : Rows → (image chosen kernel : List (List Bool)) → Reduction → Type 0
 AreTested matrix image chosen kernel r = AreReductionParts matrix.cols matrix.rows image chosen kernel × (r.image ≡ image) × (r.chosen ≡ chosen) × (r.kernel ≡ kernel) × IsReductionOf matrix.cols matrix.rows r
 
-pub put_together : (p : PackedPair) (matrix : Rows) (image chosen shared kernel : List (List Bool)) → AreUnpacked p.image image → AreUnpacked p.chosen chosen → shared ≡ image → (found : Option Reduction) → MatchOption found (AreReductionParts matrix.cols matrix.rows shared chosen kernel → ⊥) (AreTested matrix shared chosen kernel)
+pub put_together : (p : PackedPair) (matrix : Rows) (image chosen kernel : List (List Bool)) → AreUnpacked p.image image → AreUnpacked p.chosen chosen → (found : Option Reduction) → MatchOption found (AreReductionParts matrix.cols matrix.rows image chosen kernel → ⊥) (AreTested matrix image chosen kernel)
     → MatchOption found ((i c : List (List Bool)) → ArePackedParts p matrix i c kernel → ⊥) (IsPutTogether p matrix kernel)
-put_together p matrix image chosen shared kernel is_image is_chosen e None none = not_parts p matrix image chosen kernel is_image is_chosen (subst (λ x. AreReductionParts matrix.cols matrix.rows x chosen kernel → ⊥) e none)
-put_together p matrix image chosen shared kernel is_image is_chosen e (Some r) h =
-    let packed : ArePackedParts p matrix image chosen kernel = record { image_rows = is_image; chosen_rows = is_chosen; parts = subst (λ x. AreReductionParts matrix.cols matrix.rows x chosen kernel) e h.0 } in
+put_together p matrix image chosen kernel is_image is_chosen None none = not_parts p matrix image chosen kernel is_image is_chosen none
+put_together p matrix image chosen kernel is_image is_chosen (Some r) h =
+    let packed : ArePackedParts p matrix image chosen kernel = record { image_rows = is_image; chosen_rows = is_chosen; parts = h.0 } in
     let kernels = subst (ArePackedParts p matrix image chosen) (sym h.3) packed in
     let all = subst (λ x. ArePackedParts p matrix image x r.kernel) (sym h.2) kernels in
-    (subst (λ x. ArePackedParts p matrix x r.chosen r.kernel) (sym (h.1 ∙ e)) all, h.3, h.4)
+    (subst (λ x. ArePackedParts p matrix x r.chosen r.kernel) (sym h.1) all, h.3, h.4)
 
 -- the image rows of a reduction are no more than the matrix has rows
 pub too_many : (p : PackedPair) (matrix : Rows) (kernel : List (List Bool)) → p.chosen.cols ≡ length matrix.rows → p.chosen.cols < p.image.height → (i c : List (List Bool)) → ArePackedParts p matrix i c kernel → ⊥

@@ -1,11 +1,11 @@
 -- A table of squares that were all read, and the bodies that they were read from.
-use Rattle.std.proofs.Common.{◌≡◌, inl, inr, ℕ, zero, suc, ◌+◌, ◌<◌, ◌≤◌, ℤ, pos, ◌+ℤ◌, List, [], ◌∷◌, ◌++◌, length, drop, get_or, Option, None, Some, refl, sym, ◌∙◌, ap, subst, arith}
+use Rattle.std.proofs.Common.{◌≡◌, inl, inr, ℕ, zero, suc, ◌+◌, ◌<◌, ◌≤◌, ℤ, pos, ◌+ℤ◌, List, [], ◌∷◌, ◌++◌, length, drop, map, set, get_or, Option, None, Some, refl, sym, ◌∙◌, ap, subst, arith}
 use Rattle.std.specs.Prelude.{Result, Err, Vec}
 use Rattle.std.specs.List.{AllByRecursion, slice_get}
 use Rattle.std.specs.Option.{option_map, is_some}
 use Rattle.std.proofs.lemmas.Bool.{cases_lt, false≢true}
 use Rattle.std.proofs.lemmas.Option.{same_Some, slice_get_past}
-use Rattle.std.proofs.lemmas.List.{length-map, drop_all, map-append}
+use Rattle.std.proofs.lemmas.List.{length-map, drop_all, drop-map, drop-set-lt, map-append}
 use Rattle.finite_module.specs.Checked.{Checked}
 use Rattle.std.proofs.lemmas.List.Elements.{All-from_recursion}
 use Rattle.resolution_laws.specs.Resolution.{Module, Content}
@@ -122,13 +122,20 @@ body_there (x ∷ bodies) (suc i) v l e = body_there bodies i v (omega arith) e
 
 -- ---- one body after the other
 
--- a body was read
-pub goes_on : (m : Checked) (resolved : Checked) (all : Result (List Kept) ℕ) (before after : List Kept) (i : ℕ) (bodies : List (Vec ℕ Global)) (v : Vec ℕ Global) (body : List ℕ) → resolved ≡ m → i < length bodies → v ≡ get_or bodies i v → body ≡ v.items
-    → after_body (over resolved) before body ≡ Some after → kept_from (over m) before i (drop i (contents bodies)) ≡ all → kept_from (over m) after (i + 1) (drop (i + 1) (contents bodies)) ≡ all
-goes_on m resolved all before after i bodies v body same l at is read h =
+-- what is behind a body stays where the body is let go
+behind_it : (bodies : List (Vec ℕ Global)) (i : ℕ) (w : Vec ℕ Global) → drop (i + 1) (contents (set bodies i w)) ≡ drop (i + 1) (contents bodies)
+behind_it bodies i w =
+    let items = λ (v : Vec ℕ Global). v.items in
+    drop-map items (i + 1) (set bodies i w) ∙ ap (map items) (drop-set-lt (i + 1) bodies i w (omega arith)) ∙ sym (drop-map items (i + 1) bodies)
+
+-- a body was read, and another stands in its place
+pub goes_on : (m : Checked) (resolved : Checked) (all : Result (List Kept) ℕ) (before after : List Kept) (i : ℕ) (bodies : List (Vec ℕ Global)) (v w : Vec ℕ Global) (body : List ℕ) → resolved ≡ m → i < length bodies → v ≡ get_or bodies i v → body ≡ v.items
+    → after_body (over resolved) before body ≡ Some after → kept_from (over m) before i (drop i (contents bodies)) ≡ all → kept_from (over m) after (i + 1) (drop (i + 1) (contents (set bodies i w))) ≡ all
+goes_on m resolved all before after i bodies v w body same l at is read h =
     let here : after_body (over m) before v.items ≡ Some after = ap (after_body (over m) before) (sym is) ∙ ap (λ (x : Checked). after_body (over x) before body) (sym same) ∙ read in
     let next : suc i ≡ i + 1 = omega arith in
-    subst (λ n. kept_from (over m) after n (drop n (contents bodies)) ≡ all) next
+    ap (kept_from (over m) after (i + 1)) (behind_it bodies i w)
+    ∙ subst (λ n. kept_from (over m) after n (drop n (contents bodies)) ≡ all) next
     (one_read (over m) all before i v.items (drop (suc i) (contents bodies)) after (sym (ap (kept_from (over m) before i) (body_there bodies i v l at)) ∙ h) here)
 
 -- a body was none

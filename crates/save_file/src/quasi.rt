@@ -7,8 +7,9 @@ ghost use Rattle.f2_matrix.specs.Reduction.{IsReductionOf};
 ghost use Rattle.square.specs.Tables.{square_at, IsQuasiAt};
 
 use crate::reading::square_below;
+use crate::rows::have_width;
 use f2_dual::columns_at;
-use f2_kernel::{are_parts, is_row_basis};
+use f2_kernel::are_parts;
 use f2_matrix::{Matrix, Reduced, Rows, parts_are_reduction};
 use f2_vec::BitVec;
 use memory::Memory;
@@ -48,7 +49,8 @@ fn quasi_over_below(alloc: Global, table: &Table, s: u16, t: i32) -> Result<Opti
     let matrix = table.matrix(alloc, s, t)?;
     let chosen = preimages(alloc, matrix.rows(), below.kernel(), square.kernel())?;
     let image = below.kernel_rows(alloc)?;
-    reduction_with(alloc, &matrix, image, chosen, square.kernel())
+    let kernel = square.kernel_rows(alloc)?;
+    reduction_with(alloc, &matrix, image, chosen, kernel)
 }
 
 /// The chosen preimages of the image rows under the matrix of these rows, if these are its image rows and its kernel rows. Then the
@@ -155,37 +157,22 @@ fn reduction_with(
     matrix: &Matrix,
     image: Rows,
     chosen: Vec<BitVec>,
-    kernel: &[BitVec],
+    kernel: Rows,
 ) -> Result<Option<Reduced>, Memory>
+    requires widths { HaveWidth (length matrix.now.rows) kernel }
+    requires reduced { IsReduced kernel }
+    requires nonzero { HasNoZeroRow kernel }
     ensures { IfOk result (λ found. IfSome found (λ r. IsReductionOf matrix.now.cols matrix.now.rows r)) }
 {
     let height = matrix.rows().len();
-    let wide = have_width(matrix.cols(), image.as_slice())
-        && have_width(height, chosen.as_slice())
-        && have_width(height, kernel);
+    let wide = have_width(matrix.cols(), image.as_slice()) && have_width(height, chosen.as_slice());
     if !wide {
-        return Ok(None);
-    }
-    let is_basis = is_row_basis(alloc, height, kernel)?;
-    if !is_basis {
         return Ok(None);
     }
     with_parts(alloc, matrix, image, chosen, kernel)
 }
 
-/// Whether each of the rows is of length `n`.
-fn have_width(n: usize, rows: &[BitVec]) -> bool
-    ensures { IsTrue result → HaveWidth n rows.now }
-{
-    for i in 0..rows.len() {
-        if rows[i].len() != n {
-            return false;
-        }
-    }
-    true
-}
-
-/// The reduction of the matrix with these parts, none where they are not its parts. The kernel rows are copied.
+/// The reduction of the matrix with these parts, none where they are not its parts.
 ///
 /// # Errors
 /// `Memory` if allocation fails.
@@ -194,25 +181,30 @@ pub(crate) fn with_parts(
     matrix: &Matrix,
     image: Rows,
     chosen: Vec<BitVec>,
-    kernel: &[BitVec],
+    kernel: Rows,
 ) -> Result<Option<Reduced>, Memory>
     requires image { HaveWidth matrix.now.cols image }
     requires chosen { HaveWidth (length matrix.now.rows) chosen.items }
-    requires widths { HaveWidth (length matrix.now.rows) kernel.now }
-    requires reduced { IsReduced kernel.now }
-    requires nonzero { HasNoZeroRow kernel.now }
+    requires widths { HaveWidth (length matrix.now.rows) kernel }
+    requires reduced { IsReduced kernel }
+    requires nonzero { HasNoZeroRow kernel }
     ensures { IfOk result (λ found. MatchOption found
-        (AreReductionParts matrix.now.cols matrix.now.rows image chosen.items kernel.now → ⊥)
-        (λ r. AreReductionParts matrix.now.cols matrix.now.rows image chosen.items kernel.now
-        × (r.image ≡ image) × (r.chosen ≡ chosen.items) × (r.kernel ≡ kernel.now)
+        (AreReductionParts matrix.now.cols matrix.now.rows image chosen.items kernel → ⊥)
+        (λ r. AreReductionParts matrix.now.cols matrix.now.rows image chosen.items kernel
+        × (r.image ≡ image) × (r.chosen ≡ chosen.items) × (r.kernel ≡ kernel)
         × IsReductionOf matrix.now.cols matrix.now.rows r)) }
 {
-    let fits = are_parts(alloc, matrix, image.as_slice(), chosen.as_slice(), kernel)?;
+    let fits = are_parts(
+        alloc,
+        matrix,
+        image.as_slice(),
+        chosen.as_slice(),
+        kernel.as_slice(),
+    )?;
     if !fits {
         return Ok(None);
     }
     parts_are_reduction(); // Rows that are the parts are those of the reduction, which proofs learn here.
-    let kernel = Rows::of(alloc, Vec::from_clones(alloc, kernel)?)?;
     let height = matrix.rows().len();
     Ok(Some(Reduced::from_shared_rows(matrix.cols(), height, image, chosen, kernel)))
 }

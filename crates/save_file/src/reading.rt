@@ -9,17 +9,18 @@ ghost use Rattle.square.specs.Tables.{AllRead, IsNext, IsTable};
 ghost use Rattle.f2_matrix.specs.Echelon.{IsReduced, HasNoZeroRow};
 ghost use Rattle.save_file.specs.Reading.{packed_len, square_in, addition_in, after_body};
 ghost use Rattle.save_file.specs.Saved.{IsDecoded, IsDecodedSquare, IsDecodedQuasi, kept_of_table};
-ghost use Rattle.save_file.specs.Inside.Outline.{outline_of, addition_outline_of, pair_of, IsPlaceFor, HasDimensions, IsBareAt, ArePackedParts};
+ghost use Rattle.save_file.specs.Inside.Outline.{outline_of, addition_outline_of, packed_of, pair_of, IsPlaceFor, HasDimensions, IsBareAt, AreUnpacked, ArePackedParts};
 ghost use Rattle.save_file.specs.declared.fault.DecodeFault.TheVariants.{Strange};
 
 use crate::body::Body;
 use crate::fault::DecodeFault;
-use crate::outline::{AdditionParts, PackedPreimages, Parts, addition_parts_of, parts_of};
+use crate::outline::{
+    AdditionParts, PackedPreimages, PackedRows, Parts, addition_parts_of, parts_of,
+};
 use crate::quasi::with_parts;
-use crate::rows::unpack;
+use crate::rows::{are_packed_so, unpack};
 use f2_kernel::is_row_basis;
 use f2_matrix::{Matrix, Reduced, Rows};
-use f2_vec::BitVec;
 use memory::Memory;
 use square::{MAX_S, MAX_T, Square, Table};
 use std::alloc::Global;
@@ -86,10 +87,11 @@ fn read_square(alloc: Global, table: &Table, body: &[u8]) -> Result<Option<Squar
     };
     let matrix = table.next_matrix(alloc, parts.s, t, images.as_slice())?;
     let below = square_below(table, parts.s, parts.above);
-    let Some(quasi) = reduction(alloc, &matrix, &packed, kernel.as_slice(), below)? else {
+    let shared = Rows::of(alloc, kernel)?;
+    let Some(quasi) = reduction(alloc, &matrix, &packed, shared, below)? else {
         return Ok(None);
     };
-    Ok(Some(Square::read(table, parts.s, t, images, kernel, Some(quasi))))
+    Ok(Some(Square::read_reduced(table, parts.s, t, images, quasi)))
 }
 
 /// The quasi-inverse that the bytes are, with the row and the degree of its square, or `None` if they are none of a square that is
@@ -112,7 +114,8 @@ fn read_quasi(
     };
     let matrix = table.matrix(alloc, parts.s, square.t())?;
     let below = square_below(table, parts.s, parts.above);
-    let Some(quasi) = reduction(alloc, &matrix, &parts.quasi, square.kernel(), below)? else {
+    let kernel = square.kernel_rows(alloc)?;
+    let Some(quasi) = reduction(alloc, &matrix, &parts.quasi, kernel, below)? else {
         return Ok(None);
     };
     Ok(Some((parts.s, square.t(), quasi)))
@@ -142,9 +145,8 @@ pub(crate) fn square_below(table: &Table, s: u16, above: u16) -> Option<&Square>
     Some(table.square(below, above)?)
 }
 
-/// The reduction of the matrix with these packed parts and these kernel rows, none where they are not its parts. Image rows that
-/// are the kernel rows of the square below are shared with it. That there are no more of them than the matrix has rows is tested
-/// first, so that a body of rows without a coordinate is refused at once.
+/// The reduction of the matrix with these packed parts and these kernel rows, none where they are not its parts. That there are no
+/// more image rows than the matrix has rows is tested first, so that a body of rows without a coordinate is refused at once.
 ///
 /// # Errors
 /// `Memory` if allocation fails.
@@ -152,7 +154,7 @@ fn reduction(
     alloc: Global,
     matrix: &Matrix,
     packed: &PackedPreimages<'_>,
-    kernel: &[BitVec],
+    kernel: Rows,
     below: Option<&Square>,
 ) -> Result<Option<Reduced>, Memory>
     requires image { length packed.now.image.bytes.now ≡ packed.now.image.height * packed_len packed.now.image.cols }
@@ -160,69 +162,51 @@ fn reduction(
         ≡ packed.now.chosen.height * packed_len packed.now.chosen.cols }
     requires cols { packed.now.image.cols ≡ matrix.now.cols }
     requires height { packed.now.chosen.cols ≡ length matrix.now.rows }
-    requires widths { HaveWidth (length matrix.now.rows) kernel.now }
-    requires reduced { IsReduced kernel.now }
-    requires nonzero { HasNoZeroRow kernel.now }
+    requires widths { HaveWidth (length matrix.now.rows) kernel }
+    requires reduced { IsReduced kernel }
+    requires nonzero { HasNoZeroRow kernel }
     ensures { IfOk result (λ found. MatchOption found
-        ((image chosen : List (List Bool)) →
-        ArePackedParts (pair_of packed.now) matrix.now image chosen kernel.now → ⊥)
-        (λ r. ArePackedParts (pair_of packed.now) matrix.now r.image r.chosen r.kernel × (r.kernel ≡ kernel.now)
+        ((image chosen : List (List Bool)) → ArePackedParts (pair_of packed.now) matrix.now image chosen kernel → ⊥)
+        (λ r. ArePackedParts (pair_of packed.now) matrix.now r.image r.chosen r.kernel × (r.kernel ≡ kernel)
         × IsReductionOf matrix.now.cols matrix.now.rows r)) }
 {
     if packed.image.height > packed.chosen.cols {
         return Ok(None);
     }
-    let Some(image) = unpack(alloc, &packed.image)? else {
+    let Some(image) = image_rows(alloc, &packed.image, below)? else {
         return Ok(None);
     };
     let Some(chosen) = unpack(alloc, &packed.chosen)? else {
         return Ok(None);
     };
-    let image = shared_rows(alloc, image, below)?;
     with_parts(alloc, matrix, image, chosen, kernel)
 }
 
-/// The rows, shared with the kernel of the square below where they are the same.
+/// The image rows, none where a spare bit of one is 1. Where they are the kernel rows of the square below they are shared with it,
+/// and not unpacked.
 ///
 /// # Errors
 /// `Memory` if allocation fails.
-fn shared_rows(alloc: Global, rows: Vec<BitVec>, below: Option<&Square>) -> Result<Rows, Memory>
-    ensures { IfOk result (λ shared. shared ≡ rows.items) }
+fn image_rows(
+    alloc: Global,
+    packed: &PackedRows<'_>,
+    below: Option<&Square>,
+) -> Result<Option<Rows>, Memory>
+    requires { length packed.now.bytes.now ≡ packed.now.height * packed_len packed.now.cols }
+    ensures { IfOk result
+        (λ found. MatchOption found ((rows : List (List Bool)) → AreUnpacked (packed_of packed.now) rows → ⊥)
+        (λ rows. AreUnpacked (packed_of packed.now) rows)) }
 {
-    match below {
-        Some(square) if are_same(square.kernel(), rows.as_slice()) => square.kernel_rows(alloc),
-        _ => Rows::of(alloc, rows),
-    }
-}
-
-/// Whether two lists of rows are the same.
-fn are_same(a: &[BitVec], b: &[BitVec]) -> bool
-    ensures { IsTrue result → a.now ≡ b.now }
-{
-    if a.len() != b.len() {
-        return false;
-    }
-    for i in 0..a.len() {
-        if !is_same(&a[i], &b[i]) {
-            return false;
+    if let Some(square) = below {
+        let fit = are_packed_so(alloc, square.kernel(), packed)?;
+        if fit {
+            return Ok(Some(square.kernel_rows(alloc)?));
         }
     }
-    true
-}
-
-/// Whether two vectors are the same.
-fn is_same(a: &BitVec, b: &BitVec) -> bool
-    ensures { IsTrue result → a.now ≡ b.now }
-{
-    if a.len() != b.len() {
-        return false;
+    match unpack(alloc, packed)? {
+        Some(rows) => Ok(Some(Rows::of(alloc, rows)?)),
+        None => Ok(None),
     }
-    for i in 0..a.len().div_ceil(64) {
-        if a.word(i) != b.word(i) {
-            return false;
-        }
-    }
-    true
 }
 
 /// The degree of the square in row `s`, `above` degrees above the bottom, none where it is past the limits, or not the next of

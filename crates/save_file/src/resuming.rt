@@ -30,6 +30,7 @@ use save_journal::Journal;
 use sha2::{Digest, Sha256};
 use square::{Square, Table};
 use std::alloc::Global;
+use std::mem::replace;
 use std::snapshot::Snapshot;
 use std::sync::Arc;
 
@@ -91,10 +92,10 @@ pub fn resume<D: Disk>(
         Ok(opened) => opened,
         Err((fault, disk)) => return Err((ResumeFault::from(fault), disk)),
     };
-    match read_bodies(alloc, &mut table, bodies.as_slice()) {
+    let count = bodies.len() as u64;
+    match read_bodies(alloc, &mut table, bodies) {
         Ok(()) => {
             let opened = Snapshot::of(&table);
-            let count = bodies.len() as u64;
             let keeper = SaveFile {
                 alloc,
                 journal,
@@ -122,23 +123,29 @@ fn prepared(alloc: Global, module: Module) -> Result<(Table, Vec<u8>), Memory>
     Ok((table, text))
 }
 
-/// Puts the squares of these bodies behind those of the table, in order, and gives squares their quasi-inverses.
+/// Puts the squares of these bodies behind those of the table, in order, and gives squares their quasi-inverses. Each body is let go
+/// once it was read.
 ///
 /// # Errors
 /// `Strange` exactly where one of them is neither, with the number of the first, and `Memory` if allocation fails.
-fn read_bodies(alloc: Global, table: &mut Table, bodies: &[Vec<u8>]) -> Result<(), DecodeFault>
+fn read_bodies(
+    alloc: Global,
+    table: &mut Table,
+    mut bodies: Vec<Vec<u8>>,
+) -> Result<(), DecodeFault>
     requires { AllRead table.old.rows }
-    ensures read { OnOk result (kept_from (over table.old.resolved) (kept_of_table table.old) 0 (contents bodies.now)
+    ensures read { OnOk result (kept_from (over table.old.resolved) (kept_of_table table.old) 0 (contents bodies.items)
         ≡ Ok (kept_of_table table.new)) }
     ensures resolved { table.new.resolved ≡ table.old.resolved }
     ensures all_read { AllRead table.new.rows }
     ensures is_table { OnOk result (IsTable table.new) }
     ensures strange { (n : ℕ) → result ≡ Err (StrangeBody n) →
-        kept_from (over table.old.resolved) (kept_of_table table.old) 0 (contents bodies.now) ≡ Err n }
-    ensures none { contents bodies.now ≡ [] → IsOk result }
+        kept_from (over table.old.resolved) (kept_of_table table.old) 0 (contents bodies.items) ≡ Err n }
+    ensures none { contents bodies.items ≡ [] → IsOk result }
 {
     for i in 0..bodies.len() {
-        match read_body(alloc, table, i as u64, bodies[i].as_slice()) {
+        let body = replace(&mut bodies[i], Vec::new(alloc));
+        match read_body(alloc, table, i as u64, body.as_slice()) {
             Ok(()) => {}
             Err(fault) => return Err(fault),
         }

@@ -1,6 +1,7 @@
 //! The rows of a matrix in a body.
-ghost use Rattle.std.specs.Prelude.{◌≡◌, ◌++◌, ◌*◌, ◌<◌, List, Bool, length, IfOk, OnOk, MatchOption};
+ghost use Rattle.std.specs.Prelude.{◌≡◌, ◌++◌, ◌*◌, ◌<◌, List, Bool, length, IsTrue, IfOk, OnOk, MatchOption};
 ghost use Rattle.std.specs.List.{flat_map};
+ghost use Rattle.f2_vec.specs.Spans.{HaveWidth};
 ghost use Rattle.f2_vec.specs.Bytes.{packed};
 ghost use Rattle.save_file.specs.Reading.{packed_len};
 ghost use Rattle.save_file.specs.Inside.Outline.{packed_of, AreUnpacked};
@@ -22,7 +23,7 @@ pub(crate) fn unpack(alloc: Global, packed: &PackedRows<'_>) -> Result<Option<Ve
 {
     let cols = packed.cols as usize;
     let len = cols.div_ceil(8);
-    let mut rows = Vec::new(alloc);
+    let mut rows = Vec::with_capacity(alloc, packed.height as usize)?;
     let mut rest = packed.bytes;
     for _ in 0..packed.height {
         let (row, after) = rest.split_at(len);
@@ -48,4 +49,35 @@ pub(crate) fn append_rows(rows: &[BitVec], bytes: &mut Vec<u8>) -> Result<(), Me
         row.append_bytes(bytes)?;
     }
     Ok(())
+}
+
+/// Whether these rows, packed, are those.
+///
+/// # Errors
+/// `Memory` if allocation fails.
+pub(crate) fn are_packed_so(
+    alloc: Global,
+    rows: &[BitVec],
+    packed: &PackedRows<'_>,
+) -> Result<bool, Memory>
+    ensures { IfOk result (λ are. IsTrue are → AreUnpacked (packed_of packed.now) rows.now) }
+{
+    if rows.len() as u64 != packed.height || !have_width(packed.cols as usize, rows) {
+        return Ok(false);
+    }
+    let mut bytes = Vec::with_capacity(alloc, packed.bytes.len())?;
+    append_rows(rows, &mut bytes)?;
+    Ok(bytes.as_slice() == packed.bytes)
+}
+
+/// Whether each of the rows is of length `n`.
+pub(crate) fn have_width(n: usize, rows: &[BitVec]) -> bool
+    ensures { IsTrue result → HaveWidth n rows.now }
+{
+    for i in 0..rows.len() {
+        if rows[i].len() != n {
+            return false;
+        }
+    }
+    true
 }

@@ -53,6 +53,10 @@ pub fn encode_quasi(alloc: Global, table: &Table, s: u16, t: i32) -> Result<Vec<
     let Some(square) = table.at(s, t) else {
         unreachable!()
     };
+    if let Some(kept) = square.kept_quasi() {
+        let bytes = addition(alloc, s, square.above(), kept)?;
+        return Ok(bytes);
+    }
     let quasi = table.quasi(alloc, s, t)?;
     let bytes = addition(alloc, s, square.above(), &quasi)?;
     Ok(bytes)
@@ -77,7 +81,7 @@ pub(crate) fn addition(
     })) }
     ensures fits { IfOk result (λ _. (quasi.now.cols < 2 ^ 64) × (quasi.now.height < 2 ^ 64)) }
 {
-    let mut bytes = Vec::with_capacity(alloc, LEAST_QUASI_LEN)?;
+    let mut bytes = Vec::with_capacity(alloc, addition_len(quasi))?;
     bytes.push(QUASI)?;
     bytes.extend_from_slice(&s.to_be_bytes())?;
     bytes.extend_from_slice(&above.to_be_bytes())?;
@@ -133,13 +137,23 @@ fn body_len(square: &Square, target: u64, source: u64) -> usize {
     let images = (square.gens().len() as u64).saturating_mul(target.div_ceil(8));
     let kernel = (square.kernel().len() as u64).saturating_mul(source.div_ceil(8));
     let quasi = match square.kept_quasi() {
-        Some(quasi) => (quasi.image().len() as u64)
-            .saturating_mul(target.div_ceil(8).saturating_add(source.div_ceil(8)))
-            .saturating_add(8),
+        Some(quasi) => preimages_len(quasi).saturating_add(8),
         None => 0,
     };
     images
         .saturating_add(kernel)
         .saturating_add(quasi)
         .saturating_add(LEAST_LEN as u64) as usize
+}
+
+/// How many bytes the body of a quasi-inverse alone takes, as far as that can be counted.
+fn addition_len(quasi: &Reduced) -> usize {
+    preimages_len(quasi).saturating_add(LEAST_QUASI_LEN as u64) as usize
+}
+
+/// How many bytes the image rows and the chosen preimages take, as far as that can be counted.
+fn preimages_len(quasi: &Reduced) -> u64 {
+    let target = (quasi.cols() as u64).div_ceil(8);
+    let source = (quasi.height() as u64).div_ceil(8);
+    (quasi.image().len() as u64).saturating_mul(target.saturating_add(source))
 }

@@ -12,7 +12,7 @@ use Rattle.save_file.specs.Saved.{kept_of_table, IsDecodedQuasi}
 use Rattle.save_file.proofs.Outlines.{addition_long}
 use Rattle.save_file.proofs.DecodingQuasi.{not_whole_addition, no_bare, FitsSquare, fits_square, no_parts_quasi, decoded_quasi, found_there}
 use Rattle.save_file.proofs.Reductions.{IsPutTogether}
-use Rattle.save_file.proofs.reading.read_quasi.Goals.{After-t, After-kernel}
+use Rattle.save_file.proofs.reading.read_quasi.Goals.{After-t, After-kernel_rows}
 use Rattle.save_file.proofs.reading.read_quasi.Goals as goal
 
 pub returns-in_default : goal.returns-in_default
@@ -32,8 +32,9 @@ fitting c matrix is = fits_square c.args.table.now c.bare_square.ensures.is_tabl
 pub matrix-requires : goal.matrix-requires
 matrix-requires c = found_there c.args.table.now c.bare_square.ensures.is_table (addition_outline_of c.in-Some.parts) (to_z w32 (of_z w32 c.t.result)) (arc_value c.in-Some-bare_square.square.now) c.in-Some-bare_square.ensures.square (degree (goal.at.matrix-requires c).After-t)
 
-kernel_is : (c : After-kernel) → c.kernel.result.now ≡ (arc_value c.in-Some-bare_square.square.now).content.kernel
-kernel_is c = c.kernel.ensures ∙ ap (λ (q : Placed). q.content.kernel) c.deref-2.ensures
+-- the kernel rows are those of the square
+kernel_is : (c : After-kernel_rows) → (rows : List (List Bool)) → rows ≡ c.deref-2.result.now.content.kernel → rows ≡ (arc_value c.in-Some-bare_square.square.now).content.kernel
+kernel_is c rows e = e ∙ ap (λ (q : Placed). q.content.kernel) c.deref-2.ensures
 
 pub reduction-requires-clause-image : goal.reduction-requires-clause-image
 reduction-requires-clause-image c = (addition_long c.args.body.now (addition_outline_of c.in-Some.parts) c.in-Some.ensures.0 c.in-Some.ensures.1).image
@@ -48,18 +49,18 @@ pub reduction-requires-clause-height : goal.reduction-requires-clause-height
 reduction-requires-clause-height c = (fitting (goal.at.reduction-requires-clause-height c).After-t c.in_ok-matrix.matrix c.in_ok-matrix.ensures).height
 
 pub reduction-requires-clause-widths : goal.reduction-requires-clause-widths
-reduction-requires-clause-widths c = subst (HaveWidth (length c.in_ok-matrix.matrix.rows)) (sym (kernel_is (goal.at.reduction-requires-clause-widths c).After-kernel)) (fitting (goal.at.reduction-requires-clause-widths c).After-t c.in_ok-matrix.matrix c.in_ok-matrix.ensures).widths
+reduction-requires-clause-widths c = subst (HaveWidth (length c.in_ok-matrix.matrix.rows)) (sym (kernel_is (goal.at.reduction-requires-clause-widths c).After-kernel_rows _ c.in_ok-kernel.ensures)) (fitting (goal.at.reduction-requires-clause-widths c).After-t c.in_ok-matrix.matrix c.in_ok-matrix.ensures).widths
 
 pub reduction-requires-clause-reduced : goal.reduction-requires-clause-reduced
-reduction-requires-clause-reduced c = subst IsReduced (sym (kernel_is (goal.at.reduction-requires-clause-reduced c).After-kernel)) (fitting (goal.at.reduction-requires-clause-reduced c).After-t c.in_ok-matrix.matrix c.in_ok-matrix.ensures).reduced
+reduction-requires-clause-reduced c = subst IsReduced (sym (kernel_is (goal.at.reduction-requires-clause-reduced c).After-kernel_rows _ c.in_ok-kernel.ensures)) (fitting (goal.at.reduction-requires-clause-reduced c).After-t c.in_ok-matrix.matrix c.in_ok-matrix.ensures).reduced
 
 pub reduction-requires-clause-nonzero : goal.reduction-requires-clause-nonzero
-reduction-requires-clause-nonzero c = subst HasNoZeroRow (sym (kernel_is (goal.at.reduction-requires-clause-nonzero c).After-kernel)) (fitting (goal.at.reduction-requires-clause-nonzero c).After-t c.in_ok-matrix.matrix c.in_ok-matrix.ensures).nonzero
+reduction-requires-clause-nonzero c = subst HasNoZeroRow (sym (kernel_is (goal.at.reduction-requires-clause-nonzero c).After-kernel_rows _ c.in_ok-kernel.ensures)) (fitting (goal.at.reduction-requires-clause-nonzero c).After-t c.in_ok-matrix.matrix c.in_ok-matrix.ensures).nonzero
 
 pub returns-in_default-2 : goal.returns-in_default-2
 returns-in_default-2 c =
     let o = addition_outline_of c.in-Some.parts in
-    let none = subst (λ rows. (image chosen : List (List Bool)) → ArePackedParts o.quasi c.in_ok-matrix.matrix image chosen rows → ⊥) (kernel_is (goal.at.returns-in_default-2 c).After-kernel) (MatchOption-at_none _ _ c.in_default-2.is c.in_ok-quasi.ensures) in
+    let none = subst (λ rows. (image chosen : List (List Bool)) → ArePackedParts o.quasi c.in_ok-matrix.matrix image chosen rows → ⊥) (kernel_is (goal.at.returns-in_default-2 c).After-kernel_rows _ c.in_ok-kernel.ensures) (MatchOption-at_none _ _ c.in_default-2.is c.in_ok-quasi.ensures) in
     no_parts_quasi c.args.table.now c.bare_square.ensures.is_table c.requires c.args.body.now o (to_z w32 (of_z w32 c.t.result)) (arc_value c.in-Some-bare_square.square.now) c.in_ok-matrix.matrix c.in-Some.ensures.1 c.in-Some-bare_square.ensures.square (degree (goal.at.returns-in_default-2 c).After-t) c.in_ok-matrix.ensures none
 
 pub returns : goal.returns
@@ -68,10 +69,10 @@ returns c =
     let o = addition_outline_of c.in-Some.parts in
     let q = arc_value c.in-Some-bare_square.square.now in
     let r = c.in-Some-2.quasi in
-    let put : IsPutTogether o.quasi c.in_ok-matrix.matrix c.kernel.result.now r = MatchOption-at_some _ _ r c.in-Some-2.is c.in_ok-quasi.ensures in
+    let put : IsPutTogether o.quasi c.in_ok-matrix.matrix c.in_ok-kernel.kernel r = MatchOption-at_some _ _ r c.in-Some-2.is c.in_ok-quasi.ensures in
     let same = degree (goal.at.returns c).After-t in
     let t : ℤ = to_z w32 (of_z w32 c.t.result) in
     let told : to_z w32 (of_z w32 c.t-2.result) ≡ c.t-2.result = to_z-of_z w32 c.t-2.result (record { sfits = c.t-2.type_inv }) in
     let again : t ≡ to_z w32 (of_z w32 c.t-2.result) = same ∙ sym (told ∙ c.t-2.ensures ∙ ap (λ (x : Placed). bottom_of x.resolved +ℤ pos x.above) c.deref-3.ensures) in
     subst (λ n. IsDecodedQuasi table c.args.body.now c.in-Some.parts.s n r) again
-    (decoded_quasi table c.bare_square.ensures.is_table c.requires c.args.body.now o t q c.in_ok-matrix.matrix r c.in-Some.ensures.1 c.in-Some-bare_square.ensures.square same c.in_ok-matrix.ensures c.in-Some.ensures.0 (λ i. omega (arith, c.type_inv.body i)) put.0 (put.1 ∙ kernel_is (goal.at.returns c).After-kernel) put.2)
+    (decoded_quasi table c.bare_square.ensures.is_table c.requires c.args.body.now o t q c.in_ok-matrix.matrix r c.in-Some.ensures.1 c.in-Some-bare_square.ensures.square same c.in_ok-matrix.ensures c.in-Some.ensures.0 (λ i. omega (arith, c.type_inv.body i)) put.0 (put.1 ∙ kernel_is (goal.at.returns c).After-kernel_rows _ c.in_ok-kernel.ensures) put.2)

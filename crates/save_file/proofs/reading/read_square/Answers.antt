@@ -5,8 +5,9 @@ use Rattle.std.specs.Option.{option_map}
 use Rattle.f2_vec.specs.Spans.{HaveWidth}
 use Rattle.f2_matrix.specs.Echelon.{IsReduced, HasNoZeroRow}
 use Rattle.f2_matrix.specs.Reduction.{Reduction}
+use Rattle.resolution_laws.specs.Resolution.{Content}
 use Rattle.square.specs.Squares.{over}
-use Rattle.square.specs.Tables.{IsMatrixBehind}
+use Rattle.square.specs.Tables.{IsReadable, IsMatrixBehind, IsQuasiBehind}
 use Rattle.save_file.specs.Bodies.{preimages_of}
 use Rattle.save_file.specs.Inside.Outline.{outline_of, pair_of, IsPlaceFor, ArePackedParts}
 use Rattle.save_journal.specs.Laws.{AreBytes}
@@ -57,15 +58,6 @@ returns-then-not-is_basis c =
     let f = found (goal.at.returns-then-not-is_basis c).After-is_row_basis c.in-Some-next_degree.t c.in-Some-next_degree.ensures.place (λ i. omega (arith, c.type_inv.body i)) in
     let P : List (List Bool) → Type 0 = λ rows. IsReduced rows × HasNoZeroRow rows → ⊥ in
     not_basis c.args.table.now c.args.body.now (outline_of c.in-Some.parts) c.in-Some-next_degree.t c.in-Some-2.images.items c.in-Some-3.kernel.items c.in-Some.ensures.1 f (subst P c.as_slice.ensures.value (iff_false c.in_ok-is_basis.ensures c.if-not-is_basis.true))
-
-pub read-requires-clause-content : goal.read-requires-clause-content
-read-requires-clause-content c =
-    let t : ℤ = to_z w32 (of_z w32 c.in-Some-next_degree.t) in
-    let place : IsPlaceFor c.args.table.now c.in-Some.parts.s c.in-Some.parts.above t = search rules in
-    let f = found (goal.at.read-requires-clause-content c).After-is_row_basis t place (λ i. omega (arith, c.type_inv.body i)) in
-    let P : List (List Bool) → Type 0 = λ rows. IsReduced rows × HasNoZeroRow rows in
-    let form = subst P c.as_slice.ensures.value (c.in_ok-is_basis.ensures.0 c.if-not-is_basis.false) in
-    is_readable c.args.table.now c.requires c.args.body.now (outline_of c.in-Some.parts) t c.in-Some-2.images.items c.in-Some-3.kernel.items c.in-Some.ensures.1 f form.0 form.1
 
 pub read-square-requires-clause-content : goal.read-square-requires-clause-content
 read-square-requires-clause-content c =
@@ -143,20 +135,20 @@ reduction-requires-clause-widths c =
     let f = found (goal.at.reduction-requires-clause-widths c).After-is_row_basis t place (λ i. omega (arith, c.type_inv.body i)) in
     let some : o.quasi ≡ Some (pair_of c.in-Some-quasi.packed) = ap (option_map pair_of) c.in-Some-quasi.is in
     let is : IsMatrixBehind c.args.table.now o.s t c.in-Some-2.images.items c.in_ok-matrix.matrix = subst (λ rows. IsMatrixBehind c.args.table.now o.s t rows c.in_ok-matrix.matrix) c.as_slice-2.ensures.value c.in_ok-matrix.ensures in
-    subst (HaveWidth (length c.in_ok-matrix.matrix.rows)) (sym c.as_slice-3.ensures.value)
+    subst (HaveWidth (length c.in_ok-matrix.matrix.rows)) (sym c.in_ok-shared.ensures)
     (fits_next c.args.table.now c.next_degree.ensures.is_table c.requires c.args.body.now o t c.in-Some-2.images.items c.in-Some-3.kernel.items (pair_of c.in-Some-quasi.packed) c.in_ok-matrix.matrix c.in-Some.ensures.1 f some is).widths
 
 pub reduction-requires-clause-reduced : goal.reduction-requires-clause-reduced
 reduction-requires-clause-reduced c =
     let P : List (List Bool) → Type 0 = λ rows. IsReduced rows × HasNoZeroRow rows in
     let form = subst P c.as_slice.ensures.value (c.in_ok-is_basis.ensures.0 c.if-not-is_basis.false) in
-    subst IsReduced (sym c.as_slice-3.ensures.value) form.0
+    subst IsReduced (sym c.in_ok-shared.ensures) form.0
 
 pub reduction-requires-clause-nonzero : goal.reduction-requires-clause-nonzero
 reduction-requires-clause-nonzero c =
     let P : List (List Bool) → Type 0 = λ rows. IsReduced rows × HasNoZeroRow rows in
     let form = subst P c.as_slice.ensures.value (c.in_ok-is_basis.ensures.0 c.if-not-is_basis.false) in
-    subst HasNoZeroRow (sym c.as_slice-3.ensures.value) form.1
+    subst HasNoZeroRow (sym c.in_ok-shared.ensures) form.1
 
 pub returns-in_default-4 : goal.returns-in_default-4
 returns-in_default-4 c =
@@ -169,31 +161,44 @@ returns-in_default-4 c =
     let some : o.quasi ≡ Some p = ap (option_map pair_of) c.in-Some-quasi.is in
     let is : IsMatrixBehind c.args.table.now o.s t c.in-Some-2.images.items matrix = subst (λ rows. IsMatrixBehind c.args.table.now o.s t rows matrix) c.as_slice-2.ensures.value c.in_ok-matrix.ensures in
     let none : (image chosen : List (List Bool)) → ArePackedParts p matrix image chosen c.in-Some-3.kernel.items → ⊥ =
-    subst (λ rows. (image chosen : List (List Bool)) → ArePackedParts p matrix image chosen rows → ⊥) c.as_slice-3.ensures.value (MatchOption-at_none _ _ c.in_default-4.is c.in_ok-quasi.ensures) in
+    subst (λ rows. (image chosen : List (List Bool)) → ArePackedParts p matrix image chosen rows → ⊥) c.in_ok-shared.ensures (MatchOption-at_none _ _ c.in_default-4.is c.in_ok-quasi.ensures) in
     no_parts c.args.table.now c.next_degree.ensures.is_table c.requires c.args.body.now o t c.in-Some-2.images.items c.in-Some-3.kernel.items p matrix c.in-Some.ensures.1 f some is none
 
 -- what was put together is the reduction there
-here : (c : After-reduction) (t : ℤ) (r : Reduction) → IsMatrixBehind c.args.table.now c.in-Some.parts.s t c.as_slice-2.result.now c.in_ok-matrix.matrix → IsPutTogether (pair_of c.in-Some-quasi.packed) c.in_ok-matrix.matrix c.as_slice-3.result.now r
+here : (c : After-reduction) (t : ℤ) (r : Reduction) → IsMatrixBehind c.args.table.now c.in-Some.parts.s t c.as_slice-2.result.now c.in_ok-matrix.matrix → IsPutTogether (pair_of c.in-Some-quasi.packed) c.in_ok-matrix.matrix c.in_ok-shared.shared r
     → IsReductionHere c.args.table.now (outline_of c.in-Some.parts) t c.in-Some-2.images.items c.in-Some-3.kernel.items (pair_of c.in-Some-quasi.packed) r
 here c t r is put = record {
   matrix = c.in_ok-matrix.matrix;
   is_matrix = subst (λ rows. IsMatrixBehind c.args.table.now c.in-Some.parts.s t rows c.in_ok-matrix.matrix) c.as_slice-2.ensures.value is;
   parts = put.0;
-  kernel_is = put.1 ∙ c.as_slice-3.ensures.value;
+  kernel_is = put.1 ∙ c.in_ok-shared.ensures;
   reduction = put.2;
 }
 
-pub read-requires-clause-quasi : goal.read-requires-clause-quasi
-read-requires-clause-quasi c =
+pub read_reduced-requires-clause-content : goal.read_reduced-requires-clause-content
+read_reduced-requires-clause-content c =
+    let r = c.in-Some-4.quasi in
+    let t : ℤ = to_z w32 (of_z w32 c.in-Some-next_degree.t) in
+    let place : IsPlaceFor c.args.table.now c.in-Some.parts.s c.in-Some.parts.above t = search rules in
+    let f = found (goal.at.read_reduced-requires-clause-content c).After-is_row_basis t place (λ i. omega (arith, c.type_inv.body i)) in
+    let P : List (List Bool) → Type 0 = λ rows. IsReduced rows × HasNoZeroRow rows in
+    let form = subst P c.as_slice.ensures.value (c.in_ok-is_basis.ensures.0 c.if-not-is_basis.false) in
+    let is = here (goal.at.read_reduced-requires-clause-content c).After-reduction t r c.in_ok-matrix.ensures (MatchOption-at_some _ _ r c.in-Some-4.is c.in_ok-quasi.ensures) in
+    subst (λ rows. IsReadable c.args.table.now c.in-Some.parts.s t (record { images = c.in-Some-2.images.items; kernel = rows })) (sym is.kernel_is)
+    (is_readable c.args.table.now c.requires c.args.body.now (outline_of c.in-Some.parts) t c.in-Some-2.images.items c.in-Some-3.kernel.items c.in-Some.ensures.1 f form.0 form.1)
+
+pub read_reduced-requires-clause-quasi : goal.read_reduced-requires-clause-quasi
+read_reduced-requires-clause-quasi c =
     let o = outline_of c.in-Some.parts in
     let p = pair_of c.in-Some-quasi.packed in
     let r = c.in-Some-4.quasi in
     let t : ℤ = to_z w32 (of_z w32 c.in-Some-next_degree.t) in
     let place : IsPlaceFor c.args.table.now c.in-Some.parts.s c.in-Some.parts.above t = search rules in
-    let f = found (goal.at.read-requires-clause-quasi c).After-is_row_basis t place (λ i. omega (arith, c.type_inv.body i)) in
+    let f = found (goal.at.read_reduced-requires-clause-quasi c).After-is_row_basis t place (λ i. omega (arith, c.type_inv.body i)) in
     let some : o.quasi ≡ Some p = ap (option_map pair_of) c.in-Some-quasi.is in
-    let is = here (goal.at.read-requires-clause-quasi c).After-reduction t r c.in_ok-matrix.ensures (MatchOption-at_some _ _ r c.in-Some-4.is c.in_ok-quasi.ensures) in
-    is_quasi_behind c.args.table.now c.next_degree.ensures.is_table c.requires c.args.body.now o t c.in-Some-2.images.items c.in-Some-3.kernel.items c.in-Some.ensures.1 f p some r is
+    let is = here (goal.at.read_reduced-requires-clause-quasi c).After-reduction t r c.in_ok-matrix.ensures (MatchOption-at_some _ _ r c.in-Some-4.is c.in_ok-quasi.ensures) in
+    subst (λ rows. IsQuasiBehind c.args.table.now c.in-Some.parts.s t (record { images = c.in-Some-2.images.items; kernel = rows }) r) (sym is.kernel_is)
+    (is_quasi_behind c.args.table.now c.next_degree.ensures.is_table c.requires c.args.body.now o t c.in-Some-2.images.items c.in-Some-3.kernel.items c.in-Some.ensures.1 f p some r is)
 
 pub returns : goal.returns
 returns c =
@@ -213,5 +218,7 @@ returns c =
     let is = here (goal.at.returns c).After-reduction t r c.in_ok-matrix.ensures (MatchOption-at_some _ _ r c.in-Some-4.is c.in_ok-quasi.ensures) in
     let whole = wholly_found table h c.requires c.args.body.now o t images kernel c.in-Some.ensures.1 f p some r is form.0 form.1 in
     let same = reduction_is table h c.requires c.args.body.now o t images kernel c.in-Some.ensures.1 f p some r is in
+    let read = c.read_reduced.ensures in
+    let content = ap (λ (rows : List (List Bool)). let x : Content = record { images = images; kernel = rows } in x) is.kernel_is in
     decoded table h c.requires c.args.body.now o t images kernel (Some (preimages_of r)) c.in-Some.ensures.1 whole
-    c.read.result c.read.ensures.resolved c.read.ensures.start c.read.ensures.s c.read.ensures.t c.read.ensures.content (c.read.ensures.quasi ∙ same)
+    c.read_reduced.result read.resolved_is read.start_is read.s_is read.degree (read.content_is ∙ content) (read.quasi_is ∙ same)

@@ -5,10 +5,10 @@ use Rattle.save_file.proofs.Reductions.{put_together, too_many}
 use Rattle.save_file.proofs.reading.reduction.Goals as goal
 
 pub returns-then-packed : goal.returns-then-packed
-returns-then-packed c = too_many (pair_of c.args.packed.now) c.args.matrix.now c.args.kernel.now c.requires.height c.if-packed.true
+returns-then-packed c = too_many (pair_of c.args.packed.now) c.args.matrix.now c.args.kernel c.requires.height c.if-packed.true
 
 pub returns : goal.returns
 returns c =
     let image = MatchOption-at_some _ _ c.in-Some.image c.in-Some.is c.in_ok-image.ensures in
     let chosen = MatchOption-at_some _ _ c.in-Some-2.chosen c.in-Some-2.is c.in_ok-chosen.ensures in
-    IfOk-weaker c.with_parts.result _ _ (put_together (pair_of c.args.packed.now) c.args.matrix.now c.in-Some.image.items c.in-Some-2.chosen.items _ c.args.kernel.now image chosen c.in_ok-image-2.ensures) c.with_parts.ensures
+    IfOk-weaker c.with_parts.result _ _ (put_together (pair_of c.args.packed.now) c.args.matrix.now c.in-Some.image c.in-Some-2.chosen.items c.args.kernel image chosen) c.with_parts.ensures

@@ -1,4 +1,4 @@
-use Rattle.std.proofs.Common.{◌≡◌, drop}
+use Rattle.std.proofs.Common.{◌≡◌, length, drop}
 use Rattle.square.specs.Squares.{over}
 use Rattle.square.specs.Tables.{AllRead}
 use Rattle.save_journal.specs.Journals.{contents}
@@ -11,5 +11,6 @@ abbrev pub invariant-loop-i : goal.invariant-loop-i
 invariant-loop-i l = record {
   all_read : AllRead l.table.rows;
   resolved : l.table.resolved ≡ l.initial.table.resolved;
-  left : kept_from (over l.initial.table.resolved) (kept_of_table l.table) l.i (drop l.i (contents l.bodies)) ≡ kept_from (over l.initial.table.resolved) (kept_of_table l.initial.table) 0 (contents l.bodies);
+  as_many : length l.bodies.items ≡ length l.initial.bodies.items;
+  left : kept_from (over l.initial.table.resolved) (kept_of_table l.table) l.i (drop l.i (contents l.bodies.items)) ≡ kept_from (over l.initial.table.resolved) (kept_of_table l.initial.table) 0 (contents l.initial.bodies.items);
 }

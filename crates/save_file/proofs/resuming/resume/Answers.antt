@@ -38,10 +38,9 @@ opened_here g c =
     c.in-Ok-open.ensures.live c.in-Ok-open.ensures.digest few c.in-Ok-open.ensures.file c.in-Ok-open.ensures.bodies
 
 -- what was read behind the empty table
-kept_here : (g : Over) (c : After-read_bodies g) (r : Result (List Kept) ℕ) → kept_from (over c.in-Ok.table.resolved) (kept_of_table c.in-Ok.table) 0 (contents c.as_slice-2.result.now) ≡ r → kept_of_bodies (over c.args.module) (contents c.in-Ok-open.opened.1.items) ≡ r
+kept_here : (g : Over) (c : After-read_bodies g) (r : Result (List Kept) ℕ) → kept_from (over c.in-Ok.table.resolved) (kept_of_table c.in-Ok.table) 0 (contents c.in-Ok-open.opened.1.items) ≡ r → kept_of_bodies (over c.args.module) (contents c.in-Ok-open.opened.1.items) ≡ r
 kept_here g c r e =
-    from_none c.args.module (contents c.in-Ok-open.opened.1.items) r c.in-Ok.table c.in-Ok.ensures.resolved c.in-Ok.ensures.start
-    (ap (λ l. kept_from (over c.in-Ok.table.resolved) (kept_of_table c.in-Ok.table) 0 (contents l)) (sym c.as_slice-2.ensures.value) ∙ e)
+    from_none c.args.module (contents c.in-Ok-open.opened.1.items) r c.in-Ok.table c.in-Ok.ensures.resolved c.in-Ok.ensures.start e
 
 -- an opening that leaves the file as it is writes nothing
 alone_here : (g : Over) (c : After-read_bodies g) → IfSome (g.D.Disk.now c.args.disk) (λ file. opened (digest_of c.args.module.plain) file ≡ file → LeavesOnly g.D.Disk.moment g.D.Disk.since c.args.disk c.in-Ok-open.opened.0.disk (g.D.Disk.images c.args.disk))
@@ -88,13 +87,13 @@ returns-in-Err-read_bodies-clause-refused g c =
 pub returns-in-Err-read_bodies-clause-same : goal.returns-in-Err-read_bodies-clause-same
 returns-in-Err-read_bodies-clause-same g c = λ _.
     ap g.D.Disk.now c.into_disk.ensures
-    ∙ as_was g.D.Disk.now g.D.Disk.images c.args.module c.args.disk c.in-Ok-open.opened.0 (contents c.in-Ok-open.opened.1.items) (opened_here g (goal.at.returns-in-Err-read_bodies-clause-same g c).After-read_bodies) (λ none. absurd (false≢true (c.in-Err-read_bodies.ensures.none (ap contents c.as_slice-2.ensures.value ∙ none))))
+    ∙ as_was g.D.Disk.now g.D.Disk.images c.args.module c.args.disk c.in-Ok-open.opened.0 (contents c.in-Ok-open.opened.1.items) (opened_here g (goal.at.returns-in-Err-read_bodies-clause-same g c).After-read_bodies) (λ none. absurd (false≢true (c.in-Err-read_bodies.ensures.none none)))
 
 pub returns-in-Err-read_bodies-clause-unwritten : goal.returns-in-Err-read_bodies-clause-unwritten
 returns-in-Err-read_bodies-clause-unwritten g c = λ _.
     let at = (goal.at.returns-in-Err-read_bodies-clause-unwritten g c).After-read_bodies in
     subst (λ d. IfSome (g.D.Disk.now c.args.disk) (λ _. LeavesOnly g.D.Disk.moment g.D.Disk.since c.args.disk d (g.D.Disk.images c.args.disk))) (sym c.into_disk.ensures)
-    (not_written g.D.Disk.now g.D.Disk.images c.args.module c.args.disk c.in-Ok-open.opened.0 (contents c.in-Ok-open.opened.1.items) (opened_here g at) (λ none. absurd (false≢true (c.in-Err-read_bodies.ensures.none (ap contents c.as_slice-2.ensures.value ∙ none))))
+    (not_written g.D.Disk.now g.D.Disk.images c.args.module c.args.disk c.in-Ok-open.opened.0 (contents c.in-Ok-open.opened.1.items) (opened_here g at) (λ none. absurd (false≢true (c.in-Err-read_bodies.ensures.none none)))
     (LeavesOnly g.D.Disk.moment g.D.Disk.since c.args.disk c.in-Ok-open.opened.0.disk (g.D.Disk.images c.args.disk)) (alone_here g at))
 
 -- ---- a file that was taken up

@@ -1,6 +1,0 @@
--- The first i rows are the same.
-use Rattle.std.proofs.Common.{◌≡◌, ℕ, ◌<◌, [], get_or}
-use Rattle.save_file.proofs.reading.are_same.Given as goal
-
-abbrev pub invariant-loop-i : goal.invariant-loop-i
-invariant-loop-i l = (k : ℕ) → k < l.i → get_or l.a k [] ≡ get_or l.b k []
