@@ -8,6 +8,8 @@ mod files;
 #[cfg(test)]
 mod journals;
 #[cfg(test)]
+mod quasi_inverses;
+#[cfg(test)]
 mod stopping;
 #[cfg(test)]
 mod taking_up;

@@ -1,7 +1,7 @@
 //! Save files on disks in memory that are cut or changed.
 ghost use Rattle.std.specs.Prelude.{◌<◌};
 
-use crate::files::{MAGIC, OURS, QUASI, SQUARE, bytes, digest, sound_disk};
+use crate::files::{MAGIC, OURS, QUASI, SECOND, SQUARE, bytes, digest, sound_disk};
 use edge::MemDisk;
 use finite_module::Module;
 use save_file::{ResumeFault, resume};
@@ -11,10 +11,6 @@ use std::test::Fail;
 
 /// The digest of the body of the sphere's first square.
 const SQUARE_DIGEST: &str = "69b7c844de9a6419754dc7e857dbba1a6f8b2f2ddeaefedb344ea3bea60d3953";
-
-/// The record of the sphere's second square, that in degree 1, behind its gate.
-const SECOND: &str =
-    "0000000000000026010000000100000000000000000000000000000000000000000000000100000000000000010129f0f4d54ee5bc71a09ea6a1d93483428b8bd0fadfbd3f1b31d0df4678f61123";
 
 /// How many bytes the sphere's file of one square has.
 const ONE: usize = 120;
