@@ -1,8 +1,10 @@
-//! Tests of vectors, of matrices, of the choice of new rows, and of the tests of rows.
+//! Tests of vectors, of matrices, of the choice of new rows, of kernels, and of the tests of rows.
 #![tactic(auto)]
 
 #[cfg(test)]
 mod choices;
+#[cfg(test)]
+mod kernels;
 #[cfg(test)]
 mod matrices;
 #[cfg(test)]
