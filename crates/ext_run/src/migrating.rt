@@ -22,7 +22,7 @@ use finite_module::Module;
 use memory::Memory;
 use module_check::modules_are_graded_modules;
 use resolution_laws::canonical_table_is_minimal_resolution;
-use save_file::{SaveFile, quasi_by_products, resume};
+use save_file::{SaveFile, quasi_by_inverse, resume};
 use square::{KeepFault, MAX_S, MAX_T, Table};
 use std::alloc::Global;
 
@@ -144,7 +144,7 @@ fn lacking(alloc: Global, table: &Table, s: u16, t: i32) -> Result<Option<Reduce
     if square.kept_quasi().is_some() {
         return Ok(None);
     }
-    let quasi = quasi_by_products(alloc, table, s, t)?;
+    let quasi = quasi_by_inverse(alloc, table, s, t)?;
     if are_same(quasi.kernel(), square.kernel()) {
         Ok(Some(quasi))
     } else {

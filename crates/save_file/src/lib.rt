@@ -19,7 +19,7 @@ pub use laws::{
     additions_have_the_rules, bodies_have_the_rules, each_addition_is_read, each_body_is_read,
     kinds_are_apart, one_addition, one_body, squares_are_closed,
 };
-pub use quasi::quasi_by_products;
+pub use quasi::quasi_by_inverse;
 pub use reading::decode;
 pub use resuming::resume;
 pub use saving::SaveFile;

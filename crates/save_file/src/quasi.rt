@@ -18,11 +18,11 @@ use std::alloc::Global;
 
 /// The reduction of the matrix of d_s in degree `t`, with the generators of the square there, as `Table::quasi` gives it where the
 /// square has kept none. Where the image rows are the kernel rows of the square below, as in the canonical resolution, the chosen
-/// preimages are made with the inverse of a small part of the matrix, and then tested by products. Elsewhere the table makes it.
+/// preimages are made with the inverse of a small part of the matrix, and then tested row by row. Elsewhere the table makes it.
 ///
 /// # Errors
 /// `Memory` if allocation fails.
-pub fn quasi_by_products(alloc: Global, table: &Table, s: u16, t: i32) -> Result<Reduced, Memory>
+pub fn quasi_by_inverse(alloc: Global, table: &Table, s: u16, t: i32) -> Result<Reduced, Memory>
     requires { IsSome (square_at table.now s t) }
     ensures { IfOk result (λ reduced. IsQuasiAt table.now s t reduced) }
 {

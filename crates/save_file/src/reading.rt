@@ -35,7 +35,7 @@ use std::sync::Arc;
 /// d_s and of F_s with the new generators, in its degree; there are no more images and kernel rows than that; and the kernel rows are
 /// in reduced echelon form without a zero row. They are a quasi-inverse's if the kind is 3 and the square is in the table, without
 /// one, with these dimensions. Where there are image rows and chosen preimages, these are with the kernel rows the parts of the
-/// reduction of the matrix of d_s: that is seen by products, and nothing is eliminated. That the content is that of the canonical
+/// reduction of the matrix of d_s: that is seen row by row, and nothing is eliminated. That the content is that of the canonical
 /// resolution is not looked at.
 ///
 /// # Errors
