@@ -1,5 +1,5 @@
 -- The terms of a vector, and the sums of their products.
-use Rattle.std.proofs.Common.{◌≡◌, ℕ, zero, suc, ◌+◌, ◌-◌, ◌<◌, ◌≤◌, Bool, true, false, cond, Some, slice_get, List, [], ◌∷◌, ◌++◌, length, map, replicate, take, drop, get_or, ℤ, pos, ◌+ℤ◌, ◌-ℤ◌, refl, subst, ap, sym, ◌∙◌, arith, length-append}
+use Rattle.std.proofs.Common.{◌≡◌, Bor, ℕ, zero, suc, ◌+◌, ◌-◌, ◌<◌, ◌≤◌, Bool, true, false, cond, Some, slice_get, List, [], ◌∷◌, ◌++◌, length, map, replicate, take, drop, get_or, ℤ, pos, ◌+ℤ◌, ◌-ℤ◌, refl, subst, ap, sym, ◌∙◌, arith, length-append}
 use Rattle.std.specs.List.{All, items_where_true}
 use Rattle.std.proofs.lemmas.Int.{ints}
 use Rattle.std.proofs.lemmas.List.{append_assoc, append-nil, drop_more, drop_all, take_all, ext_get_or, get_or-map, length-map, length-take-le, map-append, get_or-replicate, length-replicate}
@@ -14,13 +14,13 @@ use Rattle.f2_vec.proofs.Moved.{length-placed}
 use Rattle.f2_vec.proofs.Combinations.{HaveWidth-map, HaveWidth-take, combination_more}
 use Rattle.milnor_basis.specs.Exponents.{degree_of}
 use Rattle.milnor_basis.specs.Basis.{basis_of}
-use Rattle.milnor_basis.specs.Product.{coefficient, product_bits}
+use Rattle.milnor_basis.specs.Product.{Factors, coefficient, product_bits}
 use Rattle.milnor_basis.proofs.Places.{basis_of-member}
 use Rattle.milnor_product.specs.Times.{basis_at}
 use Rattle.milnor_product.proofs.Multiples.{degree_of-basis_at}
 use Rattle.free_module.specs.FreeModule.{IsWithinReach, degree_at, free_basis_from, free_basis, free_width, acted, free_action}
 use Rattle.free_module.specs.Inside.FreeLaws.{on, coefficient_at, own_part, other_part, later_parts}
-use Rattle.free_module.specs.Inside.Terms.{term_at, added_to, acted_through, HasRoom, AreTerms}
+use Rattle.free_module.specs.Inside.Terms.{factors_at, term_at, added_to, acted_through, HasRoom, AreTerms}
 use Rattle.free_module.specs.declared.terms.Term.{Term}
 use Rattle.free_module.proofs.FreeBasis.{free_basis-at, start_within, free_basis-place}
 
@@ -315,3 +315,10 @@ picked_end o xs v es start from lo hi room none =
     let over = picked_over d from (from - start) v es (λ q f g. none q f (omega arith)) (omega arith) (omega arith) in
     let all : items_where_true (drop from v) (drop (from - start) es) ≡ [] = over ∙ ap (λ n. items_where_true (drop (from + d) v) (drop n es)) b ∙ ap (items_where_true (drop (from + d) v)) (drop_all (length es) es (omega arith)) ∙ picked-none (drop (from + d) v) in
     ap (λ ss. xs ++ map (term_at o) ss) all ∙ append-nil xs
+
+-- the products that are found for a term are those with its element
+pub found_at : (degree : ℕ) (found : List (Bor Factors)) (terms : List Term) (i : ℕ) (m : Bor Factors) (x : Term) → map (λ (b : Bor Factors). b.now) found ≡ map (factors_at degree) terms → i < length terms → m ≡ get_or found i m → x ≡ get_or terms i x → m.now ≡ factors_at degree x
+found_at degree found terms i m x e l em ex =
+    let now : Bor Factors → Factors = λ b. b.now in
+    let there : i < length found = omega (arith, l, ap length e, length-map found now, length-map terms (factors_at degree)) in
+    ap now em ∙ sym (get_or-map now found i m m.now there) ∙ ap (λ (ms : List Factors). get_or ms i m.now) e ∙ get_or-map (factors_at degree) terms i x m.now l ∙ ap (factors_at degree) (sym ex)

@@ -11,7 +11,7 @@ ghost use Rattle.free_module.specs.FreeModule.{IsWithinReach, degree_at, free_ac
 ghost use Rattle.free_module.specs.Graded.{free_graded};
 
 use crate::target::Target;
-use crate::terms::{Term, add_products, add_to_columns, with_block};
+use crate::terms::{Term, add_products, add_to_columns, multiples_of, with_block};
 use f2_vec::BitVec;
 use memory::Memory;
 use milnor_basis::{Basis, Exps};
@@ -222,9 +222,10 @@ impl Gens {
     {
         // A length fits `usize`, so the dimension does.
         prove!(table.len() <= usize::MAX);
-        for term in &self.terms(alloc, basis, u32::from(degree), t, v)? {
-            let multiples = basis.multiples(alloc, degree, &term.right)?;
-            add_to_columns(columns, table, end, term.offset, multiples);
+        let terms = self.terms(alloc, basis, u32::from(degree), t, v)?;
+        let found = multiples_of(alloc, basis, degree, terms.as_slice())?;
+        for i in 0..terms.len() {
+            add_to_columns(columns, table, end, terms[i].offset, found[i]);
         }
         Ok(())
     }
@@ -265,9 +266,10 @@ impl Target for Gens {
     ) -> Result<Vec<BitVec>, Memory> {
         let width = self.width_above(basis, t, u32::from(degree))?;
         let mut rows = BitVec::zero_rows(alloc, basis.of_degree(degree).len(), width)?;
-        for term in &self.terms(alloc, basis, u32::from(degree), t, v)? {
-            let multiples = basis.multiples(alloc, degree, &term.right)?;
-            add_products(rows.as_mut_slice(), term.offset, multiples);
+        let terms = self.terms(alloc, basis, u32::from(degree), t, v)?;
+        let found = multiples_of(alloc, basis, degree, terms.as_slice())?;
+        for i in 0..terms.len() {
+            add_products(rows.as_mut_slice(), terms[i].offset, found[i]);
         }
         Ok(rows)
     }

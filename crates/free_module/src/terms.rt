@@ -1,5 +1,5 @@
 //! The terms of vectors of a free module, and the sums of their products.
-ghost use Rattle.std.specs.Prelude.{◌≡◌, ◌≤◌, ◌<◌, ◌+◌, ◌++◌, ℕ, false, [], length, map, drop, slice_index, slice_index_or, EachIndex, IfOk, IfSome, IsNone};
+ghost use Rattle.std.specs.Prelude.{◌≡◌, ◌≤◌, ◌<◌, ◌+◌, ◌++◌, ℕ, false, [], length, map, drop, slice_index, slice_index_or, All, EachIndex, IfOk, IfSome, IsNone};
 ghost use Rattle.std.specs.List.{items_where_true};
 ghost use Rattle.f2_vec.specs.Vectors.{bit, placed, sum_of, IsNextOne};
 ghost use Rattle.f2_vec.specs.Spans.{row};
@@ -7,11 +7,12 @@ ghost use Rattle.milnor_basis.specs.Basis.{basis_of};
 ghost use Rattle.milnor_basis.specs.Exponents.{degree_of};
 ghost use Rattle.milnor_basis.specs.Product.{product_bits};
 ghost use Rattle.free_module.specs.Columns.{IsTableOfColumns, AreAdded};
-ghost use Rattle.free_module.specs.Inside.Terms.{term_at, products_at};
+ghost use Rattle.free_module.specs.Inside.Terms.{term_at, factors_at, products_at};
 
 use f2_vec::BitVec;
 use memory::Memory;
-use milnor_basis::{Exps, Multiples};
+use milnor_basis::{Basis, Exps, Multiples};
+use std::alloc::Global;
 
 /// A basis element Sq(S) on a generator, which has a 1 in a vector.
 #[derive(Drop)]
@@ -57,6 +58,27 @@ fn one_between(v: &BitVec, from: usize, end: usize) -> Option<usize>
         Some(place) if place < end => Some(place),
         _ => None,
     }
+}
+
+/// The products of the elements of this degree with the element of each term. They are found one right after the other, so that
+/// a processor that waits for one from memory is on the way to the next.
+///
+/// # Errors
+/// `Memory` if allocation fails.
+pub(crate) fn multiples_of<'a>(
+    alloc: Global,
+    basis: &'a Basis,
+    degree: u16,
+    terms: &[Term],
+) -> Result<Vec<&'a Multiples>, Memory>
+    requires { All (λ x. degree + degree_of x.right ≤ basis.now) terms.now }
+    ensures { IfOk result (λ found. map (λ m. m.now) found.items ≡ map (factors_at degree) terms.now) }
+{
+    let mut found = Vec::with_capacity(alloc, terms.len())?;
+    for term in terms {
+        found.push(basis.multiples(alloc, degree, &term.right)?)?;
+    }
+    Ok(found)
 }
 
 /// Adds to each row the product with the element at its place, moved up to place `offset`.

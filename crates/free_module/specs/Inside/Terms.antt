@@ -4,12 +4,16 @@ use Rattle.f2_vec.specs.Vectors.{zeros, sum_of, placed}
 use Rattle.f2_vec.specs.Spans.{combination}
 use Rattle.milnor_basis.specs.Exponents.{degree_of}
 use Rattle.milnor_basis.specs.Basis.{basis_of}
-use Rattle.milnor_basis.specs.Product.{product_bits}
+use Rattle.milnor_basis.specs.Product.{Factors, product_bits}
 use Rattle.free_module.specs.FreeModule.{free_basis, free_width, acted}
 use Rattle.free_module.specs.declared.terms.Term.{Term}
 
 abbrev pub term_at : ℕ → List ℕ → Term
 term_at offset s = record { right = s; offset = offset }
+
+-- the factors of the products of the elements of a degree with the element of a term
+abbrev pub factors_at : ℕ → Term → Factors
+factors_at degree x = record { degree = degree; right = x.right }
 
 -- the product of each element of a degree and Sq(S), moved up to place o of a vector of length n
 abbrev pub products_at : ℕ → ℕ → ℕ → List ℕ → List (List Bool)
