@@ -5,6 +5,7 @@ use Rattle.std.proofs.Math.Path.{fun_ext}
 use Rattle.std.proofs.lemmas.Bool.{cases_Bool}
 use Rattle.std.proofs.lemmas.Bool.Decides.{nat_tests}
 use Rattle.std.proofs.lemmas.List.Folds.{list_any-append}
+use Rattle.bidegree.specs.Above.{above_of}
 use Rattle.board_core.specs.declared.event.Cause.{Cause}
 use Rattle.board_core.specs.declared.event.Out.{Out}
 use Rattle.board_core.specs.declared.event.Entry.TheVariants.{Take as TakeEntry, Give as GiveEntry, Back as BackEntry, Fail as FailEntry}
@@ -13,7 +14,6 @@ use Rattle.board_core.specs.declared.event.Event.TheVariants.{Take, Give, Back, 
 use Rattle.board_core.specs.Laws.{IsReached, AreFiledOnce, filed}
 use Rattle.board_core.specs.Board.{IsSound, IsTaken, IsFiled, below_fronts}
 use Rattle.board_core.specs.Inside.{IsAside, IsBounded, IsWellKept}
-use Rattle.degrees.specs.Above.{above_of}
 use Rattle.board_core.specs.Machine.{Squares, no_squares, HasParents, State, IsStart, IsNextSquare, IsBegun, IsLegal, IsHistory, IsAbove, is_number, height, has_failed, file_with, after, opening, squares_of, is_out, insert_square}
 use Rattle.board_core.specs.Machine.IsHistory.{nothing, then}
 use Rattle.board_core.proofs.Starts.{above_is, start_is_staircase}

@@ -6,7 +6,7 @@ use Rattle.std.proofs.lemmas.List.{get_or-take, get_or-append-add, length-take-l
 use Rattle.std.proofs.lemmas.List.Elements.{All-nil, All-cons}
 use Rattle.std.proofs.lemmas.List.Folds.{list_any-from_Any}
 use Rattle.std.proofs.lemmas.Option.{slice_get-get_or, get_or_from_slice_get}
-use Rattle.degrees.specs.Above.{above_of}
+use Rattle.bidegree.specs.Above.{above_of}
 use Rattle.board_core.specs.declared.event.Entry.{Entry}
 use Rattle.board_core.specs.declared.event.Entry.TheVariants.{Take, Give, Back, Fail}
 use Rattle.board_core.specs.Board.{IsSound}

@@ -5,7 +5,7 @@ use Rattle.std.proofs.lemmas.Int.{ints}
 use Rattle.std.proofs.lemmas.List.{take_all}
 use Rattle.std.proofs.lemmas.List.Folds.{list_any_more}
 use Rattle.std.proofs.lemmas.Option.{slice_get-get_or}
-use Rattle.degrees.specs.Above.{natural, above_of}
+use Rattle.bidegree.specs.Above.{natural, above_of}
 use Rattle.board_core.specs.Machine.{Squares, HasParents, IsStaircase, insert_square, IsAbove, is_number, squares_of, IsNextSquare, IsStart}
 use Rattle.board_core.proofs.Sound.{staircase_more}
 

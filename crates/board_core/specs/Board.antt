@@ -1,6 +1,6 @@
 -- What contracts of Core see: the state of the machine, by the fronts of its rows, and what is known of it.
 use Rattle.std.specs.Prelude.{◌≡◌, ℕ, ℤ, Bool, true, false, nat_lt, slice_index_or, List, [], ◌∷◌, Option, Some, None, ⊤}
-use Rattle.degrees.specs.Above.{above_of}
+use Rattle.bidegree.specs.Above.{above_of}
 use Rattle.board_core.specs.declared.event.Out.{Out}
 use Rattle.board_core.specs.declared.event.Cause.{Cause}
 use Rattle.board_core.specs.Machine.{Squares, no_squares, squares_of, HasParents, IsStart, IsStaircase, IsAbove, State, is_out, IsInRange, IsReady}

@@ -1,7 +1,7 @@
 //! The board as the machine that its definition says.
 ghost use Rattle.std.specs.Prelude.{◌≡◌, ℕ, ◌<◌, ◌≤◌, ◌+◌, ◌-◌, ◌^◌, ◌↔◌, ◌+ℤ◌, ◌≤ℤ◌, pos, Some, None, Ok, Err, true, false, ◌||◌, [], vec_capacity, vec_len, length, IfOk, IfSome, OnSome, OnOk, OnErr};
 ghost use Rattle.std.specs.Bool.{Decides};
-ghost use Rattle.degrees.specs.Above.{above_of};
+ghost use Rattle.bidegree.specs.Above.{above_of};
 ghost use Rattle.board_core.specs.Board.{IsSound, below_fronts, state_of, IsTaken, IsReadyAt, is_done_at, is_out_at};
 ghost use Rattle.board_core.specs.Inside.{has_row, IsBounded, IsMarked};
 ghost use Rattle.board_core.specs.Machine.{AllInRows, IsStart, IsAbove, opening, squares_of, IsReady, IsRowNumber, IsRowNumberBelow, IsLegal, IsLegalTake, IsHeld, IsHeldWithoutCause, IsBegun, IsLegalStop, has_entry, has_failed, is_out, after, without};
@@ -11,7 +11,7 @@ ghost use Rattle.board_core.specs.declared.event.CoreFault.TheVariants.{NotLegal
 
 use crate::event::{Cause, CoreFault, Event, Out};
 use crate::fronts::Fronts;
-use degrees::above_of;
+use bidegree::above_of;
 use ghost_list::GhostList;
 use memory::Memory;
 use std::alloc::Global;

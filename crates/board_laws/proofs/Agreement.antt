@@ -5,10 +5,10 @@ use Rattle.std.proofs.Math.Path.{fun_ext}
 use Rattle.std.proofs.Math.Bool.{or_comm}
 use Rattle.std.proofs.lemmas.Bool.Decides.{nat_tests}
 use Rattle.std.proofs.lemmas.List.{map-append}
+use Rattle.bidegree.specs.Above.{above_of}
 use Rattle.board_core.specs.declared.event.Out.{Out}
 use Rattle.board_core.specs.declared.event.Cause.TheVariants.{Failed, Memory}
 use Rattle.board_core.specs.declared.event.Event.TheVariants.{Take, Give, Back, Fail, Stop, Open}
-use Rattle.degrees.specs.Above.{above_of}
 use Rattle.board_core.specs.Machine.{State, Squares, no_squares, IsAbove, after, opening, squares_of, insert_square, without, is_number, cause_or}
 use Rattle.board_core.proofs.Starts.{above_is}
 use Rattle.resolution_laws.specs.Resolution.{Module, Content}

@@ -1,7 +1,7 @@
 -- A keeper that has kept nothing goes with a table that has no square yet.
 use Rattle.std.proofs.Common.{◌≡◌, List, [], ◌+◌, replicate, sym, subst}
+use Rattle.bidegree.specs.declared.range.TheConstants.{MAX_S}
 use Rattle.resolution_laws.specs.Start.{Entry}
-use Rattle.square.specs.declared.range.TheConstants.{MAX_S}
 use Rattle.square.specs.Squares.{Placed}
 use Rattle.square.specs.Keeping.{HoldsTable}
 use Rattle.square.proofs.Growing.{HoldsTable-none}

@@ -7,11 +7,12 @@ ghost use Rattle.square_board.specs.Jobs.{Taking};
 ghost use Rattle.square_board.specs.Desks.{IsJobOf};
 ghost use Rattle.square_board.specs.Boards.{IsPassOf, IsSamePass};
 
+use bidegree::Range;
 use board_core::Cause;
 use finite_module::Module;
 use memory::Memory;
 use resolution_step::step;
-use square::{Keep, MemKeep, NoKeep, Range, Table};
+use square::{Keep, MemKeep, NoKeep, Table};
 use square_board::{Board, BoardPass, Entry, GiveFault, Job, Taken};
 use std::alloc::Global;
 use std::process::Abort;

@@ -1,10 +1,11 @@
 //! What no clause says: that there is memory for each call. The sphere's chart is known.
 ghost use Rattle.std.specs.Prelude.{◌<◌};
 
+use bidegree::Range;
 use board_core::Cause;
 use finite_module::Module;
 use memory::Memory;
-use square::{MemKeep, NoKeep, Range, Table};
+use square::{MemKeep, NoKeep, Table};
 use square_board::Board;
 use square_worker::{OpenGate, WorkEnd, resolve_with, work};
 use std::alloc::Global;

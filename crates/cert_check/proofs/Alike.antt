@@ -2,12 +2,12 @@
 use Rattle.std.proofs.Common.{◌≡◌, ℕ, pos, ◌+ℤ◌, List, Option, Some, None, refl, sym, ap, subst, ◌∙◌}
 use Rattle.std.specs.Prelude.{slice_get}
 use Rattle.std.specs.Option.{option_map}
+use Rattle.bidegree.specs.declared.range.Range.{Range}
 use Rattle.f2_matrix.specs.Reduction.{Reduction}
 use Rattle.resolution_laws.specs.Resolution.{Module, Content}
 use Rattle.resolution_laws.specs.Exactness.{IsExactAt, AreNeededAt}
 use Rattle.certificate_laws.specs.Certificates.{IsReductionAt, CoversAt, HasNoGeneratorTerm}
 use Rattle.finite_module.specs.Module.{Module as SteenrodModule, bottom}
-use Rattle.square.specs.declared.range.Range.{Range}
 use Rattle.square.specs.Squares.{Placed, module_over, over, bottom_of}
 use Rattle.square.specs.Tables.{Staircase, row_in, plain_rows, cut}
 use Rattle.cert_check.specs.Certified.{part_of, IsQuasiOf, IsCertified, Certifies, AreCertifiedBefore, IsFaultAt, IsFirstFault, row_of_fault}

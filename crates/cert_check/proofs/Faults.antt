@@ -4,6 +4,7 @@ use Rattle.std.specs.List.{slice_get}
 use Rattle.std.proofs.lemmas.Bool.{cases_lt}
 use Rattle.std.proofs.lemmas.List.{get_or_past, get_or-take}
 use Rattle.std.proofs.lemmas.Option.{slice_get_within}
+use Rattle.bidegree.specs.declared.range.Range.{Range}
 use Rattle.f2_vec.specs.Spans.{row}
 use Rattle.f2_matrix.specs.Reduction.{Reduction}
 use Rattle.free_module.specs.FreeModule.{free_basis}
@@ -15,7 +16,6 @@ use Rattle.resolution_counts.proofs.Counts.{width_here}
 use Rattle.certificate_laws.specs.Certificates.{HasKernelAt, CoversAt, HasNoGeneratorTerm, IsCertifiedAt}
 use Rattle.certificate_laws.proofs.Decide.{decide_exactness, decide_need, reduction_has_kernel, certified_is_minimal}
 use Rattle.certificate_laws.proofs.Square.{stand_last}
-use Rattle.square.specs.declared.range.Range.{Range}
 use Rattle.square.specs.Squares.{Placed, IsSquare, IsKeptOf, over}
 use Rattle.square.specs.Tables.{Staircase, row_in, plain_rows, IsTable, IsThrough}
 use Rattle.square.proofs.Places.{content_at-is}

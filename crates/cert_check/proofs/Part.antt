@@ -3,6 +3,7 @@ use Rattle.std.proofs.Common.{◌≡◌, ℕ, zero, suc, ◌+◌, ◌<◌, ◌�
 use Rattle.std.specs.List.{slice_get}
 use Rattle.std.proofs.lemmas.List.{get_or-take, length-take-le, length-take, take-take}
 use Rattle.std.proofs.lemmas.Option.{slice_get_within}
+use Rattle.bidegree.specs.declared.range.Range.{Range}
 use Rattle.f2_vec.specs.Spans.{HaveWidth}
 use Rattle.f2_matrix.specs.Reduction.{Reduction, IsReductionOf}
 use Rattle.f2_matrix.proofs.Unique.{kernel_basis_unique}
@@ -12,7 +13,6 @@ use Rattle.resolution_laws.specs.Exactness.{target_of, differential, IsTable as 
 use Rattle.resolution_laws.proofs.StartTables.{start_table_shape}
 use Rattle.certificate_laws.specs.Certificates.{IsReductionAt}
 use Rattle.certificate_laws.proofs.Square.{target_agrees, matrix_through}
-use Rattle.square.specs.declared.range.Range.{Range}
 use Rattle.square.specs.Squares.{Placed, IsQuasi, IsSquare, over, target_width, square_matrix}
 use Rattle.square.specs.Tables.{Staircase, row_in, plain_rows, content_at, IsTable, IsThrough}
 use Rattle.square.proofs.Found.{kept_here}

@@ -2,13 +2,13 @@
 use Rattle.std.proofs.Common.{◌≡◌, ◌↔◌, refl, ap, subst}
 use Rattle.std.specs.Prelude.{Result, Ok, Err, IsOk, IfErr, OnOk}
 use Rattle.std.proofs.lemmas.Bool.{false≢true}
+use Rattle.bidegree.specs.declared.range.Range.{Range}
 use Rattle.finite_module.specs.Graded.{ModulesAreSteenrodModules}
 use Rattle.finite_module.specs.ModuleLaws.{width-below}
 use Rattle.free_module.specs.Graded.{IsSteenrodModule}
 use Rattle.resolution_laws.specs.Exactness.{IsBoundedBelow, IsMinimalResolution}
 use Rattle.resolution_existence.specs.Existence.{CanonicalTableExists}
 use Rattle.certificate_laws.specs.Certificates.{MinimalTableIsMinimalResolution, MinimalTableHasCanonicalCounts}
-use Rattle.square.specs.declared.range.Range.{Range}
 use Rattle.square.specs.Squares.{over}
 use Rattle.square.specs.Tables.{Staircase, IsTable}
 use Rattle.cert_check.specs.Certified.{part_of, Certifies, IsFirstFault, HasCanonicalCounts}

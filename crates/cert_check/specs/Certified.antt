@@ -1,11 +1,11 @@
 -- Which tables certify a range, and why another does not.
 use Rattle.std.specs.Prelude.{◌≡◌, ℕ, ◌<◌, ◌≤◌, ℤ, pos, ◌+ℤ◌, List, slice_get, Some, None}
+use Rattle.bidegree.specs.declared.range.Range.{Range}
 use Rattle.f2_matrix.specs.Reduction.{Reduction}
 use Rattle.resolution_laws.specs.Resolution.{Content, IsCanonicalTable}
 use Rattle.resolution_laws.specs.Exactness.{IsExactAt, AreNeededAt}
 use Rattle.resolution_counts.specs.Counts.{HaveSameCounts}
 use Rattle.certificate_laws.specs.Certificates.{IsReductionAt, CoversAt, HasNoGeneratorTerm}
-use Rattle.square.specs.declared.range.Range.{Range}
 use Rattle.square.specs.Squares.{Placed, over, bottom_of}
 use Rattle.square.specs.Tables.{Staircase, row_in, plain_rows, cut}
 use Rattle.cert_check.specs.declared.fault.CertFault.{CertFault}

@@ -9,8 +9,9 @@ ghost use Rattle.cert_check.specs.Certified.{part_of, Certifies, IsCertified, Ar
 
 use crate::fault::CertFault;
 use crate::rows::{are_same, are_units, end_in_zeros};
+use bidegree::Range;
 use f2_vec::BitVec;
-use square::{Range, Square, Table};
+use square::{Square, Table};
 
 /// Whether the table certifies the range: each square of it is there with a quasi-inverse, whose image rows are the
 /// kernel rows of the square below, or for row 0 the unit vectors of the module, and no kernel row has a coefficient at

@@ -3,11 +3,11 @@ use Rattle.std.proofs.Common.{◌≡◌, inl, inr, ℕ, zero, suc, ◌+◌, ◌-
 use Rattle.std.proofs.Math.Nat.{min-le_left, min-le_right}
 use Rattle.std.proofs.lemmas.Int.{ints}
 use Rattle.std.proofs.lemmas.Bool.{cases_eq}
+use Rattle.bidegree.specs.declared.range.Range.{Range}
 use Rattle.finite_module.specs.Graded.{ModulesAreSteenrodModules}
 use Rattle.resolution_laws.specs.Resolution.{row_of}
 use Rattle.resolution_laws.specs.Exactness.{CanonicalTableIsMinimalResolution}
 use Rattle.resolution_laws.proofs.Rows.{degrees_from-between}
-use Rattle.square.specs.declared.range.Range.{Range}
 use Rattle.square.specs.Squares.{bottom_of}
 use Rattle.square.specs.Tables.{Staircase, row_in, plain_rows, IsTable}
 use Rattle.square.proofs.Found.{row_within}

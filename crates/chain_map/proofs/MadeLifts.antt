@@ -4,13 +4,13 @@ use Rattle.std.proofs.Common.{◌≡◌, inl, inr, ℕ, zero, suc, ◌+◌, ◌<
 use Rattle.std.proofs.lemmas.Int.{ints}
 use Rattle.std.proofs.lemmas.Bool.{cases_lt}
 use Rattle.std.proofs.lemmas.Bool.Decides.{eqb_tells}
+use Rattle.bidegree.specs.declared.range.Range.{Range}
 use Rattle.f2_vec.specs.Vectors.{zeros}
 use Rattle.f2_vec.proofs.Sums.{length-zeros}
 use Rattle.free_module.specs.FreeModule.{free_width}
 use Rattle.milnor_laws.proofs.FreeModules.{free_modules_are_modules}
 use Rattle.resolution_laws.specs.Resolution.{Content, degrees_from, row_of}
 use Rattle.resolution_laws.proofs.Generators.{length-images_of}
-use Rattle.square.specs.declared.range.Range.{Range}
 use Rattle.square.specs.Squares.{over, bottom_of}
 use Rattle.square.specs.Tables.{Staircase, row_in, plain_rows, IsTable}
 use Rattle.square.proofs.Places.{length-row_of}

@@ -2,12 +2,12 @@
 use Rattle.std.proofs.Common.{◌≡◌, ℕ, zero, suc, ◌+◌, ◌<◌, ◌≤◌, Bool, ℤ, pos, ◌+ℤ◌, ◌<ℤ◌, List, ◌++◌, length, take, replicate, Option, Some, None, ap, sym, subst, ◌∙◌, arith}
 use Rattle.std.proofs.lemmas.Int.{ints}
 use Rattle.std.proofs.lemmas.List.{length-take-le, nil_from_length}
+use Rattle.bidegree.specs.declared.range.Range.{Range}
 use Rattle.f2_matrix.specs.Reduction.{Reduction, IsReductionOf}
 use Rattle.free_module.specs.FreeModule.{free_width}
 use Rattle.free_module.specs.LinearMap.{map_rows}
 use Rattle.resolution_laws.specs.Resolution.{square_in, degrees_from, images_of, row_of, below_of, target_over}
 use Rattle.resolution_laws.specs.Exactness.{target_of}
-use Rattle.square.specs.declared.range.Range.{Range}
 use Rattle.square.specs.Squares.{over, bottom_of}
 use Rattle.square.specs.Tables.{Staircase, row_in, plain_rows, IsTable}
 use Rattle.lift_laws.specs.Lifts.{Resolution, gens, d}

@@ -1,6 +1,7 @@
 -- The part of a table through a range, whose squares are canonical.
 use Rattle.std.proofs.Common.{◌≡◌, ℕ, ◌+◌, ◌<◌, ◌≤◌, List, [], length, take, ap, sym, subst, ◌∙◌, arith}
 use Rattle.std.proofs.lemmas.List.{length-map, length-take-le}
+use Rattle.bidegree.specs.declared.range.Range.{Range}
 use Rattle.f2_matrix.proofs.Unique.{kernel_basis_unique}
 use Rattle.finite_module.specs.Graded.{ModulesAreSteenrodModules}
 use Rattle.finite_module.specs.ModuleLaws.{width-below}
@@ -8,7 +9,6 @@ use Rattle.resolution_laws.specs.Resolution.{Content, row_of, IsCanonicalTable}
 use Rattle.resolution_laws.specs.Start.{IsOf}
 use Rattle.resolution_laws.proofs.StartLaws.{canonical_from_contents}
 use Rattle.resolution_laws.proofs.StartTables.{table_contents}
-use Rattle.square.specs.declared.range.Range.{Range}
 use Rattle.square.specs.Squares.{over}
 use Rattle.square.specs.Tables.{Staircase, contents, row_in, plain_rows, IsTable, cut}
 use Rattle.square.proofs.Places.{length-row_of}

@@ -1,13 +1,13 @@
 -- The classes of a resolution that are named by row, degree and number, and what is refused of them in a range.
 use Rattle.std.specs.Prelude.{◌≡◌, ℕ, ◌+◌, ℤ, pos, ◌+ℤ◌, ◌-ℤ◌, Bool, ◌||◌, nat_lt, int_lt, if◌then◌else◌, Option, Some, None, option_map, unwrap_or}
 use Rattle.std.specs.Option.{option_or}
-use Rattle.degrees.specs.Above.{above_of}
-use Rattle.square.specs.declared.range.Range.{Range}
+use Rattle.bidegree.specs.Above.{above_of}
+use Rattle.bidegree.specs.declared.range.Range.{Range}
+use Rattle.bidegree.specs.declared.class.Class.{Class}
 use Rattle.square.specs.Squares.{over}
 use Rattle.square.specs.Tables.{Staircase, plain_rows, cut}
 use Rattle.lift_laws.specs.Lifts.{Resolution}
 use Rattle.lift_laws.specs.Products.{Class as ClassAbove, count_of, degree_of_class}
-use Rattle.chain_map.specs.declared.class.Class.{Class}
 
 -- the resolution of a table's module through a range
 abbrev pub through : Range → Staircase → Resolution

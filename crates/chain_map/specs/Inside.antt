@@ -1,9 +1,9 @@
 -- What contracts of private functions cite: how the values of a lift are made, by quasi-inverses, row by row and square by square.
 use Rattle.std.specs.Prelude.{◌≡◌, ℕ, zero, suc, ◌+◌, ◌-◌, ◌<◌, ◌≤◌, ℤ, pos, ◌+ℤ◌, ◌-ℤ◌, Bool, if◌then◌else◌, List, [], ◌∷◌, ◌++◌, length, map, take, drop, slice_index_or, Option, None}
+use Rattle.bidegree.specs.declared.range.TheConstants.{MAX_S}
 use Rattle.f2_vec.specs.Vectors.{zeros}
 use Rattle.f2_vec.specs.Spans.{unit_vector}
 use Rattle.f2_matrix.specs.Reduction.{Reduction}
-use Rattle.square.specs.declared.range.TheConstants.{MAX_S}
 use Rattle.square.specs.Squares.{bottom_of}
 use Rattle.square.specs.Tables.{Staircase, row_in, IsTable}
 use Rattle.lift_laws.specs.Lifts.{dual_of}

@@ -1,6 +1,8 @@
 -- Lifts of classes over the squares of two tables, and what quasi-inverses give.
 use Rattle.std.specs.Prelude.{◌≡◌, ℕ, ◌+◌, ◌<◌, ℤ, pos, ◌-ℤ◌, ◌<ℤ◌, Bool, List, [], length, take, slice_index_or, Option, Some, None, zero, suc, ◌≤◌, ◌+ℤ◌, min, map, IfSome}
 use Rattle.std.specs.List.{range_with_len, flat_map}
+use Rattle.bidegree.specs.declared.range.Range.{Range}
+use Rattle.bidegree.specs.declared.class.Class.{Class}
 use Rattle.f2_vec.specs.Spans.{row}
 use Rattle.f2_matrix.specs.Reduction.{Reduction}
 use Rattle.f2_matrix.specs.Preimages.{quasi_of}
@@ -13,10 +15,8 @@ use Rattle.resolution_laws.specs.Resolution.{degrees_from, row_of}
 use Rattle.resolution_laws.specs.Start.{IsOf}
 use Rattle.square.specs.Squares.{bottom_of, over}
 use Rattle.square.specs.Tables.{Staircase, plain_rows, IsQuasiAt, row_in, content_at, IsTable}
-use Rattle.square.specs.declared.range.Range.{Range}
 use Rattle.lift_laws.specs.Lifts.{Resolution, IsSphere, gens, degree, image, HasImages, IsChainMap}
 use Rattle.lift_laws.specs.Products.{count_of, IsLiftOfClass}
-use Rattle.chain_map.specs.declared.class.Class.{Class}
 
 -- The degrees of the generators of the first n squares of row s, each lower by that of the squares that are `above` above the
 -- bottom: the bottom degree becomes -above.

@@ -1,7 +1,6 @@
 //! Lifts of classes to chain maps from a module's resolution to the sphere's.
 #![tactic(auto)]
 
-mod class;
 mod inverse;
 mod laws;
 mod making;
@@ -9,7 +8,7 @@ mod maps;
 mod rows;
 mod values;
 
-pub use class::Class;
+pub use bidegree::Class;
 pub use inverse::Inverse;
 pub use laws::{tables_have_images, tables_of_the_sphere};
 pub use making::{lift, lifts};

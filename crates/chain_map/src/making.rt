@@ -7,9 +7,9 @@ ghost use Rattle.lift_laws.specs.Products.{count_of};
 ghost use Rattle.chain_map.specs.Lifting.{resolution_of, IsClassOf, IsSquareOf, IsLiftOver, no_lift, degrees_through};
 ghost use Rattle.chain_map.specs.Inside.{AreMadeLifts, Reaches};
 
-use crate::class::Class;
 use crate::maps::Lift;
 use crate::rows::Course;
+use bidegree::Class;
 use memory::Memory;
 use square::Table;
 use std::alloc::Global;

@@ -33,7 +33,7 @@ impl Lift {
         ensures { (above : ℕ) → t ≡ self.now.bottom +ℤ pos above →
             result.now ≡ row (square_values (row_values self.now k) above) i }
     {
-        match degrees::above_of(self.bottom, t) {
+        match bidegree::above_of(self.bottom, t) {
             Some(above) => self.rows[usize::from(k)].at(above as usize, i),
             None => unreachable!(),
         }

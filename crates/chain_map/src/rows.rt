@@ -1,11 +1,11 @@
 //! The maps of lifts, row by row.
 ghost use Rattle.std.specs.Prelude.{◌≡◌, ◌≤◌, ◌<◌, ◌+◌, ◌-ℤ◌, ◌+ℤ◌, ◌≤ℤ◌, ℕ, zero, suc, pos, negsuc, Option, length, map, take, IfOk, OnOk, slice_index_or, nat_eq, ◌&&◌, IsTrue};
+ghost use Rattle.bidegree.specs.declared.range.TheConstants.{MAX_T};
 ghost use Rattle.f2_vec.specs.Spans.{row};
 ghost use Rattle.free_module.specs.FreeModule.{free_width, IsWithinReach};
 ghost use Rattle.free_module.specs.Graded.{free_graded};
 ghost use Rattle.free_module.specs.LinearMap.{AreImages, mapped};
 ghost use Rattle.resolution_laws.specs.Resolution.{degrees_from, row_of};
-ghost use Rattle.square.specs.declared.range.TheConstants.{MAX_T};
 ghost use Rattle.square.specs.Squares.{bottom_of};
 ghost use Rattle.square.specs.Tables.{row_in};
 ghost use Rattle.lift_laws.specs.Lifts.{IsSphere};

@@ -1,7 +1,7 @@
 //! Products and brackets of classes.
 use crate::tables::{number, range_of, table_of};
+use bidegree::Class;
 use cases::{Case, Fault};
-use chain_map::Class;
 use ext_products::sphere_table;
 use f2_vec::BitVec;
 use massey::{MasseyFault, bracket};

@@ -1,14 +1,15 @@
 //! The numbers and tables of a case.
 ghost use Rattle.std.specs.Prelude.{◌≤◌, IfOk};
-ghost use Rattle.square.specs.declared.range.TheConstants.{MAX_S, MAX_T};
+ghost use Rattle.bidegree.specs.declared.range.TheConstants.{MAX_S, MAX_T};
 ghost use Rattle.square.specs.Tables.{IsThrough};
 
+use bidegree::{MAX_S, MAX_T, Range};
 use cases::{Case, Fault};
 use ext_products::sphere_table;
 use module_check::check;
 use module_json::read;
 use resolution_step::resolved;
-use square::{MAX_S, MAX_T, Range, Table};
+use square::Table;
 use std::alloc::Global;
 use std::str::FromStr;
 

@@ -5,14 +5,14 @@ use Rattle.std.specs.Option.{option_or}
 use Rattle.std.proofs.lemmas.Bool.{true≢false, or_parts}
 use Rattle.std.proofs.lemmas.Bool.Decides.{nat_tests}
 use Rattle.std.proofs.lemmas.Int.{ints, by_lt_z}
+use Rattle.bidegree.specs.Above.{above_of}
+use Rattle.bidegree.specs.declared.range.Range.{Range}
+use Rattle.bidegree.specs.declared.class.Class.{Class}
 use Rattle.f2_vec.specs.Vectors.{IsZero}
 use Rattle.f2_matrix.proofs.Unique.{zero_or_first}
-use Rattle.degrees.specs.Above.{above_of}
 use Rattle.module_json.proofs.Basis.{option_or-none}
-use Rattle.square.specs.declared.range.Range.{Range}
 use Rattle.lift_laws.specs.Lifts.{Resolution, IsCanonical, IsSphere}
 use Rattle.lift_laws.specs.Products.{Class as ClassAbove, LiftsGiveOneProduct}
-use Rattle.chain_map.specs.declared.class.Class.{Class}
 use Rattle.chain_map.specs.Classes.{class_count, passes, no_class, out_of_range, class_refusal, range_refusal}
 use Rattle.yoneda.specs.Products.{IsYonedaProduct}
 use Rattle.ext_chart.specs.Classes.{bracket_text}

@@ -3,6 +3,7 @@ use Rattle.std.proofs.Common.{◌≡◌, inl, inr, ℕ, zero, suc, ◌+◌, ◌-
 use Rattle.std.specs.List.{range_with_len}
 use Rattle.std.proofs.lemmas.Bool.{cases_lt}
 use Rattle.std.proofs.lemmas.Int.{ints}
+use Rattle.bidegree.specs.declared.range.Range.{Range}
 use Rattle.f2_vec.specs.Vectors.{bit, zeros, IsZero}
 use Rattle.f2_vec.specs.Spans.{row, HaveWidth}
 use Rattle.f2_vec.proofs.Sums.{length-zeros}
@@ -11,7 +12,6 @@ use Rattle.f2_vec.proofs.Combinations.{HaveWidth-map}
 use Rattle.f2_matrix.specs.Existence.{RowBasisExists}
 use Rattle.f2_matrix.specs.Preimages.{rest_of}
 use Rattle.f2_matrix.proofs.Pivots.{rest_length, rest_apart, rest_coset}
-use Rattle.square.specs.declared.range.Range.{Range}
 use Rattle.lift_laws.specs.Lifts.{Resolution, IsCanonical, IsSphere, IsLift, EachClassLifts, dual_of}
 use Rattle.lift_laws.specs.Products.{Class, first_of, count_of, number_of, degree_of_class, coefficients, coefficient_of, on_square, product_by}
 use Rattle.lift_laws.proofs.ChainMaps.{IsLift-less}

@@ -2,12 +2,12 @@
 use Rattle.std.proofs.Common.{◌≡◌, ℕ, zero, suc, pos, ◌≤ℤ◌, List, Bool, arith}
 use Rattle.std.specs.Prelude.{neg_ℤ}
 use Rattle.std.proofs.lemmas.Int.{ints}
+use Rattle.bidegree.specs.declared.range.Range.{Range}
+use Rattle.bidegree.specs.declared.class.Class.{Class}
 use Rattle.module_json.specs.declared.limits.TheConstants.{MAX_DEGREE}
-use Rattle.square.specs.declared.range.Range.{Range}
 use Rattle.square.specs.Squares.{bottom_of}
 use Rattle.square.specs.Tables.{Staircase}
 use Rattle.lift_laws.specs.Lifts.{IsSphere}
-use Rattle.chain_map.specs.declared.class.Class.{Class}
 use Rattle.chain_map.specs.Lifting.{resolution_of}
 use Rattle.yoneda.specs.Products.{IsProductOver}
 use Rattle.massey.specs.declared.fault.MasseyFault.TheVariants.{Nonzero}

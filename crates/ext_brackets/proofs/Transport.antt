@@ -1,16 +1,16 @@
 -- What is made over the tables that there are is what the canonical tables through the range have.
 use Rattle.std.proofs.Common.{◌≡◌, ◌≢◌, ℕ, zero, suc, Bool, List, refl, ap, sym, subst, ◌∙◌, arith}
 use Rattle.std.specs.Prelude.{Option, Some, None, MatchOption, option_map, Result, Ok, Err, IsOkAnd}
+use Rattle.bidegree.specs.declared.range.Range.{Range}
+use Rattle.bidegree.specs.declared.class.Class.{Class}
 use Rattle.finite_module.specs.Checked.{sphere_file}
 use Rattle.finite_module.specs.DerivedAction.{derived_module}
 use Rattle.finite_module.specs.Graded.{ModulesAreSteenrodModules}
 use Rattle.f2_vec.specs.Vectors.{IsZero}
 use Rattle.resolution_laws.specs.Resolution.{Module, Content, IsCanonicalTable, CanonicalTableIsUnique}
-use Rattle.square.specs.declared.range.Range.{Range}
 use Rattle.square.specs.Squares.{over, module_over}
 use Rattle.square.specs.Tables.{Staircase, plain_rows, IsTable, IsThrough, cut}
 use Rattle.lift_laws.specs.Products.{Class as ClassAbove}
-use Rattle.chain_map.specs.declared.class.Class.{Class}
 use Rattle.chain_map.specs.Lifting.{IsCanonicalIn}
 use Rattle.chain_map.specs.Classes.{through, IsAt}
 use Rattle.chain_map.proofs.Classes.{class_is_once, refusal_in_words}

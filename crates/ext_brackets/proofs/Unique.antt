@@ -2,17 +2,17 @@
 use Rattle.std.proofs.Common.{◌≡◌, inl, inr, ℕ, ◌+◌, Bool, false, List, length, ap, sym, subst, ◌∙◌, arith}
 use Rattle.std.specs.Prelude.{◌↔◌, Option, Some, None, MatchOption, Result, Ok, Err, IsOkAnd}
 use Rattle.std.proofs.lemmas.Bool.{true≢false}
+use Rattle.bidegree.specs.declared.range.Range.{Range}
+use Rattle.bidegree.specs.declared.class.Class.{Class}
 use Rattle.f2_vec.specs.Vectors.{sum_of, bit, plus, zeros, IsZero}
 use Rattle.f2_vec.specs.Spans.{HaveWidth, IsInSpan, HaveSameSpan}
 use Rattle.f2_vec.proofs.Sums.{bit-sum_of, length-sum_of, sum_of-assoc, sum_of-swap, sum_of-self, sum_of-zeros_left, sum_of-zeros_right, zeros_from_bits, sum_of-cancel_right}
 use Rattle.f2_vec.proofs.Spans.{length-IsInSpan, sum-IsInSpan}
 use Rattle.f2_matrix.specs.Echelon.{IsReduced, IsRowBasis, RowBasisIsUnique}
 use Rattle.f2_matrix.proofs.Unique.{zero_or_first, zero_without_first, span_first-IsPivot}
-use Rattle.square.specs.declared.range.Range.{Range}
 use Rattle.lift_laws.specs.Lifts.{Resolution}
 use Rattle.lift_laws.specs.Products.{Class as ClassAbove, count_of}
 use Rattle.bracket_laws.specs.Brackets.{top_of, IsBracketMember}
-use Rattle.chain_map.specs.declared.class.Class.{Class}
 use Rattle.chain_map.proofs.Classes.{class_is_once}
 use Rattle.massey.specs.Brackets.{IsZeroAtPivots, IsBracketOf}
 use Rattle.ext_products.specs.declared.refusal.Pair.{Pair}

@@ -1,11 +1,11 @@
 -- What is told of the Massey product of three classes through a range (May, Matric Massey products; Bruner, Calculation of large Ext
 -- modules).
 use Rattle.std.specs.Prelude.{◌≡◌, ℕ, zero, suc, ◌+◌, ℤ, pos, ◌+ℤ◌, ◌-ℤ◌, Bool, List, Option, MatchOption, Result, Err, IsOkAnd, ⊤}
+use Rattle.bidegree.specs.declared.range.Range.{Range}
+use Rattle.bidegree.specs.declared.class.Class.{Class}
 use Rattle.f2_vec.specs.Vectors.{IsZero}
-use Rattle.square.specs.declared.range.Range.{Range}
 use Rattle.lift_laws.specs.Lifts.{Resolution}
 use Rattle.lift_laws.specs.Products.{Class as ClassAbove}
-use Rattle.chain_map.specs.declared.class.Class.{Class}
 use Rattle.chain_map.specs.Classes.{IsAt, first_refusal}
 use Rattle.yoneda.specs.Products.{IsYonedaProduct}
 use Rattle.massey.specs.Brackets.{IsBracketOf}

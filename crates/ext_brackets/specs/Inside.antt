@@ -1,6 +1,6 @@
 -- What contracts of private functions cite: why there is no bracket, told of the classes that were asked for.
 use Rattle.std.specs.Prelude.{zero, suc, ◌+◌, ◌+ℤ◌, ◌<◌, ◌^◌, ◌≤ℤ◌, ◌<ℤ◌, pos, neg_ℤ}
-use Rattle.chain_map.specs.declared.class.Class.{Class}
+use Rattle.bidegree.specs.declared.class.Class.{Class}
 use Rattle.massey.specs.declared.fault.MasseyFault.{MasseyFault}
 use Rattle.massey.specs.declared.fault.MasseyFault.TheVariants.{NoClass as Absent, OutOfRange as Past, Nonzero as NotZero, Memory as NoMemory}
 use Rattle.ext_products.specs.declared.refusal.Pair.TheVariants.{Ab, Bc}

@@ -6,7 +6,7 @@ ghost use Rattle.ext_products.specs.declared.refusal.ClassesFault.TheVariants.{R
 ghost use Rattle.ext_brackets.specs.Brackets.{absent, past, not_zero, IsOfPlaces};
 ghost use Rattle.ext_brackets.specs.Inside.{fault_of, HasSquare};
 
-use chain_map::Class;
+use bidegree::Class;
 use ext_products::{ClassesFault, Named, Pair, Refusal, Target};
 use f2_vec::BitVec;
 use massey::MasseyFault;

@@ -1,8 +1,8 @@
 //! A bracket as text, or why there is none.
 ghost use Rattle.std.specs.Prelude.{◌≡◌, ◌≢◌, ◌≤◌, ◌↔◌, pos, length, IfOk, IfErr, Ok, Err, IsTrue};
+ghost use Rattle.bidegree.specs.declared.range.TheConstants.{MAX_S, MAX_T};
 ghost use Rattle.square.specs.Squares.{bottom_of};
 ghost use Rattle.square.specs.Tables.{IsThrough};
-ghost use Rattle.square.specs.declared.range.TheConstants.{MAX_S, MAX_T};
 ghost use Rattle.lift_laws.specs.Lifts.{IsSphere};
 ghost use Rattle.chain_map.specs.Classes.{through};
 ghost use Rattle.chain_map.specs.Lifting.{resolution_of, IsCanonicalIn};
@@ -13,12 +13,12 @@ ghost use Rattle.ext_products.specs.Products.{IsAnswerIn, IsAnswerOver};
 ghost use Rattle.ext_brackets.specs.Brackets.{IsBracketAnswer, IsOfPlaces};
 
 use crate::refusal::{fault_of, is_of_place};
-use chain_map::Class;
+use bidegree::{Class, Range};
 use ext_chart::bracket_lines;
 use ext_products::{ClassesFault, sphere_table};
 use massey::{Bracket, bracket};
 use memory::Memory;
-use square::{Range, Table};
+use square::Table;
 use std::alloc::Global;
 use yoneda::known;
 

@@ -1,6 +1,6 @@
 //! What the words of a command line ask for.
+use bidegree::Class;
 use cases::{Case, Differences, Fault};
-use chain_map::Class;
 use ext_words::{Build, Command, Common, WordsFault, parse};
 use std::alloc::Global;
 

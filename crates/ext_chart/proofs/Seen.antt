@@ -1,6 +1,6 @@
 -- The squares of a table, as the texts see them.
 use Rattle.std.proofs.Common.{List, arith}
-use Rattle.square.specs.declared.range.Range.{Range}
+use Rattle.bidegree.specs.declared.range.Range.{Range}
 use Rattle.square.specs.Squares.{Placed}
 use Rattle.square.specs.Tables.{plain_rows, IsThrough}
 use Rattle.square.proofs.Places.{length-row_of}

@@ -1,8 +1,8 @@
 -- What the texts of a resolution tell of: its module, and the images of the generators of its squares.
 use Rattle.std.specs.Prelude.{ℕ, ◌<◌, ◌≤◌, List, length}
+use Rattle.bidegree.specs.declared.range.Range.{Range}
 use Rattle.finite_module.specs.Checked.{Checked}
 use Rattle.resolution_laws.specs.Resolution.{Content, row_of}
-use Rattle.square.specs.declared.range.Range.{Range}
 
 -- a module, and of its resolution the squares, row by row. No text speaks of their kernels
 pub record Seen : Type 0 where

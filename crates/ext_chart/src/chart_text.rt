@@ -8,9 +8,9 @@ ghost use Rattle.square.specs.Squares.{bottom_of};
 ghost use Rattle.ext_chart.specs.Seen.{IsSeenThrough};
 
 use crate::shown::Shown;
+use bidegree::Range;
 use itoa::Buffer;
 use memory::Memory;
-use square::Range;
 use std::alloc::Global;
 
 /// The mark of a square with this number of generators: a dot for none, the digit up to nine, and a star above.

@@ -8,8 +8,8 @@ ghost use Rattle.ext_chart.specs.Seen.{IsSeenThrough};
 use crate::lines::square_lines;
 use crate::named_target::NamedTarget;
 use crate::shown::{Shown, degree};
+use bidegree::Range;
 use memory::Memory;
-use square::Range;
 use std::alloc::Global;
 
 /// The differentials of the rows of the table through the range: a line for each generator, row by row, in a row by

@@ -8,9 +8,9 @@ ghost use Rattle.ext_chart.specs.Seen.{IsSeenThrough};
 use crate::chart_text::chart;
 use crate::shown::Shown;
 use crate::summary_text::square_count;
+use bidegree::Range;
 use itoa::Buffer;
 use memory::Memory;
-use square::Range;
 use std::alloc::Global;
 
 /// The line on a save file each square of which has its quasi-inverse.

@@ -1,8 +1,8 @@
 //! What texts tell a resolution from: a table of squares, or images of generators alone.
 ghost use Rattle.std.specs.Prelude.{◌≡◌, ◌+◌, ◌<◌, ◌≤◌, pos, ◌+ℤ◌, length, IfOk};
+ghost use Rattle.bidegree.specs.declared.range.TheConstants.{MAX_T};
 ghost use Rattle.f2_vec.specs.Spans.{HaveWidth};
 ghost use Rattle.resolution_laws.specs.Resolution.{row_of, square_in};
-ghost use Rattle.square.specs.declared.range.TheConstants.{MAX_T};
 ghost use Rattle.square.specs.Squares.{bottom_of};
 ghost use Rattle.square.specs.Tables.{plain_rows};
 ghost use Rattle.resolution_images.specs.BareRows.{squares_of};

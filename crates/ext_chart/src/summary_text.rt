@@ -7,9 +7,9 @@ ghost use Rattle.square.specs.Squares.{bottom_of};
 ghost use Rattle.ext_chart.specs.Seen.{IsSeenThrough};
 
 use crate::shown::Shown;
+use bidegree::Range;
 use itoa::Buffer;
 use memory::Memory;
-use square::Range;
 use std::alloc::Global;
 
 /// How many generators row `s` has through `t` degrees above the bottom.

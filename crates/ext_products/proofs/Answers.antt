@@ -5,13 +5,13 @@ use Rattle.std.proofs.lemmas.Bool.{cases_lt}
 use Rattle.std.proofs.lemmas.Bool.Decides.{nat_tests}
 use Rattle.std.proofs.lemmas.Int.{ints}
 use Rattle.std.proofs.lemmas.List.{get_or_past}
-use Rattle.degrees.specs.Above.{above_of}
-use Rattle.square.specs.declared.range.Range.{Range}
+use Rattle.bidegree.specs.Above.{above_of}
+use Rattle.bidegree.specs.declared.range.Range.{Range}
+use Rattle.bidegree.specs.declared.class.Class.{Class}
 use Rattle.square.proofs.ByDegree.{natural-is}
 use Rattle.resolution_laws.specs.Resolution.{Content, no_content, square_in, row_of, IsCanonicalTable}
 use Rattle.lift_laws.specs.Lifts.{Resolution, IsCanonical, IsSphere, EachClassLifts}
 use Rattle.lift_laws.specs.Products.{Class as ClassAbove, count_of, degree_of_class, number_of, product_by, LiftsGiveOneProduct}
-use Rattle.chain_map.specs.declared.class.Class.{Class}
 use Rattle.chain_map.specs.Classes.{class_count, missing_in, IsAt}
 use Rattle.chain_map.proofs.Classes.{class_is_once}
 use Rattle.chain_map.proofs.Generators.{is_number}

@@ -2,8 +2,8 @@
 use Rattle.std.proofs.Common.{◌≡◌, ℕ, zero, suc, ◌+◌, ◌-◌, ◌<◌, ◌≤◌, List, map, refl, ap, arith}
 use Rattle.std.specs.List.{All, flat_map, range_with_len}
 use Rattle.std.proofs.lemmas.List.Elements.{All-map}
+use Rattle.bidegree.specs.declared.range.Range.{Range}
 use Rattle.milnor_basis.proofs.MatrixList.{All-flat_map, All-range}
-use Rattle.square.specs.declared.range.Range.{Range}
 use Rattle.lift_laws.specs.Lifts.{Resolution}
 use Rattle.lift_laws.specs.Products.{Class, count_of}
 use Rattle.ext_products.specs.Products.{class_at, classes_of, classes_in_row, factors}

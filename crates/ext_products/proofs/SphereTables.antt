@@ -1,6 +1,7 @@
 -- The module of one generator in degree 0 is what the sphere's resolution resolves.
 use Rattle.std.proofs.Common.{◌≡◌, ℤ, pos, List, length, refl, ap, sym, subst, ◌∙◌, arith}
 use Rattle.std.specs.Prelude.{Result, Ok, Err, IfOk}
+use Rattle.bidegree.specs.declared.range.Range.{Range}
 use Rattle.finite_module.specs.Module.{Module as SteenrodModule, width}
 use Rattle.finite_module.specs.ModuleLaws.{numbers_from-none}
 use Rattle.finite_module.specs.DerivedAction.{derived_module}
@@ -8,7 +9,6 @@ use Rattle.finite_module.specs.Checked.{Checked, sphere_file}
 use Rattle.module_json.specs.ModuleFile.{degree_at}
 use Rattle.resolution_laws.specs.Resolution.{Content, IsCanonicalTable}
 use Rattle.square.specs.Squares.{over}
-use Rattle.square.specs.declared.range.Range.{Range}
 use Rattle.square.specs.Tables.{Staircase, plain_rows, cut}
 use Rattle.lift_laws.specs.Lifts.{IsSphere}
 use Rattle.chain_map.specs.Lifting.{resolution_of, IsCanonicalIn}

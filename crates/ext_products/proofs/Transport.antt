@@ -4,8 +4,11 @@ use Rattle.std.specs.Prelude.{MatchOption, option_map, unwrap_or, IsOkAnd, Resul
 use Rattle.std.proofs.lemmas.Bool.{cases_lt}
 use Rattle.std.proofs.lemmas.Int.{ints}
 use Rattle.std.proofs.lemmas.List.{ext_get_or, get_or-take, length-take-le, take-take}
+use Rattle.bidegree.specs.Above.{natural, above_of}
+use Rattle.bidegree.specs.declared.range.Range.{Range}
+use Rattle.bidegree.specs.declared.class.Class.{Class}
+use Rattle.bidegree.specs.declared.place.Place.{Place}
 use Rattle.f2_matrix.proofs.Unique.{kernel_basis_unique}
-use Rattle.degrees.specs.Above.{natural, above_of}
 use Rattle.finite_module.specs.Module.{Module as SteenrodModule}
 use Rattle.finite_module.specs.Checked.{sphere_file}
 use Rattle.finite_module.specs.DerivedAction.{derived_module}
@@ -14,7 +17,6 @@ use Rattle.finite_module.specs.ModuleLaws.{width-below}
 use Rattle.resolution_laws.specs.Resolution.{Content, no_content, square_in, row_of, IsCanonicalTable}
 use Rattle.resolution_laws.proofs.StartLaws.{content_is_unique}
 use Rattle.resolution_laws.proofs.StartTables.{table_contents}
-use Rattle.square.specs.declared.range.Range.{Range}
 use Rattle.square.specs.Squares.{over, bottom_of, module_over}
 use Rattle.square.specs.Tables.{Staircase, plain_rows, content_at, IsTable, IsThrough}
 use Rattle.square.proofs.Places.{length-row_of}
@@ -22,12 +24,10 @@ use Rattle.square.proofs.Pushing.{through_last}
 use Rattle.lift_laws.specs.Lifts.{Resolution, IsCanonical, IsSphere, dual_of, degree}
 use Rattle.lift_laws.specs.Products.{Class as ClassAbove, count_of, number_of, degree_of_class, LiftsGiveOneProduct}
 use Rattle.lift_laws.proofs.Cut.{IsLift-uncut}
-use Rattle.chain_map.specs.declared.class.Class.{Class}
 use Rattle.chain_map.specs.Lifting.{resolution_of, IsCanonicalIn}
 use Rattle.chain_map.specs.Classes.{through, missing_in}
 use Rattle.chain_map.proofs.Classes.{rows_through, count_inside, count_outside}
 use Rattle.chain_map.proofs.Resolved.{is_canonical}
-use Rattle.yoneda.specs.declared.place.Place.{Place}
 use Rattle.yoneda.specs.Products.{class_above, IsPlaceOf, IsThere, IsYonedaProduct}
 use Rattle.yoneda.proofs.Cut.{count_of-part, product_by-part}
 use Rattle.yoneda.proofs.OneProduct.{canonical_less, place_there, given-lowered, product-of-lift}

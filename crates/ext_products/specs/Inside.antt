@@ -1,12 +1,12 @@
 -- What contracts of private functions cite: the lines that are made over the tables that there are.
 use Rattle.std.specs.Prelude.{pos, min, option_map, unwrap_or}
-use Rattle.degrees.specs.Above.{above_of}
-use Rattle.square.specs.declared.range.Range.{Range}
+use Rattle.bidegree.specs.Above.{above_of}
+use Rattle.bidegree.specs.declared.range.Range.{Range}
+use Rattle.bidegree.specs.declared.class.Class.{Class}
+use Rattle.bidegree.specs.declared.place.Place.{Place}
 use Rattle.square.specs.Squares.{bottom_of}
 use Rattle.square.specs.Tables.{Staircase}
 use Rattle.lift_laws.specs.Products.{Class as ClassAbove}
-use Rattle.chain_map.specs.declared.class.Class.{Class}
-use Rattle.yoneda.specs.declared.place.Place.{Place}
 use Rattle.yoneda.specs.Products.{class_above, IsProductThrough}
 use Rattle.ext_chart.specs.declared.class_products.ProductLine.{ProductLine}
 use Rattle.ext_products.specs.Products.{IsLine}

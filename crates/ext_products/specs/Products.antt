@@ -2,16 +2,16 @@
 -- applications of the Steenrod algebra; Bruner, Calculation of large Ext modules).
 use Rattle.std.specs.Prelude.{List, [], ◌∷◌, ⊤, ◌≡◌, ℕ, ◌+◌, ◌-◌, ℤ, pos, ◌+ℤ◌, Bool, map, MatchOption, Result, Err, IsOkAnd}
 use Rattle.std.specs.List.{flat_map, range_with_len}
+use Rattle.bidegree.specs.declared.range.Range.{Range}
+use Rattle.bidegree.specs.declared.class.Class.{Class}
 use Rattle.finite_module.specs.Module.{Module as SteenrodModule}
 use Rattle.finite_module.specs.Checked.{sphere_file}
 use Rattle.finite_module.specs.DerivedAction.{derived_module}
 use Rattle.resolution_laws.specs.Resolution.{Content, IsCanonicalTable}
 use Rattle.square.specs.Squares.{module_over}
-use Rattle.square.specs.declared.range.Range.{Range}
 use Rattle.square.specs.Tables.{Staircase}
 use Rattle.lift_laws.specs.Lifts.{Resolution, IsCanonical, IsSphere}
 use Rattle.lift_laws.specs.Products.{Class as ClassAbove, count_of}
-use Rattle.chain_map.specs.declared.class.Class.{Class}
 use Rattle.chain_map.specs.Classes.{missing_in, IsAt, through}
 use Rattle.chain_map.specs.Lifting.{IsCanonicalIn}
 use Rattle.yoneda.specs.Products.{IsYonedaProduct}

@@ -1,6 +1,6 @@
 //! Laws over the definitions, as contracts of functions that do nothing.
-ghost use Rattle.square.specs.declared.range.Range.{Range};
-ghost use Rattle.chain_map.specs.declared.class.Class.{Class};
+ghost use Rattle.bidegree.specs.declared.range.Range.{Range};
+ghost use Rattle.bidegree.specs.declared.class.Class.{Class};
 ghost use Rattle.ext_products.specs.Products.{IsProductsAnswer, HasAnswer, HasOneAnswer};
 
 /// The canonical resolutions of a module and of the sphere have an answer for each class that products are asked with.

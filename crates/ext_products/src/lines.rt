@@ -1,6 +1,6 @@
 //! The lines on the products of a class with the classes of a module.
 ghost use Rattle.std.specs.Prelude.{◌≡◌, ◌+◌, ◌-◌, ◌≤◌, ◌++◌, length, List, IfOk, OnOk};
-ghost use Rattle.square.specs.declared.range.TheConstants.{MAX_S, MAX_T};
+ghost use Rattle.bidegree.specs.declared.range.TheConstants.{MAX_S, MAX_T};
 ghost use Rattle.square.specs.Tables.{IsThrough};
 ghost use Rattle.lift_laws.specs.Lifts.{IsSphere};
 ghost use Rattle.lift_laws.specs.Products.{Class as ClassAbove, count_of};
@@ -9,12 +9,13 @@ ghost use Rattle.yoneda.specs.Products.{IsThere, class_above, AreProducts};
 ghost use Rattle.ext_products.specs.Products.{OneEach, classes_of, classes_in_row, factors};
 ghost use Rattle.ext_products.specs.Inside.{IsLineOver};
 
+use bidegree::{Place, Range};
 use ext_chart::ProductLine;
 use f2_vec::BitVec;
 use memory::Memory;
-use square::{Range, Table};
+use square::Table;
 use std::alloc::Global;
-use yoneda::{Place, products};
+use yoneda::products;
 
 /// The lines on the products of `a` with the classes of the table, those products that are in the range, by row, by degree and by
 /// number.

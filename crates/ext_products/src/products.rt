@@ -1,7 +1,7 @@
 //! The lines of the products with a class of the sphere, or the refusal of that class.
 ghost use Rattle.std.specs.Prelude.{◌≡◌, ◌≢◌, ◌≤◌, IfOk, IfErr, Ok, Err};
+ghost use Rattle.bidegree.specs.declared.range.TheConstants.{MAX_S, MAX_T};
 ghost use Rattle.square.specs.Tables.{IsThrough};
-ghost use Rattle.square.specs.declared.range.TheConstants.{MAX_S, MAX_T};
 ghost use Rattle.ext_products.specs.Products.{IsProductsAnswer, IsAnswerOver, IsAnswerIn};
 ghost use Rattle.ext_products.specs.Inside.{reach_of};
 ghost use Rattle.ext_products.specs.declared.refusal.ClassesFault.TheVariants.{Refused, Memory as OutOfMemory};
@@ -10,10 +10,9 @@ ghost use Rattle.ext_products.specs.declared.refusal.Refusal.{Refusal as WhyNot}
 use crate::lines::lines;
 use crate::refusal::{ClassesFault, Named, Refusal};
 use crate::sphere::sphere_table;
-use chain_map::Class;
-use degrees::above_of;
+use bidegree::{Class, Range, above_of};
 use ext_chart::product_lines;
-use square::{Range, Table};
+use square::Table;
 use std::alloc::Global;
 use yoneda::{known, place_of};
 

@@ -2,7 +2,7 @@
 ghost use Rattle.std.specs.Prelude.{◌≡◌};
 ghost use Rattle.ext_products.specs.declared.refusal.ClassesFault.TheVariants.{Memory as OutOfMemory};
 
-use chain_map::Class;
+use bidegree::Class;
 use f2_vec::BitVec;
 use memory::Memory;
 use thiserror::Error;

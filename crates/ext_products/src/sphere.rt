@@ -1,17 +1,18 @@
 //! The sphere's table.
 ghost use Rattle.std.specs.Prelude.{◌≡◌, ◌≤◌, ◌<◌, ℕ, length, IfOk};
+ghost use Rattle.bidegree.specs.declared.range.TheConstants.{MAX_S, MAX_T};
 ghost use Rattle.finite_module.specs.Checked.{sphere_file};
 ghost use Rattle.finite_module.specs.DerivedAction.{derived_module};
 ghost use Rattle.square.specs.Tables.{row_in, IsThrough};
 ghost use Rattle.resolution_step.specs.Alone.{IsInRange};
-ghost use Rattle.square.specs.declared.range.TheConstants.{MAX_S, MAX_T};
 ghost use Rattle.lift_laws.specs.Lifts.{IsSphere};
 ghost use Rattle.chain_map.specs.Lifting.{resolution_of, IsCanonicalIn};
 
+use bidegree::Range;
 use finite_module::Module;
 use memory::Memory;
 use resolution_step::resolved;
-use square::{Range, Table};
+use square::Table;
 use std::alloc::Global;
 
 /// The canonical table of the sphere through the range, made on the caller's thread. It shares the Milnor bases of `beside`, and

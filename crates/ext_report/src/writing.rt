@@ -9,7 +9,7 @@ ghost use Rattle.ext_chart.specs.Classes.{class_text, class_sum_text};
 ghost use Rattle.ext_report.specs.Parts.{square_place, part_text, parts_text, separator, plus};
 ghost use Rattle.std.specs.Fmt.{signed_decimal};
 
-use chain_map::Class;
+use bidegree::Class;
 use edge::{Failed, Sink, write_all};
 use f2_vec::BitVec;
 use itoa::Buffer;

@@ -4,6 +4,8 @@ use Rattle.std.specs.Prelude.{Result, Ok, Err, IfOk, MatchOption}
 use Rattle.std.specs.List.{sum}
 use Rattle.std.proofs.lemmas.Bool.{cases_eq}
 use Rattle.std.proofs.lemmas.Int.{ints}
+use Rattle.bidegree.specs.declared.range.Range.{Range}
+use Rattle.bidegree.specs.declared.class.Class.{Class}
 use Rattle.adem_laws.specs.Admissible.{value as value_of, AdmissibleFormIsUnique}
 use Rattle.adem_laws.proofs.Values.{length-value}
 use Rattle.serde_json.specs.Data.{Data}
@@ -27,12 +29,10 @@ use Rattle.resolution_laws.specs.Resolution.{Content}
 use Rattle.resolution_laws.specs.Exactness.{IsBoundedBelow, CanonicalTableIsMinimalResolution}
 use Rattle.resolution_existence.specs.Existence.{CanonicalTableExists}
 use Rattle.square.specs.Squares.{module_over}
-use Rattle.square.specs.declared.range.Range.{Range}
 use Rattle.ext_chart.specs.Check.{check_line}
 use Rattle.ext_chart.specs.Files.{migrated_line}
 use Rattle.ext_chart.specs.Product.{product_text}
 use Rattle.lift_laws.specs.Lifts.{IsCanonical}
-use Rattle.chain_map.specs.declared.class.Class.{Class}
 use Rattle.ext_products.specs.Products.{resolution, Telling, HasAnswer, IsProductsAnswer}
 use Rattle.ext_brackets.specs.Brackets.{IsBracketAnswer}
 use Rattle.ext_products.proofs.SphereTables.{sphere-is}

@@ -2,6 +2,7 @@
 use Rattle.std.proofs.Common.{◌≡◌, ℕ, List, ap, sym, subst, ◌∙◌}
 use Rattle.std.specs.Prelude.{Option, Some, None, MatchOption, Result, Ok, Err}
 use Rattle.std.specs.List.{sum}
+use Rattle.bidegree.specs.declared.range.Range.{Range}
 use Rattle.adem_laws.specs.Admissible.{value}
 use Rattle.adem_laws.proofs.Forms.{admissible_form_is_unique}
 use Rattle.adem_laws.proofs.Values.{length-value}
@@ -18,7 +19,6 @@ use Rattle.module_check.specs.declared.fault.CheckFault.{CheckFault}
 use Rattle.resolution_laws.specs.Resolution.{Content}
 use Rattle.resolution_laws.proofs.TableIsUnique.{table_is_unique}
 use Rattle.square.specs.Squares.{module_over}
-use Rattle.square.specs.declared.range.Range.{Range}
 use Rattle.ext_chart.specs.Product.{product_text}
 use Rattle.ext_products.specs.Products.{resolution, Telling, HasOneAnswer, IsProductsAnswer}
 use Rattle.ext_products.proofs.Answers.{answers-unique}

@@ -3,6 +3,7 @@ use Rattle.serde_json.specs.Data.{Data, array}
 use Rattle.std.proofs.Common.{◌≡◌, ℕ, true, ◌^◌, ◌≤◌, List, [], length, drop, Option, Some, None, IfSome, refl, sym, subst, ◌∙◌, arith}
 use Rattle.std.specs.Prelude.{MatchOption, Result, Ok, Err}
 use Rattle.std.proofs.lemmas.List.{drop_all}
+use Rattle.bidegree.specs.declared.range.Range.{Range}
 use Rattle.edge.specs.Source.{without_first}
 use Rattle.module_json.specs.ModuleFile.{File, IsFileOf, no_value, described}
 use Rattle.module_json.specs.declared.malformed.Malformed.{Malformed}
@@ -22,7 +23,6 @@ use Rattle.ext_products.specs.declared.refusal.Refusal.{Refusal}
 use Rattle.ext_products.specs.Products.{IsProductsAnswer}
 use Rattle.ext_brackets.specs.Brackets.{IsBracketAnswer}
 use Rattle.lift_laws.specs.Lifts.{Resolution as Resolved}
-use Rattle.square.specs.declared.range.Range.{Range}
 use Rattle.ext_words.specs.declared.command.Build.{Build as Made}
 use Rattle.ext_report.specs.declared.failure.Failure.{Failure}
 use Rattle.ext_report.specs.declared.failure.Failure.TheVariants.{NotModule, Malformed as NoModuleFile}

@@ -1,6 +1,7 @@
 -- The texts that are made from the images of a canonical resolution are those of the resolution.
 use Rattle.std.proofs.Common.{◌≡◌, ℕ, List, length, ap, ◌∙◌, arith}
 use Rattle.std.proofs.lemmas.List.{length-map}
+use Rattle.bidegree.specs.declared.range.Range.{Range}
 use Rattle.finite_module.specs.Module.{Module}
 use Rattle.finite_module.specs.Checked.{Checked}
 use Rattle.finite_module.specs.Graded.{ModulesAreSteenrodModules}
@@ -10,7 +11,6 @@ use Rattle.resolution_laws.specs.Exactness.{CanonicalTableIsMinimalResolution}
 use Rattle.resolution_existence.specs.Existence.{CanonicalTableExists}
 use Rattle.resolution_images.specs.BareRows.{BareRow, squares_of, AreOfCanonical}
 use Rattle.resolution_images.proofs.Contents.{bare, row_bare}
-use Rattle.square.specs.declared.range.Range.{Range}
 use Rattle.square.specs.Squares.{over, bottom_of}
 use Rattle.ext_chart.specs.Seen.{IsSeenThrough}
 use Rattle.ext_chart.proofs.Bare.{chart_of_images, dump_of_images, summary_of_images}

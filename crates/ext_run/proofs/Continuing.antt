@@ -3,6 +3,7 @@ use Rattle.std.proofs.Common.{◌≡◌, ℕ, ◌<◌, ◌⊎◌, inl, inr, List
 use Rattle.std.proofs.lemmas.Option.{slice_get_cases}
 use Rattle.std.specs.Prelude.{Result, Ok, Err, IfErr, IfSome, IsSome, slice_get}
 use Rattle.std.specs.Option.{option_map}
+use Rattle.bidegree.specs.declared.range.Range.{Range}
 use Rattle.finite_module.specs.Module.{Module as SteenrodModule}
 use Rattle.finite_module.specs.Checked.{Checked}
 use Rattle.finite_module.specs.Graded.{ModulesAreSteenrodModules}
@@ -10,7 +11,6 @@ use Rattle.finite_module.specs.ModuleLaws.{width-below}
 use Rattle.resolution_laws.specs.Resolution.{Content, IsCanonicalTable}
 use Rattle.resolution_laws.specs.Exactness.{CanonicalTableIsMinimalResolution}
 use Rattle.resolution_laws.specs.Start.{Entry, entry_at, IsCanonicalStart}
-use Rattle.square.specs.declared.range.Range.{Range}
 use Rattle.square.specs.Squares.{Placed, over}
 use Rattle.square.specs.Tables.{Staircase, row_in, plain_rows, IsThrough, cut}
 use Rattle.square.specs.Growing.{HasGrown}

@@ -2,6 +2,7 @@
 use Rattle.std.proofs.Common.{◌≡◌, ◌≢◌, ℕ, ◌<◌, ◌≤◌, ◌⊎◌, inl, inr, List, [], ◌∷◌, ◌++◌, map, Option, Some, None, ap, sym, subst, ◌∙◌, refl, arith, append-nil}
 use Rattle.std.specs.Prelude.{Ok, Err, IfErr, IfSome, IsSome}
 use Rattle.std.specs.Option.{option_map}
+use Rattle.bidegree.specs.declared.range.Range.{Range}
 use Rattle.edge.specs.Faults.{HasRisen}
 use Rattle.edge.specs.Disk.{LeavesOnly}
 use Rattle.finite_module.specs.Checked.{Checked}
@@ -10,7 +11,6 @@ use Rattle.resolution_laws.specs.Start.{Entry, IsOf, IsCanonicalStart}
 use Rattle.square.specs.Squares.{over, module_over}
 use Rattle.square.specs.Tables.{Staircase}
 use Rattle.square.specs.Keeping.{Keeper, IsKeeperOf, HasKept}
-use Rattle.square.specs.declared.range.Range.{Range}
 use Rattle.resolution_step.specs.Alone.{IsUntouched}
 use Rattle.cert_check.specs.declared.fault.CertFault.{CertFault}
 use Rattle.save_journal.specs.Records.{Records}

@@ -5,6 +5,7 @@ use Rattle.std.proofs.lemmas.List.Elements.{All-nil, All-cons, All-head, All-tai
 use Rattle.std.specs.Prelude.{Option, Some, None, IfSome, IsSome, Ok, Err, nat_eq, ◌&&◌, ◌↔◌, if◌then◌else◌}
 use Rattle.std.specs.List.{All}
 use Rattle.std.specs.Result.{result_ok}
+use Rattle.bidegree.specs.declared.range.Range.{Range}
 use Rattle.edge.specs.Disk.{LeavesOnly, WasImageSince}
 use Rattle.finite_module.specs.Checked.{Checked}
 use Rattle.finite_module.specs.Module.{Module as SteenrodModule}
@@ -13,7 +14,6 @@ use Rattle.resolution_laws.specs.Start.{Entry, entry_at, IsOf, AreOf, IsCanonica
 use Rattle.resolution_laws.proofs.StartLaws.{canonical_content}
 use Rattle.square.specs.Squares.{over, module_over}
 use Rattle.square.specs.Keeping.{Keeper, HasFirst, Retains, HasKept, IsImageWith, IsImageAmid, IsImagePart, with_squares}
-use Rattle.square.specs.declared.range.Range.{Range}
 use Rattle.save_journal.specs.Records.{Records}
 use Rattle.save_journal.specs.Journals.{HasRecordsOf}
 use Rattle.save_file.specs.Files.{Standing, digest_of, of_records, standing_of, squares_in}

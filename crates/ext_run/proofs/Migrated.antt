@@ -4,12 +4,12 @@ use Rattle.std.specs.Prelude.{Ok, Err, IfOk, IfErr, OnOk, IsOk, IfSome, IsSome}
 use Rattle.std.specs.Option.{option_map}
 use Rattle.std.specs.List.{All}
 use Rattle.std.proofs.lemmas.List.Elements.{All-nil, All-cons, All-head, All-tail, All-weaker}
+use Rattle.bidegree.specs.declared.range.TheConstants.{MAX_S}
 use Rattle.edge.specs.Disk.{LeavesOnly}
 use Rattle.finite_module.specs.Checked.{Checked}
 use Rattle.resolution_laws.specs.Start.{Entry, entry_at, IsCanonicalStart}
 use Rattle.square.specs.declared.keep.KeepFault.{KeepFault}
 use Rattle.square.specs.declared.keep.KeepFault.TheVariants.{Failed, Memory as NoSpace}
-use Rattle.square.specs.declared.range.TheConstants.{MAX_S}
 use Rattle.square.specs.Squares.{over}
 use Rattle.square.specs.Tables.{Staircase, row_in, IsTable}
 use Rattle.square.proofs.Found.{row_within}

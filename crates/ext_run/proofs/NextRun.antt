@@ -6,8 +6,8 @@ use Rattle.std.proofs.lemmas.List.Elements.{All-nil}
 use Rattle.finite_module.specs.Module.{Module as SteenrodModule}
 use Rattle.resolution_laws.specs.Start.{Entry, IsOf}
 use Rattle.square.specs.Squares.{module_over}
-use Rattle.square.specs.declared.range.Range.{Range}
 use Rattle.std.specs.Str.{bytes_eq}
+use Rattle.bidegree.specs.declared.range.Range.{Range}
 use Rattle.save_journal.specs.Records.{Records, magic, of_header, records_of}
 use Rattle.save_journal.specs.Journals.{HasRecordsOf}
 use Rattle.save_file.specs.Files.{digest_of, of_records}

@@ -2,10 +2,10 @@
 use Rattle.std.proofs.Common.{◌≡◌, ℕ, Bool, true, false, List, [], ◌++◌, Option, Some, None, refl, ap, sym, subst, ◌∙◌, arith, append-nil}
 use Rattle.std.specs.Prelude.{Result, Ok, Err, OnOk, OnErr, IfSome, option_map}
 use Rattle.std.specs.Borrow.{Bor}
+use Rattle.bidegree.specs.declared.range.Range.{Range}
 use Rattle.edge.specs.Faults.{HasRisen}
 use Rattle.edge.specs.Sink.{with_more, HasPrefixMore}
 use Rattle.edge.proofs.Written.{with_more-two, HasPrefixMore-whole, HasPrefixMore-front, HasPrefixMore-behind}
-use Rattle.square.specs.declared.range.Range.{Range}
 use Rattle.live_worker.specs.Reports.{squares_of, live_lines, HasReported as Reported}
 use Rattle.live_worker.proofs.Reported.{on_ok, reported_none}
 use Rattle.ext_words.specs.declared.command.Command.{Command}

@@ -2,13 +2,13 @@
 use Rattle.std.proofs.Common.{◌≡◌, ℕ, ◌+◌, ◌⊎◌, inl, inr, List, length, take, refl, sym, subst, ◌∙◌, ap, arith}
 use Rattle.std.proofs.lemmas.List.{take-take}
 use Rattle.resolution_laws.specs.Resolution.{Content, IsCanonicalTable, row_of}
-use Rattle.square.specs.declared.range.Range.{Range}
 use Rattle.lift_laws.specs.Lifts.{Resolution}
 use Rattle.square.specs.Squares.{bottom_of, module_over}
 use Rattle.square.specs.Tables.{Staircase, plain_rows, IsThrough, cut}
 use Rattle.resolution_step.proofs.Canonical.{row_of-cut}
 use Rattle.ext_chart.proofs.Agreement.{AgreeThrough, chart_text-agree, dump_text-agree, summary_text-agree}
 use Rattle.std.specs.Prelude.{◌≢◌, Result, Err}
+use Rattle.bidegree.specs.declared.range.Range.{Range}
 use Rattle.finite_module.specs.Module.{Module}
 use Rattle.finite_module.specs.Checked.{sphere_file}
 use Rattle.finite_module.specs.DerivedAction.{derived_module}

@@ -2,10 +2,10 @@
 use Rattle.std.proofs.Common.{◌≡◌, ◌≢◌, ◌∙◌, ℕ, ◌⊎◌, inl, inr, List, ◌++◌, Bool, true, false, Option, Some, None, refl, sym, subst, ap, arith}
 use Rattle.std.specs.declared.alloc.Global.{Global}
 use Rattle.std.specs.Prelude.{Vec, Ok, Err, IfErr, IfSome, IsSome}
+use Rattle.bidegree.specs.declared.range.Range.{Range}
 use Rattle.edge.specs.Disk.{LeavesOnly}
 use Rattle.finite_module.specs.Module.{Module as SteenrodModule}
 use Rattle.resolution_laws.specs.Start.{Entry}
-use Rattle.square.specs.declared.range.Range.{Range}
 use Rattle.cert_check.specs.declared.fault.CertFault.{CertFault}
 use Rattle.save_journal.specs.Journals.{HasRecordsOf, HaveSameRecords, ComeFromEarlier}
 use Rattle.save_file.specs.Files.{digest_of, standing_of}

@@ -2,6 +2,7 @@
 use Rattle.std.proofs.Common.{◌≡◌, ◌∙◌, ℕ, inl, inr, List, [], Option, Some, None, IfSome, refl, sym, subst, ap}
 use Rattle.std.specs.declared.alloc.Global.{Global}
 use Rattle.std.specs.Prelude.{MatchOption, option_map, Vec, Result, Ok, Err, IsOkAnd}
+use Rattle.bidegree.specs.declared.range.Range.{Range}
 use Rattle.module_json.proofs.Reading.{file_unique}
 use Rattle.finite_module.specs.Module.{Module as SteenrodModule}
 use Rattle.finite_module.specs.Checked.{Checked, sphere_file}
@@ -30,7 +31,6 @@ use Rattle.ext_run.specs.declared.task.Task.{Task}
 use Rattle.ext_run.specs.declared.task.Task.TheVariants.{Text, Resolution, Migration, Verification}
 use Rattle.ext_run.specs.declared.task.Resolution.{Resolution as Resolved}
 use Rattle.ext_run.specs.Plan.{plan_of, asked_by, IsPlanWithin, IsModuleIn, IsModuleAt, IsModuleFor, PlanReads, verifying, use_where, use_for}
-use Rattle.square.specs.declared.range.Range.{Range}
 use Rattle.ext_run.specs.Forms.{IsVerifiedChart, IsText, IsInForm, IsRefusedIn}
 use Rattle.ext_run.specs.Answer.{IsLineOn, IsMigrated, IsProduct, ModuleAnswers, IsAnswerOfFile, IsModuleAnswer, IsAnswerAt, IsAnswerTo, IsAskedAnswer, IsAskedRefusal, IsTaskCause, IsTaskCauseFrom, IsOriginCauseFrom}
 use Rattle.ext_run.specs.Task.{IsDoneBy, use_in, IsTaskOf, IsTaskFor}

@@ -3,6 +3,7 @@ use Rattle.std.proofs.Common.{◌≡◌, ◌≢◌, ℕ, ◌⊎◌, inl, inr, Li
 use Rattle.std.specs.Prelude.{Ok, Err, IfOk, IfErr, OnOk, IfSome}
 use Rattle.std.specs.Option.{option_map}
 use Rattle.std.proofs.lemmas.Option.{slice_get_within}
+use Rattle.bidegree.specs.declared.range.Range.{Range}
 use Rattle.edge.specs.Disk.{LeavesOnly}
 use Rattle.finite_module.specs.Checked.{Checked}
 use Rattle.finite_module.specs.Graded.{ModulesAreSteenrodModules}
@@ -10,7 +11,6 @@ use Rattle.resolution_laws.specs.Resolution.{generator_count}
 use Rattle.resolution_laws.specs.Exactness.{CanonicalTableIsMinimalResolution}
 use Rattle.square.specs.Squares.{bottom_of}
 use Rattle.square.specs.Tables.{Staircase, row_in, plain_rows, IsThrough, AllRead, IsTable}
-use Rattle.square.specs.declared.range.Range.{Range}
 use Rattle.cert_check.specs.Certified.{part_of, Certifies, HasCanonicalCounts, IsFirstFault}
 use Rattle.cert_check.specs.declared.fault.CertFault.{CertFault}
 use Rattle.save_journal.specs.Records.{opened}

@@ -2,10 +2,10 @@
 use Rattle.std.proofs.Common.{◌≡◌, ℕ, List, [], true, false, sym, subst, refl, inl, inr}
 use Rattle.std.specs.declared.alloc.Global.{Global}
 use Rattle.std.specs.Prelude.{Vec, Ok, Err}
+use Rattle.bidegree.specs.declared.range.Range.{Range}
 use Rattle.edge.specs.Faults.{HasRisen}
 use Rattle.finite_module.specs.Checked.{Checked}
 use Rattle.resolution_laws.specs.Start.{IsCanonicalStart}
-use Rattle.square.specs.declared.range.Range.{Range}
 use Rattle.square.specs.Squares.{Placed, over}
 use Rattle.square.specs.Tables.{Staircase}
 use Rattle.square.specs.Keeping.{Keeper}

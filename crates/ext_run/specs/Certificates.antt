@@ -1,7 +1,7 @@
 -- Save files as certificates, and what becomes of one that is verified.
 use Rattle.std.specs.Prelude.{◌≡◌, ℕ, List, Ok}
+use Rattle.bidegree.specs.declared.range.Range.{Range}
 use Rattle.finite_module.specs.Module.{Module as SteenrodModule}
-use Rattle.square.specs.declared.range.Range.{Range}
 use Rattle.square.specs.Tables.{Staircase, AllRead, IsTable}
 use Rattle.cert_check.specs.Certified.{Certifies, IsFirstFault}
 use Rattle.cert_check.specs.declared.fault.CertFault.{CertFault}

@@ -1,5 +1,6 @@
 -- What is told of a module's canonical resolution, in each form.
 use Rattle.std.specs.Prelude.{◌≡◌, ℕ, List, length, IsOkAnd, Result, Ok, Err}
+use Rattle.bidegree.specs.declared.range.Range.{Range}
 use Rattle.finite_module.specs.Module.{Module as SteenrodModule, bottom}
 use Rattle.finite_module.specs.DerivedAction.{derived_module}
 use Rattle.finite_module.specs.Checked.{sphere_file}
@@ -8,7 +9,6 @@ use Rattle.ext_report.specs.declared.failure.Failure.TheVariants.{Classes}
 use Rattle.resolution_laws.specs.Resolution.{Content, IsCanonicalTable, generator_count}
 use Rattle.resolution_laws.specs.Exactness.{IsMinimalResolution}
 use Rattle.square.specs.Squares.{module_over}
-use Rattle.square.specs.declared.range.Range.{Range}
 use Rattle.ext_chart.specs.Chart.{chart_text}
 use Rattle.ext_chart.specs.Files.{verified_text}
 use Rattle.ext_chart.specs.Dump.{dump_text}

@@ -1,8 +1,8 @@
 -- What becomes of standard error where it is reported how far a range is resolved.
 use Rattle.std.specs.Prelude.{◌≡◌, ℕ, ◌≤◌, List, [], ◌++◌, Option, Some, None, Result, Ok, Err}
+use Rattle.bidegree.specs.declared.range.Range.{Range}
 use Rattle.edge.specs.Faults.{HasRisen}
 use Rattle.edge.specs.Sink.{with_more, HasPrefixMore}
-use Rattle.square.specs.declared.range.Range.{Range}
 use Rattle.live_worker.specs.Reports.{squares_of, live_lines, RiseTo, HasReported}
 use Rattle.ext_report.specs.Lines.{line_of}
 use Rattle.ext_run.specs.declared.task.Task.{Task}

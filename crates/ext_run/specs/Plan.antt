@@ -2,13 +2,13 @@
 -- Outside of this file, all goes by plans.
 use Rattle.std.specs.Prelude.{◌≡◌, ◌≤◌, ℕ, List, Bool, true, false, Option, Some, None, option_map, MatchOption, Ok, ⊤}
 use Rattle.std.specs.List.{sum}
+use Rattle.bidegree.specs.declared.range.Range.{Range}
 use Rattle.module_json.specs.ModuleFile.{File, IsFileOf}
 use Rattle.finite_module.specs.Module.{Module as SteenrodModule}
 use Rattle.finite_module.specs.DerivedAction.{derived_module}
 use Rattle.finite_module.specs.Checked.{sphere_file}
 use Rattle.finite_module.specs.Sample.{sample_file}
 use Rattle.module_check.specs.Acceptance.{refusal_of}
-use Rattle.square.specs.declared.range.Range.{Range}
 use Rattle.ext_words.specs.declared.command.TheConstants.{MAX_SQUARES_DEGREE}
 use Rattle.ext_words.specs.declared.command.Command.{Command}
 use Rattle.ext_words.specs.declared.command.Command.TheVariants.{Sphere, Resolve, Dump, Products, Massey, Check, Build, Sample, Sq, Migrate, Verify}

@@ -1,10 +1,10 @@
 -- What a run promises: how it ended, and what it did with its source, its sink, standard error and its disk.
 use Rattle.std.specs.Prelude.{◌≡◌, ◌≢◌, ℕ, ◌≤◌, ◌⊎◌, List, [], Option, Some, None, IsSome, IfSome, Result, Ok, Err, ⊤}
+use Rattle.bidegree.specs.declared.range.Range.{Range}
 use Rattle.edge.specs.Faults.{HasRisen}
 use Rattle.edge.specs.Source.{without_first, HasGivenUpTo}
 use Rattle.module_json.specs.ModuleFile.{File}
 use Rattle.module_check.specs.declared.fault.CheckFault.{CheckFault}
-use Rattle.square.specs.declared.range.Range.{Range}
 use Rattle.space_laws.specs.Spaces.{IsSpaceFile}
 use Rattle.live_worker.specs.Reports.{squares_of}
 use Rattle.ext_report.specs.declared.status.TheConstants.{WRITTEN}

@@ -2,12 +2,12 @@
 use Rattle.std.specs.Prelude.{◌≡◌, ℕ, ◌≤◌, ◌⊎◌, List, [], ◌++◌, length, Option, Some, IsSome, IfSome, Ok}
 use Rattle.std.specs.List.{All}
 use Rattle.std.specs.Result.{result_ok}
+use Rattle.bidegree.specs.declared.range.Range.{Range}
 use Rattle.finite_module.specs.Module.{Module as SteenrodModule}
 use Rattle.resolution_step.specs.Alone.{IsInRange}
 use Rattle.resolution_laws.specs.Start.{Entry, entry_at, AreOf}
 use Rattle.square.specs.Keeping.{HasFirst}
 use Rattle.square.specs.Squares.{module_over}
-use Rattle.square.specs.declared.range.Range.{Range}
 use Rattle.save_journal.specs.Records.{records_of, opened}
 use Rattle.save_file.specs.Bodies.{Kept}
 use Rattle.save_file.specs.Files.{digest_of, standing_of, kept_by}

@@ -3,13 +3,13 @@ use Rattle.std.specs.Prelude.{◌≡◌, ◌≢◌, ℕ, ◌≤◌, ◌⊎◌, t
 use Rattle.std.specs.declared.alloc.Global.{Global}
 use Rattle.finite_module.specs.Module.{Module as SteenrodModule}
 use Rattle.std.specs.List.{All}
+use Rattle.bidegree.specs.declared.range.Range.{Range}
 use Rattle.resolution_step.specs.Alone.{IsInRange}
 use Rattle.edge.specs.Faults.{HasRisen}
 use Rattle.resolution_laws.specs.Start.{Entry, IsCanonicalStart}
 use Rattle.square.specs.Squares.{over}
 use Rattle.square.specs.Tables.{Staircase}
 use Rattle.square.specs.Keeping.{Keeper, HasKept}
-use Rattle.square.specs.declared.range.Range.{Range}
 use Rattle.save_file.specs.Files.{standing_of}
 use Rattle.save_file.specs.declared.fault.ResumeFault.{ResumeFault}
 use Rattle.ext_report.specs.declared.failure.Failure.{Failure}

@@ -1,8 +1,9 @@
 //! Texts of a resolution of which the images of generators are made, and no table of squares.
 ghost use Rattle.std.specs.Prelude.{◌≡◌, ◌≤◌, IfOk};
-ghost use Rattle.square.specs.declared.range.TheConstants.{MAX_S, MAX_T};
+ghost use Rattle.bidegree.specs.declared.range.TheConstants.{MAX_S, MAX_T};
 ghost use Rattle.ext_run.specs.Forms.{IsReadOff, chart_of, dump_of, summary_of};
 
+use bidegree::Range;
 use ext_chart::{chart, dump, summary};
 use finite_module::Module;
 use memory::Memory;
@@ -10,7 +11,6 @@ use module_check::modules_are_graded_modules;
 use resolution_existence::canonical_table_exists;
 use resolution_images::images_alone;
 use resolution_laws::canonical_table_is_minimal_resolution;
-use square::Range;
 use std::alloc::Global;
 use std::mem::forget;
 

@@ -11,10 +11,10 @@ mod texts;
 mod verifying;
 
 pub use answer::{Ended, run, run_one};
+pub use bidegree::Range;
 pub use ext_report::{Failure, report};
 pub use ext_words::{Build, Command, Common, WordsFault, has_live, parse};
 pub use laws::{
     answer_exists, answer_is_unique, certificate_is_decided, next_run_may_use_what_is_left,
     short_disk_is_ours,
 };
-pub use square::Range;

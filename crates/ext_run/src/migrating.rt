@@ -1,8 +1,8 @@
 //! A save file is brought up to date: each of its squares gets its quasi-inverse.
 ghost use Rattle.std.specs.Prelude.{◌≡◌, ◌≢◌, ℕ, ◌≤◌, ◌↔◌, ◌⊎◌, IsSome, IfSome, IfNone, Err, IfOk, IfErr, OnOk, IsOk};
+ghost use Rattle.bidegree.specs.declared.range.TheConstants.{MAX_S, MAX_T};
 ghost use Rattle.f2_matrix.specs.Reduction.{Reduction};
 ghost use Rattle.square.specs.declared.keep.KeepFault as KeepFault;
-ghost use Rattle.square.specs.declared.range.TheConstants.{MAX_S, MAX_T};
 ghost use Rattle.square.specs.Tables.{square_at, IsTable, IsQuasiAt, LacksQuasi};
 ghost use Rattle.ext_chart.specs.Files.{migrated_line};
 ghost use Rattle.ext_report.specs.declared.failure.Failure.TheVariants.{Saving, Memory as WantOfMemory};
@@ -13,6 +13,7 @@ ghost use Rattle.ext_run.specs.Work.{HasUsed};
 ghost use Rattle.ext_run.specs.Inside.Adding.{IsFileOf, HasFilled};
 
 use crate::texts::leave;
+use bidegree::{MAX_S, MAX_T};
 use cert_check::are_same;
 use edge::Disk;
 use ext_chart::migrated_line;
@@ -23,7 +24,7 @@ use memory::Memory;
 use module_check::modules_are_graded_modules;
 use resolution_laws::canonical_table_is_minimal_resolution;
 use save_file::{SaveFile, quasi_by_inverse, resume};
-use square::{KeepFault, MAX_S, MAX_T, Table};
+use square::{KeepFault, Table};
 use std::alloc::Global;
 
 /// The line on a save file that was brought up to date, once the quasi-inverse of each square that the file has without one stands

@@ -4,10 +4,9 @@ ghost use Rattle.std.specs.Prelude.{◌≡◌};
 ghost use Rattle.ext_run.specs.Plan.{plan_of};
 ghost use Rattle.ext_run.specs.declared.plan.Plan as Plan;
 
-use chain_map::Class;
+use bidegree::{Class, Range};
 use ext_words::{Build, Command, Common};
 use sq_calc::Mono;
-use square::Range;
 
 /// Where a module comes from.
 #[derive(Clone, Copy, Debug)]

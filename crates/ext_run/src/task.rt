@@ -14,6 +14,7 @@ ghost use Rattle.ext_run.specs.Task.{HasItsAnswer, IsTaskWithin, IsTaskOf, IsTas
 ghost use Rattle.ext_run.specs.declared.task.Task.TheVariants.{Resolution as ToResolve};
 
 use crate::plan::{Form, Origin, Plan, plan_of};
+use bidegree::Range;
 use edge::Source;
 use ext_brackets::bracket_answer_exists;
 use ext_build::{built_text, read_module};
@@ -27,7 +28,6 @@ use module_check::{Module, accepted_is_module, modules_are_graded_modules};
 use resolution_existence::canonical_table_exists;
 use resolution_laws::canonical_table_is_minimal_resolution;
 use sq_calc::{Mono, to_admissible, to_milnor};
-use square::Range;
 use std::alloc::Global;
 
 /// What is still to be done for words.

@@ -2,9 +2,9 @@
 //! and what is made of it is told: a table, or the images of generators alone. Workers may report how far they are.
 //! Or the save file is all that is used.
 ghost use Rattle.std.specs.Prelude.{◌≡◌, ◌≤◌, ◌⊎◌, false, None, Err, IfErr};
+ghost use Rattle.bidegree.specs.declared.range.TheConstants.{MAX_S, MAX_T};
 ghost use Rattle.board_core.specs.declared.event.Cause as Cause;
 ghost use Rattle.resolution_step.specs.Alone.{AreApart, IsUntouched, HasResolved};
-ghost use Rattle.square.specs.declared.range.TheConstants.{MAX_S, MAX_T};
 ghost use Rattle.square.specs.Keeping.{IsKeeperOf};
 ghost use Rattle.square.specs.Tables.{plain_rows, IsThrough, cut};
 ghost use Rattle.ext_run.specs.declared.task.Task.TheVariants.{Resolution as ToResolve};
@@ -22,6 +22,7 @@ use crate::migrating::migrated;
 use crate::plan::Form;
 use crate::task::{Resolution, Task};
 use crate::verifying::verified;
+use bidegree::Range;
 use board_core::Cause;
 use edge::{Disk, Failed, Sink};
 use ext_brackets::bracket_text;
@@ -36,7 +37,7 @@ use resolution_existence::canonical_table_exists;
 use resolution_laws::canonical_table_is_minimal_resolution;
 use resolution_step::resolve_alone;
 use save_file::resume;
-use square::{Keep, KeepFault, NoKeep, Range, Table};
+use square::{Keep, KeepFault, NoKeep, Table};
 use square_worker::{Gate, resolve_with};
 use std::alloc::Global;
 use std::mem::forget;

@@ -12,6 +12,7 @@ ghost use Rattle.ext_run.specs.Forms.{IsVerifiedChart};
 ghost use Rattle.ext_run.specs.Work.{HasUsed};
 
 use crate::texts::leave;
+use bidegree::Range;
 use cert_check::verify;
 use edge::Disk;
 use ext_chart::verified_chart;
@@ -21,7 +22,7 @@ use module_check::modules_are_graded_modules;
 use resolution_existence::canonical_table_exists;
 use resolution_laws::canonical_table_is_minimal_resolution;
 use save_file::resume;
-use square::{Range, Table};
+use square::Table;
 use std::alloc::Global;
 
 /// The chart of the module's resolution through the range, with how many squares that has, made of the module's save file alone, if

@@ -4,9 +4,9 @@ use Rattle.std.specs.Borrow.{Bor}
 use Rattle.std.specs.List.{All, fold, list_all, list_any, before_first, after_first, slice_split, sum}
 use Rattle.std.specs.Str.{bytes_eq}
 use Rattle.std.specs.Char.{is_ascii_digit}
-use Rattle.chain_map.specs.declared.class.Class.{Class}
-use Rattle.square.specs.declared.range.Range.{Range}
-use Rattle.square.specs.declared.range.TheConstants.{MAX_S, MAX_T}
+use Rattle.bidegree.specs.declared.class.Class.{Class}
+use Rattle.bidegree.specs.declared.range.Range.{Range}
+use Rattle.bidegree.specs.declared.range.TheConstants.{MAX_S, MAX_T}
 use Rattle.ext_words.specs.declared.command.TheConstants.{MAX_WORKERS, MAX_SQUARES, MAX_SQUARES_DEGREE, MAX_SHIFT}
 use Rattle.ext_words.specs.declared.command.Build.{Build}
 use Rattle.ext_words.specs.declared.command.Build.TheVariants as build

@@ -2,10 +2,9 @@
 ghost use Rattle.std.specs.Prelude.{◌≡◌};
 ghost use Rattle.ext_words.specs.declared.command.WordsFault.TheVariants.{Memory as WantOfMemory};
 
-use chain_map::Class;
+use bidegree::{Class, Range};
 use memory::Memory;
-use sq_calc::Mono;
-use square::Range;
+use monomial::Mono;
 use thiserror::Error;
 
 /// The greatest number of workers.

@@ -5,9 +5,9 @@ ghost use Rattle.std.specs.Char.{is_ascii_digit};
 ghost use Rattle.ext_words.specs.Words.{are_digits, decimal_value, number_of, signed_number_of, number_up_to, positive_up_to, shift_of, seed_of, between_commas, class_from, class_of, positive_numbers, product_of, texts_of, IsShort, IsWithinDegree};
 
 use crate::command::{MAX_SHIFT, MAX_SQUARES, MAX_SQUARES_DEGREE};
-use chain_map::Class;
+use bidegree::Class;
 use memory::Memory;
-use sq_calc::Mono;
+use monomial::Mono;
 use std::alloc::Global;
 
 fn are_all_digits(bytes: &[u8]) -> bool

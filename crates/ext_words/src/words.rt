@@ -11,12 +11,11 @@ ghost use Rattle.ext_words.specs.Words.{texts_of, has_live, text_given, is_given
 
 use crate::command::{Build, Command, Common, MAX_WORKERS, WordsFault};
 use crate::numbers::{class_of, number_up_to, positive_up_to, product_of, seed_of, shift_of};
-use chain_map::Class;
+use bidegree::{Class, MAX_S, MAX_T, Range};
 use clap::error::ErrorKind;
 use clap::{Arg, ArgAction, ArgMatches};
 use memory::Memory;
-use sq_calc::Mono;
-use square::{MAX_S, MAX_T, Range};
+use monomial::Mono;
 use std::alloc::{AllocError, Global};
 
 /// An option that has a value. No option and no word is marked as required: where one is missing, what reads it finds

@@ -1,8 +1,9 @@
 //! What no clause says of a run with reports: that they come while squares are made.
+use bidegree::Range;
 use edge::{Failed, Sink};
 use finite_module::Module;
 use live_worker::resolve_live;
-use square::{NoKeep, Range, Table};
+use square::{NoKeep, Table};
 use square_worker::Gate;
 use std::sync::atomic::{AtomicU64, Ordering};
 use std::test::*;

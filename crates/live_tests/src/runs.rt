@@ -1,11 +1,12 @@
 //! What no clause says of a run with reports: that there is memory for it, and that a sink that fails does not stop it.
 ghost use Rattle.std.specs.Prelude.{◌<◌};
 
+use bidegree::Range;
 use edge::MemSink;
 use finite_module::Module;
 use live_worker::resolve_live;
 use memory::Memory;
-use square::{NoKeep, Range, Table};
+use square::{NoKeep, Table};
 use square_worker::OpenGate;
 use std::alloc::Global;
 use std::sync::Wait;

@@ -4,11 +4,12 @@ ghost use Rattle.finite_module.specs.Module.{bottom};
 ghost use Rattle.square_board.specs.Boards.{IsPassOf};
 ghost use Rattle.square_board.specs.Openings.{bottom_of};
 
+use bidegree::Range;
 use finite_module::Module;
 use live_view::{LiveReader, close, new, publish};
 use memory::Memory;
 use resolution_step::step;
-use square::{Keep, NoKeep, Range, Table};
+use square::{Keep, NoKeep, Table};
 use square_board::{Board, BoardPass, Taken};
 use std::alloc::Global;
 use std::process::Abort;

@@ -2,10 +2,11 @@
 use Rattle.std.proofs.Common.{◌≡◌, ℕ, ℤ, zero, suc, ◌+◌, List, [], ◌∷◌, ◌++◌, length, All, slice_get, Some, refl, sym, ◌∙◌, ap, subst, arith}
 use Rattle.std.specs.Prelude.{replicate}
 use Rattle.std.proofs.lemmas.List.Elements.{All-head, All-tail}
+use Rattle.bidegree.specs.declared.range.TheConstants.{MAX_S}
+use Rattle.bidegree.specs.declared.range.Range.{Range}
 use Rattle.board_core.specs.declared.event.Entry.{Entry as Event}
 use Rattle.resolution_laws.specs.Resolution.{Module}
 use Rattle.resolution_laws.specs.Start.{Entry}
-use Rattle.square.specs.declared.range.TheConstants.{MAX_S}
 use Rattle.square.specs.Squares.{over}
 use Rattle.square.specs.Tables.{Staircase}
 use Rattle.square_board.specs.declared.opening.Opening.{Opening}
@@ -15,7 +16,6 @@ use Rattle.live_view.specs.Views.{row_of, blank, IsRight, IsWithin, RightViewIsC
 use Rattle.live_view.specs.Published.{last_from, last_view, IsRightOf, ArePublished, MayFollow, KnownViews, IsPartOfCharts}
 use Rattle.live_view.specs.Chart.{live_chart, IsPartOf, RightChartIsPart}
 use Rattle.ext_chart.specs.Chart.{chart_text}
-use Rattle.square.specs.declared.range.Range.{Range}
 use Rattle.live_view.specs.Publishing.{AreOfBoard, HasPublished}
 use Rattle.live_view.specs.Inside.Reading.{HasRead}
 

@@ -6,7 +6,7 @@ use Rattle.std.proofs.Math.ListN.{get_or-append}
 use Rattle.std.proofs.lemmas.List.{append_assoc, take_all, take_more_set, get_or-map, length-append, length-map, length-replicate, length-set, map-append, replicate-append-replicate}
 use Rattle.std.proofs.lemmas.List.Elements.{All-get_or}
 use Rattle.std.proofs.lemmas.List.FromFn.{sum_by-map-range_with_len_more}
-use Rattle.square.specs.declared.range.TheConstants.{MAX_S, MAX_T}
+use Rattle.bidegree.specs.declared.range.TheConstants.{MAX_S, MAX_T}
 use Rattle.live_view.specs.declared.view.Row.{Row}
 use Rattle.live_view.specs.Views.{row_of}
 use Rattle.live_view.specs.Inside.Rows.{numbers_of, rows_of, IsRow, AreRows, empty_row, with_count}

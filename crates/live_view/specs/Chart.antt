@@ -1,8 +1,8 @@
 -- The chart of a view as text: the one of a resolution, with a space for each square that the view does not have.
 use Rattle.std.specs.Prelude.{◌≡◌, ◌⊎◌, ℕ, ◌+◌, ◌≤◌, min, ℤ, List, [], ◌∷◌, ◌++◌, map, length, slice_get, Option, Some, None}
 use Rattle.std.specs.List.{range_with_len, sum}
+use Rattle.bidegree.specs.declared.range.Range.{Range}
 use Rattle.resolution_laws.specs.Resolution.{Module}
-use Rattle.square.specs.declared.range.Range.{Range}
 use Rattle.ext_chart.specs.Chart.{mark, row_lines, stems_line, chart_text}
 use Rattle.live_view.specs.Views.{row_of, IsCount, IsRight}
 

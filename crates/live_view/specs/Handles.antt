@@ -1,7 +1,7 @@
 -- A writer and its reader, as contracts see them.
 use Rattle.std.specs.Prelude.{◌≡◌, ℤ}
+use Rattle.bidegree.specs.declared.range.Range.{Range}
 use mathlib.Core.List.{IsPrefix}
-use Rattle.square.specs.declared.range.Range.{Range}
 use Rattle.live_view.specs.Published.{KnownViews}
 
 -- a writer or a reader: its range, the least degree, and the views that it knows, of which it shows the last

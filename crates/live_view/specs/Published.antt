@@ -1,8 +1,8 @@
 -- The views that a writer published, oldest first.
 use Rattle.std.specs.Prelude.{◌≡◌, ℕ, ℤ, List, [], ◌∷◌, All, Contains}
+use Rattle.bidegree.specs.declared.range.Range.{Range}
 use Rattle.logbook.specs.Pages.{Book}
 use Rattle.resolution_laws.specs.Start.{IsCanonicalStart}
-use Rattle.square.specs.declared.range.Range.{Range}
 use Rattle.square.specs.Squares.{over}
 use Rattle.square.specs.Tables.{Staircase}
 use Rattle.ext_chart.specs.Chart.{chart_text}

@@ -1,9 +1,9 @@
 -- Views of a board: for each row, how many generators each of its finished squares has.
 use Rattle.std.specs.Prelude.{◌≡◌, ℕ, suc, ◌+◌, ◌≤◌, List, [], ◌∷◌, length, replicate, slice_get, slice_index_or, Some}
+use Rattle.bidegree.specs.declared.range.TheConstants.{MAX_S}
 use mathlib.Core.List.{IsPrefix}
 use Rattle.resolution_laws.specs.Resolution.{Module, Content}
 use Rattle.resolution_laws.specs.Start.{Entry, IsOf, IsCanonicalStart}
-use Rattle.square.specs.declared.range.TheConstants.{MAX_S}
 
 -- row s of a view, none past its last row
 abbrev pub row_of : List (List ℕ) → ℕ → List ℕ

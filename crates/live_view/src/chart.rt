@@ -1,14 +1,14 @@
 //! The chart of a view as text.
 ghost use Rattle.std.specs.Prelude.{◌≡◌, ◌+◌, ◌-◌, ◌≤◌, pos, ◌+ℤ◌, ◌≤ℤ◌, IfOk, map};
 ghost use Rattle.std.specs.List.{range_with_len};
-ghost use Rattle.square.specs.declared.range.TheConstants.{MAX_S, MAX_T};
+ghost use Rattle.bidegree.specs.declared.range.TheConstants.{MAX_S, MAX_T};
 ghost use Rattle.ext_chart.specs.Chart.{row_line, row_lines};
 ghost use Rattle.live_view.specs.Chart.{mark_of, marks_of, live_chart};
 
 use crate::view::View;
+use bidegree::Range;
 use ext_chart::{mark, row_label, stems_line};
 use memory::Memory;
-use square::Range;
 use std::alloc::Global;
 
 /// The mark of a square with this number of generators, and a space for a square that is missing.

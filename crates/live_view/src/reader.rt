@@ -10,10 +10,10 @@ use crate::chart::chart;
 use crate::laws::{right_chart_is_part, right_view_is_canonical};
 use crate::newest::{Newest, OneBook, Sees, Tie};
 use crate::note::Note;
+use bidegree::Range;
 use core::mem::replace_with;
 use left_right::reader::Reader;
 use memory::Memory;
-use square::Range;
 use std::alloc::Global;
 use std::marker::Model;
 
@@ -41,7 +41,7 @@ pub struct LiveReader {
 
 impl Model for LiveReader {
     ghost use Rattle.std.specs.Prelude.{◌≤◌, ◌+ℤ◌, ◌≤ℤ◌, pos};
-    ghost use Rattle.square.specs.declared.range.TheConstants.{MAX_S, MAX_T};
+    ghost use Rattle.bidegree.specs.declared.range.TheConstants.{MAX_S, MAX_T};
     ghost use Rattle.live_view.specs.Handles.{LiveState};
 
     ghost Value = { LiveState };

@@ -1,6 +1,6 @@
 //! The finished squares of a board, read into a view.
 ghost use Rattle.std.specs.Prelude.{◌≡◌, ◌<◌, ◌≤◌, pos, ◌+ℤ◌, ◌≤ℤ◌, Contains, IfOk, OnOk};
-ghost use Rattle.square.specs.declared.range.TheConstants.{MAX_S, MAX_T};
+ghost use Rattle.bidegree.specs.declared.range.TheConstants.{MAX_S, MAX_T};
 ghost use Rattle.square_board.specs.Boards.{IsPassOf, IsSamePass, AreFalling};
 ghost use Rattle.square_board.specs.Courses.{events_of};
 ghost use Rattle.square_board.specs.Openings.{first_table, bottom_of, module_of, front_after};
@@ -10,8 +10,9 @@ ghost use Rattle.live_view.specs.Inside.Reading.{HasRead, HasReadRow};
 ghost use mathlib.Core.List.{IsPrefix};
 
 use crate::view::View;
+use bidegree::Range;
 use memory::Memory;
-use square::{Keep, Range};
+use square::Keep;
 use square_board::{Board, BoardPass};
 use std::sync::Wait;
 use std::time::Clock;

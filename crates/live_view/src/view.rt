@@ -1,12 +1,12 @@
 //! Views in memory: how many generators each finished square has.
 ghost use Rattle.std.specs.Prelude.{◌≡◌, ◌+◌, ◌<◌, ◌≤◌, [], ◌∷◌, ◌++◌, length, slice_get, vec_capacity, IfOk, IfNone, IfSome};
-ghost use Rattle.square.specs.declared.range.TheConstants.{MAX_S, MAX_T};
+ghost use Rattle.bidegree.specs.declared.range.TheConstants.{MAX_S, MAX_T};
 ghost use Rattle.live_view.specs.Views.{row_of, blank};
 ghost use Rattle.live_view.specs.Chart.{squares_within};
 ghost use Rattle.live_view.specs.Inside.Rows.{numbers_of, rows_of, IsRow, AreRows, with_count};
 
+use bidegree::{MAX_S, MAX_T, Range};
 use memory::Memory;
-use square::{MAX_S, MAX_T, Range};
 use std::alloc::Global;
 use std::marker::Model;
 
@@ -34,7 +34,7 @@ pub(crate) struct View {
 
 impl Model for View {
     ghost use Rattle.std.specs.Prelude.{◌+◌, ◌≤◌, ℕ, List, vec_capacity};
-    ghost use Rattle.square.specs.declared.range.TheConstants.{MAX_S};
+    ghost use Rattle.bidegree.specs.declared.range.TheConstants.{MAX_S};
 
     ghost Value = { List (List ℕ) };
 

@@ -1,7 +1,7 @@
 //! The writer of the views that a reader sees.
 ghost use Rattle.std.specs.Prelude.{◌≡◌, ◌≤◌, pos, ◌+ℤ◌, ◌≤ℤ◌, [], ◌∷◌, ◌++◌, drop, IfOk, IfSome, OnErr};
+ghost use Rattle.bidegree.specs.declared.range.TheConstants.{MAX_S, MAX_T};
 ghost use mathlib.Core.List.{IsPrefix};
-ghost use Rattle.square.specs.declared.range.TheConstants.{MAX_S, MAX_T};
 ghost use Rattle.square_board.specs.Boards.{IsSamePass};
 ghost use Rattle.square_board.specs.Courses.{events_of};
 ghost use Rattle.left_right.specs.Sides.{view as tie_at};
@@ -17,10 +17,11 @@ use crate::reader::{LiveReader, Seat, Sight};
 use crate::reading::read_board;
 use crate::series::Series;
 use crate::view::View;
+use bidegree::Range;
 use core::mem::replace_with;
 use left_right::writer::Writer;
 use memory::Memory;
-use square::{Keep, Range};
+use square::Keep;
 use square_board::{Board, BoardPass};
 use std::alloc::Global;
 use std::marker::Model;
@@ -49,7 +50,7 @@ pub struct LiveWriter {
 
 impl Model for LiveWriter {
     ghost use Rattle.std.specs.Prelude.{◌≡◌, ◌≤◌, ◌+ℤ◌, ◌≤ℤ◌, pos};
-    ghost use Rattle.square.specs.declared.range.TheConstants.{MAX_S, MAX_T};
+    ghost use Rattle.bidegree.specs.declared.range.TheConstants.{MAX_S, MAX_T};
     ghost use Rattle.live_view.specs.Handles.{LiveState};
 
     ghost Value = { LiveState };

@@ -1,9 +1,9 @@
 -- What is so of a table that was not given, since it was not reported whole.
 use Rattle.std.proofs.Common.{Result, Ok, Err, inl, inr, sym, subst}
+use Rattle.bidegree.specs.declared.range.Range.{Range}
 use Rattle.board_core.specs.declared.event.Cause.{Cause}
 use Rattle.board_core.specs.declared.event.Cause.TheVariants.{Failed, Memory}
 use Rattle.resolution_step.specs.Alone.{AreApart, HasResolved}
-use Rattle.square.specs.declared.range.Range.{Range}
 use Rattle.square.specs.Keeping.{Keeper}
 use Rattle.square.specs.Tables.{Staircase}
 use Rattle.live_worker.specs.Inside.Opened.{IsMadeOrMemory}

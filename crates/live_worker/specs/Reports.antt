@@ -1,10 +1,10 @@
 -- Reports of a run: lines that say how many squares of its range are finished.
 use Rattle.std.specs.Prelude.{◌≡◌, ℕ, ◌+◌, ◌*◌, ◌<◌, ◌≤◌, List, [], ◌∷◌, ◌++◌, codes, decimal, Option, Result, OnOk, OnErr}
 use Rattle.std.specs.List.{flat_map}
+use Rattle.bidegree.specs.declared.range.Range.{Range}
 use Rattle.finite_module.specs.Text.{newline}
 use Rattle.edge.specs.Faults.{HasRisen}
 use Rattle.edge.specs.Sink.{with_more, HasPrefixMore}
-use Rattle.square.specs.declared.range.Range.{Range}
 
 -- how many squares a range has
 abbrev pub squares_of : Range → ℕ

@@ -1,13 +1,14 @@
 //! A board, its roles and a writer of its views.
 ghost use Rattle.std.specs.Prelude.{◌≡◌, ◌+◌, ◌<◌, ◌≤◌, IfOk, IfErr};
-ghost use Rattle.square.specs.declared.range.TheConstants.{MAX_S, MAX_T};
+ghost use Rattle.bidegree.specs.declared.range.TheConstants.{MAX_S, MAX_T};
 ghost use Rattle.square.specs.Keeping.{IsKeeperOf};
 ghost use Rattle.live_worker.specs.Inside.Opened.{IsOpenedFor};
 
 use crate::role::Role;
+use bidegree::Range;
 use edge::Sink;
 use live_view::{LiveReader, LiveWriter, close, new};
-use square::{Keep, Range, Table};
+use square::{Keep, Table};
 use square_board::{Board, BoardPass};
 use std::alloc::Global;
 use std::sync::Wait;

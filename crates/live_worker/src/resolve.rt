@@ -1,8 +1,8 @@
 //! A range resolved by several workers, with reports of how far it is.
 ghost use Rattle.std.specs.Prelude.{◌≡◌, ◌<◌, ◌≤◌, true, false, OnOk, OnErr};
+ghost use Rattle.bidegree.specs.declared.range.TheConstants.{MAX_S, MAX_T};
 ghost use Rattle.board_core.specs.declared.event.Cause as Cause;
 ghost use Rattle.resolution_step.specs.Alone.{AreApart, IsUntouched, HasResolved};
-ghost use Rattle.square.specs.declared.range.TheConstants.{MAX_S, MAX_T};
 ghost use Rattle.square.specs.Keeping.{IsKeeperOf};
 ghost use Rattle.square_board.specs.Openings.{first_table};
 ghost use Rattle.turn_lock.specs.Turns.{HasAll};
@@ -16,12 +16,13 @@ use crate::reports::Reports;
 use crate::role::Watcher;
 use crate::run::run_roles;
 use crate::watcher::report;
+use bidegree::Range;
 use board_core::Cause;
 use core::mem::replace_with;
 use edge::{Failed, Sink};
 use live_view::close;
 use memory::Memory;
-use square::{Keep, Range, Table};
+use square::{Keep, Table};
 use square_board::Board;
 use square_worker::{Gate, conclude};
 use std::alloc::Global;

@@ -1,12 +1,12 @@
 -- A member, cleared at the pivots of the indeterminacy's basis, and that basis are the bracket.
 use Rattle.std.proofs.Common.{◌≡◌, ℕ, suc, ◌+◌, ◌<◌, ℤ, Bool, false, List, length, ap, sym, subst, ◌∙◌, arith}
 use Rattle.std.proofs.lemmas.Int.{ints}
+use Rattle.bidegree.specs.declared.range.Range.{Range}
 use Rattle.finite_module.specs.Graded.{ModulesAreSteenrodModules}
 use Rattle.f2_vec.specs.Vectors.{bit, sum_of, IsZero}
 use Rattle.f2_vec.specs.Spans.{IsInSpan}
 use Rattle.f2_vec.proofs.Sums.{sum_of-comm}
 use Rattle.f2_matrix.specs.Echelon.{IsRowBasis}
-use Rattle.square.specs.declared.range.Range.{Range}
 use Rattle.square.specs.Tables.{Staircase}
 use Rattle.lift_laws.specs.Lifts.{Resolution, IsCanonical, IsSphere}
 use Rattle.lift_laws.specs.Products.{Class, first_of, count_of, coefficient_of, product_by}

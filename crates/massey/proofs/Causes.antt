@@ -2,14 +2,14 @@
 use Rattle.std.specs.Prelude.{IsTrue, ◌↔◌, IfSome, option_map, if◌then◌else◌}
 use Rattle.std.specs.Option.{option_or}
 use Rattle.std.proofs.Common.{rules, ◌≡◌, Option, Some, None, true, ℕ, ◌+◌, ◌-◌, ◌<◌, ℤ, Bool, false, List, length, sym, subst, arith}
+use Rattle.bidegree.specs.declared.range.Range.{Range}
+use Rattle.bidegree.specs.declared.class.Class.{Class}
+use Rattle.bidegree.specs.declared.place.Place.{Place}
 use Rattle.finite_module.specs.Graded.{ModulesAreSteenrodModules}
 use Rattle.f2_vec.specs.Vectors.{IsZero}
-use Rattle.square.specs.declared.range.Range.{Range}
 use Rattle.square.specs.Tables.{Staircase, row_in, IsThrough}
 use Rattle.lift_laws.specs.Products.{Class as ClassAbove, count_of, product_by, LiftsGiveOneProduct}
-use Rattle.chain_map.specs.declared.class.Class.{Class}
 use Rattle.chain_map.specs.Lifting.{LiftValues, resolution_of, map_of, IsLiftOver, IsClassOf}
-use Rattle.yoneda.specs.declared.place.Place.{Place}
 use Rattle.chain_map.specs.Classes.{through, IsAt}
 use Rattle.chain_map.proofs.Classes.{class_is_once}
 use Rattle.yoneda.specs.Products.{class_above, IsPlaceOf, IsProductOver}

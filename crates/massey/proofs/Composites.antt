@@ -2,14 +2,14 @@
 use Rattle.std.proofs.Common.{◌≡◌, ℕ, suc, ◌+◌, ◌<◌, ◌≤◌, ℤ, pos, ◌+ℤ◌, ◌-ℤ◌, List, [], length, take, ap, sym, subst, ◌∙◌, arith}
 use Rattle.std.proofs.lemmas.Int.{ints}
 use Rattle.std.proofs.lemmas.List.{length-take-le, get_or-take}
+use Rattle.bidegree.specs.declared.range.Range.{Range}
+use Rattle.bidegree.specs.declared.range.TheConstants.{MAX_T}
 use Rattle.f2_vec.specs.Spans.{row}
 use Rattle.free_module.specs.FreeModule.{degree_at, IsWithinReach, free_width}
 use Rattle.free_module.specs.Graded.{free_graded}
 use Rattle.free_module.specs.LinearMap.{AreImages}
 use Rattle.resolution_laws.specs.Resolution.{row_of}
 use Rattle.resolution_laws.proofs.Generators.{length-images_of}
-use Rattle.square.specs.declared.range.Range.{Range}
-use Rattle.square.specs.declared.range.TheConstants.{MAX_T}
 use Rattle.square.specs.Squares.{bottom_of}
 use Rattle.square.specs.Tables.{Staircase, row_in, plain_rows}
 use Rattle.square.proofs.Found.{row_within}

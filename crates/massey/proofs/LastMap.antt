@@ -2,6 +2,7 @@
 use Rattle.std.proofs.Common.{◌≡◌, ℕ, suc, ◌+◌, ◌<◌, ◌≤◌, Bool, ℤ, pos, ◌+ℤ◌, ◌-ℤ◌, ◌≤ℤ◌, List, [], length, take, refl, ap, sym, subst, ◌∙◌, arith}
 use Rattle.std.proofs.lemmas.Int.{ints}
 use Rattle.std.proofs.lemmas.List.{get_or-map}
+use Rattle.bidegree.specs.declared.range.Range.{Range}
 use Rattle.f2_vec.specs.Vectors.{bit, sum_of, zeros}
 use Rattle.f2_vec.specs.Spans.{row}
 use Rattle.finite_module.specs.Graded.{ModulesAreSteenrodModules}
@@ -11,7 +12,6 @@ use Rattle.free_module.specs.LinearMap.{mapped}
 use Rattle.resolution_laws.specs.Resolution.{row_of}
 use Rattle.resolution_laws.specs.Exactness.{CanonicalTableIsMinimalResolution, target_of as boundary_target}
 use Rattle.resolution_laws.proofs.Generators.{length-images_of}
-use Rattle.square.specs.declared.range.Range.{Range}
 use Rattle.square.specs.Squares.{over, bottom_of}
 use Rattle.square.specs.Tables.{Staircase, plain_rows}
 use Rattle.lift_laws.specs.Lifts.{Resolution, IsSphere, gens, degree, image, d, lowered}

@@ -1,12 +1,12 @@
 -- The maps that the code computes, on the squares that it takes, are those between the parts of the tables through a range.
 use Rattle.std.proofs.Common.{◌≡◌, ℕ, ◌+◌, ◌<◌, ◌≤◌, Bool, ℤ, pos, ◌+ℤ◌, ◌-ℤ◌, ◌<ℤ◌, List, length, take, ap, sym, ◌∙◌, arith}
 use Rattle.std.proofs.lemmas.Int.{ints}
+use Rattle.bidegree.specs.declared.range.Range.{Range}
 use Rattle.f2_vec.specs.Spans.{row}
 use Rattle.free_module.specs.Graded.{free_graded}
 use Rattle.free_module.specs.LinearMap.{mapped}
 use Rattle.resolution_laws.specs.Resolution.{degrees_from, row_of}
 use Rattle.resolution_laws.proofs.Generators.{length-images_of}
-use Rattle.square.specs.declared.range.Range.{Range}
 use Rattle.square.specs.Squares.{over, bottom_of}
 use Rattle.square.specs.Tables.{Staircase, plain_rows}
 use Rattle.lift_laws.specs.Lifts.{Resolution, gens, degree, lowered}

@@ -1,10 +1,11 @@
 -- The value that a null homotopy gives is one of the bracket.
 use Rattle.std.proofs.Common.{◌≡◌, ℕ, suc, ◌+◌, ◌≤◌, ℤ, pos, ◌+ℤ◌, ◌-ℤ◌, ◌≤ℤ◌, Bool, List, ap, sym, subst, ◌∙◌, arith}
 use Rattle.std.proofs.lemmas.Int.{ints}
+use Rattle.bidegree.specs.declared.range.Range.{Range}
+use Rattle.bidegree.specs.declared.place.Place.{Place}
 use Rattle.f2_vec.specs.Vectors.{plus, zeros}
 use Rattle.f2_vec.specs.Spans.{row}
 use Rattle.f2_vec.proofs.Sums.{length-zeros, plus-false}
-use Rattle.square.specs.declared.range.Range.{Range}
 use Rattle.square.specs.Squares.{bottom_of}
 use Rattle.square.specs.Tables.{Staircase, IsTable, IsThrough}
 use Rattle.lift_laws.specs.Lifts.{Resolution}
@@ -13,7 +14,6 @@ use Rattle.bracket_laws.specs.Brackets.{dot, top_of}
 use Rattle.bracket_laws.proofs.Dots.{dot-zeros}
 use Rattle.bracket_laws.proofs.Vectors.{on_square-same}
 use Rattle.chain_map.specs.Lifting.{LiftValues, resolution_of, IsCanonicalIn, map_of, greatest, IsLiftOver}
-use Rattle.yoneda.specs.declared.place.Place.{Place}
 use Rattle.yoneda.specs.Products.{class_above}
 use Rattle.yoneda.proofs.OneProduct.{canonical_less}
 use Rattle.massey.specs.declared.places.Places.{Places}

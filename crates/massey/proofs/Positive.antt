@@ -1,9 +1,10 @@
 -- Where ab and bc are zero, neither a nor b is in row 0.
 use Rattle.std.proofs.Common.{ℕ, ◌+◌, ◌-◌, ◌<◌, ◌≤◌, pos, ◌+ℤ◌, length, sym, subst, arith}
 use Rattle.std.proofs.lemmas.Int.{ints}
+use Rattle.bidegree.specs.declared.range.Range.{Range}
+use Rattle.bidegree.specs.declared.place.Place.{Place}
 use Rattle.finite_module.specs.Graded.{ModulesAreSteenrodModules}
 use Rattle.f2_vec.specs.Vectors.{IsZero}
-use Rattle.square.specs.declared.range.Range.{Range}
 use Rattle.square.specs.Squares.{bottom_of}
 use Rattle.square.specs.Tables.{Staircase, content_at, IsTable, IsThrough}
 use Rattle.lift_laws.specs.Products.{product_by}
@@ -11,7 +12,6 @@ use Rattle.bracket_laws.specs.Brackets.{UnitsHaveNoZeroProducts}
 use Rattle.chain_map.specs.Lifting.{LiftValues, resolution_of, IsCanonicalIn, map_of, IsLiftOver}
 use Rattle.chain_map.specs.Classes.{through}
 use Rattle.chain_map.proofs.Resolved.{is_canonical}
-use Rattle.yoneda.specs.declared.place.Place.{Place}
 use Rattle.yoneda.specs.Products.{class_above}
 use Rattle.yoneda.proofs.Through.{count_through, product_through}
 use Rattle.massey.specs.declared.places.Places.{Places}

@@ -1,10 +1,10 @@
 -- The values of lifts on the squares of the products and of the bracket.
 use Rattle.std.proofs.Common.{◌≡◌, ℕ, suc, ◌+◌, ◌-◌, ◌<◌, pos, ◌-ℤ◌, length, arith}
 use Rattle.std.proofs.lemmas.Int.{ints}
-use Rattle.square.specs.declared.range.Range.{Range}
+use Rattle.bidegree.specs.declared.range.Range.{Range}
+use Rattle.bidegree.specs.declared.place.Place.{Place}
 use Rattle.square.specs.Tables.{Staircase, row_in, content_at}
 use Rattle.chain_map.specs.Lifting.{LiftValues, IsLiftOver}
-use Rattle.yoneda.specs.declared.place.Place.{Place}
 use Rattle.yoneda.specs.Products.{class_above, IsThere}
 use Rattle.yoneda.proofs.Lifted.{HasRow, has_row}
 use Rattle.massey.specs.declared.places.Places.{Places}

@@ -1,16 +1,16 @@
 -- Three-fold Massey products on the tables of two resolutions (May, Matric Massey products; Bruner, Calculation of large Ext
 -- modules).
 use Rattle.std.specs.Prelude.{◌≡◌, ℕ, Bool, false, List, ◌+◌, Option, ◌↔◌, zero, suc, Some, None, pos, ◌+ℤ◌, ◌-ℤ◌, length}
+use Rattle.bidegree.specs.declared.range.Range.{Range}
+use Rattle.bidegree.specs.declared.class.Class.{Class}
 use Rattle.f2_vec.specs.Vectors.{bit, IsFirstOne, sum_of, IsZero}
 use Rattle.f2_vec.specs.Spans.{row, IsInSpan}
 use Rattle.f2_matrix.specs.Echelon.{IsRowBasis}
-use Rattle.square.specs.declared.range.Range.{Range}
 use Rattle.square.specs.Tables.{Staircase}
 use Rattle.square.specs.Squares.{bottom_of}
 use Rattle.lift_laws.specs.Lifts.{Resolution}
 use Rattle.lift_laws.specs.Products.{Class as ClassAbove, count_of}
 use Rattle.bracket_laws.specs.Brackets.{top_of, IsBracketMember, IsIndeterminacy}
-use Rattle.chain_map.specs.declared.class.Class.{Class}
 use Rattle.chain_map.specs.Classes.{through, IsAt, first_refusal}
 use Rattle.chain_map.specs.Lifting.{resolution_of, IsCanonicalIn}
 use Rattle.yoneda.specs.Products.{IsProductOver}

@@ -1,21 +1,21 @@
 -- What contracts of private functions cite: where the classes of a bracket stand, lifts of b and c, and how a null homotopy of their
 -- composite is made, by quasi-inverses, map by map and square by square.
 use Rattle.std.specs.Prelude.{◌≡◌, ℕ, suc, ◌+◌, ◌≤◌, pos, ◌+ℤ◌, Bool, List, Option, ℤ, ◌-ℤ◌, map, take}
+use Rattle.bidegree.specs.declared.range.Range.{Range}
+use Rattle.bidegree.specs.declared.class.Class.{Class}
+use Rattle.bidegree.specs.declared.place.Place.{Place}
 use Rattle.f2_vec.specs.Vectors.{IsZero, sum_of, zeros}
 use Rattle.f2_vec.specs.Spans.{row}
 use Rattle.free_module.specs.FreeModule.{free_width}
 use Rattle.free_module.specs.Graded.{free_graded}
 use Rattle.free_module.specs.LinearMap.{mapped}
-use Rattle.square.specs.declared.range.Range.{Range}
 use Rattle.square.specs.Squares.{bottom_of}
 use Rattle.square.specs.Tables.{Staircase, IsTable, IsThrough}
 use Rattle.lift_laws.specs.Lifts.{IsSphere, degree}
 use Rattle.lift_laws.specs.Products.{degree_of_class, coefficient_of, on_square, product_by, first_of}
 use Rattle.bracket_laws.specs.Brackets.{IsNullHomotopy, composed, top_of, IsBracketMember, IsIndeterminacy}
-use Rattle.chain_map.specs.declared.class.Class.{Class}
 use Rattle.chain_map.specs.Lifting.{LiftValues, resolution_of, map_of, IsLiftOver, row_values, joined, AreChosen, target_of, next_goal, lowered_row}
 use Rattle.chain_map.specs.Classes.{through, range_refusal}
-use Rattle.yoneda.specs.declared.place.Place.{Place}
 use Rattle.yoneda.specs.Products.{class_above, IsPlaceIn, IsPlaceOf}
 use Rattle.massey.specs.declared.fault.MasseyFault.{MasseyFault}
 use Rattle.massey.specs.declared.fault.MasseyFault.TheVariants.{OutOfRange}

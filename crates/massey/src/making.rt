@@ -17,17 +17,18 @@ use crate::fault::MasseyFault;
 use crate::homotopy::last_map;
 use crate::places::{Places, places_of};
 use crate::setting::Setting;
+use bidegree::{Class, Place, Range};
 use bracket_laws::{bracket_is_coset, units_have_no_zero_products};
-use chain_map::{Class, Lift, lift};
+use chain_map::{Lift, lift};
 use f2_matrix::{Matrix, Reduced};
 use f2_vec::BitVec;
 use finite_module::modules_are_graded_modules;
 use lift_laws::lifts_give_one_product;
 use memory::Memory;
 use resolution_laws::canonical_table_is_minimal_resolution;
-use square::{Range, Table};
+use square::Table;
 use std::alloc::Global;
-use yoneda::{Place, coefficients, product_by_lift, products};
+use yoneda::{coefficients, product_by_lift, products};
 
 /// The bracket <a, b, c> of the classes a and b of the sphere with the class c of the module, where ab and bc are zero: the values that lifts of b
 /// and c and null homotopies give, in the square (a.s + b.s + c.s - 1, a.t + b.t + c.t), are one of them and the indeterminacy, which is spanned by

@@ -11,9 +11,9 @@ ghost use Rattle.massey.specs.declared.fault.MasseyFault.TheVariants.{NoClass, O
 ghost use Rattle.massey.specs.Inside.{place_refusal, AreFound, AreInside, IsSetting};
 
 use crate::fault::MasseyFault;
-use chain_map::Class;
-use square::{Range, Table};
-use yoneda::{Place, place_of};
+use bidegree::{Class, Place, Range};
+use square::Table;
+use yoneda::place_of;
 
 /// Where the three classes of a bracket stand.
 #[derive(Clone, Copy)]

@@ -3,7 +3,8 @@ ghost use Rattle.std.specs.Prelude.{◌≡◌, ◌+◌};
 ghost use Rattle.massey.specs.Inside.{IsSetting, above_of as bracket_above, above_ab as product_above, above_bc as lower_above};
 
 use crate::places::Places;
-use square::{Range, Table};
+use bidegree::Range;
+use square::Table;
 
 /// The tables of a module's resolution and of the sphere's, their range, and where the classes of a bracket stand.
 #[derive(Clone, Copy)]

@@ -2,12 +2,12 @@
 use Rattle.std.proofs.Common.{◌≡◌, ℕ, zero, suc, ◌+◌, ◌<◌, ◌≤◌, ℤ, pos, ◌+ℤ◌, Bool, List, [], length, map, get_or, ap, sym, subst, ◌∙◌, arith}
 use Rattle.std.proofs.lemmas.List.{get_or-map, length-map}
 use Rattle.std.proofs.lemmas.List.FromFn.{length-map-range_with_len, get_or-map-range_with_len}
-use Rattle.square.specs.declared.range.Range.{Range}
+use Rattle.bidegree.specs.declared.range.Range.{Range}
+use Rattle.bidegree.specs.declared.class.Class.{Class}
+use Rattle.bidegree.specs.declared.place.Place.{Place}
 use Rattle.square.specs.Tables.{Staircase, row_in, IsThrough}
 use Rattle.lift_laws.specs.Products.{count_of}
-use Rattle.chain_map.specs.declared.class.Class.{Class}
 use Rattle.chain_map.specs.Lifting.{LiftValues, resolution_of, row_values, square_values, counts, shifted_length, degrees_through, IsLiftOver, HasValue}
-use Rattle.yoneda.specs.declared.place.Place.{Place}
 use Rattle.yoneda.specs.Products.{IsPlaceOf}
 
 goes_over : (above m n : ℕ) → m < n → m < shifted_length above n

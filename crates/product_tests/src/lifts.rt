@@ -5,10 +5,11 @@ ghost use Rattle.square.specs.Tables.{IsThrough};
 ghost use Rattle.chain_map.specs.Lifting.{IsLiftOver};
 
 use crate::tables::{sphere_table, two_cells};
-use chain_map::{Class, Lift, lift, lifts};
+use bidegree::{Class, Range};
+use chain_map::{Lift, lift, lifts};
 use f2_vec::BitVec;
 use resolution_step::resolved;
-use square::{Range, Table};
+use square::Table;
 use std::test::Fail;
 use yoneda::place_of;
 

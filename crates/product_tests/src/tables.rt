@@ -1,17 +1,18 @@
 //! Tables of the sphere and of the module of two cells that Sq1 joins.
 ghost use Rattle.std.specs.Prelude.{◌≤◌, IfOk};
-ghost use Rattle.square.specs.declared.range.TheConstants.{MAX_S, MAX_T};
+ghost use Rattle.bidegree.specs.declared.range.TheConstants.{MAX_S, MAX_T};
 ghost use Rattle.square.specs.Tables.{IsThrough};
 ghost use Rattle.lift_laws.specs.Lifts.{IsSphere};
 ghost use Rattle.chain_map.specs.Lifting.{resolution_of};
 
+use bidegree::Range;
 use chain_map::tables_of_the_sphere;
 use finite_module::Module;
 use memory::Memory;
 use module_check::check;
 use module_json::read;
 use resolution_step::resolved;
-use square::{Range, Table};
+use square::Table;
 use std::alloc::Global;
 
 /// The table of the sphere through the range.

@@ -10,6 +10,7 @@ use Rattle.f2_matrix.specs.Reduction.{Rows}
 use Rattle.resolution_laws.proofs.Rows.{IsWithinReach-row}
 use Rattle.resolution_laws.proofs.NewGenerators.{HaveWidth-IsChosen, map_rows-new}
 use Rattle.std.proofs.lemmas.List.{length-append, length-map}
+use Rattle.bidegree.specs.declared.range.TheConstants.{MAX_S, MAX_T}
 use Rattle.free_module.specs.LinearMap.{AreImages, map_rows, image_of}
 use Rattle.free_module.proofs.MapRows.{HaveWidth-map_rows}
 use Rattle.finite_module.specs.Checked.{Checked}
@@ -20,7 +21,6 @@ use Rattle.resolution_laws.proofs.StartLaws.{content_is_unique}
 use Rattle.f2_matrix.proofs.Unique.{kernel_basis_unique}
 use Rattle.square.specs.Squares.{over, bottom_of}
 use Rattle.square.specs.Tables.{Footing, IsFooting}
-use Rattle.square.specs.declared.range.TheConstants.{MAX_S, MAX_T}
 use Rattle.square.proofs.Footings.{footing_founded}
 use Rattle.square.proofs.Fitting.{AreImages-footing}
 use Rattle.resolution_step.proofs.Footings.{HaveWidth-candidates_over}

@@ -1,7 +1,7 @@
 -- The rows of a resolution without its kernels: of each square the images of its generators.
 use Rattle.std.specs.Prelude.{◌≡◌, ℕ, ◌+◌, ◌≤◌, ℤ, Bool, List, [], ◌∷◌, length, map, take, drop, slice_index_or}
+use Rattle.bidegree.specs.declared.range.Range.{Range}
 use Rattle.finite_module.specs.Checked.{Checked}
-use Rattle.square.specs.declared.range.Range.{Range}
 use Rattle.resolution_laws.specs.Resolution.{Module, Content, degrees_from, images_of, row_of, IsCanonicalTable}
 
 -- of a row the degrees of its generators, their images, and how many generators each square has

@@ -1,17 +1,18 @@
 //! A range resolved degree by degree, and in each degree row by row.
 ghost use Rattle.std.specs.Prelude.{◌≡◌, ℕ, suc, ◌+◌, ◌<◌, ◌≤◌, pos, ◌+ℤ◌, [], ◌++◌, replicate, length, IfOk, OnOk};
+ghost use Rattle.bidegree.specs.declared.range.TheConstants.{MAX_S, MAX_T};
 ghost use Rattle.free_module.specs.FreeModule.{free_width};
 ghost use Rattle.resolution_laws.specs.Resolution.{row_of, square_in};
 ghost use Rattle.resolution_laws.specs.Exactness.{target_of};
 ghost use Rattle.f2_vec.specs.Spans.{HaveWidth};
 ghost use Rattle.resolution_laws.specs.Start.{IsOf};
-ghost use Rattle.square.specs.declared.range.TheConstants.{MAX_S, MAX_T};
 ghost use Rattle.square.specs.Squares.{over, bottom_of};
 ghost use Rattle.resolution_images.specs.BareRows.{no_bare_row, bare_row_in, squares_of, AreOfCanonical};
 ghost use Rattle.resolution_images.specs.Inside.Made.{AreMadeThrough, IsToCover};
 
 use crate::row::Row;
 use crate::step::{Made, step_over, step_over_free};
+use bidegree::Range;
 use f2_kernel::Kernel;
 use f2_vec::BitVec;
 use finite_module::{Module, modules_are_graded_modules};
@@ -20,7 +21,6 @@ use milnor_basis::Basis;
 use milnor_laws::linear_maps;
 use resolution_existence::canonical_table_exists;
 use resolution_laws::made_rows_are_covered;
-use square::Range;
 use std::alloc::Global;
 use std::marker::Model;
 
@@ -35,7 +35,7 @@ pub struct Images {
 
 impl Model for Images {
     ghost use Rattle.std.specs.Prelude.{◌≤◌};
-    ghost use Rattle.square.specs.declared.range.TheConstants.{MAX_T};
+    ghost use Rattle.bidegree.specs.declared.range.TheConstants.{MAX_T};
     ghost use Rattle.square.specs.Squares.{over};
     ghost use Rattle.resolution_images.specs.BareRows.{BareTable, AreOfCanonical};
 

@@ -1,11 +1,11 @@
 -- A table through a range, over a canonical start, is the canonical table of the range.
 use Rattle.std.proofs.Common.{◌≡◌, ℕ, ◌+◌, ◌≤◌, List, [], length, take, sym, ◌∙◌, ap, subst, arith}
 use Rattle.std.proofs.lemmas.List.{get_or-map, get_or-take, length-map, length-take-le}
+use Rattle.bidegree.specs.declared.range.Range.{Range}
 use Rattle.f2_matrix.proofs.Unique.{kernel_basis_unique}
 use Rattle.resolution_laws.specs.Resolution.{Module, Content, no_content, square_in, row_of, IsCanonicalTable}
 use Rattle.resolution_laws.specs.Start.{Entry, IsOf, IsCanonicalStart}
 use Rattle.resolution_laws.proofs.StartLaws.{canonical_content, canonical_from_contents}
-use Rattle.square.specs.declared.range.Range.{Range}
 use Rattle.square.specs.Squares.{Placed, over}
 use Rattle.square.specs.Tables.{Staircase, contents, row_in, plain_rows, content_at, IsThrough, cut}
 use Rattle.square.proofs.Places.{length-row_of, slice_get-there, content_at-is}

@@ -1,9 +1,9 @@
 -- A table that is continued through a range, and the keeper that its new squares are given to.
 use Rattle.std.specs.Prelude.{◌≡◌, ℕ, ◌+◌, ◌<◌, ◌≤◌, ◌⊎◌, List, length, map, take, slice_get, Some, Result, IfOk}
 use Rattle.std.specs.List.{All, AllPairs}
+use Rattle.bidegree.specs.declared.range.Range.{Range}
 use Rattle.resolution_laws.specs.Resolution.{Module, Content, IsCanonicalTable}
 use Rattle.resolution_laws.specs.Start.{Entry, IsOf, IsCanonicalStart}
-use Rattle.square.specs.declared.range.Range.{Range}
 use Rattle.square.specs.Squares.{Placed, over}
 use Rattle.square.specs.Tables.{Staircase, row_in, plain_rows, cut, IsThrough}
 use Rattle.square.specs.Growing.{HasGrown}

@@ -1,8 +1,8 @@
 //! A range resolved on one thread.
 ghost use Rattle.std.specs.Prelude.{◌≡◌, ◌+◌, ◌<◌, ◌≤◌, ℕ, suc, [], length, replicate, IfOk, OnOk};
+ghost use Rattle.bidegree.specs.declared.range.TheConstants.{MAX_S, MAX_T};
 ghost use Rattle.resolution_laws.specs.Resolution.{IsCanonicalTable};
 ghost use Rattle.square.specs.declared.keep.KeepFault as KeepFault;
-ghost use Rattle.square.specs.declared.range.TheConstants.{MAX_S, MAX_T};
 ghost use Rattle.square.specs.Squares.{over};
 ghost use Rattle.square.specs.Tables.{row_in, plain_rows, cut, IsThrough, IsNextAt};
 ghost use Rattle.square.specs.Keeping.{IsKeeperOf, HasFared};
@@ -10,9 +10,10 @@ ghost use Rattle.resolution_step.specs.Alone.{AreOfStart, IsInRange, IsBefore, I
 ghost use Rattle.resolution_step.specs.Inside.Adding.{IsNewAt, IsEndOf, IsInRow, HasAdded};
 
 use crate::step_on::step;
+use bidegree::Range;
 use finite_module::Module;
 use memory::Memory;
-use square::{Keep, KeepFault, NoKeep, Range, Square, Table, put};
+use square::{Keep, KeepFault, NoKeep, Square, Table, put};
 use std::alloc::Global;
 
 /// The table with each square of the range. Those that are not there yet are made, and no others, row by row from row 0 on and

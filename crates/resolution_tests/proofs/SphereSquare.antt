@@ -1,6 +1,7 @@
 -- The square (0, 0) of the sphere: one generator goes to the module's, and the kernel is zero.
 use Rattle.std.proofs.Common.{◌≡◌, ◌↔◌, ℕ, zero, suc, ◌+◌, ◌<◌, pos, ◌+ℤ◌, Bool, true, false, List, [], ◌∷◌, ◌++◌, length, take, replicate, Option, Some, None, refl, sym, ◌∙◌, ap, subst, arith}
 use Rattle.std.specs.Prelude.{slice_get}
+use Rattle.bidegree.specs.declared.range.TheConstants.{MAX_S}
 use Rattle.f2_vec.specs.Vectors.{bit, zeros}
 use Rattle.f2_vec.specs.Spans.{row, HaveWidth, combination, unit_vectors, IsInSpan, IsInKernel}
 use Rattle.f2_vec.proofs.Split.{HaveWidth-unit_vectors}
@@ -13,7 +14,6 @@ use Rattle.finite_module.specs.Graded.{module_graded}
 use Rattle.finite_module.specs.ModuleLaws.{module_HasUnit}
 use Rattle.resolution_laws.specs.Resolution.{Content, IsChosen, IsStep}
 use Rattle.resolution_laws.proofs.NewGenerators.{map_rows-new, IsStepOver_from_choice}
-use Rattle.square.specs.declared.range.TheConstants.{MAX_S}
 use Rattle.square.specs.Squares.{Placed, square_matrix, source_width, IsQuasi, module_over, over, bottom_of}
 use Rattle.square.specs.Tables.{Staircase, AllRead, IsNext, IsReadable}
 use Rattle.square.proofs.Places.{row_in-none}

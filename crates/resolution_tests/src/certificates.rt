@@ -1,10 +1,11 @@
 //! Tables that certify a range, and tables that do not. The modules are the sphere's and two cells, whose bottom is 5.
 use crate::squares::one_row;
+use bidegree::Range;
 use cert_check::{CertFault, verify};
 use finite_module::Module;
 use memory::Memory;
 use resolution_step::{resolve_alone, resolved};
-use square::{NoKeep, Range, Square, Table};
+use square::{NoKeep, Square, Table};
 use std::alloc::Global;
 use std::sync::Arc;
 use std::test::Fail;

@@ -3,11 +3,12 @@ ghost use Rattle.std.specs.Prelude.{◌≡◌, true, [], ◌∷◌, None, IfOk};
 ghost use Rattle.finite_module.specs.DerivedAction.{derived_module};
 ghost use Rattle.finite_module.specs.Checked.{sphere_file};
 
+use bidegree::Range;
 use f2_matrix::{Matrix, Reduced};
 use f2_vec::BitVec;
 use finite_module::Module;
 use memory::Memory;
-use square::{Inputs, Keep, KeepFault, MemKeep, NoKeep, Range, Square, Table};
+use square::{Inputs, Keep, KeepFault, MemKeep, NoKeep, Square, Table};
 use std::alloc::Global;
 use std::sync::Arc;
 use std::test::Fail;

@@ -1,9 +1,10 @@
 //! What no clause says: that there is memory for each call. The sphere's chart is known.
 use crate::squares::is_one_row;
+use bidegree::Range;
 use finite_module::Module;
 use memory::Memory;
 use resolution_step::{resolve_alone, resolved, step};
-use square::{KeepFault, MemKeep, NoKeep, Range, Table};
+use square::{KeepFault, MemKeep, NoKeep, Table};
 use std::test::Fail;
 
 // How many generators a square has, none where the square is not there.

@@ -4,13 +4,13 @@ use Rattle.std.specs.Option.{option_map}
 use Rattle.std.specs.Int.{w64}
 use Rattle.std.proofs.lemmas.Int.{ints}
 use Rattle.std.proofs.lemmas.Option.{IfSome_then}
+use Rattle.bidegree.specs.declared.range.TheConstants.{MAX_S, MAX_T}
 use Rattle.f2_vec.specs.Spans.{HaveWidth}
 use Rattle.f2_matrix.specs.Echelon.{IsReduced, HasNoZeroRow}
 use Rattle.f2_matrix.specs.Parts.{AreReductionParts}
 use Rattle.f2_matrix.specs.Reduction.{Rows, Reduction, IsReductionOf}
 use Rattle.resolution_laws.specs.Resolution.{Module, Content, row_of, below_of}
 use Rattle.resolution_laws.specs.Start.{Entry}
-use Rattle.square.specs.declared.range.TheConstants.{MAX_S, MAX_T}
 use Rattle.square.specs.Squares.{Placed, entry_of, square_matrix, over, bottom_of}
 use Rattle.square.specs.Tables.{Staircase, plain_rows, AllRead, IsNext, IsNextAt, IsTable, IsReadable, IsQuasiBehind, IsMatrixBehind, next_target_width, next_width}
 use Rattle.save_file.specs.Bodies.{Preimages, body_bytes, Kept, kept_of, kept_in, reduction_with, preimages_of, matrix_with, HasRules}

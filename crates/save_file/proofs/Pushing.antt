@@ -6,9 +6,9 @@ use Rattle.std.proofs.lemmas.Bool.{cases_eq, false≢true, cond-true, and_parts,
 use Rattle.std.proofs.lemmas.List.{map-append}
 use Rattle.f2_matrix.specs.Reduction.{Reduction}
 use Rattle.std.proofs.lemmas.Option.{none-some}
+use Rattle.bidegree.specs.declared.range.TheConstants.{MAX_S}
 use Rattle.resolution_laws.specs.Start.{Entry, entry_at}
 use Rattle.resolution_laws.proofs.StartLaws.{entry_at-new}
-use Rattle.square.specs.declared.range.TheConstants.{MAX_S}
 use Rattle.square.specs.Squares.{Placed, entry_of, WasRead}
 use Rattle.square.specs.Tables.{Staircase, row_in, with_square, AllRead, IsNext, IsTable, reduced_in_row, with_quasi}
 use Rattle.square.proofs.Places.{row_in-none, next_length}

@@ -7,11 +7,11 @@ use Rattle.std.proofs.lemmas.Option.{cond_some, same_Some, none-some}
 use Rattle.std.proofs.lemmas.List.{length-map, map-append}
 use Rattle.square.specs.Squares.{width_with}
 use Rattle.std.proofs.lemmas.Slice.Eq.{bytes_eq-Decides}
+use Rattle.bidegree.specs.declared.range.TheConstants.{MAX_S, MAX_T}
 use Rattle.f2_vec.specs.Spans.{HaveWidth}
 use Rattle.resolution_laws.specs.Resolution.{Module, Content, no_content}
 use Rattle.resolution_laws.specs.Start.{Entry, entry_at}
 use Rattle.resolution_laws.proofs.StartLaws.{IsElsewhere, entry_at-other, entry_at-new, squares_below-same}
-use Rattle.square.specs.declared.range.TheConstants.{MAX_S, MAX_T}
 use Rattle.f2_matrix.specs.Parts.{AreReductionParts}
 use Rattle.f2_matrix.specs.Echelon.{IsReduced, HasNoZeroRow}
 use Rattle.f2_matrix.specs.Reduction.{Reduction}

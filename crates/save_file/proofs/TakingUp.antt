@@ -13,12 +13,12 @@ use Rattle.resolution_laws.specs.Start.{Entry, entry_at, IsOf, AreOf}
 use Rattle.resolution_laws.proofs.StartLaws.{entry_at-other, entry_at-new, IsElsewhere}
 use Rattle.f2_matrix.specs.Reduction.{Reduction}
 use Rattle.square.specs.Squares.{Placed, bottom_of, over}
-use Rattle.square.specs.declared.range.TheConstants.{MAX_S}
 use Rattle.square.specs.Tables.{Staircase, row_in, with_quasi, AllRead, IsTable}
 use Rattle.square.specs.Keeping.{HoldsTable}
 use Rattle.square.proofs.Places.{slice_get-there, content_at-is}
 use Rattle.square.proofs.ByDegree.{square_at-above}
 use Rattle.std.specs.declared.alloc.Global.{Global}
+use Rattle.bidegree.specs.declared.range.TheConstants.{MAX_S}
 use Rattle.save_journal.specs.Journals.{contents}
 use Rattle.save_file.specs.Bodies.{Kept, kept_of, entries, with_quasi_at, IsNextPlace}
 use Rattle.save_file.specs.Reading.{square_in, addition_in, with_square_read, with_addition_read, after_body, and_then_kept, kept_from, kept_of_bodies}

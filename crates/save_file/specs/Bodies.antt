@@ -3,6 +3,7 @@ use Rattle.std.specs.Prelude.{◌≡◌, ℕ, suc, ◌≤◌, ◌&&◌, nat_eq, 
 use Rattle.std.specs.Option.{option_map}
 use Rattle.std.specs.Int.{w16, w64, to_be_bytes}
 use Rattle.std.specs.List.{flat_map}
+use Rattle.bidegree.specs.declared.range.TheConstants.{MAX_S, MAX_T}
 use Rattle.f2_vec.specs.Spans.{HaveWidth}
 use Rattle.f2_matrix.specs.Echelon.{IsReduced, HasNoZeroRow}
 use Rattle.f2_matrix.specs.Parts.{AreReductionParts}
@@ -10,7 +11,6 @@ use Rattle.f2_matrix.specs.Reduction.{Rows, Reduction}
 use Rattle.resolution_laws.specs.Resolution.{Module, Content, no_content}
 use Rattle.resolution_laws.specs.Start.{Entry, entry_at, squares_below, row_below}
 use Rattle.square.specs.Squares.{Placed, entry_of, target_width, width_with, square_matrix}
-use Rattle.square.specs.declared.range.TheConstants.{MAX_S, MAX_T}
 use Rattle.f2_vec.specs.Bytes.{packed}
 use Rattle.save_file.specs.declared.outline.TheConstants.{SQUARE, REDUCED, QUASI}
 

@@ -3,11 +3,11 @@ use Rattle.std.specs.Prelude.{ℕ, zero, suc, ◌+◌, ◌*◌, ◌/◌, ◌%◌
 use Rattle.std.specs.Int.{Width, w16, w64, byte_len, from_be_bytes, bit_at, div_ceil}
 use Rattle.std.specs.List.{range_with_len}
 use Rattle.std.specs.Str.{bytes_eq}
+use Rattle.bidegree.specs.declared.range.TheConstants.{MAX_S, MAX_T}
 use Rattle.f2_matrix.specs.Reduction.{Rows, Reduction}
 use Rattle.f2_kernel.specs.Tests.{is_row_basis, are_parts}
 use Rattle.resolution_laws.specs.Resolution.{Module}
 use Rattle.resolution_laws.specs.Start.{Entry, entry_at}
-use Rattle.square.specs.declared.range.TheConstants.{MAX_S, MAX_T}
 use Rattle.save_file.specs.Bodies.{Preimages, Body, body_bytes, Addition, addition_bytes, Kept, entries, kept_in, kept_at, with_quasi_at, reduction_with, target_dim, source_dim, matrix_with}
 use Rattle.save_file.specs.declared.outline.TheConstants.{REDUCED}
 

@@ -1,9 +1,9 @@
 //! Squares and quasi-inverses out of bytes.
 ghost use Rattle.std.specs.Prelude.{◌≡◌, ◌↔◌, ℕ, ◌*◌, ◌≤◌, None, Err, Bool, List, length, IsTrue, IfOk, MatchOption};
 ghost use Rattle.std.specs.Arc.{arc_value};
+ghost use Rattle.bidegree.specs.declared.range.TheConstants.{MAX_S, MAX_T};
 ghost use Rattle.f2_vec.specs.Spans.{HaveWidth};
 ghost use Rattle.f2_matrix.specs.Reduction.{IsReductionOf};
-ghost use Rattle.square.specs.declared.range.TheConstants.{MAX_S, MAX_T};
 ghost use Rattle.square.specs.Squares.{Placed, over};
 ghost use Rattle.square.specs.Tables.{AllRead, IsNext, IsTable};
 ghost use Rattle.f2_matrix.specs.Echelon.{IsReduced, HasNoZeroRow};
@@ -19,10 +19,11 @@ use crate::outline::{
 };
 use crate::quasi::with_parts;
 use crate::rows::{are_packed_so, unpack};
+use bidegree::{MAX_S, MAX_T};
 use f2_kernel::is_row_basis;
 use f2_matrix::{Matrix, Reduced, Rows};
 use memory::Memory;
-use square::{MAX_S, MAX_T, Square, Table};
+use square::{Square, Table};
 use std::alloc::Global;
 use std::sync::Arc;
 

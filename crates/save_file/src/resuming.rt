@@ -1,12 +1,12 @@
 //! How a save file is taken up.
 ghost use Rattle.std.specs.Prelude.{◌≡◌, ◌≢◌, ◌⊎◌, ℕ, ◌≤◌, [], ◌++◌, ◌∷◌, Some, None, Ok, Err, IfOk, IfErr, IfSome, OnOk, OnErr, IsOk, MatchResult};
 ghost use Rattle.std.specs.Option.{option_map};
+ghost use Rattle.bidegree.specs.declared.range.TheConstants.{MAX_S};
 ghost use Rattle.edge.specs.Disk.{LeavesOnly, HavePast};
 ghost use Rattle.edge.specs.Faults.{HasRisen};
 ghost use Rattle.finite_module.specs.Text.{canonical_text};
 ghost use Rattle.square.specs.Squares.{entry_of, over};
 ghost use Rattle.square.specs.Tables.{AllRead, IsNext, IsTable};
-ghost use Rattle.square.specs.declared.range.TheConstants.{MAX_S};
 ghost use Rattle.save_file.specs.Bodies.{kept_of};
 ghost use Rattle.square.specs.Keeping.{IsKeeperOf};
 ghost use Rattle.save_journal.specs.Records.{opened};

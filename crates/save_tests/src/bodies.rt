@@ -3,12 +3,13 @@ ghost use Rattle.std.specs.Prelude.{IfOk};
 ghost use Rattle.square.specs.Tables.{AllRead};
 
 use crate::files::bytes;
+use bidegree::Range;
 use f2_vec::BitVec;
 use finite_module::Module;
 use memory::Memory;
 use resolution_step::resolved;
 use save_file::{Body, DecodeFault, decode, encode};
-use square::{Range, Square, Table};
+use square::{Square, Table};
 use std::alloc::Global;
 use std::sync::Arc;
 use std::test::Fail;

@@ -1,12 +1,13 @@
 //! Runs over save files on disks in memory that are stopped at each call of the disk, and gone on with on each image.
 use crate::files::{MAGIC, THEIRS, bytes, disk, sound_disk};
+use bidegree::Range;
 use edge::MemDisk;
 use finite_module::Module;
 use memory::Memory;
 use resolution_step::resolve_alone;
 use save_file::{ResumeFault, encode, resume};
 use save_journal::OpenFault;
-use square::{KeepFault, Range, Table};
+use square::{KeepFault, Table};
 use std::alloc::Global;
 use std::test::Fail;
 

@@ -6,12 +6,13 @@ ghost use Rattle.adem_laws.specs.Adem.{square};
 ghost use Rattle.adem_laws.specs.Admissible.{value, IsAdmissibleForm};
 ghost use Rattle.sq_calc.specs.Inside.Unordered.{IsUnorderedForm};
 
-use crate::mono::Mono;
+use crate::leading::leading;
 use crate::sum::Sum;
 use f2_vec::BitVec;
 use memory::Memory;
 use milnor_basis::{Basis, Exps};
 use milnor_product::times;
+use monomial::Mono;
 use std::alloc::Global;
 
 /// The value of a monomial: the product of its squares, as coefficients on the Milnor basis of its degree, which is the sum of its
@@ -77,7 +78,7 @@ fn leading_monomials(
     let mut monomials = Vec::new(alloc);
     for i in (0..elements.len()).rev() {
         if rest.get(i) {
-            let mono = Mono::leading(alloc, &elements[i])?;
+            let mono = leading(alloc, &elements[i])?;
             rest.xor_with(&to_milnor(alloc, basis, &mono)?);
             monomials.push(mono)?;
         }

@@ -3,9 +3,9 @@
 #![tactic(auto)]
 
 mod convert;
-mod mono;
+mod leading;
 mod sum;
 
 pub use convert::{to_admissible, to_milnor};
-pub use mono::Mono;
+pub use monomial::Mono;
 pub use sum::Sum;

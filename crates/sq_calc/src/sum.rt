@@ -1,7 +1,7 @@
 //! Sums of monomials in Steenrod's squares.
 ghost use Rattle.std.specs.Prelude.{◌≡◌};
 
-use crate::mono::Mono;
+use monomial::Mono;
 use std::marker::Model;
 
 /// A sum of monomials, seen as the list of them.

@@ -6,7 +6,7 @@ use Rattle.std.proofs.lemmas.Bool.{cases_lt}
 use Rattle.std.proofs.lemmas.Int.{ints}
 use Rattle.std.proofs.lemmas.List.{get_or_past}
 use Rattle.std.proofs.lemmas.Option.{slice_get_within}
-use Rattle.degrees.specs.Above.{natural, above_of}
+use Rattle.bidegree.specs.Above.{natural, above_of}
 use Rattle.resolution_laws.specs.Resolution.{Content, no_content, row_of}
 use Rattle.square.specs.Squares.{Placed, bottom_of}
 use Rattle.square.specs.Tables.{Staircase, row_in, plain_rows, content_at, square_at, IsTable}

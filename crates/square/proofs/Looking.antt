@@ -5,10 +5,10 @@ use Rattle.std.proofs.lemmas.Int.{ints}
 use Rattle.std.proofs.lemmas.Bool.{eq-eqb}
 use Rattle.std.proofs.lemmas.Bool.Decides.{eqb_tells}
 use Rattle.std.proofs.lemmas.Option.{slice_get-map}
+use Rattle.bidegree.specs.Above.{above_of}
 use Rattle.finite_module.specs.Checked.{Checked}
 use Rattle.resolution_laws.specs.Resolution.{Content}
 use Rattle.square.specs.Squares.{Placed, content_of, bottom_of}
-use Rattle.degrees.specs.Above.{above_of}
 use Rattle.square.specs.Tables.{Footing, contents, IsPlacedAt, AreOfRow, content_in, footing_at, under_row}
 use Rattle.square.proofs.ByDegree.{natural-is}
 

@@ -8,8 +8,8 @@ use Rattle.finite_module.specs.Checked.{Checked}
 use Rattle.resolution_laws.specs.Resolution.{Content, square_in, row_of, below_of, degrees_from, IsStep}
 use Rattle.resolution_laws.specs.Start.{Entry, entry_at, HasShape, squares_below, row_below, IsOf, is_of, AreBefore}
 use Rattle.resolution_laws.proofs.StartLaws.{squares_below-take, grown_content, entry_at-new}
-use Rattle.square.specs.declared.range.TheConstants.{MAX_S, MAX_T}
 use Rattle.std.proofs.lemmas.Option.{IfSome_then}
+use Rattle.bidegree.specs.declared.range.TheConstants.{MAX_S, MAX_T}
 use Rattle.f2_matrix.specs.Reduction.{Reduction}
 use Rattle.square.specs.Squares.{Placed, content_of, IsQuasi, IsMeasured, target_width, source_width, over, bottom_of}
 use Rattle.square.specs.Tables.{Staircase, Footing, contents, row_in, plain_rows, content_at, row_width, next_width, under_row, AreOfRow, IsNext, IsTable, IsFooting, IsReadable, IsQuasiBehind}

@@ -3,11 +3,11 @@ use Rattle.std.proofs.Common.{◌≡◌, ℕ, zero, suc, ◌+◌, ◌<◌, ◌�
 use Rattle.std.specs.List.{slice_get}
 use Rattle.std.proofs.lemmas.Bool.{cases_lt}
 use Rattle.std.proofs.lemmas.List.{take_all, length-map}
+use Rattle.bidegree.specs.declared.range.TheConstants.{MAX_S, MAX_T}
 use Rattle.free_module.specs.Graded.{free_graded}
 use Rattle.finite_module.specs.Graded.{module_graded}
 use Rattle.finite_module.specs.Checked.{Checked}
 use Rattle.resolution_laws.specs.Resolution.{Content, square_in, row_of, degrees_from, images_of, target_over}
-use Rattle.square.specs.declared.range.TheConstants.{MAX_S, MAX_T}
 use Rattle.square.specs.Squares.{Placed, content_of, over, bottom_of}
 use Rattle.square.specs.Tables.{Staircase, Footing, contents, row_in, plain_rows, under_row, IsTable, IsFooting}
 use Rattle.square.proofs.Places.{length-row_of, slice_get-there, square_in-contents}

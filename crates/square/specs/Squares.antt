@@ -1,5 +1,6 @@
 -- A square of a resolution: its module, its place, what it holds, and what is known of it.
 use Rattle.std.specs.Prelude.{◌≡◌, ℕ, ◌≤◌, ℤ, pos, ◌+ℤ◌, Bool, List, ◌++◌, length, replicate, Option, IfSome, IsSome}
+use Rattle.bidegree.specs.declared.range.TheConstants.{MAX_S, MAX_T}
 use Rattle.f2_matrix.specs.Reduction.{Reduction, IsReductionOf}
 use Rattle.free_module.specs.FreeModule.{free_width}
 use Rattle.free_module.specs.LinearMap.{map_rows}
@@ -8,7 +9,6 @@ use Rattle.finite_module.specs.Graded.{module_graded}
 use Rattle.finite_module.specs.Checked.{Checked}
 use Rattle.resolution_laws.specs.Resolution.{Module, Content, degrees_from, images_of, target_over}
 use Rattle.resolution_laws.specs.Start.{Entry, entry_at, squares_below, row_below, IsOf, AreBefore}
-use Rattle.square.specs.declared.range.TheConstants.{MAX_S, MAX_T}
 
 -- what is resolved of a module
 abbrev pub module_over : SteenrodModule → Module

@@ -1,13 +1,13 @@
 -- Tables of squares, and what a square is made from.
 use Rattle.std.specs.Prelude.{◌≡◌, ℕ, zero, suc, ◌+◌, ◌*◌, ◌^◌, ◌<◌, ◌≤◌, ◌⊎◌, ℤ, pos, ◌+ℤ◌, Bool, nat_eq, if◌then◌else◌, List, [], ◌∷◌, ◌++◌, length, map, take, slice_get, slice_index_or, Option, Some, None, option_and_then, IfSome}
-use Rattle.degrees.specs.Above.{above_of}
+use Rattle.bidegree.specs.Above.{above_of}
+use Rattle.bidegree.specs.declared.range.Range.{Range}
+use Rattle.bidegree.specs.declared.range.TheConstants.{MAX_S, MAX_T}
 use Rattle.milnor_basis.specs.Basis.{basis_of}
 use Rattle.f2_matrix.specs.Reduction.{Reduction, Rows}
 use Rattle.finite_module.specs.Checked.{Checked}
 use Rattle.resolution_laws.specs.Resolution.{Content, square_in, row_of, below_of}
 use Rattle.resolution_laws.specs.Start.{Entry, entry_at, HasShape, IsOf}
-use Rattle.square.specs.declared.range.Range.{Range}
-use Rattle.square.specs.declared.range.TheConstants.{MAX_S, MAX_T}
 use Rattle.square.specs.Squares.{Placed, content_of, entry_of, target_width, width_with, source_width, WasRead, IsQuasi, square_matrix, over, bottom_of}
 
 -- ---- rows

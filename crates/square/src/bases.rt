@@ -1,9 +1,9 @@
 //! The Milnor bases that tables and what squares are made from share, made in stages.
 ghost use Rattle.std.specs.Prelude.{◌≡◌, ◌≤◌, ◌<◌, IfOk, IfSome, IsSome};
 ghost use Rattle.std.specs.Arc.{arc_value};
-ghost use Rattle.square.specs.declared.range.TheConstants.{MAX_T};
+ghost use Rattle.bidegree.specs.declared.range.TheConstants.{MAX_T};
 
-use crate::range::MAX_T;
+use bidegree::MAX_T;
 use memory::Memory;
 use milnor_basis::{Basis, Counts};
 use once_cell::race::OnceBox;
@@ -64,7 +64,7 @@ pub(crate) struct Bases {
 
 impl Model for Bases {
     ghost use Rattle.std.specs.Prelude.{◌≡◌, ℕ};
-    ghost use Rattle.square.specs.declared.range.TheConstants.{MAX_T};
+    ghost use Rattle.bidegree.specs.declared.range.TheConstants.{MAX_T};
 
     ghost Value = { ℕ };
 

@@ -2,10 +2,10 @@
 ghost use Rattle.std.specs.Prelude.{◌≡◌, ◌+ℤ◌, pos, [], option_map, ℕ, ◌≤◌, IfOk, IfSome};
 ghost use Rattle.f2_vec.specs.Spans.{HaveWidth};
 ghost use Rattle.std.specs.Arc.{arc_value};
+ghost use Rattle.bidegree.specs.declared.range.TheConstants.{MAX_T};
 ghost use Rattle.finite_module.specs.Module.{bottom};
 ghost use Rattle.resolution_laws.specs.Resolution.{degrees_from, images_of, square_in, target_over};
 ghost use Rattle.square.specs.Below.{graded_of, reaches_of};
-ghost use Rattle.square.specs.declared.range.TheConstants.{MAX_T};
 ghost use Rattle.square.specs.Squares.{content_of, target_width, square_matrix, over, bottom_of};
 ghost use Rattle.square.specs.Tables.{IsFooting, IsPlacedAt, footing_at};
 
@@ -47,9 +47,9 @@ impl Model for Inputs {
 
     ghost Value = { Footing };
 
+    ghost use Rattle.bidegree.specs.declared.range.TheConstants.{MAX_T};
     ghost use Rattle.resolution_laws.specs.Resolution.{degrees_from, images_of, square_in, target_over};
     ghost use Rattle.square.specs.Below.{graded_of, reaches_of};
-    ghost use Rattle.square.specs.declared.range.TheConstants.{MAX_T};
     ghost use Rattle.square.specs.Tables.{IsFooting, AreOfRow, contents, under_row};
 
     ghost view = { λ i. record {

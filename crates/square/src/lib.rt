@@ -9,16 +9,15 @@ mod inputs;
 mod keep;
 mod kernel;
 mod putting;
-mod range;
 mod row;
 mod square;
 mod table;
 
 pub use ahead::Ahead;
 pub use below::Below;
+pub use bidegree::{MAX_S, MAX_T, Range, limits_are_these};
 pub use inputs::Inputs;
 pub use keep::{Keep, KeepFault, MemKeep, NoKeep};
 pub use putting::put;
-pub use range::{MAX_S, MAX_T, Range, limits_are_these};
 pub use square::Square;
 pub use table::Table;

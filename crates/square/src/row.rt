@@ -1,8 +1,8 @@
 //! A row of squares, from the bottom degree up.
 ghost use Rattle.std.specs.Prelude.{◌≡◌, ◌≤◌, ◌<◌, ◌+◌, ◌-◌, ◌++◌, ◌^◌, ◌≤ℤ◌, pos, negsuc, [], ◌∷◌, length, take, slice_get, slice_set, option_map, SomeIff, IfOk, OnOk, OnErr, IsOk, IfErr};
 ghost use Rattle.std.specs.Arc.{arc_value};
+ghost use Rattle.bidegree.specs.declared.range.TheConstants.{MAX_T};
 ghost use Rattle.resolution_laws.specs.Resolution.{degrees_from, images_of};
-ghost use Rattle.square.specs.declared.range.TheConstants.{MAX_T};
 ghost use Rattle.square.specs.Tables.{contents, row_width};
 
 use crate::square::Square;

@@ -1,21 +1,21 @@
 //! The squares of a resolution, row by row, and what is read off them.
 ghost use Rattle.std.specs.Prelude.{◌≡◌, ℕ, suc, ◌≤◌, ◌<◌, ◌+◌, ◌^◌, ◌+ℤ◌, ◌≤ℤ◌, pos, [], map, take, length, replicate, slice_get, Some, option_map, SomeIff, IsSome, IfOk, IfErr, OnOk, OnErr, IsOk};
 ghost use Rattle.std.specs.Arc.{arc_value};
+ghost use Rattle.bidegree.specs.Above.{above_of};
+ghost use Rattle.bidegree.specs.declared.range.TheConstants.{MAX_S, MAX_T};
 ghost use Rattle.finite_module.specs.Module.{bottom};
 ghost use Rattle.f2_vec.specs.Spans.{HaveWidth};
 ghost use Rattle.resolution_laws.specs.Resolution.{row_of, below_of, degrees_from, images_of, target_over};
-ghost use Rattle.degrees.specs.Above.{above_of};
 ghost use Rattle.square.specs.Below.{graded_of, reaches_of};
-ghost use Rattle.square.specs.declared.range.TheConstants.{MAX_S, MAX_T};
 ghost use Rattle.square.specs.Squares.{Placed, IsQuasi, target_width, square_matrix, over, bottom_of};
 ghost use Rattle.square.specs.Tables.{row_in, square_at, plain_rows, with_square, contents, under_row, content_at, next_target_width, next_width, next_widths, FitWords, IsNext, IsNextAt, IsContinued, IsQuasiAt, LacksQuasi, with_quasi, IsMatrixAt, IsMatrixBehind, IsTable, HaveRoom};
 
 use crate::bases::Bases;
 use crate::below::Below;
 use crate::inputs::Inputs;
-use crate::range::{MAX_S, MAX_T};
 use crate::row::Row;
 use crate::square::Square;
+use bidegree::{MAX_S, MAX_T};
 use f2_matrix::{Matrix, Reduced};
 use f2_vec::BitVec;
 use finite_module::Module;
@@ -47,7 +47,7 @@ impl Model for Table {
 
     ghost Value = { Staircase };
 
-    ghost use Rattle.square.specs.declared.range.TheConstants.{MAX_T};
+    ghost use Rattle.bidegree.specs.declared.range.TheConstants.{MAX_T};
     ghost use Rattle.square.specs.Tables.{IsTable, HaveRoom};
 
     ghost view = { λ t. record {
@@ -527,7 +527,7 @@ impl Table {
 pub(crate) fn above_of(bottom: i32, t: i32) -> Option<usize>
     ensures { result ≡ above_of bottom t }
 {
-    let k = degrees::above_of(bottom, t)?;
+    let k = bidegree::above_of(bottom, t)?;
     Some(k as usize)
 }
 

@@ -10,7 +10,7 @@ use Rattle.std.proofs.lemmas.Int.{ints}
 use Rattle.std.proofs.lemmas.Bool.Decides.{nat_tests}
 use Rattle.std.proofs.lemmas.List.{append-nil, length_push}
 use Rattle.std.proofs.lemmas.Option.{slice_get_within}
-use Rattle.degrees.specs.Above.{natural, above_of}
+use Rattle.bidegree.specs.Above.{natural, above_of}
 use Rattle.finite_module.specs.Checked.{Checked}
 use Rattle.finite_module.specs.Module.{bottom}
 use Rattle.board_core.specs.declared.event.Cause.{Cause}

@@ -5,6 +5,7 @@ use Rattle.std.proofs.Math.Bool.{or-false, or-true}
 use Rattle.std.proofs.lemmas.Bool.Decides.{nat_tests, eqb_tells}
 use Rattle.std.proofs.lemmas.List.{append-nil, length_push, map-append}
 use Rattle.std.proofs.lemmas.List.Sums.{sum_by_push}
+use Rattle.bidegree.specs.declared.range.TheConstants.{MAX_S, MAX_T}
 use Rattle.edge.specs.Faults.{HasRisen}
 use Rattle.finite_module.specs.Checked.{Checked}
 use Rattle.finite_module.specs.Module.{bottom}
@@ -18,7 +19,6 @@ use Rattle.board_core.specs.Machine.IsHistory.{nothing}
 use Rattle.board_core.proofs.Causes.{first_of_all}
 use Rattle.board_core.proofs.Histories.{height_is, held_at_height, reached_is_sound}
 use Rattle.resolution_laws.specs.Start.{Entry}
-use Rattle.square.specs.declared.range.TheConstants.{MAX_S, MAX_T}
 use Rattle.square.specs.Squares.{Placed, entry_of}
 use Rattle.square.specs.Tables.{Staircase, IsTable, IsNext, row_in, with_square}
 use Rattle.square.specs.Keeping.{Keeper, IsKeeperOf, HasKept}

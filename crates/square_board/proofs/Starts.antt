@@ -1,9 +1,9 @@
 -- The squares of a table, listed row by row.
 use Rattle.std.proofs.Common.{◌≡◌, ℕ, zero, suc, ◌+◌, ◌<◌, ◌≤◌, ℤ, Bool, false, ◌&&◌, ◌||◌, nat_lt, nat_eq, List, [], ◌∷◌, ◌++◌, length, refl, sym, ◌∙◌, ap, subst, arith, inl, inr}
 use Rattle.std.proofs.lemmas.Bool.Decides.{nat_tests, eqb_tells}
+use Rattle.bidegree.specs.declared.range.TheConstants.{MAX_S, MAX_T}
 use Rattle.board_core.specs.Machine.{Squares, HasParents, IsAbove, squares_of}
 use Rattle.board_core.proofs.Filed.{squares_with, start_with}
-use Rattle.square.specs.declared.range.TheConstants.{MAX_S, MAX_T}
 use Rattle.square.specs.Squares.{Placed}
 use Rattle.square.specs.Tables.{Staircase, IsTable, row_in}
 use Rattle.square.proofs.Places.{slice_get-there}

@@ -1,5 +1,6 @@
 -- What lies behind the turn of a board: the machine's course, the table of the squares that are done, and the keeper.
 use Rattle.std.specs.Prelude.{◌≡◌, ℕ, ◌+◌, ◌≤◌, ℤ, nat_lt, Bool, true, false, List, [], ◌∷◌, length, take, None, Result, Ok, Err}
+use Rattle.bidegree.specs.declared.range.TheConstants.{MAX_S, MAX_T}
 use Rattle.edge.specs.Faults.{HasRisen}
 use Rattle.board_core.specs.declared.event.Entry.{Entry as Event}
 use Rattle.board_core.specs.declared.event.Entry.TheVariants.{Take, Give, Back, Fail}
@@ -9,7 +10,6 @@ use Rattle.board_core.specs.Machine.{State, IsInRange, IsReady, IsLegalTake}
 use Rattle.board_laws.specs.Filled.{places}
 use Rattle.resolution_laws.specs.Resolution.{Module, IsStep, row_of, below_of}
 use Rattle.resolution_laws.specs.Start.{Entry}
-use Rattle.square.specs.declared.range.TheConstants.{MAX_S, MAX_T}
 use Rattle.square.specs.Squares.{Placed, module_over}
 use Rattle.square.specs.Tables.{Staircase, Footing, row_in, plain_rows}
 use Rattle.square.specs.Growing.{HasGrown}

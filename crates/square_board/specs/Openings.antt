@@ -1,11 +1,11 @@
 -- What a board was made with.
 use Rattle.std.specs.Prelude.{◌≡◌, ℕ, ◌+◌, ℤ, nat_lt, List, length}
+use Rattle.bidegree.specs.declared.range.Range.{Range}
 use Rattle.board_core.specs.declared.event.Entry.{Entry as Event}
 use Rattle.board_core.specs.Laws.{given_in}
 use Rattle.board_core.specs.Machine.{IsStart, squares_of}
 use Rattle.finite_module.specs.Module.{bottom}
 use Rattle.resolution_laws.specs.Resolution.{Module}
-use Rattle.square.specs.declared.range.Range.{Range}
 use Rattle.square.specs.Squares.{Placed, module_over}
 use Rattle.square.specs.Tables.{Staircase, row_in}
 use Rattle.square_board.specs.declared.opening.Opening.{Opening}

@@ -1,12 +1,12 @@
 //! The board: a desk behind a turn.
 ghost use Rattle.std.specs.Prelude.{◌≡◌, ◌⊎◌, ℕ, pos, ◌+ℤ◌, ◌+◌, ◌<◌, ◌≤◌, ◌↔◌, Ok, Err, None, Some, false, [], ◌∷◌, ◌++◌, length, slice_get, All, IfOk, IfErr, IfSome};
 ghost use Rattle.std.specs.Arc.{arc_value};
+ghost use Rattle.bidegree.specs.declared.range.TheConstants.{MAX_S, MAX_T};
 ghost use Rattle.board_core.specs.declared.event.Cause.{Cause};
 ghost use Rattle.board_core.specs.declared.event.Entry.{Entry};
 ghost use Rattle.board_core.specs.declared.event.Entry.TheVariants.{Back};
 ghost use Rattle.board_core.specs.Board.{is_done_at};
 ghost use Rattle.board_core.specs.Laws.{first_cause};
-ghost use Rattle.square.specs.declared.range.TheConstants.{MAX_S, MAX_T};
 ghost use Rattle.square.specs.Keeping.{IsKeeperOf};
 ghost use Rattle.turn_lock.specs.Turns.{new_pass, after_count, after_front, after_rest, after_join, Continues, HasAll};
 ghost use Rattle.square_board.specs.declared.job.GiveFault.TheVariants.{Stopped as HasStopped};
@@ -19,9 +19,10 @@ ghost use Rattle.square_board.specs.Boards.{IsPassOf, IsSamePass, HasTurned, Has
 
 use crate::desk::Desk;
 use crate::job::{GiveFault, Job, Taken};
+use bidegree::Range;
 use board_core::Entry;
 use memory::Memory;
-use square::{Ahead, Keep, Range, Square, Table};
+use square::{Ahead, Keep, Square, Table};
 use std::alloc::Global;
 use std::marker::Model;
 use std::sync::{Arc, Wait};

@@ -1,6 +1,7 @@
 //! What lies behind the turn of a board: one plain value, in which every call of the board is a method.
 ghost use Rattle.std.specs.Prelude.{◌≡◌, ◌⊎◌, ℕ, ◌+◌, ◌<◌, ◌≤◌, ◌↔◌, Ok, Err, None, Some, true, [], length, option_map, IfOk, IfErr, IfSome};
 ghost use Rattle.std.specs.Arc.{arc_value};
+ghost use Rattle.bidegree.specs.declared.range.TheConstants.{MAX_S, MAX_T};
 ghost use Rattle.edge.specs.Faults.{HasRisen};
 ghost use Rattle.board_core.specs.declared.event.Cause.{Cause};
 ghost use Rattle.board_core.specs.declared.event.Entry.TheVariants.{Back};
@@ -8,7 +9,6 @@ ghost use Rattle.board_core.specs.Entries.{events_by};
 ghost use Rattle.board_core.specs.Laws.{HasUnfinished};
 ghost use Rattle.board_core.specs.Machine.{IsInRange, IsReady, IsRowNumber, IsRowNumberBelow};
 ghost use Rattle.square_board.specs.Jobs.{Taking};
-ghost use Rattle.square.specs.declared.range.TheConstants.{MAX_S, MAX_T};
 ghost use Rattle.square.specs.Tables.{IsTable, IsNextAt, row_in, square_at};
 ghost use Rattle.square.specs.declared.keep.KeepFault as KeepFault;
 ghost use Rattle.square.specs.Keeping.{IsKeeperOf};
@@ -24,10 +24,11 @@ ghost use Rattle.square_board.specs.Boards.{entry_of_give};
 use crate::job::{GiveFault, Job, Taken};
 use crate::opening::{Opening, squares_of};
 use crate::schedule::Schedule;
+use bidegree::Range;
 use board_core::Entry;
 use ghost_list::GhostList;
 use memory::Memory;
-use square::{Ahead, Keep, KeepFault, Range, Square, Table, put};
+use square::{Ahead, Keep, KeepFault, Square, Table, put};
 use std::alloc::Global;
 use std::marker::Model;
 use std::snapshot::Snapshot;

@@ -1,13 +1,14 @@
 //! What stays the same of a board.
 ghost use Rattle.std.specs.Prelude.{◌+◌, ◌≤◌, IfOk, OnOk};
-ghost use Rattle.square.specs.declared.range.TheConstants.{MAX_S};
+ghost use Rattle.bidegree.specs.declared.range.TheConstants.{MAX_S};
 ghost use Rattle.square.specs.Tables.{IsTable};
 ghost use Rattle.square_board.specs.Openings.{ListsSquares, low_of};
 ghost use Rattle.square_board.specs.Inside.Starts.{ListsPart};
 
+use bidegree::{MAX_S, Range};
 use ghost_list::GhostList;
 use memory::Memory;
-use square::{MAX_S, Range, Table};
+use square::Table;
 use std::alloc::Global;
 use std::snapshot::Snapshot;
 

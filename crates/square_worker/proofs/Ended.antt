@@ -6,8 +6,9 @@ use Rattle.std.proofs.Math.ListN.{get_or-map}
 use Rattle.std.proofs.lemmas.Bool.Decides.{nat_tests}
 use Rattle.std.proofs.lemmas.List.{length-map, length-append, nil_from_length}
 use Rattle.std.proofs.lemmas.List.Folds.{list_any-append, Any-from_list_any}
+use Rattle.bidegree.specs.Above.{above_of}
+use Rattle.bidegree.specs.declared.range.Range.{Range}
 use Rattle.edge.specs.Faults.{HasRisen}
-use Rattle.degrees.specs.Above.{above_of}
 use Rattle.board_core.specs.declared.event.Cause.{Cause}
 use Rattle.board_core.specs.declared.event.Cause.TheVariants.{Failed, Memory}
 use Rattle.board_core.specs.declared.event.Entry.{Entry as Event}
@@ -18,7 +19,6 @@ use Rattle.board_core.proofs.Places.{IsWithin, given_within, given_apart}
 use Rattle.board_core.proofs.Starts.{above_is, same_above}
 use Rattle.board_laws.specs.Filled.{places}
 use Rattle.resolution_laws.specs.Start.{Entry}
-use Rattle.square.specs.declared.range.Range.{Range}
 use Rattle.square.specs.Squares.{over}
 use Rattle.square.specs.Tables.{Staircase, IsTable, IsThrough, row_in}
 use Rattle.square.specs.Keeping.{Keeper, with_squares, HasFared}

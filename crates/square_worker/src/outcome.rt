@@ -9,8 +9,9 @@ ghost use Rattle.square_board.specs.Openings.{first_table};
 ghost use Rattle.square_worker.specs.Inside.Outcomes.{IsWhy};
 ghost use Rattle.turn_lock.specs.Turns.{HasAll};
 
+use bidegree::Range;
 use board_core::Cause;
-use square::{Keep, Range, Table};
+use square::{Keep, Table};
 use square_board::{Board, BoardPass, Entry};
 
 /// Ends a board with the pass that all others were joined into. It gives the table, if all squares of the range are done, and the

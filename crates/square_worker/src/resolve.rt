@@ -1,8 +1,8 @@
 //! A range resolved by several workers.
 ghost use Rattle.std.specs.Prelude.{◌≡◌, ◌<◌, ◌≤◌, length};
+ghost use Rattle.bidegree.specs.declared.range.TheConstants.{MAX_S, MAX_T};
 ghost use Rattle.board_core.specs.declared.event.Cause as Cause;
 ghost use Rattle.resolution_step.specs.Alone.{AreApart, IsUntouched, HasResolved};
-ghost use Rattle.square.specs.declared.range.TheConstants.{MAX_S, MAX_T};
 ghost use Rattle.square.specs.Keeping.{IsKeeperOf};
 ghost use Rattle.square_board.specs.Boards.{IsPassOf};
 ghost use Rattle.square_worker.specs.Passes.{AreItsPasses};
@@ -11,8 +11,9 @@ use crate::gate::Gate;
 use crate::joining::join_all;
 use crate::outcome::conclude;
 use crate::worker::work;
+use bidegree::Range;
 use board_core::Cause;
-use square::{Keep, Range, Table};
+use square::{Keep, Table};
 use square_board::{Board, BoardPass};
 use std::alloc::Global;
 use std::sync::Wait;

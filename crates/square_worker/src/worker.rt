@@ -9,10 +9,11 @@ ghost use Rattle.square_worker.specs.Workers.{HasSeenNoLess};
 ghost use Rattle.square_worker.specs.declared.worker.WorkEnd.TheVariants.{Over, Stopped};
 
 use crate::gate::Gate;
+use bidegree::MAX_S;
 use board_core::Cause;
 use memory::Memory;
 use resolution_step::step;
-use square::{Ahead, Keep, MAX_S};
+use square::{Ahead, Keep};
 use square_board::{Board, BoardPass, Job, Taken};
 use std::alloc::Global;
 use std::sync::Wait;

@@ -3,6 +3,7 @@ use Rattle.std.proofs.Common.{◌≡◌, ℕ, ◌+◌, ◌-◌, ◌<◌, ◌≤�
 use Rattle.std.specs.List.{range_with_len}
 use Rattle.std.proofs.lemmas.List.{length-drop, length-take-le, get_or-map, get_or-drop, get_or-take, ext_get_or, length-map}
 use Rattle.std.proofs.lemmas.List.FromFn.{length-map-range_with_len, get_or-map-range_with_len}
+use Rattle.bidegree.specs.declared.place.Place.{Place}
 use Rattle.f2_vec.specs.Vectors.{bit}
 use Rattle.f2_vec.specs.Spans.{row}
 use Rattle.square.specs.Tables.{Staircase}
@@ -10,7 +11,6 @@ use Rattle.square.proofs.Places.{length-row_of}
 use Rattle.lift_laws.specs.Products.{first_of, count_of, old_width, coefficient_of, on_square}
 use Rattle.lift_laws.proofs.Coefficients.{width-parts}
 use Rattle.chain_map.specs.Lifting.{resolution_of}
-use Rattle.yoneda.specs.declared.place.Place.{Place}
 use Rattle.yoneda.specs.Products.{class_above, IsThere, AreOnSquare}
 
 -- the coordinate so many places before the end

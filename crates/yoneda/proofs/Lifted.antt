@@ -2,18 +2,18 @@
 use Rattle.std.proofs.Common.{◌≡◌, ℕ, zero, suc, ◌+◌, ◌<◌, ◌≤◌, pos, ◌+ℤ◌, ◌-ℤ◌, Bool, List, [], ◌∷◌, ◌++◌, length, map, get_or, take, refl, ap, sym, subst, ◌∙◌, arith}
 use Rattle.std.proofs.lemmas.Int.{ints}
 use Rattle.std.proofs.lemmas.List.{take_more, map-append}
+use Rattle.bidegree.specs.declared.range.Range.{Range}
+use Rattle.bidegree.specs.declared.class.Class.{Class}
+use Rattle.bidegree.specs.declared.place.Place.{Place}
 use Rattle.free_module.specs.FreeModule.{free_width}
 use Rattle.resolution_laws.specs.Resolution.{row_of}
-use Rattle.square.specs.declared.range.Range.{Range}
 use Rattle.square.specs.Squares.{bottom_of}
 use Rattle.square.specs.Tables.{Staircase, row_in, IsThrough}
 use Rattle.square.proofs.Places.{length-row_of}
 use Rattle.lift_laws.specs.Lifts.{IsSphere, gens, degree}
 use Rattle.lift_laws.specs.Products.{first_of}
-use Rattle.chain_map.specs.declared.class.Class.{Class}
 use Rattle.chain_map.specs.Lifting.{LiftValues, resolution_of, row_values, joined, shifted_length, degrees_through, AreValues, IsLiftOver}
 use Rattle.chain_map.proofs.Generators.{is_number, first_of-more, length-joined, images_taken}
-use Rattle.yoneda.specs.declared.place.Place.{Place}
 use Rattle.yoneda.specs.Products.{IsPlaceOf, AreOnSquare}
 
 pub shifted_length-positive : (above n : ℕ) → 0 < n → shifted_length above n ≡ above + n

@@ -3,20 +3,20 @@ use Rattle.std.proofs.Common.{◌≡◌, ℕ, ◌+◌, ◌<◌, ◌≤◌, ℤ, 
 use Rattle.std.proofs.lemmas.Int.{ints}
 use Rattle.std.proofs.lemmas.List.FromFn.{length-map-range_with_len}
 use Rattle.std.proofs.lemmas.List.{length-map, get_or-map}
+use Rattle.bidegree.specs.declared.range.Range.{Range}
+use Rattle.bidegree.specs.declared.class.Class.{Class as Named}
+use Rattle.bidegree.specs.declared.place.Place.{Place}
 use Rattle.f2_vec.specs.Spans.{row, HaveWidth}
 use Rattle.f2_vec.proofs.Combinations.{HaveWidth-map}
 use Rattle.finite_module.specs.Graded.{ModulesAreSteenrodModules}
-use Rattle.square.specs.declared.range.Range.{Range}
 use Rattle.square.specs.Squares.{bottom_of}
 use Rattle.square.specs.Tables.{Staircase, IsTable, IsThrough}
 use Rattle.lift_laws.specs.Lifts.{Resolution, IsCanonical, IsSphere, IsLift, dual_of}
 use Rattle.lift_laws.specs.Products.{Class, first_of, count_of, coefficient_of, product_by, degree_of_class, number_of, IsLiftOfClass, LiftsGiveOneProduct}
 use Rattle.lift_laws.proofs.ChainMaps.{IsLift-less}
-use Rattle.chain_map.specs.declared.class.Class.{Class as Named}
 use Rattle.chain_map.specs.Lifting.{LiftValues, no_lift, resolution_of, AreCanonical, IsCanonicalIn, map_of, greatest, AreReached, IsLiftOver}
 use Rattle.chain_map.specs.Classes.{through, IsAt}
 use Rattle.chain_map.proofs.Resolved.{is_canonical}
-use Rattle.yoneda.specs.declared.place.Place.{Place}
 use Rattle.yoneda.specs.Products.{class_above, IsPlaceOf, IsThere, IsGivenBy, IsYonedaProduct, IsProductThrough, IsProductOver, ArePlacesOf, AreProducts}
 use Rattle.yoneda.proofs.Lifted.{HasRow, has_row, reaches}
 use Rattle.yoneda.proofs.Through.{count_through, product_through, class_through}

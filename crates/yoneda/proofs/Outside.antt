@@ -2,12 +2,12 @@
 use Rattle.std.proofs.Common.{◌≡◌, ℕ, ◌<◌, ◌≤◌, Bool, true, false, length, Some, None, Option, nat_lt, if◌then◌else◌, ap, ◌∙◌, arith}
 use Rattle.std.specs.Prelude.{option_map, unwrap_or}
 use Rattle.std.proofs.lemmas.Bool.Decides.{nat_tests}
-use Rattle.degrees.specs.Above.{above_of}
-use Rattle.square.specs.declared.range.Range.{Range}
+use Rattle.bidegree.specs.Above.{above_of}
+use Rattle.bidegree.specs.declared.range.Range.{Range}
+use Rattle.bidegree.specs.declared.class.Class.{Class}
 use Rattle.square.specs.Squares.{bottom_of}
 use Rattle.square.specs.Tables.{Staircase, content_at}
 use Rattle.lift_laws.specs.Products.{count_of}
-use Rattle.chain_map.specs.declared.class.Class.{Class}
 use Rattle.chain_map.specs.Classes.{through, class_count, missing_in}
 use Rattle.chain_map.proofs.Classes.{count_inside, count_outside}
 

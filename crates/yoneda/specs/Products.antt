@@ -2,18 +2,18 @@
 -- and applications of the Steenrod algebra; Bruner, Calculation of large Ext modules).
 use Rattle.std.specs.Prelude.{◌≡◌, ℕ, ◌<◌, ◌≤◌, ℤ, pos, ◌+ℤ◌, length, ◌+◌, ◌≤ℤ◌, Bool, List, Option}
 use Rattle.std.specs.Option.{option_or}
+use Rattle.bidegree.specs.declared.range.Range.{Range}
+use Rattle.bidegree.specs.declared.range.TheConstants.{MAX_S, MAX_T}
+use Rattle.bidegree.specs.declared.class.Class.{Class}
+use Rattle.bidegree.specs.declared.place.Place.{Place}
 use Rattle.f2_vec.specs.Spans.{row}
 use Rattle.free_module.specs.FreeModule.{free_width}
-use Rattle.square.specs.declared.range.Range.{Range}
-use Rattle.square.specs.declared.range.TheConstants.{MAX_S, MAX_T}
 use Rattle.square.specs.Squares.{bottom_of}
 use Rattle.square.specs.Tables.{Staircase, row_in, content_at, IsThrough}
 use Rattle.lift_laws.specs.Products.{Class as ClassAbove, first_of, count_of, IsLiftOfClass, product_by}
 use Rattle.lift_laws.specs.Lifts.{Resolution, gens}
-use Rattle.chain_map.specs.declared.class.Class.{Class}
 use Rattle.chain_map.specs.Lifting.{resolution_of, IsCanonicalIn}
 use Rattle.chain_map.specs.Classes.{through, no_class, out_of_range}
-use Rattle.yoneda.specs.declared.place.Place.{Place}
 use Rattle.yoneda.specs.declared.fault.YonedaFault.{YonedaFault}
 use Rattle.yoneda.specs.declared.fault.YonedaFault.TheVariants.{NoClass, OutOfRange}
 

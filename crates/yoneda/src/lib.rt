@@ -6,7 +6,8 @@ mod multiply;
 mod place;
 mod values;
 
+pub use bidegree::Place;
 pub use fault::YonedaFault;
 pub use multiply::{product, products};
-pub use place::{Place, known, place_of};
+pub use place::{known, place_of};
 pub use values::{coefficients, product_by_lift};

@@ -11,14 +11,15 @@ ghost use Rattle.yoneda.specs.declared.fault.YonedaFault as YonedaFault;
 ghost use Rattle.yoneda.specs.declared.fault.YonedaFault.TheVariants.{NoClass, Memory as OutOfMemory};
 
 use crate::fault::YonedaFault;
-use crate::place::{Place, known, place_of};
+use crate::place::{known, place_of};
 use crate::values::product_by_lift;
-use chain_map::{Class, Lift, lift, lifts};
+use bidegree::{Class, Place, Range};
+use chain_map::{Lift, lift, lifts};
 use f2_vec::BitVec;
 use finite_module::modules_are_graded_modules;
 use lift_laws::lifts_give_one_product;
 use memory::Memory;
-use square::{Range, Table};
+use square::Table;
 use std::alloc::Global;
 
 /// The product of the class a of the sphere with the class x of the module: one coordinate for each generator of the square

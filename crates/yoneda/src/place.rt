@@ -6,17 +6,8 @@ ghost use Rattle.square.specs.Tables.{IsTable, IsThrough};
 ghost use Rattle.chain_map.specs.Classes.{through, missing_in};
 ghost use Rattle.yoneda.specs.Products.{IsPlaceOf};
 
-use chain_map::Class;
-use degrees::above_of;
-use square::{Range, Table};
-
-/// The place of a class in a table: its row, how many degrees above the bottom it is, and its number in that square.
-#[derive(Clone, Copy, Debug, PartialEq, Eq)]
-pub struct Place {
-    pub s: u16,
-    pub above: u16,
-    pub i: usize,
-}
+use bidegree::{Class, Place, Range, above_of};
+use square::Table;
 
 /// Where the class stands in the table.
 ///

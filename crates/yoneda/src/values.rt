@@ -9,7 +9,7 @@ ghost use Rattle.lift_laws.specs.Products.{coefficient_of, first_of, on_square, 
 ghost use Rattle.chain_map.specs.Lifting.{resolution_of, row_values, joined, map_of};
 ghost use Rattle.yoneda.specs.Products.{class_above, IsThere, AreOnSquare};
 
-use crate::place::Place;
+use bidegree::Place;
 use chain_map::Lift;
 use f2_vec::BitVec;
 use memory::Memory;

@@ -1,6 +1,6 @@
 -- How a view lies in memory.
 use Rattle.std.specs.Prelude.{◌≡◌, ℕ, zero, suc, ◌+◌, ◌-◌, ◌≤◌, List, [], ◌∷◌, ◌++◌, map, take, length, replicate, All}
-use Rattle.square.specs.declared.range.TheConstants.{MAX_S, MAX_T}
+use Rattle.bidegree.specs.declared.range.TheConstants.{MAX_S, MAX_T}
 use Rattle.live_view.specs.declared.view.Row.{Row}
 
 -- the numbers of a row that count

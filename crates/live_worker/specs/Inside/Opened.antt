@@ -1,8 +1,8 @@
 -- A board that was opened for workers and a watcher, and what it came to.
 use Rattle.std.specs.Prelude.{◌≡◌, ◌⊎◌, ℕ, ◌+◌, ◌≤◌, [], length, vec_capacity, Result, Ok, Err}
+use Rattle.bidegree.specs.declared.range.Range.{Range}
 use Rattle.board_core.specs.declared.event.Cause.{Cause}
 use Rattle.board_core.specs.declared.event.Cause.TheVariants.{Memory}
-use Rattle.square.specs.declared.range.Range.{Range}
 use Rattle.square.specs.Tables.{Staircase}
 use Rattle.square_board.specs.Openings.{IsOpenedWith, bottom_of}
 use Rattle.square_worker.specs.Passes.{AreItsPasses}

@@ -1,10 +1,10 @@
 -- Why a range was not resolved.
 use Rattle.std.specs.Prelude.{◌≡◌, ◌⊎◌, List, Some, None}
+use Rattle.bidegree.specs.declared.range.Range.{Range}
 use Rattle.board_core.specs.declared.event.Cause.{Cause}
 use Rattle.board_core.specs.declared.event.Cause.TheVariants.{Memory}
 use Rattle.board_core.specs.declared.event.Entry.{Entry as Event}
 use Rattle.board_core.specs.Laws.{first_cause}
-use Rattle.square.specs.declared.range.Range.{Range}
 use Rattle.square.specs.Squares.{Placed}
 use Rattle.square.specs.Tables.{IsThrough}
 

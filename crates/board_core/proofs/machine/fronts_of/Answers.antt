@@ -1,8 +1,8 @@
 use Rattle.std.proofs.Common.{◌≡◌, ℕ, ◌+◌, ◌≤◌, ℤ, pos, List, length, take, get_or, false, Option, Some, SFits, to_z, of_z, w32, rules, sym, ◌∙◌, ap, subst, arith}
 use Rattle.std.proofs.lemmas.Int.{to_z-of_z}
 use Rattle.std.proofs.lemmas.Option.{slice_get-get_or}
+use Rattle.bidegree.specs.Above.{above_of}
 use Rattle.board_core.specs.Board.{below_fronts}
-use Rattle.degrees.specs.Above.{above_of}
 use Rattle.board_core.specs.Machine.{Squares, HasParents, IsNextSquare, squares_of, insert_square}
 use Rattle.board_core.proofs.Starts.{next_square, same_above, one_more, above_is}
 use Rattle.board_core.proofs.machine.fronts_of.Goals as goal

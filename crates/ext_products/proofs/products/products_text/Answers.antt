@@ -1,6 +1,6 @@
 use Rattle.std.proofs.Common.{◌≡◌, ◌∙◌, ap, subst, refl}
 use Rattle.std.specs.Prelude.{Some, None}
-use Rattle.square.specs.declared.range.Range.{Range}
+use Rattle.bidegree.specs.declared.range.Range.{Range}
 use Rattle.square.specs.Tables.{IsThrough}
 use Rattle.chain_map.specs.Lifting.{IsCanonicalIn}
 use Rattle.chain_map.specs.Classes.{through, missing_in}

@@ -2,7 +2,7 @@ use Rattle.std.proofs.Common.{◌≡◌, ◌+◌, ◌<◌, ◌≤◌, inl, inr, 
 use Rattle.std.specs.Prelude.{Ok}
 use Rattle.std.proofs.lemmas.Bool.{cases_lt}
 use Rattle.std.proofs.lemmas.Result.{err_from_is_err_and}
-use Rattle.square.specs.declared.range.TheConstants.{MAX_S}
+use Rattle.bidegree.specs.declared.range.TheConstants.{MAX_S}
 use Rattle.ext_run.specs.Devices.{Store, store_of}
 use Rattle.ext_run.proofs.Lasting.{AreDisks}
 use Rattle.ext_run.proofs.Filled.{filled_same, filled_then, filled_ok, filled_wider}

@@ -1,8 +1,8 @@
 use Rattle.std.proofs.Common.{◌≡◌, ℕ, ◌-◌, false, List, length, drop, Err, refl, sym, ◌∙◌, ap, subst, arith}
+use Rattle.bidegree.specs.declared.range.Range.{Range}
 use Rattle.board_core.specs.declared.event.Cause.TheVariants.{Failed, Memory}
 use Rattle.resolution_step.specs.Alone.{IsInRange, AreApart, IsUntouched, HasResolved}
 use Rattle.resolution_step.proofs.Progress.{given_none}
-use Rattle.square.specs.declared.range.Range.{Range}
 use Rattle.square.specs.Squares.{over}
 use Rattle.square.specs.Tables.{Staircase}
 use Rattle.square.proofs.Kept.{IsSettled, HasKept-none}

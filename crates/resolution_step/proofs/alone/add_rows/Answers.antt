@@ -1,6 +1,6 @@
 use Rattle.std.proofs.Common.{◌≡◌, ◌+◌, ◌<◌, ℕ, length, refl, ◌∙◌, subst, arith, inl, inr}
 use Rattle.std.proofs.lemmas.Bool.{cases_lt}
-use Rattle.square.specs.declared.range.Range.{Range}
+use Rattle.bidegree.specs.declared.range.Range.{Range}
 use Rattle.square.specs.Tables.{row_in}
 use Rattle.resolution_step.specs.Alone.{IsInRange}
 use Rattle.resolution_step.specs.Inside.Adding.{IsInRow}

@@ -2,10 +2,10 @@ use Rattle.std.proofs.Common.{◌≡◌, ℕ, ◌+◌, List, [], length, replica
 use Rattle.std.proofs.lemmas.Bool.{cases_lt}
 use Rattle.std.proofs.lemmas.List.{get_or-replicate, get_or_past, length-replicate}
 use Rattle.std.proofs.lemmas.Result.{IfOk-at_ok}
+use Rattle.bidegree.specs.declared.range.TheConstants.{MAX_S}
 use Rattle.finite_module.specs.Checked.{Checked}
 use Rattle.resolution_laws.specs.Resolution.{IsCanonicalTable}
 use Rattle.resolution_laws.specs.Start.{Entry, IsCanonicalStart}
-use Rattle.square.specs.declared.range.TheConstants.{MAX_S}
 use Rattle.square.specs.Squares.{Placed, over}
 use Rattle.square.specs.Tables.{Staircase, row_in, plain_rows, cut, IsThrough}
 use Rattle.square.specs.Growing.{HasGrown}

@@ -1,5 +1,5 @@
 use Rattle.std.proofs.Common.{◌≡◌, ◌⊎◌, inr, ◌+◌, [], ◌∷◌, ◌++◌, sym, ap, subst}
-use Rattle.square.specs.declared.range.TheConstants.{MAX_S}
+use Rattle.bidegree.specs.declared.range.TheConstants.{MAX_S}
 use Rattle.square.specs.Squares.{Placed, entry_of}
 use Rattle.square.specs.Tables.{Staircase, AllRead}
 use Rattle.resolution_tests.proofs.SphereSquare.{none_read, first_readable}

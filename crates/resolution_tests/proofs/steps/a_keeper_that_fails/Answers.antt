@@ -1,6 +1,6 @@
 use Rattle.std.proofs.Common.{List, [], ◌+◌, sym, ap, subst}
+use Rattle.bidegree.specs.declared.range.TheConstants.{MAX_S}
 use Rattle.resolution_laws.specs.Start.{Entry}
-use Rattle.square.specs.declared.range.TheConstants.{MAX_S}
 use Rattle.square.specs.Tables.{Staircase}
 use Rattle.square.specs.Keeping.{HoldsTable}
 use Rattle.square.specs.Inside.MemKeep.{Kept}

@@ -1,7 +1,7 @@
 use Rattle.std.proofs.Common.{◌≡◌, ◌+◌, [], replicate, sym, ap, subst}
+use Rattle.bidegree.specs.declared.range.TheConstants.{MAX_S}
 use Rattle.finite_module.specs.Checked.{Checked}
 use Rattle.square.specs.Tables.{Staircase, AllRead}
-use Rattle.square.specs.declared.range.TheConstants.{MAX_S}
 use Rattle.save_file.proofs.Pushing.{AllRead-none}
 use Rattle.save_file.proofs.resuming.prepared.Goals as goal
 

@@ -1,6 +1,6 @@
 use Rattle.std.proofs.Common.{ap, sym, subst, ◌+◌}
 use Rattle.std.proofs.lemmas.Result.{IfOk-weaker}
-use Rattle.square.specs.declared.range.TheConstants.{MAX_S}
+use Rattle.bidegree.specs.declared.range.TheConstants.{MAX_S}
 use Rattle.square.specs.Tables.{Staircase, AllRead}
 use Rattle.save_file.proofs.Pushing.{AllRead-none}
 use Rattle.save_tests.proofs.bodies.nothing_read.Goals as goal

@@ -1,5 +1,5 @@
 use Rattle.std.proofs.Common.{◌<◌, ◌≤◌, ℕ, ℤ, suc, List, sym, subst, arith}
-use Rattle.square.specs.declared.range.TheConstants.{MAX_S}
+use Rattle.bidegree.specs.declared.range.TheConstants.{MAX_S}
 use Rattle.square_board.specs.Inside.Starts.{ListsPart}
 use Rattle.square_board.specs.Openings.{low_of}
 use Rattle.square_board.proofs.Starts.{part_none, part_all}

@@ -1,6 +1,6 @@
 use Rattle.std.proofs.Common.{◌≡◌, rules, Some, length, ap, sym, ◌∙◌, to_z, of_z, w32, arith}
 use Rattle.std.proofs.lemmas.Int.{to_z-of_z}
-use Rattle.degrees.specs.Above.{above_of}
+use Rattle.bidegree.specs.Above.{above_of}
 use Rattle.square.specs.Squares.{bottom_of}
 use Rattle.yoneda.proofs.Outside.{none_past, all_inside, none_missing, one_missing}
 use Rattle.yoneda.proofs.place.place_of.Goals as goal

@@ -1,7 +1,7 @@
 use Rattle.std.proofs.Common.{◌≡◌, ◌≤◌, ◌+◌, pos, ◌+ℤ◌, length, take, ap, sym, subst, ◌∙◌, arith}
 use Rattle.std.proofs.lemmas.Int.{ints}
+use Rattle.bidegree.specs.declared.range.TheConstants.{MAX_T}
 use Rattle.finite_module.specs.Checked.{Checked}
-use Rattle.square.specs.declared.range.TheConstants.{MAX_T}
 use Rattle.square.specs.Tables.{Staircase, IsNext, row_in}
 use Rattle.square.proofs.Places.{next_length, footing_in, IsFooting-same, contents-take, AreOfRow-first}
 use Rattle.square.proofs.table.Table.inputs.Goals as goal

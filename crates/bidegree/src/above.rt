@@ -1,8 +1,6 @@
 //! How far degrees are above a bottom degree.
-#![tactic(auto)]
-
 ghost use Rattle.std.specs.Prelude.{◌≡◌, ◌<◌, ◌^◌, IfSome};
-ghost use Rattle.degrees.specs.Above.{above_of};
+ghost use Rattle.bidegree.specs.Above.{above_of};
 
 /// How many degrees `t` is above `bottom`, none where it is below.
 pub fn above_of(bottom: i32, t: i32) -> Option<u64>

@@ -1,15 +1,10 @@
 //! Monomials in Steenrod's squares.
-ghost use Rattle.std.specs.Prelude.{◌≡◌, ◌<◌, ◌≤◌, ◌^◌, ◌↔◌, Some, nat_eq, refl, IfOk, IfSome, IsNone};
+ghost use Rattle.std.specs.Prelude.{◌≡◌, ◌≤◌, ◌^◌, ◌↔◌, Some, nat_eq, refl, IfSome, IsNone};
 ghost use Rattle.std.specs.Cmp.{partial_equiv_from_equiv};
 ghost use Rattle.std.specs.Cmp.Lexicographic.{pointwise, slice_cmp, nat_list_eq_equiv, nat_list_cmp_total, texts_po, texts_ties};
 ghost use Rattle.std.specs.List.{sum};
 ghost use Rattle.std.specs.Ordering.{nat_cmp};
-ghost use Rattle.milnor_basis.specs.Exponents.{degree_of};
-ghost use Rattle.adem_laws.specs.Admissible.{monomial_of};
 
-use memory::Memory;
-use milnor_basis::Exps;
-use std::alloc::Global;
 use std::cmp::Ordering;
 use std::marker::Model;
 
@@ -62,22 +57,6 @@ impl Mono {
             degree = degree.checked_add(*number)?;
         }
         Some(degree)
-    }
-
-    /// The admissible monomial whose last term in Milnor's basis is Sq(R). Its numbers are r1 + 2 r2 + 4 r3 + .., then
-    /// r2 + 2 r3 + .., and so on.
-    pub(crate) fn leading(alloc: Global, r: &Exps) -> Result<Self, Memory>
-        requires { degree_of r.now < 2 ^ 16 }
-        ensures { IfOk result (λ m. m ≡ monomial_of r.now) }
-    {
-        let mut numbers = Vec::with_capacity(alloc, r.len())?;
-        let mut front = 0;
-        for i in (0..r.len()).rev() {
-            front = r.exponent(i) + 2 * front;
-            numbers.push(front)?;
-        }
-        numbers.reverse();
-        Ok(Mono { numbers })
     }
 }
 

@@ -1,6 +1,6 @@
 //! How far a resolution goes.
 ghost use Rattle.std.specs.Prelude.{◌≡◌};
-ghost use Rattle.square.specs.declared.range.TheConstants.{MAX_S, MAX_T};
+ghost use Rattle.bidegree.specs.declared.range.TheConstants.{MAX_S, MAX_T};
 
 /// The greatest row of a square.
 pub const MAX_S: u16 = 127;

@@ -2,7 +2,7 @@ use Rattle.std.specs.List.{sum}
 use Rattle.std.proofs.Common.{◌≤◌, length, sym, ap, ◌∙◌, arith}
 use Rattle.std.proofs.lemmas.Bool.{false≢true}
 use Rattle.std.proofs.lemmas.List.{drop_all}
-use Rattle.sq_calc.proofs.mono.Mono.degree.Goals as goal
+use Rattle.monomial.proofs.mono.Mono.degree.Goals as goal
 
 pub returns-clause-past : goal.returns-clause-past
 returns-clause-past c =

@@ -1,7 +1,7 @@
 use Rattle.std.proofs.Common.{◌≡◌, suc, ◌-◌, drop, ap, arith}
 use Rattle.milnor_basis.specs.Front.{front}
 use Rattle.milnor_basis.proofs.Fronts.{front_at, front_small}
-use Rattle.sq_calc.proofs.mono.Mono.leading.Goals as goal
+use Rattle.sq_calc.proofs.leading.leading.Goals as goal
 
 pub overflow_mul-front : goal.overflow_mul-front
 overflow_mul-front c =

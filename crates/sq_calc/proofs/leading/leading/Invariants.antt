@@ -2,7 +2,7 @@
 use Rattle.std.proofs.Common.{◌≡◌, drop, reverse}
 use Rattle.milnor_basis.specs.Front.{front}
 use Rattle.adem_laws.specs.Admissible.{monomial_of}
-use Rattle.sq_calc.proofs.mono.Mono.leading.Given as goal
+use Rattle.sq_calc.proofs.leading.leading.Given as goal
 
 abbrev pub invariant-loop-i : goal.invariant-loop-i
 invariant-loop-i l = record {
