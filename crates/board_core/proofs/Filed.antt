@@ -6,6 +6,7 @@ use Rattle.std.proofs.lemmas.Bool.{cases_Bool}
 use Rattle.std.proofs.lemmas.Bool.Decides.{nat_tests}
 use Rattle.std.proofs.lemmas.List.Folds.{list_any-append}
 use Rattle.bidegree.specs.Above.{above_of}
+use Rattle.bidegree.proofs.Degrees.{above_of-is}
 use Rattle.board_core.specs.declared.event.Cause.{Cause}
 use Rattle.board_core.specs.declared.event.Out.{Out}
 use Rattle.board_core.specs.declared.event.Entry.TheVariants.{Take as TakeEntry, Give as GiveEntry, Back as BackEntry, Fail as FailEntry}
@@ -16,7 +17,7 @@ use Rattle.board_core.specs.Board.{IsSound, IsTaken, IsFiled, below_fronts}
 use Rattle.board_core.specs.Inside.{IsAside, IsBounded, IsWellKept}
 use Rattle.board_core.specs.Machine.{Squares, no_squares, HasParents, State, IsStart, IsNextSquare, IsBegun, IsLegal, IsHistory, IsAbove, is_number, height, has_failed, file_with, after, opening, squares_of, is_out, insert_square}
 use Rattle.board_core.specs.Machine.IsHistory.{nothing, then}
-use Rattle.board_core.proofs.Starts.{above_is, start_is_staircase}
+use Rattle.board_core.proofs.Starts.{start_is_staircase}
 use Rattle.board_core.proofs.Histories.{height_is, held_at_height, opening_is_sound, stays_sound}
 
 -- ---- lists of squares with one more
@@ -30,7 +31,7 @@ pub squares_with : (b : ℤ) (list : List (ℕ × ℤ)) (s k : ℕ) (t : ℤ) �
 squares_with b list s k t at = fun_ext (λ i. fun_ext (λ j.
     list_any-append (λ (q : ℕ × ℤ). nat_eq i q.0 && is_number (above_of b q.1) j) list ((s, t) ∷ [])
     ∙ or_false (squares_of b list i j) (nat_eq i s && is_number (above_of b t) j)
-    ∙ ap (λ (o : Option ℕ). squares_of b list i j || (nat_eq i s && is_number o j)) (above_is b t k at)))
+    ∙ ap (λ (o : Option ℕ). squares_of b list i j || (nat_eq i s && is_number o j)) (above_of-is b t k at)))
 
 -- a place of a list with one element more
 record IsLast (list : List (ℕ × ℤ)) (q : ℕ × ℤ) (n : ℕ) (x : ℕ × ℤ) : Type 0 where

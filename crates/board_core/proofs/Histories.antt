@@ -1,5 +1,6 @@
 -- The board stays sound while it runs.
 use Rattle.std.proofs.Common.{◌≡◌, ℕ, ℤ, true, List, [], ◌∷◌, ◌++◌, map, refl, sym, ap, subst}
+use Rattle.bidegree.proofs.Degrees.{above_of-is}
 use Rattle.board_core.specs.declared.event.Entry.{Entry}
 use Rattle.board_core.specs.declared.event.Entry.TheVariants.{Take, Give, Back, Fail}
 use Rattle.board_core.specs.declared.event.Cause.TheVariants.{Failed, Memory}
@@ -9,10 +10,10 @@ use Rattle.board_core.specs.Machine.{State, IsStart, IsReady, IsHeld, IsAbove, n
 use Rattle.board_core.specs.Machine.IsHistory.{nothing, then}
 use Rattle.board_core.specs.Laws.{IsReachedByEntries}
 use Rattle.board_core.proofs.Sound.{sound_take, sound_back, sound_fail, sound_give, held_is_out}
-use Rattle.board_core.proofs.Starts.{above_is, start_is_staircase}
+use Rattle.board_core.proofs.Starts.{start_is_staircase}
 
 pub height_is : (state : State) (t : ℤ) (k : ℕ) → IsAbove state.bottom t k → height state t ≡ k
-height_is state t k h = ap number_or_zero (above_is state.bottom t k h)
+height_is state t k h = ap number_or_zero (above_of-is state.bottom t k h)
 
 pub opening_is_sound : (bottom : ℤ) (s t : ℕ) (start : List (ℕ × ℤ)) → IsStart bottom start → IsSound (opening bottom s t start)
 opening_is_sound bottom s t start listed = record { staircase = start_is_staircase bottom start listed; once = tt; taken = λ i k out. cc; failed_taken = λ e is. cc; none_failed = λ none. refl }

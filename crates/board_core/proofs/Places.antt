@@ -7,6 +7,7 @@ use Rattle.std.proofs.lemmas.List.Elements.{All-nil, All-cons}
 use Rattle.std.proofs.lemmas.List.Folds.{list_any-from_Any}
 use Rattle.std.proofs.lemmas.Option.{slice_get-get_or, get_or_from_slice_get}
 use Rattle.bidegree.specs.Above.{above_of}
+use Rattle.bidegree.proofs.Degrees.{above_of-is}
 use Rattle.board_core.specs.declared.event.Entry.{Entry}
 use Rattle.board_core.specs.declared.event.Entry.TheVariants.{Take, Give, Back, Fail}
 use Rattle.board_core.specs.Board.{IsSound}
@@ -16,7 +17,7 @@ use Rattle.board_core.specs.Machine.{State, IsStart, IsAbove, is_number, height,
 use Rattle.board_core.specs.Machine.IsHistory.{nothing, then}
 use Rattle.board_core.proofs.Given.{given_once}
 use Rattle.board_core.proofs.Histories.{height_is, held_at_height, opening_is_sound, stays_sound}
-use Rattle.board_core.proofs.Starts.{above_is, next_square}
+use Rattle.board_core.proofs.Starts.{next_square}
 
 -- ---- in the range
 
@@ -53,7 +54,7 @@ start_apart b list start i j d before within same =
     let i_there : i < length (take j list) = omega (arith, length-take-le j list (omega arith)) in
     let first : get_or (take j list) i d ≡ q = get_or-take j list i d before ∙ same in
     let there : get_or (take j list) i q ≡ q = get_or_from_slice_get (take j list) i q q (slice_get-get_or (take j list) i d i_there ∙ ap (λ (r : ℕ × ℤ). Some r) first) in
-    let column : is_number (above_of b q.1) next.above ≡ true = ap (λ (o : Option ℕ). is_number o next.above) (above_is b q.1 next.above next.degree) ∙ grind (arith, nat_tests) in
+    let column : is_number (above_of b q.1) next.above ≡ true = ap (λ (o : Option ℕ). is_number o next.above) (above_of-is b q.1 next.above next.degree) ∙ grind (arith, nat_tests) in
     let passes : test q ≡ true = grind (arith, nat_tests) in
     let any = list_any-from_Any test (take j list) (i, q, i_there, there, passes) in
     absurd (let absent = next.absent in cc)

@@ -5,20 +5,16 @@ use Rattle.std.proofs.lemmas.Int.{ints}
 use Rattle.std.proofs.lemmas.List.{take_all}
 use Rattle.std.proofs.lemmas.List.Folds.{list_any_more}
 use Rattle.std.proofs.lemmas.Option.{slice_get-get_or}
-use Rattle.bidegree.specs.Above.{natural, above_of}
+use Rattle.bidegree.specs.Above.{above_of}
+use Rattle.bidegree.proofs.Degrees.{above_of-is}
 use Rattle.board_core.specs.Machine.{Squares, HasParents, IsStaircase, insert_square, IsAbove, is_number, squares_of, IsNextSquare, IsStart}
 use Rattle.board_core.proofs.Sound.{staircase_more}
-
-pub above_is : (b t : ℤ) (k : ℕ) → IsAbove b t k → above_of b t ≡ Some k
-above_is b t k h =
-    let e : t -ℤ b ≡ pos k = omega (arith, ints) in
-    ap natural e
 
 pub next_square : (b : ℤ) (list : List (ℕ × ℤ)) (i : ℕ) (d : ℕ × ℤ) → IsStart b list → i < length list → IsNextSquare b (take i list) (get_or list i d)
 next_square b list i d start within = start i (get_or list i d) (slice_get-get_or list i d within)
 
 pub same_above : (b t : ℤ) (j k : ℕ) → above_of b t ≡ Some j → IsAbove b t k → k ≡ j
-same_above b t j k e h = let f = above_is b t k h in cc
+same_above b t j k e h = let f = above_of-is b t k h in cc
 
 -- one square more of the list
 pub one_more : (b : ℤ) (list : List (ℕ × ℤ)) (i : ℕ) (d : ℕ × ℤ) (k : ℕ) → i < length list → above_of b (get_or list i d).1 ≡ Some k → squares_of b (take (i + 1) list) ≡ insert_square (squares_of b (take i list)) (get_or list i d).0 k
@@ -34,7 +30,7 @@ over_start P none more b list start = subst (λ (l : List (ℕ × ℤ)). P (squa
     parts zero within = none
     parts (suc i) within =
         let next = next_square b list i (0, pos 0) start (omega arith) in
-        let one = one_more b list i (0, pos 0) next.above (omega arith) (above_is b (get_or list i (0, pos 0)).1 next.above next.degree) in
+        let one = one_more b list i (0, pos 0) next.above (omega arith) (above_of-is b (get_or list i (0, pos 0)).1 next.above next.degree) in
         let after : P (squares_of b (take (i + 1) list)) = subst P (sym one) (more (squares_of b (take i list)) (get_or list i (0, pos 0)).0 next.above next.parents next.absent (parts i (omega arith))) in
         let e : i + 1 ≡ suc i = omega arith in
         subst (λ (n : ℕ). P (squares_of b (take n list))) e after

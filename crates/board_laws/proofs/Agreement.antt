@@ -6,11 +6,11 @@ use Rattle.std.proofs.Math.Bool.{or_comm}
 use Rattle.std.proofs.lemmas.Bool.Decides.{nat_tests}
 use Rattle.std.proofs.lemmas.List.{map-append}
 use Rattle.bidegree.specs.Above.{above_of}
+use Rattle.bidegree.proofs.Degrees.{above_of-is}
 use Rattle.board_core.specs.declared.event.Out.{Out}
 use Rattle.board_core.specs.declared.event.Cause.TheVariants.{Failed, Memory}
 use Rattle.board_core.specs.declared.event.Event.TheVariants.{Take, Give, Back, Fail, Stop, Open}
 use Rattle.board_core.specs.Machine.{State, Squares, no_squares, IsAbove, after, opening, squares_of, insert_square, without, is_number, cause_or}
-use Rattle.board_core.proofs.Starts.{above_is}
 use Rattle.resolution_laws.specs.Resolution.{Module, Content}
 use Rattle.resolution_laws.specs.Start.{Entry, entry_at}
 use Rattle.board_laws.specs.Filled.{Contents, with_content, Copy, Filled, without_contents, filled_opening, filled_height, places, without_copy, IsCopyFor, after_take, after_give, after_back, after_fail, after_stop, after_open, file_and}
@@ -76,7 +76,7 @@ fail_agrees board who s t copy is =
 same_test : (bottom : ℤ) (e : Entry) (s k : ℕ) → (nat_eq e.s s && nat_eq e.above k) ≡ (nat_eq s e.s && is_number (above_of bottom (bottom +ℤ pos e.above)) k)
 same_test bottom e s k =
     let turned : (nat_eq e.s s && nat_eq e.above k) ≡ (nat_eq s e.s && nat_eq k e.above) = grind (arith, nat_tests) in
-    turned ∙ ap (λ (o : Option ℕ). nat_eq s e.s && is_number o k) (sym (above_is bottom (bottom +ℤ pos e.above) e.above refl))
+    turned ∙ ap (λ (o : Option ℕ). nat_eq s e.s && is_number o k) (sym (above_of-is bottom (bottom +ℤ pos e.above) e.above refl))
 
 start_held : (bottom : ℤ) (start : List Entry) (s k : ℕ) → is_some (entry_at start s k) ≡ squares_of bottom (places bottom start) s k
 start_held bottom [] s k = refl

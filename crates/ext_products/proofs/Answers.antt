@@ -8,7 +8,7 @@ use Rattle.std.proofs.lemmas.List.{get_or_past}
 use Rattle.bidegree.specs.Above.{above_of}
 use Rattle.bidegree.specs.declared.range.Range.{Range}
 use Rattle.bidegree.specs.declared.class.Class.{Class}
-use Rattle.square.proofs.ByDegree.{natural-is}
+use Rattle.bidegree.proofs.Degrees.{natural-is}
 use Rattle.resolution_laws.specs.Resolution.{Content, no_content, square_in, row_of, IsCanonicalTable}
 use Rattle.lift_laws.specs.Lifts.{Resolution, IsCanonical, IsSphere, EachClassLifts}
 use Rattle.lift_laws.specs.Products.{Class as ClassAbove, count_of, degree_of_class, number_of, product_by, LiftsGiveOneProduct}

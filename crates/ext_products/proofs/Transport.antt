@@ -4,10 +4,11 @@ use Rattle.std.specs.Prelude.{MatchOption, option_map, unwrap_or, IsOkAnd, Resul
 use Rattle.std.proofs.lemmas.Bool.{cases_lt}
 use Rattle.std.proofs.lemmas.Int.{ints}
 use Rattle.std.proofs.lemmas.List.{ext_get_or, get_or-take, length-take-le, take-take}
-use Rattle.bidegree.specs.Above.{natural, above_of}
+use Rattle.bidegree.specs.Above.{above_of}
 use Rattle.bidegree.specs.declared.range.Range.{Range}
 use Rattle.bidegree.specs.declared.class.Class.{Class}
 use Rattle.bidegree.specs.declared.place.Place.{Place}
+use Rattle.bidegree.proofs.Degrees.{above_of-is}
 use Rattle.f2_matrix.proofs.Unique.{kernel_basis_unique}
 use Rattle.finite_module.specs.Module.{Module as SteenrodModule}
 use Rattle.finite_module.specs.Checked.{sphere_file}
@@ -103,8 +104,7 @@ module _ (sphere : Staircase) (range : Range) (by : Class) (are_q : IsCanonicalI
 -- the degrees that are asked of the sphere are those of the range
 pub within-reach : (range : Range) (by : Class) (b : ℤ) → b ≡ pos 0 → (k : ℕ) → by.t ≡ b +ℤ pos k → (reach_of range by).t ≡ min k range.t
 within-reach range by b zero k e =
-    let d : by.t -ℤ pos 0 ≡ pos k = omega (arith, ints) in
-    ap (degrees_asked range) (ap natural d)
+    ap (degrees_asked range) (above_of-is (pos 0) by.t k (omega (arith, ints)))
 
 -- ---- a product
 

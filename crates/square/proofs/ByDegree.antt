@@ -6,22 +6,11 @@ use Rattle.std.proofs.lemmas.Bool.{cases_lt}
 use Rattle.std.proofs.lemmas.Int.{ints}
 use Rattle.std.proofs.lemmas.List.{get_or_past}
 use Rattle.std.proofs.lemmas.Option.{slice_get_within}
-use Rattle.bidegree.specs.Above.{natural, above_of}
+use Rattle.bidegree.proofs.Degrees.{above_of-is}
 use Rattle.resolution_laws.specs.Resolution.{Content, no_content, row_of}
 use Rattle.square.specs.Squares.{Placed, bottom_of}
 use Rattle.square.specs.Tables.{Staircase, row_in, plain_rows, content_at, square_at, IsTable}
 use Rattle.square.proofs.Places.{length-row_of, slice_get-there, content_at-is}
-
--- ---- degrees
-
-pub natural-is : (z : ℤ) (k : ℕ) → natural z ≡ Some k → z ≡ pos k
-natural-is (pos n) k e = let same : n ≡ k = cc in ap (λ i. pos i) same
-natural-is (negsuc n) k e = cc
-
-pub above_of-is : (bottom t : ℤ) (k : ℕ) → t ≡ bottom +ℤ pos k → above_of bottom t ≡ Some k
-above_of-is bottom t k e = let d : t -ℤ bottom ≡ pos k = omega (arith, ints) in ap natural d
-
--- ---- squares
 
 pub square_at-above : (table : Staircase) (s k : ℕ) (t : ℤ) → t ≡ bottom_of table.resolved +ℤ pos k → square_at table s t ≡ slice_get (row_in table.rows s) k
 square_at-above table s k t e = ap (option_and_then (λ j. slice_get (row_in table.rows s) j)) (above_of-is (bottom_of table.resolved) t k e)

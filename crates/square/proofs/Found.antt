@@ -4,6 +4,7 @@ use Rattle.std.specs.List.{slice_get}
 use Rattle.std.proofs.lemmas.Int.{ints}
 use Rattle.std.proofs.lemmas.Option.{slice_get_within, same_Some}
 use Rattle.bidegree.specs.Above.{above_of}
+use Rattle.bidegree.proofs.Degrees.{natural-is}
 use Rattle.f2_matrix.specs.Reduction.{Reduction}
 use Rattle.f2_matrix.proofs.Unique.{kernel_basis_unique}
 use Rattle.finite_module.specs.Checked.{Checked}
@@ -12,7 +13,6 @@ use Rattle.resolution_laws.specs.Start.{Entry, entry_at, squares_below, row_belo
 use Rattle.resolution_laws.proofs.StartLaws.{content_is_unique, squares_below-same, row_below-same}
 use Rattle.square.specs.Squares.{Placed, IsQuasi, IsKeptOf, IsSquare, over, bottom_of}
 use Rattle.square.specs.Tables.{Staircase, row_in, plain_rows, content_at, square_at, IsQuasiAt, LacksQuasi, IsTable}
-use Rattle.square.proofs.ByDegree.{natural-is}
 use Rattle.square.proofs.Places.{content_at-is, table_before, table_below, table_under}
 
 -- a square found at a degree, and its place

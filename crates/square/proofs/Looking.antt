@@ -6,11 +6,11 @@ use Rattle.std.proofs.lemmas.Bool.{eq-eqb}
 use Rattle.std.proofs.lemmas.Bool.Decides.{eqb_tells}
 use Rattle.std.proofs.lemmas.Option.{slice_get-map}
 use Rattle.bidegree.specs.Above.{above_of}
+use Rattle.bidegree.proofs.Degrees.{natural-is}
 use Rattle.finite_module.specs.Checked.{Checked}
 use Rattle.resolution_laws.specs.Resolution.{Content}
 use Rattle.square.specs.Squares.{Placed, content_of, bottom_of}
 use Rattle.square.specs.Tables.{Footing, contents, IsPlacedAt, AreOfRow, content_in, footing_at, under_row}
-use Rattle.square.proofs.ByDegree.{natural-is}
 
 -- what a row has at the place of a degree stands there
 pub placed_there : {X : Type 0} (o : Option X) (f : X → Placed) (resolved resolved' : Checked) (i i' k : ℕ) (t b u : ℤ) (at : Option ℕ) (row : List Placed) → option_map f o ≡ slice_get row k → AreOfRow resolved' i' row → resolved' ≡ resolved → i' ≡ i → at ≡ above_of b u → at ≡ Some k → b ≡ bottom_of resolved → u ≡ t → IfSome o (λ x. IsPlacedAt resolved i t (f x))

@@ -10,7 +10,8 @@ use Rattle.std.proofs.lemmas.Int.{ints}
 use Rattle.std.proofs.lemmas.Bool.Decides.{nat_tests}
 use Rattle.std.proofs.lemmas.List.{append-nil, length_push}
 use Rattle.std.proofs.lemmas.Option.{slice_get_within}
-use Rattle.bidegree.specs.Above.{natural, above_of}
+use Rattle.bidegree.specs.Above.{above_of}
+use Rattle.bidegree.proofs.Degrees.{above_of-is}
 use Rattle.finite_module.specs.Checked.{Checked}
 use Rattle.finite_module.specs.Module.{bottom}
 use Rattle.board_core.specs.declared.event.Cause.{Cause}
@@ -257,8 +258,7 @@ module _ {K : Type 0} (before now : Keeper) (opening : Opening K) (course : Cour
   pub look_reached : {A : Type 0} (f : A → Placed) (found : Option A) (s : ℕ) (t : ℤ) (k : ℕ) → option_map f found ≡ square_at table s t → t ≡ bottom_of opening +ℤ pos k → found ≡ None → front_after opening course.history s ≤ k
   look_reached {A} f found s t k is at none =
       let low : low_of table ≡ bottom_of opening = ap (λ (x : Checked). bottom x.plain.generators) desk.grown.resolved in
-      let d : t -ℤ low_of table ≡ pos k = omega (arith, ints) in
-      let above : above_of (low_of table) t ≡ Some k = ap natural d in
+      let above : above_of (low_of table) t ≡ Some k = above_of-is (low_of table) t k (omega (arith, ints)) in
       let here : square_at table s t ≡ slice_get (row_in table.rows s) k = ap (λ (o : Option ℕ). option_and_then (λ j. slice_get (row_in table.rows s) j) o) above in
       let nothing : slice_get (row_in table.rows s) k ≡ None = sym here ∙ (sym is ∙ ap (option_map f) none) in
       let front = desk.fronts s in

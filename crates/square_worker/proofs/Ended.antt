@@ -8,6 +8,7 @@ use Rattle.std.proofs.lemmas.List.{length-map, length-append, nil_from_length}
 use Rattle.std.proofs.lemmas.List.Folds.{list_any-append, Any-from_list_any}
 use Rattle.bidegree.specs.Above.{above_of}
 use Rattle.bidegree.specs.declared.range.Range.{Range}
+use Rattle.bidegree.proofs.Degrees.{above_of-is}
 use Rattle.edge.specs.Faults.{HasRisen}
 use Rattle.board_core.specs.declared.event.Cause.{Cause}
 use Rattle.board_core.specs.declared.event.Cause.TheVariants.{Failed, Memory}
@@ -16,7 +17,7 @@ use Rattle.board_core.specs.Laws.{IsReachedByEntries as IsReached, given, first_
 use Rattle.board_core.specs.Machine.{Squares, is_number, squares_of}
 use Rattle.board_core.proofs.Given.{given_once}
 use Rattle.board_core.proofs.Places.{IsWithin, given_within, given_apart}
-use Rattle.board_core.proofs.Starts.{above_is, same_above}
+use Rattle.board_core.proofs.Starts.{same_above}
 use Rattle.board_laws.specs.Filled.{places}
 use Rattle.resolution_laws.specs.Start.{Entry}
 use Rattle.square.specs.Squares.{over}
@@ -94,7 +95,7 @@ module _ {K : Type 0} (telling : K → Keeper) (opening : Opening K) (last : K) 
       let new : list_any test (given history) ≡ true = grind (arith, nat_tests) in
       let one = Any-from_list_any test (given history) new in
       let at : IsWithin low range.s range.t one.1 = subst (λ (q : ℕ × ℤ). IsWithin low range.s range.t q) one.3 (within one.0 one.1 one.2) in
-      let passes : (nat_eq s one.1.0 && is_number (Some at.above) k) ≡ true = ap (λ (o : Option ℕ). nat_eq s one.1.0 && is_number o k) (sym (above_is low one.1.1 at.above at.degree)) ∙ one.4 in
+      let passes : (nat_eq s one.1.0 && is_number (Some at.above) k) ≡ true = ap (λ (o : Option ℕ). nat_eq s one.1.0 && is_number o k) (sym (above_of-is low one.1.1 at.above at.degree)) ∙ one.4 in
       let row = at.row in
       let column = at.column in
       (grind (arith, nat_tests), grind (arith, nat_tests))
@@ -110,7 +111,7 @@ module _ {K : Type 0} (telling : K → Keeper) (opening : Opening K) (last : K) 
       let long = length-map squares place_of in
       let listed_at : All (IsWithin low range.s range.t) (places low squares) = subst (λ (l : List (ℕ × ℤ)). All (IsWithin low range.s range.t) l) (sym are) within in
       let at : IsWithin low range.s range.t (place_of e) = subst (λ (q : ℕ × ℤ). IsWithin low range.s range.t q) (get_or-map place_of squares i d) (listed_at i (place_of d) (omega arith)) in
-      let above : at.above ≡ e.above = same_above low (low +ℤ pos e.above) e.above at.above (above_is low (low +ℤ pos e.above) e.above refl) at.degree in
+      let above : at.above ≡ e.above = same_above low (low +ℤ pos e.above) e.above at.above (above_of-is low (low +ℤ pos e.above) e.above refl) at.degree in
       let column = at.column in
       (at.row, omega arith)
 

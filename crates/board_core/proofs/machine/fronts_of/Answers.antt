@@ -2,9 +2,10 @@ use Rattle.std.proofs.Common.{◌≡◌, ℕ, ◌+◌, ◌≤◌, ℤ, pos, List
 use Rattle.std.proofs.lemmas.Int.{to_z-of_z}
 use Rattle.std.proofs.lemmas.Option.{slice_get-get_or}
 use Rattle.bidegree.specs.Above.{above_of}
+use Rattle.bidegree.proofs.Degrees.{above_of-is}
 use Rattle.board_core.specs.Board.{below_fronts}
 use Rattle.board_core.specs.Machine.{Squares, HasParents, IsNextSquare, squares_of, insert_square}
-use Rattle.board_core.proofs.Starts.{next_square, same_above, one_more, above_is}
+use Rattle.board_core.proofs.Starts.{next_square, same_above, one_more}
 use Rattle.board_core.proofs.machine.fronts_of.Goals as goal
 use Rattle.board_core.proofs.machine.fronts_of.Goals.{in-Some, in_default}
 
@@ -67,13 +68,13 @@ loop-s-preserved c =
           let at = found b q.1 (to_z w32 (of_z w32 b)) (to_z w32 (of_z w32 q.1)) w.in-Some.above c.above_of.result c.above_of.ensures.above low (to_z-of_z w32 q.1 fits) w.in-Some.is in
           ap below_fronts w.fronts-is ∙ w.add.ensures.squares ∙ ap (λ (d : Squares). insert_square d q.0 w.in-Some.above) before ∙ sym (one_more b list i (0, pos 0) w.in-Some.above c.loop-s-test.true at)
       | in_default w ↦
-          let there = above_is b q.1 next.above next.degree in
+          let there = above_of-is b q.1 next.above next.degree in
           let here : c.above_of.result ≡ Some next.above = c.above_of.ensures.above ∙ ap (λ z. above_of z (to_z w32 (of_z w32 q.1))) low ∙ ap (above_of b) (to_z-of_z w32 q.1 fits) ∙ there in
           absurd (w.in_default.not-Some next.above here)
     ] in
     let rows : length c.match-above_of.fronts ≡ c.args.last + 1 = elim c.match-above_of.branch [
       | in-Some w ↦ ap length w.fronts-is ∙ w.add.ensures.rows ∙ c.loop-s.invariant.rows
-      | in_default w ↦ let there = above_is b q.1 next.above next.degree in
+      | in_default w ↦ let there = above_of-is b q.1 next.above next.degree in
           let here : c.above_of.result ≡ Some next.above = c.above_of.ensures.above ∙ ap (λ z. above_of z (to_z w32 (of_z w32 q.1))) low ∙ ap (above_of b) (to_z-of_z w32 q.1 fits) ∙ there in
           absurd (w.in_default.not-Some next.above here)
     ] in
