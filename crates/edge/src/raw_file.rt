@@ -1,9 +1,9 @@
 //! What a disk asks of a file of the system.
-ghost use Rattle.std.specs.Prelude.{◌≡◌, ℕ, ◌+◌, ◌≤◌, ◌↔◌, None, Option, List, length, take, drop, IfSome, IfOk, OnOk, OnErr};
+ghost use Rattle.std.specs.Prelude.{◌≡◌, ◌≢◌, ℕ, ◌+◌, ◌≤◌, ◌↔◌, None, Option, List, length, take, drop, Ok, Err, true, false, IfSome, IfOk, OnOk, OnErr};
 ghost use Rattle.std.specs.Option.{option_map};
 ghost use Rattle.edge.specs.Disk.{written, Torn, Follows, Only, AreTold, Elapses, Passes, WasImageSince};
 
-use std::fs::{File, OpenOptions};
+use std::fs::{File, OpenOptions, TryLockError};
 use std::io;
 use std::os::unix::fs::FileExt;
 use std::rt::Files;
@@ -100,36 +100,68 @@ pub trait RawFile {
     ghost since_earlier: { (file : Self) (t u : ℕ) (c : List ℕ) → t ≤ u → since file u c → since file t c };
 }
 
-/// The file at a path, which is opened, or made where there is none, at its first use. An opening that fails is tried again at
-/// the next. As a `RawFile` it tells nothing of what it holds. What is trusted is that std's calls do what they are called for.
+/// The file at a path, which is opened and locked, or made where there is none, at its first use. Where another open of the file
+/// holds the lock, that is an error and is noted, and nothing is read or written. An opening that fails is tried again at the next
+/// use. The lock is std's on the whole file, and is let go with the file. As a `RawFile` it tells nothing of what it holds. What is
+/// trusted is that std's calls do what they are called for.
 #[derive(Drop)]
 pub struct PathFile<'a, R: Files<File = File>> {
     files: &'a R,
     path: &'a str,
     file: Option<File>,
+    was_held: bool,
 }
 
 impl<'a, R: Files<File = File>> PathFile<'a, R> {
     /// The file at `path`. It makes no call yet.
-    pub fn new(files: &'a R, path: &'a str) -> Self {
+    pub fn new(files: &'a R, path: &'a str) -> Self
+        ensures { result.was_held ≡ false }
+    {
         PathFile {
             files,
             path,
             file: None,
+            was_held: false,
         }
     }
 
-    /// The file, opened. Its bytes stay as they are.
+    /// Whether another open of the file held the lock at a use of this one.
+    pub fn was_held(&self) -> bool
+        ensures { result ≡ self.now.was_held }
+    {
+        self.was_held
+    }
+
+    /// The file, opened and locked. Its bytes stay as they are.
     fn opened(&mut self) -> io::Result<&File> {
         let file = match self.file.take() {
             Some(file) => file,
-            None => OpenOptions::new()
-                .read(true)
-                .write(true)
-                .create(true)
-                .open(self.files, self.path)?,
+            None => self.locked()?,
         };
         Ok(self.file.insert(file))
+    }
+
+    /// The file, opened anew and locked.
+    fn locked(&mut self) -> io::Result<File> {
+        let file = OpenOptions::new()
+            .read(true)
+            .write(true)
+            .create(true)
+            .open(self.files, self.path)?;
+        self.noted(file.try_lock())?;
+        Ok(file)
+    }
+
+    /// What came of asking for the lock. That another open of the file holds it is noted.
+    fn noted(&mut self, asked: Result<(), TryLockError>) -> io::Result<()>
+        ensures granted { OnOk result (asked ≡ Ok tt) }
+        ensures held { asked ≡ Err TryLockError.WouldBlock → self.new.was_held ≡ true }
+        ensures same { asked ≢ Err TryLockError.WouldBlock → self.new.was_held ≡ self.old.was_held }
+    {
+        if matches!(&asked, Err(TryLockError::WouldBlock)) {
+            self.was_held = true;
+        }
+        Ok(asked?)
     }
 }
 

@@ -33,10 +33,16 @@ fn a_file(rt: HostRuntime) -> Result<(), Fail> {
     assert_eq!(rt; disk.write_at(u64::MAX, b""), Err(Failed));
     assert_eq!(rt; disk.write_at((1 << 63) - 1, b"a"), Err(Failed));
     assert_eq!(rt; disk.write_at((1 << 63) - 1, b""), Ok(()));
+    // While one disk has the file, another cannot use it, and says why.
     let mut again = FileDisk::new(&rt, path.as_str());
+    let refused = four_calls(&mut again);
+    let was_held = [disk.was_held(), again.was_held()];
+    drop(disk);
     let read = read_all(rt.alloc(), &mut again)?;
     let held = fs::read(&rt, path.as_str())?;
     fs::remove_file(&rt, path.as_str())?;
+    assert_eq!(rt; refused, [false; 4]);
+    assert_eq!(rt; was_held, [false, true]);
     assert_eq!(rt; read.as_slice(), b"a\x02\x03def".as_slice());
     assert_eq!(rt; held.as_slice(), b"a\x02\x03def".as_slice());
     Ok(())
@@ -50,6 +56,7 @@ fn a_file_that_comes_late(rt: HostRuntime) -> Result<(), Fail> {
     let _ = fs::remove_dir_all(&rt, folder.as_str());
     let mut disk = FileDisk::new(&rt, path.as_str());
     assert_eq!(rt; four_calls(&mut disk), [false; 4]);
+    assert!(rt; !disk.was_held());
     fs::create_dir(&rt, folder.as_str())?;
     assert_eq!(rt; disk.sync(), Ok(()));
     let made = fs::exists(&rt, path.as_str())?;
