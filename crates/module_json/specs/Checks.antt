@@ -7,8 +7,9 @@ use Rattle.serde_json.specs.Read.{read}
 use Rattle.module_json.specs.declared.limits.TheConstants.{MAX_FILE_BYTES, MAX_GENERATORS, MAX_ACTIONS}
 use Rattle.module_json.specs.declared.malformed.Malformed.{Malformed}
 use Rattle.module_json.specs.declared.malformed.Malformed.TheVariants.{Limit, Json, Shape, Kind as OtherKind, Prime as OtherPrime, Memory}
+use Rattle.module_json.specs.declared.malformed.Place.{Place}
 use Rattle.module_json.specs.declared.malformed.What.TheVariants.{Bytes, Gens as ManyGens, Actions as ManyActions}
-use Rattle.module_json.specs.declared.malformed.Place.TheVariants.{Whole, Kind, Cofiber, Shift, Prime, Gens, Actions}
+use Rattle.module_json.specs.declared.malformed.Place.TheVariants.{Whole, Kind, Cofiber, Shift, Profile, AdemActions, MilnorActions, Prime, Gens, Actions}
 
 -- The bytes are a JSON text, with this value.
 pub record IsJson (bytes : List ℕ) (d : Data) : Type 0 where
@@ -74,11 +75,16 @@ kind_of_text (Some text) = unless (is_listed_type text || is_space_type text) Ot
 abbrev pub kind_refusal : Data → Option Malformed
 kind_refusal d = kind_of_text (text_at (codes "type") d)
 
-abbrev pub cofiber_refusal : Data → Option Malformed
-cofiber_refusal d = unless_absent (Shape Cofiber) (get (codes "cofiber") d)
+-- nothing may stand under a key
+abbrev pub absent_refusal : List ℕ → Place → Data → Option Malformed
+absent_refusal key at d = unless_absent (Shape at) (get key d)
 
-abbrev pub shift_refusal : Data → Option Malformed
-shift_refusal d = unless_absent (Shape Shift) (get (codes "shift") d)
+-- Keys of other programs' files, which describe another module than the generators and actions alone: the cofibre of a class, other
+-- degrees, a module over a subalgebra, actions in two bases. A file with one of them is refused, whatever stands under it.
+abbrev pub keys_refusal : Data → Option Malformed
+keys_refusal d = first_of (absent_refusal (codes "cofiber") Cofiber d ∷ absent_refusal (codes "shift") Shift d
+    ∷ absent_refusal (codes "profile") Profile d ∷ absent_refusal (codes "adem_actions") AdemActions d
+    ∷ absent_refusal (codes "milnor_actions") MilnorActions d ∷ [])
 
 abbrev pub prime_of_number : Option ℕ → Option Malformed
 prime_of_number None = Some (Shape Prime)
@@ -103,7 +109,7 @@ prime_refusal d = prime_of_value (get (codes "p") d)
 -- The header of a module file, whatever its type: a JSON object, its type, the refused keys, and the prime, in this order.
 abbrev pub header_refusal : Data → Option Malformed
 header_refusal d =
-    first_of (whole_refusal d ∷ kind_refusal d ∷ cofiber_refusal d ∷ shift_refusal d ∷ prime_refusal d ∷ [])
+    first_of (whole_refusal d ∷ kind_refusal d ∷ keys_refusal d ∷ prime_refusal d ∷ [])
 
 abbrev pub members_count : Members → ℕ
 members_count no_members = 0

@@ -5,7 +5,7 @@ ghost use Rattle.std.specs.String.{string_cmp};
 ghost use Rattle.std.specs.BTreeMap.{IsOrdered};
 ghost use Rattle.serde_json.specs.Data.{Data};
 ghost use Rattle.serde_json.specs.View.{view, members_view, items_view};
-ghost use Rattle.module_json.specs.Checks.{IsJson, IsValueOf, size_refusal, whole_refusal, kind_refusal, cofiber_refusal, shift_refusal, prime_refusal, header_refusal, is_space, gens_refusal, actions_refusal};
+ghost use Rattle.module_json.specs.Checks.{IsJson, IsValueOf, size_refusal, whole_refusal, kind_refusal, absent_refusal, keys_refusal, prime_refusal, header_refusal, is_space, gens_refusal, actions_refusal};
 ghost use Rattle.module_json.specs.Parts.{parts_refusal, parts_of};
 ghost use Rattle.module_json.specs.ModuleFile.{gens_of, actions_of, degree_of, generator_refusal};
 
@@ -104,24 +104,25 @@ pub(crate) fn is_space(file: &Value) -> bool
     }
 }
 
-/// The check that there is no `"cofiber"`.
-fn check_cofiber(file: &Value) -> Result<(), Malformed>
-    ensures { result_err result ≡ cofiber_refusal (view file.now) }
+/// The check that there is no such key.
+fn check_absent(file: &Value, key: &str, at: Place) -> Result<(), Malformed>
+    ensures { result_err result ≡ absent_refusal key.now at (view file.now) }
 {
-    match file.get("cofiber") {
+    match file.get(key) {
         None => Ok(()),
-        Some(_) => Err(Malformed::Shape { at: Place::Cofiber }),
+        Some(_) => Err(Malformed::Shape { at }),
     }
 }
 
-/// The check that there is no `"shift"`.
-fn check_shift(file: &Value) -> Result<(), Malformed>
-    ensures { result_err result ≡ shift_refusal (view file.now) }
+/// The checks that there is no key by which another module is meant.
+fn check_keys(file: &Value) -> Result<(), Malformed>
+    ensures { result_err result ≡ keys_refusal (view file.now) }
 {
-    match file.get("shift") {
-        None => Ok(()),
-        Some(_) => Err(Malformed::Shape { at: Place::Shift }),
-    }
+    check_absent(file, "cofiber", Place::Cofiber)?;
+    check_absent(file, "shift", Place::Shift)?;
+    check_absent(file, "profile", Place::Profile)?;
+    check_absent(file, "adem_actions", Place::AdemActions)?;
+    check_absent(file, "milnor_actions", Place::MilnorActions)
 }
 
 /// The check that `"p"` is 2, or left out.
@@ -144,8 +145,7 @@ pub(crate) fn check_header(file: &Value) -> Result<(), Malformed>
 {
     check_whole(file)?;
     check_kind(file)?;
-    check_cofiber(file)?;
-    check_shift(file)?;
+    check_keys(file)?;
     check_prime(file)
 }
 

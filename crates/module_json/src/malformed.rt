@@ -88,6 +88,12 @@ pub enum Place {
     Cofiber,
     #[error("shift")]
     Shift,
+    #[error("profile")]
+    Profile,
+    #[error("adem_actions")]
+    AdemActions,
+    #[error("milnor_actions")]
+    MilnorActions,
     #[error("p")]
     Prime,
     #[error("gens")]

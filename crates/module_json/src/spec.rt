@@ -125,13 +125,14 @@ fn describe(alloc: Global, file: &Value) -> Result<Spec, Malformed>
 /// `"finite dimensional module"`, `"gens"` has the degree of each generator under its name, and `"actions"`, which may be
 /// left out, lists texts such as `Sq2 x0 = x2 + y2`, whose right side is `0` for none. If it is `"real projective space"`,
 /// there is a cell in each dimension from `"min"` to `"max"`, named as `x3` and `x-1`, and Sq^k takes the one of dimension n
-/// to binom(n, k) times the one of dimension n + k (Steenrod). The keys `"cofiber"` and `"shift"` are refused, and others
-/// are passed over. A repeated key has its last value.
+/// to binom(n, k) times the one of dimension n + k (Steenrod). The keys `"cofiber"`, `"shift"`, `"profile"`,
+/// `"adem_actions"` and `"milnor_actions"` are refused, and others are passed over. A repeated key has its last value.
 ///
 /// # Errors
-/// The first check that fails, in this order: bytes, JSON, `"type"`, the refused keys, `"p"`; then `"gens"`, each generator
-/// in the order of the names' bytes, the span of the degrees, `"actions"`, each action; or `"min"`, `"max"`, that both are
-/// degrees, that `"max"` is not below `"min"`, that the cells are at most [`MAX_GENERATORS`](crate::MAX_GENERATORS).
+/// The first check that fails, in this order: bytes, JSON, `"type"`, the refused keys as listed above, `"p"`; then
+/// `"gens"`, each generator in the order of the names' bytes, the span of the degrees, `"actions"`, each action; or
+/// `"min"`, `"max"`, that both are degrees, that `"max"` is not below `"min"`, that the cells are at most
+/// [`MAX_GENERATORS`](crate::MAX_GENERATORS).
 /// `Memory` may come at any time.
 pub fn read(alloc: Global, bytes: &[u8]) -> Result<Spec, Malformed>
     ensures module { IfOk result (λ s. IsFileOf bytes.now (Ok s)) }
