@@ -8,7 +8,7 @@ use Rattle.module_json.specs.declared.malformed.Malformed.TheVariants.{Limit, Js
 use Rattle.module_json.specs.declared.malformed.What.{What}
 use Rattle.module_json.specs.declared.malformed.What.TheVariants.{Bytes, Gens, Degree as DegreeLimit, Span, Actions}
 use Rattle.module_json.specs.declared.malformed.Place.{Place}
-use Rattle.module_json.specs.declared.malformed.Place.TheVariants.{Whole, Kind as AtType, Cofiber, Shift, Prime as AtPrime, Gens as AtGens, Actions as AtActions, Min as AtMin, Max as AtMax}
+use Rattle.module_json.specs.declared.malformed.Place.TheVariants.{Whole, Kind as AtType, Cofiber, Shift, Profile, AdemActions, MilnorActions, Prime as AtPrime, Gens as AtGens, Actions as AtActions, Min as AtMin, Max as AtMax}
 use Rattle.module_json.specs.declared.malformed.Why.{Why}
 use Rattle.module_json.specs.declared.malformed.Why.TheVariants.{Syntax, SquareZero, Unknown, WrongDegree, Repeated}
 use Rattle.finite_module.specs.Text.{name_at, newline}
@@ -45,6 +45,9 @@ place_text Whole = codes "whole"
 place_text AtType = codes "type"
 place_text Cofiber = codes "cofiber"
 place_text Shift = codes "shift"
+place_text Profile = codes "profile"
+place_text AdemActions = codes "adem_actions"
+place_text MilnorActions = codes "milnor_actions"
 place_text AtPrime = codes "p"
 place_text AtGens = codes "gens"
 place_text AtActions = codes "actions"
