@@ -1,5 +1,5 @@
 //! `ext` as a call: a program's arguments are answered on its standard streams, over the save file in the folder that it runs in.
-//! The programs over it are what is run of it, each on words of its own: `ext_main`, `ext_refused` and `ext_spared`.
+//! The programs over it are what is run of it, each on words of its own: `ext_main` and `ext_spared`.
 #![tactic(auto)]
 
 ghost use Rattle.std.specs.Prelude.{◌≡◌, ◌≢◌, map, string_bytes, codes, IfOk, IfErr};
