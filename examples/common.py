@@ -1,12 +1,19 @@
-"""What the scripts of this folder share: they take their arguments, run the program, read classes in its texts, and write module files."""
+"""What the scripts of this folder share: they take their arguments, run the program, read its texts as numbers, and write module files.
+
+A class is (s, t, i): row, internal degree, number. Its stem is t - s. A sum of classes is a list of them, and zero the empty list.
+"""
 import json
 import os
 import re
 import subprocess
 import sys
+from collections import Counter, namedtuple
 
+HERE = os.path.dirname(os.path.realpath(__file__))
 # The program: the one that the variable EXT names, or else ../ext, which builds it first.
-EXT = os.environ.get("EXT") or os.path.join(os.path.dirname(os.path.realpath(__file__)), os.pardir, "ext")
+EXT = os.environ.get("EXT") or os.path.join(HERE, os.pardir, "ext")
+SPHERE = b'{"type": "finite dimensional module", "p": 2, "gens": {"x0": 0}, "actions": []}'
+UNIT = (0, 0, 0)
 
 
 def arguments(count, description):
@@ -18,15 +25,88 @@ def arguments(count, description):
 
 def ext(*words, file=b""):
     """The lines that the program prints on these words and this file. Where it fails, the script ends with its status."""
-    run = subprocess.run([EXT, *map(str, words)], input=file, stdout=subprocess.PIPE)
+    try:
+        run = subprocess.run([EXT, *map(str, words)], input=file, stdout=subprocess.PIPE)
+    except OSError as error:
+        sys.exit(f"the program {EXT} cannot be run: {error.strerror}")
     if run.returncode:
-        sys.exit(run.returncode)
+        # (a program that a signal ended has no status of its own)
+        sys.exit(run.returncode if run.returncode > 0 else f"the program was ended by signal {-run.returncode}")
     return run.stdout.decode().splitlines()
 
 
 def classes(text):
-    """The classes (s, t, i) that a text names, in their order: row, internal degree, number."""
+    """The classes that a text names, in their order."""
     return [tuple(map(int, found)) for found in re.findall(r"\((\d+),(-?\d+),(\d+)\)", text)]
+
+
+def written(total):
+    """A sum of classes as the program writes it."""
+    return " + ".join(f"({s},{t},{i})" for s, t, i in total) or "0"
+
+
+def h(k):
+    """The class h_k of the sphere."""
+    return 1, 2 ** k, 0
+
+
+# ---- charts and products as numbers
+
+# A module through a range: its least degree; at each (stem, row) that has a class, how many; and for each class of the sphere that was asked
+# for, the product of each class x of the module with it, as a sum of classes, where that lies in the range.
+Table = namedtuple("Table", "bottom counts products")
+
+
+def bottom_of(file):
+    """The least degree of a module; 0 where it is zero."""
+    (line,) = ext("check", file=file)
+    found = re.search(r"degrees (-?\d+)\.\.", line)
+    return int(found[1]) if found else 0
+
+
+def chart(rows, top, file=SPHERE):
+    """How many classes lie at each (stem, row) of the range, where there is one: the numbers of `ext resolve`, which writes ten or more as *."""
+    *lines, ends = ext("resolve", rows, top, file=file)
+    bottom = int(re.match(r"stems (-?\d+)\.\.", ends)[1])
+    marks = [(bottom + column, int(line[:line.index("|")]), mark) for line in lines for column, mark in enumerate(line[line.index("|") + 1:])]
+    if any(mark == "*" for _, _, mark in marks):
+        return table(rows, top, file=file).counts
+    return {(stem, s): int(mark) for stem, s, mark in marks if mark != "."}
+
+
+def table(rows, top, by=(), file=SPHERE):
+    """The module's table through the range, with its products by these classes of the sphere.
+
+    The products by h_k are read off the differentials: h_k x is the sum of the classes y of the next row in whose d the term Sq(2^k) x stands,
+    since of Milnor's basis in degree 2^k that element alone is no sum of products. So all of them cost one run, without kernels.
+    """
+    counts, hits = Counter(), {k: {} for k in range(top.bit_length())}
+    everything = []
+    for line in ext("dump", rows, top, file=file):
+        left, _, image = line.partition(" = ")
+        (one,) = classes(left)
+        everything.append(one)
+        counts[one[1] - one[0], one[0]] += 1
+        for n, *x in re.findall(r"Sq\((\d+)\)\*\((\d+),(-?\d+),(\d+)\)", image):
+            k = int(n).bit_length() - 1
+            if int(n) == 2 ** k:
+                hits[k].setdefault(tuple(map(int, x)), []).append(one)
+    bottom = min((t for s, t, _ in everything if s == 0), default=0)
+    products = {}
+    for a in by:
+        k = a[1].bit_length() - 1
+        if a == UNIT:
+            products[a] = {x: [x] for x in everything}
+        elif a == h(k):
+            within = [x for x in everything if x[0] < rows and x[1] + a[1] <= bottom + top]
+            products[a] = {x: hits[k].get(x, []) for x in within}
+        else:
+            lines = ext("products", rows, top, "--by", ",".join(map(str, a)), file=file)
+            products[a] = {x: total for x, *total in map(classes, lines)}
+    return Table(bottom, dict(counts), products)
+
+
+# ---- module files
 
 
 def file_text(degrees, actions):
