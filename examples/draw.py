@@ -150,8 +150,8 @@ class Picture:
     def place(self, s, t, j):
         """Where number j of the basis of a square is drawn: those of one square stand side by side."""
         count = len(self.chart.squares[s, t].basis)
-        space = min(1.0, 6 / count)
-        aside = (2 * j - count + 1) * space
+        # (so far aside that they stay apart from those of the next stem)
+        aside = (2 * j - count + 1) * min(1.0, 2.2 / max(count - 1, 1))
         return self.x(t - s) + aside * 1.7 * DOT, self.y(s) + aside * 0.6 * DOT
 
     def put(self, line):
@@ -171,7 +171,7 @@ class Picture:
             x = max(left, self.x(self.words.right) - STEP / 2)
             self.put(f'<rect x="{x:.1f}" y="{high:.1f}" width="{right - x:.1f}" height="{low - high:.1f}" fill="#e6e6e6"/>')
             self.path((x, low), (x, high), 'stroke="#c00" stroke-dasharray="4 3"')
-            self.text(x + 3, high + 10, f"not right from stem {self.words.right} on", 'fill="#c00"')
+            self.text(right, high - 5, f"not right from stem {self.words.right} on", 'fill="#c00" text-anchor="end"')
         self.put('<g stroke="#eee">')
         for stem in range(self.first, self.last + 1):
             self.path((self.x(stem), low), (self.x(stem), high), 'stroke="#ccc"' if stem % 4 == 0 else "")
