@@ -2,21 +2,30 @@
 //! The programs over it are what is run of it, each on words of its own: `ext_main` and `ext_spared`.
 #![tactic(auto)]
 
-ghost use Rattle.std.specs.Prelude.{◌≡◌, ◌≢◌, map, string_bytes, codes, IfOk, IfErr};
+ghost use Rattle.std.specs.Prelude.{◌≡◌, ◌≢◌, drop, map, string_bytes, codes, true, false, Err, IfOk, IfErr};
+ghost use Rattle.std.specs.IoError.{error_kind};
+ghost use Rattle.std.specs.Process.{exit_status};
+ghost use Rattle.std.specs.Vec.Iter.{into_iter_items};
 ghost use Rattle.ext_words.specs.Words.{texts_of};
 ghost use Rattle.ext_report.specs.declared.failure.Failure.TheVariants.{Words as OutsideGrammar, Memory as OutOfMemory};
 ghost use Rattle.ext_run.specs.Devices.{device_of, store_of};
 ghost use Rattle.ext_run.specs.Plan.{asked_by};
 ghost use Rattle.ext_run.specs.Ending.{HasTold};
 ghost use Rattle.ext_run.specs.Run.{IsRun};
+ghost use Rattle.ext_report.specs.declared.status.TheConstants.{SAVING};
+ghost use Rattle.ext_program.specs.Held.{HasToldHeld, MayTellHeld};
 
-use edge::{Disk, FileDisk, PathFile, Sink, Source, StdSink, StdSource};
+use edge::{Disk, FileDisk, PathFile, Sink, Source, StdSink, StdSource, write_all};
+use ext_report::SAVING;
 use ext_run::{Ended, Failure, report, run};
 use memory::Memory;
 use square_worker::OpenGate;
 use std::alloc::Global;
+use std::env::Args;
+use std::fs::File;
 use std::io::{ErrorKind, Stderr, Stdin, Stdout};
 use std::process::ExitCode;
+use std::rt::Files;
 use std::sync::Wait;
 use std::thread::Threads;
 use std::time::Clock;
@@ -30,30 +39,93 @@ fn save_file() -> &'static str
 }
 
 /// Answers the program's arguments on the standard streams; the program ends with the status of the run. What starts
-/// threads, waits and tells the time is passed beside the runtime, since only `main` has the runtime as such.
+/// threads, waits and tells the time is passed beside the runtime, since only `main` has the runtime as such. Where arguments,
+/// streams and the save file are had, no function below has the runtime.
 pub fn program<W: Threads + Wait + Clock + Sync>(rt: &HostRuntime, wait: &W) -> ExitCode {
-    let mut source = StdSource::new(rt.stdin());
-    let mut out = StdSink::new(rt.stdout());
-    let mut err = StdSink::new(rt.stderr());
-    let disk = FileDisk::new(rt, save_file());
-    let arguments = match arguments(rt) {
-        Ok(arguments) => Ok(arguments),
-        Err(e) => Err(failure_of(e.kind())),
-    };
-    let ended = on_streams::<
+    on_save_file::<
         W,
         StdSource<Stdin>,
         StdSink<Stdout>,
         StdSink<Stderr>,
         FileDisk<PathFile<HostRuntime>>,
-    >(rt, wait, arguments, &mut source, &mut out, &mut err, disk);
-    ExitCode::from(ended.status)
+    >(
+        wait,
+        rt.alloc(),
+        arguments(rt.alloc(), env::args(rt)),
+        &mut StdSource::new(rt.stdin()),
+        &mut StdSink::new(rt.stdout()),
+        &mut StdSink::new(rt.stderr()),
+        FileDisk::new(rt, save_file()),
+    )
+}
+
+/// A disk that another run may hold.
+trait MayBeHeld {
+    /// Whether a call failed since another run holds it.
+    fn was_held(&self) -> bool;
+}
+
+impl<'a, R: Files<File = File>> MayBeHeld for FileDisk<PathFile<'a, R>> {
+    fn was_held(&self) -> bool {
+        FileDisk::was_held(self)
+    }
+}
+
+/// Answers the arguments after the program's name on these streams, over a disk that another run may hold. Where the run ends with the
+/// status of a failed disk since another run holds it, a line behind that of the failure says so.
+fn on_save_file<
+    W: Threads + Wait + Clock + Sync,
+    S: Source,
+    O: Sink,
+    E: Sink + Send,
+    D: Disk + MayBeHeld + Send + Drop,
+>(
+    wait: &W,
+    alloc: Global,
+    arguments: Result<Vec<String>, Failure>,
+    source: &mut S,
+    out: &mut O,
+    err: &mut E,
+    disk: D,
+) -> ExitCode
+    ensures answered { IfOk arguments (λ all. (between : E) × (after : D) × IsRun (device_of S.left S.faults)
+        (device_of O.written O.faults) (device_of E.written E.faults)
+        (store_of D.now D.moment D.images D.images_at D.since D.faults) (asked_by (map string_bytes all.items))
+        (exit_status result) source.old source.new out.old out.new err.old between disk after
+        × MayTellHeld E.written E.faults (exit_status result) between err.new) }
+    ensures refused { IfErr arguments (λ failure. (source.new ≡ source.old) × (out.new ≡ out.old)
+        × ((between : E) × HasTold E.written E.faults failure (exit_status result) err.old between
+        × MayTellHeld E.written E.faults (exit_status result) between err.new)) }
+{
+    let ended = on_streams(wait, alloc, arguments, source, out, err, disk);
+    finished(ended.status, ended.disk.was_held(), err)
+}
+
+/// What the program ends with: the status of the run. Where that is the status of a failed save file, and another run held it, a line
+/// says so.
+fn finished<E: Sink>(status: u8, was_held: bool, err: &mut E) -> ExitCode
+    ensures status { exit_status result ≡ status }
+    ensures told { status ≡ SAVING → was_held ≡ true → HasToldHeld E.written E.faults err.old err.new }
+    ensures other { (status ≡ SAVING → was_held ≡ false) → err.new ≡ err.old }
+{
+    if status == SAVING && was_held {
+        tell_held(err);
+    }
+    ExitCode::from(status)
+}
+
+/// Writes that another run holds the save file. Where that fails, some first bytes are written.
+fn tell_held<E: Sink>(err: &mut E)
+    ensures { HasToldHeld E.written E.faults err.old err.new }
+{
+    // The status stays what it is where the line cannot be written.
+    let _ = write_all(err, b"ext: another run holds ext.save\n");
 }
 
 /// Answers the arguments after the program's name on these streams, or tells the failure in their place.
 fn on_streams<W: Threads + Wait + Clock + Sync, S: Source, O: Sink, E: Sink + Send, D: Disk + Send>(
-    rt: &HostRuntime,
     wait: &W,
+    alloc: Global,
     arguments: Result<Vec<String>, Failure>,
     source: &mut S,
     out: &mut O,
@@ -68,7 +140,7 @@ fn on_streams<W: Threads + Wait + Clock + Sync, S: Source, O: Sink, E: Sink + Se
         × HasTold E.written E.faults failure result.status err.old err.new × (result.disk ≡ disk)) }
 {
     match arguments {
-        Ok(arguments) => answer(rt, wait, arguments.as_slice(), source, out, err, disk),
+        Ok(arguments) => answer(wait, alloc, arguments.as_slice(), source, out, err, disk),
         Err(failure) => Ended {
             status: refused(&failure, err),
             disk,
@@ -78,8 +150,8 @@ fn on_streams<W: Threads + Wait + Clock + Sync, S: Source, O: Sink, E: Sink + Se
 
 /// Answers the arguments after the program's name: what `run` answers to their texts.
 fn answer<W: Threads + Wait + Clock + Sync, S: Source, O: Sink, E: Sink + Send, D: Disk + Send>(
-    rt: &HostRuntime,
     wait: &W,
+    alloc: Global,
     arguments: &[String],
     source: &mut S,
     out: &mut O,
@@ -90,11 +162,11 @@ fn answer<W: Threads + Wait + Clock + Sync, S: Source, O: Sink, E: Sink + Send, 
         (store_of D.now D.moment D.images D.images_at D.since D.faults) (asked_by (map string_bytes arguments.now))
         result.status source.old source.new out.old out.new err.old err.new disk result.disk }
 {
-    match words(rt.alloc(), arguments) {
+    match words(alloc, arguments) {
         Ok(words) => run(
-            rt,
             wait,
-            rt.alloc(),
+            wait,
+            alloc,
             words.as_slice(),
             source,
             out,
@@ -129,10 +201,25 @@ fn failure_of(kind: ErrorKind) -> Failure
     }
 }
 
-/// The arguments after the program's name.
-fn arguments(rt: &HostRuntime) -> io::Result<Vec<String>> {
-    let all = env::args(rt)?;
-    Ok(all.skip(1).collect(rt.alloc())?)
+/// The arguments after the program's name, of what the system gave; or why there are none.
+fn arguments(alloc: Global, given: io::Result<Args>) -> Result<Vec<String>, Failure>
+    ensures rest { IfOk given (λ all. IfOk result (λ rest. rest.items ≡ drop 1 (into_iter_items all))) }
+    ensures memory { IfOk given (λ _. IfErr result (λ failure. failure ≡ OutOfMemory)) }
+    ensures no_text { IfErr given (λ e. error_kind e ≡ ErrorKind.InvalidData → result ≡ Err OutsideGrammar) }
+    ensures no_memory { IfErr given (λ e. error_kind e ≢ ErrorKind.InvalidData → result ≡ Err OutOfMemory) }
+{
+    match given {
+        Ok(all) => Ok(behind_first(alloc, all)?),
+        Err(e) => Err(failure_of(e.kind())),
+    }
+}
+
+/// All but the first of them.
+fn behind_first(alloc: Global, mut all: Args) -> Result<Vec<String>, Memory>
+    ensures { IfOk result (λ rest. rest.items ≡ drop 1 (into_iter_items all)) }
+{
+    let _ = all.next();
+    Ok(all.collect(alloc)?)
 }
 
 /// The arguments' texts, as words.
