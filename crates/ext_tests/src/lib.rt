@@ -9,8 +9,6 @@ mod bytes;
 #[cfg(test)]
 mod live;
 #[cfg(test)]
-mod migrated;
-#[cfg(test)]
 mod runs;
 #[cfg(test)]
 mod stops;

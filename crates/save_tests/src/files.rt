@@ -34,13 +34,6 @@ pub(crate) fn bytes(alloc: Global, parts: &[&str]) -> Result<Vec<u8>, Fail> {
     Ok(hex::decode(alloc, text.as_str())?)
 }
 
-/// The digest of these digits.
-pub(crate) fn digest(text: &str) -> Result<[u8; 32], Fail> {
-    let mut bytes = [0; 32];
-    hex::decode_to_slice(text, &mut bytes)?;
-    Ok(bytes)
-}
-
 /// A disk that holds these bytes. It fails in the calls that are listed, counted from 1, and after so many calls.
 pub(crate) fn disk(
     alloc: Global,

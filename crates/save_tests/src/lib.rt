@@ -6,8 +6,6 @@ mod bodies;
 #[cfg(test)]
 mod files;
 #[cfg(test)]
-mod journals;
-#[cfg(test)]
 mod quasi_inverses;
 #[cfg(test)]
 mod stopping;

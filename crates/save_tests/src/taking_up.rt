@@ -1,16 +1,11 @@
-//! Save files on disks in memory that are cut or changed.
-ghost use Rattle.std.specs.Prelude.{◌<◌};
-
-use crate::files::{MAGIC, OURS, QUASI, SECOND, SQUARE, bytes, digest, sound_disk};
+//! Save files on disks in memory that are cut.
+use crate::files::{MAGIC, OURS, QUASI, SECOND, SQUARE, bytes, sound_disk};
 use edge::MemDisk;
 use finite_module::Module;
 use save_file::{ResumeFault, resume};
 use save_journal::OpenFault;
 use std::alloc::Global;
 use std::test::Fail;
-
-/// The digest of the body of the sphere's first square.
-const SQUARE_DIGEST: &str = "69b7c844de9a6419754dc7e857dbba1a6f8b2f2ddeaefedb344ea3bea60d3953";
 
 /// How many bytes the sphere's file of one square has.
 const ONE: usize = 120;
@@ -80,71 +75,6 @@ fn cuts(rt: HostRuntime) -> Result<(), Fail> {
             _ => Ok(2),
         };
         assert!(rt; is_answer(alloc, file.as_slice(), want)?, "{len} bytes");
-    }
-    Ok(())
-}
-
-/// A digest in which the lowest bit of this byte is changed.
-fn changed_digest(text: &str, place: usize) -> Result<[u8; 32], Fail>
-    requires { place < 32 }
-{
-    let mut changed = digest(text)?;
-    changed[place] ^= 1;
-    Ok(changed)
-}
-
-/// What the sphere's file of one square has to be answered where the lowest bit of the byte at this place is changed, none
-/// where the answer has a digest that is not known here.
-fn want_at(place: usize) -> Result<Option<Result<usize, ResumeFault>>, Fail> {
-    Ok(Some(match place {
-        0..=7 => refused(OpenFault::NotSave),
-        8..=39 => refused(OpenFault::Other {
-            kept: changed_digest(OURS, place - 8)?,
-            ours: digest(OURS)?,
-        }),
-        // The gate is not open then.
-        40 => Ok(0),
-        // The body would be longer than what is there.
-        41..=48 => refused(OpenFault::Short { place: 40 }),
-        49..=86 => return Ok(None),
-        87..=118 => refused(OpenFault::Damaged {
-            number: 0,
-            kept: changed_digest(SQUARE_DIGEST, place - 87)?,
-            found: digest(SQUARE_DIGEST)?,
-        }),
-        // The gate of the next record, which is not open either way.
-        _ => Ok(1),
-    }))
-}
-
-/// Whether the sphere's file of one square is refused, and left as it is, since its body does not have its digest.
-fn is_damaged(alloc: Global, file: &[u8]) -> Result<bool, Fail> {
-    let (found, disk) = taken_up(alloc, file.to_vec(alloc)?)?;
-    let told = match found {
-        Err(ResumeFault::Open(OpenFault::Damaged { number, kept, .. })) => {
-            number == 0 && kept == digest(SQUARE_DIGEST)?
-        }
-        _ => false,
-    };
-    Ok(told && disk.bytes() == file)
-}
-
-/// The file of one square with each of its bytes changed in turn.
-#[test]
-fn one_byte_changed(rt: HostRuntime) -> Result<(), Fail> {
-    let alloc = rt.alloc();
-    let whole = bytes(alloc, &[MAGIC, OURS, "a5", SQUARE, "00"])?;
-    assert_eq!(rt; whole.len(), ONE);
-    for place in 0..ONE {
-        let mut file = whole.clone()?;
-        if let Some(byte) = file.get_mut(place) {
-            *byte ^= 1;
-        }
-        let is_right = match want_at(place)? {
-            Some(want) => is_answer(alloc, file.as_slice(), want)?,
-            None => is_damaged(alloc, file.as_slice())?,
-        };
-        assert!(rt; is_right, "place {place}");
     }
     Ok(())
 }
