@@ -2,8 +2,6 @@
 #![tactic(auto)]
 
 #[cfg(test)]
-mod held;
-#[cfg(test)]
 mod runs;
 #[cfg(test)]
 mod views;
