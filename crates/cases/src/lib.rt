@@ -8,8 +8,6 @@ mod group;
 mod judge;
 mod reading;
 mod refusal;
-#[cfg(test)]
-mod tests;
 
 pub use differences::Differences;
 pub use files::{DIFFERS, REFUSED, SAME, file_names, file_text, print_report, report_files};

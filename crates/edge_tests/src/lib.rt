@@ -1,8 +1,10 @@
-//! Tests of disks, and of sources and sinks.
+//! Tests of disks, of sources and sinks, and of texts of cases.
 #![tactic(auto)]
 
 #[cfg(test)]
 mod calls;
+#[cfg(test)]
+mod case_texts;
 #[cfg(test)]
 mod files;
 #[cfg(test)]

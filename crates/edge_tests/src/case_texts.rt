@@ -1,6 +1,5 @@
-//! Texts that are refused, and what is printed of others.
-use crate::group::Case;
-use crate::{Differences, Fault, Judge, report};
+//! Texts of cases that are refused, and what is printed of others.
+use cases::{Case, Differences, Fault, Judge, report};
 use std::alloc::Global;
 use std::test::Fail;
 
