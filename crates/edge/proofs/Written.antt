@@ -1,10 +1,14 @@
 -- What a sink got, call by call.
-use Rattle.std.proofs.Common.{arith, inl, inr, ◌≡◌, ℕ, ◌+◌, ◌-◌, ◌≤◌, List, ◌++◌, length, take, drop, ap, sym, subst, refl, ◌∙◌, append_assoc}
+use Rattle.std.proofs.Common.{arith, inl, inr, ◌≡◌, ℕ, ◌+◌, ◌-◌, ◌≤◌, List, [], ◌++◌, length, take, drop, ap, sym, subst, refl, ◌∙◌, append_assoc}
 use Rattle.std.proofs.Math.Seq.{take-add, take-length, take-append_seam, take-append-add}
 use Rattle.std.proofs.lemmas.Bool.{cases_lt}
-use Rattle.std.proofs.lemmas.List.{take_rest, take_all, take-append-le, length-drop}
+use Rattle.std.proofs.lemmas.List.{append-nil, take_rest, take_all, take-append-le, length-drop}
 use Rattle.std.specs.Prelude.{Option, Some, None}
 use Rattle.edge.specs.Sink.{with_more, HasPrefixMore}
+
+pub with_more-nil : (w : Option (List ℕ)) → w ≡ with_more w []
+with_more-nil None = refl
+with_more-nil (Some text) = ap (λ (l : List ℕ). Some l) (sym (append-nil text))
 
 pub with_more-with_more : (w : Option (List ℕ)) (a b : List ℕ) → with_more (with_more w a) b ≡ with_more w (a ++ b)
 with_more-with_more None a b = refl

@@ -1,6 +1,6 @@
 -- A sum of classes, written term by term.
 use Rattle.std.proofs.Common.{◌≡◌, ℕ, ◌+◌, ◌<◌, ◌≤◌, Bool, true, false, List, [], ◌∷◌, ◌++◌, length, map, drop, get_or, refl, ap, sym, ◌∙◌, append_assoc, append-nil}
-use Rattle.std.specs.Prelude.{Option, Some, None, codes}
+use Rattle.std.specs.Prelude.{Option, codes}
 use Rattle.std.specs.List.{range_with_len, items_where_true}
 use Rattle.std.proofs.lemmas.List.{drop_more, drop_all}
 use Rattle.finite_module.specs.Text.{joined_by_plus}
@@ -36,10 +36,6 @@ pub record HasTerms (f : ℕ → List ℕ) (v : List Bool) (some : Bool) (i : �
   pub front : List ℕ
   pub written : new ≡ with_more old front
   pub parts : rest_of f false 0 v ≡ front ++ rest_of f some i (drop i v)
-
-nothing_more : (old : Option (List ℕ)) → old ≡ with_more old []
-nothing_more None = refl
-nothing_more (Some l) = ap (λ (t : List ℕ). Some t) (sym (append-nil l))
 
 module _ (f : ℕ → List ℕ) (v : List Bool) (some : Bool) (i : ℕ) (old new : Option (List ℕ)) (p : HasTerms f v some i old new) where
   -- the next place has no term

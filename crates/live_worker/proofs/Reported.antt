@@ -6,8 +6,7 @@ use Rattle.edge.specs.Sink.{HasPrefixMore, with_more}
 use Rattle.live_worker.specs.declared.reports.Reports.{Reports}
 use Rattle.live_worker.specs.Reports.{live_lines, RiseTo, HasReported}
 use Rattle.live_worker.specs.Inside.Roles.{HasTold}
-use Rattle.edge.proofs.Written.{HasPrefixMore-whole}
-use Rattle.live_worker.proofs.Telling.{nothing_more}
+use Rattle.edge.proofs.Written.{HasPrefixMore-whole, with_more-nil}
 
 pub on_ok : {T E : Type 0} (r : Result T E) (P Q : Type 0) → (P → Q) → OnOk r P → OnOk r Q
 on_ok (Ok x) P Q f p = f p
@@ -24,8 +23,8 @@ reported_none all cause text faults = record {
   most = 0;
   rise = refl;
   within = omega arith;
-  first_bytes = HasPrefixMore-whole [] text text (nothing_more text);
-  whole = nothing_more text;
+  first_bytes = HasPrefixMore-whole [] text text (with_more-nil text);
+  whole = with_more-nil text;
   finished = tt;
   never_fall = omega arith;
   no_fault = refl;

@@ -1,6 +1,6 @@
 -- Reports one after another.
 use Rattle.std.proofs.Common.{arith, inl, inr, ◌≡◌, ℕ, ◌<◌, ◌≤◌, true, false, Bool, List, [], ◌∷◌, ◌++◌, ap, sym, subst, refl, ◌∙◌}
-use Rattle.std.specs.Prelude.{Option, Some, None}
+use Rattle.std.specs.Prelude.{Option}
 use Rattle.std.proofs.lemmas.Grind.{flat_map-append}
 use Rattle.std.proofs.lemmas.List.{append-nil}
 use Rattle.edge.specs.Faults.{HasRisen}
@@ -8,16 +8,12 @@ use Rattle.edge.specs.Sink.{with_more, HasPrefixMore}
 use Rattle.live_worker.specs.declared.reports.Reports.{Reports}
 use Rattle.live_worker.specs.Reports.{live_line, live_lines, RiseTo}
 use Rattle.live_worker.specs.Inside.Roles.{HasTold}
-use Rattle.edge.proofs.Written.{HasPrefixMore-whole, HasPrefixMore-behind, with_more-two}
+use Rattle.edge.proofs.Written.{with_more-nil, HasPrefixMore-whole, HasPrefixMore-behind, with_more-two}
 
 -- rising numbers behind rising numbers
 rise_on : (low mid high : ℕ) (some more : List ℕ) → RiseTo low some mid → RiseTo mid more high → RiseTo low (some ++ more) high
 rise_on low mid high [] more one two = subst (λ (n : ℕ). RiseTo n more high) (sym one) two
 rise_on low mid high (n ∷ some) more one two = (one.0, rise_on n mid high some more one.1 two)
-
-pub nothing_more : (w : Option (List ℕ)) → w ≡ with_more w []
-nothing_more None = refl
-nothing_more (Some text) = ap (λ (l : List ℕ). Some l) (sym (append-nil text))
 
 module _ {E : Type 0} (written : E → Option (List ℕ)) (faults : E → ℕ) where
   -- nothing was reported
@@ -27,8 +23,8 @@ module _ {E : Type 0} (written : E → Option (List ℕ)) (faults : E → ℕ) w
     rise = refl;
     all = refl;
     within = λ low. low;
-    first_bytes = HasPrefixMore-whole [] (written r.err) (written r.err) (nothing_more (written r.err));
-    whole = λ e. nothing_more (written r.err);
+    first_bytes = HasPrefixMore-whole [] (written r.err) (written r.err) (with_more-nil (written r.err));
+    whole = λ e. with_more-nil (written r.err);
     never_fall = omega arith;
     no_fault = λ e. refl;
     cause = λ e. inl e;
