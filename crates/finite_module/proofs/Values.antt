@@ -214,8 +214,8 @@ both_empty (x ∷ v) w a b = cc
 pub slice_get-range : (n i : ℕ) → i < n → slice_get (range_with_len 0 n) i ≡ Some i
 slice_get-range n i l = slice_get-get_or (range_with_len 0 n) i 0 (omega (arith, length-range_with_len 0 n)) ∙ ap Some (get_or-range_with_len 0 n i 0 l ∙ omega arith)
 
--- one coordinate more
-pub map_more : (f : ℕ → Bool) (start j : ℕ) (v w : List Bool) (b : Bool) → start ≤ j → v ≡ map f (range_with_len start (j - start)) → b ≡ f j → w ≡ v ++ b ∷ [] → w ≡ map f (range_with_len start (j + 1 - start))
+-- one value more
+pub map_more : {X : Type 0} (f : ℕ → X) (start j : ℕ) (v w : List X) (b : X) → start ≤ j → v ≡ map f (range_with_len start (j - start)) → b ≡ f j → w ≡ v ++ b ∷ [] → w ≡ map f (range_with_len start (j + 1 - start))
 map_more f start j v w b l before here pushed =
     let e : j - start + 1 ≡ j + 1 - start = omega arith in
     pushed ∙ ap (λ xs. xs ++ b ∷ []) before ∙ ap (λ x. map f (range_with_len start (j - start)) ++ x ∷ []) here
