@@ -59,23 +59,17 @@ others_in_degree r s n terms e f =
 
 -- ---- the operator of an element, by how many exponents it has
 
-module _ (f : File) (operators : List (List (List Bool))) (r : List ℕ) where
-  pub operator_of_none : length r ≡ 0 → map (unit f.generators) (range_with_len 0 (length f.generators)) ≡ derived_operator f operators r
-  operator_of_none e = by r e where
-    by : (s : List ℕ) → length s ≡ 0 → map (unit f.generators) (range_with_len 0 (length f.generators)) ≡ derived_operator f operators s
-    by [] l = refl
-    by (x ∷ s) l = cc
+module _ (f : File) (operators : List (List (List Bool))) where
+  pub operator_of_none : (s : List ℕ) → length s ≡ 0 → map (unit f.generators) (range_with_len 0 (length f.generators)) ≡ derived_operator f operators s
+  operator_of_none [] l = refl
+  operator_of_none (x ∷ s) l = cc
 
-  pub operator_of_one : length r ≡ 1 → map (square_value f operators (entry r 0)) (range_with_len 0 (length f.generators)) ≡ derived_operator f operators r
-  operator_of_one e = by r e where
-    by : (s : List ℕ) → length s ≡ 1 → map (square_value f operators (entry s 0)) (range_with_len 0 (length f.generators)) ≡ derived_operator f operators s
-    by [] l = cc
-    by (x ∷ []) l = refl
-    by (x ∷ y ∷ s) l = absurd (omega arith)
+  pub operator_of_one : (s : List ℕ) → length s ≡ 1 → map (square_value f operators (entry s 0)) (range_with_len 0 (length f.generators)) ≡ derived_operator f operators s
+  operator_of_one [] l = cc
+  operator_of_one (x ∷ []) l = refl
+  operator_of_one (x ∷ y ∷ s) l = absurd (omega arith)
 
-  pub operator_of_more : 1 < length r → map (by_product f.generators operators (entry r 0) (drop 1 r)) (range_with_len 0 (length f.generators)) ≡ derived_operator f operators r
-  operator_of_more e = by r e where
-    by : (s : List ℕ) → 1 < length s → map (by_product f.generators operators (entry s 0) (drop 1 s)) (range_with_len 0 (length f.generators)) ≡ derived_operator f operators s
-    by [] l = absurd (omega arith)
-    by (x ∷ []) l = absurd (omega arith)
-    by (x ∷ y ∷ s) l = refl
+  pub operator_of_more : (s : List ℕ) → 1 < length s → map (by_product f.generators operators (entry s 0) (drop 1 s)) (range_with_len 0 (length f.generators)) ≡ derived_operator f operators s
+  operator_of_more [] l = absurd (omega arith)
+  operator_of_more (x ∷ []) l = absurd (omega arith)
+  operator_of_more (x ∷ y ∷ s) l = refl
