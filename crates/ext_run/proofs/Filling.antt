@@ -4,7 +4,6 @@ use Rattle.std.specs.Prelude.{Ok, IfSome, IsSome}
 use Rattle.std.specs.Option.{option_map}
 use Rattle.std.specs.List.{All, AllPairs}
 use Rattle.std.proofs.lemmas.Bool.{cases_lt}
-use Rattle.std.proofs.lemmas.List.{take_all}
 use Rattle.std.proofs.lemmas.List.Elements.{All-nil, All-append, All-weaker}
 use Rattle.edge.specs.Disk.{LeavesOnly, HavePast}
 use Rattle.edge.proofs.Moments.{Lawful, started, weaker, then_on, past_then}
@@ -20,11 +19,10 @@ use Rattle.square.specs.Squares.{IsQuasi, over}
 use Rattle.square.specs.Tables.{Staircase, row_in, plain_rows, content_at, IsTable}
 use Rattle.square.proofs.Footings.{kernel_of_reduction}
 use Rattle.square.proofs.Places.{table_content, table_before, table_below}
-use Rattle.save_journal.specs.Records.{Records}
 use Rattle.save_journal.specs.Journals.{IsSettled, ComeFromEarlier}
 use Rattle.save_file.specs.Bodies.{Kept, entries}
 use Rattle.save_file.specs.Reading.{squares_alone}
-use Rattle.save_file.specs.Files.{standing_of, of_squares, of_records, first_records, kept_list, kept_by, first_kept}
+use Rattle.save_file.specs.Files.{standing_of, of_squares, of_records, kept_list, kept_by, first_kept}
 use Rattle.save_file.specs.Saving.{SaveState, HasSquares, TakesSquares, quasis_in}
 use Rattle.ext_run.specs.Devices.{Store}
 use Rattle.ext_run.specs.Saving.{kept_of}
@@ -32,15 +30,11 @@ use Rattle.ext_run.specs.Migrating.{Added, IsAddedBefore, with_added, Keeps, Kee
 use Rattle.ext_run.specs.Inside.Adding.{LeavesOf, HasAdded}
 use Rattle.ext_run.proofs.Added.{with_added-append}
 use Rattle.ext_run.proofs.Lasting.{at_some, AreDisks}
+use Rattle.save_file.proofs.Adding.{kept_first}
 
 -- ---- a file all of whose records are counted
 
 module _ (m : Checked) (start : List Entry) (count : ℕ) (file : List ℕ) (has : HasSquares m start count file) where
-  pub first_is : first_kept m count file ≡ has.kept
-  first_is =
-      let all : take count has.bodies ≡ has.bodies = take_all count has.bodies (let n = has.counted in omega (arith, n)) in
-      ap (λ (r : Records). kept_by (over m) (first_records count r)) has.records ∙ (ap (λ (l : List (List ℕ)). kept_by (over m) (Ok l)) all ∙ ap kept_list has.kept_are)
-
   pub kept_is : kept_of m.plain file ≡ has.kept
   kept_is = ap (kept_by (over m)) has.records ∙ ap kept_list has.kept_are
 
@@ -48,7 +42,7 @@ module _ (m : Checked) (start : List Entry) (count : ℕ) (file : List ℕ) (has
   stands_is = ap (of_records (over m)) has.records ∙ ap (λ (r : Result (List Kept) ℕ). of_squares (squares_alone r)) has.kept_are
 
   keeps_counted : Keeps m.plain (first_kept m count file) file
-  keeps_counted = record { stands = stands_is ∙ ap (λ (l : List Kept). Ok (entries l)) (sym first_is); quasis = kept_is ∙ sym first_is }
+  keeps_counted = record { stands = stands_is ∙ ap (λ (l : List Kept). Ok (entries l)) (sym (kept_first m start count file has)); quasis = kept_is ∙ sym (kept_first m start count file has) }
 
 -- ---- lists
 

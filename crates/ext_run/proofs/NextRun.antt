@@ -1,14 +1,12 @@
 -- What a run left stands for squares of the module, and what is asked names one module of an input.
-use Rattle.std.proofs.Common.{◌≡◌, ℕ, ◌≤◌, inl, inr, List, [], ◌++◌, length, take, drop, ap, sym, subst, refl, ◌∙◌, arith, append-nil}
-use Rattle.std.specs.Prelude.{cond, Option, Some, IsSome, Ok}
-use Rattle.std.proofs.lemmas.Bool.{le-leb}
+use Rattle.std.proofs.Common.{◌≡◌, ℕ, inl, inr, List, [], ◌++◌, ap, sym, subst, refl, ◌∙◌, arith, append-nil}
+use Rattle.std.specs.Prelude.{Option, Some, IsSome, Ok}
 use Rattle.std.proofs.lemmas.List.Elements.{All-nil}
 use Rattle.finite_module.specs.Module.{Module as SteenrodModule}
 use Rattle.resolution_laws.specs.Start.{Entry, IsOf}
 use Rattle.square.specs.Squares.{module_over}
-use Rattle.std.specs.Str.{bytes_eq}
 use Rattle.bidegree.specs.declared.range.Range.{Range}
-use Rattle.save_journal.specs.Records.{Records, magic, of_header, records_of}
+use Rattle.save_journal.specs.Records.{Records}
 use Rattle.save_journal.specs.Journals.{HasRecordsOf}
 use Rattle.save_file.specs.Files.{digest_of, of_records}
 use Rattle.save_file.proofs.Entries.{some_is}
@@ -21,6 +19,7 @@ use Rattle.ext_run.specs.Disks.{Outcome, IsFitFor, HasSaved}
 use Rattle.ext_run.specs.NextRun.{IsFoundWith, NextRunMayUse, ShortDiskIsOurs}
 use Rattle.ext_run.proofs.Added.{same_entries}
 use Rattle.ext_run.proofs.Tasks.{module_same}
+use Rattle.save_journal.proofs.Walk.{records_few}
 
 -- ---- what is left
 
@@ -86,13 +85,10 @@ next_run disk m asked input on list outcome old new told ours saved c may next_a
 
 -- ---- a disk without records
 
-few_records : (digest file : List ℕ) → length file ≤ 41 → records_of digest file ≡ Ok []
-few_records digest file few = ap (λ b. cond b (Ok []) (of_header (bytes_eq (take 8 file) magic) (bytes_eq (take 32 (drop 8 file)) digest) digest file)) (le-leb (length file) 41 few)
-
 pub short_disk : {D : Type 0} (images : D → List ℕ → Type 0) → ShortDiskIsOurs images
 short_disk images m d few c image = record {
   more = [];
   at_most_one = omega arith;
   canonical = All-nil (λ e. IsOf (module_over m) [] e.s e.above e.content);
-  stands = ap (λ (r : Records). of_records (module_over m) r) (few_records (digest_of m) c (few c image));
+  stands = ap (λ (r : Records). of_records (module_over m) r) (records_few (digest_of m) c (few c image));
 }

@@ -41,7 +41,7 @@ last_from m (b ∷ bodies) before number kept new body h here =
 
 -- ---- what a file keeps
 
-kept_first : (m : Checked) (start : List Entry) (n : ℕ) (file : List ℕ) (h : HasSquares m start n file) → first_kept m n file ≡ h.kept
+pub kept_first : (m : Checked) (start : List Entry) (n : ℕ) (file : List ℕ) (h : HasSquares m start n file) → first_kept m n file ≡ h.kept
 kept_first m start n file h =
     let few = h.counted in
     ap (λ (r : Records). kept_by (over m) (first_records n r)) h.records ∙ ap (λ (l : List (List ℕ)). kept_by (over m) (Ok l)) (take_all n h.bodies (omega arith)) ∙ ap kept_list h.kept_are

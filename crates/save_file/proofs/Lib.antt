@@ -12,7 +12,7 @@ mod Appending
 pub mod Pushing
 mod Reductions
 mod Inverting
-mod Adding
+pub mod Adding
 pub mod Keeping
 pub mod TakingUp
 mod TakenUp

@@ -8,4 +8,4 @@ pub mod Opened
 mod ReadTo
 mod Standing
 mod Torn
-mod Walk
+pub mod Walk

@@ -3,7 +3,7 @@ use Rattle.std.proofs.Common.{◌≡◌, ◌≢◌, inl, inr, ℕ, zero, suc, �
 use Rattle.std.specs.Prelude.{Ok, Err}
 use Rattle.std.specs.Str.{bytes_eq}
 use Rattle.std.proofs.lemmas.List.{drop_more, length-drop, length-take-le}
-use Rattle.std.proofs.lemmas.Bool.{cases_lt, cases_eq, cases_Bool, lt-leb}
+use Rattle.std.proofs.lemmas.Bool.{cases_lt, cases_eq, cases_Bool, lt-leb, false_from_ne_true}
 use Rattle.std.proofs.lemmas.Slice.Eq.{bytes_eq-Decides}
 use Rattle.sha2.specs.Sha256.{sha256}
 use Rattle.save_journal.specs.declared.fault.OpenFault.{OpenFault}
@@ -22,12 +22,6 @@ Stands digest file (Err fault) = (41 < length file) × IsWrong digest file fault
 abbrev Outcome : List ℕ → List ℕ → Type 0
 Outcome digest file = (r : Records) × (records_of digest file ≡ r) × Stands digest file r
 
-different : (xs ys : List ℕ) → xs ≢ ys → bytes_eq xs ys ≡ false
-different xs ys other = elim (cases_Bool (bytes_eq xs ys)) [
-  | inl same ↦ absurd (other ((bytes_eq-Decides xs ys).0 same))
-  | inr apart ↦ apart
-]
-
 differ : (xs ys : List ℕ) → bytes_eq xs ys ≡ false → xs ≢ ys
 differ xs ys apart same = let together = (bytes_eq-Decides xs ys).1 same in absurd (cc)
 
@@ -40,10 +34,10 @@ module _ (digest file : List ℕ) (big : 41 < length file) where
       ∙ ap (λ (x : Bool). of_header x (bytes_eq (take 32 (drop 8 file)) digest) digest file) ea ∙ ap (λ (x : Bool). of_header a x digest file) eb
 
   not_ours : take 8 file ≢ magic → records_of digest file ≡ Err NotSave
-  not_ours other = read_so false _ (different _ _ other) refl
+  not_ours other = read_so false _ (false_from_ne_true _ (λ e. other ((bytes_eq-Decides _ _).0 e))) refl
 
   of_others : take 8 file ≡ magic → take 32 (drop 8 file) ≢ digest → records_of digest file ≡ Err (Other (take 32 (drop 8 file)) digest)
-  of_others first other = read_so true false ((bytes_eq-Decides (take 8 file) magic).1 first) (different _ _ other)
+  of_others first other = read_so true false ((bytes_eq-Decides (take 8 file) magic).1 first) (false_from_ne_true _ (λ e. other ((bytes_eq-Decides _ _).0 e)))
 
 -- ---- an open gate
 
@@ -57,7 +51,7 @@ module _ (digest file : List ℕ) (big : 41 < length file) (place : ℕ) (list :
   is_short less = from_gate ∙ ap (with_bodies list) (at_short (length list) place behind less) ∙ with_bodies-Err list (Short place)
 
   is_damaged : 41 + body_length behind ≤ length behind → kept_of behind ≢ sha256 (body_of behind) → records_of digest file ≡ Err (Damaged (length list) (kept_of behind) (sha256 (body_of behind)))
-  is_damaged whole other = from_gate ∙ ap (with_bodies list) (at_damaged (length list) place behind whole (different _ _ (λ same. other (sym same)))) ∙ with_bodies-Err list _
+  is_damaged whole other = from_gate ∙ ap (with_bodies list) (at_damaged (length list) place behind whole (false_from_ne_true _ (λ e. other (sym ((bytes_eq-Decides _ _).0 e))))) ∙ with_bodies-Err list _
 
 -- ---- from gate to gate
 
