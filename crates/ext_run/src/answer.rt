@@ -26,13 +26,13 @@ pub struct Ended<D> {
 }
 
 /// Answers the words after a program's name, and the module file that `source` has left where the command reads one:
-/// the answer goes to `out`, and the line of a failure to `err`. As many workers make squares as the words say, each in a
-/// thread of its own where one can be made; each calls the gate with each square that it has taken. Where the words say
-/// one worker and no `--live`, and where nothing is resolved, all is done as by `run_one`, which waits for nothing.
+/// the answer goes to `out`, and the line of a failure to `err`. Where the words say `--live`, lines with rising numbers go to `err`
+/// before it, and the last one before a text has the number of all squares.
 ///
-/// Where the words say `--live`, lines on `err` tell how many squares of the range are finished, each time that more of them are, some
-/// ten times a second at most. The last line before a text has all squares. The line of a failure comes behind them. After a failed
-/// write, `err` gets nothing more.
+/// No clause says how the work is done: as many workers make squares as the words say, each in a thread of its own where one can be
+/// made, and each calls the gate with each square that it has taken. Where the words say one worker and no `--live`, and where nothing
+/// is resolved, all is done as by `run_one`, which waits for no thread. The numbers of `--live` count the squares of the range that are
+/// finished, some ten times a second at most, and after a failed write `err` gets nothing more.
 ///
 /// Where the words say `--save`, the squares of the module's save file on `disk` are taken up, and each new one is kept there. Where they
 /// ask for the file to be brought up to date or to be verified, its squares are taken up too, and no square is made. Else the disk gets
