@@ -21,7 +21,7 @@ the list where it has no name of its own.
 import os
 import re
 import sys
-from collections import defaultdict, namedtuple
+from collections import Counter, defaultdict, namedtuple
 from common import HERE, SPHERE, UNIT, classes, ext, h, table
 from independent import Echelon
 
@@ -165,10 +165,14 @@ def named(names, rows, top):
 
 def joined(k, name):
     """The name of h_k times a class with a name."""
-    if name == "1":
-        return f"h{k}"
-    power = re.match(rf"h{k}(?:\^(\d+))?(?= |$)", name)
-    return f"h{k}^{int(power[1] or 1) + 1}{name[power.end():]}" if power else f"h{k} {name}"
+    powers, rest = Counter([k]), []
+    for word in name.split():
+        one = re.fullmatch(r"h([0-5])(?:\^(\d+))?", word)
+        if one:
+            powers[int(one[1])] += int(one[2] or 1)
+        elif word != "1":
+            rest.append(word)
+    return " ".join([f"h{j}^{n}" if n > 1 else f"h{j}" for j, n in sorted(powers.items())] + rest)
 
 
 def with_names(names, text):
