@@ -35,6 +35,15 @@ def ext(*words, file=b""):
     return run.stdout.decode().splitlines()
 
 
+def lines_of(path):
+    """The lines of a file; where it cannot be read, the script ends and says so."""
+    try:
+        with open(path) as file:
+            return file.read().splitlines()
+    except (OSError, UnicodeDecodeError) as error:
+        sys.exit(f"{path}: {error}")
+
+
 def classes(text):
     """The classes that a text names, in their order."""
     return [tuple(map(int, found)) for found in re.findall(r"\((\d+),(-?\d+),(\d+)\)", text)]

@@ -24,7 +24,7 @@ import itertools
 import re
 import sys
 from collections import namedtuple
-from common import bottom_of, classes, h, table, written
+from common import bottom_of, h, lines_of, table, written
 from independent import Echelon
 from names import Names, bits_of, sum_of
 
@@ -306,7 +306,7 @@ class Picture:
 def arrows_of(file, names, picture):
     """The arrows of a file that lie in the picture; each has to lead where its kind says."""
     found = []
-    for number, line in enumerate(open(file), 1):
+    for number, line in enumerate(lines_of(file), 1):
         words = line.split("#")[0].split()
         if not words:
             continue
@@ -388,7 +388,9 @@ def main():
     top = words.stem - bottom + rows + 8
     if first > words.stem or rows < 0:
         sys.exit("draw.py: there is nothing to draw")
-    names = Names(words.names) if words.names else Names(None)
+    if rows >= 127 or top > 255:
+        sys.exit(f"draw.py: this wants S = {rows + 1} and T = {top}, and there are at most 127 and 255")
+    names = Names(words.names)
     made = table(rows + 1, top, [h(k) for k in COLOURS], file)
     picture = Picture(Chart(made, names.by_square()), words, first, rows)
     svg = picture.svg(arrows_of(words.arrows, names, picture) if words.arrows else [])

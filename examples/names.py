@@ -22,7 +22,7 @@ import os
 import re
 import sys
 from collections import Counter, defaultdict, namedtuple
-from common import HERE, SPHERE, UNIT, classes, ext, h, table
+from common import HERE, SPHERE, UNIT, classes, ext, h, lines_of, table
 from independent import Echelon
 
 Line = namedtuple("Line", "name s t bits ways number")
@@ -61,7 +61,7 @@ class Names:
 
     def __init__(self, path):
         self.path, self.lines, self.tables = path, {}, {}
-        for number, text in enumerate(open(path) if path else [], 1):
+        for number, text in enumerate(lines_of(path) if path else [], 1):
             words = text.split("#")[0].split(None, 2)
             if words:
                 self.add(number, *words)
@@ -222,34 +222,40 @@ def check(names):
     rows, top = max(it.s for it in names.lines.values()), max(it.t for it in names.lines.values())
     counts = table(rows, top).counts
     wrong = tried = alone = 0
+    there = []
     for line in names.lines.values():
         count = counts.get((line.t - line.s, line.s), 0)
         if line.bits >> count:
             print(f"{names.path}:{line.number}: {line.name}: the square has {count} classes")
             wrong += 1
             continue
+        there.append(line)
         alone += line.ways == ["literature"]
         for way in line.ways or [""]:
             tried += way != "literature"
             if way == "literature" or way == "place" and count == 1:
                 continue
-            if way == "place" or not holds(names, line, way):
+            try:
+                if way != "place" and holds(names, line, way):
+                    continue
                 print(f"{names.path}:{line.number}: {line.name}: does not hold: {way}")
-                wrong += 1
+            except ValueError as error:
+                print(f"{names.path}:{line.number}: {line.name}: {way}: {error}")
+            wrong += 1
     print(f"{len(names.lines)} names: {tried - wrong} of {tried} facts hold, {alone} names are from the literature alone")
-    lost = list(unnamed(names, max(line.t - line.s for line in names.lines.values())))
+    lost = list(unnamed(there, max(line.t - line.s for line in there))) if there else []
     for stem, s, count in lost:
         print(f"stem {stem}, row {s}: {count} classes are no products, and have no name")
     return wrong + len(lost)
 
 
-def unnamed(names, last):
+def unnamed(lines, last):
     """The places through a stem where classes are no sums of products and of classes with a name, with their number.
 
     A product of classes of positive row has a factor that is no product, in a stem of at most half of its own, and that has a name if all is well.
     """
-    rows = last // 2 + 2
-    factors = [line for line in names.lines.values() if line.t - line.s <= last // 2]
+    rows = max(last // 2 + 2, max(line.s for line in lines))
+    factors = [line for line in lines if line.t - line.s <= last // 2]
     by = sorted({one for line in factors for one in sum_of(*line[1:4])})
     made = table(rows, last + rows, by)
     spans = defaultdict(Echelon)
@@ -259,7 +265,7 @@ def unnamed(names, last):
             # (the product with the unit is the class itself, and none)
             if x != UNIT and all(x in it for it in columns):
                 spans[x[0] + line.s, x[1] + line.t].add(bits_of([one for it in columns for one in it[x]]), 0)
-    for line in names.lines.values():
+    for line in lines:
         spans[line.s, line.t].add(line.bits, 0)
     for (stem, s), count in sorted(made.counts.items()):
         rank = len(spans[s, stem + s].rows)
