@@ -1,9 +1,10 @@
 -- The definition on small examples.
 use Rattle.std.specs.Prelude.{◌≡◌, [], ◌∷◌, pos, Ok, Err, Some, None, codes, refl}
-use Rattle.serde_json.specs.Data.{Data, string, number, unsigned, array, object, no_items, item, no_members, member}
+use Rattle.serde_json.specs.Data.{Data, null, string, number, unsigned, array, object, no_items, item, no_members, member}
 use Rattle.module_json.specs.Actions.{action_of}
 use Rattle.module_json.specs.ModuleFile.{file_of}
-use Rattle.module_json.specs.declared.malformed.Malformed.TheVariants.{Action}
+use Rattle.module_json.specs.declared.malformed.Malformed.TheVariants.{Action, Shape}
+use Rattle.module_json.specs.declared.malformed.Place.TheVariants.{Profile}
 use Rattle.module_json.specs.declared.malformed.Why.TheVariants.{WrongDegree, SquareZero, Unknown}
 
 -- two cells, one degree apart, and one action
@@ -30,3 +31,6 @@ unknown = refl
 
 pub square_zero : file_of (cells (string (codes "Sq0 x0 = x0"))) ≡ Err (Action 0 SquareZero)
 square_zero = refl
+
+pub over_a_subalgebra : file_of (object (member (codes "gens") (object no_members) (member (codes "milnor_actions") null (member (codes "profile") null (member (codes "type") (string (codes "finite dimensional module")) no_members))))) ≡ Err (Shape Profile)
+over_a_subalgebra = refl
