@@ -193,7 +193,8 @@ class Picture:
         if self.words.title:
             self.text((left + right) / 2, 18, self.words.title, 'font-size="13"')
         self.put('</g>')
-        self.put(f'<clipPath id="frame"><rect x="{left:.1f}" y="{high - 4:.1f}" width="{right - left:.1f}" height="{low - high + 4:.1f}"/></clipPath>')
+        frame = f'x="{left:.1f}" y="{high - 4:.1f}" width="{right - left:.1f}" height="{low - high + 4:.1f}"'
+        self.put(f'<clipPath id="frame"><rect {frame}/></clipPath>')
         self.put('<marker id="up" markerWidth="6" markerHeight="6" refX="5" refY="3" orient="auto"><path d="M0 0L6 3L0 6z"/></marker>')
 
     # -- products
@@ -230,9 +231,12 @@ class Picture:
         (x, y), (u, v) = ends
         if it.kind in EXTENSIONS:
             bend = (x + u) / 2 + (8 if it.kind == "2" else 0), (y + v) / 2 + (0 if it.kind == "2" else 8)
-            self.put(f'<path d="M{x:.1f} {y:.1f}Q{bend[0]:.1f} {bend[1]:.1f} {u:.1f} {v:.1f}" fill="none" stroke="#092" stroke-dasharray="4 2"><title>{it.kind}</title></path>')
+            way = f"M{x:.1f} {y:.1f}Q{bend[0]:.1f} {bend[1]:.1f} {u:.1f} {v:.1f}"
+            more = 'fill="none" stroke="#092" stroke-dasharray="4 2"'
         else:
-            self.put(f'<path d="M{x:.1f} {y:.1f}L{u:.1f} {v:.1f}" stroke="#c00" stroke-width="0.9" marker-end="url(#up)"><title>{it.kind}</title></path>')
+            way = f"M{x:.1f} {y:.1f}L{u:.1f} {v:.1f}"
+            more = 'stroke="#c00" stroke-width="0.9" marker-end="url(#up)"'
+        self.put(f'<path d="{way}" {more}><title>{it.kind}</title></path>')
 
     # -- dots and names
 
@@ -269,8 +273,9 @@ class Picture:
     def label(self, x, y, words):
         """A name beside a dot, where it meets least of what is there."""
         wide = 4.6 * len(words)
-        spots = [(x + a, y + b) for a, b in ((4, 9), (-wide - 3, -3), (4, -4), (-wide - 3, 9), (4, 3), (-wide - 4, 3), (-wide / 2, 12), (-wide / 2, -5))]
-        box = min(((u, v - 7, u + wide, v + 1) for u, v in spots), key=self.crowd)
+        left, middle = -wide - 3, -wide / 2
+        spots = (4, 9), (left, -3), (4, -4), (left, 9), (4, 3), (left - 1, 3), (middle, 12), (middle, -5)
+        box = min(((x + a, y + b - 7, x + a + wide, y + b + 1) for a, b in spots), key=self.crowd)
         self.boxes.append(box)
         self.text(box[0], box[3] - 1, words)
 

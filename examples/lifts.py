@@ -137,14 +137,19 @@ def random_vector(width):
 
 
 def lift(of, sphere, s, t, is_one, upto, last):
-    """A random lift of the class with these coefficients on row s's generators of degree t: maps to rows 0 to `upto`, on generators through a degree."""
+    """A random lift of the class with these coefficients on row s's generators of degree t.
+
+    It is a list of maps, to rows 0 to `upto` of the sphere's resolution, each as its values on generators through a degree.
+    """
     free, maps = of.frees[s], []
     first = []
     for g, degree in enumerate(free.degrees):
         first.append(is_one(g) if degree == t else random_vector(sphere.frees[0].width(degree - t)) if t < degree <= last else 0)
     maps.append(first)
     for k in range(1, upto + 1):
-        maps.append(next_map(of, sphere, s + k, k, t, last, lambda g, degree, image, k=k: mapped(maps[k - 1], of.frees[s + k - 1], sphere.frees[k - 1], t, degree, image)))
+        def wanted(g, degree, image, k=k):
+            return mapped(maps[k - 1], of.frees[s + k - 1], sphere.frees[k - 1], t, degree, image)
+        maps.append(next_map(of, sphere, s + k, k, t, last, wanted))
     return maps
 
 

@@ -12,7 +12,7 @@ import json
 import os
 import sys
 from common import HERE, table
-from names import Names, sum_of, words_of
+from names import Names, sum_of
 
 LIMIT = 40
 

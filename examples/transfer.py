@@ -3,8 +3,8 @@
 
     transfer.py STEM
 
-The cofibre of the transfer has the cells -1, 1, 2, 3, ..: its cohomology is that of RP_-1^inf modulo the class of degree 0. Where the transfer is onto in
-Ext, the dimension for the cofibre is that for RP^inf less that for the sphere. The script says in how many places, of stems 1 to STEM and all
+The cofibre of the transfer has the cells -1, 1, 2, 3, ..: its cohomology is that of RP_-1^inf modulo the class of degree 0. Where the transfer is
+onto in Ext, the dimension for the cofibre is that for RP^inf less that for the sphere. The script says in how many places, of stems 1 to STEM and all
 rows that have a class there, that is so. The map itself is not computed. Sources: Lin, On conjectures of Mahowald, Segal and Sullivan (1980);
 Mahowald, The image of J in the EHP sequence (1982).
 """
@@ -24,13 +24,22 @@ def space(last):
     return b'{"type": "real projective space", "min": 1, "max": %d}' % last
 
 
-(stem,) = map(int, arguments(1, __doc__))
-rows = stem // 2 + 3
-# (above these cells Ext is as it is without the cut; stem - m + rows is the last degree above the bottom m)
-last = stem + 2
-whole, space_, sphere = chart(rows, stem + 1 + rows, cofibre(last)), chart(rows, stem - 1 + rows, space(last)), chart(rows + 1, stem + rows + 1)
-# (the cell -1 of the cofibre carries the sphere of stem -1, so that row s + 1 and stem n of the sphere meet row s and stem n of RP^inf)
-places = sorted({it for it in (*whole, *space_) if 1 <= it[0] <= stem} | {(n, s - 1) for n, s in sphere if 1 <= n <= stem and s})
-wrong = [(n, s) for n, s in places if whole.get((n, s), 0) != space_.get((n, s), 0) - sphere.get((n, s + 1), 0)]
-print(f"{len(places)} places, {len(wrong)} differ")
-sys.exit(bool(wrong))
+def main():
+    (stem,) = map(int, arguments(1, __doc__))
+    rows = stem // 2 + 3
+    # (above these cells Ext is as it is without the cut; a range is counted from the least degree, -1, 1 or 0)
+    last = stem + 2
+    middle = chart(rows, stem + 1 + rows, cofibre(last))
+    projective = chart(rows, stem - 1 + rows, space(last))
+    sphere = chart(rows + 1, stem + rows + 1)
+    # (the cell -1 carries the sphere of dimension -1, so row s + 1 and stem n of the sphere meet row s and stem n of RP^inf)
+    places = sorted({it for it in (*middle, *projective) if 1 <= it[0] <= stem} | {(n, s - 1) for n, s in sphere if 1 <= n <= stem and s})
+    wrong = [(n, s) for n, s in places if middle.get((n, s), 0) != projective.get((n, s), 0) - sphere.get((n, s + 1), 0)]
+    for n, s in wrong:
+        print(f"stem {n}, row {s}: other dimensions")
+    print(f"{len(places)} places, {len(wrong)} differ")
+    return int(bool(wrong))
+
+
+if __name__ == "__main__":
+    sys.exit(main())
