@@ -1,6 +1,7 @@
 #!/usr/bin/env python3
-"""Products and brackets by random lifts and homotopies, to compare the program's with.
+"""Differentials by their definition, and products and brackets by random lifts and homotopies, to compare the program's with.
 
+    lifts.py dump S T <MODULE.json
     lifts.py products S T --by C <MODULE.json
     lifts.py massey S T --a C --b C --c C <MODULE.json
 
@@ -231,6 +232,24 @@ def class_of(of, text):
     return s, t, bits
 
 
+def dump(module):
+    """The lines of `ext dump`."""
+    for s, free in enumerate(module.frees):
+        for g, (t, image) in enumerate(zip(free.degrees, free.images)):
+            if s == 0:
+                terms = [module.module.by_degree[t][i] for i in ones(image)]
+            else:
+                below, found = module.frees[s - 1], module.frees[s - 1].elements(t)[0]
+                terms = [f"Sq({','.join(map(str, r))})*{called(s - 1, below, x)}" for x, r in map(found.__getitem__, ones(image))]
+            yield f"d{called(s, free, g)} = {' + '.join(terms)}"
+
+
+def called(s, free, g):
+    """A generator of a row as (s,t,i)."""
+    t = free.degrees[g]
+    return f"({s},{t},{g - free.degrees.index(t)})"
+
+
 def products(module, sphere, a):
     """The lines of `ext products`."""
     for s in range(module.rows - a[0] + 1):
@@ -261,13 +280,15 @@ def bracket(module, sphere, a, b, c):
 def main():
     words = sys.argv[1:]
     options = dict(zip(words[3::2], words[4::2]))
-    wanted = {"products": ["--by"], "massey": ["--a", "--b", "--c"]}
+    wanted = {"dump": [], "products": ["--by"], "massey": ["--a", "--b", "--c"]}
     if len(words) < 3 or sorted(options) != wanted.get(words[0]) or len(words) != 3 + 2 * len(options):
         sys.exit(__doc__.strip())
     rows, top = map(int, words[1:3])
     module, sphere = Resolution(Module(sys.stdin.read()), rows, top), Resolution(Module(POINT), rows, top)
     try:
-        if words[0] == "products":
+        if words[0] == "dump":
+            lines = dump(module)
+        elif words[0] == "products":
             lines = list(products(module, sphere, class_of(sphere, options["--by"])))
         else:
             lines = bracket(module, sphere, *(class_of(of, options[it]) for it, of in (("--a", sphere), ("--b", sphere), ("--c", module))))
