@@ -59,9 +59,17 @@ one_numbered n k rows numbers wide reduced nonzero l h =
 
 pub all_numbered : (n k : ℕ) (rows : List (List Bool)) (numbers : List ℕ) → length rows ≤ k → AreNumbersBelow n k rows numbers → AreNumbersOf n rows numbers
 all_numbered n k rows numbers end h = record {
-  one_each = h.one_each;
+  one_each = λ l. h.one_each;
   at_pivot = λ i l. h.at_pivot i (omega (arith, l, end));
   elsewhere = λ p l m. (h.elsewhere p l m).1;
+}
+
+-- where there is no row, no number is needed
+pub none_to_number : (n : ℕ) (rows : List (List Bool)) (numbers : List ℕ) → length rows ≡ 0 → AreNumbersOf n rows numbers
+none_to_number n rows numbers none = record {
+  one_each = λ l. absurd (omega arith);
+  at_pivot = λ i l. absurd (omega arith);
+  elsewhere = λ p l m. absurd (omega arith);
 }
 
 pub numbers_are : (n m : ℕ) (rows : List (List Bool)) (a b : List ℕ) → AreNumbersOf n rows a → n ≡ m → b ≡ a → AreNumbersOf m rows b

@@ -16,6 +16,10 @@ pub fn is_row_basis(alloc: Global, n: usize, rows: &[BitVec]) -> Result<bool, Me
     requires { HaveWidth n rows.now }
     ensures { IfOk result (λ is. IsTrue is ↔ (IsReduced rows.now × HasNoZeroRow rows.now)) }
 {
+    // Without a row nothing is taken, however long rows would be.
+    if rows.is_empty() {
+        return Ok(true);
+    }
     // A 1 at the pivots of the rows behind, and the first of these.
     let mut pivots = BitVec::zero(alloc, n)?;
     let mut next = n;

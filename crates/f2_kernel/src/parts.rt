@@ -103,6 +103,9 @@ fn are_split(
         (λ are. IsTrue are ↔ AreSplit matrix.now.cols matrix.now.rows image.now chosen.now kernel.now) }
 {
     let rows = matrix.rows();
+    if rows.is_empty() {
+        return Ok(true);
+    }
     let numbers = numbers_of(alloc, matrix.cols(), image)?;
     let kernel_numbers = numbers_of(alloc, rows.len(), kernel)?;
     let at_image = numbers.as_slice();
@@ -124,7 +127,8 @@ fn are_split(
     Ok(true)
 }
 
-/// The number of each row, of length `n`, at its pivot, and at each other place how many rows there are.
+/// The number of each row, of length `n`, at its pivot, and at each other place how many rows there are. Without a row nothing is
+/// taken, however long rows would be.
 ///
 /// # Errors
 /// `Memory` if allocation fails.
@@ -134,6 +138,9 @@ fn numbers_of(alloc: Global, n: usize, rows: &[BitVec]) -> Result<Vec<usize>, Me
     requires nonzero { HasNoZeroRow rows.now }
     ensures { IfOk result (λ numbers. AreNumbersOf n rows.now numbers.items) }
 {
+    if rows.is_empty() {
+        return Ok(Vec::new(alloc));
+    }
     let mut numbers = vec![in alloc; rows.len(); n]?;
     for i in 0..rows.len() {
         numbers[pivot(&rows[i])] = i;
@@ -143,7 +150,7 @@ fn numbers_of(alloc: Global, n: usize, rows: &[BitVec]) -> Result<Vec<usize>, Me
 
 /// Adds to the sum the rows whose numbers stand where the vector has a 1.
 fn add_at_ones(vector: &BitVec, numbers: &[usize], rows: &[BitVec], sum: &mut BitVec)
-    requires numbers { length numbers.now ≡ length vector.now }
+    requires numbers { 0 < length rows.now → length numbers.now ≡ length vector.now }
     requires rows { HaveWidth (length sum.old) rows.now }
     ensures length { length sum.new ≡ length sum.old }
     ensures sum { (image : List (List Bool)) → AreNumbersOf (length vector.now) image numbers.now →
@@ -161,13 +168,16 @@ fn add_at_ones(vector: &BitVec, numbers: &[usize], rows: &[BitVec], sum: &mut Bi
 
 /// Adds the row whose number stands at this place to the sum, if there is a row of that number.
 fn add_at(place: usize, numbers: &[usize], rows: &[BitVec], sum: &mut BitVec)
-    requires place { place < length numbers.now }
+    requires place { 0 < length rows.now → place < length numbers.now }
     requires rows { HaveWidth (length sum.old) rows.now }
     ensures length { length sum.new ≡ length sum.old }
     ensures added { slice_index_or numbers.now place 0 < length rows.now →
         sum.new ≡ sum_of sum.old (row rows.now (slice_index_or numbers.now place 0)) }
     ensures none { length rows.now ≤ slice_index_or numbers.now place 0 → sum.new ≡ sum.old }
 {
+    if rows.is_empty() {
+        return;
+    }
     let number = numbers[place];
     if number < rows.len() {
         sum.xor_with(&rows[number]);

@@ -15,9 +15,10 @@ abbrev pub AreSplit : ℕ → (rows image chosen kernel : List (List Bool)) → 
 AreSplit n rows image chosen kernel =
     (j : ℕ) → j < length rows → IsSplit n (length rows) j image chosen kernel (row rows j)
 
--- numbers has the number of each row, of length n, at its pivot, and a number past all rows at each other place
+-- numbers has the number of each row, of length n, at its pivot, and a number past all rows at each other place. Where there is no
+-- row it may be of any length
 pub record AreNumbersOf (n : ℕ) (rows : List (List Bool)) (numbers : List ℕ) : Type 0 where
-  pub one_each : length numbers ≡ n
+  pub one_each : 0 < length rows → length numbers ≡ n
   pub at_pivot : (i : ℕ) → i < length rows → slice_index_or numbers (pivot_of (row rows i)) 0 ≡ i
   pub elsewhere : (p : ℕ) → p < n → slice_index_or numbers p 0 < length rows →
       pivot_of (row rows (slice_index_or numbers p 0)) ≡ p
