@@ -1,5 +1,5 @@
 -- What is read of bytes behind the squares of a table, or why nothing is.
-use Rattle.std.proofs.Common.{◌≡◌, ℕ, ◌+◌, ◌≤◌, ℤ, pos, ◌+ℤ◌, Bool, List, [], ◌∷◌, ◌++◌, length, take, Option, Some, None, IfSome, sym, ◌∙◌, ap, subst, arith}
+use Rattle.std.proofs.Common.{◌≡◌, ℕ, ◌+◌, ◌≤◌, ℤ, pos, ◌+ℤ◌, Bool, List, [], ◌∷◌, ◌++◌, length, take, Option, Some, None, IfSome, refl, sym, ◌∙◌, ap, subst, arith}
 use Rattle.std.specs.Option.{option_map}
 use Rattle.std.specs.Int.{w64}
 use Rattle.std.proofs.lemmas.Int.{ints}
@@ -22,6 +22,7 @@ use Rattle.save_journal.specs.Laws.{AreBytes}
 use Rattle.save_journal.proofs.Bytes.{number_below}
 use Rattle.save_file.proofs.Unpacking.{unpacked_once}
 use Rattle.save_file.proofs.Outlines.{pair_of_whole}
+use Rattle.save_file.proofs.Reductions.{other_count}
 use Rattle.save_file.proofs.Bodies.{ArePreimagesOf, of_itself, body_with, whole_body, end_at}
 use Rattle.save_file.proofs.Rules.{length-matrix_with, nothing_read, each_is_read}
 use Rattle.save_file.proofs.Entries.{reached_next, matrix_at_is, next_place, place_next, target_dim_is, source_dim_is}
@@ -170,6 +171,16 @@ no_parts table h read bytes o t images kernel p matrix e found some is none =
         let one = subst (λ n. AreReductionParts n rows x.image x.chosen kernel') e1 parts in
         let two = subst (λ r. AreReductionParts matrix.cols r x.image x.chosen kernel') e2 one in
         none x.image x.chosen (record { image_rows = pair.image; chosen_rows = pair.chosen; parts = subst (AreReductionParts matrix.cols matrix.rows x.image x.chosen) e3 two })
+
+-- where the image rows and the kernel rows are not as many as the matrix has rows, nothing is read
+pub no_count : (table : Staircase) → IsTable table → AllRead table.rows → (bytes : List ℕ) (o : Outline) (t : ℤ) (images kernel : List (List Bool)) (p : PackedPair) → o ≡ outline_at bytes → IsFound table bytes o t images kernel → o.quasi ≡ Some p → (p.image.height + o.kernel.height ≡ p.chosen.cols → ⊥) → square_in (over table.resolved) table.start bytes ≡ None
+no_count table h read bytes o t images kernel p e found some differ =
+    let rows = plain_rows table.rows in
+    let matrix : Rows = record { cols = next_target_width table o.s o.above; rows = square_matrix (over table.resolved) (below_of rows o.s o.above) (take o.above (row_of rows o.s)) (record { images = images; kernel = [] }) } in
+    let is : IsMatrixBehind table o.s t images matrix = record { above = o.above; degree = found.place.degree; cols = refl; rows = refl } in
+    let fits = fits_next table h read bytes o t images kernel p matrix e found some is in
+    let count = found.kernel_is.as_many in
+    no_parts table h read bytes o t images kernel p matrix e found some is (other_count p matrix kernel fits.height (λ sum. differ (ap (λ n. p.image.height + n) (sym count) ∙ sum)))
 
 -- ---- what is read
 

@@ -1,5 +1,5 @@
 -- What is read of bytes as a quasi-inverse of a square of a table, or why nothing is.
-use Rattle.std.proofs.Common.{◌≡◌, ℕ, ◌<◌, ◌≤◌, ℤ, pos, ◌+ℤ◌, Bool, true, List, length, take, Option, Some, None, MatchOption, IsSome, refl, sym, ◌∙◌, ap, subst, arith}
+use Rattle.std.proofs.Common.{◌≡◌, ℕ, ◌+◌, ◌<◌, ◌≤◌, ℤ, pos, ◌+ℤ◌, Bool, true, List, length, take, Option, Some, None, MatchOption, IsSome, refl, sym, ◌∙◌, ap, subst, arith}
 use Rattle.std.specs.Prelude.{slice_get}
 use Rattle.std.proofs.lemmas.Int.{ints}
 use Rattle.std.proofs.lemmas.Option.{same_Some, none-some}
@@ -24,6 +24,7 @@ use Rattle.save_file.specs.Saved.{kept_of_table, IsDecodedQuasi}
 use Rattle.save_file.specs.Laws.{AdditionFits}
 use Rattle.save_file.specs.Inside.Outline.{AdditionOutline, addition_outline_at, IsWholeAddition, IsBareAt, ArePackedParts}
 use Rattle.save_file.proofs.Inverting.{is_quasi_at}
+use Rattle.save_file.proofs.Reductions.{other_count}
 use Rattle.save_journal.specs.Laws.{AreBytes}
 use Rattle.save_journal.proofs.Bytes.{number_below}
 use Rattle.save_file.proofs.Bodies.{addition_itself, addition_with, whole_addition, wide_addition}
@@ -258,6 +259,19 @@ fits_square table h read o t q matrix bare degree is =
       reduced = basis.reduced;
       nonzero = basis.nonzero;
     }
+
+-- where the image rows and the kernel rows are not as many as the matrix has rows, nothing is read
+pub no_count_quasi : (table : Staircase) → IsTable table → AllRead table.rows → (bytes : List ℕ) (o : AdditionOutline) (q : Placed) → o ≡ addition_outline_at bytes → IsBareAt table o q → (o.quasi.image.height + length q.content.kernel ≡ o.quasi.chosen.cols → ⊥) → addition_in (over table.resolved) (kept_of_table table) bytes ≡ None
+no_count_quasi table h read bytes o q e bare differ =
+    let t = bottom_of q.resolved +ℤ pos q.above in
+    let m = over table.resolved in
+    let rows = plain_rows table.rows in
+    let below = below_of rows o.s o.above in
+    let before = take o.above (row_of rows o.s) in
+    let matrix : Rows = record { cols = target_width m below before; rows = square_matrix m below before (content_at table.rows o.s o.above) } in
+    let is : IsMatrixAt table o.s t matrix = record { above = o.above; degree = degree_of_square table h o.s o.above t q bare.there refl; cols = refl; rows = refl } in
+    let fits = fits_square table h read o t q matrix bare refl is in
+    no_parts_quasi table h read bytes o t q matrix e bare refl is (other_count o.quasi matrix q.content.kernel fits.height differ)
 
 -- the square is found by its degree
 pub found_there : (table : Staircase) → IsTable table → (o : AdditionOutline) (t : ℤ) (q : Placed) → IsBareAt table o q → t ≡ bottom_of q.resolved +ℤ pos q.above → IsSome (square_at table o.s t)

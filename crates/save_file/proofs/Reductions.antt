@@ -1,5 +1,5 @@
 -- A reduction that is put together of packed rows and kernel rows, or why it is none.
-use Rattle.std.proofs.Common.{◌≡◌, ◌<◌, Bool, List, length, Option, Some, None, MatchOption, sym, ◌∙◌, subst, arith}
+use Rattle.std.proofs.Common.{◌≡◌, ◌+◌, Bool, List, length, Option, Some, None, MatchOption, sym, ◌∙◌, subst, arith}
 use Rattle.f2_matrix.specs.Parts.{AreReductionParts}
 use Rattle.f2_matrix.specs.Reduction.{Rows, Reduction, IsReductionOf}
 use Rattle.save_file.specs.Inside.Outline.{Packed, PackedPair, AreUnpacked, ArePackedParts}
@@ -32,9 +32,9 @@ put_together p matrix image chosen kernel is_image is_chosen (Some r) h =
     let all = subst (λ x. ArePackedParts p matrix image x r.kernel) (sym h.2) kernels in
     (subst (λ x. ArePackedParts p matrix x r.chosen r.kernel) (sym h.1) all, h.3, h.4)
 
--- the image rows of a reduction are no more than the matrix has rows
-pub too_many : (p : PackedPair) (matrix : Rows) (kernel : List (List Bool)) → p.chosen.cols ≡ length matrix.rows → p.chosen.cols < p.image.height → (i c : List (List Bool)) → ArePackedParts p matrix i c kernel → ⊥
-too_many p matrix kernel height many i c parts =
+-- the image rows and the kernel rows of a reduction are together as many as the matrix has rows
+pub other_count : (p : PackedPair) (matrix : Rows) (kernel : List (List Bool)) → p.chosen.cols ≡ length matrix.rows → (p.image.height + length kernel ≡ p.chosen.cols → ⊥) → (i c : List (List Bool)) → ArePackedParts p matrix i c kernel → ⊥
+other_count p matrix kernel height differ i c parts =
     let as_many = parts.image_rows.as_many in
     let sum = parts.parts.rank_and_nullity in
-    omega arith
+    differ (omega arith)

@@ -1,5 +1,5 @@
 //! Squares and quasi-inverses out of bytes.
-ghost use Rattle.std.specs.Prelude.{◌≡◌, ◌↔◌, ℕ, ◌*◌, ◌≤◌, None, Err, Bool, List, length, IsTrue, IfOk, MatchOption};
+ghost use Rattle.std.specs.Prelude.{◌≡◌, ◌↔◌, ℕ, ◌+◌, ◌*◌, ◌≤◌, None, Err, Bool, List, length, IsTrue, IfOk, MatchOption};
 ghost use Rattle.std.specs.Arc.{arc_value};
 ghost use Rattle.bidegree.specs.declared.range.TheConstants.{MAX_S, MAX_T};
 ghost use Rattle.f2_vec.specs.Spans.{HaveWidth};
@@ -86,6 +86,9 @@ fn read_square(alloc: Global, table: &Table, body: &[u8]) -> Result<Option<Squar
         let square = Square::read(table, parts.s, t, images, kernel, None);
         return Ok(Some(square));
     };
+    if !counts_add_up(&packed, parts.kernel.height) {
+        return Ok(None);
+    }
     let matrix = table.next_matrix(alloc, parts.s, t, images.as_slice())?;
     let below = square_below(table, parts.s, parts.above);
     let shared = Rows::of(alloc, kernel)?;
@@ -113,6 +116,9 @@ fn read_quasi(
     let Some(square) = bare_square(table, &parts) else {
         return Ok(None);
     };
+    if !counts_add_up(&parts.quasi, square.kernel().len() as u64) {
+        return Ok(None);
+    }
     let matrix = table.matrix(alloc, parts.s, square.t())?;
     let below = square_below(table, parts.s, parts.above);
     let kernel = square.kernel_rows(alloc)?;
@@ -146,8 +152,15 @@ pub(crate) fn square_below(table: &Table, s: u16, above: u16) -> Option<&Square>
     Some(table.square(below, above)?)
 }
 
-/// The reduction of the matrix with these packed parts and these kernel rows, none where they are not its parts. That there are no
-/// more image rows than the matrix has rows is tested first, so that a body of rows without a coordinate is refused at once.
+/// Whether there are as many image rows and kernel rows together as the matrix of d_s has rows. It is seen before that is made: a body
+/// whose rows are fewer cannot say how many rows it has.
+fn counts_add_up(packed: &PackedPreimages<'_>, nullity: u64) -> bool
+    ensures { IsTrue result ↔ packed.now.image.height + nullity ≡ packed.now.chosen.cols }
+{
+    packed.image.height.checked_add(nullity) == Some(packed.chosen.cols)
+}
+
+/// The reduction of the matrix with these packed parts and these kernel rows, none where they are not its parts.
 ///
 /// # Errors
 /// `Memory` if allocation fails.
@@ -171,9 +184,6 @@ fn reduction(
         (λ r. ArePackedParts (pair_of packed.now) matrix.now r.image r.chosen r.kernel × (r.kernel ≡ kernel)
         × IsReductionOf matrix.now.cols matrix.now.rows r)) }
 {
-    if packed.image.height > packed.chosen.cols {
-        return Ok(None);
-    }
     let Some(image) = image_rows(alloc, &packed.image, below)? else {
         return Ok(None);
     };

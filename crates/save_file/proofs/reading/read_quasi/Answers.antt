@@ -1,5 +1,6 @@
-use Rattle.std.proofs.Common.{◌≡◌, ℤ, pos, ◌+ℤ◌, Bool, List, length, to_z, of_z, w32, sym, ◌∙◌, ap, subst, arith}
+use Rattle.std.proofs.Common.{◌≡◌, ◌+◌, ℤ, pos, ◌+ℤ◌, Bool, List, length, to_z, of_z, w32, sym, ◌∙◌, ap, subst, arith}
 use Rattle.std.specs.Arc.{arc_value}
+use Rattle.std.proofs.lemmas.Bool.{iff_false}
 use Rattle.std.proofs.lemmas.Int.{to_z-of_z}
 use Rattle.std.proofs.lemmas.Option.{MatchOption-at_none, MatchOption-at_some}
 use Rattle.f2_vec.specs.Spans.{HaveWidth}
@@ -10,7 +11,7 @@ use Rattle.square.specs.Tables.{IsMatrixAt}
 use Rattle.save_file.specs.Inside.Outline.{addition_outline_of, ArePackedParts}
 use Rattle.save_file.specs.Saved.{kept_of_table, IsDecodedQuasi}
 use Rattle.save_file.proofs.Outlines.{addition_long}
-use Rattle.save_file.proofs.DecodingQuasi.{not_whole_addition, no_bare, FitsSquare, fits_square, no_parts_quasi, decoded_quasi, found_there}
+use Rattle.save_file.proofs.DecodingQuasi.{not_whole_addition, no_bare, no_count_quasi, FitsSquare, fits_square, no_parts_quasi, decoded_quasi, found_there}
 use Rattle.save_file.proofs.Reductions.{IsPutTogether}
 use Rattle.save_file.proofs.reading.read_quasi.Goals.{After-t, After-kernel_rows}
 use Rattle.save_file.proofs.reading.read_quasi.Goals as goal
@@ -23,7 +24,7 @@ returns-in_default-bare_square c = no_bare c.args.table.now c.bare_square.ensure
 
 -- the degree is what the square tells
 degree : (c : After-t) → to_z w32 (of_z w32 c.t.result) ≡ bottom_of (arc_value c.in-Some-bare_square.square.now).resolved +ℤ pos (arc_value c.in-Some-bare_square.square.now).above
-degree c = to_z-of_z w32 c.t.result (record { sfits = c.t.type_inv }) ∙ c.t.ensures ∙ ap (λ (q : Placed). bottom_of q.resolved +ℤ pos q.above) c.deref.ensures
+degree c = to_z-of_z w32 c.t.result (record { sfits = c.t.type_inv }) ∙ c.t.ensures ∙ ap (λ (q : Placed). bottom_of q.resolved +ℤ pos q.above) c.deref-2.ensures
 
 -- the square there fits the matrix of d_s in its degree
 fitting : (c : After-t) → (matrix : Rows) → IsMatrixAt c.args.table.now c.in-Some.parts.s (to_z w32 (of_z w32 c.t.result)) matrix → FitsSquare c.args.table.now (addition_outline_of c.in-Some.parts) (arc_value c.in-Some-bare_square.square.now) matrix
@@ -32,9 +33,17 @@ fitting c matrix is = fits_square c.args.table.now c.bare_square.ensures.is_tabl
 pub matrix-requires : goal.matrix-requires
 matrix-requires c = found_there c.args.table.now c.bare_square.ensures.is_table (addition_outline_of c.in-Some.parts) (to_z w32 (of_z w32 c.t.result)) (arc_value c.in-Some-bare_square.square.now) c.in-Some-bare_square.ensures.square (degree (goal.at.matrix-requires c).After-t)
 
+pub returns-then-not-counts_add_up : goal.returns-then-not-counts_add_up
+returns-then-not-counts_add_up c =
+    let o = addition_outline_of c.in-Some.parts in
+    let q = arc_value c.in-Some-bare_square.square.now in
+    let kernel : length c.kernel.result.now ≡ length q.content.kernel = ap length c.kernel.ensures ∙ ap (λ (x : Placed). length x.content.kernel) c.deref.ensures in
+    let differ : o.quasi.image.height + length c.kernel.result.now ≡ o.quasi.chosen.cols → ⊥ = iff_false c.counts_add_up.ensures c.if-not-counts_add_up.true in
+    no_count_quasi c.args.table.now c.bare_square.ensures.is_table c.requires c.args.body.now o q c.in-Some.ensures.1 c.in-Some-bare_square.ensures.square (λ sum. differ (ap (λ n. o.quasi.image.height + n) kernel ∙ sum))
+
 -- the kernel rows are those of the square
-kernel_is : (c : After-kernel_rows) → (rows : List (List Bool)) → rows ≡ c.deref-2.result.now.content.kernel → rows ≡ (arc_value c.in-Some-bare_square.square.now).content.kernel
-kernel_is c rows e = e ∙ ap (λ (q : Placed). q.content.kernel) c.deref-2.ensures
+kernel_is : (c : After-kernel_rows) → (rows : List (List Bool)) → rows ≡ c.deref-3.result.now.content.kernel → rows ≡ (arc_value c.in-Some-bare_square.square.now).content.kernel
+kernel_is c rows e = e ∙ ap (λ (q : Placed). q.content.kernel) c.deref-3.ensures
 
 pub reduction-requires-clause-image : goal.reduction-requires-clause-image
 reduction-requires-clause-image c = (addition_long c.args.body.now (addition_outline_of c.in-Some.parts) c.in-Some.ensures.0 c.in-Some.ensures.1).image
@@ -73,6 +82,6 @@ returns c =
     let same = degree (goal.at.returns c).After-t in
     let t : ℤ = to_z w32 (of_z w32 c.t.result) in
     let told : to_z w32 (of_z w32 c.t-2.result) ≡ c.t-2.result = to_z-of_z w32 c.t-2.result (record { sfits = c.t-2.type_inv }) in
-    let again : t ≡ to_z w32 (of_z w32 c.t-2.result) = same ∙ sym (told ∙ c.t-2.ensures ∙ ap (λ (x : Placed). bottom_of x.resolved +ℤ pos x.above) c.deref-3.ensures) in
+    let again : t ≡ to_z w32 (of_z w32 c.t-2.result) = same ∙ sym (told ∙ c.t-2.ensures ∙ ap (λ (x : Placed). bottom_of x.resolved +ℤ pos x.above) c.deref-4.ensures) in
     subst (λ n. IsDecodedQuasi table c.args.body.now c.in-Some.parts.s n r) again
     (decoded_quasi table c.bare_square.ensures.is_table c.requires c.args.body.now o t q c.in_ok-matrix.matrix r c.in-Some.ensures.1 c.in-Some-bare_square.ensures.square same c.in_ok-matrix.ensures c.in-Some.ensures.0 (λ i. omega (arith, c.type_inv.body i)) put.0 (put.1 ∙ kernel_is (goal.at.returns c).After-kernel_rows _ c.in_ok-kernel.ensures) put.2)

@@ -12,7 +12,7 @@ use Rattle.save_file.specs.Bodies.{preimages_of}
 use Rattle.save_file.specs.Inside.Outline.{outline_of, pair_of, IsPlaceFor, ArePackedParts}
 use Rattle.save_journal.specs.Laws.{AreBytes}
 use Rattle.save_file.proofs.Outlines.{images_length, kernel_length, pair_of_whole}
-use Rattle.save_file.proofs.Decoding.{not_whole, not_next, not_fitting, no_images, no_kernel, not_basis, no_parts, is_readable, decoded, place_at, IsFound, images_wide, found_bare, fits_next, IsReductionHere, wholly_found, reduction_is, is_quasi_behind}
+use Rattle.save_file.proofs.Decoding.{not_whole, not_next, not_fitting, no_images, no_kernel, not_basis, no_count, no_parts, is_readable, decoded, place_at, IsFound, images_wide, found_bare, fits_next, IsReductionHere, wholly_found, reduction_is, is_quasi_behind}
 use Rattle.save_file.proofs.Reductions.{IsPutTogether}
 use Rattle.save_file.proofs.reading.read_square.Goals.{After-is_row_basis, After-reduction}
 use Rattle.save_file.proofs.reading.read_square.Goals as goal
@@ -79,6 +79,13 @@ returns-in_default-quasi c =
     let none : o.quasi ≡ None = ap (option_map pair_of) c.in_default-quasi.is in
     decoded c.args.table.now c.next_degree.ensures.is_table c.requires c.args.body.now o t c.in-Some-2.images.items c.in-Some-3.kernel.items None c.in-Some.ensures.1 (found_bare c.args.table.now c.args.body.now o t c.in-Some-2.images.items c.in-Some-3.kernel.items f form.0 form.1 none)
     c.read-square.result c.read-square.ensures.resolved c.read-square.ensures.start c.read-square.ensures.s c.read-square.ensures.t c.read-square.ensures.content c.read-square.ensures.quasi
+
+pub returns-then-not-counts_add_up : goal.returns-then-not-counts_add_up
+returns-then-not-counts_add_up c =
+    let o = outline_of c.in-Some.parts in
+    let f = found (goal.at.returns-then-not-counts_add_up c).After-is_row_basis c.in-Some-next_degree.t c.in-Some-next_degree.ensures.place (λ i. omega (arith, c.type_inv.body i)) in
+    let some : o.quasi ≡ Some (pair_of c.in-Some-quasi.packed) = ap (option_map pair_of) c.in-Some-quasi.is in
+    no_count c.args.table.now c.next_degree.ensures.is_table c.requires c.args.body.now o c.in-Some-next_degree.t c.in-Some-2.images.items c.in-Some-3.kernel.items (pair_of c.in-Some-quasi.packed) c.in-Some.ensures.1 f some (iff_false c.counts_add_up.ensures c.if-not-counts_add_up.true)
 
 pub next_matrix-requires-clause-place : goal.next_matrix-requires-clause-place
 next_matrix-requires-clause-place c =

@@ -1,11 +1,8 @@
 use Rattle.std.proofs.lemmas.Option.{MatchOption-at_some}
 use Rattle.std.proofs.lemmas.Result.{IfOk-weaker}
 use Rattle.save_file.specs.Inside.Outline.{pair_of}
-use Rattle.save_file.proofs.Reductions.{put_together, too_many}
+use Rattle.save_file.proofs.Reductions.{put_together}
 use Rattle.save_file.proofs.reading.reduction.Goals as goal
-
-pub returns-then-packed : goal.returns-then-packed
-returns-then-packed c = too_many (pair_of c.args.packed.now) c.args.matrix.now c.args.kernel c.requires.height c.if-packed.true
 
 pub returns : goal.returns
 returns c =
