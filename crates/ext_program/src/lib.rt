@@ -107,6 +107,7 @@ fn finished<E: Sink>(status: u8, was_held: bool, err: &mut E) -> ExitCode
     ensures status { exit_status result ≡ status }
     ensures told { status ≡ SAVING → was_held ≡ true → HasToldHeld E.written E.faults err.old err.new }
     ensures other { (status ≡ SAVING → was_held ≡ false) → err.new ≡ err.old }
+    ensures ends { MayTellHeld E.written E.faults status err.old err.new }
 {
     if status == SAVING && was_held {
         tell_held(err);
