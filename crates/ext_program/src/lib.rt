@@ -216,11 +216,10 @@ fn arguments(alloc: Global, given: io::Result<Args>) -> Result<Vec<String>, Fail
 }
 
 /// All but the first of them.
-fn behind_first(alloc: Global, mut all: Args) -> Result<Vec<String>, Memory>
+fn behind_first(alloc: Global, all: Args) -> Result<Vec<String>, Memory>
     ensures { IfOk result (λ rest. rest.items ≡ drop 1 (into_iter_items all)) }
 {
-    let _ = all.next();
-    Ok(all.collect(alloc)?)
+    Ok(all.skip(1).collect(alloc)?)
 }
 
 /// The arguments' texts, as words.
