@@ -157,7 +157,8 @@ pub(crate) fn square_below(table: &Table, s: u16, above: u16) -> Option<&Square>
 fn counts_add_up(packed: &PackedPreimages<'_>, nullity: u64) -> bool
     ensures { IsTrue result ↔ packed.now.image.height + nullity ≡ packed.now.chosen.cols }
 {
-    packed.image.height.checked_add(nullity) == Some(packed.chosen.cols)
+    let (rank, height) = (packed.image.height, packed.chosen.cols);
+    nullity <= height && rank == height - nullity
 }
 
 /// The reduction of the matrix with these packed parts and these kernel rows, none where they are not its parts.
