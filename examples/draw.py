@@ -16,7 +16,8 @@
 A dot is a class, or a sum of classes: its stem t - s across, its row s upwards. At a dot most viewers show (s,t,i), its name and its products. The
 basis of a square is made for the picture: first come the images of the dots below by h0, then those by h1, by h2 and by h3, then classes with
 names, then others, so that most products of a dot are one dot. An arrow at the top says that the product by h0 above is not zero. A line that
-leaves the picture at an edge is a product that lies outside. The script runs the program twice, for the least degree and for the table.
+leaves the picture at an edge is a product that lies outside. The script runs the program for the least degree and for the table, and with --arrows
+for products that stand in the file.
 """
 import argparse
 import html
