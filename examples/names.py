@@ -59,6 +59,11 @@ def class_of(text):
 class Names:
     """The names of a file; none where there is no file."""
 
+    @staticmethod
+    def known():
+        """The names of names.txt, or of the file that the variable NAMES names."""
+        return Names(os.environ.get("NAMES") or os.path.join(HERE, "names.txt"))
+
     def __init__(self, path):
         self.path, self.lines, self.tables = path, {}, {}
         for number, text in enumerate(lines_of(path) if path else [], 1):
@@ -277,7 +282,7 @@ def main():
     words = sys.argv[1:]
     if not words:
         sys.exit(__doc__.strip())
-    names = Names(os.environ.get("NAMES") or os.path.join(HERE, "names.txt"))
+    names = Names.known()
     if words == ["--check"]:
         return int(check(names) > 0)
     if words == ["-"]:
