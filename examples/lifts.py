@@ -88,10 +88,14 @@ class Resolution:
         free = self.frees[s]
         return [self.below(s).act(r, free.degrees[g], free.images[g]) for g, r in free.elements(t)[0]]
 
+    def is_past(self, s, t):
+        """Whether a square lies past the range."""
+        return s > self.rows or t > self.last
+
     def square(self, s, t):
         """The numbers in row s of the generators of degree t."""
-        if s > self.rows or t > self.last:
-            raise Refused(f"the square ({s},{t}) is past the range")
+        if self.is_past(s, t):
+            raise PastRange(f"the square ({s},{t}) is past the range")
         return [g for g, degree in enumerate(self.frees[s].degrees) if degree == t]
 
     def preimage(self, s, t, vector):
@@ -116,7 +120,19 @@ class Resolution:
 
 
 class Refused(Exception):
-    """A class that is not there, a square past the range, or a bracket that is not defined."""
+    """What is asked for is not there."""
+
+
+class NoClass(Refused):
+    """A class that is not there through the range."""
+
+
+class PastRange(Refused):
+    """A square past the range."""
+
+
+class NotDefined(Refused):
+    """A bracket that is not defined, since this product is not zero."""
 
 
 class Differs(Exception):
@@ -224,8 +240,8 @@ def class_of(of, text):
     """A class by its words, as row, degree and coefficients."""
     parts = [tuple(map(int, part.split(","))) for part in text.split("+")]
     (s, t), *others = {part[:2] for part in parts}
-    if others or any(i >= dimension(of, s, t) for _, _, i in parts):
-        raise Refused(f"there is no class {text}")
+    if others or of.is_past(s, t) or any(i >= dimension(of, s, t) for _, _, i in parts):
+        raise NoClass(f"there is no class {text}")
     bits = 0
     for _, _, i in parts:
         bits ^= 1 << i
@@ -263,11 +279,14 @@ def products(module, sphere, a):
 
 def bracket(module, sphere, a, b, c):
     """The lines of `ext massey`."""
+    s, t = a[0] + b[0] + c[0] - 1, a[1] + b[1] + c[1]
+    for name, of, row, degree in (("ab", sphere, a[0] + b[0], a[1] + b[1]), ("bc", module, b[0] + c[0], b[1] + c[1]), ("value", module, s, t)):
+        if of.is_past(row, degree):
+            raise PastRange(f"out of range at {name} ({row},{degree})")
     for name, left, right, of in (("ab", a, b, sphere), ("bc", b, c, module)):
         value = product(of, sphere, left, right)
         if value:
-            raise Refused(f"product {name} is not zero: {written(left[0] + right[0], left[1] + right[1], value)}")
-    s, t = a[0] + b[0] + c[0] - 1, a[1] + b[1] + c[1]
+            raise NotDefined(f"product {name} is not zero: {written(left[0] + right[0], left[1] + right[1], value)}")
     coset = indeterminacy(module, sphere, a, b, c)
     members = [member(module, sphere, a, b, c) for _ in range(TRIES)]
     values = {coset.cleared(it) for it in members}
@@ -281,7 +300,7 @@ def main():
     words = sys.argv[1:]
     options = dict(zip(words[3::2], words[4::2]))
     wanted = {"dump": [], "products": ["--by"], "massey": ["--a", "--b", "--c"]}
-    if len(words) < 3 or sorted(options) != wanted.get(words[0]) or len(words) != 3 + 2 * len(options):
+    if len(words) < 3 or sorted(options) != wanted.get(words[0]) or len(words) != 3 + 2 * len(options) or not all(it.isdecimal() for it in words[1:3]):
         sys.exit(__doc__.strip())
     rows, top = map(int, words[1:3])
     module, sphere = Resolution(Module(sys.stdin.read()), rows, top), Resolution(Module(POINT), rows, top)
