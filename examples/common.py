@@ -1,13 +1,17 @@
-"""What the scripts of this folder share: they take their arguments, run the program, read its texts as numbers, and write module files.
+"""What the scripts of this folder share: they take their arguments, read files, run the program and others, read its texts as numbers, and write
+module files.
 
 A class is (s, t, i): row, internal degree, number. Its stem is t - s. A sum of classes is a list of them, and zero the empty list.
 """
 import json
 import os
 import re
+import shutil
+import signal
 import subprocess
 import sys
 from collections import Counter, namedtuple
+from contextlib import suppress
 
 HERE = os.path.dirname(os.path.realpath(__file__))
 # The program: the one that the variable EXT names, or else ../ext, which builds it first.
@@ -23,6 +27,14 @@ def arguments(count, description):
     return sys.argv[1:]
 
 
+def whole_numbers(count, description):
+    """The arguments of the script as whole numbers; where they are not so many, or none, it ends with its description."""
+    try:
+        return [int(it) for it in arguments(count, description)]
+    except ValueError:
+        sys.exit(description.strip())
+
+
 def ext(*words, file=b""):
     """The lines that the program prints on these words and this file. Where it fails, the script ends with its status."""
     try:
@@ -35,13 +47,46 @@ def ext(*words, file=b""):
     return run.stdout.decode().splitlines()
 
 
-def lines_of(path):
-    """The lines of a file; where it cannot be read, the script ends and says so."""
+def ended(words, seconds, source=b"", **more):
+    """The status of a command and what it prints. None where it takes longer than these seconds; then it is killed, with all that it began."""
+    run = subprocess.Popen(words, stdin=subprocess.PIPE, stdout=subprocess.PIPE, start_new_session=True, **more)
     try:
-        with open(path) as file:
-            return file.read().splitlines()
-    except (OSError, UnicodeDecodeError) as error:
+        text = run.communicate(source, timeout=seconds)[0]
+    except BaseException as error:
+        with suppress(ProcessLookupError):
+            os.killpg(run.pid, signal.SIGKILL)
+        run.communicate()
+        if isinstance(error, subprocess.TimeoutExpired):
+            return None
+        raise
+    return run.returncode, text.decode(errors="replace")
+
+
+def browser():
+    """The command of chromium; none where it is not on the path."""
+    return next((it for it in ("chromium", "chromium-browser") if shutil.which(it)), None)
+
+
+def bytes_of(path):
+    """The bytes of a file; where it cannot be read, the script ends and says so."""
+    try:
+        with open(path, "rb") as file:
+            return file.read()
+    except OSError as error:
+        sys.exit(f"{path}: {error.strerror}")
+
+
+def text_of(path):
+    """The text of a file; where it cannot be read, or is no text, the script ends and says so."""
+    try:
+        return bytes_of(path).decode()
+    except UnicodeDecodeError as error:
         sys.exit(f"{path}: {error}")
+
+
+def lines_of(path):
+    """The lines of a file that is read as text."""
+    return text_of(path).splitlines()
 
 
 def classes(text):

@@ -9,7 +9,7 @@ for each other one; then the status is 1.
 """
 import re
 import sys
-from common import arguments, classes
+from common import arguments, classes, text_of
 from independent import Module, milnor_product
 
 TERM = re.compile(r"Sq\(([\d,]*)\)\*(\([-\d,]+\))")
@@ -40,8 +40,7 @@ def twice(generator, images, bottom, module):
     return vector or terms
 
 
-with open(*arguments(1, __doc__)) as file:
-    module = Module(file.read())
+module = Module(text_of(*arguments(1, __doc__)))
 images, bottom = read(sys.stdin)
 wrong = [it for it in images if twice(it, images, bottom, module)]
 print(f"d d = 0 for {len(images) - len(wrong)} of {len(images)} generators above row 0")

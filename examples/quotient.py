@@ -10,7 +10,7 @@ over A(N) by a change of rings: N = 1 belongs to ko, and N = 2 to tmf. A module 
 Groups of Spheres, A1.3.12 (change of rings); Milnor, The Steenrod algebra and its dual (the products).
 """
 import sys
-from common import arguments, file_text
+from common import file_text, whole_numbers
 from independent import Echelon, basis, milnor_product
 
 
@@ -38,7 +38,7 @@ class Degree:
         return [name for bit, (name, _) in self.generators.items() if vector & bit]
 
 
-n, top = map(int, arguments(2, __doc__))
+n, top = whole_numbers(2, __doc__)
 degrees = [Degree(d, [2 ** k for k in range(n + 1)]) for d in range(top + 1)]
 actions = []
 for d, here in enumerate(degrees):

@@ -9,9 +9,9 @@ times the line bundle over the projective space of dimension HI - LO. Source: St
 Thom complexes.
 """
 import sys
-from common import arguments, file_text
+from common import file_text, whole_numbers
 
-lo, hi = map(int, arguments(2, __doc__))
+lo, hi = whole_numbers(2, __doc__)
 names = {n: f"x{n}" if n >= 0 else f"m{-n}" for n in range(lo, hi + 1)}
 actions = []
 for n in names:

@@ -9,7 +9,7 @@ rows that have a class there, that is so. The map itself is not computed. Source
 Mahowald, The image of J in the EHP sequence (1982).
 """
 import sys
-from common import arguments, chart, file_text
+from common import chart, file_text, whole_numbers
 
 
 def cofibre(last):
@@ -25,7 +25,7 @@ def space(last):
 
 
 def main():
-    (stem,) = map(int, arguments(1, __doc__))
+    (stem,) = whole_numbers(1, __doc__)
     rows = stem // 2 + 3
     # (above these cells Ext is as it is without the cut; a range is counted from the least degree, -1, 1 or 0)
     last = stem + 2
