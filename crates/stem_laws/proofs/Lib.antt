@@ -1,0 +1,5 @@
+mod Padded
+mod NotMet
+mod Parts
+mod InStems
+mod Steps
