@@ -3,7 +3,8 @@ use Rattle.std.proofs.Common.{◌≡◌, inl, inr, ℕ, zero, suc, ◌+◌, ◌<
 use Rattle.std.proofs.lemmas.Int.{ints}
 use Rattle.std.proofs.lemmas.Bool.{cases_lt}
 use Rattle.std.proofs.lemmas.List.{get_or-take, get_or_append_left, get_or_push, length-map, length-take, length-take-le, length_push, take_all}
-use Rattle.f2_vec.specs.Spans.{HaveWidth}
+use Rattle.f2_vec.specs.Vectors.{bit}
+use Rattle.f2_vec.specs.Spans.{row, HaveWidth}
 use Rattle.free_module.specs.FreeModule.{free_width}
 use Rattle.free_module.specs.Graded.{GradedModule, free_graded}
 use Rattle.free_module.specs.LinearMap.{AreImages, map_rows}
@@ -11,8 +12,8 @@ use Rattle.resolution_laws.specs.Resolution.{Module, Content, no_content, square
 use Rattle.resolution_laws.specs.Exactness.{IsMinimalResolution, CanonicalTableIsMinimalResolution, degrees_in, target_of}
 use Rattle.resolution_laws.proofs.Rows.{degrees_from-split, free_basis_from-above}
 use Rattle.resolution_laws.proofs.Generators.{AreImages-row}
-use Rattle.stem_laws.specs.Stems.{first_new, on_edge, in_stems, target_in_stems, degrees_in_stems, images_in_stems, ImagesInStemsFit}
-use Rattle.stem_laws.proofs.Padded.{padded, nothing_padded, HaveWidth-unpadded, padded_back}
+use Rattle.stem_laws.specs.Stems.{first_new, on_edge, in_stems, target_in_stems, degrees_in_stems, images_in_stems, IsCanonicalResolution, RowsInStemsAreWhole, IsThatOfTable, SquaresInStemsAreThoseOfTable, SquaresInStemsFit, ImagesInStemsFit}
+use Rattle.stem_laws.proofs.Padded.{padded, bit-row_padded, nothing_padded, HaveWidth-unpadded, padded_back}
 use Rattle.stem_laws.proofs.Parts.{IsPart, whole-IsPart, behind, free-IsPart, map_rows-part, degrees_same, row-images_of}
 use Rattle.stem_laws.proofs.NotMet.{not_met}
 
@@ -35,9 +36,16 @@ edge_counts : (m : Module) (table : List (List Content)) (i k : ℕ) (c : Conten
 edge_counts m table zero k c = refl
 edge_counts m table (suc i) k c = length-map c.images (take (first_new m table i k))
 
-pub edge_kernel : (m : Module) (table : List (List Content)) (i k : ℕ) (c : Content) → (on_edge m table i k c).kernel ≡ c.kernel
+edge_kernel : (m : Module) (table : List (List Content)) (i k : ℕ) (c : Content) → (on_edge m table i k c).kernel ≡ c.kernel
 edge_kernel m table zero k c = refl
 edge_kernel m table (suc i) k c = refl
+
+length-stems : (m : Module) (n : ℕ) (table : List (List Content)) (i : ℕ) → n + i < length (row_of table i) → length (in_stems m n table i) ≡ n + i + 1
+length-stems m n table i l =
+    length_push (take (n + i) (row_of table i)) (on_edge m table i (n + i) (square_in (row_of table i) (n + i))) ∙ ap (λ (x : ℕ). x + 1) (length-take-le (n + i) (row_of table i) (omega arith))
+
+pub rows_are_whole : RowsInStemsAreWhole
+rows_are_whole m s n table p i h = let e = p.squares i h in length-stems m n table i (omega arith)
 
 module _ (m : Module) (s n : ℕ) (table : List (List Content)) (p : IsMinimalResolution m s (n + s) table) where
   long : (i : ℕ) → i ≤ s → n + i < length (row_of table i)
@@ -47,7 +55,7 @@ module _ (m : Module) (s n : ℕ) (table : List (List Content)) (p : IsMinimalRe
   length-before i h = let l = long i h in length-take-le (n + i) (row_of table i) (omega arith)
 
   pub length-in_stems : (i : ℕ) → i ≤ s → length (in_stems m n table i) ≡ n + i + 1
-  length-in_stems i h = length_push (take (n + i) (row_of table i)) (on_edge m table i (n + i) (square_in (row_of table i) (n + i))) ∙ ap (λ (x : ℕ). x + 1) (length-before i h)
+  length-in_stems i h = length-stems m n table i (long i h)
 
   -- off the edge the squares are those of the table
   square_off : (i j : ℕ) → i ≤ s → j < n + i → square_in (in_stems m n table i) j ≡ square_in (row_of table i) j
@@ -225,5 +233,26 @@ module _ (m : Module) (s n : ℕ) (table : List (List Content)) (p : IsMinimalRe
       ap (λ (ds : List ℤ). map_rows (target_of m table i) ds (images_of ys) t) (sym (same_degrees i q h b))
       ∙ map_rows-part (target_in_stems m n table i k) (target_of m table i) here.w (degrees_from m.bottom xs) (images_of xs) (images_of ys) t here.part (images_fit i q k h l) rows
 
-pub images_in_stems_are_fit : CanonicalTableIsMinimalResolution → ImagesInStemsFit
-images_in_stems_are_fit minimal m s n table p i j k h l = images_fit m s n table (minimal m s (n + s) table p.steenrod p.bounded p.canonical) i j k h l
+  pub square_of_table : (i k : ℕ) → i ≤ s → k ≤ n + i → IsThatOfTable m n table i k
+  square_of_table i k h l =
+      let here = part_at i k h in
+      let images = (square_in (in_stems m n table i) k).images in
+      record {
+        count = square_counts i k h l;
+        coordinates = λ g j. sym (ap (λ (z : List (List Bool)). bit (row z g) j) (here.images k (omega arith) l) ∙ bit-row_padded (here.w (m.bottom +ℤ pos k)) images g j);
+        kernel = square_kernel i k h l;
+      }
+
+-- ---- the laws
+
+pub minimal_of : CanonicalTableIsMinimalResolution → (m : Module) (s t : ℕ) (table : List (List Content)) → IsCanonicalResolution m s t table → IsMinimalResolution m s t table
+minimal_of minimal m s t table p = minimal m s t table p.steenrod p.bounded p.canonical
+
+pub squares_of_table : CanonicalTableIsMinimalResolution → SquaresInStemsAreThoseOfTable
+squares_of_table minimal m s n table p i k h l = square_of_table m s n table (minimal_of minimal m s (n + s) table p) i k h l
+
+pub squares_fit : CanonicalTableIsMinimalResolution → SquaresInStemsFit
+squares_fit minimal m s n table p i j k h l a = square_fits m s n table (minimal_of minimal m s (n + s) table p) i j k h a l
+
+pub images_of_rows_fit : CanonicalTableIsMinimalResolution → ImagesInStemsFit
+images_of_rows_fit minimal m s n table p i j k h l = images_fit m s n table (minimal_of minimal m s (n + s) table p) i j k h l

@@ -3,3 +3,4 @@ mod NotMet
 mod Parts
 mod InStems
 mod Steps
+mod Examples

@@ -30,6 +30,13 @@ bit-padded w v p =
 pub row-padded : (w : ℕ) (rows : List (List Bool)) (i : ℕ) → i < length rows → row (map (padded w) rows) i ≡ padded w (row rows i)
 row-padded w rows i l = get_or-map (padded w) rows i [] [] l
 
+pub bit-row_padded : (w : ℕ) (rows : List (List Bool)) (i p : ℕ) → bit (row (map (padded w) rows) i) p ≡ bit (row rows i) p
+bit-row_padded w rows i p =
+    elim (cases_lt i (length rows)) [
+      | inl l ↦ ap (λ (v : List Bool). bit v p) (row-padded w rows i l) ∙ bit-padded w (row rows i) p
+      | inr l ↦ ap (λ (v : List Bool). bit v p) (get_or_past (map (padded w) rows) i [] (omega (arith, length-map rows (padded w)))) ∙ sym (ap (λ (v : List Bool). bit v p) (get_or_past rows i [] l))
+    ]
+
 pub HaveWidth-padded : (n w : ℕ) (rows : List (List Bool)) → HaveWidth n rows → HaveWidth (n + w) (map (padded w) rows)
 HaveWidth-padded n w rows h i l =
     let b : i < length rows = omega (arith, length-map rows (padded w)) in
@@ -155,24 +162,17 @@ unpadded-IsChosen n w old candidates chosen ho hc hx p =
 
 -- ---- rows with no part in any relation
 
-row_bit : (w : ℕ) (rows : List (List Bool)) (i p : ℕ) → bit (row (map (padded w) rows) i) p ≡ bit (row rows i) p
-row_bit w rows i p =
-    elim (cases_lt i (length rows)) [
-      | inl l ↦ ap (λ (v : List Bool). bit v p) (row-padded w rows i l) ∙ bit-padded w (row rows i) p
-      | inr l ↦ ap (λ (v : List Bool). bit v p) (get_or_past (map (padded w) rows) i [] (omega (arith, length-map rows (padded w)))) ∙ sym (ap (λ (v : List Bool). bit v p) (get_or_past rows i [] l))
-    ]
-
 first_one : (w : ℕ) (rows : List (List Bool)) (i p : ℕ) → IsFirstOne (row (map (padded w) rows) i) p → IsFirstOne (row rows i) p
 first_one w rows i p f = record {
-  one = sym (row_bit w rows i p) ∙ f.one;
-  zeros_before = λ k l. sym (row_bit w rows i k) ∙ f.zeros_before k l;
+  one = sym (bit-row_padded w rows i p) ∙ f.one;
+  zeros_before = λ k l. sym (bit-row_padded w rows i k) ∙ f.zeros_before k l;
 }
 
 padded-IsReduced : (w : ℕ) (rows : List (List Bool)) → IsReduced rows → IsReduced (map (padded w) rows)
 padded-IsReduced w rows r = record {
-  zero_rows_last = λ i j l z k. row_bit w rows j k ∙ r.zero_rows_last i j l (λ q. sym (row_bit w rows i q) ∙ z q) k;
+  zero_rows_last = λ i j l z k. bit-row_padded w rows j k ∙ r.zero_rows_last i j l (λ q. sym (bit-row_padded w rows i q) ∙ z q) k;
   pivots_rise = λ i j p q l f g. r.pivots_rise i j p q l (first_one w rows i p f) (first_one w rows j q g);
-  pivots_alone = λ i j p d f. row_bit w rows j p ∙ r.pivots_alone i j p d (first_one w rows i p f);
+  pivots_alone = λ i j p d f. bit-row_padded w rows j p ∙ r.pivots_alone i j p d (first_one w rows i p f);
 }
 
 -- Where no relation has a coefficient at the last rows, the kernel is that of the others, with zeros behind.
@@ -207,5 +207,5 @@ kernel_behind n old new kernel ho hn k none =
         λ p. back c (subst (λ (z : ℕ). IsInSpan z (map (padded w) kernel) c) (sym len) p),
       );
       reduced = padded-IsReduced w kernel k.reduced;
-      nonzero = λ i l z. k.nonzero i (omega (arith, length-map kernel (padded w))) (λ q. sym (row_bit w kernel i q) ∙ z q);
+      nonzero = λ i l z. k.nonzero i (omega (arith, length-map kernel (padded w))) (λ q. sym (bit-row_padded w kernel i q) ∙ z q);
     }

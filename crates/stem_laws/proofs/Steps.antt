@@ -22,10 +22,10 @@ use Rattle.resolution_laws.proofs.Generators.{map_rows-take}
 use Rattle.resolution_laws.proofs.Squares.{IsResolved, old_rows, candidates_of, square_at, image_widths}
 use Rattle.resolution_laws.proofs.Complex.{length-differential, HaveWidth-differential}
 use Rattle.resolution_laws.proofs.TableIsUnique.{step_is_unique}
-use Rattle.stem_laws.specs.Stems.{first_new, in_stems, target_in_stems, degrees_in_stems, images_in_stems, differential_in_stems, AreToCover, IsStepInStems, IsResolution, SquaresInStemsAreSteps, RowsInStemsAreCovered, KernelsInStemsAreToCover}
+use Rattle.stem_laws.specs.Stems.{first_new, in_stems, target_in_stems, degrees_in_stems, images_in_stems, differential_in_stems, AreToCover, IsStepInStems, IsCanonicalResolution, SquaresInStemsAreSteps, RowsInStemsAreCovered, KernelsInStemsAreToCover}
 use Rattle.stem_laws.proofs.Padded.{padded, row-padded, HaveWidth-unpadded, nothing_padded, padded-IsKernelBasis, unpadded-IsInSpan, unpadded-IsKernelBasis, unpadded-IsChosen, kernel_behind}
 use Rattle.stem_laws.proofs.NotMet.{not_met}
-use Rattle.stem_laws.proofs.InStems.{length-in_stems, same_degrees, square_kernel, square_fits, part_at, part_zero, images_fit, matrix_first}
+use Rattle.stem_laws.proofs.InStems.{minimal_of, length-in_stems, same_degrees, square_kernel, square_fits, part_at, part_zero, images_fit, matrix_first}
 
 same_choice : (n k : ℕ) (old rows candidates given chosen taken : List (List Bool)) → n ≡ k → old ≡ rows → candidates ≡ given → chosen ≡ taken → IsChosen n old candidates chosen → IsChosen k rows given taken
 same_choice n k old rows candidates given chosen taken a b c d p =
@@ -42,7 +42,7 @@ same_kernel n k rows others kernel basis a b c p =
     let R : ℕ → Type 0 = λ x. IsKernelBasis x others basis in
     subst R a (subst Q b (subst P c p))
 
-module _ (kernels : KernelBasisIsUnique) (m : Module) (s n : ℕ) (table : List (List Content)) (p : IsResolved m s (n + s) table) (r : IsMinimalResolution m s (n + s) table) where
+module _ (m : Module) (s n : ℕ) (table : List (List Content)) (p : IsResolved m s (n + s) table) (r : IsMinimalResolution m s (n + s) table) where
   target_is_good : (i k : ℕ) → IsSteenrodModule (target_in_stems m n table i k)
   target_is_good zero k = p.steenrod
   target_is_good (suc i) k = p.free (degrees_in_stems m n table i (suc k))
@@ -51,7 +51,7 @@ module _ (kernels : KernelBasisIsUnique) (m : Module) (s n : ℕ) (table : List 
   matrix_widths i q k h l = HaveWidth-map_rows (target_in_stems m n table i k) (degrees_in_stems m n table i q) (images_in_stems m n table i q) (m.bottom +ℤ pos k) (target_is_good i k).widths (images_fit m s n table r i q k h l)
 
   -- the kernel of a square is that of the row in stems, also on the edge
-  pub kernel_in_stems : (i k : ℕ) → i ≤ s → k ≤ n + i → IsKernelBasis ((target_in_stems m n table i k).width (m.bottom +ℤ pos k)) (differential_in_stems m n table i (suc k) k) (square_in (row_of table i) k).kernel
+  kernel_in_stems : (i k : ℕ) → i ≤ s → k ≤ n + i → IsKernelBasis ((target_in_stems m n table i k).width (m.bottom +ℤ pos k)) (differential_in_stems m n table i (suc k) k) (square_in (row_of table i) k).kernel
   kernel_in_stems i k h l =
       let u = m.bottom +ℤ pos k in
       let here = part_at m s n table r i k h in
@@ -62,6 +62,7 @@ module _ (kernels : KernelBasisIsUnique) (m : Module) (s n : ℕ) (table : List 
       unpadded-IsKernelBasis width (here.w u) rows kernel (matrix_widths i (suc k) k h (omega arith))
       (same_kernel ((target_of m table i).width u) (width + here.w u) (differential m table i u) (map (padded (here.w u)) rows) kernel kernel (here.part.width u) whole refl (square_at m s (n + s) table p i k h (omega arith)).kernel)
 
+module _ (kernels : KernelBasisIsUnique) (m : Module) (s n : ℕ) (table : List (List Content)) (p : IsResolved m s (n + s) table) (r : IsMinimalResolution m s (n + s) table) where
   -- on the edge, the kernel below is that of the row in stems with zeros behind
   module _ (i k : ℕ) (h : suc i ≤ s) (edge : n + suc i ≡ k) (candidates : List (List Bool)) (cover : AreToCover m n table (suc i) k candidates) where
     below : i ≤ s
@@ -86,7 +87,7 @@ module _ (kernels : KernelBasisIsUnique) (m : Module) (s n : ℕ) (table : List 
         let width = (target_in_stems m n table i k).width u in
         let fewer : IsKernelBasis width rows candidates = subst (λ (z : List Content). IsKernelBasis width (map_rows (target_in_stems m n table i k) (degrees_from m.bottom z) (images_of z) u) candidates) no_more cover in
         same_kernel (width + here.w u) ((target_of m table i).width u) (map (padded (here.w u)) rows) (old_rows m table i k) candidates candidates (sym (here.part.width u)) (sym (matrix_first m s n table r i k k u below (omega arith) (omega arith))) refl
-        (padded-IsKernelBasis width (here.w u) rows candidates (matrix_widths i k k below (omega arith)) fewer)
+        (padded-IsKernelBasis width (here.w u) rows candidates (matrix_widths m s n table p r i k k below (omega arith)) fewer)
 
     length-old : length (old_rows m table i k) ≡ first_new m table i k
     length-old =
@@ -132,7 +133,7 @@ module _ (kernels : KernelBasisIsUnique) (m : Module) (s n : ℕ) (table : List 
   cover_at (suc i) k h l candidates cover =
       elim (cases_lt k (n + suc i)) [
         | inl b ↦
-            let same : candidates ≡ (square_in (row_of table i) k).kernel = kernels ((target_in_stems m n table i k).width (m.bottom +ℤ pos k)) (differential_in_stems m n table i (suc k) k) candidates (square_in (row_of table i) k).kernel cover (kernel_in_stems i k (omega arith) (omega arith)) in
+            let same : candidates ≡ (square_in (row_of table i) k).kernel = kernels ((target_in_stems m n table i k).width (m.bottom +ℤ pos k)) (differential_in_stems m n table i (suc k) k) candidates (square_in (row_of table i) k).kernel cover (kernel_in_stems m s n table p r i k (omega arith) (omega arith)) in
             let none = (part_at m s n table r (suc i) k h).none k (omega arith) b in
             sym (ap (λ (x : ℕ). map (padded x) candidates) none ∙ (nothing_padded candidates ∙ same))
         | inr b ↦
@@ -162,7 +163,7 @@ module _ (kernels : KernelBasisIsUnique) (m : Module) (s n : ℕ) (table : List 
         let content = square_in (in_stems m n table i) k in
         let images = (square_in (row_of table i) k).images in
         let rows = differential_in_stems m n table i k k in
-        let row_widths = matrix_widths i k k h (omega arith) in
+        let row_widths = matrix_widths m s n table p r i k k h (omega arith) in
         let image_fits = square_fits m s n table r i k k h (omega arith) l in
         let wide : whole ≡ width + w = here.part.width u in
         let old : old_rows m table i k ≡ map (padded w) rows = matrix_first m s n table r i k k u h (omega arith) (omega arith) in
@@ -174,7 +175,7 @@ module _ (kernels : KernelBasisIsUnique) (m : Module) (s n : ℕ) (table : List 
         let kernel : IsKernelBasis width (rows ++ content.images) content.kernel = unpadded-IsKernelBasis width w (rows ++ content.images) content.kernel (HaveWidth-append width rows content.images row_widths image_fits)
         (same_kernel whole (width + w) (differential m table i u) (map (padded w) (rows ++ content.images)) (square_in (row_of table i) k).kernel content.kernel wide all (sym (square_kernel m s n table r i k h l)) square.kernel) in
         let matrix : Rows = record { cols = width; rows = rows } in
-        IsStepOver_from_choice target (degrees_in_stems m n table i k) (images_in_stems m n table i k) candidates u matrix content (target_is_good i k).unit (images_fit m s n table r i k k h (omega arith)).one_each cover_widths refl refl chosen kernel
+        IsStepOver_from_choice target (degrees_in_stems m n table i k) (images_in_stems m n table i k) candidates u matrix content (target_is_good m s n table p r i k).unit (images_fit m s n table r i k k h (omega arith)).one_each cover_widths refl refl chosen kernel
 
     only_step : (content : Content) → IsStepInStems m n table i k candidates content ↔ (content ≡ square_in (in_stems m n table i) k)
     only_step content = (
@@ -220,15 +221,12 @@ module _ (kernels : KernelBasisIsUnique) (m : Module) (s n : ℕ) (table : List 
       let first : IsInSpan ((target_of m table i).width u) (candidates_of m table i k) (padded w v) = subst (IsInSpan ((target_of m table i).width u) (candidates_of m table i k)) same whole in
       let second : IsInSpan ((target_of m table i).width u) (map (padded w) candidates) (padded w v) = subst (λ (z : List (List Bool)). IsInSpan ((target_of m table i).width u) z (padded w v)) (cover_at i k h l candidates cover) first in
       let third : IsInSpan (width + w) (map (padded w) candidates) (padded w v) = subst (λ (x : ℕ). IsInSpan x (map (padded w) candidates) (padded w v)) (here.part.width u) second in
-      unpadded-IsInSpan width w candidates v (cover_widths i k h l candidates cover) (matrix_widths i k k h (omega arith) j b) third
+      unpadded-IsInSpan width w candidates v (cover_widths i k h l candidates cover) (matrix_widths m s n table p r i k k h (omega arith) j b) third
 
 -- ---- the laws
 
-resolved : FreeModulesAreModules → MapsCommute → (m : Module) (s t : ℕ) (table : List (List Content)) → IsResolution m s t table → IsResolved m s t table
+resolved : FreeModulesAreModules → MapsCommute → (m : Module) (s t : ℕ) (table : List (List Content)) → IsCanonicalResolution m s t table → IsResolved m s t table
 resolved free commute m s t table p = record { free = free; commute = commute; steenrod = p.steenrod; bounded = p.bounded; canonical = p.canonical }
-
-minimal_of : CanonicalTableIsMinimalResolution → (m : Module) (s t : ℕ) (table : List (List Content)) → IsResolution m s t table → IsMinimalResolution m s t table
-minimal_of minimal m s t table p = minimal m s t table p.steenrod p.bounded p.canonical
 
 pub squares_are_steps : CanonicalTableIsMinimalResolution → FreeModulesAreModules → MapsCommute → KernelBasisIsUnique → SquaresInStemsAreSteps
 squares_are_steps minimal free commute kernels m s n table p i k h l candidates cover content =
@@ -238,8 +236,8 @@ pub rows_are_covered : CanonicalTableIsMinimalResolution → FreeModulesAreModul
 rows_are_covered minimal free commute kernels m s n table p i k h l candidates cover j b =
     covered kernels m s n table (resolved free commute m s (n + s) table p) (minimal_of minimal m s (n + s) table p) i k h l candidates cover j b
 
-pub kernels_are_to_cover : CanonicalTableIsMinimalResolution → FreeModulesAreModules → MapsCommute → KernelBasisIsUnique → KernelsInStemsAreToCover
-kernels_are_to_cover minimal free commute kernels m s n table p i k h l =
+pub kernels_are_to_cover : CanonicalTableIsMinimalResolution → FreeModulesAreModules → MapsCommute → KernelsInStemsAreToCover
+kernels_are_to_cover minimal free commute m s n table p i k h l =
     let r = minimal_of minimal m s (n + s) table p in
     let width = (target_in_stems m n table i k).width (m.bottom +ℤ pos k) in
-    subst (IsKernelBasis width (differential_in_stems m n table i (suc k) k)) (sym (square_kernel m s n table r i k h l)) (kernel_in_stems kernels m s n table (resolved free commute m s (n + s) table p) r i k h l)
+    subst (IsKernelBasis width (differential_in_stems m n table i (suc k) k)) (sym (square_kernel m s n table r i k h l)) (kernel_in_stems m s n table (resolved free commute m s (n + s) table p) r i k h l)
