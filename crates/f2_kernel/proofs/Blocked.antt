@@ -1,20 +1,17 @@
 -- Rows cleared by blocks, the last one first: a block clears the rows before it by its sums.
-use Rattle.std.proofs.Common.{◌≡◌, ◌≢◌, inl, inr, ℕ, suc, ◌+◌, ◌-◌, ◌*◌, ◌^◌, ◌<◌, ◌≤◌, Bool, true, false, cond, List, [], ◌∷◌, ◌++◌, length, map, take, drop, refl, ap, sym, subst, ◌∙◌, arith}
+use Rattle.std.proofs.Common.{◌≡◌, ◌≢◌, inl, inr, ℕ, ◌-◌, ◌<◌, ◌≤◌, Bool, true, false, List, [], ◌∷◌, ◌++◌, length, map, take, drop, refl, ap, sym, subst, ◌∙◌, arith}
 use Rattle.std.proofs.lemmas.Bool.{cases_lt, both_ways}
-use Rattle.std.proofs.lemmas.List.{get_or_past, get_or-take, get_or-map, get_or_append_left, get_or-append_right, length-append, length-map, length-take-le, length-drop, append-nil, nil_from_length, take_all, map-id, map-append, take-map, drop-map, take-append-drop, take_at, drop_at, take-append-le, drop-append-le}
-use Rattle.std.proofs.Math.Nat.{pow-suc}
-use Rattle.std.proofs.Math.Pow.{pow_mono}
-use Rattle.f2_vec.specs.Vectors.{plus, sum_of, zeros, bit, IsZero, IsFirstOne}
+use Rattle.std.proofs.lemmas.List.{get_or_past, get_or-take, get_or-map, length-map, length-take-le, length-drop, append-nil, nil_from_length, take_all, map-id, take-map, drop-map, take-append-drop, take_at, drop_at, take-append-le, drop-append-le}
+use Rattle.f2_vec.specs.Vectors.{plus, sum_of, bit, IsZero, IsFirstOne}
 use Rattle.f2_vec.specs.Spans.{row, HaveWidth, combination, IsInSpan, HaveSameSpan}
-use Rattle.f2_vec.proofs.Sums.{bit-sum_of, length-sum_of, length-zeros, plus-self, sum_of-comm, sum_of-assoc, sum_of-cancel, sum_of-zeros_right, zeros_from_bits}
-use Rattle.f2_vec.proofs.Spans.{HaveWidth-head, HaveWidth-tail, HaveWidth-cons, HaveWidth-append, length-combination, combination-append, row-IsInSpan, zeros-IsInSpan, HaveSameSpan_from_rows, sum-IsInSpan, bit-combination_alone}
+use Rattle.f2_vec.proofs.Sums.{bit-sum_of, length-sum_of, plus-self, sum_of-comm, sum_of-assoc, sum_of-cancel, sum_of-zeros_right, zeros_from_bits}
+use Rattle.f2_vec.proofs.Spans.{HaveWidth-append, length-combination, row-IsInSpan, zeros-IsInSpan, HaveSameSpan_from_rows, sum-IsInSpan, bit-combination_alone}
 use Rattle.f2_vec.proofs.Combinations.{HaveWidth-take, map-map, map_same}
 use Rattle.f2_matrix.specs.Echelon.{IsEchelonForm, IsRowBasis, IsReduced, HasNoZeroRow}
-use Rattle.f2_matrix.specs.Preimages.{pivot_of, at_pivots}
+use Rattle.f2_matrix.specs.Preimages.{pivot_of, at_pivots, rest_of}
 use Rattle.f2_matrix.proofs.Unique.{zero_or_first}
 use Rattle.f2_matrix.proofs.Pivots.{pivot_first, length-at_pivots, bit-at_pivots}
 use Rattle.f2_kernel.specs.Inside.Upward.{clear_one, cleared_by, upward, AreCleared, IsBlockCleared}
-use Rattle.f2_kernel.specs.Inside.Sums.{sums, number, sum_at, with_sums}
 use Rattle.f2_kernel.proofs.Cleared.{zero_or_pivot, bit_at_zero, length-cleared_by, cleared_by-clears, cleared_by-added, span_first, HaveWidth-upward}
 use Rattle.f2_vec.proofs.Spans.{HaveWidth-drop}
 
@@ -77,74 +74,6 @@ HaveWidth-AreClearedFrom n e xs cur w h =
     ap length (get_or-map (cleared_by us) (take e xs) i [] [] k) ∙ length-cleared_by n us (row (take e xs) i) wu (wt i k) in
     subst (λ (z : List (List Bool)). HaveWidth n z) (sym h) (HaveWidth-append n (map (cleared_by us) (take e xs)) us wf wu)
 
--- ---- the sums of a few rows
-
-pub length-sums : (n : ℕ) (rows : List (List Bool)) → length (sums n rows) ≡ 2 ^ length rows
-length-sums n [] = refl
-length-sums n (r ∷ rows) = length-append (sums n rows) (map (sum_of r) (sums n rows)) ∙ omega (arith, length-sums n rows, length-map (sums n rows) (sum_of r), pow-suc 2 (length rows))
-
-pub number_small : (cs : List Bool) → number cs < 2 ^ length cs
-number_small [] = omega arith
-number_small (true ∷ cs) = omega (arith, number_small cs, pow-suc 2 (length cs))
-number_small (false ∷ cs) = omega (arith, number_small cs, pow-suc 2 (length cs))
-
--- a digit is 0 or 1
-pub digit : (b : Bool) → cond b 1 0 ≤ 1
-digit true = omega arith
-digit false = omega arith
-
--- the digits at up to eight places make a number below 256
-pub few_digits : (v : List Bool) (ps : List ℕ) → length ps ≤ 8 → number (map (bit v) ps) < 256
-few_digits v ps l =
-    let s : number (map (bit v) ps) < 2 ^ length (map (bit v) ps) = number_small (map (bit v) ps) in
-    let q : length (map (bit v) ps) ≤ 8 = omega (arith, l, length-map ps (bit v)) in
-    let p : 2 ^ length (map (bit v) ps) ≤ 2 ^ 8 = pow_mono q in
-    let e : 2 ^ 8 ≡ 256 = refl in
-    omega (arith, s, p, e)
-
-pub sums_at : (n : ℕ) (cs : List Bool) (rows : List (List Bool)) → length cs ≡ length rows → row (sums n rows) (number cs) ≡ combination n cs rows
-sums_at n [] [] e = refl
-sums_at n [] (r ∷ rows) e = absurd (omega arith)
-sums_at n (c ∷ cs) [] e = absurd (omega arith)
-sums_at n (false ∷ cs) (r ∷ rows) e =
-    let m : length cs ≡ length rows = omega arith in
-    get_or_append_left (sums n rows) (map (sum_of r) (sums n rows)) [] (number cs) (omega (arith, number_small cs, length-sums n rows, ap (λ k. 2 ^ k) m)) ∙ sums_at n cs rows m
-sums_at n (true ∷ cs) (r ∷ rows) e =
-    let m : length cs ≡ length rows = omega arith in
-    let ls : length (sums n rows) ≡ 2 ^ length cs = length-sums n rows ∙ ap (λ k. 2 ^ k) (sym m) in
-    let at : 2 ^ length cs + number cs - 2 ^ length cs ≡ number cs = omega arith in
-    get_or-append_right (sums n rows) (map (sum_of r) (sums n rows)) (2 ^ length cs) (2 ^ length cs + number cs) [] ls (omega arith)
-    ∙ ap (λ k. row (map (sum_of r) (sums n rows)) k) at
-    ∙ get_or-map (sum_of r) (sums n rows) (number cs) [] [] (omega (arith, number_small cs, ls))
-    ∙ ap (sum_of r) (sums_at n cs rows m)
-
-pub number-push : (cs : List Bool) (c : Bool) → number (cs ++ c ∷ []) ≡ 2 * number cs + cond c 1 0
-number-push [] true = refl
-number-push [] false = refl
-number-push (false ∷ cs) c = number-push cs c
-number-push (true ∷ cs) c =
-    let l : length (cs ++ c ∷ []) ≡ suc (length cs) = length-append cs (c ∷ []) ∙ omega arith in
-    omega (arith, number-push cs c, ap (λ k. 2 ^ k) l, pow-suc 2 (length cs))
-
-pub HaveWidth-sums : (n : ℕ) (rows : List (List Bool)) → HaveWidth n rows → HaveWidth n (sums n rows)
-HaveWidth-sums n [] w = HaveWidth-cons n (zeros n) [] (length-zeros n) w
-HaveWidth-sums n (r ∷ rows) w =
-    let rest = HaveWidth-sums n rows (HaveWidth-tail n r rows w) in
-    let lr = HaveWidth-head n r rows w in
-    HaveWidth-append n (sums n rows) (map (sum_of r) (sums n rows)) rest (with_first rest lr)
-  where
-    with_first : HaveWidth n (sums n rows) → length r ≡ n → HaveWidth n (map (sum_of r) (sums n rows))
-    with_first rest lr i l =
-        let k : i < length (sums n rows) = omega (arith, l, length-map (sums n rows) (sum_of r)) in
-        ap length (get_or-map (sum_of r) (sums n rows) i [] [] k) ∙ length-sum_of r (row (sums n rows) i) (lr ∙ sym (rest i k)) ∙ lr
-
--- a number that the coordinates at the pivots make is that of a sum
-pub sum_within : (n : ℕ) (rows : List (List Bool)) (v : List Bool) → number (at_pivots rows v) < length (sums n rows)
-sum_within n rows v =
-    let s : number (at_pivots rows v) < 2 ^ length (at_pivots rows v) = number_small (at_pivots rows v) in
-    let e : 2 ^ length (at_pivots rows v) ≡ 2 ^ length rows = ap (λ k. 2 ^ k) (length-at_pivots rows v) in
-    omega (arith, s, e, length-sums n rows)
-
 -- ---- what clears a vector is determined
 
 pub AreCleared-IsReduced : (n : ℕ) (rows : List (List Bool)) → HaveWidth n rows → IsReduced rows → AreCleared n rows
@@ -190,66 +119,18 @@ with_sum-clears n rows v w h lv j l =
           bit-sum_of v s p (lv ∙ sym ls) ∙ ap (plus (bit v p)) at ∙ plus-self (bit v p)
     ]
 
--- the sum for a vector is of the rows' length
-pub length-sum_at : (n : ℕ) (rows : List (List Bool)) (v : List Bool) → HaveWidth n rows → length (sum_at n rows v) ≡ n
-length-sum_at n rows v w = HaveWidth-sums n rows w (number (at_pivots rows v)) (sum_within n rows v)
-
-pub sum_at-combination : (n : ℕ) (rows : List (List Bool)) (v : List Bool) → sum_at n rows v ≡ combination n (at_pivots rows v) rows
-sum_at-combination n rows v = sums_at n (at_pivots rows v) rows (length-at_pivots rows v)
-
--- a combination of two lists of rows
-two : (n : ℕ) (a b : List (List Bool)) (v : List Bool) → HaveWidth n a → HaveWidth n b → combination n (at_pivots (a ++ b) v) (a ++ b) ≡ sum_of (combination n (at_pivots a v) a) (combination n (at_pivots b v) b)
-two n a b v wa wb =
-    ap (λ z. combination n z (a ++ b)) (map-append (λ r. bit v (pivot_of r)) a b)
-    ∙ combination-append n (at_pivots a v) (at_pivots b v) a b wa wb (length-at_pivots a v)
-
-pub with_sums-combination : (n : ℕ) (a b c d : List (List Bool)) (v : List Bool) → HaveWidth n a → HaveWidth n b → HaveWidth n c → HaveWidth n d → with_sums n a b c d v ≡ sum_of v (combination n (at_pivots (a ++ (b ++ (c ++ d))) v) (a ++ (b ++ (c ++ d))))
-with_sums-combination n a b c d v wa wb wc wd =
-    let wcd = HaveWidth-append n c d wc wd in
-    let wbcd = HaveWidth-append n b (c ++ d) wb wcd in
-    let p = combination n (at_pivots a v) a in
-    let q = combination n (at_pivots b v) b in
-    let r = combination n (at_pivots c v) c in
-    let s = combination n (at_pivots d v) d in
-    let parts : with_sums n a b c d v ≡ sum_of (sum_of (sum_of (sum_of v p) q) r) s = cc (sum_at-combination n a v, sum_at-combination n b v, sum_at-combination n c v, sum_at-combination n d v) in
-    let whole : combination n (at_pivots (a ++ (b ++ (c ++ d))) v) (a ++ (b ++ (c ++ d))) ≡ sum_of p (sum_of q (sum_of r s)) =
-    two n a (b ++ (c ++ d)) v wa wbcd ∙ ap (sum_of p) (two n b (c ++ d) v wb wcd ∙ ap (sum_of q) (two n c d v wc wd)) in
-    let moved : sum_of (sum_of (sum_of (sum_of v p) q) r) s ≡ sum_of v (sum_of p (sum_of q (sum_of r s))) =
-    sum_of-assoc (sum_of (sum_of v p) q) r s ∙ sum_of-assoc (sum_of v p) q (sum_of r s) ∙ sum_of-assoc v p (sum_of q (sum_of r s)) in
-    parts ∙ moved ∙ ap (sum_of v) (sym whole)
-
-pub with_sums-is : (n : ℕ) (block form a b c d : List (List Bool)) (v : List Bool) → AreCleared n block → IsRowBasis n block form → form ≡ a ++ (b ++ (c ++ d)) → HaveWidth n a → HaveWidth n b → HaveWidth n c → HaveWidth n d → length v ≡ n → with_sums n a b c d v ≡ cleared_by block v
-with_sums-is n block form a b c d v h g e wa wb wc wd lv =
+-- the rows of an echelon form clear what the rows clear
+pub rest_of-is : (n : ℕ) (block form : List (List Bool)) (v : List Bool) → AreCleared n block → IsRowBasis n block form → length v ≡ n → rest_of n form v ≡ cleared_by block v
+rest_of-is n block form v h g lv =
     let k = at_pivots form v in
     let s = combination n k form in
     let ls : length s ≡ n = length-combination n k form g.widths in
-    let sum : with_sums n a b c d v ≡ sum_of v s = with_sums-combination n a b c d v wa wb wc wd ∙ ap (λ z. sum_of v (combination n (at_pivots z v) z)) (sym e) in
     let added : IsInSpan n form (sum_of v (sum_of v s)) = record { coefficients = k; one_each = length-at_pivots form v; sum = sym (sum_of-cancel n v s lv ls) } in
-    sum ∙ sym (cleared_unique n block form v (cleared_by block v) (sum_of v s) h (AreCleared-IsReduced n form g.widths g.reduced) g.same_span lv (length-cleared_by n block v h.widths lv) (length-sum_of v s (lv ∙ sym ls) ∙ lv)
+    sym (cleared_unique n block form v (cleared_by block v) (sum_of v s) h (AreCleared-IsReduced n form g.widths g.reduced) g.same_span lv (length-cleared_by n block v h.widths lv) (length-sum_of v s (lv ∙ sym ls) ∙ lv)
     (cleared_by-added n block v h.widths lv) (cleared_by-clears n block v h lv) added (with_sum-clears n form v g.widths g.reduced lv))
 
-pub all_cleared : (n : ℕ) (block form a b c d rows new : List (List Bool)) → AreCleared n block → IsRowBasis n block form → form ≡ a ++ (b ++ (c ++ d)) → HaveWidth n a → HaveWidth n b → HaveWidth n c → HaveWidth n d → HaveWidth n rows → new ≡ map (with_sums n a b c d) rows → new ≡ map (cleared_by block) rows
-all_cleared n block form a b c d rows new h g f wa wb wc wd w e = e ∙ map_same [] (with_sums n a b c d) (cleared_by block) rows (λ i l. with_sums-is n block form a b c d (row rows i) h g f wa wb wc wd (w i l))
-
--- each of the rows is such
-abbrev pub Each : (List Bool → Type 0) → List (List Bool) → Type 0
-Each Q rows = (i : ℕ) → i < length rows → Q (row rows i)
-
--- where each row of all is, so is each of the four parts that they are split into
-pub each_of_parts : (Q : List Bool → Type 0) (form a b c d x y : List (List Bool)) → Each Q form → form ≡ a ++ x → x ≡ b ++ y → y ≡ c ++ d → Each Q a × (Each Q b × (Each Q c × Each Q d))
-each_of_parts Q form a b c d x y h p q r =
-    let ax : Each Q (a ++ x) = subst (Each Q) p h in
-    let by : Each Q (b ++ y) = subst (Each Q) q (behind a x ax) in
-    let cd : Each Q (c ++ d) = subst (Each Q) r (behind b y by) in
-    (front a x ax, (front b y by, (front c d cd, behind c d cd)))
-  where
-    front : (s t : List (List Bool)) → Each Q (s ++ t) → Each Q s
-    front s t h i l = subst Q (get_or_append_left s t [] i l) (h i (omega (arith, l, length-append s t)))
-
-    behind : (s t : List (List Bool)) → Each Q (s ++ t) → Each Q t
-    behind s t h i l =
-        let k : length s + i - length s ≡ i = omega arith in
-        subst Q (get_or-append_right s t (length s) (length s + i) [] refl (omega arith) ∙ ap (row t) k) (h (length s + i) (omega (arith, l, length-append s t)))
+pub all_cleared : (n : ℕ) (block form rows new : List (List Bool)) → AreCleared n block → IsRowBasis n block form → HaveWidth n rows → new ≡ map (rest_of n form) rows → new ≡ map (cleared_by block) rows
+all_cleared n block form rows new h g w e = e ∙ map_same [] (rest_of n form) (cleared_by block) rows (λ i l. rest_of-is n block form (row rows i) h g (w i l))
 
 -- ---- an echelon form without its zero rows
 

@@ -3,10 +3,10 @@ mod Solved
 mod Relations
 mod ByForm
 mod Steps
+mod Alone
 mod Words
 mod Blocked
-mod Tables
-mod Within
+mod AtMarks
 mod CommonOnes
 pub mod Basis
 mod Split

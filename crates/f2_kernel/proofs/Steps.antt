@@ -1,15 +1,13 @@
 -- One step of each loop.
-use Rattle.std.proofs.Common.{◌≡◌, ◌≢◌, ◌↔◌, inl, inr, ℕ, ◌+◌, ◌-◌, ◌<◌, ◌≤◌, nat_eq, Bool, true, false, cond, not, ◌||◌, List, [], ◌∷◌, ◌++◌, length, map, take, drop, reverse, get_or, set, refl, ap, sym, subst, ◌∙◌, arith}
-use Rattle.std.specs.List.{list_any, items_where_true, range_with_len, filter}
-use Rattle.std.proofs.lemmas.Bool.{cases_lt, cases_eq, cases_Bool, eq-eqb, ne_eqb}
+use Rattle.std.proofs.Common.{◌≡◌, ◌↔◌, inl, inr, ℕ, ◌+◌, ◌-◌, ◌<◌, ◌≤◌, nat_eq, Bool, true, false, cond, not, List, [], ◌∷◌, ◌++◌, length, map, take, drop, reverse, get_or, set, refl, ap, sym, ◌∙◌, arith}
+use Rattle.std.specs.List.{items_where_true, range_with_len, filter}
+use Rattle.std.proofs.lemmas.Bool.{cases_lt, cases_Bool}
 use Rattle.std.proofs.lemmas.Bool.Decides.{nat_tests}
 use Rattle.std.proofs.lemmas.List.FromFn.{length-range_with_len, get_or-range_with_len}
-use Rattle.std.proofs.lemmas.List.{ext_get_or, drop-set, append_assoc, append-nil, at_drop_more, take_more, take_at, drop_at, set_at, get_or-map, get_or-reverse, get_or_push, get_or_append_left, get_or-append_right, get_or-set_same, get_or-set_other, length-take-le, length-map, length-append, length-reverse}
-use Rattle.std.proofs.lemmas.List.Folds.{list_any_more}
-use Rattle.std.proofs.Math.Bool.{or-false}
+use Rattle.std.proofs.lemmas.List.{ext_get_or, drop-set, append_assoc, append-nil, at_drop_more, take_more, take_at, drop_at, set_at, get_or-map, get_or-reverse, get_or_push, get_or_append_left, get_or-append_right, get_or-set_same, length-take-le, length-map, length-append, length-reverse}
 use Rattle.f2_vec.specs.Vectors.{sum_of, zeros, bit, IsZero, IsFirstOne}
 use Rattle.f2_vec.proofs.Sums.{bit-zeros, length-zeros}
-use Rattle.f2_vec.specs.Spans.{row, unit_vector, unit_vectors, HaveWidth}
+use Rattle.f2_vec.specs.Spans.{row, unit_vector, unit_vectors}
 use Rattle.f2_vec.proofs.Split.{bit-unit_vector, length-unit_vector}
 use Rattle.f2_vec.proofs.Combinations.{map_same}
 use Rattle.f2_vec.proofs.Ones.{items_where_true-push}
@@ -19,7 +17,7 @@ use Rattle.f2_matrix.specs.Reduction.{has_one}
 use Rattle.f2_matrix.proofs.Parts.{has_one-zero, zero_has_none}
 use Rattle.f2_dual.proofs.Loops.{range_push}
 use Rattle.std.proofs.lemmas.List.Elements.{filter-append}
-use Rattle.f2_matrix.proofs.Pivots.{pivot_first, pivot_zero}
+use Rattle.f2_matrix.proofs.Pivots.{pivot_first}
 use Rattle.f2_dual.specs.Inside.Dots.{dot}
 use Rattle.f2_dual.proofs.OnCandidates.{row-column}
 use Rattle.f2_kernel.specs.Inside.Upward.{clear_one, cleared_by, upward, are_zero, solved_one, solved, has_no_pivot, relation, relations}
@@ -76,43 +74,6 @@ pivots_more i xs cur above below d d2 x pivots p l room c a b e h q =
 
 pub solved_more : (i : ℕ) (rows : List (List Bool)) (r y z : List Bool) → i < length rows → r ≡ row rows i → z ≡ solved (r ∷ []) y → solved (drop (i + 1) rows) z ≡ solved (drop i rows) y
 solved_more i rows r y z l e f = ap (solved (drop (i + 1) rows)) (f ∙ ap (λ x. solved_one x y) e) ∙ sym (at_drop_more (λ rs. solved rs y) rows i [] l)
-
--- ---- pivots
-
-vacant_more : (form : List (List Bool)) (i p : ℕ) → i < length form → not (has_no_pivot (take (i + 1) form) p) ≡ (not (has_no_pivot (take i form) p) || nat_eq (pivot_of (row form i)) p)
-vacant_more form i p l =
-    let f = λ (r : List Bool). nat_eq (pivot_of r) p in
-    twice (list_any f (take (i + 1) form)) ∙ list_any_more f form i [] l ∙ ap (λ b. b || nat_eq (pivot_of (row form i)) p) (sym (twice (list_any f (take i form))))
-  where
-    twice : (b : Bool) → not (not b) ≡ b
-    twice true = refl
-    twice false = refl
-
-or_true : (b : Bool) → (b || true) ≡ true
-or_true true = refl
-or_true false = refl
-
--- the places so far, and where row i has its pivot q
-pub taken_more : (form : List (List Bool)) (i q n : ℕ) (r old : List Bool) → i < length form → q < length old → r ≡ row form i → IsFirstOne r q → ((p : ℕ) → p < n → bit old p ≡ not (has_no_pivot (take i form) p)) → (p : ℕ) → p < n → bit (set old q true) p ≡ not (has_no_pivot (take (i + 1) form) p)
-taken_more form i q n r old l m e f h p b =
-    let at : pivot_of (row form i) ≡ q = ap pivot_of (sym e) ∙ pivot_first r q f in
-    elim (cases_eq p q) [
-      | inl s ↦
-          ap (bit (set old q true)) s
-          ∙ get_or-set_same old q true false m
-          ∙ sym (vacant_more form i p l ∙ ap (λ c. not (has_no_pivot (take i form) p) || c) (eq-eqb (pivot_of (row form i)) p (at ∙ sym s)) ∙ or_true (not (has_no_pivot (take i form) p)))
-      | inr d ↦
-          let apart : pivot_of (row form i) ≢ p = λ s. d (sym s ∙ at) in
-          get_or-set_other old q p true false d
-          ∙ h p b
-          ∙ sym (vacant_more form i p l ∙ ap (λ c. not (has_no_pivot (take i form) p) || c) (ne_eqb (pivot_of (row form i)) p apart) ∙ or-false (not (has_no_pivot (take i form) p)))
-    ]
-
-pub taken_same : (form : List (List Bool)) (i n : ℕ) (r old : List Bool) → i < length form → HaveWidth n form → r ≡ row form i → IsZero r → ((p : ℕ) → p < n → bit old p ≡ not (has_no_pivot (take i form) p)) → (p : ℕ) → p < n → bit old p ≡ not (has_no_pivot (take (i + 1) form) p)
-taken_same form i n r old l w e z h p b =
-    let past = pivot_zero (row form i) (subst IsZero e z) in
-    let apart : pivot_of (row form i) ≢ p = λ s. omega (arith, past, s, w i l) in
-    h p b ∙ sym (vacant_more form i p l ∙ ap (λ c. not (has_no_pivot (take i form) p) || c) (ne_eqb (pivot_of (row form i)) p apart) ∙ or-false (not (has_no_pivot (take i form) p)))
 
 -- ---- turned vectors
 

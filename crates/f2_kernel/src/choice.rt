@@ -69,6 +69,20 @@ pub fn choose_by_coordinates(
     Ok((new, kernel))
 }
 
+/// The kernel of the rows of the matrix.
+///
+/// # Errors
+/// `Memory` if allocation fails.
+pub fn kernel_of(alloc: Global, matrix: &Matrix) -> Result<Kernel, Memory>
+    ensures cols { IfOk result (λ k. k.cols ≡ length matrix.now.rows) }
+    ensures kernel { IfOk result (λ k. IsKernelBasis matrix.now.cols matrix.now.rows k.rows) }
+{
+    let n = matrix.rows().len();
+    let all = Kernel::whole(alloc, matrix.cols())?;
+    let columns = coordinates(alloc, matrix, &all)?;
+    Kernel::of_columns(alloc, n, columns)
+}
+
 /// The coordinates of the rows on the vectors of `below`: for each of these its coefficients, with the last row first.
 ///
 /// # Errors

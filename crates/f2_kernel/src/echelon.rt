@@ -1,5 +1,5 @@
 //! The test of the reduced echelon form, and marks at the pivots of rows.
-ghost use Rattle.std.specs.Prelude.{◌≡◌, ◌↔◌, ℕ, true, IsTrue, IfOk};
+ghost use Rattle.std.specs.Prelude.{◌≡◌, ◌↔◌, ℕ, true, length, IsTrue, IfOk};
 ghost use Rattle.f2_vec.specs.Vectors.{bit, IsFirstOne};
 ghost use Rattle.f2_vec.specs.Spans.{row, HaveWidth};
 ghost use Rattle.f2_matrix.specs.Echelon.{IsReduced, HasNoZeroRow};
@@ -54,6 +54,7 @@ pub(crate) fn have_common_one(a: &BitVec, b: &BitVec) -> bool
 /// `Memory` if allocation fails.
 pub(crate) fn marks_of(alloc: Global, n: usize, rows: &[BitVec]) -> Result<BitVec, Memory>
     requires { HaveWidth n rows.now }
+    ensures length { IfOk result (λ marks. length marks ≡ n) }
     ensures marked { IfOk result (λ marks. (p : ℕ) → bit marks p ≡ true → (j : ℕ) × IsFirstOne (row rows.now j) p) }
     ensures marks_all { IfOk result (λ marks. (j p : ℕ) → IsFirstOne (row rows.now j) p → bit marks p ≡ true) }
 {

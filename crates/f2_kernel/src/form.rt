@@ -5,6 +5,7 @@ ghost use Rattle.f2_matrix.specs.Preimages.{pivot_of};
 ghost use Rattle.f2_dual.specs.Inside.Dots.{dot as dot_of};
 ghost use Rattle.f2_kernel.specs.Inside.Upward.{cleared_by, upward, solved};
 
+use f2_matrix::pivot;
 use f2_vec::BitVec;
 use memory::Memory;
 use std::alloc::Global;
@@ -32,16 +33,6 @@ fn clear_with(n: usize, rows: &mut [BitVec], pivots: &mut [usize])
         let (above, below) = rows.split_at_mut(i + 1);
         clear_by_rows(n, &mut above[i], below, &pivots[i + 1..]);
         pivots[i] = pivot(&above[i]);
-    }
-}
-
-/// The place of the first 1, the length where there is none.
-pub fn pivot(row: &BitVec) -> usize
-    ensures { result ≡ pivot_of row.now }
-{
-    match row.first_one() {
-        Some(place) => place,
-        None => row.len(),
     }
 }
 

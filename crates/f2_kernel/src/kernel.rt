@@ -1,11 +1,14 @@
 //! Kernels, of which each vector is made when it is asked for.
-ghost use Rattle.std.specs.Prelude.{◌≡◌, ℕ, ◌+◌, ◌-◌, ◌<◌, ◌≤◌, ◌++◌, not, reverse, length, map, IfOk};
-ghost use Rattle.f2_vec.specs.Vectors.{zeros, bit};
+ghost use Rattle.std.specs.Prelude.{◌≡◌, ℕ, ◌+◌, ◌-◌, ◌<◌, ◌≤◌, Bool, List, ◌++◌, reverse, length, map, IfOk};
+ghost use Rattle.f2_vec.specs.Vectors.{zeros};
 ghost use Rattle.f2_vec.specs.Spans.{row, HaveWidth, unit_vectors};
-ghost use Rattle.f2_matrix.specs.Echelon.{IsReduced, HasNoZeroRow};
+ghost use Rattle.f2_matrix.specs.Echelon.{IsReduced, HasNoZeroRow, IsKernelBasis};
 ghost use Rattle.f2_matrix.specs.Preimages.{pivot_of};
-ghost use Rattle.f2_kernel.specs.Inside.Upward.{AreCleared, has_no_pivot, vacant_elements, relations};
+ghost use Rattle.f2_kernel.specs.Coordinates.{AreColumnsOf};
+ghost use Rattle.f2_kernel.specs.Inside.Upward.{AreCleared, vacant_elements, relations};
 
+use crate::blocks::clear_upward;
+use crate::echelon::marks_of;
 use crate::form::solve;
 use f2_vec::BitVec;
 use memory::Memory;
@@ -51,6 +54,20 @@ impl Kernel {
         ensures rows { IfOk result (λ k. k.rows ≡ unit_vectors n) }
     {
         Kernel::of_form(alloc, n, 0, n, Vec::new(alloc))
+    }
+
+    /// The kernel of `n` rows of which all columns are given, each with the entry of the last row first.
+    ///
+    /// # Errors
+    /// `Memory` if allocation fails.
+    pub fn of_columns(alloc: Global, n: usize, mut columns: Vec<BitVec>) -> Result<Kernel, Memory>
+        requires { HaveWidth n columns.items }
+        ensures cols { IfOk result (λ k. k.cols ≡ n) }
+        ensures kernel { IfOk result (λ k. (w : ℕ) (rows : List (List Bool)) →
+            AreColumnsOf n w rows columns.items → IsKernelBasis w rows k.rows) }
+    {
+        clear_upward(alloc, n, columns.as_mut_slice())?;
+        Kernel::of_form(alloc, n, 0, n, columns)
     }
 
     /// The kernel that is solved from these rows, of length `n`, each of which has a 0 at the pivots of those behind it. Each
@@ -137,7 +154,7 @@ fn vacant_of(alloc: Global, n: usize, form: &[BitVec]) -> Result<Vec<usize>, Mem
     requires { HaveWidth n form.now }
     ensures { IfOk result (λ vacant. vacant.items ≡ vacant_elements n form.now) }
 {
-    let taken = places_of(alloc, n, form)?;
+    let taken = marks_of(alloc, n, form)?;
     let mut vacant = Vec::new(alloc);
     for e in 0..n {
         if !taken.get(n - 1 - e) {
@@ -145,22 +162,4 @@ fn vacant_of(alloc: Global, n: usize, form: &[BitVec]) -> Result<Vec<usize>, Mem
         }
     }
     Ok(vacant)
-}
-
-/// A vector of length `n` with a 1 at the pivot of each row that is not zero.
-///
-/// # Errors
-/// `Memory` if allocation fails.
-fn places_of(alloc: Global, n: usize, form: &[BitVec]) -> Result<BitVec, Memory>
-    requires { HaveWidth n form.now }
-    ensures length { IfOk result (λ taken. length taken ≡ n) }
-    ensures taken { IfOk result (λ taken. (p : ℕ) → p < n → bit taken p ≡ not (has_no_pivot form.now p)) }
-{
-    let mut taken = BitVec::zero(alloc, n)?;
-    for row in form {
-        if let Some(pivot) = row.first_one() {
-            taken.set(pivot, true);
-        }
-    }
-    Ok(taken)
 }

@@ -11,7 +11,7 @@ mod kernel;
 mod laws;
 mod parts;
 
-pub use choice::{choose, choose_by_coordinates};
+pub use choice::{choose, choose_by_coordinates, kernel_of};
 pub use echelon::is_row_basis;
 pub use kernel::Kernel;
 pub use laws::{parts_are_tested, row_basis_is_tested};

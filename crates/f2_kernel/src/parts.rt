@@ -8,8 +8,7 @@ ghost use Rattle.f2_matrix.specs.Preimages.{at_pivots};
 ghost use Rattle.f2_kernel.specs.Inside.Split.{AreSplit, AreNumbersOf};
 
 use crate::echelon::{have_common_one, is_row_basis, marks_of};
-use crate::form::pivot;
-use f2_matrix::{Matrix, parts_are_reduction};
+use f2_matrix::{Matrix, parts_are_reduction, pivot};
 use f2_vec::BitVec;
 use memory::Memory;
 use std::alloc::Global;

@@ -1,13 +1,12 @@
 -- The loops that put a row more into the parts of a reduction: where it stands, and a vector added beside the ones of a column.
-use Rattle.std.proofs.Common.{◌≡◌, ◌≢◌, ℕ, ◌+◌, ◌<◌, ◌≤◌, Bool, true, false, cond, List, [], length, map, set, get_or, ap, sym, ◌∙◌, arith, inl, inr}
+use Rattle.std.proofs.Common.{◌≡◌, ◌≢◌, ℕ, ◌+◌, ◌<◌, ◌≤◌, Bool, true, false, cond, List, [], length, set, ap, sym, ◌∙◌, arith, inl, inr}
 use Rattle.std.proofs.lemmas.Bool.{cases_eq}
-use Rattle.std.proofs.lemmas.List.{length-set, get_or-set_same, get_or-set_other, get_or-map, length-map}
+use Rattle.std.proofs.lemmas.List.{length-set, get_or-set_same, get_or-set_other}
 use Rattle.f2_vec.specs.Vectors.{sum_of, bit}
 use Rattle.f2_vec.proofs.Sums.{length-sum_of}
 use Rattle.f2_vec.specs.Spans.{row, HaveWidth}
 use Rattle.f2_vec.proofs.Spans.{HaveWidth-set}
-use Rattle.f2_matrix.specs.Preimages.{pivot_of}
-use Rattle.f2_matrix.specs.Inside.Extend.{IsPlaceFor, IsAddedBeside}
+use Rattle.f2_matrix.specs.Inside.Extend.{IsAddedBeside}
 
 -- ys is xs with c added beside the ones, below place i
 pub record IsAddedUpTo (c : List Bool) (q i : ℕ) (beside xs ys : List (List Bool)) : Type 0 where

@@ -1,21 +1,15 @@
 -- What the calls of the elimination by blocks leave, from the parts that they write.
-use Rattle.std.specs.Simd.Lanes.{mask_l}
 use Rattle.std.specs.List.{swap}
-use Rattle.std.proofs.Common.{◌≡◌, ◌⊎◌, ℕ, zero, suc, ◌+◌, ◌-◌, ◌^◌, ◌<◌, ◌≤◌, Bool, true, false, cond, List, [], ◌∷◌, ◌++◌, length, map, take, drop, set, get_or, refl, subst, ap, sym, ◌∙◌, arith, inl, inr}
-use Rattle.std.proofs.lemmas.List.{ext_get_or, get_or_past, take_all, length-map, length-take-le, length-append, length-set, get_or_append_left, get_or-append_right, get_or_at, get_or-set_same, get_or-set_other}
+use Rattle.std.proofs.Common.{◌≡◌, ◌⊎◌, ℕ, suc, ◌+◌, ◌-◌, ◌<◌, ◌≤◌, Bool, List, [], ◌∷◌, ◌++◌, length, map, drop, set, refl, subst, ap, sym, ◌∙◌, arith, inl, inr}
+use Rattle.std.proofs.lemmas.List.{ext_get_or, get_or_past, length-map, length-append, length-set, get_or_append_left, get_or-append_right, get_or_at, get_or-set_same, get_or-set_other}
 use Rattle.std.proofs.lemmas.List.Edits.{length-swap}
 use Rattle.std.proofs.lemmas.Bool.{cases_eq, cases_lt}
-use Rattle.std.proofs.lemmas.Simd.{mask_l-lt}
-use Rattle.std.proofs.Math.Nat.{pow-le-pow_right}
-use Rattle.f2_vec.specs.Vectors.{sum_of, zeros, bit}
-use Rattle.f2_vec.specs.Spans.{row, HaveWidth, combination}
-use Rattle.f2_vec.proofs.Sums.{length-zeros}
-use Rattle.f2_vec.proofs.Spans.{combination-zeros, HaveWidth-front, HaveWidth-back}
-use Rattle.f2_vec.proofs.Combinations.{combination_more}
+use Rattle.f2_vec.specs.Spans.{row, HaveWidth}
+use Rattle.f2_vec.proofs.Spans.{HaveWidth-front, HaveWidth-back}
 use Rattle.f2_matrix.specs.Inside.RowOperations.{cleared}
-use Rattle.f2_matrix.specs.Inside.Blocks.{cleared_at, block_rows, IsClearedByBlock, IsPivotTaken, HoldsSums, IsRoomForSums}
+use Rattle.f2_sums.specs.Sums.{cleared_at}
+use Rattle.f2_matrix.specs.Inside.Blocks.{block_rows, IsClearedByBlock, IsPivotTaken}
 use Rattle.f2_matrix.proofs.RowOperations.{row-swap_left, row-swap_other, row-map_cleared, IsRearranged, IsRearranged-swap, HaveWidth-rearranged}
-use Rattle.f2_matrix.proofs.BlockSums.{mask_l-more}
 use Rattle.f2_matrix.proofs.BlockSteps.{row-block, length-block, HaveWidth-block, length-cleared_at}
 
 -- ---- rows of a list of three parts
@@ -75,52 +69,6 @@ first_and_rest (x ∷ xs) h = refl
 pub set_first : (xs : List (List Bool)) (q : List Bool) → 0 < length xs → set xs 0 q ≡ q ∷ drop 1 xs
 set_first [] q h = absurd (omega arith)
 set_first (x ∷ xs) q h = refl
-
--- ---- the table of sums
-
-mask_l-zeros : (m : ℕ) → mask_l (zeros m) ≡ 0
-mask_l-zeros zero = refl
-mask_l-zeros (suc m) = let ih : mask_l (zeros m) ≡ 0 = mask_l-zeros m in omega arith
-
-pub zero_sum : (n : ℕ) (b table : List (List Bool)) → HoldsSums n b table → row table 0 ≡ zeros n
-zero_sum n b table h = ap (row table) (sym (mask_l-zeros (length b))) ∙ h.sums (zeros (length b)) (length-zeros (length b)) ∙ combination-zeros n (length b) b
-
-pub HoldsSums-none : (n m : ℕ) (table : List (List Bool)) → IsRoomForSums n m table → HoldsSums n [] table
-HoldsSums-none n m table h = record { widths = h.widths; sums = only_zero }
-  where
-    only_zero : (c : List Bool) → length c ≡ 0 → row table (mask_l c) ≡ combination n c []
-    only_zero [] e = h.first
-    only_zero (x ∷ c) e = absurd (omega arith)
-
-pub HoldsSums-more : (n j : ℕ) (b table new : List (List Bool)) (p : List Bool) → HaveWidth n b → j < length b → p ≡ row b j → HoldsSums n (take j b) table → HaveWidth n new → ((t : ℕ) → t < 2 ^ j → row new t ≡ row table t) → ((t : ℕ) → t < 2 ^ j → row new (2 ^ j + t) ≡ sum_of (row table t) p) → HoldsSums n (take (j + 1) b) new
-HoldsSums-more n j b table new p w l is h widths kept sums = record {
-  widths = widths;
-  sums = λ c e.
-      let size : length c ≡ j + 1 = e ∙ length-take-le (j + 1) b (omega arith) in
-      let c0 = take j c in
-      let l0 : length c0 ≡ j = length-take-le j c (omega arith) in
-      let t = mask_l c0 in
-      let low : t < 2 ^ j = subst (λ k. t < 2 ^ k) l0 (mask_l-lt c0) in
-      let whole : take (j + 1) c ≡ c = take_all (j + 1) c (omega arith) in
-      let place : mask_l c ≡ t + cond (get_or c j false) (2 ^ j) 0 = ap mask_l (sym whole) ∙ mask_l-more c j (omega arith) in
-      let u = combination n c0 (take j b) in
-      let before : row table t ≡ u = h.sums c0 (l0 ∙ sym (length-take-le j b (omega arith))) in
-      let after : combination n c (take (j + 1) b) ≡ cond (get_or c j false) (sum_of u (row b j)) u = ap (λ x. combination n x (take (j + 1) b)) (sym whole) ∙ combination_more n j c b w (omega arith) l in
-      ap (row new) place ∙ by_bit (get_or c j false) t u low before ∙ sym after;
-}
-  where
-    by_bit : (x : Bool) (t : ℕ) (u : List Bool) → t < 2 ^ j → row table t ≡ u → row new (t + cond x (2 ^ j) 0) ≡ cond x (sum_of u (row b j)) u
-    by_bit true t u low before = ap (row new) (omega arith) ∙ sums t low ∙ ap (λ v. sum_of v p) before ∙ ap (sum_of u) is
-    by_bit false t u low before = ap (row new) (omega arith) ∙ kept t low ∙ before
-
-pub few_sums : (m : ℕ) (v : List Bool) (ps : List ℕ) → length ps ≤ m → mask_l (map (bit v) ps) < 2 ^ m
-few_sums m v ps h =
-    let e : length (map (bit v) ps) ≡ length ps = length-map ps (bit v) in
-    let b : mask_l (map (bit v) ps) < 2 ^ length (map (bit v) ps) = mask_l-lt (map (bit v) ps) in
-    let q : length (map (bit v) ps) ≤ m = omega arith in
-    let z : 0 < 2 = omega arith in
-    let p : 2 ^ length (map (bit v) ps) ≤ 2 ^ m = pow-le-pow_right z q in
-    omega arith
 
 -- ---- the rows outside the block, cleared one by one
 

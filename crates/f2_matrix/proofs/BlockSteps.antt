@@ -11,7 +11,8 @@ use Rattle.f2_vec.proofs.Spans.{HaveWidth-head, HaveWidth-tail, HaveWidth-cons, 
 use Rattle.f2_vec.proofs.Combinations.{HaveWidth-take}
 use Rattle.f2_vec.proofs.Spans.{HaveWidth-drop}
 use Rattle.f2_matrix.specs.Inside.RowOperations.{cleared, IsClearedBy}
-use Rattle.f2_matrix.specs.Inside.Blocks.{cleared_at, block_rows, IsClearedByBlock, IsPivotTaken}
+use Rattle.f2_sums.specs.Sums.{cleared_at}
+use Rattle.f2_matrix.specs.Inside.Blocks.{block_rows, IsClearedByBlock, IsPivotTaken}
 use Rattle.f2_matrix.proofs.RowOperations.{row-swap_left, row-swap_right, row-swap_other, IsClearedBy_parts, length-cleared, row-map_cleared, IsRearranged, IsRearranged-swap, HaveWidth-rearranged, HaveWidth-cleared}
 use Rattle.f2_matrix.proofs.Elimination.{IsEliminated, IsEliminated-skip, IsEliminated-settle}
 

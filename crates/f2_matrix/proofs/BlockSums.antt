@@ -1,31 +1,10 @@
--- Sums of the rows of a block, and the numbers of their coefficients.
-use Rattle.std.specs.Simd.Lanes.{mask_l}
-use Rattle.std.proofs.Common.{◌≡◌, ℕ, suc, ◌+◌, ◌*◌, ◌/◌, ◌%◌, ◌^◌, ◌<◌, Bool, true, false, cond, List, [], ◌∷◌, ◌++◌, length, take, drop, get_or, refl, ap, sym, ◌∙◌, arith}
-use Rattle.std.proofs.lemmas.List.{take_more, drop_more, length-take-le}
-use Rattle.std.proofs.Math.Nat.{pow-suc}
+-- Sums of the rows of a block, row after row.
+use Rattle.std.proofs.Common.{◌≡◌, ℕ, ◌+◌, ◌*◌, ◌/◌, ◌%◌, ◌<◌, Bool, true, false, cond, List, length, take, get_or, refl, ap, sym, ◌∙◌, arith}
 use Rattle.f2_vec.specs.Vectors.{plus, sum_of, bit}
 use Rattle.f2_vec.specs.Spans.{row, HaveWidth, combination}
 use Rattle.f2_vec.proofs.Sums.{bit-sum_of, plus-assoc, plus-false, sum_of-assoc}
 use Rattle.f2_vec.proofs.Spans.{length-combination}
 use Rattle.f2_vec.proofs.Combinations.{HaveWidth-take, combination_more}
-
-pub mask_l-push : (ms : List Bool) (b : Bool) → mask_l (ms ++ b ∷ []) ≡ mask_l ms + cond b (2 ^ length ms) 0
-mask_l-push [] true = refl
-mask_l-push [] false = refl
-mask_l-push (m ∷ ms) true =
-    let ih : mask_l (ms ++ true ∷ []) ≡ mask_l ms + 2 ^ length ms = mask_l-push ms true in
-    let p : 2 ^ suc (length ms) ≡ 2 ^ length ms * 2 = pow-suc 2 (length ms) in
-    omega arith
-mask_l-push (m ∷ ms) false = let ih : mask_l (ms ++ false ∷ []) ≡ mask_l ms + 0 = mask_l-push ms false in omega arith
-
--- the number of the first coefficients, one more
-pub mask_l-more : (c : List Bool) (i : ℕ) → i < length c → mask_l (take (i + 1) c) ≡ mask_l (take i c) + cond (get_or c i false) (2 ^ i) 0
-mask_l-more c i h =
-    ap mask_l (take_more c i false h) ∙ mask_l-push (take i c) (get_or c i false) ∙ ap (λ k. mask_l (take i c) + cond (get_or c i false) (2 ^ k) 0) (length-take-le i c (omega arith))
-
--- the lowest bit of the number of those from place i on
-pub mask_l-drop : (c : List Bool) (i : ℕ) → i < length c → mask_l (drop i c) ≡ cond (get_or c i false) 1 0 + 2 * mask_l (drop (i + 1) c)
-mask_l-drop c i h = ap mask_l (drop_more c i false h)
 
 pub odd_is : (b : Bool) (m x : ℕ) → x ≡ cond b 1 0 + 2 * m → (x % 2 ≡ cond b 1 0) × (x / 2 ≡ m)
 odd_is true m x e = (omega arith, omega arith)

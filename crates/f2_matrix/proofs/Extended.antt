@@ -6,7 +6,7 @@ use Rattle.std.proofs.lemmas.List.{get_or-map, length-map, length-append, get_or
 use Rattle.std.proofs.lemmas.List.Edits.{length-insert, get_or-insert_at, get_or-insert_below, get_or-insert_above}
 use Rattle.std.proofs.Math.Seq.{get_or-append_seam}
 use Rattle.f2_vec.specs.Vectors.{plus, sum_of, zeros, bit, IsZero, IsFirstOne}
-use Rattle.f2_vec.proofs.Sums.{one_within, bit-sum_of, plus-self, length-sum_of, length-zeros, sum_of-comm, sum_of-self, sum_of-cancel, sum_of-zeros_right, zeros_from_bits}
+use Rattle.f2_vec.proofs.Sums.{one_within, bit-sum_of, length-sum_of, length-zeros, sum_of-comm, sum_of-self, sum_of-cancel, sum_of-zeros_right, zeros_from_bits}
 use Rattle.f2_vec.specs.Spans.{row, HaveWidth, combination, IsInSpan, IsInKernel, HaveSameSpan}
 use Rattle.f2_vec.proofs.Spans.{HaveWidth-head, HaveWidth-tail, HaveWidth-nil, HaveWidth-cons, HaveWidth-append, length-combination, combination-zeros, combination-sum_of, combination-append, bit-combination_zero, row-IsInSpan, sum-IsInSpan, span_within, HaveSameSpan_from_rows}
 use Rattle.f2_vec.proofs.Split.{sum_of-append}
@@ -17,7 +17,7 @@ use Rattle.f2_matrix.specs.Inside.RowOperations.{cleared}
 use Rattle.f2_matrix.specs.Inside.Extend.{longer, with_pivot, IsPlaceFor, IsAddedBeside}
 use Rattle.f2_matrix.proofs.RowOperations.{HaveSameSpan-trans, bit-cleared_other, bit-cleared_same, length-cleared, HaveWidth-cleared}
 use Rattle.f2_matrix.proofs.Unique.{first_one}
-use Rattle.f2_matrix.proofs.Pivots.{one_inside, pivot_first, length-at_pivots, bit-at_pivots, at_pivots-combination, zero_left, span_left, rest_apart, rest_length}
+use Rattle.f2_matrix.proofs.Pivots.{one_inside, pivot_first, length-at_pivots, zero_left, span_left, rest_apart, rest_length}
 use Rattle.f2_matrix.proofs.Preimages.{combination_of_preimages}
 use Rattle.f2_matrix.proofs.Inserted.{MayJoin, HaveWidth-insert, came_from, row_new, first_of_old, first_of_new, joined_nonzero, joined_reduced, joined_widths, both_widths, new_in_both, old_in_both, joined_span, length_all, length_both}
 

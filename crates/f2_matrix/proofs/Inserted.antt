@@ -14,7 +14,7 @@ use Rattle.f2_matrix.specs.Echelon.{IsReduced, HasNoZeroRow}
 use Rattle.f2_matrix.specs.Inside.RowOperations.{cleared}
 use Rattle.f2_matrix.specs.Inside.Extend.{IsPlaceFor, with_pivot}
 use Rattle.f2_matrix.proofs.Elimination.{IsFirstOne-unique}
-use Rattle.f2_matrix.proofs.RowOperations.{length-row_with_one, bit-cleared_other, bit-cleared_same, length-cleared, HaveWidth-cleared}
+use Rattle.f2_matrix.proofs.RowOperations.{length-row_with_one, bit-cleared_other, bit-cleared_same, length-cleared}
 use Rattle.f2_matrix.proofs.Unique.{first_one}
 use Rattle.f2_matrix.proofs.Pivots.{one_inside, pivot_first}
 

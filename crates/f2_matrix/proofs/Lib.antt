@@ -3,8 +3,6 @@ pub mod Elimination
 mod BlockSteps
 mod BlockSums
 mod BlockParts
-mod Quarters
-mod Words
 mod RowBlocks
 mod NextParts
 mod SortSteps

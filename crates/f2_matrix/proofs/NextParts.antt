@@ -5,7 +5,8 @@ use Rattle.std.proofs.lemmas.Bool.{cases_lt}
 use Rattle.f2_vec.specs.Spans.{row, HaveWidth}
 use Rattle.f2_vec.proofs.Spans.{HaveWidth-front, HaveWidth-back}
 use Rattle.f2_matrix.specs.Inside.RowOperations.{cleared}
-use Rattle.f2_matrix.specs.Inside.Blocks.{cleared_at, block_rows, IsClearedByBlock, IsPivotTaken}
+use Rattle.f2_sums.specs.Sums.{cleared_at}
+use Rattle.f2_matrix.specs.Inside.Blocks.{block_rows, IsClearedByBlock, IsPivotTaken}
 use Rattle.f2_matrix.proofs.BlockSteps.{length-cleared_at}
 use Rattle.f2_matrix.proofs.BlockParts.{taken_from_parts, first_and_rest, set_first}
 use Rattle.f2_matrix.proofs.RowBlocks.{swap_same}

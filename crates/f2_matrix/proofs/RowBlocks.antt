@@ -9,7 +9,8 @@ use Rattle.f2_vec.specs.Spans.{row, HaveWidth, combination}
 use Rattle.f2_vec.proofs.Sums.{bit-zeros, length-zeros, zeros_from_bits, sum_of-zeros_right}
 use Rattle.f2_vec.proofs.Spans.{combination-zeros}
 use Rattle.f2_matrix.specs.Inside.RowOperations.{cleared, IsClearedBy}
-use Rattle.f2_matrix.specs.Inside.Blocks.{cleared_at, block_rows, IsClearedByBlock, IsPivotTaken}
+use Rattle.f2_sums.specs.Sums.{cleared_at}
+use Rattle.f2_matrix.specs.Inside.Blocks.{block_rows, IsClearedByBlock, IsPivotTaken}
 use Rattle.f2_matrix.specs.Inside.Rowwise.{IsNextCleared, HavePivots}
 use Rattle.f2_matrix.proofs.Elimination.{IsFirstOne-unique}
 use Rattle.f2_matrix.proofs.RowOperations.{row-swap_left, row-swap_right, row-swap_other, IsRearranged, IsRearranged-swap, HaveWidth-rearranged, HaveSameSpan-rearranged, HaveSameSpan-trans, HaveWidth-IsClearedBy, HaveSameSpan-IsClearedBy, length-row_with_one, bit-cleared_other, bit-cleared_same}

@@ -1,23 +1,40 @@
-//! Gauss and Jordan's elimination by blocks of up to eight pivots.
-ghost use Rattle.std.specs.Prelude.{◌≡◌, ℕ, ◌+◌, ◌<◌, ◌≤◌, ◌^◌, Bool, true, false, [], List, map, length, take, drop, IfSome, IfNone};
+//! Gauss and Jordan's elimination by blocks of up to eight pivots, in room that the caller has made. Surface: no run takes it.
+ghost use Rattle.std.specs.Prelude.{◌≡◌, ℕ, ◌+◌, ◌<◌, ◌≤◌, true, false, length, take, drop, IfSome, IfNone};
 ghost use Rattle.std.specs.List.{All};
-ghost use Rattle.std.specs.Simd.Lanes.{mask_l};
-ghost use Rattle.f2_vec.specs.Vectors.{bit, sum_of, zeros};
-ghost use Rattle.f2_vec.specs.Spans.{row, HaveWidth, combination};
+ghost use Rattle.f2_vec.specs.Vectors.{bit};
+ghost use Rattle.f2_vec.specs.Spans.{row, HaveWidth};
 ghost use Rattle.f2_matrix.specs.Echelon.{IsEchelonForm};
-ghost use Rattle.f2_matrix.specs.Inside.Blocks.{cleared_at, block_rows, IsClearedByBlock, IsPivotTaken, HoldsSums, IsRoomForSums};
+ghost use Rattle.f2_sums.specs.Sums.{cleared_at};
+ghost use Rattle.f2_matrix.specs.Inside.Blocks.{block_rows, IsClearedByBlock, IsPivotTaken};
 
-use crate::matrix::clear_by;
+use crate::matrix::{Matrix, clear_by};
+use crate::rowwise::clear_at;
+use crate::scratch::Scratch;
+use f2_sums::Table;
 use f2_vec::BitVec;
+
+impl Matrix {
+    /// Brings the matrix into row reduced echelon form by blocks of up to eight pivots, with room that was made for its columns.
+    pub fn reduce_with(&mut self, scratch: &mut Scratch)
+        requires { scratch.old ≡ self.old.cols }
+        ensures cols { self.new.cols ≡ self.old.cols }
+        ensures form { IsEchelonForm self.old.cols self.old.rows self.new.rows }
+        ensures scratch { scratch.new ≡ scratch.old }
+    {
+        reduce_blocks(self.cols, self.rows.as_mut_slice(), &mut scratch.table);
+    }
+}
 
 /// Brings the rows to row reduced echelon form, in place, by blocks of up to eight pivots. The table is room for the
 /// sums of the rows of a block. It goes column by column; once the pivots of a block are taken, every row outside of it is
 /// cleared by one of the 256 sums of its rows.
-pub fn reduce_blocks(cols: usize, rows: &mut [BitVec], table: &mut [BitVec])
+pub fn reduce_blocks(cols: usize, rows: &mut [BitVec], table: &mut Table)
     requires rows { HaveWidth cols rows.old }
-    requires table { IsRoomForSums cols 8 table.old }
+    requires width { table.old.cols ≡ cols }
+    requires room { table.old.most ≡ 8 }
     ensures form { IsEchelonForm cols rows.old rows.new }
-    ensures table { IsRoomForSums cols 8 table.new }
+    ensures width { table.new.cols ≡ cols }
+    ensures room { table.new.most ≡ 8 }
 {
     let mut settled = 0;
     let mut col = 0;
@@ -33,7 +50,7 @@ pub fn reduce_blocks(cols: usize, rows: &mut [BitVec], table: &mut [BitVec])
             }
             col += 1;
         }
-        fill_table(cols, 8, table, block_of(rows, settled, count));
+        table.fill(block_of(rows, settled, count));
         clear_outside(cols, rows, settled, &places[..count], table);
         settled += count;
         prove!(first < col);
@@ -95,40 +112,6 @@ fn row_to_take(
     None
 }
 
-/// The coordinates of the row at these places, as the bits of a number.
-pub fn index_at(cols: usize, row: &BitVec, places: &[usize]) -> usize
-    requires row { length row.now ≡ cols }
-    requires places { All (λ p. p < cols) places.now }
-    requires few { length places.now ≤ 32 }
-    ensures { result ≡ mask_l (map (bit row.now) places.now) }
-{
-    let mut index = 0;
-    let mut j = places.len();
-    while j > 0 {
-        j -= 1;
-        index = index * 2 + row.get_number(places[j]);
-    }
-    index
-}
-
-/// Clears the row by the block.
-pub fn clear_at(cols: usize, row: &mut BitVec, block: &[BitVec], places: &[usize])
-    requires row { length row.old ≡ cols }
-    requires block { HaveWidth cols block.now }
-    requires as_many { length block.now ≡ length places.now }
-    requires places { All (λ p. p < cols) places.now }
-    requires few { length places.now ≤ 32 }
-    ensures { row.new ≡ cleared_at cols places.now block.now row.old }
-{
-    let mut index = index_at(cols, row, places);
-    for j in 0..block.len() {
-        if index % 2 == 1 {
-            row.xor_with(&block[j]);
-        }
-        index /= 2;
-    }
-}
-
 /// Brings the row at place `found`, cleared by the block, behind the block, and clears column `col` of the block by it.
 fn take_pivot(
     cols: usize,
@@ -154,59 +137,20 @@ fn take_pivot(
     clear_by(block, &rest[0], col);
 }
 
-/// Makes the table that of the sums of the rows of the block.
-pub fn fill_table(cols: usize, bits: usize, table: &mut [BitVec], block: &[BitVec])
-    requires room { IsRoomForSums cols bits table.old }
-    requires block { HaveWidth cols block.now }
-    requires few { length block.now ≤ bits }
-    requires most { bits ≤ 8 }
-    ensures room { IsRoomForSums cols bits table.new }
-    ensures sums { HoldsSums cols block.now table.new }
-{
-    let mut filled = 1;
-    for pivot in block {
-        add_sums(cols, table, filled, pivot);
-        filled *= 2;
-    }
-}
-
-/// Puts the sums of the first `filled` rows with the pivot row behind them.
-fn add_sums(cols: usize, table: &mut [BitVec], filled: usize, pivot: &BitVec)
-    requires widths { HaveWidth cols table.old }
-    requires room { filled + filled ≤ length table.old }
-    requires pivot { length pivot.now ≡ cols }
-    ensures widths { HaveWidth cols table.new }
-    ensures room { length table.new ≡ length table.old }
-    ensures kept { (t : ℕ) → t < filled → row table.new t ≡ row table.old t }
-    ensures sums { (t : ℕ) → t < filled → row table.new (filled + t) ≡ sum_of (row table.old t) pivot.now }
-{
-    let (done, rest) = table.split_at_mut(filled);
-    for t in 0..filled {
-        rest[t].set_sum(&done[t], pivot);
-    }
-}
-
 /// Clears the rows outside the block by it, each by one sum of the table.
-fn clear_outside(
-    cols: usize,
-    rows: &mut [BitVec],
-    settled: usize,
-    places: &[usize],
-    table: &[BitVec],
-)
+fn clear_outside(cols: usize, rows: &mut [BitVec], settled: usize, places: &[usize], table: &Table)
     requires rows { HaveWidth cols rows.old }
     requires within { settled + length places.now ≤ length rows.old }
     requires places { All (λ p. p < cols) places.now }
     requires few { length places.now ≤ 8 }
-    requires sums { HoldsSums cols (block_rows settled places.now rows.old) table.now }
-    requires room { length table.now ≡ 256 }
+    requires width { table.now.cols ≡ cols }
+    requires sums { table.now.rows ≡ block_rows settled places.now rows.old }
     ensures { IsClearedByBlock cols settled places.now rows.old rows.new }
 {
     let end = settled + places.len();
     for i in 0..rows.len() {
         if i < settled || end <= i {
-            let index = index_at(cols, &rows[i], places);
-            rows[i].xor_with(&table[index]);
+            table.clear(places, &mut rows[i]);
         }
     }
 }

@@ -8,7 +8,7 @@ ghost use Rattle.f2_matrix.specs.Inside.Extend.{longer, with_pivot, IsWithRelati
 
 use crate::matrix::clear_by;
 use crate::reduced::Reduced;
-use crate::rows::{Rows, first_or_length, place_for};
+use crate::rows::{Rows, pivot, place_for};
 use f2_vec::BitVec;
 use memory::Memory;
 use std::alloc::Global;
@@ -60,7 +60,7 @@ impl Reduced {
         ensures { IfOk result (λ r. IsWithRelation relation self.now r) }
     {
         let height = relation.len();
-        let pivot = first_or_length(&relation);
+        let pivot = pivot(&relation);
         let mut chosen = longer_rows(alloc, self.chosen())?;
         clear_by(chosen.as_mut_slice(), &relation, pivot);
         let mut relations = longer_rows(alloc, self.kernel())?;

@@ -4,7 +4,7 @@ ghost use Rattle.f2_vec.specs.Spans.{row};
 ghost use Rattle.f2_matrix.specs.Preimages.{pivot_of};
 ghost use Rattle.f2_matrix.specs.Inside.Held.{rows_of};
 
-use crate::rows::{Rows, first_or_length};
+use crate::rows::{Rows, pivot};
 use f2_vec::BitVec;
 use memory::Memory;
 use std::alloc::Global;
@@ -34,7 +34,7 @@ impl Held {
     {
         match self {
             Held::Shared(rows) => rows.pivots()[i],
-            Held::Given(rows) => first_or_length(&rows[i]),
+            Held::Given(rows) => pivot(&rows[i]),
         }
     }
 

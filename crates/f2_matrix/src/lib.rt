@@ -2,8 +2,10 @@
 #![tactic(auto)]
 
 mod blocks;
+mod columns;
 mod existence;
 mod extend;
+mod given;
 mod held;
 mod laws;
 mod matrix;
@@ -23,5 +25,5 @@ pub use laws::{
 pub use matrix::Matrix;
 pub use rank::spanning_rows_are_full;
 pub use reduced::Reduced;
-pub use rows::Rows;
+pub use rows::{Rows, pivot, pivots_of};
 pub use scratch::Scratch;

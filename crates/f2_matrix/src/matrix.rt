@@ -1,14 +1,11 @@
 //! Matrices, and their elimination row by row.
-ghost use Rattle.std.specs.Prelude.{◌≡◌, ℕ, ◌+◌, ◌<◌, ◌≤◌, Bool, true, false, ◌++◌, map, length, IfOk, IfSome, IfNone, OnOk, OnErr};
-ghost use Rattle.f2_vec.specs.Vectors.{bit};
-ghost use Rattle.f2_vec.specs.Spans.{row, HaveWidth, unit_vector};
+ghost use Rattle.std.specs.Prelude.{◌≡◌, ◌+◌, ◌<◌, ◌++◌, map, length, IfOk, OnOk, OnErr};
+ghost use Rattle.f2_vec.specs.Spans.{HaveWidth, unit_vector};
 ghost use Rattle.f2_matrix.specs.Echelon.{IsEchelonForm};
 ghost use Rattle.f2_matrix.specs.Reduction.{augmented};
-ghost use Rattle.f2_matrix.specs.Inside.RowOperations.{cleared, IsClearedBy};
+ghost use Rattle.f2_matrix.specs.Inside.RowOperations.{cleared};
 
-use crate::blocks::reduce_blocks;
 use crate::rowwise::eliminate;
-use crate::scratch::Scratch;
 use f2_vec::BitVec;
 use memory::Memory;
 use std::alloc::Global;
@@ -17,8 +14,8 @@ use std::marker::Model;
 /// A matrix, seen as the length of a row and the list of its rows. Row i is the image of basis element i.
 #[derive(Debug, Drop)]
 pub struct Matrix {
-    cols: usize,
-    rows: Vec<BitVec>,
+    pub(crate) cols: usize,
+    pub(crate) rows: Vec<BitVec>,
 }
 
 impl Model for Matrix {
@@ -57,28 +54,6 @@ impl Matrix {
         self.rows.as_slice()
     }
 
-    /// Brings the rows to row reduced echelon form, in place.
-    pub fn reduce(&mut self)
-        ensures cols { self.new.cols ≡ self.old.cols }
-        ensures form { IsEchelonForm self.old.cols self.old.rows self.new.rows }
-    {
-        reduce_rows(self.rows.as_mut_slice(), self.cols);
-    }
-
-    /// Brings the matrix into row reduced echelon form by blocks of up to eight pivots, with room that was made for its columns.
-    pub fn reduce_with(&mut self, scratch: &mut Scratch)
-        requires { scratch.old ≡ self.old.cols }
-        ensures cols { self.new.cols ≡ self.old.cols }
-        ensures form { IsEchelonForm self.old.cols self.old.rows self.new.rows }
-        ensures scratch { scratch.new ≡ scratch.old }
-    {
-        reduce_blocks(
-            self.cols,
-            self.rows.as_mut_slice(),
-            scratch.table.as_mut_slice(),
-        );
-    }
-
     /// Brings the matrix into row reduced echelon form row by row, with several tables of sums that are made for it.
     ///
     /// # Errors
@@ -106,51 +81,6 @@ impl Matrix {
         };
         let rows = augmented_rows(alloc, self.rows.as_slice())?;
         Ok(Matrix { cols, rows })
-    }
-}
-
-/// Gauss and Jordan's elimination: the first `settled` rows have their pivots, the others are zero so far.
-fn reduce_rows(rows: &mut [BitVec], cols: usize)
-    requires { HaveWidth cols rows.old }
-    ensures { IsEchelonForm cols rows.old rows.new }
-{
-    let mut settled = 0;
-    for col in 0..cols {
-        if let Some(found) = row_with_one_at(rows, settled, col) {
-            rows.swap(settled, found);
-            clear_column(rows, settled, col);
-            settled += 1;
-        }
-    }
-}
-
-/// The first row, at or after place `from`, with a 1 in column `col`.
-fn row_with_one_at(rows: &[BitVec], from: usize, col: usize) -> Option<usize>
-    requires { (i : ℕ) → i < length rows.now → col < length (row rows.now i) }
-    ensures at_or_after { IfSome result (λ i. from ≤ i) }
-    ensures within { IfSome result (λ i. i < length rows.now) }
-    ensures one { IfSome result (λ i. bit (row rows.now i) col ≡ true) }
-    ensures none { IfNone result ((i : ℕ) → from ≤ i → bit (row rows.now i) col ≡ false) }
-{
-    for i in from..rows.len() {
-        if rows[i].get(col) {
-            return Some(i);
-        }
-    }
-    None
-}
-
-/// Adds the row at place `pivot` to each other row that has a 1 in column `col`.
-fn clear_column(rows: &mut [BitVec], pivot: usize, col: usize)
-    requires within { pivot < length rows.old }
-    requires widths { HaveWidth (length (row rows.old pivot)) rows.old }
-    requires col { col < length (row rows.old pivot) }
-    ensures { IsClearedBy pivot col rows.old rows.new }
-{
-    let (above, rest) = rows.split_at_mut(pivot);
-    if let Some((pivot_row, below)) = rest.split_first_mut() {
-        clear_by(above, pivot_row, col);
-        clear_by(below, pivot_row, col);
     }
 }
 

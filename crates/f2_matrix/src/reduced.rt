@@ -5,7 +5,6 @@ ghost use Rattle.f2_vec.specs.Spans.{row, HaveWidth, combination, IsInSpan};
 ghost use Rattle.f2_matrix.specs.Echelon.{IsReduced, HasNoZeroRow, IsEchelonForm, IsRowBasis, IsKernelBasis};
 ghost use Rattle.f2_matrix.specs.Reduction.{augmented, image_part, chosen_part, kernel_part, IsReductionOf};
 ghost use Rattle.f2_matrix.specs.Preimages.{IsPreimageUnder, ArePreimages, at_pivots, quasi_of, rest_of};
-ghost use Rattle.f2_matrix.specs.Parts.{AreReductionParts};
 ghost use Rattle.f2_matrix.specs.Inside.Held.{rows_of};
 
 use crate::held::Held;
@@ -20,11 +19,11 @@ use std::marker::Model;
 /// of each vector of that basis, and the reduced basis of its kernel.
 #[derive(Debug, Drop)]
 pub struct Reduced {
-    cols: usize,
-    height: usize,
-    image: Held,
-    chosen: Vec<BitVec>,
-    kernel: Held,
+    pub(crate) cols: usize,
+    pub(crate) height: usize,
+    pub(crate) image: Held,
+    pub(crate) chosen: Vec<BitVec>,
+    pub(crate) kernel: Held,
 }
 
 impl Model for Reduced {
@@ -61,39 +60,6 @@ impl Reduced {
         let mut form = matrix.augment(alloc)?;
         form.reduce_rowwise(alloc)?;
         parts_of(alloc, matrix, &form)
-    }
-
-    /// The reduction of the matrix, which has these parts. Nothing is reduced, and no memory is taken.
-    ///
-    /// The image rows, of the matrix's width, and the kernel rows, with one coefficient for each row of the matrix, are
-    /// reduced without zero rows, and together they are as many as the matrix has rows. Each kernel row is a vector of the
-    /// kernel, and each chosen row is the preimage of its image row that is zero at the pivots of the kernel rows.
-    pub fn from_parts(
-        matrix: &Matrix,
-        image: Vec<BitVec>,
-        chosen: Vec<BitVec>,
-        kernel: Vec<BitVec>,
-    ) -> Reduced
-        requires { AreReductionParts matrix.now.cols matrix.now.rows image.items chosen.items kernel.items }
-        ensures parts { result
-            ≡ record {
-              cols = matrix.now.cols;
-              height = length matrix.now.rows;
-              image = image.items;
-              chosen = chosen.items;
-              kernel = kernel.items;
-            } }
-        ensures reduction { IsReductionOf matrix.now.cols matrix.now.rows result }
-    {
-        // The rows of a matrix have its width.
-        let height = matrix.rows().len();
-        Reduced {
-            cols: matrix.cols(),
-            height,
-            image: Held::Given(image),
-            chosen,
-            kernel: Held::Given(kernel),
-        }
     }
 
     /// The parts of a matrix with `height` rows of length `cols`, of which the image rows and the kernel rows are shared

@@ -82,32 +82,35 @@ impl Model for RowsWithPivots {
 }
 
 /// The pivot of each row, its length where it is zero.
-fn pivots_of(alloc: Global, rows: &[BitVec]) -> Result<Vec<usize>, Memory>
+///
+/// # Errors
+/// `Memory` if allocation fails.
+pub fn pivots_of(alloc: Global, rows: &[BitVec]) -> Result<Vec<usize>, Memory>
     ensures { IfOk result (λ pivots. pivots.items ≡ map pivot_of rows.now) }
 {
     let mut pivots = Vec::with_capacity(alloc, rows.len())?;
     for row in rows {
-        pivots.push(first_or_length(row))?;
+        pivots.push(pivot(row))?;
     }
     Ok(pivots)
 }
 
-/// The place of the first 1 of the row, its length where there is none.
-pub(crate) fn first_or_length(row: &BitVec) -> usize
+/// The pivot of the row: the place of its first 1, its length where there is none.
+pub fn pivot(row: &BitVec) -> usize
     ensures { result ≡ pivot_of row.now }
 {
     match row.first_one() {
-        Some(pivot) => pivot,
+        Some(place) => place,
         None => row.len(),
     }
 }
 
-/// How many of the rows, whose pivots rise, a row with its pivot at `pivot` stands behind.
-pub(crate) fn place_for(rows: &[BitVec], pivot: usize) -> usize
-    ensures { IsPlaceFor pivot rows.now result }
+/// How many of the rows, whose pivots rise, a row with its pivot at this place stands behind.
+pub(crate) fn place_for(rows: &[BitVec], place: usize) -> usize
+    ensures { IsPlaceFor place rows.now result }
 {
     for i in 0..rows.len() {
-        if pivot < first_or_length(&rows[i]) {
+        if place < pivot(&rows[i]) {
             return i;
         }
     }

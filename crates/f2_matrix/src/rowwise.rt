@@ -1,45 +1,19 @@
 //! Gauss and Jordan's elimination row by row: rows find their pivots in order, and the others are cleared by several
 //! tables of sums at once.
-ghost use Rattle.std.specs.Prelude.{◌≡◌, ◌≢◌, ℕ, ◌+◌, ◌*◌, ◌<◌, ◌≤◌, Bool, false, slice_index_or, List, map, length, take, drop, IfOk, IfSome, IfNone, OnOk, OnErr};
+ghost use Rattle.std.specs.Prelude.{◌≡◌, ◌≢◌, ℕ, ◌+◌, ◌*◌, ◌<◌, ◌≤◌, false, slice_index_or, length, IfSome, IfNone, OnOk, OnErr};
 ghost use Rattle.std.specs.List.{All};
-ghost use Rattle.f2_vec.specs.Vectors.{bit, IsFirstOne, IsWithinWords};
+ghost use Rattle.f2_vec.specs.Vectors.{bit, IsFirstOne};
 ghost use Rattle.f2_vec.specs.Spans.{row, HaveWidth};
 ghost use Rattle.f2_matrix.specs.Echelon.{IsEchelonForm};
-ghost use Rattle.f2_matrix.specs.Inside.Blocks.{cleared_at, IsClearedByBlock, IsPivotTaken};
-ghost use Rattle.f2_matrix.specs.Inside.Rowwise.{first_part, second_part, third_part, fourth_part, AreQuarters, AreRooms, HoldSumsOfParts, AreSumsWithin, with_sums, IsNextCleared, HavePivots};
+ghost use Rattle.f2_sums.specs.Sums.{cleared_at};
+ghost use Rattle.f2_matrix.specs.Inside.Blocks.{IsClearedByBlock, IsPivotTaken};
+ghost use Rattle.f2_matrix.specs.Inside.Rowwise.{IsNextCleared, HavePivots};
 
-use crate::blocks::{clear_at, fill_table, index_at};
 use crate::matrix::clear_by;
-use crate::rows::first_or_length;
-use crate::scratch::room_for_sums;
+use f2_sums::{Tables, index_at};
 use f2_vec::BitVec;
 use memory::Memory;
 use std::alloc::Global;
-
-/// Tables of sums, one for each quarter of a block of rows.
-#[derive(Drop)]
-pub struct Tables {
-    pub first: Vec<BitVec>,
-    pub second: Vec<BitVec>,
-    pub third: Vec<BitVec>,
-    pub fourth: Vec<BitVec>,
-}
-
-/// The four quarters of the places of a block.
-#[derive(Drop)]
-pub struct Quarters<'a> {
-    pub first: &'a [usize],
-    pub second: &'a [usize],
-    pub third: &'a [usize],
-    pub fourth: &'a [usize],
-}
-
-/// Words of rows, of 64 coordinates each: from the first up to one past the last.
-#[derive(Drop)]
-pub struct Words {
-    pub from: usize,
-    pub to: usize,
-}
 
 /// Brings the rows to row reduced echelon form.
 ///
@@ -51,7 +25,7 @@ pub fn eliminate(alloc: Global, cols: usize, rows: &mut [BitVec]) -> Result<(), 
     ensures err { OnErr result (rows.new ≡ rows.old) }
 {
     let bits = bits_of_tables(rows.len());
-    let mut tables = tables_for(alloc, cols, bits)?;
+    let mut tables = Tables::new(alloc, cols, bits)?;
     let mut places = vec![in alloc; 0; cols]?;
     let found = find_pivots(cols, rows, bits, &mut tables);
     sort_by_pivot(cols, rows, found, places.as_mut_slice());
@@ -74,26 +48,13 @@ fn bits_of_tables(height: usize) -> usize
     }
 }
 
-/// Room for four tables, each of the sums of `bits` rows of length `cols`.
-fn tables_for(alloc: Global, cols: usize, bits: usize) -> Result<Tables, Memory>
-    requires { bits ≤ 8 }
-    ensures { IfOk result (λ t. AreRooms cols bits t.first.items t.second.items t.third.items t.fourth.items) }
-{
-    Ok(Tables {
-        first: room_for_sums(alloc, cols, bits)?,
-        second: room_for_sums(alloc, cols, bits)?,
-        third: room_for_sums(alloc, cols, bits)?,
-        fourth: room_for_sums(alloc, cols, bits)?,
-    })
-}
-
 /// Gives the first rows a pivot each, alone in its column, and leaves only zero rows behind them.
 fn find_pivots(cols: usize, rows: &mut [BitVec], bits: usize, tables: &mut Tables) -> usize
     requires rows { HaveWidth cols rows.old }
     requires least { 1 ≤ bits }
     requires most { bits ≤ 8 }
-    requires tables { AreRooms cols bits tables.old.first.items tables.old.second.items tables.old.third.items
-        tables.old.fourth.items }
+    requires width { tables.old.cols ≡ cols }
+    requires room { tables.old.most ≡ 4 * bits }
     ensures { HavePivots cols result result rows.old rows.new }
 {
     let mut settled = 0;
@@ -114,7 +75,7 @@ fn find_pivots(cols: usize, rows: &mut [BitVec], bits: usize, tables: &mut Table
                 }
             }
         }
-        clear_others(cols, rows, settled, &places[..count], bits, tables);
+        clear_others(cols, rows, settled, &places[..count], tables);
         settled += count;
         prove!(end - settled < before);
     }
@@ -144,163 +105,46 @@ fn take_next(cols: usize, rows: &mut [BitVec], settled: usize, places: &[usize])
     Some(pivot)
 }
 
+/// Clears the row by the block.
+pub fn clear_at(cols: usize, row: &mut BitVec, block: &[BitVec], places: &[usize])
+    requires row { length row.old ≡ cols }
+    requires block { HaveWidth cols block.now }
+    requires as_many { length block.now ≡ length places.now }
+    requires places { All (λ p. p < cols) places.now }
+    requires few { length places.now ≤ 32 }
+    ensures { row.new ≡ cleared_at cols places.now block.now row.old }
+{
+    let mut index = index_at(cols, row, places);
+    for j in 0..block.len() {
+        if index % 2 == 1 {
+            row.xor_with(&block[j]);
+        }
+        index /= 2;
+    }
+}
+
 /// Clears the rows outside the block by it.
 fn clear_others(
     cols: usize,
     rows: &mut [BitVec],
     settled: usize,
     places: &[usize],
-    bits: usize,
     tables: &mut Tables,
 )
     requires rows { HaveWidth cols rows.old }
     requires within { settled + length places.now ≤ length rows.old }
     requires places { All (λ p. p < cols) places.now }
-    requires few { length places.now ≤ 4 * bits }
-    requires most { bits ≤ 8 }
-    requires tables { AreRooms cols bits tables.old.first.items tables.old.second.items tables.old.third.items
-        tables.old.fourth.items }
+    requires width { tables.old.cols ≡ cols }
+    requires room { length places.now ≤ tables.old.most }
     ensures rows { IsClearedByBlock cols settled places.now rows.old rows.new }
-    ensures tables { AreRooms cols bits tables.new.first.items tables.new.second.items tables.new.third.items
-        tables.new.fourth.items }
+    ensures width { tables.new.cols ≡ tables.old.cols }
+    ensures room { tables.new.most ≡ tables.old.most }
 {
     let (above, rest) = rows.split_at_mut(settled);
     let (block, below) = rest.split_at_mut(places.len());
-    let quarters = quarters_of(places, bits);
-    fill_tables(cols, bits, tables, block);
-    let words = words_of(block);
-    clear_rows(cols, bits, above, &quarters, tables, &words);
-    clear_rows(cols, bits, below, &quarters, tables, &words);
-}
-
-/// The words from the first up to the last in which one of the rows is not zero.
-fn words_of(rows: &[BitVec]) -> Words
-    ensures { (i : ℕ) → i < length rows.now → IsWithinWords result.from result.to (row rows.now i) }
-{
-    let mut from = usize::MAX;
-    let mut to = 0;
-    for row in rows {
-        from = from.min(first_or_length(row) / 64);
-        let end = row.words_up_to_last();
-        if to < end {
-            to = end;
-        }
-    }
-    Words { from, to }
-}
-
-/// The first `count` items, or all where there are fewer, and the others.
-fn split_up_to<T>(items: &[T], count: usize) -> (&[T], &[T])
-    ensures first { result.0.now ≡ take count items.now }
-    ensures others { result.1.now ≡ drop count items.now }
-{
-    items.split_at(count.min(items.len()))
-}
-
-/// The places in four parts, of up to `bits` each.
-fn quarters_of(places: &[usize], bits: usize) -> Quarters<'_>
-    ensures first { result.first.now ≡ first_part bits places.now }
-    ensures second { result.second.now ≡ second_part bits places.now }
-    ensures third { result.third.now ≡ third_part bits places.now }
-    ensures fourth { result.fourth.now ≡ fourth_part bits places.now }
-{
-    let (first, rest) = split_up_to(places, bits);
-    let (second, rest) = split_up_to(rest, bits);
-    let (third, fourth) = split_up_to(rest, bits);
-    Quarters {
-        first,
-        second,
-        third,
-        fourth,
-    }
-}
-
-/// Makes the tables those of the sums of the four quarters of the block.
-fn fill_tables(cols: usize, bits: usize, tables: &mut Tables, block: &[BitVec])
-    requires rooms { AreRooms cols bits tables.old.first.items tables.old.second.items tables.old.third.items
-        tables.old.fourth.items }
-    requires block { HaveWidth cols block.now }
-    requires few { length block.now ≤ 4 * bits }
-    requires most { bits ≤ 8 }
-    ensures rooms { AreRooms cols bits tables.new.first.items tables.new.second.items tables.new.third.items
-        tables.new.fourth.items }
-    ensures sums { HoldSumsOfParts cols bits block.now tables.new.first.items tables.new.second.items
-        tables.new.third.items tables.new.fourth.items }
-{
-    let (first, rest) = split_up_to(block, bits);
-    let (second, rest) = split_up_to(rest, bits);
-    let (third, fourth) = split_up_to(rest, bits);
-    fill_table(cols, bits, tables.first.as_mut_slice(), first);
-    fill_table(cols, bits, tables.second.as_mut_slice(), second);
-    fill_table(cols, bits, tables.third.as_mut_slice(), third);
-    fill_table(cols, bits, tables.fourth.as_mut_slice(), fourth);
-}
-
-/// Clears each of the rows by the sums of the tables, which are zero outside of these words.
-fn clear_rows(
-    cols: usize,
-    bits: usize,
-    rows: &mut [BitVec],
-    quarters: &Quarters,
-    tables: &Tables,
-    words: &Words,
-)
-    requires rows { HaveWidth cols rows.old }
-    requires quarters { AreQuarters cols bits quarters.now.first.now quarters.now.second.now quarters.now.third.now
-        quarters.now.fourth.now }
-    requires most { bits ≤ 8 }
-    requires tables { AreRooms cols bits tables.now.first.items tables.now.second.items tables.now.third.items
-        tables.now.fourth.items }
-    requires within { AreSumsWithin words.now.from words.now.to
-        quarters.now.first.now quarters.now.second.now quarters.now.third.now quarters.now.fourth.now
-        tables.now.first.items tables.now.second.items tables.now.third.items tables.now.fourth.items }
-    ensures { rows.new ≡ map
-        (with_sums quarters.now.first.now quarters.now.second.now quarters.now.third.now quarters.now.fourth.now
-        tables.now.first.items tables.now.second.items tables.now.third.items tables.now.fourth.items)
-        rows.old }
-{
-    for row in rows.iter_mut() {
-        clear_row(cols, bits, row, quarters, tables, words);
-    }
-}
-
-/// Clears the row by one sum of each table. These are zero outside of the words.
-fn clear_row(
-    cols: usize,
-    bits: usize,
-    row: &mut BitVec,
-    quarters: &Quarters,
-    tables: &Tables,
-    words: &Words,
-)
-    requires row { length row.old ≡ cols }
-    requires quarters { AreQuarters cols bits quarters.now.first.now quarters.now.second.now quarters.now.third.now
-        quarters.now.fourth.now }
-    requires most { bits ≤ 8 }
-    requires tables { AreRooms cols bits tables.now.first.items tables.now.second.items tables.now.third.items
-        tables.now.fourth.items }
-    requires within { AreSumsWithin words.now.from words.now.to
-        quarters.now.first.now quarters.now.second.now quarters.now.third.now quarters.now.fourth.now
-        tables.now.first.items tables.now.second.items tables.now.third.items tables.now.fourth.items }
-    ensures { row.new
-        ≡ with_sums quarters.now.first.now quarters.now.second.now quarters.now.third.now quarters.now.fourth.now
-        tables.now.first.items tables.now.second.items tables.now.third.items tables.now.fourth.items row.old }
-{
-    let first = index_at(cols, row, quarters.first);
-    let second = index_at(cols, row, quarters.second);
-    let third = index_at(cols, row, quarters.third);
-    let fourth = index_at(cols, row, quarters.fourth);
-    // The sum at number 0 is zero.
-    if first + second + third + fourth > 0 {
-        row.xor_with_four(
-            words.from,
-            words.to,
-            &tables.first[first],
-            &tables.second[second],
-            &tables.third[third],
-            &tables.fourth[fourth],
-        );
-    }
+    tables.fill(block);
+    tables.clear_all(places, above);
+    tables.clear_all(places, below);
 }
 
 /// Sorts the first `found` rows by their pivots. `places` is room for the place of the row with its pivot in each column.

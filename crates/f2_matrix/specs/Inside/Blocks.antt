@@ -1,14 +1,9 @@
 -- What clearing by a whole block of rows does: each row of the block has a place, as a rule that of its pivot.
-use Rattle.std.specs.Prelude.{◌≡◌, ℕ, ◌+◌, ◌^◌, ◌<◌, ◌≤◌, Bool, List, length, map, take, drop}
+use Rattle.std.specs.Prelude.{◌≡◌, ℕ, ◌+◌, ◌<◌, ◌≤◌, Bool, List, length, take, drop}
 use Rattle.std.specs.List.{swap}
-use Rattle.std.specs.Simd.Lanes.{mask_l}
-use Rattle.f2_vec.specs.Vectors.{sum_of, bit, zeros}
-use Rattle.f2_vec.specs.Spans.{row, combination, HaveWidth}
+use Rattle.f2_vec.specs.Spans.{row}
+use Rattle.f2_sums.specs.Sums.{cleared_at}
 use Rattle.f2_matrix.specs.Inside.RowOperations.{cleared}
-
--- v with each row of b added at whose place it has a 1; ps has a place for each row of b
-abbrev pub cleared_at : ℕ → List ℕ → List (List Bool) → List Bool → List Bool
-cleared_at n ps b v = sum_of v (combination n (map (bit v) ps) b)
 
 -- the block of rows from place r on, one for each of its places ps
 abbrev pub block_rows : ℕ → List ℕ → List (List Bool) → List (List Bool)
@@ -29,14 +24,3 @@ pub record IsPivotTaken (n r : ℕ) (ps : List ℕ) (col a : ℕ) (xs ys : List 
       row ys i ≡ cleared (cleared_at n ps (block_rows r ps xs) (row xs a)) col (row xs i)
   pub above : (i : ℕ) → i < r → row ys i ≡ row xs i
   pub below : (i : ℕ) → r + length ps < i → row ys i ≡ row (swap xs (r + length ps) a) i
-
--- the table has each sum of the rows b, at the number whose bits are its coefficients
-pub record HoldsSums (n : ℕ) (b table : List (List Bool)) : Type 0 where
-  pub widths : HaveWidth n table
-  pub sums : (c : List Bool) → length c ≡ length b → row table (mask_l c) ≡ combination n c b
-
--- room for the sums of m rows of length n: the first of the rows is zero
-pub record IsRoomForSums (n m : ℕ) (table : List (List Bool)) : Type 0 where
-  pub widths : HaveWidth n table
-  pub size : length table ≡ 2 ^ m
-  pub first : row table 0 ≡ zeros n

@@ -3,7 +3,7 @@ use Rattle.f2_kernel.proofs.Blocked.{block_more, cleared_from_start, HaveWidth-A
 use Rattle.f2_kernel.proofs.blocks.clear_upward.Goals as goal
 
 pub loop-end-init : goal.loop-end-init
-loop-end-init c = record { within = omega arith; rows = cleared_from_start c.args.rows.now; tables = c.new-tables.ensures c.args.n }
+loop-end-init c = record { within = omega arith; rows = cleared_from_start c.args.rows.now; width = c.in_ok-tables.ensures.cols }
 
 pub clear_block-requires-clause-widths : goal.clear_block-requires-clause-widths
 clear_block-requires-clause-widths c = HaveWidth-AreClearedFrom c.args.n c.loop-end.end c.args.rows.now c.loop-end.rows c.requires c.loop-end.invariant.rows
@@ -16,5 +16,5 @@ loop-end-preserved c =
     record {
       within = omega (arith, l, c.loop-end.invariant.within);
       rows = block_more s e c.args.rows.now c.loop-end.rows c.clear_block.new.rows l c.loop-end.invariant.within c.loop-end.invariant.rows c.in_ok-clear_block.ensures.rows;
-      tables = c.in_ok-clear_block.ensures.tables;
+      width = c.in_ok-clear_block.ensures.width;
     }

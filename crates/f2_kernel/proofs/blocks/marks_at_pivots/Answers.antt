@@ -3,7 +3,7 @@ use Rattle.std.proofs.lemmas.List.{get_or_read}
 use Rattle.f2_vec.specs.Spans.{row}
 use Rattle.f2_matrix.specs.Preimages.{pivot_of}
 use Rattle.f2_matrix.proofs.Pivots.{is_pivot}
-use Rattle.f2_kernel.proofs.Within.{AreListed, one_listed, none_listed}
+use Rattle.f2_kernel.proofs.AtMarks.{AreListed, one_listed, none_listed}
 use Rattle.f2_kernel.proofs.blocks.marks_at_pivots.Goals as goal
 use Rattle.f2_kernel.proofs.blocks.marks_at_pivots.Goals.{then-i-eq0+in_ok-push, else-i-eq0+else-pivot-word}
 

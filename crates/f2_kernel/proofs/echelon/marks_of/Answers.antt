@@ -31,6 +31,9 @@ loop-row-preserved c =
       | in_default w ↦ rw w.marks-is (zero_marked n i rows c.loop-row.marks (subst IsZero r (w.in_default.ensures.none.0 refl)) h)
     ]
 
+pub returns-clause-length : goal.returns-clause-length
+returns-clause-length c = c.loop-row.invariant.width
+
 pub returns-clause-marked : goal.returns-clause-marked
 returns-clause-marked c = λ p o. let found = c.loop-row.invariant.marked p o in (found.0, found.2)
 

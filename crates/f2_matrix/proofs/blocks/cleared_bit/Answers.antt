@@ -1,4 +1,4 @@
-use Rattle.std.proofs.Common.{[], ◌≡◌, ◌<◌, true, false, cond, map, take, length, get_or, ap, sym, ◌∙◌, arith}
+use Rattle.std.proofs.Common.{[], ◌≡◌, ◌<◌, false, cond, map, take, length, get_or, ap, sym, ◌∙◌, arith}
 use Rattle.std.proofs.lemmas.List.{take_all, length-map, get_or-map, get_or_read}
 use Rattle.f2_vec.specs.Vectors.{plus, bit}
 use Rattle.f2_vec.specs.Spans.{combination, row}

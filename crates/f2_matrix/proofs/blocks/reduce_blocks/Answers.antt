@@ -2,7 +2,7 @@ use Rattle.std.proofs.Common.{◌≡◌, ℕ, ◌+◌, ◌<◌, ◌≤◌, Bool,
 use Rattle.std.proofs.lemmas.List.{length-take-le, length-drop, length-set, take_more_set}
 use Rattle.std.proofs.lemmas.List.Elements.{All-same, All-push}
 use Rattle.f2_vec.specs.Spans.{HaveWidth}
-use Rattle.f2_matrix.specs.Inside.Blocks.{block_rows, HoldsSums}
+use Rattle.f2_matrix.specs.Inside.Blocks.{block_rows}
 use Rattle.f2_matrix.proofs.Elimination.{IsEliminated, IsEliminated-start, IsEchelonForm-from_IsEliminated}
 use Rattle.f2_matrix.proofs.BlockSteps.{IsBlock, IsBlock-start, IsBlock-skip, IsBlock-more, IsBlock-end, IsBlock-within, HaveWidth-block}
 use Rattle.f2_matrix.proofs.blocks.reduce_blocks.Goals.{in-Some, in_default, then-loop-col-2-test+else-count-lt8, else-loop-col-2-test}
@@ -11,7 +11,8 @@ use Rattle.f2_matrix.proofs.blocks.reduce_blocks.Goals as goal
 pub loop-col-init : goal.loop-col-init
 loop-col-init c = record {
   within = omega arith;
-  room = c.requires.table;
+  width = c.requires.width;
+  room = c.requires.room;
   done = IsEliminated-start c.args.cols c.args.rows.now c.requires.rows;
 }
 
@@ -83,27 +84,25 @@ block_of-requires c =
     let w = IsBlock-within c.args.cols c.loop-col.settled c.loop-col-2.col (take c.loop-col-2.count c.loop-col-2.places) c.args.rows.now c.loop-col-2.rows s.done in
     omega (arith, w, count_is c.loop-col-2.count c.loop-col-2.places s.few s.size)
 
-pub fill_table-requires-clause-room : goal.fill_table-requires-clause-room
-fill_table-requires-clause-room c = c.loop-col.invariant.room
-
 -- the rows that the table is of
 same_block : (r count : ℕ) (places : List ℕ) (rows b : List (List Bool)) → count ≤ 8 → length places ≡ 8 → b ≡ take count (drop r rows) → b ≡ block_rows r (take count places) rows
 same_block r count places rows b h e f = f ∙ ap (λ k. take k (drop r rows)) (sym (count_is count places h e))
 
-pub fill_table-requires-clause-block : goal.fill_table-requires-clause-block
-fill_table-requires-clause-block c =
+pub fill-requires-clause-widths : goal.fill-requires-clause-widths
+fill-requires-clause-widths c =
     let s = c.loop-col-2.invariant in
     let ps = take c.loop-col-2.count c.loop-col-2.places in
     let e = same_block c.loop-col.settled c.loop-col-2.count c.loop-col-2.places c.loop-col-2.rows c.block_of.result.now s.few s.size c.block_of.ensures in
-    subst (HaveWidth c.args.cols) (sym e) (HaveWidth-block c.args.cols c.loop-col.settled ps c.loop-col-2.rows s.done.widths)
+    subst (λ k. HaveWidth k c.block_of.result.now) (sym c.loop-col.invariant.width)
+    (subst (HaveWidth c.args.cols) (sym e) (HaveWidth-block c.args.cols c.loop-col.settled ps c.loop-col-2.rows s.done.widths))
 
-pub fill_table-requires-clause-few : goal.fill_table-requires-clause-few
-fill_table-requires-clause-few c =
+pub fill-requires-clause-few : goal.fill-requires-clause-few
+fill-requires-clause-few c =
     let s = c.loop-col-2.invariant in
     let w = IsBlock-within c.args.cols c.loop-col.settled c.loop-col-2.col (take c.loop-col-2.count c.loop-col-2.places) c.args.rows.now c.loop-col-2.rows s.done in
     let k = count_is c.loop-col-2.count c.loop-col-2.places s.few s.size in
     let l = ap length c.block_of.ensures ∙ length-take-le c.loop-col-2.count (drop c.loop-col.settled c.loop-col-2.rows) (omega (arith, w, k, length-drop c.loop-col.settled c.loop-col-2.rows)) in
-    omega (arith, l, s.few)
+    omega (arith, l, s.few, c.loop-col.invariant.room)
 
 pub slice_bounds-places-end-in-loop-col : goal.slice_bounds-places-end-in-loop-col
 slice_bounds-places-end-in-loop-col c = omega (arith, c.loop-col-2.invariant.few, c.loop-col-2.invariant.size)
@@ -120,11 +119,13 @@ clear_outside-requires-clause-within c = IsBlock-within c.args.cols c.loop-col.s
 pub clear_outside-requires-clause-places : goal.clear_outside-requires-clause-places
 clear_outside-requires-clause-places c = c.loop-col-2.invariant.below
 
+pub clear_outside-requires-clause-width : goal.clear_outside-requires-clause-width
+clear_outside-requires-clause-width c = c.fill.ensures.cols ∙ c.loop-col.invariant.width
+
 pub clear_outside-requires-clause-sums : goal.clear_outside-requires-clause-sums
 clear_outside-requires-clause-sums c =
     let s = c.loop-col-2.invariant in
-    let e = same_block c.loop-col.settled c.loop-col-2.count c.loop-col-2.places c.loop-col-2.rows c.block_of.result.now s.few s.size c.block_of.ensures in
-    subst (λ b. HoldsSums c.args.cols b c.fill_table.new.table) e c.fill_table.ensures.sums
+    c.fill.ensures.rows ∙ same_block c.loop-col.settled c.loop-col-2.count c.loop-col-2.places c.loop-col-2.rows c.block_of.result.now s.few s.size c.block_of.ensures
 
 pub overflow_add-settled : goal.overflow_add-settled
 overflow_add-settled c =
@@ -148,7 +149,8 @@ loop-col-preserved c =
     let ps = take c.loop-col-2.count c.loop-col-2.places in
     record {
       within = s.within;
-      room = c.fill_table.ensures.room;
+      width = c.fill.ensures.cols ∙ c.loop-col.invariant.width;
+      room = c.fill.ensures.most ∙ c.loop-col.invariant.room;
       done = subst (λ k. IsEliminated n (r + k) c.loop-col-2.col c.args.rows.now c.clear_outside.new.rows) (count_is c.loop-col-2.count c.loop-col-2.places s.few s.size)
           (IsBlock-end n r c.loop-col-2.col ps c.args.rows.now c.loop-col-2.rows c.clear_outside.new.rows s.done c.clear_outside.ensures);
     }
@@ -159,5 +161,8 @@ returns-clause-form c =
     IsEchelonForm-from_IsEliminated c.args.cols c.loop-col.settled c.args.rows.now c.loop-col.rows
     (subst (λ k. IsEliminated c.args.cols c.loop-col.settled k c.args.rows.now c.loop-col.rows) e c.loop-col.invariant.done)
 
-pub returns-clause-table : goal.returns-clause-table
-returns-clause-table c = c.loop-col.invariant.room
+pub returns-clause-width : goal.returns-clause-width
+returns-clause-width c = c.loop-col.invariant.width
+
+pub returns-clause-room : goal.returns-clause-room
+returns-clause-room c = c.loop-col.invariant.room

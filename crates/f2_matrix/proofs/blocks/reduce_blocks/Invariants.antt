@@ -1,6 +1,5 @@
 use Rattle.std.proofs.Common.{◌≡◌, ◌+◌, ◌-◌, ◌<◌, ◌≤◌, length, take}
 use Rattle.std.specs.List.{All}
-use Rattle.f2_matrix.specs.Inside.Blocks.{IsRoomForSums}
 use Rattle.f2_matrix.proofs.Elimination.{IsEliminated}
 use Rattle.f2_matrix.proofs.BlockSteps.{IsBlock}
 use Rattle.f2_matrix.proofs.blocks.reduce_blocks.Given as goal
@@ -21,7 +20,8 @@ decreases-loop-col-2 l = l.cols - l.col
 abbrev pub invariant-loop-col : goal.invariant-loop-col
 invariant-loop-col l = record {
   within : l.col ≤ l.cols;
-  room : IsRoomForSums l.cols 8 l.table;
+  width : l.table.cols ≡ l.cols;
+  room : l.table.most ≡ 8;
   done : IsEliminated l.cols l.settled l.col l.fn.rows l.rows;
 }
 

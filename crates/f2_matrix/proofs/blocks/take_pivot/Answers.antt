@@ -2,7 +2,7 @@ use Rattle.std.proofs.Common.{◌≡◌, ◌+◌, ◌<◌, ℕ, List, Bool, [], 
 use Rattle.std.proofs.lemmas.List.{get_or_default, get_or-set_same}
 use Rattle.f2_vec.specs.Spans.{row, HaveWidth}
 use Rattle.f2_matrix.specs.Inside.RowOperations.{cleared}
-use Rattle.f2_matrix.specs.Inside.Blocks.{cleared_at}
+use Rattle.f2_sums.specs.Sums.{cleared_at}
 use Rattle.f2_matrix.proofs.BlockSteps.{length-cleared_at}
 use Rattle.f2_matrix.proofs.BlockParts.{taken_from_parts, first_and_rest, set_first, swapped_widths}
 use Rattle.f2_matrix.proofs.blocks.take_pivot.Goals as goal

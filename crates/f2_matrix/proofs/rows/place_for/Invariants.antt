@@ -5,4 +5,4 @@ use Rattle.f2_matrix.specs.Preimages.{pivot_of}
 use Rattle.f2_matrix.proofs.rows.place_for.Given as goal
 
 abbrev pub invariant-loop-i : goal.invariant-loop-i
-invariant-loop-i l = (j : ℕ) → j < l.i → pivot_of (row l.rows j) ≤ l.pivot
+invariant-loop-i l = (j : ℕ) → j < l.i → pivot_of (row l.rows j) ≤ l.place

@@ -73,6 +73,7 @@ loop-settled-preserved c =
     let s = c.loop-count.invariant in
     let k = count_is count c.args.bits places s.few c.requires.most s.size in
     record {
-      rooms = c.clear_others.ensures.tables;
+      width = c.clear_others.ensures.width ∙ c.loop-settled.invariant.width;
+      room = c.clear_others.ensures.room ∙ c.loop-settled.invariant.room;
       done = subst (λ j. HavePivots n (r + j) e c.args.rows.now c.clear_others.new.rows) k (IsRowBlock-end n r e ps c.args.rows.now c.loop-count.rows c.clear_others.new.rows s.done c.clear_others.ensures.rows);
     }

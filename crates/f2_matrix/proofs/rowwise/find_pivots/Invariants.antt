@@ -1,6 +1,6 @@
 use Rattle.std.proofs.Common.{◌≡◌, ◌+◌, ◌-◌, ◌*◌, ◌<◌, ◌≤◌, length, take}
 use Rattle.std.specs.List.{All}
-use Rattle.f2_matrix.specs.Inside.Rowwise.{AreRooms, HavePivots}
+use Rattle.f2_matrix.specs.Inside.Rowwise.{HavePivots}
 use Rattle.f2_matrix.proofs.RowBlocks.{IsRowBlock}
 use Rattle.f2_matrix.proofs.rowwise.find_pivots.Given as goal
 
@@ -19,7 +19,8 @@ decreases-loop-count l = l.end - (l.settled + l.count)
 
 abbrev pub invariant-loop-settled : goal.invariant-loop-settled
 invariant-loop-settled l = record {
-  rooms : AreRooms l.cols l.bits l.tables.first.items l.tables.second.items l.tables.third.items l.tables.fourth.items;
+  width : l.tables.cols ≡ l.cols;
+  room : l.tables.most ≡ 4 * l.bits;
   done : HavePivots l.cols l.settled l.end l.fn.rows l.rows;
 }
 

@@ -1,7 +1,7 @@
 use Rattle.std.proofs.Common.{◌<◌, [], length, map, ap, sym, ◌∙◌, arith}
 use Rattle.std.proofs.lemmas.List.{get_or_default, get_or-set_same}
 use Rattle.f2_matrix.specs.Inside.RowOperations.{cleared}
-use Rattle.f2_matrix.specs.Inside.Blocks.{cleared_at}
+use Rattle.f2_sums.specs.Sums.{cleared_at}
 use Rattle.f2_matrix.proofs.NextParts.{parts_of_splits, behind_front, width_block, pivot_width, taken_from_same}
 use Rattle.f2_matrix.proofs.rowwise.take_next.Goals as goal
 

@@ -1,6 +1,5 @@
-use Rattle.std.proofs.Common.{◌≡◌, sym, subst, ◌∙◌}
-use Rattle.f2_vec.specs.Spans.{HaveWidth}
-use Rattle.f2_matrix.specs.Echelon.{IsReduced, HasNoZeroRow, IsRowBasis}
+use Rattle.std.proofs.Common.{sym, subst, ◌∙◌}
+use Rattle.f2_matrix.specs.Echelon.{IsRowBasis}
 use Rattle.f2_matrix.proofs.Parts.{image_is_row_basis}
 use Rattle.f2_matrix.proofs.reduced.Reduced.row_basis.Goals as goal
 

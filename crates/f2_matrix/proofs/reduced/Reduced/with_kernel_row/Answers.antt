@@ -27,9 +27,9 @@ from_shared_rows-requires-clause-chosen c =
     let m = self.height + 1 in
     let items = c.in_ok-chosen.chosen.items in
     let is : c.as_mut_slice.result.now ≡ map longer self.chosen = c.as_mut_slice.ensures.value ∙ c.in_ok-chosen.ensures ∙ ap (map longer) c.chosen.ensures.rows in
-    let new : c.clear_by.new.rows ≡ map (cleared c.args.relation c.first_or_length-pivot.result) (map longer self.chosen) = c.clear_by.ensures ∙ ap (map (cleared c.args.relation c.first_or_length-pivot.result)) is in
-    let wide : HaveWidth m c.clear_by.new.rows = subst (HaveWidth m) (sym new) (HaveWidth-cleared m c.args.relation c.first_or_length-pivot.result (map longer self.chosen) c.requires.length (widths_longer self.height self.chosen c.chosen.ensures.widths)) in
-    let same : length c.clear_by.new.rows ≡ c.in_ok-chosen.chosen.len = omega (arith, ap length c.clear_by.ensures, length-map c.as_mut_slice.result.now (cleared c.args.relation c.first_or_length-pivot.result), ap length c.as_mut_slice.ensures.value, c.in_ok-chosen.chosen.ok.0) in
+    let new : c.clear_by.new.rows ≡ map (cleared c.args.relation c.pivot-pivot.result) (map longer self.chosen) = c.clear_by.ensures ∙ ap (map (cleared c.args.relation c.pivot-pivot.result)) is in
+    let wide : HaveWidth m c.clear_by.new.rows = subst (HaveWidth m) (sym new) (HaveWidth-cleared m c.args.relation c.pivot-pivot.result (map longer self.chosen) c.requires.length (widths_longer self.height self.chosen c.chosen.ensures.widths)) in
+    let same : length c.clear_by.new.rows ≡ c.in_ok-chosen.chosen.len = omega (arith, ap length c.clear_by.ensures, length-map c.as_mut_slice.result.now (cleared c.args.relation c.pivot-pivot.result), ap length c.as_mut_slice.ensures.value, c.in_ok-chosen.chosen.ok.0) in
     subst (λ h. HaveWidth h (take c.in_ok-chosen.chosen.len (c.clear_by.new.rows ++ drop (length c.clear_by.new.rows) items))) (sym (c.len-height.ensures ∙ c.requires.length))
     (subst (HaveWidth m) (sym (with_items_is c.in_ok-chosen.chosen c.clear_by.new.rows same)) wide)
 
@@ -38,6 +38,6 @@ from_shared_rows-requires-clause-kernel c =
     let self = c.args.self.now in
     let m = self.height + 1 in
     let is : c.in_ok-relations.relations.items ≡ map longer self.kernel = c.in_ok-relations.ensures ∙ ap (map longer) c.kernel.ensures.rows in
-    let new : c.in_ok-kernel.kernel ≡ with_pivot c.args.relation c.first_or_length-pivot.result c.place_for-place.result (map longer self.kernel) = c.in_ok-kernel.ensures ∙ c.in_ok-put_pivot.ensures ∙ ap (with_pivot c.args.relation c.first_or_length-pivot.result c.place_for-place.result) is in
-    let wide = HaveWidth-insert m c.place_for-place.result c.args.relation (map (cleared c.args.relation c.first_or_length-pivot.result) (map longer self.kernel)) c.requires.length (HaveWidth-cleared m c.args.relation c.first_or_length-pivot.result (map longer self.kernel) c.requires.length (widths_longer self.height self.kernel c.kernel.ensures.widths)) in
+    let new : c.in_ok-kernel.kernel ≡ with_pivot c.args.relation c.pivot-pivot.result c.place_for-place.result (map longer self.kernel) = c.in_ok-kernel.ensures ∙ c.in_ok-put_pivot.ensures ∙ ap (with_pivot c.args.relation c.pivot-pivot.result c.place_for-place.result) is in
+    let wide = HaveWidth-insert m c.place_for-place.result c.args.relation (map (cleared c.args.relation c.pivot-pivot.result) (map longer self.kernel)) c.requires.length (HaveWidth-cleared m c.args.relation c.pivot-pivot.result (map longer self.kernel) c.requires.length (widths_longer self.height self.kernel c.kernel.ensures.widths)) in
     subst (λ h. HaveWidth h c.in_ok-kernel.kernel) (sym (c.len-height.ensures ∙ c.requires.length)) (subst (HaveWidth m) (sym new) wide)
