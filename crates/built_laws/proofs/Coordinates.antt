@@ -15,7 +15,7 @@ use Rattle.milnor_laws.proofs.SumsModTwo.{odd_by-none, is_odd_below-one}
 use Rattle.milnor_laws.proofs.Associative.{odd_by-same_all}
 use Rattle.milnor_laws.proofs.UnitActs.{empty_or_positive}
 use Rattle.hopf_laws.proofs.Antipode.{over-unit_left, over-unit_right}
-use Rattle.module_json.specs.ModuleFile.{Generator, degree_at}
+use Rattle.module_spec.specs.Spec.{Generator, degree_at}
 use Rattle.finite_module.specs.Module.{Module, numbers_from, generators_in}
 use Rattle.finite_module.specs.Axioms.{IsModule, value_of}
 use Rattle.finite_module.specs.ModuleLaws.{generators_in-member}

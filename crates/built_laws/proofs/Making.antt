@@ -12,16 +12,16 @@ use Rattle.hopf_laws.specs.Conjugate.{conjugate}
 use Rattle.hopf_laws.proofs.Antipode.{conjugate_exists}
 use Rattle.hopf_laws.proofs.Representations.{shift_is_module, sum_is_module, tensor_is_module, dual_is_module, numbered_is_module}
 use Rattle.hopf_laws.proofs.Splittings.{All-flat_map, All-of_all}
-use Rattle.module_json.specs.ModuleFile.{Generator, degree_at}
+use Rattle.module_spec.specs.Spec.{Generator, degree_at}
 use Rattle.finite_module.specs.Module.{Module}
 use Rattle.finite_module.specs.Axioms.{IsModule}
-use Rattle.module_json.specs.WellFormed.{NeverFall}
+use Rattle.module_spec.specs.WellFormed.{NeverFall}
 use Rattle.built_laws.specs.Built.{action_of, IsNumbered}
-use Rattle.module_json.specs.Sorting.{sorted_by}
+use Rattle.module_spec.specs.Sorting.{sorted_by}
 use Rattle.built_laws.specs.Constructed.{generators_from, module_of, ShiftMakesModule, SumMakesModule, TensorMakesModule, DualMakesModule}
 use Rattle.built_laws.proofs.Values.{built_is_module}
 use Rattle.built_laws.proofs.Coordinates.{modules_are_actions, built_has_coefficients}
-use Rattle.module_json.proofs.Sorting.{AllPairs-head, AllPairs-tail, AllPairs-nil, length-sorted_by, sorted_by_rises}
+use Rattle.module_spec.proofs.Sorting.{AllPairs-head, AllPairs-tail, AllPairs-nil, length-sorted_by, sorted_by_rises}
 use Rattle.built_laws.proofs.Sorted.{AllPairs-append, AllPairs-map, odd_by-sorted_by, All-sorted_by, AllPairs-sorted_by}
 
 abbrev pub Differ : {X : Type 0} → Action X → X → X → Type 0

@@ -14,17 +14,17 @@ use Rattle.hopf_laws.specs.Conjugate.{conjugate}
 use Rattle.hopf_laws.proofs.Antipode.{conjugate_exists}
 use Rattle.hopf_laws.proofs.Cartan.{HasDegree}
 use Rattle.hopf_laws.proofs.Representations.{shift_is_module, dual_is_module, dual_twice}
-use Rattle.module_json.specs.ModuleFile.{Generator, no_generator, degree_at}
+use Rattle.module_spec.specs.Spec.{Generator, no_generator, degree_at}
 use Rattle.finite_module.specs.Module.{Module, numbers_from, generators_in}
 use Rattle.finite_module.specs.Axioms.{IsModule}
-use Rattle.module_json.specs.WellFormed.{NeverFall}
+use Rattle.module_spec.specs.WellFormed.{NeverFall}
 use Rattle.finite_module.specs.ModuleLaws.{generators_in-member}
 use Rattle.built_laws.specs.Built.{action_of}
-use Rattle.module_json.specs.Sorting.{sorted_by}
+use Rattle.module_spec.specs.Sorting.{sorted_by}
 use Rattle.built_laws.specs.Constructed.{dual_module, shift_module, IsRenamed, DualTwiceIsModule, ShiftBackIsModule}
 use Rattle.built_laws.proofs.Coordinates.{values_are, modules_are_actions}
 use Rattle.built_laws.proofs.Making.{IsBasis, falls, made_count, made_degree, made_coefficient, numbers_basis, dual_basis, dual_makes_module, shift_makes_module, range_at}
-use Rattle.module_json.proofs.Sorting.{IsRising, length-sorted_by, sorted_by-rising}
+use Rattle.module_spec.proofs.Sorting.{IsRising, length-sorted_by, sorted_by-rising}
 use Rattle.built_laws.proofs.Sorted.{All-sorted_by, sorted_by-same, sorted_by-map, again}
 
 -- lists of generators of the same degrees have the same in each degree

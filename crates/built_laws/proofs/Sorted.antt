@@ -7,8 +7,8 @@ use Rattle.std.proofs.lemmas.List.Kept.{AllPairs-cons}
 use Rattle.f2_vec.specs.Vectors.{plus}
 use Rattle.milnor_basis.specs.Product.{odd_by}
 use Rattle.milnor_laws.proofs.SumsModTwo.{plus-swap}
-use Rattle.module_json.specs.Sorting.{inserted, sorted_by}
-use Rattle.module_json.proofs.Sorting.{AllPairs-tail, AllPairs-head, AllPairs-nil}
+use Rattle.module_spec.specs.Sorting.{inserted, sorted_by}
+use Rattle.module_spec.proofs.Sorting.{AllPairs-tail, AllPairs-head, AllPairs-nil}
 
 pub AllPairs-append : {X : Type 0} → (R : X → X → Type 0) (xs ys : List X) → AllPairs R xs → AllPairs R ys → All (λ x. All (R x) ys) xs → AllPairs R (xs ++ ys)
 AllPairs-append R [] ys h g k = g

@@ -22,10 +22,10 @@ use Rattle.milnor_basis.proofs.Parity.{odd_by-range, is_odd_below-same}
 use Rattle.milnor_laws.proofs.SumsModTwo.{is_odd_below-first}
 use Rattle.milnor_laws.proofs.Vectors.{zeros-map, combination-map}
 use Rattle.hopf_laws.specs.Actions.{Action, IsAction}
-use Rattle.module_json.specs.ModuleFile.{Generator, degree_at}
+use Rattle.module_spec.specs.Spec.{Generator, degree_at}
 use Rattle.finite_module.specs.Module.{Module, numbers_from, generators_in, width, unit, value, total, place_of, or_zeros, elements_below}
 use Rattle.finite_module.specs.DerivedAction.{elements, span}
-use Rattle.module_json.specs.WellFormed.{NeverFall}
+use Rattle.module_spec.specs.WellFormed.{NeverFall}
 use Rattle.finite_module.specs.Axioms.{value_of, one_by_one, by_their_product}
 use Rattle.finite_module.specs.ModuleLaws.{generators_in-member, numbers_from-member}
 use Rattle.finite_module.proofs.AboveSpan.{width_above_span}

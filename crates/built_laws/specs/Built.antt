@@ -3,11 +3,11 @@ use Rattle.std.specs.Prelude.{◌≡◌, ℕ, ◌+◌, ◌<◌, pos, ◌+ℤ◌,
 use Rattle.std.specs.List.{range_with_len}
 use Rattle.milnor_basis.specs.Exponents.{degree_of, IsTrimmed}
 use Rattle.hopf_laws.specs.Actions.{Action, IsAction}
-use Rattle.module_json.specs.ModuleFile.{Generator, degree_at}
+use Rattle.module_spec.specs.Spec.{Generator, degree_at}
 use Rattle.finite_module.specs.Module.{Module, generators_in}
 use Rattle.finite_module.specs.DerivedAction.{elements, span}
 use Rattle.finite_module.specs.Axioms.{IsModule, value_of}
-use Rattle.module_json.specs.WellFormed.{NeverFall}
+use Rattle.module_spec.specs.WellFormed.{NeverFall}
 
 -- the coefficient of generator j in a vector on these generators
 abbrev pub coordinate : List ℕ → List Bool → ℕ → Bool

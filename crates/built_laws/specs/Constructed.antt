@@ -4,11 +4,11 @@ use Rattle.std.proofs.Common.{inl}
 use Rattle.milnor_basis.specs.Exponents.{IsTrimmed}
 use Rattle.hopf_laws.specs.Actions.{Action, shifted, sum, tensor, dual, numbered}
 use Rattle.hopf_laws.specs.Conjugate.{conjugate}
-use Rattle.module_json.specs.Sorting.{sorted_by}
-use Rattle.module_json.specs.ModuleFile.{Generator, degree_at}
+use Rattle.module_spec.specs.Sorting.{sorted_by}
+use Rattle.module_spec.specs.Spec.{Generator, degree_at}
 use Rattle.finite_module.specs.Module.{Module}
 use Rattle.finite_module.specs.Axioms.{IsModule, value_of}
-use Rattle.module_json.specs.WellFormed.{NeverFall}
+use Rattle.module_spec.specs.WellFormed.{NeverFall}
 use Rattle.built_laws.specs.Built.{action_of, built}
 
 -- generators of these degrees, named by their numbers, from i on

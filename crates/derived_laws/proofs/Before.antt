@@ -6,7 +6,7 @@ use Rattle.f2_vec.proofs.Combinations.{map_same, map_same_all}
 use Rattle.milnor_laws.proofs.Indecomposables.{single_trimmed}
 use Rattle.milnor_basis.specs.Exponents.{degree_of, IsTrimmed}
 use Rattle.milnor_basis.proofs.ExponentLemmas.{IsTrimmed-tail}
-use Rattle.module_json.specs.ModuleFile.{Generator, File, degree_at}
+use Rattle.module_spec.specs.Spec.{Generator, File, degree_at}
 use Rattle.finite_module.specs.Module.{generators_in, width, value, act_on, total}
 use Rattle.finite_module.specs.ModuleLaws.{generators_in-member}
 use Rattle.finite_module.specs.DerivedAction.{listed_sum, sum_vector, twice, adem_terms, by_adem, square_value, power_below, other_terms, by_product, derived_value}

@@ -10,8 +10,8 @@ use Rattle.f2_vec.proofs.Combinations.{map_same, map_same_all}
 use Rattle.milnor_laws.proofs.Indecomposables.{single_trimmed}
 use Rattle.milnor_basis.specs.Exponents.{degree_of, IsTrimmed}
 use Rattle.milnor_basis.specs.Product.{product_terms}
-use Rattle.module_json.specs.ModuleFile.{Generator, Entry, File, degree_at}
-use Rattle.module_json.specs.WellFormed.{IsEntryOf, NeverFall}
+use Rattle.module_spec.specs.Spec.{Generator, Entry, File, degree_at}
+use Rattle.module_spec.specs.WellFormed.{IsEntryOf, NeverFall}
 use Rattle.finite_module.specs.Module.{generators_in, width, value, act_on, total}
 use Rattle.finite_module.specs.ModuleLaws.{generators_in-member}
 use Rattle.finite_module.specs.DerivedAction.{sum_vector, derived_module}

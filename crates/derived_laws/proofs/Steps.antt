@@ -14,7 +14,7 @@ use Rattle.milnor_basis.specs.Product.{coefficient, odd_by}
 use Rattle.milnor_basis.proofs.BasisLemmas.{All-basis_of}
 use Rattle.milnor_basis.proofs.ExponentLemmas.{IsTrimmed-tail}
 use Rattle.milnor_basis.specs.Front.{front}
-use Rattle.module_json.specs.ModuleFile.{Generator, File, degree_at}
+use Rattle.module_spec.specs.Spec.{Generator, File, degree_at}
 use Rattle.finite_module.specs.Module.{width, value, act_on, total}
 use Rattle.finite_module.specs.Axioms.{IsModule}
 use Rattle.finite_module.specs.DerivedAction.{listed_sum, sum_vector, twice, adem_terms, by_adem, power_below, other_terms, by_product, derived_value}

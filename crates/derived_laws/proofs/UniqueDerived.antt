@@ -6,10 +6,10 @@ use Rattle.std.proofs.lemmas.List.{drop_more, length_push, length-take-le, nil_f
 use Rattle.std.proofs.lemmas.List.FromFn.{length-range_with_len, get_or-range_with_len}
 use Rattle.std.proofs.lemmas.Option.{slice_get-map, slice_get-get_or, slice_get_within, get_or_from_slice_get}
 use Rattle.milnor_basis.specs.Exponents.{degree_of, IsTrimmed}
-use Rattle.module_json.specs.ModuleFile.{File, degree_at}
+use Rattle.module_spec.specs.Spec.{File, degree_at}
 use Rattle.finite_module.specs.Module.{width, or_zeros, value}
 use Rattle.finite_module.specs.Axioms.{IsModule}
-use Rattle.module_json.specs.WellFormed.{NeverFall}
+use Rattle.module_spec.specs.WellFormed.{NeverFall}
 use Rattle.finite_module.specs.DerivedAction.{derived_value, derived_operator, derived_from, elements, span, derived_module}
 use Rattle.finite_module.proofs.AboveSpan.{width_above_span}
 use Rattle.finite_module.proofs.Derived.{derived_widths, derived_from_kept}

@@ -3,10 +3,10 @@
 use Rattle.std.specs.Prelude.{◌≡◌, ℕ, ◌<◌, pos, ◌+ℤ◌, Bool, true, All, Some, List, [], ◌∷◌, length}
 use Rattle.std.specs.Int.{is_power_of_two}
 use Rattle.milnor_basis.specs.Exponents.{IsTrimmed}
-use Rattle.module_json.specs.ModuleFile.{File, degree_at}
+use Rattle.module_spec.specs.Spec.{File, degree_at}
 use Rattle.finite_module.specs.Module.{Module, value}
 use Rattle.finite_module.specs.DerivedAction.{listed_sum, sum_vector, derived_module}
-use Rattle.module_json.specs.WellFormed.{IsWellFormed, NeverFall}
+use Rattle.module_spec.specs.WellFormed.{IsWellFormed, NeverFall}
 use Rattle.finite_module.specs.Axioms.{IsModule}
 use Rattle.module_check.specs.Acceptance.{refusal_of}
 use Rattle.module_check.specs.declared.fault.CheckFault.{CheckFault}

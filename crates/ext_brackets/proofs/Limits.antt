@@ -4,7 +4,7 @@ use Rattle.std.specs.Prelude.{neg_ℤ}
 use Rattle.std.proofs.lemmas.Int.{ints}
 use Rattle.bidegree.specs.declared.range.Range.{Range}
 use Rattle.bidegree.specs.declared.class.Class.{Class}
-use Rattle.module_json.specs.declared.limits.TheConstants.{MAX_DEGREE}
+use Rattle.module_spec.specs.declared.limits.TheConstants.{MAX_DEGREE}
 use Rattle.square.specs.Squares.{bottom_of}
 use Rattle.square.specs.Tables.{Staircase}
 use Rattle.lift_laws.specs.Lifts.{IsSphere}

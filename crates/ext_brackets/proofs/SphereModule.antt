@@ -8,7 +8,7 @@ use Rattle.f2_vec.specs.Vectors.{zeros}
 use Rattle.f2_vec.specs.Spans.{combination}
 use Rattle.milnor_basis.specs.Exponents.{degree_of}
 use Rattle.milnor_basis.specs.Basis.{basis_of}
-use Rattle.module_json.specs.ModuleFile.{Generator}
+use Rattle.module_spec.specs.Spec.{Generator}
 use Rattle.finite_module.specs.Module.{width, value, act_on, bottom, elements_below, place_of}
 use Rattle.finite_module.specs.Operators.{HaveWidths}
 use Rattle.finite_module.specs.Axioms.{IsModule}

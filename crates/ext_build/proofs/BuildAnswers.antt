@@ -8,7 +8,8 @@ use Rattle.std.proofs.lemmas.Result.{IfOk-weaker, IfErr-weaker}
 use Rattle.serde_json.specs.Data.{Data, Items, no_items, item}
 use Rattle.serde_json.specs.Find.{as_array}
 use Rattle.module_json.specs.Checks.{IsValueOf, items_count}
-use Rattle.module_json.specs.ModuleFile.{Generator, File, file_of, unless_refused, items_or}
+use Rattle.module_spec.specs.Spec.{Generator, File}
+use Rattle.module_json.specs.ModuleFile.{file_of, unless_refused, items_or}
 use Rattle.module_json.specs.Parts.{ArePartsOf, no_value, described, array_refusal, with_file, files_of, modules_of}
 use Rattle.module_json.proofs.Reading.{parts_unique}
 use Rattle.module_json.proofs.Sizes.{value_fits}
@@ -30,7 +31,7 @@ use Rattle.ext_report.specs.declared.failure.Failure.{Failure}
 use Rattle.ext_report.specs.declared.failure.Failure.TheVariants.{Words, Malformed as NoModuleFile, NotModule, PastLimit, Reading, Memory}
 use Rattle.ext_build.specs.Building.{wanted, built_of, first_refused, IsBuilt, IsAnswerToFiles, no_module, past_limit, file_of as file_of_built, IsBuildAnswer, no_files, of_files, IsBuildable, ArePartsFrom, IsBuildAnswerFrom, IsBuildCauseFrom}
 use Rattle.ext_report.specs.Failure.{IsTold, build_failure}
-use Rattle.ext_build.specs.Input.{HasValue}
+use Rattle.read_module.specs.Input.{HasValue}
 
 -- ---- one answer
 

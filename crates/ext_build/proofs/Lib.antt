@@ -1,2 +1,2 @@
+pub mod Parts
 pub mod BuildAnswers
-pub mod Reading

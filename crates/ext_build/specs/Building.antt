@@ -1,7 +1,7 @@
 -- What `build` answers: the module file of what is built of the modules of a file of several.
 use Rattle.std.specs.Prelude.{◌≡◌, ℕ, List, [], ◌∷◌, map, Option, Some, None, option_map, Result, Ok, Err, ⊤}
 use Rattle.std.specs.Option.{option_or}
-use Rattle.module_json.specs.ModuleFile.{File}
+use Rattle.module_spec.specs.Spec.{File}
 use Rattle.module_json.specs.Parts.{ArePartsOf}
 use Rattle.module_json.specs.declared.malformed.Malformed.{Malformed}
 use Rattle.module_json.specs.declared.malformed.What.{What}
@@ -18,7 +18,7 @@ use Rattle.ext_words.specs.declared.command.Build.{Build}
 use Rattle.ext_words.specs.declared.command.Build.TheVariants.{Sum, Tensor, Dual, Shift}
 use Rattle.ext_report.specs.declared.failure.Failure.{Failure}
 use Rattle.ext_report.specs.declared.failure.Failure.TheVariants.{Malformed as NoModuleFile, NotModule, PastLimit}
-use Rattle.ext_build.specs.Input.{IsOfInput, IsCauseOf}
+use Rattle.read_module.specs.Input.{IsOfInput, IsCauseOf}
 
 -- of how many modules
 abbrev pub wanted : Build → ℕ

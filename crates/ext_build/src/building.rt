@@ -2,23 +2,24 @@
 ghost use Rattle.std.specs.Prelude.{◌≡◌, ◌≢◌, ◌≤◌, length, map, Some, None, Ok, Err, IfOk, IfErr, OnOk};
 ghost use Rattle.edge.specs.Faults.{HasRisen};
 ghost use Rattle.edge.specs.Source.{without_first, HasGivenUpTo};
-ghost use Rattle.module_json.specs.ModuleFile.{File};
+ghost use Rattle.module_spec.specs.Spec.{File};
 ghost use Rattle.finite_module.specs.Module.{Module as SteenrodModule};
 ghost use Rattle.finite_module.specs.DerivedAction.{derived_module};
 ghost use Rattle.module_check.specs.declared.fault.CheckFault.{CheckFault as Fault};
 ghost use Rattle.module_build.specs.Limits.{limit_passed};
 ghost use Rattle.module_build.specs.declared.fault.BuildFault as BuildFault;
-ghost use Rattle.ext_build.specs.Input.{most_read};
+ghost use Rattle.read_module.specs.Input.{most_read};
 ghost use Rattle.ext_build.specs.Building.{wanted, built_of, first_refused, ArePartsFrom, IsAnswerToFiles, IsBuildAnswerFrom, IsBuildCauseFrom};
 ghost use Rattle.ext_report.specs.declared.failure.Failure as Failure;
 
-use crate::input::{module_of, most_read};
 use edge::{Source, read_through};
 use ext_report::Failure;
 use ext_words::Build;
 use module_build::{BuildFault, dual, file_text, shift, sum, tensor};
 use module_check::Module;
-use module_json::{Spec, read_parts};
+use module_json::read_parts;
+use module_spec::Spec;
+use read_module::{module_of, most_read};
 use std::alloc::Global;
 
 /// Of how many modules something is built.

@@ -1,9 +1,6 @@
-//! The output of `build`, and the modules of files that commands read: what a source's bytes describe, and what is built
-//! of it.
+//! The output of `build`: the module file of what is built of the modules that a source's bytes describe.
 #![tactic(auto)]
 
 mod building;
-mod input;
 
 pub use building::built_text;
-pub use input::read_module;

@@ -10,7 +10,7 @@ use Rattle.f2_vec.proofs.Combinations.{map_same, map_same_all}
 use Rattle.free_module.specs.FreeModule.{free_basis}
 use Rattle.free_module.specs.FreeBasis.{IsOfDegree}
 use Rattle.free_module.proofs.FreeBasis.{All-free_basis}
-use Rattle.module_json.specs.ModuleFile.{Generator}
+use Rattle.module_spec.specs.Spec.{Generator}
 use Rattle.finite_module.specs.Module.{bottom}
 use Rattle.finite_module.specs.Text.{newline, joined_by_plus}
 use Rattle.resolution_laws.specs.Resolution.{Content, no_content, square_in, row_of, degrees_from, generator_count}

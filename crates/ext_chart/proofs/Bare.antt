@@ -4,7 +4,7 @@ use Rattle.std.specs.List.{flat_map, range_with_len}
 use Rattle.std.proofs.Math.Path.{fun_ext}
 use Rattle.std.proofs.lemmas.Bool.{cases_lt}
 use Rattle.std.proofs.lemmas.List.{ext_get_or, get_or-map, get_or_past, length-map}
-use Rattle.module_json.specs.ModuleFile.{Generator}
+use Rattle.module_spec.specs.Spec.{Generator}
 use Rattle.finite_module.specs.Module.{bottom}
 use Rattle.resolution_laws.specs.Resolution.{Module, Content, no_content, square_in, row_of, degrees_from, generator_count, IsCanonicalTable}
 use Rattle.resolution_images.specs.BareRows.{BareRow, contents_of, squares_of, AreOfCanonical}

@@ -1,7 +1,7 @@
 -- The differentials of tables written by hand.
 use Rattle.std.proofs.Common.{◌≡◌, pos, negsuc, Bool, true, false, List, [], ◌∷◌, codes, refl}
 use Rattle.std.specs.Fmt.{digits}
-use Rattle.module_json.specs.ModuleFile.{Generator}
+use Rattle.module_spec.specs.Spec.{Generator}
 use Rattle.resolution_laws.specs.Resolution.{Content}
 use Rattle.ext_chart.specs.Dump.{dump_text}
 

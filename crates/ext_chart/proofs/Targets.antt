@@ -1,6 +1,6 @@
 -- What d_s goes to above row 0.
 use Rattle.std.proofs.Common.{◌≡◌, ℕ, suc, List, length, refl, ap, sym, subst, ◌∙◌}
-use Rattle.module_json.specs.ModuleFile.{Generator}
+use Rattle.module_spec.specs.Spec.{Generator}
 use Rattle.finite_module.specs.Module.{bottom}
 use Rattle.free_module.specs.FreeModule.{free_width}
 use Rattle.resolution_laws.specs.Resolution.{Content, row_of, degrees_from}

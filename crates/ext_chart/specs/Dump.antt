@@ -5,7 +5,7 @@ use Rattle.std.specs.List.{flat_map, range_with_len, items_where_true}
 use Rattle.f2_vec.specs.Spans.{row}
 use Rattle.milnor_basis.specs.Text.{sq_text}
 use Rattle.free_module.specs.FreeModule.{free_basis, free_width}
-use Rattle.module_json.specs.ModuleFile.{Generator}
+use Rattle.module_spec.specs.Spec.{Generator}
 use Rattle.finite_module.specs.Module.{bottom, width}
 use Rattle.finite_module.specs.Text.{newline, joined_by_plus, sum_text}
 use Rattle.resolution_laws.specs.Resolution.{Content, square_in, row_of, degrees_from}

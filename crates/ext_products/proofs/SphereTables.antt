@@ -6,7 +6,7 @@ use Rattle.finite_module.specs.Module.{Module as SteenrodModule, width}
 use Rattle.finite_module.specs.ModuleLaws.{numbers_from-none}
 use Rattle.finite_module.specs.DerivedAction.{derived_module}
 use Rattle.finite_module.specs.Checked.{Checked, sphere_file}
-use Rattle.module_json.specs.ModuleFile.{degree_at}
+use Rattle.module_spec.specs.Spec.{degree_at}
 use Rattle.resolution_laws.specs.Resolution.{Content, IsCanonicalTable}
 use Rattle.square.specs.Squares.{over}
 use Rattle.square.specs.Tables.{Staircase, plain_rows, cut}

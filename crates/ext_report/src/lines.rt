@@ -13,7 +13,8 @@ use cert_check::CertFault;
 use edge::{Failed, Sink, write_all};
 use ext_products::{Named, Pair, Refusal, Target};
 use module_check::CheckFault;
-use module_json::{Malformed, Place as FilePlace, Spec, What, Why};
+use module_json::{Malformed, Place as FilePlace, What, Why};
+use module_spec::Spec;
 use save_file::ResumeFault;
 use save_journal::OpenFault;
 

@@ -10,9 +10,10 @@ use Rattle.adem_laws.specs.Admissible.{value as value_of, AdmissibleFormIsUnique
 use Rattle.adem_laws.proofs.Values.{length-value}
 use Rattle.serde_json.specs.Data.{Data}
 use Rattle.module_json.specs.Checks.{IsValueOf}
-use Rattle.module_json.specs.ModuleFile.{Generator, File, IsFileOf, file_of, degree_at}
+use Rattle.module_spec.specs.Spec.{Generator, File, degree_at}
+use Rattle.module_json.specs.ModuleFile.{IsFileOf, file_of}
 use Rattle.module_json.specs.ModuleFile.IsFileOf.{no_value, described}
-use Rattle.module_json.specs.WellFormed.{NeverFall}
+use Rattle.module_spec.specs.WellFormed.{NeverFall}
 use Rattle.module_json.specs.declared.malformed.Malformed.{Malformed}
 use Rattle.module_json.proofs.Basis.{file_in_order}
 use Rattle.finite_module.specs.Module.{Module as SteenrodModule, bottom, width}
@@ -38,7 +39,7 @@ use Rattle.ext_brackets.specs.Brackets.{IsBracketAnswer}
 use Rattle.ext_products.proofs.SphereTables.{sphere-is}
 use Rattle.ext_report.specs.declared.failure.Failure.{Failure}
 use Rattle.ext_report.specs.declared.failure.Failure.TheVariants.{Words, Malformed as NoModuleFile, NotModule}
-use Rattle.ext_build.specs.Input.{HasValue}
+use Rattle.read_module.specs.Input.{HasValue}
 use Rattle.ext_build.proofs.BuildAnswers.{build_answer_exists}
 use Rattle.ext_run.specs.declared.plan.Origin.{Origin}
 use Rattle.ext_run.specs.declared.plan.Origin.TheVariants.{Sphere, Sample, File as OfFile}

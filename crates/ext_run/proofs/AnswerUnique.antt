@@ -7,7 +7,7 @@ use Rattle.adem_laws.specs.Admissible.{value}
 use Rattle.adem_laws.proofs.Forms.{admissible_form_is_unique}
 use Rattle.adem_laws.proofs.Values.{length-value}
 use Rattle.f2_matrix.proofs.Unique.{kernel_basis_unique, row_basis_unique}
-use Rattle.module_json.specs.ModuleFile.{File}
+use Rattle.module_spec.specs.Spec.{File}
 use Rattle.module_json.specs.declared.malformed.Malformed.{Malformed}
 use Rattle.module_json.proofs.Reading.{file_unique}
 use Rattle.finite_module.specs.Module.{Module as SteenrodModule}

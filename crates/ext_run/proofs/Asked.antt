@@ -5,7 +5,8 @@ use Rattle.std.specs.Prelude.{MatchOption, Result, Ok, Err}
 use Rattle.std.proofs.lemmas.List.{drop_all}
 use Rattle.bidegree.specs.declared.range.Range.{Range}
 use Rattle.edge.specs.Source.{without_first}
-use Rattle.module_json.specs.ModuleFile.{File, IsFileOf, no_value, described}
+use Rattle.module_spec.specs.Spec.{File}
+use Rattle.module_json.specs.ModuleFile.{IsFileOf, no_value, described}
 use Rattle.module_json.specs.declared.malformed.Malformed.{Malformed}
 use Rattle.module_json.specs.Checks.{is_space}
 use Rattle.module_json.specs.Parts.{modules_of, described as described_parts}
@@ -27,9 +28,9 @@ use Rattle.ext_words.specs.declared.command.Build.{Build as Made}
 use Rattle.ext_report.specs.declared.failure.Failure.{Failure}
 use Rattle.ext_report.specs.declared.failure.Failure.TheVariants.{NotModule, Malformed as NoModuleFile}
 use Rattle.ext_report.specs.Failure.{IsTold}
-use Rattle.ext_build.specs.Input.{most_read}
+use Rattle.read_module.specs.Input.{most_read}
 use Rattle.ext_build.specs.Building.{wanted, IsBuildAnswer, no_files, of_files}
-use Rattle.ext_build.proofs.Reading.{most_read-is}
+use Rattle.read_module.proofs.Reading.{most_read-is}
 use Rattle.ext_build.proofs.BuildAnswers.{build_fits}
 use Rattle.ext_run.specs.declared.plan.Origin.{Origin}
 use Rattle.ext_run.specs.declared.plan.Origin.TheVariants.{Sphere, Sample, File as OfFile}

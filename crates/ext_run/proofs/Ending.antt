@@ -4,7 +4,7 @@ use Rattle.std.specs.declared.alloc.Global.{Global}
 use Rattle.std.specs.Prelude.{Vec, Result, Ok, Err, IfOk, IfErr, OnOk, OnErr}
 use Rattle.edge.specs.Faults.{HasRisen}
 use Rattle.edge.specs.Source.{without_first, HasGivenUpTo}
-use Rattle.module_json.specs.ModuleFile.{File}
+use Rattle.module_spec.specs.Spec.{File}
 use Rattle.module_check.specs.declared.fault.CheckFault.{CheckFault}
 use Rattle.space_laws.specs.Spaces.{IsSpaceFile}
 use Rattle.cert_check.specs.declared.fault.CertFault.{CertFault}
@@ -12,7 +12,7 @@ use Rattle.save_file.specs.declared.fault.ResumeFault.{ResumeFault}
 use Rattle.ext_report.specs.declared.failure.Failure.{Failure}
 use Rattle.ext_report.specs.declared.failure.Failure.TheVariants.{Words, Malformed as NoModuleFile, NotModule, PastLimit, Reading, Writing, Saving, SaveFile, Certificate, Classes, Memory}
 use Rattle.ext_report.specs.Failure.{IsOfClasses, IsTold, status_of}
-use Rattle.ext_build.specs.Input.{most_read}
+use Rattle.read_module.specs.Input.{most_read}
 use Rattle.ext_run.specs.declared.plan.Plan.{Plan}
 use Rattle.ext_run.specs.declared.task.Task.{Task}
 use Rattle.ext_run.specs.Devices.{Device, Store}

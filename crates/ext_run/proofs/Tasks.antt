@@ -20,7 +20,7 @@ use Rattle.ext_report.specs.declared.failure.Failure.{Failure}
 use Rattle.ext_report.specs.declared.failure.Failure.TheVariants.{Words, Malformed as NoModuleFile, NotModule, PastLimit, Reading, Memory}
 use Rattle.ext_report.specs.Failure.{words_failure}
 use Rattle.ext_build.proofs.BuildAnswers.{build_not_words}
-use Rattle.ext_build.specs.Input.{IsOfInput, IsFileCauseFrom, IsModuleFrom}
+use Rattle.read_module.specs.Input.{IsOfInput, IsFileCauseFrom, IsModuleFrom}
 use Rattle.ext_build.specs.Building.{IsBuildAnswer, IsBuildAnswerFrom, IsBuildCauseFrom}
 use Rattle.ext_run.specs.declared.plan.Origin.{Origin}
 use Rattle.ext_run.specs.declared.plan.Origin.TheVariants.{Sphere as OfSphere, Sample as OfSample, File as OfFile}

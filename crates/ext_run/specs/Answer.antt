@@ -1,7 +1,8 @@
 -- What the program answers to its words, and to the module file that it reads.
 use Rattle.std.specs.Prelude.{◌≡◌, ◌⊎◌, ℕ, List, length, Option, Some, None, MatchOption, IsOkAnd, Result, Ok, Err, ⊤}
 use Rattle.std.specs.List.{sum}
-use Rattle.module_json.specs.ModuleFile.{File, IsFileOf}
+use Rattle.module_spec.specs.Spec.{File}
+use Rattle.module_json.specs.ModuleFile.{IsFileOf}
 use Rattle.module_json.specs.declared.malformed.Malformed.{Malformed}
 use Rattle.finite_module.specs.Module.{Module as SteenrodModule, bottom}
 use Rattle.finite_module.specs.DerivedAction.{derived_module, top}
@@ -14,7 +15,7 @@ use Rattle.ext_chart.specs.Files.{migrated_line}
 use Rattle.ext_chart.specs.Product.{product_text}
 use Rattle.ext_report.specs.declared.failure.Failure.{Failure}
 use Rattle.ext_report.specs.declared.failure.Failure.TheVariants.{Words, Malformed as NoModuleFile, NotModule, Reading, Writing, Saving, SaveFile, Certificate, Classes, Memory}
-use Rattle.ext_build.specs.Input.{IsOfInput, IsFileCauseFrom}
+use Rattle.read_module.specs.Input.{IsOfInput, IsFileCauseFrom}
 use Rattle.ext_build.specs.Building.{IsBuildAnswer}
 use Rattle.ext_run.specs.declared.plan.Origin.{Origin}
 use Rattle.ext_run.specs.declared.plan.Origin.TheVariants.{Sphere, Sample, File as OfFile}

@@ -3,7 +3,8 @@
 use Rattle.std.specs.Prelude.{◌≡◌, ◌≤◌, ℕ, List, Bool, true, false, Option, Some, None, option_map, MatchOption, Ok, ⊤}
 use Rattle.std.specs.List.{sum}
 use Rattle.bidegree.specs.declared.range.Range.{Range}
-use Rattle.module_json.specs.ModuleFile.{File, IsFileOf}
+use Rattle.module_spec.specs.Spec.{File}
+use Rattle.module_json.specs.ModuleFile.{IsFileOf}
 use Rattle.finite_module.specs.Module.{Module as SteenrodModule}
 use Rattle.finite_module.specs.DerivedAction.{derived_module}
 use Rattle.finite_module.specs.Checked.{sphere_file}

@@ -3,14 +3,14 @@ use Rattle.std.specs.Prelude.{◌≡◌, ◌≢◌, ℕ, ◌≤◌, ◌⊎◌, L
 use Rattle.bidegree.specs.declared.range.Range.{Range}
 use Rattle.edge.specs.Faults.{HasRisen}
 use Rattle.edge.specs.Source.{without_first, HasGivenUpTo}
-use Rattle.module_json.specs.ModuleFile.{File}
+use Rattle.module_spec.specs.Spec.{File}
 use Rattle.module_check.specs.declared.fault.CheckFault.{CheckFault}
 use Rattle.space_laws.specs.Spaces.{IsSpaceFile}
 use Rattle.live_worker.specs.Reports.{squares_of}
 use Rattle.ext_report.specs.declared.status.TheConstants.{WRITTEN}
 use Rattle.ext_report.specs.declared.failure.Failure.TheVariants.{Words, NotModule, Reading, Writing, Saving, SaveFile, Certificate, Classes, Memory}
 use Rattle.ext_report.specs.Failure.{IsTold, status_of}
-use Rattle.ext_build.specs.Input.{most_read}
+use Rattle.read_module.specs.Input.{most_read}
 use Rattle.ext_run.specs.declared.plan.Plan.{Plan}
 use Rattle.ext_run.specs.Devices.{Device, Store}
 use Rattle.ext_run.specs.Plan.{Reads, live_for, verifying, use_for}

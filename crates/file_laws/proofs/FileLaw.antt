@@ -16,14 +16,13 @@ use Rattle.milnor_basis.specs.Exponents.{degree_of, IsTrimmed}
 use Rattle.milnor_basis.specs.Product.{product_terms}
 use Rattle.milnor_basis.proofs.Ranges.{All-range, list_all-holds}
 use Rattle.hopf_laws.proofs.Splittings.{All-flat_map}
-use Rattle.module_json.specs.ModuleFile.{Generator, Entry, degree_at}
+use Rattle.module_spec.specs.Spec.{Generator, Entry, degree_at, powers}
 use Rattle.finite_module.specs.Module.{Module, generators_in, width, total}
 use Rattle.finite_module.specs.ModuleLaws.{generators_in-member}
 use Rattle.finite_module.specs.DerivedAction.{listed_sum, sum_vector, span, derived_module}
 use Rattle.module_check.specs.Acceptance.{listed_from, first_relation}
 use Rattle.finite_module.specs.Axioms.{IsModule, value_of, one_by_one, by_their_product}
-use Rattle.module_json.specs.WellFormed.{NeverFall}
-use Rattle.module_json.specs.Spaces.{powers}
+use Rattle.module_spec.specs.WellFormed.{NeverFall}
 use Rattle.module_check.specs.declared.fault.CheckFault.TheVariants.{Listed}
 use Rattle.finite_module.proofs.AboveSpan.{width_above_span}
 use Rattle.finite_module.proofs.Widths.{terms_of_degree}

@@ -1,13 +1,12 @@
 -- The file of a module: its generators, and the squares Sq^n, n a power of two, that are not zero.
 use Rattle.std.specs.Prelude.{◌≡◌, ℕ, ◌≤◌, pos, ◌+ℤ◌, if◌then◌else◌, List, [], ◌∷◌, length, map, None}
 use Rattle.std.specs.List.{flat_map, range_with_len, items_where_true, list_any}
-use Rattle.module_json.specs.ModuleFile.{Entry, File, degree_at}
+use Rattle.module_spec.specs.Spec.{Entry, File, degree_at, powers}
 use Rattle.finite_module.specs.Module.{Module, generators_in}
 use Rattle.finite_module.specs.DerivedAction.{span, derived_module}
 use Rattle.module_check.specs.Acceptance.{refusal_of}
 use Rattle.finite_module.specs.Axioms.{IsModule, value_of}
-use Rattle.module_json.specs.WellFormed.{NeverFall}
-use Rattle.module_json.specs.Spaces.{powers}
+use Rattle.module_spec.specs.WellFormed.{NeverFall}
 use Rattle.built_laws.specs.Constructed.{IsRenamed}
 
 -- the entry of Sq^n on generator i, where it is not zero

@@ -8,11 +8,10 @@ use Rattle.std.proofs.lemmas.Int.{ints}
 use Rattle.std.proofs.lemmas.List.{length-append, length-map}
 use Rattle.std.proofs.lemmas.List.Folds.{list_all-append}
 use Rattle.json.proofs.Printed.Utf8.{are_ascii}
-use Rattle.module_json.specs.ModuleFile.{Generator, within_limit}
-use Rattle.module_json.specs.declared.limits.TheConstants.{MAX_DEGREE}
+use Rattle.module_spec.specs.Spec.{Generator, within_limit, powers}
+use Rattle.module_spec.specs.declared.limits.TheConstants.{MAX_DEGREE}
 use Rattle.finite_module.specs.Module.{Module}
 use Rattle.finite_module.specs.Axioms.{IsModule}
-use Rattle.module_json.specs.Spaces.{powers}
 use Rattle.finite_module.specs.Text.{name_at, joined_by_plus}
 use Rattle.file_laws.specs.Files.{squares_of}
 use Rattle.module_build.specs.Names.{numbered_name}

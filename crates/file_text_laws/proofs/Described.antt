@@ -11,13 +11,13 @@ use Rattle.std.proofs.lemmas.List.{map-append}
 use Rattle.std.proofs.lemmas.List.Elements.{All-head, All-tail}
 use Rattle.milnor_basis.specs.Exponents.{degree_of}
 use Rattle.serde_json.specs.Data.{string, item}
-use Rattle.module_json.specs.ModuleFile.{Generator, Entry, no_generator, degree_at, within_limit, spans, entry_of, entries_from, unless_repeated, written, is_near}
-use Rattle.module_json.specs.WellFormed.{AreByDegree}
-use Rattle.module_json.specs.declared.limits.TheConstants.{MAX_DEGREE, MAX_SPAN}
+use Rattle.module_spec.specs.Spec.{Generator, Entry, no_generator, degree_at, within_limit, is_near, powers}
+use Rattle.module_json.specs.ModuleFile.{spans, entry_of, entries_from, unless_repeated, written}
+use Rattle.module_spec.specs.WellFormed.{AreByDegree}
+use Rattle.module_spec.specs.declared.limits.TheConstants.{MAX_DEGREE, MAX_SPAN}
 use Rattle.finite_module.specs.Module.{Module, generators_in, width, numbers_from}
 use Rattle.finite_module.specs.ModuleLaws.{generators_in-member}
 use Rattle.finite_module.specs.Axioms.{IsModule, value_of}
-use Rattle.module_json.specs.Spaces.{powers}
 use Rattle.finite_module.specs.Text.{name_at}
 use Rattle.file_laws.specs.Files.{entry_of as file_entry, squares_of}
 use Rattle.module_build.specs.Names.{numbered_name}

@@ -13,13 +13,14 @@ use Rattle.serde_json.specs.Data.{Data, number, unsigned, string, array, object,
 use Rattle.serde_json.specs.Read.{of_json, of_items, of_members}
 use Rattle.serde_json.specs.Written.{outline, items_outline, members_outline}
 use Rattle.serde_json.proofs.Numbers.{number_of-decimal}
-use Rattle.module_json.specs.Actions.{is_name}
+use Rattle.module_spec.specs.Names.{is_name}
 use Rattle.module_json.specs.Checks.{unless, members_count, items_count, first_of}
-use Rattle.module_json.specs.ModuleFile.{Generator, degree_of, within_limit, degree_refusal, generators_refusal, listed, by_degree, spans, file_of, unless_refused, with_entries, entries_from}
+use Rattle.module_spec.specs.Spec.{Generator, within_limit, by_degree}
+use Rattle.module_json.specs.ModuleFile.{degree_of, degree_refusal, generators_refusal, listed, spans, file_of, unless_refused, with_entries, entries_from}
 use Rattle.module_json.specs.declared.malformed.Malformed.{Malformed}
 use Rattle.module_json.specs.declared.malformed.Malformed.TheVariants.{Limit, Name}
 use Rattle.module_json.specs.declared.malformed.What.TheVariants.{Gens as ManyGens, Actions as ManyActions, Degree, Span}
-use Rattle.module_json.specs.declared.limits.TheConstants.{MAX_ACTIONS, MAX_DEGREE}
+use Rattle.module_spec.specs.declared.limits.TheConstants.{MAX_ACTIONS, MAX_DEGREE}
 use Rattle.module_build.specs.Names.{numbered_name}
 use Rattle.file_text_laws.proofs.Written.{number_from, members_of, items_of, data_of}
 use Rattle.file_text_laws.proofs.Members.{Behind, BehindAll, Rise, members_read, items_read}

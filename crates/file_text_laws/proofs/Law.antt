@@ -10,8 +10,9 @@ use Rattle.json.proofs.Printed.Utf8.{IsUtf8-are_ascii}
 use Rattle.serde_json.specs.Read.{read}
 use Rattle.serde_json.specs.Written.{outline, items_outline, members_outline}
 use Rattle.module_json.specs.Checks.{unless, size_refusal, value}
-use Rattle.module_json.specs.ModuleFile.{Generator, IsFileOf, described as described_by, file_of, with_entries}
-use Rattle.module_json.specs.WellFormed.{AreByDegree}
+use Rattle.module_spec.specs.Spec.{Generator}
+use Rattle.module_json.specs.ModuleFile.{IsFileOf, described as described_by, file_of, with_entries}
+use Rattle.module_spec.specs.WellFormed.{AreByDegree}
 use Rattle.module_json.specs.declared.malformed.Malformed.TheVariants.{Limit}
 use Rattle.module_json.specs.declared.malformed.What.TheVariants.{Bytes}
 use Rattle.module_json.proofs.Reading.{file_unique}

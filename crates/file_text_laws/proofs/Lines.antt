@@ -6,7 +6,8 @@ use Rattle.std.proofs.Common.{◌≡◌, ℕ, Bool, true, false, not, ◌&&◌, 
 use Rattle.std.proofs.lemmas.Bool.{and_parts, eq-eqb, false≢true, not-true}
 use Rattle.std.proofs.lemmas.List.Folds.{list_all-append}
 use Rattle.serde_json.specs.Data.{string}
-use Rattle.module_json.specs.Actions.{is_name, square_of, pieces, onto_first, some_word, without_empty, words, only, one_name, with_names, is_zero_word, sum_names, acting, sides, action_of}
+use Rattle.module_spec.specs.Names.{is_name}
+use Rattle.module_json.specs.Actions.{square_of, pieces, onto_first, some_word, without_empty, words, only, one_name, with_names, is_zero_word, sum_names, acting, sides, action_of}
 use Rattle.module_json.specs.ModuleFile.{written}
 use Rattle.finite_module.specs.Text.{joined_by_plus}
 

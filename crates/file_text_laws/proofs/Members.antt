@@ -8,7 +8,7 @@ use Rattle.serde_json.specs.Data.{Data, number, string, item, Members, no_member
 use Rattle.serde_json.specs.Read.{number_of, of_items, of_members}
 use Rattle.serde_json.specs.Written.{number_text, items_outline, members_outline}
 use Rattle.serde_json.proofs.Numbers.{number_of-decimal, number_of-negative}
-use Rattle.module_json.specs.ModuleFile.{Generator}
+use Rattle.module_spec.specs.Spec.{Generator}
 use Rattle.file_text_laws.proofs.Written.{number_from, members_of, items_of}
 
 -- the first name is behind the second

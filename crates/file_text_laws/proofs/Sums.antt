@@ -9,7 +9,8 @@ use Rattle.std.proofs.lemmas.Bool.Decides.{Decides-int_eq}
 use Rattle.std.proofs.lemmas.Slice.Eq.{bytes_eq-Decides}
 use Rattle.std.proofs.lemmas.List.Sums.{sum_by-cons}
 use Rattle.serde_json.specs.Data.{string}
-use Rattle.module_json.specs.ModuleFile.{Generator, Entry, no_generator, degree_at, number_of, numbers_of, are_in, is_odd_in, sum_of, differs, unless_repeated, entry_of, written}
+use Rattle.module_spec.specs.Spec.{Generator, Entry, no_generator, degree_at, number_of}
+use Rattle.module_json.specs.ModuleFile.{numbers_of, are_in, is_odd_in, sum_of, differs, unless_repeated, entry_of, written}
 use Rattle.module_json.proofs.Entries.{entry_of-known}
 use Rattle.module_json.proofs.Repeats.{position_is, position_none}
 use Rattle.finite_module.specs.Text.{name_at}

@@ -9,7 +9,7 @@ use Rattle.json.specs.Print.{escape_byte}
 use Rattle.json.proofs.Printed.Strings.{escape_byte_plain}
 use Rattle.serde_json.specs.Data.{Num, unsigned, negative, Data, number, string, array, object, Items, no_items, item, Members, no_members, member as with_member}
 use Rattle.serde_json.specs.Written.{number_text, compact_text, items_text, members_text}
-use Rattle.module_json.specs.ModuleFile.{Generator}
+use Rattle.module_spec.specs.Spec.{Generator}
 use Rattle.module_build.specs.FileText.{escaped, quoted, joined_by_comma, member}
 
 -- ---- texts

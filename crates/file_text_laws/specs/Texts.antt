@@ -1,7 +1,8 @@
 -- The text of a module's file, as bytes that are read.
 use Rattle.std.specs.Prelude.{◌≡◌, ℕ, ◌<◌, ℤ, List, length, None, Ok, Err}
-use Rattle.module_json.specs.ModuleFile.{Generator, File, IsFileOf}
-use Rattle.module_json.specs.WellFormed.{AreByDegree}
+use Rattle.module_spec.specs.Spec.{Generator, File}
+use Rattle.module_json.specs.ModuleFile.{IsFileOf}
+use Rattle.module_spec.specs.WellFormed.{AreByDegree}
 use Rattle.module_json.specs.declared.malformed.Malformed.{Malformed}
 use Rattle.finite_module.specs.Module.{Module}
 use Rattle.finite_module.specs.Axioms.{IsModule}

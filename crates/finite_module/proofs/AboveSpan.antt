@@ -4,10 +4,10 @@ use Rattle.std.specs.Ordering.{int_eq}
 use Rattle.std.specs.Cmp.{signed_Decides}
 use Rattle.std.proofs.lemmas.List.Elements.{All-head, All-tail, All-from_get_or}
 use Rattle.std.proofs.lemmas.Int.{ints}
-use Rattle.module_json.specs.ModuleFile.{Generator, no_generator, degree_at}
+use Rattle.module_spec.specs.Spec.{Generator, no_generator, degree_at}
 use Rattle.finite_module.specs.Module.{numbers_from, generators_in, width, bottom}
 use Rattle.finite_module.specs.DerivedAction.{top, span}
-use Rattle.module_json.specs.WellFormed.{NeverFall}
+use Rattle.module_spec.specs.WellFormed.{NeverFall}
 use Rattle.finite_module.proofs.Degrees.{NeverFall-tail}
 use Rattle.finite_module.proofs.Values.{degree_in}
 

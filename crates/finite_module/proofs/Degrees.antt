@@ -5,7 +5,7 @@ use Rattle.std.specs.List.Sorted.{IsPartitionPoint, IsPartitionedBy}
 use Rattle.std.specs.Ordering.{int_eq}
 use Rattle.std.specs.List.{count_by, range_with_len}
 use Rattle.std.proofs.lemmas.Int.{ints, by_lt_z}
-use Rattle.module_json.specs.ModuleFile.{Generator, degree_at, no_generator}
+use Rattle.module_spec.specs.Spec.{Generator, degree_at, no_generator}
 use Rattle.std.proofs.lemmas.Bool.Decides.{Decides-int_eq}
 use Rattle.std.proofs.lemmas.List.{take_more}
 use Rattle.std.proofs.lemmas.List.FromFn.{length-range_with_len, get_or-range_with_len}
@@ -13,8 +13,8 @@ use Rattle.f2_vec.specs.Spans.{unit_vector}
 use Rattle.std.proofs.lemmas.Option.{slice_get-get_or}
 use Rattle.std.proofs.lemmas.List.Sums.{sum_by-cons, count_by-le-length}
 use Rattle.std.proofs.lemmas.Bool.{cases_lt}
-use Rattle.module_json.specs.WellFormed.{NeverFall, AreByDegree}
-use Rattle.module_json.specs.declared.limits.TheConstants.{MAX_DEGREE, MAX_SPAN}
+use Rattle.module_spec.specs.WellFormed.{NeverFall, AreByDegree}
+use Rattle.module_spec.specs.declared.limits.TheConstants.{MAX_DEGREE, MAX_SPAN}
 use Rattle.finite_module.specs.Module.{numbers_from, generators_in, width, unit, bottom}
 use Rattle.finite_module.specs.DerivedAction.{top}
 

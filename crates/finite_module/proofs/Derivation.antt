@@ -7,7 +7,7 @@ use Rattle.std.proofs.lemmas.Option.{slice_get-get_or}
 use Rattle.milnor_basis.specs.Exponents.{degree_of, IsTrimmed}
 use Rattle.milnor_basis.specs.Basis.{basis_of}
 use Rattle.milnor_basis.proofs.BasisLemmas.{All-basis_of}
-use Rattle.module_json.specs.ModuleFile.{File}
+use Rattle.module_spec.specs.Spec.{File}
 use Rattle.finite_module.specs.Module.{Module, elements_below}
 use Rattle.finite_module.specs.DerivedAction.{derived_value, derived_operator, derived_from, elements, span, derived_module}
 use Rattle.finite_module.specs.Operators.{HaveWidths}

@@ -21,7 +21,7 @@ use Rattle.milnor_basis.specs.Exponents.{degree_of, IsTrimmed}
 use Rattle.milnor_basis.specs.Basis.{basis_of}
 use Rattle.milnor_basis.proofs.BasisLemmas.{All-basis_of}
 use Rattle.milnor_basis.specs.Product.{choose, is_odd, product_terms}
-use Rattle.module_json.specs.ModuleFile.{Generator, File, degree_at}
+use Rattle.module_spec.specs.Spec.{Generator, File, degree_at}
 use Rattle.finite_module.specs.Module.{generators_in, width, unit, or_zeros, value, act_on}
 use Rattle.milnor_basis.specs.Front.{front}
 use Rattle.finite_module.specs.DerivedAction.{listed_sum, sum_vector, doubled_below, power_below, twice, adem_terms, by_adem, square_value, other_terms, by_product, derived_value, derived_operator, derived_from, elements, span, derived_module}

@@ -11,7 +11,7 @@ use Rattle.milnor_basis.specs.Product.{coefficient, product_bits}
 use Rattle.milnor_basis.proofs.BasisLemmas.{All-basis_of}
 use Rattle.free_module.specs.Graded.{IsLinear, ActsByProducts}
 use Rattle.milnor_laws.proofs.UnitActs.{acts_by_products}
-use Rattle.module_json.specs.ModuleFile.{degree_at}
+use Rattle.module_spec.specs.Spec.{degree_at}
 use Rattle.finite_module.specs.Module.{Module, generators_in, width, act_on}
 use Rattle.finite_module.specs.Axioms.{IsModule, value_of}
 use Rattle.finite_module.specs.Graded.{module_graded, ModulesAreSteenrodModules}

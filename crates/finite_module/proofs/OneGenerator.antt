@@ -2,12 +2,12 @@
 use Rattle.std.proofs.Common.{◌≡◌, ℕ, zero, suc, ◌+◌, ◌<◌, pos, ◌+ℤ◌, ◌≤ℤ◌, Bool, true, false, List, [], ◌∷◌, Some, length, get_or, ap, sym, subst, ◌∙◌, arith}
 use Rattle.std.specs.Prelude.{slice_get, neg_ℤ, All}
 use Rattle.milnor_basis.specs.Exponents.{degree_of}
-use Rattle.module_json.specs.ModuleFile.{Generator, degree_at}
-use Rattle.module_json.specs.declared.limits.TheConstants.{MAX_DEGREE}
+use Rattle.module_spec.specs.Spec.{Generator, degree_at}
+use Rattle.module_spec.specs.declared.limits.TheConstants.{MAX_DEGREE}
 use Rattle.finite_module.specs.Module.{Module, width}
 use Rattle.finite_module.specs.DerivedAction.{elements, span, derived_module}
 use Rattle.finite_module.specs.Axioms.{IsModule}
-use Rattle.module_json.specs.WellFormed.{AreByDegree}
+use Rattle.module_spec.specs.WellFormed.{AreByDegree}
 use Rattle.finite_module.specs.Checked.{sphere_file}
 use Rattle.finite_module.proofs.PlainModule.{plain_is_module}
 

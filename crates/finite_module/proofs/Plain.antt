@@ -19,7 +19,7 @@ use Rattle.milnor_basis.proofs.ExponentLemmas.{IsTrimmed-tail, length_within}
 use Rattle.milnor_basis.specs.Basis.{basis_of}
 use Rattle.milnor_basis.specs.Product.{choose, is_odd, coefficient, product_terms}
 use Rattle.milnor_laws.proofs.Indecomposables.{indecomposable}
-use Rattle.module_json.specs.ModuleFile.{Generator, Entry, File, degree_at}
+use Rattle.module_spec.specs.Spec.{Generator, Entry, File, degree_at}
 use Rattle.finite_module.specs.Module.{generators_in, width, value, act_on, total}
 use Rattle.milnor_basis.specs.Front.{front}
 use Rattle.finite_module.specs.DerivedAction.{listed_sum, sum_vector, twice, by_adem, adem_terms, power_below, doubled_below, square_value, other_terms, by_product, derived_value}

@@ -13,7 +13,7 @@ use Rattle.f2_vec.specs.Vectors.{zeros}
 use Rattle.milnor_basis.specs.Exponents.{degree_of, IsTrimmed}
 use Rattle.milnor_basis.specs.Basis.{basis_of}
 use Rattle.milnor_basis.specs.Product.{coefficient, product_terms}
-use Rattle.module_json.specs.ModuleFile.{Generator, Entry, File, degree_at}
+use Rattle.module_spec.specs.Spec.{Generator, Entry, File, degree_at}
 use Rattle.finite_module.specs.Module.{width, value, place_of, or_zeros}
 use Rattle.finite_module.specs.DerivedAction.{derived_operator, derived_from, elements, span, derived_module}
 use Rattle.finite_module.specs.Axioms.{IsModule, one_by_one, by_their_product}

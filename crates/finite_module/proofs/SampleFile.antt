@@ -13,9 +13,9 @@ use Rattle.std.proofs.Math.Nat.{mod-lt}
 use Rattle.std.proofs.lemmas.Option.{same_Some}
 use Rattle.f2_vec.proofs.Ones.{range_more}
 use Rattle.milnor_basis.specs.Exponents.{IsTrimmed}
-use Rattle.module_json.specs.ModuleFile.{Generator, Entry, no_generator, by_degree, number_of}
-use Rattle.module_json.specs.WellFormed.{AreByDegree}
-use Rattle.module_json.proofs.Sorting.{EachPair-by_place, length-sorted_by, Rises-sorted_by, All-sorted_by}
+use Rattle.module_spec.specs.Spec.{Generator, Entry, no_generator, by_degree, number_of}
+use Rattle.module_spec.specs.WellFormed.{AreByDegree}
+use Rattle.module_spec.proofs.Sorting.{EachPair-by_place, length-sorted_by, Rises-sorted_by, All-sorted_by}
 use Rattle.finite_module.specs.DerivedAction.{derived_operator, derived_module}
 use Rattle.finite_module.specs.Text.{name_at}
 use Rattle.finite_module.specs.Axioms.{IsModule}

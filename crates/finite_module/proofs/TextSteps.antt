@@ -8,7 +8,7 @@ use Rattle.f2_vec.specs.Vectors.{IsZero}
 use Rattle.f2_vec.proofs.Ones.{range_more, items_where_true-push}
 use Rattle.f2_vec.proofs.Sums.{IsZero-cons}
 use Rattle.milnor_basis.specs.Exponents.{degree_of, trimmed}
-use Rattle.module_json.specs.ModuleFile.{degree_at}
+use Rattle.module_spec.specs.Spec.{degree_at}
 use Rattle.finite_module.specs.Module.{Module, width, value}
 use Rattle.finite_module.specs.Operators.{HaveWidths}
 use Rattle.finite_module.specs.Text.{newline, name_at, joined_by_plus, sum_text, square_line}

@@ -10,7 +10,7 @@ use Rattle.f2_vec.proofs.Combinations.{combination_more}
 use Rattle.f2_vec.specs.Vectors.{sum_of, zeros}
 use Rattle.f2_vec.proofs.Sums.{length-zeros, sum_of-comm, sum_of-assoc}
 use Rattle.milnor_basis.specs.Exponents.{degree_of}
-use Rattle.module_json.specs.ModuleFile.{Generator, degree_at}
+use Rattle.module_spec.specs.Spec.{Generator, degree_at}
 use Rattle.finite_module.specs.Module.{generators_in, width, or_zeros, value, act_on, total, place_of, elements_below}
 use Rattle.finite_module.specs.DerivedAction.{elements, span}
 use Rattle.finite_module.specs.ModuleLaws.{generators_in-member}

@@ -8,7 +8,7 @@ use Rattle.milnor_basis.specs.Exponents.{degree_of, IsTrimmed}
 use Rattle.milnor_basis.specs.Basis.{basis_of}
 use Rattle.milnor_basis.specs.Product.{coefficient, product_terms}
 use Rattle.milnor_basis.proofs.BasisLemmas.{All-basis_of}
-use Rattle.module_json.specs.ModuleFile.{Generator, degree_at}
+use Rattle.module_spec.specs.Spec.{Generator, degree_at}
 use Rattle.finite_module.specs.Module.{generators_in, width, value, act_on, total}
 use Rattle.finite_module.specs.Operators.{HaveWidths}
 use Rattle.finite_module.proofs.AboveSpan.{generators_of_degree}

@@ -1,9 +1,9 @@
 -- What is known of each module that the program holds, and the module of one generator.
 use Rattle.std.specs.Prelude.{pos, [], ◌∷◌, codes}
-use Rattle.module_json.specs.ModuleFile.{File}
+use Rattle.module_spec.specs.Spec.{File}
 use Rattle.finite_module.specs.Module.{Module}
 use Rattle.finite_module.specs.Axioms.{IsModule}
-use Rattle.module_json.specs.WellFormed.{AreByDegree}
+use Rattle.module_spec.specs.WellFormed.{AreByDegree}
 
 -- the generators and operators of a module over the Steenrod algebra, with the proof that they are one
 pub record Checked : Type 0 where

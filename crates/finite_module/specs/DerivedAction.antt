@@ -8,7 +8,7 @@ use Rattle.milnor_basis.specs.Exponents.{degree_of}
 use Rattle.milnor_basis.specs.Basis.{basis_of}
 use Rattle.milnor_basis.specs.Front.{front}
 use Rattle.milnor_basis.specs.Product.{choose, is_odd, product_terms}
-use Rattle.module_json.specs.ModuleFile.{Generator, Entry, File, degree_at}
+use Rattle.module_spec.specs.Spec.{Generator, Entry, File, degree_at}
 use Rattle.finite_module.specs.Module.{Module, generators_in, width, unit, value, act_on, total, bottom}
 
 -- the sum that is listed for Sq^n on generator i, empty where none is. If a square of a generator is listed twice, it is

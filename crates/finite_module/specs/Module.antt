@@ -6,7 +6,7 @@ use Rattle.f2_vec.specs.Vectors.{zeros}
 use Rattle.f2_vec.specs.Spans.{unit_vector, combination}
 use Rattle.milnor_basis.specs.Exponents.{degree_of}
 use Rattle.milnor_basis.specs.Basis.{basis_of}
-use Rattle.module_json.specs.ModuleFile.{Generator, degree_at}
+use Rattle.module_spec.specs.Spec.{Generator, degree_at}
 
 -- The generators are a basis as a vector space, by degree and in one degree by name. An operator is the list of the
 -- values of one Sq(R) on them; the operators stand in the order of degree, and in one degree in that of Milnor's basis.

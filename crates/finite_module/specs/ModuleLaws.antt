@@ -11,11 +11,11 @@ use Rattle.f2_vec.proofs.Spans.{length-combination}
 use Rattle.f2_vec.proofs.Split.{row-unit_vectors, length-unit_vectors, combination-unit_vectors}
 use Rattle.milnor_basis.specs.Exponents.{degree_of}
 use Rattle.free_module.specs.Graded.{HasUnit, KeepsWidths}
-use Rattle.module_json.specs.ModuleFile.{Generator, no_generator, degree_at}
+use Rattle.module_spec.specs.Spec.{Generator, no_generator, degree_at}
 use Rattle.finite_module.specs.Module.{Module, numbers_from, generators_in, width, unit, act_on, bottom}
 use Rattle.finite_module.specs.Axioms.{IsModule, value_of}
 use Rattle.finite_module.specs.Graded.{module_graded}
-use Rattle.module_json.specs.WellFormed.{AreByDegree}
+use Rattle.module_spec.specs.WellFormed.{AreByDegree}
 
 -- n is the p-th number of a generator of degree t, counted from i on
 pub record IsNumberFrom (i : ℕ) (gs : List Generator) (t : ℤ) (p n : ℕ) : Type 0 where

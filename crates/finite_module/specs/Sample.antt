@@ -1,7 +1,7 @@
 -- The module that a number draws: a sum of modules of one and of two cells.
 use Rattle.std.specs.Prelude.{ℕ, zero, suc, ◌+◌, ◌*◌, ◌/◌, ◌%◌, pos, nat_lt, if◌then◌else◌, List, [], ◌∷◌, ◌++◌, codes, decimal, Option, Some, None, option_map, option_and_then, filter_map}
 use Rattle.std.specs.List.{range_with_len}
-use Rattle.module_json.specs.ModuleFile.{Generator, Entry, File, by_degree, number_of}
+use Rattle.module_spec.specs.Spec.{Generator, Entry, File, by_degree, number_of}
 use Rattle.finite_module.specs.declared.sample.Piece.{Piece}
 use Rattle.finite_module.specs.declared.sample.Cell.{Cell}
 use Rattle.finite_module.specs.declared.sample.Cell.TheVariants.{Bottom, Top}

@@ -3,8 +3,7 @@
 use Rattle.std.specs.Prelude.{ℕ, ℤ, pos, ◌+ℤ◌, Bool, if◌then◌else◌, List, [], ◌∷◌, ◌++◌, length, map, codes, decimal, slice_index_or}
 use Rattle.std.specs.Fmt.{signed_decimal}
 use Rattle.std.specs.List.{flat_map, range_with_len, items_where_true, list_any}
-use Rattle.module_json.specs.ModuleFile.{Generator, degree_at, no_generator}
-use Rattle.module_json.specs.Spaces.{powers}
+use Rattle.module_spec.specs.Spec.{Generator, degree_at, no_generator, powers}
 use Rattle.finite_module.specs.Module.{Module, generators_in, value}
 
 abbrev pub newline : List ℕ

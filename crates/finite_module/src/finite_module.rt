@@ -1,11 +1,11 @@
 //! Finite modules over the mod 2 Steenrod algebra.
 ghost use Rattle.std.specs.Prelude.{◌≡◌, ◌<◌, ◌≤◌, ℕ, ℤ, pos, neg_ℤ, ◌≤ℤ◌, ◌<ℤ◌, length, List, [], ◌∷◌, true, IfOk};
-ghost use Rattle.module_json.specs.ModuleFile.{degree_at};
-ghost use Rattle.module_json.specs.declared.limits.TheConstants.{MAX_GENERATORS, MAX_DEGREE};
+ghost use Rattle.module_spec.specs.Spec.{degree_at};
+ghost use Rattle.module_spec.specs.declared.limits.TheConstants.{MAX_GENERATORS, MAX_DEGREE};
 ghost use Rattle.finite_module.specs.Module.{width, bottom};
 ghost use Rattle.finite_module.specs.DerivedAction.{derived_module, top};
 ghost use Rattle.finite_module.specs.Axioms.{IsModule, value_of};
-ghost use Rattle.module_json.specs.WellFormed.{AreByDegree};
+ghost use Rattle.module_spec.specs.WellFormed.{AreByDegree};
 ghost use Rattle.finite_module.specs.Checked.{sphere_file};
 ghost use Rattle.finite_module.specs.Text.{name_at, sum_text, canonical_text};
 

@@ -2,9 +2,9 @@
 ghost use Rattle.std.specs.Prelude.{◌≡◌, ℕ, ◌-◌, ◌<◌, ◌≤◌, pos, ◌+ℤ◌, neg_ℤ, ◌≤ℤ◌, int_lt, int_le, nat_eq, [], ◌∷◌, length, IfOk, string_bytes};
 ghost use Rattle.std.specs.List.{count_by, list_any, range_with_len};
 ghost use Rattle.milnor_basis.specs.Exponents.{degree_of};
-ghost use Rattle.module_json.specs.ModuleFile.{degree_at, by_degree, number_of};
-ghost use Rattle.module_json.specs.WellFormed.{AreByDegree};
-ghost use Rattle.module_json.specs.declared.limits.TheConstants.{MAX_GENERATORS, MAX_DEGREE, MAX_SPAN};
+ghost use Rattle.module_spec.specs.Spec.{degree_at, by_degree, number_of};
+ghost use Rattle.module_spec.specs.WellFormed.{AreByDegree};
+ghost use Rattle.module_spec.specs.declared.limits.TheConstants.{MAX_GENERATORS, MAX_DEGREE, MAX_SPAN};
 ghost use Rattle.finite_module.specs.Module.{generators_in, width, unit, bottom};
 ghost use Rattle.finite_module.specs.DerivedAction.{sum_vector, top, span};
 ghost use Rattle.finite_module.specs.Text.{name_at};
@@ -12,7 +12,7 @@ ghost use Rattle.finite_module.specs.Text.{name_at};
 use f2_vec::BitVec;
 use memory::Memory;
 use milnor_basis::Exps;
-use module_json::Spec;
+use module_spec::Spec;
 use std::alloc::Global;
 use std::marker::Model;
 use std::ops::Range;
@@ -26,7 +26,7 @@ pub struct Generator {
 
 impl Model for Generator {
     ghost use Rattle.std.specs.Prelude.{string_bytes};
-    ghost use Rattle.module_json.specs.ModuleFile.{Generator as Named};
+    ghost use Rattle.module_spec.specs.Spec.{Generator as Named};
 
     ghost Value = { Named };
 
@@ -50,11 +50,11 @@ pub struct Generators {
 
 impl Model for Generators {
     ghost use Rattle.std.specs.Prelude.{List};
-    ghost use Rattle.module_json.specs.ModuleFile.{Generator as Named};
+    ghost use Rattle.module_spec.specs.Spec.{Generator as Named};
 
     ghost Value = { List Named };
 
-    ghost use Rattle.module_json.specs.WellFormed.{AreByDegree};
+    ghost use Rattle.module_spec.specs.WellFormed.{AreByDegree};
 
     ghost view = { λ g. g.list.items };
 

@@ -4,7 +4,7 @@ ghost use Rattle.std.specs.List.{range_with_len};
 ghost use Rattle.f2_vec.specs.Vectors.{sum_of, zeros};
 ghost use Rattle.milnor_basis.specs.Exponents.{degree_of};
 ghost use Rattle.milnor_basis.specs.Basis.{basis_of};
-ghost use Rattle.module_json.specs.ModuleFile.{degree_at};
+ghost use Rattle.module_spec.specs.Spec.{degree_at};
 ghost use Rattle.finite_module.specs.Module.{width, value, act_on, total, place_of, elements_below};
 ghost use Rattle.finite_module.specs.DerivedAction.{elements, span};
 ghost use Rattle.finite_module.specs.Operators.{HaveWidths};

@@ -1,8 +1,8 @@
 //! The module that a number draws: a sum of modules of one and of two cells.
 ghost use Rattle.std.specs.Prelude.{◌≡◌, ◌<◌, ◌≤◌, ◌+◌, ◌∷◌, ◌++◌, [], ◌+ℤ◌, pos, length, map, option_to_list, filter_map, IfOk, IfSome, OnOk, string_bytes};
 ghost use Rattle.std.specs.List.{range_with_len};
-ghost use Rattle.module_json.specs.ModuleFile.{degree_at, number_of};
-ghost use Rattle.module_json.specs.declared.limits.TheConstants.{MAX_SPAN};
+ghost use Rattle.module_spec.specs.Spec.{degree_at, number_of};
+ghost use Rattle.module_spec.specs.declared.limits.TheConstants.{MAX_SPAN};
 ghost use Rattle.finite_module.specs.DerivedAction.{elements, span, derived_from, derived_module, listed_sum, sum_vector};
 ghost use Rattle.finite_module.specs.Sample.{drawn, piece_count, square_of, piece, letter, cell_name, cell_degree, cell_of, by_text, named, sample_generators, entry_of, sample_entries, sample_file};
 ghost use Rattle.finite_module.specs.Inside.Plain.{plain_value};
@@ -49,7 +49,7 @@ struct Action {
 
 impl Model for Action {
     ghost use Rattle.std.specs.Prelude.{◌∷◌, []};
-    ghost use Rattle.module_json.specs.ModuleFile.{Entry};
+    ghost use Rattle.module_spec.specs.Spec.{Entry};
 
     ghost Value = { Entry };
 

@@ -1,9 +1,8 @@
 //! The canonical text of a module.
 ghost use Rattle.std.specs.Prelude.{◌≡◌, ◌<◌, ◌+◌, ◌++◌, [], ◌∷◌, pos, ◌+ℤ◌, length, map, codes, decimal, IfOk, EachIndex, slice_index};
 ghost use Rattle.std.specs.List.{flat_map, range_with_len, items_where_true};
-ghost use Rattle.module_json.specs.ModuleFile.{degree_at};
+ghost use Rattle.module_spec.specs.Spec.{degree_at, powers};
 ghost use Rattle.finite_module.specs.Module.{generators_in, width};
-ghost use Rattle.module_json.specs.Spaces.{powers};
 ghost use Rattle.finite_module.specs.Text.{newline, name_at, generator_line, joined_by_plus, sum_text, square_line, canonical_text};
 
 use crate::exponents::sq;
@@ -12,7 +11,7 @@ use crate::operators::Operators;
 use f2_vec::BitVec;
 use itoa::Buffer;
 use memory::Memory;
-use module_json::POWERS;
+use module_spec::POWERS;
 use std::alloc::Global;
 
 /// A line for each generator, and one for each Sq^n of a generator, n a power of two, that is not zero.

@@ -16,8 +16,8 @@ use Rattle.milnor_basis.specs.Basis.{basis_of}
 use Rattle.milnor_basis.specs.Product.{coefficient, product_bits, product_terms}
 use Rattle.milnor_basis.proofs.BasisLemmas.{All-basis_of}
 use Rattle.free_module.specs.Graded.{IsLinear, KeepsWidths}
-use Rattle.module_json.specs.ModuleFile.{Generator, degree_at}
-use Rattle.module_json.specs.WellFormed.{NeverFall}
+use Rattle.module_spec.specs.Spec.{Generator, degree_at}
+use Rattle.module_spec.specs.WellFormed.{NeverFall}
 use Rattle.finite_module.specs.Module.{Module, numbers_from, generators_in, width, unit, value, act_on}
 use Rattle.finite_module.specs.ModuleLaws.{generators_in-member}
 use Rattle.finite_module.specs.Axioms.{value_of, one_by_one, by_their_product}

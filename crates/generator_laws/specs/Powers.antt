@@ -3,7 +3,7 @@
 use Rattle.std.specs.Prelude.{◌≡◌, ℕ, ◌+◌, ◌<◌, ◌≤◌, true, List, [], ◌∷◌, length}
 use Rattle.std.specs.Int.{is_power_of_two}
 use Rattle.milnor_basis.specs.Exponents.{degree_of, IsTrimmed}
-use Rattle.module_json.specs.WellFormed.{NeverFall}
+use Rattle.module_spec.specs.WellFormed.{NeverFall}
 use Rattle.finite_module.specs.Module.{Module, unit}
 use Rattle.finite_module.specs.Axioms.{IsModule, value_of, one_by_one, by_their_product}
 use Rattle.finite_module.specs.DerivedAction.{span}

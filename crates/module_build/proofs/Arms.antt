@@ -13,7 +13,7 @@ use Rattle.milnor_basis.proofs.Parity.{odd_by-map}
 use Rattle.milnor_laws.proofs.Associative.{odd_by-same_all}
 use Rattle.hopf_laws.specs.Diagonal.{splittings}
 use Rattle.hopf_laws.proofs.Splittings.{Pair, IsSplit, All-splittings}
-use Rattle.module_json.specs.ModuleFile.{Generator, degree_at, no_generator}
+use Rattle.module_spec.specs.Spec.{Generator, degree_at, no_generator}
 use Rattle.finite_module.specs.Module.{generators_in}
 use Rattle.finite_module.specs.DerivedAction.{span}
 use Rattle.finite_module.specs.Checked.{Checked}

@@ -13,16 +13,16 @@ use Rattle.milnor_basis.proofs.Ranges.{range-split}
 use Rattle.hopf_laws.specs.Actions.{Action, shifted, sum, tensor, dual}
 use Rattle.hopf_laws.specs.Conjugate.{conjugate}
 use Rattle.hopf_laws.proofs.Splittings.{All-of_all}
-use Rattle.module_json.specs.ModuleFile.{Generator, degree_at}
-use Rattle.module_json.specs.WellFormed.{NeverFall}
+use Rattle.module_spec.specs.Spec.{Generator, degree_at}
+use Rattle.module_spec.specs.WellFormed.{NeverFall}
 use Rattle.finite_module.specs.Module.{generators_in}
 use Rattle.finite_module.specs.DerivedAction.{elements, span}
 use Rattle.finite_module.specs.Checked.{Checked}
 use Rattle.finite_module.specs.ModuleLaws.{generators_in-member}
 use Rattle.built_laws.specs.Built.{action_of, built, values_on, operator_on}
-use Rattle.module_json.specs.Sorting.{sorted_by}
+use Rattle.module_spec.specs.Sorting.{sorted_by}
 use Rattle.built_laws.specs.Constructed.{generators_from, module_of, shift_module, sum_module, tensor_module, dual_module}
-use Rattle.module_json.proofs.Sorting.{length-sorted_by, sorted_by_rises}
+use Rattle.module_spec.proofs.Sorting.{length-sorted_by, sorted_by_rises}
 use Rattle.built_laws.proofs.Sorted.{All-sorted_by, sorted_by-same, sorted_by-map}
 use Rattle.module_build.specs.Names.{numbered_name}
 use Rattle.module_build.specs.declared.order.Placed.{Placed}

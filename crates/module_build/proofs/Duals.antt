@@ -25,8 +25,8 @@ use Rattle.hopf_laws.specs.Diagonal.{splittings}
 use Rattle.hopf_laws.proofs.Splittings.{Pair, IsSplit, All-splittings}
 use Rattle.hopf_laws.proofs.Antipode.{Value, over, conjugate_exists, conjugate-unfolded}
 use Rattle.hopf_laws.proofs.Cartan.{HasDegree}
-use Rattle.module_json.specs.ModuleFile.{Generator, degree_at}
-use Rattle.module_json.specs.WellFormed.{NeverFall}
+use Rattle.module_spec.specs.Spec.{Generator, degree_at}
+use Rattle.module_spec.specs.WellFormed.{NeverFall}
 use Rattle.finite_module.specs.Module.{Module, generators_in}
 use Rattle.finite_module.specs.DerivedAction.{span}
 use Rattle.finite_module.specs.ModuleLaws.{generators_in-member}

@@ -10,8 +10,8 @@ use Rattle.f2_vec.proofs.Sums.{plus-false}
 use Rattle.milnor_basis.specs.Exponents.{degree_of}
 use Rattle.milnor_basis.specs.Product.{odd_by}
 use Rattle.milnor_basis.proofs.Parity.{odd_by-append}
-use Rattle.module_json.specs.ModuleFile.{Generator, degree_at}
-use Rattle.module_json.specs.WellFormed.{NeverFall}
+use Rattle.module_spec.specs.Spec.{Generator, degree_at}
+use Rattle.module_spec.specs.WellFormed.{NeverFall}
 use Rattle.finite_module.specs.Module.{Module, generators_in, width}
 use Rattle.finite_module.specs.DerivedAction.{span}
 use Rattle.finite_module.specs.Axioms.{value_of}

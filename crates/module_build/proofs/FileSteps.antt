@@ -7,10 +7,9 @@ use Rattle.std.proofs.lemmas.List.Elements.{All-cons, All-nil, All-from_get_or}
 use Rattle.f2_vec.specs.Vectors.{IsZero}
 use Rattle.f2_vec.proofs.Ones.{range_more}
 use Rattle.hopf_laws.proofs.Splittings.{All-flat_map}
-use Rattle.module_json.specs.ModuleFile.{Generator, degree_at, no_generator}
+use Rattle.module_spec.specs.Spec.{Generator, degree_at, no_generator, powers}
 use Rattle.finite_module.specs.Module.{Module}
 use Rattle.finite_module.specs.Axioms.{value_of}
-use Rattle.module_json.specs.Spaces.{powers}
 use Rattle.finite_module.specs.Text.{name_at, sum_text}
 use Rattle.module_build.specs.FileText.{quoted, joined_by_comma, member, action_text, action_of_square, actions}
 use Rattle.module_build.specs.Inside.Written.{after_comma, written_after}

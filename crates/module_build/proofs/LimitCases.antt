@@ -6,10 +6,10 @@ use Rattle.std.proofs.lemmas.Bool.{and_parts, le-leb}
 use Rattle.std.proofs.lemmas.Int.{ints}
 use Rattle.std.proofs.lemmas.List.{length-map, get_or-map, take_more, length-take-le}
 use Rattle.std.proofs.lemmas.List.Folds.{list_all-map}
-use Rattle.module_json.specs.ModuleFile.{Generator, no_generator, by_degree, within_limit, is_near}
-use Rattle.module_json.proofs.Sorting.{sorted_by-rising}
-use Rattle.module_json.specs.WellFormed.{NeverFall, AreByDegree}
-use Rattle.module_json.specs.declared.limits.TheConstants.{MAX_GENERATORS, MAX_DEGREE, MAX_SPAN}
+use Rattle.module_spec.specs.Spec.{Generator, no_generator, by_degree, within_limit, is_near}
+use Rattle.module_spec.proofs.Sorting.{sorted_by-rising}
+use Rattle.module_spec.specs.WellFormed.{NeverFall, AreByDegree}
+use Rattle.module_spec.specs.declared.limits.TheConstants.{MAX_GENERATORS, MAX_DEGREE, MAX_SPAN}
 use Rattle.module_json.specs.declared.malformed.What.{What}
 use Rattle.module_json.specs.declared.malformed.What.TheVariants.{Gens, Degree, Span}
 use Rattle.finite_module.proofs.Degrees.{NeverFall-tail}

@@ -8,7 +8,7 @@ use Rattle.std.proofs.Common.{length-append, append_assoc, append-nil}
 use Rattle.milnor_basis.specs.Exponents.{degree_of, IsTrimmed}
 use Rattle.milnor_basis.specs.Basis.{basis_of}
 use Rattle.milnor_basis.proofs.BasisLemmas.{Contains-basis_of}
-use Rattle.module_json.specs.ModuleFile.{Generator, degree_at}
+use Rattle.module_spec.specs.Spec.{Generator, degree_at}
 use Rattle.finite_module.specs.Module.{generators_in, width, place_of, elements_below, value}
 use Rattle.finite_module.specs.DerivedAction.{elements}
 use Rattle.finite_module.proofs.Derivation.{element_own}

@@ -2,10 +2,9 @@
 use Rattle.std.specs.Prelude.{ℕ, pos, ◌+ℤ◌, Bool, ◌||◌, ◌==◌, if◌then◌else◌, List, [], ◌∷◌, ◌++◌, length, map, codes, decimal}
 use Rattle.std.specs.Fmt.{signed_decimal}
 use Rattle.std.specs.List.{flat_map, range_with_len, list_any}
-use Rattle.module_json.specs.ModuleFile.{Generator, degree_at}
+use Rattle.module_spec.specs.Spec.{Generator, degree_at, powers}
 use Rattle.finite_module.specs.Module.{Module}
 use Rattle.finite_module.specs.Axioms.{value_of}
-use Rattle.module_json.specs.Spaces.{powers}
 use Rattle.finite_module.specs.Text.{newline, name_at, sum_text}
 
 -- a character in a text of JSON: a quotation mark and a backslash have one before them

@@ -2,8 +2,8 @@
 use Rattle.std.specs.Prelude.{ℕ, ℤ, nat_le, Bool, if◌then◌else◌, List, length, map, Option, Some, None}
 use Rattle.std.specs.List.{list_all}
 use Rattle.std.specs.Option.{option_or}
-use Rattle.module_json.specs.ModuleFile.{Generator, within_limit, is_near}
-use Rattle.module_json.specs.declared.limits.TheConstants.{MAX_GENERATORS}
+use Rattle.module_spec.specs.Spec.{Generator, within_limit, is_near}
+use Rattle.module_spec.specs.declared.limits.TheConstants.{MAX_GENERATORS}
 use Rattle.module_json.specs.declared.malformed.What.{What}
 use Rattle.module_json.specs.declared.malformed.What.TheVariants.{Gens, Degree, Span}
 use Rattle.module_build.specs.declared.fault.BuildFault.{BuildFault}

@@ -1,7 +1,7 @@
 //! The coefficients of Sq(R) on the basis of a module, and of those of modules made of others.
 ghost use Rattle.std.specs.Prelude.{◌≡◌, ◌<◌, ◌+◌, ◌*◌, ℕ, pos, ◌+ℤ◌, length, map, IfOk, EachIndex, slice_index_or};
 ghost use Rattle.std.specs.List.{range_with_len};
-ghost use Rattle.module_json.specs.ModuleFile.{degree_at};
+ghost use Rattle.module_spec.specs.Spec.{degree_at};
 ghost use Rattle.finite_module.specs.Module.{generators_in};
 ghost use Rattle.built_laws.specs.Built.{action_of};
 ghost use Rattle.module_build.specs.Inside.Splittings.{sum_over};

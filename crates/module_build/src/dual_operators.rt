@@ -2,7 +2,7 @@
 ghost use Rattle.std.specs.Prelude.{◌≡◌, ◌<◌, ◌+◌, ℕ, All, length, map, pos, ◌+ℤ◌, IfOk};
 ghost use Rattle.f2_vec.specs.Vectors.{sum_of};
 ghost use Rattle.milnor_basis.specs.Exponents.{degree_of};
-ghost use Rattle.module_json.specs.ModuleFile.{degree_at};
+ghost use Rattle.module_spec.specs.Spec.{degree_at};
 ghost use Rattle.finite_module.specs.Module.{generators_in, width, value};
 ghost use Rattle.finite_module.specs.DerivedAction.{span};
 ghost use Rattle.built_laws.specs.Built.{operator_on, values_on};

@@ -1,14 +1,14 @@
 //! The module file of a module.
 ghost use Rattle.std.specs.Prelude.{◌≡◌, ◌<◌, ◌≤◌, ◌++◌, ◌∷◌, [], length, map, codes, decimal, IfOk, OnOk};
 ghost use Rattle.std.specs.List.{flat_map, range_with_len};
-ghost use Rattle.module_json.specs.Spaces.{powers};
+ghost use Rattle.module_spec.specs.Spec.{powers};
 ghost use Rattle.module_build.specs.FileText.{escaped, quoted, member, action_text, action_of_square, actions, file_text};
 ghost use Rattle.module_build.specs.Inside.Written.{after_comma, written_after};
 
 use finite_module::{Module, sq};
 use itoa::Buffer;
 use memory::Memory;
-use module_json::POWERS;
+use module_spec::POWERS;
 use std::alloc::Global;
 
 /// The module file that describes a module: its generators, and the squares Sq^n, n a power of two, that are not zero, in one line.

@@ -1,6 +1,6 @@
 //! The generators of what is made: their degrees, and their names.
 ghost use Rattle.std.specs.Prelude.{◌≡◌, None, IfOk, string_bytes};
-ghost use Rattle.module_json.specs.WellFormed.{NeverFall};
+ghost use Rattle.module_spec.specs.WellFormed.{NeverFall};
 ghost use Rattle.module_build.specs.Names.{last_digit, numbered_name};
 ghost use Rattle.module_build.specs.Limits.{limit_of};
 ghost use Rattle.module_build.specs.Inside.Construction.{degrees_of, generators_of};

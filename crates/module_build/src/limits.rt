@@ -1,13 +1,14 @@
 //! The limits that a module which is made must keep.
 ghost use Rattle.std.specs.Prelude.{◌≡◌};
 ghost use Rattle.std.specs.List.{list_all};
-ghost use Rattle.module_json.specs.ModuleFile.{within_limit, is_near};
+ghost use Rattle.module_spec.specs.Spec.{within_limit, is_near};
 ghost use Rattle.module_build.specs.Limits.{limit_of};
 ghost use Rattle.module_build.specs.Inside.Construction.{degrees_of};
 
 use crate::fault::BuildFault;
 use crate::order::Placed;
-use module_json::{MAX_GENERATORS, What, is_degree, is_near};
+use module_json::What;
+use module_spec::{MAX_GENERATORS, is_degree, is_near};
 
 /// The first limit that a basis passes: how many elements it has, or else a degree, or else how far apart degrees lie. The
 /// limits are looked at before any operator is made, on degrees of 64 bits.

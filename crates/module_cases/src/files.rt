@@ -1,6 +1,7 @@
 //! What is read of module files, as lines.
 use anyhow::Result;
-use module_json::{Spec, read, read_parts};
+use module_json::{read, read_parts};
+use module_spec::Spec;
 use std::alloc::{AllocError, Global};
 
 /// What a file of one module describes.

@@ -9,10 +9,10 @@ use Rattle.std.proofs.lemmas.List.FromFn.{length-range_with_len, get_or-range_wi
 use Rattle.milnor_basis.specs.Exponents.{degree_of, IsTrimmed}
 use Rattle.milnor_basis.specs.Basis.{basis_of}
 use Rattle.milnor_basis.proofs.BasisLemmas.{Contains-basis_of}
-use Rattle.module_json.specs.ModuleFile.{File}
+use Rattle.module_spec.specs.Spec.{File}
 use Rattle.finite_module.specs.Module.{Module}
 use Rattle.finite_module.specs.DerivedAction.{span, derived_module}
-use Rattle.module_json.specs.WellFormed.{NeverFall}
+use Rattle.module_spec.specs.WellFormed.{NeverFall}
 use Rattle.module_json.proofs.Basis.{option_or-none}
 use Rattle.finite_module.specs.Axioms.{IsModule, one_by_one, by_their_product}
 use Rattle.module_check.specs.Acceptance.{first_in, relation_on, relation_of, relation_in_degrees, relation_in_degree, first_relation, listed_from, refusal_of, AcceptedIsModule}

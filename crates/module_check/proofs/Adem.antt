@@ -10,7 +10,7 @@ use Rattle.f2_vec.specs.Vectors.{sum_of}
 use Rattle.f2_vec.proofs.Ones.{range_more}
 use Rattle.milnor_basis.specs.Product.{choose, is_odd}
 use Rattle.milnor_basis.proofs.Kummer.{choose_odd, choose-past}
-use Rattle.module_json.specs.ModuleFile.{Generator, Entry, degree_at}
+use Rattle.module_spec.specs.Spec.{Generator, Entry, degree_at}
 use Rattle.finite_module.specs.Module.{width, total}
 use Rattle.finite_module.specs.DerivedAction.{doubled_below, listed_sum, twice, by_adem}
 use Rattle.finite_module.proofs.Values.{total_push}

@@ -8,7 +8,7 @@ use Rattle.std.proofs.Math.Numerals.{add-one}
 use Rattle.std.proofs.Math.Seq.{drop-cons}
 use Rattle.std.proofs.lemmas.Option.{get_or_from_slice_get, slice_get_within}
 use Rattle.f2_vec.specs.Vectors.{sum_of, IsZero}
-use Rattle.module_json.specs.ModuleFile.{Entry, degree_at}
+use Rattle.module_spec.specs.Spec.{Entry, degree_at}
 use Rattle.finite_module.specs.Module.{Module, width, value}
 use Rattle.finite_module.specs.DerivedAction.{sum_vector}
 use Rattle.module_check.specs.Acceptance.{is_as_derived, listed_from}

@@ -8,7 +8,7 @@ use Rattle.std.proofs.lemmas.List.Elements.{All-filter, All-weaker}
 use Rattle.milnor_basis.specs.Exponents.{degree_of, entry, trimmed, IsTrimmed}
 use Rattle.milnor_basis.specs.Product.{product_terms}
 use Rattle.milnor_basis.proofs.ExponentLemmas.{IsTrimmed-tail, entry_past, trimmed-same}
-use Rattle.module_json.specs.ModuleFile.{File}
+use Rattle.module_spec.specs.Spec.{File}
 use Rattle.finite_module.specs.Module.{unit}
 use Rattle.milnor_basis.specs.Front.{front}
 use Rattle.finite_module.specs.DerivedAction.{other_terms, square_value, by_product, derived_operator}

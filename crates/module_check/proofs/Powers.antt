@@ -9,7 +9,7 @@ use Rattle.milnor_basis.specs.Basis.{basis_of}
 use Rattle.milnor_basis.proofs.BasisLemmas.{All-basis_of}
 use Rattle.milnor_basis.proofs.Ranges.{All-range}
 use Rattle.milnor_laws.proofs.Indecomposables.{single_trimmed}
-use Rattle.module_json.specs.WellFormed.{NeverFall}
+use Rattle.module_spec.specs.WellFormed.{NeverFall}
 use Rattle.finite_module.specs.Module.{Module}
 use Rattle.finite_module.specs.Axioms.{one_by_one, by_their_product}
 use Rattle.finite_module.specs.DerivedAction.{span}

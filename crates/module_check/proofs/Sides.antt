@@ -19,7 +19,7 @@ use Rattle.milnor_basis.specs.Exponents.{degree_of, IsTrimmed}
 use Rattle.milnor_basis.specs.Basis.{basis_of}
 use Rattle.milnor_basis.specs.Product.{product_terms}
 use Rattle.milnor_basis.proofs.BasisLemmas.{All-basis_of}
-use Rattle.module_json.specs.ModuleFile.{Generator, degree_at}
+use Rattle.module_spec.specs.Spec.{Generator, degree_at}
 use Rattle.finite_module.specs.Module.{Module, generators_in, width, place_of, or_zeros, value, act_on, total}
 use Rattle.finite_module.specs.Axioms.{one_by_one, by_their_product}
 use Rattle.module_check.specs.Acceptance.{first_in, relation_on, relation_of, relation_in_degrees, relation_in_degree}

@@ -6,8 +6,8 @@ use Rattle.std.specs.List.{range_with_len}
 use Rattle.std.specs.Option.{option_or}
 use Rattle.std.specs.Cmp.Lexicographic.{pointwise}
 use Rattle.milnor_basis.specs.Basis.{basis_of}
-use Rattle.module_json.specs.ModuleFile.{Entry, File, degree_at}
-use Rattle.module_json.specs.WellFormed.{NeverFall}
+use Rattle.module_spec.specs.Spec.{Entry, File, degree_at}
+use Rattle.module_spec.specs.WellFormed.{NeverFall}
 use Rattle.finite_module.specs.Module.{Module}
 use Rattle.finite_module.specs.Axioms.{IsModule, value_of, one_by_one, by_their_product}
 use Rattle.finite_module.specs.DerivedAction.{sum_vector, span, derived_module}

@@ -1,6 +1,6 @@
 //! The check that a module file describes a module over the Steenrod algebra.
 ghost use Rattle.std.specs.Prelude.{◌≡◌, ◌≢◌, ◌^◌, ◌<◌, Some, None, length, IfOk, IfErr, OnOk};
-ghost use Rattle.module_json.specs.WellFormed.{IsWellFormed};
+ghost use Rattle.module_spec.specs.WellFormed.{IsWellFormed};
 ghost use Rattle.finite_module.specs.DerivedAction.{derived_module};
 ghost use Rattle.module_check.specs.Acceptance.{is_as_derived, listed_from, refusal_of};
 
@@ -9,7 +9,7 @@ use crate::fault::CheckFault;
 use crate::relations::{check_relations, degree_above};
 use finite_module::{Module, Operators, sq};
 use memory::Memory;
-use module_json::Spec;
+use module_spec::Spec;
 use std::alloc::Global;
 
 /// The module that a file describes, with each Sq(R) derived from the squares that the file lists.

@@ -3,8 +3,8 @@ ghost use Rattle.std.specs.Prelude.{◌≡◌, ◌<◌, ◌≤◌, ◌+◌, ◌+
 ghost use Rattle.std.specs.List.{range_with_len};
 ghost use Rattle.milnor_basis.specs.Exponents.{degree_of, entry};
 ghost use Rattle.milnor_basis.specs.Basis.{basis_of};
-ghost use Rattle.module_json.specs.ModuleFile.{degree_at};
-ghost use Rattle.module_json.specs.declared.limits.TheConstants.{MAX_SPAN};
+ghost use Rattle.module_spec.specs.Spec.{degree_at};
+ghost use Rattle.module_spec.specs.declared.limits.TheConstants.{MAX_SPAN};
 ghost use Rattle.finite_module.specs.Module.{width, unit};
 ghost use Rattle.milnor_basis.specs.Front.{front};
 ghost use Rattle.finite_module.specs.DerivedAction.{square_value, other_terms, by_product, derived_operator, derived_from, elements, span, derived_module};
@@ -15,7 +15,7 @@ use f2_vec::BitVec;
 use finite_module::{Generators, Operator, Operators, sq};
 use memory::Memory;
 use milnor_basis::{Basis, Exps, terms};
-use module_json::Spec;
+use module_spec::Spec;
 use std::alloc::Global;
 
 /// The generators of a module file with the action that it gives.

@@ -1,14 +1,14 @@
 //! Sq^n on a generator: as the file lists it, or by an Adem relation.
 ghost use Rattle.std.specs.Prelude.{◌≡◌, ◌<◌, ◌+◌, ◌^◌, pos, ◌+ℤ◌, length, IfOk};
 ghost use Rattle.milnor_basis.specs.Product.{choose, is_odd};
-ghost use Rattle.module_json.specs.ModuleFile.{degree_at};
+ghost use Rattle.module_spec.specs.Spec.{degree_at};
 ghost use Rattle.finite_module.specs.Module.{width};
 ghost use Rattle.finite_module.specs.DerivedAction.{listed_sum, power_below, twice, by_adem, square_value};
 
 use f2_vec::BitVec;
 use finite_module::{Operators, sq};
 use memory::Memory;
-use module_json::Spec;
+use module_spec::Spec;
 use std::alloc::Global;
 
 /// The value of Sq^n on generator `i`: as the file lists it where n is a power of two, and else by an Adem relation.

@@ -16,18 +16,19 @@ use Rattle.std.proofs.lemmas.List.Sums.{AllPass-from_list_all}
 use Rattle.serde_json.specs.Data.{Members, no_members, member, Data}
 use Rattle.serde_json.specs.View.{view, members_view}
 use Rattle.serde_json.specs.declared.value.Value.{Value}
-use Rattle.module_json.specs.declared.limits.TheConstants.{MAX_GENERATORS, MAX_ACTIONS, MAX_DEGREE, MAX_SPAN}
-use Rattle.module_json.specs.Actions.{is_name}
+use Rattle.module_spec.specs.declared.limits.TheConstants.{MAX_GENERATORS, MAX_ACTIONS, MAX_DEGREE, MAX_SPAN}
+use Rattle.module_spec.specs.Names.{is_name}
 use Rattle.module_json.specs.Checks.{unless, members_count, header_refusal, is_space}
 use Rattle.module_json.specs.Spaces.{count_between}
-use Rattle.module_json.specs.WellFormed.{IsEntryOf, Agree, IsWellFormed, NeverFall}
+use Rattle.module_spec.specs.WellFormed.{IsEntryOf, Agree, IsWellFormed, NeverFall}
 use Rattle.module_json.proofs.Counts.{members_counted}
-use Rattle.module_json.specs.ModuleFile.{Generator, Entry, within_limit, degree_of, degree_refusal, generator_refusal, generators_refusal, by_degree, listed, basis, spans, span_refusal, File, IsFileOf, no_value, described, gens_of, actions_of, entries_from, with_entries, unless_refused, listed_refusal, listed_of, is_near, number_at, bounds_refusal, space_between, space_of, space_file}
+use Rattle.module_spec.specs.Spec.{Generator, Entry, within_limit, by_degree, File, is_near}
+use Rattle.module_json.specs.ModuleFile.{degree_of, degree_refusal, generator_refusal, generators_refusal, listed, basis, spans, span_refusal, IsFileOf, no_value, described, gens_of, actions_of, entries_from, with_entries, unless_refused, listed_refusal, listed_of, number_at, bounds_refusal, space_between, space_of, space_file}
 use Rattle.module_json.specs.declared.malformed.Malformed.{Malformed}
 use Rattle.module_json.specs.declared.malformed.Malformed.TheVariants.{Name}
-use Rattle.module_json.specs.Sorting.{inserted}
+use Rattle.module_spec.specs.Sorting.{inserted}
 use Rattle.module_json.proofs.Cells.{cells_in_order}
-use Rattle.module_json.proofs.Sorting.{EachPair, EachPair-by_place, Rises, Rises-sorted_by, All-inserted, All-sorted_by, length-sorted_by}
+use Rattle.module_spec.proofs.Sorting.{EachPair, EachPair-by_place, Rises, Rises-sorted_by, All-inserted, All-sorted_by, length-sorted_by}
 
 -- ---- each generator
 

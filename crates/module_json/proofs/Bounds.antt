@@ -5,8 +5,9 @@ use Rattle.std.proofs.lemmas.Bool.{and_parts, leb-true}
 use Rattle.std.proofs.lemmas.Int.{ints}
 use Rattle.module_json.specs.Checks.{unless}
 use Rattle.module_json.specs.Spaces.{count_between}
-use Rattle.module_json.specs.ModuleFile.{within_limit, bounds_refusal, space_between, space_file, unless_refused}
-use Rattle.module_json.specs.declared.limits.TheConstants.{MAX_GENERATORS, MAX_DEGREE}
+use Rattle.module_spec.specs.Spec.{within_limit}
+use Rattle.module_json.specs.ModuleFile.{bounds_refusal, space_between, space_file, unless_refused}
+use Rattle.module_spec.specs.declared.limits.TheConstants.{MAX_GENERATORS, MAX_DEGREE}
 use Rattle.module_json.specs.declared.malformed.Malformed.TheVariants.{Limit, Bounds}
 use Rattle.module_json.specs.declared.malformed.What.TheVariants.{Gens, Degree}
 use Rattle.module_json.proofs.Basis.{option_or-none, unless_none, limits}

@@ -13,11 +13,12 @@ use Rattle.std.proofs.lemmas.List.FromFn.{length-map-range_with_len, get_or-map-
 use lib.Signed.{mag}
 use Rattle.f2_vec.proofs.Ones.{range_more}
 use Rattle.milnor_basis.specs.Product.{is_odd}
-use Rattle.module_json.specs.declared.limits.TheConstants.{MAX_GENERATORS, MAX_DEGREE}
-use Rattle.module_json.specs.Actions.{is_name}
-use Rattle.module_json.specs.Spaces.{powers, binomial}
-use Rattle.module_json.specs.ModuleFile.{Generator, Entry, degree_at, no_generator, cell, cells, is_joined, joining, squares_on, space_file}
-use Rattle.module_json.specs.WellFormed.{NeverFall, IsEntryOf, Agree, IsWellFormed}
+use Rattle.module_spec.specs.declared.limits.TheConstants.{MAX_GENERATORS, MAX_DEGREE}
+use Rattle.module_spec.specs.Names.{is_name}
+use Rattle.module_spec.specs.Spec.{powers, Generator, Entry, degree_at, no_generator}
+use Rattle.module_json.specs.Spaces.{binomial}
+use Rattle.module_json.specs.ModuleFile.{cell, cells, is_joined, joining, squares_on, space_file}
+use Rattle.module_spec.specs.WellFormed.{NeverFall, IsEntryOf, Agree, IsWellFormed}
 
 -- ---- the cells
 

@@ -19,8 +19,9 @@ use Rattle.serde_json.specs.Find.{as_str}
 use Rattle.serde_json.specs.View.{view, items_view}
 use Rattle.serde_json.specs.declared.value.Value.{Value}
 use Rattle.module_json.specs.Actions.{Written, action_of}
-use Rattle.module_json.specs.ModuleFile.{Generator, Entry, number_of, numbers_of, degree_at, are_in, is_odd_in, sum_of, differs, unless_repeated, numbered_entry, named_entry, entry_of, at_index, entries_from, written}
-use Rattle.module_json.specs.WellFormed.{IsEntryOf, Agree}
+use Rattle.module_spec.specs.Spec.{Generator, Entry, number_of, degree_at}
+use Rattle.module_json.specs.ModuleFile.{numbers_of, are_in, is_odd_in, sum_of, differs, unless_repeated, numbered_entry, named_entry, entry_of, at_index, entries_from, written}
+use Rattle.module_spec.specs.WellFormed.{IsEntryOf, Agree}
 use Rattle.module_json.specs.declared.malformed.Why.{Why}
 use Rattle.module_json.proofs.Repeats.{position-None}
 use Rattle.module_json.proofs.Squares.{action_small}

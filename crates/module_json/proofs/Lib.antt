@@ -1,7 +1,6 @@
 pub mod Counts
 pub mod Pieces
 mod Listing
-pub mod Sorting
 mod Binomials
 pub mod Cells
 pub mod Bounds

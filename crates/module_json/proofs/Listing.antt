@@ -2,7 +2,8 @@
 use Rattle.std.specs.Prelude.{◌≡◌, ℕ, suc, List, [], ◌∷◌, ◌++◌, length, Some, None}
 use Rattle.std.proofs.Common.{sym, ap, ◌∙◌, arith, append_assoc, length-append}
 use Rattle.serde_json.specs.Data.{Data, Members, member}
-use Rattle.module_json.specs.ModuleFile.{Generator, degree_of, generator_refusal, generators_refusal, listed}
+use Rattle.module_spec.specs.Spec.{Generator}
+use Rattle.module_json.specs.ModuleFile.{degree_of, generator_refusal, generators_refusal, listed}
 
 -- what is left to look at after the generators gs of the members `all`
 pub record IsLeft (all : Members) (gs : List Generator) (rest : Members) : Type 0 where

@@ -2,7 +2,8 @@
 use Rattle.std.specs.Prelude.{◌≡◌, ◌+◌, ◌<◌, List, [], ◌∷◌, ◌++◌, length, map, drop, Option, Some, None, option_map, refl}
 use Rattle.std.proofs.Common.{ℕ, Bor, get_or, ap, sym, ◌∙◌, append_assoc}
 use Rattle.std.proofs.lemmas.List.{at_drop_more}
-use Rattle.module_json.specs.ModuleFile.{Generator, number_of, numbers_of}
+use Rattle.module_spec.specs.Spec.{Generator, number_of}
+use Rattle.module_json.specs.ModuleFile.{numbers_of}
 
 -- what stands before the numbers of the rest, if each of these has one
 abbrev pub after : List ℕ → Option (List ℕ) → Option (List ℕ)

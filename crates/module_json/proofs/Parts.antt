@@ -1,6 +1,6 @@
 -- The modules that values describe, one after another.
 use Rattle.std.specs.Prelude.{List, ◌++◌, Result, Ok, Err}
-use Rattle.module_json.specs.ModuleFile.{File}
+use Rattle.module_spec.specs.Spec.{File}
 use Rattle.module_json.specs.declared.malformed.Malformed.{Malformed}
 
 -- modules, and those of an answer behind them

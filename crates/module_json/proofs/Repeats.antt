@@ -7,8 +7,9 @@ use Rattle.std.proofs.lemmas.Bool.{cases_lt}
 use Rattle.std.proofs.lemmas.Bool.Decides.{nat_tests}
 use Rattle.std.proofs.lemmas.List.Sums.{position_or_len_is, fails_before_first}
 use Rattle.std.proofs.lemmas.List.Quantifiers.{position-Some}
-use Rattle.module_json.specs.ModuleFile.{Entry, differs}
-use Rattle.module_json.specs.WellFormed.{Agree}
+use Rattle.module_spec.specs.Spec.{Entry}
+use Rattle.module_json.specs.ModuleFile.{differs}
+use Rattle.module_spec.specs.WellFormed.{Agree}
 
 -- an entry of this square on this generator
 abbrev pub lists : ℕ → ℕ → Entry → Bool

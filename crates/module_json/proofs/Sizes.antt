@@ -4,7 +4,7 @@ use Rattle.std.proofs.Common.{refl, sym, ap, ◌∙◌}
 use Rattle.std.proofs.lemmas.Bool.{leb-true, lt-leb}
 use Rattle.serde_json.specs.Data.{Data}
 use Rattle.module_json.specs.Checks.{unless, size_refusal, IsValueOf, too_long, no_json, value}
-use Rattle.module_json.specs.declared.limits.TheConstants.{MAX_FILE_BYTES}
+use Rattle.module_spec.specs.declared.limits.TheConstants.{MAX_FILE_BYTES}
 use Rattle.module_json.specs.declared.malformed.Malformed.{Malformed}
 use Rattle.module_json.specs.declared.malformed.Malformed.TheVariants.{Limit}
 use Rattle.module_json.specs.declared.malformed.What.TheVariants.{Bytes}

@@ -4,7 +4,7 @@ use Rattle.std.specs.Option.{option_or}
 use Rattle.serde_json.specs.Data.{Data, Items, no_items, item, Members, no_members, member}
 use Rattle.serde_json.specs.Find.{as_number, as_str, as_array, as_object, as_u64, get}
 use Rattle.serde_json.specs.Read.{read}
-use Rattle.module_json.specs.declared.limits.TheConstants.{MAX_FILE_BYTES, MAX_GENERATORS, MAX_ACTIONS}
+use Rattle.module_spec.specs.declared.limits.TheConstants.{MAX_FILE_BYTES, MAX_GENERATORS, MAX_ACTIONS}
 use Rattle.module_json.specs.declared.malformed.Malformed.{Malformed}
 use Rattle.module_json.specs.declared.malformed.Malformed.TheVariants.{Limit, Json, Shape, Kind as OtherKind, Prime as OtherPrime, Memory}
 use Rattle.module_json.specs.declared.malformed.Place.{Place}

@@ -3,6 +3,4 @@ pub mod Checks
 pub mod ModuleFile
 pub mod Parts
 pub mod Spaces
-pub mod Sorting
-pub mod WellFormed
 pub mod Inside

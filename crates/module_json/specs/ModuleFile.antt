@@ -8,11 +8,12 @@ use Rattle.std.specs.Option.{option_or}
 use Rattle.milnor_basis.specs.Product.{is_odd}
 use Rattle.serde_json.specs.Data.{Data, Items, no_items, item, Members, no_members, member}
 use Rattle.serde_json.specs.Find.{as_number, as_str, as_array, as_object, as_i64, get}
-use Rattle.module_json.specs.Actions.{is_name, Written, action_of}
-use Rattle.module_json.specs.Sorting.{sorted_by}
+use Rattle.module_spec.specs.Names.{is_name}
+use Rattle.module_json.specs.Actions.{Written, action_of}
 use Rattle.module_json.specs.Checks.{IsValueOf, unless, gens_refusal, actions_refusal, first_of, header_refusal, is_space}
-use Rattle.module_json.specs.Spaces.{powers, binomial, count_between}
-use Rattle.module_json.specs.declared.limits.TheConstants.{MAX_GENERATORS, MAX_DEGREE, MAX_SPAN}
+use Rattle.module_spec.specs.Spec.{Generator, degree_at, number_of, by_degree, within_limit, is_near, Entry, powers, File}
+use Rattle.module_json.specs.Spaces.{binomial, count_between}
+use Rattle.module_spec.specs.declared.limits.TheConstants.{MAX_GENERATORS}
 use Rattle.module_json.specs.declared.malformed.Malformed.{Malformed}
 use Rattle.module_json.specs.declared.malformed.Malformed.TheVariants.{Limit, Shape, Name, Degree as NoDegree, Action, Bounds}
 use Rattle.module_json.specs.declared.malformed.What.TheVariants.{Gens, Degree, Span}
@@ -21,10 +22,6 @@ use Rattle.module_json.specs.declared.malformed.Why.{Why}
 use Rattle.module_json.specs.declared.malformed.Why.TheVariants.{Syntax, SquareZero, Unknown, WrongDegree, Repeated}
 
 -- ---- generators
-
-pub record Generator : Type 0 where
-  pub name : List ℕ
-  pub degree : ℤ
 
 -- The members of `gens`, in the order of the bytes of their keys.
 abbrev pub gens_of : Data → Members
@@ -37,9 +34,6 @@ gens_of d = members_or (option_and_then as_object (get (codes "gens") d))
 -- a value as a degree
 abbrev pub degree_of : Data → Option ℤ
 degree_of d = option_and_then as_i64 (as_number d)
-
-abbrev pub within_limit : ℤ → Bool
-within_limit z = int_le (neg_ℤ MAX_DEGREE) z && int_le z MAX_DEGREE
 
 abbrev pub degree_refusal : ℕ → Option ℤ → Option Malformed
 degree_refusal i None = Some (NoDegree i)
@@ -54,10 +48,6 @@ abbrev pub generators_refusal : ℕ → Members → Option Malformed
 generators_refusal i no_members = None
 generators_refusal i (member name d ms) = option_or (generator_refusal i name d) (generators_refusal (suc i) ms)
 
--- the generators by degree; those of one degree keep their order
-abbrev pub by_degree : List Generator → List Generator
-by_degree gs = sorted_by (λ g. g.degree) gs
-
 -- the generators as they are listed, which is in the order of the bytes of their names
 abbrev pub listed : Members → List Generator
 listed no_members = []
@@ -71,10 +61,6 @@ listed (member name d ms) = onto (degree_of d) (listed ms)
 abbrev pub basis : Members → List Generator
 basis ms = by_degree (listed ms)
 
--- z lies at most the greatest span above y
-abbrev pub is_near : ℤ → ℤ → Bool
-is_near z y = int_le z (y +ℤ pos MAX_SPAN)
-
 -- no degree lies more than the greatest span above another
 abbrev pub spans : List Generator → Bool
 spans gs = list_all (λ g. list_all (λ h. is_near g.degree h.degree) gs) gs
@@ -83,12 +69,6 @@ abbrev pub span_refusal : List Generator → Option Malformed
 span_refusal gs = unless (spans gs) (Limit Span)
 
 -- ---- actions
-
--- One action: n, the number of the generator that Sq^n acts on, and the numbers of the sum, in order and each once.
-pub record Entry : Type 0 where
-  pub n : ℕ
-  pub generator : ℕ
-  pub sum : List ℕ
 
 -- the values of an array, if it is there
 abbrev pub items_or : Option Items → Items
@@ -103,23 +83,11 @@ actions_of d = items_or (option_and_then as_array (get (codes "actions") d))
 abbrev pub written : Data → Option Written
 written d = option_and_then action_of (as_str d)
 
--- the number of the generator with a name
-abbrev pub number_of : List Generator → List ℕ → Option ℕ
-number_of gs name = position (λ g. bytes_eq g.name name) gs
-
 -- the numbers of the generators with these names, if each name has one
 abbrev pub numbers_of : List Generator → List (List ℕ) → Option (List ℕ)
 numbers_of gs [] = Some []
 numbers_of gs (name ∷ names) =
     option_and_then (λ j. option_map (λ js. j ∷ js) (numbers_of gs names)) (number_of gs name)
-
--- what stands for a generator where there is none
-abbrev pub no_generator : Generator
-no_generator = record { name = []; degree = pos 0 }
-
--- the degree of generator i
-abbrev pub degree_at : List Generator → ℕ → ℤ
-degree_at gs i = (slice_index_or gs i no_generator).degree
 
 -- each of these generators has this degree
 abbrev pub are_in : List Generator → ℤ → List ℕ → Bool
@@ -179,11 +147,6 @@ entries_from gs before (item d ds) =
     and_then later (Err e) = Err e
 
 -- ---- a type of module file: one that lists generators and actions
-
--- A module by its generators, in basis order, and its actions, as listed.
-pub record File : Type 0 where
-  pub generators : List Generator
-  pub entries : List Entry
 
 -- The checks behind the header and before the entries, in their order.
 abbrev pub listed_refusal : Data → Option Malformed

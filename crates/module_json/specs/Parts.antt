@@ -3,7 +3,8 @@ use Rattle.std.specs.Prelude.{ℕ, ◌==◌, ◌≡◌, List, [], ◌∷◌, Opt
 use Rattle.serde_json.specs.Data.{Data, Items, no_items, item}
 use Rattle.serde_json.specs.Find.{as_array}
 use Rattle.module_json.specs.Checks.{IsValueOf, unless, items_count}
-use Rattle.module_json.specs.ModuleFile.{File, items_or, file_of, unless_refused}
+use Rattle.module_spec.specs.Spec.{File}
+use Rattle.module_json.specs.ModuleFile.{items_or, file_of, unless_refused}
 use Rattle.module_json.specs.declared.malformed.Malformed.{Malformed}
 use Rattle.module_json.specs.declared.malformed.Malformed.TheVariants.{Shape, Parts}
 use Rattle.module_json.specs.declared.malformed.Place.TheVariants.{Whole}

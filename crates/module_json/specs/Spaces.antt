@@ -3,10 +3,6 @@
 use Rattle.std.specs.Prelude.{ℕ, ◌+◌, ℤ, pos, negsuc, ◌+ℤ◌, neg_ℤ, List, [], ◌∷◌}
 use Rattle.milnor_basis.specs.Product.{choose}
 
--- the powers of two that a difference of two degrees of a module can be
-abbrev pub powers : List ℕ
-powers = 1 ∷ 2 ∷ 4 ∷ 8 ∷ 16 ∷ 32 ∷ 64 ∷ []
-
 -- The binomial of n over k, up to sign. For n below 0 it is that of k - n - 1 over k; n is -m - 1 there, so that is k + m.
 abbrev pub binomial : ℤ → ℕ → ℕ
 binomial (pos n) k = choose n k

@@ -1,7 +1,8 @@
 //! The text of one action, such as `Sq2 x0 = x1 + x2`.
 ghost use Rattle.std.specs.Prelude.{◌≡◌, ◌↔◌, ◌+◌, ◌<◌, ◌≤◌, ◌∷◌, [], ℕ, List, length, IfSome, IfNone, IsTrue, MatchOption, IfOk, option_map, map, position, ◌==◌};
 ghost use Rattle.std.specs.List.{list_all};
-ghost use Rattle.module_json.specs.Actions.{is_name, is_letter, is_name_byte, is_digit, number_of, square_of, pieces, words, acting, one_name, only, is_zero_word, sum_names, with_names, Written, action_of};
+ghost use Rattle.module_spec.specs.Names.{is_name, is_letter, is_name_byte};
+ghost use Rattle.module_json.specs.Actions.{is_digit, number_of, square_of, pieces, words, acting, one_name, only, is_zero_word, sum_names, with_names, Written, action_of};
 ghost use Rattle.module_json.specs.Inside.Cut.{later_pieces};
 
 use memory::Memory;

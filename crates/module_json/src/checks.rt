@@ -10,8 +10,8 @@ ghost use Rattle.module_json.specs.Parts.{parts_refusal, parts_of};
 ghost use Rattle.module_json.specs.ModuleFile.{gens_of, actions_of, degree_of, generator_refusal};
 
 use crate::action::names;
-use crate::limits::{MAX_ACTIONS, MAX_FILE_BYTES, MAX_GENERATORS, is_degree};
 use crate::malformed::{Malformed, Place, What};
+use module_spec::{MAX_ACTIONS, MAX_FILE_BYTES, MAX_GENERATORS, is_degree};
 use serde_json::{Map, Value};
 use std::alloc::Global;
 

@@ -3,33 +3,17 @@ ghost use Rattle.std.specs.Prelude.{◌≡◌, ◌≢◌, ◌<◌, ◌&&◌, ◌
 ghost use Rattle.std.specs.Ordering.{int_eq};
 ghost use Rattle.serde_json.specs.View.{view, items_view};
 ghost use Rattle.module_json.specs.Checks.{Answers};
-ghost use Rattle.module_json.specs.ModuleFile.{written as written_in, numbers_of, degree_at, are_in, is_odd_in, sum_of, differs, numbered_entry, entry_of, at_index, entries_from};
-ghost use Rattle.module_json.specs.WellFormed.{IsEntryOf, Agree};
+ghost use Rattle.module_json.specs.ModuleFile.{written as written_in, numbers_of, are_in, is_odd_in, sum_of, differs, numbered_entry, entry_of, at_index, entries_from};
+ghost use Rattle.module_spec.specs.Spec.{degree_at};
+ghost use Rattle.module_spec.specs.WellFormed.{IsEntryOf, Agree};
 
 use crate::action::{ActionText, action};
-use crate::generator::{Generator, generator_named};
+use crate::generator::generator_named;
 use crate::malformed::{Malformed, Why};
 use memory::Memory;
+use module_spec::{Entry, Generator};
 use serde_json::Value;
 use std::alloc::Global;
-use std::marker::Model;
-
-/// One action of a module: Sq^n on a generator, and the numbers of the generators of the sum, in basis order and each
-/// once.
-#[derive(Drop)]
-pub(crate) struct Entry {
-    pub(crate) n: u32,
-    pub(crate) generator: usize,
-    pub(crate) sum: Vec<usize>,
-}
-
-impl Model for Entry {
-    ghost use Rattle.module_json.specs.ModuleFile.{Entry as Listed};
-
-    ghost Value = { Listed };
-
-    ghost view = { λ e. record { n = e.n; generator = e.generator; sum = e.sum.items } };
-}
 
 /// The action that a listed value writes, none where it writes none.
 fn written(alloc: Global, value: &Value) -> Result<Option<ActionText<'_>>, Memory>

@@ -4,30 +4,14 @@ ghost use Rattle.std.specs.List.{list_all};
 ghost use Rattle.std.specs.Result.{result_err};
 ghost use Rattle.serde_json.specs.View.{view, members_view};
 ghost use Rattle.module_json.specs.Checks.{RefusesBy};
-ghost use Rattle.module_json.specs.ModuleFile.{generator_refusal, generators_refusal, degree_of, listed, basis, is_near, spans, span_refusal, number_of};
+ghost use Rattle.module_json.specs.ModuleFile.{generator_refusal, generators_refusal, degree_of, listed, basis, spans, span_refusal};
+ghost use Rattle.module_spec.specs.Spec.{is_near, number_of};
 
 use crate::checks::degree;
-use crate::limits::is_near;
 use crate::malformed::{Malformed, What};
+use module_spec::{Generator, is_near};
 use serde_json::{Map, Value};
 use std::alloc::Global;
-use std::marker::Model;
-
-/// A generator of a module. Contracts see it as the definition `Generator`; a public type would add what no caller asks for.
-#[derive(Drop)]
-pub(crate) struct Generator {
-    pub(crate) name: String,
-    pub(crate) degree: i32,
-}
-
-impl Model for Generator {
-    ghost use Rattle.std.specs.Prelude.{string_bytes};
-    ghost use Rattle.module_json.specs.ModuleFile.{Generator as Named};
-
-    ghost Value = { Named };
-
-    ghost view = { λ g. record { name = string_bytes g.name; degree = g.degree } };
-}
 
 /// The generators, in basis order.
 pub(crate) fn generators(

@@ -10,15 +10,14 @@ mod checks;
 mod entry;
 mod generator;
 mod laws;
-mod limits;
 mod malformed;
 mod space;
 mod spec;
 
 pub use laws::{file_is_unique, parts_are_unique};
-pub use limits::{
-    MAX_ACTIONS, MAX_DEGREE, MAX_FILE_BYTES, MAX_GENERATORS, MAX_SPAN, POWERS, is_degree, is_near,
-    limits_are_these,
-};
 pub use malformed::{Malformed, Place, What, Why};
-pub use spec::{Spec, read, read_parts};
+pub use module_spec::{
+    MAX_ACTIONS, MAX_DEGREE, MAX_FILE_BYTES, MAX_GENERATORS, MAX_SPAN, POWERS, Spec, is_degree,
+    is_near, limits_are_these,
+};
+pub use spec::{read, read_parts};

@@ -7,12 +7,10 @@ ghost use Rattle.serde_json.specs.View.{view};
 ghost use Rattle.module_json.specs.ModuleFile.{cell, cells as cells_in, is_joined, joining, squares_on, space_file, bounds_refusal, space_of};
 ghost use Rattle.module_json.specs.Spaces.{binomial, count_between};
 
-use crate::entry::Entry;
-use crate::generator::Generator;
-use crate::limits::{MAX_DEGREE, MAX_GENERATORS, POWERS, is_degree};
 use crate::malformed::{Malformed, Place, What};
 use itoa::Buffer;
 use memory::Memory;
+use module_spec::{Entry, Generator, MAX_DEGREE, MAX_GENERATORS, POWERS, is_degree};
 use serde_json::Value;
 use std::alloc::Global;
 

@@ -3,79 +3,16 @@ ghost use Rattle.std.specs.Prelude.{◌≡◌, ◌≢◌, ◌<◌, length, Some,
 ghost use Rattle.serde_json.specs.View.{view, items_view};
 ghost use Rattle.module_json.specs.ModuleFile.{listed_of, space_of, file_of, IsFileOf};
 ghost use Rattle.module_json.specs.Parts.{files_of, modules_of, ArePartsOf};
-ghost use Rattle.module_json.specs.WellFormed.{IsWellFormed};
+ghost use Rattle.module_spec.specs.WellFormed.{IsWellFormed};
 
 use crate::checks::{actions, check_header, gens, is_space, parts, read_value};
-use crate::entry::{Entry, entries};
-use crate::generator::{Generator, check_span, generators};
+use crate::entry::entries;
+use crate::generator::{check_span, generators};
 use crate::malformed::Malformed;
 use crate::space::{CellRange, cell_range, cells, squares};
+use module_spec::Spec;
 use serde_json::Value;
 use std::alloc::Global;
-use std::marker::Model;
-
-/// A module as a file describes it: its generators in basis order, which goes by degree and then by the bytes of the
-/// names, and its actions, as they are listed.
-#[derive(Drop)]
-pub struct Spec {
-    generators: Vec<Generator>,
-    entries: Vec<Entry>,
-}
-
-impl Model for Spec {
-    ghost use Rattle.module_json.specs.ModuleFile.{File};
-    ghost use Rattle.module_json.specs.WellFormed.{IsWellFormed};
-
-    ghost Value = { File };
-
-    ghost view = { λ s. record { generators = s.generators.items; entries = s.entries.items } };
-
-    ghost invariant = { λ s. IsWellFormed (record { generators = s.generators.items; entries = s.entries.items }) };
-}
-
-impl Spec {
-    /// How many generators the module has.
-    pub fn count(&self) -> usize
-        ensures count { result ≡ length self.now.generators }
-        ensures well_formed { IsWellFormed self.now }
-    {
-        self.generators.len()
-    }
-
-    /// How many actions the module lists.
-    pub fn entries(&self) -> usize
-        ensures { result ≡ length self.now.entries }
-    {
-        self.entries.len()
-    }
-
-    /// The name of generator `i`.
-    pub fn name(&self, i: usize) -> &str
-        requires { i < length self.now.generators }
-        ensures { option_map (λ g. g.name) (slice_get self.now.generators i) ≡ Some result.now }
-    {
-        self.generators[i].name.as_str()
-    }
-
-    /// The internal degree of generator `i`.
-    pub fn degree(&self, i: usize) -> i32
-        requires { i < length self.now.generators }
-        ensures { option_map (λ g. g.degree) (slice_get self.now.generators i) ≡ Some result }
-    {
-        self.generators[i].degree
-    }
-
-    /// Action `i`: the number n of Sq^n, the generator that it acts on, and the generators of the sum, in basis order
-    /// and each once.
-    pub fn entry(&self, i: usize) -> (u32, usize, &[usize])
-        requires { i < length self.now.entries }
-        ensures { slice_get self.now.entries i
-            ≡ Some (record { n = result.0; generator = result.1; sum = result.2.now }) }
-    {
-        let entry = &self.entries[i];
-        (entry.n, entry.generator, entry.sum.as_slice())
-    }
-}
 
 /// The module that a value describes behind its header if it lists generators and actions, or the first thing wrong there.
 fn describe_listed(alloc: Global, file: &Value) -> Result<Spec, Malformed>
@@ -87,10 +24,7 @@ fn describe_listed(alloc: Global, file: &Value) -> Result<Spec, Malformed>
     check_span(generators.as_slice())?;
     let actions = actions(file)?;
     let entries = entries(alloc, generators.as_slice(), actions)?;
-    Ok(Spec {
-        generators,
-        entries,
-    })
+    Ok(Spec::new(generators, entries))
 }
 
 /// The module that a value describes behind its header if it is a real projective space, or the first thing wrong there.
@@ -101,10 +35,7 @@ fn describe_space(alloc: Global, file: &Value) -> Result<Spec, Malformed>
     let CellRange { min, count } = cell_range(file)?;
     let generators = cells(alloc, min, count)?;
     let entries = squares(alloc, min, count)?;
-    Ok(Spec {
-        generators,
-        entries,
-    })
+    Ok(Spec::new(generators, entries))
 }
 
 /// The module that a value describes, or the first thing wrong with it.

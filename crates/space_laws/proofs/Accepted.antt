@@ -14,9 +14,10 @@ use Rattle.milnor_basis.specs.Exponents.{degree_of}
 use Rattle.milnor_basis.specs.Product.{choose, is_odd}
 use Rattle.milnor_laws.proofs.Indecomposables.{single_trimmed}
 use Rattle.projective_laws.proofs.Periods.{binomials_have_period, binomials_of_negatives}
-use Rattle.module_json.specs.declared.limits.TheConstants.{MAX_GENERATORS, MAX_DEGREE}
-use Rattle.module_json.specs.Spaces.{powers, binomial}
-use Rattle.module_json.specs.ModuleFile.{Entry, File, degree_at, is_joined, joining, squares_on, space_file}
+use Rattle.module_spec.specs.declared.limits.TheConstants.{MAX_GENERATORS, MAX_DEGREE}
+use Rattle.module_spec.specs.Spec.{powers, Entry, File, degree_at}
+use Rattle.module_json.specs.Spaces.{binomial}
+use Rattle.module_json.specs.ModuleFile.{is_joined, joining, squares_on, space_file}
 use Rattle.module_json.proofs.Cells.{length-cells, degree-cells, cells_in_order}
 use Rattle.finite_module.specs.Module.{Module, generators_in, width, value}
 use Rattle.finite_module.specs.DerivedAction.{listed_sum, sum_vector, derived_module}

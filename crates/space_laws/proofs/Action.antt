@@ -18,7 +18,8 @@ use Rattle.milnor_basis.proofs.BasisLemmas.{All-basis_of}
 use Rattle.milnor_basis.proofs.Parity.{is_odd-count_by}
 use Rattle.projective_laws.specs.Powers.{power_coefficient}
 use Rattle.projective_laws.proofs.Multinomials.{powers_act}
-use Rattle.module_json.specs.ModuleFile.{Generator, degree_at, cells}
+use Rattle.module_spec.specs.Spec.{Generator, degree_at}
+use Rattle.module_json.specs.ModuleFile.{cells}
 use Rattle.module_json.proofs.Cells.{length-cells, degree-cells}
 use Rattle.finite_module.specs.Module.{Module, generators_in, width, unit, or_zeros, value, act_on, total, place_of, elements_below}
 use Rattle.finite_module.specs.ModuleLaws.{numbers_from-member}

@@ -3,7 +3,8 @@ use Rattle.std.proofs.Common.{◌≡◌, ℤ, if◌then◌else◌, Option, Some,
 use Rattle.module_json.specs.declared.malformed.Malformed.{Malformed}
 use Rattle.module_json.specs.Checks.{header_refusal, is_space}
 use Rattle.module_json.specs.Spaces.{count_between}
-use Rattle.module_json.specs.ModuleFile.{File, described, unless_refused, bounds_refusal, space_between, space_of, listed_of, number_at, file_of, space_file}
+use Rattle.module_spec.specs.Spec.{File}
+use Rattle.module_json.specs.ModuleFile.{described, unless_refused, bounds_refusal, space_between, space_of, listed_of, number_at, file_of, space_file}
 use Rattle.module_json.proofs.Bounds.{bounds_fine}
 use Rattle.module_json.proofs.Reading.{file_unique}
 use Rattle.module_check.specs.Acceptance.{refusal_of}

@@ -2,9 +2,10 @@
 -- Cohomology operations, 1962).
 use Rattle.std.specs.Prelude.{◌≡◌, ℕ, ◌≤◌, ℤ, neg_ℤ, ◌≤ℤ◌, true, List, None, Ok}
 use Rattle.serde_json.specs.Data.{Data}
-use Rattle.module_json.specs.declared.limits.TheConstants.{MAX_GENERATORS, MAX_DEGREE}
+use Rattle.module_spec.specs.declared.limits.TheConstants.{MAX_GENERATORS, MAX_DEGREE}
 use Rattle.module_json.specs.Checks.{IsValueOf, is_space}
-use Rattle.module_json.specs.ModuleFile.{File, IsFileOf, file_of, space_file}
+use Rattle.module_spec.specs.Spec.{File}
+use Rattle.module_json.specs.ModuleFile.{IsFileOf, file_of, space_file}
 use Rattle.module_check.specs.Acceptance.{refusal_of}
 
 -- No square of the listed cells is refused, and no relation between the squares.

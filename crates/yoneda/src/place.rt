@@ -1,6 +1,6 @@
 //! Where a class stands in a table.
 ghost use Rattle.std.specs.Prelude.{◌≡◌, ◌≤ℤ◌, neg_ℤ, IfOk, IfErr, OnOk, None, Some};
-ghost use Rattle.module_json.specs.declared.limits.TheConstants.{MAX_DEGREE};
+ghost use Rattle.module_spec.specs.declared.limits.TheConstants.{MAX_DEGREE};
 ghost use Rattle.square.specs.Squares.{bottom_of};
 ghost use Rattle.square.specs.Tables.{IsTable, IsThrough};
 ghost use Rattle.chain_map.specs.Classes.{through, missing_in};

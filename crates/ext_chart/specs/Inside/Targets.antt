@@ -1,7 +1,7 @@
 -- The target of d_s, as its vectors are written.
 use Rattle.std.specs.Prelude.{◌≡◌, ℕ, ◌≤◌, ℤ, pos, ◌+ℤ◌, Bool, List, length}
 use Rattle.free_module.specs.FreeModule.{IsWithinReach, free_width}
-use Rattle.module_json.specs.ModuleFile.{Generator}
+use Rattle.module_spec.specs.Spec.{Generator}
 use Rattle.finite_module.specs.Module.{bottom, width}
 use Rattle.finite_module.specs.Text.{sum_text}
 use Rattle.resolution_laws.specs.Resolution.{Content}

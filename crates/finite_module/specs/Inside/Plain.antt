@@ -3,7 +3,7 @@
 use Rattle.std.specs.Prelude.{ℕ, pos, ◌+ℤ◌, Bool, List, [], ◌∷◌}
 use Rattle.f2_vec.specs.Vectors.{zeros}
 use Rattle.milnor_basis.specs.Exponents.{degree_of}
-use Rattle.module_json.specs.ModuleFile.{Generator, Entry, degree_at}
+use Rattle.module_spec.specs.Spec.{Generator, Entry, degree_at}
 use Rattle.finite_module.specs.Module.{width, unit}
 use Rattle.finite_module.specs.DerivedAction.{sum_vector, listed_sum}
 

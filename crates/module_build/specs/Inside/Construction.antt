@@ -6,11 +6,11 @@ use Rattle.milnor_basis.specs.Exponents.{degree_of, IsTrimmed}
 use Rattle.milnor_basis.specs.Product.{odd_by}
 use Rattle.hopf_laws.specs.Actions.{shifted, sum, tensor, dual}
 use Rattle.hopf_laws.specs.Conjugate.{conjugate, is_nothing}
-use Rattle.module_json.specs.ModuleFile.{Generator, degree_at}
+use Rattle.module_spec.specs.Spec.{Generator, degree_at}
 use Rattle.finite_module.specs.Module.{Module, value}
 use Rattle.finite_module.specs.DerivedAction.{elements}
 use Rattle.built_laws.specs.Built.{action_of, built, values_on, operator_on}
-use Rattle.module_json.specs.Sorting.{sorted_by}
+use Rattle.module_spec.specs.Sorting.{sorted_by}
 use Rattle.built_laws.specs.Constructed.{generators_from}
 use Rattle.module_build.specs.Names.{numbered_name}
 use Rattle.module_build.specs.Inside.Splittings.{sum_over}

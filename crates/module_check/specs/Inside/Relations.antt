@@ -4,7 +4,7 @@ use Rattle.std.specs.Int.{is_power_of_two}
 use Rattle.std.specs.List.{range_with_len}
 use Rattle.f2_vec.specs.Vectors.{sum_of}
 use Rattle.milnor_basis.specs.Exponents.{degree_of, IsTrimmed}
-use Rattle.module_json.specs.ModuleFile.{Generator, degree_at}
+use Rattle.module_spec.specs.Spec.{Generator, degree_at}
 use Rattle.finite_module.specs.Module.{Module, width}
 use Rattle.finite_module.specs.Axioms.{one_by_one, by_their_product}
 

@@ -1,7 +1,7 @@
 use Rattle.std.proofs.Common.{rules, arith, ◌≡◌, ◌≢◌, ◌<◌, ◌∙◌, length, slice_index_or, Option, Some, List, [], ◌∷◌, ap, sym, Err}
 use Rattle.std.specs.Option.{option_or, option_map}
 use Rattle.std.proofs.lemmas.Result.{err_from_is_err_and}
-use Rattle.module_json.specs.ModuleFile.{File}
+use Rattle.module_spec.specs.Spec.{File}
 use Rattle.module_check.specs.declared.fault.CheckFault.{CheckFault as Fault}
 use Rattle.module_check.specs.Acceptance.{refusal_of}
 use Rattle.ext_report.specs.declared.failure.Failure.{Failure}

@@ -2,7 +2,8 @@ use Rattle.std.proofs.Common.{sym}
 use Rattle.std.proofs.lemmas.Result.{err_from_is_err_and}
 use Rattle.ext_report.specs.Failure.{file_failure}
 use Rattle.ext_build.specs.Building.{IsBuildCauseFrom}
-use Rattle.ext_build.proofs.Reading.{parts-read, rest-read, parts_cause}
+use Rattle.read_module.proofs.Reading.{rest-read}
+use Rattle.ext_build.proofs.Parts.{parts-read, parts_cause}
 use Rattle.ext_build.proofs.building.read_files.Goals as goal
 
 pub returns-in_err-read_parts-clause-cause : goal.returns-in_err-read_parts-clause-cause

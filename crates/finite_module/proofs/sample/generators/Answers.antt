@@ -1,7 +1,7 @@
 use Rattle.std.proofs.Common.{◌≡◌, IfOk, sym, subst}
 use Rattle.std.proofs.lemmas.Result.{err_from_is_err_and}
-use Rattle.module_json.specs.ModuleFile.{by_degree}
-use Rattle.module_json.specs.WellFormed.{AreByDegree}
+use Rattle.module_spec.specs.Spec.{by_degree}
+use Rattle.module_spec.specs.WellFormed.{AreByDegree}
 use Rattle.finite_module.specs.Sample.{named}
 use Rattle.finite_module.proofs.SampleFile.{named_made, named_by_degree, generators_made}
 use Rattle.finite_module.proofs.sample.generators.Goals as goal

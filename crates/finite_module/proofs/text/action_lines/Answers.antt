@@ -1,6 +1,6 @@
 use Rattle.std.proofs.Common.{◌≡◌, ◌++◌, length, ap, ◌∙◌, arith}
 use Rattle.std.specs.List.{flat_map, range_with_len}
-use Rattle.module_json.specs.Spaces.{powers}
+use Rattle.module_spec.specs.Spec.{powers}
 use Rattle.finite_module.specs.Text.{square_line}
 use Rattle.finite_module.proofs.TextSteps.{flat_map_range}
 use Rattle.finite_module.proofs.text.action_lines.Goals as goal

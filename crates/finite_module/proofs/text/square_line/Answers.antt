@@ -1,7 +1,7 @@
 use Rattle.std.proofs.Common.{◌≡◌, ◌+ℤ◌, pos, to_z, of_z, w64, refl, subst, arith}
 use Rattle.std.proofs.lemmas.Int.{ints}
 use Rattle.std.specs.Result.{IfOk}
-use Rattle.module_json.specs.ModuleFile.{degree_at}
+use Rattle.module_spec.specs.Spec.{degree_at}
 use Rattle.finite_module.specs.Text.{sum_text}
 use Rattle.finite_module.proofs.TextSteps.{square_line-none, square_line-some, square-width}
 use Rattle.finite_module.proofs.text.square_line.Goals as goal

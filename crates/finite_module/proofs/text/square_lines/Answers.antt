@@ -1,7 +1,7 @@
 use Rattle.std.proofs.Common.{ap, ◌∙◌, arith}
 use Rattle.std.specs.List.{flat_map}
 use Rattle.std.proofs.lemmas.List.{take_all}
-use Rattle.module_json.specs.Spaces.{powers}
+use Rattle.module_spec.specs.Spec.{powers}
 use Rattle.finite_module.specs.Text.{square_line}
 use Rattle.finite_module.proofs.TextSteps.{flat_map_take}
 use Rattle.finite_module.proofs.text.square_lines.Goals as goal

@@ -1,6 +1,6 @@
 use Rattle.std.proofs.Common.{◌≡◌, take}
 use Rattle.std.specs.List.{flat_map}
-use Rattle.module_json.specs.Spaces.{powers}
+use Rattle.module_spec.specs.Spec.{powers}
 use Rattle.finite_module.specs.Text.{square_line}
 use Rattle.finite_module.proofs.text.square_lines.Given as goal
 

@@ -1,5 +1,5 @@
 use Rattle.std.proofs.Common.{◌≡◌, None, ap, sym, subst, ◌∙◌}
-use Rattle.module_json.specs.WellFormed.{NeverFall}
+use Rattle.module_spec.specs.WellFormed.{NeverFall}
 use Rattle.module_build.specs.Limits.{limit_of}
 use Rattle.module_build.specs.Inside.Construction.{order_of, degrees_of, generators_of}
 use Rattle.module_build.proofs.LimitCases.{generators-degrees}

@@ -2,7 +2,7 @@ use Rattle.std.proofs.Common.{◌≡◌, ◌-◌, pos, ◌+ℤ◌, length, to_z,
 use Rattle.std.proofs.lemmas.Int.{ints}
 use Rattle.std.specs.List.{range_with_len}
 use Rattle.milnor_basis.specs.Exponents.{degree_of}
-use Rattle.module_json.specs.ModuleFile.{degree_at}
+use Rattle.module_spec.specs.Spec.{degree_at}
 use Rattle.finite_module.specs.Module.{generators_in, width}
 use Rattle.built_laws.proofs.Coordinates.{coefficient_elsewhere}
 use Rattle.module_build.proofs.Entries.{IsFound, found, none_found}

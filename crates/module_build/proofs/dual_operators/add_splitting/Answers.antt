@@ -5,7 +5,7 @@ use Rattle.std.proofs.lemmas.Int.{ints}
 use Rattle.f2_vec.specs.Vectors.{sum_of}
 use Rattle.milnor_basis.specs.Exponents.{degree_of}
 use Rattle.milnor_basis.specs.Product.{odd_by}
-use Rattle.module_json.specs.ModuleFile.{degree_at}
+use Rattle.module_spec.specs.Spec.{degree_at}
 use Rattle.finite_module.specs.Module.{Module, generators_in, width, value}
 use Rattle.built_laws.specs.Built.{action_of}
 use Rattle.module_build.specs.Inside.Construction.{number_at, dual_by}

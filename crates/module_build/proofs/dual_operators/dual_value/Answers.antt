@@ -7,7 +7,7 @@ use Rattle.f2_vec.proofs.Sums.{length-zeros}
 use Rattle.milnor_basis.specs.Exponents.{degree_of}
 use Rattle.milnor_laws.proofs.Vectors.{zeros-map}
 use Rattle.hopf_laws.proofs.Splittings.{Pair}
-use Rattle.module_json.specs.ModuleFile.{degree_at}
+use Rattle.module_spec.specs.Spec.{degree_at}
 use Rattle.finite_module.specs.Module.{generators_in, width}
 use Rattle.built_laws.specs.Built.{values_on}
 use Rattle.module_build.specs.Inside.Splittings.{sum_over, IsSplitting}

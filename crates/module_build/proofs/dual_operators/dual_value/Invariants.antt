@@ -1,7 +1,7 @@
 -- The sums over the first splittings.
 use Rattle.std.proofs.Common.{◌≡◌, pos, ◌+ℤ◌, map, take}
 use Rattle.milnor_basis.specs.Exponents.{degree_of}
-use Rattle.module_json.specs.ModuleFile.{degree_at}
+use Rattle.module_spec.specs.Spec.{degree_at}
 use Rattle.finite_module.specs.Module.{generators_in}
 use Rattle.module_build.specs.Inside.Splittings.{sum_over}
 use Rattle.module_build.specs.Inside.Construction.{proper_term}

@@ -1,6 +1,6 @@
 use Rattle.std.proofs.Common.{◌≡◌, [], length, ap, ◌∙◌, arith}
 use Rattle.std.specs.List.{flat_map, range_with_len}
-use Rattle.module_json.specs.Spaces.{powers}
+use Rattle.module_spec.specs.Spec.{powers}
 use Rattle.module_build.specs.FileText.{action_of_square}
 use Rattle.module_build.specs.Inside.Written.{written_after}
 use Rattle.module_build.proofs.FileSteps.{written_range}

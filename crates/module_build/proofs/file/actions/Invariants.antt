@@ -1,7 +1,7 @@
 -- The actions on the first generators.
 use Rattle.std.proofs.Common.{◌≡◌, []}
 use Rattle.std.specs.List.{flat_map, range_with_len}
-use Rattle.module_json.specs.Spaces.{powers}
+use Rattle.module_spec.specs.Spec.{powers}
 use Rattle.module_build.specs.FileText.{action_of_square}
 use Rattle.module_build.specs.Inside.Written.{written_after}
 use Rattle.module_build.proofs.file.actions.Given as goal

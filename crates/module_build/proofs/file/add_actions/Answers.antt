@@ -1,7 +1,7 @@
 use Rattle.std.proofs.Common.{ap, ◌∙◌, arith}
 use Rattle.std.specs.List.{flat_map}
 use Rattle.std.proofs.lemmas.List.{take_all}
-use Rattle.module_json.specs.Spaces.{powers}
+use Rattle.module_spec.specs.Spec.{powers}
 use Rattle.module_build.specs.FileText.{action_of_square}
 use Rattle.module_build.specs.Inside.Written.{written_after}
 use Rattle.module_build.proofs.FileSteps.{written_take}

@@ -1,7 +1,7 @@
 -- The actions of the first squares.
 use Rattle.std.proofs.Common.{◌≡◌, take}
 use Rattle.std.specs.List.{flat_map}
-use Rattle.module_json.specs.Spaces.{powers}
+use Rattle.module_spec.specs.Spec.{powers}
 use Rattle.module_build.specs.FileText.{action_of_square}
 use Rattle.module_build.specs.Inside.Written.{written_after}
 use Rattle.module_build.proofs.file.add_actions.Given as goal

@@ -2,7 +2,7 @@ use Rattle.std.proofs.Common.{◌≡◌, [], map, to_z, of_z, w32, ap, ◌∙◌
 use Rattle.std.proofs.lemmas.Int.{ints}
 use Rattle.std.proofs.lemmas.List.{take_all}
 use Rattle.module_build.specs.FileText.{member}
-use Rattle.module_json.specs.ModuleFile.{degree_at}
+use Rattle.module_spec.specs.Spec.{degree_at}
 use Rattle.finite_module.specs.Text.{name_at}
 use Rattle.module_build.specs.Inside.Written.{written_after, after_comma}
 use Rattle.module_build.proofs.FileSteps.{written_member}

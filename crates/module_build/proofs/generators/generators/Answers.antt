@@ -1,6 +1,6 @@
 use Rattle.std.proofs.Common.{◌≡◌, IfOk, ap, sym, subst, ◌∙◌}
-use Rattle.module_json.specs.ModuleFile.{by_degree}
-use Rattle.module_json.specs.WellFormed.{AreByDegree}
+use Rattle.module_spec.specs.Spec.{by_degree}
+use Rattle.module_spec.specs.WellFormed.{AreByDegree}
 use Rattle.module_build.specs.Inside.Construction.{generators_of}
 use Rattle.module_build.proofs.LimitCases.{are_by_degree, by_degree-standing}
 use Rattle.module_build.proofs.generators.generators.Goals as goal

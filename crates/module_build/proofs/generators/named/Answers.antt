@@ -1,6 +1,6 @@
 use Rattle.std.proofs.Common.{◌≡◌, ℕ, ℤ, List, ◌∷◌, [], ◌++◌, take, get_or, to_z, of_z, w32, w64, ap, sym, ◌∙◌, arith}
 use Rattle.std.proofs.lemmas.Int.{ints}
-use Rattle.module_json.specs.ModuleFile.{Generator}
+use Rattle.module_spec.specs.Spec.{Generator}
 use Rattle.module_build.specs.Names.{numbered_name}
 use Rattle.module_build.specs.Inside.Construction.{nowhere, generators_of}
 use Rattle.module_build.proofs.LimitCases.{generators_more, placed_within}

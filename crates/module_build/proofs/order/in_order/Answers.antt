@@ -1,9 +1,9 @@
 use Rattle.std.proofs.Common.{◌≡◌, map, ap, sym, ◌∙◌, rules}
 use Rattle.std.specs.List.{range_with_len}
 use Rattle.std.proofs.lemmas.Fn.{always_returns_same}
-use Rattle.module_json.specs.Sorting.{sorted_by}
+use Rattle.module_spec.specs.Sorting.{sorted_by}
 use Rattle.built_laws.proofs.Sorted.{sorted_by-map}
-use Rattle.module_json.proofs.Sorting.{stable_sort}
+use Rattle.module_spec.proofs.Sorting.{stable_sort}
 use Rattle.module_build.specs.declared.order.Placed.{Placed}
 use Rattle.module_build.specs.Inside.Construction.{placed, size_of}
 use Rattle.module_build.proofs.order.in_order.Goals as goal

@@ -1,7 +1,7 @@
 use Rattle.std.proofs.Common.{◌≡◌, [], ◌∷◌, pos, ◌+ℤ◌, to_z, of_z, w64, rules, ap, sym, ◌∙◌}
 use Rattle.std.proofs.lemmas.Int.{to_z-of_z}
 use Rattle.f2_vec.specs.Vectors.{sum_of}
-use Rattle.module_json.specs.ModuleFile.{degree_at}
+use Rattle.module_spec.specs.Spec.{degree_at}
 use Rattle.finite_module.specs.Module.{value}
 use Rattle.finite_module.specs.DerivedAction.{sum_vector}
 use Rattle.module_check.proofs.Entries.{as_derived}

@@ -1,7 +1,7 @@
 use Rattle.std.proofs.Common.{◌≡◌, ◌+◌, ◌-◌, ◌*◌, pos, ◌+ℤ◌, length, ap, sym, ◌∙◌, arith}
 use Rattle.f2_vec.proofs.Sums.{length-sum_of, sum_of-zeros_right}
 use Rattle.milnor_basis.specs.Product.{choose, is_odd}
-use Rattle.module_json.specs.ModuleFile.{degree_at}
+use Rattle.module_spec.specs.Spec.{degree_at}
 use Rattle.finite_module.specs.Module.{width}
 use Rattle.module_check.proofs.Adem.{adem_yes, adem_no, adem_all}
 use Rattle.module_check.proofs.sq_n.by_adem.Goals as goal

@@ -1,6 +1,6 @@
 -- The sum of the terms for numbers below c.
 use Rattle.std.proofs.Common.{◌≡◌, ◌+◌, ◌-◌, pos, ◌+ℤ◌, length}
-use Rattle.module_json.specs.ModuleFile.{degree_at}
+use Rattle.module_spec.specs.Spec.{degree_at}
 use Rattle.finite_module.specs.Module.{width}
 use Rattle.module_check.proofs.Adem.{adem_sum}
 use Rattle.module_check.proofs.sq_n.by_adem.Given as goal

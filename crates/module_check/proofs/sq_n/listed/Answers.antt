@@ -1,5 +1,5 @@
 use Rattle.std.proofs.Common.{◌≡◌, ◌&&◌, ◌==◌, false, sym, ◌∙◌}
-use Rattle.module_json.specs.ModuleFile.{Entry}
+use Rattle.module_spec.specs.Spec.{Entry}
 use Rattle.module_check.proofs.Adem.{listed_here, not_listed_here, first_differs, second_differs}
 use Rattle.module_check.proofs.sq_n.listed.Goals as goal
 use Rattle.module_check.proofs.sq_n.listed.Goals.{else-number-from-via-then-number-from+else-generator-i, else-number-from-via-else-number-from}

@@ -1,6 +1,7 @@
 use Rattle.std.proofs.Common.{◌≡◌, ◌≢◌, ◌∙◌, sym, ap, Some, option_map}
 use Rattle.serde_json.specs.View.{view}
-use Rattle.module_json.specs.ModuleFile.{number_of, numbers_of, written}
+use Rattle.module_spec.specs.Spec.{number_of}
+use Rattle.module_json.specs.ModuleFile.{numbers_of, written}
 use Rattle.module_json.proofs.Entries.{entry_of-known}
 use Rattle.module_json.proofs.entry.next.Goals as goal
 

@@ -1,7 +1,7 @@
 use Rattle.std.proofs.Common.{◌≡◌, ◌∙◌, ap, rules}
 use Rattle.std.proofs.lemmas.Fn.{always_returns_same}
-use Rattle.module_json.specs.ModuleFile.{Generator, by_degree}
-use Rattle.module_json.proofs.Sorting.{stable_sort}
+use Rattle.module_spec.specs.Spec.{Generator, by_degree}
+use Rattle.module_spec.proofs.Sorting.{stable_sort}
 use Rattle.module_json.proofs.generator.generators.Goals as goal
 
 pub returns-clause-basis : goal.returns-clause-basis

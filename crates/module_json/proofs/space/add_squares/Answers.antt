@@ -3,7 +3,7 @@ use Rattle.std.specs.List.{filter}
 use Rattle.std.proofs.lemmas.Int.{ints}
 use Rattle.std.proofs.lemmas.List.{take_all}
 use Rattle.module_json.specs.ModuleFile.{is_joined, joining, squares_on}
-use Rattle.module_json.specs.Spaces.{powers}
+use Rattle.module_spec.specs.Spec.{powers}
 use Rattle.module_json.proofs.Cells.{square_more}
 use Rattle.module_json.proofs.space.add_squares.Goals.{then-is_joined+in_ok-entry+in_ok-push, else-is_joined}
 use Rattle.module_json.proofs.space.add_squares.Goals as goal

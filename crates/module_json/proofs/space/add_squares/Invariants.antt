@@ -2,7 +2,7 @@
 use Rattle.std.proofs.Common.{◌≡◌, ◌++◌, map, take}
 use Rattle.std.specs.List.{filter}
 use Rattle.module_json.specs.ModuleFile.{is_joined, joining}
-use Rattle.module_json.specs.Spaces.{powers}
+use Rattle.module_spec.specs.Spec.{powers}
 use Rattle.module_json.proofs.space.add_squares.Given as goal
 
 abbrev pub invariant-loop-k : goal.invariant-loop-k

@@ -1,6 +1,6 @@
 use Rattle.std.proofs.Common.{◌≡◌, ◌+ℤ◌, ◌++◌, [], ◌∷◌, List, Some, pos, length, get_or, ap, sym, ◌∙◌, arith}
 use Rattle.milnor_basis.specs.Exponents.{degree_of}
-use Rattle.module_json.specs.ModuleFile.{Generator, degree_at}
+use Rattle.module_spec.specs.Spec.{Generator, degree_at}
 use Rattle.finite_module.specs.Module.{Module, width}
 use Rattle.finite_module.specs.Checked.{sphere_file}
 use Rattle.finite_module.proofs.OneGenerator.{identity, sphere-next, sphere-width, sphere-derived, sphere-is_module}

@@ -1,8 +1,8 @@
 use Rattle.std.proofs.Common.{◌≡◌, sym, subst, rules}
 use Rattle.std.proofs.lemmas.Fn.{always_returns_same}
-use Rattle.module_json.specs.ModuleFile.{Generator, by_degree}
-use Rattle.module_json.specs.WellFormed.{AreByDegree}
-use Rattle.module_json.proofs.Sorting.{stable_sort}
+use Rattle.module_spec.specs.Spec.{Generator, by_degree}
+use Rattle.module_spec.specs.WellFormed.{AreByDegree}
+use Rattle.module_spec.proofs.Sorting.{stable_sort}
 use Rattle.finite_module.proofs.generators.Generators.by_degree.Goals as goal
 
 pub returns : goal.returns

@@ -1,7 +1,7 @@
 use Rattle.std.proofs.Common.{◌≡◌, ap, sym, subst, ◌∙◌, rules}
 use Rattle.std.specs.List.{count_by}
 use Rattle.std.proofs.lemmas.List.Sorted.{IsPartitionPoint-from_clause}
-use Rattle.module_json.specs.WellFormed.{AreByDegree}
+use Rattle.module_spec.specs.WellFormed.{AreByDegree}
 use Rattle.finite_module.proofs.Degrees.{is_upto, upto_is_partitioned, count_by-point}
 use Rattle.finite_module.proofs.generators.Generators.count_upto.Goals as goal
 

@@ -1,7 +1,7 @@
 use Rattle.std.proofs.Common.{pos, ◌+ℤ◌, ◌<ℤ◌, sym, subst, arith}
 use Rattle.std.proofs.lemmas.Int.{ints, by_lt_z}
 use Rattle.milnor_basis.specs.Exponents.{degree_of}
-use Rattle.module_json.specs.WellFormed.{AreByDegree}
+use Rattle.module_spec.specs.WellFormed.{AreByDegree}
 use Rattle.finite_module.proofs.Degrees.{width_past}
 use Rattle.finite_module.proofs.generators.Generators.dim_above.Goals as goal
 

@@ -1,7 +1,7 @@
 use Rattle.std.proofs.Common.{◌≡◌, ◌++◌, List, ℕ, [], ◌∷◌, to_z, of_z, w32, ap, sym, subst, ◌∙◌, arith}
 use Rattle.std.proofs.lemmas.Int.{ints}
-use Rattle.module_json.specs.ModuleFile.{Generator}
-use Rattle.module_json.specs.WellFormed.{AreByDegree}
+use Rattle.module_spec.specs.Spec.{Generator}
+use Rattle.module_spec.specs.WellFormed.{AreByDegree}
 use Rattle.finite_module.proofs.OneGenerator.{one_by_degree}
 use Rattle.finite_module.proofs.generators.Generators.one.Goals as goal
 

@@ -1,6 +1,6 @@
 use Rattle.std.proofs.Common.{◌≡◌, ◌-◌, to_z, of_z, w64, ap, sym, subst, ◌∙◌, IfOk, arith}
 use Rattle.std.proofs.lemmas.Int.{ints}
-use Rattle.module_json.specs.ModuleFile.{degree_at}
+use Rattle.module_spec.specs.Spec.{degree_at}
 use Rattle.finite_module.specs.Module.{generators_in}
 use Rattle.finite_module.proofs.Degrees.{IsPlaced, placed}
 use Rattle.finite_module.proofs.generators.Generators.unit.Goals.{After-within-here}

@@ -1,6 +1,6 @@
 use Rattle.std.proofs.Common.{subst}
 use Rattle.std.proofs.lemmas.Int.{to_z-of_z}
-use Rattle.module_json.specs.WellFormed.{AreByDegree}
+use Rattle.module_spec.specs.WellFormed.{AreByDegree}
 use Rattle.finite_module.proofs.Degrees.{AreBetween, are_between}
 use Rattle.finite_module.proofs.generators.Generators.within.Goals.{After-count_upto}
 use Rattle.finite_module.proofs.generators.Generators.within.Goals as goal

@@ -4,7 +4,7 @@ use Rattle.std.proofs.lemmas.List.{take_all}
 use Rattle.f2_vec.specs.Vectors.{sum_of, zeros}
 use Rattle.f2_vec.proofs.Sums.{length-zeros}
 use Rattle.milnor_basis.specs.Exponents.{degree_of}
-use Rattle.module_json.specs.ModuleFile.{degree_at}
+use Rattle.module_spec.specs.Spec.{degree_at}
 use Rattle.finite_module.specs.Module.{Module, width, value, total}
 use Rattle.finite_module.proofs.Values.{total_more}
 use Rattle.finite_module.proofs.operators.Operators.sum_on.Goals as goal

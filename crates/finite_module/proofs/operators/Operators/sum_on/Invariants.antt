@@ -1,6 +1,6 @@
 -- The sum of the values of the first elements.
 use Rattle.std.proofs.Common.{◌≡◌, pos, ◌+ℤ◌, length, map, take}
-use Rattle.module_json.specs.ModuleFile.{degree_at}
+use Rattle.module_spec.specs.Spec.{degree_at}
 use Rattle.finite_module.specs.Module.{width, value, total}
 use Rattle.finite_module.proofs.operators.Operators.sum_on.Given as goal
 

@@ -1,5 +1,5 @@
 use Rattle.std.proofs.Common.{pos, ◌+ℤ◌, map}
-use Rattle.module_json.specs.ModuleFile.{degree_at}
+use Rattle.module_spec.specs.Spec.{degree_at}
 use Rattle.finite_module.specs.Module.{generators_in}
 use Rattle.finite_module.proofs.Values.{one_value_more}
 use Rattle.module_build.specs.Inside.Construction.{entry_of, number_at}

@@ -1,7 +1,7 @@
 -- The values on the first generators.
 use Rattle.std.proofs.Common.{◌≡◌, pos, ◌+ℤ◌, map}
 use Rattle.std.specs.List.{range_with_len}
-use Rattle.module_json.specs.ModuleFile.{degree_at}
+use Rattle.module_spec.specs.Spec.{degree_at}
 use Rattle.finite_module.specs.Module.{generators_in}
 use Rattle.module_build.specs.Inside.Construction.{entry_of, number_at}
 use Rattle.module_build.proofs.coefficients.Coefficients.operator.Given as goal

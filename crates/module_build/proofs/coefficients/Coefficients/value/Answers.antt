@@ -1,7 +1,7 @@
 use Rattle.std.proofs.Common.{◌≡◌, ◌-◌, ℕ, Bool, pos, ◌+ℤ◌, map, to_z, of_z, w64, ap, sym, ◌∙◌, arith}
 use Rattle.std.specs.List.{range_with_len}
 use Rattle.std.proofs.lemmas.Int.{ints}
-use Rattle.module_json.specs.ModuleFile.{degree_at}
+use Rattle.module_spec.specs.Spec.{degree_at}
 use Rattle.finite_module.specs.Module.{generators_in}
 use Rattle.module_build.specs.Inside.Construction.{entry_of, number_at}
 use Rattle.module_build.proofs.coefficients.Coefficients.value.Goals as goal

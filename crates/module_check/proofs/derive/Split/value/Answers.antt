@@ -4,7 +4,7 @@ use Rattle.f2_vec.specs.Vectors.{sum_of}
 use Rattle.f2_vec.specs.Spans.{HaveWidth}
 use Rattle.f2_vec.proofs.Combinations.{HaveWidth-map_where}
 use Rattle.milnor_basis.specs.Exponents.{degree_of}
-use Rattle.module_json.specs.ModuleFile.{degree_at}
+use Rattle.module_spec.specs.Spec.{degree_at}
 use Rattle.finite_module.specs.Module.{width, value, act_on, total}
 use Rattle.milnor_basis.specs.Front.{front}
 use Rattle.finite_module.specs.DerivedAction.{other_terms}

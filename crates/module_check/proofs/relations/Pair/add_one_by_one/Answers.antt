@@ -1,7 +1,7 @@
 use Rattle.std.proofs.Common.{◌≡◌, ℕ, List, rules, length, ℤ, pos, ◌+ℤ◌, to_z, of_z, w64, refl, ap, sym, ◌∙◌}
 use Rattle.std.proofs.lemmas.Int.{to_z-of_z}
 use mir.Val.{SFits}
-use Rattle.module_json.specs.ModuleFile.{Generator, degree_at}
+use Rattle.module_spec.specs.Spec.{Generator, degree_at}
 use Rattle.milnor_basis.specs.Exponents.{degree_of}
 use Rattle.f2_vec.specs.Vectors.{sum_of}
 use Rattle.finite_module.specs.Module.{width, act_on}

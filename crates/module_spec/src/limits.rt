@@ -1,7 +1,7 @@
 //! The limits of module files.
 ghost use Rattle.std.specs.Prelude.{◌≡◌, pos};
-ghost use Rattle.module_json.specs.declared.limits.TheConstants.{MAX_FILE_BYTES, MAX_GENERATORS, MAX_ACTIONS, MAX_DEGREE, MAX_SPAN};
-ghost use Rattle.module_json.specs.ModuleFile.{within_limit, is_near};
+ghost use Rattle.module_spec.specs.declared.limits.TheConstants.{MAX_FILE_BYTES, MAX_GENERATORS, MAX_ACTIONS, MAX_DEGREE, MAX_SPAN};
+ghost use Rattle.module_spec.specs.Spec.{within_limit, is_near};
 
 /// The greatest size of a module file, in bytes.
 pub const MAX_FILE_BYTES: usize = 1 << 20;

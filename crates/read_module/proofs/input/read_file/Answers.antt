@@ -1,9 +1,9 @@
 use Rattle.std.proofs.Common.{sym}
 use Rattle.std.proofs.lemmas.Result.{err_from_is_err_and}
 use Rattle.ext_report.specs.Failure.{file_failure}
-use Rattle.ext_build.specs.Input.{IsFileCauseFrom}
-use Rattle.ext_build.proofs.Reading.{file-read, rest-read, file_cause}
-use Rattle.ext_build.proofs.input.read_file.Goals as goal
+use Rattle.read_module.specs.Input.{IsFileCauseFrom}
+use Rattle.read_module.proofs.Reading.{file-read, rest-read, file_cause}
+use Rattle.read_module.proofs.input.read_file.Goals as goal
 
 pub returns-in_err-read-clause-cause : goal.returns-in_err-read-clause-cause
 returns-in_err-read-clause-cause g c =

@@ -1,9 +1,9 @@
 -- What holds of each module that a file describes.
 use Rattle.std.specs.Prelude.{◌≡◌, ◌≢◌, ◌<◌, ◌≤◌, pos, ◌+ℤ◌, neg_ℤ, ◌≤ℤ◌, List, length, IsTrue, AllPairs, All}
 use Rattle.std.specs.List.Sorted.{IsStrictlyIncreasing}
-use Rattle.module_json.specs.declared.limits.TheConstants.{MAX_GENERATORS, MAX_ACTIONS, MAX_DEGREE, MAX_SPAN}
-use Rattle.module_json.specs.Actions.{is_name}
-use Rattle.module_json.specs.ModuleFile.{Generator, Entry, File, degree_at}
+use Rattle.module_spec.specs.declared.limits.TheConstants.{MAX_GENERATORS, MAX_ACTIONS, MAX_DEGREE, MAX_SPAN}
+use Rattle.module_spec.specs.Names.{is_name}
+use Rattle.module_spec.specs.Spec.{Generator, Entry, File, degree_at}
 
 -- the degrees of generators do not fall
 abbrev pub NeverFall : List Generator → Type 0

@@ -5,18 +5,19 @@ ghost use Rattle.edge.specs.Source.{without_first, HasGivenUpTo};
 ghost use Rattle.module_check.specs.declared.fault.CheckFault.{CheckFault as Fault};
 ghost use Rattle.finite_module.specs.DerivedAction.{derived_module};
 ghost use Rattle.module_check.specs.Acceptance.{refusal_of};
-ghost use Rattle.ext_build.specs.Input.{IsFileFrom, IsFileCauseFrom, IsModuleFrom, most_read};
+ghost use Rattle.read_module.specs.Input.{IsFileFrom, IsFileCauseFrom, IsModuleFrom, most_read};
 ghost use Rattle.ext_report.specs.declared.failure.Failure as Failure;
 
 use edge::{Source, read_through};
 use ext_report::Failure;
 use module_check::{CheckFault, Module, check};
-use module_json::{MAX_FILE_BYTES, Spec, read};
+use module_json::read;
+use module_spec::{MAX_FILE_BYTES, Spec};
 use std::alloc::Global;
 
 /// How many bytes are read at most: one past the greatest size of a module file, so that a longer file is seen to be one.
 #[tactic(auto, unfolding(crate::specs::Input::most_read))]
-pub(crate) fn most_read() -> usize
+pub fn most_read() -> usize
     ensures { result ≡ most_read }
 {
     MAX_FILE_BYTES + 1
@@ -38,7 +39,7 @@ fn read_file<S: Source>(alloc: Global, source: &mut S) -> Result<Spec, Failure>
 }
 
 /// The module that a file describes.
-pub(crate) fn module_of(alloc: Global, spec: Spec) -> Result<Module, Failure>
+pub fn module_of(alloc: Global, spec: Spec) -> Result<Module, Failure>
     ensures module { IfOk result (λ m. m.plain ≡ derived_module spec) }
     ensures accepted { OnOk result (refusal_of spec ≡ None) }
     ensures cause { IfErr result (λ failure. failure ≢ Failure.Memory →

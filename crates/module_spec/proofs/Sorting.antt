@@ -12,7 +12,7 @@ use Rattle.std.proofs.lemmas.Int.{ints}
 use Rattle.std.proofs.lemmas.List.Elements.{recursion_from_All, All-from_recursion, All-from_get_or, All-head}
 use Rattle.std.proofs.lemmas.List.Kept.{AllPairs-cons}
 use Rattle.std.proofs.lemmas.List.Sorted.{sorted_far, ranks_by}
-use Rattle.module_json.specs.Sorting.{inserted, sorted_by}
+use Rattle.module_spec.specs.Sorting.{inserted, sorted_by}
 
 pub AllPairs-tail : {X : Type 0} → (R : X → X → Type 0) (x : X) (xs : List X) → AllPairs R (x ∷ xs) → AllPairs R xs
 AllPairs-tail R x xs h i j d l m = h (suc i) (suc j) d (omega arith) (omega arith)

@@ -2,8 +2,9 @@
 use Rattle.std.specs.Prelude.{◌≡◌, ℕ, ◌+◌, List, Option, Some, None, IfSome, Result, Ok, Err, ⊤}
 use Rattle.serde_json.specs.Data.{Data}
 use Rattle.module_json.specs.Checks.{IsValueOf}
-use Rattle.module_json.specs.declared.limits.TheConstants.{MAX_FILE_BYTES}
-use Rattle.module_json.specs.ModuleFile.{File, IsFileOf}
+use Rattle.module_spec.specs.declared.limits.TheConstants.{MAX_FILE_BYTES}
+use Rattle.module_spec.specs.Spec.{File}
+use Rattle.module_json.specs.ModuleFile.{IsFileOf}
 use Rattle.module_json.specs.declared.malformed.Malformed.{Malformed}
 use Rattle.finite_module.specs.Module.{Module as SteenrodModule}
 use Rattle.finite_module.specs.DerivedAction.{derived_module}

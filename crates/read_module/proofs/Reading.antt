@@ -4,17 +4,15 @@ use Rattle.std.specs.Prelude.{IfSome, Option, Some, None, Result, Ok, Err, ⊤}
 use Rattle.std.proofs.lemmas.Bool.{cases_lt}
 use Rattle.std.proofs.lemmas.List.{take_all, length-take, length-take-le, drop_min}
 use Rattle.edge.specs.Source.{without_first}
-use Rattle.module_json.specs.ModuleFile.{File, IsFileOf, no_value, described}
-use Rattle.module_json.specs.Parts.{ArePartsOf, no_value as none, described as some}
+use Rattle.module_spec.specs.Spec.{File}
+use Rattle.module_json.specs.ModuleFile.{IsFileOf, no_value, described}
 use Rattle.module_json.proofs.Sizes.{value_of_longer}
 use Rattle.module_json.specs.declared.malformed.Malformed.{Malformed}
 use Rattle.module_json.specs.declared.malformed.Malformed.TheVariants.{Memory}
-use Rattle.ext_words.specs.declared.command.Build.{Build}
 use Rattle.ext_report.specs.declared.failure.Failure.{Failure}
 use Rattle.ext_report.specs.declared.failure.Failure.TheVariants.{Malformed as NoModuleFile}
 use Rattle.ext_report.specs.Failure.{file_failure}
-use Rattle.ext_build.specs.Input.{IsOfInput, IsCauseOf, IsFileFrom, IsRefusalFrom, IsFileCauseFrom, most_read}
-use Rattle.ext_build.specs.Building.{wanted, ArePartsFrom, no_files, IsBuildAnswerFrom, IsBuildCauseFrom}
+use Rattle.read_module.specs.Input.{IsOfInput, IsCauseOf, IsFileFrom, IsRefusalFrom, IsFileCauseFrom, most_read}
 
 pub most_read-is : most_read ≡ 2 ^ 20 + 1
 unfolding most_read
@@ -24,12 +22,8 @@ file_of_longer : (read l : List ℕ) (file : Result File Malformed) → 2 ^ 20 <
 file_of_longer read l file h k (no_value e p) = no_value e (value_of_longer read l (Err e) h k p)
 file_of_longer read l file h k (described d p) = described d (value_of_longer read l (Ok d) h k p)
 
-parts_of_longer : (want : ℕ) (read l : List ℕ) (files : Result (List File) Malformed) → 2 ^ 20 < length read → 2 ^ 20 < length l → ArePartsOf want read files → ArePartsOf want l files
-parts_of_longer want read l files h k (none e p) = none e (value_of_longer read l (Err e) h k p)
-parts_of_longer want read l files h k (some d p) = some d (value_of_longer read l (Ok d) h k p)
-
 -- what holds of all bytes that are too many, if of some
-abbrev HoldsOfLonger : (List ℕ → Type 0) → Type 0
+abbrev pub HoldsOfLonger : (List ℕ → Type 0) → Type 0
 HoldsOfLonger P = (read l : List ℕ) → 2 ^ 20 < length read → 2 ^ 20 < length l → P read → P l
 
 -- what holds of the bytes that were read holds of all bytes
@@ -41,15 +35,12 @@ of_all P longer read l e p = elim (cases_lt (2 ^ 20) (length l)) [
   | inr k ↦ subst P (e ∙ take_all most_read l (omega (arith, most_read-is))) p
 ]
 
-of_input : (P : List ℕ → Type 0) → HoldsOfLonger P → (left : Option (List ℕ)) (read : List ℕ) → IfSome left (λ l. read ≡ take most_read l) → P read → IsOfInput P left
+pub of_input : (P : List ℕ → Type 0) → HoldsOfLonger P → (left : Option (List ℕ)) (read : List ℕ) → IfSome left (λ l. read ≡ take most_read l) → P read → IsOfInput P left
 of_input P longer None read e p = record { bytes = read; all = tt; holds = p }
 of_input P longer (Some l) read e p = record { bytes = l; all = refl; holds = of_all P longer read l e p }
 
 pub file-read : (left : Option (List ℕ)) (read : List ℕ) (file : Result File Malformed) → IfSome left (λ l. read ≡ take most_read l) → IsFileOf read file → IsFileFrom left file
 file-read left read file e p = of_input (λ bytes. IsFileOf bytes file) (λ r l h k q. file_of_longer r l file h k q) left read e p
-
-pub parts-read : (want : ℕ) (left : Option (List ℕ)) (read : List ℕ) (files : Result (List File) Malformed) → IfSome left (λ l. read ≡ take most_read l) → ArePartsOf want read files → ArePartsFrom want left files
-parts-read want left read files e p = of_input (λ bytes. ArePartsOf want bytes files) (λ r l h k q. parts_of_longer want r l files h k q) left read e p
 
 pub rest-read : (left new : Option (List ℕ)) (read : List ℕ) (n : ℕ) → n ≡ length read → IfSome left (λ l. read ≡ take most_read l) → new ≡ without_first left n → new ≡ without_first left most_read
 rest-read None new read n count e r = r
@@ -58,12 +49,9 @@ rest-read (Some l) new read n count e r =
     r ∙ ap (λ (x : List ℕ). Some x) (ap (λ k. drop k l) len ∙ drop_min most_read l)
 
 -- Why there is no file: the first thing wrong with what was read, as Is says of it, or want of memory.
-malformed_cause : (Is : Failure → Type 0) (e : Malformed) → (e ≢ Memory → Is (NoModuleFile e)) → IsCauseOf ⊤ ⊥ Is (file_failure e)
+pub malformed_cause : (Is : Failure → Type 0) (e : Malformed) → (e ≢ Memory → Is (NoModuleFile e)) → IsCauseOf ⊤ ⊥ Is (file_failure e)
 malformed_cause Is Memory p = tt
 malformed_cause Is e p = p (λ h. cc)
 
 pub file_cause : (left : Option (List ℕ)) (e : Malformed) → (e ≢ Memory → IsFileFrom left (Err e)) → IsFileCauseFrom left (file_failure e)
 file_cause left e p = malformed_cause (IsRefusalFrom left) e p
-
-pub parts_cause : (made : Build) (left : Option (List ℕ)) (e : Malformed) → (e ≢ Memory → ArePartsFrom (wanted made) left (Err e)) → IsBuildCauseFrom made left (file_failure e)
-parts_cause made left e p = malformed_cause (λ f. IsBuildAnswerFrom made left (Err f)) e (λ n. let q = p n in record { bytes = q.bytes; all = q.all; holds = no_files e q.holds })

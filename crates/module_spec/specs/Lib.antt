@@ -1,0 +1,4 @@
+pub mod Names
+pub mod Spec
+pub mod Sorting
+pub mod WellFormed
