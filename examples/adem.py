@@ -4,10 +4,11 @@
     adem.py W        prints the second line of what `ext sq W` prints
     adem.py N all    prints the sums of all products of degree N, one a line, the numbers of the products in lexicographic order
 
-It knows nothing of Milnor's basis, and shares nothing with the program.
+W is numbers from 1 on with a comma between each two. The script knows nothing of Milnor's basis, and shares nothing with the program.
 """
 import sys
 from functools import lru_cache
+from common import numbers
 
 
 def is_odd(n, k):
@@ -62,8 +63,17 @@ def text(monomials):
     return " + ".join(terms) if terms else "0"
 
 
-if sys.argv[2:] == ["all"]:
-    for terms in products(int(sys.argv[1])):
-        print(text(terms))
-else:
-    print("admissible:", text(product([int(a) for a in sys.argv[1].split(",")])))
+def main():
+    words = sys.argv[1:]
+    if len(words) == 2 and words[1] == "all":
+        (degree,) = numbers(words[:1], __doc__, least=0)
+        for terms in products(degree):
+            print(text(terms))
+    elif len(words) == 1:
+        print("admissible:", text(product(numbers(words[0].split(","), __doc__, least=1))))
+    else:
+        sys.exit(__doc__.strip())
+
+
+if __name__ == "__main__":
+    main()

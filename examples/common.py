@@ -4,6 +4,7 @@ module files.
 A class is (s, t, i): row, internal degree, number. Its stem is t - s. A sum of classes is a list of them, and zero the empty list.
 """
 import json
+import math
 import os
 import re
 import shutil
@@ -18,6 +19,8 @@ HERE = os.path.dirname(os.path.realpath(__file__))
 EXT = os.environ.get("EXT") or os.path.join(HERE, os.pardir, "ext")
 SPHERE = b'{"type": "finite dimensional module", "p": 2, "gens": {"x0": 0}, "actions": []}'
 UNIT = (0, 0, 0)
+# A class, or a sum of classes, in words.
+CLASS = r"\d+,-?\d+,\d+(\+\d+,-?\d+,\d+)*"
 
 
 def arguments(count, description):
@@ -27,12 +30,18 @@ def arguments(count, description):
     return sys.argv[1:]
 
 
-def whole_numbers(count, description):
-    """The arguments of the script as whole numbers; where they are not so many, or none, it ends with its description."""
-    try:
-        return [int(it) for it in arguments(count, description)]
-    except ValueError:
-        sys.exit(description.strip())
+def numbers(words, description, least=-math.inf):
+    """Words as whole numbers; where one is none, or below the least that may be, the script ends with its description."""
+    with suppress(ValueError):
+        found = [int(it) for it in words]
+        if all(it >= least for it in found):
+            return found
+    sys.exit(description.strip())
+
+
+def whole_numbers(count, description, least=-math.inf):
+    """The arguments of the script as whole numbers; where they are not so many, or no such numbers, it ends with its description."""
+    return numbers(arguments(count, description), description, least)
 
 
 def ext(*words, file=b""):

@@ -9,7 +9,7 @@ for each other one; then the status is 1.
 """
 import re
 import sys
-from common import arguments, classes, text_of
+from common import arguments, classes, text_of, written
 from independent import Module, milnor_product
 
 TERM = re.compile(r"Sq\(([\d,]*)\)\*(\([-\d,]+\))")
@@ -19,12 +19,16 @@ def read(lines):
     """The image of each generator above row 0, as pairs of an exponent list and a generator; and of those of row 0, as names."""
     images, bottom = {}, {}
     for line in lines:
+        if not re.fullmatch(r"d\(\d+,-?\d+,\d+\) = .+\n?", line):
+            sys.exit(f"no line of a dump: {line.rstrip()}")
         left, right = line.rstrip("\n").split(" = ")
         (generator,) = classes(left)
         if generator[0] == 0:
             bottom[generator] = right.split(" + ")
         else:
             images[generator] = [(tuple(map(int, r.split(","))) if r else (), *classes(g)) for r, g in TERM.findall(right)]
+    for it in {below for image in images.values() for _, below in image} - images.keys() - bottom.keys():
+        sys.exit(f"there is no line for the generator {written([it])}")
     return images, bottom
 
 
@@ -40,7 +44,7 @@ def twice(generator, images, bottom, module):
     return vector or terms
 
 
-module = Module(text_of(*arguments(1, __doc__)))
+module = Module.read(text_of(*arguments(1, __doc__)))
 images, bottom = read(sys.stdin)
 wrong = [it for it in images if twice(it, images, bottom, module)]
 print(f"d d = 0 for {len(images) - len(wrong)} of {len(images)} generators above row 0")

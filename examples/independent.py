@@ -13,6 +13,7 @@ import re
 import sys
 from functools import lru_cache
 from itertools import product as choices
+from common import whole_numbers
 
 
 def trimmed(exponents):
@@ -117,6 +118,14 @@ def powers(least, greatest):
 
 class Module:
     """A finite module: vectors of a degree are numbers, bit i for its i-th generator."""
+
+    @staticmethod
+    def read(text):
+        """The module of a file's text; where it describes none, the script ends and says what was met."""
+        try:
+            return Module(text)
+        except (ArithmeticError, AttributeError, LookupError, TypeError, ValueError) as error:
+            sys.exit(f"no module file, or no module: {error!r}")
 
     def __init__(self, text):
         file = json.loads(text)
@@ -260,4 +269,5 @@ def chart(module, rows, top):
 
 
 if __name__ == "__main__":
-    sys.stdout.write(chart(Module(sys.stdin.read()), int(sys.argv[1]), int(sys.argv[2])))
+    rows, top = whole_numbers(2, __doc__, least=0)
+    sys.stdout.write(chart(Module.read(sys.stdin.read()), rows, top))

@@ -18,7 +18,9 @@ of classes of one square, joined by +.
 """
 import os
 import random
+import re
 import sys
+from common import CLASS
 from independent import Echelon, Free, Module
 
 TRIES = int(os.environ.get("TRIES", 24))
@@ -300,10 +302,12 @@ def main():
     words = sys.argv[1:]
     options = dict(zip(words[3::2], words[4::2]))
     wanted = {"dump": [], "products": ["--by"], "massey": ["--a", "--b", "--c"]}
-    if len(words) < 3 or sorted(options) != wanted.get(words[0]) or len(words) != 3 + 2 * len(options) or not all(it.isdecimal() for it in words[1:3]):
+    if len(words) < 3 or sorted(options) != wanted.get(words[0]) or len(words) != 3 + 2 * len(options):
+        sys.exit(__doc__.strip())
+    if not all(it.isdecimal() for it in words[1:3]) or not all(re.fullmatch(CLASS, it) for it in options.values()):
         sys.exit(__doc__.strip())
     rows, top = map(int, words[1:3])
-    module, sphere = Resolution(Module(sys.stdin.read()), rows, top), Resolution(Module(POINT), rows, top)
+    module, sphere = Resolution(Module.read(sys.stdin.read()), rows, top), Resolution(Module(POINT), rows, top)
     try:
         if words[0] == "dump":
             lines = dump(module)

@@ -22,7 +22,7 @@ import os
 import re
 import sys
 from collections import Counter, defaultdict, namedtuple
-from common import HERE, SPHERE, UNIT, classes, ext, h, lines_of, table
+from common import CLASS, HERE, SPHERE, UNIT, classes, ext, h, lines_of, table
 from independent import Echelon
 
 Line = namedtuple("Line", "name s t bits ways number")
@@ -48,7 +48,7 @@ def words_of(s, t, bits):
 
 def class_of(text):
     """A class or sum of classes of one square by its words; none where the text is none."""
-    if not re.fullmatch(r"\d+,-?\d+,\d+(\+\d+,-?\d+,\d+)*", text):
+    if not re.fullmatch(CLASS, text):
         return None
     parts = [tuple(map(int, part.split(","))) for part in text.split("+")]
     if len({part[:2] for part in parts}) > 1:
