@@ -115,7 +115,7 @@ def h(k):
 
 # ---- charts and products as numbers
 
-# A module through a range: its least degree; at each (stem, row) that has a class, how many; and for each class of the sphere that was asked
+# A module through a range, of rows and degrees or of rows and stems: its least degree; at each (stem, row) that has a class, how many; and for each class of the sphere that was asked
 # for, the product of each class x of the module with it, as a sum of classes, where that lies in the range.
 Table = namedtuple("Table", "bottom counts products")
 
@@ -127,25 +127,30 @@ def bottom_of(file):
     return int(found[1]) if found else 0
 
 
-def chart(rows, top, file=SPHERE):
-    """How many classes lie at each (stem, row) of the range, where there is one: the numbers of `ext resolve`, which writes ten or more as *."""
-    *lines, ends = ext("resolve", rows, top, file=file)
+def chart(rows, top, file=SPHERE, stems=False):
+    """How many classes lie at each (stem, row) of the range, where there is one: the numbers of `ext resolve`, which writes ten or more as *.
+
+    With stems, top is the last stem above the bottom, and else the last degree.
+    """
+    *lines, ends = ext("resolve", rows, top, *["--stems"] * stems, file=file)
     bottom = int(re.match(r"stems (-?\d+)\.\.", ends)[1])
     marks = [(bottom + column, int(line[:line.index("|")]), mark) for line in lines for column, mark in enumerate(line[line.index("|") + 1:])]
     if any(mark == "*" for _, _, mark in marks):
-        return table(rows, top, file=file).counts
+        return table(rows, top, file=file, stems=stems).counts
     return {(stem, s): int(mark) for stem, s, mark in marks if mark != "."}
 
 
-def table(rows, top, by=(), file=SPHERE):
-    """The module's table through the range, with its products by these classes of the sphere.
+def table(rows, top, by=(), file=SPHERE, stems=False):
+    """The module's table through the range, with its products by these classes of the sphere. With stems, top is the last stem above the bottom,
+    and else the last degree.
 
     The products by h_k are read off the differentials: h_k x is the sum of the classes y of the next row in whose d the term Sq(2^k) x stands,
-    since of Milnor's basis in degree 2^k that element alone is no sum of products. So all of them cost one run, without kernels.
+    since of Milnor's basis in degree 2^k that element alone is no sum of products. So all of them cost one run, without kernels. Those by
+    other classes are made in the rectangle of rows and degrees.
     """
     counts, hits = Counter(), {k: {} for k in range(top.bit_length())}
     everything = []
-    for line in ext("dump", rows, top, file=file):
+    for line in ext("dump", rows, top, *["--stems"] * stems, file=file):
         left, _, image = line.partition(" = ")
         (one,) = classes(left)
         everything.append(one)
@@ -155,17 +160,20 @@ def table(rows, top, by=(), file=SPHERE):
             if int(n) == 2 ** k:
                 hits[k].setdefault(tuple(map(int, x)), []).append(one)
     bottom = min((t for s, t, _ in everything if s == 0), default=0)
+
+    def is_in(s, t):
+        return s <= rows and t - bottom - s * stems <= top
+
     products = {}
     for a in by:
         k = a[1].bit_length() - 1
         if a == UNIT:
             products[a] = {x: [x] for x in everything}
         elif a == h(k):
-            within = [x for x in everything if x[0] < rows and x[1] + a[1] <= bottom + top]
-            products[a] = {x: hits[k].get(x, []) for x in within}
+            products[a] = {x: hits[k].get(x, []) for x in everything if is_in(x[0] + 1, x[1] + a[1])}
         else:
-            lines = ext("products", rows, top, "--by", ",".join(map(str, a)), file=file)
-            products[a] = {x: total for x, *total in map(classes, lines)}
+            lines = ext("products", rows, top + rows * stems, "--by", ",".join(map(str, a)), file=file)
+            products[a] = {x: total for x, *total in map(classes, lines) if is_in(x[0] + a[0], x[1] + a[1])}
     return Table(bottom, dict(counts), products)
 
 

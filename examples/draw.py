@@ -391,13 +391,14 @@ def main():
     bottom = bottom_of(file)
     first = bottom if getattr(words, "from") is None else getattr(words, "from")
     rows = words.rows if words.rows is not None else max(0, (words.stem - bottom + 1) // 2 + 2)
-    top = words.stem - bottom + rows + 8
+    # (so far that each product by h0 to h3 of a class in the picture is there)
+    last = words.stem - bottom + 2 ** max(COLOURS) - 1
     if first > words.stem or rows < 0:
         sys.exit("draw.py: there is nothing to draw")
-    if rows >= 127 or top > 255:
-        sys.exit(f"draw.py: this wants S = {rows + 1} and T = {top}, and there are at most 127 and 255")
+    if rows >= 127 or rows + 1 + last > 255:
+        sys.exit(f"draw.py: this wants rows 0 to {rows + 1} and {last + 1} stems, and rows are at most 127, rows and stems together 255")
     names = Names(words.names)
-    made = table(rows + 1, top, [h(k) for k in COLOURS], file)
+    made = table(rows + 1, last, [h(k) for k in COLOURS], file, stems=True)
     picture = Picture(Chart(made, names.by_square()), words, first, rows)
     svg = picture.svg(arrows_of(words.arrows, names, picture) if words.arrows else [])
     sys.stdout.write(PAGE.format(title=html.escape(words.title or "chart"), svg=svg) if words.page else svg)
