@@ -1,5 +1,5 @@
 //! What the words of a command line ask for.
-use bidegree::Class;
+use bidegree::{Class, Shape};
 use cases::{Case, Differences, Fault};
 use ext_words::{Build, Command, Common, WordsFault, parse};
 use std::alloc::Global;
@@ -18,8 +18,8 @@ pub(crate) fn asked_difference(alloc: Global, case: &Case) -> Result<Option<Stri
     Ok(all.into_line())
 }
 
-/// A command: its name, then what it has of a seed, the greatest row and degree, the number of workers, whether squares are kept,
-/// and its classes.
+/// A command: its name, then what it has of a seed, the greatest row and degree, whether its squares are those of stems, the number of
+/// workers, whether squares are kept, and its classes.
 fn told(alloc: Global, command: &Command) -> Result<String, Fault> {
     let mut text = String::new(alloc);
     match command {
@@ -61,15 +61,16 @@ fn told(alloc: Global, command: &Command) -> Result<String, Fault> {
 fn tell(text: &mut String, name: &str, common: &Common) -> Result<(), Fault> {
     let Common {
         range,
+        shape,
         workers,
         save,
         live,
     } = *common;
-    write!(
-        text,
-        "{name}, through {} {}, workers {workers}",
-        range.s, range.t
-    )?;
+    write!(text, "{name}, through {} {}", range.s, range.t)?;
+    if shape == Shape::Stems {
+        text.push_str(" in stems")?;
+    }
+    write!(text, ", workers {workers}")?;
     if save {
         text.push_str(", saved")?;
     }

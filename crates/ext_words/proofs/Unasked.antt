@@ -9,12 +9,14 @@ use Rattle.std.proofs.lemmas.List.{take_all}
 use Rattle.std.proofs.lemmas.Slice.Eq.{bytes_eq-Decides}
 use Rattle.bidegree.specs.declared.class.Class.{Class}
 use Rattle.bidegree.specs.declared.range.Range.{Range}
+use Rattle.bidegree.specs.declared.shape.Shape.{Shape}
+use Rattle.bidegree.specs.declared.shape.Shape.TheVariants.{Rectangle}
 use Rattle.clap.proofs.WalkLemmas.{list_any-map}
 use Rattle.ext_words.specs.declared.command.Build.{Build}
 use Rattle.ext_words.specs.declared.command.Command.{Command}
 use Rattle.ext_words.specs.declared.command.Command.TheVariants.{Sphere, Resolve, Dump, Products, Massey, Build as Built, Sample, Sq, Verify}
 use Rattle.ext_words.specs.declared.command.Common.{Common}
-use Rattle.ext_words.specs.Words.{Part, plain, option, Options, Argument, Grammar, texts_of, has_live, is_in, is_among, begins_with, has_equals, before_equals, with_next, with_option, with_text, with_word, parts_of, plain_words, each_once, fits, arguments_of, is_given, text_given, class_given, workers_of, seed_of, range_of, common_of, products_of, massey_of, build_of, sample_of, product_given, commands, read_by, grammar_of, command_of}
+use Rattle.ext_words.specs.Words.{Part, plain, option, Options, Argument, Grammar, texts_of, has_live, is_in, is_among, begins_with, has_equals, before_equals, with_next, with_option, with_text, with_word, parts_of, plain_words, each_once, fits, arguments_of, is_given, text_given, class_given, workers_of, seed_of, shape_of, range_of, is_refused_stems, common_of, products_of, massey_of, build_of, sample_of, product_given, commands, read_by, grammar_of, command_of}
 
 abbrev Text : Type 0
 Text = List ℕ
@@ -131,13 +133,16 @@ AsksNone (Sample n common) = IsSilent common
 AsksNone command = ⊤
 
 -- what is made of options that all have to be there
-abbrev common_with : Bool → Bool → Range → ℕ → Common
-common_with save live range n = record { range = range; workers = n; save = save; live = live }
+abbrev common_with : Shape → Bool → Bool → Range → ℕ → Common
+common_with shape save live range n =
+    record { range = range; shape = shape; workers = n; save = save; live = live }
 
-common-by : (save live : Bool) → live ≡ false → (range : Option Range) (n : Option ℕ) → IfSome (option_and_then (λ range. option_map (common_with save live range) n) range) IsSilent
-common-by save live none None n = tt
-common-by save live none (Some range) None = tt
-common-by save live none (Some range) (Some n) = none
+common-by : (refused : Bool) (shape : Shape) (save live : Bool) → live ≡ false → (range : Option Range) (n : Option ℕ) →
+    IfSome (if refused then None else option_and_then (λ range. option_map (common_with shape save live range) n) range) IsSilent
+common-by true shape save live none range n = tt
+common-by false shape save live none None n = tt
+common-by false shape save live none (Some range) None = tt
+common-by false shape save live none (Some range) (Some n) = none
 
 products-by : (common : Option Common) → IfSome common IsSilent → (by : Option Class) → IfSome (option_and_then (λ common. option_map (λ by. Products common by) by) common) AsksNone
 products-by None is by = tt
@@ -170,7 +175,9 @@ verify-by (Some range) = tt
 
 module _ (given : List Argument) (none : is_given live given ≡ false) where
   common-silent : IfSome (common_of given) IsSilent
-  common-silent = common-by (is_given (codes "save") given) (is_given live given) none (range_of given) (workers_of (text_given (codes "workers") given))
+  common-silent =
+      common-by (is_refused_stems given) (shape_of given) (is_given (codes "save") given) (is_given live given) none
+      (range_of (shape_of given) given) (workers_of (text_given (codes "workers") given))
 
   sphere-silent : IfSome (option_map Sphere (common_of given)) AsksNone
   sphere-silent = with_map IsSilent AsksNone Sphere (λ common is. is) (common_of given) common-silent
@@ -196,8 +203,8 @@ module _ (given : List Argument) (none : is_given live given ≡ false) where
   product-silent : IfSome (option_map Sq (product_given given)) AsksNone
   product-silent = product-by (product_given given)
 
-  verify-silent : IfSome (option_map Verify (range_of given)) AsksNone
-  verify-silent = verify-by (range_of given)
+  verify-silent : IfSome (option_map Verify (range_of Rectangle given)) AsksNone
+  verify-silent = verify-by (range_of Rectangle given)
 
 -- no word and no option with a value has the name, and what is made of what is given asks for nothing else
 record IsPlain (g : Grammar) : Type 0 where

@@ -1,5 +1,5 @@
 -- The command that the words of a command line give, none where they are outside the grammar.
-use Rattle.std.specs.Prelude.{ℕ, ◌≤◌, ◌+◌, ◌-◌, ◌*◌, ◌==◌, ℤ, pos, neg_ℤ, ◌≤ℤ◌, int_le, Bool, true, false, not, ◌&&◌, ◌||◌, nat_lt, nat_le, if◌then◌else◌, List, [], ◌∷◌, ◌++◌, length, take, drop, Option, Some, None, option_map, option_and_then, map, find, codes, ⊤}
+use Rattle.std.specs.Prelude.{◌≡◌, ℕ, ◌≤◌, ◌+◌, ◌-◌, ◌*◌, ◌==◌, ℤ, pos, neg_ℤ, ◌≤ℤ◌, int_le, Bool, true, false, not, ◌&&◌, ◌||◌, nat_lt, nat_le, if◌then◌else◌, List, [], ◌∷◌, ◌++◌, length, take, drop, Option, Some, None, option_map, option_and_then, map, find, codes, ⊤}
 use Rattle.std.specs.Borrow.{Bor}
 use Rattle.std.specs.List.{All, fold, list_all, list_any, before_first, after_first, slice_split, sum}
 use Rattle.std.specs.Str.{bytes_eq}
@@ -7,6 +7,8 @@ use Rattle.std.specs.Char.{is_ascii_digit}
 use Rattle.bidegree.specs.declared.class.Class.{Class}
 use Rattle.bidegree.specs.declared.range.Range.{Range}
 use Rattle.bidegree.specs.declared.range.TheConstants.{MAX_S, MAX_T}
+use Rattle.bidegree.specs.declared.shape.Shape.{Shape}
+use Rattle.bidegree.specs.declared.shape.Shape.TheVariants.{Rectangle, Stems}
 use Rattle.ext_words.specs.declared.command.TheConstants.{MAX_WORKERS, MAX_SQUARES, MAX_SQUARES_DEGREE, MAX_SHIFT}
 use Rattle.ext_words.specs.declared.command.Build.{Build}
 use Rattle.ext_words.specs.declared.command.Build.TheVariants as build
@@ -211,25 +213,41 @@ abbrev pub workers_of : Option (List ℕ) → Option ℕ
 workers_of None = Some 1
 workers_of (Some value) = positive_up_to MAX_WORKERS value
 
+-- which squares of a range are meant: with `--stems` those of its stems
+abbrev pub shape_of : List Argument → Shape
+shape_of given = if is_given (codes "stems") given then Stems else Rectangle
+
+-- the range through row S whose second number is the last degree T, or the last stem N: row S then ends in degree S + N, which is the
+-- greatest of the range
+abbrev pub range_through : Shape → ℕ → ℕ → Option Range
+range_through Rectangle s t = Some (record { s = s; t = t })
+range_through Stems s n = if nat_le (s + n) MAX_T then Some (record { s = s; t = s + n }) else None
+
 -- the words S and T, within the greatest row and the greatest degree of a range
-abbrev pub range_of : List Argument → Option Range
-range_of given =
-    option_and_then (λ s. option_map (λ t. record { s = s; t = t }) (number_given (codes "T") MAX_T given))
+abbrev pub range_of : Shape → List Argument → Option Range
+range_of shape given =
+    option_and_then (λ s. option_and_then (λ t. range_through shape s t) (number_given (codes "T") MAX_T given))
     (number_given (codes "S") MAX_S given)
+
+-- a range through a stem is neither kept in a save file nor told of while it is made
+abbrev pub is_refused_stems : List Argument → Bool
+is_refused_stems given = is_given (codes "stems") given && (is_given (codes "save") given || is_given (codes "live") given)
 
 -- a range, and the options of all commands that resolve a module
 abbrev pub common_of : List Argument → Option Common
 common_of given =
-    option_and_then (λ range.
+    if is_refused_stems given then None
+    else option_and_then (λ range.
     option_map
     (λ n. record {
       range = range;
+      shape = shape_of given;
       workers = n;
       save = is_given (codes "save") given;
       live = is_given (codes "live") given;
     })
     (workers_of (text_given (codes "workers") given)))
-    (range_of given)
+    (range_of (shape_of given) given)
 
 -- ---- what is made of it
 
@@ -295,17 +313,17 @@ resolving name words valued flags make =
 -- the commands
 abbrev pub commands : List Grammar
 commands =
-    resolving (codes "sphere") [] [] (codes "live" ∷ []) (λ given. option_map Sphere (common_of given))
-    ∷ resolving (codes "resolve") [] [] (codes "live" ∷ []) (λ given. option_map Resolve (common_of given))
-    ∷ resolving (codes "dump") [] [] [] (λ given. option_map Dump (common_of given))
+    resolving (codes "sphere") [] [] (codes "live" ∷ codes "stems" ∷ []) (λ given. option_map Sphere (common_of given))
+    ∷ resolving (codes "resolve") [] [] (codes "live" ∷ codes "stems" ∷ []) (λ given. option_map Resolve (common_of given))
+    ∷ resolving (codes "dump") [] [] (codes "stems" ∷ []) (λ given. option_map Dump (common_of given))
     ∷ resolving (codes "products") [] (codes "by" ∷ []) [] products_of
     ∷ resolving (codes "massey") [] (codes "a" ∷ codes "b" ∷ codes "c" ∷ []) [] massey_of
     ∷ grammar (codes "check") [] [] [] (λ given. Some Check)
     ∷ grammar (codes "build") (codes "OP" ∷ []) (codes "degrees" ∷ []) [] (λ given. option_map Built (build_of given))
-    ∷ resolving (codes "sample") (codes "N" ∷ []) [] [] sample_of
+    ∷ resolving (codes "sample") (codes "N" ∷ []) [] (codes "stems" ∷ []) sample_of
     ∷ grammar (codes "sq") (codes "W" ∷ []) [] [] (λ given. option_map Sq (product_given given))
     ∷ grammar (codes "migrate") [] [] [] (λ given. Some Migrate)
-    ∷ grammar (codes "verify") (codes "S" ∷ codes "T" ∷ []) [] [] (λ given. option_map Verify (range_of given))
+    ∷ grammar (codes "verify") (codes "S" ∷ codes "T" ∷ []) [] [] (λ given. option_map Verify (range_of Rectangle given))
     ∷ []
 
 -- what a command makes of words: each of its options is among them at most once, and there are no more other words than
@@ -329,8 +347,20 @@ command_of (name ∷ words) = option_and_then (λ g. read_by g words) (grammar_o
 abbrev pub IsRangeWithin : Range → Type 0
 IsRangeWithin range = (range.s ≤ MAX_S) × (range.t ≤ MAX_T)
 
+-- the last stem of a range through a stem is not below 0
+abbrev pub IsRangeOf : Shape → Range → Type 0
+IsRangeOf Rectangle range = ⊤
+IsRangeOf Stems range = range.s ≤ range.t
+
+-- a range through a stem is neither kept in a save file nor told of while it is made
+abbrev pub IsAlone : Shape → Common → Type 0
+IsAlone Rectangle common = ⊤
+IsAlone Stems common = (common.save ≡ false) × (common.live ≡ false)
+
 abbrev pub IsWithin : Common → Type 0
-IsWithin common = IsRangeWithin common.range × (1 ≤ common.workers) × (common.workers ≤ MAX_WORKERS)
+IsWithin common =
+    IsRangeWithin common.range × (1 ≤ common.workers) × (common.workers ≤ MAX_WORKERS)
+    × IsRangeOf common.shape common.range × IsAlone common.shape common
 
 -- numbers of at most five digits
 abbrev pub IsShort : Class → Type 0

@@ -2,7 +2,7 @@
 ghost use Rattle.std.specs.Prelude.{◌≡◌};
 ghost use Rattle.ext_words.specs.declared.command.WordsFault.TheVariants.{Memory as WantOfMemory};
 
-use bidegree::{Class, Range};
+use bidegree::{Class, Range, Shape};
 use memory::Memory;
 use monomial::Mono;
 use thiserror::Error;
@@ -23,6 +23,9 @@ pub const MAX_SHIFT: u16 = 256;
 #[derive(Clone, Copy, Debug, PartialEq, Eq)]
 pub struct Common {
     pub range: Range,
+    /// Which squares of the range are meant. With `--stems`, which `sphere`, `resolve`, `dump` and `sample` have, they are those of its
+    /// stems, and the range is neither kept in a save file nor told of while it is made.
+    pub shape: Shape,
     /// How many workers make squares: from 1 to `MAX_WORKERS`, and 1 where the words do not say.
     pub workers: u32,
     /// Whether the squares are kept in the save file, and those that it has are taken up.

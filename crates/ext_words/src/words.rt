@@ -7,11 +7,11 @@ ghost use Rattle.clap.specs.declared.builder.command.Command.TheViews.{out-Comma
 ghost use Rattle.ext_words.specs.Inside.CommandLine.{is_stray, option_named, flag_named, command_with, no_command, command_line, given_in, command_named, command_in};
 ghost use Rattle.ext_words.specs.declared.command.TheConstants.{MAX_WORKERS};
 ghost use Rattle.ext_words.specs.declared.command.WordsFault as WordsFault;
-ghost use Rattle.ext_words.specs.Words.{texts_of, has_live, text_given, is_given, number_given, workers_of, range_of, common_of, class_given, products_of, massey_of, built_by, build_of, seed_of, sample_of, product_given, command_of, IsRangeWithin, IsWithin, IsShort, IsWithinShift, IsWithinDegree, IsWithinLimits};
+ghost use Rattle.ext_words.specs.Words.{texts_of, has_live, text_given, is_given, number_given, workers_of, shape_of, range_through, range_of, common_of, class_given, products_of, massey_of, built_by, build_of, seed_of, sample_of, product_given, command_of, IsRangeWithin, IsRangeOf, IsWithin, IsShort, IsWithinShift, IsWithinDegree, IsWithinLimits};
 
 use crate::command::{Build, Command, Common, MAX_WORKERS, WordsFault};
 use crate::numbers::{class_of, number_up_to, positive_up_to, product_of, seed_of, shift_of};
-use bidegree::{Class, MAX_S, MAX_T, Range};
+use bidegree::{Class, MAX_S, MAX_T, Range, Shape};
 use clap::error::ErrorKind;
 use clap::{Arg, ArgAction, ArgMatches};
 use memory::Memory;
@@ -85,16 +85,16 @@ fn command_line<'a>(alloc: Global) -> Result<clap::Command<'a>, AllocError>
             "sphere",
             &["S", "T"],
             &["workers"],
-            &["save", "live"],
+            &["save", "live", "stems"],
         )?)?
         .subcommand(command_with(
             alloc,
             "resolve",
             &["S", "T"],
             &["workers"],
-            &["save", "live"],
+            &["save", "live", "stems"],
         )?)?
-        .subcommand(command_with(alloc, "dump", &["S", "T"], &["workers"], &["save"])?)?
+        .subcommand(command_with(alloc, "dump", &["S", "T"], &["workers"], &["save", "stems"])?)?
         .subcommand(command_with(
             alloc,
             "products",
@@ -111,7 +111,13 @@ fn command_line<'a>(alloc: Global) -> Result<clap::Command<'a>, AllocError>
         )?)?
         .subcommand(command_with(alloc, "check", &[], &[], &[])?)?
         .subcommand(command_with(alloc, "build", &["OP"], &["degrees"], &[])?)?
-        .subcommand(command_with(alloc, "sample", &["N", "S", "T"], &["workers"], &["save"])?)?
+        .subcommand(command_with(
+            alloc,
+            "sample",
+            &["N", "S", "T"],
+            &["workers"],
+            &["save", "stems"],
+        )?)?
         .subcommand(command_with(alloc, "sq", &["W"], &[], &[])?)?
         .subcommand(command_with(alloc, "migrate", &[], &[], &[])?)?
         .subcommand(command_with(alloc, "verify", &["S", "T"], &[], &[])?)
@@ -164,14 +170,41 @@ fn has_flag(matches: &ArgMatches, name: &str) -> bool
     matches.contains_id(name)
 }
 
-/// The numbers S and T of a command's matches.
-fn range_in(matches: &ArgMatches) -> Option<Range>
-    ensures range { result ≡ range_of (given_in matches.now) }
+/// Which squares of a range a command's matches mean.
+fn shape_in(matches: &ArgMatches) -> Shape
+    ensures { result ≡ shape_of (given_in matches.now) }
+{
+    if has_flag(matches, "stems") {
+        Shape::Stems
+    } else {
+        Shape::Rectangle
+    }
+}
+
+/// The range through row `s` whose second number is its last degree or its last stem, none where that is too far.
+fn range_through(shape: Shape, s: u16, t: u16) -> Option<Range>
+    requires row { s ≤ MAX_S }
+    requires degree { t ≤ MAX_T }
+    ensures range { result ≡ range_through shape s t }
     ensures within { IfSome result IsRangeWithin }
+    ensures shaped { IfSome result (IsRangeOf shape) }
+{
+    match shape {
+        Shape::Rectangle => Some(Range { s, t }),
+        Shape::Stems if s + t <= MAX_T => Some(Range { s, t: s + t }),
+        Shape::Stems => None,
+    }
+}
+
+/// The range of the words S and T of a command's matches.
+fn range_in(shape: Shape, matches: &ArgMatches) -> Option<Range>
+    ensures range { result ≡ range_of shape (given_in matches.now) }
+    ensures within { IfSome result IsRangeWithin }
+    ensures shaped { IfSome result (IsRangeOf shape) }
 {
     let s = number_in(matches, "S", MAX_S)?;
     let t = number_in(matches, "T", MAX_T)?;
-    Some(Range { s, t })
+    range_through(shape, s, t)
 }
 
 /// The numbers S and T of a command's matches, and its options.
@@ -179,13 +212,20 @@ fn common_in(matches: &ArgMatches) -> Option<Common>
     ensures common { result ≡ common_of (given_in matches.now) }
     ensures within { IfSome result IsWithin }
 {
-    let range = range_in(matches)?;
+    let shape = shape_in(matches);
+    let save = has_flag(matches, "save");
+    let live = has_flag(matches, "live");
+    if shape == Shape::Stems && (save || live) {
+        return None;
+    }
+    let range = range_in(shape, matches)?;
     let workers = workers_in(matches)?;
     Some(Common {
         range,
+        shape,
         workers,
-        save: has_flag(matches, "save"),
-        live: has_flag(matches, "live"),
+        save,
+        live,
     })
 }
 
@@ -303,7 +343,7 @@ fn command_named(alloc: Global, name: &str, matches: &ArgMatches) -> Result<Opti
         "sample" => Ok(sample_in(matches)),
         "sq" => Ok(product_in(alloc, matches)?.map(Command::Sq)),
         "migrate" => Ok(Some(Command::Migrate)),
-        "verify" => Ok(range_in(matches).map(Command::Verify)),
+        "verify" => Ok(range_in(Shape::Rectangle, matches).map(Command::Verify)),
         _ => Ok(None),
     }
 }
