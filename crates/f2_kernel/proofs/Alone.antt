@@ -9,13 +9,13 @@ use Rattle.f2_vec.specs.Spans.{row, HaveWidth, combination, unit_vector, unit_ve
 use Rattle.f2_vec.proofs.Spans.{HaveWidth-nil, HaveWidth-cons, HaveWidth-head, HaveWidth-tail, length-combination, combination-zeros, combination-append}
 use Rattle.f2_vec.proofs.Split.{length-unit_vectors, HaveWidth-unit_vectors, combination-unit_vectors}
 use Rattle.f2_vec.proofs.Combinations.{combination-padded_right}
-use Rattle.f2_matrix.specs.Echelon.{IsReduced, HasNoZeroRow, IsKernelBasis}
+use Rattle.f2_matrix.specs.Echelon.{IsKernelBasis}
 use Rattle.f2_dual.specs.Coordinates.{coordinates}
+use Rattle.f2_dual.proofs.Units.{IsReduced-unit_vectors, HasNoZeroRow-unit_vectors}
 use Rattle.f2_kernel.specs.Inside.Upward.{AreCleared, upward, solved, are_zero, vacant_elements, relation, relations}
 use Rattle.f2_kernel.specs.Coordinates.{AreColumnsOf}
 use Rattle.f2_kernel.proofs.Cleared.{AreCleared-upward}
 use Rattle.f2_kernel.proofs.Relations.{length-relations, wide_relations, relations_reduced, relations_nonzero}
-use Rattle.f2_kernel.proofs.Steps.{whole_relations}
 use Rattle.f2_kernel.proofs.ByForm.{choice_by_form, wide_on}
 
 -- ---- the zeros behind
@@ -93,15 +93,6 @@ module _ (w : ℕ) (rows new form : List (List Bool)) (wr : HaveWidth w rows) (w
 
 -- ---- unit vectors as candidates
 
-no_rows-AreCleared : (n : ℕ) → AreCleared n []
-no_rows-AreCleared n = record { widths = λ i l. absurd (omega arith); cleared = λ i j l m. absurd (omega arith) }
-
-units_reduced : (w : ℕ) → IsReduced (unit_vectors w)
-units_reduced w = subst (λ (z : List (List Bool)). IsReduced z) (whole_relations w [] refl) (relations_reduced w 0 [] (no_rows-AreCleared w))
-
-units_nonzero : (w : ℕ) → HasNoZeroRow (unit_vectors w)
-units_nonzero w = subst (λ (z : List (List Bool)). HasNoZeroRow z) (whole_relations w [] refl) (relations_nonzero w 0 [] (no_rows-AreCleared w))
-
 HaveWidth-where : (n : ℕ) (kept : List Bool) (rows : List (List Bool)) → HaveWidth n rows → HaveWidth n (items_where_true kept rows)
 HaveWidth-where n [] rows h = HaveWidth-nil n
 HaveWidth-where n (k ∷ kept) [] h = HaveWidth-nil n
@@ -122,7 +113,7 @@ kernel_by_columns n w rows columns h =
       sum = combination-unit_vectors w (row rows i) (h.widths i l);
     } in
     let new = items_where_true (are_zero (upward xs)) units in
-    let by = choice_by_form w rows units wu (units_reduced w) (units_nonzero w) inside in
+    let by = choice_by_form w rows units wu (IsReduced-unit_vectors w) (HasNoZeroRow-unit_vectors w) inside in
     let cleared = AreCleared-upward (length rows) xs (wide_on (length rows) rows units refl) in
     let there = alone-IsKernelBasis w rows new (upward xs) h.widths (HaveWidth-where w (are_zero (upward xs)) units wu) cleared by.kernel in
     subst (λ (z : List (List Bool)). IsKernelBasis w rows (relations n 0 (upward z))) (sym h.columns_are) (subst (λ z. IsKernelBasis w rows (relations z 0 (upward xs))) h.count there)
