@@ -1,8 +1,9 @@
 -- The rows of a resolution without its kernels: of each square the images of its generators.
-use Rattle.std.specs.Prelude.{◌≡◌, ℕ, ◌+◌, ◌≤◌, ℤ, Bool, List, [], ◌∷◌, length, map, take, drop, slice_index_or}
+use Rattle.std.specs.Prelude.{◌≡◌, ◌⊎◌, ℕ, ◌+◌, ◌≤◌, ℤ, Bool, List, [], ◌∷◌, length, map, take, drop, slice_index_or}
 use Rattle.bidegree.specs.declared.range.Range.{Range}
 use Rattle.finite_module.specs.Checked.{Checked}
 use Rattle.resolution_laws.specs.Resolution.{Module, Content, degrees_from, images_of, row_of, IsCanonicalTable}
+use Rattle.stem_laws.specs.Stems.{in_stems}
 
 -- of a row the degrees of its generators, their images, and how many generators each square has
 pub record BareRow : Type 0 where
@@ -29,6 +30,17 @@ pub record AreOfCanonical (m : Module) (s t : ℕ) (bare : List BareRow) : Type 
   pub rows : length bare ≡ s + 1
   pub each : (table : List (List Content)) → IsCanonicalTable m s t table →
       (i : ℕ) → i ≤ s → IsBareRowOf m.bottom (row_of table i) (bare_row_in bare i)
+
+-- the rows are those of the module's canonical resolution through row s, in stems 0 to n above the bottom
+pub record AreOfStems (m : Module) (s n : ℕ) (bare : List BareRow) : Type 0 where
+  pub rows : length bare ≡ s + 1
+  pub each : (table : List (List Content)) → IsCanonicalTable m s (n + s) table →
+      (i : ℕ) → i ≤ s → IsBareRowOf m.bottom (in_stems m n table i) (bare_row_in bare i)
+
+-- the rows are those of the rectangle through row s and t degrees above the bottom, or those in the stems of which the
+-- last square in row s is in that degree
+abbrev pub AreOfRange : Module → ℕ → ℕ → List BareRow → Type 0
+AreOfRange m s t bare = AreOfCanonical m s t bare ⊎ ((n : ℕ) × (n + s ≡ t) × AreOfStems m s n bare)
 
 -- what is held of the canonical resolution of a module through a range
 pub record BareTable : Type 0 where

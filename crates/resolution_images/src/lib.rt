@@ -6,4 +6,4 @@ mod resolve;
 mod row;
 mod step;
 
-pub use resolve::{Images, images_alone};
+pub use resolve::{Images, images_alone, images_in_stems};

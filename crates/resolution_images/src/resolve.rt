@@ -5,13 +5,13 @@ ghost use Rattle.free_module.specs.FreeModule.{free_width};
 ghost use Rattle.resolution_laws.specs.Resolution.{row_of, square_in};
 ghost use Rattle.resolution_laws.specs.Exactness.{target_of};
 ghost use Rattle.f2_vec.specs.Spans.{HaveWidth};
-ghost use Rattle.resolution_laws.specs.Start.{IsOf};
 ghost use Rattle.square.specs.Squares.{over, bottom_of};
-ghost use Rattle.resolution_images.specs.BareRows.{no_bare_row, bare_row_in, squares_of, AreOfCanonical};
-ghost use Rattle.resolution_images.specs.Inside.Made.{AreMadeThrough, IsToCover};
+ghost use Rattle.resolution_images.specs.BareRows.{no_bare_row, bare_row_in, squares_of, AreOfCanonical, AreOfStems};
+ghost use Rattle.resolution_images.specs.Inside.Bare.{RowsOfRangesAreBare};
+ghost use Rattle.resolution_images.specs.Inside.Made.{AreMadeThrough, IsSquareInStems, AreToBeCovered, IsToCover, width_below};
 
 use crate::row::Row;
-use crate::step::{Made, step_over, step_over_free};
+use crate::step::{Made, kernel_over, kernel_over_free, step_over, step_over_free};
 use bidegree::Range;
 use f2_kernel::Kernel;
 use f2_vec::BitVec;
@@ -20,11 +20,15 @@ use memory::Memory;
 use milnor_basis::Basis;
 use milnor_laws::linear_maps;
 use resolution_existence::canonical_table_exists;
-use resolution_laws::made_rows_are_covered;
 use std::alloc::Global;
 use std::marker::Model;
+use stem_laws::{
+    images_in_stems_fit, kernels_in_stems_are_to_cover, rows_in_stems_are_covered,
+    rows_in_stems_are_whole, squares_in_stems_are_steps, squares_in_stems_fit,
+};
 
-/// The images of the generators of a module's canonical resolution through a range.
+/// The images of the generators of a module's canonical resolution through a range: those of all squares of the range, or
+/// those in stems up to that of the last square of the last row.
 #[derive(Drop)]
 pub struct Images {
     resolved: Module,
@@ -37,14 +41,14 @@ impl Model for Images {
     ghost use Rattle.std.specs.Prelude.{◌≤◌};
     ghost use Rattle.bidegree.specs.declared.range.TheConstants.{MAX_T};
     ghost use Rattle.square.specs.Squares.{over};
-    ghost use Rattle.resolution_images.specs.BareRows.{BareTable, AreOfCanonical};
+    ghost use Rattle.resolution_images.specs.BareRows.{BareTable, AreOfRange};
 
     ghost Value = { BareTable };
 
     ghost view = { λ i. record { resolved = i.resolved; range = i.range; rows = i.rows.items } };
 
     ghost invariant = { λ i. (i.range.t ≤ MAX_T) × (i.range.t ≤ i.basis)
-        × AreOfCanonical (over i.resolved) i.range.s i.range.t i.rows.items };
+        × AreOfRange (over i.resolved) i.range.s i.range.t i.rows.items };
 }
 
 impl Images {
@@ -59,7 +63,7 @@ impl Images {
     pub fn basis(&self) -> &Basis
         ensures { (s k : ℕ) → k < length (row_of (squares_of self.now.rows) s) → k ≤ result.now }
     {
-        canonical_table_exists();
+        rows_of_ranges_are_bare();
         &self.basis
     }
 
@@ -68,7 +72,7 @@ impl Images {
         ensures front { result ≡ length (row_of (squares_of self.now.rows) s) }
         ensures short { result ≤ MAX_T + 1 }
     {
-        canonical_table_exists();
+        rows_of_ranges_are_bare();
         let s = usize::from(s);
         if s < self.rows.len() {
             return self.rows[s].counts().len();
@@ -84,9 +88,7 @@ impl Images {
             (bottom_of self.now.resolved +ℤ pos k)) result.now }
         ensures degree { k ≤ MAX_T }
     {
-        canonical_table_exists();
-        modules_are_graded_modules();
-        linear_maps();
+        rows_of_ranges_are_bare();
         self.rows[usize::from(s)].square(usize::from(k))
     }
 }
@@ -102,17 +104,83 @@ pub fn images_alone(alloc: Global, resolved: Module, range: Range) -> Result<Ima
     ensures range { IfOk result (λ images. images.range ≡ range) }
     ensures canonical { IfOk result (λ images. AreOfCanonical (over resolved) range.s range.t images.rows) }
 {
+    canonical_table_exists();
     let basis = Basis::new(alloc, range.t)?;
-    let mut rows = empty_rows(alloc, usize::from(range.s) + 1)?;
-    for k in 0..range.t + 1 {
-        add_column(alloc, &resolved, &basis, rows.as_mut_slice(), k)?;
-    }
+    // No square of the range is past stem t.
+    let extent = Extent {
+        last: range.s,
+        n: range.t,
+    };
+    let rows = rows_through(alloc, &resolved, &basis, extent, range.t)?;
     Ok(Images {
         resolved,
         basis,
         range,
         rows,
     })
+}
+
+/// The images of the generators of the module's canonical resolution through row `s`, in stems 0 to `n` above the
+/// bottom, made on the caller's thread. No square of a greater stem is made. Row i goes through degree n + i above the
+/// bottom, and its images there end before the generators of that degree, at which they are 0.
+///
+/// # Errors
+/// `Memory` if allocation fails.
+pub fn images_in_stems(alloc: Global, resolved: Module, s: u16, n: u16) -> Result<Images, Memory>
+    requires rows { s ≤ MAX_S }
+    requires degrees { n + s ≤ MAX_T }
+    ensures resolved { IfOk result (λ images. images.resolved ≡ resolved) }
+    ensures row { IfOk result (λ images. images.range.s ≡ s) }
+    ensures degree { IfOk result (λ images. images.range.t ≡ n + s) }
+    ensures stems { IfOk result (λ images. AreOfStems (over resolved) s n images.rows) }
+{
+    rows_in_stems_are_whole();
+    let range = Range { s, t: n + s };
+    let basis = Basis::new(alloc, range.t)?;
+    let rows = rows_through(alloc, &resolved, &basis, Extent { last: s, n }, range.t)?;
+    Ok(Images {
+        resolved,
+        basis,
+        range,
+        rows,
+    })
+}
+
+/// What is made of a resolution: rows 0 to `last`, in stems 0 to `n` above the bottom.
+#[derive(Clone, Copy)]
+struct Extent {
+    last: u16,
+    n: u16,
+}
+
+/// The squares of this extent in the degrees through `t` above the bottom, made degree by degree.
+///
+/// # Errors
+/// `Memory` if allocation fails.
+fn rows_through(
+    alloc: Global,
+    module: &Module,
+    basis: &Basis,
+    extent: Extent,
+    t: u16,
+) -> Result<Vec<Row>, Memory>
+    requires degrees { t ≤ MAX_T }
+    requires stems { t ≤ extent.n + extent.last }
+    requires basis { t ≤ basis.now }
+    ensures count { IfOk result (λ rows. length rows.items ≡ extent.last + 1) }
+    ensures through { IfOk result (λ rows. AreMadeThrough (over module.now) extent 0 (suc t) rows.items) }
+{
+    let mut rows = empty_rows(alloc, usize::from(extent.last) + 1)?;
+    for k in 0..t + 1 {
+        let column = Column {
+            module,
+            basis,
+            extent,
+            k,
+        };
+        column.add(alloc, rows.as_mut_slice())?;
+    }
+    Ok(rows)
 }
 
 /// The rows of no square, `count` of them.
@@ -129,66 +197,110 @@ fn empty_rows(alloc: Global, count: usize) -> Result<Vec<Row>, Memory>
     Ok(rows)
 }
 
-/// Makes the square of each row in the degree that is `k` above the bottom, where those of lower degrees are there.
-///
-/// # Errors
-/// `Memory` if allocation fails; the rows are then of no use.
-fn add_column(
-    alloc: Global,
-    module: &Module,
-    basis: &Basis,
-    rows: &mut [Row],
+/// The squares of an extent that are `k` degrees above the bottom. The Milnor bases reach so far.
+#[derive(Drop)]
+struct Column<'a> {
+    module: &'a Module,
+    basis: &'a Basis,
+    extent: Extent,
     k: u16,
-) -> Result<(), Memory>
-    requires basis { k ≤ basis.now }
-    requires degree { k ≤ MAX_T }
-    requires rows { length rows.old ≤ MAX_S + 1 }
-    requires before { AreMadeThrough (over module.now) 0 k rows.old }
-    ensures count { OnOk result (length rows.new ≡ length rows.old) }
-    ensures through { OnOk result (AreMadeThrough (over module.now) 0 (suc k) rows.new) }
-{
-    let t = degree(module, k);
-    let mut below = Kernel::whole(alloc, module.dim_in(t))?;
-    for s in 0..rows.len() {
-        let made = made_at(alloc, module, basis, rows, s, k, &below)?;
-        rows[s].push(t, made.images)?;
-        below = made.kernel;
-    }
-    Ok(())
 }
 
-/// What is made at the square in row `s` and `k` degrees above the bottom, the next one of its row. `below` is what it has to cover.
-///
-/// # Errors
-/// `Memory` if allocation fails.
-fn made_at(
-    alloc: Global,
-    module: &Module,
-    basis: &Basis,
-    rows: &[Row],
-    s: usize,
-    k: u16,
-    below: &Kernel,
-) -> Result<Made, Memory>
-    requires row { s < length rows.now }
-    requires basis { k ≤ basis.now }
-    requires degree { k ≤ MAX_T }
-    requires rows { length rows.now ≤ MAX_S + 1 }
-    requires through { AreMadeThrough (over module.now) s k rows.now }
-    requires below { IsToCover (over module.now) rows.now s k below.now }
-    ensures is_of { IfOk result (λ made. IsOf (over module.now) [] s k
-        (record { images = made.images.items; kernel = made.kernel.rows })) }
-    ensures kernel { IfOk result (λ made. made.kernel.cols ≡ free_width
-        ((bare_row_in rows.now s).degrees ++ replicate (length made.images.items) (bottom_of module.now +ℤ pos k))
-        (bottom_of module.now +ℤ pos k)) }
-{
-    made_rows_are_covered();
-    modules_are_graded_modules();
-    let t = degree(module, k);
-    if s == 0 {
-        return step_over(alloc, basis, module, below, &rows[s], t);
+impl Column<'_> {
+    /// Makes these squares behind those of lower degrees. Rows that end before that degree are left as they are.
+    ///
+    /// # Errors
+    /// `Memory` if allocation fails; the rows are then of no use.
+    fn add(&self, alloc: Global, rows: &mut [Row]) -> Result<(), Memory>
+        requires basis { self.now.k ≤ self.now.basis.now }
+        requires rows { length rows.old ≡ self.now.extent.last + 1 }
+        requires within { self.now.k ≤ self.now.extent.n + self.now.extent.last }
+        requires before { AreMadeThrough (over self.now.module.now) self.now.extent 0 self.now.k rows.old }
+        ensures count { OnOk result (length rows.new ≡ length rows.old) }
+        ensures through { OnOk result
+            (AreMadeThrough (over self.now.module.now) self.now.extent 0 (suc self.now.k) rows.new) }
+    {
+        canonical_table_exists();
+        modules_are_graded_modules();
+        rows_in_stems_are_whole();
+        kernels_in_stems_are_to_cover();
+        let t = degree(self.module, self.k);
+        let first = usize::from(self.k.saturating_sub(self.extent.n));
+        let mut below = self.start(alloc, rows, first)?;
+        for s in first..rows.len() {
+            let made = self.made(alloc, rows, s, &below)?;
+            rows[s].push(t, made.images)?;
+            below = made.kernel;
+        }
+        Ok(())
     }
-    step_over_free(alloc, basis, rows[s - 1].gens(), below, &rows[s], t)
+
+    /// What the first of these squares has to cover, which is in row `s`: the whole module in row 0, and else the kernel of
+    /// the row below, which has all of its squares through that degree.
+    ///
+    /// # Errors
+    /// `Memory` if allocation fails.
+    fn start(&self, alloc: Global, rows: &[Row], s: usize) -> Result<Kernel, Memory>
+        requires row { s < length rows.now }
+        requires basis { self.now.k ≤ self.now.basis.now }
+        requires rows { length rows.now ≡ self.now.extent.last + 1 }
+        requires through { AreMadeThrough (over self.now.module.now) self.now.extent s self.now.k rows.now }
+        ensures cols { IfOk result
+            (λ below. below.cols ≡ width_below (over self.now.module.now) rows.now s self.now.k) }
+        ensures covers { IfOk result
+            (λ below. AreToBeCovered (over self.now.module.now) self.now.extent s self.now.k below.rows) }
+    {
+        canonical_table_exists();
+        modules_are_graded_modules();
+        images_in_stems_fit();
+        let t = degree(self.module, self.k);
+        match s {
+            0 => Kernel::whole(alloc, self.module.dim_in(t)),
+            1 => kernel_over(alloc, self.basis, self.module, &rows[0], t),
+            _ => kernel_over_free(alloc, self.basis, rows[s - 2].gens(), &rows[s - 1], t),
+        }
+    }
+
+    /// What is made at the square in row `s`, the next one of its row. `below` is what it has to cover.
+    ///
+    /// # Errors
+    /// `Memory` if allocation fails.
+    fn made(&self, alloc: Global, rows: &[Row], s: usize, below: &Kernel) -> Result<Made, Memory>
+        requires row { s < length rows.now }
+        requires basis { self.now.k ≤ self.now.basis.now }
+        requires rows { length rows.now ≡ self.now.extent.last + 1 }
+        requires within { self.now.k ≤ self.now.extent.n + s }
+        requires through { AreMadeThrough (over self.now.module.now) self.now.extent s self.now.k rows.now }
+        requires below { IsToCover (over self.now.module.now) self.now.extent rows.now s self.now.k below.now }
+        ensures square { IfOk result (λ made. IsSquareInStems (over self.now.module.now) self.now.extent s self.now.k
+            (record { images = made.images.items; kernel = made.kernel.rows })) }
+        ensures kernel { IfOk result (λ made. made.kernel.cols ≡ free_width
+            ((bare_row_in rows.now s).degrees
+            ++ replicate (length made.images.items) (bottom_of self.now.module.now +ℤ pos self.now.k))
+            (bottom_of self.now.module.now +ℤ pos self.now.k)) }
+    {
+        canonical_table_exists();
+        modules_are_graded_modules();
+        images_in_stems_fit();
+        rows_in_stems_are_covered();
+        squares_in_stems_are_steps();
+        let t = degree(self.module, self.k);
+        if s == 0 {
+            return step_over(alloc, self.basis, self.module, below, &rows[s], t);
+        }
+        step_over_free(alloc, self.basis, rows[s - 1].gens(), below, &rows[s], t)
+    }
+}
+
+/// The rows of a rectangle, and those in stems, are those of squares whose images are vectors of their targets.
+fn rows_of_ranges_are_bare()
+    ensures { RowsOfRangesAreBare }
+{
+    canonical_table_exists();
+    modules_are_graded_modules();
+    linear_maps();
+    rows_in_stems_are_whole();
+    squares_in_stems_fit();
 }
 
 /// The internal degree that is `k` above the bottom.

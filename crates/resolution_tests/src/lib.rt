@@ -4,6 +4,8 @@
 #[cfg(test)]
 mod certificates;
 #[cfg(test)]
+mod images;
+#[cfg(test)]
 mod squares;
 #[cfg(test)]
 mod steps;

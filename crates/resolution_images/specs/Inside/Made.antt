@@ -1,10 +1,11 @@
--- Rows that are made so far, degree by degree and in a degree row by row, and the kernel that the next square has to cover.
-use Rattle.std.specs.Prelude.{◌≡◌, ℕ, zero, suc, ◌<◌, ◌≤◌, ℤ, pos, ◌+ℤ◌, Bool, List, [], ◌∷◌, ◌++◌, length, replicate}
-use Rattle.f2_vec.specs.Spans.{unit_vectors}
+-- Rows that are made so far, degree by degree and in a degree row by row, and the kernel that the next square has to
+-- cover.
+use Rattle.std.specs.Prelude.{◌≡◌, ℕ, zero, suc, ◌+◌, ◌<◌, ◌≤◌, ℤ, pos, ◌+ℤ◌, Bool, List, [], ◌∷◌, ◌++◌, length, replicate, take}
 use Rattle.f2_matrix.specs.Reduction.{Rows}
 use Rattle.free_module.specs.FreeModule.{free_width}
-use Rattle.resolution_laws.specs.Resolution.{Module, Content, square_in}
-use Rattle.resolution_laws.specs.Start.{IsOf}
+use Rattle.resolution_laws.specs.Resolution.{Module, Content, square_in, IsCanonicalTable}
+use Rattle.stem_laws.specs.Stems.{in_stems, AreToCover}
+use Rattle.resolution_images.specs.declared.resolve.Extent.{Extent}
 use Rattle.resolution_images.specs.BareRows.{BareRow, bare_row_in, IsBareRowOf}
 
 -- the row with one more square, whose generators are of degree t and have these images
@@ -15,27 +16,38 @@ with_one_square row t new = record {
   counts = row.counts ++ length new ∷ [];
 }
 
--- the row has the first n squares of row s of the canonical resolution
-pub record IsMadeThrough (m : Module) (s n : ℕ) (row : BareRow) : Type 0 where
-  pub squares : List Content
-  pub count : length squares ≡ n
-  pub each : (k : ℕ) → k < n → IsOf m [] s k (square_in squares k)
-  pub is_bare : IsBareRowOf m.bottom squares row
+-- a table that reaches so far
+abbrev pub IsTableOf : Module → Extent → List (List Content) → Type 0
+IsTableOf m e table = IsCanonicalTable m e.last (e.n + e.last) table
 
--- the rows before s have their squares through k degrees above the bottom, and the others those of lower degrees
-pub record AreMadeThrough (m : Module) (s k : ℕ) (rows : List BareRow) : Type 0 where
-  pub done : (i : ℕ) → i < s → i < length rows → IsMadeThrough m i (suc k) (bare_row_in rows i)
-  pub others : (i : ℕ) → s ≤ i → i < length rows → IsMadeThrough m i k (bare_row_in rows i)
+-- the row has the first j squares of row i, all where there are fewer
+abbrev pub IsMadeThrough : Module → Extent → ℕ → ℕ → BareRow → Type 0
+IsMadeThrough m e i j row = (table : List (List Content)) → IsTableOf m e table →
+    IsBareRowOf m.bottom (take j (in_stems m e.n table i)) row
 
--- this is the kernel of the square in row i and k degrees above the bottom, where the generators of the row have these degrees
-pub record IsKernelOf (m : Module) (degrees : List ℤ) (i k : ℕ) (kernel : Rows) : Type 0 where
-  pub content : Content
-  pub is_of : IsOf m [] i k content
-  pub rows : kernel.rows ≡ content.kernel
-  pub cols : kernel.cols ≡ free_width degrees (m.bottom +ℤ pos k)
+-- The rows before s have their squares through k degrees above the bottom, and the others those of lower degrees. A row
+-- that ends before that degree has all of its squares.
+pub record AreMadeThrough (m : Module) (e : Extent) (s k : ℕ) (rows : List BareRow) : Type 0 where
+  pub done : (i : ℕ) → i < s → i < length rows → IsMadeThrough m e i (suc k) (bare_row_in rows i)
+  pub others : (i : ℕ) → s ≤ i → i < length rows → IsMadeThrough m e i k (bare_row_in rows i)
 
--- what the square in row s and k degrees above the bottom has to cover: the whole module in row 0, the kernel of the row below in others
-abbrev pub IsToCover : Module → List BareRow → ℕ → ℕ → Rows → Type 0
-IsToCover m rows zero k kernel =
-    (kernel.cols ≡ m.graded.width (m.bottom +ℤ pos k)) × (kernel.rows ≡ unit_vectors (m.graded.width (m.bottom +ℤ pos k)))
-IsToCover m rows (suc i) k kernel = IsKernelOf m (bare_row_in rows i).degrees i k kernel
+-- the square in row i and k degrees above the bottom is this one
+abbrev pub IsSquareInStems : Module → Extent → ℕ → ℕ → Content → Type 0
+IsSquareInStems m e i k content = (table : List (List Content)) → IsTableOf m e table →
+    content ≡ square_in (in_stems m e.n table i) k
+
+-- the length of what the square in row s and k degrees above the bottom has to cover: vectors of the module in row 0, and
+-- of the free module on the row below in others
+abbrev pub width_below : Module → List BareRow → ℕ → ℕ → ℕ
+width_below m rows zero k = m.graded.width (m.bottom +ℤ pos k)
+width_below m rows (suc i) k = free_width (bare_row_in rows i).degrees (m.bottom +ℤ pos k)
+
+-- these vectors are what it has to cover: the whole module in row 0, the kernel of the row below in others
+abbrev pub AreToBeCovered : Module → Extent → ℕ → ℕ → List (List Bool) → Type 0
+AreToBeCovered m e s k vectors =
+    (table : List (List Content)) → IsTableOf m e table → AreToCover m e.n table s k vectors
+
+-- and so are those of this kernel
+pub record IsToCover (m : Module) (e : Extent) (rows : List BareRow) (s k : ℕ) (kernel : Rows) : Type 0 where
+  pub cols : kernel.cols ≡ width_below m rows s k
+  pub covers : AreToBeCovered m e s k kernel.rows

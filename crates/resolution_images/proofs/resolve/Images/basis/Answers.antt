@@ -1,5 +1,4 @@
 use Rattle.std.proofs.Common.{◌<◌, length, sym, subst, arith}
-use Rattle.finite_module.specs.ModuleLaws.{module_KeepsWidths}
 use Rattle.resolution_laws.specs.Resolution.{row_of}
 use Rattle.square.specs.Squares.{over}
 use Rattle.resolution_images.specs.BareRows.{BareTable, squares_of}
@@ -10,7 +9,7 @@ pub returns : goal.returns
 returns c = λ s k l.
     let im = c.self.inside in
     let m = im.resolved in
-    let table = c.canonical_table_exists.ensures (over m) im.range.s im.range.t (module_KeepsWidths m.plain m.is_module) in
+    let bare = c.rows_of_ranges_are_bare.ensures m im.range.s im.range.t im.rows.items c.self.invariant.2 in
     let there = subst (λ (x : BareTable). k < length (row_of (squares_of x.rows) s)) (sym c.self.view_is) l in
-    let w = row_within (over m) im.range.s im.range.t im.rows.items table.0 table.1 c.self.invariant.2 s k there in
-    omega (arith, w.1, c.self.invariant.1)
+    let w = row_within (over m) im.range.s im.range.t im.rows.items bare.0 bare.1 s k there in
+    omega (arith, w.2, c.self.invariant.1)

@@ -1,6 +1,5 @@
 use Rattle.std.proofs.Common.{◌≡◌, ◌<◌, length, ap, sym, ◌∙◌, arith}
 use Rattle.std.proofs.lemmas.List.{get_or_read}
-use Rattle.finite_module.specs.ModuleLaws.{module_KeepsWidths}
 use Rattle.resolution_laws.specs.Resolution.{row_of}
 use Rattle.square.specs.Squares.{over}
 use Rattle.resolution_images.specs.BareRows.{BareRow, BareTable, squares_of, no_bare_row, bare_row_in}
@@ -21,8 +20,8 @@ returns-then-s-len-clause-short c =
     let rows = im.rows.items in
     let l : c.args.s < length rows = omega (arith, c.if-s-len.true, c.from-s.ensures) in
     let at : c.index.result.now ≡ bare_row_in rows c.args.s = get_or_read rows c.from-s.result c.index.result.now (omega (arith, c.from-s.ensures)) c.index.ensures no_bare_row ∙ ap (bare_row_in rows) c.from-s.ensures in
-    let table = c.canonical_table_exists.ensures (over m) im.range.s im.range.t (module_KeepsWidths m.plain m.is_module) in
-    let short = row_short (over m) im.range.s im.range.t rows table.0 table.1 c.self.invariant.2 c.args.s in
+    let bare = c.rows_of_ranges_are_bare.ensures m im.range.s im.range.t rows c.self.invariant.2 in
+    let short = row_short (over m) im.range.s im.range.t rows bare.0 bare.1 c.args.s in
     omega (arith, ap length c.counts.ensures, ap (λ (x : BareRow). length x.counts) at, length-row rows c.args.s, c.self.invariant.0)
 
 pub returns-clause-front : goal.returns-clause-front

@@ -1,7 +1,6 @@
-use Rattle.std.proofs.Common.{◌≡◌, ◌<◌, ℕ, ◌≤◌, Bool, List, length, pos, ◌+ℤ◌, ap, sym, subst, ◌∙◌, arith}
+use Rattle.std.proofs.Common.{◌≡◌, ◌<◌, ℕ, Bool, List, length, pos, ◌+ℤ◌, ap, sym, subst, ◌∙◌, arith}
 use Rattle.std.proofs.lemmas.List.{get_or_read}
 use Rattle.f2_vec.specs.Spans.{HaveWidth}
-use Rattle.finite_module.specs.ModuleLaws.{module_KeepsWidths, width-below}
 use Rattle.resolution_laws.specs.Resolution.{Content, row_of, square_in}
 use Rattle.resolution_laws.specs.Exactness.{target_of}
 use Rattle.square.specs.Squares.{over, bottom_of}
@@ -39,8 +38,8 @@ returns-clause-widths c =
     let im = c.self.inside in
     let m = im.resolved in
     let rows = im.rows.items in
-    let table = c.canonical_table_exists.ensures (over m) im.range.s im.range.t (module_KeepsWidths m.plain m.is_module) in
-    let wide = square_widths (over m) im.range.s im.range.t rows table.0 table.1 c.self.invariant.2 c.linear_maps.ensures.free c.linear_maps.ensures.commute (c.modules_are_graded_modules.ensures m.plain m.is_module) (λ t l. width-below m.plain.generators m.by_degree t l) c.args.s c.args.k (there _ _ c.args.s c.args.k c.self.view_is c.requires) in
+    let bare = c.rows_of_ranges_are_bare.ensures m im.range.s im.range.t im.rows.items c.self.invariant.2 in
+    let wide = square_widths (over m) im.range.s im.range.t rows bare.0 bare.1 c.args.s c.args.k (there _ _ c.args.s c.args.k c.self.view_is c.requires) in
     let here = subst (λ (x : List (List Bool)). HaveWidth ((target_of (over m) (squares_of rows) c.args.s).width (bottom_of m +ℤ pos c.args.k)) x) (sym (images_are c)) wide in
     subst (λ (x : BareTable). HaveWidth ((target_of (over x.resolved) (squares_of x.rows) c.args.s).width (bottom_of x.resolved +ℤ pos c.args.k)) c.square.result.now) c.self.view_is here
 
@@ -48,6 +47,6 @@ pub returns-clause-degree : goal.returns-clause-degree
 returns-clause-degree c =
     let im = c.self.inside in
     let m = im.resolved in
-    let table = c.canonical_table_exists.ensures (over m) im.range.s im.range.t (module_KeepsWidths m.plain m.is_module) in
-    let w = row_within (over m) im.range.s im.range.t im.rows.items table.0 table.1 c.self.invariant.2 c.args.s c.args.k (there _ _ c.args.s c.args.k c.self.view_is c.requires) in
-    omega (arith, w.1, c.self.invariant.0)
+    let bare = c.rows_of_ranges_are_bare.ensures m im.range.s im.range.t im.rows.items c.self.invariant.2 in
+    let w = row_within (over m) im.range.s im.range.t im.rows.items bare.0 bare.1 c.args.s c.args.k (there _ _ c.args.s c.args.k c.self.view_is c.requires) in
+    omega (arith, w.2, c.self.invariant.0)

@@ -1,6 +1,5 @@
-use Rattle.std.proofs.Common.{◌≡◌, ◌<◌, ◌∙◌, ◌+◌, Bool, List, length, take, drop, get_or, ap, sym, arith}
+use Rattle.std.proofs.Common.{◌≡◌, ◌<◌, ◌∙◌, ◌+◌, length, drop, get_or, ap, arith}
 use Rattle.std.proofs.lemmas.List.{get_or_read}
-use Rattle.resolution_laws.specs.Resolution.{Content, square_in}
 use Rattle.resolution_images.specs.BareRows.{BareRow, cut}
 use Rattle.resolution_images.proofs.Contents.{cut_more, length-cut}
 use Rattle.resolution_images.proofs.row.Row.square.Goals as goal
