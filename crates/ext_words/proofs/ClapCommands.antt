@@ -1,6 +1,6 @@
 -- A command of the table: its arguments as `clap` is told of them, and that its matches give what the grammar does.
 use Rattle.std.proofs.Common.{◌≡◌, ℕ, ◌+◌, refl, List, [], ◌∷◌, ◌++◌, Bool, true, false, Option, Some, None, inl, inr, ap, ap₂, sym, subst, ◌∙◌}
-use Rattle.std.specs.Prelude.{◌&&◌, ◌||◌, not, cond, find, map, is_some, option_and_then, IfSome, if◌then◌else◌}
+use Rattle.std.specs.Prelude.{◌&&◌, ◌||◌, not, cond, find, map, is_some, option_map, option_and_then, IfSome, if◌then◌else◌}
 use Rattle.std.specs.List.{list_all, list_any}
 use Rattle.std.specs.Option.{option_or}
 use Rattle.std.specs.Str.{bytes_eq}
@@ -10,7 +10,7 @@ use Rattle.std.proofs.lemmas.Slice.Eq.{bytes_eq-Decides}
 use Rattle.clap.specs.Walk.{Row, Rule, Text, arg_by_id, arg_by_long, has_long, is_empty}
 use Rattle.clap.specs.Takes.{is_given}
 use Rattle.clap.proofs.SimpleLemmas.{is_false}
-use Rattle.ext_words.specs.Words.{Grammar, Part, is_in, fits, plain_words, parts_of, arguments_of, each_once, read_by}
+use Rattle.ext_words.specs.Words.{Grammar, Part, is_in, fits, plain_words, parts_of, arguments_of, each_once, given_to}
 use Rattle.ext_words.specs.Inside.CommandLine.{has_stray, given_by}
 use Rattle.ext_words.proofs.ClapWords.{Arguments, Named, is_option, is_unknown, option_rule}
 use Rattle.ext_words.proofs.ClapParts.{word_rule, Stand, IsCommand, uses, after_parts}
@@ -127,17 +127,17 @@ module _ (g : Grammar) (sound : IsSound g) where
 
   -- ---- what its matches give
 
-  by-rows : (parts : List Part) (kept : Bool) → option_and_then (λ rows. g.make (given_by rows)) (if kept then Some (uses parts g.words) else None) ≡ (if kept then g.make (arguments_of parts g.words) else None)
-  by-rows parts true = ap g.make (same-given parts g.words)
+  by-rows : (parts : List Part) (kept : Bool) → option_map given_by (if kept then Some (uses parts g.words) else None) ≡ (if kept then Some (arguments_of parts g.words) else None)
+  by-rows parts true = ap Some (same-given parts g.words)
   by-rows parts false = refl
 
   by-parts : (taken : Option (List Part)) → IfSome taken (AreApart g.words) →
-      option_and_then (λ rows. g.make (given_by rows)) (option_and_then (after_parts g.words []) taken)
-      ≡ option_and_then (λ parts. if each_once parts && fits (plain_words parts) g.words then g.make (arguments_of parts g.words) else None) taken
+      option_map given_by (option_and_then (after_parts g.words []) taken)
+      ≡ option_and_then (λ parts. if each_once parts && fits (plain_words parts) g.words then Some (arguments_of parts g.words) else None) taken
   by-parts None known = refl
   by-parts (Some parts) known =
-      ap (option_and_then (λ rows. g.make (given_by rows))) (after-first parts g.words sound.words known) ∙ by-rows parts (each_once parts && fits (plain_words parts) g.words)
+      ap (option_map given_by) (after-first parts g.words sound.words known) ∙ by-rows parts (each_once parts && fits (plain_words parts) g.words)
 
-  -- the rows that `clap` has after the words give what the grammar reads
-  pub reads-same : (words : List Text) → has_stray words ≡ false → option_and_then (λ rows. g.make (given_by rows)) (option_and_then (after_parts g.words []) (parts_of g.options words)) ≡ read_by g words
-  reads-same words kept = by-parts (parts_of g.options words) (known-parts (arguments g) is_command words kept)
+  -- the rows that `clap` has after the words give what the grammar finds in them
+  pub gives-same : (words : List Text) → has_stray words ≡ false → option_map given_by (option_and_then (after_parts g.words []) (parts_of g.options words)) ≡ given_to g words
+  gives-same words kept = by-parts (parts_of g.options words) (known-parts (arguments g) is_command words kept)

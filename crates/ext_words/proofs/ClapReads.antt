@@ -14,12 +14,12 @@ use Rattle.clap.specs.Faults.{fault_of, built_fault, level_fault, walk_fault, de
 use Rattle.clap.specs.declared.error.kind.ErrorKind.TheVariants.{UnknownArgument, InvalidSubcommand, MissingSubcommand}
 use Rattle.clap.proofs.WalkLemmas.{walk_stopped, find-map}
 use Rattle.clap.proofs.FaultLemmas.{stopped_fault}
-use Rattle.ext_words.specs.Words.{Grammar, commands, parts_of, read_by, grammar_of, command_of}
-use Rattle.ext_words.specs.Inside.CommandLine.{is_stray, has_stray, command_line, given_by, command_named, command_in}
+use Rattle.ext_words.specs.Words.{Grammar, commands, parts_of, given_to, given_of, read_by, grammar_of, command_of}
+use Rattle.ext_words.specs.Inside.CommandLine.{is_stray, has_stray, command_line, given_by, given_below, command_named, command_in}
 use Rattle.ext_words.proofs.ClapWords.{Fails, fails-first, fails-as, Arguments, Passes, no-dashes, meets, meets_plain, meets_none, meets_alone, meets_used, is_unknown}
 use Rattle.ext_words.proofs.ClapParts.{settings, leaf, after_parts}
 use Rattle.ext_words.proofs.ClapLevels.{stand, rest_fault, Ends, follows}
-use Rattle.ext_words.proofs.ClapCommands.{rules_of, arguments, IsSound, AreSound, is_command, reads-same}
+use Rattle.ext_words.proofs.ClapCommands.{rules_of, arguments, IsSound, AreSound, is_command, gives-same}
 
 -- ---- a command line as it is built
 
@@ -167,40 +167,48 @@ fault-is words = ap (λ (line : App). built_fault line nothing_held words) is_re
 subcommand-is : (words : List Text) → subcommand_of command_line words ≡ entered (ready commands) (stop_after [] (names_of (ready commands)) words)
 subcommand-is words = ap (λ (line : App). entered line (stop_after line.top.rules (names_of line) words)) is_ready
 
--- `clap` refuses the words, which give no command, or its matches give the command
+-- `clap` refuses the words, which give no command, or its matches give the command, and to it what the words do
 pub data Reads (words : List Text) : Type 0 where
-  refused_words : Fails (fault_of command_line words) → command_of words ≡ None → Reads words
-  read_words : fault_of command_line words ≡ [] → command_in (subcommand_of command_line words) ≡ command_of words → Reads words
+  refused_words : Fails (fault_of command_line words) → given_of words ≡ None → command_of words ≡ None → Reads words
+  read_words : fault_of command_line words ≡ [] → given_below (subcommand_of command_line words) ≡ given_of words →
+      command_in (subcommand_of command_line words) ≡ command_of words → Reads words
 
 module _ (g : Grammar) (own : grammar_of g.name ≡ Some g) where
-  given : (words : List Text) → command_of (g.name ∷ words) ≡ read_by g words
-  given words = ap (option_and_then (λ h. read_by h words)) own
+  given : (words : List Text) → given_of (g.name ∷ words) ≡ given_to g words
+  given words = ap (option_and_then (λ h. given_to h words)) own
+
+  asked : (words : List Text) → command_of (g.name ∷ words) ≡ option_and_then g.make (given_to g words)
+  asked words = ap (option_and_then (λ h. read_by h words)) own
 
   made : (rows : List Row) → command_named g.name rows ≡ g.make (given_by rows)
   made rows = ap (option_and_then (λ h. h.make (given_by rows))) own
 
-  reads-ended : (words : List Text) (rows : Option (List Row)) → Ends (level g) start words rows → option_and_then (λ r. g.make (given_by r)) rows ≡ read_by g words → Reads (g.name ∷ words)
-  reads-ended words None fails is = refused_words (fails-as _ _ (fault-is (g.name ∷ words) ∙ fault-named commands g own words) fails) (given words ∙ sym is)
+  reads-ended : (words : List Text) (rows : Option (List Row)) → Ends (level g) start words rows → option_map given_by rows ≡ given_to g words → Reads (g.name ∷ words)
+  reads-ended words None fails is =
+      refused_words (fails-as _ _ (fault-is (g.name ∷ words) ∙ fault-named commands g own words) fails) (given words ∙ sym is) (asked words ∙ ap (option_and_then g.make) (sym is))
   reads-ended words (Some rows) ends is =
+      let found : subcommand_of command_line (g.name ∷ words) ≡ Some (g.name, rows) =
+      subcommand-is (g.name ∷ words) ∙ (matches-named commands g own words ∙ ap (λ (r : List Row). Some (g.name, r)) ends.1) in
       read_words (fault-is (g.name ∷ words) ∙ (fault-named commands g own words ∙ ends.0))
-      (ap command_in (subcommand-is (g.name ∷ words) ∙ matches-named commands g own words) ∙ (made _ ∙ (ap (λ (r : List Row). g.make (given_by r)) ends.1 ∙ (is ∙ sym (given words)))))
+      (ap given_below found ∙ (is ∙ sym (given words)))
+      (ap command_in found ∙ (made rows ∙ (ap (option_and_then g.make) is ∙ sym (asked words))))
 
   reads-own : IsSound g → (words : List Text) → has_stray words ≡ false → Reads (g.name ∷ words)
   reads-own sound words kept =
-      reads-ended words (option_and_then (after_parts g.words []) (parts_of g.options words)) ((follows g.name (arguments g) (is_command g sound) words kept).goes nothing_held g.words 1 sound.stands refl) (reads-same g sound words kept)
+      reads-ended words (option_and_then (after_parts g.words []) (parts_of g.options words)) ((follows g.name (arguments g) (is_command g sound) words kept).goes nothing_held g.words 1 sound.stands refl) (gives-same g sound words kept)
 
 -- ---- the words, by the first of them
 
 reads-nothing : Reads []
 unfolding walk_fault defaults_fault
-reads-nothing = refused_words (fails-as _ _ (fault-is []) (record { first = MissingSubcommand; others = []; is = refl })) refl
+reads-nothing = refused_words (fails-as _ _ (fault-is []) (record { first = MissingSubcommand; others = []; is = refl })) refl refl
 
 by-first : (word : Text) (words : List Text) (found : Option Grammar) → grammar_of word ≡ found → IfSome found (λ g. IsSound g × (bytes_eq g.name word ≡ true)) → is_stray word ≡ false → has_stray words ≡ false → Reads (word ∷ words)
 unfolding walk_fault
 by-first word words None none is kept more =
     let unnamed = names-met word commands ∙ ap (option_map (λ g. g.name)) none in
     let fails = fails-first _ _ (fails-first _ _ (top-fails (names_of (ready commands)) word unnamed kept)) in
-    refused_words (fails-as _ _ (fault-is (word ∷ words)) fails) (ap (option_and_then (λ g. read_by g words)) none)
+    refused_words (fails-as _ _ (fault-is (word ∷ words)) fails) (ap (option_and_then (λ g. given_to g words)) none) (ap (option_and_then (λ g. read_by g words)) none)
 by-first word words (Some g) found is kept more =
     let same = (bytes_eq-Decides g.name word).0 is.1 in
     subst (λ (w : Text). Reads (w ∷ words)) same (reads-own g (ap grammar_of same ∙ found) is.0 words more)
@@ -211,16 +219,17 @@ clap-reads (word ∷ words) kept =
     let parts = or_parts (is_stray word) (has_stray words) kept in
     by-first word words (grammar_of word) refl (found-sound word commands are_sound) parts.0 parts.1
 
--- the matches of words that are taken give their command
-pub taken-reads : (words : List Text) → has_stray words ≡ false → fault_of command_line words ≡ [] → command_in (subcommand_of command_line words) ≡ command_of words
+-- the matches of words that are taken give what the words do
+pub taken-reads : (words : List Text) → has_stray words ≡ false → fault_of command_line words ≡ [] →
+    (given_below (subcommand_of command_line words) ≡ given_of words) × (command_in (subcommand_of command_line words) ≡ command_of words)
 taken-reads words kept taken = elim (clap-reads words kept) [
-  | refused_words fails none ↦ absurd (let bad : [] ≡ fails.first ∷ fails.others = sym taken ∙ fails.is in cc)
-  | read_words passes is ↦ is
+  | refused_words fails none gone ↦ absurd (let bad : [] ≡ fails.first ∷ fails.others = sym taken ∙ fails.is in cc)
+  | read_words passes gives is ↦ (gives, is)
 ]
 
--- words that are refused give none
-pub refused-none : (words : List Text) → has_stray words ≡ false → (fault_of command_line words ≢ []) → command_of words ≡ None
+-- words that are refused give nothing
+pub refused-none : (words : List Text) → has_stray words ≡ false → (fault_of command_line words ≢ []) → (given_of words ≡ None) × (command_of words ≡ None)
 refused-none words kept refused = elim (clap-reads words kept) [
-  | refused_words fails none ↦ none
-  | read_words passes is ↦ absurd (refused passes)
+  | refused_words fails none gone ↦ (none, gone)
+  | read_words passes gives is ↦ absurd (refused passes)
 ]

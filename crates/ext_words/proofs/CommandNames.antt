@@ -1,5 +1,5 @@
 -- The command of matches, by the name that they have.
-use Rattle.std.proofs.Common.{◌≡◌, refl, List, [], ◌∷◌, Option, Some, None, ap, ap₂, sym, ◌∙◌}
+use Rattle.std.proofs.Common.{◌≡◌, false, refl, List, [], ◌∷◌, Option, Some, None, ap, ap₂, sym, ◌∙◌}
 use Rattle.std.specs.Prelude.{find, option_and_then, option_map, ◌≢◌}
 use Rattle.std.specs.Str.{bytes_eq}
 use Rattle.std.proofs.lemmas.Bool.{false_from_ne_true}
@@ -31,6 +31,9 @@ matches-are m name rows n r = both (subcommand_rows_of m) name rows (n ∙ sym (
 
 -- ---- a name that no command has
 
+pub other-text : (text name : Text) → name ≢ text → bytes_eq text name ≡ false
+other-text text name apart = false_from_ne_true (bytes_eq text name) (λ e. apart (sym ((bytes_eq-Decides text name).0 e)))
+
 -- the name is that of none of the commands
 abbrev pub IsOther : Text → List Grammar → Type 0
 IsOther name [] = Unit {0}
@@ -38,7 +41,7 @@ IsOther name (g ∷ list) = (name ≢ g.name) × IsOther name list
 
 none-named : (name : Text) (list : List Grammar) → IsOther name list → find (λ g. bytes_eq g.name name) list ≡ None
 none-named name [] other = refl
-none-named name (g ∷ list) other = rw (false_from_ne_true (bytes_eq g.name name) (λ e. other.0 (sym ((bytes_eq-Decides g.name name).0 e)))) (none-named name list other.1)
+none-named name (g ∷ list) other = rw (other-text g.name name other.0) (none-named name list other.1)
 
 pub other-name : (name : Text) (rows : List Row) → IsOther name commands → command_named name rows ≡ None
 other-name name rows other = ap (option_and_then (λ g. g.make (given_by rows))) (none-named name commands other)

@@ -1,10 +1,10 @@
 -- Words of which one is stray give no command.
-use Rattle.std.proofs.Common.{◌≡◌, ℕ, refl, List, [], ◌∷◌, Bool, true, false, Option, Some, None, inl, inr, ap, sym, subst}
+use Rattle.std.proofs.Common.{◌≡◌, ℕ, refl, List, [], ◌∷◌, Bool, true, false, Option, Some, None, inl, inr, ap, sym, subst, ◌∙◌}
 use Rattle.std.specs.Prelude.{◌==◌, option_and_then}
 use Rattle.std.proofs.lemmas.Bool.{and_parts, or_cases, eqb-true, true≢false}
 use Rattle.clap.specs.Walk.{Text}
 use Rattle.clap.proofs.SimpleLemmas.{is_false}
-use Rattle.ext_words.specs.Words.{Part, Options, Grammar, with_word, parts_of, read_by, grammar_of, command_of}
+use Rattle.ext_words.specs.Words.{Part, Options, Argument, Grammar, with_word, parts_of, given_to, read_by, grammar_of, given_of, command_of}
 use Rattle.ext_words.specs.Inside.CommandLine.{is_stray, has_stray}
 use Rattle.ext_words.proofs.ClapWords.{apart}
 
@@ -40,24 +40,27 @@ strays-no-parts options (word ∷ words) stray = elim (or_cases _ _ stray) [
   | inr there ↦ ap (option_and_then (with_word options word)) (strays-no-parts options words there)
 ]
 
--- what a command makes of them
-read-none : (g : Grammar) (words : List Text) → has_stray words ≡ true → read_by g words ≡ None
-read-none g words stray = ap (option_and_then _) (strays-no-parts g.options words stray)
+-- what they give to a command
+given-none : (g : Grammar) (words : List Text) → has_stray words ≡ true → given_to g words ≡ None
+given-none g words stray = ap (option_and_then _) (strays-no-parts g.options words stray)
 
-found-none : (found : Option Grammar) (words : List Text) → has_stray words ≡ true → option_and_then (λ g. read_by g words) found ≡ None
-found-none None words stray = refl
-found-none (Some g) words stray = read-none g words stray
+-- what is made by the command that is found
+found-none : {X : Type 0} (make : Grammar → Option (List Argument) → Option X) → ((g : Grammar) → make g None ≡ None) → (found : Option Grammar) (words : List Text) → has_stray words ≡ true →
+    option_and_then (λ g. make g (given_to g words)) found ≡ None
+found-none make none None words stray = refl
+found-none make none (Some g) words stray = ap (make g) (given-none g words stray) ∙ none g
 
 -- a stray word is no command's name
-name-none : (name : Text) (words : List Text) → is_stray name ≡ true → command_of (name ∷ words) ≡ None
-name-none [] words stray = absurd (true≢false (sym stray))
-name-none (x ∷ []) words stray = subst (λ (y : ℕ). command_of ((y ∷ []) ∷ words) ≡ None) (sym (eqb-true x 45 stray)) refl
-name-none (x ∷ y ∷ []) words stray = subst (λ (z : ℕ). command_of ((z ∷ y ∷ []) ∷ words) ≡ None) (sym (eqb-true x 45 stray)) refl
-name-none (x ∷ y ∷ z ∷ zs) words stray = subst (λ (v : ℕ). command_of ((v ∷ y ∷ z ∷ zs) ∷ words) ≡ None) (sym (eqb-true x 45 (and_parts _ _ stray).0)) refl
+name-none : (name : Text) → is_stray name ≡ true → grammar_of name ≡ None
+name-none [] stray = absurd (true≢false (sym stray))
+name-none (x ∷ []) stray = subst (λ (y : ℕ). grammar_of (y ∷ []) ≡ None) (sym (eqb-true x 45 stray)) refl
+name-none (x ∷ y ∷ []) stray = subst (λ (z : ℕ). grammar_of (z ∷ y ∷ []) ≡ None) (sym (eqb-true x 45 stray)) refl
+name-none (x ∷ y ∷ z ∷ zs) stray = subst (λ (v : ℕ). grammar_of (v ∷ y ∷ z ∷ zs) ≡ None) (sym (eqb-true x 45 (and_parts _ _ stray).0)) refl
 
-pub stray-none : (words : List Text) → has_stray words ≡ true → command_of words ≡ None
-stray-none [] stray = refl
+pub stray-none : (words : List Text) → has_stray words ≡ true → (given_of words ≡ None) × (command_of words ≡ None)
+stray-none [] stray = (refl, refl)
 stray-none (name ∷ words) stray = elim (or_cases _ _ stray) [
-  | inl here ↦ name-none name words here
-  | inr there ↦ found-none (grammar_of name) words there
+  | inl here ↦ (ap (option_and_then (λ g. given_to g words)) (name-none name here), ap (option_and_then (λ g. read_by g words)) (name-none name here))
+  | inr there ↦
+      (found-none (λ g given. given) (λ g. refl) (grammar_of name) words there, found-none (λ g given. option_and_then g.make given) (λ g. refl) (grammar_of name) words there)
 ]

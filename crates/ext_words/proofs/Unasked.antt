@@ -16,7 +16,7 @@ use Rattle.ext_words.specs.declared.command.Build.{Build}
 use Rattle.ext_words.specs.declared.command.Command.{Command}
 use Rattle.ext_words.specs.declared.command.Command.TheVariants.{Sphere, Resolve, Dump, Products, Massey, Build as Built, Sample, Sq, Verify}
 use Rattle.ext_words.specs.declared.command.Common.{Common}
-use Rattle.ext_words.specs.Words.{Part, plain, option, Options, Argument, Grammar, texts_of, has_live, is_in, is_among, begins_with, has_equals, before_equals, with_next, with_option, with_text, with_word, parts_of, plain_words, each_once, fits, arguments_of, is_given, text_given, class_given, workers_of, seed_of, shape_of, range_of, is_refused_stems, common_of, products_of, massey_of, build_of, sample_of, product_given, commands, read_by, grammar_of, command_of}
+use Rattle.ext_words.specs.Words.{Part, plain, option, Options, Argument, Grammar, texts_of, has_live, is_in, is_among, begins_with, has_equals, before_equals, with_next, with_option, with_text, with_word, parts_of, plain_words, each_once, fits, arguments_of, is_given, text_given, class_given, workers_of, seed_of, shape_of, range_of, is_refused_stems, common_of, products_of, massey_of, build_of, sample_of, product_given, commands, given_to, read_by, grammar_of, command_of}
 
 abbrev Text : Type 0
 Text = List ℕ
@@ -139,10 +139,10 @@ common_with shape save live range n =
 
 common-by : (refused : Bool) (shape : Shape) (save live : Bool) → live ≡ false → (range : Option Range) (n : Option ℕ) →
     IfSome (if refused then None else option_and_then (λ range. option_map (common_with shape save live range) n) range) IsSilent
-common-by true shape save live none range n = tt
-common-by false shape save live none None n = tt
-common-by false shape save live none (Some range) None = tt
-common-by false shape save live none (Some range) (Some n) = none
+common-by true shape save told none range n = tt
+common-by false shape save told none None n = tt
+common-by false shape save told none (Some range) None = tt
+common-by false shape save told none (Some range) (Some n) = none
 
 products-by : (common : Option Common) → IfSome common IsSilent → (by : Option Class) → IfSome (option_and_then (λ common. option_map (λ by. Products common by) by) common) AsksNone
 products-by None is by = tt
@@ -239,18 +239,24 @@ found-plain test (g ∷ list) all = by (test g) (found-plain test list all.1)
     by false rest = rest
 
 module _ (g : Grammar) (is : IsPlain g) where
-  abbrev made_of : List Part → Option Command
-  made_of parts = if each_once parts && fits (plain_words parts) g.words then g.make (arguments_of parts g.words) else None
+  abbrev LacksLive : List Argument → Type 0
+  LacksLive given = is_given live given ≡ false
 
-  made-silent : (parts : List Part) → is_among live parts ≡ false → IfSome (made_of parts) AsksNone
-  made-silent parts lacks = by (each_once parts && fits (plain_words parts) g.words)
+  abbrev given_from : List Part → Option (List Argument)
+  given_from parts = if each_once parts && fits (plain_words parts) g.words then Some (arguments_of parts g.words) else None
+
+  from-lacks : (parts : List Part) → is_among live parts ≡ false → IfSome (given_from parts) LacksLive
+  from-lacks parts lacks = by (each_once parts && fits (plain_words parts) g.words)
     where
-      by : (b : Bool) → IfSome (if b then g.make (arguments_of parts g.words) else None) AsksNone
-      by true = is.makes (arguments_of parts g.words) (none-given live parts g.words lacks is.words)
+      by : (b : Bool) → IfSome (if b then Some (arguments_of parts g.words) else None) LacksLive
+      by true = none-given live parts g.words lacks is.words
       by false = tt
 
+  given-lacks : (words : List Text) → is_in words (codes "--live") ≡ false → IfSome (given_to g words) LacksLive
+  given-lacks words none = with_then (λ parts. is_among live parts ≡ false) LacksLive given_from from-lacks (parts_of g.options words) (words-lack g.options live is.valued words none)
+
   read-silent : (words : List Text) → is_in words (codes "--live") ≡ false → IfSome (read_by g words) AsksNone
-  read-silent words none = with_then (λ parts. is_among live parts ≡ false) AsksNone made_of made-silent (parts_of g.options words) (words-lack g.options live is.valued words none)
+  read-silent words none = with_then LacksLive AsksNone g.make is.makes (given_to g words) (given-lacks words none)
 
 asks-none : (words : List Text) → is_in words (codes "--live") ≡ false → IfSome (command_of words) AsksNone
 asks-none [] none = tt

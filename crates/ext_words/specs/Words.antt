@@ -326,16 +326,25 @@ commands =
     ∷ grammar (codes "verify") (codes "S" ∷ codes "T" ∷ []) [] [] (λ given. option_map Verify (range_of Rectangle given))
     ∷ []
 
--- what a command makes of words: each of its options is among them at most once, and there are no more other words than
--- it has names for
-abbrev pub read_by : Grammar → List (List ℕ) → Option Command
-read_by g words = option_and_then
-    (λ parts. if each_once parts && fits (plain_words parts) g.words then g.make (arguments_of parts g.words) else None)
+-- what words give to a command: each of its options is among them at most once, and there are no more other words than it has
+-- names for
+abbrev pub given_to : Grammar → List (List ℕ) → Option (List Argument)
+given_to g words = option_and_then
+    (λ parts. if each_once parts && fits (plain_words parts) g.words then Some (arguments_of parts g.words) else None)
     (parts_of g.options words)
+
+-- what the command makes of that
+abbrev pub read_by : Grammar → List (List ℕ) → Option Command
+read_by g words = option_and_then g.make (given_to g words)
 
 -- the command of this name
 abbrev pub grammar_of : List ℕ → Option Grammar
 grammar_of name = find (λ g. bytes_eq g.name name) commands
+
+-- what words give to the command that the first of them names
+abbrev pub given_of : List (List ℕ) → Option (List Argument)
+given_of [] = None
+given_of (name ∷ words) = option_and_then (λ g. given_to g words) (grammar_of name)
 
 -- the command's name, and what is behind it
 abbrev pub command_of : List (List ℕ) → Option Command

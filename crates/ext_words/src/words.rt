@@ -4,10 +4,10 @@ ghost use Rattle.clap.specs.Words.{app_of, fault_of, found_of, rows_of, rule_of,
 ghost use Rattle.std.specs.List.{list_any};
 ghost use Rattle.std.specs.Str.{bytes_eq};
 ghost use Rattle.clap.specs.declared.builder.command.Command.TheViews.{out-Command};
-ghost use Rattle.ext_words.specs.Inside.CommandLine.{is_stray, option_named, flag_named, command_with, no_command, command_line, given_in, command_named, command_in};
+ghost use Rattle.ext_words.specs.Inside.CommandLine.{is_stray, option_named, flag_named, command_with, no_command, command_line, given_in, given_below, command_named, command_in};
 ghost use Rattle.ext_words.specs.declared.command.TheConstants.{MAX_WORKERS};
 ghost use Rattle.ext_words.specs.declared.command.WordsFault as WordsFault;
-ghost use Rattle.ext_words.specs.Words.{texts_of, has_live, text_given, is_given, number_given, workers_of, shape_of, range_through, range_of, common_of, class_given, products_of, massey_of, built_by, build_of, seed_of, sample_of, product_given, command_of, IsRangeWithin, IsRangeOf, IsWithin, IsShort, IsWithinShift, IsWithinDegree, IsWithinLimits};
+ghost use Rattle.ext_words.specs.Words.{texts_of, has_live, text_given, is_given, number_given, workers_of, shape_of, range_through, range_of, common_of, class_given, products_of, massey_of, built_by, build_of, seed_of, sample_of, product_given, given_of, command_of, IsRangeWithin, IsRangeOf, IsWithin, IsShort, IsWithinShift, IsWithinDegree, IsWithinLimits};
 
 use crate::command::{Build, Command, Common, MAX_WORKERS, WordsFault};
 use crate::numbers::{class_of, number_up_to, positive_up_to, product_of, seed_of, shift_of};
@@ -138,7 +138,7 @@ fn matches_of<'a>(alloc: Global, words: &'a [&'a str]) -> Result<Option<ArgMatch
 }
 
 /// The word, or the value of the option, that a command's matches have of this name.
-fn word_in<'m>(matches: &'m ArgMatches, id: &str) -> Option<&'m str>
+pub(crate) fn word_in<'m>(matches: &'m ArgMatches, id: &str) -> Option<&'m str>
     ensures { option_map (λ word. word.now) result ≡ text_given id.now (given_in matches.now) }
 {
     matches.get_str(id)
@@ -378,15 +378,28 @@ fn has_stray(words: &[&str]) -> bool
     words.iter().any(|word| is_stray(word))
 }
 
-/// The command that the words give, none where they are outside the grammar.
-fn command_of(alloc: Global, words: &[&str]) -> Result<Option<Command>, Memory>
-    ensures command { IfOk result (λ command. command ≡ command_of (texts_of words.now)) }
-    ensures within { IfOk result (λ command. IfSome command IsWithinLimits) }
+/// The matches of the words, none where one of them is stray, or `clap` refuses them.
+pub(crate) fn read<'a>(
+    alloc: Global,
+    words: &'a [&'a str],
+) -> Result<Option<ArgMatches<'a>>, Memory>
+    ensures given { IfOk result (λ found. option_and_then (λ matches. given_below (subcommand_rows_of matches)) found
+        ≡ given_of (texts_of words.now)) }
+    ensures command { IfOk result (λ found. option_and_then (λ matches. command_in (subcommand_rows_of matches)) found
+        ≡ command_of (texts_of words.now)) }
 {
     if has_stray(words) {
         return Ok(None);
     }
-    match matches_of(alloc, words)? {
+    matches_of(alloc, words)
+}
+
+/// The command that the words give, none where they are outside the grammar.
+pub(crate) fn command_of(alloc: Global, words: &[&str]) -> Result<Option<Command>, Memory>
+    ensures command { IfOk result (λ command. command ≡ command_of (texts_of words.now)) }
+    ensures within { IfOk result (λ command. IfSome command IsWithinLimits) }
+{
+    match read(alloc, words)? {
         Some(matches) => command_in(alloc, &matches),
         None => Ok(None),
     }

@@ -1,5 +1,5 @@
 -- What `clap` is told of the command line, and what is read from its matches.
-use Rattle.std.specs.Prelude.{◌==◌, ◌&&◌, not, Bool, true, false, List, [], ◌∷◌, Option, Some, map, slice_get, option_and_then, codes}
+use Rattle.std.specs.Prelude.{◌==◌, ◌&&◌, not, Bool, true, false, List, [], ◌∷◌, Option, Some, map, slice_get, option_map, option_and_then, codes}
 use Rattle.std.specs.List.{fold, list_any}
 use Rattle.clap.specs.Walk.{Row, Rule, Text}
 use Rattle.clap.specs.Simple.{App, new_app, new_rule, on_top, with_rule, with_subcommand}
@@ -76,6 +76,10 @@ given_by rows = map argument_of rows
 
 abbrev pub given_in : ArgMatches → List Argument
 given_in matches = given_by (rows_of (found_of matches))
+
+-- what is given to the command that matches name
+abbrev pub given_below : Option (Text × List Row) → Option (List Argument)
+given_below matches = option_map (λ p. given_by p.1) matches
 
 -- the command of a name, with its matches
 abbrev pub command_named : Text → List Row → Option Command
