@@ -1,6 +1,7 @@
 //! The texts of tables and classes.
 use crate::classes::class_of;
 use crate::tables::{number, range_of, table_of};
+use bidegree::Shape;
 use cases::{Case, Fault};
 use ext_chart::{ProductLine, bracket_lines, chart, check_line, dump, product_lines, summary};
 use f2_vec::BitVec;
@@ -10,21 +11,21 @@ use std::alloc::Global;
 pub(crate) fn charted(alloc: Global, case: &Case) -> Result<String, Fault> {
     let range = range_of(case)?;
     let table = table_of(alloc, case, range)?;
-    text_of(case, chart(alloc, &table, range)?)
+    text_of(case, chart(alloc, &table, range, Shape::Rectangle)?)
 }
 
 /// The differentials of a table.
 pub(crate) fn dumped(alloc: Global, case: &Case) -> Result<String, Fault> {
     let range = range_of(case)?;
     let table = table_of(alloc, case, range)?;
-    text_of(case, dump(alloc, &table, range)?)
+    text_of(case, dump(alloc, &table, range, Shape::Rectangle)?)
 }
 
 /// The summary of a table.
 pub(crate) fn summed_up(alloc: Global, case: &Case) -> Result<String, Fault> {
     let range = range_of(case)?;
     let table = table_of(alloc, case, range)?;
-    text_of(case, summary(alloc, &table, range)?)
+    text_of(case, summary(alloc, &table, range, Shape::Rectangle)?)
 }
 
 /// The line on a module that was checked, with so many generators from one degree to another.

@@ -1,18 +1,24 @@
 -- The texts of a resolution do not speak of kernels.
-use Rattle.std.proofs.Common.{◌≡◌, ℕ, zero, suc, ◌+◌, ℤ, pos, ◌+ℤ◌, Bool, List, [], ◌∷◌, ◌++◌, length, map, refl, ap, sym, ◌∙◌, arith, inl, inr}
-use Rattle.std.specs.List.{flat_map, range_with_len}
+use Rattle.std.proofs.Common.{◌≡◌, ℕ, zero, suc, ◌+◌, ◌≤◌, ℤ, pos, ◌+ℤ◌, Bool, List, [], ◌∷◌, ◌++◌, length, map, refl, ap, sym, subst, ◌∙◌, arith, inl, inr}
 use Rattle.std.proofs.Math.Path.{fun_ext}
 use Rattle.std.proofs.lemmas.Bool.{cases_lt}
 use Rattle.std.proofs.lemmas.List.{ext_get_or, get_or-map, get_or_past, length-map}
+use Rattle.std.proofs.lemmas.List.FromFn.{length-map-range_with_len}
+use Rattle.bidegree.specs.declared.range.Range.{Range}
+use Rattle.bidegree.specs.declared.shape.Shape.TheVariants.{Stems}
+use Rattle.bidegree.specs.LastDegrees.{last_degree}
 use Rattle.module_spec.specs.Spec.{Generator}
-use Rattle.finite_module.specs.Module.{bottom}
-use Rattle.resolution_laws.specs.Resolution.{Module, Content, no_content, square_in, row_of, degrees_from, generator_count, IsCanonicalTable}
-use Rattle.resolution_images.specs.BareRows.{BareRow, contents_of, squares_of, AreOfCanonical}
-use Rattle.resolution_images.proofs.Contents.{bare, degrees_bare, row_bare}
+use Rattle.finite_module.specs.Module.{Module as SteenrodModule, bottom}
+use Rattle.resolution_laws.specs.Resolution.{Content, no_content, square_in, row_of, degrees_from, generator_count, IsCanonicalTable}
+use Rattle.stem_laws.specs.Stems.{in_stems, IsCanonicalResolution}
+use Rattle.square.specs.Squares.{module_over}
+use Rattle.resolution_images.specs.BareRows.{BareRow, bare_row_in, contents_of, squares_of, IsBareRowOf, AreOfCanonical}
+use Rattle.resolution_images.proofs.Contents.{bare, contents_bare, degrees_bare, row_of-squares}
 use Rattle.ext_chart.specs.declared.place.Place.{Place}
-use Rattle.ext_chart.specs.Chart.{chart_text}
-use Rattle.ext_chart.specs.Summary.{summary_text}
-use Rattle.ext_chart.specs.Dump.{square_places, places_from, free_sum_text, square_lines, image_text, square_text, row_text, dump_text}
+use Rattle.ext_chart.specs.Dump.{square_places, places_from, free_sum_text, square_lines, image_text, square_text}
+use Rattle.ext_chart.specs.Alike.{AreToldAlike, rows_in_stems, StemsAreToldAlike}
+use Rattle.ext_chart.proofs.Agreement.{alike-through}
+use Rattle.ext_chart.proofs.Stems.{row_of-in_stems}
 
 abbrev pub bare_rows : List (List Content) → List (List Content)
 bare_rows rows = map (map bare) rows
@@ -38,9 +44,6 @@ places-bare : (s : ℕ) (b : ℤ) (squares : List Content) → places_from s b (
 places-bare s b [] = refl
 places-bare s b (c ∷ squares) = ap (λ (z : List Place). square_places s b (length c.images) ++ z) (places-bare s (b +ℤ pos 1) squares)
 
-count-bare : (rows : List (List Content)) → generator_count (bare_rows rows) ≡ generator_count rows
-count-bare rows = fun_ext (λ i. fun_ext (λ k. ap length (square-bare rows i k)))
-
 image_text-bare : (gs : List Generator) (rows : List (List Content)) (s : ℕ) → image_text gs (bare_rows rows) s ≡ image_text gs rows s
 image_text-bare gs rows zero = refl
 image_text-bare gs rows (suc i) =
@@ -56,25 +59,33 @@ square_text-bare gs rows s k =
     ap (λ (x : List (List Bool)). square_lines (image_text gs (bare_rows rows) s u) s u x) (square-bare rows s k)
     ∙ ap (λ (f : ℤ → List Bool → List ℕ). square_lines (f u) s u (square_in (row_of rows s) k).images) (image_text-bare gs rows s)
 
-row_text-bare : (gs : List Generator) (rows : List (List Content)) (t s : ℕ) → row_text gs (bare_rows rows) t s ≡ row_text gs rows t s
-row_text-bare gs rows t s = ap (λ (f : ℕ → List ℕ). flat_map f (range_with_len 0 (t + 1))) (fun_ext (λ k. square_text-bare gs rows s k))
-
-dump_text-bare : (gs : List Generator) (s t : ℕ) (rows : List (List Content)) → dump_text gs s t (bare_rows rows) ≡ dump_text gs s t rows
-dump_text-bare gs s t rows = ap (λ (f : ℕ → List ℕ). flat_map f (range_with_len 0 (s + 1))) (fun_ext (λ i. row_text-bare gs rows t i))
+-- squares are told as they are with their kernels
+bare_alike : (gs : List Generator) (s : ℕ) (last : ℕ → ℕ) (bare_ones rows : List (List Content)) → bare_ones ≡ bare_rows rows → AreToldAlike gs s last bare_ones rows
+bare_alike gs s last bare_ones rows e = record {
+  counts = λ i k l h. ap (λ (x : List (List Content)). generator_count x i k) e ∙ ap length (square-bare rows i k);
+  lines = λ i k l h. ap (λ (x : List (List Content)). square_text gs x i k) e ∙ square_text-bare gs rows i k;
+}
 
 -- ---- the texts of rows that are kept without kernels are those of the canonical resolution
 
-module _ (m : Module) (s t : ℕ) (lines : List BareRow) (table : List (List Content)) (canonical : IsCanonicalTable m s t table) (h : AreOfCanonical m s t lines) where
-  squares_bare : squares_of lines ≡ bare_rows table
-  squares_bare =
-      ext_get_or [] (squares_of lines) (bare_rows table) (length-map lines contents_of ∙ h.rows ∙ sym (length-map table (map bare) ∙ canonical.rows))
-      (λ i l. row_bare m s t lines table canonical h i (omega (arith, length-map lines contents_of, h.rows)) ∙ sym (row_of-bare table i))
+-- the squares of rows that are bare of those of these rows
+squares_bare : (b : ℤ) (s : ℕ) (lines : List BareRow) (rows : List (List Content)) → length lines ≡ s + 1 → length rows ≡ s + 1 → ((i : ℕ) → i ≤ s → IsBareRowOf b (row_of rows i) (bare_row_in lines i)) → squares_of lines ≡ bare_rows rows
+squares_bare b s lines rows n k each =
+    ext_get_or [] (squares_of lines) (bare_rows rows) (length-map lines contents_of ∙ n ∙ sym (length-map rows (map bare) ∙ k))
+    (λ i l.
+    let within : i ≤ s = omega (arith, length-map lines contents_of, n) in
+    row_of-squares lines i ∙ (contents_bare b (row_of rows i) (bare_row_in lines i) (each i within) ∙ sym (row_of-bare rows i)))
 
-  pub chart_of_images : (b : ℤ) → chart_text b s t (generator_count (squares_of lines)) ≡ chart_text b s t (generator_count table)
-  chart_of_images b = ap (λ (x : List (List Content)). chart_text b s t (generator_count x)) squares_bare ∙ ap (chart_text b s t) (count-bare table)
+pub images_alike : (m : SteenrodModule) (range : Range) (lines : List BareRow) (table : List (List Content)) → IsCanonicalTable (module_over m) range.s range.t table → AreOfCanonical (module_over m) range.s range.t lines → (last : ℕ → ℕ) → AreToldAlike m.generators range.s last (squares_of lines) table
+images_alike m range lines table canonical h last =
+    bare_alike m.generators range.s last (squares_of lines) table (squares_bare (module_over m).bottom range.s lines table h.rows canonical.rows (h.each table canonical))
 
-  pub summary_of_images : (n : ℕ) (b : ℤ) → summary_text n b s t (generator_count (squares_of lines)) ≡ summary_text n b s t (generator_count table)
-  summary_of_images n b = ap (λ (x : List (List Content)). summary_text n b s t (generator_count x)) squares_bare ∙ ap (summary_text n b s t) (count-bare table)
-
-  pub dump_of_images : (gs : List Generator) → dump_text gs s t (squares_of lines) ≡ dump_text gs s t table
-  dump_of_images gs = ap (dump_text gs s t) squares_bare ∙ dump_text-bare gs s t table
+-- those in stems, whose images on the edge are shorter
+pub stem_images_alike : StemsAreToldAlike → (m : SteenrodModule) (range : Range) (n : ℕ) (lines : List BareRow) (table : List (List Content)) → n + range.s ≡ range.t → IsCanonicalResolution (module_over m) range.s range.t table → length lines ≡ range.s + 1 → ((i : ℕ) → i ≤ range.s → IsBareRowOf (module_over m).bottom (in_stems (module_over m) n table i) (bare_row_in lines i)) → AreToldAlike m.generators range.s (last_degree Stems range) (squares_of lines) table
+stem_images_alike alike m range n lines table e p count each =
+    let last = last_degree Stems range in
+    let rows = rows_in_stems (module_over m) range.s n table in
+    let whole : length rows ≡ range.s + 1 = length-map-range_with_len (in_stems (module_over m) n table) 0 (range.s + 1) in
+    let bare_ones = squares_bare (module_over m).bottom range.s lines rows count whole (λ i l.
+    subst (λ (squares : List Content). IsBareRowOf (module_over m).bottom squares (bare_row_in lines i)) (sym (row_of-in_stems (module_over m) range.s n table i l)) (each i l)) in
+    alike-through m.generators range.s last (squares_of lines) rows table (bare_alike m.generators range.s last (squares_of lines) rows bare_ones) (alike m range n table e p)

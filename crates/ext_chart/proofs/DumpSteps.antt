@@ -1,8 +1,9 @@
 -- The steps of the loops that write differentials.
-use Rattle.std.proofs.Common.{◌≡◌, ℕ, ◌+◌, ◌≤◌, Bool, true, false, List, [], ◌∷◌, ◌++◌, length, map, take, ℤ, refl, ap, sym, ◌∙◌, arith, append_assoc}
+use Rattle.std.proofs.Common.{◌≡◌, ℕ, suc, ◌+◌, ◌≤◌, Bool, true, false, List, [], ◌∷◌, ◌++◌, length, map, take, ℤ, refl, ap, sym, ◌∙◌, arith, append_assoc}
 use Rattle.std.specs.List.{flat_map, range_with_len, items_where_true}
 use Rattle.std.proofs.lemmas.List.{take_all}
 use Rattle.std.proofs.lemmas.List.FromFn.{fill_by_all, map-range_with_len_more}
+use Rattle.f2_vec.specs.Vectors.{bit, IsZeroFrom}
 use Rattle.f2_vec.specs.Spans.{row}
 use Rattle.f2_vec.proofs.Combinations.{map-map}
 use Rattle.free_module.specs.FreeBasis.{element}
@@ -24,6 +25,29 @@ map-items_where_true f [] (x ∷ xs) = refl
 map-items_where_true f (b ∷ bs) [] = refl
 map-items_where_true f (true ∷ bs) (x ∷ xs) = ap (λ ys. f x ∷ ys) (map-items_where_true f bs xs)
 map-items_where_true f (false ∷ bs) (x ∷ xs) = map-items_where_true f bs xs
+
+-- with zeros from place n on, nothing behind the first n elements is told
+none_where_true : {A : Type 0} (bs : List Bool) (xs : List A) → ((j : ℕ) → bit bs j ≡ false) → items_where_true bs xs ≡ []
+none_where_true [] xs h = refl
+none_where_true (b ∷ bs) [] h = refl
+none_where_true (true ∷ bs) (x ∷ xs) h = let e : true ≡ false = h 0 in cc
+none_where_true (false ∷ bs) (x ∷ xs) h = none_where_true bs xs (λ j. h (suc j))
+
+pub items_where_true-zeros : {A : Type 0} (bs : List Bool) (xs ys : List A) → IsZeroFrom bs (length xs) → items_where_true bs (xs ++ ys) ≡ items_where_true bs xs
+items_where_true-zeros [] xs ys h = refl
+items_where_true-zeros (b ∷ bs) [] ys h = none_where_true (b ∷ bs) ys (λ j. h j (omega arith))
+items_where_true-zeros (true ∷ bs) (x ∷ xs) ys h = ap (λ zs. x ∷ zs) (items_where_true-zeros bs xs ys (λ k l. h (suc k) (omega arith)))
+items_where_true-zeros (false ∷ bs) (x ∷ xs) ys h = items_where_true-zeros bs xs ys (λ k l. h (suc k) (omega arith))
+
+-- coordinates past the end of a vector are 0, and no others are told
+pub items_where_true-bits : {A : Type 0} (bs cs : List Bool) (xs : List A) → ((j : ℕ) → bit bs j ≡ bit cs j) → items_where_true bs xs ≡ items_where_true cs xs
+items_where_true-bits [] cs xs h = sym (none_where_true cs xs (λ j. sym (h j)))
+items_where_true-bits (b ∷ bs) [] xs h = none_where_true (b ∷ bs) xs h
+items_where_true-bits (b ∷ bs) (c ∷ cs) [] h = refl
+items_where_true-bits (true ∷ bs) (true ∷ cs) (x ∷ xs) h = ap (λ ys. x ∷ ys) (items_where_true-bits bs cs xs (λ j. h (suc j)))
+items_where_true-bits (true ∷ bs) (false ∷ cs) (x ∷ xs) h = let e : true ≡ false = h 0 in cc
+items_where_true-bits (false ∷ bs) (true ∷ cs) (x ∷ xs) h = let e : false ≡ true = h 0 in cc
+items_where_true-bits (false ∷ bs) (false ∷ cs) (x ∷ xs) h = items_where_true-bits bs cs xs (λ j. h (suc j))
 
 -- the text of the basis element at place i
 abbrev pub text_at : List Place → List ℤ → ℤ → ℕ → List ℕ

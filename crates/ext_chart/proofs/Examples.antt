@@ -1,9 +1,14 @@
--- The differentials of tables written by hand.
+-- The texts of tables written by hand.
 use Rattle.std.proofs.Common.{◌≡◌, pos, negsuc, Bool, true, false, List, [], ◌∷◌, codes, refl}
 use Rattle.std.specs.Fmt.{digits}
+use Rattle.bidegree.specs.declared.range.Range.{Range}
+use Rattle.bidegree.specs.declared.shape.Shape.TheVariants.{Stems}
+use Rattle.bidegree.specs.LastDegrees.{last_degree}
 use Rattle.module_spec.specs.Spec.{Generator}
-use Rattle.resolution_laws.specs.Resolution.{Content}
+use Rattle.resolution_laws.specs.Resolution.{Content, generator_count}
+use Rattle.ext_chart.specs.Chart.{chart_text}
 use Rattle.ext_chart.specs.Dump.{dump_text}
+use Rattle.ext_chart.specs.Summary.{summary_text}
 
 abbrev with_images : List (List Bool) → Content
 with_images images = record { images = images; kernel = [] }
@@ -26,13 +31,29 @@ sphere_rows =
     ∷ (none ∷ none ∷ one (true ∷ []) ∷ none ∷ one (true ∷ false ∷ true ∷ false ∷ []) ∷ [])
     ∷ []
 
-sphere_1_4 : dump_text sphere 1 4 sphere_rows ≡ codes "d(0,0,0) = x0\nd(1,1,0) = Sq(1)*(0,0,0)\nd(1,2,0) = Sq(2)*(0,0,0)\nd(1,4,0) = Sq(4)*(0,0,0)\n"
+sphere_1_4 : dump_text sphere 1 (λ i. 4) sphere_rows ≡ codes "d(0,0,0) = x0\nd(1,1,0) = Sq(1)*(0,0,0)\nd(1,2,0) = Sq(2)*(0,0,0)\nd(1,4,0) = Sq(4)*(0,0,0)\n"
 unfolding digits
 sphere_1_4 = refl
 
-sphere_2_4 : dump_text sphere 2 4 sphere_rows ≡ codes "d(0,0,0) = x0\nd(1,1,0) = Sq(1)*(0,0,0)\nd(1,2,0) = Sq(2)*(0,0,0)\nd(1,4,0) = Sq(4)*(0,0,0)\nd(2,2,0) = Sq(1)*(1,1,0)\nd(2,4,0) = Sq(3)*(1,1,0) + Sq(2)*(1,2,0)\n"
+sphere_2_4 : dump_text sphere 2 (λ i. 4) sphere_rows ≡ codes "d(0,0,0) = x0\nd(1,1,0) = Sq(1)*(0,0,0)\nd(1,2,0) = Sq(2)*(0,0,0)\nd(1,4,0) = Sq(4)*(0,0,0)\nd(2,2,0) = Sq(1)*(1,1,0)\nd(2,4,0) = Sq(3)*(1,1,0) + Sq(2)*(1,2,0)\n"
 unfolding digits
 sphere_2_4 = refl
+
+-- its stems 0 to 2, in which the generator of row 1 and degree 4 is not
+abbrev stems_2 : Range
+stems_2 = record { s = 2; t = 4 }
+
+chart_in_stems : chart_text (pos 0) 2 (last_degree Stems stems_2) (generator_count sphere_rows) ≡ codes " 2 |1.1\n 1 |11.\n 0 |1..\nstems 0..2\n"
+unfolding digits
+chart_in_stems = refl
+
+dump_in_stems : dump_text sphere 2 (last_degree Stems stems_2) sphere_rows ≡ codes "d(0,0,0) = x0\nd(1,1,0) = Sq(1)*(0,0,0)\nd(1,2,0) = Sq(2)*(0,0,0)\nd(2,2,0) = Sq(1)*(1,1,0)\nd(2,4,0) = Sq(3)*(1,1,0) + Sq(2)*(1,2,0)\n"
+unfolding digits
+dump_in_stems = refl
+
+summary_in_stems : summary_text 1 (pos 0) 2 (last_degree Stems stems_2) (generator_count sphere_rows) ≡ codes "module gens 1 bottom 0\nsquares 12\ngens 5\nrow 0: 1\nrow 1: 2\nrow 2: 2\n"
+unfolding digits
+summary_in_stems = refl
 
 -- two generators of degree -1, on which no operation acts
 abbrev two : List Generator
@@ -44,7 +65,7 @@ two_rows =
     ∷ (none ∷ with_images ((true ∷ false ∷ []) ∷ (false ∷ true ∷ []) ∷ []) ∷ [])
     ∷ []
 
-two_1_1 : dump_text two 1 1 two_rows ≡ codes "d(0,-1,0) = a\nd(0,-1,1) = b\nd(1,0,0) = Sq(1)*(0,-1,0)\nd(1,0,1) = Sq(1)*(0,-1,1)\n"
+two_1_1 : dump_text two 1 (λ i. 1) two_rows ≡ codes "d(0,-1,0) = a\nd(0,-1,1) = b\nd(1,0,0) = Sq(1)*(0,-1,0)\nd(1,0,1) = Sq(1)*(0,-1,1)\n"
 unfolding digits
 two_1_1 = refl
 
@@ -58,16 +79,16 @@ c2_rows =
     ∷ (none ∷ none ∷ one (true ∷ []) ∷ one (false ∷ true ∷ []) ∷ [])
     ∷ []
 
-c2_1_3 : dump_text c2 1 3 c2_rows ≡ codes "d(0,0,0) = x0\nd(1,2,0) = Sq(2)*(0,0,0)\nd(1,3,0) = Sq(0,1)*(0,0,0)\n"
+c2_1_3 : dump_text c2 1 (λ i. 3) c2_rows ≡ codes "d(0,0,0) = x0\nd(1,2,0) = Sq(2)*(0,0,0)\nd(1,3,0) = Sq(0,1)*(0,0,0)\n"
 unfolding digits
 c2_1_3 = refl
 
 -- an image of no term
-empty_image : dump_text sphere 0 0 ((one (false ∷ []) ∷ []) ∷ []) ≡ codes "d(0,0,0) = \n"
+empty_image : dump_text sphere 0 (λ i. 0) ((one (false ∷ []) ∷ []) ∷ []) ≡ codes "d(0,0,0) = \n"
 unfolding digits
 empty_image = refl
 
 -- no generator, no line
-no_generator : dump_text sphere 1 1 ((one (true ∷ []) ∷ none ∷ []) ∷ (none ∷ none ∷ []) ∷ []) ≡ codes "d(0,0,0) = x0\n"
+no_generator : dump_text sphere 1 (λ i. 1) ((one (true ∷ []) ∷ none ∷ []) ∷ (none ∷ none ∷ []) ∷ []) ≡ codes "d(0,0,0) = x0\n"
 unfolding digits
 no_generator = refl

@@ -8,5 +8,6 @@ mod ImageWidths
 mod ProductSteps
 pub mod RowSteps
 pub mod Seen
+pub mod Stems
 pub mod Targets
 mod SummarySteps

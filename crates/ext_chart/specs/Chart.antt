@@ -18,20 +18,22 @@ row_label s = if nat_lt s 10 then 32 ∷ decimal s else decimal s
 abbrev pub count_marks : (ℕ → ℕ → ℕ) → ℕ → ℕ → ℕ
 count_marks count s k = mark (count s k)
 
--- The line of row s. The stem of square (s, k) is k - s above the bottom, so the row's first mark is for k = s. marks s k is the
+-- The line of row s through degree t. The stem of square (s, k) is k - s above the bottom, so the row's first mark is for k = s. marks s k is the
 -- mark of the square (s, k).
 abbrev pub row_line : (ℕ → ℕ → ℕ) → ℕ → ℕ → List ℕ
 row_line marks t s = row_label s ++ (codes " |" ++ (map (marks s) (range_with_len s (t + 1 - s)) ++ newline))
 
--- the lines of the rows below n, the greatest first
-abbrev pub row_lines : (ℕ → ℕ → ℕ) → ℕ → ℕ → List ℕ
-row_lines marks t zero = []
-row_lines marks t (suc n) = row_line marks t n ++ row_lines marks t n
+-- the lines of the rows below n, the greatest first, where last i is the last degree of row i
+abbrev pub row_lines : (ℕ → ℕ → ℕ) → (ℕ → ℕ) → ℕ → List ℕ
+row_lines marks last zero = []
+row_lines marks last (suc n) = row_line marks (last n) n ++ row_lines marks last n
 
+-- stems 0 to n above the bottom
 abbrev pub stems_line : ℤ → ℕ → List ℕ
-stems_line bottom t =
-    codes "stems " ++ (signed_decimal bottom ++ (codes ".." ++ (signed_decimal (bottom +ℤ pos t) ++ newline)))
+stems_line bottom n =
+    codes "stems " ++ (signed_decimal bottom ++ (codes ".." ++ (signed_decimal (bottom +ℤ pos n) ++ newline)))
 
--- the chart of rows 0 to s through degree bottom + t, where count s k is the number of generators of the square (s, k)
-abbrev pub chart_text : ℤ → ℕ → ℕ → (ℕ → ℕ → ℕ) → List ℕ
-chart_text bottom s t count = row_lines (count_marks count) t (s + 1) ++ stems_line bottom t
+-- The chart of rows 0 to s, each through its last degree. count i k is the number of generators of the square (i, k). In row 0
+-- the degree of a square is its stem.
+abbrev pub chart_text : ℤ → ℕ → (ℕ → ℕ) → (ℕ → ℕ → ℕ) → List ℕ
+chart_text bottom s last count = row_lines (count_marks count) last (s + 1) ++ stems_line bottom (last 0)

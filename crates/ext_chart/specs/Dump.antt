@@ -66,6 +66,6 @@ square_text gs table s k = square_lines (image_text gs table s (bottom gs +ℤ p
 abbrev pub row_text : List Generator → List (List Content) → ℕ → ℕ → List ℕ
 row_text gs table t s = flat_map (square_text gs table s) (range_with_len 0 (t + 1))
 
--- the differentials of rows 0 to s through degree bottom + t
-abbrev pub dump_text : List Generator → ℕ → ℕ → List (List Content) → List ℕ
-dump_text gs s t table = flat_map (row_text gs table t) (range_with_len 0 (s + 1))
+-- the differentials of rows 0 to s, where last i is the last degree of row i above the bottom
+abbrev pub dump_text : List Generator → ℕ → (ℕ → ℕ) → List (List Content) → List ℕ
+dump_text gs s last table = flat_map (λ i. row_text gs table (last i) i) (range_with_len 0 (s + 1))

@@ -6,10 +6,10 @@ use Rattle.ext_chart.specs.Summary.{square_count}
 abbrev pub migrated_line : List ℕ
 migrated_line = codes "migrated\n"
 
--- how many squares rows 0 to s have through degree bottom + t, all of which were verified
-abbrev pub verified_line : ℕ → ℕ → List ℕ
-verified_line s t = codes "verified " ++ (decimal (square_count s t) ++ codes " squares\n")
+-- how many squares rows 0 to s have through their last degrees, all of which were verified
+abbrev pub verified_line : ℕ → (ℕ → ℕ) → List ℕ
+verified_line s last = codes "verified " ++ (decimal (square_count s last) ++ codes " squares\n")
 
--- The chart, and that line. count s k is the number of generators of the square (s, k).
-abbrev pub verified_text : ℤ → ℕ → ℕ → (ℕ → ℕ → ℕ) → List ℕ
-verified_text bottom s t count = chart_text bottom s t count ++ verified_line s t
+-- The chart, and that line. count i k is the number of generators of the square (i, k).
+abbrev pub verified_text : ℤ → ℕ → (ℕ → ℕ) → (ℕ → ℕ → ℕ) → List ℕ
+verified_text bottom s last count = chart_text bottom s last count ++ verified_line s last

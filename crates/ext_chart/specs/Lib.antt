@@ -1,3 +1,4 @@
+pub mod Alike
 pub mod Chart
 pub mod Check
 pub mod Classes

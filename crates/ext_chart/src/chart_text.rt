@@ -1,6 +1,7 @@
 //! The chart of a resolution as text.
 ghost use Rattle.std.specs.Prelude.{◌≡◌, ℕ, ◌+◌, ◌-◌, ◌<◌, ◌≤◌, pos, ◌+ℤ◌, ◌≤ℤ◌, IfOk, length, map};
 ghost use Rattle.std.specs.List.{range_with_len};
+ghost use Rattle.bidegree.specs.LastDegrees.{last_degree};
 ghost use Rattle.finite_module.specs.Module.{bottom};
 ghost use Rattle.resolution_laws.specs.Resolution.{row_of, generator_count};
 ghost use Rattle.ext_chart.specs.Chart.{mark, row_label, count_marks, row_line, row_lines, stems_line, chart_text};
@@ -8,7 +9,7 @@ ghost use Rattle.square.specs.Squares.{bottom_of};
 ghost use Rattle.ext_chart.specs.Seen.{IsSeenThrough};
 
 use crate::shown::Shown;
-use bidegree::Range;
+use bidegree::{Range, Shape};
 use itoa::Buffer;
 use memory::Memory;
 use std::alloc::Global;
@@ -68,48 +69,63 @@ fn row_line<R: Shown>(alloc: Global, table: &R, s: u16, t: u16) -> Result<Vec<u8
 }
 
 /// The lines of the rows of the range, the greatest first.
-fn row_lines<R: Shown>(alloc: Global, table: &R, range: Range) -> Result<Vec<u8>, Memory>
-    requires { IsSeenThrough range (R.seen table.now).rows }
-    ensures { IfOk result (λ text. text.items
-        ≡ row_lines (count_marks (generator_count (R.seen table.now).rows)) range.t (range.s + 1)) }
+fn row_lines<R: Shown>(
+    alloc: Global,
+    table: &R,
+    range: Range,
+    shape: Shape,
+) -> Result<Vec<u8>, Memory>
+    requires { IsSeenThrough range shape (R.seen table.now).rows }
+    ensures { IfOk result (λ text. text.items ≡ row_lines (count_marks (generator_count (R.seen table.now).rows))
+        (last_degree shape range) (range.s + 1)) }
 {
     let mut text = Vec::new(alloc);
     for i in 0..=range.s {
-        let line = row_line(alloc, table, range.s - i, range.t)?;
+        let s = range.s - i;
+        let line = row_line(alloc, table, s, shape.last_degree(range, s))?;
         text.extend_from_slice(line.as_slice())?;
     }
     Ok(text)
 }
 
-/// The line that says which stems a chart through `t` degrees above the bottom has.
+/// The line that says that a chart has stems 0 to `n` above the bottom.
 ///
 /// # Errors
 /// `Memory` if allocation fails.
-pub fn stems_line(alloc: Global, bottom: i32, t: u16) -> Result<Vec<u8>, Memory>
-    requires { (bottom +ℤ pos t) ≤ℤ pos 2147483647 }
-    ensures { IfOk result (λ line. line.items ≡ stems_line bottom t) }
+pub fn stems_line(alloc: Global, bottom: i32, n: u16) -> Result<Vec<u8>, Memory>
+    requires { (bottom +ℤ pos n) ≤ℤ pos 2147483647 }
+    ensures { IfOk result (λ line. line.items ≡ stems_line bottom n) }
 {
     let mut buffer = Buffer::new();
     let mut line = Vec::from_slice(alloc, b"stems ")?;
     line.extend_from_slice(buffer.format(bottom).as_bytes())?;
     line.extend_from_slice(b"..")?;
-    line.extend_from_slice(buffer.format(bottom + i32::from(t)).as_bytes())?;
+    line.extend_from_slice(buffer.format(bottom + i32::from(n)).as_bytes())?;
     line.push(b'\n')?;
     Ok(line)
 }
 
-/// The chart of the rows of the table through the range: a line for each row, the greatest first, in it a mark for each
-/// stem, and last the line of the stems.
+/// The chart of the rows of the table through the range, in this shape: a line for each row, the greatest first, in it a
+/// mark for each stem, and last the line of the stems.
 ///
 /// # Errors
 /// `Memory` if allocation fails.
-pub fn chart<R: Shown>(alloc: Global, table: &R, range: Range) -> Result<Vec<u8>, Memory>
-    requires { IsSeenThrough range (R.seen table.now).rows }
-    ensures { IfOk result (λ text. text.items ≡ chart_text (bottom_of (R.seen table.now).resolved) range.s range.t
-        (generator_count (R.seen table.now).rows)) }
+pub fn chart<R: Shown>(
+    alloc: Global,
+    table: &R,
+    range: Range,
+    shape: Shape,
+) -> Result<Vec<u8>, Memory>
+    requires { IsSeenThrough range shape (R.seen table.now).rows }
+    ensures { IfOk result (λ text. text.items ≡ chart_text (bottom_of (R.seen table.now).resolved) range.s
+        (last_degree shape range) (generator_count (R.seen table.now).rows)) }
 {
-    let mut text = row_lines(alloc, table, range)?;
-    let stems = stems_line(alloc, table.module().bottom(), range.t)?;
+    let mut text = row_lines(alloc, table, range, shape)?;
+    let stems = stems_line(
+        alloc,
+        table.module().bottom(),
+        shape.last_degree(range, 0),
+    )?;
     text.extend_from_slice(stems.as_slice())?;
     Ok(text)
 }

@@ -1,5 +1,6 @@
 //! The differentials of a resolution as text.
 ghost use Rattle.std.specs.Prelude.{◌≡◌, ◌<◌, length, IfOk};
+ghost use Rattle.bidegree.specs.LastDegrees.{last_degree};
 ghost use Rattle.resolution_laws.specs.Resolution.{row_of};
 ghost use Rattle.ext_chart.specs.Dump.{square_text, row_text, dump_text};
 ghost use Rattle.ext_chart.specs.Inside.Targets.{IsTargetOf};
@@ -8,23 +9,28 @@ ghost use Rattle.ext_chart.specs.Seen.{IsSeenThrough};
 use crate::lines::square_lines;
 use crate::named_target::NamedTarget;
 use crate::shown::{Shown, degree};
-use bidegree::Range;
+use bidegree::{Range, Shape};
 use memory::Memory;
 use std::alloc::Global;
 
-/// The differentials of the rows of the table through the range: a line for each generator, row by row, in a row by
-/// degree, and in a degree by number.
+/// The differentials of the rows of the table through the range, in this shape: a line for each generator, row by row, in a
+/// row by degree, and in a degree by number.
 ///
 /// # Errors
 /// `Memory` if allocation fails.
-pub fn dump<R: Shown>(alloc: Global, table: &R, range: Range) -> Result<Vec<u8>, Memory>
-    requires { IsSeenThrough range (R.seen table.now).rows }
-    ensures { IfOk result (λ text. text.items
-        ≡ dump_text (R.seen table.now).resolved.plain.generators range.s range.t (R.seen table.now).rows) }
+pub fn dump<R: Shown>(
+    alloc: Global,
+    table: &R,
+    range: Range,
+    shape: Shape,
+) -> Result<Vec<u8>, Memory>
+    requires { IsSeenThrough range shape (R.seen table.now).rows }
+    ensures { IfOk result (λ text. text.items ≡ dump_text (R.seen table.now).resolved.plain.generators range.s
+        (last_degree shape range) (R.seen table.now).rows) }
 {
     let mut text = Vec::new(alloc);
     for s in 0..=range.s {
-        let lines = row_text(alloc, table, s, range.t)?;
+        let lines = row_text(alloc, table, s, shape.last_degree(range, s))?;
         text.extend_from_slice(lines.as_slice())?;
     }
     Ok(text)

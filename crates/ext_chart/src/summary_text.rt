@@ -1,13 +1,14 @@
 //! The summary of a resolution as text.
 ghost use Rattle.std.specs.Prelude.{◌≡◌, ◌+◌, ◌<◌, length, IfOk};
 ghost use Rattle.std.specs.List.{sum};
+ghost use Rattle.bidegree.specs.LastDegrees.{last_degree};
 ghost use Rattle.resolution_laws.specs.Resolution.{row_of, generator_count};
 ghost use Rattle.ext_chart.specs.Summary.{row_total, row_totals, module_line, square_count, squares_line, gens_line, total_line, total_lines, summary_text};
 ghost use Rattle.square.specs.Squares.{bottom_of};
 ghost use Rattle.ext_chart.specs.Seen.{IsSeenThrough};
 
 use crate::shown::Shown;
-use bidegree::Range;
+use bidegree::{Range, Shape};
 use itoa::Buffer;
 use memory::Memory;
 use std::alloc::Global;
@@ -30,14 +31,19 @@ fn row_total<R: Shown>(table: &R, s: u16, t: u16) -> Result<usize, Memory>
 }
 
 /// How many generators each row of the range has, from row 0 up.
-fn row_totals<R: Shown>(alloc: Global, table: &R, range: Range) -> Result<Vec<usize>, Memory>
-    requires { IsSeenThrough range (R.seen table.now).rows }
-    ensures { IfOk result
-        (λ totals. totals.items ≡ row_totals (generator_count (R.seen table.now).rows) range.s range.t) }
+fn row_totals<R: Shown>(
+    alloc: Global,
+    table: &R,
+    range: Range,
+    shape: Shape,
+) -> Result<Vec<usize>, Memory>
+    requires { IsSeenThrough range shape (R.seen table.now).rows }
+    ensures { IfOk result (λ totals. totals.items
+        ≡ row_totals (generator_count (R.seen table.now).rows) range.s (last_degree shape range)) }
 {
     let mut totals = Vec::new(alloc);
     for s in 0..=range.s {
-        totals.push(row_total(table, s, range.t)?)?;
+        totals.push(row_total(table, s, shape.last_degree(range, s))?)?;
     }
     Ok(totals)
 }
@@ -70,20 +76,24 @@ fn module_line(alloc: Global, gens: usize, bottom: i32) -> Result<Vec<u8>, Memor
     Ok(line)
 }
 
-/// How many squares the range has.
-pub(crate) fn square_count(range: Range) -> u64
-    ensures { result ≡ square_count range.s range.t }
+/// How many squares the range has in this shape.
+pub(crate) fn square_count(range: Range, shape: Shape) -> u64
+    ensures { result ≡ square_count range.s (last_degree shape range) }
 {
-    (u64::from(range.s) + 1) * (u64::from(range.t) + 1)
+    let mut count: u64 = 0;
+    for s in 0..=range.s {
+        count += u64::from(shape.last_degree(range, s)) + 1;
+    }
+    count
 }
 
 /// The line on the squares of the range.
-fn squares_line(alloc: Global, range: Range) -> Result<Vec<u8>, Memory>
-    ensures { IfOk result (λ line. line.items ≡ squares_line range.s range.t) }
+fn squares_line(alloc: Global, range: Range, shape: Shape) -> Result<Vec<u8>, Memory>
+    ensures { IfOk result (λ line. line.items ≡ squares_line range.s (last_degree shape range)) }
 {
     let mut buffer = Buffer::new();
     let mut line = Vec::from_slice(alloc, b"squares ")?;
-    line.extend_from_slice(buffer.format(square_count(range)).as_bytes())?;
+    line.extend_from_slice(buffer.format(square_count(range, shape)).as_bytes())?;
     line.push(b'\n')?;
     Ok(line)
 }
@@ -124,21 +134,26 @@ fn total_lines(alloc: Global, totals: &[usize]) -> Result<Vec<u8>, Memory>
     Ok(text)
 }
 
-/// The summary of the rows of the table through the range: a line each on the module, on the squares of the range, on their
+/// The summary of the rows of the table through the range, in this shape: a line each on the module, on the squares of the range, on their
 /// generators, and on the generators of each row, from row 0 on.
 ///
 /// # Errors
 /// `Memory` if allocation fails.
-pub fn summary<R: Shown>(alloc: Global, table: &R, range: Range) -> Result<Vec<u8>, Memory>
-    requires { IsSeenThrough range (R.seen table.now).rows }
-    ensures { IfOk result
-        (λ text. text.items ≡ summary_text (length (R.seen table.now).resolved.plain.generators)
-        (bottom_of (R.seen table.now).resolved) range.s range.t (generator_count (R.seen table.now).rows)) }
+pub fn summary<R: Shown>(
+    alloc: Global,
+    table: &R,
+    range: Range,
+    shape: Shape,
+) -> Result<Vec<u8>, Memory>
+    requires { IsSeenThrough range shape (R.seen table.now).rows }
+    ensures { IfOk result (λ text. text.items ≡ summary_text (length (R.seen table.now).resolved.plain.generators)
+        (bottom_of (R.seen table.now).resolved) range.s (last_degree shape range)
+        (generator_count (R.seen table.now).rows)) }
 {
-    let totals = row_totals(alloc, table, range)?;
+    let totals = row_totals(alloc, table, range, shape)?;
     let module = table.module();
     let mut text = module_line(alloc, module.count(), module.bottom())?;
-    let squares = squares_line(alloc, range)?;
+    let squares = squares_line(alloc, range, shape)?;
     let gens = gens_line(alloc, sum(totals.as_slice())?)?;
     let rows = total_lines(alloc, totals.as_slice())?;
     text.extend_from_slice(squares.as_slice())?;

@@ -44,13 +44,13 @@ use Rattle.ext_build.proofs.BuildAnswers.{build_answer_exists}
 use Rattle.ext_run.specs.declared.plan.Origin.{Origin}
 use Rattle.ext_run.specs.declared.plan.Origin.TheVariants.{Sphere, Sample, File as OfFile}
 use Rattle.ext_run.specs.declared.plan.Form.{Form}
-use Rattle.ext_run.specs.declared.plan.Form.TheVariants.{Chart, Differentials, Summary, Products as ProductsOf, Bracket as BracketOf}
+use Rattle.ext_run.specs.declared.plan.Form.TheVariants.{Squares, Products as ProductsOf, Bracket as BracketOf}
 use Rattle.ext_run.specs.declared.plan.Plan.{Plan}
 use Rattle.ext_run.specs.declared.plan.Plan.TheVariants.{Resolve, Check, Build, Multiply, Migrate, Verify}
 use Rattle.ext_run.specs.declared.task.Task.{Task}
 use Rattle.ext_run.specs.declared.task.Task.TheVariants.{Text, Resolution, Migration, Verification}
 use Rattle.ext_run.specs.Plan.{asked_by, IsRead, PlanReads, Reads}
-use Rattle.ext_run.specs.Forms.{IsResolved, IsReadOff, IsVerifiedChart, chart_of, verified_of, dump_of, summary_of, IsText, IsToldOfClasses, told_of_classes, IsInForm}
+use Rattle.ext_run.specs.Forms.{IsResolved, IsReadOff, IsVerifiedChart, sheet_of, verified_of, IsText, IsToldOfClasses, told_of_classes, IsInForm}
 use Rattle.ext_run.specs.Answer.{IsLineOn, IsMigrated, IsProduct, ModuleAnswers, IsModuleAnswer, IsAnswerAt, IsAnswerTo, IsAskedAnswer}
 use Rattle.ext_run.specs.Task.{HasItsAnswer}
 use Rattle.ext_run.specs.Existence.{AnswerExists}
@@ -124,9 +124,7 @@ classes_exist laws IsToldOf range tells m is order =
     (told_of_classes told.0, record { table = table.0; resolved = table.1; sphere = sphere.0; sphere_resolved = sphere.1; told = told.0; is_told = told.1; is = refl })
 
 form_exists : Laws → (form : Form) (range : Range) → Makes (IsInForm form range)
-form_exists laws Chart range = read_off_exists laws.tables (chart_of range) range
-form_exists laws Differentials range = read_off_exists laws.tables (dump_of range) range
-form_exists laws Summary range = read_off_exists laws.tables (summary_of range) range
+form_exists laws (Squares sheet shape) range = read_off_exists laws.tables (sheet_of sheet shape range) range
 form_exists laws (ProductsOf by) range = classes_exist laws.tables (IsProductsAnswer range by) range (laws.products range by)
 form_exists laws (BracketOf a b c) range = classes_exist laws.tables (IsBracketAnswer range a b c) range (laws.brackets range a b c)
 

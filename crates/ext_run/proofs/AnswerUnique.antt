@@ -30,10 +30,10 @@ use Rattle.ext_build.proofs.BuildAnswers.{build_answer_unique}
 use Rattle.ext_run.specs.declared.plan.Origin.{Origin}
 use Rattle.ext_run.specs.declared.plan.Origin.TheVariants.{Sphere, Sample, File as OfFile}
 use Rattle.ext_run.specs.declared.plan.Form.{Form}
-use Rattle.ext_run.specs.declared.plan.Form.TheVariants.{Chart, Differentials, Summary, Products, Bracket}
+use Rattle.ext_run.specs.declared.plan.Form.TheVariants.{Squares, Products, Bracket}
 use Rattle.ext_run.specs.declared.plan.Plan.{Plan}
 use Rattle.ext_run.specs.declared.plan.Plan.TheVariants.{Resolve, Check, Build, Multiply, Migrate, Verify}
-use Rattle.ext_run.specs.Forms.{IsReadOff, IsVerifiedChart, chart_of, verified_of, dump_of, summary_of, IsText, IsToldOfClasses, told_of_classes, IsInForm}
+use Rattle.ext_run.specs.Forms.{IsReadOff, IsVerifiedChart, sheet_of, verified_of, IsText, IsToldOfClasses, told_of_classes, IsInForm}
 use Rattle.ext_run.specs.Plan.{asked_by}
 use Rattle.ext_run.specs.Answer.{IsLineOn, IsMigrated, IsProduct, ModuleAnswers, IsAnswerOfFile, IsModuleAnswer, IsAnswerAt, IsAnswerTo, IsAskedAnswer, AnswerIsUnique}
 
@@ -69,9 +69,7 @@ one-text IsTextOf texts m (Ok x) (Err e) p q = absurd q
 one-text IsTextOf texts m (Err e) b p q = absurd p
 
 form_unique : (form : Form) (range : Range) → IsOne (IsInForm form range)
-form_unique Chart range = one-text (IsReadOff (chart_of range) range) (read_off_unique (chart_of range) range)
-form_unique Differentials range = one-text (IsReadOff (dump_of range) range) (read_off_unique (dump_of range) range)
-form_unique Summary range = one-text (IsReadOff (summary_of range) range) (read_off_unique (summary_of range) range)
+form_unique (Squares sheet shape) range = one-text (IsReadOff (sheet_of sheet shape range) range) (read_off_unique (sheet_of sheet shape range) range)
 form_unique (Products by) range = classes-unique range (IsProductsAnswer range by) (answers-unique range by)
 form_unique (Bracket a b c) range = classes-unique range (IsBracketAnswer range a b c) (bracket-answers-unique row_basis_unique range a b c)
 

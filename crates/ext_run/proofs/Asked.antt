@@ -35,13 +35,13 @@ use Rattle.ext_build.proofs.BuildAnswers.{build_fits}
 use Rattle.ext_run.specs.declared.plan.Origin.{Origin}
 use Rattle.ext_run.specs.declared.plan.Origin.TheVariants.{Sphere, Sample, File as OfFile}
 use Rattle.ext_run.specs.declared.plan.Form.{Form}
-use Rattle.ext_run.specs.declared.plan.Form.TheVariants.{Chart, Differentials, Summary, Products, Bracket}
+use Rattle.ext_run.specs.declared.plan.Form.TheVariants.{Squares, Products, Bracket}
 use Rattle.ext_run.specs.declared.plan.Plan.{Plan}
 use Rattle.ext_run.specs.declared.plan.Plan.TheVariants.{Resolve, Check, Build, Multiply, Migrate, Verify}
 use Rattle.ext_run.specs.declared.task.Task.{Task}
 use Rattle.ext_run.specs.declared.task.Task.TheVariants.{Text, Resolution, Migration, Verification}
 use Rattle.ext_run.specs.Plan.{IsModuleIn, IsModuleAt, IsModuleOf, IsModuleFor, PlanReads, Reads}
-use Rattle.ext_run.specs.Forms.{IsReadOff, IsVerifiedChart, chart_of, dump_of, summary_of, IsText, IsToldOfClasses, told_of_classes, IsInForm}
+use Rattle.ext_run.specs.Forms.{IsReadOff, IsVerifiedChart, sheet_of, IsText, IsToldOfClasses, told_of_classes, IsInForm}
 use Rattle.ext_run.specs.Answer.{IsLineOn, IsMigrated, ModuleAnswers, IsAnswerOfFile, IsModuleAnswer, IsAnswerAt, IsAnswerTo, IsAskedAnswer}
 use Rattle.ext_run.specs.Task.{IsDoneBy}
 
@@ -62,9 +62,7 @@ classes_told : (range : Range) (IsToldOf : Resolved → Resolved → Result (Lis
 classes_told range IsToldOf m answer p = subst IsTold (sym p.is) (one_told p.told)
 
 form_told : (form : Form) (range : Range) → OnlyTold (IsInForm form range)
-form_told Chart range = text_told (IsReadOff (chart_of range) range)
-form_told Differentials range = text_told (IsReadOff (dump_of range) range)
-form_told Summary range = text_told (IsReadOff (summary_of range) range)
+form_told (Squares sheet shape) range = text_told (IsReadOff (sheet_of sheet shape range) range)
 form_told (Products by) range = classes_told range (IsProductsAnswer range by)
 form_told (Bracket a b c) range = classes_told range (IsBracketAnswer range a b c)
 

@@ -3,19 +3,25 @@ use Rattle.std.proofs.Common.{◌≡◌, ℕ, ◌+◌, ◌⊎◌, inl, inr, List
 use Rattle.std.proofs.lemmas.List.{take-take}
 use Rattle.resolution_laws.specs.Resolution.{Content, IsCanonicalTable, row_of}
 use Rattle.lift_laws.specs.Lifts.{Resolution}
-use Rattle.square.specs.Squares.{bottom_of, module_over}
+use Rattle.square.specs.Squares.{module_over}
 use Rattle.square.specs.Tables.{Staircase, plain_rows, IsThrough, cut}
 use Rattle.resolution_step.proofs.Canonical.{row_of-cut}
-use Rattle.ext_chart.proofs.Agreement.{AgreeThrough, chart_text-agree, dump_text-agree, summary_text-agree}
+use Rattle.ext_chart.specs.Alike.{AreToldAlike}
+use Rattle.ext_chart.proofs.Agreement.{AgreeThrough, agreeing_alike, chart_text-alike, dump_text-alike, summary_text-alike}
+use Rattle.ext_chart.proofs.Seen.{last_within}
 use Rattle.std.specs.Prelude.{◌≢◌, Result, Err}
 use Rattle.bidegree.specs.declared.range.Range.{Range}
-use Rattle.finite_module.specs.Module.{Module}
+use Rattle.bidegree.specs.declared.shape.Shape.{Shape}
+use Rattle.bidegree.specs.LastDegrees.{last_degree}
+use Rattle.finite_module.specs.Module.{Module, bottom}
 use Rattle.finite_module.specs.Checked.{sphere_file}
 use Rattle.finite_module.specs.DerivedAction.{derived_module}
 use Rattle.ext_products.specs.declared.refusal.Refusal.{Refusal}
 use Rattle.ext_products.specs.Products.{resolution, Telling, IsAnswerIn}
 use Rattle.chain_map.specs.Classes.{through}
-use Rattle.ext_run.specs.Forms.{IsResolved, IsReadOff, chart_of, dump_of, summary_of, IsToldOfClasses, told_of_classes, IsRefusedOver, IsRefusalWith}
+use Rattle.ext_run.specs.declared.plan.Sheet.{Sheet}
+use Rattle.ext_run.specs.declared.plan.Sheet.TheVariants.{Chart, Differentials, Summary}
+use Rattle.ext_run.specs.Forms.{IsResolved, IsReadOff, sheet_of, IsToldOfClasses, told_of_classes, IsRefusedOver, IsRefusalWith}
 use Rattle.ext_products.specs.declared.refusal.ClassesFault.{ClassesFault}
 use Rattle.ext_products.specs.declared.refusal.ClassesFault.TheVariants.{Refused, Memory as NoSpace}
 use Rattle.ext_report.specs.declared.failure.Failure.TheVariants.{Memory}
@@ -29,19 +35,22 @@ cut-agrees range table holds i h =
     let rows = plain_rows table.rows in
     sym (take-take (range.t + 1) (range.t + 1) (row_of rows i) (omega arith)) ∙ ap (take (range.t + 1)) (sym (row_of-cut range table.rows holds i h))
 
--- what reads the same off tables that agree through the range
-read_off : (text_of : Module → List (List Content) → List ℕ) (range : Range) (table : Staircase) (text : List ℕ) → IsResolved range table.resolved.plain (cut range (plain_rows table.rows)) → text ≡ text_of table.resolved.plain (plain_rows table.rows) → text_of table.resolved.plain (plain_rows table.rows) ≡ text_of table.resolved.plain (cut range (plain_rows table.rows)) → IsReadOff text_of range table.resolved.plain text
-read_off text_of range table text resolved is alike = record { table = cut range (plain_rows table.rows); resolved = resolved; is = is ∙ alike }
+-- the sheets of squares that are told alike are the same
+pub sheet_alike : (sheet : Sheet) (shape : Shape) (range : Range) (m : Module) (a b : List (List Content)) → AreToldAlike m.generators range.s (last_degree shape range) a b → sheet_of sheet shape range m a ≡ sheet_of sheet shape range m b
+sheet_alike Chart shape range m a b h = chart_text-alike m.generators range.s (last_degree shape range) a b h (bottom m.generators)
+sheet_alike Differentials shape range m a b h = dump_text-alike m.generators range.s (last_degree shape range) a b h
+sheet_alike Summary shape range m a b h = summary_text-alike m.generators range.s (last_degree shape range) a b h (length m.generators) (bottom m.generators)
 
-module _ (range : Range) (table : Staircase) (text : List ℕ) (resolved : IsResolved range table.resolved.plain (cut range (plain_rows table.rows))) (through : IsThrough range table.rows) where
-  pub is_chart : text ≡ chart_of range table.resolved.plain (plain_rows table.rows) → IsReadOff (chart_of range) range table.resolved.plain text
-  is_chart is = read_off (chart_of range) range table text resolved is (chart_text-agree range.s range.t _ _ (cut-agrees range table through) (bottom_of table.resolved))
+pub cut_alike : (shape : Shape) (range : Range) (table : Staircase) → IsThrough range table.rows → AreToldAlike table.resolved.plain.generators range.s (last_degree shape range) (plain_rows table.rows) (cut range (plain_rows table.rows))
+cut_alike shape range table through =
+    agreeing_alike range.s range.t (plain_rows table.rows) (cut range (plain_rows table.rows)) (cut-agrees range table through) table.resolved.plain.generators (last_degree shape range) (last_within range shape)
 
-  pub is_dump : text ≡ dump_of range table.resolved.plain (plain_rows table.rows) → IsReadOff (dump_of range) range table.resolved.plain text
-  is_dump is = read_off (dump_of range) range table text resolved is (dump_text-agree range.s range.t _ _ (cut-agrees range table through) table.resolved.plain.generators)
-
-  pub is_summary : text ≡ summary_of range table.resolved.plain (plain_rows table.rows) → IsReadOff (summary_of range) range table.resolved.plain text
-  is_summary is = read_off (summary_of range) range table text resolved is (summary_text-agree range.s range.t _ _ (cut-agrees range table through) (length table.resolved.plain.generators) (bottom_of table.resolved))
+pub is_sheet : (sheet : Sheet) (shape : Shape) (range : Range) (table : Staircase) (text : List ℕ) → IsResolved range table.resolved.plain (cut range (plain_rows table.rows)) → IsThrough range table.rows → text ≡ sheet_of sheet shape range table.resolved.plain (plain_rows table.rows) → IsReadOff (sheet_of sheet shape range) range table.resolved.plain text
+is_sheet sheet shape range table text resolved through is = record {
+  table = cut range (plain_rows table.rows);
+  resolved = resolved;
+  is = is ∙ sheet_alike sheet shape range table.resolved.plain (plain_rows table.rows) (cut range (plain_rows table.rows)) (cut_alike shape range table through);
+}
 
 -- what is told of a table's classes is told of the canonical resolutions
 pub is_told_of_classes : TableLaws → (IsToldOf : Resolution → Resolution → Result (List ℕ) Refusal → Type 0) (range : Range) (table : Staircase) (told : Result (List ℕ) Refusal) → IsResolved range table.resolved.plain (cut range (plain_rows table.rows))

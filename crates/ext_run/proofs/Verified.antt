@@ -4,6 +4,8 @@ use Rattle.std.specs.Prelude.{Ok, Err, IfOk, IfErr, OnOk, IfSome}
 use Rattle.std.specs.Option.{option_map}
 use Rattle.std.proofs.lemmas.Option.{slice_get_within}
 use Rattle.bidegree.specs.declared.range.Range.{Range}
+use Rattle.bidegree.specs.declared.shape.Shape.TheVariants.{Rectangle}
+use Rattle.bidegree.specs.LastDegrees.{last_degree}
 use Rattle.edge.specs.Disk.{LeavesOnly}
 use Rattle.finite_module.specs.Checked.{Checked}
 use Rattle.finite_module.specs.Graded.{ModulesAreSteenrodModules}
@@ -19,7 +21,7 @@ use Rattle.save_file.specs.Files.{digest_of, standing_of}
 use Rattle.save_file.specs.Saved.{kept_of_table}
 use Rattle.save_file.specs.Saving.{SaveState, TakesSquares, quasis_in}
 use Rattle.ext_chart.specs.Files.{verified_line}
-use Rattle.ext_chart.proofs.Agreement.{chart_text-agree, chart_text-counts}
+use Rattle.ext_chart.proofs.Agreement.{chart_text-alike, chart_text-counts}
 use Rattle.ext_report.specs.declared.failure.Failure.{Failure}
 use Rattle.ext_report.specs.declared.failure.Failure.TheVariants.{Saving, Certificate, Memory}
 use Rattle.ext_report.specs.Failure.{IsOfClasses}
@@ -33,7 +35,7 @@ use Rattle.ext_run.specs.Work.{Told, HasAnswer, answer_of, IsCertificateRefusal,
 use Rattle.ext_run.proofs.Certificates.{certificate_decided}
 use Rattle.ext_run.proofs.Lasting.{at_some, AreDisks}
 use Rattle.ext_run.proofs.Continuing.{resolved_by}
-use Rattle.ext_run.proofs.Resolved.{cut-agrees}
+use Rattle.ext_run.proofs.Resolved.{cut_alike}
 use Rattle.ext_run.proofs.KeptOn.{IsToldBy, WhyTaken, records_left, start_is, used_on}
 use Rattle.ext_run.proofs.TakenUp.{taken_up_as, stays_if_whole}
 
@@ -55,9 +57,9 @@ is_verified minimal modules range table text through counts is = record {
   table = counts.canonical;
   resolved = resolved_by minimal modules range table.resolved counts.canonical counts.is_canonical;
   is = is
-      ∙ ap (λ (z : List ℕ). z ++ verified_line range.s range.t)
-      (chart_text-agree range.s range.t _ _ (cut-agrees range table through) (bottom_of table.resolved)
-      ∙ chart_text-counts range.s range.t (generator_count (part_of table range)) (generator_count counts.canonical) counts.counts (bottom_of table.resolved));
+      ∙ ap (λ (z : List ℕ). z ++ verified_line range.s (last_degree Rectangle range))
+      (chart_text-alike table.resolved.plain.generators range.s (last_degree Rectangle range) _ _ (cut_alike Rectangle range table through) (bottom_of table.resolved)
+      ∙ chart_text-counts range.s (last_degree Rectangle range) (generator_count (part_of table range)) (generator_count counts.canonical) counts.counts (bottom_of table.resolved));
 }
 
 -- ---- the answer

@@ -1,6 +1,9 @@
 -- What is told of a module's canonical resolution, in each form.
 use Rattle.std.specs.Prelude.{◌≡◌, ℕ, List, length, IsOkAnd, Result, Ok, Err}
 use Rattle.bidegree.specs.declared.range.Range.{Range}
+use Rattle.bidegree.specs.declared.shape.Shape.{Shape}
+use Rattle.bidegree.specs.declared.shape.Shape.TheVariants.{Rectangle}
+use Rattle.bidegree.specs.LastDegrees.{last_degree}
 use Rattle.finite_module.specs.Module.{Module as SteenrodModule, bottom}
 use Rattle.finite_module.specs.DerivedAction.{derived_module}
 use Rattle.finite_module.specs.Checked.{sphere_file}
@@ -16,8 +19,10 @@ use Rattle.ext_chart.specs.Summary.{summary_text}
 use Rattle.ext_products.specs.declared.refusal.Refusal.{Refusal}
 use Rattle.ext_products.specs.Products.{resolution, Telling, IsProductsAnswer}
 use Rattle.ext_brackets.specs.Brackets.{IsBracketAnswer, IsOfPlaces}
+use Rattle.ext_run.specs.declared.plan.Sheet.{Sheet}
+use Rattle.ext_run.specs.declared.plan.Sheet.TheVariants.{Chart, Differentials, Summary}
 use Rattle.ext_run.specs.declared.plan.Form.{Form}
-use Rattle.ext_run.specs.declared.plan.Form.TheVariants.{Chart, Differentials, Summary, Products, Bracket}
+use Rattle.ext_run.specs.declared.plan.Form.TheVariants.{Squares, Products, Bracket}
 
 -- table is that of the module's canonical resolution through the range, which is exact and minimal
 pub record IsResolved (range : Range) (m : SteenrodModule) (table : List (List Content)) : Type 0 where
@@ -33,20 +38,18 @@ pub record IsReadOff (text_of : SteenrodModule → List (List Content) → List 
   pub resolved : IsResolved range m table
   pub is : text ≡ text_of m table
 
--- the chart, the differentials and the summary of a table
-abbrev pub chart_of : Range → SteenrodModule → List (List Content) → List ℕ
-chart_of range m table = chart_text (bottom m.generators) range.s range.t (generator_count table)
+-- the chart, the differentials or the summary of the squares of a table that are of a shape
+abbrev pub sheet_of : Sheet → Shape → Range → SteenrodModule → List (List Content) → List ℕ
+sheet_of Chart shape range m table =
+    chart_text (bottom m.generators) range.s (last_degree shape range) (generator_count table)
+sheet_of Differentials shape range m table = dump_text m.generators range.s (last_degree shape range) table
+sheet_of Summary shape range m table =
+    summary_text (length m.generators) (bottom m.generators) range.s (last_degree shape range) (generator_count table)
 
 -- its chart, and behind that the number of squares that were verified
 abbrev pub verified_of : Range → SteenrodModule → List (List Content) → List ℕ
-verified_of range m table = verified_text (bottom m.generators) range.s range.t (generator_count table)
-
-abbrev pub dump_of : Range → SteenrodModule → List (List Content) → List ℕ
-dump_of range m table = dump_text m.generators range.s range.t table
-
-abbrev pub summary_of : Range → SteenrodModule → List (List Content) → List ℕ
-summary_of range m table =
-    summary_text (length m.generators) (bottom m.generators) range.s range.t (generator_count table)
+verified_of range m table =
+    verified_text (bottom m.generators) range.s (last_degree Rectangle range) (generator_count table)
 
 -- text is the chart of a verified save file
 abbrev pub IsVerifiedChart : Range → SteenrodModule → List ℕ → Type 0
@@ -92,9 +95,7 @@ IsRefusalWith Holds answer = ⊥
 
 -- the answer is that of the module's canonical resolution through the range, in this form
 abbrev pub IsInForm : Form → Range → SteenrodModule → Result (List ℕ) Failure → Type 0
-IsInForm Chart range = IsText (IsReadOff (chart_of range) range)
-IsInForm Differentials range = IsText (IsReadOff (dump_of range) range)
-IsInForm Summary range = IsText (IsReadOff (summary_of range) range)
+IsInForm (Squares sheet shape) range = IsText (IsReadOff (sheet_of sheet shape range) range)
 IsInForm (Products by) range = IsToldOfClasses (IsProductsAnswer range by) range
 IsInForm (Bracket a b c) range = IsToldOfClasses (IsBracketAnswer range a b c) range
 

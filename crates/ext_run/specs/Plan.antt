@@ -16,19 +16,20 @@ use Rattle.ext_words.specs.declared.command.Command.TheVariants.{Sphere, Resolve
 use Rattle.ext_words.specs.Words.{command_of, IsRangeWithin, IsWithin}
 use Rattle.ext_run.specs.declared.plan.Origin.{Origin}
 use Rattle.ext_run.specs.declared.plan.Origin.TheVariants.{Sphere as OfSphere, Sample as OfSample, File as OfFile}
-use Rattle.ext_run.specs.declared.plan.Form.TheVariants.{Chart, Differentials, Summary, Products as ProductsOf, Bracket}
+use Rattle.ext_run.specs.declared.plan.Sheet.TheVariants.{Chart, Differentials, Summary}
+use Rattle.ext_run.specs.declared.plan.Form.TheVariants.{Squares, Products as ProductsOf, Bracket}
 use Rattle.ext_run.specs.declared.plan.Plan.{Plan}
 use Rattle.ext_run.specs.declared.plan.Plan.TheVariants.{Resolve as ToResolve, Check as ToCheck, Build as ToBuild, Multiply, Migrate as ToMigrate, Verify as ToVerify}
 
 abbrev pub plan_of : Command → Plan
-plan_of (Sphere common) = ToResolve OfSphere Chart common
-plan_of (Resolve common) = ToResolve OfFile Chart common
-plan_of (Dump common) = ToResolve OfFile Differentials common
+plan_of (Sphere common) = ToResolve OfSphere (Squares Chart common.shape) common
+plan_of (Resolve common) = ToResolve OfFile (Squares Chart common.shape) common
+plan_of (Dump common) = ToResolve OfFile (Squares Differentials common.shape) common
 plan_of (Products common by) = ToResolve OfFile (ProductsOf by) common
 plan_of (Massey common a b c) = ToResolve OfFile (Bracket a b c) common
 plan_of Check = ToCheck
 plan_of (Build made) = ToBuild made
-plan_of (Sample n common) = ToResolve (OfSample n) Summary common
+plan_of (Sample n common) = ToResolve (OfSample n) (Squares Summary common.shape) common
 plan_of (Sq numbers) = Multiply numbers
 plan_of Migrate = ToMigrate
 plan_of (Verify range) = ToVerify range

@@ -1,73 +1,71 @@
-//! Texts of a resolution of which the images of generators are made, and no table of squares.
+//! Sheets on a resolution of which the images of generators are made, and no table of squares.
 ghost use Rattle.std.specs.Prelude.{◌≡◌, ◌≤◌, IfOk};
 ghost use Rattle.bidegree.specs.declared.range.TheConstants.{MAX_S, MAX_T};
-ghost use Rattle.ext_run.specs.Forms.{IsReadOff, chart_of, dump_of, summary_of};
+ghost use Rattle.ext_run.specs.Forms.{IsReadOff, sheet_of};
+ghost use Rattle.ext_run.specs.Inside.Images.{AreOfResolution};
 
-use bidegree::Range;
-use ext_chart::{chart, dump, summary};
+use crate::plan::Sheet;
+use crate::sheets::sheet_text;
+use bidegree::{Range, Shape};
+use ext_chart::stems_are_told_alike;
 use finite_module::Module;
 use memory::Memory;
 use module_check::modules_are_graded_modules;
 use resolution_existence::canonical_table_exists;
-use resolution_images::images_alone;
+use resolution_images::{Images, images_alone, images_in_stems};
 use resolution_laws::canonical_table_is_minimal_resolution;
 use std::alloc::Global;
 use std::mem::forget;
+use stem_laws::rows_in_stems_are_whole;
 
-/// The chart of the module's resolution through the range.
+/// The sheet on the squares of this shape of the module's resolution through the range.
 ///
 /// # Errors
 /// `Memory` if allocation fails.
-pub(crate) fn chart_alone(alloc: Global, resolved: Module, range: Range) -> Result<Vec<u8>, Memory>
-    requires rows { range.s ≤ MAX_S }
-    requires degrees { range.t ≤ MAX_T }
-    ensures { IfOk result (λ text. IsReadOff (chart_of range) range resolved.plain text.items) }
-{
-    canonical_table_exists();
-    canonical_table_is_minimal_resolution();
-    modules_are_graded_modules();
-    let images = images_alone(alloc, resolved, range)?;
-    let text = chart(alloc, &images, range);
-    forget(images);
-    text
-}
-
-/// The differentials of the module's resolution through the range.
-///
-/// # Errors
-/// `Memory` if allocation fails.
-pub(crate) fn dump_alone(alloc: Global, resolved: Module, range: Range) -> Result<Vec<u8>, Memory>
-    requires rows { range.s ≤ MAX_S }
-    requires degrees { range.t ≤ MAX_T }
-    ensures { IfOk result (λ text. IsReadOff (dump_of range) range resolved.plain text.items) }
-{
-    canonical_table_exists();
-    canonical_table_is_minimal_resolution();
-    modules_are_graded_modules();
-    let images = images_alone(alloc, resolved, range)?;
-    let text = dump(alloc, &images, range);
-    forget(images);
-    text
-}
-
-/// The summary of the module's resolution through the range.
-///
-/// # Errors
-/// `Memory` if allocation fails.
-pub(crate) fn summary_alone(
+pub(crate) fn sheet_alone(
     alloc: Global,
     resolved: Module,
+    sheet: Sheet,
     range: Range,
+    shape: Shape,
 ) -> Result<Vec<u8>, Memory>
     requires rows { range.s ≤ MAX_S }
     requires degrees { range.t ≤ MAX_T }
-    ensures { IfOk result (λ text. IsReadOff (summary_of range) range resolved.plain text.items) }
+    ensures { IfOk result (λ text. IsReadOff (sheet_of sheet shape range) range resolved.plain text.items) }
 {
     canonical_table_exists();
     canonical_table_is_minimal_resolution();
     modules_are_graded_modules();
-    let images = images_alone(alloc, resolved, range)?;
-    let text = summary(alloc, &images, range);
+    let images = images_through(alloc, resolved, range, shape)?;
+    let text = sheet_text(alloc, sheet, &images, range, shape);
     forget(images);
     text
+}
+
+/// The images of the generators of the squares of this shape. A range that has fewer degrees than rows has no stems, and
+/// there they are those of the rectangle.
+///
+/// # Errors
+/// `Memory` if allocation fails.
+fn images_through(
+    alloc: Global,
+    resolved: Module,
+    range: Range,
+    shape: Shape,
+) -> Result<Images, Memory>
+    requires rows { range.s ≤ MAX_S }
+    requires degrees { range.t ≤ MAX_T }
+    ensures { IfOk result (AreOfResolution shape range resolved) }
+{
+    canonical_table_exists();
+    canonical_table_is_minimal_resolution();
+    modules_are_graded_modules();
+    stems_are_told_alike();
+    rows_in_stems_are_whole();
+    match shape {
+        Shape::Stems if range.s <= range.t => {
+            images_in_stems(alloc, resolved, range.s, range.t - range.s)
+        }
+        _ => images_alone(alloc, resolved, range),
+    }
 }

@@ -2,9 +2,10 @@
 //! commands.
 ghost use Rattle.std.specs.Prelude.{◌≡◌};
 ghost use Rattle.ext_run.specs.Plan.{plan_of};
+ghost use Rattle.ext_run.specs.declared.plan.Form as Form;
 ghost use Rattle.ext_run.specs.declared.plan.Plan as Plan;
 
-use bidegree::{Class, Range};
+use bidegree::{Class, Range, Shape};
 use ext_words::{Build, Command, Common};
 use sq_calc::Mono;
 
@@ -19,12 +20,19 @@ pub enum Origin {
     File,
 }
 
-/// What is printed of a resolution.
+/// A text on the squares of a resolution.
 #[derive(Clone, Copy, Debug)]
-pub enum Form {
+pub enum Sheet {
     Chart,
     Differentials,
     Summary,
+}
+
+/// What is printed of a resolution.
+#[derive(Clone, Copy, Debug)]
+pub enum Form {
+    /// This sheet, on the squares of the range that are of this shape.
+    Squares(Sheet, Shape),
     /// The products of this class of the sphere with the classes of the module.
     Products(Class),
     /// The bracket of the classes `a` and `b` of the sphere with the class `c` of the module.
@@ -57,20 +65,27 @@ pub(crate) fn plan_of(command: Command) -> Plan
     ensures { result ≡ plan_of command }
 {
     match command {
-        Command::Sphere(common) => resolve(Origin::Sphere, Form::Chart, common),
-        Command::Resolve(common) => resolve(Origin::File, Form::Chart, common),
-        Command::Dump(common) => resolve(Origin::File, Form::Differentials, common),
+        Command::Sphere(common) => to_sheet(Origin::Sphere, Sheet::Chart, common),
+        Command::Resolve(common) => to_sheet(Origin::File, Sheet::Chart, common),
+        Command::Dump(common) => to_sheet(Origin::File, Sheet::Differentials, common),
         Command::Products { common, by } => resolve(Origin::File, Form::Products(by), common),
         Command::Massey { common, a, b, c } => {
             resolve(Origin::File, Form::Bracket { a, b, c }, common)
         }
         Command::Check => Plan::Check,
         Command::Build(made) => Plan::Build(made),
-        Command::Sample { n, common } => resolve(Origin::Sample(n), Form::Summary, common),
+        Command::Sample { n, common } => to_sheet(Origin::Sample(n), Sheet::Summary, common),
         Command::Sq(squares) => Plan::Multiply(squares),
         Command::Migrate => Plan::Migrate,
         Command::Verify(range) => Plan::Verify(range),
     }
+}
+
+/// A module of this origin is resolved as far as this, and told of in this sheet.
+fn to_sheet(origin: Origin, sheet: Sheet, common: Common) -> Plan
+    ensures { result ≡ Plan.Resolve origin (Form.Squares sheet common.shape) common }
+{
+    resolve(origin, Form::Squares(sheet, common.shape), common)
 }
 
 /// A module of this origin is resolved as far as this, and told of in this form.

@@ -17,16 +17,16 @@ ghost use Rattle.ext_run.specs.Task.{IsTaskWithin};
 ghost use Rattle.ext_run.specs.Work.{HasAnswer, answer_of, HasContinued, HasUsed, HasWorked};
 ghost use Rattle.ext_report.specs.declared.failure.Failure.TheVariants.{Memory as WantOfMemory};
 
-use crate::from_images::{chart_alone, dump_alone, summary_alone};
+use crate::from_images::sheet_alone;
 use crate::migrating::migrated;
 use crate::plan::Form;
+use crate::sheets::sheet_text;
 use crate::task::{Resolution, Task};
 use crate::verifying::verified;
-use bidegree::Range;
+use bidegree::{Range, Shape};
 use board_core::Cause;
 use edge::{Disk, Failed, Sink};
 use ext_brackets::bracket_text;
-use ext_chart::{chart, dump, summary};
 use ext_products::products_text;
 use ext_report::Failure;
 use ext_words::Common;
@@ -102,11 +102,12 @@ pub(crate) fn text_by_workers<
     }
 }
 
-/// Whether workers make the squares, and not the caller. One that reports has a watcher beside it.
+/// Whether workers make the squares, and not the caller. One that reports has a watcher beside it. The squares in stems are made
+/// by the caller.
 fn is_by_workers(common: Common) -> bool
     ensures { result ≡ false → live_where common.live common.range ≡ None }
 {
-    common.workers > 1 || common.live
+    common.live || common.workers > 1 && common.shape == Shape::Rectangle
 }
 
 /// The text of a resolution, made on the caller's thread. Nothing is kept. Where the text speaks of generators and
@@ -120,9 +121,9 @@ fn unsaved_alone(alloc: Global, resolution: Resolution) -> Result<Vec<u8>, Failu
 {
     let range = resolution.common.range;
     match resolution.form {
-        Form::Chart => Ok(chart_alone(alloc, resolution.resolved, range)?),
-        Form::Differentials => Ok(dump_alone(alloc, resolution.resolved, range)?),
-        Form::Summary => Ok(summary_alone(alloc, resolution.resolved, range)?),
+        Form::Squares(sheet, shape) => {
+            Ok(sheet_alone(alloc, resolution.resolved, sheet, range, shape)?)
+        }
         form => {
             let table = Table::new(alloc, resolution.resolved)?;
             told_alone(alloc, table, range, form, NoKeep).0
@@ -349,9 +350,7 @@ fn told(alloc: Global, form: Form, table: &Table, range: Range) -> Result<Vec<u8
     modules_are_graded_modules();
     accepted_is_module();
     match form {
-        Form::Chart => Ok(chart(alloc, table, range)?),
-        Form::Differentials => Ok(dump(alloc, table, range)?),
-        Form::Summary => Ok(summary(alloc, table, range)?),
+        Form::Squares(sheet, shape) => Ok(sheet_text(alloc, sheet, table, range, shape)?),
         Form::Products(by) => Ok(products_text(alloc, table, range, by)?),
         Form::Bracket { a, b, c } => Ok(bracket_text(alloc, table, range, a, b, c)?),
     }

@@ -4,6 +4,8 @@ use Rattle.std.specs.Prelude.{replicate}
 use Rattle.std.proofs.lemmas.List.Elements.{All-head, All-tail}
 use Rattle.bidegree.specs.declared.range.TheConstants.{MAX_S}
 use Rattle.bidegree.specs.declared.range.Range.{Range}
+use Rattle.bidegree.specs.declared.shape.Shape.TheVariants.{Rectangle}
+use Rattle.bidegree.specs.LastDegrees.{last_degree}
 use Rattle.board_core.specs.declared.event.Entry.{Entry as Event}
 use Rattle.resolution_laws.specs.Resolution.{Module}
 use Rattle.resolution_laws.specs.Start.{Entry}
@@ -49,7 +51,7 @@ module _ (table : Staircase) where
 pub part_of_charts : (bottom : ℤ) (range : Range) (published : List Shown) (text : List ℕ) → RightViewIsCanonical → RightChartIsPart → ArePublished published → text ≡ live_chart bottom range (last_view published) → IsPartOfCharts bottom range published text
 part_of_charts bottom range published text canonical part are is table of start count counts =
     let right = canonical (over table.resolved) table.start (last_view published) start (right_of table published are of) in
-    subst (λ (x : List ℕ). IsPartOf x (chart_text bottom range.s range.t count)) (sym is) (part (over table.resolved) (last_view published) bottom range count right counts)
+    subst (λ (x : List ℕ). IsPartOf x (chart_text bottom range.s (last_degree Rectangle range) count)) (sym is) (part (over table.resolved) (last_view published) bottom range count right counts)
 
 module _ {K : Type 0} (opening : Opening K) where
   pub shown_right : (published : List Shown) → ArePublished published → AreOfBoard opening published → IsRight (module_of opening) (first_table opening).start (last_view published)

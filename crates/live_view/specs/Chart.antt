@@ -2,6 +2,8 @@
 use Rattle.std.specs.Prelude.{◌≡◌, ◌⊎◌, ℕ, ◌+◌, ◌≤◌, min, ℤ, List, [], ◌∷◌, ◌++◌, map, length, slice_get, Option, Some, None}
 use Rattle.std.specs.List.{range_with_len, sum}
 use Rattle.bidegree.specs.declared.range.Range.{Range}
+use Rattle.bidegree.specs.declared.shape.Shape.TheVariants.{Rectangle}
+use Rattle.bidegree.specs.LastDegrees.{last_degree}
 use Rattle.resolution_laws.specs.Resolution.{Module}
 use Rattle.ext_chart.specs.Chart.{mark, row_lines, stems_line, chart_text}
 use Rattle.live_view.specs.Views.{row_of, IsCount, IsRight}
@@ -17,7 +19,8 @@ marks_of view s k = mark_of (slice_get (row_of view s) k)
 
 -- the chart of the view through the range
 abbrev pub live_chart : ℤ → Range → List (List ℕ) → List ℕ
-live_chart bottom range view = row_lines (marks_of view) range.t (range.s + 1) ++ stems_line bottom range.t
+live_chart bottom range view =
+    row_lines (marks_of view) (last_degree Rectangle range) (range.s + 1) ++ stems_line bottom range.t
 
 -- how many squares of the range a view has
 abbrev pub squares_within : Range → List (List ℕ) → ℕ
@@ -41,4 +44,4 @@ AreCounts m range count = (s k : ℕ) → s ≤ range.s → k ≤ range.t → Is
 abbrev pub RightChartIsPart : Type 0
 RightChartIsPart = (m : Module) (view : List (List ℕ)) (bottom : ℤ) (range : Range) (count : ℕ → ℕ → ℕ) →
     IsRight m [] view → AreCounts m range count →
-    IsPartOf (live_chart bottom range view) (chart_text bottom range.s range.t count)
+    IsPartOf (live_chart bottom range view) (chart_text bottom range.s (last_degree Rectangle range) count)

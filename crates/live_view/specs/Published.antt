@@ -1,6 +1,8 @@
 -- The views that a writer published, oldest first.
 use Rattle.std.specs.Prelude.{◌≡◌, ℕ, ℤ, List, [], ◌∷◌, All, Contains}
 use Rattle.bidegree.specs.declared.range.Range.{Range}
+use Rattle.bidegree.specs.declared.shape.Shape.TheVariants.{Rectangle}
+use Rattle.bidegree.specs.LastDegrees.{last_degree}
 use Rattle.logbook.specs.Pages.{Book}
 use Rattle.resolution_laws.specs.Start.{IsCanonicalStart}
 use Rattle.square.specs.Squares.{over}
@@ -51,4 +53,4 @@ abbrev pub IsPartOfCharts : ℤ → Range → List Shown → List ℕ → Type 0
 IsPartOfCharts bottom range published text =
     (table : Staircase) → All (λ p. p.of ≡ table ∷ []) published → IsCanonicalStart (over table.resolved) table.start →
     (count : ℕ → ℕ → ℕ) → AreCounts (over table.resolved) range count →
-    IsPartOf text (chart_text bottom range.s range.t count)
+    IsPartOf text (chart_text bottom range.s (last_degree Rectangle range) count)

@@ -2,6 +2,8 @@
 ghost use Rattle.std.specs.Prelude.{◌≡◌, ◌+◌, ◌-◌, ◌≤◌, pos, ◌+ℤ◌, ◌≤ℤ◌, IfOk, map};
 ghost use Rattle.std.specs.List.{range_with_len};
 ghost use Rattle.bidegree.specs.declared.range.TheConstants.{MAX_S, MAX_T};
+ghost use Rattle.bidegree.specs.declared.shape.Shape.TheVariants.{Rectangle};
+ghost use Rattle.bidegree.specs.LastDegrees.{last_degree};
 ghost use Rattle.ext_chart.specs.Chart.{row_line, row_lines};
 ghost use Rattle.live_view.specs.Chart.{mark_of, marks_of, live_chart};
 
@@ -49,7 +51,8 @@ fn row_line(alloc: Global, view: &View, s: u16, t: u16) -> Result<Vec<u8>, Memor
 /// The lines of the rows of the range, the greatest first.
 fn row_lines(alloc: Global, view: &View, range: Range) -> Result<Vec<u8>, Memory>
     requires { range.s ≤ MAX_S }
-    ensures { IfOk result (λ text. text.items ≡ row_lines (marks_of view.now) range.t (range.s + 1)) }
+    ensures { IfOk result (λ text. text.items ≡ row_lines (marks_of view.now)
+        (last_degree Rectangle range) (range.s + 1)) }
 {
     let mut text = Vec::new(alloc);
     for i in 0..=range.s {

@@ -2,4 +2,4 @@ use Rattle.ext_chart.proofs.Seen.{through_seen}
 use Rattle.chart_cases.proofs.texts.charted.Goals as goal
 
 pub chart-requires : goal.chart-requires
-chart-requires c = through_seen _ _ c.in_ok-table.ensures.through
+chart-requires c = through_seen _ _ _ c.in_ok-table.ensures.through

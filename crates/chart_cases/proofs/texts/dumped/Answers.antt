@@ -2,4 +2,4 @@ use Rattle.ext_chart.proofs.Seen.{through_seen}
 use Rattle.chart_cases.proofs.texts.dumped.Goals as goal
 
 pub dump-requires : goal.dump-requires
-dump-requires c = through_seen _ _ c.in_ok-table.ensures.through
+dump-requires c = through_seen _ _ _ c.in_ok-table.ensures.through

@@ -2,4 +2,4 @@ use Rattle.ext_chart.proofs.Seen.{through_seen}
 use Rattle.chart_cases.proofs.texts.summed_up.Goals as goal
 
 pub summary-requires : goal.summary-requires
-summary-requires c = through_seen _ _ c.in_ok-table.ensures.through
+summary-requires c = through_seen _ _ _ c.in_ok-table.ensures.through

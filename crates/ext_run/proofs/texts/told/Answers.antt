@@ -12,32 +12,16 @@ use Rattle.ext_run.specs.Forms.{IsToldOfClasses, IsInForm, IsRefusedOver, IsRefu
 use Rattle.ext_run.specs.Work.{Told, answer_of}
 use Rattle.ext_chart.proofs.Seen.{through_seen}
 use Rattle.ext_run.proofs.AnswerExists.{TableLaws}
-use Rattle.ext_run.proofs.Resolved.{is_chart, is_dump, is_summary, is_told_of_classes, classes_failed, refused_over, classes_refused}
+use Rattle.ext_run.proofs.Resolved.{is_sheet, is_told_of_classes, classes_failed, refused_over, classes_refused}
 use Rattle.ext_run.proofs.texts.told.Goals as goal
 
-pub chart-requires : goal.chart-requires
-chart-requires c = through_seen c.args.range c.args.table.now.rows c.requires.through
+pub sheet_text-requires : goal.sheet_text-requires
+sheet_text-requires c = through_seen c.args.range c.in-Squares.shape c.args.table.now.rows c.requires.through
 
-pub dump-requires : goal.dump-requires
-dump-requires c = through_seen c.args.range c.args.table.now.rows c.requires.through
-
-pub summary-requires : goal.summary-requires
-summary-requires c = through_seen c.args.range c.args.table.now.rows c.requires.through
-
-pub returns-in_ok-chart-in-Chart-clause-told : goal.returns-in_ok-chart-in-Chart-clause-told
-returns-in_ok-chart-in-Chart-clause-told c = λ has resolved.
-    subst (λ (form : Form). IsInForm form c.args.range c.args.table.now.resolved.plain (Ok c.in_ok-chart-in-Chart.field-0.items)) (sym c.in-Chart.is)
-    (is_chart c.args.range c.args.table.now c.in_ok-chart-in-Chart.field-0.items resolved c.requires.through c.in_ok-chart-in-Chart.ensures)
-
-pub returns-in_ok-dump-in-Differentials-clause-told : goal.returns-in_ok-dump-in-Differentials-clause-told
-returns-in_ok-dump-in-Differentials-clause-told c = λ has resolved.
-    subst (λ (form : Form). IsInForm form c.args.range c.args.table.now.resolved.plain (Ok c.in_ok-dump-in-Differentials.field-0.items)) (sym c.in-Differentials.is)
-    (is_dump c.args.range c.args.table.now c.in_ok-dump-in-Differentials.field-0.items resolved c.requires.through c.in_ok-dump-in-Differentials.ensures)
-
-pub returns-in_ok-summary-in-Summary-clause-told : goal.returns-in_ok-summary-in-Summary-clause-told
-returns-in_ok-summary-in-Summary-clause-told c = λ has resolved.
-    subst (λ (form : Form). IsInForm form c.args.range c.args.table.now.resolved.plain (Ok c.in_ok-summary-in-Summary.field-0.items)) (sym c.in-Summary.is)
-    (is_summary c.args.range c.args.table.now c.in_ok-summary-in-Summary.field-0.items resolved c.requires.through c.in_ok-summary-in-Summary.ensures)
+pub returns-in_ok-sheet_text-in-Squares-clause-told : goal.returns-in_ok-sheet_text-in-Squares-clause-told
+returns-in_ok-sheet_text-in-Squares-clause-told c = λ has resolved.
+    subst (λ (form : Form). IsInForm form c.args.range c.args.table.now.resolved.plain (Ok c.in_ok-sheet_text-in-Squares.field-0.items)) (sym c.in-Squares.is)
+    (is_sheet c.in-Squares.sheet c.in-Squares.shape c.args.range c.args.table.now c.in_ok-sheet_text-in-Squares.field-0.items resolved c.requires.through c.in_ok-sheet_text-in-Squares.ensures)
 
 pub returns-in_ok-products_text-in-Products-clause-told : goal.returns-in_ok-products_text-in-Products-clause-told
 returns-in_ok-products_text-in-Products-clause-told c = λ has resolved.

@@ -1,5 +1,6 @@
 use Rattle.std.proofs.Common.{◌≡◌, ◌∙◌, refl, ap, inr, Err}
 use Rattle.std.proofs.lemmas.Result.{err_from_is_err_and}
+use Rattle.bidegree.specs.declared.shape.Shape.TheVariants.{Rectangle}
 use Rattle.cert_check.specs.declared.fault.CertFault.{CertFault}
 use Rattle.cert_check.proofs.Faults.{none_first}
 use Rattle.ext_chart.proofs.Seen.{through_seen}
@@ -21,7 +22,7 @@ returns-in_err-verify-clause-why c =
     rw p.1 (inr (c.in_err-verify.field-0.0, p.2, (c.in_err-verify.ensures.fault c.in_err-verify.field-0.0).0 refl))
 
 pub verified_chart-requires : goal.verified_chart-requires
-verified_chart-requires c = through_seen c.args.range c.args.table.now.rows (through_certified c.args.range c.args.table.now (c.in_ok-verify.ensures.ok.0 refl))
+verified_chart-requires c = through_seen c.args.range Rectangle c.args.table.now.rows (through_certified c.args.range c.args.table.now (c.in_ok-verify.ensures.ok.0 refl))
 
 pub returns-in_err-verified_chart-clause-refused : goal.returns-in_err-verified_chart-clause-refused
 returns-in_err-verified_chart-clause-refused c = λ fault first. absurd (none_first c.args.table.now c.args.range (c.in_ok-verify.ensures.ok.0 refl) fault first)
