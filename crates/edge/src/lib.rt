@@ -16,7 +16,7 @@ pub use disk::Disk;
 pub use faults::Failed;
 pub use file_disk::FileDisk;
 pub use memory_disk::MemDisk;
-pub use raw_file::{PathFile, RawFile};
+pub use raw_file::RawFile;
 pub use reading::{ReadFault, read_through};
 pub use sink::{MemSink, Sink, write_all};
 pub use source::{MemSource, Source};

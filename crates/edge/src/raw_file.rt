@@ -1,12 +1,9 @@
 //! What a disk asks of a file of the system.
-ghost use Rattle.std.specs.Prelude.{◌≡◌, ◌≢◌, ℕ, ◌+◌, ◌≤◌, ◌↔◌, None, Option, List, length, take, drop, Ok, Err, true, false, IfSome, IfOk, OnOk, OnErr};
+ghost use Rattle.std.specs.Prelude.{◌≡◌, ℕ, ◌+◌, ◌≤◌, ◌↔◌, Option, List, length, take, drop, IfSome, IfOk, OnOk, OnErr};
 ghost use Rattle.std.specs.Option.{option_map};
 ghost use Rattle.edge.specs.Disk.{written, Torn, Follows, Only, AreTold, Elapses, Passes, WasImageSince};
 
-use std::fs::{File, OpenOptions, TryLockError};
 use std::io;
-use std::os::unix::fs::FileExt;
-use std::rt::Files;
 
 /// A file of the system, by the four calls that a disk over it makes. They are those of std, and their contracts say what std and
 /// the system do: how the bytes and the images change. Faults are not counted and lengths have no limit here.
@@ -98,111 +95,4 @@ pub trait RawFile {
 
     /// An image since a moment is one since each earlier moment.
     ghost since_earlier: { (file : Self) (t u : ℕ) (c : List ℕ) → t ≤ u → since file u c → since file t c };
-}
-
-/// The file at a path, which is opened and locked, or made where there is none, at its first use. Where another open of the file
-/// holds the lock, that is an error and is noted, and nothing is read or written. An opening that fails is tried again at the next
-/// use. The lock is std's on the whole file, and is let go with the file. As a `RawFile` it tells nothing of what it holds. What is
-/// trusted is that std's calls do what they are called for.
-#[derive(Drop)]
-pub struct PathFile<'a, R: Files<File = File>> {
-    files: &'a R,
-    path: &'a str,
-    file: Option<File>,
-    was_held: bool,
-}
-
-impl<'a, R: Files<File = File>> PathFile<'a, R> {
-    /// The file at `path`. It makes no call yet.
-    pub fn new(files: &'a R, path: &'a str) -> Self
-        ensures { result.was_held ≡ false }
-    {
-        PathFile {
-            files,
-            path,
-            file: None,
-            was_held: false,
-        }
-    }
-
-    /// Whether another open of the file held the lock at a use of this one.
-    pub fn was_held(&self) -> bool
-        ensures { result ≡ self.now.was_held }
-    {
-        self.was_held
-    }
-
-    /// The file, opened and locked. Its bytes stay as they are.
-    fn opened(&mut self) -> io::Result<&File> {
-        let file = match self.file.take() {
-            Some(file) => file,
-            None => self.locked()?,
-        };
-        Ok(self.file.insert(file))
-    }
-
-    /// The file, opened anew and locked.
-    fn locked(&mut self) -> io::Result<File> {
-        let file = OpenOptions::new()
-            .read(true)
-            .write(true)
-            .create(true)
-            .open(self.files, self.path)?;
-        self.noted(file.try_lock())?;
-        Ok(file)
-    }
-
-    /// What came of asking for the lock. That another open of the file holds it is noted.
-    fn noted(&mut self, asked: Result<(), TryLockError>) -> io::Result<()>
-        ensures granted { OnOk result (asked ≡ Ok tt) }
-        ensures held { asked ≡ Err TryLockError.WouldBlock → self.new.was_held ≡ true }
-        ensures same { asked ≢ Err TryLockError.WouldBlock → self.new.was_held ≡ self.old.was_held }
-    {
-        if matches!(&asked, Err(TryLockError::WouldBlock)) {
-            self.was_held = true;
-        }
-        Ok(asked?)
-    }
-}
-
-impl<'a, R: Files<File = File>> RawFile for PathFile<'a, R> {
-    ghost now = { λ _. None };
-
-    ghost moment = { λ _. 0 };
-
-    ghost images = { λ _ _. ⊥ };
-
-    ghost images_at = { λ _ _ _. ⊥ };
-
-    ghost since = { λ _ _ _. ⊥ };
-
-    fn len(&mut self) -> io::Result<u64> {
-        Ok(self.opened()?.metadata()?.len())
-    }
-
-    fn read_exact_at(&mut self, into: &mut [u8], at: u64) -> io::Result<()> {
-        self.opened()?.read_exact_at(into, at)
-    }
-
-    fn write_all_at(&mut self, bytes: &[u8], at: u64) -> io::Result<()> {
-        self.opened()?.write_all_at(bytes, at)
-    }
-
-    fn sync_all(&mut self) -> io::Result<()> {
-        self.opened()?.sync_all()
-    }
-
-    ghost now_is_image = { λ _. tt };
-
-    ghost images_at_now = { λ _ _. (λ image. image, λ image. image) };
-
-    ghost some_image = { λ _. tt };
-
-    ghost since_is = { λ _ _ _. (λ image. absurd image, λ was. absurd was.image) };
-
-    ghost counts_now = { λ _ _ image. image };
-
-    ghost only_now = { λ _ _ since. since };
-
-    ghost since_earlier = { λ _ _ _ _ _ since. since };
 }

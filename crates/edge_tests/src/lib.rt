@@ -6,8 +6,6 @@ mod calls;
 #[cfg(test)]
 mod case_texts;
 #[cfg(test)]
-mod files;
-#[cfg(test)]
 mod memory_disks;
 #[cfg(test)]
 mod raw_files;

@@ -2,7 +2,7 @@
 //! The programs over it are what is run of it, each on words of its own: `ext_main` and `ext_spared`.
 #![tactic(auto)]
 
-ghost use Rattle.std.specs.Prelude.{◌≡◌, ◌≢◌, drop, map, string_bytes, codes, true, false, Err, IfOk, IfErr};
+ghost use Rattle.std.specs.Prelude.{◌≡◌, ◌≢◌, ◌∷◌, [], ◌↔◌, IsTrue, take, drop, map, string_bytes, codes, Err, IfOk, IfErr};
 ghost use Rattle.std.specs.IoError.{error_kind};
 ghost use Rattle.std.specs.Process.{exit_status};
 ghost use Rattle.std.specs.Vec.Iter.{into_iter_items};
@@ -12,20 +12,20 @@ ghost use Rattle.ext_run.specs.Devices.{device_of, store_of};
 ghost use Rattle.ext_run.specs.Plan.{asked_by};
 ghost use Rattle.ext_run.specs.Ending.{HasTold};
 ghost use Rattle.ext_run.specs.Run.{IsRun};
-ghost use Rattle.ext_report.specs.declared.status.TheConstants.{SAVING};
-ghost use Rattle.ext_program.specs.Held.{HasToldHeld, MayTellHeld};
+ghost use Rattle.ext_program.specs.SecondLine.{HasToldFault};
 
-use edge::{Disk, FileDisk, PathFile, Sink, Source, StdSink, StdSource, write_all};
-use ext_report::SAVING;
+mod second_line;
+
+use edge::{Disk, FileDisk, Sink, Source, StdSink, StdSource};
 use ext_run::{Ended, Failure, report, run};
 use memory::Memory;
+use path_file::{Access, HostFile, KnowsFault, PathFile};
+use second_line::finished;
 use square_worker::OpenGate;
 use std::alloc::Global;
 use std::env::Args;
-use std::fs::File;
 use std::io::{ErrorKind, Stderr, Stdin, Stdout};
 use std::process::ExitCode;
-use std::rt::Files;
 use std::sync::Wait;
 use std::thread::Threads;
 use std::time::Clock;
@@ -38,47 +38,62 @@ fn save_file() -> &'static str
     "ext.save"
 }
 
+/// The folder of the save file.
+fn save_folder() -> &'static str
+    ensures { result.now ≡ codes "." }
+{
+    "."
+}
+
 /// Answers the program's arguments on the standard streams; the program ends with the status of the run. What starts
 /// threads, waits and tells the time is passed beside the runtime, since only `main` has the runtime as such. Where arguments,
 /// streams and the save file are had, no function below has the runtime.
 pub fn program<W: Threads + Wait + Clock + Sync>(rt: &HostRuntime, wait: &W) -> ExitCode {
+    let arguments = arguments(rt.alloc(), env::args(rt));
+    let access = access(&arguments);
     on_save_file::<
         W,
         StdSource<Stdin>,
         StdSink<Stdout>,
         StdSink<Stderr>,
-        FileDisk<PathFile<HostRuntime>>,
+        FileDisk<PathFile<HostFile<HostRuntime>>>,
     >(
         wait,
         rt.alloc(),
-        arguments(rt.alloc(), env::args(rt)),
+        arguments,
         &mut StdSource::new(rt.stdin()),
         &mut StdSink::new(rt.stdout()),
         &mut StdSink::new(rt.stderr()),
-        FileDisk::new(rt, save_file()),
+        FileDisk::over(PathFile::new(HostFile::new(rt, save_folder(), save_file(), access))),
     )
 }
 
-/// A disk that another run may hold.
-trait MayBeHeld {
-    /// Whether a call failed since another run holds it.
-    fn was_held(&self) -> bool;
-}
-
-impl<'a, R: Files<File = File>> MayBeHeld for FileDisk<PathFile<'a, R>> {
-    fn was_held(&self) -> bool {
-        FileDisk::was_held(self)
+/// What a run with these arguments does with the save file.
+fn access(arguments: &Result<Vec<String>, Failure>) -> Access {
+    match arguments {
+        Ok(all) if only_reads(all.as_slice()) => Access::Read,
+        _ => Access::Write,
     }
 }
 
-/// Answers the arguments after the program's name on these streams, over a disk that another run may hold. Where the run ends with the
-/// status of a failed disk since another run holds it, a line behind that of the failure says so.
+/// Whether a run with these arguments only reads the save file: `verify` does.
+fn only_reads(arguments: &[String]) -> bool
+    ensures { IsTrue result ↔ (take 1 (map string_bytes arguments.now) ≡ codes "verify" ∷ []) }
+{
+    match arguments.first() {
+        Some(word) => word.as_str() == "verify",
+        None => false,
+    }
+}
+
+/// Answers the arguments after the program's name on these streams, over a disk that knows its last fault. Where the run ends with the
+/// status of a failed disk, a line behind that of the failure tells which call failed, and why.
 fn on_save_file<
     W: Threads + Wait + Clock + Sync,
     S: Source,
     O: Sink,
     E: Sink + Send,
-    D: Disk + MayBeHeld + Send + Drop,
+    D: Disk + KnowsFault + Send + Drop,
 >(
     wait: &W,
     alloc: Global,
@@ -92,35 +107,14 @@ fn on_save_file<
         (device_of O.written O.faults) (device_of E.written E.faults)
         (store_of D.now D.moment D.images D.images_at D.since D.faults) (asked_by (map string_bytes all.items))
         (exit_status result) source.old source.new out.old out.new err.old between disk after
-        × MayTellHeld E.written E.faults (exit_status result) between err.new) }
+        × HasToldFault E.written E.faults (exit_status result) (D.fault after) between err.new) }
     ensures refused { IfErr arguments (λ failure. (source.new ≡ source.old) × (out.new ≡ out.old)
         × ((between : E) × HasTold E.written E.faults failure (exit_status result) err.old between
-        × MayTellHeld E.written E.faults (exit_status result) between err.new)) }
+        × HasToldFault E.written E.faults (exit_status result) (D.fault disk) between err.new)) }
 {
     let ended = on_streams(wait, alloc, arguments, source, out, err, disk);
-    finished(ended.status, ended.disk.was_held(), err)
-}
-
-/// What the program ends with: the status of the run. Where that is the status of a failed save file, and another run held it, a line
-/// says so.
-fn finished<E: Sink>(status: u8, was_held: bool, err: &mut E) -> ExitCode
-    ensures status { exit_status result ≡ status }
-    ensures told { status ≡ SAVING → was_held ≡ true → HasToldHeld E.written E.faults err.old err.new }
-    ensures other { (status ≡ SAVING → was_held ≡ false) → err.new ≡ err.old }
-    ensures ends { MayTellHeld E.written E.faults status err.old err.new }
-{
-    if status == SAVING && was_held {
-        tell_held(err);
-    }
-    ExitCode::from(status)
-}
-
-/// Writes that another run holds the save file. Where that fails, some first bytes are written.
-fn tell_held<E: Sink>(err: &mut E)
-    ensures { HasToldHeld E.written E.faults err.old err.new }
-{
-    // The status stays what it is where the line cannot be written.
-    let _ = write_all(err, b"ext: another run holds ext.save\n");
+    let fault = ended.disk.fault();
+    finished(ended.status, fault, err)
 }
 
 /// Answers the arguments after the program's name on these streams, or tells the failure in their place.
