@@ -1,11 +1,13 @@
--- What is told of a save file that failed, behind the line of that failure.
-use Rattle.std.specs.Prelude.{◌≡◌, ℕ, ◌≤◌, List, ◌++◌, Option, None, codes, if◌then◌else◌, IfSome}
+-- What is told behind the line of a failure.
+use Rattle.std.specs.Prelude.{◌≡◌, ◌⊎◌, ℕ, ◌≤◌, List, ◌++◌, Option, None, codes, if◌then◌else◌, ◌==◌, IfSome}
 use Rattle.std.specs.IoError.{error_kind}
 use Rattle.std.specs.declared.io.ErrorKind.{ErrorKind}
 use Rattle.std.specs.declared.io.ErrorKind.TheVariants.{NotFound, PermissionDenied, ReadOnlyFilesystem, StorageFull, QuotaExceeded, FileTooLarge, NotSeekable, FilesystemLoop, UnexpectedEof, StaleNetworkFileHandle, Unsupported, Uncategorized}
+use Rattle.edge.specs.Disk.{IsTold}
 use Rattle.edge.specs.Faults.{HasRisen}
 use Rattle.edge.specs.Sink.{with_more, HasPrefixMore}
-use Rattle.ext_report.specs.declared.status.TheConstants.{SAVING}
+use Rattle.ext_report.specs.declared.status.TheConstants.{NO_CLASS, OUTSIDE_GRAMMAR, SAVING}
+use Rattle.ext_words.specs.Remark.{remark_of, remark_on_classes}
 use Rattle.path_file.specs.declared.fault.Call.{Call}
 use Rattle.path_file.specs.declared.fault.Call.TheVariants.{Open, Lock, Measure, Read, Write, Sync}
 use Rattle.path_file.specs.declared.fault.Fault.{Fault}
@@ -50,3 +52,13 @@ pub record HasToldFault {E : Type 0} (written : E → Option (List ℕ)) (faults
     (old new : E) : Type 0 where
   pub told : status ≡ SAVING → IfSome fault (λ f. HasToldLine written faults (fault_line f) old new)
   pub silent : (status ≡ SAVING → fault ≡ None) → new ≡ old
+
+-- what there is to tell of these words behind the line of a failure with this status
+abbrev pub remark_for : ℕ → List (List ℕ) → Option (List ℕ)
+remark_for status words =
+    if status == OUTSIDE_GRAMMAR then remark_of words else if status == NO_CLASS then remark_on_classes words else None
+
+-- A run of these words that ended with this status told more of them, or made no call.
+abbrev pub HasRemarked : {E : Type 0} → (E → Option (List ℕ)) → (E → ℕ) → ℕ → List (List ℕ) → E → E → Type 0
+HasRemarked written faults status words old new =
+    (new ≡ old) ⊎ IsTold (remark_for status words) (λ line. HasToldLine written faults line old new)

@@ -12,7 +12,7 @@ ghost use Rattle.ext_run.specs.Devices.{device_of, store_of};
 ghost use Rattle.ext_run.specs.Plan.{asked_by};
 ghost use Rattle.ext_run.specs.Ending.{HasTold};
 ghost use Rattle.ext_run.specs.Run.{IsRun};
-ghost use Rattle.ext_program.specs.SecondLine.{HasToldFault};
+ghost use Rattle.ext_program.specs.SecondLine.{HasToldFault, HasRemarked};
 
 mod second_line;
 
@@ -20,7 +20,7 @@ use edge::{Disk, FileDisk, Sink, Source, StdSink, StdSource};
 use ext_run::{Ended, Failure, report, run};
 use memory::Memory;
 use path_file::{Access, HostFile, KnowsFault, PathFile};
-use second_line::finished;
+use second_line::{finished, remarked};
 use square_worker::OpenGate;
 use std::alloc::Global;
 use std::env::Args;
@@ -107,37 +107,58 @@ fn on_save_file<
         (device_of O.written O.faults) (device_of E.written E.faults)
         (store_of D.now D.moment D.images D.images_at D.since D.faults) (asked_by (map string_bytes all.items))
         (exit_status result) source.old source.new out.old out.new err.old between disk after
-        × HasToldFault E.written E.faults (exit_status result) (D.fault after) between err.new) }
+        × ((behind : E) × HasToldFault E.written E.faults (exit_status result) (D.fault after) between behind
+        × HasRemarked E.written E.faults (exit_status result) (map string_bytes all.items) behind err.new)) }
     ensures refused { IfErr arguments (λ failure. (source.new ≡ source.old) × (out.new ≡ out.old)
         × ((between : E) × HasTold E.written E.faults failure (exit_status result) err.old between
         × HasToldFault E.written E.faults (exit_status result) (D.fault disk) between err.new)) }
 {
-    let ended = on_streams(wait, alloc, arguments, source, out, err, disk);
+    let ended = on_streams(wait, alloc, &arguments, source, out, err, disk);
     let fault = ended.disk.fault();
-    finished(ended.status, fault, err)
+    let exit = finished(ended.status, fault, err);
+    commented(alloc, ended.status, &arguments, err);
+    exit
+}
+
+/// Tells more of the arguments, where the run ended with a status that says that something is wrong with them.
+fn commented<E: Sink>(
+    alloc: Global,
+    status: u8,
+    arguments: &Result<Vec<String>, Failure>,
+    err: &mut E,
+)
+    ensures given { IfOk arguments.now
+        (λ all. HasRemarked E.written E.faults status (map string_bytes all.items) err.old err.new) }
+    ensures none { IfErr arguments.now (λ _. err.new ≡ err.old) }
+{
+    if let Ok(all) = arguments {
+        if let Ok(words) = words(alloc, all.as_slice()) {
+            remarked(alloc, status, words.as_slice(), err);
+        }
+    }
 }
 
 /// Answers the arguments after the program's name on these streams, or tells the failure in their place.
 fn on_streams<W: Threads + Wait + Clock + Sync, S: Source, O: Sink, E: Sink + Send, D: Disk + Send>(
     wait: &W,
     alloc: Global,
-    arguments: Result<Vec<String>, Failure>,
+    arguments: &Result<Vec<String>, Failure>,
     source: &mut S,
     out: &mut O,
     err: &mut E,
     disk: D,
 ) -> Ended<D>
-    ensures answered { IfOk arguments (λ all. IsRun (device_of S.left S.faults) (device_of O.written O.faults)
+    ensures answered { IfOk arguments.now (λ all. IsRun (device_of S.left S.faults) (device_of O.written O.faults)
         (device_of E.written E.faults) (store_of D.now D.moment D.images D.images_at D.since D.faults)
         (asked_by (map string_bytes all.items)) result.status
         source.old source.new out.old out.new err.old err.new disk result.disk) }
-    ensures refused { IfErr arguments (λ failure. (source.new ≡ source.old) × (out.new ≡ out.old)
+    ensures refused { IfErr arguments.now (λ failure. (source.new ≡ source.old) × (out.new ≡ out.old)
         × HasTold E.written E.faults failure result.status err.old err.new × (result.disk ≡ disk)) }
 {
     match arguments {
         Ok(arguments) => answer(wait, alloc, arguments.as_slice(), source, out, err, disk),
         Err(failure) => Ended {
-            status: refused(&failure, err),
+            status: refused(failure, err),
             disk,
         },
     }

@@ -1,14 +1,18 @@
-//! What the program tells of a save file that failed, behind the line of that failure.
-ghost use Rattle.std.specs.Prelude.{◌≡◌, ◌≤◌, ◌++◌, OnOk, OnErr};
+//! What the program tells behind the line of a failure: which call on the save file failed, and what is wrong with the words.
+ghost use Rattle.std.specs.Prelude.{◌≡◌, ◌≤◌, ◌++◌, option_map, IfOk, OnOk, OnErr};
 ghost use Rattle.std.specs.IoError.{error_kind};
 ghost use Rattle.std.specs.Process.{exit_status};
 ghost use Rattle.edge.specs.Faults.{HasRisen};
 ghost use Rattle.edge.specs.Sink.{with_more, HasPrefixMore};
-ghost use Rattle.ext_program.specs.SecondLine.{call_text, reason_text, fault_line, HasToldLine, HasToldFault};
+ghost use Rattle.ext_words.specs.Words.{texts_of};
+ghost use Rattle.ext_program.specs.SecondLine.{call_text, reason_text, fault_line, remark_for, HasToldLine, HasToldFault, HasRemarked};
 
 use edge::{Failed, Sink, write_all};
-use ext_report::SAVING;
+use ext_report::{NO_CLASS, OUTSIDE_GRAMMAR, SAVING};
+use ext_words::{remark, remark_on_classes};
+use memory::Memory;
 use path_file::{Call, Fault};
+use std::alloc::Global;
 use std::io::{Error, ErrorKind};
 use std::process::ExitCode;
 
@@ -24,6 +28,35 @@ pub(crate) fn finished<E: Sink>(status: u8, fault: Option<Fault>, err: &mut E) -
         }
     }
     ExitCode::from(status)
+}
+
+/// Tells more of words outside the grammar, or of a class that is not there, where there is more to tell and memory for it.
+pub(crate) fn remarked<E: Sink>(alloc: Global, status: u8, words: &[&str], err: &mut E)
+    ensures { HasRemarked E.written E.faults status (texts_of words.now) err.old err.new }
+{
+    if let Ok(Some(line)) = remark_for(alloc, status, words) {
+        tell_line(line.as_slice(), err);
+    }
+}
+
+/// What there is to tell of these words behind the line of a failure with this status.
+fn remark_for(alloc: Global, status: u8, words: &[&str]) -> Result<Option<Vec<u8>>, Memory>
+    ensures { IfOk result (λ line. option_map (λ l. l.items) line ≡ remark_for status (texts_of words.now)) }
+{
+    if status == OUTSIDE_GRAMMAR {
+        remark(alloc, words)
+    } else if status == NO_CLASS {
+        remark_on_classes(alloc, words)
+    } else {
+        Ok(None)
+    }
+}
+
+/// Writes a line. Where it cannot be written, some first bytes of it are.
+fn tell_line<E: Sink>(line: &[u8], err: &mut E)
+    ensures { HasToldLine E.written E.faults line.now err.old err.new }
+{
+    let _ = write_all(err, line);
 }
 
 /// Tells which call on the save file failed. Where the line cannot be written, the status stays what it is.
