@@ -190,7 +190,7 @@ class Picture:
             if s % 2 == 0:
                 self.text(left - 11, self.y(s) + 3, str(s))
         self.text((left + right) / 2, low + 26, "t − s", 'font-style="italic" font-size="11"')
-        self.text(10, (low + high) / 2, "s", 'font-style="italic" font-size="11"')
+        self.text(left - 11, high - 1, "s", 'font-style="italic" font-size="11"')
         if self.words.title:
             self.text((left + right) / 2, 18, self.words.title, 'font-size="13"')
         self.put('</g>')

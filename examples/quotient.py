@@ -47,4 +47,7 @@ for d, here in enumerate(degrees):
             total = degrees[d + k].names(degrees[d + k].vector(milnor_product((k,), r)))
             if total:
                 actions.append(f"Sq{k} {name} = {' + '.join(total)}")
-sys.stdout.write(file_text({name: d for d, here in enumerate(degrees) for name, _ in here.generators.values()}, actions))
+generators = {name: d for d, here in enumerate(degrees) for name, _ in here.generators.values()}
+if len(generators) > 64:
+    print(f"quotient.py: this has {len(generators)} generators, and ext takes at most 64: choose a smaller D", file=sys.stderr)
+sys.stdout.write(file_text(generators, actions))
