@@ -1,4 +1,4 @@
-# Writes a ruler of the stems under a chart: ext sphere 17 47 | awk -f ruler.awk
+# Writes a ruler of the stems under a chart: ext sphere 17 30 --stems | awk -f ruler.awk
 # The upper line has the tens at each tenth stem, the lower one the last digit.
 { print }
 /^stems / {
