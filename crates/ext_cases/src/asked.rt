@@ -1,12 +1,14 @@
 //! What the words of a command line ask for.
 use bidegree::{Class, Shape};
 use cases::{Case, Differences, Fault};
-use ext_words::{Build, Command, Common, WordsFault, parse};
+use ext_words::{Build, Command, Common, WordsFault, parse, remark, remark_on_classes};
 use std::alloc::Global;
+use std::str::from_utf8;
 
-/// What differs between what the words of a case ask for and its field `asks`, which is `nothing` if they are outside the grammar.
+/// What differs between what the words of a case ask for and its field `asks`, which is `nothing` if they are outside the grammar; and
+/// between the second line on standard error and the one that the case has, or none where it has the field `quiet`.
 pub(crate) fn asked_difference(alloc: Global, case: &Case) -> Result<Option<String>, Fault> {
-    case.check_keys(&["asks"])?;
+    case.check_keys(&["asks", "!", "quiet"])?;
     let words = case.split_words(alloc)?;
     let asked = match parse(alloc, words.as_slice()) {
         Ok(command) => told(alloc, &command)?,
@@ -15,7 +17,21 @@ pub(crate) fn asked_difference(alloc: Global, case: &Case) -> Result<Option<Stri
     };
     let mut all = Differences::none(alloc);
     all.compare_texts("asks", asked.as_str(), case.answer("asks")?)?;
+    if case.text("!").is_some() || case.text("quiet").is_some() {
+        let told = second_line(alloc, words.as_slice())?;
+        all.compare_texts("line", told.as_str(), case.text_or_empty("!"))?;
+    }
     Ok(all.into_line())
+}
+
+/// The second line on standard error, of words that give no command or name a class past the range, and else nothing.
+fn second_line(alloc: Global, words: &[&str]) -> Result<String, Fault> {
+    let mut line = remark(alloc, words)?;
+    if line.is_none() {
+        line = remark_on_classes(alloc, words)?;
+    }
+    let bytes = line.unwrap_or(Vec::new(alloc));
+    Ok(String::from_str(alloc, from_utf8(bytes.as_slice()).unwrap_or("no text"))?)
 }
 
 /// A command: its name, then what it has of a seed, the greatest row and degree, whether its squares are those of stems, the number of
