@@ -121,11 +121,7 @@ pub fn chart<R: Shown>(
         (last_degree shape range) (generator_count (R.seen table.now).rows)) }
 {
     let mut text = row_lines(alloc, table, range, shape)?;
-    let stems = stems_line(
-        alloc,
-        table.module().bottom(),
-        shape.last_degree(range, 0),
-    )?;
+    let stems = stems_line(alloc, table.module().bottom(), shape.last_degree(range, 0))?;
     text.extend_from_slice(stems.as_slice())?;
     Ok(text)
 }

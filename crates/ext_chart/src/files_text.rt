@@ -31,7 +31,11 @@ fn verified_line(alloc: Global, range: Range) -> Result<Vec<u8>, Memory>
 {
     let mut buffer = Buffer::new();
     let mut line = Vec::from_slice(alloc, b"verified ")?;
-    line.extend_from_slice(buffer.format(square_count(range, Shape::Rectangle)).as_bytes())?;
+    line.extend_from_slice(
+        buffer
+            .format(square_count(range, Shape::Rectangle))
+            .as_bytes(),
+    )?;
     line.extend_from_slice(b" squares\n")?;
     Ok(line)
 }
