@@ -17,3 +17,4 @@ pub mod Keeping
 pub mod TakingUp
 mod TakenUp
 mod Keeps
+mod Behind

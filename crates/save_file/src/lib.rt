@@ -3,12 +3,14 @@
 #![tactic(auto)]
 
 mod body;
+mod differential;
 mod fault;
 mod laws;
 mod outline;
 mod quasi;
 mod reading;
 mod resuming;
+mod row_map;
 mod rows;
 mod saving;
 mod writing;

@@ -5,11 +5,12 @@ ghost use Rattle.f2_matrix.specs.Echelon.{IsReduced, HasNoZeroRow};
 ghost use Rattle.f2_matrix.specs.Parts.{AreReductionParts};
 ghost use Rattle.f2_matrix.specs.Reduction.{IsReductionOf};
 ghost use Rattle.square.specs.Tables.{square_at, IsQuasiAt};
+ghost use Rattle.save_file.specs.Inside.Differentials.{matrix_of};
 
+use crate::differential::Differential;
 use crate::reading::square_below;
 use crate::rows::have_width;
 use f2_dual::columns_at;
-use f2_kernel::are_parts;
 use f2_matrix::{Matrix, Reduced, Rows, parts_are_reduction};
 use f2_vec::BitVec;
 use memory::Memory;
@@ -50,7 +51,16 @@ fn quasi_over_below(alloc: Global, table: &Table, s: u16, t: i32) -> Result<Opti
     let chosen = preimages(alloc, matrix.rows(), below.kernel(), square.kernel())?;
     let image = below.kernel_rows(alloc)?;
     let kernel = square.kernel_rows(alloc)?;
-    reduction_with(alloc, &matrix, image, chosen, kernel)
+    let (cols, height) = (matrix.cols(), matrix.rows().len());
+    reduction_with(
+        alloc,
+        &Differential::Whole(matrix),
+        cols,
+        height,
+        image,
+        chosen,
+        kernel,
+    )
 }
 
 /// The chosen preimages of the image rows under the matrix of these rows, if these are its image rows and its kernel rows. Then the
@@ -154,22 +164,26 @@ fn is_pivot_of(rows: &[BitVec], number: usize, i: usize) -> bool
 /// `Memory` if allocation fails.
 fn reduction_with(
     alloc: Global,
-    matrix: &Matrix,
+    matrix: &Differential,
+    cols: usize,
+    height: usize,
     image: Rows,
     chosen: Vec<BitVec>,
     kernel: Rows,
 ) -> Result<Option<Reduced>, Memory>
-    requires widths { HaveWidth (length matrix.now.rows) kernel }
+    requires cols { cols ≡ (matrix_of matrix.now).cols }
+    requires height { height ≡ length (matrix_of matrix.now).rows }
+    requires widths { HaveWidth (length (matrix_of matrix.now).rows) kernel }
     requires reduced { IsReduced kernel }
     requires nonzero { HasNoZeroRow kernel }
-    ensures { IfOk result (λ found. IfSome found (λ r. IsReductionOf matrix.now.cols matrix.now.rows r)) }
+    ensures { IfOk result
+        (λ found. IfSome found (λ r. IsReductionOf (matrix_of matrix.now).cols (matrix_of matrix.now).rows r)) }
 {
-    let height = matrix.rows().len();
-    let wide = have_width(matrix.cols(), image.as_slice()) && have_width(height, chosen.as_slice());
+    let wide = have_width(cols, image.as_slice()) && have_width(height, chosen.as_slice());
     if !wide {
         return Ok(None);
     }
-    with_parts(alloc, matrix, image, chosen, kernel)
+    with_parts(alloc, matrix, cols, height, image, chosen, kernel)
 }
 
 /// The reduction of the matrix with these parts, none where they are not its parts.
@@ -178,25 +192,29 @@ fn reduction_with(
 /// `Memory` if allocation fails.
 pub(crate) fn with_parts(
     alloc: Global,
-    matrix: &Matrix,
+    matrix: &Differential,
+    cols: usize,
+    height: usize,
     image: Rows,
     chosen: Vec<BitVec>,
     kernel: Rows,
 ) -> Result<Option<Reduced>, Memory>
-    requires image { HaveWidth matrix.now.cols image }
-    requires chosen { HaveWidth (length matrix.now.rows) chosen.items }
-    requires widths { HaveWidth (length matrix.now.rows) kernel }
+    requires cols { cols ≡ (matrix_of matrix.now).cols }
+    requires height { height ≡ length (matrix_of matrix.now).rows }
+    requires image { HaveWidth (matrix_of matrix.now).cols image }
+    requires chosen { HaveWidth (length (matrix_of matrix.now).rows) chosen.items }
+    requires widths { HaveWidth (length (matrix_of matrix.now).rows) kernel }
     requires reduced { IsReduced kernel }
     requires nonzero { HasNoZeroRow kernel }
     ensures { IfOk result (λ found. MatchOption found
-        (AreReductionParts matrix.now.cols matrix.now.rows image chosen.items kernel → ⊥)
-        (λ r. AreReductionParts matrix.now.cols matrix.now.rows image chosen.items kernel
+        (AreReductionParts (matrix_of matrix.now).cols (matrix_of matrix.now).rows image chosen.items kernel → ⊥)
+        (λ r. AreReductionParts (matrix_of matrix.now).cols (matrix_of matrix.now).rows image chosen.items kernel
         × (r.image ≡ image) × (r.chosen ≡ chosen.items) × (r.kernel ≡ kernel)
-        × IsReductionOf matrix.now.cols matrix.now.rows r)) }
+        × IsReductionOf (matrix_of matrix.now).cols (matrix_of matrix.now).rows r)) }
 {
-    let fits = are_parts(
+    let fits = matrix.has_parts(
         alloc,
-        matrix,
+        cols,
         image.as_slice(),
         chosen.as_slice(),
         kernel.as_slice(),
@@ -205,6 +223,5 @@ pub(crate) fn with_parts(
         return Ok(None);
     }
     parts_are_reduction(); // Rows that are the parts are those of the reduction, which proofs learn here.
-    let height = matrix.rows().len();
-    Ok(Some(Reduced::from_shared_rows(matrix.cols(), height, image, chosen, kernel)))
+    Ok(Some(Reduced::from_shared_rows(cols, height, image, chosen, kernel)))
 }

@@ -9,10 +9,12 @@ ghost use Rattle.square.specs.Tables.{AllRead, IsNext, IsTable};
 ghost use Rattle.f2_matrix.specs.Echelon.{IsReduced, HasNoZeroRow};
 ghost use Rattle.save_file.specs.Reading.{packed_len, square_in, addition_in, after_body};
 ghost use Rattle.save_file.specs.Saved.{IsDecoded, IsDecodedSquare, IsDecodedQuasi, kept_of_table};
+ghost use Rattle.save_file.specs.Inside.Differentials.{matrix_of};
 ghost use Rattle.save_file.specs.Inside.Outline.{outline_of, addition_outline_of, packed_of, pair_of, IsPlaceFor, HasDimensions, IsBareAt, AreUnpacked, ArePackedParts};
 ghost use Rattle.save_file.specs.declared.fault.DecodeFault.TheVariants.{Strange};
 
 use crate::body::Body;
+use crate::differential::{Differential, is_small, next_map};
 use crate::fault::DecodeFault;
 use crate::outline::{
     AdditionParts, PackedPreimages, PackedRows, Parts, addition_parts_of, parts_of,
@@ -21,7 +23,7 @@ use crate::quasi::with_parts;
 use crate::rows::{are_packed_so, unpack};
 use bidegree::{MAX_S, MAX_T};
 use f2_kernel::is_row_basis;
-use f2_matrix::{Matrix, Reduced, Rows};
+use f2_matrix::{Reduced, Rows};
 use memory::Memory;
 use square::{Square, Table};
 use std::alloc::Global;
@@ -89,7 +91,9 @@ fn read_square(alloc: Global, table: &Table, body: &[u8]) -> Result<Option<Squar
     if !counts_add_up(&packed, parts.kernel.height) {
         return Ok(None);
     }
-    let matrix = table.next_matrix(alloc, parts.s, t, images.as_slice())?;
+    let (w, v) = (parts.images.cols, parts.kernel.cols);
+    let small = is_small(v, w, body.len() as u64);
+    let matrix = next_map(alloc, table, parts.s, t, images.as_slice(), small)?;
     let below = square_below(table, parts.s, parts.above);
     let shared = Rows::of(alloc, kernel)?;
     let Some(quasi) = reduction(alloc, &matrix, &packed, shared, below)? else {
@@ -119,7 +123,8 @@ fn read_quasi(
     if !counts_add_up(&parts.quasi, square.kernel().len() as u64) {
         return Ok(None);
     }
-    let matrix = table.matrix(alloc, parts.s, square.t())?;
+    let whole = table.matrix(alloc, parts.s, square.t())?;
+    let matrix = Differential::Whole(whole);
     let below = square_below(table, parts.s, parts.above);
     let kernel = square.kernel_rows(alloc)?;
     let Some(quasi) = reduction(alloc, &matrix, &parts.quasi, kernel, below)? else {
@@ -167,7 +172,7 @@ fn counts_add_up(packed: &PackedPreimages<'_>, nullity: u64) -> bool
 /// `Memory` if allocation fails.
 fn reduction(
     alloc: Global,
-    matrix: &Matrix,
+    matrix: &Differential,
     packed: &PackedPreimages<'_>,
     kernel: Rows,
     below: Option<&Square>,
@@ -175,15 +180,16 @@ fn reduction(
     requires image { length packed.now.image.bytes.now ≡ packed.now.image.height * packed_len packed.now.image.cols }
     requires chosen { length packed.now.chosen.bytes.now
         ≡ packed.now.chosen.height * packed_len packed.now.chosen.cols }
-    requires cols { packed.now.image.cols ≡ matrix.now.cols }
-    requires height { packed.now.chosen.cols ≡ length matrix.now.rows }
-    requires widths { HaveWidth (length matrix.now.rows) kernel }
+    requires cols { packed.now.image.cols ≡ (matrix_of matrix.now).cols }
+    requires height { packed.now.chosen.cols ≡ length (matrix_of matrix.now).rows }
+    requires widths { HaveWidth (length (matrix_of matrix.now).rows) kernel }
     requires reduced { IsReduced kernel }
     requires nonzero { HasNoZeroRow kernel }
     ensures { IfOk result (λ found. MatchOption found
-        ((image chosen : List (List Bool)) → ArePackedParts (pair_of packed.now) matrix.now image chosen kernel → ⊥)
-        (λ r. ArePackedParts (pair_of packed.now) matrix.now r.image r.chosen r.kernel × (r.kernel ≡ kernel)
-        × IsReductionOf matrix.now.cols matrix.now.rows r)) }
+        ((image chosen : List (List Bool)) → ArePackedParts (pair_of packed.now) (matrix_of matrix.now) image chosen kernel
+        → ⊥)
+        (λ r. ArePackedParts (pair_of packed.now) (matrix_of matrix.now) r.image r.chosen r.kernel × (r.kernel ≡ kernel)
+        × IsReductionOf (matrix_of matrix.now).cols (matrix_of matrix.now).rows r)) }
 {
     let Some(image) = image_rows(alloc, &packed.image, below)? else {
         return Ok(None);
@@ -191,7 +197,8 @@ fn reduction(
     let Some(chosen) = unpack(alloc, &packed.chosen)? else {
         return Ok(None);
     };
-    with_parts(alloc, matrix, image, chosen, kernel)
+    let (cols, height) = (packed.image.cols as usize, packed.chosen.cols as usize);
+    with_parts(alloc, matrix, cols, height, image, chosen, kernel)
 }
 
 /// The image rows, none where a spare bit of one is 1. Where they are the kernel rows of the square below they are shared with it,

@@ -9,6 +9,7 @@ use Rattle.resolution_laws.specs.Resolution.{Content}
 use Rattle.square.specs.Squares.{over}
 use Rattle.square.specs.Tables.{IsReadable, IsMatrixBehind, IsQuasiBehind}
 use Rattle.save_file.specs.Bodies.{preimages_of}
+use Rattle.save_file.specs.Inside.Differentials.{matrix_of}
 use Rattle.save_file.specs.Inside.Outline.{outline_of, pair_of, IsPlaceFor, ArePackedParts}
 use Rattle.save_journal.specs.Laws.{AreBytes}
 use Rattle.save_file.proofs.Outlines.{images_length, kernel_length, pair_of_whole}
@@ -87,17 +88,17 @@ returns-then-not-counts_add_up c =
     let some : o.quasi ≡ Some (pair_of c.in-Some-quasi.packed) = ap (option_map pair_of) c.in-Some-quasi.is in
     no_count c.args.table.now c.next_degree.ensures.is_table c.requires c.args.body.now o c.in-Some-next_degree.t c.in-Some-2.images.items c.in-Some-3.kernel.items (pair_of c.in-Some-quasi.packed) c.in-Some.ensures.1 f some (iff_false c.counts_add_up.ensures c.if-not-counts_add_up.true)
 
-pub next_matrix-requires-clause-place : goal.next_matrix-requires-clause-place
-next_matrix-requires-clause-place c =
+pub next_map-requires-clause-place : goal.next_map-requires-clause-place
+next_map-requires-clause-place c =
     let t : ℤ = to_z w32 (of_z w32 c.in-Some-next_degree.t) in
     let place : IsPlaceFor c.args.table.now c.in-Some.parts.s c.in-Some.parts.above t = search rules in
     place_at c.args.table.now c.in-Some.parts.s c.in-Some.parts.above t place
 
-pub next_matrix-requires-clause-widths : goal.next_matrix-requires-clause-widths
-next_matrix-requires-clause-widths c = λ k degree.
+pub next_map-requires-clause-widths : goal.next_map-requires-clause-widths
+next_map-requires-clause-widths c = λ k degree.
     let t : ℤ = to_z w32 (of_z w32 c.in-Some-next_degree.t) in
     let place : IsPlaceFor c.args.table.now c.in-Some.parts.s c.in-Some.parts.above t = search rules in
-    let f = found (goal.at.next_matrix-requires-clause-widths c).After-is_row_basis t place (λ i. omega (arith, c.type_inv.body i)) in
+    let f = found (goal.at.next_map-requires-clause-widths c).After-is_row_basis t place (λ i. omega (arith, c.type_inv.body i)) in
     rw c.as_slice-2.ensures.value (images_wide c.args.table.now c.args.body.now (outline_of c.in-Some.parts) t c.in-Some-2.images.items c.in-Some-3.kernel.items f k degree)
 
 -- ---- the parts of a reduction
@@ -121,8 +122,8 @@ reduction-requires-clause-cols c =
     let place : IsPlaceFor c.args.table.now c.in-Some.parts.s c.in-Some.parts.above t = search rules in
     let f = found (goal.at.reduction-requires-clause-cols c).After-is_row_basis t place (λ i. omega (arith, c.type_inv.body i)) in
     let some : o.quasi ≡ Some (pair_of c.in-Some-quasi.packed) = ap (option_map pair_of) c.in-Some-quasi.is in
-    let is : IsMatrixBehind c.args.table.now o.s t c.in-Some-2.images.items c.in_ok-matrix.matrix = subst (λ rows. IsMatrixBehind c.args.table.now o.s t rows c.in_ok-matrix.matrix) c.as_slice-2.ensures.value c.in_ok-matrix.ensures in
-    (fits_next c.args.table.now c.next_degree.ensures.is_table c.requires c.args.body.now o t c.in-Some-2.images.items c.in-Some-3.kernel.items (pair_of c.in-Some-quasi.packed) c.in_ok-matrix.matrix c.in-Some.ensures.1 f some is).cols
+    let is : IsMatrixBehind c.args.table.now o.s t c.in-Some-2.images.items (matrix_of c.in_ok-matrix.matrix) = subst (λ rows. IsMatrixBehind c.args.table.now o.s t rows (matrix_of c.in_ok-matrix.matrix)) c.as_slice-2.ensures.value c.in_ok-matrix.ensures in
+    (fits_next c.args.table.now c.next_degree.ensures.is_table c.requires c.args.body.now o t c.in-Some-2.images.items c.in-Some-3.kernel.items (pair_of c.in-Some-quasi.packed) (matrix_of c.in_ok-matrix.matrix) c.in-Some.ensures.1 f some is).cols
 
 pub reduction-requires-clause-height : goal.reduction-requires-clause-height
 reduction-requires-clause-height c =
@@ -131,8 +132,8 @@ reduction-requires-clause-height c =
     let place : IsPlaceFor c.args.table.now c.in-Some.parts.s c.in-Some.parts.above t = search rules in
     let f = found (goal.at.reduction-requires-clause-height c).After-is_row_basis t place (λ i. omega (arith, c.type_inv.body i)) in
     let some : o.quasi ≡ Some (pair_of c.in-Some-quasi.packed) = ap (option_map pair_of) c.in-Some-quasi.is in
-    let is : IsMatrixBehind c.args.table.now o.s t c.in-Some-2.images.items c.in_ok-matrix.matrix = subst (λ rows. IsMatrixBehind c.args.table.now o.s t rows c.in_ok-matrix.matrix) c.as_slice-2.ensures.value c.in_ok-matrix.ensures in
-    (fits_next c.args.table.now c.next_degree.ensures.is_table c.requires c.args.body.now o t c.in-Some-2.images.items c.in-Some-3.kernel.items (pair_of c.in-Some-quasi.packed) c.in_ok-matrix.matrix c.in-Some.ensures.1 f some is).height
+    let is : IsMatrixBehind c.args.table.now o.s t c.in-Some-2.images.items (matrix_of c.in_ok-matrix.matrix) = subst (λ rows. IsMatrixBehind c.args.table.now o.s t rows (matrix_of c.in_ok-matrix.matrix)) c.as_slice-2.ensures.value c.in_ok-matrix.ensures in
+    (fits_next c.args.table.now c.next_degree.ensures.is_table c.requires c.args.body.now o t c.in-Some-2.images.items c.in-Some-3.kernel.items (pair_of c.in-Some-quasi.packed) (matrix_of c.in_ok-matrix.matrix) c.in-Some.ensures.1 f some is).height
 
 pub reduction-requires-clause-widths : goal.reduction-requires-clause-widths
 reduction-requires-clause-widths c =
@@ -141,9 +142,9 @@ reduction-requires-clause-widths c =
     let place : IsPlaceFor c.args.table.now c.in-Some.parts.s c.in-Some.parts.above t = search rules in
     let f = found (goal.at.reduction-requires-clause-widths c).After-is_row_basis t place (λ i. omega (arith, c.type_inv.body i)) in
     let some : o.quasi ≡ Some (pair_of c.in-Some-quasi.packed) = ap (option_map pair_of) c.in-Some-quasi.is in
-    let is : IsMatrixBehind c.args.table.now o.s t c.in-Some-2.images.items c.in_ok-matrix.matrix = subst (λ rows. IsMatrixBehind c.args.table.now o.s t rows c.in_ok-matrix.matrix) c.as_slice-2.ensures.value c.in_ok-matrix.ensures in
-    subst (HaveWidth (length c.in_ok-matrix.matrix.rows)) (sym c.in_ok-shared.ensures)
-    (fits_next c.args.table.now c.next_degree.ensures.is_table c.requires c.args.body.now o t c.in-Some-2.images.items c.in-Some-3.kernel.items (pair_of c.in-Some-quasi.packed) c.in_ok-matrix.matrix c.in-Some.ensures.1 f some is).widths
+    let is : IsMatrixBehind c.args.table.now o.s t c.in-Some-2.images.items (matrix_of c.in_ok-matrix.matrix) = subst (λ rows. IsMatrixBehind c.args.table.now o.s t rows (matrix_of c.in_ok-matrix.matrix)) c.as_slice-2.ensures.value c.in_ok-matrix.ensures in
+    subst (HaveWidth (length (matrix_of c.in_ok-matrix.matrix).rows)) (sym c.in_ok-shared.ensures)
+    (fits_next c.args.table.now c.next_degree.ensures.is_table c.requires c.args.body.now o t c.in-Some-2.images.items c.in-Some-3.kernel.items (pair_of c.in-Some-quasi.packed) (matrix_of c.in_ok-matrix.matrix) c.in-Some.ensures.1 f some is).widths
 
 pub reduction-requires-clause-reduced : goal.reduction-requires-clause-reduced
 reduction-requires-clause-reduced c =
@@ -161,7 +162,7 @@ pub returns-in_default-4 : goal.returns-in_default-4
 returns-in_default-4 c =
     let o = outline_of c.in-Some.parts in
     let p = pair_of c.in-Some-quasi.packed in
-    let matrix = c.in_ok-matrix.matrix in
+    let matrix = (matrix_of c.in_ok-matrix.matrix) in
     let t : ℤ = to_z w32 (of_z w32 c.in-Some-next_degree.t) in
     let place : IsPlaceFor c.args.table.now c.in-Some.parts.s c.in-Some.parts.above t = search rules in
     let f = found (goal.at.returns-in_default-4 c).After-is_row_basis t place (λ i. omega (arith, c.type_inv.body i)) in
@@ -172,11 +173,11 @@ returns-in_default-4 c =
     no_parts c.args.table.now c.next_degree.ensures.is_table c.requires c.args.body.now o t c.in-Some-2.images.items c.in-Some-3.kernel.items p matrix c.in-Some.ensures.1 f some is none
 
 -- what was put together is the reduction there
-here : (c : After-reduction) (t : ℤ) (r : Reduction) → IsMatrixBehind c.args.table.now c.in-Some.parts.s t c.as_slice-2.result.now c.in_ok-matrix.matrix → IsPutTogether (pair_of c.in-Some-quasi.packed) c.in_ok-matrix.matrix c.in_ok-shared.shared r
+here : (c : After-reduction) (t : ℤ) (r : Reduction) → IsMatrixBehind c.args.table.now c.in-Some.parts.s t c.as_slice-2.result.now (matrix_of c.in_ok-matrix.matrix) → IsPutTogether (pair_of c.in-Some-quasi.packed) (matrix_of c.in_ok-matrix.matrix) c.in_ok-shared.shared r
     → IsReductionHere c.args.table.now (outline_of c.in-Some.parts) t c.in-Some-2.images.items c.in-Some-3.kernel.items (pair_of c.in-Some-quasi.packed) r
 here c t r is put = record {
-  matrix = c.in_ok-matrix.matrix;
-  is_matrix = subst (λ rows. IsMatrixBehind c.args.table.now c.in-Some.parts.s t rows c.in_ok-matrix.matrix) c.as_slice-2.ensures.value is;
+  matrix = (matrix_of c.in_ok-matrix.matrix);
+  is_matrix = subst (λ rows. IsMatrixBehind c.args.table.now c.in-Some.parts.s t rows (matrix_of c.in_ok-matrix.matrix)) c.as_slice-2.ensures.value is;
   parts = put.0;
   kernel_is = put.1 ∙ c.in_ok-shared.ensures;
   reduction = put.2;
