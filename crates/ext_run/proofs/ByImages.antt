@@ -1,4 +1,5 @@
 -- The sheets that are made from images of a canonical resolution are those of the resolution.
+use Rattle.std.specs.Prelude.{IfOk, Result, Ok, Err}
 use Rattle.std.proofs.Common.{◌≡◌, ℕ, ◌+◌, List, length, map, sym, subst, ap, ◌∙◌, arith}
 use Rattle.std.proofs.lemmas.List.{length-map}
 use Rattle.bidegree.specs.declared.range.Range.{Range}
@@ -33,8 +34,8 @@ module _ (exists : CanonicalTableExists) (minimal : CanonicalTableIsMinimalResol
       let table = exists (over m) range.s range.t steenrod.widths in
       (table.0, record { canonical = table.1; minimal = minimal (over m) range.s range.t table.0 steenrod (width-below m.plain.generators m.by_degree) table.1 })
 
-  pub rectangle : (shape : Shape) (images : BareTable) → images.resolved ≡ m → AreOfCanonical (over m) range.s range.t images.rows → AreOfResolution shape range m images
-  rectangle shape images same h = record {
+  of_rectangle : (shape : Shape) (images : BareTable) → images.resolved ≡ m → AreOfCanonical (over m) range.s range.t images.rows → AreOfResolution shape range m images
+  of_rectangle shape images same h = record {
     resolved = same;
     through = λ s l.
         let r = resolved in
@@ -43,8 +44,8 @@ module _ (exists : CanonicalTableExists) (minimal : CanonicalTableIsMinimalResol
     alike = λ table canonical. images_alike m.plain range images.rows table canonical h (last_degree shape range);
   }
 
-  pub stems : RowsInStemsAreWhole → StemsAreToldAlike → (n : ℕ) (images : BareTable) → images.resolved ≡ m → n + range.s ≡ range.t → AreOfStems (over m) range.s n images.rows → AreOfResolution Stems range m images
-  stems whole alike n images same e h =
+  of_stems : RowsInStemsAreWhole → StemsAreToldAlike → (n : ℕ) (images : BareTable) → images.resolved ≡ m → n + range.s ≡ range.t → AreOfStems (over m) range.s n images.rows → AreOfResolution Stems range m images
+  of_stems whole alike n images same e h =
       let lines = images.rows in
       let there : (table : List (List Content)) → IsCanonicalTable (over m) range.s range.t table → IsCanonicalTable (over m) range.s (n + range.s) table =
       λ table canonical. subst (λ (t : ℕ). IsCanonicalTable (over m) range.s t table) (sym e) canonical in
@@ -58,6 +59,14 @@ module _ (exists : CanonicalTableExists) (minimal : CanonicalTableIsMinimalResol
             omega (arith, e, ap length row, length-map squares bare, whole (over m) range.s n r.0 c s l);
         alike = λ table canonical. stem_images_alike alike m.plain range n lines table e (resolution table canonical) h.rows (h.each table (there table canonical));
       }
+
+  pub rectangle : {E : Type 0} (shape : Shape) (made : Result BareTable E) → IfOk made (λ images. images.resolved ≡ m) → IfOk made (λ images. AreOfCanonical (over m) range.s range.t images.rows) → IfOk made (AreOfResolution shape range m)
+  rectangle shape (Ok images) same h = of_rectangle shape images same h
+  rectangle shape (Err e) same h = tt
+
+  pub stems : RowsInStemsAreWhole → StemsAreToldAlike → {E : Type 0} (n : ℕ) (made : Result BareTable E) → n + range.s ≡ range.t → IfOk made (λ images. images.resolved ≡ m) → IfOk made (λ images. AreOfStems (over m) range.s n images.rows) → IfOk made (AreOfResolution Stems range m)
+  stems whole alike n (Ok images) e same h = of_stems whole alike n images same e h
+  stems whole alike n (Err fault) e same h = tt
 
   pub is_sheet_of : (sheet : Sheet) (shape : Shape) (images : BareTable) (text : List ℕ) → AreOfResolution shape range m images → text ≡ sheet_of sheet shape range images.resolved.plain (squares_of images.rows) → IsReadOff (sheet_of sheet shape range) range m.plain text
   is_sheet_of sheet shape images text h is =
