@@ -148,7 +148,7 @@ def table(rows, top, by=(), file=SPHERE, stems=False):
     since of Milnor's basis in degree 2^k that element alone is no sum of products. So all of them cost one run, without kernels. Those by
     other classes are made in the rectangle of rows and degrees.
     """
-    counts, hits = Counter(), {k: {} for k in range(top.bit_length())}
+    counts, hits = Counter(), {k: {} for k in range((top + rows * stems).bit_length())}
     everything = []
     for line in ext("dump", rows, top, *["--stems"] * stems, file=file):
         left, _, image = line.partition(" = ")

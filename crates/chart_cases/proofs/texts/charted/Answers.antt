@@ -1,5 +1,6 @@
+use Rattle.bidegree.specs.declared.shape.Shape.TheVariants.{Rectangle}
 use Rattle.ext_chart.proofs.Seen.{through_seen}
 use Rattle.chart_cases.proofs.texts.charted.Goals as goal
 
 pub chart-requires : goal.chart-requires
-chart-requires c = through_seen _ _ _ c.in_ok-table.ensures.through
+chart-requires c = through_seen _ Rectangle _ c.in_ok-table.ensures.through

@@ -1,5 +1,6 @@
+use Rattle.bidegree.specs.declared.shape.Shape.TheVariants.{Rectangle}
 use Rattle.ext_chart.proofs.Seen.{through_seen}
 use Rattle.chart_cases.proofs.texts.dumped.Goals as goal
 
 pub dump-requires : goal.dump-requires
-dump-requires c = through_seen _ _ _ c.in_ok-table.ensures.through
+dump-requires c = through_seen _ Rectangle _ c.in_ok-table.ensures.through
