@@ -10,8 +10,8 @@ use Rattle.f2_matrix.specs.Rank.{SpanAll}
 use Rattle.f2_matrix.specs.Reduction.{Reduction}
 use Rattle.f2_matrix.proofs.Parts.{image_is_row_basis}
 use Rattle.f2_matrix.proofs.Unique.{row_basis_unique}
-use Rattle.f2_dual.proofs.Step.{reduction_kernel}
-use Rattle.f2_dual.proofs.Units.{IsReduced-unit_vectors, HasNoZeroRow-unit_vectors}
+use Rattle.f2_choice.proofs.Step.{reduction_kernel}
+use Rattle.f2_choice.proofs.Units.{IsReduced-unit_vectors, HasNoZeroRow-unit_vectors}
 use Rattle.free_module.specs.FreeModule.{free_width}
 use Rattle.resolution_laws.specs.Resolution.{Module, Content, no_content, square_in, row_of}
 use Rattle.resolution_laws.specs.Exactness.{degrees_in, target_of, differential}

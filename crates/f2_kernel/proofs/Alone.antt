@@ -10,8 +10,8 @@ use Rattle.f2_vec.proofs.Spans.{HaveWidth-nil, HaveWidth-cons, HaveWidth-head, H
 use Rattle.f2_vec.proofs.Split.{length-unit_vectors, HaveWidth-unit_vectors, combination-unit_vectors}
 use Rattle.f2_vec.proofs.Combinations.{combination-padded_right}
 use Rattle.f2_matrix.specs.Echelon.{IsKernelBasis}
-use Rattle.f2_dual.specs.Coordinates.{coordinates}
-use Rattle.f2_dual.proofs.Units.{IsReduced-unit_vectors, HasNoZeroRow-unit_vectors}
+use Rattle.f2_choice.specs.Coordinates.{coordinates}
+use Rattle.f2_choice.proofs.Units.{IsReduced-unit_vectors, HasNoZeroRow-unit_vectors}
 use Rattle.f2_kernel.specs.Inside.Upward.{AreCleared, upward, solved, are_zero, vacant_elements, relation, relations}
 use Rattle.f2_kernel.specs.Coordinates.{AreColumnsOf}
 use Rattle.f2_kernel.proofs.Cleared.{AreCleared-upward}

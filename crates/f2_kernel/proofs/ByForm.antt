@@ -16,19 +16,19 @@ use Rattle.f2_matrix.specs.Echelon.{IsReduced, HasNoZeroRow, IsKernelBasis}
 use Rattle.f2_matrix.specs.Preimages.{pivot_of, at_pivots}
 use Rattle.f2_matrix.specs.Reduction.{has_one}
 use Rattle.f2_matrix.specs.Choice.{IsChosen}
-use Rattle.f2_dual.specs.Inside.Columns.{column}
+use Rattle.f2_choice.specs.Inside.Columns.{column}
 use Rattle.f2_matrix.proofs.Eliminate.{has_reduction}
 use Rattle.f2_matrix.proofs.Parts.{has_one-zero, zero_has_none}
 use Rattle.f2_matrix.proofs.Pivots.{is_pivot, pivot_first, pivot_zero, length-at_pivots, bit-at_pivots, sum_at_pivots}
 use Rattle.f2_matrix.proofs.Unique.{span_first-IsPivot}
-use Rattle.f2_dual.specs.Inside.Dots.{dot}
-use Rattle.f2_dual.specs.Coordinates.{coordinates}
-use Rattle.f2_dual.specs.Inside.Coordinates.{element_of, is_free, free_elements, new_rows}
-use Rattle.f2_dual.proofs.Dots.{dot-comm, bit-combination-dot}
-use Rattle.f2_dual.proofs.OnCandidates.{AreParts, row-column, wide_rows, wide_new, length-new, length-coordinates, wide_coordinates, element_within, same_at_pivots}
-use Rattle.f2_dual.proofs.Relations.{found, free_or_pivot, free_no_pivot, free_at, free_at-is, free_at-rises, whole, made, length-whole, length-made, wide_made, made_firsts, made-IsKernelBasis}
-use Rattle.f2_dual.proofs.Step.{has_pivot, bit-kept, new-IsPicked, parts_of, dropped-IsInSpan, kept-apart}
-use Rattle.f2_dual.proofs.WantedColumns.{filter_same_on}
+use Rattle.f2_choice.specs.Inside.Dots.{dot}
+use Rattle.f2_choice.specs.Coordinates.{coordinates}
+use Rattle.f2_choice.specs.Inside.Coordinates.{element_of, is_free, free_elements, new_rows}
+use Rattle.f2_choice.proofs.Dots.{dot-comm, bit-combination-dot}
+use Rattle.f2_choice.proofs.OnCandidates.{AreParts, row-column, wide_rows, wide_new, length-new, length-coordinates, wide_coordinates, element_within, same_at_pivots}
+use Rattle.f2_choice.proofs.Relations.{found, free_or_pivot, free_no_pivot, free_at, free_at-is, free_at-rises, whole, made, length-whole, length-made, wide_made, made_firsts, made-IsKernelBasis}
+use Rattle.f2_choice.proofs.Step.{has_pivot, bit-kept, new-IsPicked, parts_of, dropped-IsInSpan, kept-apart}
+use Rattle.f2_choice.proofs.WantedColumns.{filter_same_on}
 use Rattle.f2_kernel.specs.Inside.Upward.{upward, solved, are_zero, has_no_pivot, vacant_elements, relation, relations}
 use Rattle.f2_kernel.proofs.Cleared.{zero_or_pivot, length-upward, AreCleared-upward, upward-IsInSpan, span_first, zero_from_relation, relation_from_zero}
 use Rattle.f2_kernel.proofs.Solved.{dot-reverse, dot-combination, length-solved, solved-orthogonal}

@@ -10,7 +10,7 @@ use Rattle.f2_vec.proofs.Sums.{bit-zeros, length-zeros}
 use Rattle.f2_matrix.specs.Preimages.{pivot_of}
 use Rattle.f2_matrix.proofs.Elimination.{IsFirstOne-unique}
 use Rattle.f2_matrix.proofs.Pivots.{pivot_first, pivot_zero, first_within}
-use Rattle.f2_dual.proofs.Relations.{found}
+use Rattle.f2_choice.proofs.Relations.{found}
 use Rattle.f2_kernel.specs.Inside.Upward.{has_no_pivot}
 use Rattle.f2_kernel.proofs.Cleared.{zero_or_pivot}
 

@@ -15,7 +15,7 @@ use Rattle.f2_matrix.specs.Echelon.{IsReduced, HasNoZeroRow}
 use Rattle.f2_matrix.specs.Preimages.{pivot_of}
 use Rattle.f2_matrix.proofs.Pivots.{pivot_first}
 use Rattle.f2_matrix.proofs.Kept.{place_of, kept_at, place_of-rises}
-use Rattle.f2_dual.proofs.Relations.{HaveFirsts, IsReduced-from_firsts, HasNoZeroRow-from_firsts}
+use Rattle.f2_choice.proofs.Relations.{HaveFirsts, IsReduced-from_firsts, HasNoZeroRow-from_firsts}
 use Rattle.f2_kernel.specs.Inside.Upward.{solved, AreCleared, has_no_pivot, vacant_elements, relation, relations}
 use Rattle.f2_kernel.proofs.Solved.{length-solved, solved-bit, solved-past}
 

@@ -12,14 +12,14 @@ use Rattle.f2_vec.proofs.Split.{bit-unit_vector, length-unit_vector}
 use Rattle.f2_vec.proofs.Combinations.{map_same}
 use Rattle.f2_vec.proofs.Ones.{items_where_true-push}
 use Rattle.f2_matrix.specs.Preimages.{pivot_of}
-use Rattle.f2_dual.specs.Inside.Columns.{column}
+use Rattle.f2_choice.specs.Inside.Columns.{column}
 use Rattle.f2_matrix.specs.Reduction.{has_one}
 use Rattle.f2_matrix.proofs.Parts.{has_one-zero, zero_has_none}
-use Rattle.f2_dual.proofs.Loops.{range_push}
+use Rattle.f2_choice.proofs.Loops.{range_push}
 use Rattle.std.proofs.lemmas.List.Elements.{filter-append}
 use Rattle.f2_matrix.proofs.Pivots.{pivot_first}
-use Rattle.f2_dual.specs.Inside.Dots.{dot}
-use Rattle.f2_dual.proofs.OnCandidates.{row-column}
+use Rattle.f2_choice.specs.Inside.Dots.{dot}
+use Rattle.f2_choice.proofs.OnCandidates.{row-column}
 use Rattle.f2_kernel.specs.Inside.Upward.{clear_one, cleared_by, upward, are_zero, solved_one, solved, has_no_pivot, relation, relations}
 use Rattle.f2_kernel.proofs.Cleared.{bit_at_zero}
 

@@ -9,7 +9,7 @@ use Rattle.std.proofs.lemmas.List.{get_or_past, get_or-take, get_or-drop, length
 use Rattle.std.proofs.lemmas.Nat.{ones_le_self}
 use Rattle.std.proofs.lemmas.Nat.Bits.{bit_at_and, bit_at-suc, bit_at_lowest, bit_at-lt, bit_at-zero, bit_at_above, same_from_bits}
 use Rattle.f2_vec.specs.Vectors.{plus, bit}
-use Rattle.f2_dual.specs.Inside.Dots.{dot}
+use Rattle.f2_choice.specs.Inside.Dots.{dot}
 use Rattle.f2_kernel.proofs.Solved.{dot-append}
 
 -- the sum of a bit and a number is odd where one of them is and the other is not

@@ -2,7 +2,7 @@
 use Rattle.std.specs.Prelude.{◌≡◌, ℕ, ◌<◌, Bool, List, length}
 use Rattle.f2_vec.specs.Spans.{row, HaveWidth, IsInSpan, unit_vectors}
 use Rattle.f2_matrix.specs.Reduction.{Rows}
-use Rattle.f2_dual.specs.Coordinates.{coordinates}
+use Rattle.f2_choice.specs.Coordinates.{coordinates}
 
 -- n rows are sums of the vectors of this basis, and the form has their coordinates on these: for each vector the coefficients of the rows, with
 -- the last row first

@@ -4,13 +4,13 @@ ghost use Rattle.std.specs.List.{items_where_true};
 ghost use Rattle.f2_vec.specs.Spans.{row, HaveWidth, IsInSpan};
 ghost use Rattle.f2_matrix.specs.Echelon.{IsKernelBasis};
 ghost use Rattle.f2_matrix.specs.Choice.{IsChosen};
-ghost use Rattle.f2_dual.specs.Coordinates.{coordinates as coordinates_of};
+ghost use Rattle.f2_choice.specs.Coordinates.{coordinates as coordinates_of};
 ghost use Rattle.f2_kernel.specs.Coordinates.{AreCoordinatesOf};
 ghost use Rattle.f2_kernel.specs.Inside.Upward.{are_zero};
 
 use crate::blocks::clear_upward;
 use crate::kernel::Kernel;
-use f2_dual::columns_at;
+use f2_choice::columns_at;
 use f2_matrix::Matrix;
 use f2_vec::BitVec;
 use memory::Memory;

@@ -2,7 +2,7 @@
 ghost use Rattle.std.specs.Prelude.{◌≡◌, ◌<◌, [], ◌∷◌, map, length, OnOk};
 ghost use Rattle.f2_vec.specs.Spans.{HaveWidth};
 ghost use Rattle.f2_matrix.specs.Preimages.{pivot_of};
-ghost use Rattle.f2_dual.specs.Inside.Dots.{dot as dot_of};
+ghost use Rattle.f2_choice.specs.Inside.Dots.{dot as dot_of};
 ghost use Rattle.f2_kernel.specs.Inside.Upward.{cleared_by, upward, solved};
 
 use f2_matrix::pivot;

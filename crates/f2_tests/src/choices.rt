@@ -4,7 +4,7 @@ ghost use Rattle.f2_vec.specs.Spans.{HaveWidth};
 ghost use Rattle.f2_matrix.specs.Echelon.{IsReduced, HasNoZeroRow};
 
 use crate::samples::{SEED, are_same, matrix_of, next, seeded, written};
-use f2_dual::choose;
+use f2_choice::choose;
 use f2_matrix::{Matrix, Reduced, Rows};
 use f2_vec::BitVec;
 use memory::Memory;

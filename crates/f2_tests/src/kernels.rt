@@ -44,7 +44,7 @@ fn agree_at(
     // So it is known that the rows are of the matrix's width.
     let height = matrix.rows().len();
     let (new, kernel) = choose(alloc, &matrix, &all)?;
-    let (chosen, reduced) = f2_dual::choose(alloc, matrix, &given.image_rows(alloc)?)?;
+    let (chosen, reduced) = f2_choice::choose(alloc, matrix, &given.image_rows(alloc)?)?;
     Ok(
         are_same(new.as_slice(), chosen.as_slice())
             && kernel.cols() == height + new.len()

@@ -8,8 +8,8 @@ use Rattle.f2_vec.proofs.Combinations.{map-map, HaveWidth-map}
 use Rattle.f2_matrix.specs.Echelon.{IsReduced, HasNoZeroRow}
 use Rattle.f2_matrix.specs.Preimages.{pivot_of}
 use Rattle.f2_matrix.proofs.Pivots.{is_pivot}
-use Rattle.f2_dual.specs.Inside.Columns.{column}
-use Rattle.f2_dual.specs.Coordinates.{coordinates}
+use Rattle.f2_choice.specs.Inside.Columns.{column}
+use Rattle.f2_choice.specs.Coordinates.{coordinates}
 
 -- pivots are apart
 pub pivots_apart : (rows : List (List Bool)) → IsReduced rows → HasNoZeroRow rows → (i j : ℕ) → i < length rows → j < length rows → pivot_of (row rows i) ≡ pivot_of (row rows j) → i ≡ j

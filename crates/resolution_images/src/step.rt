@@ -2,7 +2,7 @@
 ghost use Rattle.std.specs.Prelude.{◌≡◌, ℕ, ◌<◌, ◌++◌, replicate, length, IfOk};
 ghost use Rattle.f2_vec.specs.Spans.{row as row_at, IsInSpan};
 ghost use Rattle.f2_matrix.specs.Echelon.{IsKernelBasis};
-ghost use Rattle.f2_dual.specs.Coordinates.{coordinates};
+ghost use Rattle.f2_choice.specs.Coordinates.{coordinates};
 ghost use Rattle.free_module.specs.FreeModule.{IsWithinReach, free_width};
 ghost use Rattle.free_module.specs.Graded.{free_graded};
 ghost use Rattle.free_module.specs.LinearMap.{AreImages, map_rows};

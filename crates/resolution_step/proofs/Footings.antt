@@ -3,7 +3,7 @@ use Rattle.std.proofs.Common.{◌≡◌, ℕ, zero, suc, ◌+◌, ℤ, pos, ◌+
 use Rattle.std.proofs.lemmas.List.{take_all, take_more}
 use Rattle.f2_vec.specs.Spans.{HaveWidth, unit_vectors}
 use Rattle.f2_vec.proofs.Split.{HaveWidth-unit_vectors}
-use Rattle.f2_dual.proofs.Units.{IsReduced-unit_vectors, HasNoZeroRow-unit_vectors}
+use Rattle.f2_choice.proofs.Units.{IsReduced-unit_vectors, HasNoZeroRow-unit_vectors}
 use Rattle.f2_matrix.specs.Echelon.{IsReduced, HasNoZeroRow, IsKernelBasis}
 use Rattle.f2_matrix.specs.Reduction.{Rows, Reduction, IsReductionOf}
 use Rattle.f2_matrix.proofs.Unique.{kernel_basis_unique}

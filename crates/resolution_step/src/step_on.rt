@@ -98,6 +98,6 @@ fn reduced_step<T: Target>(
         (record { images = parts.images.items; kernel = parts.quasi.kernel }) parts.quasi) }
 {
     let matrix = Hom::new(basis, source, target, images).matrix(alloc, t)?;
-    let (images, quasi) = f2_dual::choose(alloc, matrix, candidates)?;
+    let (images, quasi) = f2_choice::choose(alloc, matrix, candidates)?;
     Ok(Parts { images, quasi })
 }

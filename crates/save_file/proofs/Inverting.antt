@@ -4,7 +4,7 @@ use Rattle.std.specs.Prelude.{slice_get}
 use Rattle.std.proofs.lemmas.List.{length-map, get_or-map}
 use Rattle.f2_vec.specs.Vectors.{bit}
 use Rattle.f2_vec.specs.Spans.{HaveWidth}
-use Rattle.f2_dual.specs.Inside.Columns.{column, columns_at}
+use Rattle.f2_choice.specs.Inside.Columns.{column, columns_at}
 use Rattle.f2_matrix.specs.Echelon.{IsReduced, HasNoZeroRow}
 use Rattle.f2_matrix.specs.Reduction.{Rows, Reduction, IsReductionOf}
 use Rattle.f2_matrix.proofs.Unique.{kernel_basis_unique}

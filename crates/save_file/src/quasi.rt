@@ -10,7 +10,7 @@ ghost use Rattle.save_file.specs.Inside.Differentials.{matrix_of};
 use crate::differential::Differential;
 use crate::reading::square_below;
 use crate::rows::have_width;
-use f2_dual::columns_at;
+use f2_choice::columns_at;
 use f2_matrix::{Matrix, Reduced, Rows, parts_are_reduction};
 use f2_vec::BitVec;
 use memory::Memory;

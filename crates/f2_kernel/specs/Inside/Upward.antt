@@ -5,7 +5,7 @@ use Rattle.f2_vec.specs.Vectors.{sum_of, zeros, bit}
 use Rattle.f2_vec.specs.Spans.{row, unit_vector, HaveWidth}
 use Rattle.f2_matrix.specs.Preimages.{pivot_of}
 use Rattle.f2_matrix.specs.Reduction.{has_one}
-use Rattle.f2_dual.specs.Inside.Dots.{dot}
+use Rattle.f2_choice.specs.Inside.Dots.{dot}
 
 -- ---- the form
 

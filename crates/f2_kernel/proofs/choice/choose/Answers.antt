@@ -5,7 +5,7 @@ use Rattle.f2_vec.specs.Spans.{row, HaveWidth, IsInSpan}
 use Rattle.f2_matrix.specs.Echelon.{IsKernelBasis}
 use Rattle.f2_matrix.specs.Choice.{IsChosen}
 use Rattle.f2_matrix.specs.Preimages.{pivot_of}
-use Rattle.f2_dual.specs.Inside.Columns.{column}
+use Rattle.f2_choice.specs.Inside.Columns.{column}
 use Rattle.f2_kernel.specs.Coordinates.{AreCoordinatesOf}
 use Rattle.f2_kernel.proofs.ByForm.{wide_on}
 use Rattle.f2_kernel.proofs.choice.choose.Goals as goal

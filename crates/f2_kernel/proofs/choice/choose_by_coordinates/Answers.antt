@@ -3,7 +3,7 @@ use Rattle.std.specs.List.{items_where_true}
 use Rattle.f2_vec.specs.Spans.{HaveWidth}
 use Rattle.f2_matrix.specs.Echelon.{IsKernelBasis}
 use Rattle.f2_matrix.specs.Choice.{IsChosen}
-use Rattle.f2_dual.specs.Coordinates.{coordinates}
+use Rattle.f2_choice.specs.Coordinates.{coordinates}
 use Rattle.f2_kernel.specs.Inside.Upward.{AreCleared, upward, are_zero, relations}
 use Rattle.f2_kernel.proofs.Cleared.{AreCleared-upward, length-upward, upward-kept}
 use Rattle.f2_kernel.proofs.ByForm.{choice_by_form}

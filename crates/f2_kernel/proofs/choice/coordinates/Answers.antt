@@ -2,8 +2,8 @@ use Rattle.std.proofs.Common.{ℕ, Bool, List, map, reverse, ap, ◌∙◌}
 use Rattle.std.proofs.lemmas.Result.{IfOk-weaker}
 use Rattle.f2_vec.proofs.Combinations.{map-map}
 use Rattle.f2_matrix.specs.Preimages.{pivot_of}
-use Rattle.f2_dual.specs.Inside.Columns.{column}
-use Rattle.f2_dual.specs.Inside.Columns.{columns_at}
+use Rattle.f2_choice.specs.Inside.Columns.{column}
+use Rattle.f2_choice.specs.Inside.Columns.{columns_at}
 use Rattle.f2_kernel.proofs.choice.coordinates.Goals as goal
 
 pub returns : goal.returns

@@ -1,7 +1,7 @@
 use Rattle.std.proofs.Common.{◌≡◌, Bool, List, length, sym, ap, ◌∙◌}
 use Rattle.std.proofs.lemmas.Result.{IfOk-weaker}
 use Rattle.f2_vec.specs.Spans.{unit_vectors}
-use Rattle.f2_dual.specs.Coordinates.{coordinates}
+use Rattle.f2_choice.specs.Coordinates.{coordinates}
 use Rattle.f2_kernel.specs.Coordinates.{AreColumnsOf}
 use Rattle.f2_kernel.proofs.Alone.{wide_columns}
 use Rattle.f2_kernel.proofs.choice.kernel_of.Goals as goal

@@ -1,7 +1,7 @@
 use Rattle.std.proofs.Common.{◌≡◌, ◌-◌, ◌+◌, ◌*◌, drop, not, Bool, true, false, refl, ap, ◌∙◌, arith}
 use mathlib.Core.Bool.{beq}
 use Rattle.f2_vec.specs.Vectors.{plus}
-use Rattle.f2_dual.specs.Inside.Dots.{dot}
+use Rattle.f2_choice.specs.Inside.Dots.{dot}
 use Rattle.f2_kernel.proofs.Words.{word_more}
 use Rattle.f2_kernel.proofs.form.dot.Goals as goal
 

@@ -4,7 +4,7 @@ use Rattle.std.proofs.lemmas.List.{length-map}
 use Rattle.std.proofs.lemmas.Result.{IfOk-weaker}
 use Rattle.f2_vec.specs.Spans.{unit_vectors}
 use Rattle.f2_matrix.specs.Echelon.{IsKernelBasis}
-use Rattle.f2_dual.specs.Coordinates.{coordinates}
+use Rattle.f2_choice.specs.Coordinates.{coordinates}
 use Rattle.f2_kernel.specs.Coordinates.{AreColumnsOf}
 use Rattle.free_module.specs.FreeModule.{free_basis, free_width}
 use Rattle.free_module.specs.Graded.{free_graded}

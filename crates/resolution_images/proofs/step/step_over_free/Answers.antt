@@ -2,7 +2,7 @@ use Rattle.std.proofs.Common.{◌≡◌, ◌<◌, ℤ, ◌+◌, Bool, List, ℕ,
 use Rattle.std.proofs.lemmas.Int.{to_z-of_z}
 use Rattle.f2_vec.specs.Spans.{row, HaveWidth, IsInSpan}
 use Rattle.f2_matrix.specs.Reduction.{Rows}
-use Rattle.f2_dual.specs.Coordinates.{coordinates}
+use Rattle.f2_choice.specs.Coordinates.{coordinates}
 use Rattle.f2_kernel.specs.Coordinates.{AreCoordinatesOf}
 use Rattle.free_module.specs.FreeModule.{free_width}
 use Rattle.free_module.specs.Graded.{free_graded}

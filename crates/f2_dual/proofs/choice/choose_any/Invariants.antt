@@ -1,5 +1,0 @@
-use Rattle.f2_dual.proofs.Choosing.{IsChosenTo}
-use Rattle.f2_dual.proofs.choice.choose_any.Given as goal
-
-abbrev pub invariant-loop-i : goal.invariant-loop-i
-invariant-loop-i l = IsChosenTo l.matrix.cols l.matrix.rows l.candidates l.i l.chosen.items l.reduced

@@ -1,5 +1,0 @@
-use Rattle.f2_dual.proofs.AtPlaces.{IsBlockUpTo, read}
-use Rattle.f2_dual.proofs.columns.block_of.Given as goal
-
-abbrev pub invariant-loop-r : goal.invariant-loop-r
-invariant-loop-r l = IsBlockUpTo l.r l.i l.j (read l.rows) l.block
