@@ -18,3 +18,4 @@ pub mod TakingUp
 mod TakenUp
 mod Keeps
 mod Behind
+mod There

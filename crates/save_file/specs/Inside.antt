@@ -1,4 +1,5 @@
 -- What the proofs speak of behind the definitions: where the numbers of a body say that its parts are, and the laws of the keeper.
 pub mod Differentials
 pub mod Outline
+pub mod Reach
 pub mod SavingLaws

@@ -7,6 +7,7 @@ mod differential;
 mod fault;
 mod laws;
 mod outline;
+mod products;
 mod quasi;
 mod reading;
 mod resuming;

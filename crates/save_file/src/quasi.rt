@@ -4,12 +4,13 @@ ghost use Rattle.f2_vec.specs.Spans.{HaveWidth};
 ghost use Rattle.f2_matrix.specs.Echelon.{IsReduced, HasNoZeroRow};
 ghost use Rattle.f2_matrix.specs.Parts.{AreReductionParts};
 ghost use Rattle.f2_matrix.specs.Reduction.{IsReductionOf};
-ghost use Rattle.square.specs.Tables.{square_at, IsQuasiAt};
+ghost use Rattle.square.specs.Tables.{square_at, IsMatrixAt, IsQuasiAt};
 ghost use Rattle.save_file.specs.Inside.Differentials.{matrix_of};
 
-use crate::differential::Differential;
+use crate::differential::{Differential, is_small, square_map};
+use crate::products::are_few;
 use crate::reading::square_below;
-use crate::rows::have_width;
+use crate::rows::{have_width, is_pivot_of};
 use f2_choice::columns_at;
 use f2_matrix::{Matrix, Reduced, Rows, parts_are_reduction};
 use f2_vec::BitVec;
@@ -47,38 +48,102 @@ fn quasi_over_below(alloc: Global, table: &Table, s: u16, t: i32) -> Result<Opti
     let Some(below) = square_below(table, s, square.above()) else {
         return Ok(None);
     };
-    let matrix = table.matrix(alloc, s, t)?;
-    let chosen = preimages(alloc, matrix.rows(), below.kernel(), square.kernel())?;
-    let image = below.kernel_rows(alloc)?;
-    let kernel = square.kernel_rows(alloc)?;
-    let (cols, height) = (matrix.cols(), matrix.rows().len());
-    reduction_with(
-        alloc,
-        &Differential::Whole(matrix),
+    let (w, v) = square.widths();
+    let (rank, nullity) = (below.kernel().len() as u64, square.kernel().len() as u64);
+    if rank > v || nullity != v - rank {
+        return Ok(None);
+    }
+    let len = rank
+        .saturating_mul(w.div_ceil(8))
+        .saturating_add(nullity.saturating_mul(v.div_ceil(8)));
+    let few = are_few(alloc, table, s, square.above(), &[], len)?;
+    let small = few && is_small(v, w, len);
+    let guess = guessed(alloc, table, s, t, below.kernel(), square.kernel(), small)?;
+    let Guess {
+        map,
         cols,
         height,
-        image,
         chosen,
-        kernel,
-    )
+    } = guess;
+    let image = below.kernel_rows(alloc)?;
+    let kernel = square.kernel_rows(alloc)?;
+    reduction_with(alloc, &map, cols, height, image, chosen, kernel)
 }
 
-/// The chosen preimages of the image rows under the matrix of these rows, if these are its image rows and its kernel rows. Then the
-/// rows that are not at pivots of the kernel rows are, in the columns at the pivots of the image rows, an invertible matrix; the
-/// chosen preimages are the rows of its inverse, with zeros at the pivots of the kernel rows. Elsewhere they are any rows.
+/// The map d_s in the degree of a square, how many columns and rows its matrix has, and rows that may be chosen preimages of its
+/// image rows.
+#[derive(Drop)]
+struct Guess<'a> {
+    map: Differential<'a>,
+    cols: usize,
+    height: usize,
+    chosen: Vec<BitVec>,
+}
+
+/// The map d_s in degree `t`, with the generators of the square there, and the chosen preimages of the image rows, if these are
+/// its image rows and its kernel rows. Elsewhere they are any rows. Its matrix is made if it is small, and else only those of its
+/// rows that are not at pivots of the kernel rows.
+///
+/// # Errors
+/// `Memory` if allocation fails.
+fn guessed<'a>(
+    alloc: Global,
+    table: &'a Table,
+    s: u16,
+    t: i32,
+    image: &[BitVec],
+    kernel: &[BitVec],
+    is_small: bool,
+) -> Result<Guess<'a>, Memory>
+    requires { IsSome (square_at table.now s t) }
+    ensures map { IfOk result (λ guess. IsMatrixAt table.now s t (matrix_of guess.map)) }
+    ensures cols { IfOk result (λ guess. guess.cols ≡ (matrix_of guess.map).cols) }
+    ensures height { IfOk result (λ guess. guess.height ≡ length (matrix_of guess.map).rows) }
+{
+    if is_small {
+        let matrix = table.matrix(alloc, s, t)?;
+        let chosen = preimages(alloc, matrix.rows(), kernel, image, kernel)?;
+        let (cols, height) = (matrix.cols(), matrix.rows().len());
+        return Ok(Guess {
+            map: Differential::Whole(matrix),
+            cols,
+            height,
+            chosen,
+        });
+    }
+    let map = square_map(alloc, table, s, t)?;
+    let (cols, height) = map.dims()?;
+    let others = map.others(alloc, kernel)?;
+    let chosen = preimages(alloc, others.as_slice(), &[], image, kernel)?;
+    Ok(Guess {
+        map: Differential::OfSquare(map),
+        cols,
+        height,
+        chosen,
+    })
+}
+
+/// The chosen preimages of the image rows under a matrix, if these are its image rows and its kernel rows, by rows of it, of which
+/// those at pivots of the rows `past` are passed over. The others are all that are not at pivots of the kernel rows: in the columns at
+/// the pivots of the image rows they are an invertible matrix. The chosen preimages are the rows of its inverse, with zeros at the
+/// pivots of the kernel rows. Elsewhere they are any rows.
 ///
 /// # Errors
 /// `Memory` if allocation fails.
 fn preimages(
     alloc: Global,
     rows: &[BitVec],
+    past: &[BitVec],
     image: &[BitVec],
     kernel: &[BitVec],
 ) -> Result<Vec<BitVec>, Memory> {
+    let others = others_of(alloc, rows, past)?;
     let places = pivots_of(alloc, image)?;
-    let columns = columns_of_others(alloc, rows, places.as_slice(), kernel)?;
-    let inverse = Reduced::of(alloc, &columns)?;
-    spread(alloc, rows.len(), places.len(), inverse.chosen(), kernel)
+    let columns = columns_at(alloc, places.as_slice(), others.as_slice())?;
+    let matrix = Matrix::from_rows(others.len(), columns);
+    let inverse = Reduced::of(alloc, &matrix)?;
+    let height = others.len().saturating_add(kernel.len());
+    spread(alloc, height, places.len(), inverse.chosen(), kernel)
 }
 
 /// The pivots of the rows that are not zero.
@@ -95,16 +160,15 @@ fn pivots_of(alloc: Global, rows: &[BitVec]) -> Result<Vec<usize>, Memory> {
     Ok(pivots)
 }
 
-/// The columns, at these places, of those of the rows that are not at pivots of the kernel rows.
+/// Those of the rows that are not at pivots of the kernel rows.
 ///
 /// # Errors
 /// `Memory` if allocation fails.
-fn columns_of_others(
+fn others_of<'a>(
     alloc: Global,
-    rows: &[BitVec],
-    places: &[usize],
+    rows: &'a [BitVec],
     kernel: &[BitVec],
-) -> Result<Matrix, Memory> {
+) -> Result<Vec<&'a BitVec>, Memory> {
     let mut others = Vec::with_capacity(alloc, rows.len())?;
     let mut passed = 0;
     for i in 0..rows.len() {
@@ -114,8 +178,7 @@ fn columns_of_others(
             others.push(&rows[i])?;
         }
     }
-    let columns = columns_at(alloc, places, others.as_slice())?;
-    Ok(Matrix::from_rows(others.len(), columns))
+    Ok(others)
 }
 
 /// The columns, `count` of them, of rows which are zero at pivots of the kernel rows and these elsewhere, one after the other, as far
@@ -148,23 +211,13 @@ fn spread(
     columns_at(alloc, places.as_slice(), all.as_slice())
 }
 
-/// Whether the row with this number is there and has its pivot at place `i`.
-fn is_pivot_of(rows: &[BitVec], number: usize, i: usize) -> bool
-    ensures { IsTrue result → number < length rows.now }
-{
-    match rows.get(number) {
-        Some(row) => row.first_one() == Some(i),
-        None => false,
-    }
-}
-
 /// The reduction of the matrix with these image rows, chosen preimages and kernel rows, none where they are not its parts.
 ///
 /// # Errors
 /// `Memory` if allocation fails.
 fn reduction_with(
     alloc: Global,
-    matrix: &Differential,
+    matrix: &Differential<'_>,
     cols: usize,
     height: usize,
     image: Rows,
@@ -192,7 +245,7 @@ fn reduction_with(
 /// `Memory` if allocation fails.
 pub(crate) fn with_parts(
     alloc: Global,
-    matrix: &Differential,
+    matrix: &Differential<'_>,
     cols: usize,
     height: usize,
     image: Rows,

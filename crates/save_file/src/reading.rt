@@ -14,11 +14,12 @@ ghost use Rattle.save_file.specs.Inside.Outline.{outline_of, addition_outline_of
 ghost use Rattle.save_file.specs.declared.fault.DecodeFault.TheVariants.{Strange};
 
 use crate::body::Body;
-use crate::differential::{Differential, is_small, next_map};
+use crate::differential::{Differential, is_small, map_there, next_map};
 use crate::fault::DecodeFault;
 use crate::outline::{
     AdditionParts, PackedPreimages, PackedRows, Parts, addition_parts_of, parts_of,
 };
+use crate::products::are_few;
 use crate::quasi::with_parts;
 use crate::rows::{are_packed_so, unpack};
 use bidegree::{MAX_S, MAX_T};
@@ -92,7 +93,9 @@ fn read_square(alloc: Global, table: &Table, body: &[u8]) -> Result<Option<Squar
         return Ok(None);
     }
     let (w, v) = (parts.images.cols, parts.kernel.cols);
-    let small = is_small(v, w, body.len() as u64);
+    let len = body.len() as u64;
+    let few = are_few(alloc, table, parts.s, parts.above, images.as_slice(), len)?;
+    let small = few && is_small(v, w, len);
     let matrix = next_map(alloc, table, parts.s, t, images.as_slice(), small)?;
     let below = square_below(table, parts.s, parts.above);
     let shared = Rows::of(alloc, kernel)?;
@@ -123,8 +126,11 @@ fn read_quasi(
     if !counts_add_up(&parts.quasi, square.kernel().len() as u64) {
         return Ok(None);
     }
-    let whole = table.matrix(alloc, parts.s, square.t())?;
-    let matrix = Differential::Whole(whole);
+    let (w, v) = (parts.quasi.image.cols, parts.quasi.chosen.cols);
+    let len = body.len() as u64;
+    let few = are_few(alloc, table, parts.s, parts.above, &[], len)?;
+    let small = few && is_small(v, w, len);
+    let matrix = map_there(alloc, table, parts.s, square.t(), small)?;
     let below = square_below(table, parts.s, parts.above);
     let kernel = square.kernel_rows(alloc)?;
     let Some(quasi) = reduction(alloc, &matrix, &parts.quasi, kernel, below)? else {
@@ -172,7 +178,7 @@ fn counts_add_up(packed: &PackedPreimages<'_>, nullity: u64) -> bool
 /// `Memory` if allocation fails.
 fn reduction(
     alloc: Global,
-    matrix: &Differential,
+    matrix: &Differential<'_>,
     packed: &PackedPreimages<'_>,
     kernel: Rows,
     below: Option<&Square>,

@@ -81,3 +81,13 @@ pub(crate) fn have_width(n: usize, rows: &[BitVec]) -> bool
     }
     true
 }
+
+/// Whether the row with this number is there and has its pivot at place `i`.
+pub(crate) fn is_pivot_of(rows: &[BitVec], number: usize, i: usize) -> bool
+    ensures { IsTrue result → number < length rows.now }
+{
+    match rows.get(number) {
+        Some(row) => row.first_one() == Some(i),
+        None => false,
+    }
+}

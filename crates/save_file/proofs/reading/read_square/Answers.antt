@@ -88,6 +88,9 @@ returns-then-not-counts_add_up c =
     let some : o.quasi ≡ Some (pair_of c.in-Some-quasi.packed) = ap (option_map pair_of) c.in-Some-quasi.is in
     no_count c.args.table.now c.next_degree.ensures.is_table c.requires c.args.body.now o c.in-Some-next_degree.t c.in-Some-2.images.items c.in-Some-3.kernel.items (pair_of c.in-Some-quasi.packed) c.in-Some.ensures.1 f some (iff_false c.counts_add_up.ensures c.if-not-counts_add_up.true)
 
+pub are_few-requires : goal.are_few-requires
+are_few-requires c = c.in-Some-next_degree.ensures.place.within
+
 pub next_map-requires-clause-place : goal.next_map-requires-clause-place
 next_map-requires-clause-place c =
     let t : ℤ = to_z w32 (of_z w32 c.in-Some-next_degree.t) in
@@ -99,7 +102,7 @@ next_map-requires-clause-widths c = λ k degree.
     let t : ℤ = to_z w32 (of_z w32 c.in-Some-next_degree.t) in
     let place : IsPlaceFor c.args.table.now c.in-Some.parts.s c.in-Some.parts.above t = search rules in
     let f = found (goal.at.next_map-requires-clause-widths c).After-is_row_basis t place (λ i. omega (arith, c.type_inv.body i)) in
-    rw c.as_slice-2.ensures.value (images_wide c.args.table.now c.args.body.now (outline_of c.in-Some.parts) t c.in-Some-2.images.items c.in-Some-3.kernel.items f k degree)
+    rw c.as_slice-3.ensures.value (images_wide c.args.table.now c.args.body.now (outline_of c.in-Some.parts) t c.in-Some-2.images.items c.in-Some-3.kernel.items f k degree)
 
 -- ---- the parts of a reduction
 
@@ -122,7 +125,7 @@ reduction-requires-clause-cols c =
     let place : IsPlaceFor c.args.table.now c.in-Some.parts.s c.in-Some.parts.above t = search rules in
     let f = found (goal.at.reduction-requires-clause-cols c).After-is_row_basis t place (λ i. omega (arith, c.type_inv.body i)) in
     let some : o.quasi ≡ Some (pair_of c.in-Some-quasi.packed) = ap (option_map pair_of) c.in-Some-quasi.is in
-    let is : IsMatrixBehind c.args.table.now o.s t c.in-Some-2.images.items (matrix_of c.in_ok-matrix.matrix) = subst (λ rows. IsMatrixBehind c.args.table.now o.s t rows (matrix_of c.in_ok-matrix.matrix)) c.as_slice-2.ensures.value c.in_ok-matrix.ensures in
+    let is : IsMatrixBehind c.args.table.now o.s t c.in-Some-2.images.items (matrix_of c.in_ok-matrix.matrix) = subst (λ rows. IsMatrixBehind c.args.table.now o.s t rows (matrix_of c.in_ok-matrix.matrix)) c.as_slice-3.ensures.value c.in_ok-matrix.ensures in
     (fits_next c.args.table.now c.next_degree.ensures.is_table c.requires c.args.body.now o t c.in-Some-2.images.items c.in-Some-3.kernel.items (pair_of c.in-Some-quasi.packed) (matrix_of c.in_ok-matrix.matrix) c.in-Some.ensures.1 f some is).cols
 
 pub reduction-requires-clause-height : goal.reduction-requires-clause-height
@@ -132,7 +135,7 @@ reduction-requires-clause-height c =
     let place : IsPlaceFor c.args.table.now c.in-Some.parts.s c.in-Some.parts.above t = search rules in
     let f = found (goal.at.reduction-requires-clause-height c).After-is_row_basis t place (λ i. omega (arith, c.type_inv.body i)) in
     let some : o.quasi ≡ Some (pair_of c.in-Some-quasi.packed) = ap (option_map pair_of) c.in-Some-quasi.is in
-    let is : IsMatrixBehind c.args.table.now o.s t c.in-Some-2.images.items (matrix_of c.in_ok-matrix.matrix) = subst (λ rows. IsMatrixBehind c.args.table.now o.s t rows (matrix_of c.in_ok-matrix.matrix)) c.as_slice-2.ensures.value c.in_ok-matrix.ensures in
+    let is : IsMatrixBehind c.args.table.now o.s t c.in-Some-2.images.items (matrix_of c.in_ok-matrix.matrix) = subst (λ rows. IsMatrixBehind c.args.table.now o.s t rows (matrix_of c.in_ok-matrix.matrix)) c.as_slice-3.ensures.value c.in_ok-matrix.ensures in
     (fits_next c.args.table.now c.next_degree.ensures.is_table c.requires c.args.body.now o t c.in-Some-2.images.items c.in-Some-3.kernel.items (pair_of c.in-Some-quasi.packed) (matrix_of c.in_ok-matrix.matrix) c.in-Some.ensures.1 f some is).height
 
 pub reduction-requires-clause-widths : goal.reduction-requires-clause-widths
@@ -142,7 +145,7 @@ reduction-requires-clause-widths c =
     let place : IsPlaceFor c.args.table.now c.in-Some.parts.s c.in-Some.parts.above t = search rules in
     let f = found (goal.at.reduction-requires-clause-widths c).After-is_row_basis t place (λ i. omega (arith, c.type_inv.body i)) in
     let some : o.quasi ≡ Some (pair_of c.in-Some-quasi.packed) = ap (option_map pair_of) c.in-Some-quasi.is in
-    let is : IsMatrixBehind c.args.table.now o.s t c.in-Some-2.images.items (matrix_of c.in_ok-matrix.matrix) = subst (λ rows. IsMatrixBehind c.args.table.now o.s t rows (matrix_of c.in_ok-matrix.matrix)) c.as_slice-2.ensures.value c.in_ok-matrix.ensures in
+    let is : IsMatrixBehind c.args.table.now o.s t c.in-Some-2.images.items (matrix_of c.in_ok-matrix.matrix) = subst (λ rows. IsMatrixBehind c.args.table.now o.s t rows (matrix_of c.in_ok-matrix.matrix)) c.as_slice-3.ensures.value c.in_ok-matrix.ensures in
     subst (HaveWidth (length (matrix_of c.in_ok-matrix.matrix).rows)) (sym c.in_ok-shared.ensures)
     (fits_next c.args.table.now c.next_degree.ensures.is_table c.requires c.args.body.now o t c.in-Some-2.images.items c.in-Some-3.kernel.items (pair_of c.in-Some-quasi.packed) (matrix_of c.in_ok-matrix.matrix) c.in-Some.ensures.1 f some is).widths
 
@@ -167,17 +170,17 @@ returns-in_default-4 c =
     let place : IsPlaceFor c.args.table.now c.in-Some.parts.s c.in-Some.parts.above t = search rules in
     let f = found (goal.at.returns-in_default-4 c).After-is_row_basis t place (λ i. omega (arith, c.type_inv.body i)) in
     let some : o.quasi ≡ Some p = ap (option_map pair_of) c.in-Some-quasi.is in
-    let is : IsMatrixBehind c.args.table.now o.s t c.in-Some-2.images.items matrix = subst (λ rows. IsMatrixBehind c.args.table.now o.s t rows matrix) c.as_slice-2.ensures.value c.in_ok-matrix.ensures in
+    let is : IsMatrixBehind c.args.table.now o.s t c.in-Some-2.images.items matrix = subst (λ rows. IsMatrixBehind c.args.table.now o.s t rows matrix) c.as_slice-3.ensures.value c.in_ok-matrix.ensures in
     let none : (image chosen : List (List Bool)) → ArePackedParts p matrix image chosen c.in-Some-3.kernel.items → ⊥ =
     subst (λ rows. (image chosen : List (List Bool)) → ArePackedParts p matrix image chosen rows → ⊥) c.in_ok-shared.ensures (MatchOption-at_none _ _ c.in_default-4.is c.in_ok-quasi.ensures) in
     no_parts c.args.table.now c.next_degree.ensures.is_table c.requires c.args.body.now o t c.in-Some-2.images.items c.in-Some-3.kernel.items p matrix c.in-Some.ensures.1 f some is none
 
 -- what was put together is the reduction there
-here : (c : After-reduction) (t : ℤ) (r : Reduction) → IsMatrixBehind c.args.table.now c.in-Some.parts.s t c.as_slice-2.result.now (matrix_of c.in_ok-matrix.matrix) → IsPutTogether (pair_of c.in-Some-quasi.packed) (matrix_of c.in_ok-matrix.matrix) c.in_ok-shared.shared r
+here : (c : After-reduction) (t : ℤ) (r : Reduction) → IsMatrixBehind c.args.table.now c.in-Some.parts.s t c.as_slice-3.result.now (matrix_of c.in_ok-matrix.matrix) → IsPutTogether (pair_of c.in-Some-quasi.packed) (matrix_of c.in_ok-matrix.matrix) c.in_ok-shared.shared r
     → IsReductionHere c.args.table.now (outline_of c.in-Some.parts) t c.in-Some-2.images.items c.in-Some-3.kernel.items (pair_of c.in-Some-quasi.packed) r
 here c t r is put = record {
   matrix = (matrix_of c.in_ok-matrix.matrix);
-  is_matrix = subst (λ rows. IsMatrixBehind c.args.table.now c.in-Some.parts.s t rows (matrix_of c.in_ok-matrix.matrix)) c.as_slice-2.ensures.value is;
+  is_matrix = subst (λ rows. IsMatrixBehind c.args.table.now c.in-Some.parts.s t rows (matrix_of c.in_ok-matrix.matrix)) c.as_slice-3.ensures.value is;
   parts = put.0;
   kernel_is = put.1 ∙ c.in_ok-shared.ensures;
   reduction = put.2;
