@@ -1,4 +1,4 @@
-mod Null
+pub mod Null
 mod Contracted
 pub mod Dots
 mod Combined

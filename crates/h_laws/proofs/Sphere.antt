@@ -79,7 +79,7 @@ module _ (q : Resolution) (qs qt : ℕ) (o : IsResolved q qs qt) (sphere : IsSph
       ]
 
   -- so the basis there is that generator alone
-  basis_lowest : (j : ℕ) → j < free_width (gens q 0) lowest → element (free_basis (gens q 0) lowest) j ≡ (0, [])
+  pub basis_lowest : (j : ℕ) → j < free_width (gens q 0) lowest → element (free_basis (gens q 0) lowest) j ≡ (0, [])
   basis_lowest j l =
       let e = element (free_basis (gens q 0) lowest) j in
       let is = element-IsOfDegree (gens q 0) lowest j l in

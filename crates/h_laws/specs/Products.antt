@@ -1,7 +1,8 @@
 -- The classes h_v of the sphere, and what they do to the classes of a module: it stands in the images of the module's generators
 -- (Adams, On the non-existence of elements of Hopf invariant one).
-use Rattle.std.specs.Prelude.{◌≡◌, ℕ, suc, ◌+◌, ◌^◌, ◌<◌, ◌≤◌, ℤ, pos, ◌+ℤ◌, ◌≤ℤ◌, Bool, true, ◌&&◌, nat_eq, List, [], ◌∷◌, map, take}
+use Rattle.std.specs.Prelude.{◌≡◌, ℕ, suc, ◌+◌, ◌^◌, ◌<◌, ◌≤◌, ℤ, pos, ◌+ℤ◌, ◌≤ℤ◌, Bool, true, false, ◌&&◌, nat_eq, List, [], ◌∷◌, map, take}
 use Rattle.std.specs.Cmp.Lexicographic.{pointwise}
+use Rattle.std.specs.Int.{is_power_of_two}
 use Rattle.f2_vec.specs.Vectors.{bit}
 use Rattle.free_module.specs.FreeModule.{free_basis, free_width}
 use Rattle.lift_laws.specs.Lifts.{Resolution, IsCanonical, IsSphere, IsLift, gens, degree, image}
@@ -36,6 +37,11 @@ pub record HasSquare (q : Resolution) (v : ℕ) : Type 0 where
 abbrev pub RowOneHasSquares : Type 0
 RowOneHasSquares = (q : Resolution) (qs qt v : ℕ) → IsCanonical q qs qt → IsSphere q → 1 ≤ qs → 2 ^ v ≤ qt →
     HasSquare q v
+
+-- It has no generator in a degree that is no power of two.
+abbrev pub RowOneIsPowers : Type 0
+RowOneIsPowers = (q : Resolution) (qs qt n : ℕ) → IsCanonical q qs qt → IsSphere q → 1 ≤ qs → n ≤ qt →
+    is_power_of_two n ≡ false → count_of q 1 n ≡ 0
 
 -- The product of h_v and a cocycle, by any lift of it, is read off the images of the generators of the next row: it has those in whose
 -- image Sq(2^v) stands at an odd number of the generators at which the cocycle is 1.

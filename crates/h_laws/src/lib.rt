@@ -5,11 +5,19 @@ ghost use Rattle.h_laws.specs.Products.{
   ClassesWithHAreReadOffImages,
   ProductsWithHAreReadOffImages,
   RowOneHasSquares,
+  RowOneIsPowers,
 };
 
 /// Row 1 of the sphere's canonical resolution has one generator in each degree 2^v, and its image has the term Sq(2^v).
 pub fn row_one_has_squares()
     ensures { RowOneHasSquares }
+{
+    resolution_laws::canonical_table_is_minimal_resolution();
+}
+
+/// It has no generator in a degree that is no power of two.
+pub fn row_one_is_powers()
+    ensures { RowOneIsPowers }
 {
     resolution_laws::canonical_table_is_minimal_resolution();
 }

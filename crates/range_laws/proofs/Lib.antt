@@ -1,0 +1,6 @@
+pub mod Parts
+mod Counts
+mod Products
+mod Extended
+mod Nulls
+pub mod Members

@@ -1,0 +1,5 @@
+mod Filters
+mod Products
+mod Cosets
+mod Places
+mod Texts

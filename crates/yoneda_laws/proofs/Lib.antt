@@ -1,0 +1,7 @@
+mod Cochains
+mod Parities
+pub mod Products
+mod Units
+mod Linear
+mod Composites
+mod Associative
