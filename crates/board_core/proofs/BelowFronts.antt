@@ -1,11 +1,11 @@
 -- The squares below the fronts of rows.
-use Rattle.std.proofs.Common.{◌≡◌, ℕ, zero, suc, ◌+◌, ◌-◌, ◌<◌, ◌≤◌, Bool, false, nat_lt, List, length, set, slice_index_or, min, refl, sym, ◌∙◌, subst, arith, inl, inr}
+use Rattle.std.proofs.Common.{◌≡◌, ℕ, zero, suc, ◌+◌, ◌-◌, ◌<◌, ◌≤◌, Bool, true, false, nat_lt, List, length, set, slice_index_or, min, refl, sym, ◌∙◌, subst, arith, inl, inr}
 use Rattle.std.proofs.Math.Path.{fun_ext}
 use Rattle.std.proofs.lemmas.Grind.{common_steps}
 use Rattle.std.proofs.lemmas.Bool.Decides.{nat_tests, eqb_tells}
 use Rattle.std.proofs.lemmas.List.{get_or-set_other}
 use Rattle.board_core.specs.Board.{below_fronts}
-use Rattle.board_core.specs.Machine.{HasParents, IsNumber, IsRowNumberBelow, count_below, insert_square}
+use Rattle.board_core.specs.Machine.{Squares, HasParents, IsNumber, IsRowNumberBelow, count_below, insert_square}
 
 -- ---- how many squares a row has
 
@@ -39,19 +39,22 @@ below_is_front done (suc s) front n some h is =
     let e : suc s - 1 ≡ s = omega arith in
     number_is_front (done s) front n (subst (λ (i : ℕ). (k : ℕ) → done i k ≡ nat_lt k front) e h) is
 
--- a square that is not done and has its parents done is the first of its row that is not
-pub stands_first : (done : ℕ → ℕ → Bool) (s k front : ℕ) → ((k : ℕ) → done s k ≡ nat_lt k front) → HasParents done s k → done s k ≡ false → k ≡ front
-stands_first done s zero front h parents absent = let here = h 0 in grind (arith, nat_tests)
-stands_first done s (suc k) front h parents absent =
+-- a square that is not done, where the one before it is, is the first of its row that is not
+first_absent : (row : ℕ → Bool) (k front : ℕ) → ((j : ℕ) → row j ≡ nat_lt j front) → ((j : ℕ) → suc j ≡ k → row j ≡ true) → row k ≡ false → k ≡ front
+first_absent row zero front h before absent = let here = h 0 in grind (arith, nat_tests)
+first_absent row (suc k) front h before absent =
     let here = h (suc k) in
     let there = h k in
-    let before = parents.before k refl in
+    let done = before k refl in
     grind (arith, nat_tests)
+
+pub stands_first : {stands : Squares} (done : Squares) (s k front : ℕ) → ((k : ℕ) → done s k ≡ nat_lt k front) → HasParents stands done s k → done s k ≡ false → k ≡ front
+stands_first done s k front h parents absent = first_absent (done s) k front h parents.before absent
 
 -- ---- one square more
 
-pub stands_at_front : (fronts : List ℕ) (s k : ℕ) → HasParents (below_fronts fronts) s k → below_fronts fronts s k ≡ false → slice_index_or fronts s 0 ≡ k
-stands_at_front fronts s k parents absent = sym (stands_first (below_fronts fronts) s k (slice_index_or fronts s 0) (λ j. refl) parents absent)
+pub stands_at_front : (fronts : List ℕ) (s k : ℕ) → ((j : ℕ) → suc j ≡ k → below_fronts fronts s j ≡ true) → below_fronts fronts s k ≡ false → slice_index_or fronts s 0 ≡ k
+stands_at_front fronts s k before absent = sym (first_absent (below_fronts fronts s) k (slice_index_or fronts s 0) (λ j. refl) before absent)
 
 pub add_at_front : (fronts : List ℕ) (s k : ℕ) → s < length fronts → slice_index_or fronts s 0 ≡ k → below_fronts (set fronts s (k + 1)) ≡ insert_square (below_fronts fronts) s k
 add_at_front fronts s k within here = fun_ext (λ i. fun_ext (λ j. at i j))

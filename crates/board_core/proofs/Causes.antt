@@ -1,6 +1,7 @@
 -- The cause that stands is the first that an event brought.
 use Rattle.std.proofs.Common.{◌≡◌, ℕ, ℤ, List, [], ◌∷◌, Option, Some, None, refl, sym, ◌∙◌, ap}
 use Rattle.std.specs.Option.{option_or}
+use Rattle.bidegree.specs.declared.shape.Shape.{Shape}
 use Rattle.board_core.specs.declared.event.Cause.{Cause}
 use Rattle.board_core.specs.declared.event.Cause.TheVariants.{Failed, Memory}
 use Rattle.board_core.specs.declared.event.Entry.{Entry}
@@ -25,5 +26,5 @@ cause_along first (Give who s t ∷ events) last (then state e es l legal rest) 
 cause_along first (Back who s t ∷ events) last (then state e es l legal rest) = cause_along (after_entry first (Back who s t)) events last rest ∙ first_stays first.cause Memory
 cause_along first (Fail who s t ∷ events) last (then state e es l legal rest) = cause_along (after_entry first (Fail who s t)) events last rest ∙ ap (λ (c : Option Cause). option_or c (Some Failed)) (sym legal.no_cause)
 
-pub first_of_all : (bottom : ℤ) (s t : ℕ) (start : List (ℕ × ℤ)) (events : List Entry) (state : State) → IsReachedByEntries bottom s t start events state → state.cause ≡ first_cause events
-first_of_all bottom s t start events state reached = cause_along (opening bottom s t start) events state reached.history
+pub first_of_all : (bottom : ℤ) (shape : Shape) (s t : ℕ) (start : List (ℕ × ℤ)) (events : List Entry) (state : State) → IsReachedByEntries bottom shape s t start events state → state.cause ≡ first_cause events
+first_of_all bottom shape s t start events state reached = cause_along (opening bottom shape s t start) events state reached.history

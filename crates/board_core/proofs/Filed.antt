@@ -7,6 +7,7 @@ use Rattle.std.proofs.lemmas.Bool.Decides.{nat_tests}
 use Rattle.std.proofs.lemmas.List.Folds.{list_any-append}
 use Rattle.bidegree.specs.Above.{above_of}
 use Rattle.bidegree.proofs.Degrees.{above_of-is}
+use Rattle.bidegree.specs.declared.shape.Shape.{Shape}
 use Rattle.board_core.specs.declared.event.Cause.{Cause}
 use Rattle.board_core.specs.declared.event.Out.{Out}
 use Rattle.board_core.specs.declared.event.Entry.TheVariants.{Take as TakeEntry, Give as GiveEntry, Back as BackEntry, Fail as FailEntry}
@@ -15,7 +16,7 @@ use Rattle.board_core.specs.declared.event.Event.TheVariants.{Take, Give, Back, 
 use Rattle.board_core.specs.Laws.{IsReached, AreFiledOnce, filed}
 use Rattle.board_core.specs.Board.{IsSound, IsTaken, IsFiled, below_fronts}
 use Rattle.board_core.specs.Inside.{IsAside, IsBounded, IsWellKept}
-use Rattle.board_core.specs.Machine.{Squares, no_squares, HasParents, State, IsStart, IsNextSquare, IsBegun, IsLegal, IsHistory, IsAbove, is_number, height, has_failed, file_with, after, opening, squares_of, is_out, insert_square}
+use Rattle.board_core.specs.Machine.{Squares, no_squares, HasParents, State, stands_in, stands, IsStart, IsNextSquare, IsBegun, IsLegal, IsHistory, IsAbove, is_number, height, has_failed, file_with, after, opening, squares_of, is_out, insert_square}
 use Rattle.board_core.specs.Machine.IsHistory.{nothing, then}
 use Rattle.board_core.proofs.Starts.{start_is_staircase}
 use Rattle.board_core.proofs.Histories.{height_is, held_at_height, opening_is_sound, stays_sound}
@@ -51,27 +52,27 @@ place (y ∷ list) q (suc n) x e = elim (place list q n x e) [
   | inr p ↦ inr (record { same = p.same; rest = ap (λ l. y ∷ l) p.rest })
 ]
 
-pub start_with : (b : ℤ) (list : List (ℕ × ℤ)) (q : ℕ × ℤ) → IsStart b list → IsNextSquare b list q → IsStart b (list ++ q ∷ [])
-start_with b list q start next n x e = elim (place list q n x e) [
-  | inl p ↦ subst (λ (l : List (ℕ × ℤ)). IsNextSquare b l x) (sym p.rest) (start n x p.here)
-  | inr p ↦ subst (λ (l : List (ℕ × ℤ)). IsNextSquare b l x) (sym p.rest) (subst (λ (y : ℕ × ℤ). IsNextSquare b list y) (sym p.same) next)
+pub start_with : (places : Squares) (b : ℤ) (list : List (ℕ × ℤ)) (q : ℕ × ℤ) → IsStart places b list → IsNextSquare places b list q → IsStart places b (list ++ q ∷ [])
+start_with places b list q start next n x e = elim (place list q n x e) [
+  | inl p ↦ subst (λ (l : List (ℕ × ℤ)). IsNextSquare places b l x) (sym p.rest) (start n x p.here)
+  | inr p ↦ subst (λ (l : List (ℕ × ℤ)). IsNextSquare places b l x) (sym p.rest) (subst (λ (y : ℕ × ℤ). IsNextSquare places b list y) (sym p.same) next)
 ]
 
 -- a square that was taken, and is not done, may be the next of the file
-pub taken_is_next : (state : State) (s k : ℕ) (t : ℤ) → IsFiled state → state.running ≡ true → IsAbove state.bottom t k → IsTaken state s k → IsNextSquare state.bottom state.file (s, t)
+pub taken_is_next : (state : State) (s k : ℕ) (t : ℤ) → IsFiled state → state.running ≡ true → IsAbove state.bottom t k → IsTaken state s k → IsNextSquare (stands state) state.bottom state.file (s, t)
 taken_is_next state s k t filed runs at taken =
     let all = filed.done runs in
     record {
       above = k;
       degree = at;
       absent = subst (λ (d : Squares). d s k ≡ false) all taken.not_done;
-      parents = subst (λ (d : Squares). HasParents d s k) all taken.parents;
+      parents = subst (λ (d : Squares). HasParents (stands state) d s k) all taken.parents;
     }
 
 -- ---- the file, with each event
 
-pub opening_is_filed : (bottom : ℤ) (s t : ℕ) (start : List (ℕ × ℤ)) → IsStart bottom start → IsFiled (opening bottom s t start)
-opening_is_filed bottom s t start listed = record { listed = listed; done = λ r. refl; none_done = λ r. cc; none_out = λ r. cc; none_failed = λ r. cc }
+pub opening_is_filed : (bottom : ℤ) (shape : Shape) (s t : ℕ) (start : List (ℕ × ℤ)) → IsStart (stands_in shape s t) bottom start → IsFiled (opening bottom shape s t start)
+opening_is_filed bottom shape s t start listed = record { listed = listed; done = λ r. refl; none_done = λ r. cc; none_out = λ r. cc; none_failed = λ r. cc }
 
 -- while the board runs the file does not hang on what is out or failed, nor on the cause
 pub filed_still : (state : State) (out : List Out) (failed : Option Out) (cause : Option Cause) → IsFiled state → state.running ≡ true → IsFiled (record state { out = out; failed = failed; cause = cause })
@@ -83,7 +84,7 @@ filed_give state s k t done out file filed runs at taken done_is file_is =
     let next = taken_is_next state s k t filed runs at taken in
     let same : done ≡ squares_of b (state.file ++ (s, t) ∷ []) = done_is ∙ (ap (λ (d : Squares). insert_square d s k) (filed.done runs) ∙ sym (squares_with b state.file s k t at)) in
     record {
-      listed = subst (IsStart b) (sym file_is) (start_with b state.file (s, t) filed.listed next);
+      listed = subst (IsStart (stands state) b) (sym file_is) (start_with (stands state) b state.file (s, t) filed.listed next);
       done = λ r. same ∙ ap (squares_of b) (sym file_is);
       none_done = λ r. cc;
       none_out = λ r. cc;
@@ -95,7 +96,7 @@ pub aside_still : (state : State) (aside : List ℕ) (done : Squares) (out : Lis
 aside_still state aside done out failed file cause kept runs = record { long = kept.long; none = kept.none; file = λ r. cc }
 
 -- a board that does not run
-pub filed_at_rest : (state : State) (done : Squares) (out : List Out) (file : List (ℕ × ℤ)) → done ≡ no_squares → out ≡ [] → IsStart state.bottom file → IsFiled (record state { done = done; out = out; failed = None; file = file; running = false })
+pub filed_at_rest : (state : State) (done : Squares) (out : List Out) (file : List (ℕ × ℤ)) → done ≡ no_squares → out ≡ [] → IsStart (stands state) state.bottom file → IsFiled (record state { done = done; out = out; failed = None; file = file; running = false })
 filed_at_rest state done out file none_done none_out listed = record { listed = listed; done = λ r. cc; none_done = λ r. none_done; none_out = λ r. none_out; none_failed = λ r. refl }
 
 pub sound_at_rest : (state : State) (done : Squares) (out : List Out) (file : List (ℕ × ℤ)) → done ≡ no_squares → out ≡ [] → IsSound (record state { done = done; out = out; failed = None; file = file; running = false })
@@ -112,7 +113,7 @@ pub sound_anew : (state : State) (done : Squares) (cause : Option Cause) → IsF
 sound_anew state done cause filed rests is =
     let none_out = filed.none_out rests in
     let none_failed = filed.none_failed rests in
-    let base : IsSound (record state { done = squares_of state.bottom state.file; out = []; failed = None; cause = cause; running = true }) = record { staircase = start_is_staircase state.bottom state.file filed.listed; once = tt; taken = λ s k e. cc; failed_taken = λ e is. cc; none_failed = λ none. refl } in
+    let base : IsSound (record state { done = squares_of state.bottom state.file; out = []; failed = None; cause = cause; running = true }) = record { staircase = start_is_staircase (stands state) state.bottom state.file filed.listed; once = tt; taken = λ s k e. cc; failed_taken = λ e is. cc; none_failed = λ none. refl } in
     let filled : IsSound (record state { done = done; out = []; failed = None; cause = cause; running = true }) = subst (λ (d : Squares). IsSound (record state { done = d; out = []; failed = None; cause = cause; running = true })) (sym is) base in
     let listed : IsSound (record state { done = done; failed = None; cause = cause; running = true }) = subst (λ (l : List Out). IsSound (record state { done = done; out = l; failed = None; cause = cause; running = true })) (sym none_out) filled in
     subst (λ (o : Option Out). IsSound (record state { done = done; failed = o; cause = cause; running = true })) (sym none_failed) listed
@@ -133,25 +134,25 @@ begun_is_taken state s k sound begun = elim (cases_Bool (is_out state.out s k)) 
   | inr none ↦ failed_is_taken state state.failed s k sound.failed_taken (ap (λ b. b || has_failed state.failed s k) (sym none) ∙ begun)
 ]
 
-pub stopped_file : (state : State) (in_file : Option (ℕ × ℤ)) → IsSound state → IsFiled state → state.running ≡ true → ((q : ℕ × ℤ) → in_file ≡ Some q → IsBegun state q.0 q.1) → IsStart state.bottom (file_with state.file in_file)
+pub stopped_file : (state : State) (in_file : Option (ℕ × ℤ)) → IsSound state → IsFiled state → state.running ≡ true → ((q : ℕ × ℤ) → in_file ≡ Some q → IsBegun state q.0 q.1) → IsStart (stands state) state.bottom (file_with state.file in_file)
 stopped_file state None sound filed runs begun = filed.listed
 stopped_file state (Some q) sound filed runs begun =
     let one = begun q refl in
     let taken = begun_is_taken state q.0 one.above sound one.begun in
-    start_with state.bottom state.file q filed.listed (taken_is_next state q.0 one.above q.1 filed runs one.degree taken)
+    start_with (stands state) state.bottom state.file q filed.listed (taken_is_next state q.0 one.above q.1 filed runs one.degree taken)
 
 -- ---- where the board may rest
 
 -- the fronts are those of the file's squares, nothing is kept aside, and there is room for the squares of the range
-pub record MayRest (rows degrees : ℕ) (bottom : ℤ) (file : List (ℕ × ℤ)) (fronts aside : List ℕ) (busy : List Bool) : Type 0 where
-  pub listed : IsStart bottom file
+pub record MayRest (places : Squares) (rows degrees : ℕ) (bottom : ℤ) (file : List (ℕ × ℤ)) (fronts aside : List ℕ) (busy : List Bool) : Type 0 where
+  pub listed : IsStart places bottom file
   pub squares : below_fronts fronts ≡ squares_of bottom file
   pub bounded : IsBounded rows degrees bottom (length fronts)
   pub long : rows < length aside
   pub none : below_fronts aside ≡ no_squares
   pub marks : rows < length busy
 
-pub may_rest : (state : State) (fronts aside : List ℕ) (busy : List Bool) → state.done ≡ below_fronts fronts → state.running ≡ true → IsWellKept state (length fronts) busy aside → MayRest state.rows state.degrees state.bottom state.file fronts aside busy
+pub may_rest : (state : State) (fronts aside : List ℕ) (busy : List Bool) → state.done ≡ below_fronts fronts → state.running ≡ true → IsWellKept state (length fronts) busy aside → MayRest (stands state) state.rows state.degrees state.bottom state.file fronts aside busy
 may_rest state fronts aside busy done runs kept = record {
   listed = kept.filed.listed;
   squares = sym done ∙ kept.filed.done runs;
@@ -162,9 +163,9 @@ may_rest state fronts aside busy done runs kept = record {
 }
 
 -- with one square more, in the file and among the done ones
-pub may_rest_with : (rows degrees : ℕ) (bottom : ℤ) (file more : List (ℕ × ℤ)) (fronts longer aside : List ℕ) (busy : List Bool) (q : ℕ × ℤ) (k : ℕ) → MayRest rows degrees bottom file fronts aside busy → IsNextSquare bottom file q → IsAbove bottom q.1 k → below_fronts longer ≡ insert_square (below_fronts fronts) q.0 k → length longer ≡ length fronts → more ≡ file ++ q ∷ [] → MayRest rows degrees bottom more longer aside busy
-may_rest_with rows degrees bottom file more fronts longer aside busy q k before next at squares long is = record {
-  listed = subst (IsStart bottom) (sym is) (start_with bottom file q before.listed next);
+pub may_rest_with : (places : Squares) (rows degrees : ℕ) (bottom : ℤ) (file more : List (ℕ × ℤ)) (fronts longer aside : List ℕ) (busy : List Bool) (q : ℕ × ℤ) (k : ℕ) → MayRest places rows degrees bottom file fronts aside busy → IsNextSquare places bottom file q → IsAbove bottom q.1 k → below_fronts longer ≡ insert_square (below_fronts fronts) q.0 k → length longer ≡ length fronts → more ≡ file ++ q ∷ [] → MayRest places rows degrees bottom more longer aside busy
+may_rest_with places rows degrees bottom file more fronts longer aside busy q k before next at squares long is = record {
+  listed = subst (IsStart places bottom) (sym is) (start_with places bottom file q before.listed next);
   squares = squares ∙ (ap (λ (d : Squares). insert_square d q.0 k) before.squares ∙ (sym (squares_with bottom file q.0 k q.1 at) ∙ ap (squares_of bottom) (sym is)));
   bounded = subst (λ (n : ℕ). IsBounded rows degrees bottom n) (sym long) before.bounded;
   long = before.long;
@@ -215,11 +216,11 @@ whole_along : (first : State) (events : List Event) (last : State) → IsHistory
 whole_along first [] last (nothing state) whole = whole
 whole_along first (event ∷ events) last (then state e es l legal rest) whole = whole_along (after first event) events last rest (stays_whole first event whole legal)
 
-pub opening_is_whole : (bottom : ℤ) (s t : ℕ) (start : List (ℕ × ℤ)) → IsStart bottom start → IsWhole (opening bottom s t start)
-opening_is_whole bottom s t start listed = record { sound = opening_is_sound bottom s t start listed; filed = opening_is_filed bottom s t start listed }
+pub opening_is_whole : (bottom : ℤ) (shape : Shape) (s t : ℕ) (start : List (ℕ × ℤ)) → IsStart (stands_in shape s t) bottom start → IsWhole (opening bottom shape s t start)
+opening_is_whole bottom shape s t start listed = record { sound = opening_is_sound bottom shape s t start listed; filed = opening_is_filed bottom shape s t start listed }
 
-pub reached_is_whole : (bottom : ℤ) (s t : ℕ) (start : List (ℕ × ℤ)) (events : List Event) (state : State) → IsReached bottom s t start events state → IsWhole state
-reached_is_whole bottom s t start events state reached = whole_along (opening bottom s t start) events state reached.history (opening_is_whole bottom s t start reached.listed)
+pub reached_is_whole : (bottom : ℤ) (shape : Shape) (s t : ℕ) (start : List (ℕ × ℤ)) (events : List Event) (state : State) → IsReached bottom shape s t start events state → IsWhole state
+reached_is_whole bottom shape s t start events state reached = whole_along (opening bottom shape s t start) events state reached.history (opening_is_whole bottom shape s t start reached.listed)
 
 -- ---- what the file has
 
@@ -249,9 +250,9 @@ pub bottom_along : (first : State) (events : List Event) (last : State) → IsHi
 bottom_along first [] last (nothing state) = refl
 bottom_along first (event ∷ events) last (then state e es l legal rest) = bottom_along (after first event) events last rest ∙ same_bottom first event
 
-pub filed_once : (bottom : ℤ) (s t : ℕ) (start : List (ℕ × ℤ)) (events : List Event) (state : State) → IsReached bottom s t start events state → AreFiledOnce bottom start events state
-filed_once bottom s t start events state reached = record {
-  same_bottom = bottom_along (opening bottom s t start) events state reached.history;
-  file = file_is (opening bottom s t start) events state reached.history;
-  is_filed = (reached_is_whole bottom s t start events state reached).filed;
+pub filed_once : (bottom : ℤ) (shape : Shape) (s t : ℕ) (start : List (ℕ × ℤ)) (events : List Event) (state : State) → IsReached bottom shape s t start events state → AreFiledOnce bottom start events state
+filed_once bottom shape s t start events state reached = record {
+  same_bottom = bottom_along (opening bottom shape s t start) events state reached.history;
+  file = file_is (opening bottom shape s t start) events state reached.history;
+  is_filed = (reached_is_whole bottom shape s t start events state reached).filed;
 }

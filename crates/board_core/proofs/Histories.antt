@@ -1,12 +1,13 @@
 -- The board stays sound while it runs.
 use Rattle.std.proofs.Common.{◌≡◌, ℕ, ℤ, true, List, [], ◌∷◌, ◌++◌, map, refl, sym, ap, subst}
 use Rattle.bidegree.proofs.Degrees.{above_of-is}
+use Rattle.bidegree.specs.declared.shape.Shape.{Shape}
 use Rattle.board_core.specs.declared.event.Entry.{Entry}
 use Rattle.board_core.specs.declared.event.Entry.TheVariants.{Take, Give, Back, Fail}
 use Rattle.board_core.specs.declared.event.Cause.TheVariants.{Failed, Memory}
 use Rattle.board_core.specs.Board.{IsSound}
 use Rattle.board_core.specs.Entries.{event_of, IsLegalEntry, IsEntryHistory, after_entry}
-use Rattle.board_core.specs.Machine.{State, IsStart, IsReady, IsHeld, IsAbove, number_or_zero, height, opening, is_out, without, insert_square, cause_or}
+use Rattle.board_core.specs.Machine.{State, IsStart, stands_in, IsReady, IsHeld, IsAbove, number_or_zero, height, opening, is_out, without, insert_square, cause_or}
 use Rattle.board_core.specs.Machine.IsHistory.{nothing, then}
 use Rattle.board_core.specs.Laws.{IsReachedByEntries}
 use Rattle.board_core.proofs.Sound.{sound_take, sound_back, sound_fail, sound_give, held_is_out}
@@ -15,8 +16,8 @@ use Rattle.board_core.proofs.Starts.{start_is_staircase}
 pub height_is : (state : State) (t : ℤ) (k : ℕ) → IsAbove state.bottom t k → height state t ≡ k
 height_is state t k h = ap number_or_zero (above_of-is state.bottom t k h)
 
-pub opening_is_sound : (bottom : ℤ) (s t : ℕ) (start : List (ℕ × ℤ)) → IsStart bottom start → IsSound (opening bottom s t start)
-opening_is_sound bottom s t start listed = record { staircase = start_is_staircase bottom start listed; once = tt; taken = λ i k out. cc; failed_taken = λ e is. cc; none_failed = λ none. refl }
+pub opening_is_sound : (bottom : ℤ) (shape : Shape) (s t : ℕ) (start : List (ℕ × ℤ)) → IsStart (stands_in shape s t) bottom start → IsSound (opening bottom shape s t start)
+opening_is_sound bottom shape s t start listed = record { staircase = start_is_staircase (stands_in shape s t) bottom start listed; once = tt; taken = λ i k out. cc; failed_taken = λ e is. cc; none_failed = λ none. refl }
 
 -- the square of who has it is out, at its height
 pub held_at_height : (state : State) (who s : ℕ) (t : ℤ) → IsHeld state who s t → is_out state.out s (height state t) ≡ true
@@ -47,12 +48,12 @@ pub through_history : (P : State → Type 0) → ((state : State) (event : Entry
 through_history P keeps first [] last (nothing state) sound p = (sound, p)
 through_history P keeps first (event ∷ events) last (then state e es l legal rest) sound p = through_history P keeps (after_entry first event) events last rest (stays_sound first event sound legal) (keeps first event sound legal p)
 
-pub reached_is_sound : (bottom : ℤ) (s t : ℕ) (start : List (ℕ × ℤ)) (events : List Entry) (state : State) → IsReachedByEntries bottom s t start events state → IsSound state
-reached_is_sound bottom s t start events state reached = (through_history (λ _. Unit {0}) (λ _ _ _ _ _. tt) (opening bottom s t start) events state reached.history (opening_is_sound bottom s t start reached.listed) tt).0
+pub reached_is_sound : (bottom : ℤ) (shape : Shape) (s t : ℕ) (start : List (ℕ × ℤ)) (events : List Entry) (state : State) → IsReachedByEntries bottom shape s t start events state → IsSound state
+reached_is_sound bottom shape s t start events state reached = (through_history (λ _. Unit {0}) (λ _ _ _ _ _. tt) (opening bottom shape s t start) events state reached.history (opening_is_sound bottom shape s t start reached.listed) tt).0
 
 -- no entry ends the run
-pub reached_runs : (bottom : ℤ) (s t : ℕ) (start : List (ℕ × ℤ)) (events : List Entry) (state : State) → IsReachedByEntries bottom s t start events state → state.running ≡ true
-reached_runs bottom s t start events state reached = (through_history (λ st. st.running ≡ true) runs_on (opening bottom s t start) events state reached.history (opening_is_sound bottom s t start reached.listed) refl).1
+pub reached_runs : (bottom : ℤ) (shape : Shape) (s t : ℕ) (start : List (ℕ × ℤ)) (events : List Entry) (state : State) → IsReachedByEntries bottom shape s t start events state → state.running ≡ true
+reached_runs bottom shape s t start events state reached = (through_history (λ st. st.running ≡ true) runs_on (opening bottom shape s t start) events state reached.history (opening_is_sound bottom shape s t start reached.listed) refl).1
 
 -- one event more at the end
 pub history_then : (first : State) (events : List Entry) (last : State) (event : Entry) → IsEntryHistory first events last → IsLegalEntry last event → IsEntryHistory first (events ++ event ∷ []) (after_entry last event)

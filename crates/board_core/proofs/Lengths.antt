@@ -4,6 +4,7 @@ use Rattle.std.proofs.Math.Bool.{or-false}
 use Rattle.std.proofs.Math.Path.{fun_ext}
 use Rattle.std.proofs.lemmas.List.Sums.{sum_by-cons}
 use Rattle.std.proofs.lemmas.Bool.Decides.{nat_tests, eqb_tells}
+use Rattle.bidegree.specs.declared.shape.Shape.{Shape}
 use Rattle.board_core.specs.declared.event.Entry.{Entry}
 use Rattle.board_core.specs.declared.event.Entry.TheVariants.{Take, Give, Back, Fail}
 use Rattle.board_core.specs.Board.{IsSound}
@@ -86,5 +87,5 @@ along first (Back who s t ∷ events) last (then state e es l legal rest) sound 
 along first (Fail who s t ∷ events) last (then state e es l legal rest) sound i n is =
     along (after_entry first (Fail who s t)) events last rest (stays_sound first (Fail who s t) sound legal) i n is
 
-pub fronts_are_given : (bottom : ℤ) (s t : ℕ) (start : List (ℕ × ℤ)) (events : List Entry) (state : State) → IsReachedByEntries bottom s t start events state → (i n : ℕ) → IsRowNumber (opening bottom s t start).done i n → IsRowNumber state.done i (n + given_in i events)
-fronts_are_given bottom s t start events state reached = along (opening bottom s t start) events state reached.history (opening_is_sound bottom s t start reached.listed)
+pub fronts_are_given : (bottom : ℤ) (shape : Shape) (s t : ℕ) (start : List (ℕ × ℤ)) (events : List Entry) (state : State) → IsReachedByEntries bottom shape s t start events state → (i n : ℕ) → IsRowNumber (opening bottom shape s t start).done i n → IsRowNumber state.done i (n + given_in i events)
+fronts_are_given bottom shape s t start events state reached = along (opening bottom shape s t start) events state reached.history (opening_is_sound bottom shape s t start reached.listed)

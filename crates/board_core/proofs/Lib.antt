@@ -5,6 +5,7 @@ pub mod Filed
 pub mod Given
 mod Growth
 pub mod Histories
+mod LeastReady
 mod Lengths
 pub mod OpenTakes
 pub mod Places

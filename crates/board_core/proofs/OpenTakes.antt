@@ -7,6 +7,7 @@ use Rattle.std.proofs.lemmas.Bool.{cases_Bool}
 use Rattle.std.proofs.lemmas.Bool.Decides.{nat_tests, Decides-int_eq}
 use Rattle.std.proofs.lemmas.List.Folds.{list_any-append}
 use Rattle.std.proofs.lemmas.Map.Views.{any-filter_same}
+use Rattle.bidegree.specs.declared.shape.Shape.{Shape}
 use Rattle.board_core.specs.declared.event.Out.{Out}
 use Rattle.board_core.specs.declared.event.Entry.{Entry}
 use Rattle.board_core.specs.declared.event.Entry.TheVariants.{Take, Give, Back, Fail}
@@ -166,13 +167,13 @@ has_it first (event ∷ events) last (then state e es l legal rest) sound who i 
         take_first first event events last legal rest sound who i u taker snapshot first_is same (subst (λ (l : List Entry). list_any (ends_square i u) l ≡ false) (sym tail) open_still)
     with_own (x ∷ b) h own later = let tail : events_by who events ≡ b ++ Take taker i u snapshot ∷ behind = cc in later b tail
 
-pub open_take_is_held : (bottom : ℤ) (s t : ℕ) (start : List (ℕ × ℤ)) (events : List Entry) (state : State) → IsReachedByEntries bottom s t start events state → (who i : ℕ) (u : ℤ) → HasOpenTake (events_by who events) i u → IsHeld state who i u
-open_take_is_held bottom s t start events state reached who i u taken =
-    let first = opening bottom s t start in
-    let sound = opening_is_sound bottom s t start reached.listed in
+pub open_take_is_held : (bottom : ℤ) (shape : Shape) (s t : ℕ) (start : List (ℕ × ℤ)) (events : List Entry) (state : State) → IsReachedByEntries bottom shape s t start events state → (who i : ℕ) (u : ℤ) → HasOpenTake (events_by who events) i u → IsHeld state who i u
+open_take_is_held bottom shape s t start events state reached who i u taken =
+    let first = opening bottom shape s t start in
+    let sound = opening_is_sound bottom shape s t start reached.listed in
     let it = has_it first events state reached.history sound who i u taken.before taken.who taken.snapshot taken.behind taken.is taken.open_still in
     record {
-      running = reached_runs bottom s t start events state reached;
+      running = reached_runs bottom shape s t start events state reached;
       above = it.above;
       degree = subst (λ (b : ℤ). IsAbove b u it.above) (sym (bottom_along first (map event_of events) state reached.history)) it.degree;
       held = it.there;

@@ -8,12 +8,13 @@ use Rattle.std.proofs.lemmas.List.Folds.{list_any-from_Any}
 use Rattle.std.proofs.lemmas.Option.{slice_get-get_or, get_or_from_slice_get}
 use Rattle.bidegree.specs.Above.{above_of}
 use Rattle.bidegree.proofs.Degrees.{above_of-is}
+use Rattle.bidegree.specs.declared.shape.Shape.{Shape}
 use Rattle.board_core.specs.declared.event.Entry.{Entry}
 use Rattle.board_core.specs.declared.event.Entry.TheVariants.{Take, Give, Back, Fail}
 use Rattle.board_core.specs.Board.{IsSound}
 use Rattle.board_core.specs.Laws.{IsReachedByEntries, given}
 use Rattle.board_core.specs.Entries.{IsEntryHistory, after_entry}
-use Rattle.board_core.specs.Machine.{State, IsStart, IsAbove, is_number, height, opening}
+use Rattle.board_core.specs.Machine.{Squares, State, stands, IsStart, IsAbove, is_number, height, opening}
 use Rattle.board_core.specs.Machine.IsHistory.{nothing, then}
 use Rattle.board_core.proofs.Given.{given_once}
 use Rattle.board_core.proofs.Histories.{height_is, held_at_height, opening_is_sound, stays_sound}
@@ -40,15 +41,15 @@ within_along first (Give who s t ∷ events) last (then state e es l legal rest)
 within_along first (Back who s t ∷ events) last (then state e es l legal rest) sound = within_along (after_entry first (Back who s t)) events last rest (stays_sound first (Back who s t) sound legal)
 within_along first (Fail who s t ∷ events) last (then state e es l legal rest) sound = within_along (after_entry first (Fail who s t)) events last rest (stays_sound first (Fail who s t) sound legal)
 
-pub given_within : (bottom : ℤ) (s t : ℕ) (start : List (ℕ × ℤ)) (events : List Entry) (state : State) → IsReachedByEntries bottom s t start events state → All (IsWithin bottom s t) (given events)
-given_within bottom s t start events state reached = within_along (opening bottom s t start) events state reached.history (opening_is_sound bottom s t start reached.listed)
+pub given_within : (bottom : ℤ) (shape : Shape) (s t : ℕ) (start : List (ℕ × ℤ)) (events : List Entry) (state : State) → IsReachedByEntries bottom shape s t start events state → All (IsWithin bottom s t) (given events)
+given_within bottom shape s t start events state reached = within_along (opening bottom shape s t start) events state reached.history (opening_is_sound bottom shape s t start reached.listed)
 
 -- ---- each once
 
 -- a list of squares that has each after its parents, has each once
-start_apart : (b : ℤ) (list : List (ℕ × ℤ)) → IsStart b list → AllPairs (λ q r. q ≢ r) list
-start_apart b list start i j d before within same =
-    let next = next_square b list j d start within in
+start_apart : (places : Squares) (b : ℤ) (list : List (ℕ × ℤ)) → IsStart places b list → AllPairs (λ q r. q ≢ r) list
+start_apart places b list start i j d before within same =
+    let next = next_square places b list j d start within in
     let q : ℕ × ℤ = get_or list j d in
     let test = λ (r : ℕ × ℤ). nat_eq q.0 r.0 && is_number (above_of b r.1) next.above in
     let i_there : i < length (take j list) = omega (arith, length-take-le j list (omega arith)) in
@@ -59,9 +60,9 @@ start_apart b list start i j d before within same =
     let any = list_any-from_Any test (take j list) (i, q, i_there, there, passes) in
     absurd (let absent = next.absent in cc)
 
-pub given_apart : (bottom : ℤ) (s t : ℕ) (start : List (ℕ × ℤ)) (events : List Entry) (state : State) → IsReachedByEntries bottom s t start events state → AllPairs (λ q r. q ≢ r) (given events)
-given_apart bottom s t start events state reached i j d before within same =
-    let done = given_once bottom s t start events state reached in
-    let all = start_apart bottom (start ++ given events) (subst (IsStart bottom) done.file done.once) in
+pub given_apart : (bottom : ℤ) (shape : Shape) (s t : ℕ) (start : List (ℕ × ℤ)) (events : List Entry) (state : State) → IsReachedByEntries bottom shape s t start events state → AllPairs (λ q r. q ≢ r) (given events)
+given_apart bottom shape s t start events state reached i j d before within same =
+    let done = given_once bottom shape s t start events state reached in
+    let all = start_apart (stands state) bottom (start ++ given events) (subst (IsStart (stands state) bottom) done.file done.once) in
     let l = length-append start (given events) in
     all (length start + i) (length start + j) d (omega arith) (omega arith) (get_or-append-add start (given events) i d ∙ (same ∙ sym (get_or-append-add start (given events) j d)))

@@ -8,15 +8,16 @@ use Rattle.std.proofs.lemmas.List.Folds.{list_any-append}
 use Rattle.std.proofs.lemmas.List.{length-map}
 use Rattle.std.proofs.lemmas.Map.Views.{any-filter_same}
 use Rattle.std.proofs.Math.Bool.{or-false}
+use Rattle.bidegree.specs.declared.shape.Shape.{Shape}
 use Rattle.board_core.specs.declared.event.Out.{Out}
 use Rattle.board_core.specs.declared.event.Entry.{Entry}
 use Rattle.board_core.specs.declared.event.Entry.TheVariants.{Take, Give, Back, Fail}
 use Rattle.board_core.specs.declared.event.Event.{Event}
 use Rattle.board_core.specs.declared.event.Event.TheVariants.{Take as TakeEvent, Give as GiveEvent, Back as BackEvent, Fail as FailEvent, Stop, Open}
-use Rattle.board_core.specs.Laws.{IsReached, IsReachedByEntries, NothingStops, count_missing, unfinished}
+use Rattle.board_core.specs.Laws.{IsReached, IsReachedByEntries, NothingStops, count_missing, is_finished, unfinished}
 use Rattle.board_core.specs.Board.{IsOnce, IsSound}
 use Rattle.board_core.specs.Entries.{event_of, IsLegalEntry, IsEntryHistory, after_entry}
-use Rattle.board_core.specs.Machine.{Squares, State, IsHistory, after, IsInRange, IsReady, count_below, height, opening, squares_of, is_out, without, insert_square}
+use Rattle.board_core.specs.Machine.{Squares, State, IsHistory, after, IsInRange, IsReady, count_below, height, opening, is_meant, is_out, without, insert_square}
 use Rattle.board_core.specs.Machine.IsHistory.{nothing, then}
 use Rattle.board_core.proofs.Histories.{height_is, held_at_height, opening_is_sound, stays_sound}
 
@@ -85,9 +86,9 @@ none_missing done (suc rows) degrees s k e l m = elim (eqb_tells rows s) [
 
 -- ---- how far the board is from its end
 
--- the squares that are done or out
+-- the squares that are done or out, and those that are not meant
 abbrev pub busy : State → Squares
-busy state = λ i j. state.done i j || is_out state.out i j
+busy state = λ i j. is_finished state i j || is_out state.out i j
 
 -- two steps for each square that is neither, and one for each that is out
 abbrev pub steps : State → ℕ
@@ -137,10 +138,10 @@ take_with false false false degree = refl
 
 busy_take : (state : State) (who s k : ℕ) → busy (record state { out = state.out ++ record { who = who; s = s; above = k } ∷ [] }) ≡ insert_square (busy state) s k
 busy_take state who s k = fun_ext (λ i. fun_ext (λ j.
-    ap (λ b. state.done i j || b) (list_any-append (λ (e : Out). nat_eq e.s i && nat_eq e.above j) state.out (record { who = who; s = s; above = k } ∷ []))
-    ∙ take_with (state.done i j) (is_out state.out i j) (nat_eq s i) (nat_eq k j)
-    ∙ ap (λ b. (state.done i j || is_out state.out i j) || (b && nat_eq k j)) (eq_swap s i)
-    ∙ ap (λ b. (state.done i j || is_out state.out i j) || (nat_eq i s && b)) (eq_swap k j)))
+    ap (λ b. is_finished state i j || b) (list_any-append (λ (e : Out). nat_eq e.s i && nat_eq e.above j) state.out (record { who = who; s = s; above = k } ∷ []))
+    ∙ take_with (is_finished state i j) (is_out state.out i j) (nat_eq s i) (nat_eq k j)
+    ∙ ap (λ b. (is_finished state i j || is_out state.out i j) || (b && nat_eq k j)) (eq_swap s i)
+    ∙ ap (λ b. (is_finished state i j || is_out state.out i j) || (nat_eq i s && b)) (eq_swap k j)))
 
 -- another square is out as before
 others_stay : (out : List Out) (s k i j : ℕ) → (nat_eq i s && nat_eq j k) ≡ false → is_out (without out s k) i j ≡ is_out out i j
@@ -175,7 +176,8 @@ one_step state (Take who s t snapshot) kind sound legal =
     let ready = subst (λ (n : ℕ). IsReady state s n) (sym (height_is state t legal.above legal.degree)) legal.ready in
     let row = ready.in_range.row in
     let degree = ready.in_range.degree in
-    let free : busy state s k ≡ false = ap (λ b. b || is_out state.out s k) ready.not_done ∙ ready.not_out in
+    let meant : is_meant state s k ≡ true = ready.in_range.meant in
+    let free : busy state s k ≡ false = ap (λ b. (not b || state.done s k) || is_out state.out s k) meant ∙ (ap (λ b. b || is_out state.out s k) ready.not_done ∙ ready.not_out) in
     let more = ap (λ (f : Squares). count_missing f (suc state.rows) (suc state.degrees)) (busy_take state who s k) in
     let less = missing_with (busy state) s k (suc state.rows) (suc state.degrees) (omega arith) (omega arith) free in
     let long = length-append state.out (record { who = who; s = s; above = k } ∷ []) in
@@ -204,9 +206,9 @@ all_steps first (Fail who s t ∷ events) last history kind sound = absurd kind
 
 -- ---- the law
 
-pub steps_at_opening : (bottom : ℤ) (s t : ℕ) (start : List (ℕ × ℤ)) → steps (opening bottom s t start) ≡ 2 * unfinished (opening bottom s t start)
-steps_at_opening bottom s t start =
-    let same : busy (opening bottom s t start) ≡ squares_of bottom start = fun_ext (λ i. fun_ext (λ j. or-false (squares_of bottom start i j))) in
+pub steps_at_opening : (bottom : ℤ) (shape : Shape) (s t : ℕ) (start : List (ℕ × ℤ)) → steps (opening bottom shape s t start) ≡ 2 * unfinished (opening bottom shape s t start)
+steps_at_opening bottom shape s t start =
+    let same : busy (opening bottom shape s t start) ≡ is_finished (opening bottom shape s t start) = fun_ext (λ i. fun_ext (λ j. or-false (is_finished (opening bottom shape s t start) i j))) in
     let count = ap (λ (f : Squares). count_missing f (suc s) (suc t)) same in
     omega arith
 
@@ -218,7 +220,8 @@ no_steps state e i k within =
     let none : length state.out ≡ 0 = omega arith in
     let here = none_missing (busy state) (suc state.rows) (suc state.degrees) i k (omega arith) (omega arith) (omega arith) in
     let free : is_out state.out i k ≡ false = no_out state.out none in
-    sym (or-false (state.done i k)) ∙ ap (λ b. state.done i k || b) (sym free) ∙ here
+    let meant : is_meant state i k ≡ true = within.meant in
+    ap (λ b. not b || state.done i k) (sym meant) ∙ (sym (or-false (is_finished state i k)) ∙ ap (λ b. is_finished state i k || b) (sym free) ∙ here)
   where
     no_out : (out : List Out) → length out ≡ 0 → is_out out i k ≡ false
     no_out [] e = refl
@@ -243,15 +246,15 @@ of_entries first (FailEvent who s t ∷ events) last history kind runs = absurd 
 of_entries first (Stop in_file ∷ events) last history kind runs = absurd kind
 of_entries first (Open ∷ events) last (then state e es l legal rest) kind runs = absurd (cc)
 
-finished_by : (bottom : ℤ) (s t : ℕ) (start : List (ℕ × ℤ)) (events : List Entry) (state : State) → IsReachedByEntries bottom s t start events state → AllTakeOrGive events → length events ≡ 2 * unfinished (opening bottom s t start) → (i k : ℕ) → IsInRange state i k → state.done i k ≡ true
-finished_by bottom s t start events state reached kind long =
-    let all = all_steps (opening bottom s t start) events state reached.history kind (opening_is_sound bottom s t start reached.listed) in
-    let first = steps_at_opening bottom s t start in
+finished_by : (bottom : ℤ) (shape : Shape) (s t : ℕ) (start : List (ℕ × ℤ)) (events : List Entry) (state : State) → IsReachedByEntries bottom shape s t start events state → AllTakeOrGive events → length events ≡ 2 * unfinished (opening bottom shape s t start) → (i k : ℕ) → IsInRange state i k → state.done i k ≡ true
+finished_by bottom shape s t start events state reached kind long =
+    let all = all_steps (opening bottom shape s t start) events state reached.history kind (opening_is_sound bottom shape s t start reached.listed) in
+    let first = steps_at_opening bottom shape s t start in
     no_steps state (omega arith)
 
-pub finished : (bottom : ℤ) (s t : ℕ) (start : List (ℕ × ℤ)) (events : List Event) (state : State) → IsReached bottom s t start events state → NothingStops events → length events ≡ 2 * unfinished (opening bottom s t start) → (i k : ℕ) → IsInRange state i k → state.done i k ≡ true
-finished bottom s t start events state reached kind long =
-    let one = of_entries (opening bottom s t start) events state reached.history kind refl in
-    let by : IsReachedByEntries bottom s t start one.entries state = subst (λ (l : List Event). IsReached bottom s t start l state) one.are reached in
+pub finished : (bottom : ℤ) (shape : Shape) (s t : ℕ) (start : List (ℕ × ℤ)) (events : List Event) (state : State) → IsReached bottom shape s t start events state → NothingStops events → length events ≡ 2 * unfinished (opening bottom shape s t start) → (i k : ℕ) → IsInRange state i k → state.done i k ≡ true
+finished bottom shape s t start events state reached kind long =
+    let one = of_entries (opening bottom shape s t start) events state reached.history kind refl in
+    let by : IsReachedByEntries bottom shape s t start one.entries state = subst (λ (l : List Event). IsReached bottom shape s t start l state) one.are reached in
     let count : length one.entries ≡ length events = sym (length-map one.entries event_of) ∙ ap (λ (l : List Event). length l) (sym one.are) in
-    finished_by bottom s t start one.entries state by one.kind (count ∙ long)
+    finished_by bottom shape s t start one.entries state by one.kind (count ∙ long)

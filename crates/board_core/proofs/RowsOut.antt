@@ -1,5 +1,5 @@
 -- The rows of the squares that are out.
-use Rattle.std.proofs.Common.{◌≡◌, ℕ, ◌<◌, Bool, true, false, not, ◌&&◌, nat_eq, nat_lt, List, [], ◌∷◌, ◌++◌, length, set, get_or, None, sym, ◌∙◌, subst, arith, inl, inr}
+use Rattle.std.proofs.Common.{◌≡◌, ℕ, suc, ◌<◌, Bool, true, false, not, ◌&&◌, nat_eq, nat_lt, List, [], ◌∷◌, ◌++◌, length, set, get_or, None, sym, ◌∙◌, subst, arith, inl, inr}
 use Rattle.std.proofs.lemmas.Bool.{cases_Bool}
 use Rattle.std.proofs.lemmas.Bool.Decides.{nat_tests, eqb_tells}
 use Rattle.std.proofs.lemmas.List.{get_or-set_other, get_or-set_same, length-set}
@@ -8,7 +8,7 @@ use Rattle.std.proofs.lemmas.Map.Views.{any-filter_same}
 use Rattle.board_core.specs.declared.event.Out.{Out}
 use Rattle.board_core.specs.Board.{IsTaken, IsSound}
 use Rattle.board_core.specs.Inside.{IsMarked, has_row}
-use Rattle.board_core.specs.Machine.{State, IsReady, is_out, without}
+use Rattle.board_core.specs.Machine.{State, IsInRange, IsReady, stands, is_out, without}
 use Rattle.board_core.proofs.BelowFronts.{stands_first}
 use Rattle.board_core.proofs.Sound.{is_other, out_in_row}
 
@@ -78,6 +78,20 @@ ready_first state s k front fronts running no_cause taken clear =
         | inl out ↦ let row = out_in_row state.out s front out in cc
         | inr free ↦ free
       ];
+    }
+
+-- a square that may be taken is the first of its row that is not done
+pub ready_at_front : (state : State) (s k front : ℕ) → ((j : ℕ) → state.done s j ≡ nat_lt j front) → IsReady state s k → IsReady state s front
+ready_at_front state s k front fronts ready = subst (λ (n : ℕ). IsReady state s n) (stands_first state.done s k front fronts ready.parents ready.not_done) ready
+
+-- the first square of a row that is not done, where it is in the range and the one that it stands on is done, if it stands on one
+pub next_is_taken : (state : State) (s front : ℕ) → ((j : ℕ) → state.done s j ≡ nat_lt j front) → IsInRange state s front → ((i : ℕ) → suc i ≡ s → stands state s front ≡ true → state.done i front ≡ true) → IsTaken state s front
+next_is_taken state s front fronts within under =
+    let here = fronts front in
+    record {
+      in_range = within;
+      parents = record { before = λ j e. let there = fronts j in grind (arith, nat_tests); below = under };
+      not_done = grind (arith, nat_tests);
     }
 
 -- where a square of a row may be taken, none of it is out

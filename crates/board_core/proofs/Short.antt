@@ -2,11 +2,12 @@
 use Rattle.std.proofs.Common.{◌≡◌, ℕ, zero, suc, ◌+◌, ◌*◌, ◌≤◌, ℤ, Bool, not, List, [], ◌∷◌, length, Option, Some, None, sym, subst, arith, inl, inr}
 use Rattle.std.proofs.lemmas.Bool.{cases_Bool}
 use Rattle.std.proofs.lemmas.List.{length_push}
+use Rattle.bidegree.specs.declared.shape.Shape.{Shape}
 use Rattle.board_core.specs.declared.event.Cause.{Cause}
 use Rattle.board_core.specs.declared.event.Entry.{Entry}
 use Rattle.board_core.specs.declared.event.Entry.TheVariants.{Take, Give, Back, Fail}
 use Rattle.board_core.specs.Board.{IsSound}
-use Rattle.board_core.specs.Laws.{IsReachedByEntries, count_missing, unfinished}
+use Rattle.board_core.specs.Laws.{IsReachedByEntries, count_missing, is_finished, unfinished}
 use Rattle.board_core.specs.Entries.{IsLegalEntry, IsEntryHistory, after_entry}
 use Rattle.board_core.specs.Machine.{Squares, State, IsHeld, count_below, height, opening, without}
 use Rattle.board_core.specs.Machine.IsHistory.{nothing, then}
@@ -55,10 +56,10 @@ all_less first (event ∷ events) last (then state e es l legal rest) sound =
     let more = all_less (after_entry first event) events last rest (stays_sound first event sound legal) in
     omega arith
 
-pub history_is_short : (bottom : ℤ) (s t : ℕ) (start : List (ℕ × ℤ)) (events : List Entry) (state : State) → IsReachedByEntries bottom s t start events state → length events ≤ 2 * unfinished (opening bottom s t start)
-history_is_short bottom s t start events state reached =
-    let all = all_less (opening bottom s t start) events state reached.history (opening_is_sound bottom s t start reached.listed) in
-    let first = steps_at_opening bottom s t start in
+pub history_is_short : (bottom : ℤ) (shape : Shape) (s t : ℕ) (start : List (ℕ × ℤ)) (events : List Entry) (state : State) → IsReachedByEntries bottom shape s t start events state → length events ≤ 2 * unfinished (opening bottom shape s t start)
+history_is_short bottom shape s t start events state reached =
+    let all = all_less (opening bottom shape s t start) events state reached.history (opening_is_sound bottom shape s t start reached.listed) in
+    let first = steps_at_opening bottom shape s t start in
     omega arith
 
 -- ---- how many squares are out
@@ -88,4 +89,4 @@ missing_within done (suc rows) degrees =
     grind arith
 
 pub range_is_all : (state : State) → unfinished state ≤ suc state.rows * suc state.degrees
-range_is_all state = missing_within state.done (suc state.rows) (suc state.degrees)
+range_is_all state = missing_within (is_finished state) (suc state.rows) (suc state.degrees)

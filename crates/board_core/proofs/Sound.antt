@@ -80,20 +80,20 @@ is_other out s k i j e =
 
 -- ---- sets of squares
 
-parents_more : (done : Squares) (s k i j : ℕ) → HasParents done i j → HasParents (insert_square done s k) i j
+parents_more : {stands : Squares} (done : Squares) (s k i j : ℕ) → HasParents stands done i j → HasParents stands (insert_square done s k) i j
 parents_more done s k i j h = record {
   before = λ n e. let b = h.before n e in ap (λ x. x || (nat_eq i s && nat_eq n k)) b;
-  below = λ n e. let b = h.below n e in ap (λ x. x || (nat_eq n s && nat_eq j k)) b;
+  below = λ n e on. let b = h.below n e on in ap (λ x. x || (nat_eq n s && nat_eq j k)) b;
 }
 
-pub staircase_more : (done : Squares) (s k : ℕ) → IsStaircase done → HasParents done s k → IsStaircase (insert_square done s k)
-staircase_more done s k stairs parents i j e = elim (cases_Bool (done i j)) [
+pub staircase_more : {stands : Squares} (done : Squares) (s k : ℕ) → IsStaircase stands done → HasParents stands done s k → IsStaircase stands (insert_square done s k)
+staircase_more {stands} done s k stairs parents i j e = elim (cases_Bool (done i j)) [
   | inl passes ↦ parents_more done s k i j (stairs i j passes)
   | inr fails ↦
       let same : (nat_eq i s && nat_eq j k) ≡ true = ap (λ x. x || (nat_eq i s && nat_eq j k)) (sym fails) ∙ e in
       let row : i ≡ s = grind (arith, nat_tests) in
       let degree : j ≡ k = grind (arith, nat_tests) in
-      parents_more done s k i j (subst (λ (n : ℕ). HasParents done i n) (sym degree) (subst (λ (n : ℕ). HasParents done n k) (sym row) parents))
+      parents_more done s k i j (subst (λ (n : ℕ). HasParents stands done i n) (sym degree) (subst (λ (n : ℕ). HasParents stands done n k) (sym row) parents))
 ]
 
 -- ---- the state after an event
@@ -103,7 +103,7 @@ ready_is_taken state s k ready = record { in_range = ready.in_range; parents = r
 
 -- what is known of a square does not hang on the lists of the state, nor on its cause
 pub taken_still : (state : State) (out : List Out) (failed : Option Out) (file : List (ℕ × ℤ)) (cause : Option Cause) (s k : ℕ) → IsTaken state s k → IsTaken (record state { out = out; failed = failed; file = file; cause = cause }) s k
-taken_still state out failed file cause s k t = record { in_range = record { row = t.in_range.row; degree = t.in_range.degree }; parents = t.parents; not_done = t.not_done }
+taken_still state out failed file cause s k t = record { in_range = record { row = t.in_range.row; degree = t.in_range.degree; meant = t.in_range.meant }; parents = t.parents; not_done = t.not_done }
 
 pub sound_take : (state : State) (e : Out) (list : List Out) → IsSound state → IsReady state e.s e.above → list ≡ state.out ++ e ∷ [] → IsSound (record state { out = list })
 sound_take state e list sound ready is = subst (λ (l : List Out). IsSound (record state { out = l })) (sym is) (record {
@@ -149,7 +149,7 @@ sound_give state s k done list file sound no_cause is e f =
       taken = λ i j out.
           let rest = is_other state.out s k i j out in
           let t = sound.taken i j rest.there in
-          record { in_range = record { row = t.in_range.row; degree = t.in_range.degree }; parents = parents_more state.done s k i j t.parents; not_done = ap (λ x. x || (nat_eq i s && nat_eq j k)) t.not_done ∙ rest.other };
+          record { in_range = record { row = t.in_range.row; degree = t.in_range.degree; meant = t.in_range.meant }; parents = parents_more state.done s k i j t.parents; not_done = ap (λ x. x || (nat_eq i s && nat_eq j k)) t.not_done ∙ rest.other };
       failed_taken = λ e here. let none = sound.none_failed no_cause in cc;
       none_failed = sound.none_failed;
     } in

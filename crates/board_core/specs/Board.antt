@@ -1,9 +1,10 @@
 -- What contracts of Core see: the state of the machine, by the fronts of its rows, and what is known of it.
 use Rattle.std.specs.Prelude.{◌≡◌, ℕ, ℤ, Bool, true, false, nat_lt, slice_index_or, List, [], ◌∷◌, Option, Some, None, ⊤}
 use Rattle.bidegree.specs.Above.{above_of}
+use Rattle.bidegree.specs.declared.shape.Shape.{Shape}
 use Rattle.board_core.specs.declared.event.Out.{Out}
 use Rattle.board_core.specs.declared.event.Cause.{Cause}
-use Rattle.board_core.specs.Machine.{Squares, no_squares, squares_of, HasParents, IsStart, IsStaircase, IsAbove, State, is_out, IsInRange, IsReady}
+use Rattle.board_core.specs.Machine.{Squares, no_squares, squares_of, HasParents, IsStart, IsStaircase, IsAbove, State, stands, is_out, IsInRange, IsReady}
 
 -- the squares of each row below its front
 abbrev pub below_fronts : List ℕ → Squares
@@ -12,6 +13,7 @@ below_fronts fronts = λ s k. nat_lt k (slice_index_or fronts s 0)
 -- What contracts see of a board: what its state is made from, where the done squares of each row are those below its front,
 -- and how many more squares have room in the list of those that are out.
 pub record Board : Type 0 where
+  pub shape : Shape
   pub rows : ℕ
   pub degrees : ℕ
   pub bottom : ℤ
@@ -26,6 +28,7 @@ pub record Board : Type 0 where
 -- the state of a board
 abbrev pub state_of : Board → State
 state_of b = record {
+  shape = b.shape;
   rows = b.rows;
   degrees = b.degrees;
   bottom = b.bottom;
@@ -47,13 +50,13 @@ IsOnce (e ∷ out) = (is_out out e.s e.above ≡ false) × IsOnce out
 -- What is known of a square that is out, or that failed: it is in the range, its parents are done, and it is not.
 pub record IsTaken (state : State) (s k : ℕ) : Type 0 where
   pub in_range : IsInRange state s k
-  pub parents : HasParents state.done s k
+  pub parents : HasParents (stands state) state.done s k
   pub not_done : state.done s k ≡ false
 
 -- The done squares are a staircase, and each square that is out stands there once, is not done, and has its parents done. So
 -- is the one that failed, and there is none while no cause stands.
 pub record IsSound (state : State) : Type 0 where
-  pub staircase : IsStaircase state.done
+  pub staircase : IsStaircase (stands state) state.done
   pub once : IsOnce state.out
   pub taken : (s k : ℕ) → is_out state.out s k ≡ true → IsTaken state s k
   pub failed_taken : (e : Out) → state.failed ≡ Some e → IsTaken state e.s e.above
@@ -62,7 +65,7 @@ pub record IsSound (state : State) : Type 0 where
 -- The file has each square once and after its parents. While the board runs these are the squares that are done; while it does
 -- not, none is done or out, and none failed.
 pub record IsFiled (state : State) : Type 0 where
-  pub listed : IsStart state.bottom state.file
+  pub listed : IsStart (stands state) state.bottom state.file
   pub done : state.running ≡ true → state.done ≡ squares_of state.bottom state.file
   pub none_done : state.running ≡ false → state.done ≡ no_squares
   pub none_out : state.running ≡ false → state.out ≡ []

@@ -1,6 +1,7 @@
 -- What is so after every history of a board, from every start.
-use Rattle.std.specs.Prelude.{◌≡◌, ℕ, zero, suc, ◌+◌, ◌*◌, ◌≤◌, ℤ, true, false, not, nat_eq, List, [], ◌∷◌, ◌++◌, map, length, Option, Some, None, ⊤}
+use Rattle.std.specs.Prelude.{◌≡◌, ℕ, zero, suc, ◌+◌, ◌*◌, ◌≤◌, ℤ, true, false, not, ◌||◌, nat_eq, List, [], ◌∷◌, ◌++◌, map, length, Option, Some, None, ⊤}
 use Rattle.std.specs.List.{count_by}
+use Rattle.bidegree.specs.declared.shape.Shape.{Shape}
 use Rattle.board_core.specs.declared.event.Out.{Out}
 use Rattle.board_core.specs.declared.event.Cause.{Cause}
 use Rattle.board_core.specs.declared.event.Cause.TheVariants.{Failed, Memory}
@@ -10,23 +11,24 @@ use Rattle.board_core.specs.declared.event.Event.{Event}
 use Rattle.board_core.specs.declared.event.Event.TheVariants.{Take as TakeEvent, Give as GiveEvent, Back as BackEvent, Fail as FailEvent, Stop, Open}
 use Rattle.board_core.specs.Board.{IsOnce, IsTaken, IsFiled}
 use Rattle.board_core.specs.Entries.{event_of, events_by, IsEntryHistory, HasOpenTake}
-use Rattle.board_core.specs.Machine.{Squares, State, IsStart, squares_of, opening, count_below, is_out, file_with, IsStaircase, IsRowNumber, IsInRange, IsHeld, IsLegal, IsHistory}
+use Rattle.board_core.specs.Machine.{Squares, State, IsStart, squares_of, stands_in, stands, is_meant, opening, count_below, is_out, file_with, IsStaircase, IsRowNumber, IsInRange, IsHeld, IsLegal, IsHistory}
 
 -- the events are accepted one after another from the opening with this range and start, and lead to the state
-pub record IsReached (bottom : ℤ) (s t : ℕ) (start : List (ℕ × ℤ)) (events : List Event) (state : State) : Type 0 where
-  pub listed : IsStart bottom start
-  pub history : IsHistory (opening bottom s t start) events state
+pub record IsReached (bottom : ℤ) (shape : Shape) (s t : ℕ) (start : List (ℕ × ℤ)) (events : List Event) (state : State)
+    : Type 0 where
+  pub listed : IsStart (stands_in shape s t) bottom start
+  pub history : IsHistory (opening bottom shape s t start) events state
 
 -- the same, by the entries of one run
-abbrev pub IsReachedByEntries : ℤ → ℕ → ℕ → List (ℕ × ℤ) → List Entry → State → Type 0
-IsReachedByEntries bottom s t start entries state = IsReached bottom s t start (map event_of entries) state
+abbrev pub IsReachedByEntries : ℤ → Shape → ℕ → ℕ → List (ℕ × ℤ) → List Entry → State → Type 0
+IsReachedByEntries bottom shape s t start entries state = IsReached bottom shape s t start (map event_of entries) state
 
 -- ---- with Stop and Open at any place
 
 -- The done squares are a staircase.
 abbrev pub DoneIsStaircase : Type 0
-DoneIsStaircase = (bottom : ℤ) (s t : ℕ) (start : List (ℕ × ℤ)) (events : List Event) (state : State) →
-    IsReached bottom s t start events state → IsStaircase state.done
+DoneIsStaircase = (bottom : ℤ) (shape : Shape) (s t : ℕ) (start : List (ℕ × ℤ)) (events : List Event) (state : State) →
+    IsReached bottom shape s t start events state → IsStaircase (stands state) state.done
 
 -- the squares that the events put into the file, in their order: those that are given, and that which a Stop finds there
 abbrev pub filed : List Event → List (ℕ × ℤ)
@@ -47,8 +49,8 @@ pub record AreFiledOnce (bottom : ℤ) (start : List (ℕ × ℤ)) (events : Lis
 
 -- No square is given twice, nor one that the file had, also if the board has stopped and opened in between.
 abbrev pub SquaresAreFiledOnce : Type 0
-SquaresAreFiledOnce = (bottom : ℤ) (s t : ℕ) (start : List (ℕ × ℤ)) (events : List Event) (state : State) →
-    IsReached bottom s t start events state → AreFiledOnce bottom start events state
+SquaresAreFiledOnce = (bottom : ℤ) (shape : Shape) (s t : ℕ) (start : List (ℕ × ℤ)) (events : List Event) (state : State) →
+    IsReached bottom shape s t start events state → AreFiledOnce bottom start events state
 
 -- each square that is out stands there once; it and the one that failed are in the range, are not done, and have their
 -- parents done
@@ -58,8 +60,8 @@ pub record AreOutOnce (state : State) : Type 0 where
   pub failed_taken : (e : Out) → state.failed ≡ Some e → IsTaken state e.s e.above
 
 abbrev pub SquaresAreOutOnce : Type 0
-SquaresAreOutOnce = (bottom : ℤ) (s t : ℕ) (start : List (ℕ × ℤ)) (events : List Event) (state : State) →
-    IsReached bottom s t start events state → AreOutOnce state
+SquaresAreOutOnce = (bottom : ℤ) (shape : Shape) (s t : ℕ) (start : List (ℕ × ℤ)) (events : List Event) (state : State) →
+    IsReached bottom shape s t start events state → AreOutOnce state
 
 -- a square that whoever asks may take, with the right snapshot
 pub record HasReady (state : State) : Type 0 where
@@ -77,8 +79,8 @@ pub record HasUnfinished (state : State) : Type 0 where
 
 -- While it runs the board does not get stuck.
 abbrev pub SomeSquareIsReady : Type 0
-SomeSquareIsReady = (bottom : ℤ) (s t : ℕ) (start : List (ℕ × ℤ)) (events : List Event) (state : State) →
-    IsReached bottom s t start events state → state.running ≡ true → state.cause ≡ None → state.out ≡ [] →
+SomeSquareIsReady = (bottom : ℤ) (shape : Shape) (s t : ℕ) (start : List (ℕ × ℤ)) (events : List Event) (state : State) →
+    IsReached bottom shape s t start events state → state.running ≡ true → state.cause ≡ None → state.out ≡ [] →
     HasUnfinished state → HasReady state
 
 -- how many squares of the first rows and degrees are not in the set
@@ -86,9 +88,13 @@ abbrev pub count_missing : Squares → ℕ → ℕ → ℕ
 count_missing done zero t = 0
 count_missing done (suc s) t = count_below (λ k. not (done s k)) t + count_missing done s t
 
+-- the squares that are done, and those that are not meant
+abbrev pub is_finished : State → Squares
+is_finished state = λ s k. not (is_meant state s k) || state.done s k
+
 -- how many squares of the range are not done
 abbrev pub unfinished : State → ℕ
-unfinished state = count_missing state.done (suc state.rows) (suc state.degrees)
+unfinished state = count_missing (is_finished state) (suc state.rows) (suc state.degrees)
 
 -- there is neither a Back nor a Fail nor a Stop
 abbrev pub NothingStops : List Event → Type 0
@@ -102,9 +108,9 @@ NothingStops (Open ∷ events) = NothingStops events
 
 -- Two events for each square that the opening leaves unfinished finish the board.
 abbrev pub BoardIsFinished : Type 0
-BoardIsFinished = (bottom : ℤ) (s t : ℕ) (start : List (ℕ × ℤ)) (events : List Event) (state : State) →
-    IsReached bottom s t start events state → NothingStops events →
-    length events ≡ 2 * unfinished (opening bottom s t start) → (i k : ℕ) → IsInRange state i k → state.done i k ≡ true
+BoardIsFinished = (bottom : ℤ) (shape : Shape) (s t : ℕ) (start : List (ℕ × ℤ)) (events : List Event) (state : State) →
+    IsReached bottom shape s t start events state → NothingStops events →
+    length events ≡ 2 * unfinished (opening bottom shape s t start) → (i k : ℕ) → IsInRange state i k → state.done i k ≡ true
 
 -- ---- in one run
 
@@ -120,13 +126,13 @@ given (Fail who s t ∷ events) = given events
 -- squares that are done
 pub record AreDoneOnce (bottom : ℤ) (start : List (ℕ × ℤ)) (events : List Entry) (state : State) : Type 0 where
   pub file : state.file ≡ start ++ given events
-  pub once : IsStart bottom state.file
+  pub once : IsStart (stands state) bottom state.file
   pub done : state.done ≡ squares_of bottom state.file
 
 -- No square is given twice, nor one of the start again.
 abbrev pub SquaresAreGivenOnce : Type 0
-SquaresAreGivenOnce = (bottom : ℤ) (s t : ℕ) (start : List (ℕ × ℤ)) (events : List Entry) (state : State) →
-    IsReachedByEntries bottom s t start events state → AreDoneOnce bottom start events state
+SquaresAreGivenOnce = (bottom : ℤ) (shape : Shape) (s t : ℕ) (start : List (ℕ × ℤ)) (events : List Entry) (state : State) →
+    IsReachedByEntries bottom shape s t start events state → AreDoneOnce bottom start events state
 
 -- how many of the squares that the events give are in row i
 abbrev pub given_in : ℕ → List Entry → ℕ
@@ -134,14 +140,14 @@ given_in i events = count_by (λ q. nat_eq q.0 i) (given events)
 
 -- Each square that is given lengthens its row by one: a row has so many squares done more than at the opening.
 abbrev pub FrontsAreGiven : Type 0
-FrontsAreGiven = (bottom : ℤ) (s t : ℕ) (start : List (ℕ × ℤ)) (events : List Entry) (state : State) →
-    IsReachedByEntries bottom s t start events state → (i n : ℕ) → IsRowNumber (opening bottom s t start).done i n →
+FrontsAreGiven = (bottom : ℤ) (shape : Shape) (s t : ℕ) (start : List (ℕ × ℤ)) (events : List Entry) (state : State) →
+    IsReachedByEntries bottom shape s t start events state → (i n : ℕ) → IsRowNumber (opening bottom shape s t start).done i n →
     IsRowNumber state.done i (n + given_in i events)
 
 -- Who has taken a square, and has neither given it nor handed it back nor failed at it, has it still.
 abbrev pub OpenTakeIsHeld : Type 0
-OpenTakeIsHeld = (bottom : ℤ) (s t : ℕ) (start : List (ℕ × ℤ)) (events : List Entry) (state : State) →
-    IsReachedByEntries bottom s t start events state → (who i : ℕ) (u : ℤ) → HasOpenTake (events_by who events) i u →
+OpenTakeIsHeld = (bottom : ℤ) (shape : Shape) (s t : ℕ) (start : List (ℕ × ℤ)) (events : List Entry) (state : State) →
+    IsReachedByEntries bottom shape s t start events state → (who i : ℕ) (u : ℤ) → HasOpenTake (events_by who events) i u →
     IsHeld state who i u
 
 -- the cause that the first Back or Fail of the events brings, none where they have neither
@@ -154,8 +160,8 @@ first_cause (Fail who s t ∷ events) = Some Failed
 
 -- The cause that stands is that of the first Back or Fail.
 abbrev pub CauseIsTheFirst : Type 0
-CauseIsTheFirst = (bottom : ℤ) (s t : ℕ) (start : List (ℕ × ℤ)) (events : List Entry) (state : State) →
-    IsReachedByEntries bottom s t start events state → state.cause ≡ first_cause events
+CauseIsTheFirst = (bottom : ℤ) (shape : Shape) (s t : ℕ) (start : List (ℕ × ℤ)) (events : List Entry) (state : State) →
+    IsReachedByEntries bottom shape s t start events state → state.cause ≡ first_cause events
 
 -- what was done is done still, and no row has fewer squares done
 pub record HasMoreDone (first last : State) : Type 0 where
@@ -169,8 +175,8 @@ DoneSquaresGrow = (first : State) (events : List Entry) (last : State) → IsEnt
 
 -- A history has at most two events for each square of the range that the opening leaves unfinished.
 abbrev pub HistoryIsShort : Type 0
-HistoryIsShort = (bottom : ℤ) (s t : ℕ) (start : List (ℕ × ℤ)) (events : List Entry) (state : State) →
-    IsReachedByEntries bottom s t start events state → length events ≤ 2 * unfinished (opening bottom s t start)
+HistoryIsShort = (bottom : ℤ) (shape : Shape) (s t : ℕ) (start : List (ℕ × ℤ)) (events : List Entry) (state : State) →
+    IsReachedByEntries bottom shape s t start events state → length events ≤ 2 * unfinished (opening bottom shape s t start)
 
 -- The unfinished squares are at most all squares of the range.
 abbrev pub RangeIsAll : Type 0

@@ -1,9 +1,12 @@
 -- The board of squares: the squares of a range are taken, each once those that it stands on are done, and are given back
 -- done. The state of the board is a set of done squares and a list of those that are out; events change it. A run of the board
 -- may end at any moment, and another begins with the squares that the file has then.
-use Rattle.std.specs.Prelude.{◌≡◌, ℕ, zero, suc, ◌+◌, ◌≤◌, ℤ, pos, ◌+ℤ◌, Bool, true, false, not, ◌&&◌, ◌||◌, cond, nat_eq, List, [], ◌∷◌, ◌++◌, take, slice_get, Option, Some, None}
+use Rattle.std.specs.Prelude.{◌≡◌, ℕ, zero, suc, ◌+◌, ◌≤◌, ℤ, pos, ◌+ℤ◌, Bool, true, false, not, ◌&&◌, ◌||◌, cond, nat_eq, nat_lt, List, [], ◌∷◌, ◌++◌, take, slice_get, Option, Some, None}
 use Rattle.std.specs.List.{list_any, filter}
 use Rattle.bidegree.specs.Above.{above_of}
+use Rattle.bidegree.specs.LastDegrees.{last_degree}
+use Rattle.bidegree.specs.declared.shape.Shape.{Shape}
+use Rattle.bidegree.specs.declared.shape.Shape.TheVariants.{Rectangle, Stems}
 use Rattle.board_core.specs.declared.event.Out.{Out}
 use Rattle.board_core.specs.declared.event.Cause.{Cause}
 use Rattle.board_core.specs.declared.event.Cause.TheVariants.{Failed, Memory}
@@ -20,19 +23,23 @@ Squares = ℕ → ℕ → Bool
 abbrev pub no_squares : Squares
 no_squares = λ s k. false
 
+-- all
+abbrev pub all_squares : Squares
+all_squares = λ s k. true
+
 -- with one square more
 abbrev pub insert_square : Squares → ℕ → ℕ → Squares
 insert_square done s k = λ i j. done i j || (nat_eq i s && nat_eq j k)
 
 -- The parents of a square are in the set: the one before it in its row, where it is above the bottom, and the one of its
--- degree in the row below, where its row is not row 0.
-pub record HasParents (done : Squares) (s k : ℕ) : Type 0 where
+-- degree in the row below, where its row is not row 0 and it is one of those that stand on that.
+pub record HasParents (stands done : Squares) (s k : ℕ) : Type 0 where
   pub before : (j : ℕ) → suc j ≡ k → done s j ≡ true
-  pub below : (i : ℕ) → suc i ≡ s → done i k ≡ true
+  pub below : (i : ℕ) → suc i ≡ s → stands s k ≡ true → done i k ≡ true
 
 -- a set that has the parents of each of its squares
-abbrev pub IsStaircase : Squares → Type 0
-IsStaircase done = (s k : ℕ) → done s k ≡ true → HasParents done s k
+abbrev pub IsStaircase : Squares → Squares → Type 0
+IsStaircase stands done = (s k : ℕ) → done s k ≡ true → HasParents stands done s k
 
 -- how many of the numbers below bound pass
 abbrev pub count_below : (ℕ → Bool) → ℕ → ℕ
@@ -60,27 +67,44 @@ abbrev pub squares_of : ℤ → List (ℕ × ℤ) → Squares
 squares_of bottom list = λ s k. list_any (λ q. nat_eq s q.0 && is_number (above_of bottom q.1) k) list
 
 -- q is a square that is not in the list, and its parents are
-pub record IsNextSquare (bottom : ℤ) (list : List (ℕ × ℤ)) (q : ℕ × ℤ) : Type 0 where
+pub record IsNextSquare (stands : Squares) (bottom : ℤ) (list : List (ℕ × ℤ)) (q : ℕ × ℤ) : Type 0 where
   pub above : ℕ
   pub degree : IsAbove bottom q.1 above
   pub absent : squares_of bottom list q.0 above ≡ false
-  pub parents : HasParents (squares_of bottom list) q.0 above
+  pub parents : HasParents stands (squares_of bottom list) q.0 above
 
 -- Squares that may be done before the first event: the list has each square once, and after its parents. They need not lie
 -- in the range.
-abbrev pub IsStart : ℤ → List (ℕ × ℤ) → Type 0
-IsStart bottom list = (n : ℕ) (q : ℕ × ℤ) → slice_get list n ≡ Some q → IsNextSquare bottom (take n list) q
+abbrev pub IsStart : Squares → ℤ → List (ℕ × ℤ) → Type 0
+IsStart stands bottom list =
+    (n : ℕ) (q : ℕ × ℤ) → slice_get list n ≡ Some q → IsNextSquare stands bottom (take n list) q
 
 -- the squares of the list stand in rows through s
 abbrev pub AllInRows : ℕ → List (ℕ × ℤ) → Type 0
 AllInRows s list = (n : ℕ) (q : ℕ × ℤ) → slice_get list n ≡ Some q → q.0 ≤ s
 
+-- ---- ranges
+
+-- Which squares of the rows through s and the degrees through t stand on the one of their degree in the row below. In a
+-- rectangle all do. In stems it is those through the last stem. The one behind them in a row is made by itself.
+abbrev pub stands_in : Shape → ℕ → ℕ → Squares
+stands_in Rectangle s t = all_squares
+stands_in Stems s t = λ i k. nat_lt k (last_degree Stems (record { s = s; t = t }) i + 1)
+
+-- Which squares are meant, where they are in these rows and degrees. In stems a row has one square behind that of the last
+-- stem: at it the kernel is made that the last square of the next row covers, and nothing else.
+abbrev pub is_meant_in : Shape → ℕ → ℕ → Squares
+is_meant_in Rectangle s t = all_squares
+is_meant_in Stems s t = λ i k. nat_lt k (last_degree Stems (record { s = s; t = t }) i + 2)
+
 -- ---- the machine
 
--- What the board is at a moment. Its range is the rows through `rows`, in the degrees through `degrees` above the bottom.
+-- What the board is at a moment. Its range is of a shape, in the rows through `rows` and the degrees through `degrees` above
+-- the bottom.
 -- It has the squares that are done, a list of those that are out, the one that failed, the list of the squares that the save
 -- file has, each by its row and its degree, why no more squares are given out, none where they are, and whether it runs.
 pub record State : Type 0 where
+  pub shape : Shape
   pub rows : ℕ
   pub degrees : ℕ
   pub bottom : ℤ
@@ -92,8 +116,9 @@ pub record State : Type 0 where
   pub running : Bool
 
 -- before the first event: the squares of the start are done, and the file has them
-abbrev pub opening : ℤ → ℕ → ℕ → List (ℕ × ℤ) → State
-opening bottom s t start = record {
+abbrev pub opening : ℤ → Shape → ℕ → ℕ → List (ℕ × ℤ) → State
+opening bottom shape s t start = record {
+  shape = shape;
   rows = s;
   degrees = t;
   bottom = bottom;
@@ -126,17 +151,26 @@ abbrev pub IsRowNumberBelow : Squares → ℕ → ℕ → Type 0
 IsRowNumberBelow done zero n = n ≡ 0
 IsRowNumberBelow done (suc s) n = IsRowNumber done s n
 
+-- the squares that stand on the one below them
+abbrev pub stands : State → Squares
+stands state = stands_in state.shape state.rows state.degrees
+
+-- the squares that are meant, where they are in its rows and degrees
+abbrev pub is_meant : State → Squares
+is_meant state = is_meant_in state.shape state.rows state.degrees
+
 -- the square is in the range
 pub record IsInRange (state : State) (s k : ℕ) : Type 0 where
   pub row : s ≤ state.rows
   pub degree : k ≤ state.degrees
+  pub meant : is_meant state s k ≡ true
 
 -- the square may be taken
 pub record IsReady (state : State) (s k : ℕ) : Type 0 where
   pub running : state.running ≡ true
   pub no_cause : state.cause ≡ None
   pub in_range : IsInRange state s k
-  pub parents : HasParents state.done s k
+  pub parents : HasParents (stands state) state.done s k
   pub not_done : state.done s k ≡ false
   pub not_out : is_out state.out s k ≡ false
 

@@ -1,28 +1,25 @@
 //! The squares that are done, by the fronts of their rows.
-ghost use Rattle.std.specs.Prelude.{◌≡◌, ℕ, ◌<◌, ◌^◌, false, true, nat_lt, length, IfOk};
+ghost use Rattle.std.specs.Prelude.{◌≡◌, ℕ, suc, ◌<◌, ◌^◌, false, true, nat_lt, length, IfOk};
 ghost use Rattle.board_core.specs.Board.{below_fronts};
-ghost use Rattle.board_core.specs.Machine.{HasParents, IsStaircase, IsNumber, insert_square};
+ghost use Rattle.board_core.specs.Machine.{IsNumber, insert_square};
 
 use memory::Memory;
 use std::alloc::Global;
 use std::marker::Model;
 
-/// The squares that are done. In each row they are those below a front, and no front is greater than that of the row below,
-/// so the fronts are all that is kept. A row that has no front here has no square done. Fronts have 64 bits, so a start may
-/// hold any degree.
+/// The squares that are done. In each row they are those below a front, so the fronts are all that is kept. A row that has no
+/// front here has no square done. Fronts have 64 bits, so a start may hold any degree.
 #[derive(Drop)]
 pub(crate) struct Fronts {
     fronts: Vec<u64>,
 }
 
 impl Model for Fronts {
-    ghost use Rattle.std.specs.Prelude.{ℕ, List, suc, ◌≤◌, slice_index_or};
+    ghost use Rattle.std.specs.Prelude.{ℕ, List};
 
     ghost Value = { List ℕ };
 
     ghost view = { λ f. f.fronts.items };
-
-    ghost invariant = { λ f. (s : ℕ) → slice_index_or f.fronts.items (suc s) 0 ≤ slice_index_or f.fronts.items s 0 };
 }
 
 impl Fronts {
@@ -50,7 +47,6 @@ impl Fronts {
     pub(crate) fn front(&self, s: u16) -> u64
         ensures number { IsNumber (below_fronts self.now s) result }
         ensures done { (k : ℕ) → below_fronts self.now s k ≡ nat_lt k result }
-        ensures staircase { IsStaircase (below_fronts self.now) }
     {
         match self.fronts.get(usize::from(s)) {
             Some(front) => *front,
@@ -58,11 +54,11 @@ impl Fronts {
         }
     }
 
-    /// Makes one square more done.
+    /// Makes one square more done, the next of its row.
     pub(crate) fn add(&mut self, s: u16, k: u64)
         requires row { s < length self.old }
         requires few { k < 2 ^ 63 }
-        requires parents { HasParents (below_fronts self.old) s k }
+        requires before { (j : ℕ) → suc j ≡ k → below_fronts self.old s j ≡ true }
         requires absent { below_fronts self.old s k ≡ false }
         ensures squares { below_fronts self.new ≡ insert_square (below_fronts self.old) s k }
         ensures rows { length self.new ≡ length self.old }

@@ -2,16 +2,17 @@
 ghost use Rattle.std.specs.Prelude.{◌≡◌, ℕ, ◌<◌, ◌≤◌, ◌+◌, ◌-◌, ◌^◌, ◌↔◌, ◌+ℤ◌, ◌≤ℤ◌, pos, Some, None, Ok, Err, true, false, ◌||◌, [], vec_capacity, vec_len, length, IfOk, IfSome, OnSome, OnOk, OnErr};
 ghost use Rattle.std.specs.Bool.{Decides};
 ghost use Rattle.bidegree.specs.Above.{above_of};
+ghost use Rattle.bidegree.specs.LastDegrees.{last_degree};
 ghost use Rattle.board_core.specs.Board.{IsSound, below_fronts, state_of, IsTaken, IsReadyAt, is_done_at, is_out_at};
 ghost use Rattle.board_core.specs.Inside.{has_row, IsBounded, IsMarked};
-ghost use Rattle.board_core.specs.Machine.{AllInRows, IsStart, IsAbove, opening, squares_of, IsReady, IsRowNumber, IsRowNumberBelow, IsLegal, IsLegalTake, IsHeld, IsHeldWithoutCause, IsBegun, IsLegalStop, has_entry, has_failed, is_out, after, without};
+ghost use Rattle.board_core.specs.Machine.{Squares, AllInRows, IsStart, IsAbove, opening, squares_of, stands_in, stands, is_meant, IsReady, IsRowNumber, IsRowNumberBelow, IsLegal, IsLegalTake, IsHeld, IsHeldWithoutCause, IsBegun, IsLegalStop, has_entry, has_failed, is_out, after, without};
 ghost use Rattle.board_core.specs.declared.event.Event.TheVariants.{Take, Give, Back, Fail, Stop, Open};
 ghost use Rattle.board_core.specs.declared.event.CoreFault as CoreFault;
 ghost use Rattle.board_core.specs.declared.event.CoreFault.TheVariants.{NotLegal, Memory as NoMemory};
 
 use crate::event::{Cause, CoreFault, Event, Out};
 use crate::fronts::Fronts;
-use bidegree::above_of;
+use bidegree::{Range, Shape, above_of};
 use ghost_list::GhostList;
 use memory::Memory;
 use std::alloc::Global;
@@ -25,6 +26,7 @@ use std::mem::swap;
 /// are a function, which is no value of a model.
 #[derive(Drop)]
 pub struct Core {
+    shape: Shape,
     rows: u16,
     degrees: u16,
     bottom: i32,
@@ -50,6 +52,7 @@ impl Model for Core {
     ghost Value = { Board };
 
     ghost view = { λ c. record {
+      shape = c.shape;
       rows = c.rows;
       degrees = c.degrees;
       bottom = c.bottom;
@@ -64,6 +67,7 @@ impl Model for Core {
 
     ghost invariant = { λ c. IsWellKept
         (record {
+          shape = c.shape;
           rows = c.rows;
           degrees = c.degrees;
           bottom = c.bottom;
@@ -78,8 +82,8 @@ impl Model for Core {
 }
 
 impl Core {
-    /// The board before the first event. Its range is the rows through `s`, in the degrees from `m` through `m + t`. The
-    /// squares of `start`, each given by its row and its degree, are done; they need not lie in the range. None of them
+    /// The board before the first event. Its range is of this shape, in the rows through `s` and the degrees from `m` through
+    /// `m + t`. The squares of `start`, each given by its row and its degree, are done; they need not lie in the range. None of them
     /// lies below the bottom: of row 0 this does not follow from each standing after its parents, since a square there has
     /// none.
     ///
@@ -87,19 +91,26 @@ impl Core {
     /// `Memory` if allocation fails: there are two fronts for each row through the last of the range and of `start`, that of
     /// the done squares and that of the file's, and a mark for each row of the range. No front is added later, since the
     /// square of an event lies in the range.
-    pub fn new(alloc: Global, s: u16, t: u16, m: i32, start: &[(u16, i32)]) -> Result<Core, Memory>
-        requires fits { (m +ℤ pos t) ≤ℤ pos (2 ^ 31 - 1) }
-        requires start { IsStart m start.now }
-        ensures { IfOk result (λ core. state_of core ≡ opening m s t start.now) }
+    pub fn new(
+        alloc: Global,
+        shape: Shape,
+        range: Range,
+        m: i32,
+        start: &[(u16, i32)],
+    ) -> Result<Core, Memory>
+        requires fits { (m +ℤ pos range.t) ≤ℤ pos (2 ^ 31 - 1) }
+        requires start { IsStart (stands_in shape range.s range.t) m start.now }
+        ensures { IfOk result (λ core. state_of core ≡ opening m shape range.s range.t start.now) }
     {
-        let last = last_row(s, start);
+        let last = last_row(range.s, start);
         Ok(Core {
-            rows: s,
-            degrees: t,
+            shape,
+            rows: range.s,
+            degrees: range.t,
             bottom: m,
             fronts: fronts_of(alloc, m, last, start)?,
             out: Vec::new(alloc),
-            busy: vec![in alloc; false; usize::from(s) + 1]?,
+            busy: vec![in alloc; false; usize::from(range.s) + 1]?,
             failed: None,
             file: GhostList::of(start),
             cause: None,
@@ -155,21 +166,68 @@ impl Core {
         Ok(())
     }
 
-    /// A square that may be taken: that in the lowest row which has one. None exactly where there is none.
+    /// A square that may be taken: one of the least degree in which there is such a square. None exactly where there is none.
     pub fn ready(&self) -> Option<(u16, i32)>
         ensures some { IfSome result (λ q. IsReadyAt (state_of self.now) q.0 q.1) }
-        ensures lowest { IfSome result (λ q. (s k : ℕ) → s < q.0 → IsReady (state_of self.now) s k → ⊥) }
+        ensures least { IfSome result (λ q. (s k : ℕ) → IsReady (state_of self.now) s k →
+            q.1 ≤ℤ (self.now.bottom +ℤ pos k)) }
         ensures none { result ≡ None → (s k : ℕ) → IsReady (state_of self.now) s k → ⊥ }
     {
         if !self.running || self.cause.is_some() {
             return None;
         }
-        for s in 0..=self.rows {
-            if self.is_open(s) {
-                return Some((s, self.bottom + self.fronts.front(s) as i32));
-            }
+        let (s, above) = self.least_open()?;
+        Some((s, self.bottom + above as i32))
+    }
+
+    /// Whether the first square of row `s` that is not done is in the range and has its parents done. It may be out.
+    pub fn has_next(&self, s: u16) -> bool
+        requires { s ≤ self.now.rows }
+        ensures { Decides result ((k : ℕ) × IsTaken (state_of self.now) s k) }
+    {
+        let front = self.fronts.front(s);
+        if front > u64::from(self.degrees) || !self.is_meant(s, front) {
+            return false;
         }
-        None
+        s == 0 || !self.stands(s, front) || front < self.fronts.front(s - 1)
+    }
+
+    /// A row that has a square which may be taken while the board runs and no cause stands, with how many degrees the square is
+    /// above the bottom. No such square of another row is of a lower degree.
+    fn least_open(&self) -> Option<(u16, u64)>
+        requires running { self.now.running ≡ true }
+        requires no_cause { self.now.cause ≡ None }
+        ensures some { IfSome result (λ q. IsReady (state_of self.now) q.0 q.1) }
+        ensures least { IfSome result (λ q. (s k : ℕ) → IsReady (state_of self.now) s k → q.1 ≤ k) }
+        ensures none { result ≡ None → (s k : ℕ) → IsReady (state_of self.now) s k → ⊥ }
+    {
+        let mut least = None;
+        for s in 0..=self.rows {
+            least = self.lesser(least, s);
+        }
+        least
+    }
+
+    /// The row that was found before, if there is one, or row `s` if that has a square which may be taken, of a lower degree.
+    fn lesser(&self, found: Option<(u16, u64)>, s: u16) -> Option<(u16, u64)>
+        requires row { s ≤ self.now.rows }
+        requires running { self.now.running ≡ true }
+        requires no_cause { self.now.cause ≡ None }
+        requires found { IfSome found (λ q. IsReady (state_of self.now) q.0 q.1) }
+        ensures some { IfSome result (λ q. IsReady (state_of self.now) q.0 q.1) }
+        ensures before { IfSome found (λ p. IfSome result (λ q. q.1 ≤ p.1)) }
+        ensures here { IfSome result (λ q. (k : ℕ) → IsReady (state_of self.now) s k → q.1 ≤ k) }
+        ensures none { result ≡ None → found ≡ None }
+        ensures none_here { result ≡ None → (k : ℕ) → IsReady (state_of self.now) s k → ⊥ }
+    {
+        if !self.is_open(s) {
+            return found;
+        }
+        let front = self.fronts.front(s);
+        match found {
+            Some((_, least)) if least <= front => found,
+            _ => Some((s, front)),
+        }
     }
 
     /// Whether the square in row `s` and of degree `t` is done.
@@ -396,16 +454,38 @@ impl Core {
         !self.busy[usize::from(s)] && self.has_next(s)
     }
 
-    /// Whether the first square of row `s` that is not done is in the range and has its parents done.
-    fn has_next(&self, s: u16) -> bool
+    /// Whether the square is meant, where it is in the rows and degrees of the range.
+    fn is_meant(&self, s: u16, k: u64) -> bool
         requires { s ≤ self.now.rows }
-        ensures { Decides result ((k : ℕ) × IsTaken (state_of self.now) s k) }
+        ensures { result ≡ is_meant (state_of self.now) s k }
     {
-        let front = self.fronts.front(s);
-        if front > u64::from(self.degrees) {
-            return false;
+        match self.shape {
+            Shape::Rectangle => true,
+            Shape::Stems => k < u64::from(self.last_degree(s)) + 2,
         }
-        s == 0 || front < self.fronts.front(s - 1)
+    }
+
+    /// Whether the square stands on the one of its degree in the row below.
+    fn stands(&self, s: u16, k: u64) -> bool
+        requires { s ≤ self.now.rows }
+        ensures { result ≡ stands (state_of self.now) s k }
+    {
+        match self.shape {
+            Shape::Rectangle => true,
+            Shape::Stems => k < u64::from(self.last_degree(s)) + 1,
+        }
+    }
+
+    /// The last degree of row `s`, above the bottom.
+    fn last_degree(&self, s: u16) -> u16
+        requires { s ≤ self.now.rows }
+        ensures { result ≡ last_degree self.now.shape (record { s = self.now.rows; t = self.now.degrees }) s }
+    {
+        let range = Range {
+            s: self.rows,
+            t: self.degrees,
+        };
+        self.shape.last_degree(range, s)
     }
 
     /// Whether so many squares of row `s` and of the row below are done.
@@ -479,7 +559,7 @@ fn last_row(s: u16, start: &[(u16, i32)]) -> u16
 
 /// The squares of the start, with a front for each row through `last`.
 fn fronts_of(alloc: Global, bottom: i32, last: u16, start: &[(u16, i32)]) -> Result<Fronts, Memory>
-    requires start { IsStart bottom start.now }
+    requires start { (places : Squares) × IsStart places bottom start.now }
     requires rows { AllInRows last start.now }
     ensures squares { IfOk result (λ fronts. below_fronts fronts ≡ squares_of bottom start.now) }
     ensures rows { IfOk result (λ fronts. length fronts ≡ last + 1) }

@@ -7,6 +7,7 @@ use Rattle.std.proofs.lemmas.Bool.Decides.{nat_tests}
 use Rattle.std.proofs.lemmas.List.{map-append}
 use Rattle.bidegree.specs.Above.{above_of}
 use Rattle.bidegree.proofs.Degrees.{above_of-is}
+use Rattle.bidegree.specs.declared.shape.Shape.TheVariants.{Rectangle}
 use Rattle.board_core.specs.declared.event.Out.{Out}
 use Rattle.board_core.specs.declared.event.Cause.TheVariants.{Failed, Memory}
 use Rattle.board_core.specs.declared.event.Event.TheVariants.{Take, Give, Back, Fail, Stop, Open}
@@ -85,9 +86,9 @@ start_held bottom (e ∷ start) s k =
     ∙ ap (λ b. b || is_some (entry_at start s k)) (same_test bottom e s k)
     ∙ ap (λ b. (nat_eq s e.s && is_number (above_of bottom (bottom +ℤ pos e.above)) k) || b) (start_held bottom start s k)
 
-pub opening_agrees : (m : Module) (s t : ℕ) (start : List Entry) → without_contents (filled_opening m s t start) ≡ opening m.bottom s t (places m.bottom start)
+pub opening_agrees : (m : Module) (s t : ℕ) (start : List Entry) → without_contents (filled_opening m s t start) ≡ opening m.bottom Rectangle s t (places m.bottom start)
 opening_agrees m s t start =
-    let first = opening m.bottom s t (places m.bottom start) in
+    let first = opening m.bottom Rectangle s t (places m.bottom start) in
     ap (λ (done : Squares). let new : State = record first { done = done } in new) (fun_ext (λ i. fun_ext (λ k. start_held m.bottom start i k)))
 
 -- ---- when a run ends, and another begins

@@ -6,6 +6,7 @@ use Rattle.std.proofs.lemmas.Option.{same_Some}
 use Rattle.std.proofs.lemmas.Bool.{cases_Bool}
 use Rattle.std.proofs.lemmas.Bool.Decides.{nat_tests}
 use Rattle.std.proofs.lemmas.List.Elements.{All-nil, All-push, All-filter, All-contains, Contains-append_right}
+use Rattle.bidegree.specs.declared.shape.Shape.TheVariants.{Rectangle}
 use Rattle.board_core.specs.declared.event.Out.{Out}
 use Rattle.board_core.specs.declared.event.Event.{Event}
 use Rattle.board_core.specs.declared.event.Event.TheVariants.{Take, Give, Back, Fail, Stop, Open}
@@ -151,13 +152,13 @@ run_along m first keeps board (Open ∷ events) state at steps failed =
     let rest = run_along m first keeps _ events state (open_along m first board events state at) steps failed in
     (rest.0, open_first board events rest.0 rest.1)
 
-has_run : (m : Module) (first : List Entry) (s t : ℕ) (start : List Entry) (events : List Event) (state : State) → KeepsWidths m.graded → AreOf m first start → ((i k : ℕ) → entry_at start i k ≡ None → entry_at first i k ≡ None) → IsReached m.bottom s t (places m.bottom start) events state → (board : Filled) × IsSchedule m s t start events state board
+has_run : (m : Module) (first : List Entry) (s t : ℕ) (start : List Entry) (events : List Event) (state : State) → KeepsWidths m.graded → AreOf m first start → ((i k : ℕ) → entry_at start i k ≡ None → entry_at first i k ≡ None) → IsReached m.bottom Rectangle s t (places m.bottom start) events state → (board : Filled) × IsSchedule m s t start events state board
 has_run m first s t start events state keeps are unread reached =
     let opened = filled_opening m s t start in
     let agrees = opening_agrees m s t start in
     let run = run_along m first keeps opened events state (record {
       history = subst (λ (x : State). IsHistory x events state) (sym agrees) reached.history;
-      whole = subst IsWhole (sym agrees) (opening_is_whole m.bottom s t (places m.bottom start) reached.listed);
+      whole = subst IsWhole (sym agrees) (opening_is_whole m.bottom Rectangle s t (places m.bottom start) reached.listed);
       kept = opening_is_kept m first s t start are unread;
     }) (All-nil (HasStep m)) (λ copy e. cc) in
     (run.0, record { reached = reached; run = run.1 })

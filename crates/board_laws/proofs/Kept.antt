@@ -8,7 +8,7 @@ use Rattle.std.proofs.lemmas.Option.{same_Some}
 use Rattle.board_core.specs.declared.event.Out.{Out}
 use Rattle.board_core.specs.declared.event.Cause.{Cause}
 use Rattle.board_core.specs.declared.event.Cause.TheVariants.{Failed, Memory}
-use Rattle.board_core.specs.Machine.{HasParents, IsStaircase, cause_or}
+use Rattle.board_core.specs.Machine.{all_squares, HasParents, IsStaircase, cause_or}
 use Rattle.resolution_laws.specs.Resolution.{Module, Content}
 use Rattle.resolution_laws.specs.Start.{Entry, entry_at, IsOf, AreOf}
 use Rattle.resolution_laws.proofs.StartLaws.{entry_at-other, entry_at-new, listed_is_of}
@@ -46,7 +46,7 @@ none_held : (o : Option Content) → is_some o ≡ false → o ≡ None
 none_held None e = refl
 none_held (Some content) e = cc
 
-pub take_keeps : (m : Module) (first : List Entry) (board : Filled) (who s k : ℕ) → IsKept m first board → IsStaircase (held_squares board.done) → HasParents (held_squares board.done) s k → is_some (board.done s k) ≡ false → board.running ≡ true → IsKept m first (after_take board who s k)
+pub take_keeps : (m : Module) (first : List Entry) (board : Filled) (who s k : ℕ) → IsKept m first board → IsStaircase all_squares (held_squares board.done) → HasParents all_squares (held_squares board.done) s k → is_some (board.done s k) ≡ false → board.running ≡ true → IsKept m first (after_take board who s k)
 take_keeps m first board who s k kept stairs parents not_done runs = record {
   stands = kept.stands;
   unread = kept.unread;

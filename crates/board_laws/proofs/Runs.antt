@@ -1,10 +1,11 @@
 -- A run along a history of the machine, event by event.
 use Rattle.std.proofs.Common.{◌≡◌, ℕ, ℤ, pos, ◌+ℤ◌, List, [], ◌∷◌, ◌++◌, Some, None, refl, sym, ◌∙◌, ap, subst, append_assoc, append-nil}
 use Rattle.std.proofs.lemmas.List.{map-append}
+use Rattle.bidegree.specs.declared.shape.Shape.TheVariants.{Rectangle}
 use Rattle.board_core.specs.declared.event.Event.{Event}
 use Rattle.board_core.specs.declared.event.Event.TheVariants.{Take, Give, Back, Fail, Stop, Open}
 use Rattle.board_core.specs.Laws.{filed}
-use Rattle.board_core.specs.Machine.{State, IsStart, IsReady, IsLegal, IsHistory, IsAbove, after}
+use Rattle.board_core.specs.Machine.{State, all_squares, stands, IsStart, IsReady, IsLegal, IsHistory, IsAbove, after}
 use Rattle.board_core.specs.Machine.IsHistory.{nothing, then}
 use Rattle.board_core.proofs.Filed.{IsWhole, filed_once, opening_is_whole, stays_whole}
 use Rattle.board_core.proofs.Histories.{height_is, held_at_height}
@@ -136,13 +137,12 @@ schedule_is_right m first s t start events state board are unread schedule =
     let agrees = opening_agrees m s t start in
     let end = ends m first opened events state board schedule.run (record {
       history = subst (λ (x : State). IsHistory x events state) (sym agrees) reached.history;
-      whole = subst IsWhole (sym agrees) (opening_is_whole m.bottom s t (places m.bottom start) reached.listed);
+      whole = subst IsWhole (sym agrees) (opening_is_whole m.bottom Rectangle s t (places m.bottom start) reached.listed);
       kept = opening_is_kept m first s t start are unread;
     }) in
     let kept = end.kept in
     let file = end.continues in
-    let all : places m.bottom board.file ≡ places m.bottom start ++ filed events = ap (places m.bottom) file.follows ∙ map-append (λ (e : Entry). (e.s, m.bottom +ℤ pos e.above)) start file.more ∙ ap (λ (l : List (ℕ × ℤ)). places m.bottom start ++ l) file.places_are in
-    let done = filed_once m.bottom s t (places m.bottom start) events state reached in
+    let done = filed_once m.bottom Rectangle s t (places m.bottom start) events state reached in
     record {
       agrees = end.agrees;
       done = kept.stands;
@@ -150,6 +150,8 @@ schedule_is_right m first s t start events state board are unread schedule =
       copies = kept.copies;
       failed = kept.failed;
       file = file;
-      once = subst (IsStart m.bottom) (done.file ∙ sym all) (subst (λ (b : ℤ). IsStart b state.file) done.same_bottom done.is_filed.listed);
+      once =
+          let listed : IsStart all_squares board.bottom (places board.bottom board.file) = subst (λ (x : State). IsStart (stands x) x.bottom x.file) (sym end.agrees) done.is_filed.listed in
+          subst (λ (b : ℤ). IsStart all_squares b (places b board.file)) (ap (λ (x : State). x.bottom) end.agrees ∙ done.same_bottom) listed;
       same = kept.same;
     }

@@ -5,6 +5,7 @@
 use Rattle.std.specs.Prelude.{◌≡◌, ℕ, zero, suc, ℤ, pos, ◌+ℤ◌, Bool, true, false, not, ◌&&◌, nat_eq, if◌then◌else◌, List, [], ◌∷◌, ◌++◌, ◌⊎◌, map, Option, Some, None, is_some}
 use Rattle.std.specs.List.{filter, filter_map, range_with_len, Contains}
 use Rattle.std.specs.Option.{option_map}
+use Rattle.bidegree.specs.declared.shape.Shape.TheVariants.{Rectangle}
 use Rattle.board_core.specs.declared.event.Out.{Out}
 use Rattle.board_core.specs.declared.event.Cause.{Cause}
 use Rattle.board_core.specs.declared.event.Cause.TheVariants.{Failed, Memory}
@@ -59,9 +60,10 @@ pub record Filled : Type 0 where
 abbrev pub places : ℤ → List Entry → List (ℕ × ℤ)
 places bottom list = map (λ e. (e.s, bottom +ℤ pos e.above)) list
 
--- the machine's state
+-- the machine's state, for a range that is a rectangle
 abbrev pub without_contents : Filled → State
 without_contents board = record {
+  shape = Rectangle;
   rows = board.rows;
   degrees = board.degrees;
   bottom = board.bottom;

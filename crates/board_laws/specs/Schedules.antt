@@ -2,10 +2,11 @@
 -- the board stops and opens.
 use Rattle.std.specs.Prelude.{◌≡◌, ℕ, ℤ, true, List, [], ◌++◌, Some}
 use Rattle.std.specs.List.{All}
+use Rattle.bidegree.specs.declared.shape.Shape.TheVariants.{Rectangle}
 use Rattle.board_core.specs.declared.event.Event.{Event}
 use Rattle.free_module.specs.Graded.{KeepsWidths}
 use Rattle.board_core.specs.Laws.{IsReached, filed as squares_filed}
-use Rattle.board_core.specs.Machine.{State, IsStart}
+use Rattle.board_core.specs.Machine.{State, all_squares, IsStart}
 use Rattle.resolution_laws.specs.Resolution.{Module, Content, IsStep}
 use Rattle.resolution_laws.specs.Start.{Entry, entry_at, IsOf, AreOf}
 use Rattle.board_laws.specs.Filled.{Copy, Filled, without_contents, filled_opening, places, IsRun}
@@ -25,7 +26,7 @@ pub record IsExtension (bottom : ℤ) (start : List Entry) (squares : List (ℕ 
 -- the state.
 pub record IsSchedule (m : Module) (s t : ℕ) (start : List Entry) (events : List Event) (state : State) (board : Filled)
     : Type 0 where
-  pub reached : IsReached m.bottom s t (places m.bottom start) events state
+  pub reached : IsReached m.bottom Rectangle s t (places m.bottom start) events state
   pub run : IsRun m (filled_opening m s t start) events board
 
 -- The board is the machine's state with contents, and these are those of the table of `first`, on the board and in the file;
@@ -39,7 +40,7 @@ pub record IsFilledRight (m : Module) (first start : List Entry) (events : List 
   pub copies : All (GivesOf m first) board.out
   pub failed : (copy : Copy) → board.failed ≡ Some copy → GivesOf m first copy
   pub file : IsExtension m.bottom start (squares_filed events) board.file
-  pub once : IsStart m.bottom (places m.bottom board.file)
+  pub once : IsStart all_squares m.bottom (places m.bottom board.file)
   pub same : board.running ≡ true → (s k : ℕ) → entry_at board.file s k ≡ board.done s k
 
 -- From canonical squares every schedule gives canonical squares.
@@ -58,10 +59,10 @@ EveryScheduleContinuesItsStart =
 -- squares, and from squares as they were read.
 abbrev pub EveryHistoryHasARun : Type 0
 EveryHistoryHasARun = (m : Module) (s t : ℕ) (start : List Entry) (events : List Event) (state : State) →
-    KeepsWidths m.graded → AreOf m [] start → IsReached m.bottom s t (places m.bottom start) events state →
+    KeepsWidths m.graded → AreOf m [] start → IsReached m.bottom Rectangle s t (places m.bottom start) events state →
     (board : Filled) × IsSchedule m s t start events state board
 
 abbrev pub EveryHistoryFromItsStartHasARun : Type 0
 EveryHistoryFromItsStartHasARun = (m : Module) (s t : ℕ) (start : List Entry) (events : List Event) (state : State) →
-    KeepsWidths m.graded → AreOf m start start → IsReached m.bottom s t (places m.bottom start) events state →
+    KeepsWidths m.graded → AreOf m start start → IsReached m.bottom Rectangle s t (places m.bottom start) events state →
     (board : Filled) × IsSchedule m s t start events state board

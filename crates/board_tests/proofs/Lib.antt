@@ -1,1 +1,3 @@
+mod LastTwo
 mod NoSquares
+mod NumbersMore

@@ -3,17 +3,20 @@
 ghost use Rattle.std.specs.Prelude.{◌≡◌, IfOk};
 ghost use Rattle.turn_lock.specs.Turns.{new_pass};
 ghost use Rattle.square.specs.Keeping.{IsKeeperOf};
+ghost use Rattle.square.specs.Tables.{Footing};
 ghost use Rattle.square_board.specs.Jobs.{Taking};
 ghost use Rattle.square_board.specs.Desks.{IsJobOf};
 ghost use Rattle.square_board.specs.Boards.{IsPassOf, IsSamePass};
+ghost use Rattle.square_worker.specs.Kept.{kept_words};
 
 use bidegree::Range;
 use board_core::Cause;
 use finite_module::Module;
 use memory::Memory;
 use resolution_step::step;
-use square::{Keep, MemKeep, NoKeep, Table};
+use square::{Inputs, Keep, MemKeep, NoKeep, Table};
 use square_board::{Board, BoardPass, Entry, GiveFault, Job, Taken};
+use square_worker::Kept;
 use std::alloc::Global;
 use std::process::Abort;
 use std::sync::Wait;
@@ -36,8 +39,8 @@ enum Answer {
 fn ask<R: Wait + Clock, K: Keep>(
     rt: &R,
     alloc: Global,
-    board: &Board<K>,
-    pass: &mut BoardPass<K>,
+    board: &Board<Kept<K>>,
+    pass: &mut BoardPass<Kept<K>>,
 ) -> Answer
     requires { IsPassOf board.now pass.old }
     ensures pass { IsPassOf board.now pass.new }
@@ -59,14 +62,14 @@ fn ask<R: Wait + Clock, K: Keep>(
 fn idle<R: Wait + Clock + Abort, K: Keep>(
     rt: &R,
     alloc: Global,
-    board: &Board<K>,
-    pass: &mut BoardPass<K>,
+    board: &Board<Kept<K>>,
+    pass: &mut BoardPass<Kept<K>>,
 )
     requires { IsPassOf board.now pass.old }
     ensures pass { IsPassOf board.now pass.new }
     ensures same { IsSamePass pass.old pass.new }
-    ensures jobs { (job : Taking) → IsJobOf board.now.name pass.old.number pass.old.own job →
-        IsJobOf board.now.name pass.new.number pass.new.own job }
+    ensures jobs { (job : Taking Footing) → IsJobOf (kept_words K.telling) board.now.name pass.old.number pass.old.own job →
+        IsJobOf (kept_words K.telling) board.now.name pass.new.number pass.new.own job }
 {
     match board.take(rt, alloc, pass) {
         Ok(Taken::Idle) => {}
@@ -82,13 +85,13 @@ fn idle<R: Wait + Clock + Abort, K: Keep>(
 fn taken<R: Wait + Clock + Abort, K: Keep>(
     rt: &R,
     alloc: Global,
-    board: &Board<K>,
-    pass: &mut BoardPass<K>,
-) -> Job
+    board: &Board<Kept<K>>,
+    pass: &mut BoardPass<Kept<K>>,
+) -> Job<Inputs>
     requires { IsPassOf board.now pass.old }
     ensures pass { IsPassOf board.now pass.new }
     ensures same { IsSamePass pass.old pass.new }
-    ensures job { IsJobOf board.now.name pass.new.number pass.new.own result }
+    ensures job { IsJobOf (kept_words K.telling) board.now.name pass.new.number pass.new.own result }
 {
     match board.take(rt, alloc, pass) {
         Ok(Taken::Job(job)) => job,
@@ -100,12 +103,12 @@ fn taken<R: Wait + Clock + Abort, K: Keep>(
 fn give<R: Wait + Clock, K: Keep>(
     rt: &R,
     alloc: Global,
-    board: &Board<K>,
-    pass: &mut BoardPass<K>,
-    job: Job,
+    board: &Board<Kept<K>>,
+    pass: &mut BoardPass<Kept<K>>,
+    job: Job<Inputs>,
 ) -> Result<(), GiveFault>
     requires pass { IsPassOf board.now pass.old }
-    requires job { IsJobOf board.now.name pass.old.number pass.old.own job }
+    requires job { IsJobOf (kept_words K.telling) board.now.name pass.old.number pass.old.own job }
     ensures pass { IsPassOf board.now pass.new }
     ensures same { IsSamePass pass.old pass.new }
 {
@@ -119,11 +122,11 @@ fn give<R: Wait + Clock, K: Keep>(
 }
 
 // The board of the sphere, with two passes.
-fn sphere_board<K: Keep + Drop>(
+pub(crate) fn sphere_board<K: Keep + Drop>(
     alloc: Global,
     table: Table,
     keeper: K,
-) -> Result<(Board<K>, BoardPass<K>, BoardPass<K>), Memory>
+) -> Result<(Board<Kept<K>>, BoardPass<Kept<K>>, BoardPass<Kept<K>>), Memory>
     requires live { (K.telling keeper).live }
     requires of_table { IsKeeperOf (K.telling keeper) table }
     ensures two { IfOk result (λ made. made.0.passes ≡ 2) }
@@ -131,7 +134,7 @@ fn sphere_board<K: Keep + Drop>(
     ensures first { IfOk result (λ made. made.1 ≡ new_pass made.0 0) }
     ensures second { IfOk result (λ made. made.2 ≡ new_pass made.0 1) }
 {
-    let Ok((board, mut passes)) = Board::new(alloc, table, RANGE, keeper, 2) else {
+    let Ok((board, mut passes)) = Board::new(alloc, Kept { table, keeper }, RANGE, 2) else {
         return Err(Memory);
     };
     let Some(second) = passes.pop() else {
@@ -145,9 +148,9 @@ fn sphere_board<K: Keep + Drop>(
 
 // The table and the history of a board, at its end.
 fn closed<K: Keep + Drop>(
-    board: Board<K>,
-    mut first: BoardPass<K>,
-    second: BoardPass<K>,
+    board: Board<Kept<K>>,
+    mut first: BoardPass<Kept<K>>,
+    second: BoardPass<Kept<K>>,
 ) -> (Table, Vec<Entry>)
     requires two { board.passes ≡ 2 }
     requires first { IsPassOf board first }
@@ -156,7 +159,8 @@ fn closed<K: Keep + Drop>(
     requires second_number { second.number ≡ 1 }
 {
     board.join(&mut first, second);
-    let (table, _, history) = board.close(first);
+    let (kept, history) = board.close(first);
+    let Kept { table, keeper: _ } = kept;
     (table, history)
 }
 
@@ -173,14 +177,12 @@ fn all_squares_are_given(rt: HostRuntime) -> Result<(), Fail> {
     board.rest(&rt, &mut second);
     let left = taken(&rt, alloc, &board, &mut first);
     let right = taken(&rt, alloc, &board, &mut second);
-    assert_eq!(rt; (left.s(), left.t()), (0, 1));
-    assert_eq!(rt; (right.s(), right.t()), (1, 0));
+    assert_eq!(rt; (left.s(), left.t()), (1, 0));
+    assert_eq!(rt; (right.s(), right.t()), (0, 1));
     idle(&rt, alloc, &board, &mut first);
-    let early = board.look(&rt, &mut second, 0, 1);
-    assert!(rt; matches!(early, Ok(None)));
+    assert_eq!(rt; board.generators(&rt, &mut second, 1, 0), None);
     assert_eq!(rt; give(&rt, alloc, &board, &mut first, left), Ok(()));
-    let late = board.look(&rt, &mut second, 0, 1);
-    assert!(rt; matches!(late, Ok(Some(_))));
+    assert_eq!(rt; board.generators(&rt, &mut second, 1, 0), Some(0));
     assert_eq!(rt; give(&rt, alloc, &board, &mut second, right), Ok(()));
     let last = taken(&rt, alloc, &board, &mut second);
     assert_eq!(rt; (last.s(), last.t()), (1, 1));

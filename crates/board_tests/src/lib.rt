@@ -6,6 +6,8 @@ mod boards;
 #[cfg(test)]
 mod machines;
 #[cfg(test)]
+mod numbers;
+#[cfg(test)]
 mod turns;
 #[cfg(test)]
 mod workers;

@@ -1,11 +1,30 @@
 //! What no clause says: that there is memory for each call, and values worked by hand.
+ghost use Rattle.std.specs.Prelude.{◌-◌, ◌^◌, ◌+ℤ◌, ◌≤ℤ◌, pos};
+ghost use Rattle.board_core.specs.Machine.{IsStart, all_squares};
+
+use bidegree::{Range, Shape};
 use board_core::{Cause, Core, CoreFault, Event};
+use memory::Memory;
 use std::alloc::Global;
 use std::test::Fail;
 
+// The board of a rectangle.
+fn rectangle(
+    alloc: Global,
+    s: u16,
+    t: u16,
+    bottom: i32,
+    start: &[(u16, i32)],
+) -> Result<Core, Memory>
+    requires fits { (bottom +ℤ pos t) ≤ℤ pos (2 ^ 31 - 1) }
+    requires start { IsStart all_squares bottom start.now }
+{
+    Core::new(alloc, Shape::Rectangle, Range { s, t }, bottom, start)
+}
+
 #[test]
 fn first_square(rt: HostRuntime) -> Result<(), Fail> {
-    let mut core = Core::new(rt.alloc(), 0, 1, 0, &[])?;
+    let mut core = rectangle(rt.alloc(), 0, 1, 0, &[])?;
     assert_eq!(rt; core.ready(), Some((0, 0)));
     let give = Event::Give { who: 7, s: 0, t: 0 };
     assert_eq!(rt; core.apply(give), Err(CoreFault::NotLegal { event: give }));
@@ -28,7 +47,7 @@ fn first_square(rt: HostRuntime) -> Result<(), Fail> {
 
 #[test]
 fn causes(rt: HostRuntime) -> Result<(), Fail> {
-    let mut core = Core::new(rt.alloc(), 1, 1, 0, &[(0, 0), (0, 1)])?;
+    let mut core = rectangle(rt.alloc(), 1, 1, 0, &[(0, 0), (0, 1)])?;
     core.reserve(1)?;
     assert_eq!(rt; core.ready(), Some((1, 0)));
     let take = Event::Take {
@@ -43,7 +62,7 @@ fn causes(rt: HostRuntime) -> Result<(), Fail> {
     assert_eq!(rt; core.stopped(), Some(Cause::Memory));
     assert_eq!(rt; core.ready(), None);
     assert_eq!(rt; core.apply(take), Err(CoreFault::NotLegal { event: take }));
-    let mut core = Core::new(rt.alloc(), 0, 0, -3, &[])?;
+    let mut core = rectangle(rt.alloc(), 0, 0, -3, &[])?;
     let take = Event::Take {
         who: 1,
         s: 0,
@@ -61,9 +80,8 @@ fn causes(rt: HostRuntime) -> Result<(), Fail> {
     Ok(())
 }
 
-/// Takes and gives a square of a board with bottom 0, where the rows below are whole and its own is done up to it.
-fn take_and_give(core: &mut Core, s: u16, t: i32) -> Result<(), CoreFault> {
-    let below = if s == 0 { 0 } else { 256 };
+/// Takes and gives a square of a board with bottom 0, where its row is done up to it and so many squares of the row below are.
+fn take_and_give(core: &mut Core, s: u16, t: i32, below: u64) -> Result<(), CoreFault> {
     core.apply(Event::Take {
         who: 0,
         s,
@@ -85,10 +103,10 @@ const STOP: Event = Event::Stop { in_file: None };
 
 #[test]
 fn stops_and_opens(rt: HostRuntime) -> Result<(), Fail> {
-    let mut core = Core::new(rt.alloc(), 0, 1, 0, &[])?;
+    let mut core = rectangle(rt.alloc(), 0, 1, 0, &[])?;
     let open = Event::Open;
     assert_eq!(rt; core.apply(open), Err(CoreFault::NotLegal { event: open }));
-    assert_eq!(rt; take_and_give(&mut core, 0, 0), Ok(()));
+    assert_eq!(rt; take_and_give(&mut core, 0, 0, 0), Ok(()));
     assert_eq!(rt; core.apply(STOP), Ok(()));
     assert!(rt; !core.done(0, 0));
     assert_eq!(rt; core.ready(), None);
@@ -126,7 +144,7 @@ fn a_stop_finds_a_square_in_the_file(rt: HostRuntime) -> Result<(), Fail> {
         (Some(give), Some((0, 0)), false, second),
     ];
     for (event, in_file, accepted, ready) in cases.iter() {
-        let mut core = Core::new(rt.alloc(), 0, 1, 0, &[])?;
+        let mut core = rectangle(rt.alloc(), 0, 1, 0, &[])?;
         assert_eq!(rt; core.apply(FIRST), Ok(()));
         if let Some(event) = event {
             assert_eq!(rt; core.apply(*event), Ok(()));
@@ -150,12 +168,17 @@ fn a_stop_finds_a_square_in_the_file(rt: HostRuntime) -> Result<(), Fail> {
 
 #[test]
 fn whole_board(rt: HostRuntime) -> Result<(), Fail> {
-    let mut core = Core::new(rt.alloc(), 127, 255, 0, &[])?;
+    let mut core = rectangle(rt.alloc(), 127, 255, 0, &[])?;
     for _ in 0..32768 {
         let Some((s, t)) = core.ready() else {
             break;
         };
-        if take_and_give(&mut core, s, t).is_err() {
+        let below = if s == 0 {
+            0
+        } else {
+            u64::from(t.unsigned_abs()) + 1
+        };
+        if take_and_give(&mut core, s, t, below).is_err() {
             break;
         }
     }
@@ -170,7 +193,7 @@ fn whole_board(rt: HostRuntime) -> Result<(), Fail> {
 
 #[test]
 fn greatest_range(rt: HostRuntime) -> Result<(), Fail> {
-    let mut core = Core::new(rt.alloc(), 65535, 65535, -65536, &[])?;
+    let mut core = rectangle(rt.alloc(), 65535, 65535, -65536, &[])?;
     assert_eq!(rt; core.ready(), Some((0, -65536)));
     for s in 0..=65535 {
         let t = -65536;
@@ -192,10 +215,41 @@ fn greatest_range(rt: HostRuntime) -> Result<(), Fail> {
 #[test]
 fn start_past_the_range(rt: HostRuntime) -> Result<(), Fail> {
     let start = [(0, 5), (1, 5), (2, 5), (0, 6)];
-    let core = Core::new(rt.alloc(), 0, 1, 5, &start)?;
+    let core = rectangle(rt.alloc(), 0, 1, 5, &start)?;
     assert!(rt; core.done(2, 5));
     assert!(rt; !core.done(2, 6));
     assert!(rt; !core.done(3, 5));
+    assert_eq!(rt; core.ready(), None);
+    Ok(())
+}
+
+#[test]
+fn through_a_stem(rt: HostRuntime) -> Result<(), Fail> {
+    let range = Range { s: 2, t: 3 };
+    let mut core = Core::new(rt.alloc(), Shape::Stems, range, 0, &[])?;
+    // what is ready, one after another, and how many squares of the row below are done then; (0, 2) and (1, 3) are the
+    // squares behind the last of their rows
+    let squares = [
+        (0, 0, 0),
+        (1, 0, 1),
+        (2, 0, 1),
+        (0, 1, 0),
+        (1, 1, 2),
+        (2, 1, 2),
+        (0, 2, 0),
+        (1, 2, 3),
+        (2, 2, 3),
+        (1, 3, 3),
+        (2, 3, 4),
+    ];
+    for (s, t, below) in squares.iter() {
+        assert_eq!(rt; core.ready(), Some((*s, *t)));
+        assert_eq!(rt;
+            take_and_give(&mut core, *s, *t, *below),
+            Ok(()),
+            "at {s} {t}"
+        );
+    }
     assert_eq!(rt; core.ready(), None);
     Ok(())
 }

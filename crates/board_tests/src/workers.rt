@@ -1,13 +1,14 @@
 //! What no clause says: that there is memory for each call. The sphere's chart is known.
 ghost use Rattle.std.specs.Prelude.{◌<◌};
 
+use crate::boards::sphere_board;
 use bidegree::Range;
 use board_core::Cause;
 use finite_module::Module;
 use memory::Memory;
 use square::{MemKeep, NoKeep, Table};
-use square_board::Board;
-use square_worker::{OpenGate, WorkEnd, resolve_with, work};
+use square_board::{OpenGate, WorkEnd, work};
+use square_worker::resolve_with;
 use std::alloc::Global;
 use std::sync::Wait;
 use std::test::Fail;
@@ -99,17 +100,12 @@ fn a_keeper_fails_among_workers(rt: HostRuntime) -> Result<(), Fail> {
 fn a_worker_finds_all_squares_done(rt: HostRuntime) -> Result<(), Fail> {
     let alloc = rt.alloc();
     let table = Table::new(alloc, Module::sphere(alloc)?)?;
-    let Ok((board, mut passes)) = Board::new(alloc, table, RANGE, NoKeep, 2) else {
-        return Err(Memory)?;
-    };
-    let (Some(mut second), Some(mut first)) = (passes.pop(), passes.pop()) else {
-        unreachable!()
-    };
+    let (board, mut first, mut second) = sphere_board(alloc, table, NoKeep)?;
     assert_eq!(rt;
         work(&rt, alloc, &board, &mut first, &OpenGate),
         WorkEnd::Over
     );
-    assert_eq!(rt; board.count(&mut first), 30);
+    assert_eq!(rt; board.count(&mut first), 8);
     assert_eq!(rt;
         work(&rt, alloc, &board, &mut second, &OpenGate),
         WorkEnd::Over

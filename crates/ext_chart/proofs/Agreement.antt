@@ -17,7 +17,7 @@ use Rattle.finite_module.specs.Text.{newline, joined_by_plus}
 use Rattle.resolution_laws.specs.Resolution.{Content, no_content, square_in, row_of, degrees_from, generator_count}
 use Rattle.resolution_laws.proofs.Rows.{degrees_from-split, free_basis-take}
 use Rattle.ext_chart.specs.declared.place.Place.{Place}
-use Rattle.ext_chart.specs.Chart.{mark, row_label, count_marks, row_line, row_lines, stems_line, chart_text}
+use Rattle.chart_lines.specs.Chart.{mark, row_label, count_marks, row_line, row_lines, stems_line, chart_text}
 use Rattle.ext_chart.specs.Dump.{no_place, square_places, places_from, term_text, free_sum_text, generator_line, square_lines, image_text, square_text, row_text, dump_text}
 use Rattle.ext_chart.specs.Alike.{AreToldAlike}
 use Rattle.ext_chart.specs.Summary.{row_total, module_line, squares_line, gens_line, total_lines, summary_text}

@@ -30,7 +30,7 @@ row_of-bare rows i =
       | inr l ↦ get_or_past (bare_rows rows) i [] (omega (arith, length-map rows (map bare))) ∙ sym (ap (map bare) (get_or_past rows i [] l))
     ]
 
-images-bare : (squares : List Content) (k : ℕ) → (square_in (map bare squares) k).images ≡ (square_in squares k).images
+pub images-bare : (squares : List Content) (k : ℕ) → (square_in (map bare squares) k).images ≡ (square_in squares k).images
 images-bare squares k =
     elim (cases_lt k (length squares)) [
       | inl l ↦ ap (λ (c : Content). c.images) (get_or-map bare squares k no_content no_content l)

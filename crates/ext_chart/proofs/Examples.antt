@@ -6,7 +6,7 @@ use Rattle.bidegree.specs.declared.shape.Shape.TheVariants.{Stems}
 use Rattle.bidegree.specs.LastDegrees.{last_degree}
 use Rattle.module_spec.specs.Spec.{Generator}
 use Rattle.resolution_laws.specs.Resolution.{Content, generator_count}
-use Rattle.ext_chart.specs.Chart.{chart_text}
+use Rattle.chart_lines.specs.Chart.{chart_text}
 use Rattle.ext_chart.specs.Dump.{dump_text}
 use Rattle.ext_chart.specs.Summary.{summary_text}
 

@@ -1,6 +1,5 @@
 pub mod Agreement
 pub mod Bare
-pub mod ChartText
 mod ClassSteps
 pub mod DumpSteps
 pub mod Examples

@@ -1,6 +1,6 @@
 -- What is told of a save file: that it has all quasi-inverses, and the chart of which it is a certificate.
 use Rattle.std.specs.Prelude.{ℕ, ℤ, List, ◌++◌, codes, decimal}
-use Rattle.ext_chart.specs.Chart.{chart_text}
+use Rattle.chart_lines.specs.Chart.{chart_text}
 use Rattle.ext_chart.specs.Summary.{square_count}
 
 abbrev pub migrated_line : List ℕ

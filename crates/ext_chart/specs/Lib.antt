@@ -1,5 +1,4 @@
 pub mod Alike
-pub mod Chart
 pub mod Check
 pub mod Classes
 pub mod Dump

@@ -1,45 +1,17 @@
 //! The chart of a resolution as text.
-ghost use Rattle.std.specs.Prelude.{◌≡◌, ℕ, ◌+◌, ◌-◌, ◌<◌, ◌≤◌, pos, ◌+ℤ◌, ◌≤ℤ◌, IfOk, length, map};
+ghost use Rattle.std.specs.Prelude.{◌≡◌, ℕ, ◌+◌, ◌-◌, ◌<◌, ◌≤◌, IfOk, length, map};
 ghost use Rattle.std.specs.List.{range_with_len};
 ghost use Rattle.bidegree.specs.LastDegrees.{last_degree};
-ghost use Rattle.finite_module.specs.Module.{bottom};
 ghost use Rattle.resolution_laws.specs.Resolution.{row_of, generator_count};
-ghost use Rattle.ext_chart.specs.Chart.{mark, row_label, count_marks, row_line, row_lines, stems_line, chart_text};
+ghost use Rattle.chart_lines.specs.Chart.{count_marks, row_line, row_lines, chart_text};
 ghost use Rattle.square.specs.Squares.{bottom_of};
 ghost use Rattle.ext_chart.specs.Seen.{IsSeenThrough};
 
 use crate::shown::Shown;
 use bidegree::{Range, Shape};
-use itoa::Buffer;
+use chart_lines::{mark, row_label, stems_line};
 use memory::Memory;
 use std::alloc::Global;
-
-/// The mark of a square with this number of generators: a dot for none, the digit up to nine, and a star above.
-pub fn mark(count: usize) -> u8
-    ensures { result ≡ mark count }
-{
-    match count {
-        0 => b'.',
-        1..=9 => b'0' + count as u8,
-        _ => b'*',
-    }
-}
-
-/// The number of a row as text, in at least two places, to the right.
-///
-/// # Errors
-/// `Memory` if allocation fails.
-pub fn row_label(alloc: Global, s: u16) -> Result<Vec<u8>, Memory>
-    ensures { IfOk result (λ label. label.items ≡ row_label s) }
-{
-    let mut buffer = Buffer::new();
-    let mut label = Vec::new(alloc);
-    if s < 10 {
-        label.push(b' ')?;
-    }
-    label.extend_from_slice(buffer.format(s).as_bytes())?;
-    Ok(label)
-}
 
 /// The marks of a row, from stem 0 on, through `t` degrees above the bottom.
 fn marks<R: Shown>(alloc: Global, table: &R, s: u16, t: u16) -> Result<Vec<u8>, Memory>
@@ -86,23 +58,6 @@ fn row_lines<R: Shown>(
         text.extend_from_slice(line.as_slice())?;
     }
     Ok(text)
-}
-
-/// The line that says that a chart has stems 0 to `n` above the bottom.
-///
-/// # Errors
-/// `Memory` if allocation fails.
-pub fn stems_line(alloc: Global, bottom: i32, n: u16) -> Result<Vec<u8>, Memory>
-    requires { (bottom +ℤ pos n) ≤ℤ pos 2147483647 }
-    ensures { IfOk result (λ line. line.items ≡ stems_line bottom n) }
-{
-    let mut buffer = Buffer::new();
-    let mut line = Vec::from_slice(alloc, b"stems ")?;
-    line.extend_from_slice(buffer.format(bottom).as_bytes())?;
-    line.extend_from_slice(b"..")?;
-    line.extend_from_slice(buffer.format(bottom + i32::from(n)).as_bytes())?;
-    line.push(b'\n')?;
-    Ok(line)
 }
 
 /// The chart of the rows of the table through the range, in this shape: a line for each row, the greatest first, in it a

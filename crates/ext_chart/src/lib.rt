@@ -20,7 +20,7 @@ mod summary_text;
 mod terms;
 
 pub use bracket_text::bracket_lines;
-pub use chart_text::{chart, mark, row_label, stems_line};
+pub use chart_text::chart;
 pub use check_text::check_line;
 pub use class_products::{ProductLine, product_lines};
 pub use dump_text::dump;

@@ -1,6 +1,6 @@
 pub mod Factors
-mod Loops
-mod OneEach
+pub mod Loops
+pub mod OneEach
 pub mod SphereTables
 pub mod Transport
 pub mod Answers

@@ -109,7 +109,7 @@ product_exists forms numbers =
 pub one_alone : NeverFall sphere_file.generators
 one_alone i j d l k = absurd (omega arith)
 
-canonical_by : TableLaws → (range : Range) (m : SteenrodModule) → IsModule m → NeverFall m.generators → (table : List (List Content)) → IsResolved range m table → IsCanonical (resolution m table) range.s range.t
+pub canonical_by : TableLaws → (range : Range) (m : SteenrodModule) → IsModule m → NeverFall m.generators → (table : List (List Content)) → IsResolved range m table → IsCanonical (resolution m table) range.s range.t
 canonical_by laws range m is order table resolved = record { steenrod = laws.modules m is; bounded = below_all m.generators order; canonical = resolved.canonical }
 
 classes_exist : TableLaws → (IsToldOf : Telling) (range : Range) → HasAnswer IsToldOf range → Makes (IsToldOfClasses IsToldOf range)

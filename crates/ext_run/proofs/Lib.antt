@@ -14,6 +14,7 @@ mod Migrated
 mod NextRun
 mod Reporting
 mod Resolved
+mod RowOne
 mod Saved
 mod TakenUp
 mod Tasks

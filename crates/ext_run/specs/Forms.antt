@@ -12,7 +12,7 @@ use Rattle.ext_report.specs.declared.failure.Failure.TheVariants.{Classes}
 use Rattle.resolution_laws.specs.Resolution.{Content, IsCanonicalTable, generator_count}
 use Rattle.resolution_laws.specs.Exactness.{IsMinimalResolution}
 use Rattle.square.specs.Squares.{module_over}
-use Rattle.ext_chart.specs.Chart.{chart_text}
+use Rattle.chart_lines.specs.Chart.{chart_text}
 use Rattle.ext_chart.specs.Files.{verified_text}
 use Rattle.ext_chart.specs.Dump.{dump_text}
 use Rattle.ext_chart.specs.Summary.{summary_text}

@@ -39,7 +39,8 @@ pub struct Ended<D> {
 /// no call.
 ///
 /// What is made of a resolution stays in memory until the process ends. Where the words say one worker and neither `--save` nor `--live`,
-/// a chart, the differentials and a summary are made from the images of generators alone, which take less of it.
+/// a chart, the differentials, a summary and products with a class of row 1 are made from the images of generators alone, which take
+/// less of it.
 ///
 /// The first argument is the runtime, without any bound, since no command asks anything of it. The second starts threads,
 /// waits and tells the time; a program passes its runtime for both.

@@ -1,5 +1,5 @@
 //! Sheets on a resolution of which the images of generators are made, and no table of squares.
-ghost use Rattle.std.specs.Prelude.{◌≡◌, ◌≤◌, IfOk};
+ghost use Rattle.std.specs.Prelude.{◌≡◌, ◌≤◌, ◌<◌, IfOk};
 ghost use Rattle.bidegree.specs.declared.range.TheConstants.{MAX_S, MAX_T};
 ghost use Rattle.ext_run.specs.Forms.{IsReadOff, sheet_of};
 ghost use Rattle.ext_run.specs.Inside.Images.{AreOfResolution};
@@ -9,13 +9,18 @@ use crate::sheets::sheet_text;
 use bidegree::{Range, Shape};
 use ext_chart::stems_are_told_alike;
 use finite_module::Module;
+use image_worker::{images_by, images_in_stems_by};
 use memory::Memory;
 use module_check::modules_are_graded_modules;
 use resolution_existence::canonical_table_exists;
 use resolution_images::{Images, images_alone, images_in_stems};
 use resolution_laws::canonical_table_is_minimal_resolution;
+use square_worker::Gate;
 use std::alloc::Global;
 use std::mem::forget;
+use std::sync::Wait;
+use std::thread::Threads;
+use std::time::Clock;
 use stem_laws::rows_in_stems_are_whole;
 
 /// The sheet on the squares of this shape of the module's resolution through the range.
@@ -67,5 +72,66 @@ fn images_through(
             images_in_stems(alloc, resolved, range.s, range.t - range.s)
         }
         _ => images_alone(alloc, resolved, range),
+    }
+}
+
+/// The sheet on the squares of this shape of the module's resolution through the range, of which so many workers make the images.
+///
+/// # Errors
+/// `Memory` if allocation fails.
+pub(crate) fn sheet_by<W: Threads + Wait + Clock + Sync, G: Gate + Sync>(
+    wait: &W,
+    alloc: Global,
+    workers: usize,
+    resolved: Module,
+    sheet: Sheet,
+    range: Range,
+    shape: Shape,
+    gate: &G,
+) -> Result<Vec<u8>, Memory>
+    requires some { 0 < workers }
+    requires rows { range.s ≤ MAX_S }
+    requires degrees { range.t ≤ MAX_T }
+    ensures { IfOk result (λ text. IsReadOff (sheet_of sheet shape range) range resolved.plain text.items) }
+{
+    canonical_table_exists();
+    canonical_table_is_minimal_resolution();
+    modules_are_graded_modules();
+    let images = images_through_by(wait, alloc, workers, resolved, range, shape, gate)?;
+    let made = sheet_text(alloc, sheet, &images, range, shape);
+    forget(images);
+    made
+}
+
+/// The images of the generators of the squares of this shape, made by so many workers. A range that has fewer degrees than rows has
+/// no stems, and there they are those of the rectangle.
+///
+/// # Errors
+/// `Memory` if allocation fails.
+fn images_through_by<W: Threads + Wait + Clock + Sync, G: Gate + Sync>(
+    wait: &W,
+    alloc: Global,
+    workers: usize,
+    resolved: Module,
+    range: Range,
+    shape: Shape,
+    gate: &G,
+) -> Result<Images, Memory>
+    requires some { 0 < workers }
+    requires rows { range.s ≤ MAX_S }
+    requires degrees { range.t ≤ MAX_T }
+    ensures { IfOk result (AreOfResolution shape range resolved) }
+{
+    canonical_table_exists();
+    canonical_table_is_minimal_resolution();
+    modules_are_graded_modules();
+    stems_are_told_alike();
+    rows_in_stems_are_whole();
+    match shape {
+        Shape::Stems if range.s <= range.t => {
+            let n = range.t - range.s;
+            images_in_stems_by(wait, alloc, workers, resolved, range.s, n, gate)
+        }
+        _ => images_by(wait, alloc, workers, resolved, range, gate),
     }
 }

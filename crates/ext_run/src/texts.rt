@@ -17,19 +17,21 @@ ghost use Rattle.ext_run.specs.Task.{IsTaskWithin};
 ghost use Rattle.ext_run.specs.Work.{HasAnswer, answer_of, HasContinued, HasUsed, HasWorked};
 ghost use Rattle.ext_report.specs.declared.failure.Failure.TheVariants.{Memory as WantOfMemory};
 
-use crate::from_images::sheet_alone;
+use crate::from_images::{sheet_alone, sheet_by};
 use crate::migrating::migrated;
 use crate::plan::Form;
+use crate::row_one::row_one_alone;
 use crate::sheets::sheet_text;
 use crate::task::{Resolution, Task};
 use crate::verifying::verified;
-use bidegree::{Range, Shape};
+use bidegree::Range;
 use board_core::Cause;
 use edge::{Disk, Failed, Sink};
 use ext_brackets::bracket_text;
 use ext_products::products_text;
 use ext_report::Failure;
 use ext_words::Common;
+use finite_module::Module;
 use live_worker::resolve_live;
 use memory::Memory;
 use module_check::{accepted_is_module, modules_are_graded_modules};
@@ -102,12 +104,11 @@ pub(crate) fn text_by_workers<
     }
 }
 
-/// Whether workers make the squares, and not the caller. One that reports has a watcher beside it. The squares in stems are made
-/// by the caller.
+/// Whether workers make the squares, and not the caller. One that reports has a watcher beside it.
 fn is_by_workers(common: Common) -> bool
     ensures { result ≡ false → live_where common.live common.range ≡ None }
 {
-    common.live || common.workers > 1 && common.shape == Shape::Rectangle
+    common.live || common.workers > 1
 }
 
 /// The text of a resolution, made on the caller's thread. Nothing is kept. Where the text speaks of generators and
@@ -124,6 +125,7 @@ fn unsaved_alone(alloc: Global, resolution: Resolution) -> Result<Vec<u8>, Failu
         Form::Squares(sheet, shape) => {
             Ok(sheet_alone(alloc, resolution.resolved, sheet, range, shape)?)
         }
+        Form::Products(by) if by.s == 1 => row_one_alone(alloc, resolution.resolved, range, by),
         form => {
             let table = Table::new(alloc, resolution.resolved)?;
             told_alone(alloc, table, range, form, NoKeep).0
@@ -131,7 +133,8 @@ fn unsaved_alone(alloc: Global, resolution: Resolution) -> Result<Vec<u8>, Failu
     }
 }
 
-/// The text of a resolution, made by as many workers as it says. Nothing is kept.
+/// The text of a resolution, made by as many workers as it says. Nothing is kept. Where the text speaks of generators and their
+/// images alone, and nothing is reported meanwhile, nothing else is made.
 fn unsaved_by_workers<W: Threads + Wait + Clock + Sync, E: Sink + Send, G: Gate + Sync>(
     wait: &W,
     alloc: Global,
@@ -152,6 +155,35 @@ fn unsaved_by_workers<W: Threads + Wait + Clock + Sync, E: Sink + Send, G: Gate 
         form,
         common,
     } = resolution;
+    let range = common.range;
+    match (form, common.live) {
+        (Form::Squares(sheet, shape), false) => {
+            let workers = common.workers as usize;
+            match sheet_by(wait, alloc, workers, resolved, sheet, range, shape, gate) {
+                Ok(text) => (Ok(text), Ok(())),
+                Err(Memory) => (Err(Failure::Memory), Ok(())),
+            }
+        }
+        (form, _) => tabled_by_workers(wait, alloc, resolved, form, common, err, gate),
+    }
+}
+
+/// The text of a resolution, read off a table that is made by as many workers as are asked for. Nothing is kept.
+fn tabled_by_workers<W: Threads + Wait + Clock + Sync, E: Sink + Send, G: Gate + Sync>(
+    wait: &W,
+    alloc: Global,
+    resolved: Module,
+    form: Form,
+    common: Common,
+    err: &mut E,
+    gate: &G,
+) -> (Result<Vec<u8>, Failure>, Result<(), Failed>)
+    requires { IsWithin common }
+    ensures told { HasAnswer result.0 → IsInForm form common.range resolved.plain (answer_of result.0) }
+    ensures why { IfErr result.0 (λ e. (e ≡ WantOfMemory) ⊎ IsRefusedIn form common.range resolved.plain (Err e)) }
+    ensures heard { HasHeard (device_of E.written E.faults) (live_where common.live common.range) result.0 result.1
+        err.old err.new }
+{
     match Table::new(alloc, resolved) {
         Ok(table) => {
             let (text, _keeper, heard) = told_by_workers(

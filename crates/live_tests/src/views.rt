@@ -2,7 +2,7 @@
 ghost use Rattle.std.specs.Prelude.{◌≡◌, IfOk};
 ghost use Rattle.finite_module.specs.Module.{bottom};
 ghost use Rattle.square_board.specs.Boards.{IsPassOf};
-ghost use Rattle.square_board.specs.Openings.{bottom_of};
+ghost use Rattle.square_worker.specs.Openings.{bottom_of};
 
 use bidegree::Range;
 use finite_module::Module;
@@ -11,6 +11,7 @@ use memory::Memory;
 use resolution_step::step;
 use square::{Keep, NoKeep, Table};
 use square_board::{Board, BoardPass, Taken};
+use square_worker::Kept;
 use std::alloc::Global;
 use std::process::Abort;
 use std::sync::Wait;
@@ -23,13 +24,24 @@ const RANGE: Range = Range { s: 0, t: 1 };
 fn board_of(
     alloc: Global,
     table: Table,
-) -> Result<(Board<NoKeep>, BoardPass<NoKeep>, BoardPass<NoKeep>), Memory>
+) -> Result<
+    (
+        Board<Kept<NoKeep>>,
+        BoardPass<Kept<NoKeep>>,
+        BoardPass<Kept<NoKeep>>,
+    ),
+    Memory,
+>
     ensures range { IfOk result (λ made. made.0.name.range ≡ record { s = 0; t = 1 }) }
     ensures bottom { IfOk result (λ made. bottom_of made.0.name ≡ bottom table.resolved.plain.generators) }
     ensures maker { IfOk result (λ made. IsPassOf made.0 made.1) }
     ensures publisher { IfOk result (λ made. IsPassOf made.0 made.2) }
 {
-    let Ok((board, mut passes)) = Board::new(alloc, table, RANGE, NoKeep, 2) else {
+    let first = Kept {
+        table,
+        keeper: NoKeep,
+    };
+    let Ok((board, mut passes)) = Board::new(alloc, first, RANGE, 2) else {
         return Err(Memory);
     };
     let Some(publisher) = passes.pop() else {
@@ -45,8 +57,8 @@ fn board_of(
 fn make<R: Wait + Clock + Abort, K: Keep>(
     rt: &R,
     alloc: Global,
-    board: &Board<K>,
-    pass: &mut BoardPass<K>,
+    board: &Board<Kept<K>>,
+    pass: &mut BoardPass<Kept<K>>,
 )
     requires { IsPassOf board.now pass.old }
     ensures { IsPassOf board.now pass.new }

@@ -12,12 +12,13 @@ use Rattle.resolution_laws.specs.Start.{Entry}
 use Rattle.square.specs.Squares.{over}
 use Rattle.square.specs.Tables.{Staircase}
 use Rattle.square_board.specs.declared.opening.Opening.{Opening}
-use Rattle.square_board.specs.Openings.{first_table, module_of}
+use Rattle.square_worker.specs.Kept.{KeptTable}
+use Rattle.square_worker.specs.Openings.{first_table, module_of}
 use Rattle.live_view.specs.declared.published.Published.{Published as Shown}
 use Rattle.live_view.specs.Views.{row_of, blank, IsRight, IsWithin, RightViewIsCanonical}
 use Rattle.live_view.specs.Published.{last_from, last_view, IsRightOf, ArePublished, MayFollow, KnownViews, IsPartOfCharts}
 use Rattle.live_view.specs.Chart.{live_chart, IsPartOf, RightChartIsPart}
-use Rattle.ext_chart.specs.Chart.{chart_text}
+use Rattle.chart_lines.specs.Chart.{chart_text}
 use Rattle.live_view.specs.Publishing.{AreOfBoard, HasPublished}
 use Rattle.live_view.specs.Inside.Reading.{HasRead}
 
@@ -53,7 +54,7 @@ part_of_charts bottom range published text canonical part are is table of start 
     let right = canonical (over table.resolved) table.start (last_view published) start (right_of table published are of) in
     subst (λ (x : List ℕ). IsPartOf x (chart_text bottom range.s (last_degree Rectangle range) count)) (sym is) (part (over table.resolved) (last_view published) bottom range count right counts)
 
-module _ {K : Type 0} (opening : Opening K) where
+module _ {K : Type 0} (opening : Opening (KeptTable K)) where
   pub shown_right : (published : List Shown) → ArePublished published → AreOfBoard opening published → IsRight (module_of opening) (first_table opening).start (last_view published)
   shown_right published are of = right_of (first_table opening) published are of
 

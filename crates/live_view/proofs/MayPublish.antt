@@ -9,7 +9,8 @@ use Rattle.turn_lock.specs.Turns.{TurnId, PassState}
 use Rattle.square_board.specs.declared.opening.Opening.{Opening}
 use Rattle.square_board.specs.Boards.{IsPassOf}
 use Rattle.square_board.specs.Courses.{events_of}
-use Rattle.square_board.specs.Openings.{first_table, bottom_of}
+use Rattle.square_worker.specs.Kept.{KeptTable}
+use Rattle.square_worker.specs.Openings.{first_table, bottom_of}
 use Rattle.live_view.specs.declared.published.Published.{Published as Shown}
 use Rattle.live_view.specs.Handles.{LiveState, with_known}
 use Rattle.live_view.specs.Views.{blank}
@@ -19,7 +20,7 @@ use Rattle.live_view.proofs.Lists.{last_then}
 use Rattle.live_view.proofs.Follows.{row_blank}
 use Rattle.live_view.proofs.ReadFrom.{front_grows}
 
-module _ {K : Type 0} (board : TurnId (Opening K)) (old new : PassState (Opening K) Event) where
+module _ {K : Type 0} (board : TurnId (Opening (KeptTable K))) (old new : PassState (Opening (KeptTable K)) Event) where
   -- nothing was published
   pub may_still : (writer after : LiveState) → MayPublish board old writer → IsPassOf board new → IsPrefix old.seen new.seen → after ≡ writer → MayPublish board new after
   may_still writer after may pass_of seen same = subst (MayPublish board new) (sym same) (record {
@@ -50,7 +51,7 @@ module _ {K : Type 0} (board : TurnId (Opening K)) (old new : PassState (Opening
   may_either (Err e) writer after may pass_of seen same did memory = may_still writer after may pass_of seen memory
 
 -- before the first view any pass of the board may publish
-pub may_first : {K : Type 0} (board : TurnId (Opening K)) (pass : PassState (Opening K) Event) (writer : LiveState) → IsPassOf board pass → board.name.range ≡ writer.range → bottom_of board.name ≡ writer.bottom → writer.known.published ≡ [] → MayPublish board pass writer
+pub may_first : {K : Type 0} (board : TurnId (Opening (KeptTable K))) (pass : PassState (Opening (KeptTable K)) Event) (writer : LiveState) → IsPassOf board pass → board.name.range ≡ writer.range → bottom_of board.name ≡ writer.bottom → writer.known.published ≡ [] → MayPublish board pass writer
 may_first board pass writer pass_of range bottom none = record {
   pass_of = pass_of;
   range = range;

@@ -11,8 +11,9 @@ use Rattle.board_core.specs.declared.event.Entry.TheVariants.{Take, Give, Back, 
 use Rattle.board_core.specs.Laws.{given, given_in}
 use Rattle.square_board.specs.declared.opening.Opening.{Opening}
 use Rattle.square_board.specs.Courses.{events_of}
-use Rattle.square_board.specs.Openings.{first_table, module_of, front_after}
-use Rattle.live_view.specs.Views.{row_of, IsCount, IsRight}
+use Rattle.square_worker.specs.Kept.{KeptTable, IsCount}
+use Rattle.square_worker.specs.Openings.{first_table, module_of, front_after}
+use Rattle.live_view.specs.Views.{row_of, IsRight}
 use Rattle.live_view.specs.Publishing.{AreDone}
 use Rattle.live_view.specs.Inside.Reading.{HasReadRow, HasReadFrom, HasRead}
 use Rattle.live_view.proofs.Prefixes.{prefix_has, prefix_length}
@@ -25,7 +26,7 @@ given-append (Give who s t ∷ xs) ys = ap (λ l. (s, t) ∷ l) (given-append xs
 given-append (Back who s t ∷ xs) ys = given-append xs ys
 given-append (Fail who s t ∷ xs) ys = given-append xs ys
 
-module _ {K : Type 0} (opening : Opening K) where
+module _ {K : Type 0} (opening : Opening (KeptTable K)) where
   -- no row has less squares done after more events
   pub front_grows : (xs ys : List (ℕ × Event)) (i : ℕ) → IsPrefix xs ys → front_after opening (events_of xs) i ≤ front_after opening (events_of ys) i
   front_grows xs ys i p =

@@ -7,16 +7,16 @@ use Rattle.std.proofs.lemmas.Option.{slice_get_within}
 use Rattle.board_core.specs.declared.event.Entry.{Entry as Event}
 use Rattle.turn_lock.proofs.Histories.{prefix_self, prefix_trans}
 use Rattle.square_board.specs.declared.opening.Opening.{Opening}
-use Rattle.square_board.specs.Openings.{first_table, module_of, front_after}
-use Rattle.square_board.specs.Boards.{AreFalling}
-use Rattle.live_view.specs.Views.{row_of, IsCount, IsWithin}
+use Rattle.square_worker.specs.Kept.{KeptTable, IsCount}
+use Rattle.square_worker.specs.Openings.{first_table, module_of, front_after}
+use Rattle.live_view.specs.Views.{row_of, IsWithin}
 use Rattle.live_view.specs.Inside.Rows.{with_count}
-use Rattle.live_view.specs.Inside.Reading.{HasReadTo, HasReadRow}
+use Rattle.live_view.specs.Inside.Reading.{AreFalling, HasReadTo, HasReadRow}
 use Rattle.finite_module.proofs.Elements.{slice_get-append_right}
 use Rattle.live_view.proofs.Prefixes.{prefix_has, prefix_length}
 use Rattle.live_view.proofs.Within.{within_self, within_trans, within_length, count_same, count_other, within_count}
 
-module _ {K : Type 0} (opening : Opening K) where
+module _ {K : Type 0} (opening : Opening (KeptTable K)) where
   -- before the first square
   pub read_none : (events : List Event) (view : List (List ℕ)) (s front k : ℕ) → k ≡ length (row_of view s) → HasReadTo opening events view view s front k
   read_none events view s front k is = record {

@@ -5,8 +5,9 @@ use Rattle.bidegree.specs.declared.range.Range.{Range}
 use Rattle.bidegree.specs.declared.shape.Shape.TheVariants.{Rectangle}
 use Rattle.bidegree.specs.LastDegrees.{last_degree}
 use Rattle.resolution_laws.specs.Resolution.{Module}
-use Rattle.ext_chart.specs.Chart.{mark, row_lines, stems_line, chart_text}
-use Rattle.live_view.specs.Views.{row_of, IsCount, IsRight}
+use Rattle.chart_lines.specs.Chart.{mark, row_lines, stems_line, chart_text}
+use Rattle.square_worker.specs.Kept.{IsCount}
+use Rattle.live_view.specs.Views.{row_of, IsRight}
 
 -- the mark of a square with so many generators, and a space where the square is not there
 abbrev pub mark_of : Option ℕ → ℕ

@@ -7,7 +7,7 @@ use Rattle.logbook.specs.Pages.{Book}
 use Rattle.resolution_laws.specs.Start.{IsCanonicalStart}
 use Rattle.square.specs.Squares.{over}
 use Rattle.square.specs.Tables.{Staircase}
-use Rattle.ext_chart.specs.Chart.{chart_text}
+use Rattle.chart_lines.specs.Chart.{chart_text}
 use Rattle.live_view.specs.declared.published.Published.{Published as Shown}
 use Rattle.live_view.specs.Views.{blank, IsRight, IsWithin}
 use Rattle.live_view.specs.Chart.{IsPartOf, AreCounts}

@@ -4,7 +4,8 @@ use Rattle.board_core.specs.declared.event.Entry.{Entry as Event}
 use Rattle.turn_lock.specs.Turns.{TurnId, PassState}
 use Rattle.square_board.specs.declared.opening.Opening.{Opening}
 use Rattle.square_board.specs.Courses.{events_of}
-use Rattle.square_board.specs.Openings.{first_table, bottom_of, module_of, front_after}
+use Rattle.square_worker.specs.Kept.{KeptTable}
+use Rattle.square_worker.specs.Openings.{first_table, bottom_of, module_of, front_after}
 use Rattle.square_board.specs.Boards.{IsPassOf}
 use Rattle.live_view.specs.declared.published.Published.{Published as Shown}
 use Rattle.live_view.specs.Views.{row_of, IsRight}
@@ -13,28 +14,28 @@ use Rattle.live_view.specs.Handles.{LiveState}
 
 module _ {K : Type 0} where
   -- each square of the view is done after these events
-  abbrev pub AreDone : Opening K → List Event → List (List ℕ) → Type 0
+  abbrev pub AreDone : Opening (KeptTable K) → List Event → List (List ℕ) → Type 0
   AreDone opening events view = (s : ℕ) → length (row_of view s) ≤ front_after opening events s
 
   -- the view has each square of the range that is done after these events
-  abbrev pub HasDone : Opening K → List Event → List (List ℕ) → Type 0
+  abbrev pub HasDone : Opening (KeptTable K) → List Event → List (List ℕ) → Type 0
   HasDone opening events view = (s k : ℕ) → s ≤ opening.range.s → k ≤ opening.range.t →
       k < front_after opening events s → k < length (row_of view s)
 
   -- The view is right for the board. It has each square of the range that was done after the events before, and only squares that are done after
   -- the events since.
-  pub record IsViewBetween (opening : Opening K) (before since : List Event) (view : List (List ℕ)) : Type 0 where
+  pub record IsViewBetween (opening : Opening (KeptTable K)) (before since : List Event) (view : List (List ℕ)) : Type 0 where
     pub right : IsRight (module_of opening) (first_table opening).start view
     pub done : AreDone opening since view
     pub has : HasDone opening before view
 
   -- the views were published of this board
-  abbrev pub AreOfBoard : Opening K → List Shown → Type 0
+  abbrev pub AreOfBoard : Opening (KeptTable K) → List Shown → Type 0
   AreOfBoard opening published = All (λ p. p.of ≡ first_table opening ∷ []) published
 
   -- The pass may publish what is done of the board by this writer: the writer has the board's range and bottom, all that it published is of this
   -- board, and each square of its view is done after what the pass has seen.
-  pub record MayPublish (board : TurnId (Opening K)) (pass : PassState (Opening K) Event) (writer : LiveState)
+  pub record MayPublish (board : TurnId (Opening (KeptTable K))) (pass : PassState (Opening (KeptTable K)) Event) (writer : LiveState)
       : Type 0 where
     pub pass_of : IsPassOf board pass
     pub range : board.name.range ≡ writer.range
@@ -43,7 +44,7 @@ module _ {K : Type 0} where
     pub done : AreDone board.name (events_of pass.seen) (last_view writer.known.published)
 
   -- one view more was published, and it is the board's between these events
-  pub record HasPublished (opening : Opening K) (before since : List Event) (old new : KnownViews) : Type 0 where
+  pub record HasPublished (opening : Opening (KeptTable K)) (before since : List Event) (old new : KnownViews) : Type 0 where
     pub view : List (List ℕ)
     pub known : new ≡ record old {
       published = old.published ++ record { of = first_table opening ∷ []; view = view } ∷ [];

@@ -2,18 +2,13 @@
 use Rattle.std.specs.Prelude.{◌≡◌, ℕ, suc, ◌+◌, ◌≤◌, List, [], ◌∷◌, length, replicate, slice_get, slice_index_or, Some}
 use Rattle.bidegree.specs.declared.range.TheConstants.{MAX_S}
 use mathlib.Core.List.{IsPrefix}
-use Rattle.resolution_laws.specs.Resolution.{Module, Content}
-use Rattle.resolution_laws.specs.Start.{Entry, IsOf, IsCanonicalStart}
+use Rattle.resolution_laws.specs.Resolution.{Module}
+use Rattle.resolution_laws.specs.Start.{Entry, IsCanonicalStart}
+use Rattle.square_worker.specs.Kept.{IsCount}
 
 -- row s of a view, none past its last row
 abbrev pub row_of : List (List ℕ) → ℕ → List ℕ
 row_of view s = slice_index_or view s []
-
--- the square (s, k) has n generators, in the table of this start
-pub record IsCount (m : Module) (start : List Entry) (s k n : ℕ) : Type 0 where
-  pub content : Content
-  pub is_of : IsOf m start s k content
-  pub count : n ≡ length content.images
 
 -- the view's squares are a staircase: no row has more than the row below it
 abbrev pub IsStaircase : List (List ℕ) → Type 0

@@ -4,12 +4,12 @@ ghost use Rattle.std.specs.List.{range_with_len};
 ghost use Rattle.bidegree.specs.declared.range.TheConstants.{MAX_S, MAX_T};
 ghost use Rattle.bidegree.specs.declared.shape.Shape.TheVariants.{Rectangle};
 ghost use Rattle.bidegree.specs.LastDegrees.{last_degree};
-ghost use Rattle.ext_chart.specs.Chart.{row_line, row_lines};
+ghost use Rattle.chart_lines.specs.Chart.{row_line, row_lines};
 ghost use Rattle.live_view.specs.Chart.{mark_of, marks_of, live_chart};
 
 use crate::view::View;
 use bidegree::Range;
-use ext_chart::{mark, row_label, stems_line};
+use chart_lines::{mark, row_label, stems_line};
 use memory::Memory;
 use std::alloc::Global;
 

@@ -1,114 +1,98 @@
 //! The finished squares of a board, read into a view.
-ghost use Rattle.std.specs.Prelude.{◌≡◌, ◌<◌, ◌≤◌, pos, ◌+ℤ◌, ◌≤ℤ◌, Contains, IfOk, OnOk};
+ghost use Rattle.std.specs.Prelude.{◌≡◌, ◌<◌, ◌≤◌, Contains};
 ghost use Rattle.bidegree.specs.declared.range.TheConstants.{MAX_S, MAX_T};
-ghost use Rattle.square_board.specs.Boards.{IsPassOf, IsSamePass, AreFalling};
+ghost use Rattle.square_board.specs.Boards.{IsPassOf, IsSamePass};
 ghost use Rattle.square_board.specs.Courses.{events_of};
-ghost use Rattle.square_board.specs.Openings.{first_table, bottom_of, module_of, front_after};
-ghost use Rattle.live_view.specs.Views.{IsCount, IsRight};
+ghost use Rattle.square_worker.specs.Kept.{IsCount};
+ghost use Rattle.square_worker.specs.Openings.{first_table, module_of, front_after};
+ghost use Rattle.live_view.specs.Views.{IsRight};
 ghost use Rattle.live_view.specs.Publishing.{AreDone};
-ghost use Rattle.live_view.specs.Inside.Reading.{HasRead, HasReadRow};
+ghost use Rattle.live_view.specs.Inside.Reading.{AreFalling, HasRead, HasReadRow};
 ghost use mathlib.Core.List.{IsPrefix};
 
 use crate::view::View;
 use bidegree::Range;
-use memory::Memory;
 use square::Keep;
 use square_board::{Board, BoardPass};
+use square_worker::Kept;
 use std::sync::Wait;
 use std::time::Clock;
 
 /// Puts the finished squares of the range into the view. It goes from the last row down to row 0, so that they are a
 /// staircase: when a square is done, so is the one below it.
-///
-/// # Errors
-/// `Memory` if a square has too many owners to count.
 pub(crate) fn read_board<R: Wait + Clock, K: Keep>(
     wait: &R,
-    board: &Board<K>,
-    pass: &mut BoardPass<K>,
+    board: &Board<Kept<K>>,
+    pass: &mut BoardPass<Kept<K>>,
     view: &mut View,
     range: Range,
-    bottom: i32,
-) -> Result<(), Memory>
+)
     requires pass { IsPassOf board.now pass.old }
     requires rows { range.s ≤ MAX_S }
     requires degrees { range.t ≤ MAX_T }
     requires range { board.now.name.range ≡ range }
-    requires bottom { bottom_of board.now.name ≡ bottom }
-    requires fits { (bottom +ℤ pos range.t) ≤ℤ pos 2147483647 }
     requires right { IsRight (module_of board.now.name) (first_table board.now.name).start view.old }
     requires done { AreDone board.now.name (events_of pass.old.seen) view.old }
     ensures pass { IsPassOf board.now pass.new }
     ensures same { IsSamePass pass.old pass.new }
     ensures seen { IsPrefix pass.old.seen pass.new.seen }
-    ensures read { OnOk result (HasRead board.now.name (events_of pass.old.seen) (events_of pass.new.seen)
-        view.old view.new) }
+    ensures read { HasRead board.now.name (events_of pass.old.seen) (events_of pass.new.seen) view.old view.new }
 {
     for i in 0..=range.s {
-        read_row(wait, board, pass, view, range.s - i, range.t, bottom)?;
+        read_row(wait, board, pass, view, range.s - i, range.t);
     }
-    Ok(())
 }
 
 /// Puts the finished squares of row `s` into the view, through `t` degrees above the bottom.
 fn read_row<R: Wait + Clock, K: Keep>(
     wait: &R,
-    board: &Board<K>,
-    pass: &mut BoardPass<K>,
+    board: &Board<Kept<K>>,
+    pass: &mut BoardPass<Kept<K>>,
     view: &mut View,
     s: u16,
     t: u16,
-    bottom: i32,
-) -> Result<(), Memory>
+)
     requires pass { IsPassOf board.now pass.old }
     requires row { s ≤ board.now.name.range.s }
     requires rows { board.now.name.range.s ≤ MAX_S }
     requires degrees { t ≤ MAX_T }
-    requires bottom { bottom_of board.now.name ≡ bottom }
-    requires fits { (bottom +ℤ pos t) ≤ℤ pos 2147483647 }
     ensures pass { IsPassOf board.now pass.new }
     ensures same { IsSamePass pass.old pass.new }
     ensures seen { IsPrefix pass.old.seen pass.new.seen }
-    ensures read { OnOk result (HasReadRow board.now.name (events_of pass.old.seen) (events_of pass.new.seen)
-        view.old view.new s t) }
+    ensures read { HasReadRow board.now.name (events_of pass.old.seen) (events_of pass.new.seen) view.old view.new s t }
 {
     let front = board.front(pass, s);
     let first = view.row_len(s) as u16;
     let past = front.min(u64::from(t) + 1) as u16;
     for k in first..past {
-        let count = count_at(wait, board, pass, s, k, front, bottom)?;
+        let count = count_at(wait, board, pass, s, k, front);
         view.push(s, count);
     }
-    Ok(())
 }
 
 /// How many generators the square in row `s` and `above` degrees above the bottom has. The square is done, since the pass
 /// was told this front of its row.
 fn count_at<R: Wait + Clock, K: Keep>(
     wait: &R,
-    board: &Board<K>,
-    pass: &mut BoardPass<K>,
+    board: &Board<Kept<K>>,
+    pass: &mut BoardPass<Kept<K>>,
     s: u16,
     above: u16,
     front: u64,
-    bottom: i32,
-) -> Result<usize, Memory>
+) -> usize
     requires pass { IsPassOf board.now pass.old }
     requires told { Contains pass.old.told (s, front) }
     requires done { above < front }
-    requires bottom { bottom_of board.now.name ≡ bottom }
-    requires fits { (bottom +ℤ pos above) ≤ℤ pos 2147483647 }
     ensures pass { IsPassOf board.now pass.new }
     ensures same { IsSamePass pass.old pass.new }
     ensures seen { IsPrefix pass.old.seen pass.new.seen }
     ensures told { pass.new.told ≡ pass.old.told }
     ensures front { front ≤ front_after board.now.name (events_of pass.new.seen) s }
     ensures falling { AreFalling board.now.name (events_of pass.new.seen) }
-    ensures count { IfOk result (λ n.
-        IsCount (module_of board.now.name) (first_table board.now.name).start s above n) }
+    ensures count { IsCount (module_of board.now.name) (first_table board.now.name).start s above result }
 {
-    match board.look(wait, pass, s, bottom + i32::from(above))? {
-        Some(square) => Ok(square.gens().len()),
+    match board.generators(wait, pass, s, above) {
+        Some(count) => count,
         None => unreachable!(),
     }
 }

@@ -23,6 +23,7 @@ use left_right::writer::Writer;
 use memory::Memory;
 use square::Keep;
 use square_board::{Board, BoardPass};
+use square_worker::Kept;
 use std::alloc::Global;
 use std::marker::Model;
 use std::sync::Wait;
@@ -138,8 +139,8 @@ pub fn publish<R: Wait + Clock, K: Keep>(
     wait: &R,
     alloc: Global,
     writer: &mut LiveWriter,
-    board: &Board<K>,
-    pass: &mut BoardPass<K>,
+    board: &Board<Kept<K>>,
+    pass: &mut BoardPass<Kept<K>>,
 ) -> Result<Note, Memory>
     requires { MayPublish board.now pass.old writer.old }
     ensures may { MayPublish board.now pass.new writer.new }
@@ -154,7 +155,7 @@ pub fn publish<R: Wait + Clock, K: Keep>(
     let _known = writer.series.known.again();
     let newest = writer.flushed.pen.published();
     let mut view = newest.view.again(alloc)?;
-    read_board(wait, board, pass, &mut view, writer.range, writer.bottom)?;
+    read_board(wait, board, pass, &mut view, writer.range);
     let shown = Published::of_board(board, &view);
     writer.show(wait, alloc, view, &shown)
 }

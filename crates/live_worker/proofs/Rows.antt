@@ -7,13 +7,14 @@ use Rattle.std.proofs.lemmas.List.{get_or-reverse, length-reverse}
 use Rattle.std.proofs.lemmas.Bool.{cases_lt}
 use Rattle.turn_lock.specs.Turns.{TurnId}
 use Rattle.square_board.specs.declared.opening.Opening.{Opening}
+use Rattle.square_worker.specs.Kept.{KeptTable}
 use Rattle.live_worker.specs.declared.reports.Reports.{Reports}
 use Rattle.live_worker.specs.declared.role.Role.{Role}
 use Rattle.live_worker.specs.declared.role.Role.TheVariants.{Work, Watch}
 use Rattle.live_worker.specs.Inside.Roles.{CanRun, HasRun, IsRoleAt, AreRoles, AreRolesDown}
 use Rattle.live_worker.proofs.Telling.{told_twice}
 
-module _ {K E : Type 0} (written : E → Option (List ℕ)) (faults : E → ℕ) (first : Reports E) (board : TurnId (Opening K)) (n : ℕ) where
+module _ {K E : Type 0} (written : E → Option (List ℕ)) (faults : E → ℕ) (first : Reports E) (board : TurnId (Opening (KeptTable K))) (n : ℕ) where
   pub down_more : (roles : List (Role K E)) (role : Role K E) → AreRolesDown written faults first board n roles → IsRoleAt written faults first board (n - length roles) n role → AreRolesDown written faults first board n (roles ++ role ∷ [])
   down_more roles role are is k d less = elim (cases_lt k (length roles)) [
     | inl low ↦ subst (λ (j : Role K E). IsRoleAt written faults first board (n - k) n j) (sym (get_or-append roles (role ∷ []) d k low)) (are k d low)

@@ -1,8 +1,8 @@
 //! The roles of the passes of a board, and the passes joined again.
 ghost use Rattle.std.specs.Prelude.{◌≡◌, ◌-◌, ◌<◌, ◌≤◌, [], length, vec_capacity};
 ghost use Rattle.turn_lock.specs.Turns.{HasAll};
-ghost use Rattle.square_board.specs.Openings.{bottom_of};
-ghost use Rattle.square_worker.specs.Passes.{AreItsPasses};
+ghost use Rattle.square_board.specs.Workers.{AreItsPasses};
+ghost use Rattle.square_worker.specs.Openings.{bottom_of};
 ghost use Rattle.live_worker.specs.Reports.{squares_of};
 ghost use Rattle.live_worker.specs.Inside.Roles.{CanWatch, AreRoles, HasTold};
 
@@ -12,13 +12,14 @@ use edge::Sink;
 use live_view::{LiveReader, LiveWriter};
 use square::Keep;
 use square_board::{Board, BoardPass};
+use square_worker::Kept;
 use std::snapshot::Snapshot;
 
 /// Makes the roles of these passes, for which there is room: the last pass watches, and the others work.
 pub(crate) fn fill<K: Keep, E: Sink>(
-    board: &Board<K>,
+    board: &Board<Kept<K>>,
     roles: &mut Vec<Role<K, E>>,
-    mut passes: Vec<BoardPass<K>>,
+    mut passes: Vec<BoardPass<Kept<K>>>,
     writer: LiveWriter,
     reader: LiveReader,
     reports: Reports<E>,
@@ -54,7 +55,7 @@ pub(crate) fn fill<K: Keep, E: Sink>(
 
 /// The watcher, with all other passes joined into its own.
 pub(crate) fn gathered<K: Keep, E: Sink>(
-    board: &Board<K>,
+    board: &Board<Kept<K>>,
     mut roles: Vec<Role<K, E>>,
     first: &Snapshot<Reports<E>>,
 ) -> Watcher<K, E>

@@ -10,14 +10,15 @@ use edge::Sink;
 use live_view::{LiveReader, LiveWriter, close, new};
 use square::{Keep, Table};
 use square_board::{Board, BoardPass};
+use square_worker::Kept;
 use std::alloc::Global;
 use std::sync::Wait;
 use std::time::Clock;
 
 /// A board with its passes, a writer of its views with their reader, and room for the roles.
 pub struct Opened<K: Keep, E: Sink> {
-    pub board: Board<K>,
-    pub passes: Vec<BoardPass<K>>,
+    pub board: Board<Kept<K>>,
+    pub passes: Vec<BoardPass<Kept<K>>>,
     pub writer: LiveWriter,
     pub reader: LiveReader,
     pub roles: Vec<Role<K, E>>,
@@ -39,7 +40,7 @@ pub(crate) fn prepared<R: Wait + Clock, K: Keep, E: Sink>(
     requires degrees { range.t ≤ MAX_T }
     requires live { (K.telling keeper).live }
     requires of_table { IsKeeperOf (K.telling keeper) table }
-    ensures opened { IfOk result (λ o. IsOpenedFor workers table range keeper o) }
+    ensures opened { IfOk result (λ o. IsOpenedFor workers (record { table = table; keeper = keeper }) range o) }
     ensures refused { IfErr result (λ back. back ≡ keeper) }
 {
     let Some(count) = workers.checked_add(1) else {
@@ -53,7 +54,7 @@ pub(crate) fn prepared<R: Wait + Clock, K: Keep, E: Sink>(
         roles.destroy_empty();
         return Err(keeper);
     };
-    match Board::new(alloc, table, range, keeper, count) {
+    match Board::new(alloc, Kept { table, keeper }, range, count) {
         Ok((board, passes)) => Ok(Opened {
             board,
             passes,
@@ -61,9 +62,10 @@ pub(crate) fn prepared<R: Wait + Clock, K: Keep, E: Sink>(
             reader,
             roles,
         }),
-        Err((_, keeper)) => {
+        Err((_, first)) => {
             roles.destroy_empty();
             close(wait, writer, reader);
+            let Kept { table: _, keeper } = first;
             Err(keeper)
         }
     }

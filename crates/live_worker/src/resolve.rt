@@ -4,7 +4,7 @@ ghost use Rattle.bidegree.specs.declared.range.TheConstants.{MAX_S, MAX_T};
 ghost use Rattle.board_core.specs.declared.event.Cause as Cause;
 ghost use Rattle.resolution_step.specs.Alone.{AreApart, IsUntouched, HasResolved};
 ghost use Rattle.square.specs.Keeping.{IsKeeperOf};
-ghost use Rattle.square_board.specs.Openings.{first_table};
+ghost use Rattle.square_worker.specs.Openings.{first_table};
 ghost use Rattle.turn_lock.specs.Turns.{HasAll};
 ghost use Rattle.live_worker.specs.Reports.{squares_of, HasReported};
 ghost use Rattle.live_worker.specs.Inside.Opened.{IsMadeOrMemory};
@@ -23,8 +23,8 @@ use edge::{Failed, Sink};
 use live_view::close;
 use memory::Memory;
 use square::{Keep, Table};
-use square_board::Board;
-use square_worker::{Gate, conclude};
+use square_board::{Board, Gate, conclude};
+use square_worker::{Kept, outcome};
 use std::alloc::Global;
 use std::snapshot::Snapshot;
 use std::sync::Wait;
@@ -169,16 +169,17 @@ fn squares_of(range: Range) -> u64
 fn concluded<R: Wait + Clock, K: Keep, E: Sink>(
     wait: &R,
     alloc: Global,
-    board: Board<K>,
+    board: Board<Kept<K>>,
     mut watcher: Watcher<K, E>,
     range: Range,
 ) -> (E, Outcome<K>)
     requires can { CanWatch board watcher }
     requires joined { HasAll watcher.pass }
     requires range { board.name.range ≡ range }
+    requires live { (K.telling board.name.first.value.keeper).live }
     ensures resolved { HasResolved Cause.Failed Cause.Memory AreApart range (first_table board.name) result.1.0
-        (K.telling board.name.keeper.value) (K.telling result.1.1) }
-    ensures untouched { IsUntouched K.telling board.name.keeper.value result.1.1 }
+        (K.telling board.name.first.value.keeper) (K.telling result.1.1) }
+    ensures untouched { IsUntouched K.telling board.name.first.value.keeper result.1.1 }
     ensures told { (start : Reports E) → start.most ≡ 0 → start.failed ≡ false → start.all ≡ squares_of range →
         HasTold E.written E.faults start watcher.reports →
         HasReported (squares_of range) result.1.0 result.1.2 (E.written start.err) (E.written result.0)
@@ -192,8 +193,9 @@ fn concluded<R: Wait + Clock, K: Keep, E: Sink>(
         mut reports,
     } = watcher;
     close(wait, writer, reader);
-    let (made, keeper) = conclude(board, pass, range);
-    let given = reported_whole(alloc, &mut reports, made);
+    let (made, last) = conclude(board, pass, range);
+    let (table, keeper) = outcome(made, last);
+    let given = reported_whole(alloc, &mut reports, table);
     let Reports {
         err,
         most: _,

@@ -6,8 +6,8 @@ use crate::role::Role;
 use crate::watcher::watch;
 use edge::Sink;
 use square::Keep;
-use square_board::Board;
-use square_worker::{Gate, work};
+use square_board::{Board, Gate, work};
+use square_worker::Kept;
 use std::alloc::Global;
 use std::sync::Wait;
 use std::sync::atomic::{AtomicU64, Ordering};
@@ -26,7 +26,7 @@ pub(crate) fn run_roles<
 >(
     wait: &R,
     alloc: Global,
-    board: &Board<K>,
+    board: &Board<Kept<K>>,
     roles: &mut [Role<K, E>],
     gate: &G,
     working: &AtomicU64,
@@ -46,7 +46,7 @@ pub(crate) fn run_roles<
 fn run_each<R: Threads + Wait + Clock + Sync, K: Keep + Send, G: Gate + Sync, E: Sink + Send>(
     wait: &R,
     alloc: Global,
-    board: &Board<K>,
+    board: &Board<Kept<K>>,
     roles: &mut [Role<K, E>],
     gate: &G,
     working: &AtomicU64,
@@ -75,7 +75,7 @@ fn run_each<R: Threads + Wait + Clock + Sync, K: Keep + Send, G: Gate + Sync, E:
 fn run_role<R: Wait + Clock, K: Keep, G: Gate, E: Sink>(
     wait: &R,
     alloc: Global,
-    board: &Board<K>,
+    board: &Board<Kept<K>>,
     role: &mut Role<K, E>,
     gate: &G,
     working: &AtomicU64,

@@ -8,6 +8,7 @@ use live_view::publish;
 use memory::Memory;
 use square::Keep;
 use square_board::Board;
+use square_worker::Kept;
 use std::alloc::Global;
 use std::sync::Wait;
 use std::sync::atomic::{AtomicU64, Ordering};
@@ -23,7 +24,7 @@ const NAP_MILLIS: u64 = 100;
 pub(crate) fn report<R: Wait + Clock, K: Keep, E: Sink>(
     wait: &R,
     alloc: Global,
-    board: &Board<K>,
+    board: &Board<Kept<K>>,
     watcher: &mut Watcher<K, E>,
 ) -> Result<u64, Memory>
     requires { CanWatch board.now watcher.old }
@@ -41,7 +42,7 @@ pub(crate) fn report<R: Wait + Clock, K: Keep, E: Sink>(
 pub(crate) fn watch<R: Wait + Clock, K: Keep, E: Sink>(
     wait: &R,
     alloc: Global,
-    board: &Board<K>,
+    board: &Board<Kept<K>>,
     watcher: &mut Watcher<K, E>,
     working: &AtomicU64,
 )
@@ -63,7 +64,7 @@ pub(crate) fn watch<R: Wait + Clock, K: Keep, E: Sink>(
 fn is_last_report<R: Wait + Clock, K: Keep, E: Sink>(
     wait: &R,
     alloc: Global,
-    board: &Board<K>,
+    board: &Board<Kept<K>>,
     watcher: &mut Watcher<K, E>,
 ) -> bool
     requires { CanWatch board.now watcher.old }

@@ -1,6 +1,6 @@
-mod Standing
-mod Resolved
-mod Making
-mod Rectangle
+pub mod Standing
+pub mod Resolved
+pub mod Making
+pub mod Rectangle
 mod Columns
 pub mod Contents

@@ -1,15 +1,16 @@
 -- Rows that grow by one square.
-use Rattle.std.proofs.Common.{◌≡◌, ◌≢◌, ◌≤ℤ◌, ℕ, suc, ◌+◌, ◌<◌, ◌≤◌, ℤ, pos, ◌+ℤ◌, Bool, List, [], ◌∷◌, ◌++◌, length, take, replicate, get_or, set, refl, ap, sym, subst, ◌∙◌, arith, inl, inr}
+use Rattle.std.proofs.Common.{◌≡◌, ◌≢◌, ◌≤ℤ◌, ℕ, suc, ◌+◌, ◌<◌, ◌≤◌, ℤ, pos, ◌+ℤ◌, Bool, List, [], ◌∷◌, ◌++◌, length, take, replicate, get_or, set, refl, ap, sym, subst, ◌∙◌, arith, inl, inr, ◌⊎◌}
 use Rattle.std.proofs.lemmas.Bool.{cases_eq}
-use Rattle.std.proofs.lemmas.List.{get_or_default, map-append, take_more, take_all, length-take-le, get_or-set_same, get_or-set_other, get_or-replicate, length-set, length-replicate}
-use Rattle.resolution_laws.specs.Resolution.{Module, Content, no_content, degrees_from}
+use Rattle.std.proofs.lemmas.List.{get_or_default, get_or-map, length-map, map-append, take_more, take_all, length-take-le, get_or-set_same, get_or-set_other, get_or-replicate, length-set, length-replicate}
+use Rattle.resolution_laws.specs.Resolution.{Module, Content, no_content, square_in, degrees_from}
 use Rattle.resolution_laws.proofs.Rows.{degrees_from-push, images_of-push, at_most-row}
 use Rattle.f2_matrix.specs.Reduction.{Rows}
 use Rattle.free_module.specs.FreeModule.{degree_at, free_width}
-use Rattle.stem_laws.specs.Stems.{in_stems, AreToCover, RowsInStemsAreWhole, KernelsInStemsAreToCover}
+use Rattle.stem_laws.specs.Stems.{in_stems, degrees_in_stems, AreToCover, RowsInStemsAreWhole, KernelsInStemsAreToCover}
 use Rattle.resolution_images.specs.BareRows.{BareRow, no_bare_row, bare_row_in, IsBareRowOf, AreOfStems}
 use Rattle.resolution_images.specs.declared.resolve.Extent.{Extent}
-use Rattle.resolution_images.specs.Inside.Made.{IsTableOf, with_one_square, IsMadeThrough, AreMadeThrough, IsSquareInStems, IsToCover}
+use Rattle.resolution_images.specs.Made.{IsTableOf, with_one_square, IsMadeThrough, IsSquareInStems, IsToCover}
+use Rattle.resolution_images.specs.Inside.Columns.{AreMadeThrough}
 use Rattle.resolution_images.proofs.Standing.{IsResolvable, resolution_of}
 
 -- the squares with one more
@@ -39,6 +40,39 @@ line_ended whole m e i k line row_is past h = λ table canonical.
     let a : take k all ≡ all = take_all k all (omega (arith, len)) in
     let b : take (suc k) all ≡ all = take_all (suc k) all (omega (arith, len)) in
     subst (λ (z : List Content). IsBareRowOf m.bottom z line) (a ∙ sym b) (h table canonical)
+
+-- ---- the generators of the first squares of a row
+
+pub gens_below : (b : ℤ) (squares : List Content) (line : BareRow) (k : ℕ) (gens : List ℤ) (t : ℤ) → IsBareRowOf b squares line → k ≤ length line.counts → t ≡ b +ℤ pos k → gens ≡ degrees_from b (take k squares) → (g : ℕ) → g < length gens → degree_at gens g ≤ℤ t
+gens_below b squares line k gens t h l at is =
+    let size : length line.counts ≡ length squares = ap length h.counts ∙ length-map squares (λ (c : Content). length c.images) in
+    at_most-row b (take k squares) k gens t at is (length-take-le k squares (omega arith))
+
+pub gens_more : (b : ℤ) (squares : List Content) (line : BareRow) (k count : ℕ) (gens wider : List ℤ) (t : ℤ) → IsBareRowOf b squares line → k < length line.counts → t ≡ b +ℤ pos k → count ≡ get_or line.counts k 0 → gens ≡ degrees_from b (take k squares) → wider ≡ gens ++ replicate count t → wider ≡ degrees_from b (take (k + 1) squares)
+gens_more b squares line k count gens wider t h l at many is more =
+    let size : length line.counts ≡ length squares = ap length h.counts ∙ length-map squares (λ (c : Content). length c.images) in
+    let within : k < length squares = omega arith in
+    let here = square_in squares k in
+    let long : length (take k squares) ≡ k = length-take-le k squares (omega arith) in
+    let count_is : count ≡ length here.images = many ∙ ap (λ (ns : List ℕ). get_or ns k 0) h.counts ∙ get_or-map (λ (c : Content). length c.images) squares k no_content 0 within in
+    let t_is : t ≡ b +ℤ pos (length (take k squares)) = at ∙ ap (λ n. b +ℤ pos n) (sym long) in
+    more ∙ ap (λ (ds : List ℤ). ds ++ replicate count t) is
+    ∙ ap (λ n. degrees_from b (take k squares) ++ replicate n t) count_is
+    ∙ ap (λ (u : ℤ). degrees_from b (take k squares) ++ replicate (length here.images) u) t_is
+    ∙ sym (degrees_from-push b (take k squares) here)
+    ∙ ap (degrees_from b) (sym (take_more squares k no_content within))
+
+-- all of them where there are no more
+pub gens_first : (b : ℤ) (squares : List Content) (line : BareRow) (n k : ℕ) (gens : List ℤ) → IsBareRowOf b squares line → k ≡ n ⊎ ((k ≡ length line.counts) × (k ≤ n)) → gens ≡ degrees_from b (take k squares) → gens ≡ degrees_from b (take n squares)
+gens_first b squares line n k gens h end is =
+    elim end [
+      | inl e ↦ is ∙ ap (λ j. degrees_from b (take j squares)) e
+      | inr e ↦
+          let size : length line.counts ≡ length squares = ap length h.counts ∙ length-map squares (λ (c : Content). length c.images) in
+          let a : take k squares ≡ squares = take_all k squares (omega (arith, e.0, size)) in
+          let b' : take n squares ≡ squares = take_all n squares (omega (arith, e.0, e.1, size)) in
+          is ∙ ap (degrees_from b) (a ∙ sym b')
+    ]
 
 -- ---- a column
 
@@ -73,21 +107,16 @@ through_more whole m e s k lines d more content t row_is stem_is l h square at i
           subst (IsMadeThrough m e i k) (sym (get_or-set_other lines s i more no_bare_row apart)) (h.others i (omega arith) (omega (arith, length-set lines s more)));
     }
 
--- and its kernel is what the next row has to cover
-pub cover_more : KernelsInStemsAreToCover → (m : Module) (e : Extent) (s k : ℕ) (lines : List BareRow) (d more : BareRow) (content : Content) (t : ℤ) (kernel : Rows) → IsResolvable m → s ≤ e.last → k ≤ e.n + s → s < length lines → IsSquareInStems m e s k content → t ≡ m.bottom +ℤ pos k → more ≡ with_one_square (get_or lines s d) t content.images → kernel.rows ≡ content.kernel → kernel.cols ≡ free_width ((bare_row_in lines s).degrees ++ replicate (length content.images) (m.bottom +ℤ pos k)) (m.bottom +ℤ pos k) → IsToCover m e (set lines s more) (s + 1) k kernel
-cover_more kernels m e s k lines d more content t kernel r row_is stem_is l square at is rows cols =
-    let u = m.bottom +ℤ pos k in
-    let old : get_or lines s d ≡ bare_row_in lines s = get_or_default lines s d no_bare_row l in
-    let put : bare_row_in (set lines s more) s ≡ more = get_or-set_same lines s more no_bare_row l in
-    let degrees : (bare_row_in lines s).degrees ++ replicate (length content.images) u ≡ (bare_row_in (set lines s more) s).degrees =
-    sym (ap (λ (x : BareRow). x.degrees) (put ∙ is) ∙ ap (λ (x : BareRow). x.degrees ++ replicate (length content.images) t) old ∙ ap (λ (x : ℤ). (bare_row_in lines s).degrees ++ replicate (length content.images) x) at) in
-    let next : suc s ≡ s + 1 = omega arith in
-    subst (λ x. IsToCover m e (set lines s more) x k kernel) next (record {
-      cols = cols ∙ ap (λ (ds : List ℤ). free_width ds u) degrees;
+-- its kernel is what the next row has to cover
+pub cover_above : RowsInStemsAreWhole → KernelsInStemsAreToCover → (m : Module) (e : Extent) (s k : ℕ) (line : BareRow) (content : Content) (t : ℤ) (kernel : Rows) → IsResolvable m → s ≤ e.last → k ≤ e.n + s → IsMadeThrough m e s k line → IsSquareInStems m e s k content → t ≡ m.bottom +ℤ pos k → kernel.rows ≡ content.kernel → kernel.cols ≡ free_width (line.degrees ++ replicate (length content.images) t) t → IsToCover m e (suc s) k kernel
+cover_above whole kernels m e s k line content t kernel r row_is stem_is here square at rows cols =
+    let more = line_more whole m e s k line (with_one_square line t content.images) content t row_is stem_is here square at refl in
+    record {
+      cols = λ table canonical. cols ∙ ap (λ (ds : List ℤ). free_width ds t) (more table canonical).degrees ∙ ap (free_width (degrees_in_stems m e.n table s (suc k))) at;
       covers = λ table canonical.
           subst (AreToCover m e.n table (suc s) k) (sym (rows ∙ ap (λ (c : Content). c.kernel) (square table canonical)))
           (kernels m e.last e.n table (resolution_of m e table r canonical) s k row_is stem_is);
-    })
+    }
 
 -- ---- the whole
 

@@ -9,7 +9,7 @@ use Rattle.resolution_laws.proofs.StartTables.{empty_start}
 use Rattle.f2_matrix.proofs.Unique.{kernel_basis_unique}
 use Rattle.stem_laws.specs.Stems.{in_stems, on_edge}
 use Rattle.resolution_images.specs.BareRows.{BareRow, bare_row_in, IsBareRowOf, AreOfCanonical}
-use Rattle.resolution_images.specs.Inside.Made.{AreMadeThrough}
+use Rattle.resolution_images.specs.Inside.Columns.{AreMadeThrough}
 
 -- off the edge, and in row 0 on it, a square in stems is that of the table
 square_off : (m : Module) (n : ℕ) (table : List (List Content)) (i k : ℕ) → n + i ≤ length (row_of table i) → k ≤ n → square_in (in_stems m n table i) k ≡ square_in (row_of table i) k

@@ -7,7 +7,7 @@ use Rattle.resolution_laws.specs.Resolution.{Content}
 use Rattle.resolution_existence.specs.Existence.{CanonicalTableExists}
 use Rattle.square.specs.Squares.{over}
 use Rattle.resolution_images.specs.declared.resolve.Extent.{Extent}
-use Rattle.resolution_images.specs.Inside.Made.{IsTableOf}
+use Rattle.resolution_images.specs.Made.{IsTableOf}
 use Rattle.resolution_images.proofs.Standing.{IsResolvable}
 
 pub resolvable : ModulesAreSteenrodModules → (m : Checked) → IsResolvable (over m)

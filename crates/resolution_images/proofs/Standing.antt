@@ -1,7 +1,9 @@
 -- What a square in stems stands on, by the names that the code has for it, and that what is made from it is that square.
-use Rattle.std.proofs.Common.{◌≡◌, ℕ, suc, ◌+◌, ◌<◌, ◌≤◌, ℤ, pos, ◌+ℤ◌, Bool, List, ◌++◌, length, take, replicate, refl, ap, sym, subst, ◌∙◌, arith}
+use Rattle.std.proofs.Common.{◌≡◌, ℕ, zero, suc, ◌+◌, ◌<◌, ◌≤◌, ℤ, pos, ◌+ℤ◌, Bool, List, ◌++◌, length, take, replicate, refl, ap, sym, subst, ◌∙◌, Result, Ok, Err, arith}
+use Rattle.std.specs.Prelude.{IfOk}
 use Rattle.std.proofs.lemmas.List.{length-append, length-map}
 use Rattle.f2_vec.specs.Spans.{row, HaveWidth, IsInSpan}
+use Rattle.f2_matrix.specs.Reduction.{Rows}
 use Rattle.f2_matrix.specs.Echelon.{IsKernelBasis}
 use Rattle.free_module.specs.FreeModule.{IsWithinReach, free_basis, free_width}
 use Rattle.free_module.specs.Graded.{GradedModule, HasUnit, IsSteenrodModule, free_graded}
@@ -13,7 +15,13 @@ use Rattle.resolution_laws.proofs.NewGenerators.{HaveWidth-IsChosen, map_rows-ne
 use Rattle.stem_laws.specs.Stems.{IsCanonicalResolution, in_stems, target_in_stems, degrees_in_stems, images_in_stems, differential_in_stems, AreToCover, ImagesInStemsFit, SquaresInStemsAreSteps, RowsInStemsAreCovered}
 use Rattle.resolution_images.specs.BareRows.{BareRow, bare_row_in}
 use Rattle.resolution_images.specs.declared.resolve.Extent.{Extent}
-use Rattle.resolution_images.specs.Inside.Made.{IsTableOf, IsMadeThrough, AreMadeThrough, width_below}
+use Rattle.resolution_images.specs.Made.{IsTableOf, IsMadeThrough, AreUnder, IsToCover}
+use Rattle.resolution_images.specs.Inside.Columns.{AreMadeThrough}
+
+-- two facts of what is answered
+pub if_ok_both : {T E : Type 0} (r : Result T E) (P Q S : T → Type 0) → ((x : T) → P x → Q x → S x) → IfOk r P → IfOk r Q → IfOk r S
+if_ok_both (Ok x) P Q S f p q = f x p q
+if_ok_both (Err e) P Q S f p q = tt
 
 -- what is known of the module that is resolved
 pub record IsResolvable (m : Module) : Type 0 where
@@ -87,21 +95,45 @@ line_done m e s i k lines line h below within is = subst (IsMadeThrough m e i (s
 pub line_next : (m : Module) (e : Extent) (s i k : ℕ) (lines : List BareRow) (line : BareRow) → AreMadeThrough m e s k lines → s ≡ i → s < length lines → line ≡ bare_row_in lines s → IsMadeThrough m e i k line
 line_next m e s i k lines line h same within is = subst (λ x. IsMadeThrough m e x k line) same (subst (IsMadeThrough m e s k) (sym is) (h.others s (omega arith) within))
 
+-- the generators under a row, where the row below is done in this degree
+pub under_done : (m : Module) (e : Extent) (s r k : ℕ) (lines : List BareRow) (degrees : List ℤ) → AreMadeThrough m e s k lines → r ≤ s → s ≤ length lines → ((i : ℕ) → suc i ≡ r → degrees ≡ (bare_row_in lines i).degrees) → AreUnder m e r k degrees
+under_done m e s zero k lines degrees h below within is = tt
+under_done m e s (suc i) k lines degrees h below within is = λ table canonical.
+    is i refl ∙ (h.done i (omega arith) (omega arith) table canonical).degrees
+
+-- the kernel of a row covers
+pub cover_kernel : (m : Module) (e : Extent) (s k : ℕ) (line : BareRow) (kernel : Rows) (t : ℤ) → IsMadeThrough m e s (suc k) line → t ≡ m.bottom +ℤ pos k → kernel.cols ≡ free_width line.degrees t → ((table : List (List Content)) → IsTableOf m e table → AreToCover m e.n table (suc s) k kernel.rows) → IsToCover m e (suc s) k kernel
+cover_kernel m e s k line kernel t made at cols covers = record {
+  cols = λ table canonical. cols ∙ ap (λ (ds : List ℤ). free_width ds t) (made table canonical).degrees ∙ ap (free_width (degrees_in_stems m e.n table s (suc k))) at;
+  covers = covers;
+}
+
 -- row 0, whose first j squares are there
-pub map_0 : (m : Module) (e : Extent) (table : List (List Content)) (j k : ℕ) (line : BareRow) (t : ℤ) → IsTableOf m e table → IsMadeThrough m e 0 j line → t ≡ m.bottom +ℤ pos k → IsMapOf m e table 0 j k m.graded line.degrees line.images t
-map_0 m e table j k line t canonical made at =
-    let h = made table canonical in
+pub map_0 : (m : Module) (e : Extent) (table : List (List Content)) (s j k : ℕ) (line : BareRow) (t : ℤ) → IsTableOf m e table → s ≡ 0 → IsMadeThrough m e s j line → t ≡ m.bottom +ℤ pos k → IsMapOf m e table 0 j k m.graded line.degrees line.images t
+map_0 m e table s j k line t canonical none made at =
+    let h = subst (λ x. IsMadeThrough m e x j line) none made table canonical in
     record { target_is = refl; degrees_is = h.degrees; images_is = h.images; t_is = at }
 
 -- a row above it, whose target is the free module on the row below through degree bottom + k
-pub map_above : (m : Module) (e : Extent) (table : List (List Content)) (i j k : ℕ) (line under : BareRow) (degrees : List ℤ) (t : ℤ) → IsTableOf m e table → IsMadeThrough m e (suc i) j line → IsMadeThrough m e i (suc k) under → degrees ≡ under.degrees → t ≡ m.bottom +ℤ pos k → IsMapOf m e table (suc i) j k (free_graded degrees) line.degrees line.images t
-map_above m e table i j k line under degrees t canonical made low ds at =
-    let h = made table canonical in
-    record { target_is = ap free_graded (ds ∙ (low table canonical).degrees); degrees_is = h.degrees; images_is = h.images; t_is = at }
+pub map_above : (m : Module) (e : Extent) (table : List (List Content)) (s i j k : ℕ) (line : BareRow) (degrees : List ℤ) (t : ℤ) → IsTableOf m e table → s ≡ suc i → IsMadeThrough m e s j line → AreUnder m e s k degrees → t ≡ m.bottom +ℤ pos k → IsMapOf m e table (suc i) j k (free_graded degrees) line.degrees line.images t
+map_above m e table s i j k line degrees t canonical some made low at =
+    let h = subst (λ x. IsMadeThrough m e x j line) some made table canonical in
+    let under = subst (λ x. AreUnder m e x k degrees) some low in
+    record { target_is = ap free_graded (under table canonical); degrees_is = h.degrees; images_is = h.images; t_is = at }
 
--- the length of the kernel of row i
-pub below_cols : (m : Module) (lines : List BareRow) (i k : ℕ) (line : BareRow) (t : ℤ) (cols : ℕ) → line ≡ bare_row_in lines i → t ≡ m.bottom +ℤ pos k → cols ≡ free_width line.degrees t → cols ≡ width_below m lines (suc i) k
-below_cols m lines i k line t cols is at e = e ∙ ap (free_width line.degrees) at ∙ ap (λ (x : BareRow). free_width x.degrees (m.bottom +ℤ pos k)) is
+-- the length of what a square has to cover
+pub cols_0 : (m : Module) (e : Extent) (table : List (List Content)) (s k : ℕ) (below : Rows) (t : ℤ) → IsTableOf m e table → s ≡ 0 → IsToCover m e s k below → t ≡ m.bottom +ℤ pos k → below.cols ≡ m.graded.width t
+cols_0 m e table s k below t canonical none cover at =
+    (subst (λ x. IsToCover m e x k below) none cover).cols table canonical ∙ ap m.graded.width (sym at)
+
+pub cols_above : (m : Module) (e : Extent) (table : List (List Content)) (s i k : ℕ) (below : Rows) (degrees : List ℤ) (t : ℤ) → IsTableOf m e table → s ≡ suc i → IsToCover m e s k below → AreUnder m e s k degrees → t ≡ m.bottom +ℤ pos k → below.cols ≡ free_width degrees t
+cols_above m e table s i k below degrees t canonical some cover low at =
+    let under = subst (λ x. AreUnder m e x k degrees) some low in
+    (subst (λ x. IsToCover m e x k below) some cover).cols table canonical
+    ∙ ap (λ (ds : List ℤ). free_width ds (m.bottom +ℤ pos k)) (sym (under table canonical)) ∙ ap (free_width degrees) (sym at)
+
+pub covers_at : (m : Module) (e : Extent) (table : List (List Content)) (s i k : ℕ) (below : Rows) → IsTableOf m e table → s ≡ i → IsToCover m e s k below → AreToCover m e.n table i k below.rows
+covers_at m e table s i k below canonical same cover = (subst (λ x. IsToCover m e x k below) same cover).covers table canonical
 
 -- the width of the kernel
 pub kernel_cols : (target : GradedModule) (degrees : List ℤ) (images candidates : List (List Bool)) (t : ℤ) (content : Content) (cols : ℕ) → HasUnit target → AreImages target degrees images → HaveWidth (target.width t) candidates → IsStepOver target degrees images candidates t content → cols ≡ length (map_rows target degrees images t) + length content.images → cols ≡ free_width (degrees ++ replicate (length content.images) t) t

@@ -25,6 +25,10 @@ pub record IsBareRowOf (b : ℤ) (squares : List Content) (row : BareRow) : Type
   pub images : row.images ≡ images_of squares
   pub counts : row.counts ≡ map (λ c. length c.images) squares
 
+-- the row is that of some squares, the first of which is of degree b
+abbrev pub IsSomeRow : ℤ → BareRow → Type 0
+IsSomeRow b row = (squares : List Content) × IsBareRowOf b squares row
+
 -- the rows are those of the module's canonical resolution through row s and t degrees above the bottom, of which there is just one
 pub record AreOfCanonical (m : Module) (s t : ℕ) (bare : List BareRow) : Type 0 where
   pub rows : length bare ≡ s + 1

@@ -6,4 +6,6 @@ mod resolve;
 mod row;
 mod step;
 
-pub use resolve::{Images, images_alone, images_in_stems};
+pub use resolve::{Column, Extent, Images, degree, empty_rows, images_alone, images_in_stems};
+pub use row::Row;
+pub use step::Made;

@@ -19,9 +19,9 @@ use std::alloc::Global;
 
 /// The images of the new generators of a square, and its kernel.
 #[derive(Drop)]
-pub(crate) struct Made {
-    pub(crate) images: Vec<BitVec>,
-    pub(crate) kernel: Kernel,
+pub struct Made {
+    pub images: Vec<BitVec>,
+    pub kernel: Kernel,
 }
 
 /// The step in internal degree `t` over the generators of `row`, whose images are vectors of `target`. What has to be covered is `below`,

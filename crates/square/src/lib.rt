@@ -1,7 +1,6 @@
 //! Squares of a resolution, tables of them, and keepers of what is made.
 #![tactic(auto)]
 
-mod ahead;
 mod bases;
 mod below;
 mod by_place;
@@ -13,7 +12,6 @@ mod row;
 mod square;
 mod table;
 
-pub use ahead::Ahead;
 pub use below::Below;
 pub use bidegree::{MAX_S, MAX_T, Range, limits_are_these};
 pub use inputs::Inputs;

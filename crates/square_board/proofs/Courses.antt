@@ -11,11 +11,11 @@ after_all-then state [] event = refl
 after_all-then state (e ∷ events) event = after_all-then (after state e) events event
 
 pub state_of-then : (course : Course) (event : Event) → state_of (with_event course event) ≡ after (state_of course) event
-state_of-then course event = after_all-then (opening course.bottom course.rows course.degrees course.start) course.history event
+state_of-then course event = after_all-then (opening course.bottom course.shape course.rows course.degrees course.start) course.history event
 
 pub legal-then : (course : Course) (event : Event) → IsLegalCourse course → IsLegal (state_of course) event → IsLegalCourse (with_event course event)
 legal-then course event legal accepted =
-    let first = opening course.bottom course.rows course.degrees course.start in
+    let first = opening course.bottom course.shape course.rows course.degrees course.start in
     record {
       listed = legal.listed;
       history = subst (IsHistory first (course.history ++ event ∷ [])) (sym (state_of-then course event)) (history_then first course.history (state_of course) event legal.history accepted);

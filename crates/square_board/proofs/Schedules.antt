@@ -1,11 +1,12 @@
 -- What is kept of the machine with its history, one event after the other.
 use Rattle.std.proofs.Common.{◌≡◌, ℕ, ◌+◌, ◌-◌, ◌≤◌, ℤ, List, [], ◌∷◌, ◌++◌, length, refl, sym, ◌∙◌, ap, subst, arith}
 use Rattle.std.proofs.lemmas.List.{length_push}
+use Rattle.bidegree.specs.declared.shape.Shape.{Shape}
 use Rattle.board_core.specs.declared.event.Entry.{Entry as Event}
 use Rattle.board_core.specs.declared.event.Entry.TheVariants.{Take, Give, Back, Fail}
 use Rattle.board_core.specs.Board.{Board, IsSound, state_of}
 use Rattle.board_core.specs.Entries.{IsLegalEntry as IsLegal, after_entry as after}
-use Rattle.board_core.specs.Machine.{State, IsStart, IsHeld, opening}
+use Rattle.board_core.specs.Machine.{State, IsStart, IsHeld, stands_in, opening}
 use Rattle.board_core.specs.Machine.IsHistory.{nothing}
 use Rattle.board_core.proofs.Histories.{reached_is_sound}
 use Rattle.board_core.proofs.Short.{more_out, fewer_out}
@@ -15,24 +16,26 @@ use Rattle.square_board.proofs.Courses.{state_of-then, legal-then}
 
 -- no event changes the range
 record IsSameRange (a b : State) : Type 0 where
+  shape : a.shape ≡ b.shape
   rows : a.rows ≡ b.rows
   degrees : a.degrees ≡ b.degrees
   bottom : a.bottom ≡ b.bottom
 
 same_range : (state : State) (event : Event) → IsSameRange (after state event) state
-same_range state (Take who s t snapshot) = record { rows = refl; degrees = refl; bottom = refl }
-same_range state (Give who s t) = record { rows = refl; degrees = refl; bottom = refl }
-same_range state (Back who s t) = record { rows = refl; degrees = refl; bottom = refl }
-same_range state (Fail who s t) = record { rows = refl; degrees = refl; bottom = refl }
+same_range state (Take who s t snapshot) = record { shape = refl; rows = refl; degrees = refl; bottom = refl }
+same_range state (Give who s t) = record { shape = refl; rows = refl; degrees = refl; bottom = refl }
+same_range state (Back who s t) = record { shape = refl; rows = refl; degrees = refl; bottom = refl }
+same_range state (Fail who s t) = record { shape = refl; rows = refl; degrees = refl; bottom = refl }
 
 next_course : (core new : Board) (start : List (ℕ × ℤ)) (history : List Event) (event : Event) → state_of new ≡ after (state_of core) event → course_of new start (history ++ event ∷ []) ≡ with_event (course_of core start history) event
 next_course core new start history event is =
     let same = same_range (state_of core) event in
+    let shape : new.shape ≡ core.shape = ap (λ (s : State). s.shape) is ∙ same.shape in
     let rows : new.rows ≡ core.rows = ap (λ (s : State). s.rows) is ∙ same.rows in
     let degrees : new.degrees ≡ core.degrees = ap (λ (s : State). s.degrees) is ∙ same.degrees in
     let bottom : new.bottom ≡ core.bottom = ap (λ (s : State). s.bottom) is ∙ same.bottom in
-    let C : ℕ → ℕ → ℤ → Course = λ r d b. record { rows = r; degrees = d; bottom = b; start = start; history = history ++ event ∷ [] } in
-    ap (λ (r : ℕ). C r new.degrees new.bottom) rows ∙ (ap (λ (d : ℕ). C core.rows d new.bottom) degrees ∙ ap (λ (b : ℤ). C core.rows core.degrees b) bottom)
+    let C : Shape → ℕ → ℕ → ℤ → Course = λ x r d b. record { shape = x; rows = r; degrees = d; bottom = b; start = start; history = history ++ event ∷ [] } in
+    ap (λ (x : Shape). C x new.rows new.degrees new.bottom) shape ∙ (ap (λ (r : ℕ). C core.shape r new.degrees new.bottom) rows ∙ (ap (λ (d : ℕ). C core.shape core.rows d new.bottom) degrees ∙ ap (λ (b : ℤ). C core.shape core.rows core.degrees b) bottom))
 
 -- the machine is at its state after an event, and it is written down
 pub record IsEntered (core new : Board) (history next : List Event) (event : Event) : Type 0 where
@@ -68,7 +71,7 @@ taken core new start history next who s t snapshot jobs room left before entered
 -- the square that who has is out no more
 pub ended : (core new : Board) (start : List (ℕ × ℤ)) (history next : List Event) (event : Event) (who s : ℕ) (t : ℤ) (jobs room left : ℕ) → IsScheduled core start history jobs room → IsEntered core new history next event → IsHeld (state_of core) who s t → (after (state_of core) event).out ≡ (after (state_of core) (Back who s t)).out → core.spare ≤ new.spare + 1 → room ≤ left + 1 → IsScheduled new start next (jobs - 1) left
 ended core new start history next event who s t jobs room left before entered held out_is spare room_is =
-    let sound = reached_is_sound core.bottom core.rows core.degrees start history (state_of_course (course_of core start history)) before.legal in
+    let sound = reached_is_sound core.bottom core.shape core.rows core.degrees start history (state_of_course (course_of core start history)) before.legal in
     let fewer = fewer_out (state_of core) who s t (subst (λ (x : State). IsSound x) (sym before.state) sound) held in
     let out = ap (λ (x : State). length x.out) entered.state in
     let same = ap (λ l. length l) out_is in
@@ -78,16 +81,22 @@ ended core new start history next event who s t jobs room left before entered he
     scheduled core new start history next event jobs room (jobs - 1) left before entered (omega arith) (omega arith) (omega arith) (omega arith)
 
 -- before the first event
-pub opened : (core : Board) (bottom : ℤ) (s t : ℕ) (start : List (ℕ × ℤ)) (history : List Event) (room : ℕ) → state_of core ≡ opening bottom s t start → IsStart bottom start → history ≡ [] → IsScheduled core start history 0 room
-opened core bottom s t start history room is listed none =
+pub opened : (core : Board) (bottom : ℤ) (shape : Shape) (s t : ℕ) (start : List (ℕ × ℤ)) (history : List Event) (room : ℕ) → state_of core ≡ opening bottom shape s t start → IsStart (stands_in shape s t) bottom start → history ≡ [] → IsScheduled core start history 0 room
+opened core bottom shape s t start history room is listed none =
+    let form : shape ≡ core.shape = sym (ap (λ (x : State). x.shape) is) in
     let rows : s ≡ core.rows = sym (ap (λ (x : State). x.rows) is) in
     let degrees : t ≡ core.degrees = sym (ap (λ (x : State). x.degrees) is) in
     let low : bottom ≡ core.bottom = sym (ap (λ (x : State). x.bottom) is) in
-    let first : opening bottom s t start ≡ opening core.bottom core.rows core.degrees start =
-    ap (λ (n : ℕ). opening bottom n t start) rows ∙ (ap (λ (n : ℕ). opening bottom core.rows n start) degrees ∙ ap (λ (b : ℤ). opening b core.rows core.degrees start) low) in
+    let F : Shape → ℕ → ℕ → ℤ → State = λ x r d b. opening b x r d start in
+    let first : opening bottom shape s t start ≡ opening core.bottom core.shape core.rows core.degrees start =
+    ap (λ (x : Shape). F x s t bottom) form ∙ (ap (λ (n : ℕ). F core.shape n t bottom) rows ∙ (ap (λ (n : ℕ). F core.shape core.rows n bottom) degrees ∙ ap (λ (b : ℤ). F core.shape core.rows core.degrees b) low)) in
+    let L : Shape → ℕ → ℕ → ℤ → Type 0 = λ x r d b. IsStart (stands_in x r d) b start in
     let out = ap (λ (x : State). length x.out) is in
     let base : IsScheduled core start [] 0 room = record {
-      legal = record { listed = subst (λ (b : ℤ). IsStart b start) low listed; history = nothing (opening core.bottom core.rows core.degrees start) };
+      legal = record {
+        listed = subst (λ (b : ℤ). L core.shape core.rows core.degrees b) low (subst (λ (n : ℕ). L core.shape core.rows n bottom) degrees (subst (λ (n : ℕ). L core.shape n t bottom) rows (subst (λ (x : Shape). L x s t bottom) form listed)));
+        history = nothing (opening core.bottom core.shape core.rows core.degrees start);
+      };
       state = is ∙ first;
       jobs_are = sym out;
       few = omega arith;

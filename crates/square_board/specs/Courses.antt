@@ -1,13 +1,15 @@
 -- The course of a board: with what it opened, and the events since then. These are entries, since the board runs all the while; the name
 -- `Entry` is that of a square which was read.
 use Rattle.std.specs.Prelude.{ℕ, ℤ, List, [], ◌∷◌, ◌++◌, map}
+use Rattle.bidegree.specs.declared.shape.Shape.{Shape}
 use Rattle.board_core.specs.declared.event.Entry.{Entry as Event}
 use Rattle.board_core.specs.Entries.{after_entry, who_of}
 use Rattle.board_core.specs.Laws.{IsReachedByEntries}
 use Rattle.board_core.specs.Machine.{State, opening}
 
--- the range of a board and its bottom, the squares of its start, each by its row and its degree, and the events since then
+-- the shape and the range of a board and its bottom, the squares of its start, each by its row and its degree, and the events since then
 pub record Course : Type 0 where
+  pub shape : Shape
   pub rows : ℕ
   pub degrees : ℕ
   pub bottom : ℤ
@@ -25,12 +27,13 @@ after_all state (event ∷ events) = after_all (after_entry state event) events
 
 -- the machine's state at the end of the course
 abbrev pub state_of : Course → State
-state_of course = after_all (opening course.bottom course.rows course.degrees course.start) course.history
+state_of course = after_all (opening course.bottom course.shape course.rows course.degrees course.start) course.history
 
 -- The start is one, and the machine accepts the events one after another.
 abbrev pub IsLegalCourse : Course → Type 0
 IsLegalCourse course =
-    IsReachedByEntries course.bottom course.rows course.degrees course.start course.history (state_of course)
+    IsReachedByEntries course.bottom course.shape course.rows course.degrees course.start course.history
+    (state_of course)
 
 -- ---- events with the number of who made them
 

@@ -1,13 +1,14 @@
 -- Squares that were taken.
-use Rattle.std.specs.Prelude.{ℕ, ℤ, pos, ◌+ℤ◌}
-use Rattle.finite_module.specs.Module.{bottom}
-use Rattle.square.specs.Tables.{Footing}
+use Rattle.std.specs.Prelude.{ℕ, ℤ}
 
--- a square that was taken: by whom, and what it is made from
-pub record Taking : Type 0 where
+-- a square that was taken: by whom, its row and its degree, and what it is made from
+pub record Taking (I : Type 0) : Type 0 where
   pub who : ℕ
-  pub inputs : Footing
+  pub s : ℕ
+  pub t : ℤ
+  pub inputs : I
 
--- the degree of a square
-abbrev pub degree_of : Footing → ℤ
-degree_of f = bottom f.resolved.plain.generators +ℤ pos f.above
+-- products that are made ahead: for the squares of this row past its next one, which is so far above the bottom
+pub record Advance : Type 0 where
+  pub s : ℕ
+  pub front : ℕ

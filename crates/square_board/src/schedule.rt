@@ -1,11 +1,13 @@
 //! The machine of the board, with the history that led to its state.
 ghost use Rattle.std.specs.Prelude.{◌≡◌, ℕ, ◌+◌, ◌-◌, ◌*◌, ◌<◌, ◌≤◌, ◌^◌, ◌+ℤ◌, ◌≤ℤ◌, pos, suc, Some, None, [], ◌∷◌, ◌++◌, length, vec_len, vec_capacity, IfOk, IfSome, OnOk, OnErr};
-ghost use Rattle.board_core.specs.Board.{Board, state_of as state_of_core, IsReadyAt};
+ghost use Rattle.std.specs.Bool.{Decides};
+ghost use Rattle.board_core.specs.Board.{Board, state_of as state_of_core, IsReadyAt, IsTaken};
 ghost use Rattle.board_core.specs.Entries.{IsLegalEntry, after_entry};
-ghost use Rattle.board_core.specs.Machine.{IsStart, IsReady, IsLegalTake, IsHeld, IsHeldWithoutCause};
+ghost use Rattle.board_core.specs.Machine.{IsStart, stands_in, IsReady, IsLegalTake, IsHeld, IsHeldWithoutCause};
 ghost use Rattle.board_core.specs.declared.event.Entry.TheVariants.{Take, Give, Back, Fail};
 ghost use Rattle.square_board.specs.Courses.{Course, state_of, with_event, IsLegalCourse};
 
+use bidegree::{Range, Shape};
 use board_core::{Cause, Core, Entry, Event};
 use ghost_list::GhostList;
 use memory::Memory;
@@ -35,6 +37,7 @@ impl Model for Schedule {
     ghost Value = { Course };
 
     ghost view = { λ s. record {
+      shape = s.core.shape;
       rows = s.core.rows;
       degrees = s.core.degrees;
       bottom = s.core.bottom;
@@ -47,30 +50,30 @@ impl Model for Schedule {
 }
 
 impl Schedule {
-    /// The machine at its opening: its range is the rows through `s`, in the degrees from `m` through `m + t`, and the squares of
-    /// `start` are done.
+    /// The machine at its opening: its range is of this shape, in degrees from `m` on, and the squares of `start` are done.
     ///
     /// # Errors
     /// `Memory` if allocation fails.
     pub(crate) fn new(
         alloc: Global,
-        s: u16,
-        t: u16,
+        shape: Shape,
+        range: Range,
         m: i32,
         start: &[(u16, i32)],
     ) -> Result<Schedule, Memory>
-        requires fits { (m +ℤ pos t) ≤ℤ pos (2 ^ 31 - 1) }
-        requires start { IsStart m start.now }
+        requires fits { (m +ℤ pos range.t) ≤ℤ pos (2 ^ 31 - 1) }
+        requires start { IsStart (stands_in shape range.s range.t) m start.now }
         ensures { IfOk result (λ schedule. schedule ≡ record {
-          rows = s;
-          degrees = t;
+          shape = shape;
+          rows = range.s;
+          degrees = range.t;
           bottom = m;
           start = start.now;
           history = [];
         }) }
     {
         Ok(Schedule {
-            core: Core::new(alloc, s, t, m, start)?,
+            core: Core::new(alloc, shape, range, m, start)?,
             start: GhostList::of(start),
             history: Vec::new(alloc),
             jobs: 0,
@@ -86,14 +89,24 @@ impl Schedule {
         self.history.len()
     }
 
-    /// A square that may be taken, that in the lowest row which has one. None exactly where there is none.
+    /// A square that may be taken: one of the least degree in which there is such a square. None exactly where there is none.
     pub(crate) fn ready(&self) -> Option<(u16, i32)>
         ensures some { IfSome result (λ q. IsReadyAt (state_of self.now) q.0 q.1) }
-        ensures lowest { IfSome result (λ q. (s k : ℕ) → s < q.0 → IsReady (state_of self.now) s k → ⊥) }
+        ensures least { IfSome result (λ q. (s k : ℕ) → IsReady (state_of self.now) s k →
+            q.1 ≤ℤ (self.now.bottom +ℤ pos k)) }
         ensures none { result ≡ None → (s k : ℕ) → IsReady (state_of self.now) s k → ⊥ }
         ensures is_legal { IsLegalCourse self.now }
     {
         self.core.ready()
+    }
+
+    /// Whether a square of row `s`, which is in the range, is not done while those that it stands on are. It may be out.
+    pub(crate) fn has_next(&self, s: u16) -> bool
+        requires { s ≤ self.now.rows }
+        ensures has { Decides result ((k : ℕ) × IsTaken (state_of self.now) s k) }
+        ensures is_legal { IsLegalCourse self.now }
+    {
+        self.core.has_next(s)
     }
 
     /// Why no more squares are given out, none where they are.

@@ -1,11 +1,15 @@
--- A closure over four values that any thread may share, may be shared by any thread.
+-- A table with its keeper may go to any thread where the keeper may.
 use denote.RattleType.{RattleType}
 use denote.Struct.Field.{row_field}
-use denote.Struct.Tuple.{TupleAt, type_at}
-use denote.Param.Send.{IsSync}
-use denote.Param.SendFields.{as_row_sync, declared_sync}
-use Rattle.std.proofs.Common.{ℕ, List, [], ◌∷◌}
+use denote.Param.Send.{IsSend}
+use denote.Param.SendFields.{as_row_send, declared_send}
+use Rattle.square.proofs.Crossing.{Table-send}
+use Rattle.square.specs.contracts.table.Table as Table
+use Rattle.square.specs.declared.keep.Keep.{Ghosts}
+use Rattle.square_worker.specs.contracts.kept.Kept as Kept
 
-pub captures_sync : (name : List ℕ) (A B C D : RattleType) → IsSync A → IsSync B → IsSync C → IsSync D → IsSync (TupleAt name (A ∷ B ∷ C ∷ D ∷ []))
-captures_sync name A B C D a b c d =
-    declared_sync (type_at name (A ∷ B ∷ C ∷ D ∷ [])) (as_row_sync (row_field A) a, (as_row_sync (row_field B) b, (as_row_sync (row_field C) c, (as_row_sync (row_field D) d, tt))))
+Fields-send : (K : RattleType) (g : Ghosts K.Denot) → IsSend K → IsSend (Kept.TheInside.the_row K g)
+Fields-send K g s = declared_send (Kept.TheInside.the_type K g) (as_row_send Table.the_field Table-send, (as_row_send (row_field K) s, tt))
+
+pub Kept-send : (K : RattleType) (g : Ghosts K.Denot) → IsSend K → IsSend (Kept.the_row K g)
+Kept-send K g s = record { owned = λ d vs x. ((Fields-send K g s).owned x.0 vs, tt); leaving = λ k d w. tt }

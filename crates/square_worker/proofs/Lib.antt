@@ -1,5 +1,4 @@
-mod Crossing
-mod Ended
-pub mod Passes
-pub mod Made
-mod Seen
+pub mod Crossing
+pub mod Ended
+mod Gone
+mod Placed

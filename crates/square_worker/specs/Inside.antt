@@ -1,2 +1,2 @@
--- What private contracts cite.
-pub mod Outcomes
+-- What private contracts and proofs cite.
+pub mod Gone

@@ -1,3 +1,3 @@
-pub mod Passes
-pub mod Workers
+pub mod Kept
+pub mod Openings
 pub mod Inside

@@ -1,14 +1,10 @@
-//! The workers that resolve a range at a board.
+//! A table and its keeper as a stock of squares, and the workers that resolve a range of it.
 #![tactic(auto)]
 
-mod gate;
-mod joining;
-mod outcome;
+mod kept;
+mod products;
 mod resolve;
-mod worker;
 
-pub use gate::{Gate, OpenGate};
-pub use joining::join_all;
-pub use outcome::conclude;
-pub use resolve::resolve_with;
-pub use worker::{WorkEnd, work};
+pub use kept::Kept;
+pub use resolve::{outcome, resolve_with};
+pub use square_board::{Gate, OpenGate};

@@ -1,23 +1,19 @@
 //! A range resolved by several workers.
-ghost use Rattle.std.specs.Prelude.{◌≡◌, ◌<◌, ◌≤◌, length};
+ghost use Rattle.std.specs.Prelude.{◌<◌, ◌≤◌};
 ghost use Rattle.bidegree.specs.declared.range.TheConstants.{MAX_S, MAX_T};
 ghost use Rattle.board_core.specs.declared.event.Cause as Cause;
 ghost use Rattle.resolution_step.specs.Alone.{AreApart, IsUntouched, HasResolved};
 ghost use Rattle.square.specs.Keeping.{IsKeeperOf};
-ghost use Rattle.square_board.specs.Boards.{IsPassOf};
-ghost use Rattle.square_worker.specs.Passes.{AreItsPasses};
+ghost use Rattle.square_board.specs.Workers.{HasMade};
+ghost use Rattle.square_worker.specs.Kept.{KeptTable, kept_words};
 
-use crate::gate::Gate;
-use crate::joining::join_all;
-use crate::outcome::conclude;
-use crate::worker::work;
+use crate::kept::Kept;
 use bidegree::Range;
 use board_core::Cause;
 use square::{Keep, Table};
-use square_board::{Board, BoardPass};
+use square_board::{Gate, made_by};
 use std::alloc::Global;
 use std::sync::Wait;
-use std::thread;
 use std::thread::Threads;
 use std::time::Clock;
 
@@ -45,39 +41,27 @@ pub fn resolve_with<R: Threads + Wait + Clock + Sync, K: Keep + Send, G: Gate + 
         (K.telling result.1) }
     ensures untouched { IsUntouched K.telling keeper result.1 }
 {
-    let (board, mut passes) = match Board::new(alloc, table, range, keeper, workers) {
-        Ok(made) => made,
-        Err((_, keeper)) => return (Err(Cause::Memory), keeper),
-    };
-    work_in_threads(wait, alloc, &board, passes.as_mut_slice(), gate);
-    let pass = join_all(&board, passes);
-    conclude(board, pass, range)
+    let first = Kept { table, keeper };
+    let (made, last) = made_by(wait, alloc, workers, first, range, gate);
+    outcome(made, last)
 }
 
-/// Each of these passes, which are all those of the board, works in a thread of its own.
-fn work_in_threads<R: Threads + Wait + Clock + Sync, K: Keep + Send, G: Gate + Sync>(
-    wait: &R,
-    alloc: Global,
-    board: &Board<K>,
-    passes: &mut [BoardPass<K>],
-    gate: &G,
-)
-    requires some { 0 < length passes.old }
-    requires passes { AreItsPasses board.now passes.old }
-    ensures count { length passes.new ≡ length passes.old }
-    ensures passes { AreItsPasses board.now passes.new }
+/// What the making of a range came to: the table, if it was made, and the keeper.
+///
+/// # Errors
+/// The cause why it was not made.
+pub fn outcome<K: Keep>(made: Result<(), Cause>, last: Kept<K>) -> (Result<Table, Cause>, K)
+    ensures resolved { (first : KeptTable K) (range : Range) → (K.telling first.keeper).live →
+        HasMade (kept_words K.telling) first range made last →
+        HasResolved Cause.Failed Cause.Memory AreApart range first.table result.0 (K.telling first.keeper)
+        (K.telling result.1) }
+    ensures untouched { (first : KeptTable K) (range : Range) → (K.telling first.keeper).live →
+        HasMade (kept_words K.telling) first range made last → IsUntouched K.telling first.keeper result.1 }
 {
-    let workers = passes.len();
-    thread::for_each_mut(
-        wait,
-        passes,
-        workers,
-        &|_, pass: &mut BoardPass<K>|
-            requires { IsPassOf board.now pass.now }
-            ensures pass { IsPassOf board.entry.now pass.exit.now }
-            ensures number { pass.exit.now.number ≡ pass.entry.now.number }
-        {
-            let _end = work(wait, alloc, board, pass, gate);
-        },
-    );
+    let Kept { table, keeper } = last;
+    let _front = table.front(0);
+    match made {
+        Ok(()) => (Ok(table), keeper),
+        Err(cause) => (Err(cause), keeper),
+    }
 }

@@ -3,14 +3,18 @@ use Rattle.std.specs.Prelude.{◌≡◌, ◌⊎◌, ℕ, suc, ◌+◌, ◌≤◌
 use mathlib.Core.List.{IsPrefix}
 use Rattle.board_core.specs.declared.event.Entry.{Entry as Event}
 use Rattle.square_board.specs.declared.opening.Opening.{Opening}
-use Rattle.square_board.specs.Openings.{first_table, module_of, front_after}
-use Rattle.square_board.specs.Boards.{AreFalling}
-use Rattle.live_view.specs.Views.{row_of, IsCount, IsWithin}
+use Rattle.square_worker.specs.Kept.{KeptTable, IsCount}
+use Rattle.square_worker.specs.Openings.{first_table, module_of, front_after}
+use Rattle.live_view.specs.Views.{row_of, IsWithin}
 use Rattle.live_view.specs.Publishing.{AreDone, IsViewBetween}
 
 module _ {K : Type 0} where
+  -- no row has more squares done after these events than the row below it
+  abbrev pub AreFalling : Opening (KeptTable K) → List Event → Type 0
+  AreFalling opening events = (s : ℕ) → front_after opening events (suc s) ≤ front_after opening events s
+
   -- so many squares of row s are of the range, and done after these events, as are those of the row below it
-  pub record HasGrownWith (opening : Opening K) (events : List Event) (s t n : ℕ) : Type 0 where
+  pub record HasGrownWith (opening : Opening (KeptTable K)) (events : List Event) (s t n : ℕ) : Type 0 where
     pub in_range : n ≤ t + 1
     pub done : n ≤ front_after opening events s
     pub below : (r : ℕ) → suc r ≡ s → n ≤ front_after opening events r
@@ -18,7 +22,7 @@ module _ {K : Type 0} where
   -- Row s of a view was read as far as it has its first k squares: the rows beside it are as they were, and it goes on from what it had.
   -- If it grew, this front of the row is reached after the events that were then seen, and no row has more squares done than the row
   -- below it.
-  pub record HasReadTo (opening : Opening K) (events : List Event) (old new : List (List ℕ)) (s front k : ℕ)
+  pub record HasReadTo (opening : Opening (KeptTable K)) (events : List Event) (old new : List (List ℕ)) (s front k : ℕ)
       : Type 0 where
     pub others : (r : ℕ) → (r ≡ s → ⊥) → row_of new r ≡ row_of old r
     pub begins : IsPrefix (row_of old s) (row_of new s)
@@ -31,7 +35,7 @@ module _ {K : Type 0} where
   -- Row s of a view was read: the rows beside it are as they were, and it goes on from what it had. If it grew, its squares are of the range
   -- and done after the events that were then seen, and the row below has as many done. It has each square of the range that was done
   -- before.
-  pub record HasReadRow (opening : Opening K) (before after : List Event) (old new : List (List ℕ)) (s t : ℕ)
+  pub record HasReadRow (opening : Opening (KeptTable K)) (before after : List Event) (old new : List (List ℕ)) (s t : ℕ)
       : Type 0 where
     pub others : (r : ℕ) → (r ≡ s → ⊥) → row_of new r ≡ row_of old r
     pub begins : IsPrefix (row_of old s) (row_of new s)
@@ -44,7 +48,7 @@ module _ {K : Type 0} where
 
   -- The rows from s on were read, as they are in the new view. The row below the last that was read has at least its length in the old view, or
   -- that many squares of the range done.
-  pub record HasReadFrom (opening : Opening K) (before after : List Event) (old new : List (List ℕ)) (s : ℕ)
+  pub record HasReadFrom (opening : Opening (KeptTable K)) (before after : List Event) (old new : List (List ℕ)) (s : ℕ)
       : Type 0 where
     pub within : IsWithin old new
     pub counts : (r k n : ℕ) → slice_get (row_of new r) k ≡ Some n →
@@ -58,6 +62,6 @@ module _ {K : Type 0} where
         ⊎ ((length (row_of new s) ≤ opening.range.t + 1) × (length (row_of new s) ≤ front_after opening after r))
 
   -- The view was read from the board between these events, and has all squares that it had.
-  pub record HasRead (opening : Opening K) (before after : List Event) (old new : List (List ℕ)) : Type 0 where
+  pub record HasRead (opening : Opening (KeptTable K)) (before after : List Event) (old new : List (List ℕ)) : Type 0 where
     pub within : IsWithin old new
     pub between : IsViewBetween opening before after new

@@ -4,15 +4,16 @@ use Rattle.bidegree.specs.declared.range.Range.{Range}
 use Rattle.board_core.specs.declared.event.Cause.{Cause}
 use Rattle.board_core.specs.declared.event.Cause.TheVariants.{Memory}
 use Rattle.square.specs.Tables.{Staircase}
-use Rattle.square_board.specs.Openings.{IsOpenedWith, bottom_of}
-use Rattle.square_worker.specs.Passes.{AreItsPasses}
+use Rattle.square_board.specs.Workers.{AreItsPasses}
+use Rattle.square_worker.specs.Kept.{KeptTable}
+use Rattle.square_worker.specs.Openings.{bottom_of}
 use Rattle.live_worker.specs.declared.opening.Opened.{Opened}
 
--- The board was made with this table, range and keeper, and with a pass for each worker and one for the watcher. The writer is for it and
+-- The board was made with this table, its keeper and this range, and with a pass for each worker and one for the watcher. The writer is for it and
 -- has published nothing, the reader is its reader, and there is room for the roles of all passes.
-pub record IsOpenedFor {K E : Type 0} (workers : ℕ) (table : Staircase) (range : Range) (keeper : K) (o : Opened K E)
-    : Type 0 where
-  pub with : IsOpenedWith o.board.name table range keeper
+pub record IsOpenedFor {K E : Type 0} (workers : ℕ) (first : KeptTable K) (range : Range) (o : Opened K E) : Type 0 where
+  pub first_is : o.board.name.first.value ≡ first
+  pub of_range : o.board.name.range ≡ range
   pub as_many : o.board.passes ≡ workers + 1
   pub count : length o.passes.items ≡ workers + 1
   pub passes : AreItsPasses o.board o.passes.items

@@ -7,6 +7,7 @@ use Rattle.square_board.specs.Courses.{Course, state_of as state_of_course, IsLe
 -- where the machine began, and its history
 abbrev pub course_of : Board → List (ℕ × ℤ) → List Event → Course
 course_of core start history = record {
+  shape = core.shape;
   rows = core.rows;
   degrees = core.degrees;
   bottom = core.bottom;

@@ -1,7 +1,7 @@
 use Rattle.std.proofs.Common.{◌≡◌, ◌+◌, ◌-◌, Bool, List, length, map, ap, ◌∙◌, arith}
 use Rattle.std.specs.List.{range_with_len}
 use Rattle.resolution_laws.specs.Resolution.{generator_count}
-use Rattle.ext_chart.specs.Chart.{mark, count_marks}
+use Rattle.chart_lines.specs.Chart.{mark, count_marks}
 use Rattle.finite_module.proofs.Values.{map_more}
 use Rattle.ext_chart.proofs.chart_text.marks.Goals as goal
 use Rattle.ext_chart.proofs.chart_text.marks.Goals.{else-loop-k-test, then-loop-k-test+in_ok-push+else-k-t}

@@ -2,7 +2,7 @@ use Rattle.std.proofs.Common.{◌≡◌, ◌≤◌, ◌-◌, map}
 use Rattle.std.specs.Prelude.{max}
 use Rattle.std.specs.List.{range_with_len}
 use Rattle.resolution_laws.specs.Resolution.{generator_count}
-use Rattle.ext_chart.specs.Chart.{count_marks}
+use Rattle.chart_lines.specs.Chart.{count_marks}
 use Rattle.ext_chart.proofs.chart_text.marks.Given as goal
 
 abbrev pub invariant-loop-k : goal.invariant-loop-k

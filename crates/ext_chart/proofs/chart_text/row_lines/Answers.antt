@@ -1,8 +1,8 @@
 use Rattle.std.proofs.Common.{arith, ◌≡◌, ◌+◌, ◌-◌, ◌++◌, ap, ◌∙◌}
 use Rattle.bidegree.specs.LastDegrees.{last_degree}
 use Rattle.resolution_laws.specs.Resolution.{generator_count}
-use Rattle.ext_chart.specs.Chart.{count_marks, row_line, row_lines}
-use Rattle.ext_chart.proofs.ChartText.{append-row_lines}
+use Rattle.chart_lines.specs.Chart.{count_marks, row_line, row_lines}
+use Rattle.chart_lines.proofs.Rows.{append-row_lines}
 use Rattle.ext_chart.proofs.chart_text.row_lines.Goals as goal
 
 pub loop-i-preserved : goal.loop-i-preserved

@@ -1,7 +1,7 @@
 use Rattle.std.proofs.Common.{◌≡◌, ◌+◌, ◌-◌, ◌++◌}
 use Rattle.bidegree.specs.LastDegrees.{last_degree}
 use Rattle.resolution_laws.specs.Resolution.{generator_count}
-use Rattle.ext_chart.specs.Chart.{count_marks, row_lines}
+use Rattle.chart_lines.specs.Chart.{count_marks, row_lines}
 use Rattle.ext_chart.proofs.chart_text.row_lines.Given as goal
 
 abbrev pub invariant-loop-i : goal.invariant-loop-i

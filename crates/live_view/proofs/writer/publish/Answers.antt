@@ -1,14 +1,14 @@
-use Rattle.std.proofs.Common.{◌≡◌, List, [], ◌∷◌, ◌++◌, ap, refl, sym, ◌∙◌, subst}
+use Rattle.std.proofs.Common.{◌≡◌, List, [], ◌∷◌, ◌++◌, ap, sym, ◌∙◌, subst}
 use Rattle.std.proofs.lemmas.Result.{IfOk-weaker}
 use Rattle.square_board.specs.Courses.{events_of}
-use Rattle.square_board.specs.Openings.{first_table, module_of}
+use Rattle.square_worker.specs.Openings.{first_table, module_of}
 use Rattle.live_view.specs.declared.published.Published.{Published as Shown}
 use Rattle.live_view.specs.Views.{IsRight}
 use Rattle.live_view.specs.Publishing.{HasPublished}
 use Rattle.live_view.specs.Published.{KnownViews, last_view, ArePublished}
 use Rattle.live_view.specs.Handles.{LiveState}
 use Rattle.live_view.proofs.Follows.{shown_right, was_published}
-use Rattle.live_view.proofs.MayPublish.{may_still, may_either}
+use Rattle.live_view.proofs.MayPublish.{may_either}
 use Rattle.live_view.proofs.writer.publish.Goals as goal
 
 pub read_board-requires-clause-right : goal.read_board-requires-clause-right
@@ -19,14 +19,9 @@ read_board-requires-clause-right g c =
     let are : ArePublished c.args.writer.now.known.published = subst (λ (k : KnownViews). ArePublished k.published) mine c.again-known.ensures.published in
     subst (IsRight (module_of c.args.board.now.name) (first_table c.args.board.now.name).start) (sym view) (shown_right c.args.board.now.name c.args.writer.now.known.published are c.requires.of_board)
 
-pub returns-in_err-read_board-clause-may : goal.returns-in_err-read_board-clause-may
-returns-in_err-read_board-clause-may g c =
-    let after = c.in_err-read_board.ensures in
-    may_still c.args.board.now c.args.pass.now c.read_board.new.pass c.args.writer.now c.args.writer.now c.requires after.pass after.seen refl
-
 pub returns-clause-published : goal.returns-clause-published
 returns-clause-published g c =
-    let after = c.in_ok-read_board.ensures in
+    let after = c.read_board.ensures in
     let old = c.args.writer.now.known in
     let new = c.show.new.self.known in
     let list : List Shown = old.published ++ c.of_board-shown.result ∷ [] in
@@ -38,7 +33,7 @@ returns-clause-published g c =
 
 pub returns-clause-may : goal.returns-clause-may
 returns-clause-may g c =
-    let after = c.in_ok-read_board.ensures in
+    let after = c.read_board.ensures in
     may_either c.args.board.now c.args.pass.now c.read_board.new.pass c.show.result c.args.writer.now c.show.new.self c.requires after.pass after.seen c.show.ensures.same
     (returns-clause-published g c)
     c.show.ensures.memory

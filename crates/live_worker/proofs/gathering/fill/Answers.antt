@@ -3,7 +3,8 @@ use Rattle.std.specs.Option.{option_to_list}
 use Rattle.board_core.specs.declared.event.Entry.{Entry as Event}
 use Rattle.turn_lock.specs.Turns.{PassState}
 use Rattle.square_board.specs.declared.opening.Opening.{Opening}
-use Rattle.square_worker.proofs.Passes as passes
+use Rattle.square_worker.specs.Kept.{KeptTable}
+use Rattle.square_board.proofs.Passes as passes
 use Rattle.live_view.specs.Handles.{LiveState}
 use Rattle.live_view.proofs.MayPublish.{may_first}
 use Rattle.live_worker.specs.declared.role.Role.{Role}
@@ -15,7 +16,7 @@ use Rattle.live_worker.proofs.gathering.fill.Goals as goal
 
 pub loop-pass-init : goal.loop-pass-init
 loop-pass-init g c =
-    let P : Type 0 = PassState (Opening g.row.K.Denot) Event in
+    let P : Type 0 = PassState (Opening (KeptTable g.row.K.Denot)) Event in
     let R : Type 0 = Role g.row.K.Denot g.row.E.Denot in
     let written = g.E.Sink.written in
     let faults = g.E.Sink.faults in
@@ -54,7 +55,7 @@ loop-pass-init g c =
 
 pub loop-pass-preserved : goal.loop-pass-preserved
 loop-pass-preserved g c =
-    let P : Type 0 = PassState (Opening g.row.K.Denot) Event in
+    let P : Type 0 = PassState (Opening (KeptTable g.row.K.Denot)) Event in
     let R : Type 0 = Role g.row.K.Denot g.row.E.Denot in
     let written = g.E.Sink.written in
     let faults = g.E.Sink.faults in

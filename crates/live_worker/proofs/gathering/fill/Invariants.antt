@@ -1,5 +1,5 @@
 use Rattle.std.proofs.Common.{◌≡◌, ◌+◌, ◌-◌, ◌<◌, length, vec_capacity}
-use Rattle.square_worker.specs.Passes.{AreItsPasses}
+use Rattle.square_board.specs.Workers.{AreItsPasses}
 use Rattle.live_worker.specs.Inside.Roles.{AreRolesDown}
 use Rattle.live_worker.proofs.gathering.fill.Given as goal
 

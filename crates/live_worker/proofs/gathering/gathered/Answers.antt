@@ -1,9 +1,13 @@
+use denote.Param.Send.{sendable}
 use Rattle.std.proofs.Common.{◌≡◌, ℕ, suc, ◌-◌, [], ◌∷◌, ◌++◌, length, Option, Some, inl, refl, sym, ◌∙◌, ap, subst, arith}
+use Rattle.std.proofs.Crossing.{crosses}
 use Rattle.std.specs.Option.{option_to_list}
 use Rattle.board_core.specs.declared.event.Entry.{Entry as Event}
 use Rattle.turn_lock.specs.Turns.{TurnId, PassState, HasBetween}
 use Rattle.turn_lock.proofs.Numbers.{has_previous, has_all}
+use Rattle.square.proofs.Crossing.{Inputs-send, Square-send}
 use Rattle.square_board.specs.declared.opening.Opening.{Opening}
+use Rattle.square_worker.specs.Kept.{KeptTable}
 use Rattle.live_worker.specs.declared.role.Role.{Role}
 use Rattle.live_worker.specs.declared.role.Role.TheVariants.{Work, Watch}
 use Rattle.live_worker.specs.Inside.Roles.{IsRoleAt}
@@ -54,7 +58,7 @@ unreachable-requires-in_default-role g c =
     absurd (omega arith)
 
 pub join-requires-clause-other : goal.join-requires-clause-other
-join-requires-clause-other g c =
+join-requires-clause-other g c κs within =
     let R : Type 0 = Role g.row.K.Denot g.row.E.Denot in
     let old = c.loop-role.roles.items in
     let new = c.pop.new.self.items in
@@ -62,10 +66,16 @@ join-requires-clause-other g c =
     let items : old ≡ new ++ role ∷ [] = c.pop.ensures.items ∙ ap (λ (o : Option R). new ++ option_to_list o) (c.in-Some.is ∙ ap Some c.in-Work.is) in
     (last_is g.E.Sink.written g.E.Sink.faults c.args.first.now.value c.args.board.now (length c.args.roles.items - 1) old new role c.loop-role.invariant.roles items).0
 
+pub join-requires-send-T-Inputs : goal.join-requires-send-T-Inputs
+join-requires-send-T-Inputs g c κs within = search (crosses, sendable, Inputs-send) depth 20
+
+pub join-requires-send-T-Made : goal.join-requires-send-T-Made
+join-requires-send-T-Made g c κs within = search (crosses, sendable, Square-send) depth 20
+
 pub loop-role-preserved : goal.loop-role-preserved
 loop-role-preserved g c =
     let R : Type 0 = Role g.row.K.Denot g.row.E.Denot in
-    let P : Type 0 = PassState (Opening g.row.K.Denot) Event in
+    let P : Type 0 = PassState (Opening (KeptTable g.row.K.Denot)) Event in
     let written = g.E.Sink.written in
     let faults = g.E.Sink.faults in
     let first = c.args.first.now.value in
@@ -92,7 +102,7 @@ loop-role-preserved g c =
 
 pub returns-clause-all : goal.returns-clause-all
 returns-clause-all g c =
-    let O : Type 0 = Opening g.row.K.Denot in
+    let O : Type 0 = Opening (KeptTable g.row.K.Denot) in
     let pass = c.loop-role.watcher.pass in
     let none : length c.loop-role.roles.items ≡ 0 = let v = c.pop.ensures.variant.1 in let n = c.in_default-pop.not-Some in let i = c.in_default-pop.is in let s = c.pop.ensures.cases in grind arith in
     has_all pass c.args.board.now.passes (subst (λ (n : ℕ). HasBetween pass n c.args.board.now.passes) none c.loop-role.invariant.has) (ap (λ (t : TurnId O). t.passes) c.loop-role.invariant.watcher.may.pass_of.turn)

@@ -4,9 +4,9 @@ use Rattle.board_core.specs.declared.event.Cause.TheVariants.{Failed, Memory}
 use Rattle.resolution_step.specs.Alone.{IsInRange, AreApart, IsUntouched, HasResolved}
 use Rattle.resolution_step.proofs.Progress.{given_none}
 use Rattle.square.specs.Squares.{over}
-use Rattle.square.specs.Tables.{Staircase}
 use Rattle.square.proofs.Kept.{IsSettled, HasKept-none}
 use Rattle.square.proofs.Puts.{fared_none}
+use Rattle.square_worker.specs.Kept.{KeptTable}
 use Rattle.live_worker.specs.Reports.{squares_of}
 use Rattle.live_worker.specs.declared.role.Role.{Role}
 use Rattle.live_worker.specs.declared.reports.Reports.{Reports}
@@ -56,13 +56,13 @@ fill-requires-clause-room g c =
 pub fill-requires-clause-range : goal.fill-requires-clause-range
 fill-requires-clause-range g c =
     let o = c.in-Ok.ensures.opened in
-    o.with.range_is ∙ sym o.range_is
+    o.of_range ∙ sym o.range_is
 
 pub fill-requires-clause-bottom : goal.fill-requires-clause-bottom
 fill-requires-clause-bottom g c = sym c.in-Ok.ensures.opened.bottom_is
 
 pub fill-requires-clause-all : goal.fill-requires-clause-all
-fill-requires-clause-all g c = c.squares_of.ensures ∙ ap (λ (r : Range). squares_of r) (sym c.in-Ok.ensures.opened.with.range_is)
+fill-requires-clause-all g c = c.squares_of.ensures ∙ ap (λ (r : Range). squares_of r) (sym c.in-Ok.ensures.opened.of_range)
 
 pub run_roles-requires-clause-can : goal.run_roles-requires-clause-can
 run_roles-requires-clause-can g c κs within =
@@ -99,15 +99,16 @@ gathered-watcher-requires-clause-roles g c =
 
 -- ---- the end
 
+pub concluded-requires-clause-live : goal.concluded-requires-clause-live
+concluded-requires-clause-live g c = subst (λ (k : KeptTable g.row.K.Denot). (g.K.Keep.telling k.keeper).live) (sym c.in-Ok.ensures.opened.first_is) c.requires.live
+
 pub returns-clause-resolved : goal.returns-clause-resolved
 returns-clause-resolved g c =
     let telling = g.K.Keep.telling in
-    let with = c.in-Ok.ensures.opened.with in
-    let at = λ (t : Staircase) (k : g.row.K.Denot). HasResolved Failed Memory AreApart c.args.task.range t c.concluded.result.1.0 (telling k) (telling c.concluded.result.1.1) in
-    subst (λ (k : g.row.K.Denot). at c.args.task.table k) with.keeper_is (subst (λ (t : Staircase). at t c.in-Ok.opened.board.name.keeper.value) with.table_is c.concluded.ensures.resolved)
+    subst (λ (k : KeptTable g.row.K.Denot). HasResolved Failed Memory AreApart c.args.task.range k.table c.concluded.result.1.0 (telling k.keeper) (telling c.concluded.result.1.1)) c.in-Ok.ensures.opened.first_is c.concluded.ensures.resolved
 
 pub returns-clause-untouched : goal.returns-clause-untouched
-returns-clause-untouched g c = subst (λ (k : g.row.K.Denot). IsUntouched g.K.Keep.telling k c.concluded.result.1.1) c.in-Ok.ensures.opened.with.keeper_is c.concluded.ensures.untouched
+returns-clause-untouched g c = subst (λ (k : KeptTable g.row.K.Denot). IsUntouched g.K.Keep.telling k.keeper c.concluded.result.1.1) c.in-Ok.ensures.opened.first_is c.concluded.ensures.untouched
 
 pub returns-clause-reported : goal.returns-clause-reported
 returns-clause-reported g c =

@@ -2,7 +2,7 @@ use Rattle.std.proofs.Common.{◌≡◌, ◌+◌, ◌++◌, suc, List, length, t
 use Rattle.std.proofs.lemmas.List.{take_at}
 use Rattle.square.specs.Squares.{over}
 use Rattle.resolution_images.specs.BareRows.{BareRow}
-use Rattle.resolution_images.specs.Inside.Made.{AreMadeThrough}
+use Rattle.resolution_images.specs.Inside.Columns.{AreMadeThrough}
 use Rattle.resolution_images.proofs.resolve.rows_through.Goals as goal
 
 pub loop-k-preserved : goal.loop-k-preserved

@@ -1,7 +1,7 @@
 -- Each row is done below degree k.
 use Rattle.std.proofs.Common.{◌≡◌, ◌+◌, length}
 use Rattle.square.specs.Squares.{over}
-use Rattle.resolution_images.specs.Inside.Made.{AreMadeThrough}
+use Rattle.resolution_images.specs.Inside.Columns.{AreMadeThrough}
 use Rattle.resolution_images.proofs.resolve.rows_through.Given as goal
 
 abbrev pub invariant-loop-k : goal.invariant-loop-k

@@ -1,6 +1,6 @@
 use Rattle.square_board.specs.Inside.Starts.{ListsPart}
-use Rattle.square_board.specs.Openings.{low_of}
+use Rattle.board_core.specs.Machine.{stands_in}
 use Rattle.square_board.proofs.opening.push_row.Given as goal
 
 abbrev pub invariant-loop-k : goal.invariant-loop-k
-invariant-loop-k l = ListsPart (low_of l.table) l.squares.items l.table.rows l.s l.k
+invariant-loop-k g l = ListsPart (stands_in (g.T.Stock.words.shape (g.T.Stock.words.subject l.stock)) l.fn.range.s l.fn.range.t) (g.T.Stock.words.bottom (g.T.Stock.words.subject l.stock)) l.squares.items (g.T.Stock.words.fronts l.stock) l.s l.k

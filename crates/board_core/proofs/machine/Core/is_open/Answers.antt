@@ -9,7 +9,7 @@ use Rattle.board_core.proofs.machine.Core.is_open.Goals as goal
 pub returns-then-not-index-clause-yes : goal.returns-then-not-index-clause-yes
 returns-then-not-index-clause-yes c has running no_cause =
     let inside = c.self.inside in
-    let state : State = record { rows = inside.rows; degrees = inside.degrees; bottom = inside.bottom; done = below_fronts inside.fronts; out = inside.out.items; failed = inside.failed; file = inside.file; cause = inside.cause; running = inside.running } in
+    let state : State = record { shape = inside.shape; rows = inside.rows; degrees = inside.degrees; bottom = inside.bottom; done = below_fronts inside.fronts; out = inside.out.items; failed = inside.failed; file = inside.file; cause = inside.cause; running = inside.running } in
     let s = c.args.s in
     let front : ℕ = get_or inside.fronts s 0 in
     let next = c.has_next.ensures.0 has in
@@ -23,7 +23,7 @@ returns-then-not-index-clause-yes c has running no_cause =
 pub returns-else-not-index-clause-no : goal.returns-else-not-index-clause-no
 returns-else-not-index-clause-no c e k ready =
     let inside = c.self.inside in
-    let state : State = record { rows = inside.rows; degrees = inside.degrees; bottom = inside.bottom; done = below_fronts inside.fronts; out = inside.out.items; failed = inside.failed; file = inside.file; cause = inside.cause; running = inside.running } in
+    let state : State = record { shape = inside.shape; rows = inside.rows; degrees = inside.degrees; bottom = inside.bottom; done = below_fronts inside.fronts; out = inside.out.items; failed = inside.failed; file = inside.file; cause = inside.cause; running = inside.running } in
     let s = c.args.s in
     let there : IsReady state s k = subst (λ (b : Board). IsReady (state_of b) s k) (sym c.self.view_is) ready in
     let clear : has_row inside.out.items s ≡ false = row_is_open state s k (get_or inside.fronts s 0) (λ j. refl) c.self.invariant.sound there in

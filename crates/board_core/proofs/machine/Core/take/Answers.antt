@@ -1,4 +1,5 @@
-use Rattle.std.proofs.Common.{◌≡◌, ◌<◌, ℕ, length, set, true, rules, sym, ◌∙◌, subst, arith}
+use Rattle.std.proofs.Common.{◌≡◌, ◌<◌, ℕ, length, set, true, true≢false, rules, sym, ◌∙◌, subst, arith}
+use Rattle.bidegree.proofs.Degrees.{above_of-is}
 use Rattle.board_core.specs.Board.{Board, state_of}
 use Rattle.board_core.specs.Inside.{IsMarked}
 use Rattle.board_core.specs.declared.event.Out.{Out}
@@ -21,6 +22,15 @@ returns-clause-accepts c = elim c.if-is_ready.branch [
         row_below = w.is_seen-may_take.ensures.yes_below seen;
       }
   | else-is_ready w ↦ λ e. cc
+]
+
+pub returns-then-not-may_take-clause-refuses : goal.returns-then-not-may_take-clause-refuses
+returns-then-not-may_take-clause-refuses c e legal = elim c.if-is_ready.branch [
+  | then-is_ready w ↦ true≢false (sym (w.is_seen-may_take.ensures.no legal.row legal.row_below) ∙ sym w.may_take-is ∙ c.if-not-may_take.true)
+  | else-is_ready w ↦
+      let at = above_of-is c.args.self.now.bottom c.args.t legal.above legal.degree in
+      let same : legal.above ≡ c.in-Some.above = search rules in
+      true≢false (sym (c.is_ready.ensures.decides.1 (subst (λ (n : ℕ). IsReady (state_of c.args.self.now) c.args.s n) same legal.ready)) ∙ w.if-is_ready.false)
 ]
 
 pub invariant_of-self-2 : goal.invariant_of-self-2

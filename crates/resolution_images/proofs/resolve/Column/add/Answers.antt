@@ -1,10 +1,11 @@
-use Rattle.std.proofs.Common.{◌<◌, ◌≤◌, length, w32, FitsSigned, refl, ◌∙◌, arith, rules}
+use Rattle.std.proofs.Common.{◌≡◌, ◌+◌, suc, subst, ◌<◌, ◌≤◌, length, w32, FitsSigned, refl, ◌∙◌, arith, rules}
 use Rattle.std.proofs.lemmas.Int.{to_z-of_z}
 use Rattle.std.proofs.lemmas.List.{length-set}
 use Rattle.resolution_laws.specs.Resolution.{Content}
 use Rattle.square.specs.Squares.{over}
-use Rattle.resolution_images.proofs.Making.{through_first, not_below_at, through_more, cover_more, through_all}
-use Rattle.resolution_images.proofs.Resolved.{resolvable, a_table}
+use Rattle.resolution_images.proofs.Making.{through_first, not_below_at, through_more, through_all}
+use Rattle.resolution_images.specs.Made.{IsToCover}
+use Rattle.resolution_images.proofs.Resolved.{a_table}
 use Rattle.resolution_images.proofs.resolve.Column.add.Goals as goal
 
 pub start-requires-clause-through : goal.start-requires-clause-through
@@ -16,7 +17,7 @@ loop-s-init c = record {
   count = refl;
   stem = omega (arith, c.from-first.ensures, c.saturating_sub.ensures);
   through = through_first c.rows_in_stems_are_whole.ensures (over c.args.self.now.module.now) c.args.self.now.extent c.from-first.result c.args.self.now.k c.args.rows.now c.requires.rows (λ i l. omega (arith, c.from-first.ensures, c.saturating_sub.ensures)) c.requires.before;
-  cover = record { cols = c.in_ok-below.ensures.cols; covers = c.in_ok-below.ensures.covers };
+  cover = c.in_ok-below.ensures;
 }
 
 pub push-requires : goal.push-requires
@@ -46,8 +47,8 @@ loop-s-preserved c =
     record {
       count = length-set lines s c.push.new.self ∙ c.loop-s.invariant.count;
       stem = omega (arith, c.loop-s.invariant.stem);
-      through = through_more whole m e s k lines c.index-rows-s.result c.push.new.self content _ row_is c.loop-s.invariant.stem within c.loop-s.invariant.through c.in_ok-made.ensures.square at c.in_ok-push.ensures;
-      cover = cover_more c.kernels_in_stems_are_to_cover.ensures m e s k lines c.index-rows-s.result c.push.new.self content _ c.in_ok-made.made.kernel (resolvable c.modules_are_graded_modules.ensures c.args.self.now.module.now) row_is c.loop-s.invariant.stem within c.in_ok-made.ensures.square at c.in_ok-push.ensures refl c.in_ok-made.ensures.kernel;
+      through = through_more whole m e s k lines c.index-rows-s.result c.push.new.self content _ row_is c.loop-s.invariant.stem within c.loop-s.invariant.through c.in_ok-made.ensures.square at c.in_ok-push.ensures.ok;
+      cover = subst (λ x. IsToCover m e x k c.in_ok-made.made.kernel) (let next : suc s ≡ s + 1 = omega arith in next) c.in_ok-made.ensures.kernel;
     }
 
 pub returns-clause-through : goal.returns-clause-through

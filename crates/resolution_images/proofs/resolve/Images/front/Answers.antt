@@ -1,5 +1,6 @@
 use Rattle.std.proofs.Common.{◌≡◌, ◌<◌, length, ap, sym, ◌∙◌, arith}
 use Rattle.std.proofs.lemmas.List.{get_or_read}
+use Rattle.std.specs.Arc.{arc_value}
 use Rattle.resolution_laws.specs.Resolution.{row_of}
 use Rattle.square.specs.Squares.{over}
 use Rattle.resolution_images.specs.BareRows.{BareRow, BareTable, squares_of, no_bare_row, bare_row_in}
@@ -16,7 +17,7 @@ returns-then-s-len-clause-front c =
 pub returns-then-s-len-clause-short : goal.returns-then-s-len-clause-short
 returns-then-s-len-clause-short c =
     let im = c.self.inside in
-    let m = im.resolved in
+    let m = arc_value im.resolved in
     let rows = im.rows.items in
     let l : c.args.s < length rows = omega (arith, c.if-s-len.true, c.from-s.ensures) in
     let at : c.index.result.now ≡ bare_row_in rows c.args.s = get_or_read rows c.from-s.result c.index.result.now (omega (arith, c.from-s.ensures)) c.index.ensures no_bare_row ∙ ap (bare_row_in rows) c.from-s.ensures in

@@ -1,6 +1,7 @@
 use Rattle.std.proofs.Common.{◌≡◌, ◌<◌, ℕ, Bool, List, length, pos, ◌+ℤ◌, ap, sym, subst, ◌∙◌, arith}
 use Rattle.std.proofs.lemmas.List.{get_or_read}
 use Rattle.f2_vec.specs.Spans.{HaveWidth}
+use Rattle.std.specs.Arc.{arc_value}
 use Rattle.resolution_laws.specs.Resolution.{Content, row_of, square_in}
 use Rattle.resolution_laws.specs.Exactness.{target_of}
 use Rattle.square.specs.Squares.{over, bottom_of}
@@ -36,7 +37,7 @@ returns-clause-images c = images_are c ∙ ap (λ (x : BareTable). (square_in (r
 pub returns-clause-widths : goal.returns-clause-widths
 returns-clause-widths c =
     let im = c.self.inside in
-    let m = im.resolved in
+    let m = arc_value im.resolved in
     let rows = im.rows.items in
     let bare = c.rows_of_ranges_are_bare.ensures m im.range.s im.range.t im.rows.items c.self.invariant.2 in
     let wide = square_widths (over m) im.range.s im.range.t rows bare.0 bare.1 c.args.s c.args.k (there _ _ c.args.s c.args.k c.self.view_is c.requires) in
@@ -46,7 +47,7 @@ returns-clause-widths c =
 pub returns-clause-degree : goal.returns-clause-degree
 returns-clause-degree c =
     let im = c.self.inside in
-    let m = im.resolved in
+    let m = arc_value im.resolved in
     let bare = c.rows_of_ranges_are_bare.ensures m im.range.s im.range.t im.rows.items c.self.invariant.2 in
     let w = row_within (over m) im.range.s im.range.t im.rows.items bare.0 bare.1 c.args.s c.args.k (there _ _ c.args.s c.args.k c.self.view_is c.requires) in
     omega (arith, w.2, c.self.invariant.0)

@@ -12,28 +12,30 @@ use Rattle.square_board.proofs.board.Board.ahead.Goals as goal
 
 pub returns-clause-turned : goal.returns-clause-turned
 returns-clause-turned g c =
+    let w = g.T.Stock.words in
     let pass = c.args.pass.now in
     let old = c.acquire-held.result.value in
-    let inside : c.self.inside.turn.name ≡ c.args.self.now.name = ap (λ (t : TurnId (Opening g.row.K.Denot)). t.name) c.self.view_is in
-    let board : pass.turn.name ≡ c.args.self.now.name = ap (λ (t : TurnId (Opening g.row.K.Denot)). t.name) c.requires.turn in
+    let inside : c.self.inside.turn.name ≡ c.args.self.now.name = ap (λ (t : TurnId (Opening g.row.T.Denot)). t.name) c.self.view_is in
+    let board : pass.turn.name ≡ c.args.self.now.name = ap (λ (t : TurnId (Opening g.row.T.Denot)). t.name) c.requires.turn in
     let opening : old.opening ≡ pass.turn.name = c.acquire-held.ensures.name ∙ inside ∙ sym board in
-    let turn : IsTurn pass c.acquire-held.new.pass c.release.new.pass old.course.history old.course.history = record {
+    let turn : IsTurn w pass c.acquire-held.new.pass c.release.new.pass old.course.history old.course.history = record {
       held_is = c.acquire-held.ensures.pass;
       continues = c.acquire-held.ensures.continues;
-      fronts = told_fronts c.self.inside.turn.name pass.turn.name old.course.history pass.told (inside ∙ sym board) c.acquire-held.ensures.fronts;
+      fronts = told_fronts w c.self.inside.turn.name pass.turn.name old.course.history pass.told (inside ∙ sym board) c.acquire-held.ensures.fronts;
       after_is = c.release.ensures.pass;
-      legal = named_legal _ _ pass.turn.name old.opening old.course old.table c.ahead-found.ensures.is_desk opening;
+      legal = named_legal w pass.turn.name old.opening old.course old.stock c.ahead-found.ensures.is_desk opening;
     } in
-    turned_none pass c.acquire-held.new.pass c.release.new.pass old.course.history old.course.history turn refl
+    turned_none w pass c.acquire-held.new.pass c.release.new.pass old.course.history old.course.history turn refl
 
 pub returns-clause-next : goal.returns-clause-next
 returns-clause-next g c =
-    let O : Type 0 = Opening g.row.K.Denot in
+    let w = g.T.Stock.words in
+    let O : Type 0 = Opening g.row.T.Denot in
     let P : Type 0 = PassState O Event in
     let old = c.acquire-held.result.value in
     let inside : c.self.inside.turn.name ≡ c.args.self.now.name = ap (λ (t : TurnId O). t.name) c.self.view_is in
     let history = old.course.history in
     let seen : events_of c.release.new.pass.seen ≡ history = ap (λ (p : P). events_of p.seen) c.release.ensures.pass ∙ events_of-numbered history in
-    subst (λ (l : List Event). IfSome c.ahead-found.result (λ ahead. ahead.above ≡ front_after c.args.self.now.name l ahead.s)) (sym seen)
-    (subst (λ (o : O). IfSome c.ahead-found.result (λ ahead. ahead.above ≡ front_after o history ahead.s)) (c.acquire-held.ensures.name ∙ inside)
-    (ahead_front _ _ old.opening old.course old.table c.ahead-found.ensures.is_desk c.ahead-found.result c.ahead-found.ensures.next))
+    subst (λ (l : List Event). IfSome c.ahead-found.result (λ ahead. ahead.front ≡ front_after w c.args.self.now.name l ahead.s)) (sym seen)
+    (subst (λ (o : O). IfSome c.ahead-found.result (λ ahead. ahead.front ≡ front_after w o history ahead.s)) (c.acquire-held.ensures.name ∙ inside)
+    (ahead_front w old.opening old.course old.stock c.ahead-found.ensures.is_desk c.ahead-found.result c.ahead-found.ensures.next))

@@ -8,7 +8,8 @@ use Rattle.square_board.proofs.board.Board.close.Goals as goal
 
 pub returns-clause-fronts : goal.returns-clause-fronts
 returns-clause-fronts g c =
+    let w = g.T.Stock.words in
     let history = c.close.result.course.history in
-    let name : c.self.inside.turn.name ≡ c.args.self.name = ap (λ (t : TurnId (Opening g.row.K.Denot)). t.name) c.self.view_is in
-    let all = told_fronts c.self.inside.turn.name c.args.self.name history c.args.pass.told name c.close.ensures.fronts in
-    subst (λ (l : List Event). All (λ t. t.1 ≤ front_after c.args.self.name l t.0) c.args.pass.told) (sym c.into_parts.ensures.history) all
+    let name : c.self.inside.turn.name ≡ c.args.self.name = ap (λ (t : TurnId (Opening g.row.T.Denot)). t.name) c.self.view_is in
+    let all = told_fronts w c.self.inside.turn.name c.args.self.name history c.args.pass.told name c.close.ensures.fronts in
+    subst (λ (l : List Event). All (λ t. t.1 ≤ front_after w c.args.self.name l t.0) c.args.pass.told) (sym c.into_parts.ensures.history) all

@@ -8,8 +8,9 @@ use Rattle.square_board.proofs.board.Board.front.Goals as goal
 
 pub returns-clause-exact : goal.returns-clause-exact
 returns-clause-exact g c =
-    let O : Type 0 = Opening g.row.K.Denot in
+    let w = g.T.Stock.words in
+    let O : Type 0 = Opening g.row.T.Denot in
     let name : c.self.inside.turn.name ≡ c.args.self.now.name = ap (λ (t : TurnId O). t.name) c.self.view_is in
     let latest = c.front.new.pass.latest in
-    let F : O → ℕ → Type 0 = λ o i. (c.front.result ≡ front_after o (events_of latest) i) ⊎ ((e : ℕ × Event) × (c.front.result ≡ front_after o (events_of (latest ++ e ∷ [])) i)) in
+    let F : O → ℕ → Type 0 = λ o i. (c.front.result ≡ front_after w o (events_of latest) i) ⊎ ((e : ℕ × Event) × (c.front.result ≡ front_after w o (events_of (latest ++ e ∷ [])) i)) in
     subst (λ (i : ℕ). F c.args.self.now.name i) c.from.ensures (subst (λ (o : O). F o c.from.result) name c.front.ensures.exact)

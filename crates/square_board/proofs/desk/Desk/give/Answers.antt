@@ -1,185 +1,245 @@
-use Rattle.std.proofs.Common.{◌≡◌, ℕ, ℤ, None, Result, Err, SFits, w32, to_z, of_z, rules, refl, ap, sym, ◌∙◌, subst}
+use Rattle.std.proofs.Common.{◌≡◌, ℕ, ℤ, None, Err, SFits, w32, to_z, of_z, rules, ap, sym, ◌∙◌, subst, arith, inr}
 use Rattle.std.proofs.lemmas.Int.{to_z-of_z}
-use Rattle.board_core.specs.declared.event.Entry.{Entry as Event}
-use Rattle.board_core.specs.declared.event.Entry.TheVariants.{Back}
-use Rattle.square.specs.declared.keep.KeepFault.{KeepFault}
-use Rattle.square.specs.Tables.{IsNext}
-use Rattle.square_board.specs.declared.opening.Opening.{Opening}
+use Rattle.board_core.specs.declared.event.Entry.TheVariants.{Give, Back, Fail}
+use Rattle.square_board.specs.Stocks.{IsNextOf, degree_of}
 use Rattle.square_board.specs.Courses.{Course, state_of}
-use Rattle.square_board.specs.Openings.{first_table}
-use Rattle.square_board.specs.Jobs.{Taking, degree_of}
-use Rattle.square_board.specs.Desks.{DeskState, IsDesk, IsAsOpened}
-use Rattle.square_board.proofs.Desks.{none_failed, desk_back, as_opened_then, as_opened_given, as_opened_failed}
-use Rattle.square_board.proofs.Held.{none_of, held_next, job_holds, placed_for, desk_put, desk_room, desk_unput}
+use Rattle.square_board.specs.Desks.{IsDesk}
+use Rattle.square_board.proofs.Desks.{none_failed, desk_back, desk_lacked, desk_failed, desk_given}
+use Rattle.square_board.proofs.Held.{none_of, job_given, goes_seen}
 use Rattle.square_board.proofs.desk.Desk.give.Goals as goal
-
-abbrev FaultIs : Result (Unit {0}) KeepFault → KeepFault → Type 0
-FaultIs result fault = result ≡ Err fault
-
-fault_is : (a b : KeepFault) → a ≡ b → FaultIs (Err a) b
-fault_is a b e = ap (λ (x : KeepFault). Err x) e
 
 pub back-requires : goal.back-requires
 back-requires g c =
-    let t : ℤ = to_z w32 (of_z w32 c.t-t.result) in
-    let fits : SFits w32 c.t-t.result = search rules in
-    let degree : t ≡ degree_of c.args.job.inputs = to_z-of_z w32 c.t-t.result fits ∙ c.t-t.ensures in
-    let who : c.job.inside.who ≡ c.args.job.who = ap (λ (j : Taking). j.who) c.job.view_is in
-    let his = job_holds _ _ _ _ _ _ c.args.self.now c.args.job c.job.inside.who c.s-s.result t c.self.invariant.0 c.self.view_is c.requires.job who c.s-s.ensures degree in
-    his
+    let w = g.T.Stock.words in
+    let inside = c.job.inside in
+    let t : ℤ = to_z w32 (of_z w32 inside.t) in
+    let fits : SFits w32 inside.t = search rules in
+    let at : t ≡ inside.t = to_z-of_z w32 inside.t fits in
+    let is = job_given w _ _ _ c.args.self.now _ c.args.job.now t c.self.invariant c.self.view_is c.job.view_is at c.requires.job in
+    is.held
 
 pub invariant_of-self : goal.invariant_of-self
 invariant_of-self g c =
-    let t : ℤ = to_z w32 (of_z w32 c.t-t.result) in
-    let fits : SFits w32 c.t-t.result = search rules in
-    let degree : t ≡ degree_of c.args.job.inputs = to_z-of_z w32 c.t-t.result fits ∙ c.t-t.ensures in
-    let who : c.job.inside.who ≡ c.args.job.who = ap (λ (j : Taking). j.who) c.job.view_is in
-    let his = job_holds _ _ _ _ _ _ c.args.self.now c.args.job c.job.inside.who c.s-s.result t c.self.invariant.0 c.self.view_is c.requires.job who c.s-s.ensures degree in
-    let D : Course → Type 0 = λ x. IsDesk (g.K.Keep.telling c.self.inside.opening.keeper.value) (g.K.Keep.telling c.self.inside.keeper) c.self.inside.opening x c.self.inside.table in
-    let O : Course → Type 0 = λ x. IsAsOpened c.self.inside.opening x.history c.self.inside.keeper in
-    let event : Event = Back c.job.inside.who c.s-s.result t in (
-      subst D (sym c.back.ensures) (desk_back _ _ _ _ _ c.self.invariant.0 c.job.inside.who c.s-s.result t his),
-      subst O (sym c.back.ensures) (as_opened_then c.self.inside.opening c.self.inside.schedule.history event c.self.inside.keeper refl refl c.self.invariant.1),
-    )
+    let w = g.T.Stock.words in
+    let inside = c.job.inside in
+    let t : ℤ = to_z w32 (of_z w32 inside.t) in
+    let fits : SFits w32 inside.t = search rules in
+    let at : t ≡ inside.t = to_z-of_z w32 inside.t fits in
+    let is = job_given w _ _ _ c.args.self.now _ c.args.job.now t c.self.invariant c.self.view_is c.job.view_is at c.requires.job in
+    let D : Course → Type 0 = λ x. IsDesk w c.self.inside.opening x c.self.inside.stock in
+    subst D (sym c.back.ensures) (desk_back w _ _ _ c.self.invariant inside.who inside.s t is.held)
 
 pub returns-in-Some-clause-is_desk : goal.returns-in-Some-clause-is_desk
 returns-in-Some-clause-is_desk g c =
-    let t : ℤ = to_z w32 (of_z w32 c.t-t.result) in
-    let fits : SFits w32 c.t-t.result = search rules in
-    let degree : t ≡ degree_of c.args.job.inputs = to_z-of_z w32 c.t-t.result fits ∙ c.t-t.ensures in
-    let who : c.job.inside.who ≡ c.args.job.who = ap (λ (j : Taking). j.who) c.job.view_is in
-    let his = job_holds _ _ _ _ _ _ c.args.self.now c.args.job c.job.inside.who c.s-s.result t c.self.invariant.0 c.self.view_is c.requires.job who c.s-s.ensures degree in
-    let D : Course → Type 0 = λ x. IsDesk (g.K.Keep.telling c.self.inside.opening.keeper.value) (g.K.Keep.telling c.self.inside.keeper) c.self.inside.opening x c.self.inside.table in
-    subst D (sym c.back.ensures) (desk_back _ _ _ _ _ c.self.invariant.0 c.job.inside.who c.s-s.result t his)
+    let w = g.T.Stock.words in
+    let inside = c.job.inside in
+    let t : ℤ = to_z w32 (of_z w32 inside.t) in
+    let fits : SFits w32 inside.t = search rules in
+    let at : t ≡ inside.t = to_z-of_z w32 inside.t fits in
+    let is = job_given w _ _ _ c.args.self.now _ c.args.job.now t c.self.invariant c.self.view_is c.job.view_is at c.requires.job in
+    let D : Course → Type 0 = λ x. IsDesk w c.self.inside.opening x c.self.inside.stock in
+    subst D (sym c.back.ensures) (desk_back w _ _ _ c.self.invariant inside.who inside.s t is.held)
+
+pub overflow_cast-above : goal.overflow_cast-above
+overflow_cast-above g c =
+    let w = g.T.Stock.words in
+    let inside = c.job.inside in
+    let t : ℤ = to_z w32 (of_z w32 inside.t) in
+    let fits : SFits w32 inside.t = search rules in
+    let at : t ≡ inside.t = to_z-of_z w32 inside.t fits in
+    let is = job_given w _ _ _ c.args.self.now _ c.args.job.now t c.self.invariant c.self.view_is c.job.view_is at c.requires.job in
+    let short = is.short in
+    let front = c.front-above.ensures.front in
+    omega arith
+
+pub put-requires-clause-takes : goal.put-requires-clause-takes
+put-requires-clause-takes g c =
+    let w = g.T.Stock.words in
+    let inside = c.job.inside in
+    let t : ℤ = to_z w32 (of_z w32 inside.t) in
+    let fits : SFits w32 inside.t = search rules in
+    let at : t ≡ inside.t = to_z-of_z w32 inside.t fits in
+    let is = job_given w _ _ _ c.args.self.now _ c.args.job.now t c.self.invariant c.self.view_is c.job.view_is at c.requires.job in
+    let none : (state_of c.self.inside.schedule).cause ≡ None = sym c.stopped.ensures.cause ∙ none_of c.stopped.result c.in_default.not-Some in
+    c.self.invariant.takes (none_failed w _ _ _ c.self.invariant none)
 
 pub put-requires-clause-next : goal.put-requires-clause-next
 put-requires-clause-next g c =
-    let t : ℤ = to_z w32 (of_z w32 c.t-t.result) in
-    let fits : SFits w32 c.t-t.result = search rules in
-    let degree : t ≡ degree_of c.args.job.inputs = to_z-of_z w32 c.t-t.result fits ∙ c.t-t.ensures in
-    let who : c.job.inside.who ≡ c.args.job.who = ap (λ (j : Taking). j.who) c.job.view_is in
-    let his = job_holds _ _ _ _ _ _ c.args.self.now c.args.job c.job.inside.who c.s-s.result t c.self.invariant.0 c.self.view_is c.requires.job who c.s-s.ensures degree in
-    let opening : c.args.self.now.opening ≡ c.self.inside.opening = sym (ap (λ (d : DeskState g.row.K.Denot). d.opening) c.self.view_is) in
-    let first : c.self.inside.table.resolved ≡ (first_table c.args.self.now.opening).resolved = c.self.invariant.0.grown.resolved ∙ sym (ap (λ (o : Opening g.row.K.Denot). (first_table o).resolved) opening) in
-    let place = placed_for c.args.self.now.opening c.args.job _ c.self.inside.table c.args.square c.s-s.result t c.requires.job c.requires.made first c.s-s.ensures degree in
-    subst (λ (s : ℕ). IsNext c.self.inside.table.rows s c.args.square.above) (sym place.row) (held_next _ _ _ _ _ c.self.invariant.0 c.job.inside.who c.s-s.result c.args.square.above t his place.degree)
+    let w = g.T.Stock.words in
+    let inside = c.job.inside in
+    let t : ℤ = to_z w32 (of_z w32 inside.t) in
+    let fits : SFits w32 inside.t = search rules in
+    let at : t ≡ inside.t = to_z-of_z w32 inside.t fits in
+    let is = job_given w _ _ _ c.args.self.now _ c.args.job.now t c.self.invariant c.self.view_is c.job.view_is at c.requires.job in
+    let front : c.front-above.result ≡ is.above = c.front-above.ensures.front ∙ is.place.next in
+    subst (λ (k : ℕ). IsNextOf w c.self.inside.stock inside.s k) (sym front) is.next
 
-pub put-requires-clause-live : goal.put-requires-clause-live
-put-requires-clause-live g c =
-    let none : (state_of c.self.inside.schedule).cause ≡ None = sym c.stopped.ensures.cause ∙ none_of c.stopped.result c.in_default.not-Some in
-    c.self.invariant.0.well.live (none_failed _ _ _ _ _ c.self.invariant.0 none)
+pub put-requires-clause-inputs : goal.put-requires-clause-inputs
+put-requires-clause-inputs g c =
+    let w = g.T.Stock.words in
+    let inside = c.job.inside in
+    let t : ℤ = to_z w32 (of_z w32 inside.t) in
+    let fits : SFits w32 inside.t = search rules in
+    let at : t ≡ inside.t = to_z-of_z w32 inside.t fits in
+    let is = job_given w _ _ _ c.args.self.now _ c.args.job.now t c.self.invariant c.self.view_is c.job.view_is at c.requires.job in
+    let front : c.front-above.result ≡ is.above = c.front-above.ensures.front ∙ is.place.next in
+    subst (λ (k : ℕ). w.is_for (w.subject c.self.inside.stock) inside.s k inside.inputs) (sym front) is.is_for
 
 pub give-requires : goal.give-requires
 give-requires g c =
-    let t : ℤ = to_z w32 (of_z w32 c.t-t.result) in
-    let fits : SFits w32 c.t-t.result = search rules in
-    let degree : t ≡ degree_of c.args.job.inputs = to_z-of_z w32 c.t-t.result fits ∙ c.t-t.ensures in
-    let who : c.job.inside.who ≡ c.args.job.who = ap (λ (j : Taking). j.who) c.job.view_is in
-    let his = job_holds _ _ _ _ _ _ c.args.self.now c.args.job c.job.inside.who c.s-s.result t c.self.invariant.0 c.self.view_is c.requires.job who c.s-s.ensures degree in
+    let w = g.T.Stock.words in
+    let inside = c.job.inside in
+    let t : ℤ = to_z w32 (of_z w32 inside.t) in
+    let fits : SFits w32 inside.t = search rules in
+    let at : t ≡ inside.t = to_z-of_z w32 inside.t fits in
+    let is = job_given w _ _ _ c.args.self.now _ c.args.job.now t c.self.invariant c.self.view_is c.job.view_is at c.requires.job in
     let none : (state_of c.self.inside.schedule).cause ≡ None = sym c.stopped.ensures.cause ∙ none_of c.stopped.result c.in_default.not-Some in
-    record { no_cause = none; held = his }
+    record { no_cause = none; held = is.held }
 
 pub fail-requires : goal.fail-requires
 fail-requires g c =
-    let t : ℤ = to_z w32 (of_z w32 c.t-t.result) in
-    let fits : SFits w32 c.t-t.result = search rules in
-    let degree : t ≡ degree_of c.args.job.inputs = to_z-of_z w32 c.t-t.result fits ∙ c.t-t.ensures in
-    let who : c.job.inside.who ≡ c.args.job.who = ap (λ (j : Taking). j.who) c.job.view_is in
-    let his = job_holds _ _ _ _ _ _ c.args.self.now c.args.job c.job.inside.who c.s-s.result t c.self.invariant.0 c.self.view_is c.requires.job who c.s-s.ensures degree in
+    let w = g.T.Stock.words in
+    let inside = c.job.inside in
+    let t : ℤ = to_z w32 (of_z w32 inside.t) in
+    let fits : SFits w32 inside.t = search rules in
+    let at : t ≡ inside.t = to_z-of_z w32 inside.t fits in
+    let is = job_given w _ _ _ c.args.self.now _ c.args.job.now t c.self.invariant c.self.view_is c.job.view_is at c.requires.job in
     let none : (state_of c.self.inside.schedule).cause ≡ None = sym c.stopped.ensures.cause ∙ none_of c.stopped.result c.in_default.not-Some in
-    record { no_cause = none; held = his }
+    record { no_cause = none; held = is.held }
 
 pub back-requires-in-Err-Memory : goal.back-requires-in-Err-Memory
 back-requires-in-Err-Memory g c =
-    let t : ℤ = to_z w32 (of_z w32 c.t-t.result) in
-    let fits : SFits w32 c.t-t.result = search rules in
-    let degree : t ≡ degree_of c.args.job.inputs = to_z-of_z w32 c.t-t.result fits ∙ c.t-t.ensures in
-    let who : c.job.inside.who ≡ c.args.job.who = ap (λ (j : Taking). j.who) c.job.view_is in
-    let his = job_holds _ _ _ _ _ _ c.args.self.now c.args.job c.job.inside.who c.s-s.result t c.self.invariant.0 c.self.view_is c.requires.job who c.s-s.ensures degree in
-    his
+    let w = g.T.Stock.words in
+    let inside = c.job.inside in
+    let t : ℤ = to_z w32 (of_z w32 inside.t) in
+    let fits : SFits w32 inside.t = search rules in
+    let at : t ≡ inside.t = to_z-of_z w32 inside.t fits in
+    let is = job_given w _ _ _ c.args.self.now _ c.args.job.now t c.self.invariant c.self.view_is c.job.view_is at c.requires.job in
+    is.held
 
 pub invariant_of-self-in-Ok : goal.invariant_of-self-in-Ok
 invariant_of-self-in-Ok g c =
-    let t : ℤ = to_z w32 (of_z w32 c.t-t.result) in
-    let fits : SFits w32 c.t-t.result = search rules in
-    let degree : t ≡ degree_of c.args.job.inputs = to_z-of_z w32 c.t-t.result fits ∙ c.t-t.ensures in
-    let who : c.job.inside.who ≡ c.args.job.who = ap (λ (j : Taking). j.who) c.job.view_is in
-    let his = job_holds _ _ _ _ _ _ c.args.self.now c.args.job c.job.inside.who c.s-s.result t c.self.invariant.0 c.self.view_is c.requires.job who c.s-s.ensures degree in
+    let w = g.T.Stock.words in
+    let inside = c.job.inside in
+    let t : ℤ = to_z w32 (of_z w32 inside.t) in
+    let fits : SFits w32 inside.t = search rules in
+    let at : t ≡ inside.t = to_z-of_z w32 inside.t fits in
+    let is = job_given w _ _ _ c.args.self.now _ c.args.job.now t c.self.invariant c.self.view_is c.job.view_is at c.requires.job in
     let none : (state_of c.self.inside.schedule).cause ≡ None = sym c.stopped.ensures.cause ∙ none_of c.stopped.result c.in_default.not-Some in
-    let opening : c.args.self.now.opening ≡ c.self.inside.opening = sym (ap (λ (d : DeskState g.row.K.Denot). d.opening) c.self.view_is) in
-    let first : c.self.inside.table.resolved ≡ (first_table c.args.self.now.opening).resolved = c.self.invariant.0.grown.resolved ∙ sym (ap (λ (o : Opening g.row.K.Denot). (first_table o).resolved) opening) in
-    let place = placed_for c.args.self.now.opening c.args.job _ c.self.inside.table c.args.square c.s-s.result t c.requires.job c.requires.made first c.s-s.ensures degree in
-    let D : Course → Type 0 = λ x. IsDesk (g.K.Keep.telling c.self.inside.opening.keeper.value) (g.K.Keep.telling c.put.new.keeper) c.self.inside.opening x c.put.new.table in
-    let O : Course → Type 0 = λ x. IsAsOpened c.self.inside.opening x.history c.put.new.keeper in (
-      subst D (sym c.give.ensures) (desk_put _ _ _ _ _ c.self.invariant.0 c.job.inside.who c.s-s.result t (g.K.Keep.telling c.put.new.keeper) c.put.new.table c.args.square (record { no_cause = none; held = his }) place.row place.degree c.in-Ok.ensures.ok),
-      subst O (sym c.give.ensures) (as_opened_given c.self.inside.opening c.self.inside.schedule.history c.job.inside.who c.s-s.result t c.put.new.keeper),
-    )
+    let front : c.front-above.result ≡ is.above = c.front-above.ensures.front ∙ is.place.next in
+    let degree : degree_of w (w.subject c.self.inside.stock) c.front-above.result ≡ t = ap (λ (k : ℕ). degree_of w (w.subject c.self.inside.stock) k) front ∙ is.put_at in
+    let gives = subst (λ (u : ℤ). w.gives c.self.inside.stock inside.s u c.put.new.self) degree c.in-Ok.ensures.gives in
+    let D : Course → Type 0 = λ x. IsDesk w c.self.inside.opening x c.put.new.self in
+    subst D (sym c.give.ensures) (desk_given w _ _ _ c.self.invariant inside.who inside.s is.above t c.put.new.self (record { no_cause = none; held = is.held }) is.degree gives c.in-Ok.ensures.subject c.in-Ok.ensures.fronts c.in-Ok.ensures.takes)
 
 pub returns-in-Ok-clause-is_desk : goal.returns-in-Ok-clause-is_desk
 returns-in-Ok-clause-is_desk g c =
-    let t : ℤ = to_z w32 (of_z w32 c.t-t.result) in
-    let fits : SFits w32 c.t-t.result = search rules in
-    let degree : t ≡ degree_of c.args.job.inputs = to_z-of_z w32 c.t-t.result fits ∙ c.t-t.ensures in
-    let who : c.job.inside.who ≡ c.args.job.who = ap (λ (j : Taking). j.who) c.job.view_is in
-    let his = job_holds _ _ _ _ _ _ c.args.self.now c.args.job c.job.inside.who c.s-s.result t c.self.invariant.0 c.self.view_is c.requires.job who c.s-s.ensures degree in
+    let w = g.T.Stock.words in
+    let inside = c.job.inside in
+    let t : ℤ = to_z w32 (of_z w32 inside.t) in
+    let fits : SFits w32 inside.t = search rules in
+    let at : t ≡ inside.t = to_z-of_z w32 inside.t fits in
+    let is = job_given w _ _ _ c.args.self.now _ c.args.job.now t c.self.invariant c.self.view_is c.job.view_is at c.requires.job in
     let none : (state_of c.self.inside.schedule).cause ≡ None = sym c.stopped.ensures.cause ∙ none_of c.stopped.result c.in_default.not-Some in
-    let opening : c.args.self.now.opening ≡ c.self.inside.opening = sym (ap (λ (d : DeskState g.row.K.Denot). d.opening) c.self.view_is) in
-    let first : c.self.inside.table.resolved ≡ (first_table c.args.self.now.opening).resolved = c.self.invariant.0.grown.resolved ∙ sym (ap (λ (o : Opening g.row.K.Denot). (first_table o).resolved) opening) in
-    let place = placed_for c.args.self.now.opening c.args.job _ c.self.inside.table c.args.square c.s-s.result t c.requires.job c.requires.made first c.s-s.ensures degree in
-    let D : Course → Type 0 = λ x. IsDesk (g.K.Keep.telling c.self.inside.opening.keeper.value) (g.K.Keep.telling c.put.new.keeper) c.self.inside.opening x c.put.new.table in
-    subst D (sym c.give.ensures) (desk_put _ _ _ _ _ c.self.invariant.0 c.job.inside.who c.s-s.result t (g.K.Keep.telling c.put.new.keeper) c.put.new.table c.args.square (record { no_cause = none; held = his }) place.row place.degree c.in-Ok.ensures.ok)
+    let front : c.front-above.result ≡ is.above = c.front-above.ensures.front ∙ is.place.next in
+    let degree : degree_of w (w.subject c.self.inside.stock) c.front-above.result ≡ t = ap (λ (k : ℕ). degree_of w (w.subject c.self.inside.stock) k) front ∙ is.put_at in
+    let gives = subst (λ (u : ℤ). w.gives c.self.inside.stock inside.s u c.put.new.self) degree c.in-Ok.ensures.gives in
+    let D : Course → Type 0 = λ x. IsDesk w c.self.inside.opening x c.put.new.self in
+    subst D (sym c.give.ensures) (desk_given w _ _ _ c.self.invariant inside.who inside.s is.above t c.put.new.self (record { no_cause = none; held = is.held }) is.degree gives c.in-Ok.ensures.subject c.in-Ok.ensures.fronts c.in-Ok.ensures.takes)
 
 pub invariant_of-self-in-Err-Failed : goal.invariant_of-self-in-Err-Failed
 invariant_of-self-in-Err-Failed g c =
-    let t : ℤ = to_z w32 (of_z w32 c.t-t.result) in
-    let fits : SFits w32 c.t-t.result = search rules in
-    let degree : t ≡ degree_of c.args.job.inputs = to_z-of_z w32 c.t-t.result fits ∙ c.t-t.ensures in
-    let who : c.job.inside.who ≡ c.args.job.who = ap (λ (j : Taking). j.who) c.job.view_is in
-    let his = job_holds _ _ _ _ _ _ c.args.self.now c.args.job c.job.inside.who c.s-s.result t c.self.invariant.0 c.self.view_is c.requires.job who c.s-s.ensures degree in
+    let w = g.T.Stock.words in
+    let inside = c.job.inside in
+    let t : ℤ = to_z w32 (of_z w32 inside.t) in
+    let fits : SFits w32 inside.t = search rules in
+    let at : t ≡ inside.t = to_z-of_z w32 inside.t fits in
+    let is = job_given w _ _ _ c.args.self.now _ c.args.job.now t c.self.invariant c.self.view_is c.job.view_is at c.requires.job in
     let none : (state_of c.self.inside.schedule).cause ≡ None = sym c.stopped.ensures.cause ∙ none_of c.stopped.result c.in_default.not-Some in
-    let D : Course → Type 0 = λ x. IsDesk (g.K.Keep.telling c.self.inside.opening.keeper.value) (g.K.Keep.telling c.put.new.keeper) c.self.inside.opening x c.put.new.table in
-    let O : Course → Type 0 = λ x. IsAsOpened c.self.inside.opening x.history c.put.new.keeper in (
-      subst D (sym c.fail.ensures) (desk_unput _ _ _ _ _ c.self.invariant.0 c.job.inside.who c.s-s.result t (g.K.Keep.telling c.put.new.keeper) c.put.new.table (record { no_cause = none; held = his }) c.in-Err-Failed.ensures.err (c.in-Err-Failed.ensures.failed (fault_is _ _ c.in-Err-Failed.field-0-is)) (c.in-Err-Failed.ensures.dead (fault_is _ _ c.in-Err-Failed.field-0-is))),
-      subst O (sym c.fail.ensures) (as_opened_failed c.self.inside.opening c.self.inside.schedule.history c.job.inside.who c.s-s.result t c.put.new.keeper),
-    )
+    let front : c.front-above.result ≡ is.above = c.front-above.ensures.front ∙ is.place.next in
+    let degree : degree_of w (w.subject c.self.inside.stock) c.front-above.result ≡ t = ap (λ (k : ℕ). degree_of w (w.subject c.self.inside.stock) k) front ∙ is.put_at in
+    let fails = subst (λ (u : ℤ). w.fails c.self.inside.stock inside.s u c.put.new.self) degree (c.in-Err-Failed.ensures.fails (ap Err c.in-Err-Failed.field-0-is)) in
+    let D : Course → Type 0 = λ x. IsDesk w c.self.inside.opening x c.put.new.self in
+    subst D (sym c.fail.ensures) (desk_failed w _ _ _ c.self.invariant inside.who inside.s t c.put.new.self (record { no_cause = none; held = is.held }) fails c.in-Err-Failed.ensures.subject c.in-Err-Failed.ensures.same)
 
 pub returns-in-Err-Failed-clause-is_desk : goal.returns-in-Err-Failed-clause-is_desk
 returns-in-Err-Failed-clause-is_desk g c =
-    let t : ℤ = to_z w32 (of_z w32 c.t-t.result) in
-    let fits : SFits w32 c.t-t.result = search rules in
-    let degree : t ≡ degree_of c.args.job.inputs = to_z-of_z w32 c.t-t.result fits ∙ c.t-t.ensures in
-    let who : c.job.inside.who ≡ c.args.job.who = ap (λ (j : Taking). j.who) c.job.view_is in
-    let his = job_holds _ _ _ _ _ _ c.args.self.now c.args.job c.job.inside.who c.s-s.result t c.self.invariant.0 c.self.view_is c.requires.job who c.s-s.ensures degree in
+    let w = g.T.Stock.words in
+    let inside = c.job.inside in
+    let t : ℤ = to_z w32 (of_z w32 inside.t) in
+    let fits : SFits w32 inside.t = search rules in
+    let at : t ≡ inside.t = to_z-of_z w32 inside.t fits in
+    let is = job_given w _ _ _ c.args.self.now _ c.args.job.now t c.self.invariant c.self.view_is c.job.view_is at c.requires.job in
     let none : (state_of c.self.inside.schedule).cause ≡ None = sym c.stopped.ensures.cause ∙ none_of c.stopped.result c.in_default.not-Some in
-    let D : Course → Type 0 = λ x. IsDesk (g.K.Keep.telling c.self.inside.opening.keeper.value) (g.K.Keep.telling c.put.new.keeper) c.self.inside.opening x c.put.new.table in
-    subst D (sym c.fail.ensures) (desk_unput _ _ _ _ _ c.self.invariant.0 c.job.inside.who c.s-s.result t (g.K.Keep.telling c.put.new.keeper) c.put.new.table (record { no_cause = none; held = his }) c.in-Err-Failed.ensures.err (c.in-Err-Failed.ensures.failed (fault_is _ _ c.in-Err-Failed.field-0-is)) (c.in-Err-Failed.ensures.dead (fault_is _ _ c.in-Err-Failed.field-0-is)))
+    let front : c.front-above.result ≡ is.above = c.front-above.ensures.front ∙ is.place.next in
+    let degree : degree_of w (w.subject c.self.inside.stock) c.front-above.result ≡ t = ap (λ (k : ℕ). degree_of w (w.subject c.self.inside.stock) k) front ∙ is.put_at in
+    let fails = subst (λ (u : ℤ). w.fails c.self.inside.stock inside.s u c.put.new.self) degree (c.in-Err-Failed.ensures.fails (ap Err c.in-Err-Failed.field-0-is)) in
+    let D : Course → Type 0 = λ x. IsDesk w c.self.inside.opening x c.put.new.self in
+    subst D (sym c.fail.ensures) (desk_failed w _ _ _ c.self.invariant inside.who inside.s t c.put.new.self (record { no_cause = none; held = is.held }) fails c.in-Err-Failed.ensures.subject c.in-Err-Failed.ensures.same)
 
 pub invariant_of-self-in-Err-Memory : goal.invariant_of-self-in-Err-Memory
 invariant_of-self-in-Err-Memory g c =
-    let t : ℤ = to_z w32 (of_z w32 c.t-t.result) in
-    let fits : SFits w32 c.t-t.result = search rules in
-    let degree : t ≡ degree_of c.args.job.inputs = to_z-of_z w32 c.t-t.result fits ∙ c.t-t.ensures in
-    let who : c.job.inside.who ≡ c.args.job.who = ap (λ (j : Taking). j.who) c.job.view_is in
-    let his = job_holds _ _ _ _ _ _ c.args.self.now c.args.job c.job.inside.who c.s-s.result t c.self.invariant.0 c.self.view_is c.requires.job who c.s-s.ensures degree in
-    let old = g.K.Keep.telling c.self.inside.opening.keeper.value in
-    let B : Course → Type 0 = λ x. IsDesk old (g.K.Keep.telling c.self.inside.keeper) c.self.inside.opening x c.put.new.table in
-    let here = subst B (sym c.back-in-Err-Memory.ensures) (desk_back _ _ _ _ _ (desk_room _ _ _ _ _ c.self.invariant.0 c.put.new.table c.in-Err-Memory.ensures.err.same) c.job.inside.who c.s-s.result t his) in
-    let O : Course → Type 0 = λ x. IsAsOpened c.self.inside.opening x.history c.self.inside.keeper in
-    let event : Event = Back c.job.inside.who c.s-s.result t in
-    let as_opened = subst O (sym c.back-in-Err-Memory.ensures) (as_opened_then c.self.inside.opening c.self.inside.schedule.history event c.self.inside.keeper refl refl c.self.invariant.1) in
-    let same = sym (c.in-Err-Memory.ensures.memory (fault_is _ _ c.in-Err-Memory.field-0-is)) in (
-      subst (λ (k : g.row.K.Denot). IsDesk old (g.K.Keep.telling k) c.self.inside.opening c.back-in-Err-Memory.new.self c.put.new.table) same here,
-      subst (λ (k : g.row.K.Denot). IsAsOpened c.self.inside.opening c.back-in-Err-Memory.new.self.history k) same as_opened,
-    )
+    let w = g.T.Stock.words in
+    let inside = c.job.inside in
+    let t : ℤ = to_z w32 (of_z w32 inside.t) in
+    let fits : SFits w32 inside.t = search rules in
+    let at : t ≡ inside.t = to_z-of_z w32 inside.t fits in
+    let is = job_given w _ _ _ c.args.self.now _ c.args.job.now t c.self.invariant c.self.view_is c.job.view_is at c.requires.job in
+    let front : c.front-above.result ≡ is.above = c.front-above.ensures.front ∙ is.place.next in
+    let degree : degree_of w (w.subject c.self.inside.stock) c.front-above.result ≡ t = ap (λ (k : ℕ). degree_of w (w.subject c.self.inside.stock) k) front ∙ is.put_at in
+    let lacks = subst (λ (u : ℤ). w.lacks c.self.inside.stock inside.s u c.put.new.self) degree (c.in-Err-Memory.ensures.lacks (ap Err c.in-Err-Memory.field-0-is)) in
+    let D : Course → Type 0 = λ x. IsDesk w c.self.inside.opening x c.put.new.self in
+    subst D (sym c.back-in-Err-Memory.ensures) (desk_lacked w _ _ _ c.self.invariant inside.who inside.s t c.put.new.self is.held lacks c.in-Err-Memory.ensures.subject c.in-Err-Memory.ensures.same (c.in-Err-Memory.ensures.takes_still (ap Err c.in-Err-Memory.field-0-is)))
 
 pub returns-in-Err-Memory-clause-is_desk : goal.returns-in-Err-Memory-clause-is_desk
 returns-in-Err-Memory-clause-is_desk g c =
-    let t : ℤ = to_z w32 (of_z w32 c.t-t.result) in
-    let fits : SFits w32 c.t-t.result = search rules in
-    let degree : t ≡ degree_of c.args.job.inputs = to_z-of_z w32 c.t-t.result fits ∙ c.t-t.ensures in
-    let who : c.job.inside.who ≡ c.args.job.who = ap (λ (j : Taking). j.who) c.job.view_is in
-    let his = job_holds _ _ _ _ _ _ c.args.self.now c.args.job c.job.inside.who c.s-s.result t c.self.invariant.0 c.self.view_is c.requires.job who c.s-s.ensures degree in
-    let old = g.K.Keep.telling c.self.inside.opening.keeper.value in
-    let B : Course → Type 0 = λ x. IsDesk old (g.K.Keep.telling c.self.inside.keeper) c.self.inside.opening x c.put.new.table in
-    let here = subst B (sym c.back-in-Err-Memory.ensures) (desk_back _ _ _ _ _ (desk_room _ _ _ _ _ c.self.invariant.0 c.put.new.table c.in-Err-Memory.ensures.err.same) c.job.inside.who c.s-s.result t his) in
-    subst (λ (k : g.row.K.Denot). IsDesk old (g.K.Keep.telling k) c.self.inside.opening c.back-in-Err-Memory.new.self c.put.new.table) (sym (c.in-Err-Memory.ensures.memory (fault_is _ _ c.in-Err-Memory.field-0-is))) here
+    let w = g.T.Stock.words in
+    let inside = c.job.inside in
+    let t : ℤ = to_z w32 (of_z w32 inside.t) in
+    let fits : SFits w32 inside.t = search rules in
+    let at : t ≡ inside.t = to_z-of_z w32 inside.t fits in
+    let is = job_given w _ _ _ c.args.self.now _ c.args.job.now t c.self.invariant c.self.view_is c.job.view_is at c.requires.job in
+    let front : c.front-above.result ≡ is.above = c.front-above.ensures.front ∙ is.place.next in
+    let degree : degree_of w (w.subject c.self.inside.stock) c.front-above.result ≡ t = ap (λ (k : ℕ). degree_of w (w.subject c.self.inside.stock) k) front ∙ is.put_at in
+    let lacks = subst (λ (u : ℤ). w.lacks c.self.inside.stock inside.s u c.put.new.self) degree (c.in-Err-Memory.ensures.lacks (ap Err c.in-Err-Memory.field-0-is)) in
+    let D : Course → Type 0 = λ x. IsDesk w c.self.inside.opening x c.put.new.self in
+    subst D (sym c.back-in-Err-Memory.ensures) (desk_lacked w _ _ _ c.self.invariant inside.who inside.s t c.put.new.self is.held lacks c.in-Err-Memory.ensures.subject c.in-Err-Memory.ensures.same (c.in-Err-Memory.ensures.takes_still (ap Err c.in-Err-Memory.field-0-is)))
+
+pub returns-in-Ok-clause-goes : goal.returns-in-Ok-clause-goes
+returns-in-Ok-clause-goes g c =
+    let w = g.T.Stock.words in
+    let inside = c.job.inside in
+    let t : ℤ = to_z w32 (of_z w32 inside.t) in
+    let fits : SFits w32 inside.t = search rules in
+    let at : t ≡ inside.t = to_z-of_z w32 inside.t fits in
+    let is = job_given w _ _ _ c.args.self.now _ c.args.job.now t c.self.invariant c.self.view_is c.job.view_is at c.requires.job in
+    let front : c.front-above.result ≡ is.above = c.front-above.ensures.front ∙ is.place.next in
+    let degree : degree_of w (w.subject c.self.inside.stock) c.front-above.result ≡ t = ap (λ (k : ℕ). degree_of w (w.subject c.self.inside.stock) k) front ∙ is.put_at in
+    let gives = subst (λ (u : ℤ). w.gives c.self.inside.stock inside.s u c.put.new.self) degree c.in-Ok.ensures.gives in
+    goes_seen w _ _ c.self.inside.stock c.put.new.self c.args.self.now _ c.args.job.now t (λ a b u. Give a b u) c.self.view_is c.job.view_is at gives
+
+pub returns-in-Err-Failed-clause-goes : goal.returns-in-Err-Failed-clause-goes
+returns-in-Err-Failed-clause-goes g c =
+    let w = g.T.Stock.words in
+    let inside = c.job.inside in
+    let t : ℤ = to_z w32 (of_z w32 inside.t) in
+    let fits : SFits w32 inside.t = search rules in
+    let at : t ≡ inside.t = to_z-of_z w32 inside.t fits in
+    let is = job_given w _ _ _ c.args.self.now _ c.args.job.now t c.self.invariant c.self.view_is c.job.view_is at c.requires.job in
+    let front : c.front-above.result ≡ is.above = c.front-above.ensures.front ∙ is.place.next in
+    let degree : degree_of w (w.subject c.self.inside.stock) c.front-above.result ≡ t = ap (λ (k : ℕ). degree_of w (w.subject c.self.inside.stock) k) front ∙ is.put_at in
+    let fails = subst (λ (u : ℤ). w.fails c.self.inside.stock inside.s u c.put.new.self) degree (c.in-Err-Failed.ensures.fails (ap Err c.in-Err-Failed.field-0-is)) in
+    goes_seen w _ _ c.self.inside.stock c.put.new.self c.args.self.now _ c.args.job.now t (λ a b u. Fail a b u) c.self.view_is c.job.view_is at fails
+
+pub returns-in-Err-Memory-clause-goes : goal.returns-in-Err-Memory-clause-goes
+returns-in-Err-Memory-clause-goes g c =
+    let w = g.T.Stock.words in
+    let inside = c.job.inside in
+    let t : ℤ = to_z w32 (of_z w32 inside.t) in
+    let fits : SFits w32 inside.t = search rules in
+    let at : t ≡ inside.t = to_z-of_z w32 inside.t fits in
+    let is = job_given w _ _ _ c.args.self.now _ c.args.job.now t c.self.invariant c.self.view_is c.job.view_is at c.requires.job in
+    let front : c.front-above.result ≡ is.above = c.front-above.ensures.front ∙ is.place.next in
+    let degree : degree_of w (w.subject c.self.inside.stock) c.front-above.result ≡ t = ap (λ (k : ℕ). degree_of w (w.subject c.self.inside.stock) k) front ∙ is.put_at in
+    let lacks = subst (λ (u : ℤ). w.lacks c.self.inside.stock inside.s u c.put.new.self) degree (c.in-Err-Memory.ensures.lacks (ap Err c.in-Err-Memory.field-0-is)) in
+    goes_seen w _ _ c.self.inside.stock c.put.new.self c.args.self.now _ c.args.job.now t (λ a b u. Back a b u) c.self.view_is c.job.view_is at (inr lacks)

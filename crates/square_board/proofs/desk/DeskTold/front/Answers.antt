@@ -7,7 +7,8 @@ use Rattle.square_board.proofs.desk.DeskTold.front.Goals as goal
 
 pub returns : goal.returns
 returns g c =
+    let w = g.T.Stock.words in
     let now = c.args.self.now in
-    let F : DeskState g.row.K.Denot → Type 0 = λ d. c.front.result ≡ front_after d.opening d.course.history c.args.i in
-    let here = subst F c.self.view_is (c.front.ensures.front ∙ c.self.invariant.0.fronts c.args.i) in
-    here ∙ ap (λ (l : List Event). front_after now.opening l c.args.i) (sym (events_of-numbered now.course.history))
+    let F : DeskState g.row.T.Denot → Type 0 = λ d. c.front.result ≡ front_after w d.opening d.course.history c.args.i in
+    let here = subst F c.self.view_is (c.front.ensures.front ∙ c.self.invariant.fronts c.args.i) in
+    here ∙ ap (λ (l : List Event). front_after w now.opening l c.args.i) (sym (events_of-numbered now.course.history))

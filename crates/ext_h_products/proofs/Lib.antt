@@ -1,0 +1,4 @@
+pub mod Counts
+mod Powers
+mod Rows
+mod Told

@@ -1,0 +1,9 @@
+use Rattle.std.specs.List.{flat_map, range_with_len}
+use Rattle.std.proofs.Common.{◌+◌, ◌-◌}
+use Rattle.h_products.specs.ReadOff.{resolution_in}
+use Rattle.ext_products.specs.Products.{OneEach, classes_in_row}
+use Rattle.ext_h_products.specs.RowOne.{IsLineReadOff}
+use Rattle.ext_h_products.proofs.lines.lines.Given as goal
+
+abbrev pub invariant-loop-s : goal.invariant-loop-s
+invariant-loop-s l = OneEach (IsLineReadOff (resolution_in l.images) l.n) (flat_map (classes_in_row (resolution_in l.images) (l.range.t + 1 - l.n)) (range_with_len 0 l.s)) l.lines.items

@@ -1,0 +1,2 @@
+mod Generators
+mod Values

@@ -1,0 +1,3 @@
+pub mod Stocks
+pub mod Words
+pub mod Inside

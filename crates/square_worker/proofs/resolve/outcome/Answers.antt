@@ -1,0 +1,37 @@
+use Rattle.std.proofs.Common.{Result, Ok, Err, refl, sym, subst}
+use Rattle.board_core.specs.declared.event.Cause.{Cause}
+use Rattle.square.proofs.Kept.{IsSettled}
+use Rattle.square_board.specs.Workers.{HasMade}
+use Rattle.square_worker.specs.Kept.{KeptTable, kept_words}
+use Rattle.square_worker.proofs.Ended.{IsGivenOf, made_resolved, made_untouched}
+use Rattle.square_worker.proofs.resolve.outcome.Goals as goal
+
+pub returns-in-Ok-clause-resolved : goal.returns-in-Ok-clause-resolved
+returns-in-Ok-clause-resolved g c first range live made =
+    let telling = g.K.Keep.telling in
+    let last : KeptTable g.row.K.Denot = record { table = c.last.inside.table; keeper = c.last.inside.keeper } in
+    let settled : IsSettled (telling first.keeper) = record { images = g.met.K.Keep.image_is_kept first.keeper live; earlier = g.met.K.Keep.since_earlier first.keeper } in
+    let here : HasMade (kept_words telling) first range c.args.made last = subst (HasMade (kept_words telling) first range c.args.made) (sym c.last.view_is) made in
+    made_resolved telling first last range c.args.made here settled live (Ok last.table) c.front-front.ensures.is_table c.last.invariant (subst (λ (r : Result (Unit {0}) Cause). IsGivenOf r last.table (Ok last.table)) (sym c.in-Ok.is) refl)
+
+pub returns-in-Ok-clause-untouched : goal.returns-in-Ok-clause-untouched
+returns-in-Ok-clause-untouched g c first range live made =
+    let telling = g.K.Keep.telling in
+    let last : KeptTable g.row.K.Denot = record { table = c.last.inside.table; keeper = c.last.inside.keeper } in
+    let settled : IsSettled (telling first.keeper) = record { images = g.met.K.Keep.image_is_kept first.keeper live; earlier = g.met.K.Keep.since_earlier first.keeper } in
+    made_untouched telling first last range c.args.made (subst (HasMade (kept_words telling) first range c.args.made) (sym c.last.view_is) made) settled live
+
+pub returns-in-Err-clause-resolved : goal.returns-in-Err-clause-resolved
+returns-in-Err-clause-resolved g c first range live made =
+    let telling = g.K.Keep.telling in
+    let last : KeptTable g.row.K.Denot = record { table = c.last.inside.table; keeper = c.last.inside.keeper } in
+    let settled : IsSettled (telling first.keeper) = record { images = g.met.K.Keep.image_is_kept first.keeper live; earlier = g.met.K.Keep.since_earlier first.keeper } in
+    let here : HasMade (kept_words telling) first range c.args.made last = subst (HasMade (kept_words telling) first range c.args.made) (sym c.last.view_is) made in
+    made_resolved telling first last range c.args.made here settled live (Err c.in-Err.cause) c.front-front.ensures.is_table c.last.invariant (subst (λ (r : Result (Unit {0}) Cause). IsGivenOf r last.table (Err c.in-Err.cause)) (sym c.in-Err.is) refl)
+
+pub returns-in-Err-clause-untouched : goal.returns-in-Err-clause-untouched
+returns-in-Err-clause-untouched g c first range live made =
+    let telling = g.K.Keep.telling in
+    let last : KeptTable g.row.K.Denot = record { table = c.last.inside.table; keeper = c.last.inside.keeper } in
+    let settled : IsSettled (telling first.keeper) = record { images = g.met.K.Keep.image_is_kept first.keeper live; earlier = g.met.K.Keep.since_earlier first.keeper } in
+    made_untouched telling first last range c.args.made (subst (HasMade (kept_words telling) first range c.args.made) (sym c.last.view_is) made) settled live

@@ -1,8 +1,0 @@
-use Rattle.square_worker.proofs.Seen.{by_turn}
-use Rattle.square_worker.proofs.worker.make.Goals as goal
-
-pub returns-in-Ok-clause-no_less : goal.returns-in-Ok-clause-no_less
-returns-in-Ok-clause-no_less g c = by_turn _ _ _ c.give-given.ensures.turned
-
-pub returns-in-Err-clause-no_less : goal.returns-in-Err-clause-no_less
-returns-in-Err-clause-no_less g c = by_turn _ _ _ c.back.ensures.turned
