@@ -2,6 +2,7 @@
 ghost use Rattle.std.specs.Prelude.{◌≡◌, pos, true, [], ◌∷◌, IfOk};
 
 use crate::written::{is_written, vector};
+use f2_matrix::Matrix;
 use f2_vec::BitVec;
 use free_hom::Hom;
 use free_module::Gens;
@@ -47,27 +48,28 @@ fn images(alloc: Global) -> Result<Vec<BitVec>, Memory>
     Ok(images)
 }
 
-// The source's basis in degree 4 is Sq(3) and Sq(0,1) on the first generator, and Sq(2) on the second. Each is taken to
-// Sq(1,1), the second of Sq(4) and Sq(1,1): Sq(3) Sq(1), Sq(0,1) Sq(1) and Sq(2) Sq(2) all are that.
-#[test]
-fn maps(rt: HostRuntime) -> Result<(), Fail> {
-    let alloc = rt.alloc();
+// The matrix of the map in degree 4. The source's basis is Sq(3) and Sq(0,1) on the first generator, and Sq(2) on the second. Each is taken
+// to Sq(1,1), the second of Sq(4) and Sq(1,1): Sq(3) Sq(1), Sq(0,1) Sq(1) and Sq(2) Sq(2) all are that.
+fn matrix(alloc: Global) -> Result<Matrix, Memory> {
     let basis = Basis::new(alloc, 4)?;
     let (source, target, images) = (source(alloc)?, target(alloc)?, images(alloc)?);
-    let hom = Hom::new(&basis, &source, &target, images.as_slice());
-    let matrix = hom.matrix(alloc, 4)?;
+    Hom::new(&basis, &source, &target, images.as_slice()).matrix(alloc, 4)
+}
+
+/// The value on the vector of that degree with these coordinates.
+fn value(alloc: Global, text: &str) -> Result<BitVec, Memory> {
+    let v = vector(alloc, 3, text)?;
+    let basis = Basis::new(alloc, 4)?;
+    let (source, target, images) = (source(alloc)?, target(alloc)?, images(alloc)?);
+    Hom::new(&basis, &source, &target, images.as_slice()).apply(alloc, 4, &v)
+}
+
+#[test]
+fn maps(rt: HostRuntime) -> Result<(), Fail> {
+    let matrix = matrix(rt.alloc())?;
     assert!(rt; matrix.cols() == 2 && matrix.rows().len() == 3);
     assert!(rt; matrix.rows().iter().all(|row| is_written(row, "01")));
-    for (v, want) in [
-        ("100", "01"),
-        ("010", "01"),
-        ("001", "01"),
-        ("110", "00"),
-        ("111", "01"),
-        ("000", "00"),
-    ] {
-        let v = vector(alloc, 3, v)?;
-        assert!(rt; is_written(&hom.apply(alloc, 4, &v)?, want), "at {want}");
-    }
+    assert!(rt; is_written(&value(rt.alloc(), "001")?, "01"));
+    assert!(rt; is_written(&value(rt.alloc(), "110")?, "00"));
     Ok(())
 }

@@ -1,0 +1,2 @@
+mod LowDegrees
+mod Texts
