@@ -24,13 +24,14 @@ use Rattle.square.proofs.Places.{length-row_of}
 use Rattle.square.proofs.Pushing.{through_last}
 use Rattle.lift_laws.specs.Lifts.{Resolution, IsCanonical, IsSphere, dual_of, degree}
 use Rattle.lift_laws.specs.Products.{Class as ClassAbove, count_of, number_of, degree_of_class, LiftsGiveOneProduct}
+use Rattle.lift_laws.proofs.Counts.{count_of-less}
 use Rattle.lift_laws.proofs.Cut.{IsLift-uncut}
 use Rattle.chain_map.specs.Lifting.{resolution_of, IsCanonicalIn}
 use Rattle.chain_map.specs.Classes.{through, missing_in}
 use Rattle.chain_map.proofs.Classes.{rows_through, count_inside, count_outside}
 use Rattle.chain_map.proofs.Resolved.{is_canonical}
 use Rattle.yoneda.specs.Products.{class_above, IsPlaceOf, IsThere, IsYonedaProduct}
-use Rattle.yoneda.proofs.Cut.{count_of-part, product_by-part}
+use Rattle.yoneda.proofs.Cut.{product_by-part}
 use Rattle.yoneda.proofs.OneProduct.{canonical_less, place_there, given-lowered, product-of-lift}
 use Rattle.yoneda.proofs.Through.{count_through}
 use Rattle.ext_chart.specs.declared.class_products.ProductLine.{ProductLine}
@@ -142,7 +143,7 @@ module _ (one : LiftsGiveOneProduct) (modules : ModulesAreSteenrodModules)
   a_count : a.i < count_of whole_q a.s a.above
   a_count =
       let few = count_through sphere near a.s a.above (omega arith) (omega arith) in
-      let all_of = count_of-part (over sphere.resolved) full cut_q.table a.s a.above (full_rows a.s (omega arith)) a.above (omega arith) in
+      let all_of = count_of-less (over sphere.resolved) full cut_q.table a.s a.above (full_rows a.s (omega arith)) a.above (omega arith) in
       omega (arith, a_there.generator)
 
   module _ (x : ClassAbove) (factor : IsFactor cut_r range (class_above a) x) where

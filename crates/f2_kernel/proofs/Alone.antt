@@ -1,12 +1,12 @@
 -- The kernel of rows alone, solved from their columns. The law of the choice has the kernel of rows with the new rows
 -- behind them. Without these, its vectors lose the zeros behind.
-use Rattle.std.proofs.Common.{◌≡◌, ℕ, ◌+◌, ◌-◌, ◌<◌, Bool, true, false, List, [], ◌∷◌, ◌++◌, length, map, take, reverse, refl, ap, sym, subst, ◌∙◌, arith}
+use Rattle.std.proofs.Common.{◌≡◌, ℕ, ◌+◌, ◌-◌, ◌<◌, Bool, true, List, [], ◌∷◌, ◌++◌, length, map, take, reverse, refl, ap, sym, subst, ◌∙◌, arith}
 use Rattle.std.specs.List.{items_where_true}
 use Rattle.std.proofs.lemmas.List.{append-nil, take_at, length-append}
 use Rattle.f2_vec.specs.Vectors.{sum_of, zeros}
 use Rattle.f2_vec.proofs.Sums.{length-zeros, sum_of-zeros_right}
 use Rattle.f2_vec.specs.Spans.{row, HaveWidth, combination, unit_vector, unit_vectors, IsInSpan, IsInKernel}
-use Rattle.f2_vec.proofs.Spans.{HaveWidth-nil, HaveWidth-cons, HaveWidth-head, HaveWidth-tail, length-combination, combination-zeros, combination-append}
+use Rattle.f2_vec.proofs.Spans.{HaveWidth-items_where_true, length-combination, combination-zeros, combination-append}
 use Rattle.f2_vec.proofs.Split.{length-unit_vectors, HaveWidth-unit_vectors, combination-unit_vectors}
 use Rattle.f2_vec.proofs.Combinations.{combination-padded_right}
 use Rattle.f2_matrix.specs.Echelon.{IsKernelBasis}
@@ -93,12 +93,6 @@ module _ (w : ℕ) (rows new form : List (List Bool)) (wr : HaveWidth w rows) (w
 
 -- ---- unit vectors as candidates
 
-HaveWidth-where : (n : ℕ) (kept : List Bool) (rows : List (List Bool)) → HaveWidth n rows → HaveWidth n (items_where_true kept rows)
-HaveWidth-where n [] rows h = HaveWidth-nil n
-HaveWidth-where n (k ∷ kept) [] h = HaveWidth-nil n
-HaveWidth-where n (true ∷ kept) (r ∷ rows) h = HaveWidth-cons n r _ (HaveWidth-head n r rows h) (HaveWidth-where n kept rows (HaveWidth-tail n r rows h))
-HaveWidth-where n (false ∷ kept) (r ∷ rows) h = HaveWidth-where n kept rows (HaveWidth-tail n r rows h)
-
 pub wide_columns : (n w : ℕ) (rows columns : List (List Bool)) → AreColumnsOf n w rows columns → HaveWidth n columns
 wide_columns n w rows columns h = subst (λ (z : List (List Bool)). HaveWidth n z) (sym h.columns_are) (wide_on n rows (unit_vectors w) h.count)
 
@@ -115,5 +109,5 @@ kernel_by_columns n w rows columns h =
     let new = items_where_true (are_zero (upward xs)) units in
     let by = choice_by_form w rows units wu (IsReduced-unit_vectors w) (HasNoZeroRow-unit_vectors w) inside in
     let cleared = AreCleared-upward (length rows) xs (wide_on (length rows) rows units refl) in
-    let there = alone-IsKernelBasis w rows new (upward xs) h.widths (HaveWidth-where w (are_zero (upward xs)) units wu) cleared by.kernel in
+    let there = alone-IsKernelBasis w rows new (upward xs) h.widths (HaveWidth-items_where_true w (are_zero (upward xs)) units wu) cleared by.kernel in
     subst (λ (z : List (List Bool)). IsKernelBasis w rows (relations n 0 (upward z))) (sym h.columns_are) (subst (λ z. IsKernelBasis w rows (relations z 0 (upward xs))) h.count there)

@@ -1,14 +1,13 @@
 -- A class is a cocycle that is 1 at its own generator, on which Sq(2^v) is the first element of the basis.
 use Rattle.std.specs.Cmp.Lexicographic.{bytes_decides, pointwise}
-use Rattle.std.proofs.Common.{◌≡◌, inl, inr, ℕ, zero, suc, ◌+◌, ◌^◌, ◌<◌, ℤ, pos, ◌+ℤ◌, ◌-ℤ◌, Bool, true, false, ◌&&◌, nat_eq, if◌then◌else◌, Some, List, [], ◌∷◌, length, take, get_or, refl, ap, sym, subst, ◌∙◌, arith}
+use Rattle.std.proofs.Common.{◌≡◌, inl, inr, ℕ, zero, suc, ◌+◌, ◌^◌, ◌<◌, ℤ, pos, ◌+ℤ◌, ◌-ℤ◌, Bool, true, false, ◌&&◌, nat_eq, Some, List, [], ◌∷◌, length, take, get_or, refl, ap, sym, subst, ◌∙◌, arith}
 use Rattle.std.specs.List.{slice_get}
 use Rattle.std.proofs.lemmas.Int.{ints}
 use Rattle.std.proofs.lemmas.Nat.{pow_pos}
 use Rattle.std.proofs.lemmas.Bool.{and_left, and_right, cases_eq, eq-eqb, ne_eqb}
 use Rattle.std.proofs.lemmas.List.{get_or_default}
 use Rattle.std.proofs.lemmas.Option.{get_or_from_slice_get, slice_get-get_or, slice_get_within}
-use Rattle.f2_vec.specs.Vectors.{bit, zeros}
-use Rattle.f2_vec.proofs.Sums.{bit-zeros}
+use Rattle.f2_vec.specs.Vectors.{bit}
 use Rattle.milnor_basis.specs.Exponents.{entry, degree_of, IsTrimmed, IsRightLexBelow}
 use Rattle.milnor_basis.specs.Basis.{basis_of}
 use Rattle.milnor_basis.proofs.BasisLemmas.{Contains-basis_of, basis_is_milnors}
@@ -23,7 +22,7 @@ use Rattle.resolution_laws.specs.Exactness.{CanonicalTableIsMinimalResolution}
 use Rattle.resolution_laws.proofs.Squares.{AreImages-all}
 use Rattle.lift_laws.specs.Lifts.{gens, degree, image, dual_of}
 use Rattle.lift_laws.specs.Products.{first_of, number_of, degree_of_class}
-use Rattle.lift_laws.proofs.Coefficients.{is_new}
+use Rattle.lift_laws.proofs.Coefficients.{bit-dual, is_new}
 use Rattle.bracket_laws.proofs.Vectors.{on_square-same}
 use Rattle.h_laws.specs.Products.{first_on, image_terms, terms_with, ClassesWithHAreReadOffImages}
 use Rattle.h_laws.proofs.Parity.{dot-place}
@@ -80,10 +79,6 @@ terms_of_one ds t m n z w some l deg one fits =
     apart : (f : ℕ × List ℕ) (b : Bool) → pointwise nat_eq f.1 (n ∷ []) ≡ b → (f.0 ≡ m → f.1 ≡ n ∷ [] → ⊥) → (nat_eq f.0 m && pointwise nat_eq f.1 (n ∷ [])) ≡ false
     apart f true e not_both = and_left (nat_eq f.0 m) (pointwise nat_eq f.1 (n ∷ [])) (ne_eqb f.0 m (λ a. not_both a ((bytes_decides f.1 (n ∷ [])).0 e)))
     apart f false e not_both = ap (λ (b : Bool). nat_eq f.0 m && b) e ∙ and_right (nat_eq f.0 m) false refl
-
-bit-dual : (c : Bool) (k : ℕ) → bit (if c then true ∷ [] else zeros k) 0 ≡ c
-bit-dual true k = refl
-bit-dual false k = bit-zeros k 0
 
 pub classes_read_off : CanonicalTableIsMinimalResolution → ClassesWithHAreReadOffImages
 classes_read_off law r q rs rt qs qt v x top phi cr cq sphere there inside low rows reach high lift =

@@ -1,5 +1,5 @@
-//! Whether rows are the parts of the reduction of a linear map's matrix, which is not made: so that it takes no more memory than the
-//! rows do, and a few vectors.
+//! This crate tells whether rows are the parts of the reduction of a linear map's matrix. It does not make the matrix, so it takes
+//! the memory of the rows and of a few vectors.
 #![tactic(auto)]
 
 mod parts;

@@ -1,5 +1,5 @@
 -- The ends of the rows of a range of a shape.
-use Rattle.std.proofs.Common.{◌≡◌, ℕ, suc, ◌+◌, ◌-◌, ◌<◌, ◌≤◌, refl, ap, ◌∙◌, arith}
+use Rattle.std.proofs.Common.{◌≡◌, ℕ, suc, ◌+◌, ◌-◌, ◌<◌, ◌≤◌, ap, ◌∙◌, arith}
 use Rattle.bidegree.specs.declared.range.Range.{Range}
 use Rattle.bidegree.specs.declared.shape.Shape.{Shape}
 use Rattle.bidegree.specs.declared.shape.Shape.TheVariants.{Rectangle, Stems}

@@ -1,7 +1,7 @@
 -- Stocks of images: what lies there at the opening, what a place is made from, and what a place more does.
-use Rattle.std.proofs.Common.{◌≡◌, ◌≢◌, ◌⊎◌, ℕ, zero, suc, ◌+◌, ◌-◌, ◌<◌, ◌≤◌, ◌≤ℤ◌, ℤ, pos, ◌+ℤ◌, Bool, true, false, nat_lt, List, [], ◌∷◌, ◌++◌, length, take, map, replicate, get_or, set, Option, None, refl, ap, sym, subst, ◌∙◌, arith, inl, inr}
+use Rattle.std.proofs.Common.{◌≡◌, ◌≢◌, ◌⊎◌, ℕ, suc, ◌+◌, ◌-◌, ◌<◌, ◌≤◌, ◌≤ℤ◌, ℤ, pos, ◌+ℤ◌, Bool, nat_lt, List, [], ◌∷◌, length, take, replicate, get_or, set, Option, refl, ap, sym, subst, ◌∙◌, arith, inl, inr}
 use Rattle.std.proofs.lemmas.Bool.{cases_lt, cases_eq}
-use Rattle.std.proofs.lemmas.List.{get_or_default, get_or_past, get_or-replicate, get_or-set_same, get_or-set_other, get_or-map, get_or-take, length-append, length-map, length-replicate, length-set, length-take-le, take-take, take_all}
+use Rattle.std.proofs.lemmas.List.{get_or_default, get_or_past, get_or-replicate, get_or-set_same, get_or-set_other, get_or-map, get_or-take, length-append, length-replicate, length-set, length-take-le, take-take, take_all}
 use Rattle.f2_matrix.specs.Reduction.{Rows}
 use Rattle.resolution_laws.specs.Resolution.{Module, Content, no_content, square_in, degrees_from}
 use Rattle.resolution_laws.proofs.Rows.{at_most-row}
@@ -9,7 +9,7 @@ use Rattle.free_module.specs.FreeModule.{degree_at}
 use Rattle.stem_laws.specs.Stems.{in_stems, RowsInStemsAreWhole}
 use Rattle.resolution_images.specs.declared.resolve.Extent.{Extent}
 use Rattle.resolution_images.specs.BareRows.{BareRow, no_bare_row, bare_row_in, IsBareRowOf}
-use Rattle.resolution_images.specs.Made.{IsTableOf, IsMadeThrough, AreUnder, IsSquareInStems, IsToCover, with_one_square}
+use Rattle.resolution_images.specs.Made.{IsTableOf, IsMadeThrough, IsSquareInStems, IsToCover, with_one_square}
 use Rattle.resolution_images.proofs.Making.{line_more}
 use Rattle.image_worker.specs.Stocks.{one_if, squares_done, front_in, HasKernel}
 use Rattle.image_worker.specs.Inside.Kept.{AreKept}

@@ -1,5 +1,5 @@
 -- What is made at a place.
-use Rattle.std.proofs.Common.{◌≡◌, ℕ, suc, ◌+◌, ◌<◌, ◌≤◌, Bool, List, Option, Some, None, refl, sym, subst, arith}
+use Rattle.std.proofs.Common.{◌≡◌, ℕ, suc, ◌+◌, ◌<◌, ◌≤◌, Bool, List, Some, None, refl, sym, subst, arith}
 use Rattle.f2_matrix.specs.Reduction.{Rows}
 use Rattle.resolution_laws.specs.Resolution.{Module}
 use Rattle.resolution_images.specs.declared.resolve.Extent.{Extent}

@@ -1,5 +1,5 @@
 -- Places of a range of a shape: those that are meant, and those that stand on the one below.
-use Rattle.std.proofs.Common.{◌≡◌, ℕ, suc, ◌+◌, ◌-◌, ◌<◌, ◌≤◌, true, nat_lt, refl, ap, sym, subst, arith, inl, inr}
+use Rattle.std.proofs.Common.{◌≡◌, ℕ, suc, ◌+◌, ◌-◌, ◌<◌, ◌≤◌, true, refl, sym, subst, arith, inl, inr}
 use Rattle.std.proofs.lemmas.Bool.{cases_lt, ltb-true, lt-ltb}
 use Rattle.bidegree.specs.LastDegrees.{last_degree}
 use Rattle.bidegree.specs.declared.range.Range.{Range}

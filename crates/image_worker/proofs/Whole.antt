@@ -1,11 +1,10 @@
 -- Stocks all squares of which are done.
-use Rattle.std.proofs.Common.{◌≡◌, ℕ, suc, ◌+◌, ◌-◌, ◌<◌, ◌≤◌, List, length, take, Option, refl, sym, ap, subst, ◌∙◌, arith, inl, inr}
+use Rattle.std.proofs.Common.{◌≡◌, ℕ, suc, ◌+◌, ◌-◌, ◌<◌, ◌≤◌, List, take, Option, sym, subst, ◌∙◌, arith, inl, inr}
 use Rattle.std.proofs.lemmas.Bool.{cases_lt}
 use Rattle.std.proofs.lemmas.List.{take_all}
 use Rattle.f2_matrix.specs.Reduction.{Rows}
 use Rattle.resolution_laws.specs.Resolution.{Module, Content, IsCanonicalTable}
 use Rattle.stem_laws.specs.Stems.{in_stems, RowsInStemsAreWhole}
-use Rattle.resolution_images.specs.declared.resolve.Extent.{Extent}
 use Rattle.resolution_images.specs.BareRows.{BareRow, bare_row_in, IsBareRowOf, AreOfCanonical, AreOfStems, AreOfRange}
 use Rattle.resolution_images.specs.Made.{IsMadeThrough}
 use Rattle.resolution_images.proofs.Making.{stem_lines}

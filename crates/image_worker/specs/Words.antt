@@ -1,7 +1,6 @@
 -- Stocks of images as boards see them, and that images are unique.
-use Rattle.std.specs.Prelude.{◌≡◌, ℕ, ℤ, List, option_map, ⊤}
+use Rattle.std.specs.Prelude.{◌≡◌, ℕ, List, option_map, ⊤}
 use Rattle.std.specs.Arc.{arc_value}
-use Rattle.bidegree.specs.declared.range.Range.{Range}
 use Rattle.finite_module.specs.Checked.{Checked}
 use Rattle.square.specs.Squares.{over, bottom_of}
 use Rattle.square_board.specs.Stocks.{StockWords}

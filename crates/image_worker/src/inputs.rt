@@ -120,8 +120,9 @@ impl ImageInputs {
     /// `Memory` if allocation fails.
     fn square(&self, alloc: Global) -> Result<Made, Memory>
         requires square { self.now.above ≤ (extent_of self.now.subject).n + self.now.s }
-        ensures square { IfOk result (λ made. IsSquareInStems (over self.now.subject.resolved) (extent_of self.now.subject)
-            self.now.s self.now.above (record { images = made.images.items; kernel = made.kernel.rows })) }
+        ensures square { IfOk result (λ made. IsSquareInStems (over self.now.subject.resolved)
+            (extent_of self.now.subject) self.now.s self.now.above
+            (record { images = made.images.items; kernel = made.kernel.rows })) }
         ensures kernel { IfOk result (λ made. IsToCover (over self.now.subject.resolved) (extent_of self.now.subject)
             (suc self.now.s) self.now.above made.kernel) }
     {
@@ -232,32 +233,7 @@ fn make_multiples(
         if right > basis.max() - left {
             return Ok(());
         }
-        start = make_block(alloc, basis, left, right, image, start)?;
+        start = basis.make_multiples(alloc, left, right, image, start)?;
     }
     Ok(())
-}
-
-/// Makes the products of the elements of degree `left` with the elements of degree `right` that have a 1 in `image`, where their
-/// coordinates begin at place `start`. It gives the place behind them.
-///
-/// # Errors
-/// `Memory` if allocation fails.
-fn make_block(
-    alloc: Global,
-    basis: &Basis,
-    left: u16,
-    right: u16,
-    image: &BitVec,
-    start: usize,
-) -> Result<usize, Memory>
-    requires { left + right ≤ basis.now }
-{
-    let elements = basis.of_degree(right);
-    for (i, s) in elements.iter().enumerate() {
-        let place = start.saturating_add(i);
-        if place < image.len() && image.get(place) {
-            basis.multiples(alloc, left, s)?;
-        }
-    }
-    Ok(start.saturating_add(elements.len()))
 }

@@ -1,5 +1,5 @@
 //! Rows of images in the making, which several workers share.
-ghost use Rattle.std.specs.Prelude.{◌≡◌, ◌≤◌, ◌<◌, ◌+◌, ◌↔◌, ◌≤ℤ◌, ℕ, suc, pos, None, IfOk, IfSome, OnOk, OnErr, slice_index_or, map, option_map, length, replicate};
+ghost use Rattle.std.specs.Prelude.{◌≡◌, ◌≤◌, ◌<◌, ◌+◌, ◌↔◌, ◌≤ℤ◌, ℕ, suc, pos, None, IfOk, IfSome, OnOk, OnErr, slice_index_or, option_map, length, replicate};
 ghost use Rattle.std.specs.Arc.{arc_value};
 ghost use Rattle.bidegree.specs.declared.range.TheConstants.{MAX_S, MAX_T};
 ghost use Rattle.bidegree.specs.declared.shape.Shape.TheVariants.{Rectangle, Stems};

@@ -17,6 +17,14 @@ IsLift-less r q s x z upto less top phi h a = record {
   commutes = λ k i j l e f. a.commutes k i j (omega arith) e f;
 }
 
+-- a lift through a degree is one through each lesser
+pub IsLift-lower : (r q : Resolution) (s : ℕ) (x : ℤ) (z : ℕ → List Bool) (upto : ℕ) (top less : ℤ) (phi : ℕ → ℕ → List Bool) → less ≤ℤ top → IsLift r q s x z upto top phi → IsLift r q s x z upto less phi
+IsLift-lower r q s x z upto top less phi low a = record {
+  fit = λ k i h e g l d. a.fit k i h e g l (omega (arith, ints, low, d));
+  start = λ g l d. a.start g l (omega (arith, ints, low, d));
+  commutes = λ k i j h e f g l d. a.commutes k i j h e f g l (omega (arith, ints, low, d));
+}
+
 module _ (r q : Resolution) (n : ℕ) (x : ℤ) (upto : ℕ) (top : ℤ) (images : HasImages r n upto top) (images_q : HasImages q 0 upto (top -ℤ x)) where
   -- d of row k + 1, on the degrees that are lowered
   d-map : (k : ℕ) → k < upto → IsMap top (shifted x (free q (suc k))) (shifted x (free q k)) (λ t. d q (suc k) (t -ℤ x))

@@ -1,9 +1,11 @@
 -- The generators of a square stand last in the basis of its degree; what maps and sums do to the coefficients there.
-use Rattle.std.proofs.Common.{◌≡◌, ℕ, zero, suc, ◌+◌, ◌<◌, ℤ, pos, ◌+ℤ◌, ◌-ℤ◌, List, [], ◌∷◌, ◌++◌, length, map, take, replicate, refl, ap, subst, ◌∙◌, arith}
+use Rattle.std.proofs.Common.{◌≡◌, ℕ, zero, suc, ◌+◌, ◌<◌, ℤ, pos, ◌+ℤ◌, ◌-ℤ◌, Bool, true, false, if◌then◌else◌, List, [], ◌∷◌, ◌++◌, length, map, take, replicate, refl, ap, subst, ◌∙◌, arith}
 use Rattle.std.specs.List.{range_with_len}
 use Rattle.std.proofs.lemmas.Int.{ints}
 use Rattle.std.proofs.lemmas.List.FromFn.{length-map-range_with_len, get_or-map-range_with_len}
 use Rattle.std.proofs.lemmas.List.{get_or-append-add, length-append, length-take-le, take_more}
+use Rattle.f2_vec.specs.Vectors.{bit, zeros}
+use Rattle.f2_vec.proofs.Sums.{bit-zeros}
 use Rattle.milnor_product.specs.Times.{basis_at}
 use Rattle.free_module.specs.FreeModule.{free_basis_from, free_basis, free_width}
 use Rattle.free_module.specs.FreeBasis.{element, IsOfDegree}
@@ -13,6 +15,12 @@ use Rattle.resolution_laws.proofs.Rows.{degrees_from-push, free_basis-take}
 use Rattle.resolution_laws.proofs.Generators.{element-IsOfDegree, length-images_of}
 use Rattle.lift_laws.specs.Lifts.{Resolution, gens, degree}
 use Rattle.lift_laws.specs.Products.{first_of, count_of, old_width}
+
+-- ---- the coordinate of a dual cochain at a generator
+
+pub bit-dual : (c : Bool) (k : ℕ) → bit (if c then true ∷ [] else zeros k) 0 ≡ c
+bit-dual true k = refl
+bit-dual false k = bit-zeros k 0
 
 -- ---- numbers in order
 

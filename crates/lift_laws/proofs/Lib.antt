@@ -11,4 +11,5 @@ pub mod Existence
 pub mod Bridge
 pub mod Quasi
 pub mod Cut
+pub mod Counts
 mod Examples

@@ -14,11 +14,11 @@ use Rattle.square.specs.Tables.{Staircase}
 use Rattle.lift_laws.specs.Lifts.{Resolution, IsLift, dual_of}
 use Rattle.lift_laws.specs.Products.{Class, first_of, count_of, old_width, coefficients, coefficient_of, on_square, number_of, degree_of_class, product_by}
 use Rattle.lift_laws.proofs.Coefficients.{map_range}
+use Rattle.lift_laws.proofs.ChainMaps.{IsLift-lower}
 use Rattle.bracket_laws.specs.Brackets.{top_of}
 use Rattle.bracket_laws.proofs.Vectors.{length-on_square, on_square-same}
 use Rattle.chain_map.specs.Lifting.{LiftValues, resolution_of, IsCanonicalIn, map_of}
 use Rattle.yoneda.specs.Products.{class_above, IsYonedaProduct, AreProducts}
-use Rattle.yoneda.proofs.OneProduct.{lower-lift}
 use Rattle.massey.specs.declared.places.Places.{Places}
 use Rattle.chain_map.specs.Classes.{through}
 use Rattle.massey.specs.Inside.{above_of, above_ab, above_bc, IsSetting, AreLifts, lower_product, AreSpanning}
@@ -78,7 +78,7 @@ module _ (table sphere : Staircase) (range : Range) (p : Places) (s : IsSetting 
       let same : degree_of_class rc (z j) ≡ x = omega (arith, ints) in
       let at : p.a.above + above_bc p ≡ above_of p = omega arith in
       let w = degree_of_class rc (z j) in
-      let lift = lower-lift rc qc n w (dual_of rc qc n w (number_of rc (z j))) p.a.s made.top top made.phi (omega (arith, ints)) made.is_lift in
+      let lift = IsLift-lower rc qc n w (dual_of rc qc n w (number_of rc (z j))) p.a.s made.top top made.phi (omega (arith, ints)) made.is_lift in
       record {
         is_lift = subst (λ (w : ℤ). IsLift rc qc n w (dual_of rc qc n w (first_of rc n (above_bc p) + j)) p.a.s top made.phi) same lift;
         gives = made.gives ∙ ap (product_by rc qc a made.phi (n + p.a.s)) at;

@@ -173,6 +173,31 @@ impl Basis {
         }
     }
 
+    /// Makes the products Sq(R) Sq(S) for each R of degree `left` and each S of degree `right` that has a 1 in `coordinates`,
+    /// where the coordinates of that degree begin at place `start`. It gives the place behind them.
+    ///
+    /// # Errors
+    /// `Memory` if allocation fails.
+    pub fn make_multiples(
+        &self,
+        alloc: Global,
+        left: u16,
+        right: u16,
+        coordinates: &BitVec,
+        start: usize,
+    ) -> Result<usize, Memory>
+        requires { left + right ≤ self.now }
+    {
+        let elements = self.of_degree(right);
+        for (i, s) in elements.iter().enumerate() {
+            let place = start.saturating_add(i);
+            if place < coordinates.len() && coordinates.get(place) {
+                self.multiples(alloc, left, s)?;
+            }
+        }
+        Ok(start.saturating_add(elements.len()))
+    }
+
     /// The coefficients mod 2 of the product of Sq(R) and Sq(S): for each element of the basis of the product's degree,
     /// in basis order, whether its coefficient in Milnor's formula is odd. Where the product is of degree 32 at most,
     /// they come from the products that are kept. Above that degree the matrices of the one product are filled; `multiples`

@@ -8,11 +8,10 @@ use Rattle.f2_vec.proofs.Sums.{length-zeros}
 use Rattle.resolution_laws.specs.Resolution.{row_of}
 use Rattle.lift_laws.specs.Lifts.{Resolution, IsLift, IsSphere, IsCanonical, HasLift, EachClassLifts, dual_of}
 use Rattle.lift_laws.specs.Products.{Class, first_of, count_of, number_of, degree_of_class, coefficients, coefficient_of, on_square, product_by, LiftsGiveOneProduct}
-use Rattle.lift_laws.proofs.ChainMaps.{IsLift-less}
+use Rattle.lift_laws.proofs.ChainMaps.{IsLift-less, IsLift-lower}
 use Rattle.lift_laws.proofs.Coefficients.{is_new}
 use Rattle.bracket_laws.specs.Brackets.{dot, IsNullHomotopy, composed, HasRoom, top_of, bracket_by, IsBracketMember, HasZeroProduct, HasZeroLower, IsIndeterminacy, BracketHasMember, BracketIsCoset}
 use Rattle.bracket_laws.proofs.Vectors.{length-on_square, bit-on_square}
-use Rattle.yoneda_laws.proofs.Products.{IsLift-lower}
 use Rattle.range_laws.specs.Extended.{BracketMembersExtend}
 
 -- ---- a lesser degree

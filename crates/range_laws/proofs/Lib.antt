@@ -1,5 +1,4 @@
 pub mod Parts
-mod Counts
 mod Products
 mod Extended
 mod Nulls

@@ -13,7 +13,7 @@ use Rattle.bracket_laws.specs.Brackets.{dot, composed, IsBracketMember}
 use Rattle.range_laws.specs.Ranges.{resolution_in, part, BracketsAreSameInEachRange}
 use Rattle.range_laws.proofs.Nulls.{IsNull-cut, IsNull-uncut}
 use Rattle.range_laws.proofs.Parts.{row-part, part-canonical}
-use Rattle.range_laws.proofs.Counts.{first_of-less, count_of-less, old_width-less, on_square-less}
+use Rattle.lift_laws.proofs.Counts.{first_of-less, count_of-less, old_width-less, on_square-less}
 
 module _ (m w : Module) (table sphere less less_sphere : List (List Content)) (bottom : w.bottom ≡ pos 0) (a b c : Class) (n l : ℕ)
     (last : ℕ) (a_row : a.s ≡ suc last) (n_row : suc n ≡ c.s + b.s) (l_row : suc l ≡ b.s + a.s)

@@ -15,7 +15,7 @@ use Rattle.bracket_laws.specs.Brackets.{dot}
 use Rattle.yoneda_laws.specs.Elements.{Element, cochain_of, IsProduct, CanMultiply, ElementsHaveOneProduct}
 use Rattle.range_laws.specs.Ranges.{resolution_in, part, ProductsAreSameInEachRange}
 use Rattle.range_laws.proofs.Parts.{row-part, part-canonical}
-use Rattle.range_laws.proofs.Counts.{first_of-less, count_of-less, old_width-less, on_square-less}
+use Rattle.lift_laws.proofs.Counts.{first_of-less, count_of-less, old_width-less, on_square-less}
 
 module _ (kernels : KernelBasisIsUnique) (m w : Module) (table sphere : List (List Content)) (rs rt qs qt : ℕ) (a x : Element)
     (can : CanMultiply (resolution_in m table) (resolution_in w sphere) rs rt qs qt a x) where

@@ -1,5 +1,5 @@
 -- Rows that are made so far, and the kernel that the next square has to cover.
-use Rattle.std.specs.Prelude.{◌≡◌, ℕ, zero, suc, ◌+◌, ◌<◌, ◌≤◌, ℤ, pos, ◌+ℤ◌, Bool, List, [], ◌∷◌, ◌++◌, length, replicate, take, ⊤}
+use Rattle.std.specs.Prelude.{◌≡◌, ℕ, zero, suc, ◌+◌, ℤ, pos, ◌+ℤ◌, Bool, List, [], ◌∷◌, ◌++◌, length, replicate, take, ⊤}
 use Rattle.f2_matrix.specs.Reduction.{Rows}
 use Rattle.resolution_laws.specs.Resolution.{Module, Content, square_in, IsCanonicalTable}
 use Rattle.stem_laws.specs.Stems.{in_stems, degrees_in_stems, target_in_stems, AreToCover}

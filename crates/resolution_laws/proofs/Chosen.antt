@@ -7,10 +7,10 @@ use Rattle.std.proofs.lemmas.Bool.{cases_lt, true≢false}
 use Rattle.f2_vec.specs.Vectors.{bit, sum_of, zeros}
 use Rattle.f2_vec.specs.Spans.{row, HaveWidth, combination, IsInSpan, IsInKernel}
 use Rattle.f2_vec.proofs.Sums.{length-zeros, sum_of-cancel, sum_of-zeros_right}
-use Rattle.f2_vec.proofs.Spans.{HaveWidth-append, HaveWidth-head, HaveWidth-tail, length-combination, combination-zeros, combination-append, zeros-IsInSpan, sum-IsInSpan, row-IsInSpan, span_within}
+use Rattle.f2_vec.proofs.Spans.{HaveWidth-append, HaveWidth-items_where_true, HaveWidth-head, HaveWidth-tail, length-combination, combination-zeros, combination-append, zeros-IsInSpan, sum-IsInSpan, row-IsInSpan, span_within}
 use Rattle.resolution_laws.specs.Resolution.{IsChosen}
 use Rattle.f2_matrix.proofs.Choice.{HaveWidth-push, IsInSpan-push, last-IsInSpan, each_row_push}
-use Rattle.resolution_laws.proofs.NewGenerators.{HaveWidth-items_where_true, HaveWidth-IsChosen}
+use Rattle.resolution_laws.proofs.NewGenerators.{HaveWidth-IsChosen}
 
 -- the rows of two lists are in the span of both
 pub left-IsInSpan : (n : ℕ) (xs ys : List (List Bool)) → HaveWidth n (xs ++ ys) → (i : ℕ) → i < length xs → IsInSpan n (xs ++ ys) (row xs i)

@@ -1,10 +1,9 @@
 -- Generators of degree t, put behind those below it, add to the matrix of a map in degree t their images as last rows.
-use Rattle.std.proofs.Common.{◌≡◌, ℕ, suc, ◌+◌, ◌<◌, ℤ, pos, ◌-ℤ◌, Bool, true, false, List, [], ◌∷◌, ◌++◌, length, map, replicate, refl, sym, ◌∙◌, ap, subst, arith}
-use Rattle.std.specs.List.{items_where_true}
+use Rattle.std.proofs.Common.{◌≡◌, ℕ, suc, ◌+◌, ◌<◌, ℤ, pos, ◌-ℤ◌, Bool, List, [], ◌∷◌, ◌++◌, length, map, replicate, refl, sym, ◌∙◌, ap, subst, arith}
 use Rattle.std.proofs.lemmas.Int.{ints}
 use Rattle.std.proofs.lemmas.List.{map-append, get_or_append_left, get_or-append-add, get_or-replicate}
 use Rattle.f2_vec.specs.Spans.{row, HaveWidth}
-use Rattle.f2_vec.proofs.Spans.{HaveWidth-head, HaveWidth-tail, HaveWidth-nil, HaveWidth-cons}
+use Rattle.f2_vec.proofs.Spans.{HaveWidth-items_where_true}
 use Rattle.f2_vec.proofs.Combinations.{map_same_all}
 use Rattle.f2_matrix.specs.Echelon.{IsKernelBasis}
 use Rattle.f2_matrix.specs.Reduction.{Rows}
@@ -54,12 +53,6 @@ map_rows-new target degrees images chosen t unit one_each w =
     (λ h l. ap (λ k. row (images ++ chosen) (k + h)) (sym one_each) ∙ get_or-append-add images chosen h []) in
     let parts : map f (free_basis degrees t ++ free_basis_from n new t) ≡ map f (free_basis degrees t) ++ map f (free_basis_from n new t) = map-append f (free_basis degrees t) (free_basis_from n new t) in
     ap (map f) split ∙ (parts ∙ (ap (λ (z : List (List Bool)). z ++ map f (free_basis_from n new t)) old ∙ ap (λ (z : List (List Bool)). map_rows target degrees images t ++ z) added))
-
-pub HaveWidth-items_where_true : (n : ℕ) (kept : List Bool) (rows : List (List Bool)) → HaveWidth n rows → HaveWidth n (items_where_true kept rows)
-HaveWidth-items_where_true n [] rows w = HaveWidth-nil n
-HaveWidth-items_where_true n (k ∷ kept) [] w = HaveWidth-nil n
-HaveWidth-items_where_true n (true ∷ kept) (r ∷ rows) w = HaveWidth-cons n r _ (HaveWidth-head n r rows w) (HaveWidth-items_where_true n kept rows (HaveWidth-tail n r rows w))
-HaveWidth-items_where_true n (false ∷ kept) (r ∷ rows) w = HaveWidth-items_where_true n kept rows (HaveWidth-tail n r rows w)
 
 pub HaveWidth-IsChosen : (n : ℕ) (old candidates chosen : List (List Bool)) → HaveWidth n candidates → IsChosen n old candidates chosen → HaveWidth n chosen
 HaveWidth-IsChosen n old candidates chosen w p = subst (HaveWidth n) (sym p.chosen_are) (HaveWidth-items_where_true n p.kept candidates w)

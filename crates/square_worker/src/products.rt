@@ -67,34 +67,9 @@ fn make_multiples(
     for b in 0..=a {
         if let Some(square) = square_at(inputs, below, b) {
             for _ in square.gens() {
-                start = make_block(alloc, basis, left, a - b, image, start)?;
+                start = basis.make_multiples(alloc, left, a - b, image, start)?;
             }
         }
     }
     Ok(())
-}
-
-/// Makes the products of the elements of degree `left` with the elements of degree `right` that have a 1 in `image`, where their
-/// coordinates begin at place `start`. It gives the place behind them.
-///
-/// # Errors
-/// `Memory` if allocation fails.
-fn make_block(
-    alloc: Global,
-    basis: &Basis,
-    left: u16,
-    right: u16,
-    image: &BitVec,
-    start: usize,
-) -> Result<usize, Memory>
-    requires { left + right ≤ basis.now }
-{
-    let elements = basis.of_degree(right);
-    for (i, s) in elements.iter().enumerate() {
-        let place = start.saturating_add(i);
-        if place < image.len() && image.get(place) {
-            basis.multiples(alloc, left, s)?;
-        }
-    }
-    Ok(start.saturating_add(elements.len()))
 }

@@ -5,9 +5,8 @@ use Rattle.std.proofs.lemmas.Bool.{cases_lt}
 use Rattle.std.proofs.lemmas.List.{append-nil, map-append, get_or-map, get_or_append_left, get_or-append_right, get_or_past, get_or-drop, length-append, length-map, length-take-le, length-drop, take-append-drop, take_at, take-map}
 use Rattle.f2_vec.specs.Vectors.{bit, sum_of, zeros, IsZeroFrom, IsFirstOne}
 use Rattle.f2_vec.specs.Spans.{row, HaveWidth, combination, IsInSpan, IsInKernel}
-use Rattle.resolution_laws.proofs.NewGenerators.{HaveWidth-items_where_true}
 use Rattle.f2_vec.proofs.Sums.{length-zeros, bit-zeros, zeros_from_bits, sum_of-zeros_right}
-use Rattle.f2_vec.proofs.Spans.{HaveWidth-append, length-combination, combination-zeros, combination-append}
+use Rattle.f2_vec.proofs.Spans.{HaveWidth-append, HaveWidth-items_where_true, length-combination, combination-zeros, combination-append}
 use Rattle.f2_vec.proofs.Split.{zeros-append}
 use Rattle.f2_vec.proofs.Combinations.{HaveWidth-take, combination-padded_right}
 use Rattle.f2_matrix.specs.Echelon.{IsReduced, IsKernelBasis}

@@ -13,7 +13,7 @@ use Rattle.square.specs.Squares.{bottom_of}
 use Rattle.square.specs.Tables.{Staircase, IsTable, IsThrough}
 use Rattle.lift_laws.specs.Lifts.{Resolution, IsCanonical, IsSphere, IsLift, dual_of}
 use Rattle.lift_laws.specs.Products.{Class, first_of, count_of, coefficient_of, product_by, degree_of_class, number_of, IsLiftOfClass, LiftsGiveOneProduct}
-use Rattle.lift_laws.proofs.ChainMaps.{IsLift-less}
+use Rattle.lift_laws.proofs.ChainMaps.{IsLift-less, IsLift-lower}
 use Rattle.chain_map.specs.Lifting.{LiftValues, no_lift, resolution_of, AreCanonical, IsCanonicalIn, map_of, greatest, AreReached, IsLiftOver}
 use Rattle.chain_map.specs.Classes.{through, IsAt}
 use Rattle.chain_map.proofs.Resolved.{is_canonical}
@@ -34,16 +34,8 @@ at_place table range class place is = record { row = is.row; degree = is.degree;
 pub canonical_less : (table : Staircase) (s n i k : ℕ) → AreCanonical table s n → i ≤ s → k ≤ n → AreCanonical table i k
 canonical_less table s n i k are rows degrees = λ j l h b. are j l (omega arith) (omega arith)
 
--- a lift through a degree is one through each lesser
-pub lower-lift : (r q : Resolution) (s : ℕ) (x : ℤ) (z : ℕ → List Bool) (upto : ℕ) (top less : ℤ) (phi : ℕ → ℕ → List Bool) → less ≤ℤ top → IsLift r q s x z upto top phi → IsLift r q s x z upto less phi
-lower-lift r q s x z upto top less phi low a = record {
-  fit = λ k i h e g l d. a.fit k i h e g l (omega (arith, ints, low, d));
-  start = λ g l d. a.start g l (omega (arith, ints, low, d));
-  commutes = λ k i j h e f g l d. a.commutes k i j h e f g l (omega (arith, ints, low, d));
-}
-
 pub given-lowered : (r q : Resolution) (a x : Class) (v : List Bool) (p : IsGivenBy r q a x v) → IsLiftOfClass r q x a.s (r.base.bottom +ℤ pos (a.above + x.above)) p.phi
-given-lowered r q a x v p = lower-lift r q x.s (degree_of_class r x) (dual_of r q x.s (degree_of_class r x) (number_of r x)) a.s p.top (r.base.bottom +ℤ pos (a.above + x.above)) p.phi p.reaches p.is_lift
+given-lowered r q a x v p = IsLift-lower r q x.s (degree_of_class r x) (dual_of r q x.s (degree_of_class r x) (number_of r x)) a.s p.top (r.base.bottom +ℤ pos (a.above + x.above)) p.phi p.reaches p.is_lift
 
 -- what one lift gives over canonical resolutions, each does
 pub product-of-lift : LiftsGiveOneProduct → (r q : Resolution) (range far : Range) → IsCanonical r range.s range.t → IsCanonical q far.s far.t → IsSphere q → (a x : Class) → x.s + a.s ≤ range.s → a.above + x.above ≤ range.t → a.s ≤ far.s → a.above ≤ far.t → a.i < count_of q a.s a.above → (v : List Bool) → IsGivenBy r q a x v → IsYonedaProduct r q a x v

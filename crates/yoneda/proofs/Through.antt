@@ -12,7 +12,8 @@ use Rattle.lift_laws.proofs.Cut.{IsLift-cut, degree-cut}
 use Rattle.chain_map.specs.Lifting.{resolution_of}
 use Rattle.chain_map.specs.Classes.{through}
 use Rattle.chain_map.proofs.Classes.{rows_through}
-use Rattle.yoneda.proofs.Cut.{first_of-part, count_of-part, old_width-part, on_square-part, product_by-part}
+use Rattle.lift_laws.proofs.Counts.{first_of-less, count_of-less, old_width-less, on_square-less}
+use Rattle.yoneda.proofs.Cut.{product_by-part}
 
 module _ (table : Staircase) (range : Range) where
   abbrev r : Resolution
@@ -22,16 +23,16 @@ module _ (table : Staircase) (range : Range) where
   rc = through range table
 
   pub first_through : (k n : ℕ) → k ≤ range.s → n ≤ range.t → first_of rc k n ≡ first_of r k n
-  first_through k n l b = first_of-part (over table.resolved) (plain_rows table.rows) rc.table k range.t (rows_through table range k l) n b
+  first_through k n l b = first_of-less (over table.resolved) (plain_rows table.rows) rc.table k range.t (rows_through table range k l) n b
 
   pub count_through : (k n : ℕ) → k ≤ range.s → n ≤ range.t → count_of rc k n ≡ count_of r k n
-  count_through k n l b = count_of-part (over table.resolved) (plain_rows table.rows) rc.table k range.t (rows_through table range k l) n b
+  count_through k n l b = count_of-less (over table.resolved) (plain_rows table.rows) rc.table k range.t (rows_through table range k l) n b
 
   pub on_square_through : (k n : ℕ) (f : ℕ → Bool) → k ≤ range.s → n ≤ range.t → on_square rc k n f ≡ on_square r k n f
-  on_square_through k n f l b = on_square-part (over table.resolved) (plain_rows table.rows) rc.table k range.t (rows_through table range k l) n f b
+  on_square_through k n f l b = on_square-less (over table.resolved) (plain_rows table.rows) rc.table k range.t (rows_through table range k l) n f b
 
   pub coefficient_through : (a : Class) (v : List Bool) → a.s ≤ range.s → a.above ≤ range.t → coefficient_of rc a v ≡ coefficient_of r a v
-  coefficient_through a v l b = ap (λ (old : ℕ). bit v (old + a.i)) (old_width-part (over table.resolved) (plain_rows table.rows) rc.table a.s range.t (rows_through table range a.s l) a.above b)
+  coefficient_through a v l b = ap (λ (old : ℕ). bit v (old + a.i)) (old_width-less (over table.resolved) (plain_rows table.rows) rc.table a.s range.t (rows_through table range a.s l) a.above b)
 
 -- products and lifts over two tables, each through a range of its own
 module _ (table sphere : Staircase) (range far : Range) where

@@ -15,7 +15,7 @@ use Rattle.resolution_laws.specs.Exactness.{CanonicalTableIsMinimalResolution}
 use Rattle.lift_laws.specs.Lifts.{Resolution, gens, degree, d, lowered, IsLift}
 use Rattle.lift_laws.specs.Products.{first_of, count_of, old_width, coefficients, on_square}
 use Rattle.lift_laws.proofs.Facts.{IsMap-d, below, above, placed}
-use Rattle.lift_laws.proofs.ChainMaps.{IsLift-less}
+use Rattle.lift_laws.proofs.ChainMaps.{IsLift-less, IsLift-lower}
 use Rattle.lift_laws.proofs.Coefficients.{map_range, is_new, width-parts}
 use Rattle.lift_laws.proofs.Resolved.{IsResolved}
 use Rattle.bracket_laws.specs.Brackets.{dot}
@@ -24,7 +24,7 @@ use Rattle.bracket_laws.proofs.Vectors.{dot-comm, length-on_square, bit-on_squar
 use Rattle.yoneda_laws.specs.Elements.{Element, degree_of, cochain_of, product_with, product_at, IsProduct, CanMultiply, ProductsAssociate}
 use Rattle.yoneda_laws.proofs.Cochains.{length-cochain, bit-cochain}
 use Rattle.yoneda_laws.proofs.Parities.{dot-combination}
-use Rattle.yoneda_laws.proofs.Products.{o as resolved, IsLift-lower, lift_of, moved}
+use Rattle.yoneda_laws.proofs.Products.{o as resolved, lift_of, moved}
 use Rattle.yoneda_laws.proofs.Units.{bit-start, start_is, one_unit}
 use Rattle.yoneda_laws.proofs.Composites.{composite, composite-fits, IsLift-composite}
 

@@ -1,25 +1,21 @@
 -- The cochain of an element: its values are vectors, and at the generators of its square they are its coordinates.
-use Rattle.std.proofs.Common.{◌≡◌, inl, inr, ℕ, ◌+◌, ◌<◌, ℤ, pos, ◌+ℤ◌, ◌-ℤ◌, Bool, true, false, nat_eq, if◌then◌else◌, List, [], ◌∷◌, length, map, refl, ap, sym, ◌∙◌, arith}
+use Rattle.std.proofs.Common.{◌≡◌, inl, inr, ℕ, ◌+◌, ◌<◌, ℤ, pos, ◌+ℤ◌, ◌-ℤ◌, Bool, true, nat_eq, if◌then◌else◌, List, [], ◌∷◌, length, map, refl, ap, sym, ◌∙◌, arith}
 use Rattle.std.specs.List.{range_with_len}
 use Rattle.std.proofs.lemmas.Int.{ints}
 use Rattle.std.proofs.lemmas.Bool.{cases_eq, eq-eqb, ne_eqb}
 use Rattle.std.proofs.lemmas.List.FromFn.{length-map-range_with_len, get_or-map-range_with_len}
 use Rattle.f2_vec.specs.Vectors.{bit, zeros}
 use Rattle.f2_vec.specs.Spans.{row, HaveWidth, combination}
-use Rattle.f2_vec.proofs.Sums.{length-zeros, bit-zeros}
+use Rattle.f2_vec.proofs.Sums.{length-zeros}
 use Rattle.f2_vec.proofs.Spans.{length-combination}
 use Rattle.f2_vec.proofs.Combinations.{map-map}
 use Rattle.resolution_laws.specs.Resolution.{row_of}
 use Rattle.lift_laws.specs.Lifts.{Resolution, degree, dual_of, IsSphere}
 use Rattle.lift_laws.specs.Products.{first_of, count_of}
-use Rattle.lift_laws.proofs.Coefficients.{map_range, is_new}
+use Rattle.lift_laws.proofs.Coefficients.{bit-dual, map_range, is_new}
 use Rattle.bracket_laws.specs.Brackets.{dot}
 use Rattle.bracket_laws.proofs.Dots.{bit-combination_dot}
 use Rattle.bracket_laws.proofs.Vectors.{dot-one}
-
-bit-dual : (c : Bool) (k : ℕ) → bit (if c then true ∷ [] else zeros k) 0 ≡ c
-bit-dual true k = refl
-bit-dual false k = bit-zeros k 0
 
 module _ (r q : Resolution) (sphere : IsSphere q) (s k : ℕ) (there : k < length (row_of r.table s)) where
   abbrev X : ℤ

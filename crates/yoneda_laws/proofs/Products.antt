@@ -6,6 +6,7 @@ use Rattle.resolution_laws.specs.Exactness.{CanonicalTableIsMinimalResolution}
 use Rattle.lift_laws.specs.Lifts.{Resolution, IsLift}
 use Rattle.lift_laws.specs.Products.{first_of, count_of, coefficients}
 use Rattle.lift_laws.proofs.Resolved.{IsResolved, is_resolved}
+use Rattle.lift_laws.proofs.ChainMaps.{IsLift-lower}
 use Rattle.lift_laws.proofs.Existence.{has_lift}
 use Rattle.lift_laws.proofs.Coefficients.{is_new}
 use Rattle.lift_laws.proofs.OneProduct.{coefficients-agree}
@@ -13,14 +14,6 @@ use Rattle.bracket_laws.specs.Brackets.{dot}
 use Rattle.bracket_laws.proofs.Vectors.{length-on_square, on_square-same}
 use Rattle.yoneda_laws.specs.Elements.{Element, degree_of, cochain_of, product_with, IsProduct, CanMultiply, HasOneProduct, ElementsHaveOneProduct}
 use Rattle.yoneda_laws.proofs.Cochains.{length-cochain}
-
--- a lift through a degree is one through each lesser
-pub IsLift-lower : (r q : Resolution) (s : ℕ) (x : ℤ) (z : ℕ → List Bool) (upto : ℕ) (top less : ℤ) (phi : ℕ → ℕ → List Bool) → less ≤ℤ top → IsLift r q s x z upto top phi → IsLift r q s x z upto less phi
-IsLift-lower r q s x z upto top less phi low a = record {
-  fit = λ k i h e g l d. a.fit k i h e g l (omega (arith, ints, low, d));
-  start = λ g l d. a.start g l (omega (arith, ints, low, d));
-  commutes = λ k i j h e f g l d. a.commutes k i j h e f g l (omega (arith, ints, low, d));
-}
 
 module _ (law : CanonicalTableIsMinimalResolution) (r q : Resolution) (rs rt qs qt : ℕ) (a x : Element) (can : CanMultiply r q rs rt qs qt a x) where
   abbrev pub less : ℤ

@@ -1,5 +1,5 @@
 -- What is so of each stock of images, and of what its squares are made from.
-use Rattle.std.specs.Prelude.{◌≡◌, ℕ, zero, suc, ◌+◌, ◌<◌, ◌≤◌, ℤ, List, length, Option, None}
+use Rattle.std.specs.Prelude.{◌≡◌, ℕ, suc, ◌+◌, ◌<◌, ◌≤◌, ℤ, List, length, Option, None}
 use Rattle.bidegree.specs.declared.range.TheConstants.{MAX_S, MAX_T}
 use Rattle.bidegree.specs.declared.range.Range.{Range}
 use Rattle.bidegree.specs.declared.shape.Shape.{Shape}
@@ -8,7 +8,7 @@ use Rattle.resolution_laws.specs.Resolution.{Module}
 use Rattle.resolution_images.specs.declared.resolve.Extent.{Extent}
 use Rattle.resolution_images.specs.BareRows.{BareRow, bare_row_in}
 use Rattle.resolution_images.specs.Made.{IsMadeThrough, AreUnder, IsToCover}
-use Rattle.image_worker.specs.Stocks.{HasStems, extent_in, squares_done, front_in, HasKernel}
+use Rattle.image_worker.specs.Stocks.{HasStems, squares_done, front_in, HasKernel}
 
 -- the range is one that there is
 pub record IsRange (shape : Shape) (range : Range) (basis : ℕ) : Type 0 where

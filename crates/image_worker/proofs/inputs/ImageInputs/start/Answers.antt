@@ -1,4 +1,4 @@
-use Rattle.std.proofs.Common.{◌≡◌, ◌+◌, ◌<◌, sym, subst, ap, ◌∙◌}
+use Rattle.std.proofs.Common.{◌+◌, ◌<◌, sym, subst, ap, ◌∙◌}
 use Rattle.std.specs.Arc.{arc_value}
 use Rattle.square.specs.Squares.{over}
 use Rattle.resolution_images.proofs.Making.{line_ended}

@@ -1,8 +1,8 @@
-use Rattle.std.proofs.Common.{◌≡◌, ℕ, suc, ◌+◌, ◌<◌, ◌≤◌, sym, subst, arith}
+use Rattle.std.proofs.Common.{sym, subst, arith}
 use Rattle.bidegree.specs.declared.range.Range.{Range}
 use Rattle.board_core.specs.Machine.{IsStaircase, stands_in}
 use Rattle.square_board.specs.Openings.{below_fronts}
-use Rattle.image_worker.specs.Stocks.{fronts_of, extent_of}
+use Rattle.image_worker.specs.Stocks.{fronts_of}
 use Rattle.image_worker.proofs.Shapes.{stairs}
 use Rattle.image_worker.proofs.on_board.ImageStockStock.rows.Goals as goal
 

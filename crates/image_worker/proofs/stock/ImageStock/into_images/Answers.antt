@@ -1,6 +1,5 @@
-use Rattle.std.proofs.Common.{◌≡◌, ℕ, ◌+◌, ◌<◌, ◌≤◌, List, sym, subst, ap}
+use Rattle.std.proofs.Common.{ℕ, ◌+◌, ◌<◌, ◌≤◌, List, sym, subst, ap}
 use Rattle.std.specs.Arc.{arc_value}
-use Rattle.bidegree.specs.declared.shape.Shape.{Shape}
 use Rattle.square.specs.Squares.{over}
 use Rattle.resolution_images.specs.BareRows.{BareRow, BareTable}
 use Rattle.resolution_images.proofs.Resolved.{a_table}

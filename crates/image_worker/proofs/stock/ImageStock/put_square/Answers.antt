@@ -1,12 +1,12 @@
-use Rattle.std.proofs.Common.{◌≡◌, ◌≢◌, ℕ, suc, ◌+◌, ◌<◌, ◌≤◌, ℤ, pos, ◌+ℤ◌, List, Option, None, length, get_or, set, w32, to_z, of_z, FitsSigned, sym, subst, ap, ◌∙◌, arith, rules}
+use Rattle.std.proofs.Common.{◌≡◌, ℕ, suc, ◌+◌, ◌<◌, ◌≤◌, ℤ, pos, ◌+ℤ◌, List, Option, None, length, get_or, set, w32, to_z, of_z, FitsSigned, sym, subst, ap, ◌∙◌, arith, rules}
 use Rattle.std.proofs.lemmas.Int.{to_z-of_z}
-use Rattle.std.proofs.lemmas.List.{get_or-set_same, get_or-set_other, get_or_default, length-set, set-get_or, length-take-le}
+use Rattle.std.proofs.lemmas.List.{get_or-set_same, get_or-set_other, length-set, set-get_or}
 use Rattle.std.specs.Option.{option_map}
 use Rattle.std.specs.Arc.{arc_value}
 use Rattle.f2_matrix.specs.Reduction.{Rows}
 use Rattle.resolution_laws.specs.Resolution.{Content}
 use Rattle.square.specs.Squares.{over, bottom_of}
-use Rattle.resolution_images.specs.BareRows.{BareRow, no_bare_row, bare_row_in}
+use Rattle.resolution_images.specs.BareRows.{BareRow}
 use Rattle.resolution_images.specs.Made.{IsSquareInStems, IsToCover, with_one_square}
 use Rattle.resolution_images.proofs.Resolved.{a_table}
 use Rattle.image_worker.specs.Stocks.{ImageRows, IsNextImage, IsOneMore, HasKernel, extent_of, extent_in, front_in, fronts_of}

@@ -3,10 +3,10 @@ use Rattle.std.proofs.lemmas.Int.{to_z-of_z}
 use Rattle.std.proofs.lemmas.List.{get_or_read}
 use Rattle.std.proofs.lemmas.Result.{IfOk-weaker}
 use Rattle.std.specs.Arc.{arc_value}
-use Rattle.resolution_laws.specs.Resolution.{Content, degrees_from}
+use Rattle.resolution_laws.specs.Resolution.{degrees_from}
 use Rattle.square.specs.Squares.{over, bottom_of}
 use Rattle.finite_module.specs.Checked.{Checked}
-use Rattle.resolution_images.specs.BareRows.{BareRow, no_bare_row, bare_row_in, IsBareRowOf}
+use Rattle.resolution_images.specs.BareRows.{no_bare_row, bare_row_in, IsBareRowOf}
 use Rattle.resolution_images.specs.Made.{AreUnder, IsMadeThrough}
 use Rattle.resolution_images.proofs.Resolved.{a_table}
 use Rattle.image_worker.specs.Stocks.{ImageRows, IsNextImage, extent_of, extent_in, squares_done, front_in}

@@ -1,10 +1,9 @@
-use Rattle.std.proofs.Common.{◌≡◌, ℕ, suc, ◌-◌, w32, FitsSigned, List, take, refl, sym, ap, subst, ◌∙◌, arith, rules}
+use Rattle.std.proofs.Common.{◌≡◌, suc, ◌-◌, w32, FitsSigned, take, refl, sym, subst, ◌∙◌, arith, rules}
 use Rattle.std.proofs.lemmas.Int.{to_z-of_z}
-use Rattle.resolution_laws.specs.Resolution.{Content}
 use Rattle.resolution_laws.proofs.Rows.{IsWithinReach-row}
 use Rattle.square.specs.Squares.{over}
 use Rattle.stem_laws.specs.Stems.{in_stems, AreToCover}
-use Rattle.resolution_images.specs.Made.{AreUnder, IsTableOf}
+use Rattle.resolution_images.specs.Made.{AreUnder}
 use Rattle.resolution_images.proofs.Standing.{map_images, map_reach, map_0, map_above, map_covers, cover_kernel, if_ok_both}
 use Rattle.resolution_images.proofs.Resolved.{resolvable, a_table}
 use Rattle.resolution_images.proofs.resolve.Column.kernel.Goals as goal

@@ -1,4 +1,4 @@
-use Rattle.std.proofs.Common.{◌≡◌, ℤ, w32, FitsSigned, ap, subst, ◌∙◌, arith, rules}
+use Rattle.std.proofs.Common.{w32, FitsSigned, ap, ◌∙◌, rules}
 use Rattle.std.proofs.lemmas.Int.{to_z-of_z}
 use Rattle.f2_vec.specs.Spans.{unit_vectors}
 use Rattle.square.specs.Squares.{over}

@@ -1,6 +1,6 @@
 use Rattle.std.proofs.Common.{arith}
 use Rattle.milnor_basis.proofs.Places.{degree_of-read}
-use Rattle.square_worker.proofs.products.make_block.Goals as goal
+use Rattle.milnor_basis.proofs.basis.Basis.make_multiples.Goals as goal
 
 pub multiples-requires : goal.multiples-requires
 multiples-requires c =
