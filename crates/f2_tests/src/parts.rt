@@ -24,6 +24,22 @@ fn bases_by_hand(rt: HostRuntime) -> Result<(), Fail> {
     Ok(())
 }
 
+/// Whether these are the parts of the reduction of the rows.
+fn are_parts_of(
+    alloc: Global,
+    rows: &Matrix,
+    image: &Matrix,
+    chosen: &Matrix,
+    kernel: &Matrix,
+) -> Result<bool, Memory> {
+    let height = rows.rows().len();
+    let fit = image.cols() == rows.cols() && chosen.cols() == height && kernel.cols() == height;
+    if !fit || !is_row_basis(alloc, height, kernel.rows())? {
+        return Ok(false);
+    }
+    are_parts(alloc, rows, image.rows(), chosen.rows(), kernel.rows())
+}
+
 /// Whether these are the parts of the reduction of the matrix with these rows of length 3.
 fn have_parts(
     alloc: Global,
@@ -32,40 +48,48 @@ fn have_parts(
     chosen: &[&str],
     kernel: &[&str],
 ) -> Result<bool, Memory> {
-    let matrix = written(alloc, 3, rows)?;
-    let height = matrix.rows().len();
+    let height = rows.len();
+    let rows = written(alloc, 3, rows)?;
     let image = written(alloc, 3, image)?;
     let chosen = written(alloc, height, chosen)?;
     let kernel = written(alloc, height, kernel)?;
-    let is_basis = is_row_basis(alloc, height, kernel.rows())?;
-    if !is_basis {
-        return Ok(false);
-    }
-    are_parts(alloc, &matrix, image.rows(), chosen.rows(), kernel.rows())
+    are_parts_of(alloc, &rows, &image, &chosen, &kernel)
 }
 
-/// By hand: 101 is the sum of 110 and 011.
+/// The first and the second, and their sum.
+const ROWS: [&str; 3] = ["110", "011", "101"];
+
+const IMAGE: [&str; 2] = ["101", "011"];
+
+const CHOSEN: [&str; 2] = ["001", "010"];
+
 #[test]
 fn parts_by_hand(rt: HostRuntime) -> Result<(), Fail> {
-    let alloc = rt.alloc();
-    let rows = ["110", "011", "101"];
-    let image = ["101", "011"];
-    let chosen = ["001", "010"];
-    assert!(rt; have_parts(alloc, &rows, &image, &chosen, &["111"])?);
-    assert!(rt; have_parts(alloc, &["110", "011"], &image, &["11", "01"], &[])?);
-    assert!(rt; have_parts(alloc, &["000"], &[], &[], &["1"])?);
-    assert!(rt; have_parts(alloc, &[], &[], &[], &[])?);
-    // A preimage with a 1 at the pivot of the relation, and preimages of the other rows.
-    assert!(rt; !have_parts(alloc, &rows, &image, &["110", "010"], &["111"])?);
-    assert!(rt; !have_parts(alloc, &rows, &image, &["010", "001"], &["111"])?);
-    // Too few rows, one more, and a preimage too few.
-    assert!(rt; !have_parts(alloc, &rows, &["101"], &["001"], &["111"])?);
-    assert!(rt; !have_parts(alloc, &["110", "011"], &image, &["11", "01"], &["11"])?);
-    assert!(rt; !have_parts(alloc, &rows, &image, &["001"], &["111"])?);
-    // An image that is not reduced, one with a zero row, and no relation.
-    assert!(rt; !have_parts(alloc, &["110", "011"], &["110", "011"], &["10", "01"], &[])?);
-    assert!(rt; !have_parts(alloc, &["000"], &["000"], &["1"], &[])?);
-    assert!(rt; !have_parts(alloc, &rows, &image, &chosen, &["110"])?);
+    assert!(rt; have_parts(rt.alloc(), &ROWS, &IMAGE, &CHOSEN, &["111"])?);
+    assert!(rt; have_parts(rt.alloc(), &["110", "011"], &IMAGE, &["11", "01"], &[])?);
+    assert!(rt; have_parts(rt.alloc(), &["000"], &[], &[], &["1"])?);
+    assert!(rt; have_parts(rt.alloc(), &[], &[], &[], &[])?);
+    Ok(())
+}
+
+// A preimage with a 1 at the pivot of the relation, and preimages of the other rows; too few rows, one more, and a preimage too few.
+#[test]
+fn other_parts_by_hand(rt: HostRuntime) -> Result<(), Fail> {
+    assert!(rt; !have_parts(rt.alloc(), &ROWS, &IMAGE, &["110", "010"], &["111"])?);
+    assert!(rt; !have_parts(rt.alloc(), &ROWS, &IMAGE, &["010", "001"], &["111"])?);
+    assert!(rt; !have_parts(rt.alloc(), &ROWS, &["101"], &["001"], &["111"])?);
+    assert!(rt; !have_parts(rt.alloc(), &["110", "011"], &IMAGE, &["11", "01"], &["11"])?);
+    assert!(rt; !have_parts(rt.alloc(), &ROWS, &IMAGE, &["001"], &["111"])?);
+    Ok(())
+}
+
+// An image that is not reduced, one with a zero row, and no relation.
+#[test]
+fn images_and_relations_by_hand(rt: HostRuntime) -> Result<(), Fail> {
+    let two = ["110", "011"];
+    assert!(rt; !have_parts(rt.alloc(), &two, &two, &["10", "01"], &[])?);
+    assert!(rt; !have_parts(rt.alloc(), &["000"], &["000"], &["1"], &[])?);
+    assert!(rt; !have_parts(rt.alloc(), &ROWS, &IMAGE, &CHOSEN, &["110"])?);
     Ok(())
 }
 
@@ -81,13 +105,11 @@ fn reduction_passes(alloc: Global, matrix: &Matrix) -> Result<bool, Memory> {
     )
 }
 
-/// Heights at which the products go by sums of 2 to 8 rows.
+// Heights at which the products go by sums of 2 to 8 rows.
 #[test]
 fn reductions_pass(rt: HostRuntime) -> Result<(), Fail> {
-    let alloc = rt.alloc();
     for height in [7, 100, 200, 400, 700, 1500, 2100] {
-        let passes = reduction_passes(alloc, &seeded(alloc, height, 70, 64, SEED)?)?;
-        assert!(rt; passes, "{height} rows of 70");
+        assert!(rt; reduction_passes(rt.alloc(), &seeded(rt.alloc(), height, 70, 64, SEED)?)?);
     }
     Ok(())
 }

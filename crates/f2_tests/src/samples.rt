@@ -1,4 +1,4 @@
-//! Rows that are written out, rows that look random, and whether rows are the same.
+//! Rows that are written out, rows that look random, and whether rows are these or those.
 ghost use Rattle.std.specs.Prelude.{◌≡◌, IfOk};
 
 use f2_matrix::Matrix;
@@ -26,44 +26,77 @@ pub(crate) fn matrix_of(cols: usize, mut rows: Vec<BitVec>) -> Matrix
     Matrix::from_rows(cols, rows)
 }
 
-/// The rows of length `cols` that these texts are, written as 0 and 1.
+/// The row that the text is, written as 0 and 1.
+fn row(alloc: Global, text: &str) -> Result<BitVec, Memory> {
+    let mut row = BitVec::zero(alloc, 0)?;
+    for byte in text.as_bytes() {
+        row.push(*byte == b'1')?;
+    }
+    Ok(row)
+}
+
+/// The rows of length `cols` that these texts are.
 pub(crate) fn written(alloc: Global, cols: usize, texts: &[&str]) -> Result<Matrix, Memory>
     ensures { IfOk result (λ matrix. matrix.cols ≡ cols) }
 {
     let mut rows = Vec::new(alloc);
     for text in texts {
-        let mut row = BitVec::zero(alloc, 0)?;
-        for byte in text.as_bytes() {
-            row.push(*byte == b'1')?;
-        }
-        rows.push(row)?;
+        rows.push(row(alloc, text)?)?;
     }
     Ok(matrix_of(cols, rows))
 }
 
-/// `height` rows of length `cols` that look random, in which about `ones` of 256 coordinates are 1.
+/// A row of length `cols` that looks random, in which about `ones` of 256 coordinates are 1, and the number behind it.
+fn seeded_row(alloc: Global, cols: usize, ones: u64, seed: u64) -> Result<(BitVec, u64), Memory> {
+    let mut seed = seed;
+    let mut row = BitVec::zero(alloc, 0)?;
+    for _ in 0..cols {
+        seed = next(seed);
+        row.push((seed >> 20) & 255 < ones)?;
+    }
+    Ok((row, seed))
+}
+
+/// `height` such rows.
 pub(crate) fn seeded(
     alloc: Global,
     height: usize,
     cols: usize,
     ones: u64,
     seed: u64,
-) -> Result<Matrix, Memory> {
+) -> Result<Matrix, Memory>
+    ensures { IfOk result (λ matrix. matrix.cols ≡ cols) }
+{
     let mut rows = Vec::new(alloc);
     let mut seed = seed;
     for _ in 0..height {
-        let mut row = BitVec::zero(alloc, 0)?;
-        for _ in 0..cols {
-            seed = next(seed);
-            row.push((seed >> 20) & 255 < ones)?;
-        }
+        let (row, after) = seeded_row(alloc, cols, ones, seed)?;
         rows.push(row)?;
+        seed = after;
     }
     Ok(matrix_of(cols, rows))
 }
 
+/// Whether the row is this text.
+pub(crate) fn is_written(row: &BitVec, text: &str) -> bool {
+    let mut same = row.len() == text.len();
+    for (i, digit) in text.bytes().enumerate() {
+        same = same && i < row.len() && row.get(i) == (digit == b'1');
+    }
+    same
+}
+
+/// Whether the rows are these texts.
+pub(crate) fn are_written(rows: &[BitVec], texts: &[&str]) -> bool {
+    let mut same = rows.len() == texts.len();
+    for (row, text) in rows.iter().zip(texts) {
+        same = same && is_written(row, text);
+    }
+    same
+}
+
 /// Whether two vectors are the same.
-fn is_same(a: &BitVec, b: &BitVec) -> bool {
+pub(crate) fn is_same(a: &BitVec, b: &BitVec) -> bool {
     let mut same = a.len() == b.len();
     for i in 0..a.len().div_ceil(64) {
         same = same && a.word(i) == b.word(i);
