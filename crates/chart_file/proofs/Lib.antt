@@ -1,0 +1,4 @@
+mod Words
+mod Squares
+mod Heads
+mod Examples
