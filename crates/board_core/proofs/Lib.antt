@@ -8,6 +8,7 @@ pub mod Histories
 mod LeastReady
 mod Lengths
 pub mod OpenTakes
+pub mod Pairs
 pub mod Places
 mod Progress
 mod Ready
@@ -15,3 +16,4 @@ mod RowsOut
 pub mod Short
 mod Sound
 pub mod Starts
+pub mod Waiting

@@ -1,5 +1,5 @@
--- Who has taken a square and not ended it has it still.
-use Rattle.std.proofs.Common.{◌≡◌, ℕ, ℤ, pos, ◌+ℤ◌, Bool, true, false, not, cond, ◌&&◌, ◌||◌, nat_eq, List, [], ◌∷◌, ◌++◌, map, sym, ◌∙◌, ap, subst, arith, inl, inr}
+-- Who has taken a square and not ended it has it still, and nobody else has one.
+use Rattle.std.proofs.Common.{◌≡◌, ℕ, ℤ, pos, ◌+ℤ◌, Bool, true, false, not, cond, ◌&&◌, ◌||◌, nat_eq, List, [], ◌∷◌, ◌++◌, map, ◌⊎◌, refl, sym, ◌∙◌, ap, subst, arith, inl, inr}
 use Rattle.std.specs.List.{list_any}
 use Rattle.std.specs.Ordering.{int_eq}
 use Rattle.std.proofs.Math.Bool.{or-true}
@@ -178,3 +178,122 @@ open_take_is_held bottom shape s t start events state reached who i u taken =
       degree = subst (λ (b : ℤ). IsAbove b u it.above) (sym (bottom_along first (map event_of events) state reached.history)) it.degree;
       held = it.there;
     }
+
+-- ---- who has a square took it, and has not ended it since
+
+-- a square that is taken off the list is not in it
+none_without : (out : List Out) (who s k i j : ℕ) → (nat_eq i s && nat_eq j k) ≡ true → has_entry (without out s k) who i j ≡ false
+none_without [] who s k i j same = refl
+none_without (x ∷ out) who s k i j same =
+    let rest = none_without out who s k i j same in
+    elim (cases_Bool (nat_eq x.s s && nat_eq x.above k)) [
+      | inl gone ↦
+          let head : without (x ∷ out) s k ≡ without out s k = ap (λ b. cond (not b) (x ∷ without out s k) (without out s k)) gone in
+          ap (λ (l : List Out). has_entry l who i j) head ∙ rest
+      | inr stays ↦
+          let head : without (x ∷ out) s k ≡ x ∷ without out s k = ap (λ b. cond (not b) (x ∷ without out s k) (without out s k)) stays in
+          let row : i ≡ s = grind (arith, nat_tests) in
+          let degree : j ≡ k = grind (arith, nat_tests) in
+          let other : (nat_eq x.s i && nat_eq x.above j) ≡ false = subst (λ (n : ℕ). (nat_eq x.s i && nat_eq x.above n) ≡ false) (sym degree) (subst (λ (n : ℕ). (nat_eq x.s n && nat_eq x.above k) ≡ false) (sym row) stays) in
+          let first : (nat_eq x.who who && (nat_eq x.s i && nat_eq x.above j)) ≡ false = grind arith in
+          ap (λ (l : List Out). has_entry l who i j) head ∙ (ap (λ (b : Bool). b || has_entry (without out s k) who i j) first ∙ rest)
+    ]
+
+-- what is out once a square is out no more was so before, and is another
+out_before : (state : State) (who s : ℕ) (t : ℤ) → IsHeld state who s t → (other i k : ℕ) (u : ℤ) → IsAbove state.bottom u k → has_entry (without state.out s (height state t)) other i k ≡ true → (has_entry state.out other i k ≡ true) × ((nat_eq s i && int_eq t u) ≡ false)
+out_before state who s t held other i k u at there =
+    let high = height state t in
+    let differ : (nat_eq i s && nat_eq k high) ≡ false = elim (cases_Bool (nat_eq i s && nat_eq k high)) [
+      | inl same ↦ absurd (let none = none_without state.out other s high i k same in cc)
+      | inr other ↦ other
+    ] in
+    let stays = any-filter_same (λ (e : Out). nat_eq e.who other && (nat_eq e.s i && nat_eq e.above k)) (λ e. not (nat_eq e.s s && nat_eq e.above high)) true
+    (λ e passes.
+    let row : e.s ≡ i = grind (arith, nat_tests) in
+    let degree : e.above ≡ k = grind (arith, nat_tests) in
+    ap not (subst (λ (n : ℕ). (nat_eq e.s s && nat_eq n high) ≡ false) (sym degree) (subst (λ (n : ℕ). (nat_eq n s && nat_eq k high) ≡ false) (sym row) differ)))
+    state.out in
+    let apart : (nat_eq s i && int_eq t u) ≡ false = elim (cases_Bool (nat_eq s i && int_eq t u)) [
+      | inl same ↦
+          let row : s ≡ i = grind (arith, nat_tests) in
+          let tested : int_eq t u ≡ true = grind arith in
+          let degree : t ≡ u = (Decides-int_eq t u).0 tested in
+          let level : high ≡ k = ap (λ (v : ℤ). height state v) degree ∙ height_is state u k at in
+          let test : (nat_eq i s && nat_eq k high) ≡ true = grind (arith, nat_tests) in
+          absurd (cc)
+      | inr other ↦ other
+    ] in
+    (sym stays ∙ there, apart)
+
+-- one entry more that does not end the square
+none_more : (who i : ℕ) (u : ℤ) (event : Entry) (events : List Entry) → ends_square i u event ≡ false → list_any (ends_square i u) (events_by who events) ≡ false → list_any (ends_square i u) (by_or who event (events_by who events)) ≡ false
+none_more who i u event events ends_other still = elim (cases_Bool (nat_eq (who_of event) who)) [
+  | inl own ↦
+      let both : list_any (ends_square i u) (event ∷ events_by who events) ≡ false = ap (λ (b : Bool). b || list_any (ends_square i u) (events_by who events)) ends_other ∙ still in
+      subst (λ (b : Bool). list_any (ends_square i u) (cond b (event ∷ events_by who events) (events_by who events)) ≡ false) (sym own) both
+  | inr other ↦ subst (λ (b : Bool). list_any (ends_square i u) (cond b (event ∷ events_by who events) (events_by who events)) ≡ false) (sym other) still
+]
+
+open_more : (who i : ℕ) (u : ℤ) (event : Entry) (events : List Entry) → HasOpenTake (events_by who events) i u → HasOpenTake (by_or who event (events_by who events)) i u
+open_more who i u event events open_one = elim (cases_Bool (nat_eq (who_of event) who)) [
+  | inl own ↦ subst (λ (b : Bool). HasOpenTake (cond b (event ∷ events_by who events) (events_by who events)) i u) (sym own) (record {
+    before = event ∷ open_one.before;
+    who = open_one.who;
+    snapshot = open_one.snapshot;
+    behind = open_one.behind;
+    is = ap (λ (l : List Entry). event ∷ l) open_one.is;
+    open_still = open_one.open_still;
+  })
+  | inr other ↦ subst (λ (b : Bool). HasOpenTake (cond b (event ∷ events_by who events) (events_by who events)) i u) (sym other) open_one
+]
+
+-- He had it at the beginning and has not ended it, or he took it since.
+abbrev Had : State → List Entry → ℕ → ℕ → ℕ → ℤ → Type 0
+Had first events who i k u = ((has_entry first.out who i k ≡ true) × (list_any (ends_square i u) (events_by who events) ≡ false)) ⊎ HasOpenTake (events_by who events) i u
+
+had_before : (first : State) (event : Entry) (events : List Entry) → IsLegalEntry first event → (who i k : ℕ) (u : ℤ) → IsAbove first.bottom u k → has_entry (after_entry first event).out who i k ≡ true → list_any (ends_square i u) (events_by who events) ≡ false → Had first (event ∷ events) who i k u
+had_before first (Take w s t snapshot) events legal who i k u at there still =
+    let taken : Out = record { who = w; s = s; above = height first t } in
+    let split = list_any-append (λ (e : Out). nat_eq e.who who && (nat_eq e.s i && nat_eq e.above k)) first.out (taken ∷ []) in
+    elim (cases_Bool (has_entry first.out who i k)) [
+      | inl was ↦ inl (was, none_more who i u (Take w s t snapshot) events refl still)
+      | inr absent ↦
+          let here : has_entry (taken ∷ []) who i k ≡ true = ap (λ (b : Bool). b || has_entry (taken ∷ []) who i k) (sym absent) ∙ (sym split ∙ there) in
+          let test : ((nat_eq w who && (nat_eq s i && nat_eq (height first t) k)) || false) ≡ true = here in
+          let by : nat_eq w who ≡ true = grind arith in
+          let row : s ≡ i = grind (arith, nat_tests) in
+          let level : height first t ≡ k = grind (arith, nat_tests) in
+          let above : legal.above ≡ k = sym (height_is first t legal.above legal.degree) ∙ level in
+          let degree : t ≡ u = legal.degree ∙ (ap (λ (n : ℕ). first.bottom +ℤ pos n) above ∙ sym at) in
+          inr (record {
+            before = [];
+            who = w;
+            snapshot = snapshot;
+            behind = events_by who events;
+            is = ap (λ (b : Bool). cond b (Take w s t snapshot ∷ events_by who events) (events_by who events)) by
+                ∙ (ap (λ (n : ℕ). Take w n t snapshot ∷ events_by who events) row
+                ∙ ap (λ (v : ℤ). Take w i v snapshot ∷ events_by who events) degree);
+            open_still = still;
+          })
+    ]
+had_before first (Give w s t) events legal who i k u at there still = let was = out_before first w s t legal.held who i k u at there in inl (was.0, none_more who i u (Give w s t) events was.1 still)
+had_before first (Back w s t) events legal who i k u at there still = let was = out_before first w s t legal who i k u at there in inl (was.0, none_more who i u (Back w s t) events was.1 still)
+had_before first (Fail w s t) events legal who i k u at there still = let was = out_before first w s t legal.held who i k u at there in inl (was.0, none_more who i u (Fail w s t) events was.1 still)
+
+was_taken : (first : State) (events : List Entry) (last : State) → IsEntryHistory first events last → (who i k : ℕ) (u : ℤ) → IsAbove first.bottom u k → has_entry last.out who i k ≡ true → Had first events who i k u
+was_taken first [] last (nothing state) who i k u at there = inl (there, refl)
+was_taken first (event ∷ events) last (then state e es l legal rest) who i k u at there =
+    let low : IsAbove (after_entry first event).bottom u k = subst (λ (b : ℤ). IsAbove b u k) (sym (same_bottom first (event_of event))) at in
+    elim (was_taken (after_entry first event) events last rest who i k u low there) [
+      | inl still ↦ had_before first event events legal who i k u at still.0 still.1
+      | inr open_one ↦ inr (open_more who i u event events open_one)
+    ]
+
+pub held_is_open_take : (bottom : ℤ) (shape : Shape) (s t : ℕ) (start : List (ℕ × ℤ)) (events : List Entry) (state : State) → IsReachedByEntries bottom shape s t start events state → (who i : ℕ) (u : ℤ) → IsHeld state who i u → HasOpenTake (events_by who events) i u
+held_is_open_take bottom shape s t start events state reached who i u held =
+    let first = opening bottom shape s t start in
+    let low : IsAbove first.bottom u held.above = subst (λ (b : ℤ). IsAbove b u held.above) (bottom_along first (map event_of events) state reached.history) held.degree in
+    elim (was_taken first events state reached.history who i held.above u low held.held) [
+      | inl still ↦ absurd (let none : false ≡ true = still.0 in cc)
+      | inr open_one ↦ open_one
+    ]

@@ -1,5 +1,5 @@
 -- The entries of a board that runs: what they are as events of the machine, who made them, and which squares they leave taken.
-use Rattle.std.specs.Prelude.{◌≡◌, ℕ, ℤ, Bool, false, ◌&&◌, nat_eq, List, ◌∷◌, ◌++◌, map}
+use Rattle.std.specs.Prelude.{◌≡◌, ◌⊎◌, ℕ, ℤ, Bool, false, ◌&&◌, nat_eq, List, [], ◌∷◌, ◌++◌, map, All}
 use Rattle.std.specs.List.{filter, list_any}
 use Rattle.std.specs.Ordering.{int_eq}
 use Rattle.board_core.specs.declared.event.Entry.{Entry}
@@ -56,3 +56,29 @@ pub record HasOpenTake (events : List Entry) (s : ℕ) (t : ℤ) : Type 0 where
   pub behind : List Entry
   pub is : events ≡ before ++ Take who s t snapshot ∷ behind
   pub open_still : list_any (ends_square s t) behind ≡ false
+
+-- they leave no square taken
+abbrev pub HasNoneOut : List Entry → Type 0
+HasNoneOut events = (s : ℕ) (t : ℤ) → HasOpenTake events s t → ⊥
+
+-- ---- pairs
+
+-- a Take of a square, and what ends it: its Give, its Back or its Fail, by the same worker
+pub record IsPair (first second : Entry) : Type 0 where
+  pub who : ℕ
+  pub s : ℕ
+  pub t : ℤ
+  pub snapshot : ℕ × ℕ
+  pub take : first ≡ Take who s t snapshot
+  pub end : (second ≡ Give who s t) ⊎ ((second ≡ Back who s t) ⊎ (second ≡ Fail who s t))
+
+-- the entries of these pairs, one pair behind the other
+abbrev pub in_pairs : List (Entry × Entry) → List Entry
+in_pairs [] = []
+in_pairs (pair ∷ pairs) = pair.0 ∷ (pair.1 ∷ in_pairs pairs)
+
+-- Each square is taken once the one before it has ended, and has ended itself.
+pub record ArePairs (events : List Entry) : Type 0 where
+  pub pairs : List (Entry × Entry)
+  pub each : All (λ p. IsPair p.0 p.1) pairs
+  pub are : events ≡ in_pairs pairs

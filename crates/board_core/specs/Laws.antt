@@ -1,5 +1,5 @@
 -- What is so after every history of a board, from every start.
-use Rattle.std.specs.Prelude.{◌≡◌, ℕ, zero, suc, ◌+◌, ◌*◌, ◌≤◌, ℤ, true, false, not, ◌||◌, nat_eq, List, [], ◌∷◌, ◌++◌, map, length, Option, Some, None, ⊤}
+use Rattle.std.specs.Prelude.{◌≡◌, ◌≢◌, ℕ, zero, suc, ◌+◌, ◌*◌, ◌≤◌, ℤ, true, false, not, ◌||◌, nat_eq, List, [], ◌∷◌, ◌++◌, map, length, Option, Some, None, ⊤}
 use Rattle.std.specs.List.{count_by}
 use Rattle.bidegree.specs.declared.shape.Shape.{Shape}
 use Rattle.board_core.specs.declared.event.Out.{Out}
@@ -10,8 +10,8 @@ use Rattle.board_core.specs.declared.event.Entry.TheVariants.{Take, Give, Back, 
 use Rattle.board_core.specs.declared.event.Event.{Event}
 use Rattle.board_core.specs.declared.event.Event.TheVariants.{Take as TakeEvent, Give as GiveEvent, Back as BackEvent, Fail as FailEvent, Stop, Open}
 use Rattle.board_core.specs.Board.{IsOnce, IsTaken, IsFiled}
-use Rattle.board_core.specs.Entries.{event_of, events_by, IsEntryHistory, HasOpenTake}
-use Rattle.board_core.specs.Machine.{Squares, State, IsStart, squares_of, stands_in, stands, is_meant, opening, count_below, is_out, file_with, IsStaircase, IsRowNumber, IsInRange, IsHeld, IsLegal, IsHistory}
+use Rattle.board_core.specs.Entries.{event_of, events_by, IsEntryHistory, HasOpenTake, HasNoneOut}
+use Rattle.board_core.specs.Machine.{Squares, State, IsStart, squares_of, stands_in, stands, is_meant, opening, count_below, is_out, file_with, IsStaircase, IsRowNumber, IsInRange, IsReady, IsHeld, IsLegal, IsHistory}
 
 -- the events are accepted one after another from the opening with this range and start, and lead to the state
 pub record IsReached (bottom : ℤ) (shape : Shape) (s t : ℕ) (start : List (ℕ × ℤ)) (events : List Event) (state : State)
@@ -149,6 +149,27 @@ abbrev pub OpenTakeIsHeld : Type 0
 OpenTakeIsHeld = (bottom : ℤ) (shape : Shape) (s t : ℕ) (start : List (ℕ × ℤ)) (events : List Entry) (state : State) →
     IsReachedByEntries bottom shape s t start events state → (who i : ℕ) (u : ℤ) → HasOpenTake (events_by who events) i u →
     IsHeld state who i u
+
+-- Who has a square has taken it, and has neither given it nor handed it back nor failed at it.
+abbrev pub HeldIsOpenTake : Type 0
+HeldIsOpenTake = (bottom : ℤ) (shape : Shape) (s t : ℕ) (start : List (ℕ × ℤ)) (events : List Entry) (state : State) →
+    IsReachedByEntries bottom shape s t start events state → (who i : ℕ) (u : ℤ) → IsHeld state who i u →
+    HasOpenTake (events_by who events) i u
+
+-- somebody else has a square
+pub record IsHeldByAnother (state : State) (who : ℕ) : Type 0 where
+  pub other : ℕ
+  pub apart : other ≢ who
+  pub s : ℕ
+  pub t : ℤ
+  pub held : IsHeld state other s t
+
+-- Where squares of the range are unfinished, none is ready and no cause stands, who has none waits for another who has one.
+abbrev pub IdleWaitsForAnother : Type 0
+IdleWaitsForAnother = (bottom : ℤ) (shape : Shape) (s t : ℕ) (start : List (ℕ × ℤ)) (events : List Entry) (state : State) →
+    IsReachedByEntries bottom shape s t start events state → state.cause ≡ None →
+    ((i k : ℕ) → IsReady state i k → ⊥) → HasUnfinished state → (who : ℕ) → HasNoneOut (events_by who events) →
+    IsHeldByAnother state who
 
 -- the cause that the first Back or Fail of the events brings, none where they have neither
 abbrev pub first_cause : List Entry → Option Cause

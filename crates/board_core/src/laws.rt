@@ -1,5 +1,5 @@
 //! What is so after every history of a board, as contracts of functions that do nothing.
-ghost use Rattle.board_core.specs.Laws.{DoneIsStaircase, SquaresAreFiledOnce, SquaresAreGivenOnce, FrontsAreGiven, SquaresAreOutOnce, OpenTakeIsHeld, CauseIsTheFirst, DoneSquaresGrow, SomeSquareIsReady, BoardIsFinished, HistoryIsShort, RangeIsAll};
+ghost use Rattle.board_core.specs.Laws.{DoneIsStaircase, SquaresAreFiledOnce, SquaresAreGivenOnce, FrontsAreGiven, SquaresAreOutOnce, OpenTakeIsHeld, HeldIsOpenTake, IdleWaitsForAnother, CauseIsTheFirst, DoneSquaresGrow, SomeSquareIsReady, BoardIsFinished, HistoryIsShort, RangeIsAll};
 
 /// The done squares are a staircase: with each square, they have its parents.
 pub fn done_is_staircase()
@@ -30,6 +30,17 @@ pub fn squares_are_out_once()
 /// the others have done.
 pub fn open_take_is_held()
     ensures { OpenTakeIsHeld }
+{}
+
+/// Who has a square in this run has taken it, and has neither given it nor handed it back nor failed at it.
+pub fn held_is_open_take()
+    ensures { HeldIsOpenTake }
+{}
+
+/// Where squares of the range are unfinished, none is ready and no cause stands, some square is out: who has taken none that he has not
+/// ended waits for another who has one.
+pub fn idle_waits_for_another()
+    ensures { IdleWaitsForAnother }
 {}
 
 /// The cause that stands in a run is that of its first Back or Fail: `Failed` where it is a Fail, `Memory` where it is a Back, and none

@@ -5,8 +5,8 @@ ghost use Rattle.turn_lock.specs.Turns.{new_pass};
 ghost use Rattle.square.specs.Keeping.{IsKeeperOf};
 ghost use Rattle.square.specs.Tables.{Footing};
 ghost use Rattle.square_board.specs.Jobs.{Taking};
-ghost use Rattle.square_board.specs.Desks.{IsJobOf};
-ghost use Rattle.square_board.specs.Boards.{IsPassOf, IsSamePass};
+ghost use Rattle.square_board.specs.Desks.{IsIdle, IsJobOf};
+ghost use Rattle.square_board.specs.Boards.{IsPassOf, IsSamePass, state_seen};
 ghost use Rattle.square_worker.specs.Kept.{kept_words};
 
 use bidegree::Range;
@@ -70,6 +70,7 @@ fn idle<R: Wait + Clock + Abort, K: Keep>(
     ensures same { IsSamePass pass.old pass.new }
     ensures jobs { (job : Taking Footing) → IsJobOf (kept_words K.telling) board.now.name pass.old.number pass.old.own job →
         IsJobOf (kept_words K.telling) board.now.name pass.new.number pass.new.own job }
+    ensures told { IsIdle (state_seen (kept_words K.telling) pass.new) }
 {
     match board.take(rt, alloc, pass) {
         Ok(Taken::Idle) => {}

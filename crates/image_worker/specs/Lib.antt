@@ -1,3 +1,4 @@
 pub mod Stocks
 pub mod Words
+pub mod Worked
 pub mod Inside

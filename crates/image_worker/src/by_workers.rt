@@ -5,6 +5,7 @@ ghost use Rattle.bidegree.specs.declared.shape.Shape.TheVariants.{Rectangle, Ste
 ghost use Rattle.square.specs.Squares.{over};
 ghost use Rattle.resolution_images.specs.BareRows.{AreOfCanonical, AreOfStems};
 ghost use Rattle.image_worker.specs.Stocks.{HasStems, extent_in};
+ghost use Rattle.image_worker.specs.Worked.{AreImagesBy};
 
 use crate::stock::ImageStock;
 use bidegree::{Range, Shape};
@@ -17,7 +18,8 @@ use std::sync::Wait;
 use std::thread::Threads;
 use std::time::Clock;
 
-/// The images of the generators of the module's canonical resolution through the range, made by so many workers.
+/// The images of the generators of the module's canonical resolution through the range, made by so many workers: one history led to
+/// them, in which each worker took one square after the other, and there is nothing else in it.
 ///
 /// # Errors
 /// `Memory` if allocation fails.
@@ -35,6 +37,7 @@ pub fn images_by<R: Threads + Wait + Clock + Sync, G: Gate + Sync>(
     ensures resolved { IfOk result (λ images. images.resolved ≡ resolved) }
     ensures range { IfOk result (λ images. images.range ≡ range) }
     ensures canonical { IfOk result (λ images. AreOfCanonical (over resolved) range.s range.t images.rows) }
+    ensures worked { IfOk result (λ images. AreImagesBy workers resolved range Rectangle images.rows) }
 {
     images_through(
         wait,
@@ -69,6 +72,8 @@ pub fn images_in_stems_by<R: Threads + Wait + Clock + Sync, G: Gate + Sync>(
     ensures row { IfOk result (λ images. images.range.s ≡ s) }
     ensures degree { IfOk result (λ images. images.range.t ≡ n + s) }
     ensures stems { IfOk result (λ images. AreOfStems (over resolved) s n images.rows) }
+    ensures worked { IfOk result
+        (λ images. AreImagesBy workers resolved (record { s = s; t = n + s }) Stems images.rows) }
 {
     let range = Range { s, t: n + s };
     images_through(wait, alloc, workers, resolved, range, Shape::Stems, gate)
@@ -97,6 +102,7 @@ fn images_through<R: Threads + Wait + Clock + Sync, G: Gate + Sync>(
         (λ images. shape ≡ Rectangle → AreOfCanonical (over resolved) range.s range.t images.rows) }
     ensures stems { IfOk result
         (λ images. shape ≡ Stems → AreOfStems (over resolved) range.s (extent_in shape range).n images.rows) }
+    ensures worked { IfOk result (λ images. AreImagesBy workers resolved range shape images.rows) }
 {
     let stock = ImageStock::new(alloc, resolved, range, shape)?;
     let (outcome, stock) = made_by(wait, alloc, workers, stock, range, gate);

@@ -303,6 +303,7 @@ impl ImageStock {
             k ≤ (extent_of self.subject).n + i → k < fronts_of self i }
         ensures resolved { result.resolved ≡ self.subject.resolved }
         ensures range { result.range ≡ self.subject.range }
+        ensures rows { result.rows ≡ self.rows }
         ensures canonical { self.subject.shape ≡ Rectangle →
             AreOfCanonical (over self.subject.resolved) self.subject.range.s self.subject.range.t result.rows }
         ensures stems { self.subject.shape ≡ Stems →

@@ -1,5 +1,6 @@
 -- Courses with one event more.
-use Rattle.std.proofs.Common.{◌≡◌, ℕ, List, [], ◌∷◌, ◌++◌, refl, sym, ap, subst}
+use Rattle.std.proofs.Common.{◌≡◌, ℕ, ◌<◌, List, [], ◌∷◌, ◌++◌, All, refl, sym, ap, subst}
+use Rattle.std.proofs.lemmas.List.Elements.{All-nil, All-cons, All-head, All-tail}
 use Rattle.board_core.specs.declared.event.Entry.{Entry as Event}
 use Rattle.board_core.specs.Machine.{State, opening}
 use Rattle.board_core.proofs.Histories.{history_then}
@@ -30,3 +31,9 @@ events_of-numbered (event ∷ events) = ap (λ (l : List Event). event ∷ l) (e
 pub numbered-then : (events : List Event) (event : Event) → numbered (events ++ event ∷ []) ≡ numbered events ++ (who_of event, event) ∷ []
 numbered-then [] event = refl
 numbered-then (e ∷ events) event = ap (λ (l : List (ℕ × Event)). (who_of e, e) ∷ l) (numbered-then events event)
+
+pub numbered_below : (n : ℕ) (events : List Event) → All (λ (x : ℕ × Event). x.0 < n) (numbered events) → All (λ (e : Event). who_of e < n) events
+numbered_below n [] all = All-nil (λ (e : Event). who_of e < n)
+numbered_below n (event ∷ events) all =
+    let P : ℕ × Event → Type 0 = λ x. x.0 < n in
+    All-cons (λ (e : Event). who_of e < n) event events (All-head P (who_of event, event) (numbered events) all) (numbered_below n events (All-tail P (who_of event, event) (numbered events) all))

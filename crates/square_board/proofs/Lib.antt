@@ -12,3 +12,5 @@ pub mod Passes
 pub mod Made
 pub mod Crossing
 mod Ended
+mod Waiting
+pub mod Working

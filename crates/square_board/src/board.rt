@@ -4,7 +4,8 @@ ghost use Rattle.bidegree.specs.declared.range.TheConstants.{MAX_S, MAX_T};
 ghost use Rattle.board_core.specs.declared.event.Cause.{Cause};
 ghost use Rattle.board_core.specs.declared.event.Entry.{Entry};
 ghost use Rattle.board_core.specs.declared.event.Entry.TheVariants.{Back};
-ghost use Rattle.board_core.specs.Laws.{first_cause};
+ghost use Rattle.board_core.specs.Entries.{who_of, HasNoneOut};
+ghost use Rattle.board_core.specs.Laws.{first_cause, IsHeldByAnother};
 ghost use Rattle.turn_lock.specs.Turns.{new_pass, after_count, after_front, after_rest, after_join, Continues, HasAll};
 ghost use Rattle.square_board.specs.declared.job.GiveFault.TheVariants.{Stopped as HasStopped};
 ghost use Rattle.square_board.specs.declared.job.Taken.TheVariants.{Idle, Over, Stopped};
@@ -86,7 +87,8 @@ impl<T: Stock> Board<T> {
     /// `Stopped` comes exactly if a square was handed back or failed before, with the cause of the first of these; else `Over`
     /// exactly if all squares of the range are done, `Idle` exactly if some are not and none may be taken, and a job
     /// or `Memory` if one may be. `Idle` is judged by the history as the take found it: with a job the pass has seen its own
-    /// entry too, so the clause on `Idle` asks that it has no new one.
+    /// entry too, so the clause on `Idle` asks that it has no new one. A pass that has no square out then waits for another, who
+    /// has one.
     ///
     /// # Errors
     /// `Memory` if allocation fails; nothing is taken then.
@@ -105,6 +107,8 @@ impl<T: Stock> Board<T> {
         ensures over { (result ≡ Ok Over) ↔ IsOver (state_seen T.words pass.new) }
         ensures stopped { (cause : Cause) →
             (result ≡ Ok (Stopped cause)) ↔ (first_cause (events_of pass.new.seen) ≡ Some cause) }
+        ensures waits { result ≡ Ok Idle → HasNoneOut pass.new.own →
+            IsHeldByAnother (state_seen T.words pass.new) pass.new.number }
     {
         let mut held = self.turn.acquire(wait, pass);
         let taken = held.value.take(alloc, pass.number());
@@ -204,8 +208,12 @@ impl<T: Stock> Board<T> {
     }
 
     /// Waits until more has happened than the pass saw when it last took, gave, handed back, looked, joined or rested.
+    ///
+    /// By what it has seen no square may be taken and some are not done. So where it has none out itself it waits for another, who has
+    /// a square.
     pub fn rest<R: Wait + Clock>(&self, wait: &R, pass: &mut BoardPass<T>)
-        requires { IsPassOf self.now pass.old }
+        requires pass { IsPassOf self.now pass.old }
+        requires idle { IsIdle (state_seen T.words pass.old) }
         ensures pass { IsPassOf self.now pass.new }
         ensures same { IsSamePass pass.old pass.new }
         ensures rested { pass.new ≡ after_rest pass.old pass.new.seen }
@@ -262,11 +270,13 @@ impl<T: Stock> Board<T> {
     }
 
     /// Ends the board with the pass that all others were joined into. It gives the stock with the squares that are done, and the
-    /// whole history.
+    /// whole history, which has the entries of these passes and no others.
     pub fn close(self, pass: BoardPass<T>) -> (T, Vec<Entry>)
         requires pass { IsPassOf self pass }
         requires joined { HasAll pass }
         ensures history { numbered result.1.items ≡ pass.seen }
+        ensures continues { Continues pass (numbered result.1.items) }
+        ensures only { All (λ e. who_of e < self.passes) result.1.items }
         ensures is_desk { IsDesk T.words self.name (course_of T.words self.name result.1.items) result.0 }
         ensures fronts { All (λ t. t.1 ≤ front_after T.words self.name result.1.items t.0) pass.told }
     {

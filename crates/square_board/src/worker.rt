@@ -3,10 +3,10 @@ ghost use Rattle.std.specs.Prelude.{◌≡◌, ◌↔◌, Some};
 ghost use Rattle.board_core.specs.declared.event.Cause.{Cause};
 ghost use Rattle.board_core.specs.Laws.{first_cause};
 ghost use Rattle.square_board.specs.Courses.{events_of};
-ghost use Rattle.square_board.specs.Desks.{IsOver, IsJobOf};
+ghost use Rattle.square_board.specs.Desks.{IsIdle, IsOver, IsJobOf};
 ghost use Rattle.square_board.specs.Boards.{IsPassOf, IsSamePass, state_seen};
-ghost use Rattle.square_board.specs.Workers.{HasSeenNoLess};
-ghost use Rattle.square_board.specs.declared.worker.WorkEnd.TheVariants.{Over, Stopped};
+ghost use Rattle.square_board.specs.Workers.{HasSeenNoLess, HasEnded, HasWorked};
+ghost use Rattle.square_board.specs.declared.worker.WorkEnd.TheVariants.{Over, Stopped, Memory as NoMemory};
 
 use crate::ahead::Ahead;
 use crate::board::{Board, BoardPass};
@@ -33,7 +33,9 @@ pub enum WorkEnd {
 
 /// Takes squares, makes each and gives it, until no more are given out. Where none may be taken it makes products that the next
 /// squares will ask for, and once there are none left to make it rests until something has happened at the board. A square for
-/// which there is no memory is handed back, and that stops the board.
+/// which there is no memory is handed back, and that stops the board. So its entries are pairs: it takes one square after the other,
+/// and has ended each before it takes the next one, rests or returns. It does not leave while it is idle: where it returns for lack of
+/// memory a square might have been taken.
 pub fn work<R: Wait + Clock, T: Stock, G: Gate>(
     wait: &R,
     alloc: Global,
@@ -41,13 +43,15 @@ pub fn work<R: Wait + Clock, T: Stock, G: Gate>(
     pass: &mut BoardPass<T>,
     gate: &G,
 ) -> WorkEnd
-    requires { IsPassOf board.now pass.old }
+    requires pass { IsPassOf board.now pass.old }
     ensures pass { IsPassOf board.now pass.new }
     ensures same { IsSamePass pass.old pass.new }
     ensures no_less { HasSeenNoLess pass.old pass.new }
+    ensures worked { HasWorked pass.old pass.new }
     ensures over { (result ≡ Over) ↔ IsOver (state_seen T.words pass.new) }
     ensures stopped { (cause : Cause) →
         (result ≡ Stopped cause) ↔ (first_cause (events_of pass.new.seen) ≡ Some cause) }
+    ensures stays { result ≡ NoMemory → IsIdle (state_seen T.words pass.new) → ⊥ }
 {
     let mut spare = Spare::first();
     let mut made = [0; ALL_ROWS];
@@ -104,10 +108,12 @@ fn prepare<R: Wait + Clock, T: Stock>(
     spare: Spare<T>,
     made: &mut [u16; ALL_ROWS],
 ) -> Spare<T>
-    requires { IsPassOf board.now pass.old }
+    requires pass { IsPassOf board.now pass.old }
+    requires idle { IsIdle (state_seen T.words pass.old) }
     ensures pass { IsPassOf board.now pass.new }
     ensures same { IsSamePass pass.old pass.new }
     ensures no_less { HasSeenNoLess pass.old pass.new }
+    ensures own { pass.new.own ≡ pass.old.own }
 {
     match spare {
         Spare::Look { rows: 0, .. } => {
@@ -159,6 +165,7 @@ fn make<R: Wait + Clock, T: Stock>(
     ensures pass { IsPassOf board.now pass.new }
     ensures same { IsSamePass pass.old pass.new }
     ensures no_less { HasSeenNoLess pass.old pass.new }
+    ensures ended { HasEnded pass.old pass.new job }
 {
     match T::make(alloc, job.inputs()) {
         Ok(made) => {

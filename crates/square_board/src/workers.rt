@@ -1,11 +1,12 @@
 //! The squares of a range, made by several workers.
-ghost use Rattle.std.specs.Prelude.{◌≡◌, ◌<◌, ◌≤◌, None, Err, OnOk, IfErr, length};
+ghost use Rattle.std.specs.Prelude.{◌≡◌, ℕ, ◌<◌, ◌≤◌, None, Err, OnOk, IfErr, length};
 ghost use Rattle.bidegree.specs.declared.range.TheConstants.{MAX_S, MAX_T};
 ghost use Rattle.board_core.specs.declared.event.Cause as Cause;
+ghost use Rattle.board_core.specs.Entries.{ArePairs};
 ghost use Rattle.board_core.specs.Laws.{first_cause};
 ghost use Rattle.turn_lock.specs.Turns.{HasAll};
 ghost use Rattle.square_board.specs.Boards.{IsPassOf};
-ghost use Rattle.square_board.specs.Workers.{AreItsPasses, IsWhy, HasMade};
+ghost use Rattle.square_board.specs.Workers.{AreItsPasses, IsWhy, HasMade, HasMadeBy, HasConcluded};
 
 use crate::board::{Board, BoardPass};
 use crate::gate::Gate;
@@ -22,7 +23,8 @@ use std::thread::Threads;
 use std::time::Clock;
 
 /// The stock with each square of the range. Those that are not there yet are made, and no others, by so many workers. Each worker
-/// has a thread of its own where one can be made; a single worker runs on the caller's.
+/// has a thread of its own where one can be made; a single worker runs on the caller's. One history led to the stock, in which each
+/// worker took one square after the other, and there is nothing else in it.
 ///
 /// # Errors
 /// The cause why not all squares are there: `Failed` if one could not be kept, `Memory` if there is no memory for the board
@@ -40,7 +42,7 @@ pub fn made_by<R: Threads + Wait + Clock + Sync, T: Stock + Send, G: Gate + Sync
     requires degrees { range.t ≤ MAX_T }
     requires reached { T.words.reaches (T.words.subject stock) range }
     requires takes { T.words.takes stock }
-    ensures { HasMade T.words stock range result.0 result.1 }
+    ensures { HasMadeBy T.words workers stock range result.0 result.1 }
 {
     let (board, mut passes) = match Board::new(alloc, stock, range, workers) {
         Ok(made) => made,
@@ -51,7 +53,7 @@ pub fn made_by<R: Threads + Wait + Clock + Sync, T: Stock + Send, G: Gate + Sync
     };
     work_in_threads(wait, alloc, &board, passes.as_mut_slice(), gate);
     let pass = join_all(&board, passes);
-    conclude(board, pass, range)
+    ended(board, pass, range)
 }
 
 /// Each of these passes, which are all those of the board, works in a thread of its own.
@@ -73,9 +75,11 @@ fn work_in_threads<R: Threads + Wait + Clock + Sync, T: Stock + Send, G: Gate + 
         passes,
         workers,
         &|_, pass: &mut BoardPass<T>|
-            requires { IsPassOf board.now pass.now }
+            requires pass { IsPassOf board.now pass.now }
+            requires pairs { ArePairs pass.now.own }
             ensures pass { IsPassOf board.entry.now pass.exit.now }
             ensures number { pass.exit.now.number ≡ pass.entry.now.number }
+            ensures pairs { ArePairs pass.exit.now.own }
         {
             let _end = work(wait, alloc, board, pass, gate);
         },
@@ -96,6 +100,19 @@ pub fn conclude<T: Stock>(
     requires joined { HasAll pass }
     requires range { board.name.range ≡ range }
     ensures { HasMade T.words board.name.first.value range result.0 result.1 }
+{
+    ended(board, pass, range)
+}
+
+/// The same, with what is known of the history by the pass.
+///
+/// # Errors
+/// The cause that stands, or `Memory` if none does.
+fn ended<T: Stock>(board: Board<T>, pass: BoardPass<T>, range: Range) -> (Result<(), Cause>, T)
+    requires pass { IsPassOf board pass }
+    requires joined { HasAll pass }
+    requires range { board.name.range ≡ range }
+    ensures { HasConcluded T.words board pass range result.0 result.1 }
 {
     let (stock, history) = board.close(pass);
     (outcome(&stock, range, history.as_slice()), stock)
@@ -125,7 +142,7 @@ fn no_board<T: Stock>(stock: &T, range: Range)
     requires degrees { range.t ≤ MAX_T }
     requires reached { T.words.reaches (T.words.subject stock.now) range }
     requires takes { T.words.takes stock.now }
-    ensures { HasMade T.words stock.now range (Err Cause.Memory) stock.now }
+    ensures { (workers : ℕ) → HasMadeBy T.words workers stock.now range (Err Cause.Memory) stock.now }
 {
     let _rows = stock.rows();
     let _shape = stock.shape();

@@ -29,9 +29,11 @@ use Rattle.resolution_step.proofs.Orders.{new_weaker}
 use Rattle.square_board.specs.declared.opening.Opening.{Opening}
 use Rattle.square_board.specs.Openings.{course_of}
 use Rattle.square_board.specs.Desks.{has_fail, IsDesk}
-use Rattle.square_board.specs.Workers.{IsWhy, HasMade}
+use Rattle.square_board.specs.Stocks.{IsGone}
+use Rattle.square_board.specs.Workers.{IsWhy, HasMade, HasMadeBy}
 use Rattle.square_board.proofs.Failing.{none_fails, one_fails, back_stops}
 use Rattle.square_worker.specs.Kept.{KeptTable, kept_words}
+use Rattle.square_worker.specs.Worked.{HasResolvedBy}
 use Rattle.square_worker.specs.Inside.Gone.{AreGiven, HasGoneBy}
 use Rattle.square_worker.proofs.Gone.{gone_by}
 
@@ -181,3 +183,11 @@ module _ {K : Type 0} (telling : K → Keeper) (first last : KeptTable K) (range
   made_untouched =
       subst (λ (x : KeptTable K). IsUntouched telling x.keeper last.keeper) made.opened.first_is
       (untouched telling made.opening.first.value last made.history (gone_at telling made.opening last made.history made.desk settled_then live_then))
+
+-- what so many workers did
+pub made_worked : {K : Type 0} (telling : K → Keeper) (workers : ℕ) (first last : KeptTable K) (range : Range) (result : Result (Unit {0}) Cause) → HasMadeBy (kept_words telling) workers first range result last → IsSettled (telling first.keeper) → HasResolvedBy telling workers range first.table first.keeper last.keeper
+made_worked {K} telling workers first last range result by settled =
+    let made = by.made in
+    let gone : HasGoneBy telling first last made.history =
+    gone_by telling first last made.history settled (subst (λ (x : KeptTable K). IsGone (kept_words telling) x made.history last) made.opened.first_is made.desk.gone) in
+    record { result = result; last = last; keeper_is = refl; worked = by; given = gone.squares; places_are = gone.places_are; kept = gone.kept }

@@ -1,6 +1,9 @@
 -- Beginnings of histories, and the entries of one number.
-use Rattle.std.proofs.Common.{◌≡◌, ◌≢◌, ℕ, ◌==◌, Bool, true, false, if◌then◌else◌, List, [], ◌∷◌, ◌++◌, refl, ap, sym, subst, ◌∙◌, arith, append_assoc, eq-eqb, ne_eqb}
+use Rattle.std.proofs.Common.{◌≡◌, ◌≢◌, ℕ, ◌<◌, ◌≤◌, ◌==◌, Bool, true, false, if◌then◌else◌, List, [], ◌∷◌, ◌++◌, All, refl, ap, sym, subst, ◌∙◌, arith, append_assoc, eq-eqb, ne_eqb}
 use Rattle.std.proofs.lemmas.List.{append-nil}
+use Rattle.std.proofs.lemmas.List.Elements.{All-cons}
+use mathlib.Core.Logic.{dite}
+use native.Mathlib.Decide.{dec_lt}
 use mathlib.Core.List.{IsPrefix}
 use Rattle.turn_lock.specs.History.{entries_by}
 use Rattle.turn_lock.specs.Inside.Rule.{IsReached}
@@ -39,6 +42,21 @@ module _ {E : Type 0} where
   by_none (x ∷ xs) none =
       let here : (x.1 ∷ entries_by x.0 xs) ≡ [] = subst (λ (b : Bool). (if b then (x.1 ∷ entries_by x.0 xs) else (entries_by x.0 xs)) ≡ []) (eq-eqb x.0 x.0 refl) (none x.0) in
       absurd cc
+
+  -- a list whose entries from a number on are none has smaller numbers alone
+  pub by_below : (bound : ℕ) (xs : List (ℕ × E)) → ((n : ℕ) → bound ≤ n → entries_by n xs ≡ []) → All (λ (e : ℕ × E). e.0 < bound) xs
+  by_below bound [] none = λ k d h. absurd (omega arith)
+  by_below bound (x ∷ xs) none =
+      let no_first : entries_by x.0 (x ∷ xs) ≡ [] → ⊥ =
+      λ e. let here : (x.1 ∷ entries_by x.0 xs) ≡ [] = subst (λ (b : Bool). (if b then (x.1 ∷ entries_by x.0 xs) else (entries_by x.0 xs)) ≡ []) (eq-eqb x.0 x.0 refl) e in cc in
+      let others : (n : ℕ) → bound ≤ n → entries_by n xs ≡ [] =
+      λ n le. elim (x.0 == n) as (λ b. (if b then (x.1 ∷ entries_by n xs) else (entries_by n xs)) ≡ [] → entries_by n xs ≡ []) [
+        | true ↦ λ e. absurd (cc)
+        | false ↦ λ e. e
+      ] (none n le) in
+      All-cons (λ (e : ℕ × E). e.0 < bound) x xs
+      (dite (dec_lt x.0 bound) (λ less. less) (λ more. absurd (no_first (none x.0 (omega arith)))))
+      (by_below bound xs others)
 
   pub reached_self : (fronts : List (ℕ × E) → ℕ → ℕ) (width : ℕ) (xs : List (ℕ × E)) → IsReached fronts width xs xs
   reached_self fronts width xs = record { begins = prefix_self xs; below = λ i h. omega arith }

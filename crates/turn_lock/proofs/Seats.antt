@@ -11,11 +11,11 @@ use lib.ListN.{get_elem?}
 use Rattle.atomic_table.specs.Table.{State, Me, Splits, Joins, opening, Seen}
 use Rattle.atomic_table.proofs.Lists.{set_here, set_else, at_longer}
 use Rattle.turn_lock.specs.declared.view.View.{View}
-use Rattle.turn_lock.specs.History.{entries_by}
+use Rattle.turn_lock.specs.History.{entries_by, IsKnown}
 use Rattle.turn_lock.specs.Inside.Rule.{IsSpent, Knows, IsFree, IsTaken, Keeps, first_view, spent_view, making, made_by, joining}
 use Rattle.turn_lock.specs.Inside.Passes.{IsPass}
 use Rattle.turn_lock.specs.Turns.{HasAll, TurnId}
-use Rattle.turn_lock.proofs.Histories.{reached_self, by_none, by_append}
+use Rattle.turn_lock.proofs.Histories.{reached_self, prefix_self, by_none, by_append, by_below}
 use Rattle.turn_lock.proofs.Passes.{seen_as}
 use Rattle.turn_lock.proofs.Views.{there_within, at_same, spent_else, spent_set, each_view, knows_on}
 
@@ -225,18 +225,20 @@ rest_has_none {E} n seen rest history own whole all some_of =
     (sym (by_append n seen rest) ∙ (ap (λ (l : List (ℕ × E)). entries_by n l) whole ∙ (all ∙ (sym some_of ∙ sym (append-nil (entries_by n seen))))))
 
 -- The table at its end, as the pass that all others were joined into knows it
-pub record Ends {T N E : Type 0} (entries : T → List (ℕ × E)) (name_of : T → N) (fronts : List (ℕ × E) → ℕ → ℕ) (name : N) (seen : List (ℕ × E)) (told : List (ℕ × ℕ)) (homes : List (maybe.Option (Option T))) : Type 0 where
+pub record Ends {T N E : Type 0} (entries : T → List (ℕ × E)) (name_of : T → N) (fronts : List (ℕ × E) → ℕ → ℕ) (name : N) (passes number : ℕ) (v : View N E) (homes : List (maybe.Option (Option T))) : Type 0 where
   pub state : T
   pub home : get_elem? homes 0 ≡ some (some (Some state))
   pub named : name_of state ≡ name
-  pub whole : entries state ≡ seen
-  pub fronts_told : All (λ (p : ℕ × ℕ). p.1 ≤ fronts seen p.0) told
+  pub whole : entries state ≡ v.seen
+  pub fronts_told : All (λ (p : ℕ × ℕ). p.1 ≤ fronts v.seen p.0) v.told
+  pub known : IsKnown number v.seen v.latest v.own v.joined v.seen
+  pub only : All (λ (e : ℕ × E). e.0 < passes) v.seen
 
 module _ {T N E : Type 0} (entries : T → List (ℕ × E)) (name_of : T → N) {fronts : List (ℕ × E) → ℕ → ℕ} {width : ℕ} {name : N} {passes : ℕ} where
   ends : (s : State (Option T) (View N E)) (rule : Keeps entries name_of fronts width name passes s) (seat number count : ℕ) (me : Me (Option T) (View N E)) → get_elem? s.views seat ≡ some me.0
       → IsPass name number count me → me.0.holds ≡ false
       → ((n : ℕ) → 0 ≤ n → n < passes → (n ≡ number) ⊎ ((own : List E) × Contains me.0.joined (n, own)))
-      → Ends entries name_of fronts name me.0.seen me.0.told s.homes
+      → Ends entries name_of fronts name passes number me.0 s.homes
   ends s rule seat number count me at pass free all =
       let v = me.0 in
       let history = rule.history in
@@ -280,18 +282,25 @@ module _ {T N E : Type 0} (entries : T → List (ℕ × E)) (name_of : T → N) 
         named = free_now.named;
         whole = free_now.told ∙ same;
         fronts_told = λ k d h. let t = knows.told k d h in let e = word_is _ t.0 in omega arith;
+        known = record {
+          seen = prefix_self v.seen;
+          latest = (knows.latest.begins.0, knows.latest.begins.1 ∙ same);
+          own = pass.own;
+          joined = pass.joined;
+        };
+        only = by_below passes v.seen (λ n le. ap (λ (l : List (ℕ × E)). entries_by n l) (sym same) ∙ (let wide = rule.seats in rule.unmade n (omega arith)));
       }
 
 -- the same by the words of the code
 pub closes : {T N E : Type 0} (entries : T → List (ℕ × E)) (name_of : T → N) (front_of : N → List (ℕ × E) → ℕ → ℕ) (width_of : N → ℕ) (mine turn : TurnId N) → mine ≡ turn
     → (s : State (Option T) (View N E)) (seat number count : ℕ) (me : Me (Option T) (View N E)) → Seen (Keeps entries name_of (front_of turn.name) (width_of turn.name) turn.name turn.passes) seat me.0 s
-    → IsPass mine.name number count me → me.0.holds ≡ false → HasAll (seen_as mine number me.0) → Ends entries name_of (front_of turn.name) turn.name me.0.seen me.0.told s.homes
+    → IsPass mine.name number count me → me.0.holds ≡ false → HasAll (seen_as mine number me.0) → Ends entries name_of (front_of turn.name) turn.name turn.passes number me.0 s.homes
 closes {T} {N} {E} entries name_of front_of width_of mine turn same s seat number count me standing pass free all =
     ends entries name_of s standing.0 seat number count me standing.1
     (subst (λ (t : TurnId N). IsPass t.name number count me) same pass) free
     (subst (λ (t : TurnId N). HasAll (seen_as t number me.0)) same all)
 
 -- what was taken out of the slot is the state
-pub taken_out : {T N E : Type 0} (entries : T → List (ℕ × E)) (name_of : T → N) (fronts : List (ℕ × E) → ℕ → ℕ) (name : N) (seen : List (ℕ × E)) (told : List (ℕ × ℕ)) (homes : List (maybe.Option (Option T))) (items : List (Option T)) (result : Option T) (e : Ends entries name_of fronts name seen told homes)
+pub taken_out : {T N E : Type 0} (entries : T → List (ℕ × E)) (name_of : T → N) (fronts : List (ℕ × E) → ℕ → ℕ) (name : N) (passes number : ℕ) (v : View N E) (homes : List (maybe.Option (Option T))) (items : List (Option T)) (result : Option T) (e : Ends entries name_of fronts name passes number v homes)
     → ((k : ℕ) (y : Option T) → get_elem? homes k ≡ some (some y) → get_elem? items k ≡ some y) → get_elem? items 0 ≡ some result → result ≡ Some e.state
-taken_out entries name_of fronts name seen told homes items result e given taken = some-injective result (Some e.state) (sym taken ∙ given 0 (Some e.state) e.home)
+taken_out entries name_of fronts name passes number v homes items result e given taken = some-injective result (Some e.state) (sym taken ∙ given 0 (Some e.state) e.home)

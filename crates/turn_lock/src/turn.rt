@@ -56,9 +56,10 @@ impl<T: Told> Turn<T> {
     /// Takes the turn, with the state as the turn before left it: no other turn begins until this one is released.
     ///
     /// The pass then has seen the whole history, and the fronts are at least what it was told of them before. It waits for the pass that holds the
-    /// turn, and for ever where that is the pass itself.
+    /// turn, which is another one.
     pub fn acquire<R: Wait + Clock>(&self, wait: &R, pass: &mut Pass<T>) -> Held<T>
-        requires { pass.old.turn ≡ self.now }
+        requires pass { pass.old.turn ≡ self.now }
+        requires idle { pass.old.holds ≡ false }
         ensures pass { pass.new ≡ with_turn pass.old (T.entries result.value) }
         ensures name { T.name result.value ≡ self.now.name }
         ensures continues { Continues pass.old (T.entries result.value) }
@@ -278,13 +279,16 @@ impl<T: Told> Turn<T> {
         pass.count = shared.load::<See>(&mut pass.seat, 0) / 2;
     }
 
-    /// Ends the turn with the pass that all others were joined into, and gives the state back, with the whole history.
+    /// Ends the turn with the pass that all others were joined into, and gives the state back, with the whole history: it has the
+    /// entries of this pass and of those that were joined into it, and no others.
     pub fn close(self, pass: Pass<T>) -> T
         requires pass { pass.turn ≡ self }
         requires idle { pass.holds ≡ false }
         requires joined { HasAll pass }
         ensures name { T.name result ≡ self.name }
         ensures whole { T.entries result ≡ pass.seen }
+        ensures continues { Continues pass (T.entries result) }
+        ensures only { All (λ e. e.0 < self.passes) (T.entries result) }
         ensures fronts { All (λ t. t.1 ≤ T.front_of self.name (T.entries result) t.0) pass.told }
     {
         let Turn { table, fronts: _ } = self;

@@ -1,5 +1,5 @@
 use Rattle.square_board.specs.Boards.{IsPassOf, IsSamePass}
-use Rattle.square_board.specs.Workers.{HasSeenNoLess}
+use Rattle.square_board.specs.Workers.{HasSeenNoLess, HasWorked}
 use Rattle.square_board.proofs.worker.work.Given as goal
 
 abbrev pub invariant-loop : goal.invariant-loop
@@ -9,4 +9,5 @@ invariant-loop g l = record {
   pass : IsPassOf l.board l.pass;
   same : IsSamePass l.initial.pass l.pass;
   no_less : HasSeenNoLess l.initial.pass l.pass;
+  worked : HasWorked l.initial.pass l.pass;
 }

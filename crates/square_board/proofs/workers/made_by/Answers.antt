@@ -1,10 +1,11 @@
-use Rattle.std.proofs.Common.{List, length, drop, Err, sym, subst, arith}
+use Rattle.std.proofs.Common.{ℕ, List, length, drop, Err, sym, subst, arith}
 use Rattle.board_core.specs.declared.event.Cause.TheVariants.{Memory}
 use Rattle.board_core.specs.declared.event.Entry.{Entry as Event}
 use Rattle.turn_lock.specs.Turns.{PassState}
 use Rattle.square_board.specs.declared.opening.Opening.{Opening}
-use Rattle.square_board.specs.Workers.{AreItsPasses, HasMade}
+use Rattle.square_board.specs.Workers.{AreItsPasses, AreOfWorkers, HasMadeBy}
 use Rattle.square_board.proofs.Made.{new_are, written_back}
+use Rattle.square_board.proofs.Working.{of_workers}
 use Rattle.square_board.proofs.workers.made_by.Goals as goal
 
 pub work_in_threads-requires-clause-passes : goal.work_in_threads-requires-clause-passes
@@ -23,7 +24,13 @@ join_all-pass-requires-clause-passes g c κs within =
     written_back c.in-Ok.made.0 new (drop (length new) c.in-Ok.made.1.items) c.in-Ok.made.1.len (omega arith) c.work_in_threads.ensures.passes
 
 pub returns : goal.returns
-returns g c = subst (λ (x : g.row.T.Denot). HasMade g.T.Stock.words x c.args.range c.conclude.result.0 c.conclude.result.1) c.in-Ok.ensures.opened.first_is c.conclude.ensures
+returns g c =
+    let w = g.T.Stock.words in
+    let ended = c.ended.ensures in
+    let by : AreOfWorkers c.in-Ok.made.0.passes ended.made.history = of_workers c.join_all-pass.result c.in-Ok.made.0.passes ended.made.history ended.continues ended.only c.join_all-pass.ensures.pairs in
+    let made : HasMadeBy w c.args.workers c.in-Ok.made.0.name.first.value c.args.range c.ended.result.0 c.ended.result.1 =
+    record { made = ended.made; by = subst (λ (n : ℕ). AreOfWorkers n ended.made.history) c.in-Ok.ensures.as_many by } in
+    subst (λ (x : g.row.T.Denot). HasMadeBy w c.args.workers x c.args.range c.ended.result.0 c.ended.result.1) c.in-Ok.ensures.opened.first_is made
 
 pub returns-in-Err : goal.returns-in-Err
-returns-in-Err g c = subst (λ (x : g.row.T.Denot). HasMade g.T.Stock.words x c.args.range (Err Memory) c.in-Err.stock) c.in-Err.ensures.err c.no_board.ensures
+returns-in-Err g c = subst (λ (x : g.row.T.Denot). HasMadeBy g.T.Stock.words c.args.workers x c.args.range (Err Memory) c.in-Err.stock) c.in-Err.ensures.err (c.no_board.ensures c.args.workers)

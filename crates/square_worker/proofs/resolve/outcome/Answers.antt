@@ -1,9 +1,9 @@
-use Rattle.std.proofs.Common.{Result, Ok, Err, refl, sym, subst}
+use Rattle.std.proofs.Common.{ℕ, Result, Ok, Err, refl, sym, subst}
 use Rattle.board_core.specs.declared.event.Cause.{Cause}
 use Rattle.square.proofs.Kept.{IsSettled}
-use Rattle.square_board.specs.Workers.{HasMade}
+use Rattle.square_board.specs.Workers.{HasMade, HasMadeBy}
 use Rattle.square_worker.specs.Kept.{KeptTable, kept_words}
-use Rattle.square_worker.proofs.Ended.{IsGivenOf, made_resolved, made_untouched}
+use Rattle.square_worker.proofs.Ended.{IsGivenOf, made_resolved, made_untouched, made_worked}
 use Rattle.square_worker.proofs.resolve.outcome.Goals as goal
 
 pub returns-in-Ok-clause-resolved : goal.returns-in-Ok-clause-resolved
@@ -35,3 +35,17 @@ returns-in-Err-clause-untouched g c first range live made =
     let last : KeptTable g.row.K.Denot = record { table = c.last.inside.table; keeper = c.last.inside.keeper } in
     let settled : IsSettled (telling first.keeper) = record { images = g.met.K.Keep.image_is_kept first.keeper live; earlier = g.met.K.Keep.since_earlier first.keeper } in
     made_untouched telling first last range c.args.made (subst (HasMade (kept_words telling) first range c.args.made) (sym c.last.view_is) made) settled live
+
+pub returns-in-Ok-clause-worked : goal.returns-in-Ok-clause-worked
+returns-in-Ok-clause-worked g c workers first range live made =
+    let telling = g.K.Keep.telling in
+    let last : KeptTable g.row.K.Denot = record { table = c.last.inside.table; keeper = c.last.inside.keeper } in
+    let settled : IsSettled (telling first.keeper) = record { images = g.met.K.Keep.image_is_kept first.keeper live; earlier = g.met.K.Keep.since_earlier first.keeper } in
+    made_worked telling workers first last range c.args.made (subst (HasMadeBy (kept_words telling) workers first range c.args.made) (sym c.last.view_is) made) settled
+
+pub returns-in-Err-clause-worked : goal.returns-in-Err-clause-worked
+returns-in-Err-clause-worked g c workers first range live made =
+    let telling = g.K.Keep.telling in
+    let last : KeptTable g.row.K.Denot = record { table = c.last.inside.table; keeper = c.last.inside.keeper } in
+    let settled : IsSettled (telling first.keeper) = record { images = g.met.K.Keep.image_is_kept first.keeper live; earlier = g.met.K.Keep.since_earlier first.keeper } in
+    made_worked telling workers first last range c.args.made (subst (HasMadeBy (kept_words telling) workers first range c.args.made) (sym c.last.view_is) made) settled

@@ -14,7 +14,10 @@ pub made_by-made-requires-send-T-Made : goal.made_by-made-requires-send-T-Made
 made_by-made-requires-send-T-Made g c κs within = search (crosses, sendable, Square-send) depth 20
 
 pub returns-clause-resolved : goal.returns-clause-resolved
-returns-clause-resolved g c = c.outcome.ensures.resolved (record { table = c.args.table; keeper = c.args.keeper }) c.args.range c.requires.live c.made_by-made.ensures
+returns-clause-resolved g c = c.outcome.ensures.resolved (record { table = c.args.table; keeper = c.args.keeper }) c.args.range c.requires.live c.made_by-made.ensures.made
 
 pub returns-clause-untouched : goal.returns-clause-untouched
-returns-clause-untouched g c = c.outcome.ensures.untouched (record { table = c.args.table; keeper = c.args.keeper }) c.args.range c.requires.live c.made_by-made.ensures
+returns-clause-untouched g c = c.outcome.ensures.untouched (record { table = c.args.table; keeper = c.args.keeper }) c.args.range c.requires.live c.made_by-made.ensures.made
+
+pub returns-clause-worked : goal.returns-clause-worked
+returns-clause-worked g c = c.outcome.ensures.worked c.args.workers (record { table = c.args.table; keeper = c.args.keeper }) c.args.range c.requires.live c.made_by-made.ensures

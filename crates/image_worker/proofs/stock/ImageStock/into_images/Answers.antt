@@ -1,4 +1,4 @@
-use Rattle.std.proofs.Common.{ℕ, ◌+◌, ◌<◌, ◌≤◌, List, sym, subst, ap}
+use Rattle.std.proofs.Common.{ℕ, ◌+◌, ◌<◌, ◌≤◌, List, sym, ◌∙◌, subst, ap}
 use Rattle.std.specs.Arc.{arc_value}
 use Rattle.square.specs.Squares.{over}
 use Rattle.resolution_images.specs.BareRows.{BareRow, BareTable}
@@ -29,3 +29,6 @@ returns-clause-canonical c = λ shape_is. of_rectangle (over c.args.self.subject
 
 pub returns-clause-stems : goal.returns-clause-stems
 returns-clause-stems c = λ shape_is. of_stems (over c.args.self.subject.resolved) c.args.self.subject.shape c.args.self.subject.range c.of.result.rows shape_is (shaped c)
+
+pub returns-clause-rows : goal.returns-clause-rows
+returns-clause-rows c = ap (λ (b : BareTable). b.rows) c.of.ensures ∙ ap (λ (r : ImageRows). r.rows) c.self.view_is

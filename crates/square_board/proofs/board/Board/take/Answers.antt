@@ -1,10 +1,13 @@
-use Rattle.std.proofs.Common.{◌≡◌, ℕ, ap, sym, ◌∙◌, subst}
+use Rattle.std.proofs.Common.{◌≡◌, ℕ, [], ap, sym, ◌∙◌, subst}
 use Rattle.board_core.specs.declared.event.Entry.{Entry as Event}
 use Rattle.turn_lock.specs.Turns.{TurnId, PassState}
 use Rattle.square_board.specs.declared.opening.Opening.{Opening}
+use Rattle.square_board.specs.Boards.{HasTurned, HasTakenJob}
 use Rattle.square_board.specs.Courses.{numbered}
+use Rattle.square_board.specs.Desks.{MatchTaken}
 use Rattle.square_board.proofs.Answered.{IsTake, take_goes, take_opening, take_match, take_idle, take_over, take_stopped}
 use Rattle.square_board.proofs.Turning.{GoesOn, next_entries, fronts_grow, few_entries, told_fronts, named_legal}
+use Rattle.square_board.proofs.Waiting.{waits}
 use Rattle.square_board.proofs.board.Board.take.Goals as goal
 
 pub release-requires-clause-entries : goal.release-requires-clause-entries
@@ -161,3 +164,12 @@ returns-clause-stopped g c =
       job = c.take-taken.ensures.job;
     } in
     λ cause. take_stopped w pass c.acquire-held.new.pass c.release.new.pass old new c.number.result c.take-taken.result take cause (c.take-taken.ensures.stopped cause)
+
+pub returns-clause-waits : goal.returns-clause-waits
+returns-clause-waits g c =
+    let w = g.T.Stock.words in
+    let old = c.args.pass.now in
+    let new = c.release.new.pass in
+    λ is none.
+    let turned : HasTurned w old new [] = subst (λ r. MatchTaken r (λ job. HasTakenJob w old new job) (HasTurned w old new [])) is (returns-clause-job g c) in
+    waits w old new turned ((returns-clause-idle g c).0 is).1 none

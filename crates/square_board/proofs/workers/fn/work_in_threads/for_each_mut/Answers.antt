@@ -1,0 +1,9 @@
+use Rattle.square_board.proofs.Working.{worked_pairs}
+use Rattle.square_board.proofs.workers.fn.work_in_threads.for_each_mut.Goals as goal
+
+pub returns : goal.returns
+returns g c = record {
+  pass = c.work-end.ensures.pass;
+  number = c.work-end.ensures.same.number;
+  pairs = worked_pairs c.args.pass.now c.work-end.new.pass c.requires.pairs c.work-end.ensures.worked;
+}
