@@ -1,5 +1,5 @@
 -- The line on standard error that tells a failure.
-use Rattle.std.specs.Prelude.{ℕ, pos, List, ◌++◌, codes, decimal}
+use Rattle.std.specs.Prelude.{ℕ, pos, List, [], ◌++◌, codes, decimal}
 use Rattle.hex.specs.Hex.{encode_lower}
 use Rattle.milnor_basis.specs.Text.{sq_text}
 use Rattle.module_spec.specs.Spec.{Generator}
@@ -101,18 +101,29 @@ open_line OpenFailed = saving_line
 open_line NotSave = codes "ext: save file: not a save file\n"
 open_line (Other kept ours) = codes "ext: save file: of another module, kept "
     ++ (encode_lower kept ++ (codes ", ours " ++ (encode_lower ours ++ newline)))
-open_line (Damaged number kept found) =
+open_line (Damaged number place kept found) =
     codes "ext: save file: record "
     ++ (decimal number
     ++ (codes " damaged, kept "
     ++ (encode_lower kept ++ (codes ", found " ++ (encode_lower found ++ newline)))))
-open_line (Short place) = codes "ext: save file: short at place " ++ (decimal place ++ newline)
+open_line (Short number place) = codes "ext: save file: short at place " ++ (decimal place ++ newline)
 open_line OpenMemory = memory_line
 
 abbrev pub refusal_line : ResumeFault → List ℕ
 refusal_line (Open fault) = open_line fault
-refusal_line (Strange number) = codes "ext: save file: record " ++ (decimal number ++ codes " strange\n")
+refusal_line (Strange number place) = codes "ext: save file: record " ++ (decimal number ++ codes " strange\n")
 refusal_line ResumeMemory = memory_line
+
+-- behind the line of a save file that is refused for a record: where that begins
+abbrev pub record_line : ℕ → ℕ → List ℕ
+record_line number place =
+    codes "ext: save file: record " ++ (decimal number ++ (codes " begins at byte " ++ (decimal place ++ newline)))
+
+abbrev pub place_line : ResumeFault → List ℕ
+place_line (Open (Damaged number place kept found)) = record_line number place
+place_line (Open (Short number place)) = record_line number place
+place_line (Strange number place) = record_line number place
+place_line _ = []
 
 -- why a save file is no certificate
 abbrev pub certificate_line : CertFault → List ℕ
@@ -150,7 +161,7 @@ class_line (Nonzero pair s t product) =
 
 abbrev pub line_of : Failure → List ℕ
 line_of Saving = saving_line
-line_of (SaveFile fault) = refusal_line fault
+line_of (SaveFile fault) = refusal_line fault ++ place_line fault
 line_of (Certificate fault) = certificate_line fault
 line_of (Classes refusal) = class_line refusal
 line_of Words = codes "ext: words outside the command grammar\n"

@@ -4,7 +4,7 @@ ghost use Rattle.edge.specs.Faults.{HasRisen};
 ghost use Rattle.edge.specs.Sink.{HasPrefixMore, with_more};
 ghost use Rattle.finite_module.specs.Text.{name_at, newline};
 ghost use Rattle.ext_report.specs.Parts.{part_text, parts_text};
-ghost use Rattle.ext_report.specs.Lines.{what_text, place_text, action_line, malformed_line, fault_line, open_line, refusal_line, certificate_line, built_line, line_of, named_text, pair_text, target_text, class_line};
+ghost use Rattle.ext_report.specs.Lines.{what_text, place_text, action_line, malformed_line, fault_line, open_line, refusal_line, record_line, place_line, certificate_line, built_line, line_of, named_text, pair_text, target_text, class_line};
 
 use crate::failure::Failure;
 use crate::writing::Part::{self, Class, Digest, Nothing, Number, Place, Square, Sum, Text};
@@ -211,6 +211,7 @@ fn open_line(fault: &OpenFault) -> Line<'_>
             number,
             kept,
             found,
+            ..
         } => [
             Text(b"ext: save file: record "),
             Number(*number),
@@ -220,7 +221,7 @@ fn open_line(fault: &OpenFault) -> Line<'_>
             Digest(found),
             Text(b"\n"),
         ],
-        OpenFault::Short { place } => ended(b"ext: save file: short at place ", Number(*place)),
+        OpenFault::Short { place, .. } => ended(b"ext: save file: short at place ", Number(*place)),
         OpenFault::Memory => plain(MEMORY_LINE),
     }
 }
@@ -231,13 +232,54 @@ fn refusal_line(fault: &ResumeFault) -> Line<'_>
 {
     match fault {
         ResumeFault::Open(fault) => open_line(fault),
-        ResumeFault::Strange { number } => padded(
+        ResumeFault::Strange { number, .. } => padded(
             Text(b"ext: save file: record "),
             Number(*number),
             Text(b" strange\n"),
         ),
         ResumeFault::Memory => plain(MEMORY_LINE),
     }
+}
+
+/// Where a record of a save file begins.
+fn record_line(number: u64, place: u64) -> Line<'static>
+    ensures { parts_text result ≡ record_line number place }
+{
+    [
+        Text(b"ext: save file: record "),
+        Number(number),
+        Text(b" begins at byte "),
+        Number(place),
+        Text(b"\n"),
+        Nothing,
+        Nothing,
+    ]
+}
+
+/// Where the record begins for which a save file was not taken up, a line without a part where there is none.
+fn place_line(fault: &ResumeFault) -> Line<'static>
+    ensures { parts_text result ≡ place_line fault.now }
+{
+    match fault {
+        ResumeFault::Open(OpenFault::Damaged { number, place, .. }) => record_line(*number, *place),
+        ResumeFault::Open(OpenFault::Short { number, place }) => record_line(*number, *place),
+        ResumeFault::Strange { number, place } => record_line(*number, *place),
+        _ => plain(b""),
+    }
+}
+
+/// Writes why a save file was not taken up, and where the record begins if that is for one. After an error some first bytes are
+/// written.
+fn write_refusal<E: Sink>(fault: &ResumeFault, err: &mut E) -> Result<(), Failed>
+    ensures whole { OnOk result
+        (E.written err.new ≡ with_more (E.written err.old) (refusal_line fault.now ++ place_line fault.now)) }
+    ensures never_fall { E.faults err.old ≤ E.faults err.new }
+    ensures cause { OnErr result (HasRisen (E.faults err.old) (E.faults err.new)) }
+    ensures prefix { HasPrefixMore (refusal_line fault.now ++ place_line fault.now) (E.written err.old)
+        (E.written err.new) }
+{
+    write_parts(err, &refusal_line(fault))?;
+    write_parts(err, &place_line(fault))
 }
 
 /// Why a save file is no certificate.
@@ -340,7 +382,7 @@ fn class_line(refusal: &Refusal) -> Line<'_>
     }
 }
 
-/// Writes the line of a failure. After an error some first bytes are written.
+/// Writes the line of a failure, for a record of a save file two. After an error some first bytes are written.
 fn write_line<E: Sink>(failure: &Failure, err: &mut E) -> Result<(), Failed>
     ensures whole { OnOk result (E.written err.new ≡ with_more (E.written err.old) (line_of failure.now)) }
     ensures never_fall { E.faults err.old ≤ E.faults err.new }
@@ -355,14 +397,14 @@ fn write_line<E: Sink>(failure: &Failure, err: &mut E) -> Result<(), Failed>
         Failure::Reading => write_all(err, b"ext: reading the module failed\n"),
         Failure::Writing => write_all(err, b"ext: writing failed\n"),
         Failure::Saving => write_all(err, SAVING_LINE),
-        Failure::SaveFile(fault) => write_parts(err, &refusal_line(fault)),
+        Failure::SaveFile(fault) => write_refusal(fault, err),
         Failure::Certificate(fault) => write_parts(err, &certificate_line(*fault)),
         Failure::Classes(refusal) => write_parts(err, &class_line(refusal)),
         Failure::Memory => write_all(err, MEMORY_LINE),
     }
 }
 
-/// Writes the line of a failure to `err`, which takes no memory. Where that fails, some first bytes are written.
+/// Writes the line of a failure to `err`, and behind that of a record of a save file where it begins, which takes no memory. Where that fails, some first bytes are written.
 pub fn report<E: Sink>(failure: &Failure, err: &mut E)
     ensures never_fall { E.faults err.old ≤ E.faults err.new }
     ensures line { HasPrefixMore (line_of failure.now) (E.written err.old) (E.written err.new) }

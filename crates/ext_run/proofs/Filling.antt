@@ -39,7 +39,7 @@ module _ (m : Checked) (start : List Entry) (count : ℕ) (file : List ℕ) (has
   kept_is = ap (kept_by (over m)) has.records ∙ ap kept_list has.kept_are
 
   stands_is : standing_of m.plain file ≡ Ok (entries has.kept)
-  stands_is = ap (of_records (over m)) has.records ∙ ap (λ (r : Result (List Kept) ℕ). of_squares (squares_alone r)) has.kept_are
+  stands_is = ap (of_records (over m)) has.records ∙ ap (λ (r : Result (List Kept) ℕ). of_squares has.bodies (squares_alone r)) has.kept_are
 
   keeps_counted : Keeps m.plain (first_kept m count file) file
   keeps_counted = record { stands = stands_is ∙ ap (λ (l : List Kept). Ok (entries l)) (sym (kept_first m start count file has)); quasis = kept_is ∙ sym (kept_first m start count file has) }

@@ -28,12 +28,12 @@ use Rattle.ext_run.proofs.Added.{longer_given, found_given, place_is, quasi_give
 
 -- ---- files that keep something
 
-by_list : (l : Result (List Kept) ℕ) (x : Kept) (xs : List Kept) → kept_list l ≡ x ∷ xs → of_squares (squares_alone l) ≡ Ok (entries (x ∷ xs))
-by_list (Ok l) x xs is = ap (λ (l : List Kept). Ok (entries l)) is
-by_list (Err n) x xs is = absurd (cc)
+by_list : (bodies : List (List ℕ)) (l : Result (List Kept) ℕ) (x : Kept) (xs : List Kept) → kept_list l ≡ x ∷ xs → of_squares bodies (squares_alone l) ≡ Ok (entries (x ∷ xs))
+by_list bodies (Ok l) x xs is = ap (λ (l : List Kept). Ok (entries l)) is
+by_list bodies (Err n) x xs is = absurd (cc)
 
 by_records : (m : Module) (r : Records) (x : Kept) (xs : List Kept) → kept_by m r ≡ x ∷ xs → of_records m r ≡ Ok (entries (x ∷ xs))
-by_records m (Ok bodies) x xs is = by_list (kept_of_bodies m bodies) x xs is
+by_records m (Ok bodies) x xs is = by_list bodies (kept_of_bodies m bodies) x xs is
 by_records m (Err fault) x xs is = absurd (cc)
 
 -- a file that keeps a square is not refused

@@ -221,9 +221,9 @@ module _ {D : Type 0} (store : Store D) (laws : AreDisks store) (m : SteenrodMod
   kind_of OutOfMemory = no_memory refl
   kind_of (Open NotSave) = refusal refl (λ h. cc) (λ h. cc)
   kind_of (Open (Other a b)) = refusal refl (λ h. cc) (λ h. cc)
-  kind_of (Open (Damaged n a b)) = refusal refl (λ h. cc) (λ h. cc)
-  kind_of (Open (Short p)) = refusal refl (λ h. cc) (λ h. cc)
-  kind_of (Strange n) = refusal refl (λ h. cc) (λ h. cc)
+  kind_of (Open (Damaged n p a b)) = refusal refl (λ h. cc) (λ h. cc)
+  kind_of (Open (Short n p)) = refusal refl (λ h. cc) (λ h. cc)
+  kind_of (Strange n p) = refusal refl (λ h. cc) (λ h. cc)
 
   module _ (fault : ResumeFault) (d : D) (refused : (fault ≡ Open DiskFailed) ⊎ (fault ≡ OutOfMemory) ⊎ IfSome (store.now disk) (λ file. standing_of m file ≡ Err fault)) (same : fault ≢ Open DiskFailed → store.now d ≡ store.now disk)
       (unwritten : fault ≢ Open DiskFailed → IfSome (store.now disk) (λ _. LeavesOnly store.moment store.since disk d (store.images disk))) (opening : IfSome (store.now disk) (λ _. LeavesOnly store.moment store.since disk d (HasRecordsOf (digest_of m) (store.images disk)))) (never_fall : store.faults disk ≤ store.faults d)

@@ -58,6 +58,9 @@ const EMPTY: &str =
 
 const SPHERE_0: &[&str] = &["sphere", "0", "0", "--save"];
 
+/// Where the one record begins.
+const BEGINS: &str = "ext: save file: record 0 begins at byte 40";
+
 /// Why the file of one square is refused where the byte at this place is changed, none where it is taken up.
 fn why_at(alloc: Global, place: usize, file: &[u8]) -> Result<Option<String>, Fail> {
     if file.len() != 130 {
@@ -71,11 +74,11 @@ fn why_at(alloc: Global, place: usize, file: &[u8]) -> Result<Option<String>, Fa
             Some(format!(in alloc; "of another module, kept {kept}, ours {ours}")?)
         }
         // The body would be longer than what is there.
-        41..49 => Some("short at place 40".to_string(alloc)?),
+        41..49 => Some(format!(in alloc; "short at place 40\n{BEGINS}")?),
         49..129 => {
             let kept = hex::encode(alloc, &file[97..129])?;
             let found = hex::encode(alloc, Sha256::digest(&file[49..97]))?;
-            Some(format!(in alloc; "record 0 damaged, kept {kept}, found {found}")?)
+            Some(format!(in alloc; "record 0 damaged, kept {kept}, found {found}\n{BEGINS}")?)
         }
         // A gate that is not open.
         _ => None,

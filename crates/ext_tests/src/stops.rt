@@ -109,7 +109,7 @@ fn stops_among_seven(rt: HostRuntime) -> Result<(), Fail> {
     Ok(())
 }
 
-/// Past the last call nothing fails. A finished disk is called three times, and each of these may fail.
+/// Past the last call nothing fails. A finished disk is called four times, and each of these may fail.
 fn assert_finished<W: Threads + Wait + Clock + Sync + Abort>(
     rt: &W,
     alloc: Global,
@@ -118,11 +118,11 @@ fn assert_finished<W: Threads + Wait + Clock + Sync + Abort>(
     let empty = disk(alloc, b"", CALLS + 1, CALLS)?;
     let whole = run_over_disk(rt, alloc, words, empty, (0, STEMS_8, ""))?;
     assert_eq!(rt; whole.calls(), CALLS);
-    for call in 1..=3 {
+    for call in 1..=4 {
         let failing = disk(alloc, whole.bytes(), call, u64::MAX)?;
         assert_goes_on(rt, alloc, words, failing, SQUARES)?;
     }
-    let again = disk(alloc, whole.bytes(), 4, 3)?;
+    let again = disk(alloc, whole.bytes(), 5, 4)?;
     let again = run_over_disk(rt, alloc, words, again, (0, STEMS_8, ""))?;
     assert_eq!(rt; again.bytes(), whole.bytes());
     Ok(())

@@ -20,12 +20,11 @@ use Rattle.save_journal.proofs.Opened.{HasBodies, records_before, kept_file, fil
 use Rattle.save_file.specs.Bodies.{Kept}
 use Rattle.save_file.specs.Reading.{kept_from, kept_of_bodies, squares_alone, squares_of}
 use Rattle.save_file.specs.Saved.{quasi_kept, kept_of_table}
-use Rattle.save_file.specs.Files.{opening_refusal, body_refusal, of_squares, of_records, digest_of, standing_of, list_in, first_records, first_squares, kept_list, kept_by, first_kept}
+use Rattle.save_file.specs.Files.{opening_refusal, of_squares, of_records, digest_of, standing_of, list_in, first_records, first_squares, kept_list, kept_by, first_kept}
+use Rattle.save_file.specs.Inside.Taking.{IsStrange}
 use Rattle.save_file.specs.Saving.{SaveState, HasSquares, TakesSquares, kept_in, quasis_in, telling_of}
-use Rattle.save_file.specs.declared.fault.DecodeFault.{DecodeFault}
-use Rattle.save_file.specs.declared.fault.DecodeFault.TheVariants.{Strange as StrangeBody, Memory as BodyMemory}
 use Rattle.save_file.specs.declared.fault.ResumeFault.{ResumeFault}
-use Rattle.save_file.specs.declared.fault.ResumeFault.TheVariants.{Open, Strange, Memory as OutOfMemory}
+use Rattle.save_file.specs.declared.fault.ResumeFault.TheVariants.{Open, Memory as OutOfMemory}
 use Rattle.resolution_laws.specs.Resolution.{Module}
 use Rattle.save_file.proofs.Rules.{ok}
 use Rattle.save_file.proofs.Entries.{entries_of_table}
@@ -88,7 +87,7 @@ told_of f x digest bodies is (Some file) p same has =
 
 kept_told : (m : Checked) (start : List Entry) (bodies : List (List ℕ)) → squares_of (over m) bodies ≡ Ok start → (o p : Option (List ℕ)) → p ≡ option_map (opened (digest_of m.plain)) o → HasBodies (digest_of m.plain) bodies p → option_map (first_squares m (length bodies)) p ≡ option_map (λ _. start) o
 kept_told m start bodies e = told_of (first_squares m (length bodies)) start (digest_of m.plain) bodies (λ file is.
-    ap (λ (r : Records). list_in (of_records (over m) r)) (first_of_all m bodies file is) ∙ ap (λ s. list_in (of_squares s)) e)
+    ap (λ (r : Records). list_in (of_records (over m) r)) (first_of_all m bodies file is) ∙ ap (λ s. list_in (of_squares bodies s)) e)
 
 quasis_told : (m : Checked) (kept : List Kept) (bodies : List (List ℕ)) → kept_of_bodies (over m) bodies ≡ Ok kept → (o p : Option (List ℕ)) → p ≡ option_map (opened (digest_of m.plain)) o → HasBodies (digest_of m.plain) bodies p → option_map (first_kept m (length bodies)) p ≡ option_map (λ _. kept) o
 quasis_told m kept bodies e = told_of (first_kept m (length bodies)) kept (digest_of m.plain) bodies (λ file is. ap (kept_by (over m)) (first_of_all m bodies file is) ∙ ap kept_list e)
@@ -102,11 +101,11 @@ abbrev pub Taken : {D : Type 0} → JournalState D → Staircase → ℕ → Sav
 Taken journal table n = record { journal = journal; count = n; resolved = table.resolved; start = table.start }
 
 module _ {D : Type 0} (now : D → Option (List ℕ)) (images : D → List ℕ → Type 0) (m : Checked) (old : D) (journal : JournalState D) (bodies : List (List ℕ)) (h : IsOpened now images m old journal bodies) where
-  pub stands : (r : Result (List Kept) ℕ) → kept_of_bodies (over m) bodies ≡ r → IfSome (now old) (λ file. standing_of m.plain file ≡ of_squares (squares_alone r))
-  stands r e = IfSome_then (now old) h.was (λ file is. ap (of_records (over m)) is ∙ ap (λ x. of_squares (squares_alone x)) e)
+  pub stands : (r : Result (List Kept) ℕ) → kept_of_bodies (over m) bodies ≡ r → IfSome (now old) (λ file. standing_of m.plain file ≡ of_squares bodies (squares_alone r))
+  stands r e = IfSome_then (now old) h.was (λ file is. ap (of_records (over m)) is ∙ ap (λ x. of_squares bodies (squares_alone x)) e)
 
   pub stands_for : (table : Staircase) → kept_of_bodies (over m) bodies ≡ Ok (kept_of_table table) → IfSome (now old) (λ file. standing_of m.plain file ≡ Ok table.start)
-  stands_for table e = IfSome_then (now old) h.was (λ file is. ap (of_records (over m)) is ∙ ap of_squares (squares_read (over m) bodies table e))
+  stands_for table e = IfSome_then (now old) h.was (λ file is. ap (of_records (over m)) is ∙ ap (of_squares bodies) (squares_read (over m) bodies table e))
 
   -- where there is a record
   pub as_was : (bodies ≡ [] → ⊥) → now journal.disk ≡ now old
@@ -176,13 +175,16 @@ pub not_open : (fault : OpenFault) → opening_refusal fault ≢ Open OpenMemory
 not_open OpenMemory e = absurd (cc)
 not_open fault e = absurd (cc)
 
-strange_as : (m : Checked) (fault : DecodeFault) (o : Option (List ℕ)) → ((n : ℕ) → fault ≡ StrangeBody n → IfSome o (λ file. standing_of m.plain file ≡ Err (Strange n)))
-    → (body_refusal fault ≡ Open DiskFailed) ⊎ (body_refusal fault ≡ OutOfMemory) ⊎ IfSome o (λ file. standing_of m.plain file ≡ Err (body_refusal fault))
-strange_as m (StrangeBody number) o told = inr (inr (told number refl))
-strange_as m BodyMemory o told = inr (inl refl)
+-- a body that was not read
+pub strange : (m : Checked) (e : ResumeFault) (o : Option (List ℕ)) (bodies : List (List ℕ)) (read : Module) (kept : List Kept) → (e ≡ OutOfMemory) ⊎ IsStrange read kept bodies e
+    → ((n : ℕ) → kept_from read kept 0 bodies ≡ Err n → IfSome o (λ file. standing_of m.plain file ≡ of_squares bodies (squares_alone (Err n)))) → (e ≡ Open DiskFailed) ⊎ (e ≡ OutOfMemory) ⊎ IfSome o (λ file. standing_of m.plain file ≡ Err e)
+strange m e o bodies read kept (inl memory) stands = inr (inl memory)
+strange m e o bodies read kept (inr (n, is, wrong)) stands = inr (inr (subst (λ f. IfSome o (λ file. standing_of m.plain file ≡ Err f)) (sym is) (stands n wrong)))
 
-pub strange : (m : Checked) (fault : DecodeFault) (e : ResumeFault) (o : Option (List ℕ)) → e ≡ body_refusal fault → ((n : ℕ) → fault ≡ StrangeBody n → IfSome o (λ file. standing_of m.plain file ≡ Err (Strange n))) → (e ≡ Open DiskFailed) ⊎ (e ≡ OutOfMemory) ⊎ IfSome o (λ file. standing_of m.plain file ≡ Err e)
-strange m fault e o is told = subst (λ e. (e ≡ Open DiskFailed) ⊎ (e ≡ OutOfMemory) ⊎ IfSome o (λ file. standing_of m.plain file ≡ Err e)) (sym is) (strange_as m fault o told)
+-- which is none of opening the file
+pub strange_not_open : (e : ResumeFault) (bodies : List (List ℕ)) (read : Module) (kept : List Kept) (fault : OpenFault) → (e ≡ OutOfMemory) ⊎ IsStrange read kept bodies e → e ≢ Open fault
+strange_not_open e bodies read kept fault (inl memory) is = absurd (cc)
+strange_not_open e bodies read kept fault (inr (n, is_strange, wrong)) is = absurd (cc)
 
 -- ---- moments
 

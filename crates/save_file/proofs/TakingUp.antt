@@ -1,11 +1,11 @@
 -- A table of squares that were all read, and the bodies that they were read from.
-use Rattle.std.proofs.Common.{◌≡◌, inl, inr, ℕ, zero, suc, ◌+◌, ◌<◌, ◌≤◌, ℤ, pos, ◌+ℤ◌, List, [], ◌∷◌, ◌++◌, length, drop, map, set, get_or, Option, None, Some, refl, sym, ◌∙◌, ap, subst, arith}
+use Rattle.std.proofs.Common.{◌≡◌, ◌⊎◌, inl, inr, ℕ, zero, suc, ◌+◌, ◌<◌, ◌≤◌, ℤ, pos, ◌+ℤ◌, List, [], ◌∷◌, ◌++◌, length, take, drop, map, set, get_or, Option, None, Some, refl, sym, ◌∙◌, ap, subst, arith, length-append, take-append-drop}
 use Rattle.std.specs.Prelude.{Result, Err, Vec}
 use Rattle.std.specs.List.{AllByRecursion, slice_get}
 use Rattle.std.specs.Option.{option_map, is_some}
 use Rattle.std.proofs.lemmas.Bool.{cases_lt, false≢true}
 use Rattle.std.proofs.lemmas.Option.{same_Some, slice_get_past}
-use Rattle.std.proofs.lemmas.List.{length-map, drop_all, drop-map, drop-set-lt, map-append}
+use Rattle.std.proofs.lemmas.List.{length-map, drop_all, drop-map, drop-drop, drop-set-lt, map-append}
 use Rattle.finite_module.specs.Checked.{Checked}
 use Rattle.std.proofs.lemmas.List.Elements.{All-from_recursion}
 use Rattle.resolution_laws.specs.Resolution.{Module, Content}
@@ -20,9 +20,17 @@ use Rattle.square.proofs.ByDegree.{square_at-above}
 use Rattle.std.specs.declared.alloc.Global.{Global}
 use Rattle.bidegree.specs.declared.range.TheConstants.{MAX_S}
 use Rattle.save_journal.specs.Journals.{contents}
+use Rattle.save_journal.specs.Records.{encoded}
+use Rattle.save_journal.proofs.Walk.{encoded-append, length-encoded}
 use Rattle.save_file.specs.Bodies.{Kept, kept_of, entries, with_quasi_at, IsNextPlace}
 use Rattle.save_file.specs.Reading.{square_in, addition_in, with_square_read, with_addition_read, after_body, and_then_kept, kept_from, kept_of_bodies}
 use Rattle.save_file.specs.Saved.{kept_of_table, IsDecodedSquare, IsDecodedQuasi}
+use Rattle.save_file.specs.Files.{place_of}
+use Rattle.save_file.specs.Inside.Taking.{body_refusal, IsStrange}
+use Rattle.save_file.specs.declared.fault.DecodeFault.{DecodeFault}
+use Rattle.save_file.specs.declared.fault.DecodeFault.TheVariants.{Strange as StrangeBody, Memory as BodyMemory}
+use Rattle.save_file.specs.declared.fault.ResumeFault.{ResumeFault}
+use Rattle.save_file.specs.declared.fault.ResumeFault.TheVariants.{Strange, Memory as OutOfMemory}
 use Rattle.save_file.proofs.Entries.{is_within, entry_there, entries_of_table, none_or_some}
 use Rattle.save_file.proofs.Rules.{kept_ok, same_kept, not_kept_ok, read_at, one_more_or_quasi, read_as_addition}
 use Rattle.save_file.proofs.Pushing.{kept_given, AllRead-given}
@@ -150,6 +158,38 @@ pub ends_with : (m : Checked) (all : Result (List Kept) ℕ) (before : List Kept
 ends_with m all before i bodies l h =
     let len = length-map bodies (λ (v : Vec ℕ Global). v.items) in
     sym h ∙ ap (kept_from (over m) before i) (drop_all i (contents bodies) (omega arith))
+
+-- ---- the places of records
+
+pub place_within : (n : ℕ) (bodies : List (List ℕ)) → place_of n bodies ≤ 40 + length (encoded bodies)
+place_within n bodies =
+    let parts : length (encoded bodies) ≡ length (encoded (take n bodies) ++ encoded (drop n bodies)) = ap (λ (l : List (List ℕ)). length (encoded l)) (sym (take-append-drop n bodies)) ∙ ap length (encoded-append (take n bodies) (drop n bodies)) in
+    omega (arith, parts, length-append (encoded (take n bodies)) (encoded (drop n bodies)))
+
+place_behind : (n : ℕ) (bodies : List (List ℕ)) (body : List ℕ) (rest : List (List ℕ)) → drop n bodies ≡ body ∷ rest → place_of (suc n) bodies ≡ place_of n bodies + (41 + length body)
+place_behind zero [] body rest e = absurd (cc)
+place_behind zero (first ∷ bodies) body rest e =
+    let same : first ≡ body = cc in
+    omega (arith, ap length same, length-encoded first [])
+place_behind (suc n) [] body rest e = absurd (cc)
+place_behind (suc n) (first ∷ bodies) body rest e =
+    omega (arith, place_behind n bodies body rest e, length-encoded first (take (suc n) bodies), length-encoded first (take n bodies))
+
+-- a record more was read: the place behind it
+pub place_on : (all : List (List ℕ)) (i place len : ℕ) (bodies : List (Vec ℕ Global)) (v : Vec ℕ Global) → i < length bodies → v ≡ get_or bodies i v → len ≡ length v.items → drop i (contents bodies) ≡ drop i all → place ≡ place_of i all → place + (41 + len) ≡ place_of (i + 1) all
+place_on all i place len bodies v l at is same here =
+    let next : suc i ≡ i + 1 = omega arith in
+    let step = place_behind i all v.items (drop (suc i) (contents bodies)) (sym same ∙ body_there bodies i v l at) in
+    subst (λ n. place + (41 + len) ≡ place_of n all) next (omega (arith, step, here, is))
+
+pub rest_on : (all : List (List ℕ)) (i : ℕ) (bodies : List (Vec ℕ Global)) (w : Vec ℕ Global) → drop i (contents bodies) ≡ drop i all → drop (i + 1) (contents (set bodies i w)) ≡ drop (i + 1) all
+rest_on all i bodies w same =
+    behind_it bodies i w ∙ sym (drop-drop 1 i (contents bodies)) ∙ ap (drop 1) same ∙ drop-drop 1 i all
+
+-- why it was not
+pub refused_at : (m : Module) (kept : List Kept) (bodies : List (List ℕ)) (place : ℕ) (fault : DecodeFault) (e : ResumeFault) → e ≡ body_refusal place fault → ((n : ℕ) → fault ≡ StrangeBody n → (kept_from m kept 0 bodies ≡ Err n) × (place ≡ place_of n bodies)) → (e ≡ OutOfMemory) ⊎ IsStrange m kept bodies e
+refused_at m kept bodies place (StrangeBody n) e is told = let at = told n refl in inr (n, is ∙ ap (λ p. Strange n p) at.1, at.0)
+refused_at m kept bodies place BodyMemory e is told = inl is
 
 -- ---- what a body that was read makes of a table
 

@@ -1,5 +1,5 @@
 -- What a save file stands for.
-use Rattle.std.specs.Prelude.{ℕ, List, [], take, Option, Result, Ok, Err}
+use Rattle.std.specs.Prelude.{ℕ, ◌+◌, List, [], length, take, Option, Result, Ok, Err}
 use Rattle.std.specs.Result.{result_ok}
 use Rattle.sha2.specs.Sha256.{sha256}
 use Rattle.finite_module.specs.Module.{Module as SteenrodModule}
@@ -8,13 +8,11 @@ use Rattle.finite_module.specs.Text.{canonical_text}
 use Rattle.resolution_laws.specs.Resolution.{Module}
 use Rattle.resolution_laws.specs.Start.{Entry}
 use Rattle.square.specs.Squares.{module_over, over}
-use Rattle.save_journal.specs.Records.{Records, records_of}
+use Rattle.save_journal.specs.Records.{Records, records_of, encoded}
 use Rattle.save_file.specs.Bodies.{Kept}
 use Rattle.save_file.specs.Reading.{kept_of_bodies, squares_of}
 use Rattle.save_journal.specs.declared.fault.OpenFault.{OpenFault}
 use Rattle.save_journal.specs.declared.fault.OpenFault.TheVariants.{Memory as OpenMemory}
-use Rattle.save_file.specs.declared.fault.DecodeFault.{DecodeFault}
-use Rattle.save_file.specs.declared.fault.DecodeFault.TheVariants.{Strange as StrangeBody, Memory as BodyMemory}
 use Rattle.save_file.specs.declared.fault.ResumeFault.{ResumeFault}
 use Rattle.save_file.specs.declared.fault.ResumeFault.TheVariants.{Open, Strange, Memory}
 
@@ -26,12 +24,16 @@ digest_of m = sha256 (canonical_text m)
 abbrev pub Standing : Type 0
 Standing = Result (List Entry) ResumeFault
 
-abbrev pub of_squares : Result (List Entry) ℕ → Standing
-of_squares (Ok list) = Ok list
-of_squares (Err number) = Err (Strange number)
+-- the place of the gate of the record of this number, behind the header and the records before it
+abbrev pub place_of : ℕ → List (List ℕ) → ℕ
+place_of number bodies = 40 + length (encoded (take number bodies))
+
+abbrev pub of_squares : List (List ℕ) → Result (List Entry) ℕ → Standing
+of_squares bodies (Ok list) = Ok list
+of_squares bodies (Err number) = Err (Strange number (place_of number bodies))
 
 abbrev pub of_records : Module → Records → Standing
-of_records m (Ok bodies) = of_squares (squares_of m bodies)
+of_records m (Ok bodies) = of_squares bodies (squares_of m bodies)
 of_records m (Err fault) = Err (Open fault)
 
 -- What a file stands for as a save file of a module: its records, each read behind those before it. A file that is refused stands
@@ -76,8 +78,3 @@ first_kept m n file = kept_by (over m) (first_records n (records_of (digest_of m
 abbrev pub opening_refusal : OpenFault → ResumeFault
 opening_refusal OpenMemory = Memory
 opening_refusal fault = Open fault
-
--- a body that was not read
-abbrev pub body_refusal : DecodeFault → ResumeFault
-body_refusal (StrangeBody number) = Strange number
-body_refusal BodyMemory = Memory

@@ -1,6 +1,6 @@
 //! Why bytes are no square, and why a file was not taken up.
 ghost use Rattle.std.specs.Prelude.{◌≡◌};
-ghost use Rattle.save_file.specs.Files.{opening_refusal, body_refusal};
+ghost use Rattle.save_file.specs.Files.{opening_refusal};
 ghost use Rattle.save_file.specs.declared.fault.DecodeFault.TheVariants.{Memory as OutOfMemory};
 
 use memory::Memory;
@@ -33,10 +33,14 @@ pub enum ResumeFault {
     /// The file was not opened. Where that was for want of memory the answer is `Memory`.
     #[error("{0}")]
     Open(OpenFault),
-    /// The body of the record of this number, counted from 0, is no square that may stand behind those before it, and no
-    /// quasi-inverse of one of these.
+    /// The body of a record is no square that may stand behind those before it, and no quasi-inverse of one of these.
     #[error("record {number} is strange")]
-    Strange { number: u64 },
+    Strange {
+        /// Which record, counted from 0.
+        number: u64,
+        /// The place of its gate, in bytes from the beginning of the file.
+        place: u64,
+    },
     /// Memory allocation failed.
     #[error("out of memory")]
     Memory,
@@ -49,17 +53,6 @@ impl From<OpenFault> for ResumeFault {
         match fault {
             OpenFault::Memory => ResumeFault::Memory,
             fault => ResumeFault::Open(fault),
-        }
-    }
-}
-
-impl From<DecodeFault> for ResumeFault {
-    ghost from_gives = { λ fault e. e ≡ body_refusal fault };
-
-    fn from(fault: DecodeFault) -> Self {
-        match fault {
-            DecodeFault::Strange { number } => ResumeFault::Strange { number },
-            DecodeFault::Memory => ResumeFault::Memory,
         }
     }
 }

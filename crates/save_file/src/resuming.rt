@@ -1,5 +1,5 @@
 //! How a save file is taken up.
-ghost use Rattle.std.specs.Prelude.{◌≡◌, ◌≢◌, ◌⊎◌, ℕ, ◌≤◌, [], ◌++◌, ◌∷◌, Some, None, Ok, Err, IfOk, IfErr, IfSome, OnOk, OnErr, IsOk, MatchResult};
+ghost use Rattle.std.specs.Prelude.{◌≡◌, ◌≢◌, ◌⊎◌, ℕ, ◌+◌, ◌^◌, ◌<◌, ◌≤◌, [], length, ◌++◌, ◌∷◌, Some, None, Ok, Err, IfOk, IfErr, IfSome, OnOk, OnErr, IsOk, MatchResult};
 ghost use Rattle.std.specs.Option.{option_map};
 ghost use Rattle.bidegree.specs.declared.range.TheConstants.{MAX_S};
 ghost use Rattle.edge.specs.Disk.{LeavesOnly, HavePast};
@@ -9,12 +9,13 @@ ghost use Rattle.square.specs.Squares.{entry_of, over};
 ghost use Rattle.square.specs.Tables.{AllRead, IsNext, IsTable};
 ghost use Rattle.save_file.specs.Bodies.{kept_of};
 ghost use Rattle.square.specs.Keeping.{IsKeeperOf};
-ghost use Rattle.save_journal.specs.Records.{opened};
+ghost use Rattle.save_journal.specs.Records.{encoded, opened};
 ghost use Rattle.save_journal.specs.Journals.{HasRecordsOf, HaveSameRecords, ComeFromEarlier, contents};
 ghost use Rattle.save_journal.specs.declared.fault.OpenFault.TheVariants.{Failed as DiskFailed, Memory as OpenMemory};
 ghost use Rattle.save_file.specs.Reading.{after_body, kept_from};
 ghost use Rattle.save_file.specs.Saved.{kept_of_table};
 ghost use Rattle.save_file.specs.Files.{digest_of, standing_of};
+ghost use Rattle.save_file.specs.Inside.Taking.{body_refusal, IsStrange};
 ghost use Rattle.save_file.specs.Saving.{TakesSquares, kept_in, quasis_in, telling_of};
 ghost use Rattle.save_file.specs.declared.fault.DecodeFault.TheVariants.{Strange as StrangeBody, Memory as WantOfMemory};
 ghost use Rattle.save_file.specs.declared.fault.ResumeFault.TheVariants.{Open, Memory as OutOfMemory};
@@ -42,9 +43,9 @@ use std::sync::Arc;
 ///
 /// # Errors
 /// Each comes with the disk, on which a refusal writes nothing. `Open` with `Failed` if the disk failed, `Memory` if allocation fails,
-/// and otherwise the refusal of the file: `Open` with that of its records, or `Strange` with the number of the first record whose body
-/// is no square that may stand behind those before it, and no quasi-inverse of one of these. If the journal could not be opened for
-/// lack of memory, that is `Memory`, and never `Open` with it.
+/// and otherwise the refusal of the file: `Open` with that of its records, or `Strange` with the number and the place of the first
+/// record whose body is no square that may stand behind those before it, and no quasi-inverse of one of these. If the journal could
+/// not be opened for lack of memory, that is `Memory`, and never `Open` with it.
 pub fn resume<D: Disk>(
     alloc: Global,
     module: Module,
@@ -104,7 +105,7 @@ pub fn resume<D: Disk>(
             };
             Ok((table, keeper))
         }
-        Err(fault) => Err((ResumeFault::from(fault), journal.into_disk())),
+        Err(fault) => Err((fault, journal.into_disk())),
     }
 }
 
@@ -123,35 +124,47 @@ fn prepared(alloc: Global, module: Module) -> Result<(Table, Vec<u8>), Memory>
     Ok((table, text))
 }
 
-/// Puts the squares of these bodies behind those of the table, in order, and gives squares their quasi-inverses. Each body is let go
-/// once it was read.
+/// Puts the squares of these bodies, which are those of a file's records, behind those of the table, in order, and gives squares their
+/// quasi-inverses. Each body is let go once it was read.
 ///
 /// # Errors
-/// `Strange` exactly where one of them is neither, with the number of the first, and `Memory` if allocation fails.
+/// `Strange` exactly where one of them is neither, with the number and the place of the first, and `Memory` if allocation fails.
 fn read_bodies(
     alloc: Global,
     table: &mut Table,
     mut bodies: Vec<Vec<u8>>,
-) -> Result<(), DecodeFault>
-    requires { AllRead table.old.rows }
+) -> Result<(), ResumeFault>
+    requires all_read { AllRead table.old.rows }
+    requires places { 40 + length (encoded (contents bodies.items)) < 2 ^ 63 }
     ensures read { OnOk result (kept_from (over table.old.resolved) (kept_of_table table.old) 0 (contents bodies.items)
         ≡ Ok (kept_of_table table.new)) }
     ensures resolved { table.new.resolved ≡ table.old.resolved }
     ensures all_read { AllRead table.new.rows }
     ensures is_table { OnOk result (IsTable table.new) }
-    ensures strange { (n : ℕ) → result ≡ Err (StrangeBody n) →
-        kept_from (over table.old.resolved) (kept_of_table table.old) 0 (contents bodies.items) ≡ Err n }
+    ensures refused { IfErr result (λ e. (e ≡ OutOfMemory)
+        ⊎ IsStrange (over table.old.resolved) (kept_of_table table.old) (contents bodies.items) e) }
     ensures none { contents bodies.items ≡ [] → IsOk result }
 {
+    let mut place = 40;
     for i in 0..bodies.len() {
         let body = replace(&mut bodies[i], Vec::new(alloc));
         match read_body(alloc, table, i as u64, body.as_slice()) {
-            Ok(()) => {}
-            Err(fault) => return Err(fault),
+            Ok(()) => place += 41 + body.len() as u64,
+            Err(fault) => return Err(refusal(fault, place)),
         }
     }
     table.front(0); // It is a table, which proofs learn here.
     Ok(())
+}
+
+/// Why a file is not taken up whose record at this place has a body that was not read.
+fn refusal(fault: DecodeFault, place: u64) -> ResumeFault
+    ensures { result ≡ body_refusal place fault }
+{
+    match fault {
+        DecodeFault::Strange { number } => ResumeFault::Strange { number, place },
+        DecodeFault::Memory => ResumeFault::Memory,
+    }
 }
 
 /// Puts the square of a body behind those of the table, or gives one of them its quasi-inverse. `number` is that of its record.

@@ -36,7 +36,7 @@ as_written : magic ++ ours ++ 0xa5 ∷ framed square ≡ file 0
 unfolding first_words schedule rounds compress hash_after digest_bytes sha256
 as_written = refl
 
-next_open : records_of ours (file 0xa5) ≡ Err (Short 119)
+next_open : records_of ours (file 0xa5) ≡ Err (Short 1 119)
 unfolding first_words schedule rounds compress hash_after digest_bytes sha256
 next_open = refl
 
@@ -46,15 +46,15 @@ unfolding first_words schedule rounds compress hash_after digest_bytes sha256
 closed_before_open = refl
 
 -- a length that no sum may wrap at
-too_long : records_of ours (magic ++ ours ++ 0xa5 ∷ 255 ∷ 255 ∷ 255 ∷ 255 ∷ 255 ∷ 255 ∷ 255 ∷ 255 ∷ square ++ square_digest ++ 0 ∷ []) ≡ Err (Short 40)
+too_long : records_of ours (magic ++ ours ++ 0xa5 ∷ 255 ∷ 255 ∷ 255 ∷ 255 ∷ 255 ∷ 255 ∷ 255 ∷ 255 ∷ square ++ square_digest ++ 0 ∷ []) ≡ Err (Short 0 40)
 unfolding first_words schedule rounds compress hash_after digest_bytes sha256
 too_long = refl
 
-cut_off : records_of ours (magic ++ ours ++ 0xa5 ∷ 7 ∷ []) ≡ Err (Short 40)
+cut_off : records_of ours (magic ++ ours ++ 0xa5 ∷ 7 ∷ []) ≡ Err (Short 0 40)
 unfolding first_words schedule rounds compress hash_after digest_bytes sha256
 cut_off = refl
 
-wrong_digest : records_of ours (magic ++ ours ++ 0xa5 ∷ 0 ∷ 0 ∷ 0 ∷ 0 ∷ 0 ∷ 0 ∷ 0 ∷ 38 ∷ square ++ ours ++ 0 ∷ []) ≡ Err (Damaged 0 ours square_digest)
+wrong_digest : records_of ours (magic ++ ours ++ 0xa5 ∷ 0 ∷ 0 ∷ 0 ∷ 0 ∷ 0 ∷ 0 ∷ 0 ∷ 38 ∷ square ++ ours ++ 0 ∷ []) ≡ Err (Damaged 0 40 ours square_digest)
 unfolding first_words schedule rounds compress hash_after digest_bytes sha256
 wrong_digest = refl
 

@@ -4,6 +4,7 @@ use Rattle.std.specs.Prelude.{All, Vec, Err}
 use Rattle.std.specs.declared.alloc.Global.{Global}
 use Rattle.std.specs.Str.{bytes_eq}
 use Rattle.std.specs.Int.{w64, to_be_bytes}
+use Rattle.std.proofs.Math.Seq.{take-add}
 use Rattle.std.proofs.lemmas.List.{append-nil, drop-drop, drop_more, length-take-le, length-drop, get_or-drop, map_push}
 use Rattle.std.proofs.lemmas.List.Elements.{All-nil, All-cons, All-append}
 use Rattle.std.proofs.lemmas.Bool.{cases_Bool}
@@ -26,19 +27,18 @@ pub record IsReadTo (digest file : List ℕ) (list : List (List ℕ)) (place : �
   pub width : length digest ≡ 32
   pub sayable : All IsSayable list
 
-pub at_start : (digest file : List ℕ) → length digest ≡ 32 → 41 < length file → take 8 file ≡ magic → take 32 (drop 8 file) ≡ digest → IsReadTo digest file [] 40
-at_start digest file width long first second = record {
-  split =
-      sym (take-append-drop 8 file) ∙ ap (λ (l : List ℕ). l ++ drop 8 file) first
-      ∙ ap (λ (l : List ℕ). magic ++ l) (sym (take-append-drop 32 (drop 8 file)) ∙ ap (λ (l : List ℕ). l ++ drop 32 (drop 8 file)) second ∙ ap (λ (l : List ℕ). digest ++ l) (drop-drop 32 8 file))
-      ∙ ap (λ (l : List ℕ). magic ++ (l ++ drop 40 file)) (sym (append-nil digest))
-      ∙ sym (append_assoc magic (digest ++ []) (drop 40 file))
-      ∙ ap (λ (l : List ℕ). l ++ drop 40 file) (sym (append_assoc magic digest []));
+-- behind a header of ours there is none yet
+pub at_header : (digest file : List ℕ) → length digest ≡ 32 → 41 < length file → take 40 file ≡ header digest → IsReadTo digest file [] 40
+at_header digest file width long ours = record {
+  split = sym (take-append-drop 40 file) ∙ ap (λ (l : List ℕ). l ++ drop 40 file) (ours ∙ sym (append-nil (header digest)));
   at = refl;
   inside = omega arith;
   width = width;
   sayable = All-nil IsSayable;
 }
+
+pub at_start : (digest file : List ℕ) → length digest ≡ 32 → 41 < length file → take 8 file ≡ magic → take 32 (drop 8 file) ≡ digest → IsReadTo digest file [] 40
+at_start digest file width long first second = at_header digest file width long (take-add 8 32 file ∙ ap (λ (l : List ℕ). l ++ take 32 (drop 8 file)) first ∙ ap (λ (l : List ℕ). magic ++ l) second)
 
 module _ (behind : List ℕ) (fits : AreBytes behind) (whole : 41 + body_length behind ≤ length behind) where
   abbrev n : ℕ

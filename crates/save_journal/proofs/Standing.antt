@@ -22,7 +22,7 @@ Stands digest file (Err fault) = (41 < length file) × IsWrong digest file fault
 abbrev Outcome : List ℕ → List ℕ → Type 0
 Outcome digest file = (r : Records) × (records_of digest file ≡ r) × Stands digest file r
 
-differ : (xs ys : List ℕ) → bytes_eq xs ys ≡ false → xs ≢ ys
+pub differ : (xs ys : List ℕ) → bytes_eq xs ys ≡ false → xs ≢ ys
 differ xs ys apart same = let together = (bytes_eq-Decides xs ys).1 same in absurd (cc)
 
 -- ---- the first forty bytes
@@ -33,10 +33,10 @@ module _ (digest file : List ℕ) (big : 41 < length file) where
       ap (λ (x : Bool). cond x (Ok []) (of_header (bytes_eq (take 8 file) magic) (bytes_eq (take 32 (drop 8 file)) digest) digest file)) (lt-leb _ _ big)
       ∙ ap (λ (x : Bool). of_header x (bytes_eq (take 32 (drop 8 file)) digest) digest file) ea ∙ ap (λ (x : Bool). of_header a x digest file) eb
 
-  not_ours : take 8 file ≢ magic → records_of digest file ≡ Err NotSave
+  pub not_ours : take 8 file ≢ magic → records_of digest file ≡ Err NotSave
   not_ours other = read_so false _ (false_from_ne_true _ (λ e. other ((bytes_eq-Decides _ _).0 e))) refl
 
-  of_others : take 8 file ≡ magic → take 32 (drop 8 file) ≢ digest → records_of digest file ≡ Err (Other (take 32 (drop 8 file)) digest)
+  pub of_others : take 8 file ≡ magic → take 32 (drop 8 file) ≢ digest → records_of digest file ≡ Err (Other (take 32 (drop 8 file)) digest)
   of_others first other = read_so true false ((bytes_eq-Decides (take 8 file) magic).1 first) (false_from_ne_true _ (λ e. other ((bytes_eq-Decides _ _).0 e)))
 
 -- ---- an open gate
@@ -47,10 +47,10 @@ module _ (digest file : List ℕ) (big : 41 < length file) (place : ℕ) (list :
       records_split digest file (0xA5 ∷ behind) list open_at.width open_at.split open_at.sayable big (omega arith)
       ∙ ap (λ (p : ℕ). with_bodies list (records_from (length list) p 0 (0xA5 ∷ behind))) (sym open_at.here)
 
-  is_short : length behind < 41 + body_length behind → records_of digest file ≡ Err (Short place)
-  is_short less = from_gate ∙ ap (with_bodies list) (at_short (length list) place behind less) ∙ with_bodies-Err list (Short place)
+  is_short : length behind < 41 + body_length behind → records_of digest file ≡ Err (Short (length list) place)
+  is_short less = from_gate ∙ ap (with_bodies list) (at_short (length list) place behind less) ∙ with_bodies-Err list (Short (length list) place)
 
-  is_damaged : 41 + body_length behind ≤ length behind → kept_of behind ≢ sha256 (body_of behind) → records_of digest file ≡ Err (Damaged (length list) (kept_of behind) (sha256 (body_of behind)))
+  is_damaged : 41 + body_length behind ≤ length behind → kept_of behind ≢ sha256 (body_of behind) → records_of digest file ≡ Err (Damaged (length list) place (kept_of behind) (sha256 (body_of behind)))
   is_damaged whole other = from_gate ∙ ap (with_bodies list) (at_damaged (length list) place behind whole (false_from_ne_true _ (λ e. other (sym ((bytes_eq-Decides _ _).0 e))))) ∙ with_bodies-Err list _
 
 -- ---- from gate to gate
@@ -72,11 +72,11 @@ module _ (digest file : List ℕ) (fits : AreBytes file) (big : 41 < length file
         let b = drop (place + 1) file in
         let here = opened_at list place r gate in
         elim (cases_lt (length (drop (place + 1) file)) (41 + body_length (drop (place + 1) file))) [
-          | inl less ↦ (Err (Short place), is_short digest file big place list b here less, (big, (list, b, here, less)))
+          | inl less ↦ (Err (Short (length list) place), is_short digest file big place list b here less, (big, (list, b, here, refl, less)))
           | inr whole ↦ elim (cases_Bool (bytes_eq (sha256 (body_of (drop (place + 1) file))) (kept_of (drop (place + 1) file)))) [
             | inr wrong ↦
                 let other : kept_of b ≢ sha256 (body_of b) = λ same. differ _ _ wrong (sym same) in
-                (Err (Damaged (length list) (kept_of b) (sha256 (body_of b))), is_damaged digest file big place list b here whole other, (big, (place, list, b, here, refl, whole, refl, refl, other)))
+                (Err (Damaged (length list) place (kept_of b) (sha256 (body_of b))), is_damaged digest file big place list b here whole other, (big, (list, b, here, refl, whole, refl, refl, other)))
             | inl right ↦
                 walk more (list ++ body_of b ∷ []) (place + (41 + body_length b))
                 (one_more digest file list place r gate fits whole ((bytes_eq-Decides (sha256 (body_of b)) (kept_of b)).0 right) (number_below (place + 1) file fits))
@@ -117,21 +117,24 @@ has_records digest file list (inr rest) = at_rest_records digest rest.0 list fil
 pub records_read : RecordsAreRead
 records_read digest file list fits = (stands digest file (Ok list) fits, has_records digest file list)
 
-abbrev other_digest : List ℕ → List ℕ → Records
+abbrev pub other_digest : List ℕ → List ℕ → Records
 other_digest kept ours = Err (Other kept ours)
 
-abbrev damaged : ℕ → List ℕ → List ℕ → Records
-damaged number kept found = Err (Damaged number kept found)
+abbrev damaged : ℕ → ℕ → List ℕ → List ℕ → Records
+damaged place number kept found = Err (Damaged number place kept found)
+
+abbrev short : ℕ → ℕ → Records
+short place number = Err (Short number place)
 
 is_wrong : (digest file : List ℕ) (fault : OpenFault) → 41 < length file → IsWrong digest file fault → records_of digest file ≡ Err fault
 is_wrong digest file Failed big wrong = absurd wrong
 is_wrong digest file NotSave big wrong = not_ours digest file big wrong
 is_wrong digest file (Other kept ours) big (first, is_kept, is_ours, other) =
     of_others digest file big first (subst (λ (x : List ℕ). take 32 (drop 8 file) ≢ x) is_ours (subst (λ (x : List ℕ). x ≢ ours) is_kept other)) ∙ sym (ap (λ (x : List ℕ). other_digest x ours) is_kept ∙ ap (other_digest (take 32 (drop 8 file))) is_ours)
-is_wrong digest file (Damaged number kept found) big (place, list, behind, here, is_number, whole, is_kept, is_found, other) =
+is_wrong digest file (Damaged number place kept found) big (list, behind, here, is_number, whole, is_kept, is_found, other) =
     is_damaged digest file big place list behind here whole (subst (λ (x : List ℕ). kept_of behind ≢ x) is_found (subst (λ (x : List ℕ). x ≢ found) is_kept other))
-    ∙ sym (ap (λ (x : ℕ). damaged x kept found) is_number ∙ ap (λ (x : List ℕ). damaged (length list) x found) is_kept ∙ ap (damaged (length list) (kept_of behind)) is_found)
-is_wrong digest file (Short place) big (list, behind, here, less) = is_short digest file big place list behind here less
+    ∙ sym (ap (λ (x : ℕ). damaged place x kept found) is_number ∙ ap (λ (x : List ℕ). damaged place (length list) x found) is_kept ∙ ap (damaged place (length list) (kept_of behind)) is_found)
+is_wrong digest file (Short number place) big (list, behind, here, is_number, less) = is_short digest file big place list behind here less ∙ sym (ap (short place) is_number)
 is_wrong digest file Memory big wrong = absurd wrong
 
 pub refusals_read : RefusalsAreRead

@@ -46,17 +46,17 @@ pub at_closed : (number place gate : ℕ) (behind : List ℕ) → gate ≢ 0xA5 
 at_closed number place gate behind shut =
     ap (λ (b : Bool). at_gate b (is_whole behind) (bytes_eq (sha256 (body_of behind)) (kept_of behind)) number place behind (records_from (number + 1) (place + 41 + body_length behind) (40 + body_length behind) behind)) (not_open gate shut)
 
-pub at_short : (number place : ℕ) (behind : List ℕ) → length behind < 41 + body_length behind → records_from number place 0 (0xA5 ∷ behind) ≡ Err (Short place)
+pub at_short : (number place : ℕ) (behind : List ℕ) → length behind < 41 + body_length behind → records_from number place 0 (0xA5 ∷ behind) ≡ Err (Short number place)
 at_short number place behind less =
     ap (λ (b : Bool). at_gate true b (bytes_eq (sha256 (body_of behind)) (kept_of behind)) number place behind (records_from (number + 1) (place + 41 + body_length behind) (40 + body_length behind) behind)) (lt-leb _ _ less)
 
 gate_true : (whole right : Bool) (number place : ℕ) (behind : List ℕ) (rest : Records) → whole ≡ true → right ≡ true → at_gate true whole right number place behind rest ≡ with_body (body_of behind) rest
 gate_true whole right number place behind rest w r = ap (λ (b : Bool). at_gate true b right number place behind rest) w ∙ ap (λ (b : Bool). at_gate true true b number place behind rest) r
 
-gate_damaged : (whole right : Bool) (number place : ℕ) (behind : List ℕ) (rest : Records) → whole ≡ true → right ≡ false → at_gate true whole right number place behind rest ≡ Err (Damaged number (kept_of behind) (sha256 (body_of behind)))
+gate_damaged : (whole right : Bool) (number place : ℕ) (behind : List ℕ) (rest : Records) → whole ≡ true → right ≡ false → at_gate true whole right number place behind rest ≡ Err (Damaged number place (kept_of behind) (sha256 (body_of behind)))
 gate_damaged whole right number place behind rest w r = ap (λ (b : Bool). at_gate true b right number place behind rest) w ∙ ap (λ (b : Bool). at_gate true true b number place behind rest) r
 
-pub at_damaged : (number place : ℕ) (behind : List ℕ) → 41 + body_length behind ≤ length behind → bytes_eq (sha256 (body_of behind)) (kept_of behind) ≡ false → records_from number place 0 (0xA5 ∷ behind) ≡ Err (Damaged number (kept_of behind) (sha256 (body_of behind)))
+pub at_damaged : (number place : ℕ) (behind : List ℕ) → 41 + body_length behind ≤ length behind → bytes_eq (sha256 (body_of behind)) (kept_of behind) ≡ false → records_from number place 0 (0xA5 ∷ behind) ≡ Err (Damaged number place (kept_of behind) (sha256 (body_of behind)))
 at_damaged number place behind whole wrong = gate_damaged _ _ number place behind _ (le-leb _ _ whole) wrong
 
 -- a whole record

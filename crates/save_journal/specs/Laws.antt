@@ -33,11 +33,11 @@ IsWrong digest file Failed = ⊥
 IsWrong digest file NotSave = take 8 file ≢ magic
 IsWrong digest file (Other kept ours) =
     (take 8 file ≡ magic) × (kept ≡ take 32 (drop 8 file)) × (ours ≡ digest) × (kept ≢ ours)
-IsWrong digest file (Damaged number kept found) = (place : ℕ) × (list : List (List ℕ)) × (behind : List ℕ) ×
+IsWrong digest file (Damaged number place kept found) = (list : List (List ℕ)) × (behind : List ℕ) ×
     IsOpenAt digest place list behind file × (number ≡ length list) × (41 + body_length behind ≤ length behind) ×
     (kept ≡ kept_of behind) × (found ≡ sha256 (body_of behind)) × (kept ≢ found)
-IsWrong digest file (Short place) = (list : List (List ℕ)) × (behind : List ℕ) ×
-    IsOpenAt digest place list behind file × (length behind < 41 + body_length behind)
+IsWrong digest file (Short number place) = (list : List (List ℕ)) × (behind : List ℕ) ×
+    IsOpenAt digest place list behind file × (number ≡ length list) × (length behind < 41 + body_length behind)
 IsWrong digest file Memory = ⊥
 
 -- a file is refused for what is wrong with it, if it has room for a record

@@ -56,8 +56,8 @@ and_last (Err fault) body = Err fault
 -- have the digest that it keeps, and then the rest. The number of the record and the place of the gate name a refusal.
 abbrev pub at_gate : Bool → Bool → Bool → ℕ → ℕ → List ℕ → Records → Records
 at_gate false whole right number place behind rest = Ok []
-at_gate true false right number place behind rest = Err (Short place)
-at_gate true true false number place behind rest = Err (Damaged number (kept_of behind) (sha256 (body_of behind)))
+at_gate true false right number place behind rest = Err (Short number place)
+at_gate true true false number place behind rest = Err (Damaged number place (kept_of behind) (sha256 (body_of behind)))
 at_gate true true true number place behind rest = with_body (body_of behind) rest
 
 -- the records from the gate on that stands behind so many bytes more

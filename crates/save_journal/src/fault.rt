@@ -28,6 +28,8 @@ pub enum OpenFault {
     Damaged {
         /// Which record, counted from 0.
         number: u64,
+        /// The place of its gate, in bytes from the beginning of the file.
+        place: u64,
         /// The digest that it keeps.
         kept: [u8; 32],
         /// The digest of its body.
@@ -36,6 +38,8 @@ pub enum OpenFault {
     /// An open gate, and less than a record and the next gate behind it.
     #[error("too short behind place {place}")]
     Short {
+        /// Which record that is, counted from 0.
+        number: u64,
         /// The place of the gate, in bytes from the beginning of the file.
         place: u64,
     },

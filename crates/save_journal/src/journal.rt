@@ -1,9 +1,9 @@
 //! Journals.
-ghost use Rattle.std.specs.Prelude.{◌≡◌, ◌≢◌, ◌⊎◌, ℕ, ◌<◌, ◌≤◌, false, List, Ok, Err, length, IfOk, IfErr, IfSome, OnOk, OnErr, MatchResult};
+ghost use Rattle.std.specs.Prelude.{◌≡◌, ◌≢◌, ◌⊎◌, ℕ, ◌+◌, ◌<◌, ◌≤◌, false, List, Ok, Err, length, IfOk, IfErr, IfSome, OnOk, OnErr, MatchResult};
 ghost use Rattle.std.specs.Option.{option_map};
 ghost use Rattle.edge.specs.Disk.{LeavesOnly, HavePast, IsTold, AreTold};
 ghost use Rattle.edge.specs.Faults.{HasRisen};
-ghost use Rattle.save_journal.specs.Records.{records_of, opened, and_last};
+ghost use Rattle.save_journal.specs.Records.{records_of, opened, and_last, encoded};
 ghost use Rattle.save_journal.specs.Journals.{IsLive, HasRecordsOf, IsBeforeOrAfter, HaveSameRecords, ComeFromEarlier, contents};
 ghost use Rattle.save_journal.specs.declared.fault.OpenFault.TheVariants.{Failed as DiskFailed, Memory as WantOfMemory};
 
@@ -36,8 +36,8 @@ impl<D: Disk> Model for Journal<D> {
 impl<D: Disk> Journal<D> {
     /// Opens the disk, whose records are to belong to `digest`, and answers the journal with the bodies of the records.
     ///
-    /// The disk is synced first, and then all of it is read. A file of at most 41 bytes, which has no room for a record, is
-    /// written anew, unless it is what it would be then; a longer one is left as it is.
+    /// The disk is synced first. A file of at most 41 bytes, which has no room for a record, is read, and written anew unless it is what
+    /// it would be then. A longer one is left as it is: its first forty bytes are read, and the rest only if these are ours.
     ///
     /// # Errors
     /// Each comes with the disk, on which a refusal writes nothing. `Failed` if the disk failed, `Memory` if allocation fails, and
@@ -50,6 +50,7 @@ impl<D: Disk> Journal<D> {
         ensures live { IfOk result (λ r. IsLive D.now D.images r.0) }
         ensures bodies { IfOk result
             (λ r. IfSome (D.now r.0.disk) (λ file. records_of digest file ≡ Ok (contents r.1.items))) }
+        ensures end { IfOk result (λ r. r.0.end ≡ 40 + length (encoded (contents r.1.items))) }
         ensures count { IfOk result (λ r. length r.1.items ≤ r.0.end) }
         ensures digest { IfOk result (λ r. r.0.digest ≡ digest) }
         ensures file { IfOk result (λ r. D.now r.0.disk ≡ option_map (opened digest) (D.now disk)) }

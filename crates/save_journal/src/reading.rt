@@ -1,7 +1,7 @@
 //! The records of a file, read.
-ghost use Rattle.std.specs.Prelude.{◌≡◌, ◌≢◌, ◌⊎◌, ℕ, ◌+◌, ◌<◌, ◌≤◌, ◌∷◌, Err, length, IfOk, IfErr, OnOk, MatchOption};
+ghost use Rattle.std.specs.Prelude.{◌≡◌, ◌≢◌, ◌⊎◌, ℕ, ◌+◌, ◌<◌, ◌≤◌, ◌∷◌, List, Err, length, take, IfOk, IfErr, OnOk, MatchOption};
 ghost use Rattle.sha2.specs.Sha256.{sha256};
-ghost use Rattle.save_journal.specs.Records.{records_of, records_from, fresh, body_length, body_of, kept_of};
+ghost use Rattle.save_journal.specs.Records.{records_of, records_from, encoded, header, fresh, body_length, body_of, kept_of};
 ghost use Rattle.save_journal.specs.Journals.{IsAtRest, contents};
 ghost use Rattle.save_journal.specs.declared.fault.OpenFault.TheVariants.{Failed as DiskFailed, Memory as WantOfMemory};
 
@@ -25,28 +25,40 @@ pub fn fresh_file(digest: &[u8; 32]) -> [u8; 41]
     bytes
 }
 
-/// The bodies of a file's records, and the place of the gate that ends them.
-pub fn read_records(
-    alloc: Global,
-    bytes: &[u8],
-    digest: &[u8; 32],
-) -> Result<(u64, Vec<Vec<u8>>), OpenFault>
-    requires { 41 < length bytes.now }
-    ensures at_rest { IfOk result (λ r. IsAtRest digest.now r.0 (contents r.1.items) bytes.now) }
-    ensures count { IfOk result (λ r. length r.1.items ≤ r.0) }
-    ensures refused { IfErr result (λ e. (e ≡ WantOfMemory) ⊎ (records_of digest.now bytes.now ≡ Err e)) }
+/// Compares what a file begins with, of which there is more than 41 bytes, with what one of ours begins with.
+pub fn compare_header(head: &[u8; 40], digest: &[u8; 32]) -> Result<(), OpenFault>
+    ensures ours { OnOk result (head.now ≡ header digest.now) }
+    ensures refused { IfErr result (λ e. (file : List ℕ) → 41 < length file → take 40 file ≡ head.now →
+        records_of digest.now file ≡ Err e) }
     ensures no_disk { IfErr result (λ e. e ≢ DiskFailed) }
 {
-    if &bytes[..8] != MAGIC.as_slice() {
+    if &head[..8] != MAGIC.as_slice() {
         return Err(OpenFault::NotSave);
     }
-    let kept = &bytes[8..40];
+    let kept = &head[8..40];
     if kept != digest.as_slice() {
         return Err(OpenFault::Other {
             kept: array_of(kept),
             ours: *digest,
         });
     }
+    Ok(())
+}
+
+/// The bodies of the records of a file that begins as one of ours does, and the place of the gate that ends them.
+pub fn read_records(
+    alloc: Global,
+    bytes: &[u8],
+    digest: &[u8; 32],
+) -> Result<(u64, Vec<Vec<u8>>), OpenFault>
+    requires long { 41 < length bytes.now }
+    requires ours { take 40 bytes.now ≡ header digest.now }
+    ensures at_rest { IfOk result (λ r. IsAtRest digest.now r.0 (contents r.1.items) bytes.now) }
+    ensures end { IfOk result (λ r. r.0 ≡ 40 + length (encoded (contents r.1.items))) }
+    ensures count { IfOk result (λ r. length r.1.items ≤ r.0) }
+    ensures refused { IfErr result (λ e. (e ≡ WantOfMemory) ⊎ (records_of digest.now bytes.now ≡ Err e)) }
+    ensures no_disk { IfErr result (λ e. e ≢ DiskFailed) }
+{
     let mut list = Vec::new(alloc);
     let mut place = 40;
     while bytes[place] == OPEN {
@@ -71,7 +83,7 @@ fn read_record(alloc: Global, behind: &[u8], number: u64, place: u64) -> Result<
     ensures no_disk { IfErr result (λ e. e ≢ DiskFailed) }
 {
     let Some(n) = whole_length(behind) else {
-        return Err(OpenFault::Short { place });
+        return Err(OpenFault::Short { number, place });
     };
     let body = &behind[8..8 + n];
     let kept = &behind[8 + n..40 + n];
@@ -79,6 +91,7 @@ fn read_record(alloc: Global, behind: &[u8], number: u64, place: u64) -> Result<
     if found.as_slice() != kept {
         return Err(OpenFault::Damaged {
             number,
+            place,
             kept: array_of(kept),
             found,
         });

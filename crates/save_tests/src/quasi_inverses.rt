@@ -21,8 +21,8 @@ const BODY: &str = "0300000001000000000000000000000000000000000000000000000001";
 
 const DIGEST: &str = "523d101eacdc7e52d69eea092e2e880aba9da696b617f63f0d88b0547288f6af";
 
-/// How many calls of a disk with the two squares put both quasi-inverses there: three take it up, and each takes four.
-const CALLS: u64 = 11;
+/// How many calls of a disk with the two squares put both quasi-inverses there: four take it up, and each takes four.
+const CALLS: u64 = 12;
 
 /// Whether the square in row `s` and of degree `t` is there without a quasi-inverse, and has the kernel rows of the one that is made.
 fn lacks_quasi(alloc: Global, table: &Table, s: u16, t: i32) -> Result<bool, Memory>
@@ -119,11 +119,11 @@ fn fails(rt: HostRuntime) -> Result<(), Fail> {
         let from_there = disk(alloc, before.clone()?, &[], calls)?;
         let (also, from_there) = put(alloc, from_there)?;
         assert!(rt; once.bytes() == from_there.bytes(), "{calls} calls");
-        let due = calls.saturating_sub(3) / 4;
+        let due = calls.saturating_sub(4) / 4;
         assert_eq!(rt; (kept, also), (due, due), "{calls} calls");
         for pick in 0..3 {
             // The gate is opened in the last call but one, and image 1 has all that was written.
-            let opened = calls > 3 && calls % 4 == 2 && pick == 1;
+            let opened = calls > 4 && calls % 4 == 3 && pick == 1;
             let found = count(alloc, once.image(alloc, pick)?)?;
             assert_eq!(rt;
                 found,

@@ -69,9 +69,18 @@ fn cuts(rt: HostRuntime) -> Result<(), Fail> {
         file.truncate(len);
         let want = match len {
             0..=41 => Ok(0),
-            42..ONE => refused(OpenFault::Short { place: 40 }),
-            ONE..TWO => refused(OpenFault::Short { place: 119 }),
-            TWO..271 => refused(OpenFault::Short { place: 198 }),
+            42..ONE => refused(OpenFault::Short {
+                number: 0,
+                place: 40,
+            }),
+            ONE..TWO => refused(OpenFault::Short {
+                number: 1,
+                place: 119,
+            }),
+            TWO..271 => refused(OpenFault::Short {
+                number: 2,
+                place: 198,
+            }),
             _ => Ok(2),
         };
         assert!(rt; is_answer(alloc, file.as_slice(), want)?, "{len} bytes");

@@ -37,7 +37,7 @@ left_since now moment images images_at since faults law k t image = (
 -- what a file with squares stands for
 pub standing_is : (m : Checked) (start : List Entry) (n : ℕ) (file : List ℕ) (h : HasSquares m start n file) →
     standing_of m.plain file ≡ Ok h.list
-standing_is m start n file h = ap (of_records (over m)) h.records ∙ ap of_squares h.squares
+standing_is m start n file h = ap (of_records (over m)) h.records ∙ ap (of_squares h.bodies) h.squares
 
 -- as many as are counted are all of them
 pub first_are_all : (m : Checked) (start : List Entry) (n : ℕ) (file : List ℕ) (h : HasSquares m start n file) →
@@ -46,7 +46,7 @@ first_are_all m start n file h =
     let few = h.counted in
     ap (λ (r : Records). list_in (of_records (over m) (first_records n r))) h.records
     ∙ ap (λ (bodies : List (List ℕ)). list_in (of_records (over m) (Ok bodies))) (take_all n h.bodies (omega arith))
-    ∙ ap (λ r. list_in (of_squares r)) h.squares
+    ∙ ap (λ r. list_in (of_squares h.bodies r)) h.squares
 
 pub all_in : (m : Checked) (start : List Entry) (n : ℕ) (file : List ℕ) → HasSquares m start n file →
     squares_in m file ≡ Some (first_squares m n file)

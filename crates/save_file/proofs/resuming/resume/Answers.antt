@@ -7,14 +7,14 @@ use Rattle.edge.specs.Disk.{LeavesOnly}
 use Rattle.edge.proofs.Moments.{Lawful}
 use Rattle.square.specs.Squares.{over}
 use Rattle.save_journal.specs.Records.{opened}
+use Rattle.save_journal.specs.declared.fault.OpenFault.TheVariants.{Failed as DiskFailed, Memory as OpenMemory}
 use Rattle.save_journal.specs.Journals.{HasRecordsOf, HaveSameRecords, ComeFromEarlier, contents}
 use Rattle.save_file.specs.Bodies.{Kept}
 use Rattle.save_file.specs.Reading.{kept_from, kept_of_bodies}
 use Rattle.save_file.specs.Saved.{kept_of_table}
 use Rattle.save_file.specs.Files.{opening_refusal, digest_of}
-use Rattle.save_file.specs.declared.fault.DecodeFault.{DecodeFault}
 use Rattle.save_file.proofs.Adding.{anyway}
-use Rattle.save_file.proofs.TakenUp.{IsOpened, is_opened, stands, stands_for, as_was, not_written, takes, kept, quasis, keeper, from_none, refused, failed, not_open, strange, not_called, untouched, not_moved, nothing_lost}
+use Rattle.save_file.proofs.TakenUp.{IsOpened, is_opened, stands, stands_for, as_was, not_written, takes, kept, quasis, keeper, from_none, refused, failed, not_open, strange, strange_not_open, not_called, untouched, not_moved, nothing_lost}
 use Rattle.save_file.proofs.resuming.resume.Given.{Over}
 use Rattle.save_file.proofs.resuming.resume.Goals.{After-open, After-read_bodies}
 use Rattle.save_file.proofs.resuming.resume.Goals as goal
@@ -81,8 +81,17 @@ returns-in-Err-clause-cause g c = λ e. c.in-Err.ensures.cause (failed c.in-Err.
 pub returns-in-Err-read_bodies-clause-refused : goal.returns-in-Err-read_bodies-clause-refused
 returns-in-Err-read_bodies-clause-refused g c =
     let at = (goal.at.returns-in-Err-read_bodies-clause-refused g c).After-read_bodies in
-    strange c.args.module c.in-Err-read_bodies.fault c.from-in-Err-read_bodies.result (g.D.Disk.now c.args.disk) c.from-in-Err-read_bodies.ensures (λ n e.
-    stands g.D.Disk.now g.D.Disk.images c.args.module c.args.disk c.in-Ok-open.opened.0 (contents c.in-Ok-open.opened.1.items) (opened_here g at) (Err n) (kept_here g at (Err n) (c.in-Err-read_bodies.ensures.strange n (ap (λ (f : DecodeFault). Err f) e))))
+    strange c.args.module c.in-Err-read_bodies.fault (g.D.Disk.now c.args.disk) (contents c.in-Ok-open.opened.1.items) _ _ c.in-Err-read_bodies.ensures.refused (λ n is.
+    stands g.D.Disk.now g.D.Disk.images c.args.module c.args.disk c.in-Ok-open.opened.0 (contents c.in-Ok-open.opened.1.items) (opened_here g at) (Err n) (kept_here g at (Err n) is))
+
+pub returns-in-Err-read_bodies-clause-memory : goal.returns-in-Err-read_bodies-clause-memory
+returns-in-Err-read_bodies-clause-memory g c = strange_not_open c.in-Err-read_bodies.fault (contents c.in-Ok-open.opened.1.items) _ _ OpenMemory c.in-Err-read_bodies.ensures.refused
+
+pub returns-in-Err-read_bodies-clause-cause : goal.returns-in-Err-read_bodies-clause-cause
+returns-in-Err-read_bodies-clause-cause g c = λ is. absurd (strange_not_open c.in-Err-read_bodies.fault (contents c.in-Ok-open.opened.1.items) _ _ DiskFailed c.in-Err-read_bodies.ensures.refused is)
+
+pub read_bodies-requires-clause-places : goal.read_bodies-requires-clause-places
+read_bodies-requires-clause-places g c = omega (arith, c.in-Ok-open.ensures.end, c.in-Ok-open.ensures.live.limit)
 
 pub returns-in-Err-read_bodies-clause-same : goal.returns-in-Err-read_bodies-clause-same
 returns-in-Err-read_bodies-clause-same g c = λ _.

@@ -1,13 +1,13 @@
 use Rattle.std.proofs.Common.{rules, ◌≡◌, ◌≤◌, length, arith, ap, sym, ◌∙◌, subst}
 use Rattle.edge.specs.Disk.{Follows, Torn, written, LeavesOnly}
-use Rattle.edge.proofs.Moments.{Lawful, where_some, past_then}
+use Rattle.edge.proofs.Moments.{Lawful, where_some, at_told, past_then}
 use Rattle.std.specs.Option.{option_map}
 use Rattle.save_journal.specs.Journals.{contents}
 use Rattle.save_journal.specs.Records.{fresh, opened}
 use Rattle.save_journal.specs.Inside.Held.{IsHeld}
 use Rattle.std.specs.Prelude.{IfSome, [], Result, Ok, Err, OnOk}
 use Rattle.std.proofs.lemmas.Slice.Eq.{bytes_eq-Decides}
-use Rattle.save_journal.proofs.Entry.{length-fresh, fresh_at_rest, leaves1_told, leaves2_told, alone2, timed3, timed4, held2, leaves3, leaves4, held4, file4, retained1, retained2, retained3, retained4}
+use Rattle.save_journal.proofs.Entry.{length-fresh, opened_few, fresh_at_rest, leaves1_told, leaves2_told, alone2, timed3, timed4, held2, leaves3, leaves4, held4, file4, retained1, retained2, retained3, retained4}
 use Rattle.save_journal.proofs.opening.open_on.Given.{Over}
 use Rattle.save_journal.proofs.opening.open_on.Goals as goal
 
@@ -155,3 +155,15 @@ returns-in_err-sync-2-clause-time g c = timed4 (laws g) c.args.digest.now c.args
 
 pub returns-clause-time : goal.returns-clause-time
 returns-clause-time g c = timed4 (laws g) c.args.digest.now c.args.disk.now c.sync.new.self c.sync.ensures.images c.sync.ensures.time c.read_all.new.disk c.read_all.ensures.any_moment c.write_at.new.self c.sync-2.new.self c.write_at.ensures.time c.sync-2.ensures.time
+
+pub returns-clause-left_alone : goal.returns-clause-left_alone
+returns-clause-left_alone g c =
+    let few : length c.in_ok-bytes.bytes.items ≤ 41 = omega (arith, c.in_ok-bytes.bytes.ok, c.len.ensures, c.if-len-gt41.false) in
+    where_some (g.D.Disk.now c.args.disk.now) _ (λ file here alone.
+    let is : c.in_ok-bytes.bytes.items ≡ file = at_told (g.D.Disk.now c.sync.new.self) (λ f. c.in_ok-bytes.bytes.items ≡ f) file (c.sync.ensures.same ∙ here) c.in_ok-bytes.ensures.read in
+    let short : length file ≤ 41 = omega (arith, few, ap length is) in
+    let same : c.as_slice.result.now ≡ c.as_slice-2.result.now = c.as_slice.ensures.value ∙ is ∙ sym alone ∙ opened_few c.args.digest.now file short ∙ sym c.fresh_file-fresh.ensures ∙ sym c.as_slice-2.ensures in
+    let yes = (bytes_eq-Decides c.as_slice.result.now c.as_slice-2.result.now).1 same in
+    let test = c.eq.ensures in
+    let no = c.if-eq.false in
+    absurd (cc))

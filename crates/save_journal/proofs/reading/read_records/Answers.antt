@@ -1,25 +1,23 @@
-use Rattle.std.proofs.Common.{rules, ◌≡◌, ℕ, ◌+◌, ◌^◌, ◌<◌, ◌≤◌, [], ◌∷◌, ◌++◌, length, take, drop, get_or, arith, sym, ◌∙◌, ap, subst}
+use Rattle.std.proofs.Common.{rules, ◌≡◌, ℕ, ◌+◌, ◌^◌, ◌<◌, ◌≤◌, [], ◌∷◌, ◌++◌, length, drop, get_or, arith, sym, ◌∙◌, ap, subst}
 use Rattle.std.proofs.lemmas.Grind.{common_steps}
 use Rattle.sha2.specs.Sha256.{sha256}
 use Rattle.std.proofs.lemmas.List.{take_rest, get_or-drop}
 use Rattle.std.specs.Prelude.{◌⊎◌, Err}
 use Rattle.save_journal.specs.declared.fault.OpenFault.TheVariants.{Memory}
-use Rattle.save_journal.specs.Records.{records_from, body_length, body_of, kept_of, magic}
+use Rattle.save_journal.specs.Records.{records_from, body_length, body_of, kept_of}
 use Rattle.save_journal.specs.Journals.{contents}
 use Rattle.std.specs.Prelude.{Vec}
 use Rattle.std.specs.declared.alloc.Global.{Global}
 use Rattle.std.proofs.lemmas.List.{length-map}
 use Rattle.save_journal.proofs.Walk.{few_records}
-use Rattle.save_journal.proofs.ReadTo.{IsReadTo, at_start, length-body, one_more, refused_by, records_to, contents_push, same_bytes}
+use Rattle.save_journal.proofs.ReadTo.{IsReadTo, at_header, length-body, one_more, refused_by, records_to, contents_push}
 use Rattle.save_journal.proofs.reading.read_records.Goals as goal
 
 pub loop-place-init : goal.loop-place-init
 loop-place-init c =
-    let first : take 8 c.args.bytes.now ≡ magic = same_bytes _ _ c.ne.result (search rules) c.if-ne.false in
-    let second : take 32 (drop 8 c.args.bytes.now) ≡ c.args.digest.now = same_bytes _ _ c.ne-2.result (search rules) c.if-ne-2.false in
     let nothing : contents c.new-list.result.items ≡ [] = ap contents c.new-list.ensures.items in
     let width : length c.args.digest.now ≡ 32 = search rules in
-    subst (λ l. IsReadTo c.args.digest.now c.args.bytes.now l 40) (sym nothing) (at_start c.args.digest.now c.args.bytes.now width c.requires first second)
+    subst (λ l. IsReadTo c.args.digest.now c.args.bytes.now l 40) (sym nothing) (at_header c.args.digest.now c.args.bytes.now width c.requires.long c.requires.ours)
 
 pub returns-in-Err-clause-refused : goal.returns-in-Err-clause-refused
 returns-in-Err-clause-refused c =
@@ -29,7 +27,7 @@ returns-in-Err-clause-refused c =
     let count : c.len.result ≡ length (contents c.loop-place.list.items) = grind (arith, common_steps) in
     let refused = subst (λ l. (c.in-Err.fault ≡ Memory) ⊎ (records_from c.len.result c.loop-place.place 0 (0xA5 ∷ l) ≡ Err c.in-Err.fault)) e c.in-Err.ensures.refused in
     let refused_here = subst (λ n. (c.in-Err.fault ≡ Memory) ⊎ (records_from n c.loop-place.place 0 (0xA5 ∷ drop (c.loop-place.place + 1) c.args.bytes.now) ≡ Err c.in-Err.fault)) count refused in
-    refused_by c.args.digest.now c.args.bytes.now (contents c.loop-place.list.items) _ c.in-Err.fault (records_to c.args.digest.now c.args.bytes.now (contents c.loop-place.list.items) c.loop-place.place c.loop-place.invariant gate fits c.requires) refused_here
+    refused_by c.args.digest.now c.args.bytes.now (contents c.loop-place.list.items) _ c.in-Err.fault (records_to c.args.digest.now c.args.bytes.now (contents c.loop-place.list.items) c.loop-place.place c.loop-place.invariant gate fits c.requires.long) refused_here
 
 pub loop-place-preserved : goal.loop-place-preserved
 loop-place-preserved c =
