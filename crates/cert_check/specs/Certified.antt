@@ -96,3 +96,11 @@ pub record IsFirstFault (table : Staircase) (range : Range) (fault : CertFault) 
   pub within : above ≤ range.t
   pub before : AreCertifiedBefore table range (row_of_fault fault) above
   pub is_fault : IsFaultAt table range above fault
+
+-- ---- the law
+
+-- The first fault of a canonical table is that a square has kept no quasi-inverse. So one whose squares have all kept theirs has none.
+abbrev pub CanonicalTableLacksQuasisAlone : Type 0
+CanonicalTableLacksQuasisAlone = (table : Staircase) (range : Range) (fault : CertFault) →
+    IsCanonicalTable (over table.resolved) range.s range.t (part_of table range) → IsFirstFault table range fault →
+    (s : ℕ) × (t : ℤ) × (fault ≡ NoQuasi s t)

@@ -4,8 +4,10 @@
 
 mod checking;
 mod fault;
+mod laws;
 mod rows;
 
 pub use checking::verify;
 pub use fault::CertFault;
+pub use laws::canonical_table_lacks_quasis_alone;
 pub use rows::are_same;
