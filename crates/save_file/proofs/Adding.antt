@@ -1,13 +1,16 @@
 -- A save file with one record more.
-use Rattle.std.proofs.Common.{◌≡◌, ◌⊎◌, ◌↔◌, inl, inr, ⊎_elim, ℕ, suc, ◌+◌, ◌≤◌, ℤ, List, [], ◌∷◌, ◌++◌, Option, None, Some, refl, sym, ◌∙◌, ap, subst, arith, length, length-append}
-use Rattle.std.specs.Prelude.{IfSome, Result, Ok}
+use Rattle.std.proofs.Common.{◌≡◌, ◌⊎◌, ◌↔◌, inl, inr, ⊎_elim, ℕ, suc, ◌+◌, ◌≤◌, ℤ, Bool, true, false, nat_eq, if◌then◌else◌, List, [], ◌∷◌, ◌++◌, Option, None, Some, refl, sym, ◌∙◌, ap, subst, arith, length, length-append}
+use Rattle.std.specs.Prelude.{◌&&◌, IsSome, IfSome, Result, Ok}
+use Rattle.std.specs.List.{All}
 use Rattle.std.specs.Option.{option_map}
-use Rattle.std.proofs.lemmas.List.{append-nil, take_at, take_all, map-append}
-use Rattle.std.proofs.lemmas.List.Elements.{All-nil, All-cons, All-append}
+use Rattle.std.proofs.lemmas.List.{append-nil, append_assoc, append_cancel_left, take_at, take_all, map-append}
+use Rattle.std.proofs.lemmas.Option.{none-some}
+use Rattle.std.proofs.lemmas.List.Elements.{All-nil, All-cons, All-append, All-weaker, All-map}
 use Rattle.finite_module.specs.Checked.{Checked}
+use Rattle.f2_matrix.specs.Reduction.{Reduction}
 use Rattle.resolution_laws.specs.Resolution.{Module}
-use Rattle.resolution_laws.specs.Start.{Entry, IsOf, AreOf}
-use Rattle.square.specs.Squares.{Placed, IsSquare, entry_of, over}
+use Rattle.resolution_laws.specs.Start.{Entry, entry_at, IsOf, AreOf}
+use Rattle.square.specs.Squares.{Placed, IsSquare, KeptWhereMade, entry_of, over}
 use Rattle.square.specs.Tables.{Staircase}
 use Rattle.square.specs.Keeping.{IsNextIn, HoldsTable, HasFirst}
 use Rattle.square.proofs.Retaining.{retained_entries}
@@ -15,13 +18,14 @@ use Rattle.edge.specs.Disk.{LeavesOnly, HavePast, WasImageSince, IsTold, AreTold
 use Rattle.save_journal.specs.Records.{Records, records_of, and_last}
 use Rattle.save_journal.specs.Journals.{IsBeforeOrAfter, ComeFromEarlier}
 use Rattle.save_journal.proofs.Retaining.{HasFirst as HasFirstRecords, more_first}
-use Rattle.save_file.specs.Bodies.{Kept, kept_of, entries, kept_at, with_quasi_at}
+use Rattle.save_file.specs.Bodies.{Kept, kept_of, entries, is_at, kept_at, given_quasi, with_quasi_at}
 use Rattle.save_file.specs.Reading.{square_in, addition_in, with_square_read, reduction_of_square, with_addition_read, after_body, and_then_kept, kept_from, kept_of_bodies, squares_alone, squares_of}
 use Rattle.save_file.specs.Saved.{IsReadAs, IsReadAsQuasi}
 use Rattle.save_file.specs.Files.{of_records, digest_of, squares_in, first_records, list_in, first_squares, kept_list, kept_by, kept_in_file, first_kept}
 use Rattle.save_file.specs.Saving.{HasSquares, IsKeptBare}
 use Rattle.save_file.specs.Inside.SavingLaws.{first_are_all, all_in}
 use Rattle.save_file.proofs.Rules.{ok, kept_ok, same_kept, not_kept_ok, squares_closed, entries-with_quasi_at, read_as_addition}
+use Rattle.save_file.proofs.Entries.{some_is}
 use Rattle.save_file.proofs.Keeps.{list_is}
 
 -- ---- one body more
@@ -46,11 +50,49 @@ kept_first m start n file h =
     let few = h.counted in
     ap (λ (r : Records). kept_by (over m) (first_records n r)) h.records ∙ ap (λ (l : List (List ℕ)). kept_by (over m) (Ok l)) (take_all n h.bodies (omega arith)) ∙ ap kept_list h.kept_are
 
-kept_whole : (m : Checked) (start : List Entry) (n : ℕ) (file : List ℕ) (h : HasSquares m start n file) → kept_in_file m file ≡ h.kept
+pub kept_whole : (m : Checked) (start : List Entry) (n : ℕ) (file : List ℕ) (h : HasSquares m start n file) → kept_in_file m file ≡ h.kept
 kept_whole m start n file h = ap (λ (r : Records). kept_by (over m) r) h.records ∙ ap kept_list h.kept_are
 
 pub all_kept : (m : Checked) (start : List Entry) (n : ℕ) (file : List ℕ) → HasSquares m start n file → kept_in_file m file ≡ first_kept m n file
 all_kept m start n file h = kept_whole m start n file h ∙ sym (kept_first m start n file h)
+
+-- the squares that are counted begin with those of the start
+begun : (m : Checked) (start : List Entry) (n : ℕ) (file : List ℕ) (h : HasSquares m start n file) → h.list ≡ start ++ entries h.made
+begun m start n file h = list_is m start n file h ∙ ap entries h.parts ∙ map-append (λ (k : Kept). k.entry) h.read h.made ∙ ap (λ (l : List Entry). l ++ entries h.made) h.read_are
+
+-- and those behind these are those that were made
+pub made_are : (m : Checked) (start given : List Entry) (n : ℕ) (file : List ℕ) (h : HasSquares m start n file) → first_squares m n file ≡ start ++ given → entries h.made ≡ given
+made_are m start given n file h is = append_cancel_left start (entries h.made) given (sym (first_are_all m start n file h ∙ begun m start n file h) ∙ is)
+
+-- ---- what was made has its quasi-inverse
+
+abbrev pub IsWhole : Kept → Type 0
+IsWhole k = IsSome k.quasi
+
+-- where a list has no square, its first ones have none
+absent_first : (xs ys : List Entry) (s k : ℕ) → entry_at (xs ++ ys) s k ≡ None → entry_at xs s k ≡ None
+absent_first [] ys s k none = refl
+absent_first (e ∷ xs) ys s k none = by_test (nat_eq e.s s && nat_eq e.above k) (absent_first xs ys s k) none
+  where
+    by_test : (here : Bool) → (entry_at (xs ++ ys) s k ≡ None → entry_at xs s k ≡ None) → (if here then Some e.content else entry_at (xs ++ ys) s k) ≡ None → (if here then Some e.content else entry_at xs s k) ≡ None
+    by_test true rest h = absurd (none-some e.content (sym h))
+    by_test false rest h = rest h
+
+-- a square that the start has not was made
+made_whole : (q : Placed) (start more : List Entry) → q.start ≡ start → entry_at (start ++ more) q.s q.above ≡ None → KeptWhereMade q → IsWhole (kept_of q)
+made_whole q start more same absent where_made =
+    where_made (λ read.
+    let there = some_is (entry_at q.start q.s q.above) read in
+    let none : entry_at q.start q.s q.above ≡ None = ap (λ (l : List Entry). entry_at l q.s q.above) same ∙ absent_first start more q.s q.above absent in
+    none-some there.0 (sym none ∙ there.1))
+
+-- it has it still where one of them gets its own
+whole_still : (s k : ℕ) (r : Reduction) (made : List Kept) → All IsWhole made → All IsWhole (with_quasi_at made s k r)
+whole_still s k r made h = All-map IsWhole (given_quasi s k r) made (All-weaker IsWhole (λ x. IsWhole (given_quasi s k r x)) (λ x is. by_test x is (is_at x.entry s k)) made h)
+  where
+    by_test : (x : Kept) → IsWhole x → (b : Bool) → IsWhole (if b then record { entry = x.entry; quasi = Some r } else x)
+    by_test x is true = refl
+    by_test x is false = is
 
 -- ---- a file with squares, and a body that is read behind them
 
@@ -61,23 +103,34 @@ pub record Adds (m : Checked) (start : List Entry) (n : ℕ) (file body : List �
   pub read : after_body (over m) has.kept body ≡ Some (next has.kept)
   pub entries_are : entries (next has.kept) ≡ has.list ++ more
   pub are_of : AreOf (over m) start more
+  pub next_read : List Kept
+  pub next_made : List Kept
+  pub parts : next has.kept ≡ next_read ++ next_made
+  pub read_are : entries next_read ≡ start
+  pub whole : All IsWhole next_made
 
 abbrev pub and_square : Placed → List Kept → List Kept
 and_square q kept = kept ++ kept_of q ∷ []
 
-pub adds : (q : Placed) (m : Checked) (start : List Entry) (n : ℕ) (file body : List ℕ) → HasSquares m start n file → IsReadAs q body → IsSquare q → q.resolved ≡ m → q.start ≡ start → IsNextIn (first_squares m n file) q → Adds m start n file body (entry_of q ∷ []) (and_square q)
-adds q m start n file body h reads square resolved same next =
+pub adds : (q : Placed) (m : Checked) (start : List Entry) (n : ℕ) (file body : List ℕ) → HasSquares m start n file → IsReadAs q body → IsSquare q → KeptWhereMade q → q.resolved ≡ m → q.start ≡ start → IsNextIn (first_squares m n file) q → Adds m start n file body (entry_of q ∷ []) (and_square q)
+adds q m start n file body h reads square where_made resolved same next =
     let all = first_are_all m start n file h in
     let are : AreOf (over q.resolved) q.start h.list = subst (λ (x : Checked). AreOf (over x) q.start h.list) (sym resolved) (subst (λ (x : List Entry). AreOf (over m) x h.list) (sym same) h.are_of) in
     let closed = squares_closed (over m) h.bodies h.list h.squares in
     let there = reads h.list are closed (subst (λ (x : List Entry). IsNextIn x q) all next) in
     let read : square_in (over m) (entries h.kept) body ≡ Some (kept_of q) = subst (λ (x : List Entry). square_in (over m) x body ≡ Some (kept_of q)) (list_is m start n file h) (subst (λ (x : Checked). square_in (over x) h.list body ≡ Some (kept_of q)) resolved there) in
+    let absent : entry_at (start ++ entries h.made) q.s q.above ≡ None = ap (λ (l : List Entry). entry_at l q.s q.above) (sym (all ∙ begun m start n file h)) ∙ next.absent in
     let here : IsOf (over m) start q.s q.above q.content = subst (λ (x : Checked). IsOf (over x) start q.s q.above q.content) resolved (subst (λ (x : List Entry). IsOf (over q.resolved) x q.s q.above q.content) same square.is_of) in
     record {
       has = h;
       read = ap (λ o. with_square_read h.kept o (with_addition_read h.kept (addition_in (over m) h.kept body))) read;
       entries_are = map-append (λ (k : Kept). k.entry) h.kept (kept_of q ∷ []) ∙ ap (λ (l : List Entry). l ++ entry_of q ∷ []) (sym (list_is m start n file h));
       are_of = All-cons (λ (x : Entry). IsOf (over m) start x.s x.above x.content) (entry_of q) [] here (All-nil (λ (x : Entry). IsOf (over m) start x.s x.above x.content));
+      next_read = h.read;
+      next_made = h.made ++ kept_of q ∷ [];
+      parts = ap (λ (l : List Kept). l ++ kept_of q ∷ []) h.parts ∙ append_assoc h.read h.made (kept_of q ∷ []);
+      read_are = h.read_are;
+      whole = All-append IsWhole h.made (kept_of q ∷ []) h.whole (All-cons IsWhole (kept_of q) [] (made_whole q start (entries h.made) same absent where_made) (All-nil IsWhole));
     }
 
 pub adds_quasi : (table : Staircase) (s : ℕ) (t : ℤ) (m : Checked) (start : List Entry) (n : ℕ) (file body : List ℕ) → HasSquares m start n file → (r : IsReadAsQuasi table s t body) → table.resolved ≡ m → HoldsTable (first_squares m n file) table.rows → IsKeptBare (first_kept m n file) s r.above → Adds m start n file body [] (λ kept. with_quasi_at kept s r.above r.quasi)
@@ -98,6 +151,11 @@ adds_quasi table s t m start n file body h r resolved holds bare =
           ∙ ap (λ k. Some (with_quasi_at h.kept s k r.quasi)) r.place.1;
       entries_are = entries-with_quasi_at h.kept s r.above r.quasi ∙ sym (list_is m start n file h) ∙ sym (append-nil h.list);
       are_of = All-nil (λ (x : Entry). IsOf (over m) start x.s x.above x.content);
+      next_read = with_quasi_at h.read s r.above r.quasi;
+      next_made = with_quasi_at h.made s r.above r.quasi;
+      parts = ap (λ (l : List Kept). with_quasi_at l s r.above r.quasi) h.parts ∙ map-append (given_quasi s r.above r.quasi) h.read h.made;
+      read_are = entries-with_quasi_at h.read s r.above r.quasi ∙ h.read_are;
+      whole = whole_still s r.above r.quasi h.made h.whole;
     }
 
 module _ (m : Checked) (start : List Entry) (n : ℕ) (file body : List ℕ) (more : List Entry) (next : List Kept → List Kept) (a : Adds m start n file body more next) where
@@ -121,6 +179,11 @@ module _ (m : Checked) (start : List Entry) (n : ℕ) (file body : List ℕ) (mo
     kept = next a.has.kept;
     kept_are = more_kept;
     are_of = All-append (λ (x : Entry). IsOf (over m) start x.s x.above x.content) a.has.list more a.has.are_of a.are_of;
+    read = a.next_read;
+    made = a.next_made;
+    parts = a.parts;
+    read_are = a.read_are;
+    whole = a.whole;
   }
 
   first_more : (c : List ℕ) → records_of (digest_of m.plain) c ≡ and_last (records_of (digest_of m.plain) file) body → first_squares m (n + 1) c ≡ first_squares m n file ++ more
@@ -132,7 +195,7 @@ module _ (m : Checked) (start : List Entry) (n : ℕ) (file body : List ℕ) (mo
   kept_more c is = kept_first m start (n + 1) c (has_more c is) ∙ ap next (sym (kept_first m start n file a.has))
 
   has_same : (c : List ℕ) → records_of (digest_of m.plain) c ≡ records_of (digest_of m.plain) file → HasSquares m start n c
-  has_same c is = record { bodies = a.has.bodies; list = a.has.list; records = is ∙ a.has.records; counted = a.has.counted; squares = a.has.squares; kept = a.has.kept; kept_are = a.has.kept_are; are_of = a.has.are_of }
+  has_same c is = record { bodies = a.has.bodies; list = a.has.list; records = is ∙ a.has.records; counted = a.has.counted; squares = a.has.squares; kept = a.has.kept; kept_are = a.has.kept_are; are_of = a.has.are_of; read = a.has.read; made = a.has.made; parts = a.has.parts; read_are = a.has.read_are; whole = a.has.whole }
 
   -- the first so many stay
   first_bodies : (c : List ℕ) → IsBeforeOrAfter (digest_of m.plain) (records_of (digest_of m.plain) file) body c → first_records n (records_of (digest_of m.plain) c) ≡ first_records n (records_of (digest_of m.plain) file)

@@ -11,7 +11,7 @@ use Rattle.resolution_laws.specs.Resolution.{Module, row_of, below_of}
 use Rattle.resolution_laws.specs.Start.{Entry, IsOf}
 use Rattle.f2_matrix.specs.Reduction.{Reduction, IsReductionOf, augmented, image_part, chosen_part, kernel_part}
 use Rattle.f2_matrix.proofs.Unique.{echelon_form_unique}
-use Rattle.square.specs.Squares.{Placed, IsQuasi, IsSquare, entry_of, target_width, square_matrix, bottom_of, over}
+use Rattle.square.specs.Squares.{Placed, IsQuasi, IsSquare, KeptWhereMade, entry_of, target_width, square_matrix, bottom_of, over}
 use Rattle.square.specs.Tables.{Staircase, plain_rows, content_at, IsQuasiAt}
 use Rattle.square.specs.Keeping.{Keeper, IsNextIn, HoldsTable, with_squares, HasFirst, Retains, IsImageWith, HasKept}
 use Rattle.square.proofs.Kept.{HasKept-none}
@@ -68,11 +68,11 @@ both_of (Some x) P Q p q = (p, q)
 abbrev pub IsNextThere : {D : Type 0} → SaveState D → Placed → List ℕ → Type 0
 IsNextThere k q file = IsNextIn (first_squares k.resolved k.count file) q
 
-pub fits_square : {D : Type 0} (now : D → Option (List ℕ)) (images : D → List ℕ → Type 0) (k : SaveState D) (q : Placed) (body : List ℕ) → TakesSquares now images k → IfSome (kept_in now k) (λ list. IsNextIn list q) → q.resolved ≡ k.resolved → q.start ≡ k.start → IsReadAs q body → IsSquare q → Fits now images k body (entry_of q ∷ []) (and_square q) (IsNextThere k q)
-fits_square now images k q body takes next resolved start reads square = record {
+pub fits_square : {D : Type 0} (now : D → Option (List ℕ)) (images : D → List ℕ → Type 0) (k : SaveState D) (q : Placed) (body : List ℕ) → TakesSquares now images k → IfSome (kept_in now k) (λ list. IsNextIn list q) → q.resolved ≡ k.resolved → q.start ≡ k.start → IsReadAs q body → IsSquare q → KeptWhereMade q → Fits now images k body (entry_of q ∷ []) (and_square q) (IsNextThere k q)
+fits_square now images k q body takes next resolved start reads square where_made = record {
   takes = takes;
   ready = of_mapped (now k.journal.disk) (first_squares k.resolved k.count) (λ list. IsNextIn list q) next;
-  added = λ file h ready. adding.adds q k.resolved k.start k.count file body h reads square resolved start ready;
+  added = λ file h ready. adding.adds q k.resolved k.start k.count file body h reads square where_made resolved start ready;
 }
 
 -- a quasi-inverse of a square of the table, which is kept without one

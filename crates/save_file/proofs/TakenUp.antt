@@ -1,8 +1,9 @@
 -- A save file that was taken up, or refused.
-use Rattle.std.proofs.Common.{◌≡◌, ◌≢◌, ◌⊎◌, inl, inr, ℕ, ◌≤◌, List, [], length, map, Option, None, Some, refl, sym, ◌∙◌, ap, subst, arith}
-use Rattle.std.specs.Prelude.{IfSome, Result, Ok, Err}
+use Rattle.std.proofs.Common.{◌≡◌, ◌≢◌, ◌⊎◌, inl, inr, ℕ, ◌≤◌, List, [], length, map, Option, None, Some, refl, sym, ◌∙◌, ap, subst, arith, append-nil}
+use Rattle.std.specs.Prelude.{IsSome, IfSome, Result, Ok, Err}
 use Rattle.std.specs.Option.{option_map}
 use Rattle.std.proofs.lemmas.List.{take_all}
+use Rattle.std.proofs.lemmas.List.Elements.{All-nil}
 use Rattle.std.proofs.lemmas.Option.{IfSome_then}
 use Rattle.finite_module.specs.Checked.{Checked}
 use Rattle.resolution_laws.specs.Start.{Entry}
@@ -72,6 +73,11 @@ has_squares m table bodies same e h read file is =
       kept = kept_of_table table;
       kept_are = here;
       are_of = start_are_of table h read plain;
+      read = kept_of_table table;
+      made = [];
+      parts = sym (append-nil (kept_of_table table));
+      read_are = entries_of_table table;
+      whole = All-nil (λ (k : Kept). IsSome k.quasi);
     }
 
 -- the first so many records are all of them

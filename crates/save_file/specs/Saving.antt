@@ -1,6 +1,7 @@
 -- The keeper of a save file.
-use Rattle.std.specs.Prelude.{◌≡◌, ◌⊎◌, ℕ, ◌≤◌, ℤ, pos, ◌+ℤ◌, List, length, Option, Some, None, Ok, IfSome}
+use Rattle.std.specs.Prelude.{◌≡◌, ◌⊎◌, ℕ, ◌≤◌, ℤ, pos, ◌+ℤ◌, List, ◌++◌, length, Option, Some, None, Ok, IsSome, IfSome}
 use Rattle.std.specs.Option.{option_map}
+use Rattle.std.specs.List.{All}
 use Rattle.finite_module.specs.Checked.{Checked}
 use Rattle.resolution_laws.specs.Start.{Entry, AreOf}
 use Rattle.square.specs.Squares.{over, bottom_of}
@@ -9,7 +10,7 @@ use Rattle.save_journal.specs.Records.{records_of}
 use Rattle.save_journal.specs.Journals.{JournalState, IsLive}
 use Rattle.f2_matrix.specs.Reduction.{Reduction}
 use Rattle.square.specs.Tables.{Staircase, IsQuasiAt}
-use Rattle.save_file.specs.Bodies.{Kept, kept_at, with_quasi_at}
+use Rattle.save_file.specs.Bodies.{Kept, entries, kept_at, with_quasi_at}
 use Rattle.save_file.specs.Reading.{kept_of_bodies, squares_of}
 use Rattle.save_file.specs.Files.{digest_of, squares_in, first_squares, first_kept}
 
@@ -21,7 +22,8 @@ pub record SaveState (D : Type 0) : Type 0 where
   pub resolved : Checked
   pub start : List Entry
 
--- the file has so many records, and they are read as squares of the start's table
+-- The file has so many records, and they are read as squares of the start's table: those of the start, which were read when the
+-- file was taken up, and behind them those that were made since, each with its quasi-inverse.
 pub record HasSquares (m : Checked) (start : List Entry) (count : ℕ) (file : List ℕ) : Type 0 where
   pub bodies : List (List ℕ)
   pub list : List Entry
@@ -31,6 +33,11 @@ pub record HasSquares (m : Checked) (start : List Entry) (count : ℕ) (file : L
   pub kept : List Kept
   pub kept_are : kept_of_bodies (over m) bodies ≡ Ok kept
   pub are_of : AreOf (over m) start list
+  pub read : List Kept
+  pub made : List Kept
+  pub parts : kept ≡ read ++ made
+  pub read_are : entries read ≡ start
+  pub whole : All (λ k. IsSome k.quasi) made
 
 -- The save file takes squares: its journal takes records, which belong to its module, and where the disk tells, all records are
 -- counted and are squares. No more are counted than there are bytes.

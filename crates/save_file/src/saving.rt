@@ -5,7 +5,7 @@ ghost use Rattle.edge.specs.Disk.{HavePast};
 ghost use Rattle.edge.specs.Faults.{HasRisen};
 ghost use Rattle.f2_matrix.specs.Reduction.{Reduction};
 ghost use Rattle.resolution_laws.specs.Start.{Entry};
-ghost use Rattle.square.specs.Squares.{entry_of, IsSquare, over, bottom_of};
+ghost use Rattle.square.specs.Squares.{entry_of, IsSquare, KeptWhereMade, over, bottom_of};
 ghost use Rattle.square.specs.Tables.{square_at, IsQuasiAt};
 ghost use Rattle.square.specs.Keeping.{with_squares, IsNextIn, IsImageBetween, Retains, IsKeeperOf, HasKept};
 ghost use Rattle.square.specs.declared.keep.KeepFault as KeepFault;
@@ -176,6 +176,7 @@ impl<D: Disk> Keep for SaveFile<D> {
 fn framed(alloc: Global, square: &Square) -> Result<Framed, Memory>
     ensures read { IfOk result (λ body. IsReadAs square.now body) }
     ensures is_square { IfOk result (λ _. IsSquare square.now) }
+    ensures where_made { IfOk result (λ _. KeptWhereMade square.now) }
 {
     let body = encode(alloc, square)?;
     match frame(alloc, body) {

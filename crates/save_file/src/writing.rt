@@ -1,7 +1,7 @@
 //! Squares and quasi-inverses as bytes.
 ghost use Rattle.std.specs.Prelude.{◌≡◌, ◌<◌, ◌^◌, ◌++◌, option_map, IfOk, OnOk, IfSome, IsSome};
 ghost use Rattle.f2_matrix.specs.Reduction.{Reduction};
-ghost use Rattle.square.specs.Squares.{IsSquare};
+ghost use Rattle.square.specs.Squares.{IsSquare, KeptWhereMade};
 ghost use Rattle.square.specs.Tables.{square_at, IsQuasiAt};
 ghost use Rattle.save_file.specs.Bodies.{matrix_bytes, quasi_bytes, preimages_bytes, preimages_of, kind_of, addition_bytes};
 ghost use Rattle.save_file.specs.Saved.{IsBodyOf, IsReadAs, IsQuasiBodyOf, IsReadAsQuasi};
@@ -22,6 +22,7 @@ pub fn encode(alloc: Global, square: &Square) -> Result<Vec<u8>, Memory>
     ensures body { IfOk result (λ bytes. IsBodyOf square.now bytes.items) }
     ensures read { IfOk result (λ bytes. IsReadAs square.now bytes.items) }
     ensures is_square { IfOk result (λ _. IsSquare square.now) }
+    ensures where_made { IfOk result (λ _. KeptWhereMade square.now) }
 {
     parts_are_reduction(); // The rows of a reduction are its parts, which proofs learn here.
     let (target, source) = square.widths();
