@@ -6,8 +6,6 @@ mod fault;
 mod host_file;
 mod path_file;
 mod system_file;
-#[cfg(test)]
-mod tests;
 
 pub use fault::{Call, Fault};
 pub use host_file::{Access, HostFile};
