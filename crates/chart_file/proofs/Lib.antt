@@ -1,4 +1,5 @@
 mod Words
 mod Squares
 mod Heads
+mod Files
 mod Examples
