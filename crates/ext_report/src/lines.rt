@@ -382,7 +382,8 @@ fn class_line(refusal: &Refusal) -> Line<'_>
     }
 }
 
-/// Writes the line of a failure, for a record of a save file two. After an error some first bytes are written.
+/// Writes the line of a failure, and a second one where a save file is refused for a record. After an error some first bytes are
+/// written.
 fn write_line<E: Sink>(failure: &Failure, err: &mut E) -> Result<(), Failed>
     ensures whole { OnOk result (E.written err.new ≡ with_more (E.written err.old) (line_of failure.now)) }
     ensures never_fall { E.faults err.old ≤ E.faults err.new }
@@ -404,7 +405,8 @@ fn write_line<E: Sink>(failure: &Failure, err: &mut E) -> Result<(), Failed>
     }
 }
 
-/// Writes the line of a failure to `err`, and behind that of a record of a save file where it begins, which takes no memory. Where that fails, some first bytes are written.
+/// Writes the line of a failure to `err`, which takes no memory. If a save file is refused for a record, a second line tells where that
+/// record begins. Where writing fails, some first bytes are written.
 pub fn report<E: Sink>(failure: &Failure, err: &mut E)
     ensures never_fall { E.faults err.old ≤ E.faults err.new }
     ensures line { HasPrefixMore (line_of failure.now) (E.written err.old) (E.written err.new) }
