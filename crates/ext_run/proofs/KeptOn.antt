@@ -319,7 +319,7 @@ module _ {D : Type 0} (store : Store D) (laws : AreDisks store) (r : ToResolve) 
         let opened = at_some (store.now disk) (λ _. LeavesOnly store.moment store.since disk k.journal.disk (HasRecordsOf (digest_of r.resolved.plain) (store.images disk))) found.0 found.1 opening in
         let given = subst (λ (m : Checked). HasKept (over m) table.start (telling k) (telling after) continued.given) resolved continued.kept in
         let given_behind = subst (λ (l : List Entry). HasKept (over r.resolved) l (telling k) (telling after) continued.given) is given in
-        lasting store laws r.resolved r.common.range list with.more continued.given (HasAnswer text) (text ≢ Err Saving) disk k after with.at_most_one with.canonical ours k_resolved kept_is opened given_behind continued.places
+        lasting store laws r.resolved r.common.range list with.more continued.given (HasAnswer text) (text ≢ Err Saving) disk k after (λ file here. start_is store laws r.resolved.plain disk table k squares no_fault file here ∙ ap (λ (l : List Entry). Ok l) is) with.at_most_one with.canonical ours k_resolved (sym keeper.start ∙ is) kept_is opened given_behind continued.places
         (answer_unfailed text) continued.live untouched stays continued.whole
 
     pub kept_on : HasUsed store (keeping r.common.range) r.resolved.plain (Resolution r) text disk after.journal.disk

@@ -1,9 +1,11 @@
 -- What is left of the disk of a run that kept its squares, at each moment and in the end.
 use Rattle.std.proofs.Common.{◌≡◌, ℕ, ◌≤◌, ◌⊎◌, inl, inr, List, [], ◌∷◌, ◌++◌, length, Bool, true, false, ap, sym, subst, ◌∙◌, refl, arith, append-nil}
 use Rattle.std.proofs.lemmas.Bool.{and_parts, eqb-true}
+use Rattle.std.proofs.lemmas.Option.{none-some, same_Some}
 use Rattle.std.proofs.lemmas.List.Elements.{All-nil, All-cons, All-head, All-tail, All-append, All-weaker}
 use Rattle.std.specs.Prelude.{Option, Some, None, IfSome, IsSome, Ok, Err, nat_eq, ◌&&◌, ◌↔◌, if◌then◌else◌}
 use Rattle.std.specs.List.{All}
+use Rattle.std.specs.Option.{option_map}
 use Rattle.std.specs.Result.{result_ok}
 use Rattle.bidegree.specs.declared.range.Range.{Range}
 use Rattle.edge.specs.Disk.{LeavesOnly, WasImageSince}
@@ -15,14 +17,16 @@ use Rattle.resolution_laws.proofs.StartLaws.{canonical_content}
 use Rattle.square.specs.Squares.{over, module_over}
 use Rattle.square.specs.Keeping.{Keeper, HasFirst, Retains, HasKept, IsImageWith, IsImageAmid, IsImagePart, with_squares}
 use Rattle.save_journal.specs.Records.{Records}
-use Rattle.save_journal.specs.Journals.{HasRecordsOf}
-use Rattle.save_file.specs.Files.{Standing, digest_of, of_records, standing_of, squares_in}
-use Rattle.save_file.specs.Saving.{SaveState, TakesSquares, kept_in, telling_of}
+use Rattle.save_journal.specs.Journals.{HasRecordsOf, IsSettled}
+use Rattle.save_file.specs.Bodies.{Kept}
+use Rattle.save_file.specs.Files.{Standing, digest_of, of_records, standing_of, squares_in, first_squares}
+use Rattle.save_file.specs.Saving.{SaveState, HasSquares, TakesSquares, kept_in, telling_of}
 use Rattle.save_file.specs.Inside.SavingLaws.{left_is_kept}
 use Rattle.save_file.proofs.Entries.{some_is}
+use Rattle.save_file.proofs.Adding.{kept_whole, made_are}
 use Rattle.resolution_step.specs.Alone.{IsInRange, IsUntouched}
 use Rattle.ext_run.specs.Devices.{Store}
-use Rattle.ext_run.specs.Saving.{AreCanonical, StandsWith, StandsAmid, StandsAtPart, StandsAsOneOf, squares_of, IsOurs, MayBeLeft, IsUnwritten, StaysIfWhole, HasRetained, HasLasted, HasRange}
+use Rattle.ext_run.specs.Saving.{AreCanonical, StandsWith, StandsAmid, StandsAtPart, StandsAsOneOf, squares_of, kept_of, KeepsWhole, IsOurs, MayBeLeft, IsUnwritten, StaysIfWhole, HasRetained, HasLasted, HasRange}
 
 -- ---- what is told
 
@@ -100,6 +104,22 @@ pub if_some : {X : Type 0} (o : Option X) (P : Type 0) → P → IfSome o (λ _.
 if_some None P p = tt
 if_some (Some x) P p = p
 
+-- ---- what a file keeps
+
+-- no squares stand at its end
+keeps_none : (m : SteenrodModule) (c : List ℕ) → KeepsWhole m [] c
+keeps_none m c = record { first = kept_of m c; rest = []; parts = sym (append-nil (kept_of m c)); squares = refl; whole = All-nil (λ (k : Kept). IsSome k.quasi) }
+
+-- a file that takes squares has the given ones behind those of its start
+keeps_whole : (m : Checked) (start given : List Entry) (n : ℕ) (file : List ℕ) → HasSquares m start n file → first_squares m n file ≡ start ++ given → KeepsWhole m.plain given file
+keeps_whole m start given n file has is = record {
+  first = has.read;
+  rest = has.made;
+  parts = kept_whole m start n file has ∙ has.parts;
+  squares = made_are m start given n file has is;
+  whole = has.whole;
+}
+
 -- ---- a run
 
 -- what the laws of the trait say of its disks
@@ -151,6 +171,7 @@ module _ {D : Type 0} (store : Store D) (laws : AreDisks store) where
       record {
         more = [];
         given = [];
+        from_file = λ h. absurd (never h);
         places = All-nil (λ e. IsInRange range e.s e.above);
         at_most_one = omega arith;
         canonical = subst (AreCanonical m) (sym same) (all_first (λ e. IsOf (module_over m) [] e.s e.above e.content) list here.more here.canonical);
@@ -159,13 +180,14 @@ module _ {D : Type 0} (store : Store D) (laws : AreDisks store) where
         retained = record { taken_up = store.moment d; until = λ t from upto c there. stood c (laws.since_at d (store.moment disk) t c from upto there); from = at_once m d };
         keeps = λ worked c was. inl (stood c was);
         settled = λ worked. inl (refl, refl, unwritten worked);
+        made = λ worked c image. keeps_none m c;
         idle = λ worked none file is whole. unwritten worked;
         exact = λ h. absurd (never h);
         whole = λ h. absurd (never h);
       }
 
   module _ (m : Checked) (range : Range) (list more given : List Entry) (had_answer unfailed : Type 0) (disk : D) (k after : SaveState D)
-      (at_most_one : length more ≤ 1) (canonical : AreCanonical m.plain (list ++ more)) (ours : IsOurs m.plain list (store.images disk)) (resolved : k.resolved ≡ m) (kept_is : kept_in store.now k ≡ Some (list ++ more))
+      (file_stands : (file : List ℕ) → store.now disk ≡ Some file → standing_of m.plain file ≡ Ok (list ++ more)) (at_most_one : length more ≤ 1) (canonical : AreCanonical m.plain (list ++ more)) (ours : IsOurs m.plain list (store.images disk)) (resolved : k.resolved ≡ m) (start_is : k.start ≡ list ++ more) (kept_is : kept_in store.now k ≡ Some (list ++ more))
       (opening : LeavesOnly store.moment store.since disk k.journal.disk (HasRecordsOf (digest_of m.plain) (store.images disk))) (kept : HasKept (over m) (list ++ more) (telling k) (telling after) given) (places : All (λ e. IsInRange range e.s e.above) given)
       (answered : had_answer → unfailed) (live : unfailed → TakesSquares store.now store.images after) (untouched : IsUntouched telling k after) (stays : StaysIfWhole store m.plain disk k.journal.disk) (whole : had_answer → IfSome (kept_in store.now after) (HasRange range)) where
     abbrev start : List Entry
@@ -256,6 +278,20 @@ module _ {D : Type 0} (store : Store D) (laws : AreDisks store) where
         let exact = subst (λ (o : Option (List Entry)). IfSome o (λ (l : List Entry). (i : Option (List Entry)) → U.since U.moment i → i ≡ Some l)) after_kept is_kept in
         standing_ok (standing_of m.plain c) (start ++ given) (sym (read_after c) ∙ exact (squares_in after.resolved c) (c, laws.counts_now after.journal.disk c image, refl))
 
+    -- what it has now
+    has_given : (o : Option (List ℕ)) → store.now after.journal.disk ≡ o → IfSome o (HasSquares after.resolved after.start after.count) → IfSome o (λ file. IsSettled after.journal.digest after.journal.end file (store.images after.journal.disk)) → (c : List ℕ) → store.images after.journal.disk c → KeepsWhole m.plain given c
+    has_given None is has settled c image = absurd (none-some (start ++ given) (sym (ap (option_map (first_squares after.resolved after.count)) is) ∙ after_kept))
+    has_given (Some file) is has settled c image =
+        let same_start : Some after.start ≡ Some k.start = kept.same_start in
+        let begun : after.start ≡ start = same_Some after.start k.start same_start ∙ start_is in
+        let here : HasSquares m start after.count file = subst (λ (q : Checked). HasSquares q start after.count file) after_resolved (subst (λ (l : List Entry). HasSquares after.resolved l after.count file) begun has) in
+        let squares : Some (first_squares after.resolved after.count file) ≡ Some (start ++ given) = sym (ap (option_map (first_squares after.resolved after.count)) is) ∙ after_kept in
+        let counted : first_squares m after.count file ≡ start ++ given = ap (λ (q : Checked). first_squares q after.count file) (sym after_resolved) ∙ same_Some _ _ squares in
+        subst (KeepsWhole m.plain given) (sym (settled.only c image)) (keeps_whole m start given after.count file here counted)
+
+    made : unfailed → (c : List ℕ) → store.images after.journal.disk c → KeepsWhole m.plain given c
+    made worked = has_given (store.now after.journal.disk) refl (live worked).has (live worked).live.settled
+
     -- where nothing was given, nothing was written since the file was taken up
     same_file : unfailed → given ≡ [] → after ≡ k
     same_file worked none =
@@ -266,6 +302,7 @@ module _ {D : Type 0} (store : Store D) (laws : AreDisks store) where
     lasting = record {
       more = more;
       given = given;
+      from_file = λ has. file_stands;
       places = places;
       at_most_one = at_most_one;
       canonical = all_canonical;
@@ -274,6 +311,7 @@ module _ {D : Type 0} (store : Store D) (laws : AreDisks store) where
       ours = in_the_end;
       keeps = keeps;
       settled = λ worked. inr (only worked);
+      made = made;
       idle = λ worked none. subst (λ (s : SaveState D). StaysIfWhole store m.plain disk s.journal.disk) (sym (same_file worked none)) stays;
       exact = λ has. only (answered has);
       whole = λ has. subst (λ (o : Option (List Entry)). IfSome o (HasRange range)) after_kept (whole has);

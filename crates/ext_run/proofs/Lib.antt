@@ -1,3 +1,4 @@
+mod Accepted
 mod Added
 mod AnswerExists
 mod AnswerUnique

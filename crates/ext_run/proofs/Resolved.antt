@@ -1,6 +1,6 @@
 -- The table that is resolved, cut to its range, is the module's canonical resolution, and the texts are of that.
-use Rattle.std.proofs.Common.{◌≡◌, ℕ, ◌+◌, ◌⊎◌, inl, inr, List, length, take, refl, sym, subst, ◌∙◌, ap, arith}
-use Rattle.std.proofs.lemmas.List.{take-take}
+use Rattle.std.proofs.Common.{◌≡◌, ℕ, zero, suc, ◌+◌, ◌≤◌, ◌⊎◌, inl, inr, List, [], ◌∷◌, length, map, take, refl, sym, subst, ◌∙◌, ap, arith}
+use Rattle.std.proofs.lemmas.List.{take-take, length-take, length-map}
 use Rattle.resolution_laws.specs.Resolution.{Content, IsCanonicalTable, row_of}
 use Rattle.lift_laws.specs.Lifts.{Resolution}
 use Rattle.square.specs.Squares.{module_over}
@@ -21,7 +21,7 @@ use Rattle.ext_products.specs.Products.{resolution, Telling, IsAnswerIn}
 use Rattle.chain_map.specs.Classes.{through}
 use Rattle.ext_run.specs.declared.plan.Sheet.{Sheet}
 use Rattle.ext_run.specs.declared.plan.Sheet.TheVariants.{Chart, Differentials, Summary}
-use Rattle.ext_run.specs.Forms.{IsResolved, IsReadOff, sheet_of, IsToldOfClasses, told_of_classes, IsRefusedOver, IsRefusalWith}
+use Rattle.ext_run.specs.Forms.{IsResolved, IsReadOff, sheet_of, IsToldOfClasses, told_of_classes, LiesIn, IsRefusedOver, IsRefusalWith}
 use Rattle.ext_products.specs.declared.refusal.ClassesFault.{ClassesFault}
 use Rattle.ext_products.specs.declared.refusal.ClassesFault.TheVariants.{Refused, Memory as NoSpace}
 use Rattle.ext_report.specs.declared.failure.Failure.TheVariants.{Memory}
@@ -66,11 +66,23 @@ classes_failed P (Refused refusal) text is why has =
     (Err known.0, ap answer_of is ∙ ap (λ (fault : ClassesFault). Err (classes_failure fault)) known.1, known.2)
 classes_failed P NoSpace text is why has = absurd (subst HasAnswer is has)
 
+-- what is cut to a range has no square past it
+row_fits : (n : ℕ) (rows : List (List Content)) (s : ℕ) → length (row_of (map (take n) rows) s) ≤ n
+row_fits n [] s = omega arith
+row_fits n (r ∷ rows) zero = let len = length-take n r in omega arith
+row_fits n (r ∷ rows) (suc s) = row_fits n rows s
+
+cut_lies : (range : Range) (rows : List (List Content)) → LiesIn range (cut range rows)
+cut_lies range rows = record {
+  rows = let len = length-take (range.s + 1) rows in let same = length-map (take (range.s + 1) rows) (take (range.t + 1)) in omega arith;
+  squares = row_fits (range.t + 1) (take (range.s + 1) rows);
+}
+
 -- what is refused over the table's squares is so over some squares of its module
 pub refused_over : TableLaws → (IsToldOf : Telling) (range : Range) (table : Staircase) (refusal : Refusal) → IsAnswerIn IsToldOf table range (Err refusal) → IsRefusedOver IsToldOf range table.resolved.plain refusal
 refused_over laws IsToldOf range table refusal over =
     let sphere = table_exists laws range (derived_module sphere_file) (laws.accepted sphere_file one_alone refl) one_alone in
-    record { table = cut range (plain_rows table.rows); sphere = sphere.0; sphere_resolved = sphere.1; is_told = over sphere.0 sphere.1.canonical }
+    record { table = cut range (plain_rows table.rows); within = cut_lies range (plain_rows table.rows); sphere = sphere.0; sphere_resolved = sphere.1; is_told = over sphere.0 sphere.1.canonical }
 
 -- a call that tells nothing of classes ends for want of memory, or with a refusal of which this holds
 pub classes_refused : (Holds : Refusal → Type 0) (fault : ClassesFault) → (fault ≢ NoSpace → (refusal : Refusal) × (fault ≡ Refused refusal) × Holds refusal) → (classes_failure fault ≡ Memory) ⊎ IsRefusalWith Holds (Err (classes_failure fault))

@@ -1,5 +1,5 @@
 -- What is told of products with a class of row 1, or refused of that class.
-use Rattle.std.proofs.Common.{◌≡◌, ℕ, ◌^◌, ◌≤◌, ℤ, pos, List, [], refl, ap, sym, ◌∙◌}
+use Rattle.std.proofs.Common.{◌≡◌, ℕ, ◌^◌, ◌≤◌, ℤ, pos, List, [], refl, ap, sym, ◌∙◌, arith}
 use Rattle.std.specs.Prelude.{Result, Ok, Err}
 use Rattle.bidegree.specs.declared.range.Range.{Range}
 use Rattle.bidegree.specs.declared.class.Class.{Class}
@@ -56,6 +56,7 @@ refused_of_all laws Tells range m refusal answer =
     let q = canonical_by laws range sphere_module sphere_is one_alone sphere.0 sphere.1 in
     record {
       table = [];
+      within = record { rows = omega arith; squares = λ s. omega arith };
       sphere = sphere.0;
       sphere_resolved = sphere.1;
       is_told = answer (resolution m []) (resolution sphere_module sphere.0) q (sphere-is sphere.0);

@@ -110,6 +110,7 @@ module _ {D : Type 0} (disk : Store D) (m : SteenrodModule) (A B U V : Type 0) (
   lasted_by range list h = record {
     more = h.more;
     given = h.given;
+    from_file = λ b. h.from_file (f b);
     places = h.places;
     at_most_one = h.at_most_one;
     canonical = h.canonical;
@@ -118,6 +119,7 @@ module _ {D : Type 0} (disk : Store D) (m : SteenrodModule) (A B U V : Type 0) (
     ours = h.ours;
     keeps = λ v. h.keeps (u v);
     settled = λ v. h.settled (u v);
+    made = λ v. h.made (u v);
     idle = λ v. h.idle (u v);
     exact = λ b. h.exact (f b);
     whole = λ b. h.whole (f b);

@@ -1,5 +1,5 @@
 -- What is told of a module's canonical resolution, in each form.
-use Rattle.std.specs.Prelude.{◌≡◌, ℕ, List, length, IsOkAnd, Result, Ok, Err}
+use Rattle.std.specs.Prelude.{◌≡◌, ℕ, ◌+◌, ◌≤◌, List, length, IsOkAnd, Result, Ok, Err}
 use Rattle.bidegree.specs.declared.range.Range.{Range}
 use Rattle.bidegree.specs.declared.shape.Shape.{Shape}
 use Rattle.bidegree.specs.declared.shape.Shape.TheVariants.{Rectangle}
@@ -9,7 +9,7 @@ use Rattle.finite_module.specs.DerivedAction.{derived_module}
 use Rattle.finite_module.specs.Checked.{sphere_file}
 use Rattle.ext_report.specs.declared.failure.Failure.{Failure}
 use Rattle.ext_report.specs.declared.failure.Failure.TheVariants.{Classes}
-use Rattle.resolution_laws.specs.Resolution.{Content, IsCanonicalTable, generator_count}
+use Rattle.resolution_laws.specs.Resolution.{Content, row_of, IsCanonicalTable, generator_count}
 use Rattle.resolution_laws.specs.Exactness.{IsMinimalResolution}
 use Rattle.square.specs.Squares.{module_over}
 use Rattle.chart_lines.specs.Chart.{chart_text}
@@ -78,10 +78,16 @@ pub record IsToldOfClasses (IsToldOf : Telling) (range : Range) (m : SteenrodMod
   pub is_told : IsToldOf (resolution m table) (resolution (derived_module sphere_file) sphere) told
   pub is : answer ≡ told_of_classes told
 
--- The refusal is what is told, as IsToldOf says, of some squares of the module, whatever they hold, and of the classes of the
--- sphere's canonical resolution through the range.
+-- no square of the table is past the range
+pub record LiesIn (range : Range) (table : List (List Content)) : Type 0 where
+  pub rows : length table ≤ range.s + 1
+  pub squares : (s : ℕ) → length (row_of table s) ≤ range.t + 1
+
+-- The refusal is what is told, as IsToldOf says, of some squares in the range, of the module, whatever they hold, and of the classes of
+-- the sphere's canonical resolution through the range.
 pub record IsRefusedOver (IsToldOf : Telling) (range : Range) (m : SteenrodModule) (refusal : Refusal) : Type 0 where
   pub table : List (List Content)
+  pub within : LiesIn range table
   pub sphere : List (List Content)
   pub sphere_resolved : IsResolved range (derived_module sphere_file) sphere
   pub is_told : IsToldOf (resolution m table) (resolution (derived_module sphere_file) sphere) (Err refusal)

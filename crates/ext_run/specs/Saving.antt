@@ -9,7 +9,7 @@ use Rattle.resolution_laws.specs.Start.{Entry, entry_at, AreOf}
 use Rattle.square.specs.Keeping.{HasFirst}
 use Rattle.square.specs.Squares.{module_over}
 use Rattle.save_journal.specs.Records.{records_of, opened}
-use Rattle.save_file.specs.Bodies.{Kept}
+use Rattle.save_file.specs.Bodies.{Kept, entries}
 use Rattle.save_file.specs.Files.{digest_of, standing_of, kept_by}
 use Rattle.ext_run.specs.Devices.{Store}
 
@@ -51,6 +51,14 @@ squares_of m file = result_ok (standing_of m file)
 -- what the file keeps: its squares, each with its quasi-inverse or none, and nothing where it is refused
 abbrev pub kept_of : SteenrodModule → List ℕ → List Kept
 kept_of m file = kept_by (module_over m) (records_of (digest_of m) file)
+
+-- the given squares stand at the end of what the file keeps, each with its quasi-inverse
+pub record KeepsWhole (m : SteenrodModule) (given : List Entry) (file : List ℕ) : Type 0 where
+  pub first : List Kept
+  pub rest : List Kept
+  pub parts : kept_of m file ≡ first ++ rest
+  pub squares : entries rest ≡ given
+  pub whole : All (λ k. IsSome k.quasi) rest
 
 -- The disk is ours for the list: whatever a crash now leaves of it stands for the list, or it and one square more.
 abbrev pub IsOurs : SteenrodModule → List Entry → (List ℕ → Type 0) → Type 0
@@ -94,13 +102,15 @@ pub record HasRetained {D : Type 0} (disk : Store D) (m : SteenrodModule) (old n
 -- ours for all of them.
 --
 -- Unless the disk failed, there is no square more: at every moment an image stands for what one from before the run stood for, or for
--- just what was taken up and a first part of what was given; and in the end each image has just all of them, or nothing was written. Where
--- nothing was given, a file that opening it leaves as it is was not written. If there was an answer, each image has just all of them, and
--- each square of the range is among them.
+-- just what was taken up and a first part of what was given; and in the end each image has just all of them, or nothing was written, and
+-- keeps the given ones with their quasi-inverses. Where nothing was given, a file that opening it leaves as it is was not written. If
+-- there was an answer, each image has just all of them, each square of the range is among them, and the run took up what the file
+-- stood for.
 pub record HasLasted {D : Type 0} (disk : Store D) (m : SteenrodModule) (range : Range) (list : List Entry)
     (had_answer unfailed : Type 0) (old new : D) : Type 0 where
   pub more : List Entry
   pub given : List Entry
+  pub from_file : had_answer → (file : List ℕ) → disk.now old ≡ Some file → standing_of m file ≡ Ok (list ++ more)
   pub places : All (λ e. IsInRange range e.s e.above) given
   pub at_most_one : length more ≤ 1
   pub canonical : AreCanonical m ((list ++ more) ++ given)
@@ -113,6 +123,7 @@ pub record HasLasted {D : Type 0} (disk : Store D) (m : SteenrodModule) (range :
   pub settled : unfailed →
       ((more ≡ []) × (given ≡ []) × IsUnwritten disk old new)
       ⊎ ((c : List ℕ) → disk.images new c → standing_of m c ≡ Ok ((list ++ more) ++ given))
+  pub made : unfailed → (c : List ℕ) → disk.images new c → KeepsWhole m given c
   pub idle : unfailed → given ≡ [] → StaysIfWhole disk m old new
   pub exact : had_answer → (c : List ℕ) → disk.images new c → standing_of m c ≡ Ok ((list ++ more) ++ given)
   pub whole : had_answer → HasRange range ((list ++ more) ++ given)

@@ -18,5 +18,5 @@ pub use ext_report::{Failure, report};
 pub use ext_words::{Build, Command, Common, WordsFault, has_live, parse};
 pub use laws::{
     answer_exists, answer_is_unique, certificate_is_decided, next_run_may_use_what_is_left,
-    short_disk_is_ours,
+    next_run_prints_the_same, short_disk_is_ours, verify_accepts_what_is_made,
 };

@@ -2,10 +2,10 @@
 use crate::runs::{
     C2, Devices, Outcome, SOUND, STEMS_8, assert_outcome, narrow_devices, sound_disk,
 };
-use edge::MemDisk;
+use edge::{MemDisk, MemSink, MemSource};
 use ext_run::{
-    answer_is_unique, certificate_is_decided, has_live, next_run_may_use_what_is_left, run_one,
-    short_disk_is_ours,
+    answer_is_unique, certificate_is_decided, has_live, next_run_may_use_what_is_left,
+    next_run_prints_the_same, run_one, short_disk_is_ours, verify_accepts_what_is_made,
 };
 use resolution_laws::canonical_table_is_unique;
 use std::alloc::Global;
@@ -83,6 +83,8 @@ fn laws(_rt: HostRuntime) {
     canonical_table_is_unique();
     answer_is_unique();
     next_run_may_use_what_is_left::<MemDisk>();
+    next_run_prints_the_same::<MemSource, MemSink, MemSink, MemDisk>();
+    verify_accepts_what_is_made::<MemSource, MemSink, MemSink, MemDisk>();
     short_disk_is_ours::<MemDisk>();
     certificate_is_decided();
 }
