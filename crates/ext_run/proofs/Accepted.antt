@@ -1,10 +1,10 @@
 -- What a run makes on a disk without records certifies its range.
-use Rattle.std.proofs.Common.{◌≡◌, ◌≢◌, ℕ, ◌≤◌, ◌⊎◌, inl, inr, List, [], ◌∷◌, ◌++◌, length, Bool, true, false, refl, ap, sym, subst, ◌∙◌, arith, append-nil}
+use Rattle.std.proofs.Common.{◌≡◌, ◌≢◌, ℕ, ◌≤◌, ◌⊎◌, inl, inr, List, [], ◌∷◌, ◌++◌, length, Bool, true, false, refl, ap, sym, subst, ◌∙◌, arith}
 use Rattle.std.proofs.lemmas.Bool.{false≢true}
 use Rattle.std.proofs.lemmas.List.{append_cancel_right, map-append}
 use Rattle.std.proofs.lemmas.List.Elements.{All-head, All-tail}
-use Rattle.std.proofs.lemmas.Option.{same_Some, slice_get_within}
-use Rattle.std.specs.Prelude.{◌&&◌, if◌then◌else◌, slice_get, Option, Some, None, IsSome, IfSome, MatchOption, Result, Ok, Err}
+use Rattle.std.proofs.lemmas.Option.{same_Some}
+use Rattle.std.specs.Prelude.{if◌then◌else◌, Option, Some, None, IsSome, MatchOption, Result, Ok, Err}
 use Rattle.std.specs.List.{All}
 use Rattle.bidegree.specs.declared.range.Range.{Range}
 use Rattle.f2_matrix.specs.Reduction.{Reduction}
@@ -17,8 +17,8 @@ use Rattle.finite_module.specs.Module.{Module as SteenrodModule}
 use Rattle.finite_module.specs.DerivedAction.{derived_module}
 use Rattle.resolution_laws.specs.Resolution.{IsCanonicalTable}
 use Rattle.resolution_laws.specs.Start.{Entry, entry_at}
-use Rattle.square.specs.Squares.{Placed, over, module_over}
-use Rattle.square.specs.Tables.{Staircase, row_in, IsThrough}
+use Rattle.square.specs.Squares.{over, module_over}
+use Rattle.square.specs.Tables.{Staircase, IsThrough}
 use Rattle.square.proofs.Growing.{HasGrown-same}
 use Rattle.resolution_step.proofs.Canonical.{IsCanonicalTable-cut}
 use Rattle.cert_check.specs.declared.fault.CertFault.{CertFault}
@@ -45,7 +45,7 @@ use Rattle.ext_run.specs.Certificates.{IsTakenUpAs, IsNoCertificate}
 use Rattle.ext_run.specs.Disks.{Outcome, IsRefused, IsUncertified, IsFitFor, IsUsable, IsAnswered, HasSaved}
 use Rattle.ext_run.specs.Run.{IsCause}
 use Rattle.ext_run.specs.NextRun.{IsFoundWith, RunFor, IsUnfailed, HasEndedWith, VerifyAcceptsWhatIsMade}
-use Rattle.ext_run.proofs.Lasting.{at_some, canonical_start}
+use Rattle.ext_run.proofs.Lasting.{canonical_start}
 use Rattle.ext_run.proofs.Tasks.{module_same}
 use Rattle.ext_run.proofs.NextRun.{short_disk, ended, not_cut, input_is}
 

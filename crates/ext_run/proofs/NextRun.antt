@@ -1,6 +1,6 @@
 -- What a run left stands for squares of the module, and what is asked names one module of an input.
 use Rattle.std.proofs.Common.{◌≡◌, ◌⊎◌, ℕ, inl, inr, List, [], ◌++◌, ap, sym, subst, refl, ◌∙◌, arith, append-nil}
-use Rattle.std.specs.Prelude.{Option, Some, IsSome, IfSome, Ok, Err}
+use Rattle.std.specs.Prelude.{Option, Some, IsSome, Ok, Err}
 use Rattle.std.proofs.lemmas.List.Elements.{All-nil}
 use Rattle.finite_module.specs.Module.{Module as SteenrodModule}
 use Rattle.resolution_laws.specs.Start.{Entry, IsOf}
@@ -15,7 +15,7 @@ use Rattle.ext_products.specs.declared.refusal.Refusal.{Refusal}
 use Rattle.ext_products.specs.declared.refusal.Refusal.TheVariants.{NoClass, OutOfRange, Nonzero}
 use Rattle.ext_report.specs.declared.status.TheConstants.{WRITTEN}
 use Rattle.ext_report.specs.declared.failure.Failure.{Failure}
-use Rattle.ext_report.specs.declared.failure.Failure.TheVariants.{Words, Malformed as NoModuleFile, NotModule, PastLimit, Reading, Writing, Saving, SaveFile, Certificate, Classes, Memory}
+use Rattle.ext_report.specs.declared.failure.Failure.TheVariants.{Malformed as NoModuleFile, NotModule, Reading, Writing, Saving, Classes, Memory}
 use Rattle.ext_report.specs.Failure.{malformed_status, fault_status, class_status, status_of}
 use Rattle.save_journal.specs.Records.{Records}
 use Rattle.save_journal.specs.Journals.{HasRecordsOf}
@@ -28,7 +28,6 @@ use Rattle.ext_run.specs.Saving.{AreCanonical, StandsWith, IsOurs, MayBeLeft, Ha
 use Rattle.ext_run.specs.Migrating.{HasMigrated}
 use Rattle.ext_run.specs.Disks.{Outcome, IsFitFor, IsUsable, IsCertified, HasSaved}
 use Rattle.ext_run.specs.Answer.{IsAskedAnswer}
-use Rattle.ext_run.specs.Ending.{HasGotWhole}
 use Rattle.ext_run.specs.Run.{status_after, IsCause, IsPrevented, HasPrinted}
 use Rattle.ext_run.specs.NextRun.{IsFoundWith, NextRunMayUse, RunFor, IsUnfailed, IsEndOf, HasEndedWith, NextRunPrintsTheSame, ShortDiskIsOurs}
 use Rattle.ext_run.proofs.Added.{same_entries}
