@@ -1,12 +1,8 @@
-//! Tests of save files.
+//! Tests of save files whose disks fail at each call, and of files that are cut at each length.
 #![tactic(auto)]
 
 #[cfg(test)]
-mod bodies;
-#[cfg(test)]
 mod files;
-#[cfg(test)]
-mod quasi_inverses;
 #[cfg(test)]
 mod stopping;
 #[cfg(test)]

@@ -66,6 +66,15 @@ fn kept_after(calls: u64, pick: u64) -> u64 {
     calls.saturating_sub(4) / 4 + u64::from(opened)
 }
 
+/// What a run makes on an empty disk that does not fail: the table, and the disk.
+fn finished(alloc: Global, module: Module) -> Result<(Table, MemDisk), Fail> {
+    let (made, disk) = resolved(alloc, module, sound_disk(alloc, Vec::new(alloc))?)?;
+    match made {
+        Some((table, _)) => Ok((table, disk)),
+        None => Err("not resolved".into()),
+    }
+}
+
 /// The disk of a run that has to fail on it.
 fn failed(alloc: Global, disk: MemDisk) -> Result<MemDisk, Fail> {
     match resolved(alloc, Module::sphere(alloc)?, disk)? {
@@ -74,72 +83,83 @@ fn failed(alloc: Global, disk: MemDisk) -> Result<MemDisk, Fail> {
     }
 }
 
-/// Whether each image of a disk, which was empty and called so often before it failed, has the squares that it has to have, and a run
-/// on it ends with this table and this file.
-fn is_gone_on_with(
-    alloc: Global,
-    stopped: &MemDisk,
-    calls: u64,
-    whole: &Table,
-    finished: &[u8],
-) -> Result<bool, Fail> {
-    for pick in 0..3 {
-        let image = sound_disk(alloc, stopped.image(alloc, pick)?)?;
-        let (table, ended) = resolved(alloc, Module::sphere(alloc)?, image)?;
-        let (table, count) = table.ok_or("not resolved")?;
-        if ended.bytes() != finished
-            || count != kept_after(calls, pick)
-            || !are_same(alloc, &table, whole)?
-        {
-            return Ok(false);
-        }
-    }
-    Ok(true)
+/// What an empty disk has after so many calls, where the next one fails alone.
+fn failed_once(alloc: Global, calls: u64) -> Result<MemDisk, Fail> {
+    let failing = [calls.saturating_add(1)];
+    failed(alloc, disk(alloc, Vec::new(alloc), &failing, u64::MAX)?)
 }
 
-/// It is all one whether a call fails alone or all from there on: each image has the squares that were acknowledged or one more.
+/// What it has where all calls fail from there on.
+fn failed_from_there(alloc: Global, calls: u64) -> Result<MemDisk, Fail> {
+    failed(alloc, disk(alloc, Vec::new(alloc), &[], calls)?)
+}
+
 #[test]
-fn stops(rt: HostRuntime) -> Result<(), Fail> {
-    let alloc = rt.alloc();
-    let empty = sound_disk(alloc, Vec::new(alloc))?;
-    let (whole, finished) = resolved(alloc, Module::sphere(alloc)?, empty)?;
-    let (whole, _) = whole.ok_or("not resolved")?;
-    assert_eq!(rt; finished.calls(), CALLS);
+fn failing_once_and_from_there_on(rt: HostRuntime) -> Result<(), Fail> {
     for calls in 0..CALLS {
-        let once = disk(alloc, Vec::new(alloc), &[calls + 1], u64::MAX)?;
-        let once = failed(alloc, once)?;
-        let from_there = disk(alloc, Vec::new(alloc), &[], calls)?;
-        let from_there = failed(alloc, from_there)?;
-        assert!(rt; once.bytes() == from_there.bytes(), "{calls} calls");
-        assert!(rt;
-            is_gone_on_with(alloc, &once, calls, &whole, finished.bytes())?,
-            "{calls} calls"
-        );
+        let once = failed_once(rt.alloc(), calls)?;
+        assert!(rt; once.bytes() == failed_from_there(rt.alloc(), calls)?.bytes());
     }
     Ok(())
 }
 
-/// A module whose bottom degree is 5. Its file, which has all squares, stays as it is, also where a call fails that takes it up.
+/// Whether this image has so many squares, and a run on it ends with this table and this file.
+fn is_gone_on_with(
+    alloc: Global,
+    image: Vec<u8>,
+    count: u64,
+    whole: &Table,
+    finished: &[u8],
+) -> Result<bool, Fail> {
+    let (made, ended) = resolved(alloc, Module::sphere(alloc)?, sound_disk(alloc, image)?)?;
+    match made {
+        Some((table, found)) => {
+            Ok(found == count && ended.bytes() == finished && are_same(alloc, &table, whole)?)
+        }
+        None => Ok(false),
+    }
+}
+
+/// Each image has the squares that were acknowledged, or one more.
+#[test]
+fn stops(rt: HostRuntime) -> Result<(), Fail> {
+    let alloc = rt.alloc();
+    let (whole, disk) = finished(alloc, Module::sphere(alloc)?)?;
+    assert!(rt; disk.calls() == CALLS);
+    for calls in 0..CALLS {
+        let stopped = failed_once(alloc, calls)?;
+        for pick in 0..3 {
+            let image = stopped.image(alloc, pick)?;
+            let count = kept_after(calls, pick);
+            assert!(rt; is_gone_on_with(alloc, image, count, &whole, disk.bytes())?);
+        }
+    }
+    Ok(())
+}
+
+/// Whether a run over this finished file of the other module, which stops after so many calls, has this table, or none and fails, and
+/// leaves the file as it is. Four calls take it up, and no call keeps a square.
+fn is_taken_up(alloc: Global, file: &[u8], calls: u64, whole: &Table) -> Result<bool, Fail> {
+    let again = disk(alloc, file.to_vec(alloc)?, &[], calls)?;
+    let (table, after) = resolved(alloc, their_module(alloc)?, again)?;
+    let stays = after.bytes() == file;
+    match table {
+        Some((table, count)) => {
+            Ok(stays && calls == 4 && count == 4 && are_same(alloc, &table, whole)?)
+        }
+        None => Ok(stays && calls < 4),
+    }
+}
+
+/// A module whose bottom degree is 5.
 #[test]
 fn another_module(rt: HostRuntime) -> Result<(), Fail> {
     let alloc = rt.alloc();
-    let empty = sound_disk(alloc, Vec::new(alloc))?;
-    let (whole, finished) = resolved(alloc, their_module(alloc)?, empty)?;
-    let (whole, _) = whole.ok_or("not resolved")?;
-    assert!(rt;
-        finished
-            .bytes()
-            .starts_with(bytes(alloc, &[MAGIC, THEIRS, "a5"])?.as_slice())
-    );
-    // Four calls take it up again, and no call keeps a square.
+    let (whole, disk) = finished(alloc, their_module(alloc)?)?;
+    let first = bytes(alloc, &[MAGIC, THEIRS, "a5"])?;
+    assert!(rt; disk.bytes().starts_with(first.as_slice()));
     for calls in 0..5 {
-        let again = disk(alloc, finished.image(alloc, 0)?, &[], calls)?;
-        let (table, after) = resolved(alloc, their_module(alloc)?, again)?;
-        assert_eq!(rt; table.is_some(), calls == 4);
-        if let Some((table, count)) = table {
-            assert!(rt; count == 4 && are_same(alloc, &table, &whole)?);
-        }
-        assert_eq!(rt; after.bytes(), finished.bytes());
+        assert!(rt; is_taken_up(alloc, disk.bytes(), calls, &whole)?);
     }
     Ok(())
 }

@@ -22,68 +22,82 @@ fn taken_up(alloc: Global, file: Vec<u8>) -> Result<(Result<usize, ResumeFault>,
     })
 }
 
-/// Whether the sphere's file of these bytes is taken up with so many squares of row 0, or refused so. A file of at most 41
-/// bytes is then the one without squares, and a longer one is as it was.
-fn is_answer(alloc: Global, file: &[u8], want: Result<usize, ResumeFault>) -> Result<bool, Fail> {
+/// Whether the sphere's file of these bytes, at most 41, is taken up without squares, and is then the one that has none.
+fn is_begun(alloc: Global, file: &[u8]) -> Result<bool, Fail> {
     let (found, disk) = taken_up(alloc, file.to_vec(alloc)?)?;
-    let after = if file.len() > 41 {
-        file.to_vec(alloc)?
-    } else {
-        bytes(alloc, &[MAGIC, OURS, "00"])?
-    };
-    let kept = disk.image(alloc, 0)?;
-    Ok(found == want && disk.bytes() == after.as_slice() && kept == after)
+    let after = bytes(alloc, &[MAGIC, OURS, "00"])?;
+    Ok(found == Ok(0) && disk.bytes() == after.as_slice() && disk.image(alloc, 0)? == after)
 }
 
-/// Why the journal does not open it.
-fn refused(fault: OpenFault) -> Result<usize, ResumeFault> {
-    Err(ResumeFault::Open(fault))
+/// Whether a longer one is refused so, and stays as it is.
+fn is_refused(alloc: Global, file: &[u8], fault: OpenFault) -> Result<bool, Fail> {
+    let (found, disk) = taken_up(alloc, file.to_vec(alloc)?)?;
+    let stays = disk.bytes() == file && disk.image(alloc, 0)?.as_slice() == file;
+    Ok(stays && found == Err(ResumeFault::Open(fault)))
 }
 
 #[test]
 fn zeros(rt: HostRuntime) -> Result<(), Fail> {
-    let alloc = rt.alloc();
-    for len in 0..100 {
-        let file = vec![in alloc; 0u8; len]?;
-        let want = if len > 41 {
-            refused(OpenFault::NotSave)
-        } else {
-            Ok(0)
-        };
-        assert!(rt; is_answer(alloc, file.as_slice(), want)?, "{len} bytes");
+    let zeros = [0; 100];
+    for len in 0..42 {
+        assert!(rt; is_begun(rt.alloc(), zeros.get(..len).unwrap_or(&[]))?);
+    }
+    for len in 42..100 {
+        let file = zeros.get(..len).unwrap_or(&[]);
+        assert!(rt; is_refused(rt.alloc(), file, OpenFault::NotSave)?);
     }
     Ok(())
 }
 
-/// A file of two squares and of a quasi-inverse, cut at each length.
+/// How many bytes a file of two squares and of a quasi-inverse has.
+const WHOLE: usize = 271;
+
+/// The first bytes of that file, so many or all.
+fn cut(alloc: Global, len: usize) -> Result<Vec<u8>, Fail> {
+    let parts = [MAGIC, OURS, "a5", SQUARE, "a5", SECOND, "a5", QUASI, "00"];
+    let mut file = bytes(alloc, &parts)?;
+    if file.len() != WHOLE {
+        return Err("a file of another length".into());
+    }
+    file.truncate(len);
+    Ok(file)
+}
+
+/// Why a file of more than 41 bytes is refused that is cut after so many: by the record that is cut, with the place of its gate.
+fn record_cut(len: usize) -> OpenFault {
+    match len {
+        ..ONE => OpenFault::Short {
+            number: 0,
+            place: 40,
+        },
+        ONE..TWO => OpenFault::Short {
+            number: 1,
+            place: 119,
+        },
+        _ => OpenFault::Short {
+            number: 2,
+            place: 198,
+        },
+    }
+}
+
 #[test]
 fn cuts(rt: HostRuntime) -> Result<(), Fail> {
-    let alloc = rt.alloc();
-    let whole = bytes(
-        alloc,
-        &[MAGIC, OURS, "a5", SQUARE, "a5", SECOND, "a5", QUASI, "00"],
-    )?;
-    assert_eq!(rt; whole.len(), 271);
-    for len in 0..272 {
-        let mut file = whole.clone()?;
-        file.truncate(len);
-        let want = match len {
-            0..=41 => Ok(0),
-            42..ONE => refused(OpenFault::Short {
-                number: 0,
-                place: 40,
-            }),
-            ONE..TWO => refused(OpenFault::Short {
-                number: 1,
-                place: 119,
-            }),
-            TWO..271 => refused(OpenFault::Short {
-                number: 2,
-                place: 198,
-            }),
-            _ => Ok(2),
-        };
-        assert!(rt; is_answer(alloc, file.as_slice(), want)?, "{len} bytes");
+    for len in 0..42 {
+        assert!(rt; is_begun(rt.alloc(), cut(rt.alloc(), len)?.as_slice())?);
     }
+    for len in 42..WHOLE {
+        let file = cut(rt.alloc(), len)?;
+        assert!(rt; is_refused(rt.alloc(), file.as_slice(), record_cut(len))?);
+    }
+    Ok(())
+}
+
+/// The whole file has both squares, and stays as it is.
+#[test]
+fn not_cut(rt: HostRuntime) -> Result<(), Fail> {
+    let (found, disk) = taken_up(rt.alloc(), cut(rt.alloc(), WHOLE)?)?;
+    assert!(rt; found == Ok(2));
+    assert!(rt; disk.bytes() == cut(rt.alloc(), WHOLE)?.as_slice());
     Ok(())
 }
