@@ -55,12 +55,12 @@ IsWhole k = IsSome k.quasi
 -- ---- what a file keeps
 
 -- the squares of what a file keeps are those that it stands for
-kept_squares : (r : Result (List Kept) ℕ) (list : List Entry) → of_squares (squares_alone r) ≡ Ok list → entries (kept_list r) ≡ list
-kept_squares (Ok kept) list is = cc
-kept_squares (Err number) list is = absurd (cc)
+kept_squares : (bodies : List (List ℕ)) (r : Result (List Kept) ℕ) (list : List Entry) → of_squares bodies (squares_alone r) ≡ Ok list → entries (kept_list r) ≡ list
+kept_squares bodies (Ok kept) list is = cc
+kept_squares bodies (Err number) list is = absurd (cc)
 
 kept_stands : (m : SteenrodModule) (records : Records) (list : List Entry) → of_records (module_over m) records ≡ Ok list → entries (kept_by (module_over m) records) ≡ list
-kept_stands m (Ok bodies) list is = kept_squares (kept_of_bodies (module_over m) bodies) list is
+kept_stands m (Ok bodies) list is = kept_squares bodies (kept_of_bodies (module_over m) bodies) list is
 kept_stands m (Err fault) list is = absurd (cc)
 
 none_first : (first : List Kept) → entries first ≡ [] → first ≡ []
