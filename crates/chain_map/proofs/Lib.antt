@@ -12,3 +12,4 @@ mod Growing
 mod Finished
 pub mod Classes
 pub mod Applied
+pub mod Canonical

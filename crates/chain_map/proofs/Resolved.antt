@@ -36,7 +36,7 @@ module _ (table : Staircase) (h : IsTable table) (range : Range) (long : range.t
   long-row i l =
       omega (arith, length-row_of table.rows i, never_rises table h i range.s l)
 
-  canonical-part : IsCanonicalIn range table → IsCanonicalTable (over table.resolved) range.s range.t part
+  pub canonical-part : IsCanonicalIn range table → IsCanonicalTable (over table.resolved) range.s range.t part
   canonical-part are =
       canonical_from_contents kernel_basis_unique (over table.resolved) range.s range.t part length-part
       (λ i l. let b = long-row i l in ap length (rows_through table range i l) ∙ length-take-le (range.t + 1) (row_of (plain_rows table.rows) i) (omega arith))

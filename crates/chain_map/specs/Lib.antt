@@ -1,3 +1,4 @@
 pub mod Lifting
 pub mod Classes
+pub mod Sources
 pub mod Inside

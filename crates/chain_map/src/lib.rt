@@ -6,6 +6,8 @@ mod laws;
 mod making;
 mod maps;
 mod rows;
+mod rows_held;
+mod source;
 mod values;
 
 pub use bidegree::Class;
@@ -14,3 +16,5 @@ pub use laws::{tables_have_images, tables_of_the_sphere};
 pub use making::{lift, lifts};
 pub use maps::Lift;
 pub use rows::lowered_generators;
+pub use rows_held::Held;
+pub use source::Source;

@@ -9,7 +9,8 @@ ghost use Rattle.chain_map.specs.Inside.{AreMadeLifts, Reaches};
 
 use crate::maps::Lift;
 use crate::rows::Course;
-use bidegree::Class;
+use crate::source::Source;
+use bidegree::{Class, above_of};
 use memory::Memory;
 use square::Table;
 use std::alloc::Global;
@@ -23,7 +24,7 @@ use std::alloc::Global;
 /// `Memory` if allocation fails.
 pub fn lift(
     alloc: Global,
-    table: &Table,
+    table: &Source<'_>,
     sphere: &Table,
     class: Class,
     upto: u16,
@@ -53,7 +54,7 @@ pub fn lift(
 /// `Memory` if allocation fails.
 pub fn lifts(
     alloc: Global,
-    table: &Table,
+    table: &Source<'_>,
     sphere: &Table,
     s: u16,
     t: i32,
@@ -75,7 +76,7 @@ pub fn lifts(
 /// Lifts of `count` classes of the square in row `s`, `above` degrees above the bottom, from its number `from` on.
 fn lifts_of(
     alloc: Global,
-    table: &Table,
+    table: &Source<'_>,
     sphere: &Table,
     s: u16,
     above: u16,
@@ -105,14 +106,15 @@ fn lifts_of(
 }
 
 /// How many degrees the square in row `s` and of degree `t` is above the bottom.
-fn above_at(table: &Table, s: u16, t: i32) -> u16
+fn above_at(table: &Source<'_>, s: u16, t: i32) -> u16
     requires { IsSquareOf table.now s t }
     ensures above { t ≡ bottom_of table.now.resolved +ℤ pos result }
     ensures there { result < length (row_in table.now.rows s) }
     ensures is_table { IsTable table.now }
 {
-    match table.at(s, t) {
-        Some(square) => square.above(),
+    let _front = table.front(s);
+    match above_of(table.module().bottom(), t) {
+        Some(above) => above as u16,
         None => unreachable!(),
     }
 }
@@ -163,7 +165,13 @@ fn with_rows(
 }
 
 /// How many degrees a lift goes through, from the bottom of the module's table on.
-fn degrees_through(table: &Table, sphere: &Table, s: u16, above: u16, upto: u16) -> u16
+fn degrees_through(
+    table: &Source<'_>,
+    sphere: &Table,
+    s: u16,
+    above: u16,
+    upto: u16,
+) -> u16
     requires { IsTable table.now }
     ensures { result ≡ degrees_through table.now sphere.now s above upto }
 {

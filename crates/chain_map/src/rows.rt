@@ -15,6 +15,7 @@ ghost use Rattle.chain_map.specs.Inside.{AreInverses, AreMade, class_of, class_v
 
 use crate::inverse::Inverse;
 use crate::maps::Lift;
+use crate::source::Source;
 use crate::values::Values;
 use f2_vec::BitVec;
 use free_hom::Hom;
@@ -30,7 +31,7 @@ use std::alloc::Global;
 /// `Memory` if allocation fails.
 pub fn lowered_generators(
     alloc: Global,
-    table: &Table,
+    table: &Source<'_>,
     s: u16,
     n: u16,
     above: u16,
@@ -50,7 +51,7 @@ pub fn lowered_generators(
 /// bottom, how many degrees they go through, and how many squares of each row of the sphere's table they use.
 #[derive(Drop)]
 pub(crate) struct Course<'a> {
-    pub(crate) table: &'a Table,
+    pub(crate) table: &'a Source<'a>,
     pub(crate) sphere: &'a Table,
     pub(crate) s: u16,
     pub(crate) above: u16,

@@ -2,6 +2,7 @@
 use crate::tables::{number, range_of, table_of};
 use bidegree::Class;
 use cases::{Case, Fault};
+use chain_map::{Held, Source};
 use ext_products::sphere_table;
 use f2_vec::BitVec;
 use massey::{MasseyFault, bracket};
@@ -14,7 +15,10 @@ pub(crate) fn multiplied(alloc: Global, case: &Case, a: &str, x: &str) -> Result
     let range = range_of(case)?;
     let table = table_of(alloc, case, range)?;
     let sphere = sphere_table(alloc, range, Some(&table))?;
-    match product(alloc, &table, &sphere, range, a, x) {
+    let source = Source {
+        held: Held::Squares(&table),
+    };
+    match product(alloc, &source, &sphere, range, a, x) {
         Ok(value) => value_text(alloc, &value),
         Err(YonedaFault::Memory) => Err(Fault::Memory),
         Err(YonedaFault::NoClass { which, count }) => missing(alloc, which, count),
@@ -33,7 +37,10 @@ pub(crate) fn bracketed(
     let (a, b, c) = (class_of(case, a)?, class_of(case, b)?, class_of(case, c)?);
     let range = range_of(case)?;
     let sphere = sphere_table(alloc, range, None)?;
-    match bracket(alloc, &sphere, &sphere, range, a, b, c) {
+    let source = Source {
+        held: Held::Squares(&sphere),
+    };
+    match bracket(alloc, &source, &sphere, range, a, b, c) {
         Ok(made) => {
             let value = value_text(alloc, &made.value)?;
             let rank = made.indeterminacy.rows().len();
@@ -59,7 +66,10 @@ pub(crate) fn sought(alloc: Global, case: &Case, x: &str) -> Result<String, Faul
     let x = class_of(case, x)?;
     let range = range_of(case)?;
     let table = table_of(alloc, case, range)?;
-    Ok(match place_of(&table, range, x) {
+    let source = Source {
+        held: Held::Squares(&table),
+    };
+    Ok(match place_of(&source, range, x) {
         Ok(_) => String::from_str(alloc, "there")?,
         Err(count) => format!(in alloc; "not there, {count} classes")?,
     })

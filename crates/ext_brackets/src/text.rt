@@ -14,6 +14,7 @@ ghost use Rattle.ext_brackets.specs.Brackets.{IsBracketAnswer, IsOfPlaces};
 
 use crate::refusal::{fault_of, is_of_place};
 use bidegree::{Class, Range};
+use chain_map::{Held, Source};
 use ext_chart::bracket_lines;
 use ext_products::{ClassesFault, sphere_table};
 use massey::{Bracket, bracket};
@@ -48,17 +49,22 @@ pub fn bracket_text(
 {
     resolution_laws::canonical_table_is_unique();
     finite_module::modules_are_graded_modules();
-    known(table);
+    let source = Source {
+        held: Held::Squares(table),
+    };
+    known(&source);
     if is_sphere(table) {
         // The table is the sphere's too. It may have come out of a file, and what is refused of a place depends on none.
-        let text = text_over(alloc, table, table, range, a, b, c);
+        let text = text_over(alloc, &source, table, range, a, b, c);
         if !is_of_place(&text) {
             return text;
         }
     }
     let sphere = sphere_table(alloc, range, Some(table))?;
-    known(&sphere);
-    text_over(alloc, table, &sphere, range, a, b, c)
+    known(&Source {
+        held: Held::Squares(&sphere),
+    });
+    text_over(alloc, &source, &sphere, range, a, b, c)
 }
 
 /// Whether the table is one of the sphere: its module has one generator, in degree 0.
@@ -73,7 +79,7 @@ fn is_sphere(table: &Table) -> bool
 /// The text, or why there is none, over these two tables.
 fn text_over(
     alloc: Global,
-    table: &Table,
+    table: &Source<'_>,
     sphere: &Table,
     range: Range,
     a: Class,

@@ -10,6 +10,7 @@ ghost use Rattle.ext_products.specs.Products.{OneEach, classes_of, classes_in_ro
 ghost use Rattle.ext_products.specs.Inside.{IsLineOver};
 
 use bidegree::{Place, Range};
+use chain_map::Source;
 use ext_chart::ProductLine;
 use f2_vec::BitVec;
 use memory::Memory;
@@ -21,7 +22,7 @@ use yoneda::products;
 /// number.
 pub(crate) fn lines(
     alloc: Global,
-    table: &Table,
+    table: &Source<'_>,
     sphere: &Table,
     range: Range,
     a: Place,
@@ -46,7 +47,7 @@ pub(crate) fn lines(
 /// Adds the lines of row `s`.
 fn add_row(
     alloc: Global,
-    table: &Table,
+    table: &Source<'_>,
     sphere: &Table,
     range: Range,
     a: Place,
@@ -75,7 +76,7 @@ fn add_row(
 /// Adds the lines of the square in row `s`, `above` degrees above the bottom, whose classes have these products with `a`.
 fn add_square(
     alloc: Global,
-    table: &Table,
+    table: &Source<'_>,
     sphere: &Table,
     a: Place,
     s: u16,

@@ -11,8 +11,8 @@ use crate::lines::lines;
 use crate::refusal::{ClassesFault, Named, Refusal};
 use crate::sphere::sphere_table;
 use bidegree::{Class, Range, above_of};
+use chain_map::{Held, Source};
 use ext_chart::product_lines;
-use square::Table;
 use std::alloc::Global;
 use yoneda::{known, place_of};
 
@@ -23,7 +23,7 @@ use yoneda::{known, place_of};
 /// `Refused` where the sphere has not this class through the range. `Memory` if allocation fails.
 pub fn products_text(
     alloc: Global,
-    table: &Table,
+    table: &Source<'_>,
     range: Range,
     by: Class,
 ) -> Result<Vec<u8>, ClassesFault>
@@ -39,8 +39,11 @@ pub fn products_text(
     lift_laws::lifts_give_one_product();
     known(table);
     let reach = reach_of(range, by);
-    let sphere = sphere_table(alloc, reach, Some(table))?;
-    match place_of(&sphere, reach, by) {
+    let sphere = sphere_table(alloc, reach, table.squares())?;
+    let whole = Source {
+        held: Held::Squares(&sphere),
+    };
+    match place_of(&whole, reach, by) {
         Ok(a) => {
             let lines = lines(alloc, table, &sphere, range, a)?;
             Ok(product_lines(alloc, lines.as_slice())?)

@@ -69,7 +69,7 @@ pub record Laws : Type 0 where
 
 -- ---- the table
 
-below_all : (gs : List Generator) → NeverFall gs → (t : ℤ) → t <ℤ bottom gs → width gs t ≡ 0
+pub below_all : (gs : List Generator) → NeverFall gs → (t : ℤ) → t <ℤ bottom gs → width gs t ≡ 0
 below_all [] b t l = refl
 below_all (g ∷ gs) b t l =
     ap length (numbers_from-none 0 (g ∷ gs) t (λ k h e. elim (cases_eq k 0) [

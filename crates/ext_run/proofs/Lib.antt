@@ -20,5 +20,6 @@ mod Saved
 mod TakenUp
 mod Tasks
 mod Verified
+mod WholeImages
 mod Working
 pub mod Ending

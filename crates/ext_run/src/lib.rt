@@ -6,6 +6,7 @@ mod from_images;
 mod laws;
 mod migrating;
 mod plan;
+mod products_over_images;
 mod row_one;
 mod sheets;
 mod task;

@@ -20,12 +20,14 @@ ghost use Rattle.ext_report.specs.declared.failure.Failure.TheVariants.{Memory a
 use crate::from_images::{sheet_alone, sheet_by};
 use crate::migrating::migrated;
 use crate::plan::Form;
+use crate::products_over_images::{products_alone, products_by};
 use crate::row_one::row_one_alone;
 use crate::sheets::sheet_text;
 use crate::task::{Resolution, Task};
 use crate::verifying::verified;
 use bidegree::Range;
 use board_core::Cause;
+use chain_map::{Held, Source};
 use edge::{Disk, Failed, Sink};
 use ext_brackets::bracket_text;
 use ext_products::products_text;
@@ -126,6 +128,7 @@ fn unsaved_alone(alloc: Global, resolution: Resolution) -> Result<Vec<u8>, Failu
             Ok(sheet_alone(alloc, resolution.resolved, sheet, range, shape)?)
         }
         Form::Products(by) if by.s == 1 => row_one_alone(alloc, resolution.resolved, range, by),
+        Form::Products(by) => products_alone(alloc, resolution.resolved, range, by),
         form => {
             let table = Table::new(alloc, resolution.resolved)?;
             told_alone(alloc, table, range, form, NoKeep).0
@@ -163,6 +166,11 @@ fn unsaved_by_workers<W: Threads + Wait + Clock + Sync, E: Sink + Send, G: Gate 
                 Ok(text) => (Ok(text), Ok(())),
                 Err(Memory) => (Err(Failure::Memory), Ok(())),
             }
+        }
+        (Form::Products(by), false) => {
+            let workers = common.workers as usize;
+            let text = products_by(wait, alloc, workers, resolved, range, by, gate);
+            (text, Ok(()))
         }
         (form, _) => tabled_by_workers(wait, alloc, resolved, form, common, err, gate),
     }
@@ -383,7 +391,12 @@ fn told(alloc: Global, form: Form, table: &Table, range: Range) -> Result<Vec<u8
     accepted_is_module();
     match form {
         Form::Squares(sheet, shape) => Ok(sheet_text(alloc, sheet, table, range, shape)?),
-        Form::Products(by) => Ok(products_text(alloc, table, range, by)?),
+        Form::Products(by) => {
+            let source = Source {
+                held: Held::Squares(table),
+            };
+            Ok(products_text(alloc, &source, range, by)?)
+        }
         Form::Bracket { a, b, c } => Ok(bracket_text(alloc, table, range, a, b, c)?),
     }
 }

@@ -3,7 +3,6 @@ use Rattle.std.proofs.Common.{◌≡◌, ℕ, suc, ◌+◌, ◌<◌, ◌≤◌, 
 use Rattle.std.proofs.lemmas.Int.{ints}
 use Rattle.std.proofs.lemmas.List.{length-take-le, get_or-take}
 use Rattle.bidegree.specs.declared.range.Range.{Range}
-use Rattle.bidegree.specs.declared.range.TheConstants.{MAX_T}
 use Rattle.f2_vec.specs.Spans.{row}
 use Rattle.free_module.specs.FreeModule.{degree_at, IsWithinReach, free_width}
 use Rattle.free_module.specs.Graded.{free_graded}
@@ -14,7 +13,6 @@ use Rattle.square.specs.Squares.{bottom_of}
 use Rattle.square.specs.Tables.{Staircase, row_in, plain_rows}
 use Rattle.square.proofs.Found.{row_within}
 use Rattle.square.proofs.Places.{length-row_of}
-use Rattle.square.proofs.Targets.{row_short}
 use Rattle.lift_laws.specs.Lifts.{Resolution, degree}
 use Rattle.lift_laws.specs.Products.{first_of, count_of}
 use Rattle.chain_map.specs.Lifting.{lowered_row, LiftValues, resolution_of, row_values, joined, degrees_through, AreValues, target_of}
@@ -146,12 +144,6 @@ module _ (table sphere : Staircase) (range : Range) (p : Places) (n : ℕ) (beta
       ∙ sym (low_width (bottom_of sphere.resolved) (row_of (plain_rows sphere.rows) (p.b.s + k)) p.b.above (above_ab p + 1) t (pos j -ℤ pos (above_bc p)) (omega (arith, ints)) (omega (arith, ints)))
 
   -- degrees are within the reach of the Milnor bases
-  pub bracket_reach : above_of p ≤ MAX_T
-  bracket_reach =
-      let short = row_short table c.setting.is_table n in
-      let long = c.setting.through_table n (let row = c.setting.inside.row in let e = c.n_row in let a = c.lifts.a_row in omega arith) in
-      omega arith
-
   pub inner_reach : (k j max : ℕ) (source : List ℤ) (t : ℤ) → j ≤ above_of p → above_of p ≤ max → source ≡ lowered_row sphere (p.b.s + k) (above_ab p + 1) p.b.above → t ≡ pos j -ℤ pos (above_bc p) → IsWithinReach max source t
   inner_reach k j max source t b is same at =
       subst (λ (z : List ℤ). IsWithinReach max z t) (sym same) (within-reach (pos 0 -ℤ pos p.b.above) (take (above_ab p + 1) (row_of (plain_rows sphere.rows) (p.b.s + k))) max t (omega (arith, ints)))

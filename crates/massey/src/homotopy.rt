@@ -11,7 +11,7 @@ ghost use Rattle.yoneda.specs.Products.{AreOnSquare};
 ghost use Rattle.massey.specs.Inside.{above_of, above_bc, IsSetting, IsLastMap, AreLifts, IsComposite, AreMapsOf, AreNext, homotopy_goal, zero_map};
 
 use crate::setting::Setting;
-use chain_map::{Inverse, Lift, lowered_generators};
+use chain_map::{Held, Inverse, Lift, Source, lowered_generators};
 use f2_vec::BitVec;
 use finite_module::modules_are_graded_modules;
 use free_hom::Hom;
@@ -116,9 +116,12 @@ impl Composite<'_> {
         let setting = &self.setting;
         let places = setting.places;
         let target = setting.sphere.generators(alloc, k, places.a.above + 1)?;
+        let whole = Source {
+            held: Held::Squares(setting.sphere),
+        };
         let inner = lowered_generators(
             alloc,
-            setting.sphere,
+            &whole,
             places.b.s + k,
             setting.above_ab() + 1,
             places.b.above,

@@ -19,7 +19,7 @@ use crate::places::{Places, places_of};
 use crate::setting::Setting;
 use bidegree::{Class, Place, Range};
 use bracket_laws::{bracket_is_coset, units_have_no_zero_products};
-use chain_map::{Lift, lift};
+use chain_map::{Held, Lift, Source, lift};
 use f2_matrix::{Matrix, Reduced};
 use f2_vec::BitVec;
 use finite_module::modules_are_graded_modules;
@@ -39,7 +39,7 @@ use yoneda::{coefficients, product_by_lift, products};
 /// is not zero, or bc. `Memory` if allocation fails.
 pub fn bracket(
     alloc: Global,
-    table: &Table,
+    table: &Source<'_>,
     sphere: &Table,
     range: Range,
     a: Class,
@@ -65,7 +65,10 @@ pub fn bracket(
     };
     let beta = lift_of_b(alloc, &setting, b)?;
     let (s, above) = (places.b.s + places.a.s, places.a.above + places.b.above);
-    let ab = product_by_lift(alloc, sphere, sphere, &beta, places.a, s, above)?;
+    let whole = Source {
+        held: Held::Squares(sphere),
+    };
+    let ab = product_by_lift(alloc, &whole, sphere, &beta, places.a, s, above)?;
     if !ab.is_zero() {
         return Err(MasseyFault::Nonzero {
             which: 0,
@@ -92,7 +95,10 @@ fn lift_of_b(alloc: Global, setting: &Setting<'_>, b: Class) -> Result<Lift, Mem
     ensures { IfOk result (IsLiftOver setting.now.sphere.now setting.now.sphere.now setting.now.places.b.s
         setting.now.places.b.above setting.now.places.b.i setting.now.places.a.s) }
 {
-    lift(alloc, setting.sphere, setting.sphere, b, setting.places.a.s)
+    let whole = Source {
+        held: Held::Squares(setting.sphere),
+    };
+    lift(alloc, &whole, setting.sphere, b, setting.places.a.s)
 }
 
 /// A lift of c to the row of the sphere that is one below that of ab, and to that of b at least.

@@ -12,6 +12,7 @@ ghost use Rattle.massey.specs.Inside.{place_refusal, AreFound, AreInside, IsSett
 
 use crate::fault::MasseyFault;
 use bidegree::{Class, Place, Range};
+use chain_map::{Held, Source};
 use square::Table;
 use yoneda::place_of;
 
@@ -26,7 +27,7 @@ pub(crate) struct Places {
 /// Where the three classes stand, or why they have no bracket in the range: the first of no class a, b or c, and then of ab, bc or the
 /// bracket outside of the range.
 pub(crate) fn places_of(
-    table: &Table,
+    table: &Source<'_>,
     sphere: &Table,
     range: Range,
     a: Class,
@@ -48,7 +49,7 @@ pub(crate) fn places_of(
 
 /// Where the three classes stand.
 fn classes_of(
-    table: &Table,
+    table: &Source<'_>,
     sphere: &Table,
     range: Range,
     a: Class,
@@ -65,15 +66,18 @@ fn classes_of(
     ensures is_table { OnOk result (IsTable table.now) }
     ensures is_sphere_table { OnOk result (IsTable sphere.now) }
 {
-    let a = found(sphere, range, a, 0)?;
-    let b = found(sphere, range, b, 1)?;
+    let whole = Source {
+        held: Held::Squares(sphere),
+    };
+    let a = found(&whole, range, a, 0)?;
+    let b = found(&whole, range, b, 1)?;
     let c = found(table, range, c, 2)?;
     Ok(Places { a, b, c })
 }
 
 /// That ab, bc and the bracket are in the range.
 fn are_inside(
-    table: &Table,
+    table: &Source<'_>,
     sphere: &Table,
     range: Range,
     places: Places,
@@ -86,7 +90,10 @@ fn are_inside(
     ensures inside { OnOk result (AreInside range places.a places.b places.c) }
 {
     let Places { a, b, c } = places;
-    within(sphere, range, 0, a.s + b.s + 1, a.above + b.above)?;
+    let whole = Source {
+        held: Held::Squares(sphere),
+    };
+    within(&whole, range, 0, a.s + b.s + 1, a.above + b.above)?;
     within(table, range, 1, b.s + c.s + 1, b.above + c.above)?;
     within(
         table,
@@ -98,7 +105,12 @@ fn are_inside(
 }
 
 /// Where the class stands in the table, or that it does not.
-fn found(table: &Table, range: Range, class: Class, which: u8) -> Result<Place, MasseyFault>
+fn found(
+    table: &Source<'_>,
+    range: Range,
+    class: Class,
+    which: u8,
+) -> Result<Place, MasseyFault>
     requires { IsThrough range table.now.rows }
     ensures found { OnOk result (no_class (NoClass which) (through range table.now) class ≡ None) }
     ensures missing { IfErr result (λ e. no_class (NoClass which) (through range table.now) class ≡ Some e) }
@@ -113,7 +125,13 @@ fn found(table: &Table, range: Range, class: Class, which: u8) -> Result<Place, 
 
 /// Checks that the square in row `rows - 1`, `above` degrees above the bottom, lies in the range. Rows are compared as
 /// signed numbers, so classes that are all in row 0 are refused for ab, which is not zero, and not for the row -1.
-fn within(table: &Table, range: Range, which: u8, rows: u16, above: u16) -> Result<(), MasseyFault>
+fn within(
+    table: &Source<'_>,
+    range: Range,
+    which: u8,
+    rows: u16,
+    above: u16,
+) -> Result<(), MasseyFault>
     ensures within { OnOk result (out_of_range (OutOfRange which) range (through range table.now) (pos rows -ℤ pos 1)
         (bottom_of table.now.resolved +ℤ pos above) ≡ None) }
     ensures past { IfErr result (λ e. out_of_range (OutOfRange which) range (through range table.now)

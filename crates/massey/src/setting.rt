@@ -4,12 +4,13 @@ ghost use Rattle.massey.specs.Inside.{IsSetting, above_of as bracket_above, abov
 
 use crate::places::Places;
 use bidegree::Range;
+use chain_map::Source;
 use square::Table;
 
-/// The tables of a module's resolution and of the sphere's, their range, and where the classes of a bracket stand.
+/// What is read of a module's resolution, the table of the sphere's, their range, and where the classes of a bracket stand.
 #[derive(Clone, Copy)]
 pub(crate) struct Setting<'a> {
-    pub(crate) table: &'a Table,
+    pub(crate) table: &'a Source<'a>,
     pub(crate) sphere: &'a Table,
     pub(crate) range: Range,
     pub(crate) places: Places,

@@ -6,7 +6,7 @@ ghost use Rattle.chain_map.specs.Lifting.{IsLiftOver};
 
 use crate::tables::{sphere_table, two_cells};
 use bidegree::{Class, Range};
-use chain_map::{Lift, lift, lifts};
+use chain_map::{Held, Lift, Source, lift, lifts};
 use f2_vec::BitVec;
 use resolution_step::resolved;
 use square::Table;
@@ -15,7 +15,7 @@ use yoneda::place_of;
 
 /// The value of map 1 of a lift of the class on a generator of the row above it, none where one of them is not there in the range.
 fn value_on<'a>(
-    table: &Table,
+    table: &Source<'_>,
     sphere: &Table,
     range: Range,
     class: Class,
@@ -48,7 +48,10 @@ fn a_lift_on_two_cells(rt: HostRuntime) -> Result<(), Fail> {
         assert!(rt; false);
         return Ok(());
     };
-    let table = resolved(alloc, module, range, None)?;
+    let squares = resolved(alloc, module, range, None)?;
+    let table = Source {
+        held: Held::Squares(&squares),
+    };
     let class = Class { s: 1, t: 3, i: 0 };
     let generator = Class { s: 2, t: 4, i: 0 };
     let Ok(_) = place_of(&table, range, class) else {

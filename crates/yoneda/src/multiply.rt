@@ -14,7 +14,7 @@ use crate::fault::YonedaFault;
 use crate::place::{known, place_of};
 use crate::values::product_by_lift;
 use bidegree::{Class, Place, Range};
-use chain_map::{Lift, lift, lifts};
+use chain_map::{Held, Lift, Source, lift, lifts};
 use f2_vec::BitVec;
 use finite_module::modules_are_graded_modules;
 use lift_laws::lifts_give_one_product;
@@ -30,7 +30,7 @@ use std::alloc::Global;
 /// fails.
 pub fn product(
     alloc: Global,
-    table: &Table,
+    table: &Source<'_>,
     sphere: &Table,
     range: Range,
     a: Class,
@@ -62,7 +62,7 @@ pub fn product(
 /// `Memory` if allocation fails.
 pub fn products(
     alloc: Global,
-    table: &Table,
+    table: &Source<'_>,
     sphere: &Table,
     range: Range,
     a: Place,
@@ -82,7 +82,9 @@ pub fn products(
     modules_are_graded_modules();
     lifts_give_one_product();
     known(table);
-    known(sphere);
+    known(&Source {
+        held: Held::Squares(sphere),
+    });
     let lifts = lifts(alloc, table, sphere, s, table.degree(above), a.s)?;
     products_by(
         alloc,
@@ -98,7 +100,7 @@ pub fn products(
 /// The products of the class a with those that the maps lift, in the square in row `s`, `above` degrees above the bottom.
 fn products_by(
     alloc: Global,
-    table: &Table,
+    table: &Source<'_>,
     sphere: &Table,
     lifts: &[Lift],
     a: Place,
@@ -123,7 +125,7 @@ fn products_by(
 
 /// Where the two classes stand, or why they have no product in the range.
 fn places(
-    table: &Table,
+    table: &Source<'_>,
     sphere: &Table,
     range: Range,
     a: Class,
@@ -138,7 +140,10 @@ fn places(
     ensures is_table { OnOk result (IsTable table.now) }
     ensures is_sphere_table { OnOk result (IsTable sphere.now) }
 {
-    let first = found(sphere, range, a, 0)?;
+    let whole = Source {
+        held: Held::Squares(sphere),
+    };
+    let first = found(&whole, range, a, 0)?;
     let second = found(table, range, x, 1)?;
     let s = first.s + second.s;
     let above = first.above + second.above;
@@ -152,7 +157,12 @@ fn places(
 }
 
 /// Where the class stands in the table, or that it does not.
-fn found(table: &Table, range: Range, class: Class, which: u8) -> Result<Place, YonedaFault>
+fn found(
+    table: &Source<'_>,
+    range: Range,
+    class: Class,
+    which: u8,
+) -> Result<Place, YonedaFault>
     requires { IsThrough range table.now.rows }
     ensures found { OnOk result (no_class (NoClass which) (through range table.now) class ≡ None) }
     ensures missing { IfErr result (λ e. no_class (NoClass which) (through range table.now) class ≡ Some e) }

@@ -7,14 +7,14 @@ ghost use Rattle.chain_map.specs.Classes.{through, missing_in};
 ghost use Rattle.yoneda.specs.Products.{IsPlaceOf};
 
 use bidegree::{Class, Place, Range, above_of};
-use square::Table;
+use chain_map::Source;
 
 /// Where the class stands in the table.
 ///
 /// # Errors
 /// How many classes are in its square, where it is not one of them: the square has the generators that the table has there, and none
 /// outside of the range.
-pub fn place_of(table: &Table, range: Range, class: Class) -> Result<Place, usize>
+pub fn place_of(table: &Source<'_>, range: Range, class: Class) -> Result<Place, usize>
     requires { IsThrough range table.now.rows }
     ensures there { OnOk result (missing_in (through range table.now) class ≡ None) }
     ensures missing { IfErr result (λ count. missing_in (through range table.now) class ≡ Some count) }
@@ -41,7 +41,7 @@ pub fn place_of(table: &Table, range: Range, class: Class) -> Result<Place, usiz
 }
 
 /// Hands what holds of every table to the proof of whoever calls it.
-pub fn known(table: &Table)
+pub fn known(table: &Source<'_>)
     ensures is_table { IsTable table.now }
     ensures least { neg_ℤ MAX_DEGREE ≤ℤ bottom_of table.now.resolved }
     ensures most { bottom_of table.now.resolved ≤ℤ MAX_DEGREE }

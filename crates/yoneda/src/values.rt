@@ -10,7 +10,7 @@ ghost use Rattle.chain_map.specs.Lifting.{resolution_of, row_values, joined, map
 ghost use Rattle.yoneda.specs.Products.{class_above, IsThere, AreOnSquare};
 
 use bidegree::Place;
-use chain_map::Lift;
+use chain_map::{Lift, Source, lowered_generators};
 use f2_vec::BitVec;
 use memory::Memory;
 use square::Table;
@@ -24,7 +24,7 @@ use std::alloc::Global;
 /// `Memory` if allocation fails.
 pub fn coefficients(
     alloc: Global,
-    table: &Table,
+    table: &Source<'_>,
     sphere: &Table,
     values: &[BitVec],
     a: Place,
@@ -50,7 +50,7 @@ pub fn coefficients(
 /// `Memory` if allocation fails.
 pub fn product_by_lift(
     alloc: Global,
-    table: &Table,
+    table: &Source<'_>,
     sphere: &Table,
     lift: &Lift,
     a: Place,
@@ -68,11 +68,11 @@ pub fn product_by_lift(
 }
 
 /// The number in row `s` of the first generator that is `above` degrees above the bottom.
-fn first_at(alloc: Global, table: &Table, s: u16, above: u16) -> Result<usize, Memory>
+fn first_at(alloc: Global, table: &Source<'_>, s: u16, above: u16) -> Result<usize, Memory>
     requires { above < length (row_in table.now.rows s) }
     ensures { IfOk result (λ first. first ≡ first_of (resolution_of table.now) s above) }
 {
-    let before = table.generators(alloc, s, above)?;
+    let before = lowered_generators(alloc, table, s, above, 0)?;
     Ok(before.degrees().len())
 }
 

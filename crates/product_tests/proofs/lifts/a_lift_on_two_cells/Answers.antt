@@ -12,4 +12,4 @@ value_on-value-requires-2-clause-lift g c = λ above e.
     let there : 0 < length c.in_ok-all.all.items = subst (λ (all : List LiftValues). 0 < length all) same (omega arith) in
     let read : c.only-item.result ≡ slice_index_or c.in_ok-all.all.items 0 no_lift =
     c.only-item.is ∙ get_or_default made 0 c.only-item.result no_lift (omega arith) ∙ ap (λ (all : List LiftValues). slice_index_or all 0 no_lift) same in
-    subst (IsLiftOver c.in_ok-table.table c.in_ok-sphere.sphere 1 above 0 1) (sym read) (c.in_ok-all.ensures.lifts above e 0 there)
+    subst (IsLiftOver c.in_ok-squares.squares c.in_ok-sphere.sphere 1 above 0 1) (sym read) (c.in_ok-all.ensures.lifts above e 0 there)

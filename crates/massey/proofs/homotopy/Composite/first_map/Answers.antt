@@ -4,7 +4,7 @@ use Rattle.f2_vec.specs.Vectors.{zeros}
 use Rattle.free_module.specs.FreeModule.{free_width}
 use Rattle.chain_map.specs.Lifting.{target_of, lowered_row}
 use Rattle.massey.specs.Inside.{above_of, above_bc}
-use Rattle.massey.proofs.Composites.{sphere_row_there, bracket_reach, zero_reach}
+use Rattle.massey.proofs.Composites.{sphere_row_there, zero_reach}
 use Rattle.massey.proofs.homotopy.Composite.first_map.Goals as goal
 
 pub generators-requires : goal.generators-requires
@@ -15,8 +15,8 @@ generators-requires c =
 
 pub basis-requires : goal.basis-requires
 basis-requires c =
-    let self = c.args.self.now in
-    omega (arith, c.above-2.ensures, bracket_reach self.setting.table.now self.setting.sphere.now self.setting.range self.setting.places self.n self.beta.now self.gamma.now c.requires)
+    let setting = c.requires.setting in
+    (0, omega (arith, c.above-2.ensures, setting.inside.degree, setting.through_table 0 (omega arith)))
 
 pub zero_values-requires : goal.zero_values-requires
 zero_values-requires c =
@@ -24,7 +24,7 @@ zero_values-requires c =
     let table = self.setting.table.now in
     let p = self.setting.places in
     let source : c.in_ok-source.source ≡ lowered_row table self.n (above_of p + 1) (above_bc p) = c.in_ok-source.ensures ∙ (ap (λ m. lowered_row table self.n (m + 1) c.above_bc.result) c.above.ensures ∙ ap (lowered_row table self.n (above_of p + 1)) c.above_bc.ensures) in
-    zero_reach table self.setting.sphere.now self.setting.range p self.n self.beta.now self.gamma.now c.requires c.in_ok-basis.basis.now c.in_ok-source.source c.in_ok-target.target (omega (arith, c.in_ok-basis.ensures.reaches, c.above-2.ensures)) source c.in_ok-target.ensures
+    zero_reach table self.setting.sphere.now self.setting.range p self.n self.beta.now self.gamma.now c.requires c.in_ok-basis.basis.now c.in_ok-source.source c.in_ok-target.target (omega (arith, c.in_ok-basis.ensures, c.above-2.ensures)) source c.in_ok-target.ensures
 
 pub returns : goal.returns
 returns c =

@@ -8,7 +8,7 @@ use Rattle.lift_laws.specs.Products.{first_of}
 use Rattle.chain_map.specs.Lifting.{lowered_row, LiftValues, resolution_of, row_values, joined, target_of, AreChosen}
 use Rattle.massey.specs.declared.places.Places.{Places}
 use Rattle.massey.specs.Inside.{above_of, above_ab, above_bc, homotopy_goal, beta_values}
-use Rattle.massey.proofs.Composites.{beta_row, bracket_reach, beta_count, inner_count, beta_images}
+use Rattle.massey.proofs.Composites.{beta_row, beta_count, inner_count, beta_images}
 use Rattle.massey.proofs.homotopy.Composite.next_map.Goals as goal
 
 -- the generators of beta's row, and the values on them
@@ -26,8 +26,8 @@ vectors-requires c =
 
 pub basis-requires : goal.basis-requires
 basis-requires c =
-    let self = c.args.self.now in
-    omega (arith, c.above-2.ensures, bracket_reach self.setting.table.now self.setting.sphere.now self.setting.range self.setting.places self.n self.beta.now self.gamma.now c.requires.composite)
+    let setting = c.requires.composite.setting in
+    (0, omega (arith, c.above-2.ensures, setting.inside.degree, setting.through_table 0 (omega arith)))
 
 pub slice_bounds-new-end : goal.slice_bounds-new-end
 slice_bounds-new-end c =
