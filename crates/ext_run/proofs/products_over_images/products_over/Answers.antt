@@ -29,8 +29,8 @@ products_text-requires-clause-through c =
     let images = c.args.images.now in
     subst (λ (r : Range). IsThrough r (canonical_rows images.resolved images.range)) c.requires.range (is_through images.resolved images.range c.requires.whole.row c.requires.whole.degree)
 
-pub returns-in_ok-products_text-clause-told : goal.returns-in_ok-products_text-clause-told
-returns-in_ok-products_text-clause-told c = λ has.
+pub returns-clause-told : goal.returns-clause-told
+returns-clause-told c = λ has.
     let laws : TableLaws = record { exists = c.canonical_table_exists.ensures; minimal = c.canonical_table_is_minimal_resolution.ensures; modules = c.modules_are_graded_modules.ensures; accepted = c.accepted_is_module.ensures } in
     let images = c.args.images.now in
     let table : Staircase = canonical_table images.resolved images.range in
