@@ -7,7 +7,7 @@ use Rattle.edge.specs.Faults.{HasRisen}
 use Rattle.edge.specs.Sink.{with_more, HasPrefixMore}
 use Rattle.edge.proofs.Written.{with_more-two, HasPrefixMore-whole, HasPrefixMore-front, HasPrefixMore-behind}
 use Rattle.live_worker.specs.Reports.{squares_of, live_lines, HasReported as Reported}
-use Rattle.live_worker.proofs.Reported.{on_ok, reported_none}
+use Rattle.live_worker.proofs.Reported.{retold, reported_none}
 use Rattle.ext_words.specs.declared.command.Command.{Command}
 use Rattle.ext_words.specs.declared.command.Command.TheVariants.{Sphere, Resolve as OfFile, Dump, Products, Massey, Sample}
 use Rattle.ext_words.specs.declared.command.Common.{Common}
@@ -33,23 +33,12 @@ use Rattle.ext_run.specs.Run.{HasReported, HasSaid}
 -- what is told of what was made, where it is there only if that is
 pub heard_of : {T C X Y E F : Type 0} (err : Device E) (live : Option Range) (made : Result T C) (text : Result X Y) (heard : Result (Unit {0}) F) (old new : E) → OnOk text (OnErr made ⊥) → HasHeard err live made heard old new → HasHeard err live text heard old new
 heard_of err None made text heard old new there h = h
-heard_of err (Some range) made text heard old new there h = record {
-  numbers = h.numbers;
-  most = h.most;
-  rise = h.rise;
-  within = h.within;
-  first_bytes = h.first_bytes;
-  whole = h.whole;
-  finished = on_ok heard _ _ (told (h.most ≡ squares_of range) made text there) h.finished;
-  never_fall = h.never_fall;
-  no_fault = h.no_fault;
-  cause = h.cause;
-}
-  where
-    told : (P : Type 0) {T C X Y : Type 0} (made : Result T C) (text : Result X Y) → OnOk text (OnErr made ⊥) → OnOk made P → OnOk text P
-    told P (Ok t) (Ok x) there p = p
-    told P (Err c) (Ok x) there p = absurd there
-    told P made (Err e) there p = tt
+heard_of err (Some range) made text heard old new there h = retold (squares_of range) made text heard (err.shows old) (err.shows new) (err.faults old) (err.faults new) there h
+
+-- a text is told of what was made
+pub told_there : {T C X Y : Type 0} (made : Result T C) (text : Result X Y) (t : T) → made ≡ Ok t → OnOk text (OnErr made ⊥)
+told_there {T} {C} made (Ok x) t is = subst (λ (m : Result T C). OnErr m ⊥) (sym is) tt
+told_there made (Err e) t is = tt
 
 -- nothing was made, and nothing was reported
 pub heard_none : (X F : Type 0) {Y E : Type 0} (err : Device E) (live : Option Range) (cause : Y) (e : E) → HasHeard {T = X} {F = F} err live (Err cause) (Ok tt) e e

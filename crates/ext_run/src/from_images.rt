@@ -1,15 +1,18 @@
 //! Sheets on a resolution of which the images of generators are made, and no table of squares.
 ghost use Rattle.std.specs.Prelude.{◌≡◌, ◌≤◌, ◌<◌, IfOk};
 ghost use Rattle.bidegree.specs.declared.range.TheConstants.{MAX_S, MAX_T};
+ghost use Rattle.live_worker.specs.Reports.{squares_of, HasReported};
 ghost use Rattle.ext_run.specs.Forms.{IsReadOff, sheet_of};
 ghost use Rattle.ext_run.specs.Inside.Images.{AreOfResolution};
 
 use crate::plan::Sheet;
 use crate::sheets::sheet_text;
 use bidegree::{Range, Shape};
+use edge::{Failed, Sink};
 use ext_chart::stems_are_told_alike;
 use finite_module::Module;
 use image_worker::{images_by, images_in_stems_by};
+use live_worker::images_live;
 use memory::Memory;
 use module_check::modules_are_graded_modules;
 use resolution_existence::canonical_table_exists;
@@ -133,5 +136,43 @@ fn images_through_by<W: Threads + Wait + Clock + Sync, G: Gate + Sync>(
             images_in_stems_by(wait, alloc, workers, resolved, range.s, n, gate)
         }
         _ => images_by(wait, alloc, workers, resolved, range, gate),
+    }
+}
+
+/// The sheet on the squares of this shape of the module's resolution through the range, of which so many workers make the images
+/// of the whole rectangle. Meanwhile it is reported on `err` how many squares of that are finished. The last of what it gives says
+/// whether `err` failed; then nothing was written to it since.
+///
+/// # Errors
+/// `Memory` if allocation fails.
+pub(crate) fn sheet_live<W: Threads + Wait + Clock + Sync, E: Sink + Send, G: Gate + Sync>(
+    wait: &W,
+    alloc: Global,
+    workers: usize,
+    resolved: Module,
+    sheet: Sheet,
+    range: Range,
+    shape: Shape,
+    err: &mut E,
+    gate: &G,
+) -> (Result<Vec<u8>, Memory>, Result<(), Failed>)
+    requires some { 0 < workers }
+    requires rows { range.s ≤ MAX_S }
+    requires degrees { range.t ≤ MAX_T }
+    ensures text { IfOk result.0 (λ text. IsReadOff (sheet_of sheet shape range) range resolved.plain text.items) }
+    ensures reported { HasReported (squares_of range) result.0 result.1 (E.written err.old) (E.written err.new)
+        (E.faults err.old) (E.faults err.new) }
+{
+    canonical_table_exists();
+    canonical_table_is_minimal_resolution();
+    modules_are_graded_modules();
+    let (made, heard) = images_live(wait, alloc, workers, resolved, range, gate, err);
+    match made {
+        Ok(images) => {
+            let text = sheet_text(alloc, sheet, &images, range, shape);
+            forget(images);
+            (text, heard)
+        }
+        Err(Memory) => (Err(Memory), heard),
     }
 }

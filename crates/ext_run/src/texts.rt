@@ -1,12 +1,13 @@
 //! The text of a task: a module is resolved, by the caller alone or by workers, over its save file if the words say so,
 //! and what is made of it is told: a table, or the images of generators alone. Workers may report how far they are.
 //! Or the save file is all that is used.
-ghost use Rattle.std.specs.Prelude.{◌≡◌, ◌≤◌, ◌⊎◌, false, None, Err, IfErr};
+ghost use Rattle.std.specs.Prelude.{◌≡◌, ◌≤◌, ◌⊎◌, true, false, None, Err, IfErr};
 ghost use Rattle.bidegree.specs.declared.range.TheConstants.{MAX_S, MAX_T};
 ghost use Rattle.board_core.specs.declared.event.Cause as Cause;
 ghost use Rattle.resolution_step.specs.Alone.{AreApart, IsUntouched, HasResolved};
 ghost use Rattle.square.specs.Keeping.{IsKeeperOf};
 ghost use Rattle.square.specs.Tables.{plain_rows, IsThrough, cut};
+ghost use Rattle.ext_run.specs.declared.plan.Form as Form;
 ghost use Rattle.ext_run.specs.declared.task.Task.TheVariants.{Resolution as ToResolve};
 ghost use Rattle.ext_run.specs.Devices.{device_of, store_of};
 ghost use Rattle.ext_run.specs.Plan.{keeping, live_where};
@@ -17,15 +18,15 @@ ghost use Rattle.ext_run.specs.Task.{IsTaskWithin};
 ghost use Rattle.ext_run.specs.Work.{HasAnswer, answer_of, HasContinued, HasUsed, HasWorked};
 ghost use Rattle.ext_report.specs.declared.failure.Failure.TheVariants.{Memory as WantOfMemory};
 
-use crate::from_images::{sheet_alone, sheet_by};
+use crate::from_images::{sheet_alone, sheet_by, sheet_live};
 use crate::migrating::migrated;
-use crate::plan::Form;
+use crate::plan::{Form, Sheet};
 use crate::products_over_images::{products_alone, products_by};
 use crate::row_one::row_one_alone;
 use crate::sheets::sheet_text;
 use crate::task::{Resolution, Task};
 use crate::verifying::verified;
-use bidegree::Range;
+use bidegree::{Range, Shape};
 use board_core::Cause;
 use chain_map::{Held, Source};
 use edge::{Disk, Failed, Sink};
@@ -137,7 +138,7 @@ fn unsaved_alone(alloc: Global, resolution: Resolution) -> Result<Vec<u8>, Failu
 }
 
 /// The text of a resolution, made by as many workers as it says. Nothing is kept. Where the text speaks of generators and their
-/// images alone, and nothing is reported meanwhile, nothing else is made.
+/// images alone, nothing else is made.
 fn unsaved_by_workers<W: Threads + Wait + Clock + Sync, E: Sink + Send, G: Gate + Sync>(
     wait: &W,
     alloc: Global,
@@ -160,6 +161,9 @@ fn unsaved_by_workers<W: Threads + Wait + Clock + Sync, E: Sink + Send, G: Gate 
     } = resolution;
     let range = common.range;
     match (form, common.live) {
+        (Form::Squares(sheet, shape), true) => {
+            live_sheet(wait, alloc, resolved, sheet, shape, common, err, gate)
+        }
         (Form::Squares(sheet, shape), false) => {
             let workers = common.workers as usize;
             match sheet_by(wait, alloc, workers, resolved, sheet, range, shape, gate) {
@@ -173,6 +177,36 @@ fn unsaved_by_workers<W: Threads + Wait + Clock + Sync, E: Sink + Send, G: Gate 
             (text, Ok(()))
         }
         (form, _) => tabled_by_workers(wait, alloc, resolved, form, common, err, gate),
+    }
+}
+
+/// The text of a sheet on the squares of a resolution, of which as many workers as are asked for make the images, and report
+/// meanwhile. Nothing is kept.
+fn live_sheet<W: Threads + Wait + Clock + Sync, E: Sink + Send, G: Gate + Sync>(
+    wait: &W,
+    alloc: Global,
+    resolved: Module,
+    sheet: Sheet,
+    shape: Shape,
+    common: Common,
+    err: &mut E,
+    gate: &G,
+) -> (Result<Vec<u8>, Failure>, Result<(), Failed>)
+    requires within { IsWithin common }
+    requires live { common.live ≡ true }
+    ensures told { HasAnswer result.0 →
+        IsInForm (Form.Squares sheet shape) common.range resolved.plain (answer_of result.0) }
+    ensures why { IfErr result.0 (λ e. e ≡ WantOfMemory) }
+    ensures heard { HasHeard (device_of E.written E.faults) (live_where common.live common.range) result.0 result.1
+        err.old err.new }
+{
+    let workers = common.workers as usize;
+    let (made, heard) = sheet_live(
+        wait, alloc, workers, resolved, sheet, common.range, shape, err, gate,
+    );
+    match made {
+        Ok(text) => (Ok(text), heard),
+        Err(Memory) => (Err(Failure::Memory), heard),
     }
 }
 

@@ -12,8 +12,8 @@ use Rattle.resolution_laws.specs.Start.{Entry}
 use Rattle.square.specs.Squares.{over}
 use Rattle.square.specs.Tables.{Staircase}
 use Rattle.square_board.specs.declared.opening.Opening.{Opening}
-use Rattle.square_worker.specs.Kept.{KeptTable}
-use Rattle.square_worker.specs.Openings.{first_table, module_of}
+use Rattle.square_board.specs.Stocks.{StockWords}
+use Rattle.live_view.specs.Counted.{counted_in, module_in, start_in}
 use Rattle.live_view.specs.declared.published.Published.{Published as Shown}
 use Rattle.live_view.specs.Views.{row_of, blank, IsRight, IsWithin, RightViewIsCanonical}
 use Rattle.live_view.specs.Published.{last_from, last_view, IsRightOf, ArePublished, MayFollow, KnownViews, IsPartOfCharts}
@@ -54,20 +54,20 @@ part_of_charts bottom range published text canonical part are is table of start 
     let right = canonical (over table.resolved) table.start (last_view published) start (right_of table published are of) in
     subst (λ (x : List ℕ). IsPartOf x (chart_text bottom range.s (last_degree Rectangle range) count)) (sym is) (part (over table.resolved) (last_view published) bottom range count right counts)
 
-module _ {K : Type 0} (opening : Opening (KeptTable K)) where
-  pub shown_right : (published : List Shown) → ArePublished published → AreOfBoard opening published → IsRight (module_of opening) (first_table opening).start (last_view published)
-  shown_right published are of = right_of (first_table opening) published are of
+module _ {T O I M : Type 0} (w : StockWords T O I M) (table_of : O → Staircase) (opening : Opening T) where
+  pub shown_right : (published : List Shown) → ArePublished published → AreOfBoard w table_of opening published → IsRight (module_in w table_of opening) (start_in w table_of opening) (last_view published)
+  shown_right published are of = right_of (counted_in w table_of opening) published are of
 
-  pub follows : (published : List Shown) (p : Shown) (before after : List Event) (old new : List (List ℕ)) → AreOfBoard opening published → old ≡ last_view published → HasRead opening before after old new → p.of ≡ first_table opening ∷ [] → p.view ≡ new → MayFollow published p
+  pub follows : (published : List Shown) (p : Shown) (before after : List Event) (old new : List (List ℕ)) → AreOfBoard w table_of opening published → old ≡ last_view published → HasRead w table_of opening before after old new → p.of ≡ counted_in w table_of opening ∷ [] → p.view ≡ new → MayFollow published p
   follows published p before after old new of is read of_is view_is =
-      let right : IsRight (module_of opening) (first_table opening).start p.view = subst (IsRight (module_of opening) (first_table opening).start) (sym view_is) read.between.right in
+      let right : IsRight (module_in w table_of opening) (start_in w table_of opening) p.view = subst (IsRight (module_in w table_of opening) (start_in w table_of opening)) (sym view_is) read.between.right in
       record {
-        right = λ table is_table. subst (λ (t : Staircase). IsRight (over t.resolved) t.start p.view) (first_of (first_table opening) table p.of of_is is_table) right;
+        right = λ table is_table. subst (λ (t : Staircase). IsRight (over t.resolved) t.start p.view) (first_of (counted_in w table_of opening) table p.of of_is is_table) right;
         within = subst (λ (v : List (List ℕ)). IsWithin v p.view) is (subst (λ (v : List (List ℕ)). IsWithin old v) (sym view_is) read.within);
         one = λ k d less. of k d less ∙ sym of_is;
       }
 
-  pub was_published : (p : Shown) (before after : List Event) (old new : List (List ℕ)) (known next : KnownViews) → next ≡ record known { published = known.published ++ p ∷ [] } → HasRead opening before after old new → p.of ≡ first_table opening ∷ [] → p.view ≡ new → HasPublished opening before after known next
+  pub was_published : (p : Shown) (before after : List Event) (old new : List (List ℕ)) (known next : KnownViews) → next ≡ record known { published = known.published ++ p ∷ [] } → HasRead w table_of opening before after old new → p.of ≡ counted_in w table_of opening ∷ [] → p.view ≡ new → HasPublished w table_of opening before after known next
   was_published p before after old new known next is read of_is view_is = record {
     view = new;
     known = is ∙ ap (λ (q : Shown). record known { published = known.published ++ q ∷ [] }) (λ i. record { of = of_is i; view = view_is i });

@@ -3,6 +3,7 @@ pub mod Lists
 mod Adding
 mod Ties
 mod Rows
+mod Counts
 mod Looks
 mod Within
 mod ReadRows

@@ -1,3 +1,4 @@
+pub mod Counted
 pub mod Views
 pub mod Published
 pub mod Handles

@@ -3,6 +3,7 @@
 #![tactic(auto)]
 
 mod chart;
+mod counted;
 mod known;
 mod laws;
 mod newest;
@@ -14,6 +15,7 @@ mod series;
 mod view;
 mod writer;
 
+pub use counted::Counted;
 pub use laws::{right_chart_is_part, right_view_is_canonical};
 pub use note::Note;
 pub use published::Published;

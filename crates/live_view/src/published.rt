@@ -1,15 +1,15 @@
 //! What proofs keep of a view that was published.
 ghost use Rattle.std.specs.Prelude.{◌≡◌, [], ◌∷◌};
-ghost use Rattle.square_worker.specs.Openings.{first_table};
+ghost use Rattle.live_view.specs.Counted.{counted_in};
 
+use crate::counted::Counted;
 use crate::view::View;
 use ghost_list::GhostList;
-use square::{Keep, Table};
+use square::Table;
 use square_board::Board;
-use square_worker::Kept;
 use std::collections::LinkedList;
 
-/// A view that was published: its numbers, and as the one item of a list the table that its board opened with. It has
+/// A view that was published: its numbers, and as the one item of a list the table whose numbers those on its board are. It has
 /// no bytes.
 #[derive(Drop)]
 pub struct Published {
@@ -19,8 +19,8 @@ pub struct Published {
 
 impl Published {
     /// The view, as one of this board.
-    pub(crate) fn of_board<K: Keep>(board: &Board<Kept<K>>, view: &View) -> Published
-        ensures of { result.of ≡ first_table board.now.name ∷ [] }
+    pub(crate) fn of_board<T: Counted>(board: &Board<T>, view: &View) -> Published
+        ensures of { result.of ≡ counted_in T.words T.table_of board.now.name ∷ [] }
         ensures view { result.view ≡ view.now }
     {
         Published {

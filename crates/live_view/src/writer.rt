@@ -10,6 +10,7 @@ ghost use Rattle.live_view.specs.Published.{KnownViews, MayFollow};
 ghost use Rattle.live_view.specs.Publishing.{MayPublish, HasPublished};
 ghost use Rattle.live_view.specs.Inside.Ties.{tie_of};
 
+use crate::counted::Counted;
 use crate::newest::{Newest, OneBook, Sees, Shares, Takes, Tie};
 use crate::note::Note;
 use crate::published::Published;
@@ -21,9 +22,7 @@ use bidegree::Range;
 use core::mem::replace_with;
 use left_right::writer::Writer;
 use memory::Memory;
-use square::Keep;
 use square_board::{Board, BoardPass};
-use square_worker::Kept;
 use std::alloc::Global;
 use std::marker::Model;
 use std::sync::Wait;
@@ -135,20 +134,20 @@ fn seat_at(flushed: &mut Flushed) -> Option<Seat>
 ///
 /// # Errors
 /// `Memory` if allocation fails; then nothing is published, and the reader sees what it would have seen.
-pub fn publish<R: Wait + Clock, K: Keep>(
+pub fn publish<R: Wait + Clock, T: Counted>(
     wait: &R,
     alloc: Global,
     writer: &mut LiveWriter,
-    board: &Board<Kept<K>>,
-    pass: &mut BoardPass<Kept<K>>,
+    board: &Board<T>,
+    pass: &mut BoardPass<T>,
 ) -> Result<Note, Memory>
-    requires { MayPublish board.now pass.old writer.old }
-    ensures may { MayPublish board.now pass.new writer.new }
+    requires { MayPublish T.words T.table_of board.now pass.old writer.old }
+    ensures may { MayPublish T.words T.table_of board.now pass.new writer.new }
     ensures same { IsSamePass pass.old pass.new }
     ensures seen { IsPrefix pass.old.seen pass.new.seen }
     ensures writer { writer.new ≡ with_known writer.old writer.new.known }
-    ensures published { IfOk result (λ note. HasPublished board.now.name (events_of pass.old.seen)
-        (events_of pass.new.seen) writer.old.known writer.new.known) }
+    ensures published { IfOk result (λ note. HasPublished T.words T.table_of board.now.name
+        (events_of pass.old.seen) (events_of pass.new.seen) writer.old.known writer.new.known) }
     ensures note { IfOk result (λ note. note ≡ writer.new.known) }
     ensures memory { OnErr result (writer.new ≡ writer.old) }
 {

@@ -4,6 +4,6 @@ mod Telling
 mod Watching
 mod Rows
 mod Crossing
-mod Resolved
+mod Made
 pub mod Reported
 mod Joined

@@ -31,6 +31,26 @@ reported_none all cause text faults = record {
   cause = tt;
 }
 
+-- it is told of what is there only if what was made is
+pub retold : {T C X Y F : Type 0} (all : ℕ) (made : Result T C) (text : Result X Y) (told : Result (Unit {0}) F) (old new : Option (List ℕ)) (before after : ℕ) → OnOk text (OnErr made ⊥) → HasReported all made told old new before after → HasReported all text told old new before after
+retold all made text told old new before after there r = record {
+  numbers = r.numbers;
+  most = r.most;
+  rise = r.rise;
+  within = r.within;
+  first_bytes = r.first_bytes;
+  whole = r.whole;
+  finished = on_ok told _ _ (only (r.most ≡ all) made text there) r.finished;
+  never_fall = r.never_fall;
+  no_fault = r.no_fault;
+  cause = r.cause;
+}
+  where
+    only : (P : Type 0) {T C X Y : Type 0} (made : Result T C) (text : Result X Y) → OnOk text (OnErr made ⊥) → OnOk made P → OnOk text P
+    only P (Ok t) (Ok x) there p = p
+    only P (Err c) (Ok x) there p = absurd there
+    only P made (Err e) there p = tt
+
 pub reported : {E T C F : Type 0} (written : E → Option (List ℕ)) (faults : E → ℕ) (start last : Reports E) (all : ℕ) (result : Result T C) (told : Result (Unit {0}) F) → start.most ≡ 0 → start.failed ≡ false → start.all ≡ all → HasTold written faults start last → OnOk told (last.failed ≡ false) → OnErr told (last.failed ≡ true) → OnOk result (last.failed ≡ false → all ≤ last.most) → HasReported all result told (written start.err) (written last.err) (faults start.err) (faults last.err)
 reported written faults start last all result told zero well of_all t fine fails done =
     let lines : live_lines start.all t.numbers ≡ live_lines all t.numbers = ap (λ (q : ℕ). live_lines q t.numbers) of_all in

@@ -1,25 +1,24 @@
 //! The roles of the passes of a board, and the passes joined again.
 ghost use Rattle.std.specs.Prelude.{◌≡◌, ◌-◌, ◌<◌, ◌≤◌, [], length, vec_capacity};
+ghost use Rattle.bidegree.specs.declared.shape.Shape.TheVariants.{Rectangle};
 ghost use Rattle.turn_lock.specs.Turns.{HasAll};
 ghost use Rattle.square_board.specs.Workers.{AreItsPasses};
-ghost use Rattle.square_worker.specs.Openings.{bottom_of};
+ghost use Rattle.square_board.specs.Openings.{bottom_of, shape_of, subject_of};
 ghost use Rattle.live_worker.specs.Reports.{squares_of};
 ghost use Rattle.live_worker.specs.Inside.Roles.{CanWatch, AreRoles, HasTold};
 
 use crate::reports::Reports;
 use crate::role::{Role, Watcher};
 use edge::Sink;
-use live_view::{LiveReader, LiveWriter};
-use square::Keep;
+use live_view::{Counted, LiveReader, LiveWriter};
 use square_board::{Board, BoardPass};
-use square_worker::Kept;
 use std::snapshot::Snapshot;
 
 /// Makes the roles of these passes, for which there is room: the last pass watches, and the others work.
-pub(crate) fn fill<K: Keep, E: Sink>(
-    board: &Board<Kept<K>>,
-    roles: &mut Vec<Role<K, E>>,
-    mut passes: Vec<BoardPass<Kept<K>>>,
+pub(crate) fn fill<T: Counted, E: Sink>(
+    board: &Board<T>,
+    roles: &mut Vec<Role<T, E>>,
+    mut passes: Vec<BoardPass<T>>,
     writer: LiveWriter,
     reader: LiveReader,
     reports: Reports<E>,
@@ -28,14 +27,17 @@ pub(crate) fn fill<K: Keep, E: Sink>(
     requires passes { AreItsPasses board.now passes.items }
     requires empty { roles.old.items ≡ [] }
     requires room { length passes.items ≤ vec_capacity roles.old }
+    requires whole { shape_of T.words board.now.name ≡ Rectangle }
+    requires reached { T.words.reaches (subject_of T.words board.now.name) board.now.name.range }
     requires range { board.now.name.range ≡ writer.range }
-    requires bottom { bottom_of board.now.name ≡ writer.bottom }
+    requires bottom { bottom_of T.words board.now.name ≡ writer.bottom }
     requires none { writer.known.published ≡ [] }
     requires reader { reader ≡ writer }
     requires all { reports.all ≡ squares_of board.now.name.range }
     requires within { reports.most ≤ reports.all }
     ensures count { length roles.new.items ≡ length passes.items }
-    ensures roles { AreRoles E.written E.faults reports board.now (length passes.items - 1) roles.new.items }
+    ensures roles { AreRoles T.words T.table_of E.written E.faults reports board.now (length passes.items - 1)
+        roles.new.items }
 {
     let _ = board;
     let Some(pass) = passes.pop() else {
@@ -54,15 +56,16 @@ pub(crate) fn fill<K: Keep, E: Sink>(
 }
 
 /// The watcher, with all other passes joined into its own.
-pub(crate) fn gathered<K: Keep, E: Sink>(
-    board: &Board<Kept<K>>,
-    mut roles: Vec<Role<K, E>>,
+pub(crate) fn gathered<T: Counted, E: Sink>(
+    board: &Board<T>,
+    mut roles: Vec<Role<T, E>>,
     first: &Snapshot<Reports<E>>,
-) -> Watcher<K, E>
+) -> Watcher<T, E>
     requires some { 0 < board.now.passes }
     requires count { length roles.items ≡ board.now.passes }
-    requires roles { AreRoles E.written E.faults first.now.value board.now (length roles.items - 1) roles.items }
-    ensures can { CanWatch board.now result }
+    requires roles { AreRoles T.words T.table_of E.written E.faults first.now.value board.now (length roles.items - 1)
+        roles.items }
+    ensures can { CanWatch T.words T.table_of board.now result }
     ensures all { HasAll result.pass }
     ensures told { HasTold E.written E.faults first.now.value result.reports }
 {

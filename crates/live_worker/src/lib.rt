@@ -2,6 +2,8 @@
 #![tactic(auto)]
 
 mod gathering;
+mod images;
+mod making;
 mod opening;
 mod reports;
 mod resolve;
@@ -9,4 +11,5 @@ mod role;
 mod run;
 mod watcher;
 
+pub use images::images_live;
 pub use resolve::resolve_live;

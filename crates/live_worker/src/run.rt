@@ -5,9 +5,8 @@ ghost use Rattle.live_worker.specs.Inside.Roles.{CanRun, HasRun};
 use crate::role::Role;
 use crate::watcher::watch;
 use edge::Sink;
-use square::Keep;
+use live_view::Counted;
 use square_board::{Board, Gate, work};
-use square_worker::Kept;
 use std::alloc::Global;
 use std::sync::Wait;
 use std::sync::atomic::{AtomicU64, Ordering};
@@ -20,22 +19,22 @@ use std::time::Clock;
 /// ones they run last, and a watcher that ran before a worker would wait for it for ever.
 pub(crate) fn run_roles<
     R: Threads + Wait + Clock + Sync,
-    K: Keep + Send,
+    T: Counted + Send,
     G: Gate + Sync,
     E: Sink + Send,
 >(
     wait: &R,
     alloc: Global,
-    board: &Board<Kept<K>>,
-    roles: &mut [Role<K, E>],
+    board: &Board<T>,
+    roles: &mut [Role<T, E>],
     gate: &G,
     working: &AtomicU64,
 )
     requires some { 0 < length roles.old }
-    requires can { All (CanRun board.now) roles.old }
+    requires can { All (CanRun T.words T.table_of board.now) roles.old }
     ensures count { length roles.new ≡ length roles.old }
     ensures ran { (i : ℕ) → i < length roles.old → (d : _) →
-        HasRun E.written E.faults board.now (slice_index_or roles.old i d) (slice_index_or roles.new i d) }
+        HasRun T.words T.table_of E.written E.faults board.now (slice_index_or roles.old i d) (slice_index_or roles.new i d) }
 {
     roles.reverse();
     run_each(wait, alloc, board, roles, gate, working);
@@ -43,28 +42,28 @@ pub(crate) fn run_roles<
 }
 
 /// Runs the roles, each in a thread of its own where one can be made.
-fn run_each<R: Threads + Wait + Clock + Sync, K: Keep + Send, G: Gate + Sync, E: Sink + Send>(
+fn run_each<R: Threads + Wait + Clock + Sync, T: Counted + Send, G: Gate + Sync, E: Sink + Send>(
     wait: &R,
     alloc: Global,
-    board: &Board<Kept<K>>,
-    roles: &mut [Role<K, E>],
+    board: &Board<T>,
+    roles: &mut [Role<T, E>],
     gate: &G,
     working: &AtomicU64,
 )
     requires some { 0 < length roles.old }
-    requires can { All (CanRun board.now) roles.old }
+    requires can { All (CanRun T.words T.table_of board.now) roles.old }
     ensures count { length roles.new ≡ length roles.old }
     ensures ran { (i : ℕ) → i < length roles.old → (d : _) →
-        HasRun E.written E.faults board.now (slice_index_or roles.old i d) (slice_index_or roles.new i d) }
+        HasRun T.words T.table_of E.written E.faults board.now (slice_index_or roles.old i d) (slice_index_or roles.new i d) }
 {
     let threads = roles.len();
     thread::for_each_mut(
         wait,
         roles,
         threads,
-        &|_, role: &mut Role<K, E>|
-            requires { CanRun board.now role.now }
-            ensures { HasRun E.written E.faults board.entry.now role.entry.now role.exit.now }
+        &|_, role: &mut Role<T, E>|
+            requires { CanRun T.words T.table_of board.now role.now }
+            ensures { HasRun T.words T.table_of E.written E.faults board.entry.now role.entry.now role.exit.now }
         {
             run_role(wait, alloc, board, role, gate, working);
         },
@@ -72,16 +71,16 @@ fn run_each<R: Threads + Wait + Clock + Sync, K: Keep + Send, G: Gate + Sync, E:
 }
 
 /// Runs one role. The last worker to end wakes the watcher.
-fn run_role<R: Wait + Clock, K: Keep, G: Gate, E: Sink>(
+fn run_role<R: Wait + Clock, T: Counted, G: Gate, E: Sink>(
     wait: &R,
     alloc: Global,
-    board: &Board<Kept<K>>,
-    role: &mut Role<K, E>,
+    board: &Board<T>,
+    role: &mut Role<T, E>,
     gate: &G,
     working: &AtomicU64,
 )
-    requires { CanRun board.now role.old }
-    ensures { HasRun E.written E.faults board.now role.old role.new }
+    requires { CanRun T.words T.table_of board.now role.old }
+    ensures { HasRun T.words T.table_of E.written E.faults board.now role.old role.new }
 {
     match role {
         Role::Work(pass) => {

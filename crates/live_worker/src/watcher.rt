@@ -4,11 +4,9 @@ ghost use Rattle.live_worker.specs.Inside.Roles.{CanWatch, HasWatched};
 
 use crate::role::Watcher;
 use edge::Sink;
-use live_view::publish;
+use live_view::{Counted, publish};
 use memory::Memory;
-use square::Keep;
 use square_board::Board;
-use square_worker::Kept;
 use std::alloc::Global;
 use std::sync::Wait;
 use std::sync::atomic::{AtomicU64, Ordering};
@@ -21,14 +19,14 @@ const NAP_MILLIS: u64 = 100;
 ///
 /// # Errors
 /// `Memory` if allocation fails.
-pub(crate) fn report<R: Wait + Clock, K: Keep, E: Sink>(
+pub(crate) fn report<R: Wait + Clock, T: Counted, E: Sink>(
     wait: &R,
     alloc: Global,
-    board: &Board<Kept<K>>,
-    watcher: &mut Watcher<K, E>,
+    board: &Board<T>,
+    watcher: &mut Watcher<T, E>,
 ) -> Result<u64, Memory>
-    requires { CanWatch board.now watcher.old }
-    ensures watched { HasWatched E.written E.faults board.now watcher.old watcher.new }
+    requires { CanWatch T.words T.table_of board.now watcher.old }
+    ensures watched { HasWatched T.words T.table_of E.written E.faults board.now watcher.old watcher.new }
     ensures told { IfOk result (λ n. watcher.new.reports.failed ≡ false → n ≤ watcher.new.reports.most) }
 {
     let note = publish(wait, alloc, &mut watcher.writer, board, &mut watcher.pass)?;
@@ -39,15 +37,15 @@ pub(crate) fn report<R: Wait + Clock, K: Keep, E: Sink>(
 }
 
 /// Reports from time to time, until all squares are finished, or no worker is left, or there is no memory for a report.
-pub(crate) fn watch<R: Wait + Clock, K: Keep, E: Sink>(
+pub(crate) fn watch<R: Wait + Clock, T: Counted, E: Sink>(
     wait: &R,
     alloc: Global,
-    board: &Board<Kept<K>>,
-    watcher: &mut Watcher<K, E>,
+    board: &Board<T>,
+    watcher: &mut Watcher<T, E>,
     working: &AtomicU64,
 )
-    requires { CanWatch board.now watcher.old }
-    ensures { HasWatched E.written E.faults board.now watcher.old watcher.new }
+    requires { CanWatch T.words T.table_of board.now watcher.old }
+    ensures { HasWatched T.words T.table_of E.written E.faults board.now watcher.old watcher.new }
 {
     for _ in wait.forever() {
         if is_last_report(wait, alloc, board, watcher) {
@@ -61,14 +59,14 @@ pub(crate) fn watch<R: Wait + Clock, K: Keep, E: Sink>(
 }
 
 /// Reports, and says whether no further report is to come: all squares are finished, or there was no memory for it.
-fn is_last_report<R: Wait + Clock, K: Keep, E: Sink>(
+fn is_last_report<R: Wait + Clock, T: Counted, E: Sink>(
     wait: &R,
     alloc: Global,
-    board: &Board<Kept<K>>,
-    watcher: &mut Watcher<K, E>,
+    board: &Board<T>,
+    watcher: &mut Watcher<T, E>,
 ) -> bool
-    requires { CanWatch board.now watcher.old }
-    ensures { HasWatched E.written E.faults board.now watcher.old watcher.new }
+    requires can { CanWatch T.words T.table_of board.now watcher.old }
+    ensures { HasWatched T.words T.table_of E.written E.faults board.now watcher.old watcher.new }
 {
     match report(wait, alloc, board, watcher) {
         Ok(squares) => squares == watcher.reports.all,

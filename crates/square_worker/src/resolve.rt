@@ -1,5 +1,5 @@
 //! A range resolved by several workers.
-ghost use Rattle.std.specs.Prelude.{ℕ, ◌<◌, ◌≤◌};
+ghost use Rattle.std.specs.Prelude.{ℕ, ◌<◌, ◌≤◌, OnOk, OnErr};
 ghost use Rattle.bidegree.specs.declared.range.TheConstants.{MAX_S, MAX_T};
 ghost use Rattle.board_core.specs.declared.event.Cause as Cause;
 ghost use Rattle.resolution_step.specs.Alone.{AreApart, IsUntouched, HasResolved};
@@ -64,6 +64,7 @@ pub fn outcome<K: Keep>(made: Result<(), Cause>, last: Kept<K>) -> (Result<Table
     ensures worked { (workers : ℕ) (first : KeptTable K) (range : Range) → (K.telling first.keeper).live →
         HasMadeBy (kept_words K.telling) workers first range made last →
         HasResolvedBy K.telling workers range first.table first.keeper result.1 }
+    ensures only { OnOk result.0 (OnErr made ⊥) }
 {
     let Kept { table, keeper } = last;
     let _front = table.front(0);

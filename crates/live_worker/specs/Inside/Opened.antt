@@ -3,15 +3,15 @@ use Rattle.std.specs.Prelude.{◌≡◌, ◌⊎◌, ℕ, ◌+◌, ◌≤◌, [],
 use Rattle.bidegree.specs.declared.range.Range.{Range}
 use Rattle.board_core.specs.declared.event.Cause.{Cause}
 use Rattle.board_core.specs.declared.event.Cause.TheVariants.{Memory}
-use Rattle.square.specs.Tables.{Staircase}
+use Rattle.square_board.specs.Openings.{bottom_of}
+use Rattle.square_board.specs.Stocks.{StockWords}
 use Rattle.square_board.specs.Workers.{AreItsPasses}
-use Rattle.square_worker.specs.Kept.{KeptTable}
-use Rattle.square_worker.specs.Openings.{bottom_of}
 use Rattle.live_worker.specs.declared.opening.Opened.{Opened}
 
--- The board was made with this table, its keeper and this range, and with a pass for each worker and one for the watcher. The writer is for it and
--- has published nothing, the reader is its reader, and there is room for the roles of all passes.
-pub record IsOpenedFor {K E : Type 0} (workers : ℕ) (first : KeptTable K) (range : Range) (o : Opened K E) : Type 0 where
+-- The board was made with this stock and this range, and with a pass for each worker and one for the watcher. The writer is for it and has
+-- published nothing, the reader is its reader, and there is room for the roles of all passes.
+pub record IsOpenedFor {T O I M E : Type 0} (w : StockWords T O I M) (workers : ℕ) (first : T) (range : Range)
+    (o : Opened T E O I M) : Type 0 where
   pub first_is : o.board.name.first.value ≡ first
   pub of_range : o.board.name.range ≡ range
   pub as_many : o.board.passes ≡ workers + 1
@@ -20,10 +20,10 @@ pub record IsOpenedFor {K E : Type 0} (workers : ℕ) (first : KeptTable K) (ran
   pub empty : o.roles.items ≡ []
   pub room : workers + 1 ≤ vec_capacity o.roles
   pub range_is : o.writer.range ≡ range
-  pub bottom_is : o.writer.bottom ≡ bottom_of o.board.name
+  pub bottom_is : o.writer.bottom ≡ bottom_of w o.board.name
   pub none : o.writer.known.published ≡ []
   pub reader_is : o.reader ≡ o.writer
 
--- the result is what was made, or there was no memory to report the table that was
-abbrev pub IsMadeOrMemory : Result Staircase Cause → Result Staircase Cause → Type 0
-IsMadeOrMemory made result = (result ≡ made) ⊎ ((more : Staircase) × (made ≡ Ok more) × (result ≡ Err Memory))
+-- the result is what came of the board, or there was no memory to report that all squares are done
+abbrev pub IsMadeOrMemory : Result (Unit {0}) Cause → Result (Unit {0}) Cause → Type 0
+IsMadeOrMemory made result = (result ≡ made) ⊎ ((made ≡ Ok tt) × (result ≡ Err Memory))

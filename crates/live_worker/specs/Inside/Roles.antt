@@ -2,9 +2,10 @@
 use Rattle.std.specs.Prelude.{◌≡◌, ◌⊎◌, ℕ, ◌-◌, ◌<◌, ◌≤◌, true, false, List, length, slice_index_or, Option}
 use Rattle.edge.specs.Faults.{HasRisen}
 use Rattle.edge.specs.Sink.{with_more, HasPrefixMore}
+use Rattle.square.specs.Tables.{Staircase}
 use Rattle.turn_lock.specs.Turns.{TurnId}
 use Rattle.square_board.specs.declared.opening.Opening.{Opening}
-use Rattle.square_worker.specs.Kept.{KeptTable}
+use Rattle.square_board.specs.Stocks.{StockWords}
 use Rattle.square_board.specs.Boards.{IsPassOf, IsSamePass}
 use Rattle.live_view.specs.Publishing.{MayPublish}
 use Rattle.live_worker.specs.Reports.{squares_of}
@@ -29,46 +30,46 @@ module _ {E : Type 0} (written : E → Option (List ℕ)) (faults : E → ℕ) w
     pub cause : new.failed ≡ true → (old.failed ≡ true) ⊎ HasRisen (faults old.err) (faults new.err)
     pub after_fault : old.failed ≡ true → new ≡ old
 
-module _ {K E : Type 0} where
+module _ {T O I M E : Type 0} (words : StockWords T O I M) (table_of : O → Staircase) where
   -- The watcher may publish what is done of the board; its reader is that of its writer, and it reports of all squares of the range.
-  pub record CanWatch (board : TurnId (Opening (KeptTable K))) (w : Watcher K E) : Type 0 where
-    pub may : MayPublish board w.pass w.writer
+  pub record CanWatch (board : TurnId (Opening T)) (w : Watcher T E O I M) : Type 0 where
+    pub may : MayPublish words table_of board w.pass w.writer
     pub reader : w.reader.known.book ≡ w.writer.known.book
     pub range : w.reader.range ≡ board.name.range
     pub all : w.reports.all ≡ squares_of board.name.range
     pub within : w.reports.most ≤ w.reports.all
 
   -- it may run at this board
-  abbrev pub CanRun : TurnId (Opening (KeptTable K)) → Role K E → Type 0
+  abbrev pub CanRun : TurnId (Opening T) → Role T E O I M → Type 0
   CanRun board (Work pass) = IsPassOf board pass
   CanRun board (Watch w) = CanWatch board w
 
-module _ {K E : Type 0} (written : E → Option (List ℕ)) (faults : E → ℕ) where
+module _ {T O I M E : Type 0} (words : StockWords T O I M) (table_of : O → Staircase) (written : E → Option (List ℕ)) (faults : E → ℕ) where
   -- it has watched, and may do so again
-  pub record HasWatched (board : TurnId (Opening (KeptTable K))) (old new : Watcher K E) : Type 0 where
-    pub can : CanWatch board new
+  pub record HasWatched (board : TurnId (Opening T)) (old new : Watcher T E O I M) : Type 0 where
+    pub can : CanWatch words table_of board new
     pub same : IsSamePass old.pass new.pass
     pub told : HasTold written faults old.reports new.reports
 
   -- it has run at this board
-  abbrev pub HasRun : TurnId (Opening (KeptTable K)) → Role K E → Role K E → Type 0
+  abbrev pub HasRun : TurnId (Opening T) → Role T E O I M → Role T E O I M → Type 0
   HasRun board (Work old) (Work new) = IsPassOf board new × IsSamePass old new
   HasRun board (Work old) (Watch new) = ⊥
   HasRun board (Watch old) (Work new) = ⊥
   HasRun board (Watch old) (Watch new) = HasWatched board old new
 
   -- It is the role of pass i: the passes below n work, and pass n watches, which has reported since the first reports.
-  abbrev pub IsRoleAt : Reports E → TurnId (Opening (KeptTable K)) → ℕ → ℕ → Role K E → Type 0
+  abbrev pub IsRoleAt : Reports E → TurnId (Opening T) → ℕ → ℕ → Role T E O I M → Type 0
   IsRoleAt first board i n (Work pass) = IsPassOf board pass × (pass.number ≡ i) × (i < n)
   IsRoleAt first board i n (Watch w) =
-      CanWatch board w × (w.pass.number ≡ i) × (i ≡ n) × HasTold written faults first w.reports
+      CanWatch words table_of board w × (w.pass.number ≡ i) × (i ≡ n) × HasTold written faults first w.reports
 
   -- these are the roles of the passes from 0 on
-  abbrev pub AreRoles : Reports E → TurnId (Opening (KeptTable K)) → ℕ → List (Role K E) → Type 0
+  abbrev pub AreRoles : Reports E → TurnId (Opening T) → ℕ → List (Role T E O I M) → Type 0
   AreRoles first board n roles =
-      (i : ℕ) (d : Role K E) → i < length roles → IsRoleAt first board i n (slice_index_or roles i d)
+      (i : ℕ) (d : Role T E O I M) → i < length roles → IsRoleAt first board i n (slice_index_or roles i d)
 
   -- these are the roles of the passes from n down
-  abbrev pub AreRolesDown : Reports E → TurnId (Opening (KeptTable K)) → ℕ → List (Role K E) → Type 0
+  abbrev pub AreRolesDown : Reports E → TurnId (Opening T) → ℕ → List (Role T E O I M) → Type 0
   AreRolesDown first board n roles =
-      (k : ℕ) (d : Role K E) → k < length roles → IsRoleAt first board (n - k) n (slice_index_or roles k d)
+      (k : ℕ) (d : Role T E O I M) → k < length roles → IsRoleAt first board (n - k) n (slice_index_or roles k d)

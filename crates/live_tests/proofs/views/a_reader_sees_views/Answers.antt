@@ -1,5 +1,6 @@
-use Rattle.std.proofs.Common.{◌≡◌, to_z, of_z, w32, sym, ◌∙◌, ap, arith}
+use Rattle.std.proofs.Common.{◌≡◌, to_z, of_z, w32, refl, sym, ◌∙◌, ap, arith}
 use Rattle.std.proofs.lemmas.Int.{ints}
+use Rattle.bidegree.specs.declared.range.Range.{Range}
 use Rattle.finite_module.specs.Checked.{Checked}
 use Rattle.finite_module.specs.Module.{bottom}
 use Rattle.live_view.proofs.MayPublish.{may_first}
@@ -13,4 +14,6 @@ publish-requires g c =
     let high = c.bottom-bottom.ensures.highest in
     let passed : to_z w32 (of_z w32 c.bottom-bottom.result) ≡ c.bottom-bottom.result = omega (arith, ints) in
     let least = views.bottom ∙ (passed ∙ (c.bottom-bottom.ensures.bottom ∙ ap (λ (m : Checked). bottom m.plain.generators) c.module.ensures)) in
-    may_first c.in_ok-board.board c.in_ok-board.publisher c.in_ok-writer.writer made.publisher (made.range ∙ sym views.range) (made.bottom ∙ sym least) views.empty
+    let rows = ap (λ (r : Range). r.s) made.range in
+    let degrees = ap (λ (r : Range). r.t) made.range in
+    may_first _ _ c.in_ok-board.board c.in_ok-board.publisher c.in_ok-writer.writer made.publisher refl (omega arith, omega arith) (made.range ∙ sym views.range) (made.bottom ∙ sym least) views.empty

@@ -10,5 +10,5 @@ invariant-loop-i g l = record {
   pass : IsPassOf l.board l.pass;
   same : IsSamePass l.fn.pass l.pass;
   seen : IsPrefix l.fn.pass.seen l.pass.seen;
-  read : HasReadFrom l.board.name (events_of l.fn.pass.seen) (events_of l.pass.seen) l.fn.view l.view (l.range.s + 1 - l.i);
+  read : HasReadFrom g.T.Stock.words g.T.Counted.table_of l.board.name (events_of l.fn.pass.seen) (events_of l.pass.seen) l.fn.view l.view (l.range.s + 1 - l.i);
 }

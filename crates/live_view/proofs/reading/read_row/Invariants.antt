@@ -12,6 +12,6 @@ invariant-loop-k g l = record {
   same : IsSamePass l.fn.pass l.pass;
   seen : IsPrefix l.fn.pass.seen l.pass.seen;
   told : Contains l.pass.told (l.s, l.front);
-  read : HasReadTo l.board.name (events_of l.pass.seen) l.fn.view l.view l.s l.front l.k;
+  read : HasReadTo g.T.Stock.words g.T.Counted.table_of l.board.name (events_of l.pass.seen) l.fn.view l.view l.s l.front l.k;
   below : l.k ≤ max l.first l.past;
 }

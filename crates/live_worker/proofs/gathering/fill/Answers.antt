@@ -3,7 +3,6 @@ use Rattle.std.specs.Option.{option_to_list}
 use Rattle.board_core.specs.declared.event.Entry.{Entry as Event}
 use Rattle.turn_lock.specs.Turns.{PassState}
 use Rattle.square_board.specs.declared.opening.Opening.{Opening}
-use Rattle.square_worker.specs.Kept.{KeptTable}
 use Rattle.square_board.proofs.Passes as passes
 use Rattle.live_view.specs.Handles.{LiveState}
 use Rattle.live_view.proofs.MayPublish.{may_first}
@@ -16,8 +15,8 @@ use Rattle.live_worker.proofs.gathering.fill.Goals as goal
 
 pub loop-pass-init : goal.loop-pass-init
 loop-pass-init g c =
-    let P : Type 0 = PassState (Opening (KeptTable g.row.K.Denot)) Event in
-    let R : Type 0 = Role g.row.K.Denot g.row.E.Denot in
+    let P : Type 0 = PassState (Opening g.row.T.Denot) Event in
+    let R : Type 0 = Role g.row.T.Denot g.row.E.Denot g.row.T-Subject.Denot g.row.T-Inputs.Denot g.row.T-Made.Denot in
     let written = g.E.Sink.written in
     let faults = g.E.Sink.faults in
     let board = c.args.board.now in
@@ -31,9 +30,9 @@ loop-pass-init g c =
     let more = passes.one_more board old new pass c.requires.passes items in
     let at = passes.last_is board old new pass c.requires.passes items in
     let role : R = Watch (record { pass = pass; writer = writer; reader = c.args.reader; reports = reports }) in
-    let is : IsRoleAt written faults reports board (n - 0) n role = (
+    let is : IsRoleAt g.T.Stock.words g.T.Counted.table_of written faults reports board (n - 0) n role = (
       record {
-        may = may_first board pass writer at.pass_of c.requires.range c.requires.bottom c.requires.none;
+        may = may_first g.T.Stock.words g.T.Counted.table_of board pass writer at.pass_of c.requires.whole c.requires.reached c.requires.range c.requires.bottom c.requires.none;
         reader = ap (λ (r : LiveState). r.known.book) c.requires.reader;
         range = ap (λ (r : LiveState). r.range) c.requires.reader ∙ sym c.requires.range;
         all = c.requires.all;
@@ -47,7 +46,7 @@ loop-pass-init g c =
     let long : length c.push_reserved.new.self.items ≡ 1 = ap length made in
     record {
       passes = passes.others_are board old new pass c.requires.passes items;
-      roles = subst (AreRolesDown written faults reports board n) (sym made) (down_more written faults reports board n [] role (λ k d less. absurd (omega arith)) is);
+      roles = subst (AreRolesDown g.T.Stock.words g.T.Counted.table_of written faults reports board n) (sym made) (down_more g.T.Stock.words g.T.Counted.table_of written faults reports board n [] role (λ k d less. absurd (omega arith)) is);
       count = omega arith;
       some = omega arith;
       room = c.push_reserved.ensures.capacity;
@@ -55,8 +54,8 @@ loop-pass-init g c =
 
 pub loop-pass-preserved : goal.loop-pass-preserved
 loop-pass-preserved g c =
-    let P : Type 0 = PassState (Opening (KeptTable g.row.K.Denot)) Event in
-    let R : Type 0 = Role g.row.K.Denot g.row.E.Denot in
+    let P : Type 0 = PassState (Opening g.row.T.Denot) Event in
+    let R : Type 0 = Role g.row.T.Denot g.row.E.Denot g.row.T-Subject.Denot g.row.T-Inputs.Denot g.row.T-Made.Denot in
     let written = g.E.Sink.written in
     let faults = g.E.Sink.faults in
     let board = c.args.board.now in
@@ -74,12 +73,12 @@ loop-pass-preserved g c =
     let some = c.loop-pass.invariant.some in
     let role : R = Work pass in
     let number : length new ≡ n - length roles = omega arith in
-    let is : IsRoleAt written faults reports board (n - length roles) n role = (at.pass_of, at.number ∙ number, omega arith) in
+    let is : IsRoleAt g.T.Stock.words g.T.Counted.table_of written faults reports board (n - length roles) n role = (at.pass_of, at.number ∙ number, omega arith) in
     let made : c.push_reserved-in-Some-pop.new.self.items ≡ roles ++ role ∷ [] = c.push_reserved-in-Some-pop.ensures.items in
     let long : length c.push_reserved-in-Some-pop.new.self.items ≡ length roles + 1 = ap length made ∙ length-append roles (role ∷ []) in
     record {
       passes = passes.others_are board old new pass are items;
-      roles = subst (AreRolesDown written faults reports board n) (sym made) (down_more written faults reports board n roles role c.loop-pass.invariant.roles is);
+      roles = subst (AreRolesDown g.T.Stock.words g.T.Counted.table_of written faults reports board n) (sym made) (down_more g.T.Stock.words g.T.Counted.table_of written faults reports board n roles role c.loop-pass.invariant.roles is);
       count = omega arith;
       some = omega arith;
       room = c.push_reserved-in-Some-pop.ensures.capacity ∙ c.loop-pass.invariant.room;

@@ -1,13 +1,9 @@
-use denote.Param.Send.{sendable}
 use Rattle.std.proofs.Common.{◌≡◌, ℕ, suc, ◌-◌, [], ◌∷◌, ◌++◌, length, Option, Some, inl, refl, sym, ◌∙◌, ap, subst, arith}
-use Rattle.std.proofs.Crossing.{crosses}
 use Rattle.std.specs.Option.{option_to_list}
 use Rattle.board_core.specs.declared.event.Entry.{Entry as Event}
 use Rattle.turn_lock.specs.Turns.{TurnId, PassState, HasBetween}
 use Rattle.turn_lock.proofs.Numbers.{has_previous, has_all}
-use Rattle.square.proofs.Crossing.{Inputs-send, Square-send}
 use Rattle.square_board.specs.declared.opening.Opening.{Opening}
-use Rattle.square_worker.specs.Kept.{KeptTable}
 use Rattle.live_worker.specs.declared.role.Role.{Role}
 use Rattle.live_worker.specs.declared.role.Role.TheVariants.{Work, Watch}
 use Rattle.live_worker.specs.Inside.Roles.{IsRoleAt}
@@ -17,7 +13,7 @@ use Rattle.live_worker.proofs.gathering.gathered.Goals as goal
 
 pub loop-role-init : goal.loop-role-init
 loop-role-init g c =
-    let R : Type 0 = Role g.row.K.Denot g.row.E.Denot in
+    let R : Type 0 = Role g.row.T.Denot g.row.E.Denot g.row.T-Subject.Denot g.row.T-Inputs.Denot g.row.T-Made.Denot in
     let written = g.E.Sink.written in
     let faults = g.E.Sink.faults in
     let first = c.args.first.now.value in
@@ -28,12 +24,12 @@ loop-role-init g c =
     let role : R = Watch watcher in
     let items : old ≡ new ++ role ∷ [] = c.pop-last.ensures.items ∙ ap (λ (o : Option R). new ++ option_to_list o) (c.in-Some-Watch.is ∙ ap Some c.in-Some-Watch.field-0-is) in
     let more = one_more old new role items in
-    let is : IsRoleAt written faults first board (length new) (length old - 1) role = last_is written faults first board (length old - 1) old new role c.requires.roles items in
+    let is : IsRoleAt g.T.Stock.words g.T.Counted.table_of written faults first board (length new) (length old - 1) role = last_is g.T.Stock.words g.T.Counted.table_of written faults first board (length old - 1) old new role c.requires.roles items in
     let number : watcher.pass.number ≡ length new = is.1 in
     let all = c.requires.count in
     record {
       watcher = is.0;
-      roles = others_are written faults first board (length old - 1) old new role c.requires.roles items;
+      roles = others_are g.T.Stock.words g.T.Counted.table_of written faults first board (length old - 1) old new role c.requires.roles items;
       fewer = omega arith;
       told = is.3;
       has = λ n low high. inl (omega arith);
@@ -41,7 +37,7 @@ loop-role-init g c =
 
 pub unreachable-requires-in_default-role : goal.unreachable-requires-in_default-role
 unreachable-requires-in_default-role g c =
-    let R : Type 0 = Role g.row.K.Denot g.row.E.Denot in
+    let R : Type 0 = Role g.row.T.Denot g.row.E.Denot g.row.T-Subject.Denot g.row.T-Inputs.Denot g.row.T-Made.Denot in
     let written = g.E.Sink.written in
     let faults = g.E.Sink.faults in
     let first = c.args.first.now.value in
@@ -53,29 +49,23 @@ unreachable-requires-in_default-role g c =
     let items : old ≡ new ++ role ∷ [] = c.pop.ensures.items ∙ ap (λ (o : Option R). new ++ option_to_list o) (c.in-Some.is ∙ ap Some c.in_default-role.is) in
     let more = one_more old new role items in
     let fewer = c.loop-role.invariant.fewer in
-    let is : IsRoleAt written faults first board (length new) n role = last_is written faults first board n old new role c.loop-role.invariant.roles items in
+    let is : IsRoleAt g.T.Stock.words g.T.Counted.table_of written faults first board (length new) n role = last_is g.T.Stock.words g.T.Counted.table_of written faults first board n old new role c.loop-role.invariant.roles items in
     let at : length new ≡ n = is.2 in
     absurd (omega arith)
 
 pub join-requires-clause-other : goal.join-requires-clause-other
 join-requires-clause-other g c κs within =
-    let R : Type 0 = Role g.row.K.Denot g.row.E.Denot in
+    let R : Type 0 = Role g.row.T.Denot g.row.E.Denot g.row.T-Subject.Denot g.row.T-Inputs.Denot g.row.T-Made.Denot in
     let old = c.loop-role.roles.items in
     let new = c.pop.new.self.items in
     let role : R = Work c.in-Work.pass in
     let items : old ≡ new ++ role ∷ [] = c.pop.ensures.items ∙ ap (λ (o : Option R). new ++ option_to_list o) (c.in-Some.is ∙ ap Some c.in-Work.is) in
-    (last_is g.E.Sink.written g.E.Sink.faults c.args.first.now.value c.args.board.now (length c.args.roles.items - 1) old new role c.loop-role.invariant.roles items).0
-
-pub join-requires-send-T-Inputs : goal.join-requires-send-T-Inputs
-join-requires-send-T-Inputs g c κs within = search (crosses, sendable, Inputs-send) depth 20
-
-pub join-requires-send-T-Made : goal.join-requires-send-T-Made
-join-requires-send-T-Made g c κs within = search (crosses, sendable, Square-send) depth 20
+    (last_is g.T.Stock.words g.T.Counted.table_of g.E.Sink.written g.E.Sink.faults c.args.first.now.value c.args.board.now (length c.args.roles.items - 1) old new role c.loop-role.invariant.roles items).0
 
 pub loop-role-preserved : goal.loop-role-preserved
 loop-role-preserved g c =
-    let R : Type 0 = Role g.row.K.Denot g.row.E.Denot in
-    let P : Type 0 = PassState (Opening (KeptTable g.row.K.Denot)) Event in
+    let R : Type 0 = Role g.row.T.Denot g.row.E.Denot g.row.T-Subject.Denot g.row.T-Inputs.Denot g.row.T-Made.Denot in
+    let P : Type 0 = PassState (Opening g.row.T.Denot) Event in
     let written = g.E.Sink.written in
     let faults = g.E.Sink.faults in
     let first = c.args.first.now.value in
@@ -89,12 +79,12 @@ loop-role-preserved g c =
     let items : old ≡ new ++ role ∷ [] = c.pop.ensures.items ∙ ap (λ (o : Option R). new ++ option_to_list o) (c.in-Some.is ∙ ap Some c.in-Work.is) in
     let more : length old ≡ suc (length new) = one_more old new role items in
     let fewer = c.loop-role.invariant.fewer in
-    let is : IsRoleAt written faults first board (length new) n role = last_is written faults first board n old new role c.loop-role.invariant.roles items in
+    let is : IsRoleAt g.T.Stock.words g.T.Counted.table_of written faults first board (length new) n role = last_is g.T.Stock.words g.T.Counted.table_of written faults first board n old new role c.loop-role.invariant.roles items in
     let has : HasBetween watcher.pass (suc (length new)) board.passes = subst (λ (k : ℕ). HasBetween watcher.pass k board.passes) more c.loop-role.invariant.has in
     let both = has_previous watcher.pass other c.join.new.pass.seen (length new) board.passes has is.1 in
     record {
-      watcher = can_after_join board watcher (record { pass = c.join.new.pass; writer = watcher.writer; reader = watcher.reader; reports = watcher.reports }) c.loop-role.invariant.watcher c.join.ensures.pass c.join.ensures.continues refl refl refl;
-      roles = others_are written faults first board n old new role c.loop-role.invariant.roles items;
+      watcher = can_after_join g.T.Stock.words g.T.Counted.table_of board watcher (record { pass = c.join.new.pass; writer = watcher.writer; reader = watcher.reader; reports = watcher.reports }) c.loop-role.invariant.watcher c.join.ensures.pass c.join.ensures.continues refl refl refl;
+      roles = others_are g.T.Stock.words g.T.Counted.table_of written faults first board n old new role c.loop-role.invariant.roles items;
       fewer = omega arith;
       told = c.loop-role.invariant.told;
       has = subst (λ (p : P). HasBetween p (length new) board.passes) (sym c.join.ensures.joined) both;
@@ -102,7 +92,7 @@ loop-role-preserved g c =
 
 pub returns-clause-all : goal.returns-clause-all
 returns-clause-all g c =
-    let O : Type 0 = Opening (KeptTable g.row.K.Denot) in
+    let O : Type 0 = Opening g.row.T.Denot in
     let pass = c.loop-role.watcher.pass in
     let none : length c.loop-role.roles.items ≡ 0 = let v = c.pop.ensures.variant.1 in let n = c.in_default-pop.not-Some in let i = c.in_default-pop.is in let s = c.pop.ensures.cases in grind arith in
     has_all pass c.args.board.now.passes (subst (λ (n : ℕ). HasBetween pass n c.args.board.now.passes) none c.loop-role.invariant.has) (ap (λ (t : TurnId O). t.passes) c.loop-role.invariant.watcher.may.pass_of.turn)

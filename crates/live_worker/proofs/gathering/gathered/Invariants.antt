@@ -5,8 +5,8 @@ use Rattle.live_worker.proofs.gathering.gathered.Given as goal
 
 abbrev pub invariant-loop-role : goal.invariant-loop-role
 invariant-loop-role g l = record {
-  watcher : CanWatch l.board l.watcher;
-  roles : AreRoles g.E.Sink.written g.E.Sink.faults l.first.value l.board (length l.fn.roles.items - 1) l.roles.items;
+  watcher : CanWatch g.T.Stock.words g.T.Counted.table_of l.board l.watcher;
+  roles : AreRoles g.T.Stock.words g.T.Counted.table_of g.E.Sink.written g.E.Sink.faults l.first.value l.board (length l.fn.roles.items - 1) l.roles.items;
   fewer : length l.roles.items < length l.fn.roles.items;
   told : HasTold g.E.Sink.written g.E.Sink.faults l.first.value l.watcher.reports;
   has : HasBetween l.watcher.pass (length l.roles.items) l.board.passes;

@@ -1,4 +1,5 @@
 use Rattle.std.proofs.Common.{ℕ, Result, Ok, Err, refl, sym, subst}
+use Rattle.std.specs.Prelude.{OnErr}
 use Rattle.board_core.specs.declared.event.Cause.{Cause}
 use Rattle.square.proofs.Kept.{IsSettled}
 use Rattle.square_board.specs.Workers.{HasMade, HasMadeBy}
@@ -20,6 +21,9 @@ returns-in-Ok-clause-untouched g c first range live made =
     let last : KeptTable g.row.K.Denot = record { table = c.last.inside.table; keeper = c.last.inside.keeper } in
     let settled : IsSettled (telling first.keeper) = record { images = g.met.K.Keep.image_is_kept first.keeper live; earlier = g.met.K.Keep.since_earlier first.keeper } in
     made_untouched telling first last range c.args.made (subst (HasMade (kept_words telling) first range c.args.made) (sym c.last.view_is) made) settled live
+
+pub returns-in-Ok-clause-only : goal.returns-in-Ok-clause-only
+returns-in-Ok-clause-only g c = subst (λ (r : Result (Unit {0}) Cause). OnErr r ⊥) (sym c.in-Ok.is) tt
 
 pub returns-in-Err-clause-resolved : goal.returns-in-Err-clause-resolved
 returns-in-Err-clause-resolved g c first range live made =

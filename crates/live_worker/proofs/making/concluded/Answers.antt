@@ -1,31 +1,18 @@
-use denote.Param.Send.{sendable}
 use Rattle.std.proofs.Common.{◌≡◌, ℕ, ◌≤◌, false, ◌∙◌, subst}
-use Rattle.std.proofs.Crossing.{crosses}
-use Rattle.square.proofs.Crossing.{Inputs-send, Square-send}
-use Rattle.square_worker.specs.Openings.{first_table}
 use Rattle.live_worker.specs.Reports.{squares_of}
 use Rattle.live_worker.proofs.Joined.{all_still}
 use Rattle.live_worker.proofs.Reported.{on_ok, reported}
-use Rattle.live_worker.proofs.Resolved.{made_or_memory}
+use Rattle.live_worker.proofs.Made.{made_or_memory}
 use Rattle.live_worker.proofs.Telling.{told_twice}
-use Rattle.live_worker.proofs.resolve.concluded.Goals as goal
+use Rattle.live_worker.proofs.making.concluded.Goals as goal
 
 pub conclude-made-requires-clause-joined : goal.conclude-made-requires-clause-joined
 conclude-made-requires-clause-joined g c κs within =
     let after = c.report-last.ensures.watched in
     all_still c.args.board c.args.watcher.pass c.report-last.new.watcher.pass c.requires.can.may.pass_of after.can.may.pass_of after.same c.requires.joined
 
-pub conclude-made-requires-send-T-Inputs : goal.conclude-made-requires-send-T-Inputs
-conclude-made-requires-send-T-Inputs g c κs within = search (crosses, sendable, Inputs-send) depth 20
-
-pub conclude-made-requires-send-T-Made : goal.conclude-made-requires-send-T-Made
-conclude-made-requires-send-T-Made g c κs within = search (crosses, sendable, Square-send) depth 20
-
-pub returns-clause-resolved : goal.returns-clause-resolved
-returns-clause-resolved g c = made_or_memory c.args.range (first_table c.args.board.name) _ _ c.outcome-table.result.0 c.reported_whole-given.result (c.outcome-table.ensures.resolved c.args.board.name.first.value c.args.range c.requires.live c.conclude-made.ensures) c.reported_whole-given.ensures.is
-
-pub returns-clause-untouched : goal.returns-clause-untouched
-returns-clause-untouched g c = c.outcome-table.ensures.untouched c.args.board.name.first.value c.args.range c.requires.live c.conclude-made.ensures
+pub returns-clause-made : goal.returns-clause-made
+returns-clause-made g c = made_or_memory g.T.Stock.words c.args.board.name.first.value c.args.range _ c.conclude-made.result.1 c.reported_whole-given.result c.conclude-made.ensures c.reported_whole-given.ensures.is
 
 pub returns-clause-told : goal.returns-clause-told
 returns-clause-told g c start zero well of_all told =
