@@ -7,22 +7,16 @@ use Rattle.finite_module.specs.Checked.{Checked}
 use Rattle.finite_module.specs.ModuleLaws.{module_KeepsWidths}
 use Rattle.resolution_laws.specs.Resolution.{Module, Content}
 use Rattle.resolution_laws.specs.Start.{IsOf}
-use Rattle.resolution_existence.specs.Existence.{IsOwnStart}
-use Rattle.resolution_existence.proofs.Tables.{has_content}
-use Rattle.std.proofs.lemmas.Option.{none-some}
+use Rattle.resolution_existence.proofs.Tables.{has_content, none_read}
 use Rattle.square.specs.Squares.{Placed, over}
 use Rattle.square.specs.Tables.{Staircase}
 use Rattle.resolution_images.specs.BareRows.{BareTable, AreOfCanonical}
 use Rattle.chain_map.specs.declared.rows_held.Held.{Held}
 use Rattle.chain_map.specs.declared.rows_held.Held.TheVariants.{Squares, Images}
 
--- nothing is read
-pub nothing_read : (m : Module) → IsOwnStart m []
-nothing_read m s k read e = absurd (none-some read e)
-
 -- the square (s, k) of the module's canonical resolution
 abbrev pub canonical_square : (m : Checked) (s k : ℕ) → (content : Content) × IsOf (over m) [] s k content
-canonical_square m s k = has_content (over m) [] s k (module_KeepsWidths m.plain m.is_module) (nothing_read (over m))
+canonical_square m s k = has_content (over m) [] s k (module_KeepsWidths m.plain m.is_module) (none_read (over m))
 
 -- with its place
 abbrev pub canonical_place : Checked → ℕ → ℕ → Placed

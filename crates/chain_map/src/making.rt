@@ -165,13 +165,7 @@ fn with_rows(
 }
 
 /// How many degrees a lift goes through, from the bottom of the module's table on.
-fn degrees_through(
-    table: &Source<'_>,
-    sphere: &Table,
-    s: u16,
-    above: u16,
-    upto: u16,
-) -> u16
+fn degrees_through(table: &Source<'_>, sphere: &Table, s: u16, above: u16, upto: u16) -> u16
     requires { IsTable table.now }
     ensures { result ≡ degrees_through table.now sphere.now s above upto }
 {

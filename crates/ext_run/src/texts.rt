@@ -202,7 +202,15 @@ fn live_sheet<W: Threads + Wait + Clock + Sync, E: Sink + Send, G: Gate + Sync>(
 {
     let workers = common.workers as usize;
     let (made, heard) = sheet_live(
-        wait, alloc, workers, resolved, sheet, common.range, shape, err, gate,
+        wait,
+        alloc,
+        workers,
+        resolved,
+        sheet,
+        common.range,
+        shape,
+        err,
+        gate,
     );
     match made {
         Ok(text) => (Ok(text), heard),

@@ -45,8 +45,8 @@ module _ {T O I M : Type 0} (w : StockWords T O I M) (table_of : O → Staircase
       record {
         pass_of = pass_of;
         whole = may.whole;
-    reached = may.reached;
-    range = may.range ∙ sym (ap (λ (w : LiveState). w.range) same);
+        reached = may.reached;
+        range = may.range ∙ sym (ap (λ (w : LiveState). w.range) same);
         bottom = may.bottom ∙ sym (ap (λ (w : LiveState). w.bottom) same);
         of_board = subst (AreOfBoard w table_of board.name) (sym list) (All-push (λ (q : Shown). q.of ≡ counted_in w table_of board.name ∷ []) writer.known.published p may.of_board refl);
         done = subst (AreDone w board.name (events_of new.seen)) (sym last) did.between.done;

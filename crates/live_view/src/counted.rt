@@ -2,8 +2,8 @@
 ghost use Rattle.square.specs.Tables.{Staircase};
 ghost use Rattle.live_view.specs.Counted.{AreCountsOf};
 
-use image_worker::ImageStock;
 use finite_module::modules_are_graded_modules;
+use image_worker::ImageStock;
 use resolution_existence::canonical_table_exists;
 use resolution_laws::empty_start_is_canonical;
 use square::Keep;

@@ -105,12 +105,7 @@ fn are_inside(
 }
 
 /// Where the class stands in the table, or that it does not.
-fn found(
-    table: &Source<'_>,
-    range: Range,
-    class: Class,
-    which: u8,
-) -> Result<Place, MasseyFault>
+fn found(table: &Source<'_>, range: Range, class: Class, which: u8) -> Result<Place, MasseyFault>
     requires { IsThrough range table.now.rows }
     ensures found { OnOk result (no_class (NoClass which) (through range table.now) class ≡ None) }
     ensures missing { IfErr result (λ e. no_class (NoClass which) (through range table.now) class ≡ Some e) }

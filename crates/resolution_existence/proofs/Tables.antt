@@ -89,7 +89,7 @@ has_content m start s k keeps reads = let p = all_rows m start keeps reads s in 
 
 -- ---- canonical tables
 
-none_read : (m : Module) → IsOwnStart m []
+pub none_read : (m : Module) → IsOwnStart m []
 none_read m s k read e = cc
 
 pub has_canonical_table : CanonicalTableExists

@@ -157,12 +157,7 @@ fn places(
 }
 
 /// Where the class stands in the table, or that it does not.
-fn found(
-    table: &Source<'_>,
-    range: Range,
-    class: Class,
-    which: u8,
-) -> Result<Place, YonedaFault>
+fn found(table: &Source<'_>, range: Range, class: Class, which: u8) -> Result<Place, YonedaFault>
     requires { IsThrough range table.now.rows }
     ensures found { OnOk result (no_class (NoClass which) (through range table.now) class ≡ None) }
     ensures missing { IfErr result (λ e. no_class (NoClass which) (through range table.now) class ≡ Some e) }
