@@ -1,9 +1,9 @@
 -- The table of the canonical resolution through a range, and images that are those of its squares.
-use Rattle.std.proofs.Common.{◌≡◌, inl, inr, ℕ, suc, ◌+◌, ◌<◌, ◌≤◌, Bool, false, true, List, [], length, map, take, get_or, Option, Some, None, nat_lt, if◌then◌else◌, refl, ap, sym, subst, ◌∙◌, arith}
-use Rattle.std.specs.List.{range_with_len, slice_get}
+use Rattle.std.proofs.Common.{◌≡◌, inl, inr, ℕ, suc, ◌+◌, ◌<◌, ◌≤◌, Bool, false, true, List, [], length, map, get_or, Some, nat_lt, if◌then◌else◌, refl, ap, sym, subst, ◌∙◌, arith}
+use Rattle.std.specs.List.{slice_get}
 use Rattle.std.proofs.lemmas.Bool.{cases_lt}
 use Rattle.std.proofs.lemmas.Bool.Decides.{nat_tests}
-use Rattle.std.proofs.lemmas.List.{get_or-map, get_or_past, length-map, length-take-le}
+use Rattle.std.proofs.lemmas.List.{get_or-map, get_or_past, length-map}
 use Rattle.std.proofs.lemmas.List.FromFn.{length-map-range_with_len, get_or-map-range_with_len}
 use Rattle.std.proofs.lemmas.Option.{get_or_from_slice_get, slice_get-get_or, slice_get_within}
 use Rattle.bidegree.specs.declared.range.Range.{Range}
@@ -18,7 +18,7 @@ use Rattle.resolution_images.specs.BareRows.{BareTable, contents_of, squares_of}
 use Rattle.resolution_images.proofs.Contents.{bare, row_bare}
 use Rattle.chain_map.specs.Lifting.{IsCanonicalIn}
 use Rattle.chain_map.specs.Sources.{canonical_square, canonical_place, length_through, canonical_row, canonical_rows, canonical_table, AreWhole}
-use Rattle.chain_map.proofs.Classes.{square_inside, rows_through}
+use Rattle.chain_map.proofs.Classes.{square_inside}
 use Rattle.chain_map.proofs.Resolved.{canonical-part}
 
 -- ---- its rows

@@ -1,5 +1,5 @@
 -- What lifts start from: a table of squares, or images alone, which stand for the canonical table that has them.
-use Rattle.std.specs.Prelude.{◌≡◌, ⊤, ℕ, ◌+◌, ◌≤◌, nat_lt, if◌then◌else◌, List, [], map, None}
+use Rattle.std.specs.Prelude.{⊤, ℕ, ◌+◌, ◌≤◌, nat_lt, if◌then◌else◌, List, [], map, None}
 use Rattle.std.specs.List.{range_with_len}
 use Rattle.bidegree.specs.declared.range.Range.{Range}
 use Rattle.bidegree.specs.declared.range.TheConstants.{MAX_S, MAX_T}

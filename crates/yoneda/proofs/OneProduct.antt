@@ -11,7 +11,7 @@ use Rattle.f2_vec.proofs.Combinations.{HaveWidth-map}
 use Rattle.finite_module.specs.Graded.{ModulesAreSteenrodModules}
 use Rattle.square.specs.Squares.{bottom_of}
 use Rattle.square.specs.Tables.{Staircase, IsTable, IsThrough}
-use Rattle.lift_laws.specs.Lifts.{Resolution, IsCanonical, IsSphere, IsLift, dual_of}
+use Rattle.lift_laws.specs.Lifts.{Resolution, IsCanonical, IsSphere, dual_of}
 use Rattle.lift_laws.specs.Products.{Class, first_of, count_of, coefficient_of, product_by, degree_of_class, number_of, IsLiftOfClass, LiftsGiveOneProduct}
 use Rattle.lift_laws.proofs.ChainMaps.{IsLift-less, IsLift-lower}
 use Rattle.chain_map.specs.Lifting.{LiftValues, no_lift, resolution_of, AreCanonical, IsCanonicalIn, map_of, greatest, AreReached, IsLiftOver}
