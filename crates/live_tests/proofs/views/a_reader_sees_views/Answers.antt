@@ -22,8 +22,10 @@ publish-requires g c =
     let rows = ap (λ (r : Range). r.s) made.range in
     let degrees = ap (λ (r : Range). r.t) made.range in (
       search (crosses, sendable, Inputs-send) depth 20,
-      (search (crosses, sendable, Square-send) depth 20,
-      may_first (kept_words no_keep.ghosts.telling) (λ table. table) c.in_ok-board.board c.in_ok-board.publisher c.in_ok-writer.writer made.publisher refl (omega arith, omega arith) (made.range ∙ sym views.range) (made.bottom ∙ sym least) views.empty),
+      (
+        search (crosses, sendable, Square-send) depth 20,
+        may_first (kept_words no_keep.ghosts.telling) (λ table. table) c.in_ok-board.board c.in_ok-board.publisher c.in_ok-writer.writer made.publisher refl (omega arith, omega arith) (made.range ∙ sym views.range) (made.bottom ∙ sym least) views.empty,
+      ),
     )
 
 pub publish-requires-2-send-T-Inputs : goal.publish-requires-2-send-T-Inputs
