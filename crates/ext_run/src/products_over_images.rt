@@ -42,7 +42,7 @@ pub(crate) fn products_alone(
     text
 }
 
-/// The same, where so many workers make the images.
+/// The lines of the products with a class of the sphere, from images that so many workers make.
 pub(crate) fn products_by<W: Threads + Wait + Clock + Sync, G: Gate + Sync>(
     wait: &W,
     alloc: Global,
