@@ -209,11 +209,12 @@ impl<T: Stock> Board<T> {
 
     /// Waits until more has happened than the pass saw when it last took, gave, handed back, looked, joined or rested.
     ///
-    /// By what it has seen no square may be taken and some are not done. So where it has none out itself it waits for another, who has
-    /// a square.
+    /// By what it has seen no square may be taken and some are not done, and it has none out itself. So it waits for another, who has a
+    /// square (`waits` of `take`).
     pub fn rest<R: Wait + Clock>(&self, wait: &R, pass: &mut BoardPass<T>)
         requires pass { IsPassOf self.now pass.old }
         requires idle { IsIdle (state_seen T.words pass.old) }
+        requires none { HasNoneOut pass.old.own }
         ensures pass { IsPassOf self.now pass.new }
         ensures same { IsSamePass pass.old pass.new }
         ensures rested { pass.new ≡ after_rest pass.old pass.new.seen }

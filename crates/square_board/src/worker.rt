@@ -1,6 +1,7 @@
 //! One worker at a board.
 ghost use Rattle.std.specs.Prelude.{◌≡◌, ◌↔◌, Some};
 ghost use Rattle.board_core.specs.declared.event.Cause.{Cause};
+ghost use Rattle.board_core.specs.Entries.{HasNoneOut};
 ghost use Rattle.board_core.specs.Laws.{first_cause};
 ghost use Rattle.square_board.specs.Courses.{events_of};
 ghost use Rattle.square_board.specs.Desks.{IsIdle, IsOver, IsJobOf};
@@ -44,6 +45,7 @@ pub fn work<R: Wait + Clock, T: Stock, G: Gate>(
     gate: &G,
 ) -> WorkEnd
     requires pass { IsPassOf board.now pass.old }
+    requires none { HasNoneOut pass.old.own }
     ensures pass { IsPassOf board.now pass.new }
     ensures same { IsSamePass pass.old pass.new }
     ensures no_less { HasSeenNoLess pass.old pass.new }
@@ -110,6 +112,7 @@ fn prepare<R: Wait + Clock, T: Stock>(
 ) -> Spare<T>
     requires pass { IsPassOf board.now pass.old }
     requires idle { IsIdle (state_seen T.words pass.old) }
+    requires none { HasNoneOut pass.old.own }
     ensures pass { IsPassOf board.now pass.new }
     ensures same { IsSamePass pass.old pass.new }
     ensures no_less { HasSeenNoLess pass.old pass.new }

@@ -3,7 +3,7 @@ use Rattle.square_board.specs.declared.job.Taken.TheVariants.{Job}
 use Rattle.square_board.specs.Boards.{IsSamePass, HasTurned, HasTakenJob}
 use Rattle.square_board.specs.Desks.{MatchTaken}
 use Rattle.square_board.proofs.Seen.{and_then, by_take, by_turn}
-use Rattle.square_board.proofs.Working.{worked_same, worked_job, took_none}
+use Rattle.square_board.proofs.Working.{worked_same, worked_job, worked_leaves_none, took_none}
 use Rattle.square_board.proofs.worker.work.Goals as goal
 
 pub returns-in-Ok-Over-clause-stopped : goal.returns-in-Ok-Over-clause-stopped
@@ -84,3 +84,13 @@ loop-preserved-in-Ok-Job g c =
       no_less = and_then first mid new (and_then first old mid c.loop.invariant.no_less (by_turn w old mid _ took.turned)) c.make.ensures.no_less;
       worked = worked_job w first old mid new job c.loop.invariant.worked took c.make.ensures.ended;
     }
+
+pub prepare-spare-requires-clause-none : goal.prepare-spare-requires-clause-none
+prepare-spare-requires-clause-none g c κs within =
+    let is = c.in-Ok-Idle.is in
+    let idle = c.in-Ok-Idle.field-0-is in
+    let first = c.args.pass.now in
+    let old = c.loop.pass in
+    let new = c.take.new.pass in
+    let same = took_none g.T.Stock.words old new c.take.result c.take.ensures.job (λ job e. let f = e in cc) in
+    worked_leaves_none first new c.requires.none (worked_same first old new c.loop.invariant.worked same)
