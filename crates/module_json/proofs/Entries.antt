@@ -7,7 +7,7 @@ use Rattle.std.specs.Cmp.Lexicographic.{pointwise}
 use Rattle.std.proofs.Common.{get_or, refl, sym, ap, ◌∙◌, arith, length-append}
 use Rattle.std.proofs.lemmas.Bool.{false≢true}
 use Rattle.std.proofs.lemmas.Bool.Decides.{nat_tests, Decides-int_eq}
-use Rattle.std.proofs.lemmas.List.{at_drop_more}
+use Rattle.std.proofs.lemmas.List.{at_drop_more, at_drop_all}
 use Rattle.std.proofs.lemmas.List.Elements.{All-filter, All-push, filter_passes}
 use Rattle.std.proofs.lemmas.List.FromFn.{length-range_with_len, get_or-range_with_len}
 use Rattle.std.proofs.lemmas.List.Kept.{IsStrictlyIncreasing-filter}
@@ -22,6 +22,7 @@ use Rattle.module_json.specs.Actions.{Written, action_of}
 use Rattle.module_spec.specs.Spec.{Generator, Entry, number_of, degree_at}
 use Rattle.module_json.specs.ModuleFile.{numbers_of, are_in, is_odd_in, sum_of, differs, unless_repeated, numbered_entry, named_entry, entry_of, at_index, entries_from, written}
 use Rattle.module_spec.specs.WellFormed.{IsEntryOf, Agree}
+use Rattle.module_json.specs.declared.malformed.Malformed.{Malformed}
 use Rattle.module_json.specs.declared.malformed.Why.{Why}
 use Rattle.module_json.proofs.Repeats.{position-None}
 use Rattle.module_json.proofs.Squares.{action_small}
@@ -147,14 +148,29 @@ pub record AreRead (gs : List Generator) (values : List Value) (i : ℕ) (es : L
   pub actions : All (IsEntryOf gs) es
   pub agree : AllPairs Agree es
 
+-- the action of value i, and those behind it
+turn : (gs : List Generator) (values : List Value) (i : ℕ) (es : List Entry) (v : Value) → i < length values → v ≡ get_or values i v → entries_from gs es (items_view (drop i values)) ≡ entries_from gs es (items_view (v ∷ drop (i + 1) values))
+turn gs values i es v l is =
+    at_drop_more (λ vs. entries_from gs es (items_view vs)) values i v l ∙ ap (λ w. entries_from gs es (items_view (w ∷ drop (i + 1) values))) (sym is)
+
 pub AreRead-next : (gs : List Generator) (values : List Value) (i : ℕ) (es : List Entry) (v : Value) (e : Entry) → AreRead gs values i es → i < length values → v ≡ get_or values i v → at_index (length es) (entry_of gs es (written (view v))) ≡ Ok e → AreRead gs values (i + 1) (es ++ e ∷ [])
 AreRead-next gs values i es v e read l is h =
     let next = IsNext-entry_of gs es (view v) e (at_index_ok (length es) (entry_of gs es (written (view v))) e h) in
-    let turn : entries_from gs es (items_view (drop i values)) ≡ entries_from gs es (items_view (v ∷ drop (i + 1) values)) = at_drop_more (λ vs. entries_from gs es (items_view vs)) values i v l ∙ ap (λ w. entries_from gs es (items_view (w ∷ drop (i + 1) values))) (sym is) in
     let step : entries_from gs es (items_view (v ∷ drop (i + 1) values)) ≡ entries_from gs (es ++ e ∷ []) (items_view (drop (i + 1) values)) = rw h in
     record {
-      left = read.left ∙ turn ∙ step;
+      left = read.left ∙ turn gs values i es v l is ∙ step;
       count = omega (arith, read.count, length-append es (e ∷ []));
       actions = All-push (IsEntryOf gs) es e read.actions next.entry;
       agree = all_pairs_push Agree es e read.agree next.agrees;
     }
+
+pub read_none : (gs : List Generator) (values : List Value) → AreRead gs values 0 []
+read_none gs values = record { left = refl; count = refl; actions = λ k d l. absurd (omega arith); agree = λ i j d l m. absurd (omega arith) }
+
+pub read_refused : (gs : List Generator) (values : List Value) (i : ℕ) (es : List Entry) (v : Value) (e : Malformed) → AreRead gs values i es → i < length values → v ≡ get_or values i v → at_index (length es) (entry_of gs es (written (view v))) ≡ Err e → entries_from gs [] (items_view values) ≡ Err e
+read_refused gs values i es v e read l is h =
+    let step : entries_from gs es (items_view (v ∷ drop (i + 1) values)) ≡ Err e = rw h in
+    read.left ∙ turn gs values i es v l is ∙ step
+
+pub read_all : (gs : List Generator) (values : List Value) (i : ℕ) (es : List Entry) → AreRead gs values i es → length values ≤ i → entries_from gs [] (items_view values) ≡ Ok es
+read_all gs values i es read l = read.left ∙ at_drop_all (λ vs. entries_from gs es (items_view vs)) values i l

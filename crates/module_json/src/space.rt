@@ -1,10 +1,10 @@
 //! Real projective spaces, whose cells and squares a file says by the least and the greatest dimension alone.
-ghost use Rattle.std.specs.Prelude.{◌≡◌, ◌+◌, ◌<◌, ◌≤◌, ◌++◌, ◌≤ℤ◌, neg_ℤ, length, pos, ◌+ℤ◌, map, Ok, Err, IfOk, IfErr, OnOk, String, string_bytes};
+ghost use Rattle.std.specs.Prelude.{◌≡◌, ◌+◌, ◌<◌, ◌≤◌, ◌++◌, ◌≤ℤ◌, neg_ℤ, length, pos, ◌+ℤ◌, map, Some, Ok, Err, IfOk, IfErr, OnOk, String, string_bytes};
 ghost use Rattle.std.specs.List.{flat_map, range_with_len};
 ghost use Rattle.std.specs.Result.{result_err};
 ghost use Rattle.milnor_basis.specs.Product.{choose, is_odd};
 ghost use Rattle.serde_json.specs.View.{view};
-ghost use Rattle.module_json.specs.ModuleFile.{cell, cells as cells_in, is_joined, joining, squares_on, space_file, bounds_refusal, space_of};
+ghost use Rattle.module_json.specs.ModuleFile.{cell, cells as cells_in, is_joined, joining, squares_on, space_file, bounds_refusal, number_at, space_between, space_of};
 ghost use Rattle.module_json.specs.Spaces.{binomial, count_between};
 
 use crate::malformed::{Malformed, Place, What};
@@ -37,6 +37,28 @@ fn check_bounds(min: i64, max: i64) -> Result<(), Malformed>
     Ok(())
 }
 
+/// The number under a key, none where there is none.
+fn number(file: &Value, key: &str) -> Option<i64>
+    ensures { result ≡ number_at key.now (view file.now) }
+{
+    file.get(key).and_then(Value::as_i64)
+}
+
+/// The cells from one dimension to another, which are as they should be.
+fn cells_between(min: i64, max: i64) -> Result<CellRange, Malformed>
+    ensures space { IfOk result (λ c. space_between (Some min) (Some max) ≡ Ok (space_file c.min c.count)) }
+    ensures refused { IfErr result (λ e. space_between (Some min) (Some max) ≡ Err e) }
+    ensures few { IfOk result (λ c. c.count ≤ MAX_GENERATORS) }
+    ensures lowest { IfOk result (λ c. neg_ℤ MAX_DEGREE ≤ℤ c.min) }
+    ensures highest { IfOk result (λ c. (c.min +ℤ pos c.count) ≤ℤ (MAX_DEGREE +ℤ pos 1)) }
+{
+    check_bounds(min, max)?;
+    Ok(CellRange {
+        min: min as i32,
+        count: (max - min + 1) as usize,
+    })
+}
+
 /// The cells between the dimensions that a value gives, which are as they should be.
 pub(crate) fn cell_range(file: &Value) -> Result<CellRange, Malformed>
     ensures space { IfOk result (λ c. space_of (view file.now) ≡ Ok (space_file c.min c.count)) }
@@ -45,17 +67,13 @@ pub(crate) fn cell_range(file: &Value) -> Result<CellRange, Malformed>
     ensures lowest { IfOk result (λ c. neg_ℤ MAX_DEGREE ≤ℤ c.min) }
     ensures highest { IfOk result (λ c. (c.min +ℤ pos c.count) ≤ℤ (MAX_DEGREE +ℤ pos 1)) }
 {
-    let Some(min) = file.get("min").and_then(Value::as_i64) else {
+    let Some(min) = number(file, "min") else {
         return Err(Malformed::Shape { at: Place::Min });
     };
-    let Some(max) = file.get("max").and_then(Value::as_i64) else {
+    let Some(max) = number(file, "max") else {
         return Err(Malformed::Shape { at: Place::Max });
     };
-    check_bounds(min, max)?;
-    Ok(CellRange {
-        min: min as i32,
-        count: (max - min + 1) as usize,
-    })
+    cells_between(min, max)
 }
 
 /// The cell of dimension `n`.
