@@ -1,9 +1,11 @@
 -- The choice of candidates one by one, with the reduction extended by each that is chosen.
-use Rattle.std.proofs.Common.{◌≡◌, ℕ, zero, suc, ◌+◌, ◌<◌, Bool, List, [], ◌∷◌, ◌++◌, length, take, drop, refl, sym, ap, subst, ◌∙◌, arith}
-use Rattle.std.proofs.lemmas.List.{append_assoc}
+use Rattle.std.proofs.Common.{◌≡◌, ℕ, zero, suc, ◌+◌, ◌<◌, ◌≤◌, Bool, List, [], ◌∷◌, ◌++◌, length, take, drop, refl, sym, ap, subst, ◌∙◌, arith}
+use Rattle.std.proofs.lemmas.List.{append-nil, append_assoc, take_all}
 use Rattle.f2_vec.specs.Spans.{row, HaveWidth, IsInSpan}
-use Rattle.f2_matrix.specs.Echelon.{IsRowBasis}
+use Rattle.f2_vec.proofs.Spans.{HaveWidth-nil}
+use Rattle.f2_matrix.specs.Echelon.{IsRowBasis, IsKernelBasis}
 use Rattle.f2_matrix.specs.Reduction.{Rows, Reduction, IsReductionOf}
+use Rattle.f2_matrix.specs.Choice.{IsChosen}
 use Rattle.f2_matrix.proofs.Parts.{image_is_row_basis}
 use Rattle.f2_matrix.proofs.Choice.{IsChoosing, IsChoosing-drop, IsChoosing-keep}
 use Rattle.f2_choice.proofs.Step.{reduction_kernel}
@@ -18,6 +20,32 @@ matrix_of n rows = record { cols = n; rows = rows }
 pub record IsChosenTo (n : ℕ) (old candidates : List (List Bool)) (i : ℕ) (chosen : List (List Bool)) (r : Reduction) : Type 0 where
   pub choosing : IsChoosing n old candidates i chosen (matrix_of n (old ++ chosen)) r
   pub reduction : IsReductionOf n (old ++ chosen) r
+
+-- nothing is chosen of no candidate
+pub chosen_none : (n : ℕ) (old candidates : List (List Bool)) (r : Reduction) → IsReductionOf n old r → IsChosenTo n old candidates 0 [] r
+chosen_none n old candidates r h =
+    let same : old ≡ old ++ [] = sym (append-nil old) in
+    record {
+      choosing = record {
+        choice = record {
+          is_chosen = record { kept = []; one_each = refl; dropped = λ i l. absurd (omega arith); chosen_are = refl };
+          old_widths = h.widths;
+          candidate_widths = HaveWidth-nil n;
+          chosen_widths = HaveWidth-nil n;
+          same_span = λ v. (λ s. s, λ s. s);
+        };
+        cols = refl;
+        rows = refl;
+        reduced_cols = h.cols;
+        image = subst (λ (z : List (List Bool)). IsRowBasis n z r.image) same (reduction_image n old r h);
+        kernel = subst (λ (z : List (List Bool)). IsKernelBasis n z r.kernel) same (reduction_kernel n old r h);
+      };
+      reduction = subst (λ (z : List (List Bool)). IsReductionOf n z r) same h;
+    }
+
+-- those of all candidates
+pub chosen_all : (n : ℕ) (old candidates : List (List Bool)) (i : ℕ) (chosen : List (List Bool)) (r : Reduction) → IsChosenTo n old candidates i chosen r → length candidates ≤ i → IsChosen n old candidates chosen
+chosen_all n old candidates i chosen r p l = subst (λ (z : List (List Bool)). IsChosen n old z chosen) (take_all i candidates l) p.choosing.choice.is_chosen
 
 pub IsChosenTo-drop : (n : ℕ) (old candidates : List (List Bool)) (i : ℕ) (chosen : List (List Bool)) (r : Reduction) (x : List Bool) → IsChosenTo n old candidates i chosen r → HaveWidth n candidates → i < length candidates → x ≡ row candidates i → IsInSpan r.cols r.image x → IsChosenTo n old candidates (i + 1) chosen r
 IsChosenTo-drop n old candidates i chosen r x p w l e s = record {
