@@ -1,6 +1,6 @@
 -- The file of a module as it is written, item by item.
 use Rattle.std.specs.List.{All, flat_map, range_with_len, list_any}
-use Rattle.std.proofs.Common.{◌≡◌, ℕ, suc, ◌+◌, ◌<◌, pos, ◌+ℤ◌, Bool, true, false, if◌then◌else◌, List, [], ◌∷◌, ◌++◌, length, map, take, get_or, codes, decimal, append_assoc, append-nil, refl, ap, sym, ◌∙◌, arith}
+use Rattle.std.proofs.Common.{◌≡◌, ℕ, zero, suc, ◌+◌, ◌<◌, ◌≤◌, pos, ◌+ℤ◌, Bool, true, false, if◌then◌else◌, List, [], ◌∷◌, ◌++◌, length, map, take, get_or, codes, decimal, append_assoc, append-nil, refl, ap, sym, ◌∙◌, arith}
 use Rattle.std.proofs.lemmas.Grind.{flat_map-append}
 use Rattle.std.proofs.lemmas.List.{take_more, map-append}
 use Rattle.std.proofs.lemmas.List.Elements.{All-cons, All-nil, All-from_get_or}
@@ -20,6 +20,17 @@ use Rattle.finite_module.proofs.TextSteps.{any_none, any_some}
 pub written-append : (text : List ℕ) (xs ys : List (List ℕ)) → written_after text (xs ++ ys) ≡ written_after (written_after text xs) ys
 written-append text [] ys = refl
 written-append text (x ∷ xs) ys = written-append (after_comma text x) xs ys
+
+-- a square that is written is one from 1 to 64
+pub power_small : (i : ℕ) → i < 7 → (0 < get_or powers i 0) × (get_or powers i 0 ≤ 64)
+power_small zero l = (omega arith, omega arith)
+power_small (suc zero) l = (omega arith, omega arith)
+power_small (suc (suc zero)) l = (omega arith, omega arith)
+power_small (suc (suc (suc zero))) l = (omega arith, omega arith)
+power_small (suc (suc (suc (suc zero)))) l = (omega arith, omega arith)
+power_small (suc (suc (suc (suc (suc zero))))) l = (omega arith, omega arith)
+power_small (suc (suc (suc (suc (suc (suc zero)))))) l = (omega arith, omega arith)
+power_small (suc (suc (suc (suc (suc (suc (suc i))))))) l = absurd (omega arith)
 
 -- one place of a list more
 pub written_take : {X : Type 0} (f : X → List (List ℕ)) (xs : List X) (k : ℕ) (d : X) (first text more : List ℕ) → k < length xs → text ≡ written_after first (flat_map f (take k xs)) → more ≡ written_after text (f (get_or xs k d)) → more ≡ written_after first (flat_map f (take (k + 1) xs))
