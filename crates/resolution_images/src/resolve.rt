@@ -124,14 +124,12 @@ pub fn images_alone(alloc: Global, resolved: Module, range: Range) -> Result<Ima
     ensures canonical { IfOk result (λ images. AreOfCanonical (over resolved) range.s range.t images.rows) }
 {
     canonical_table_exists();
-    let basis = Basis::new(alloc, range.t)?;
     // No square of the range is past stem t.
     let extent = Extent {
         last: range.s,
         n: range.t,
     };
-    let rows = rows_through(alloc, &resolved, &basis, extent, range.t)?;
-    let (resolved, basis) = (Arc::new(alloc, resolved)?, Arc::new(alloc, basis)?);
+    let (resolved, basis, rows) = parts_through(alloc, resolved, extent, range.t)?;
     Ok(Images::of(resolved, basis, range, rows))
 }
 
@@ -151,9 +149,7 @@ pub fn images_in_stems(alloc: Global, resolved: Module, s: u16, n: u16) -> Resul
 {
     rows_in_stems_are_whole();
     let range = Range { s, t: n + s };
-    let basis = Basis::new(alloc, range.t)?;
-    let rows = rows_through(alloc, &resolved, &basis, Extent { last: s, n }, range.t)?;
-    let (resolved, basis) = (Arc::new(alloc, resolved)?, Arc::new(alloc, basis)?);
+    let (resolved, basis, rows) = parts_through(alloc, resolved, Extent { last: s, n }, range.t)?;
     Ok(Images::of(resolved, basis, range, rows))
 }
 
@@ -162,6 +158,28 @@ pub fn images_in_stems(alloc: Global, resolved: Module, s: u16, n: u16) -> Resul
 pub struct Extent {
     pub last: u16,
     pub n: u16,
+}
+
+/// The module and the Milnor bases, to be shared, and the rows of this extent in the degrees through `t` above the bottom.
+///
+/// # Errors
+/// `Memory` if allocation fails.
+fn parts_through(
+    alloc: Global,
+    resolved: Module,
+    extent: Extent,
+    t: u16,
+) -> Result<(Arc<Module>, Arc<Basis>, Vec<Row>), Memory>
+    requires degrees { t ≤ MAX_T }
+    requires stems { t ≤ extent.n + extent.last }
+    ensures resolved { IfOk result (λ parts. arc_value parts.0 ≡ resolved) }
+    ensures basis { IfOk result (λ parts. t ≤ arc_value parts.1) }
+    ensures count { IfOk result (λ parts. length parts.2.items ≡ extent.last + 1) }
+    ensures through { IfOk result (λ parts. AreMadeThrough (over resolved) extent 0 (suc t) parts.2.items) }
+{
+    let basis = Basis::new(alloc, t)?;
+    let rows = rows_through(alloc, &resolved, &basis, extent, t)?;
+    Ok((Arc::new(alloc, resolved)?, Arc::new(alloc, basis)?, rows))
 }
 
 /// The squares of this extent in the degrees through `t` above the bottom, made degree by degree.
