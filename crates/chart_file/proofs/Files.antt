@@ -1,14 +1,18 @@
 -- The parts of columns that a file has.
-use Rattle.std.proofs.Common.{◌≡◌, ℕ, ◌+◌, ◌<◌, Err, Ok, List, [], ◌∷◌, ◌++◌, map, take, drop, length, get_or, refl, sym, ◌∙◌, ap, arith}
+use Rattle.std.proofs.Common.{◌≡◌, ◌≢◌, ℕ, ◌+◌, ◌<◌, Err, Ok, List, [], ◌∷◌, ◌++◌, map, take, drop, length, get_or, refl, sym, ◌∙◌, ap, subst, arith}
 use Rattle.std.specs.Prelude.{All, Vec}
 use Rattle.std.specs.List.{AllByRecursion}
 use Rattle.std.specs.declared.alloc.Global.{Global}
-use Rattle.std.proofs.lemmas.List.{length-map, map-append, get_or-map, take_more}
+use Rattle.std.proofs.lemmas.List.{length-map, map-append, get_or-map, take-map, take_more}
 use Rattle.std.proofs.lemmas.List.Elements.{All-append, All-cons, All-nil, recursion_from_All}
 use Rattle.save_journal.specs.Records.{Records, records_of, and_last}
 use Rattle.save_journal.specs.Journals.{contents}
 use Rattle.chart_file.specs.Parts.{Part, IsPart, part_bytes}
-use Rattle.chart_file.specs.Files.{HasParts, IsRefusal}
+use Rattle.chart_file.specs.Faults.{IsWrong}
+use Rattle.chart_file.specs.Files.{HasParts, IsRefusal, body_refusal}
+use Rattle.chart_file.specs.declared.fault.DecodeFault.{DecodeFault}
+use Rattle.chart_file.specs.declared.fault.DecodeFault.TheVariants.{Short, Kind, Limits, Crowded, SpareBits, Memory as WantOfMemory}
+use Rattle.chart_file.specs.declared.fault.PartsFault.{PartsFault}
 use Rattle.chart_file.specs.declared.fault.PartsFault.TheVariants.{Strange}
 use Rattle.chart_file.proofs.Heads.{part_once}
 
@@ -60,8 +64,23 @@ one_body_read bodies i parts body p h l at is bytes =
       are = All-append IsPart parts (p ∷ []) h.are (All-cons IsPart p [] is (All-nil IsPart));
     }
 
-pub refusal_at : (bodies : List (Vec ℕ Global)) (i : ℕ) (body : Vec ℕ Global) → i < length bodies → body ≡ get_or bodies i body → ((p : Part) → IsPart p → part_bytes p ≡ body.items → ⊥) → IsRefusal (contents bodies) (Strange i)
-refusal_at bodies i body l at none =
+strange_body : (bodies : List (Vec ℕ Global)) (i : ℕ) (parts : List Part) (body : Vec ℕ Global) (fault : DecodeFault) → AreRead bodies i parts → i < length bodies → body ≡ get_or bodies i body → ((p : Part) → IsPart p → part_bytes p ≡ body.items → ⊥) → IsWrong body.items fault → IsRefusal (contents bodies) (Strange i fault)
+strange_body bodies i parts body fault read l at none wrong =
     let many = length-map bodies (λ (v : Vec ℕ Global). v.items) in
-    let there : get_or (contents bodies) i [] ≡ body.items = get_or-map (λ (v : Vec ℕ Global). v.items) bodies i body [] l ∙ ap (λ (v : Vec ℕ Global). v.items) (sym at) in
-    (omega arith, λ p is same. none p is (same ∙ there))
+    let there : get_or (contents bodies) i [] ≡ body.items = get_or-map (λ (v : Vec ℕ Global). v.items) bodies i body [] l ∙ ap (λ (v : Vec ℕ Global). v.items) (sym at) in (
+      omega arith,
+      subst (λ (b : List ℕ). IsWrong b fault) (sym there) wrong,
+      λ p is same. none p is (same ∙ there),
+      (parts, read.are, read.bytes ∙ sym (take-map (λ (v : Vec ℕ Global). v.items) i bodies)),
+    )
+
+refused_as : (bodies : List (Vec ℕ Global)) (i : ℕ) (parts : List Part) (body : Vec ℕ Global) (fault : DecodeFault) → AreRead bodies i parts → i < length bodies → body ≡ get_or bodies i body → (fault ≢ WantOfMemory → (p : Part) → IsPart p → part_bytes p ≡ body.items → ⊥) → IsWrong body.items fault → IsRefusal (contents bodies) (body_refusal i fault)
+refused_as bodies i parts body WantOfMemory read l at none wrong = tt
+refused_as bodies i parts body Short read l at none wrong = strange_body bodies i parts body Short read l at (none (λ e. absurd (cc))) wrong
+refused_as bodies i parts body Kind read l at none wrong = strange_body bodies i parts body Kind read l at (none (λ e. absurd (cc))) wrong
+refused_as bodies i parts body Limits read l at none wrong = strange_body bodies i parts body Limits read l at (none (λ e. absurd (cc))) wrong
+refused_as bodies i parts body Crowded read l at none wrong = strange_body bodies i parts body Crowded read l at (none (λ e. absurd (cc))) wrong
+refused_as bodies i parts body SpareBits read l at none wrong = strange_body bodies i parts body SpareBits read l at (none (λ e. absurd (cc))) wrong
+
+pub refused_body : (bodies : List (Vec ℕ Global)) (i : ℕ) (parts : List Part) (body : Vec ℕ Global) (fault : DecodeFault) (e : PartsFault) → AreRead bodies i parts → i < length bodies → body ≡ get_or bodies i body → (fault ≢ WantOfMemory → (p : Part) → IsPart p → part_bytes p ≡ body.items → ⊥) → IsWrong body.items fault → e ≡ body_refusal i fault → IsRefusal (contents bodies) e
+refused_body bodies i parts body fault e read l at none wrong is = subst (IsRefusal (contents bodies)) (sym is) (refused_as bodies i parts body fault read l at none wrong)

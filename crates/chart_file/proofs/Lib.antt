@@ -1,5 +1,5 @@
 mod Words
 mod Squares
 mod Heads
-mod Files
+pub mod Files
 mod Examples

@@ -94,6 +94,15 @@ square_is_longer q r bytes e =
     let all = sym (length-append (bare_bytes q) r) ∙ ap length e in
     omega arith
 
+-- bytes begin with two numbers
+pub numbers_first : (count width : ℕ) (bytes : List ℕ) → to_be_bytes w64 count ≡ take 8 bytes → to_be_bytes w64 width ≡ take 8 (drop 8 bytes) → to_be_bytes w64 count ++ (to_be_bytes w64 width ++ drop 16 bytes) ≡ bytes
+numbers_first count width bytes counted wide =
+    ap (λ (b : List ℕ). b ++ (to_be_bytes w64 width ++ drop 16 bytes)) counted
+    ∙ ap (λ (b : List ℕ). take 8 bytes ++ (b ++ drop 16 bytes)) wide
+    ∙ ap (λ (b : List ℕ). take 8 bytes ++ (take 8 (drop 8 bytes) ++ b)) (sym (drop-drop 8 8 bytes))
+    ∙ ap (λ (b : List ℕ). take 8 bytes ++ b) (take-append-drop 8 (drop 8 bytes))
+    ∙ take-append-drop 8 bytes
+
 -- what two numbers say that bytes begin with
 module _ (count width : ℕ) (fits : count < 2 ^ 64) (fits' : width < 2 ^ 64) (bytes : List ℕ) (counted : to_be_bytes w64 count ≡ take 8 bytes) (wide : to_be_bytes w64 width ≡ take 8 (drop 8 bytes)) where
   pub numbers_are : (q : Bare) (r : List ℕ) → IsBare q → bare_bytes q ++ r ≡ bytes → (length q.images ≡ count) × (q.width ≡ width)

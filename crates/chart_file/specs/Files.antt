@@ -1,7 +1,10 @@
 -- The parts of columns that a file has.
-use Rattle.std.specs.Prelude.{◌≡◌, ◌≢◌, ℕ, ◌<◌, All, List, [], ◌∷◌, ◌++◌, get_or, length, map, Ok, ⊤}
+use Rattle.std.specs.Prelude.{◌≡◌, ◌≢◌, ℕ, ◌<◌, All, List, [], ◌∷◌, ◌++◌, get_or, length, map, take, Ok, ⊤}
 use Rattle.save_journal.specs.Records.{records_of, and_last}
 use Rattle.chart_file.specs.Parts.{Part, IsPart, part_bytes}
+use Rattle.chart_file.specs.Faults.{IsWrong}
+use Rattle.chart_file.specs.declared.fault.DecodeFault.{DecodeFault}
+use Rattle.chart_file.specs.declared.fault.DecodeFault.TheVariants.{Memory as WantOfMemory}
 use Rattle.chart_file.specs.declared.fault.PartsFault.{PartsFault}
 use Rattle.chart_file.specs.declared.fault.PartsFault.TheVariants.{Strange, Memory}
 
@@ -10,10 +13,17 @@ pub record HasParts (digest : List ℕ) (parts : List Part) (file : List ℕ) : 
   pub records : records_of digest file ≡ Ok (map part_bytes parts)
   pub are : All IsPart parts
 
--- the body of this number is no part, or memory ended
+-- The body of this number is no part, for this cause, and those before it are parts; or memory ended.
 abbrev pub IsRefusal : List (List ℕ) → PartsFault → Type 0
-IsRefusal bodies (Strange n) = (n < length bodies) × ((p : Part) → IsPart p → part_bytes p ≢ get_or bodies n [])
+IsRefusal bodies (Strange n fault) = (n < length bodies) × IsWrong (get_or bodies n []) fault
+    × ((p : Part) → IsPart p → part_bytes p ≢ get_or bodies n [])
+    × ((parts : List Part) × All IsPart parts × (map part_bytes parts ≡ take n bodies))
 IsRefusal bodies Memory = ⊤
+
+-- a body that was not read, of the record of this number
+abbrev pub body_refusal : ℕ → DecodeFault → PartsFault
+body_refusal n WantOfMemory = Memory
+body_refusal n fault = Strange n fault
 
 -- a file has one list of parts at most
 abbrev pub PartsAreUnique : Type 0

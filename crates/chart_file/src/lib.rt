@@ -8,7 +8,7 @@ mod reading;
 mod records;
 mod writing;
 
-pub use fault::PartsFault;
+pub use fault::{DecodeFault, PartsFault};
 pub use laws::{one_list_of_parts, one_part, parts_go_on};
 pub use part::{BareSquare, ColumnPart};
 pub use reading::decode;

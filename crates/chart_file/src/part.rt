@@ -111,6 +111,13 @@ impl ColumnPart {
         self.squares.as_slice()
     }
 
+    /// Its squares alone, by row.
+    pub fn into_squares(self) -> Vec<BareSquare>
+        ensures { result.items ≡ self.squares }
+    {
+        self.squares
+    }
+
     /// Puts the square of the next row behind the others.
     ///
     /// # Errors

@@ -2,9 +2,9 @@
 ghost use Rattle.std.specs.Prelude.{◌≡◌, All, map, IfOk, IfErr};
 ghost use Rattle.save_journal.specs.Journals.{contents};
 ghost use Rattle.chart_file.specs.Parts.{IsPart, part_bytes};
-ghost use Rattle.chart_file.specs.Files.{IsRefusal};
+ghost use Rattle.chart_file.specs.Files.{IsRefusal, body_refusal};
 
-use crate::fault::PartsFault;
+use crate::fault::{DecodeFault, PartsFault};
 use crate::part::ColumnPart;
 use crate::reading::decode;
 use crate::writing::encode;
@@ -30,7 +30,7 @@ pub fn framed_part(alloc: Global, part: &ColumnPart) -> Result<Framed, Memory>
 /// The parts that the bodies of a journal's records are, in order.
 ///
 /// # Errors
-/// `Strange` with the number of a body that is none, and `Memory` if allocation fails.
+/// `Strange` with the number of the first body that is none and with what is wrong with it, and `Memory` if allocation fails.
 pub fn parts_of(alloc: Global, bodies: &[Vec<u8>]) -> Result<Vec<ColumnPart>, PartsFault>
     ensures parts { IfOk result (λ parts. map part_bytes parts.items ≡ contents bodies.now) }
     ensures are { IfOk result (λ parts. All IsPart parts.items) }
@@ -39,10 +39,20 @@ pub fn parts_of(alloc: Global, bodies: &[Vec<u8>]) -> Result<Vec<ColumnPart>, Pa
     let mut parts = Vec::with_capacity(alloc, bodies.len())?;
     for i in 0..bodies.len() {
         let body = bodies[i].as_slice();
-        let Some(part) = decode(alloc, body)? else {
-            return Err(PartsFault::Strange { number: i as u64 });
-        };
-        parts.push(part)?;
+        match decode(alloc, body) {
+            Ok(part) => parts.push(part)?,
+            Err(fault) => return Err(refusal(i as u64, fault)),
+        }
     }
     Ok(parts)
+}
+
+/// Why records are not read of which the one of this number has a body that was not read.
+fn refusal(number: u64, fault: DecodeFault) -> PartsFault
+    ensures { result ≡ body_refusal number fault }
+{
+    match fault {
+        DecodeFault::Memory => PartsFault::Memory,
+        fault => PartsFault::Strange { number, fault },
+    }
 }
