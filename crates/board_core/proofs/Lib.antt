@@ -16,4 +16,4 @@ mod RowsOut
 pub mod Short
 mod Sound
 pub mod Starts
-pub mod Waiting
+mod Waiting

@@ -5,11 +5,9 @@ use Rattle.bidegree.specs.declared.shape.Shape.{Shape}
 use Rattle.board_core.specs.declared.event.Out.{Out}
 use Rattle.board_core.specs.declared.event.Entry.{Entry}
 use Rattle.board_core.specs.Entries.{event_of, events_by, HasNoneOut}
-use Rattle.board_core.specs.Laws.{IsReachedByEntries, HasReady, HasUnfinished, IsHeldByAnother}
+use Rattle.board_core.specs.Laws.{IsReachedByEntries, HasReady, HasUnfinished, IsHeldByAnother, SomeSquareIsReady, HeldIsOpenTake}
 use Rattle.board_core.specs.Machine.{State, IsReady, IsHeld, has_entry}
 use Rattle.board_core.proofs.Histories.{reached_runs}
-use Rattle.board_core.proofs.OpenTakes.{held_is_open_take}
-use Rattle.board_core.proofs.Ready.{some_ready}
 
 has_first : (e : Out) (out : List Out) → has_entry (e ∷ out) e.who e.s e.above ≡ true
 has_first e out =
@@ -18,8 +16,8 @@ has_first e out =
     let degree : nat_eq e.above e.above ≡ true = grind (arith, nat_tests) in
     grind arith
 
-pub idle_waits : (bottom : ℤ) (shape : Shape) (s t : ℕ) (start : List (ℕ × ℤ)) (events : List Entry) (state : State) → IsReachedByEntries bottom shape s t start events state → state.cause ≡ None → ((i k : ℕ) → IsReady state i k → ⊥) → HasUnfinished state → (who : ℕ) → HasNoneOut (events_by who events) → IsHeldByAnother state who
-idle_waits bottom shape s t start events state reached no_cause none_ready missing who none_out = by_first state.out refl
+pub idle_waits : SomeSquareIsReady → HeldIsOpenTake → (bottom : ℤ) (shape : Shape) (s t : ℕ) (start : List (ℕ × ℤ)) (events : List Entry) (state : State) → IsReachedByEntries bottom shape s t start events state → state.cause ≡ None → ((i k : ℕ) → IsReady state i k → ⊥) → HasUnfinished state → (who : ℕ) → HasNoneOut (events_by who events) → IsHeldByAnother state who
+idle_waits some_ready held_open bottom shape s t start events state reached no_cause none_ready missing who none_out = by_first state.out refl
   where
     runs : state.running ≡ true
     runs = reached_runs bottom shape s t start events state reached
@@ -37,7 +35,7 @@ idle_waits bottom shape s t start events state reached no_cause none_ready missi
         let held : IsHeld state e.who e.s degree = record { running = runs; above = e.above; degree = refl; held = subst (λ (l : List Out). has_entry l e.who e.s e.above ≡ true) (sym is) (has_first e out) } in
         record {
           other = e.who;
-          apart = λ same. none_out e.s degree (held_is_open_take bottom shape s t start events state reached who e.s degree (subst (λ (n : ℕ). IsHeld state n e.s degree) same held));
+          apart = λ same. none_out e.s degree (held_open bottom shape s t start events state reached who e.s degree (subst (λ (n : ℕ). IsHeld state n e.s degree) same held));
           s = e.s;
           t = degree;
           held = held;

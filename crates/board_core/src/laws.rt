@@ -41,7 +41,10 @@ pub fn held_is_open_take()
 /// ended waits for another who has one.
 pub fn idle_waits_for_another()
     ensures { IdleWaitsForAnother }
-{}
+{
+    some_square_is_ready();
+    held_is_open_take();
+}
 
 /// The cause that stands in a run is that of its first Back or Fail: `Failed` where it is a Fail, `Memory` where it is a Back, and none
 /// where there is neither.

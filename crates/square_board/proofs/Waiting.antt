@@ -2,8 +2,7 @@
 use Rattle.std.proofs.Common.{◌≡◌, ℕ, List, [], ◌++◌, ap, sym, ◌∙◌, subst}
 use Rattle.board_core.specs.declared.event.Entry.{Entry as Event}
 use Rattle.board_core.specs.Entries.{events_by, HasNoneOut}
-use Rattle.board_core.specs.Laws.{IsHeldByAnother}
-use Rattle.board_core.proofs.Waiting.{idle_waits}
+use Rattle.board_core.specs.Laws.{IsHeldByAnother, IdleWaitsForAnother}
 use Rattle.turn_lock.specs.Turns.{PassState}
 use Rattle.square_board.specs.declared.opening.Opening.{Opening}
 use Rattle.square_board.specs.Stocks.{StockWords}
@@ -14,8 +13,8 @@ use Rattle.square_board.specs.Boards.{HasTurned, state_seen}
 use Rattle.square_board.proofs.Courses.{events_of-numbered}
 use Rattle.square_board.proofs.Turning.{by_numbered}
 
-pub waits : {T O I M : Type 0} (w : StockWords T O I M) (old new : PassState (Opening T) Event) → HasTurned w old new [] → IsIdle (state_seen w new) → HasNoneOut new.own → IsHeldByAnother (state_seen w new) new.number
-waits {T} {O} {I} {M} w old new turned idle none =
+pub waits : {T O I M : Type 0} (w : StockWords T O I M) → IdleWaitsForAnother → (old new : PassState (Opening T) Event) → HasTurned w old new [] → IsIdle (state_seen w new) → HasNoneOut new.own → IsHeldByAnother (state_seen w new) new.number
+waits {T} {O} {I} {M} w law old new turned idle none =
     let P : Type 0 = PassState (Opening T) Event in
     let events : List Event = turned.before ++ [] in
     let seen : events_of new.seen ≡ events = ap (λ (p : P). events_of p.seen) turned.is ∙ events_of-numbered events in
@@ -26,4 +25,4 @@ waits {T} {O} {I} {M} w old new turned idle none =
     let course : Course = course_of w new.turn.name (events_of new.seen) in
     let legal : IsLegalCourse course =
     subst (λ (o : Opening T). IsLegalCourse (course_of w o (events_of new.seen))) (sym name) (subst (λ (l : List Event). IsLegalCourse (course_of w old.turn.name l)) (sym seen) turned.legal) in
-    idle_waits course.bottom course.shape course.rows course.degrees course.start course.history (state_of course) legal idle.no_cause idle.none_ready idle.unfinished new.number (subst HasNoneOut mine none)
+    law course.bottom course.shape course.rows course.degrees course.start course.history (state_of course) legal idle.no_cause idle.none_ready idle.unfinished new.number (subst HasNoneOut mine none)

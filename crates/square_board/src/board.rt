@@ -19,7 +19,7 @@ use crate::desk::Desk;
 use crate::job::{GiveFault, Job, Taken};
 use crate::stock::Stock;
 use bidegree::Range;
-use board_core::Entry;
+use board_core::{Entry, idle_waits_for_another};
 use memory::Memory;
 use std::alloc::Global;
 use std::marker::Model;
@@ -110,10 +110,21 @@ impl<T: Stock> Board<T> {
         ensures waits { result ≡ Ok Idle → HasNoneOut pass.new.own →
             IsHeldByAnother (state_seen T.words pass.new) pass.new.number }
     {
+        idle_waits_for_another();
         let mut held = self.turn.acquire(wait, pass);
         let taken = held.value.take(alloc, pass.number());
         self.turn.release(pass, held);
+        self.wake_after(&taken);
         taken
+    }
+
+    /// Wakes whom it concerns what a take found: all where the board has ended, and one where a square was left for lack of memory.
+    fn wake_after(&self, taken: &Result<Taken<Job<T::Inputs>>, Memory>) {
+        match taken {
+            Ok(Taken::Over) | Ok(Taken::Stopped(_)) => self.turn.wake_all(),
+            Err(Memory) => self.turn.wake_one(),
+            Ok(Taken::Job(_)) | Ok(Taken::Idle) => {}
+        }
     }
 
     /// Gives what was made at the square of a job. It is put into the stock, and then the square is done. What it was made from is
@@ -142,6 +153,7 @@ impl<T: Stock> Board<T> {
         let mut held = self.turn.acquire(wait, pass);
         let given = held.value.give(alloc, &job, made);
         self.turn.release(pass, held);
+        self.turn.wake_one();
         job.spend();
         given
     }
@@ -207,7 +219,8 @@ impl<T: Stock> Board<T> {
         found
     }
 
-    /// Waits until more has happened than the pass saw when it last took, gave, handed back, looked, joined or rested.
+    /// Waits until more has happened than the pass saw when it last took, gave, handed back, looked, joined or rested. Each give
+    /// wakes one that rests: it makes two squares ready at most, and who gave takes one of them. A take that finds the board ended wakes all.
     ///
     /// By what it has seen no square may be taken and some are not done, and it has none out itself. So it waits for another, who has a
     /// square (`waits` of `take`).

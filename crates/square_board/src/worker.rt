@@ -55,14 +55,14 @@ pub fn work<R: Wait + Clock, T: Stock, G: Gate>(
         (result ≡ Stopped cause) ↔ (first_cause (events_of pass.new.seen) ≡ Some cause) }
     ensures stays { result ≡ NoMemory → IsIdle (state_seen T.words pass.new) → ⊥ }
 {
-    let mut spare = Spare::first();
+    let mut spare = Spare::first(pass.number());
     let mut made = [0; ALL_ROWS];
     for _ in wait.forever() {
         match board.take(wait, alloc, pass) {
             Ok(Taken::Job(job)) => {
                 gate.entered(job.s(), job.t());
                 make(wait, alloc, board, pass, job);
-                spare = Spare::first();
+                spare = Spare::first(pass.number());
             }
             Ok(Taken::Idle) => spare = prepare(wait, alloc, board, pass, spare, &mut made),
             Ok(Taken::Over) => return WorkEnd::Over,
@@ -72,6 +72,9 @@ pub fn work<R: Wait + Clock, T: Stock, G: Gate>(
     }
     unreachable!()
 }
+
+/// How many workers make products before they rest: those of the lowest numbers.
+const HELPERS: u64 = 4;
 
 /// For how many rows a worker makes products before it rests.
 const ROWS: u16 = 3;
@@ -89,12 +92,10 @@ enum Spare<T: Stock> {
 }
 
 impl<T: Stock> Spare<T> {
-    /// What it does first.
-    fn first() -> Self {
-        Spare::Look {
-            from: 0,
-            rows: ROWS,
-        }
+    /// What the worker of this number does first.
+    fn first(number: u64) -> Self {
+        let rows = if number < HELPERS { ROWS } else { 0 };
+        Spare::Look { from: 0, rows }
     }
 }
 
@@ -121,7 +122,7 @@ fn prepare<R: Wait + Clock, T: Stock>(
     match spare {
         Spare::Look { rows: 0, .. } => {
             board.rest(wait, pass);
-            Spare::first()
+            Spare::first(pass.number())
         }
         Spare::Look { from, rows } => match board.ahead(wait, alloc, pass, from) {
             Some(ahead) => Spare::Make {

@@ -15,7 +15,10 @@ use atomic_table::{Seat, Table};
 use std::alloc::Global;
 use std::marker::Model;
 use std::sync::Wait;
-use std::time::Clock;
+use std::time::{Clock, Duration};
+
+/// How long a pass that rests sleeps if nobody wakes it, in milliseconds.
+const NAP_MILLIS: u64 = 100;
 
 /// The seat of a pass at the turn's table.
 pub(crate) type PassSeat<T> = Seat<Option<T>, View<<T as Told>::Name, <T as Told>::Entry>>;
@@ -70,7 +73,7 @@ impl<T: Told> Turn<T> {
             if let Some(held) = self.try_acquire(pass) {
                 return held;
             }
-            pauses = pause(wait, pauses);
+            pauses = pause(wait, pass.number, pauses);
         }
         unreachable!()
     }
@@ -210,7 +213,8 @@ impl<T: Told> Turn<T> {
 
     /// Waits until the history has more entries than the pass saw in its last turn, rest or join. Then it has seen these.
     ///
-    /// What `count` told it since does not matter here.
+    /// What `count` told it since does not matter here. A pass that rests looks when it is woken, by `wake_one` or `wake_all`, and some ten
+    /// times a second by itself.
     pub fn rest<R: Wait + Clock>(&self, wait: &R, pass: &mut Pass<T>)
         requires pass { pass.old.turn ≡ self.now }
         requires idle { pass.old.holds ≡ false }
@@ -219,14 +223,31 @@ impl<T: Told> Turn<T> {
         ensures more { length pass.old.seen < length pass.new.seen }
     {
         let _count = pass.count; // What is known of a pass, which proofs learn here.
-        let mut pauses = 0;
         for _ in wait.forever() {
+            let word = self.table.shared.peek(0);
             if self.sees_more(pass) {
                 return;
             }
-            pauses = pause(wait, pauses);
+            self.nap(wait, word);
         }
         unreachable!()
+    }
+
+    /// Sleeps until it is woken, or for the longest nap; and not at all if a turn began or ended since word 0 was this one.
+    fn nap<R: Wait>(&self, wait: &R, word: u64) {
+        let low_bits = (word & 0xffff_ffff) as u32;
+        let longest = Duration::from_millis(NAP_MILLIS);
+        self.table.shared.park_timeout(wait, 0, low_bits, longest);
+    }
+
+    /// Wakes one pass that rests, if there is one.
+    pub fn wake_one(&self) {
+        self.table.shared.wake_one(0);
+    }
+
+    /// Wakes all passes that rest.
+    pub fn wake_all(&self) {
+        self.table.shared.wake_all(0);
     }
 
     /// Whether the history has more entries than the pass saw in its last turn, rest or join. It has then seen them.

@@ -172,4 +172,4 @@ returns-clause-waits g c =
     let new = c.release.new.pass in
     λ is none.
     let turned : HasTurned w old new [] = subst (λ r. MatchTaken r (λ job. HasTakenJob w old new job) (HasTurned w old new [])) is (returns-clause-job g c) in
-    waits w old new turned ((returns-clause-idle g c).0 is).1 none
+    waits w c.idle_waits_for_another.ensures old new turned ((returns-clause-idle g c).0 is).1 none
