@@ -10,7 +10,7 @@ use Rattle.finite_module.specs.Module.{Module as SteenrodModule}
 use Rattle.resolution_laws.specs.Start.{Entry, IsOf, IsCanonicalStart}
 use Rattle.square.specs.Squares.{over, module_over}
 use Rattle.square.specs.Tables.{Staircase}
-use Rattle.square.specs.Keeping.{Keeper, IsKeeperOf, HasKept}
+use Rattle.square.specs.Keeping.{IsKeeperOf, HasKept}
 use Rattle.resolution_step.specs.Alone.{IsUntouched}
 use Rattle.cert_check.specs.declared.fault.CertFault.{CertFault}
 use Rattle.save_journal.specs.Records.{Records}
@@ -18,6 +18,7 @@ use Rattle.save_journal.specs.Journals.{HasRecordsOf, HaveSameRecords, ComeFromE
 use Rattle.save_journal.specs.declared.fault.OpenFault.TheVariants.{Failed as DiskFailed, NotSave, Other, Damaged, Short, Memory as OpenMemory}
 use Rattle.save_file.specs.Bodies.{Kept, entries, kept_at}
 use Rattle.save_file.specs.Files.{digest_of, standing_of, of_records, kept_by}
+use Rattle.save_file.specs.Saved.{kept_of_table}
 use Rattle.save_file.specs.Saving.{SaveState, kept_in, telling_of}
 use Rattle.save_file.specs.declared.fault.ResumeFault.{ResumeFault}
 use Rattle.save_file.specs.declared.fault.ResumeFault.TheVariants.{Open, Strange, Memory as OutOfMemory}
@@ -28,9 +29,10 @@ use Rattle.ext_run.specs.declared.task.Task.TheVariants.{Text, Resolution, Migra
 use Rattle.ext_run.specs.declared.task.Resolution.{Resolution as ToResolve}
 use Rattle.ext_report.specs.Failure.{resume_failure, IsOfClasses}
 use Rattle.ext_run.specs.Forms.{IsInForm, IsRefusedIn}
+use Rattle.run_file.specs.RunFile.{RunState}
 use Rattle.ext_run.specs.Devices.{Store}
 use Rattle.ext_run.specs.Plan.{Use, keeping, migrating, verifying}
-use Rattle.ext_run.specs.Saving.{AreCanonical, StandsWith, StandsAsOneOf, IsOurs, MayBeLeft, IsUnwritten, StaysIfWhole, HasLasted}
+use Rattle.ext_run.specs.Saving.{kept_of, AreCanonical, StandsWith, StandsAsOneOf, IsOurs, MayBeLeft, IsUnwritten, StaysIfWhole, HasLasted}
 use Rattle.ext_run.specs.Migrating.{KeepsOn, HasMigrated}
 use Rattle.ext_run.specs.Certificates.{IsNoCertificate}
 use Rattle.ext_run.specs.Disks.{IsFitFor, HasServed}
@@ -38,7 +40,7 @@ use Rattle.ext_run.specs.Task.{IsDoneBy}
 use Rattle.ext_run.specs.Work.{Told, HasAnswer, answer_of, IsTaskRefusal, IsFileRefusal, IsCertificateRefusal, HasContinued, HasUsed}
 use Rattle.save_file.proofs.Entries.{some_is}
 use Rattle.ext_run.proofs.Continuing.{refused_classes}
-use Rattle.ext_run.proofs.Lasting.{at_some, all_first, canonical_start, as_one, AreDisks, unwritten_since, none_put, lasting}
+use Rattle.ext_run.proofs.Lasting.{at_some, all_first, canonical_start, as_one, AreDisks, unwritten_since, none_put, running, lasting}
 
 -- ---- failures
 
@@ -295,34 +297,42 @@ module _ {D : Type 0} (store : Store D) (laws : AreDisks store) (m : SteenrodMod
 -- ---- a resolution
 
 module _ {D : Type 0} (store : Store D) (laws : AreDisks store) (r : ToResolve) (disk : D) where
-  abbrev telling : SaveState D → Keeper
-  telling k = telling_of store.now store.moment store.images store.images_at store.since store.faults k
+  module _ (text : Told) (table : Staircase) (file : SaveState D) (k after : RunState D) (made : k ≡ record { file = file; had = kept_of_table table }) (squares : IfSome (store.now disk) (λ file. standing_of r.resolved.plain file ≡ Ok table.start)) (resolved : table.resolved ≡ r.resolved) (keeper : IsKeeperOf (telling_of store.now store.moment store.images store.images_at store.since store.faults file) table)
+      (kept : kept_in store.now file ≡ option_map (λ _. table.start) (store.now disk)) (opening : IfSome (store.now disk) (λ _. LeavesOnly store.moment store.since disk file.journal.disk (HasRecordsOf (digest_of r.resolved.plain) (store.images disk)))) (no_fault : store.faults file.journal.disk ≡ store.faults disk)
+      (continued : HasContinued r.common.range r.form table text (running store k) (running store after)) (untouched : IsUntouched (running store) k after) (stays : StaysIfWhole store r.resolved.plain disk file.journal.disk)
+      (had_is : (bytes : List ℕ) → store.now disk ≡ Some bytes → kept_of r.resolved.plain bytes ≡ kept_of_table table) where
+    abbrev begun_as : RunState D
+    begun_as = record { file = file; had = kept_of_table table }
 
-  module _ (text : Told) (table : Staircase) (k after : SaveState D) (squares : IfSome (store.now disk) (λ file. standing_of r.resolved.plain file ≡ Ok table.start)) (resolved : table.resolved ≡ r.resolved) (keeper : IsKeeperOf (telling k) table)
-      (kept : kept_in store.now k ≡ option_map (λ _. table.start) (store.now disk)) (opening : IfSome (store.now disk) (λ _. LeavesOnly store.moment store.since disk k.journal.disk (HasRecordsOf (digest_of r.resolved.plain) (store.images disk)))) (no_fault : store.faults k.journal.disk ≡ store.faults disk)
-      (continued : HasContinued r.common.range r.form table text (telling k) (telling after)) (untouched : IsUntouched telling k after) (stays : StaysIfWhole store r.resolved.plain disk k.journal.disk) where
     answer_told : HasAnswer text → IsSome (store.now disk) → (list : List Entry) → IsOurs r.resolved.plain list (store.images disk) → IsInForm r.form r.common.range r.resolved.plain (answer_of text)
     answer_told has told list ours =
         let found = here store laws r.resolved.plain disk list told ours in
-        let is = begun store laws r.resolved.plain disk table k squares no_fault list found.2.more found.0 found.1 found.2.stands in
+        let is = begun store laws r.resolved.plain disk table file squares no_fault list found.2.more found.0 found.1 found.2.stands in
         let start : IsCanonicalStart (over r.resolved) table.start = subst (IsCanonicalStart (over r.resolved)) (sym is) (canonical_start (over r.resolved) (list ++ found.2.more) found.2.canonical) in
         let P : Checked → Type 0 = λ m. IsCanonicalStart (over m) table.start → IsInForm r.form r.common.range m.plain (answer_of text) in
         subst P resolved (continued.told has) start
 
-    lasted : (list : List Entry) → IsSome (store.now disk) → IsOurs r.resolved.plain list (store.images disk) → HasLasted store r.resolved.plain r.common.range list (HasAnswer text) (text ≢ Err Saving) disk after.journal.disk
+    lasted : (list : List Entry) → IsSome (store.now disk) → IsOurs r.resolved.plain list (store.images disk) → HasLasted store r.resolved.plain r.common.range list (HasAnswer text) (text ≢ Err Saving) disk after.file.journal.disk
     lasted list told ours =
         let found = here store laws r.resolved.plain disk list told ours in
         let with = found.2 in
-        let is = begun store laws r.resolved.plain disk table k squares no_fault list with.more found.0 found.1 with.stands in
-        let k_resolved : k.resolved ≡ r.resolved = sym keeper.resolved ∙ resolved in
-        let kept_is : kept_in store.now k ≡ Some (list ++ with.more) = kept ∙ ap (option_map (λ _. table.start)) found.1 ∙ ap (λ (l : List Entry). Some l) is in
-        let opened = at_some (store.now disk) (λ _. LeavesOnly store.moment store.since disk k.journal.disk (HasRecordsOf (digest_of r.resolved.plain) (store.images disk))) found.0 found.1 opening in
-        let given = subst (λ (m : Checked). HasKept (over m) table.start (telling k) (telling after) continued.given) resolved continued.kept in
-        let given_behind = subst (λ (l : List Entry). HasKept (over r.resolved) l (telling k) (telling after) continued.given) is given in
-        lasting store laws r.resolved r.common.range list with.more continued.given (HasAnswer text) (text ≢ Err Saving) disk k after (λ file here. start_is store laws r.resolved.plain disk table k squares no_fault file here ∙ ap (λ (l : List Entry). Ok l) is) with.at_most_one with.canonical ours k_resolved (sym keeper.start ∙ is) kept_is opened given_behind continued.places
-        (answer_unfailed text) continued.live untouched stays continued.whole
+        let is = begun store laws r.resolved.plain disk table file squares no_fault list with.more found.0 found.1 with.stands in
+        let k_resolved : file.resolved ≡ r.resolved = sym keeper.resolved ∙ resolved in
+        let kept_is : kept_in store.now file ≡ Some (list ++ with.more) = kept ∙ ap (option_map (λ _. table.start)) found.1 ∙ ap (λ (l : List Entry). Some l) is in
+        let opened = at_some (store.now disk) (λ _. LeavesOnly store.moment store.since disk file.journal.disk (HasRecordsOf (digest_of r.resolved.plain) (store.images disk))) found.0 found.1 opening in
+        let given_here = subst (λ (x : RunState D). HasKept (over table.resolved) table.start (running store x) (running store after) continued.given) made continued.kept in
+        let given = subst (λ (m : Checked). HasKept (over m) table.start (running store begun_as) (running store after) continued.given) resolved given_here in
+        let still = subst (λ (x : RunState D). IsUntouched (running store) x after) made untouched in
+        let given_behind = subst (λ (l : List Entry). HasKept (over r.resolved) l (running store begun_as) (running store after) continued.given) is given in
+        lasting store laws r.resolved r.common.range list with.more continued.given (HasAnswer text) (text ≢ Err Saving) disk begun_as after (λ bytes there. start_is store laws r.resolved.plain disk table file squares no_fault bytes there ∙ ap (λ (l : List Entry). Ok l) is) with.at_most_one with.canonical ours k_resolved (sym keeper.start ∙ is) kept_is had_is opened given_behind continued.places
+        (answer_unfailed text) continued.live still stays continued.whole
 
-    pub kept_on : HasUsed store (keeping r.common.range) r.resolved.plain (Resolution r) text disk after.journal.disk
+    faults_same : store.faults k.file.journal.disk ≡ store.faults file.journal.disk
+    faults_same = ap (λ (x : RunState D). store.faults x.file.journal.disk) made
+
+    pub kept_on : HasUsed store (keeping r.common.range) r.resolved.plain (Resolution r) text disk after.file.journal.disk
     kept_on =
-        used_on store laws r.resolved.plain disk table k squares no_fault (keeping r.common.range) (Resolution r) text after.journal.disk (λ has told fit. answer_told has told fit.0 fit.1) (why_continued r (store.now disk) text (subst (λ (m : Checked). IfErr text (λ e. (e ≡ Saving) ⊎ (e ≡ Memory) ⊎ IsRefusedIn r.form r.common.range m.plain (Err e))) resolved continued.why)) continued.failed continued.no_fault
-        continued.kept.never_fall lasted
+        let failed = λ is. subst (λ (n : ℕ). HasRisen n (store.faults after.file.journal.disk)) faults_same (continued.failed is) in
+        let never_fall = continued.kept.never_fall in
+        used_on store laws r.resolved.plain disk table file squares no_fault (keeping r.common.range) (Resolution r) text after.file.journal.disk (λ has told fit. answer_told has told fit.0 fit.1) (why_continued r (store.now disk) text (subst (λ (m : Checked). IfErr text (λ e. (e ≡ Saving) ⊎ (e ≡ Memory) ⊎ IsRefusedIn r.form r.common.range m.plain (Err e))) resolved continued.why)) failed (λ has. continued.no_fault has ∙ faults_same)
+        (omega (arith, faults_same, never_fall)) lasted

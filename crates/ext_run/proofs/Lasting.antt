@@ -2,8 +2,9 @@
 use Rattle.std.proofs.Common.{◌≡◌, ℕ, ◌≤◌, ◌⊎◌, inl, inr, List, [], ◌∷◌, ◌++◌, length, Bool, true, false, ap, sym, subst, ◌∙◌, refl, arith, append-nil}
 use Rattle.std.proofs.lemmas.Bool.{and_parts, eqb-true}
 use Rattle.std.proofs.lemmas.Option.{none-some, same_Some}
+use Rattle.std.proofs.lemmas.List.{take_all}
 use Rattle.std.proofs.lemmas.List.Elements.{All-nil, All-cons, All-head, All-tail, All-append, All-weaker}
-use Rattle.std.specs.Prelude.{Option, Some, None, IfSome, IsSome, Ok, Err, nat_eq, ◌&&◌, ◌↔◌, if◌then◌else◌}
+use Rattle.std.specs.Prelude.{Option, Some, None, IfSome, IsSome, Ok, Err, nat_eq, take, ◌&&◌, ◌↔◌, if◌then◌else◌}
 use Rattle.std.specs.List.{All}
 use Rattle.std.specs.Option.{option_map}
 use Rattle.std.specs.Result.{result_ok}
@@ -19,12 +20,14 @@ use Rattle.square.specs.Keeping.{Keeper, HasFirst, Retains, HasKept, IsImageWith
 use Rattle.save_journal.specs.Records.{Records}
 use Rattle.save_journal.specs.Journals.{HasRecordsOf, IsSettled}
 use Rattle.save_file.specs.Bodies.{Kept}
-use Rattle.save_file.specs.Files.{Standing, digest_of, of_records, standing_of, squares_in, first_squares}
-use Rattle.save_file.specs.Saving.{SaveState, HasSquares, TakesSquares, kept_in, telling_of}
+use Rattle.save_file.specs.Files.{Standing, digest_of, of_records, standing_of, squares_in, first_records, first_squares, first_kept, kept_by}
+use Rattle.save_file.specs.Saving.{SaveState, HasSquares, kept_in, quasis_in}
 use Rattle.save_file.specs.Inside.SavingLaws.{left_is_kept}
 use Rattle.save_file.proofs.Entries.{some_is}
 use Rattle.save_file.proofs.Adding.{kept_whole, made_are}
 use Rattle.resolution_step.specs.Alone.{IsInRange, IsUntouched}
+use Rattle.run_file.specs.RunFile.{HasQuasi, KeepsQuasis, RunState, TakesMore, telling_run}
+use Rattle.run_file.proofs.Running.{telling_file, of_file, had_stays}
 use Rattle.ext_run.specs.Devices.{Store}
 use Rattle.ext_run.specs.Saving.{AreCanonical, StandsWith, StandsAmid, StandsAtPart, StandsAsOneOf, squares_of, kept_of, KeepsWhole, IsOurs, MayBeLeft, IsUnwritten, StaysIfWhole, HasRetained, HasLasted, HasRange}
 
@@ -120,6 +123,12 @@ keeps_whole m start given n file has is = record {
   whole = has.whole;
 }
 
+-- as many records as are counted are all of them
+first_kept_all : (m : Checked) (start : List Entry) (n : ℕ) (file : List ℕ) (has : HasSquares m start n file) → first_kept m n file ≡ kept_of m.plain file
+first_kept_all m start n file has =
+    let all : take n has.bodies ≡ has.bodies = take_all n has.bodies (let few = has.counted in omega (arith, few)) in
+    ap (kept_by (over m)) (ap (first_records n) has.records ∙ ap (λ (l : List (List ℕ)). Ok l) all ∙ sym has.records)
+
 -- ---- a run
 
 -- what the laws of the trait say of its disks
@@ -131,11 +140,14 @@ pub record AreDisks {D : Type 0} (store : Store D) : Type 0 where
   pub since_at : (d : D) (t u : ℕ) (c : List ℕ) → t ≤ u → u ≤ store.moment d → store.images_at d u c → store.since d t c
   pub at_since : (d : D) (t : ℕ) (c : List ℕ) → store.since d t c → WasImageSince (store.moment d) (store.images_at d) t c
 
-module _ {D : Type 0} (store : Store D) (laws : AreDisks store) where
-  -- what contracts see of a save file as a keeper
-  abbrev telling : SaveState D → Keeper
-  telling k = telling_of store.now store.moment store.images store.images_at store.since store.faults k
+-- what contracts see of the keeper of a run, and of it with the moments of its file
+abbrev pub running : {D : Type 0} → Store D → RunState D → Keeper
+running store k = telling_run store.now store.moment store.images store.images_at store.since store.faults k
 
+abbrev in_file : {D : Type 0} → Store D → RunState D → Keeper
+in_file store k = telling_file store.now store.moment store.images store.images_at store.since store.faults k
+
+module _ {D : Type 0} (store : Store D) (laws : AreDisks store) where
   -- what was left since the beginning, and what is left now, was left before it
   pub unwritten_since : (old new : D) → store.now new ≡ store.now old → IfSome (store.now old) (λ _. LeavesOnly store.moment store.since old new (store.images old)) → IsUnwritten store old new
   unwritten_since old new same was = (
@@ -181,17 +193,21 @@ module _ {D : Type 0} (store : Store D) (laws : AreDisks store) where
         keeps = λ worked c was. inl (stood c was);
         settled = λ worked. inl (refl, refl, unwritten worked);
         made = λ worked c image. keeps_none m c;
+        stay = λ worked. inl (unwritten worked);
         idle = λ worked none file is whole. unwritten worked;
         exact = λ h. absurd (never h);
         whole = λ h. absurd (never h);
       }
 
-  module _ (m : Checked) (range : Range) (list more given : List Entry) (had_answer unfailed : Type 0) (disk : D) (k after : SaveState D)
-      (file_stands : (file : List ℕ) → store.now disk ≡ Some file → standing_of m.plain file ≡ Ok (list ++ more)) (at_most_one : length more ≤ 1) (canonical : AreCanonical m.plain (list ++ more)) (ours : IsOurs m.plain list (store.images disk)) (resolved : k.resolved ≡ m) (start_is : k.start ≡ list ++ more) (kept_is : kept_in store.now k ≡ Some (list ++ more))
-      (opening : LeavesOnly store.moment store.since disk k.journal.disk (HasRecordsOf (digest_of m.plain) (store.images disk))) (kept : HasKept (over m) (list ++ more) (telling k) (telling after) given) (places : All (λ e. IsInRange range e.s e.above) given)
-      (answered : had_answer → unfailed) (live : unfailed → TakesSquares store.now store.images after) (untouched : IsUntouched telling k after) (stays : StaysIfWhole store m.plain disk k.journal.disk) (whole : had_answer → IfSome (kept_in store.now after) (HasRange range)) where
+  module _ (m : Checked) (range : Range) (list more given : List Entry) (had_answer unfailed : Type 0) (disk : D) (k after : RunState D)
+      (file_stands : (file : List ℕ) → store.now disk ≡ Some file → standing_of m.plain file ≡ Ok (list ++ more)) (at_most_one : length more ≤ 1) (canonical : AreCanonical m.plain (list ++ more)) (ours : IsOurs m.plain list (store.images disk)) (resolved : k.file.resolved ≡ m) (start_is : k.file.start ≡ list ++ more) (kept_is : kept_in store.now k.file ≡ Some (list ++ more)) (had_is : (file : List ℕ) → store.now disk ≡ Some file → kept_of m.plain file ≡ k.had)
+      (opening : LeavesOnly store.moment store.since disk k.file.journal.disk (HasRecordsOf (digest_of m.plain) (store.images disk))) (keeping : HasKept (over m) (list ++ more) (running store k) (running store after) given) (places : All (λ e. IsInRange range e.s e.above) given)
+      (answered : had_answer → unfailed) (live : unfailed → TakesMore store.now store.images after) (untouched : IsUntouched (running store) k after) (stays : StaysIfWhole store m.plain disk k.file.journal.disk) (whole : had_answer → IfSome (kept_in store.now after.file) (HasRange range)) where
     abbrev start : List Entry
     start = list ++ more
+
+    kept : HasKept (over m) start (in_file store k) (in_file store after) given
+    kept = of_file store.now store.moment store.images store.images_at store.since store.faults (over m) start given k after keeping
 
     reads : IsCanonicalStart (over m) start
     reads = canonical_start (over m) start canonical
@@ -202,21 +218,21 @@ module _ {D : Type 0} (store : Store D) (laws : AreDisks store) where
     all_canonical : AreCanonical m.plain (start ++ given)
     all_canonical = All-append (λ e. IsOf (over m) [] e.s e.above e.content) start given canonical given_canonical
 
-    after_resolved : after.resolved ≡ m
-    after_resolved = let same : Some after.resolved ≡ Some k.resolved = kept.same_module in let one : after.resolved ≡ k.resolved = cc in one ∙ resolved
+    after_resolved : after.file.resolved ≡ m
+    after_resolved = let same : Some after.file.resolved ≡ Some k.file.resolved = kept.same_module in let one : after.file.resolved ≡ k.file.resolved = cc in one ∙ resolved
 
-    read_after : (c : List ℕ) → squares_in after.resolved c ≡ squares_in m c
+    read_after : (c : List ℕ) → squares_in after.file.resolved c ≡ squares_in m c
     read_after c = ap (λ (q : Checked). squares_in q c) after_resolved
 
     -- what is told of the list that was kept before
-    at_start : (P : List Entry → Type 0) → IfSome (kept_in store.now k) P → P start
+    at_start : (P : List Entry → Type 0) → IfSome (kept_in store.now k.file) P → P start
     at_start P h = subst (λ (o : Option (List Entry)). IfSome o P) kept_is h
 
-    after_kept : kept_in store.now after ≡ Some (start ++ given)
+    after_kept : kept_in store.now after.file ≡ Some (start ++ given)
     after_kept = kept.kept ∙ ap (λ (o : Option (List Entry)). with_squares o given) kept_is
 
     -- what was left before the file was taken up stands for what a file from before the run stands for
-    stood : (c d : List ℕ) → store.since k.journal.disk (store.moment disk) d → squares_in after.resolved c ≡ squares_in k.resolved d → StandsAsOneOf m.plain (store.images disk) c
+    stood : (c d : List ℕ) → store.since k.file.journal.disk (store.moment disk) d → squares_in after.file.resolved c ≡ squares_in k.file.resolved d → StandsAsOneOf m.plain (store.images disk) c
     stood c d was is =
         let found = opening.each d was in
         let read : squares_in m c ≡ squares_in m d = sym (read_after c) ∙ is ∙ ap (λ (q : Checked). squares_in q d) resolved in
@@ -224,11 +240,11 @@ module _ {D : Type 0} (store : Store D) (laws : AreDisks store) where
         let alike = ap (λ (r : Records). of_records (over m) r) found.2 in
         (found.0, found.1, standing_same m (list ++ with.more) c d read (alike ∙ with.stands) ∙ alike)
 
-    moments : (c : List ℕ) → store.since after.journal.disk (store.moment disk) c → StandsWith m.plain list c ⊎ StandsAmid m.plain start given c
+    moments : (c : List ℕ) → store.since after.file.journal.disk (store.moment disk) c → StandsWith m.plain list c ⊎ StandsAmid m.plain start given c
     moments c left =
-        let image = squares_in after.resolved c in
-        let T = telling k in
-        let U = telling after in
+        let image = squares_in after.file.resolved c in
+        let T = in_file store k in
+        let U = in_file store after in
         let earlier = at_start (λ (l : List Entry). (t : ℕ) (i : Option (List Entry)) → t ≤ T.moment → U.since t i ↔ (T.since t i ⊎ U.since T.moment i)) kept.earlier in
         let between = at_start (λ (l : List Entry). (i : Option (List Entry)) → U.since T.moment i → IsImageAmid (over m) start l given i) kept.since in
         elim ((earlier (store.moment disk) image opening.later).0 (c, left, refl)) [
@@ -237,31 +253,31 @@ module _ {D : Type 0} (store : Store D) (laws : AreDisks store) where
               inr (stands_amid m start start given c reads canonical given_canonical (subst (IsImageAmid (over m) start start given) (read_after c) (between image now_left)))
         ]
 
-    in_the_end : IsOurs m.plain (start ++ given) (store.images after.journal.disk)
+    in_the_end : IsOurs m.plain (start ++ given) (store.images after.file.journal.disk)
     in_the_end c image =
-        let U = telling after in
+        let U = in_file store after in
         let ending = at_start (λ (l : List Entry). (i : Option (List Entry)) → U.since U.moment i → IsImageWith (over m) start (l ++ given) i) kept.now in
         stands_with m start (start ++ given) c reads all_canonical
-        (subst (IsImageWith (over m) start (start ++ given)) (read_after c) (ending (squares_in after.resolved c) (c, laws.counts_now after.journal.disk c image, refl)))
+        (subst (IsImageWith (over m) start (start ++ given)) (read_after c) (ending (squares_in after.file.resolved c) (c, laws.counts_now after.file.journal.disk c image, refl)))
 
-    retained : HasRetained store m.plain disk after.journal.disk
+    retained : HasRetained store m.plain disk after.file.journal.disk
     retained = record {
-      taken_up = store.moment k.journal.disk;
+      taken_up = store.moment k.file.journal.disk;
       until = λ t from upto c there.
-          let was = (kept.past t (squares_in after.resolved c) upto).0 (c, there, refl) in
-          stood c was.0 (laws.since_at k.journal.disk (store.moment disk) t was.0 from upto was.1) was.2;
+          let was = (kept.past t (squares_in after.file.resolved c) upto).0 (c, there, refl) in
+          stood c was.0 (laws.since_at k.file.journal.disk (store.moment disk) t was.0 from upto was.1) was.2;
       from = λ first t u from le within all c there.
-          let retains = at_start (λ (l : List Entry). Retains (telling k) (telling after)) kept.retained in
-          let has : HasFirst first (squares_in after.resolved c) =
-          retains first t u from le within (λ image was. subst (HasFirst first) (sym (was.2 ∙ read_after was.0)) (all was.0 was.1)) (squares_in after.resolved c) (c, there, refl) in
+          let retains = at_start (λ (l : List Entry). Retains (in_file store k) (in_file store after)) kept.retained in
+          let has : HasFirst first (squares_in after.file.resolved c) =
+          retains first t u from le within (λ image was. subst (HasFirst first) (sym (was.2 ∙ read_after was.0)) (all was.0 was.1)) (squares_in after.file.resolved c) (c, there, refl) in
           subst (HasFirst first) (read_after c) has;
     }
 
-    keeps : unfailed → (c : List ℕ) → store.since after.journal.disk (store.moment disk) c → StandsAsOneOf m.plain (store.images disk) c ⊎ StandsAtPart m.plain start given c
+    keeps : unfailed → (c : List ℕ) → store.since after.file.journal.disk (store.moment disk) c → StandsAsOneOf m.plain (store.images disk) c ⊎ StandsAtPart m.plain start given c
     keeps worked c left =
-        let image = squares_in after.resolved c in
-        let T = telling k in
-        let U = telling after in
+        let image = squares_in after.file.resolved c in
+        let T = in_file store k in
+        let U = in_file store after in
         let earlier = at_start (λ (l : List Entry). (t : ℕ) (i : Option (List Entry)) → t ≤ T.moment → U.since t i ↔ (T.since t i ⊎ U.since T.moment i)) kept.earlier in
         let exact = at_start (λ (l : List Entry). (i : Option (List Entry)) → U.since T.moment i → IsImagePart l given i) (kept.exact (live worked)) in
         elim ((earlier (store.moment disk) image opening.later).0 (c, left, refl)) [
@@ -271,34 +287,52 @@ module _ {D : Type 0} (store : Store D) (laws : AreDisks store) where
               inr (record { first = at.first; rest = at.rest; parts = at.parts; stands = standing_ok (standing_of m.plain c) (start ++ at.first) (sym (read_after c) ∙ at.is) })
         ]
 
-    only : unfailed → (c : List ℕ) → store.images after.journal.disk c → standing_of m.plain c ≡ Ok (start ++ given)
+    only : unfailed → (c : List ℕ) → store.images after.file.journal.disk c → standing_of m.plain c ≡ Ok (start ++ given)
     only worked c image =
-        let is_kept = left_is_kept store.now store.moment store.images store.since laws.only_now after (live worked) in
-        let U = telling after in
+        let is_kept = left_is_kept store.now store.moment store.images store.since laws.only_now after.file (live worked).takes in
+        let U = in_file store after in
         let exact = subst (λ (o : Option (List Entry)). IfSome o (λ (l : List Entry). (i : Option (List Entry)) → U.since U.moment i → i ≡ Some l)) after_kept is_kept in
-        standing_ok (standing_of m.plain c) (start ++ given) (sym (read_after c) ∙ exact (squares_in after.resolved c) (c, laws.counts_now after.journal.disk c image, refl))
+        standing_ok (standing_of m.plain c) (start ++ given) (sym (read_after c) ∙ exact (squares_in after.file.resolved c) (c, laws.counts_now after.file.journal.disk c image, refl))
 
     -- what it has now
-    has_given : (o : Option (List ℕ)) → store.now after.journal.disk ≡ o → IfSome o (HasSquares after.resolved after.start after.count) → IfSome o (λ file. IsSettled after.journal.digest after.journal.end file (store.images after.journal.disk)) → (c : List ℕ) → store.images after.journal.disk c → KeepsWhole m.plain given c
-    has_given None is has settled c image = absurd (none-some (start ++ given) (sym (ap (option_map (first_squares after.resolved after.count)) is) ∙ after_kept))
-    has_given (Some file) is has settled c image =
-        let same_start : Some after.start ≡ Some k.start = kept.same_start in
-        let begun : after.start ≡ start = same_Some after.start k.start same_start ∙ start_is in
-        let here : HasSquares m start after.count file = subst (λ (q : Checked). HasSquares q start after.count file) after_resolved (subst (λ (l : List Entry). HasSquares after.resolved l after.count file) begun has) in
-        let squares : Some (first_squares after.resolved after.count file) ≡ Some (start ++ given) = sym (ap (option_map (first_squares after.resolved after.count)) is) ∙ after_kept in
-        let counted : first_squares m after.count file ≡ start ++ given = ap (λ (q : Checked). first_squares q after.count file) (sym after_resolved) ∙ same_Some _ _ squares in
-        subst (KeepsWhole m.plain given) (sym (settled.only c image)) (keeps_whole m start given after.count file here counted)
+    squares_here : (file : List ℕ) → HasSquares after.file.resolved after.file.start after.file.count file → HasSquares m start after.file.count file
+    squares_here file has =
+        let same_start : Some after.file.start ≡ Some k.file.start = kept.same_start in
+        let begun : after.file.start ≡ start = same_Some after.file.start k.file.start same_start ∙ start_is in
+        subst (λ (q : Checked). HasSquares q start after.file.count file) after_resolved (subst (λ (l : List Entry). HasSquares after.file.resolved l after.file.count file) begun has)
 
-    made : unfailed → (c : List ℕ) → store.images after.journal.disk c → KeepsWhole m.plain given c
-    made worked = has_given (store.now after.journal.disk) refl (live worked).has (live worked).live.settled
+    has_given : (o : Option (List ℕ)) → store.now after.file.journal.disk ≡ o → IfSome o (HasSquares after.file.resolved after.file.start after.file.count) → IfSome o (λ file. IsSettled after.file.journal.digest after.file.journal.end file (store.images after.file.journal.disk)) → (c : List ℕ) → store.images after.file.journal.disk c → KeepsWhole m.plain given c
+    has_given None is has settled c image = absurd (none-some (start ++ given) (sym (ap (option_map (first_squares after.file.resolved after.file.count)) is) ∙ after_kept))
+    has_given (Some file) is has settled c image =
+        let here = squares_here file has in
+        let squares : Some (first_squares after.file.resolved after.file.count file) ≡ Some (start ++ given) = sym (ap (option_map (first_squares after.file.resolved after.file.count)) is) ∙ after_kept in
+        let counted : first_squares m after.file.count file ≡ start ++ given = ap (λ (q : Checked). first_squares q after.file.count file) (sym after_resolved) ∙ same_Some _ _ squares in
+        subst (KeepsWhole m.plain given) (sym (settled.only c image)) (keeps_whole m start given after.file.count file here counted)
+
+    made : unfailed → (c : List ℕ) → store.images after.file.journal.disk c → KeepsWhole m.plain given c
+    made worked = has_given (store.now after.file.journal.disk) refl (live worked).takes.has (live worked).takes.live.settled
+
+    has_had : (o : Option (List ℕ)) → IfSome o (HasSquares after.file.resolved after.file.start after.file.count) → IfSome o (λ file. IsSettled after.file.journal.digest after.file.journal.end file (store.images after.file.journal.disk)) → IfSome (option_map (first_kept after.file.resolved after.file.count) o) (KeepsQuasis after.had) →
+        (o ≡ None → ⊥) → (c : List ℕ) → store.images after.file.journal.disk c → KeepsQuasis after.had (kept_of m.plain c)
+    has_had None has settled stay told c image = absurd (told refl)
+    has_had (Some file) has settled stay told c image =
+        let here = squares_here file has in
+        let all : first_kept after.file.resolved after.file.count file ≡ kept_of m.plain file = ap (λ (q : Checked). first_kept q after.file.count file) after_resolved ∙ first_kept_all m start after.file.count file here in
+        subst (λ (d : List ℕ). KeepsQuasis after.had (kept_of m.plain d)) (sym (settled.only c image)) (subst (KeepsQuasis after.had) all stay)
+
+    stay : unfailed → (file : List ℕ) → store.now disk ≡ Some file → (c : List ℕ) → store.images after.file.journal.disk c → KeepsQuasis (kept_of m.plain file) (kept_of m.plain c)
+    stay worked file is c image s j r has =
+        let told : store.now after.file.journal.disk ≡ None → ⊥ = λ none. none-some (start ++ given) (sym (ap (option_map (first_squares after.file.resolved after.file.count)) none) ∙ after_kept) in
+        has_had (store.now after.file.journal.disk) (live worked).takes.has (live worked).takes.live.settled (live worked).stay told c image s j r
+        (had_stays store.now store.moment store.images store.images_at store.since store.faults (over m) start given k after keeping s j r (subst (λ (l : List Kept). HasQuasi l s j r) (had_is file is) has))
 
     -- where nothing was given, nothing was written since the file was taken up
     same_file : unfailed → given ≡ [] → after ≡ k
     same_file worked none =
-        let still : kept_in store.now after ≡ Some start = after_kept ∙ ap (λ (l : List Entry). Some (start ++ l)) none ∙ ap (λ (l : List Entry). Some l) (append-nil start) in
+        let still : kept_in store.now after.file ≡ Some start = after_kept ∙ ap (λ (l : List Entry). Some (start ++ l)) none ∙ ap (λ (l : List Entry). Some l) (append-nil start) in
         untouched (live worked) start kept_is still
 
-    pub lasting : HasLasted store m.plain range list had_answer unfailed disk after.journal.disk
+    pub lasting : HasLasted store m.plain range list had_answer unfailed disk after.file.journal.disk
     lasting = record {
       more = more;
       given = given;
@@ -312,7 +346,8 @@ module _ {D : Type 0} (store : Store D) (laws : AreDisks store) where
       keeps = keeps;
       settled = λ worked. inr (only worked);
       made = made;
-      idle = λ worked none. subst (λ (s : SaveState D). StaysIfWhole store m.plain disk s.journal.disk) (sym (same_file worked none)) stays;
+      stay = λ worked. inr (stay worked);
+      idle = λ worked none. subst (λ (s : RunState D). StaysIfWhole store m.plain disk s.file.journal.disk) (sym (same_file worked none)) stays;
       exact = λ has. only (answered has);
       whole = λ has. subst (λ (o : Option (List Entry)). IfSome o (HasRange range)) after_kept (whole has);
     }

@@ -120,6 +120,7 @@ module _ {D : Type 0} (disk : Store D) (m : SteenrodModule) (A B U V : Type 0) (
     keeps = λ v. h.keeps (u v);
     settled = λ v. h.settled (u v);
     made = λ v. h.made (u v);
+    stay = λ v. h.stay (u v);
     idle = λ v. h.idle (u v);
     exact = λ b. h.exact (f b);
     whole = λ b. h.whole (f b);

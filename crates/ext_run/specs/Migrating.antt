@@ -5,8 +5,9 @@ use Rattle.f2_matrix.specs.Reduction.{Reduction}
 use Rattle.finite_module.specs.Module.{Module as SteenrodModule}
 use Rattle.resolution_laws.specs.Start.{Entry}
 use Rattle.save_journal.specs.Journals.{HasRecordsOf, ComeFromEarlier}
-use Rattle.save_file.specs.Bodies.{Kept, entries, kept_at, with_quasi_at}
+use Rattle.save_file.specs.Bodies.{Kept, entries, with_quasi_at}
 use Rattle.save_file.specs.Files.{digest_of, standing_of}
+use Rattle.run_file.specs.RunFile.{KeepsQuasis}
 use Rattle.ext_run.specs.Devices.{Store}
 use Rattle.ext_run.specs.Saving.{AreCanonical, kept_of, IsOurs, IsUnwritten, StaysIfWhole}
 
@@ -48,16 +49,10 @@ pub record KeepsAtPart (m : SteenrodModule) (kept : List Kept) (given : List Add
   pub parts : given ≡ first ++ rest
   pub keeps : Keeps m (with_added kept first) file
 
--- the file has this quasi-inverse for the square (s, k)
-pub record HasQuasi (m : SteenrodModule) (s k : ℕ) (reduction : Reduction) (file : List ℕ) : Type 0 where
-  pub square : Kept
-  pub there : kept_at (kept_of m file) s k ≡ Some square
-  pub is : square.quasi ≡ Some reduction
-
 -- the second file stands for what the first stands for, and has each quasi-inverse that the first has
 pub record KeepsOn (m : SteenrodModule) (d c : List ℕ) : Type 0 where
   pub stands : standing_of m c ≡ standing_of m d
-  pub quasis : (s k : ℕ) (r : Reduction) → HasQuasi m s k r d → HasQuasi m s k r c
+  pub quasis : KeepsQuasis (kept_of m d) (kept_of m c)
 
 -- ---- a run
 

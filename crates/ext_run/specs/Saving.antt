@@ -11,6 +11,7 @@ use Rattle.square.specs.Squares.{module_over}
 use Rattle.save_journal.specs.Records.{records_of, opened}
 use Rattle.save_file.specs.Bodies.{Kept, entries}
 use Rattle.save_file.specs.Files.{digest_of, standing_of, kept_by}
+use Rattle.run_file.specs.RunFile.{KeepsQuasis}
 use Rattle.ext_run.specs.Devices.{Store}
 
 -- ---- the file
@@ -103,7 +104,7 @@ pub record HasRetained {D : Type 0} (disk : Store D) (m : SteenrodModule) (old n
 --
 -- Unless the disk failed, there is no square more: at every moment an image stands for what one from before the run stood for, or for
 -- just what was taken up and a first part of what was given; and in the end each image has just all of them, or nothing was written, and
--- keeps the given ones with their quasi-inverses. Where nothing was given, a file that opening it leaves as it is was not written. If
+-- keeps the given ones with their quasi-inverses, and each quasi-inverse that the file kept before the run. Where nothing was given, a file that opening it leaves as it is was not written. If
 -- there was an answer, each image has just all of them, each square of the range is among them, and the run took up what the file
 -- stood for.
 pub record HasLasted {D : Type 0} (disk : Store D) (m : SteenrodModule) (range : Range) (list : List Entry)
@@ -124,6 +125,9 @@ pub record HasLasted {D : Type 0} (disk : Store D) (m : SteenrodModule) (range :
       ((more ≡ []) × (given ≡ []) × IsUnwritten disk old new)
       ⊎ ((c : List ℕ) → disk.images new c → standing_of m c ≡ Ok ((list ++ more) ++ given))
   pub made : unfailed → (c : List ℕ) → disk.images new c → KeepsWhole m given c
+  pub stay : unfailed → IsUnwritten disk old new
+      ⊎ ((file : List ℕ) → disk.now old ≡ Some file → (c : List ℕ) → disk.images new c →
+      KeepsQuasis (kept_of m file) (kept_of m c))
   pub idle : unfailed → given ≡ [] → StaysIfWhole disk m old new
   pub exact : had_answer → (c : List ℕ) → disk.images new c → standing_of m c ≡ Ok ((list ++ more) ++ given)
   pub whole : had_answer → HasRange range ((list ++ more) ++ given)

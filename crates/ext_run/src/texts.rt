@@ -41,6 +41,7 @@ use module_check::{accepted_is_module, modules_are_graded_modules};
 use resolution_existence::canonical_table_exists;
 use resolution_laws::canonical_table_is_minimal_resolution;
 use resolution_step::resolve_alone;
+use run_file::RunFile;
 use save_file::resume;
 use square::{Keep, KeepFault, NoKeep, Table};
 use square_worker::{Gate, resolve_with};
@@ -257,7 +258,8 @@ fn saved_alone<D: Disk>(
 {
     let range = resolution.common.range;
     match resume(alloc, resolution.resolved, disk) {
-        Ok((table, keeper)) => {
+        Ok((table, file)) => {
+            let keeper = RunFile::over(&table, file);
             let (text, keeper) = told_alone(alloc, table, range, resolution.form, keeper);
             (text, keeper.into_disk())
         }
@@ -291,7 +293,8 @@ fn saved_by_workers<
         common,
     } = resolution;
     match resume(alloc, resolved, disk) {
-        Ok((table, keeper)) => {
+        Ok((table, file)) => {
+            let keeper = RunFile::over(&table, file);
             let (text, keeper, heard) = told_by_workers(
                 wait, alloc, common, table, form, keeper, err, gate,
             );

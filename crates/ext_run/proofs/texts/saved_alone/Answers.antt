@@ -1,4 +1,4 @@
-use Rattle.std.proofs.Common.{sym, subst, Err}
+use Rattle.std.proofs.Common.{sym, subst, Err, ◌∙◌}
 use Rattle.ext_report.specs.declared.failure.Failure.{Failure}
 use Rattle.ext_run.specs.Devices.{store_of}
 use Rattle.ext_run.specs.declared.task.Task.TheVariants.{Resolution}
@@ -6,7 +6,7 @@ use Rattle.ext_run.specs.Plan.{keeping}
 use Rattle.ext_run.specs.Work.{HasUsed}
 use Rattle.ext_run.proofs.Lasting.{AreDisks}
 use Rattle.ext_run.proofs.KeptOn.{kept_on, not_used}
-use Rattle.ext_run.proofs.TakenUp.{stays_if_whole}
+use Rattle.ext_run.proofs.TakenUp.{keeps_table, stays_if_whole}
 use Rattle.ext_run.proofs.texts.saved_alone.Given.{Over}
 use Rattle.ext_run.proofs.texts.saved_alone.Goals as goal
 
@@ -17,8 +17,9 @@ pub returns-in-Ok : goal.returns-in-Ok
 returns-in-Ok g c =
     let o = c.in-Ok.ensures in
     subst (HasUsed (store_of g.D.Disk.now g.D.Disk.moment g.D.Disk.images g.D.Disk.images_at g.D.Disk.since g.D.Disk.faults) (keeping c.args.resolution.common.range) c.args.resolution.resolved.plain (Resolution c.args.resolution) c.told_alone-text.result.0 c.args.disk) (sym c.into_disk.ensures)
-    (kept_on (store_of g.D.Disk.now g.D.Disk.moment g.D.Disk.images g.D.Disk.images_at g.D.Disk.since g.D.Disk.faults) (laws g) c.args.resolution c.args.disk c.told_alone-text.result.0 c.in-Ok.table c.in-Ok.keeper c.told_alone-text.result.1 o.squares o.resolved o.keeper o.kept o.any_moment o.no_fault c.told_alone-text.ensures.continued c.told_alone-text.ensures.untouched
-    (stays_if_whole (store_of g.D.Disk.now g.D.Disk.moment g.D.Disk.images g.D.Disk.images_at g.D.Disk.since g.D.Disk.faults) (laws g) c.args.resolution.resolved.plain c.args.disk c.in-Ok.keeper.journal.disk o.file o.left_alone))
+    (kept_on (store_of g.D.Disk.now g.D.Disk.moment g.D.Disk.images g.D.Disk.images_at g.D.Disk.since g.D.Disk.faults) (laws g) c.args.resolution c.args.disk c.told_alone-text.result.0 c.in-Ok.table c.in-Ok.file c.over-keeper.result c.told_alone-text.result.1 c.over-keeper.ensures.made o.squares o.resolved o.keeper o.kept o.any_moment o.no_fault c.told_alone-text.ensures.continued c.told_alone-text.ensures.untouched
+    (stays_if_whole (store_of g.D.Disk.now g.D.Disk.moment g.D.Disk.images g.D.Disk.images_at g.D.Disk.since g.D.Disk.faults) (laws g) c.args.resolution.resolved.plain c.args.disk c.in-Ok.file.journal.disk o.file o.left_alone)
+    (keeps_table (store_of g.D.Disk.now g.D.Disk.moment g.D.Disk.images g.D.Disk.images_at g.D.Disk.since g.D.Disk.faults) c.args.resolution.resolved c.args.disk c.in-Ok.table c.in-Ok.file o.resolved (sym o.keeper.resolved ∙ o.resolved) o.live o.file o.quasis))
 
 pub returns-in-Err : goal.returns-in-Err
 returns-in-Err g c =
