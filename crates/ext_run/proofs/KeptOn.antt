@@ -332,7 +332,7 @@ module _ {D : Type 0} (store : Store D) (laws : AreDisks store) (r : ToResolve) 
 
     pub kept_on : HasUsed store (keeping r.common.range) r.resolved.plain (Resolution r) text disk after.file.journal.disk
     kept_on =
-        let failed = λ is. subst (λ (n : ℕ). HasRisen n (store.faults after.file.journal.disk)) faults_same (continued.failed is) in
         let never_fall = continued.kept.never_fall in
-        used_on store laws r.resolved.plain disk table file squares no_fault (keeping r.common.range) (Resolution r) text after.file.journal.disk (λ has told fit. answer_told has told fit.0 fit.1) (why_continued r (store.now disk) text (subst (λ (m : Checked). IfErr text (λ e. (e ≡ Saving) ⊎ (e ≡ Memory) ⊎ IsRefusedIn r.form r.common.range m.plain (Err e))) resolved continued.why)) failed (λ has. continued.no_fault has ∙ faults_same)
+        used_on store laws r.resolved.plain disk table file squares no_fault (keeping r.common.range) (Resolution r) text after.file.journal.disk (λ has told fit. answer_told has told fit.0 fit.1) (why_continued r (store.now disk) text (subst (λ (m : Checked). IfErr text (λ e. (e ≡ Saving) ⊎ (e ≡ Memory) ⊎ IsRefusedIn r.form r.common.range m.plain (Err e))) resolved continued.why))
+        (λ is. subst (λ (n : ℕ). HasRisen n (store.faults after.file.journal.disk)) faults_same (continued.failed is)) (λ has. continued.no_fault has ∙ faults_same)
         (omega (arith, faults_same, never_fall)) lasted
