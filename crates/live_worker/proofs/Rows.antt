@@ -13,6 +13,8 @@ use Rattle.live_worker.specs.declared.reports.Reports.{Reports}
 use Rattle.live_worker.specs.declared.role.Role.{Role}
 use Rattle.live_worker.specs.declared.role.Role.TheVariants.{Work, Watch}
 use Rattle.live_worker.specs.Inside.Roles.{CanRun, HasRun, IsRoleAt, AreRoles, AreRolesDown}
+use Rattle.board_core.proofs.Pairs.{pairs_leave_none}
+use Rattle.square_board.proofs.Working.{worked_pairs}
 use Rattle.live_worker.proofs.Telling.{told_twice}
 
 module _ {T O I M E : Type 0} (words : StockWords T O I M) (table_of : O → Staircase) (written : E → Option (List ℕ)) (faults : E → ℕ) (first : Reports E) (board : TurnId (Opening T)) (n : ℕ) where
@@ -45,14 +47,14 @@ module _ {T O I M E : Type 0} (words : StockWords T O I M) (table_of : O → Sta
       subst (λ (j : Role T E O I M). IsRoleAt words table_of written faults first board (length new) n j) (get_or-append_seam new role [] role) (all (length new) role (omega arith))
 
   can_at : (i : ℕ) (role : Role T E O I M) → IsRoleAt words table_of written faults first board i n role → CanRun words table_of board role
-  can_at i (Work pass) is = is.0
+  can_at i (Work pass) is = (is.0, pairs_leave_none pass.own is.3)
   can_at i (Watch w) is = is.0
 
   pub can_run : (roles : List (Role T E O I M)) → AreRoles words table_of written faults first board n roles → (i : ℕ) (d : Role T E O I M) → i < length roles → CanRun words table_of board (get_or roles i d)
   can_run roles are i d less = can_at i (get_or roles i d) (are i d less)
 
   ran_at : (i : ℕ) (old new : Role T E O I M) → IsRoleAt words table_of written faults first board i n old → HasRun words table_of written faults board old new → IsRoleAt words table_of written faults first board i n new
-  ran_at i (Work old) (Work new) is ran = (ran.0, ran.1.number ∙ is.1, is.2)
+  ran_at i (Work old) (Work new) is ran = (ran.0, ran.1.number ∙ is.1, is.2, worked_pairs old new is.3 ran.2)
   ran_at i (Work old) (Watch new) is ran = absurd ran
   ran_at i (Watch old) (Work new) is ran = absurd ran
   ran_at i (Watch old) (Watch new) is ran = (ran.can, ran.same.number ∙ is.1, is.2, told_twice written faults first old.reports new.reports is.3 ran.told)

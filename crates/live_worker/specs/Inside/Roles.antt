@@ -3,10 +3,12 @@ use Rattle.std.specs.Prelude.{◌≡◌, ◌⊎◌, ℕ, ◌-◌, ◌<◌, ◌�
 use Rattle.edge.specs.Faults.{HasRisen}
 use Rattle.edge.specs.Sink.{with_more, HasPrefixMore}
 use Rattle.square.specs.Tables.{Staircase}
+use Rattle.board_core.specs.Entries.{HasNoneOut, ArePairs}
 use Rattle.turn_lock.specs.Turns.{TurnId}
 use Rattle.square_board.specs.declared.opening.Opening.{Opening}
 use Rattle.square_board.specs.Stocks.{StockWords}
 use Rattle.square_board.specs.Boards.{IsPassOf, IsSamePass}
+use Rattle.square_board.specs.Workers.{HasWorked}
 use Rattle.live_view.specs.Publishing.{MayPublish}
 use Rattle.live_worker.specs.Reports.{squares_of}
 use Rattle.live_worker.specs.Reports.{live_lines, RiseTo}
@@ -39,9 +41,9 @@ module _ {T O I M E : Type 0} (words : StockWords T O I M) (table_of : O → Sta
     pub all : w.reports.all ≡ squares_of board.name.range
     pub within : w.reports.most ≤ w.reports.all
 
-  -- it may run at this board
+  -- it may run at this board; a worker has no square out
   abbrev pub CanRun : TurnId (Opening T) → Role T E O I M → Type 0
-  CanRun board (Work pass) = IsPassOf board pass
+  CanRun board (Work pass) = IsPassOf board pass × HasNoneOut pass.own
   CanRun board (Watch w) = CanWatch board w
 
 module _ {T O I M E : Type 0} (words : StockWords T O I M) (table_of : O → Staircase) (written : E → Option (List ℕ)) (faults : E → ℕ) where
@@ -53,14 +55,15 @@ module _ {T O I M E : Type 0} (words : StockWords T O I M) (table_of : O → Sta
 
   -- it has run at this board
   abbrev pub HasRun : TurnId (Opening T) → Role T E O I M → Role T E O I M → Type 0
-  HasRun board (Work old) (Work new) = IsPassOf board new × IsSamePass old new
+  HasRun board (Work old) (Work new) = IsPassOf board new × IsSamePass old new × HasWorked old new
   HasRun board (Work old) (Watch new) = ⊥
   HasRun board (Watch old) (Work new) = ⊥
   HasRun board (Watch old) (Watch new) = HasWatched board old new
 
-  -- It is the role of pass i: the passes below n work, and pass n watches, which has reported since the first reports.
+  -- It is the role of pass i: the passes below n work, each of which made pairs, and pass n watches, which has reported since the first
+  -- reports.
   abbrev pub IsRoleAt : Reports E → TurnId (Opening T) → ℕ → ℕ → Role T E O I M → Type 0
-  IsRoleAt first board i n (Work pass) = IsPassOf board pass × (pass.number ≡ i) × (i < n)
+  IsRoleAt first board i n (Work pass) = IsPassOf board pass × (pass.number ≡ i) × (i < n) × ArePairs pass.own
   IsRoleAt first board i n (Watch w) =
       CanWatch words table_of board w × (w.pass.number ≡ i) × (i ≡ n) × HasTold written faults first w.reports
 

@@ -73,7 +73,7 @@ loop-pass-preserved g c =
     let some = c.loop-pass.invariant.some in
     let role : R = Work pass in
     let number : length new ≡ n - length roles = omega arith in
-    let is : IsRoleAt g.T.Stock.words g.T.Counted.table_of written faults reports board (n - length roles) n role = (at.pass_of, at.number ∙ number, omega arith) in
+    let is : IsRoleAt g.T.Stock.words g.T.Counted.table_of written faults reports board (n - length roles) n role = (at.pass_of, at.number ∙ number, omega arith, at.pairs) in
     let made : c.push_reserved-in-Some-pop.new.self.items ≡ roles ++ role ∷ [] = c.push_reserved-in-Some-pop.ensures.items in
     let long : length c.push_reserved-in-Some-pop.new.self.items ≡ length roles + 1 = ap length made ∙ length-append roles (role ∷ []) in
     record {
