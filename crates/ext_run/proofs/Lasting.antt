@@ -21,7 +21,7 @@ use Rattle.save_journal.specs.Records.{Records}
 use Rattle.save_journal.specs.Journals.{HasRecordsOf, IsSettled}
 use Rattle.save_file.specs.Bodies.{Kept}
 use Rattle.save_file.specs.Files.{Standing, digest_of, of_records, standing_of, squares_in, first_records, first_squares, first_kept, kept_by}
-use Rattle.save_file.specs.Saving.{SaveState, HasSquares, kept_in, quasis_in}
+use Rattle.save_file.specs.Saving.{HasSquares, kept_in}
 use Rattle.save_file.specs.Inside.SavingLaws.{left_is_kept}
 use Rattle.save_file.proofs.Entries.{some_is}
 use Rattle.save_file.proofs.Adding.{kept_whole, made_are}

@@ -103,10 +103,10 @@ pub record HasRetained {D : Type 0} (disk : Store D) (m : SteenrodModule) (old n
 -- ours for all of them.
 --
 -- Unless the disk failed, there is no square more: at every moment an image stands for what one from before the run stood for, or for
--- just what was taken up and a first part of what was given; and in the end each image has just all of them, or nothing was written, and
--- keeps the given ones with their quasi-inverses, and each quasi-inverse that the file kept before the run. Where nothing was given, a file that opening it leaves as it is was not written. If
--- there was an answer, each image has just all of them, each square of the range is among them, and the run took up what the file
--- stood for.
+-- just what was taken up and a first part of what was given; and in the end each image has just all of them, or nothing was written,
+-- and keeps the given ones with their quasi-inverses, and each quasi-inverse that the file kept before the run. Where nothing was
+-- given, a file that opening it leaves as it is was not written. If there was an answer, each image has just all of them, each square
+-- of the range is among them, and the run took up what the file stood for.
 pub record HasLasted {D : Type 0} (disk : Store D) (m : SteenrodModule) (range : Range) (list : List Entry)
     (had_answer unfailed : Type 0) (old new : D) : Type 0 where
   pub more : List Entry
