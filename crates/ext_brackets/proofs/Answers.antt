@@ -73,7 +73,7 @@ past_range range a b c r q = range_refusal past range r q a.s b.s c.s (a.t +ℤ 
 pub parts_none : (range : Range) (a b c : Class) (r q : Resolution) → refusal_of range a b c r q ≡ None → (class_refusal (absent a b c) r q a b c ≡ None) × (past_range range a b c r q ≡ None)
 parts_none range a b c r q none = option_or-none (class_refusal (absent a b c) r q a b c) (past_range range a b c r q) none
 
-in_range : (range : Range) (a b c : Class) (r q : Resolution) → IsSphere q → (there : AreThere a b c r q) → past_range range a b c r q ≡ None → AreInRange range r q there.a_is.class there.b_is.class there.c_is.class
+pub in_range : (range : Range) (a b c : Class) (r q : Resolution) → IsSphere q → (there : AreThere a b c r q) → past_range range a b c r q ≡ None → AreInRange range r q there.a_is.class there.b_is.class there.c_is.class
 in_range range a b c r q sphere there none =
     let ab = out_of_range (past 0) range q (pos (a.s + b.s)) (a.t +ℤ b.t) in
     let bc = out_of_range (past 1) range r (pos (b.s + c.s)) (b.t +ℤ c.t) in

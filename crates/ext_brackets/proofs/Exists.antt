@@ -1,11 +1,11 @@
 -- There is a bracket of classes whose products are zero.
-use Rattle.std.proofs.Common.{◌≡◌, inl, inr, ℕ, zero, suc, ◌+◌, ◌-◌, ◌<◌, ◌≤◌, ℤ, pos, ◌+ℤ◌, ◌-ℤ◌, ◌≤ℤ◌, Bool, List, [], ◌++◌, length, map, refl, sym, subst, ◌∙◌, arith}
+use Rattle.std.proofs.Common.{◌≡◌, inl, inr, ℕ, suc, ◌+◌, ◌-◌, ◌<◌, ◌≤◌, ℤ, pos, ◌+ℤ◌, ◌-ℤ◌, ◌≤ℤ◌, Bool, List, [], ◌++◌, length, map, refl, sym, subst, ◌∙◌, arith}
 use Rattle.std.specs.List.{range_with_len}
 use Rattle.std.proofs.lemmas.Bool.{cases_lt}
 use Rattle.std.proofs.lemmas.Int.{ints}
 use Rattle.bidegree.specs.declared.range.Range.{Range}
 use Rattle.f2_vec.specs.Vectors.{bit, zeros, IsZero}
-use Rattle.f2_vec.specs.Spans.{row, HaveWidth}
+use Rattle.f2_vec.specs.Spans.{HaveWidth}
 use Rattle.f2_vec.proofs.Sums.{length-zeros}
 use Rattle.f2_vec.proofs.Spans.{HaveWidth-append}
 use Rattle.f2_vec.proofs.Combinations.{HaveWidth-map}
@@ -197,7 +197,7 @@ module _ (laws : AreLaws) (r q : Resolution) (range : Range) (canonical : IsCano
         record {
           value = value;
           rows = basis;
-          is_bracket = bracket_of laws.coset r q range canonical canonical_q sphere x y z n l (omega arith) (omega arith) room inside.x_there product_zero start value rows basis first.is_member len_value indeterminacy is_basis
+          is_bracket = bracket_of laws.coset r q range range canonical canonical_q sphere x y z n l (omega arith) (omega arith) room inside.x_there product_zero start value rows basis first.is_member len_value indeterminacy is_basis
               (rest_coset size basis start is_basis.widths len) (λ i p f. rest_apart size basis start i p is_basis.widths is_basis.reduced is_basis.nonzero len f);
         }
 

@@ -2,6 +2,6 @@ mod Members
 pub mod Unique
 mod Exists
 mod Answers
-mod SphereModule
+mod MoreSquares
 mod Transport
 mod Limits

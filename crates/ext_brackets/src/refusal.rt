@@ -1,9 +1,7 @@
 //! Why there is no bracket, told of the classes that were asked for.
-ghost use Rattle.std.specs.Prelude.{◌≡◌, ◌↔◌, ℕ, suc, Bool, List, IfErr, IsTrue};
+ghost use Rattle.std.specs.Prelude.{◌≡◌, ℕ, suc, Bool, List};
 ghost use Rattle.massey.specs.declared.fault.MasseyFault.TheVariants.{Nonzero as NotZero};
-ghost use Rattle.ext_products.specs.declared.refusal.Refusal.{Refusal as WhyNot};
-ghost use Rattle.ext_products.specs.declared.refusal.ClassesFault.TheVariants.{Refused};
-ghost use Rattle.ext_brackets.specs.Brackets.{absent, past, not_zero, IsOfPlaces};
+ghost use Rattle.ext_brackets.specs.Brackets.{absent, past, not_zero};
 ghost use Rattle.ext_brackets.specs.Inside.{fault_of, HasSquare};
 
 use bidegree::Class;
@@ -27,16 +25,6 @@ pub(crate) fn fault_of(fault: MasseyFault, a: Class, b: Class, c: Class) -> Clas
         MasseyFault::Memory => return ClassesFault::Memory,
     };
     ClassesFault::Refused(refusal)
-}
-
-/// Whether it is a refusal of a place: that a class is not there, or that a square is past the range.
-pub(crate) fn is_of_place(text: &Result<Vec<u8>, ClassesFault>) -> bool
-    ensures { IfErr text.now (λ e. (refusal : WhyNot) → e ≡ Refused refusal → IsTrue result ↔ IsOfPlaces refusal) }
-{
-    match text {
-        Err(ClassesFault::Refused(refusal)) => !matches!(refusal, Refusal::Nonzero { .. }),
-        _ => false,
-    }
 }
 
 /// That there is no class with this number, 0 for a, 1 for b and 2 for c.

@@ -2,6 +2,7 @@
 #![tactic(auto)]
 
 mod answer;
+mod brackets_over_images;
 mod from_images;
 mod laws;
 mod migrating;

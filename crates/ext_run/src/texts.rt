@@ -18,6 +18,7 @@ ghost use Rattle.ext_run.specs.Task.{IsTaskWithin};
 ghost use Rattle.ext_run.specs.Work.{HasAnswer, answer_of, HasContinued, HasUsed, HasWorked};
 ghost use Rattle.ext_report.specs.declared.failure.Failure.TheVariants.{Memory as WantOfMemory};
 
+use crate::brackets_over_images::{bracket_alone, bracket_by};
 use crate::from_images::{sheet_alone, sheet_by, sheet_live};
 use crate::migrating::migrated;
 use crate::plan::{Form, Sheet};
@@ -115,8 +116,8 @@ fn is_by_workers(common: Common) -> bool
     common.live || common.workers > 1
 }
 
-/// The text of a resolution, made on the caller's thread. Nothing is kept. Where the text speaks of generators and
-/// their images alone, nothing else is made.
+/// The text of a resolution, made on the caller's thread. Nothing is kept. Each text speaks of generators and their
+/// images alone, and nothing else is made of the module.
 fn unsaved_alone(alloc: Global, resolution: Resolution) -> Result<Vec<u8>, Failure>
     requires { IsWithin resolution.common }
     ensures told { HasAnswer result →
@@ -131,15 +132,12 @@ fn unsaved_alone(alloc: Global, resolution: Resolution) -> Result<Vec<u8>, Failu
         }
         Form::Products(by) if by.s == 1 => row_one_alone(alloc, resolution.resolved, range, by),
         Form::Products(by) => products_alone(alloc, resolution.resolved, range, by),
-        form => {
-            let table = Table::new(alloc, resolution.resolved)?;
-            told_alone(alloc, table, range, form, NoKeep).0
-        }
+        Form::Bracket { a, b, c } => bracket_alone(alloc, resolution.resolved, range, a, b, c),
     }
 }
 
-/// The text of a resolution, made by as many workers as it says. Nothing is kept. Where the text speaks of generators and their
-/// images alone, nothing else is made.
+/// The text of a resolution, made by as many workers as it says. Nothing is kept. A table is made where what is told of classes
+/// has to be reported, and else the images of generators alone.
 fn unsaved_by_workers<W: Threads + Wait + Clock + Sync, E: Sink + Send, G: Gate + Sync>(
     wait: &W,
     alloc: Global,
@@ -175,6 +173,11 @@ fn unsaved_by_workers<W: Threads + Wait + Clock + Sync, E: Sink + Send, G: Gate 
         (Form::Products(by), false) => {
             let workers = common.workers as usize;
             let text = products_by(wait, alloc, workers, resolved, range, by, gate);
+            (text, Ok(()))
+        }
+        (Form::Bracket { a, b, c }, false) => {
+            let workers = common.workers as usize;
+            let text = bracket_by(wait, alloc, workers, resolved, range, a, b, c, gate);
             (text, Ok(()))
         }
         (form, _) => tabled_by_workers(wait, alloc, resolved, form, common, err, gate),
@@ -442,6 +445,11 @@ fn told(alloc: Global, form: Form, table: &Table, range: Range) -> Result<Vec<u8
             };
             Ok(products_text(alloc, &source, range, by)?)
         }
-        Form::Bracket { a, b, c } => Ok(bracket_text(alloc, table, range, a, b, c)?),
+        Form::Bracket { a, b, c } => {
+            let source = Source {
+                held: Held::Squares(table),
+            };
+            Ok(bracket_text(alloc, &source, range, a, b, c)?)
+        }
     }
 }

@@ -17,7 +17,7 @@ use Rattle.yoneda.specs.Products.{class_above}
 use Rattle.massey.specs.declared.places.Places.{Places}
 use Rattle.massey.specs.Brackets.{IsBracketOf, IsZeroAtPivots}
 use Rattle.chain_map.specs.Classes.{through}
-use Rattle.massey.specs.Inside.{above_of, above_ab, IsSetting, AreLifts, IsMemberBy, AreSpanning, IsBracket}
+use Rattle.massey.specs.Inside.{above_of, above_ab, IsSettingIn, AreLifts, IsMemberBy, AreSpanning, IsBracket}
 use Rattle.chain_map.proofs.Resolved.{is_canonical}
 use Rattle.yoneda.proofs.Through.{count_through, product_through}
 use Rattle.massey.proofs.Values.{room_of}
@@ -30,15 +30,15 @@ no_coefficient r q a phi k row m same zero =
     (λ i h. sym (bit-on_square r k m (λ g. coefficient_of q a (phi a.s g)) i h) ∙ zero i)
 
 -- over canonical resolutions: any member, and any that is zero at the pivots and apart from it by the indeterminacy
-module _ (coset : BracketIsCoset) (r q : Resolution) (range : Range) (canonical : IsCanonical r range.s range.t) (canonical_q : IsCanonical q range.s range.t) (sphere : IsSphere q) (a b c : Class) (n l : ℕ) (n_row : suc n ≡ c.s + b.s) (l_row : suc l ≡ b.s + a.s)
-    (room : HasRoom range.s range.t range.s range.t a b c n l) (a_there : a.i < count_of q a.s a.above) (zero : HasZeroProduct r q a b c l (top_of r a b c)) where
+module _ (coset : BracketIsCoset) (r q : Resolution) (range far : Range) (canonical : IsCanonical r range.s range.t) (canonical_q : IsCanonical q far.s far.t) (sphere : IsSphere q) (a b c : Class) (n l : ℕ) (n_row : suc n ≡ c.s + b.s) (l_row : suc l ≡ b.s + a.s)
+    (room : HasRoom range.s range.t far.s far.t a b c n l) (a_there : a.i < count_of q a.s a.above) (zero : HasZeroProduct r q a b c l (top_of r a b c)) where
   abbrev whole : ℕ
   whole = count_of r (n + a.s) (a.above + b.above + c.above)
 
   pub bracket_of : (first value : List Bool) (rows basis : List (List Bool)) → IsBracketMember r q a b c n l (top_of r a b c) first → length value ≡ whole → IsIndeterminacy r q a b c n l (top_of r a b c) rows → IsRowBasis whole rows basis → IsInSpan whole basis (sum_of first value) → IsZeroAtPivots basis value → IsBracketOf r q a b c value basis
   bracket_of first value rows basis member len spans is_basis in_span clear =
       let law = λ (w : List Bool) (is : IsBracketMember r q a b c n l (top_of r a b c) w).
-      coset r q range.s range.t range.s range.t a b c n l (top_of r a b c) rows w canonical canonical_q sphere room (omega (arith, ints)) (omega (arith, ints)) a_there zero spans is in
+      coset r q range.s range.t far.s far.t a b c n l (top_of r a b c) rows w canonical canonical_q sphere room (omega (arith, ints)) (omega (arith, ints)) a_there zero spans is in
       let reached : IsInSpan whole rows (sum_of value first) = (is_basis.same_span (sum_of value first)).1 (subst (IsInSpan whole basis) (sum_of-comm first value) in_span) in
       let is : IsBracketMember r q a b c n l (top_of r a b c) value = (law first member value len).1 reached in
       record {
@@ -55,7 +55,7 @@ module _ (coset : BracketIsCoset) (r q : Resolution) (range : Range) (canonical 
       }
 
 module _ (coset : BracketIsCoset) (modules : ModulesAreSteenrodModules)
-    (table sphere : Staircase) (range : Range) (p : Places) (s : IsSetting table sphere range p) (all : IsCanonicalIn range table) (all_q : IsCanonicalIn range sphere)
+    (table sphere : Staircase) (range far : Range) (p : Places) (s : IsSettingIn table sphere range far p) (all : IsCanonicalIn range table) (all_q : IsCanonicalIn far sphere)
     (beta gamma : LiftValues) (lifts : AreLifts table sphere p beta gamma) (n : ℕ) (n_row : suc n ≡ p.c.s + p.b.s) where
   abbrev q : Resolution
   q = resolution_of sphere
@@ -64,7 +64,7 @@ module _ (coset : BracketIsCoset) (modules : ModulesAreSteenrodModules)
   rc = through range table
 
   abbrev qc : Resolution
-  qc = through range sphere
+  qc = through far sphere
 
   abbrev a : Class
   a = class_above p.a
@@ -88,31 +88,31 @@ module _ (coset : BracketIsCoset) (modules : ModulesAreSteenrodModules)
   unfolding l
   l_row = let e = lifts.a_row in omega arith
 
-  room : HasRoom range.s range.t range.s range.t a b c n l
-  room = room_of table sphere range p s.inside beta gamma lifts n n_row l l_row
+  room : HasRoom range.s range.t far.s far.t a b c n l
+  room = room_of table sphere range far p s.inside beta gamma lifts n n_row l l_row
 
   zero_product : HasZeroProduct rc qc a b c l top
   zero_product =
       let i = s.inside in
-      let part = product_through sphere sphere range range a (p.b.s + p.a.s) (above_ab p) (map_of beta) (omega arith) i.ab_degree (omega arith) (omega arith) in
+      let part = product_through sphere sphere far far a (p.b.s + p.a.s) (above_ab p) (map_of beta) (omega arith) i.ab_degree (omega arith) (omega arith) in
       record {
         beta = map_of beta;
-        beta_lift = beta_through table sphere range p s all all_q beta gamma lifts l l_row;
+        beta_lift = beta_through table sphere range far p s all all_q beta gamma lifts l l_row;
         zero = no_coefficient qc qc a (map_of beta) (p.b.s + p.a.s) (suc l) (above_ab p) (sym l_row) (λ k. ap (λ (v : List Bool). bit v k) part ∙ lifts.ab_zero k);
       }
 
   a_there : p.a.i < count_of qc p.a.s p.a.above
   a_there =
-      let same = count_through sphere range p.a.s p.a.above (omega arith) (omega arith) in
+      let same = count_through sphere far p.a.s p.a.above (omega arith) (omega arith) in
       omega (arith, s.a_in.generator)
 
   -- the bracket, as the call made it
-  pub assembled_in : (first value : List Bool) (rows given basis : List (List Bool)) (cols basis_cols : ℕ) → length first ≡ count_of (resolution_of table) (n + p.a.s) (above_of p) → length value ≡ length first → cols ≡ length first → basis_cols ≡ cols → given ≡ rows → IsMemberBy table sphere range p n first → AreSpanning table sphere range p n rows → IsRowBasis cols given basis → IsInSpan basis_cols basis (sum_of first value) → IsZeroAtPivots basis value → IsBracket table sphere range p value basis
+  pub assembled_in : (first value : List Bool) (rows given basis : List (List Bool)) (cols basis_cols : ℕ) → length first ≡ count_of (resolution_of table) (n + p.a.s) (above_of p) → length value ≡ length first → cols ≡ length first → basis_cols ≡ cols → given ≡ rows → IsMemberBy table sphere p n first range far → AreSpanning table sphere p n rows range far → IsRowBasis cols given basis → IsInSpan basis_cols basis (sum_of first value) → IsZeroAtPivots basis value → IsBracket table sphere p value basis range far
   assembled_in first value rows given basis cols basis_cols len_first len cols_are basis_cols_are given_are member spanning is_basis in_span clear =
       let i = s.inside in
       let through_is : size ≡ count_of (resolution_of table) (n + p.a.s) (above_of p) = count_through table range (n + p.a.s) (above_of p) (omega (arith, i.row)) i.degree in
       let first_size : length first ≡ size = len_first ∙ sym through_is in
       let cols_size : cols ≡ size = cols_are ∙ first_size in
-      bracket_of coset rc qc range (is_canonical table s.is_table range (s.through_table range.s (omega arith)) modules all) (is_canonical sphere s.is_sphere_table range (s.through_sphere range.s (omega arith)) modules all_q) (record { bottom = s.is_sphere.bottom; one = s.is_sphere.one; none = s.is_sphere.none })
+      bracket_of coset rc qc range far (is_canonical table s.is_table range (s.through_table range.s (omega arith)) modules all) (is_canonical sphere s.is_sphere_table far (s.through_sphere far.s (omega arith)) modules all_q) (record { bottom = s.is_sphere.bottom; one = s.is_sphere.one; none = s.is_sphere.none })
       a b c n l n_row l_row room a_there zero_product first value rows basis (member l l_row) (len ∙ first_size) (spanning l l_row)
       (subst (λ (w : List (List Bool)). IsRowBasis size w basis) given_are (subst (λ (k : ℕ). IsRowBasis k given basis) cols_size is_basis)) (subst (λ (k : ℕ). IsInSpan k basis (sum_of first value)) (basis_cols_are ∙ cols_size) in_span) clear

@@ -21,10 +21,10 @@ use Rattle.chain_map.proofs.Generators.{is_number, images_taken, first_of-more, 
 use Rattle.chain_map.proofs.Places.{low_width, are_images}
 use Rattle.chain_map.proofs.Widths.{HasPlace}
 use Rattle.massey.specs.declared.places.Places.{Places}
-use Rattle.massey.specs.Inside.{above_of, above_ab, above_bc, IsComposite, beta_values}
-use Rattle.yoneda.proofs.Lifted.{reaches}
+use Rattle.massey.specs.Inside.{above_of, above_ab, above_bc, IsCompositeIn, beta_values}
+use Rattle.massey.proofs.Values.{reaches_in}
 
-module _ (table sphere : Staircase) (range : Range) (p : Places) (n : ℕ) (beta gamma : LiftValues) (c : IsComposite table sphere range p n beta gamma) where
+module _ (table sphere : Staircase) (range far : Range) (p : Places) (n : ℕ) (beta gamma : LiftValues) (c : IsCompositeIn table sphere range far p n beta gamma) where
   abbrev r : Resolution
   r = resolution_of table
 
@@ -35,7 +35,7 @@ module _ (table sphere : Staircase) (range : Range) (p : Places) (n : ℕ) (beta
   pub row_inside : (k : ℕ) → k ≤ p.a.s → n + k ≤ range.s
   row_inside k l = let row = c.setting.inside.row in let e = c.n_row in omega arith
 
-  pub sphere_row_inside : (k : ℕ) → k ≤ p.a.s → p.b.s + k ≤ range.s
+  pub sphere_row_inside : (k : ℕ) → k ≤ p.a.s → p.b.s + k ≤ far.s
   sphere_row_inside k l = let row = c.setting.inside.ab_row in omega arith
 
   pub row_there : (k : ℕ) → k ≤ p.a.s → above_of p < length (row_in table.rows (n + k))
@@ -63,7 +63,7 @@ module _ (table sphere : Staircase) (range : Range) (p : Places) (n : ℕ) (beta
   has_place k i g l long there j e =
       let len = length-row_of table.rows i in
       let low = degree-below r i (above_of p + 1) g (omega arith) there in
-      let far = sphere_row_there k l in
+      let there_q = sphere_row_there k l in
       let at : j ≤ p.a.above = omega (arith, ints) in
       omega arith
 
@@ -73,10 +73,10 @@ module _ (table sphere : Staircase) (range : Range) (p : Places) (n : ℕ) (beta
   beta_reach = degrees_through sphere sphere p.b.s p.b.above p.a.s
 
   beta_far : above_ab p < beta_reach
-  beta_far = let s = c.setting in let i = s.inside in let row = i.ab_row in reaches sphere sphere range s.through_sphere s.through_sphere p.b.s p.b.above p.a.s (above_ab p) (omega arith) i.ab_degree
+  beta_far = let s = c.setting in let i = s.inside in let row = i.ab_row in let low = i.ab_degree in reaches_in sphere sphere far far s.through_sphere s.through_sphere p.b.s p.b.above p.a.s (above_ab p) (omega arith) (omega arith) low (omega arith)
 
   pub beta_row : (k : ℕ) → k ≤ p.a.s → k < length beta.rows
-  beta_row k l = let far = beta_far in let rows = c.lifts.beta_lift.rows (omega arith) in omega arith
+  beta_row k l = let reached = beta_far in let rows = c.lifts.beta_lift.rows (omega arith) in omega arith
 
   beta_are : (k : ℕ) → k ≤ p.a.s → AreValues sphere sphere p.b.s (bottom_of sphere.resolved +ℤ pos p.b.above) beta_reach k (row_values beta k)
   beta_are k l = c.lifts.beta_lift.values k (beta_row k l)
@@ -84,7 +84,7 @@ module _ (table sphere : Staircase) (range : Range) (p : Places) (n : ℕ) (beta
   -- it has a value on each of the generators that are taken
   pub beta_count : (k : ℕ) → k ≤ p.a.s → first_of q (p.b.s + k) (above_ab p + 1) ≤ length (joined (row_values beta k))
   beta_count k l =
-      let far = beta_far in
+      let reached = beta_far in
       let fewer = images_taken (row_of q.table (p.b.s + k)) (above_ab p + 1) beta_reach (omega arith) in
       omega (arith, length-joined sphere (p.b.s + k) beta_reach (row_values beta k) (beta_are k l).one_each)
 
@@ -105,10 +105,10 @@ module _ (table sphere : Staircase) (range : Range) (p : Places) (n : ℕ) (beta
   -- ---- gamma
 
   gamma_far : (k : ℕ) → k < p.a.s → above_of p < degrees_through table sphere p.c.s p.c.above (p.b.s + c.lifts.last)
-  gamma_far k l = let s = c.setting in let i = s.inside in let row = i.row in let e = c.lifts.a_row in reaches table sphere range s.through_table s.through_sphere p.c.s p.c.above (p.b.s + c.lifts.last) (above_of p) (omega arith) i.degree
+  gamma_far k l = let s = c.setting in let i = s.inside in let row = i.row in let ab = i.ab_row in let low = i.ab_degree in let e = c.lifts.a_row in reaches_in table sphere range far s.through_table s.through_sphere p.c.s p.c.above (p.b.s + c.lifts.last) (above_of p) (omega arith) (omega arith) i.degree (omega arith)
 
   pub gamma_row : (k : ℕ) → k < p.a.s → p.b.s + k < length gamma.rows
-  gamma_row k l = let far = gamma_far k l in let e = c.lifts.a_row in let rows = c.lifts.gamma_lift.rows (omega arith) in omega arith
+  gamma_row k l = let reached = gamma_far k l in let e = c.lifts.a_row in let rows = c.lifts.gamma_lift.rows (omega arith) in omega arith
 
   gamma_are : (k : ℕ) → k < p.a.s → AreValues table sphere p.c.s (bottom_of table.resolved +ℤ pos p.c.above) (degrees_through table sphere p.c.s p.c.above (p.b.s + c.lifts.last)) (p.b.s + k) (row_values gamma (p.b.s + k))
   gamma_are k l = c.lifts.gamma_lift.values (p.b.s + k) (gamma_row k l)
@@ -125,7 +125,7 @@ module _ (table sphere : Staircase) (range : Range) (p : Places) (n : ℕ) (beta
       let long = row_there (suc k) (omega arith) in
       let len = length-row_of table.rows (suc (n + k)) in
       let more = first_of-more r (suc (n + k)) j in
-      let far = gamma_far k l in
+      let reached = gamma_far k l in
       let fewer = images_taken (row_of r.table (suc (n + k))) (j + 1) (degrees_through table sphere p.c.s p.c.above (p.b.s + c.lifts.last)) (omega arith) in
       omega (arith, ap (λ (i : ℕ). first_of r i (degrees_through table sphere p.c.s p.c.above (p.b.s + c.lifts.last))) (gamma_at k), length-joined table (p.c.s + (p.b.s + k)) (degrees_through table sphere p.c.s p.c.above (p.b.s + c.lifts.last)) (row_values gamma (p.b.s + k)) (gamma_are k l).one_each)
 

@@ -11,3 +11,4 @@ mod Chosen
 mod MapValues
 mod NextGoals
 mod LastMap
+pub mod Nearby

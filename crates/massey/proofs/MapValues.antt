@@ -20,11 +20,11 @@ use Rattle.chain_map.proofs.Places.{are_images}
 use Rattle.chain_map.proofs.Widths.{value_width}
 use Rattle.yoneda.specs.Products.{AreOnSquare}
 use Rattle.massey.specs.declared.places.Places.{Places}
-use Rattle.massey.specs.Inside.{above_of, above_bc, IsComposite, beta_values, homotopy_goal, zero_map, AreNext}
+use Rattle.massey.specs.Inside.{above_of, above_bc, IsCompositeIn, beta_values, homotopy_goal, zero_map, AreNext}
 use Rattle.massey.proofs.Composites.{row_there, has_place}
 use Rattle.massey.proofs.Chosen.{AreMaps}
 
-module _ (table sphere : Staircase) (range : Range) (p : Places) (n : ℕ) (beta gamma : LiftValues) (c : IsComposite table sphere range p n beta gamma) where
+module _ (table sphere : Staircase) (range far : Range) (p : Places) (n : ℕ) (beta gamma : LiftValues) (c : IsCompositeIn table sphere range far p n beta gamma) where
   abbrev r : Resolution
   r = resolution_of table
 
@@ -37,11 +37,11 @@ module _ (table sphere : Staircase) (range : Range) (p : Places) (n : ℕ) (beta
   pub next_row_there : (k : ℕ) → k < p.a.s → above_of p < length (row_in table.rows (suc (n + k)))
   next_row_there k l =
       let e : n + suc k ≡ suc (n + k) = omega arith in
-      subst (λ (i : ℕ). above_of p < length (row_in table.rows i)) e (row_there table sphere range p n beta gamma c (suc k) (omega arith))
+      subst (λ (i : ℕ). above_of p < length (row_in table.rows i)) e (row_there table sphere range far p n beta gamma c (suc k) (omega arith))
 
   pub next_width : (k g : ℕ) (below vectors : List (List Bool)) → k < p.a.s → AreNext table sphere p n beta gamma k below vectors → g < length vectors → length (row vectors g) ≡ free_width (gens q (suc k)) (degree r (suc (n + k)) g -ℤ w)
   next_width k g below vectors l next b =
-      value_width sphere (suc k) (degree r (suc (n + k)) g -ℤ w) (has_place table sphere range p n beta gamma c (suc k) (suc (n + k)) g (omega arith) (next_row_there k l) (omega arith)) (homotopy_goal table sphere p n k (beta_values sphere p beta k) gamma below g) (row vectors g) (next.each g b)
+      value_width sphere (suc k) (degree r (suc (n + k)) g -ℤ w) (has_place table sphere range far p n beta gamma c (suc k) (suc (n + k)) g (omega arith) (next_row_there k l) (omega arith)) (homotopy_goal table sphere p n k (beta_values sphere p beta k) gamma below g) (row vectors g) (next.each g b)
 
   -- they are the images of a map
   abbrev Images : ℕ → List (List Bool) → Type 0

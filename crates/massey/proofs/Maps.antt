@@ -17,7 +17,7 @@ use Rattle.chain_map.specs.Classes.{through}
 use Rattle.chain_map.proofs.Applied.{mapped-is}
 use Rattle.chain_map.proofs.Classes.{rows_through}
 
-module _ (first sphere : Staircase) (range : Range) where
+module _ (first sphere : Staircase) (range other : Range) where
   abbrev r : Resolution
   r = resolution_of first
 
@@ -25,7 +25,7 @@ module _ (first sphere : Staircase) (range : Range) where
   rc = through range first
 
   abbrev qc : Resolution
-  qc = through range sphere
+  qc = through other sphere
 
   -- a generator of a degree that is at most n above the bottom is one of the first squares
   pub among_first : (i n g : ℕ) → i ≤ range.s → g < length (gens rc i) → degree rc i g <ℤ (bottom_of first.resolved +ℤ pos (n + 1)) → g < first_of r i (n + 1)
@@ -36,9 +36,9 @@ module _ (first sphere : Staircase) (range : Range) where
       let kept = kept-cut (over first.resolved) range.s (n + 1) (plain_rows first.rows) (through near first).table (rows_through first near) i g row_in_range all (omega (arith, ints)) in
       omega (arith, ap (λ w. length (degrees_from (bottom_of first.resolved) w)) (rows_through first near i row_in_range), length-images_of (bottom_of first.resolved) (take (n + 1) (row_of r.table i)))
 
-  pub part_map : (i k above n far : ℕ) (x u : ℤ) (images : List (List Bool)) (f : ℕ → List Bool) (t : ℤ) (v : List Bool) → i ≤ range.s → k ≤ range.s → n ≤ range.t + 1 → far ≤ range.t + 1 → x ≡ bottom_of first.resolved +ℤ pos above → u ≡ t -ℤ x → t <ℤ (bottom_of first.resolved +ℤ pos n) → (t -ℤ x) <ℤ (bottom_of sphere.resolved +ℤ pos far)
+  pub part_map : (i k above n far : ℕ) (x u : ℤ) (images : List (List Bool)) (f : ℕ → List Bool) (t : ℤ) (v : List Bool) → i ≤ range.s → k ≤ other.s → n ≤ range.t + 1 → far ≤ other.t + 1 → x ≡ bottom_of first.resolved +ℤ pos above → u ≡ t -ℤ x → t <ℤ (bottom_of first.resolved +ℤ pos n) → (t -ℤ x) <ℤ (bottom_of sphere.resolved +ℤ pos far)
       → ((g : ℕ) → g < first_of r i n → row images g ≡ f g) → mapped (free_graded (target_of sphere k far)) (lowered_row first i n above) images u v ≡ lowered rc i qc k x f t v
   part_map i k above n far x u images f t v row_in_range k_in_range few few_q x_is u_is low low_q values =
       ap (λ (z : ℤ). mapped (free_graded (target_of sphere k far)) (lowered_row first i n above) images z v) u_is
       ∙ (mapped-is first sphere i k above n far x images f t v x_is low low_q values
-      ∙ sym (lowered-cut (over first.resolved) (over sphere.resolved) range.s (range.t + 1) range.s (range.t + 1) (plain_rows first.rows) rc.table (plain_rows sphere.rows) qc.table (rows_through first range) (rows_through sphere range) i k x f t v row_in_range k_in_range (omega (arith, ints)) (omega (arith, ints))))
+      ∙ sym (lowered-cut (over first.resolved) (over sphere.resolved) range.s (range.t + 1) other.s (other.t + 1) (plain_rows first.rows) rc.table (plain_rows sphere.rows) qc.table (rows_through first range) (rows_through sphere other) i k x f t v row_in_range k_in_range (omega (arith, ints)) (omega (arith, ints))))

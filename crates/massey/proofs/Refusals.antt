@@ -1,5 +1,5 @@
 -- The first refusal of several.
-use Rattle.std.proofs.Common.{◌≡◌, ◌+◌, pos, ◌+ℤ◌, ◌-ℤ◌, Option, Some, None, ◌∙◌, arith}
+use Rattle.std.proofs.Common.{◌≡◌, ◌+◌, pos, ◌+ℤ◌, ◌-ℤ◌, Option, Some, None, sym, ◌∙◌, arith}
 use Rattle.std.specs.Option.{option_or}
 use Rattle.std.proofs.lemmas.Int.{ints}
 use Rattle.bidegree.specs.declared.range.Range.{Range}
@@ -12,8 +12,9 @@ use Rattle.chain_map.specs.Classes.{through, out_of_range, class_refusal, range_
 use Rattle.massey.specs.declared.fault.MasseyFault.{MasseyFault}
 use Rattle.massey.specs.declared.fault.MasseyFault.TheVariants.{NoClass, OutOfRange}
 use Rattle.massey.specs.declared.places.Places.{Places}
-use Rattle.massey.specs.Brackets.{refusal_of}
+use Rattle.massey.specs.Brackets.{reach_of, refusal_of}
 use Rattle.massey.specs.Inside.{place_refusal, AreFound}
+use Rattle.massey.proofs.Nearby.{refusal_within}
 
 module _ (table sphere : Staircase) (range : Range) (p : Places) where
   abbrev ab : Option MasseyFault
@@ -41,7 +42,7 @@ module _ (table sphere : Staircase) (range : Range) (p : Places) where
   refused_last o n m e = all ∙ cc
 
 -- the rows and the degrees of the classes are those of their places
-pub rows_are : (table sphere : Staircase) (range : Range) (a b c : Class) (p : Places) → AreFound table sphere range a b c p → p.a.s + p.b.s + p.c.s ≡ a.s + b.s + c.s
+pub rows_are : (table sphere : Staircase) (range : Range) (a b c : Class) (p : Places) → AreFound table sphere range (reach_of range a b) a b c p → p.a.s + p.b.s + p.c.s ≡ a.s + b.s + c.s
 rows_are table sphere range a b c p found = omega (arith, found.a_is.row, found.b_is.row, found.c_is.row)
 
 pub record HaveDegrees (table sphere : Staircase) (a b c : Class) (p : Places) : Type 0 where
@@ -50,7 +51,7 @@ pub record HaveDegrees (table sphere : Staircase) (a b c : Class) (p : Places) :
   pub abc : a.t +ℤ b.t +ℤ c.t ≡ bottom_of table.resolved +ℤ pos (p.a.above + p.b.above + p.c.above)
 
 -- the range's refusal of the classes is that of their places
-module _ (table sphere : Staircase) (range : Range) (is_sphere : IsSphere (resolution_of sphere)) (a b c : Class) (p : Places) (found : AreFound table sphere range a b c p) where
+module _ (table sphere : Staircase) (range : Range) (is_sphere : IsSphere (resolution_of sphere)) (a b c : Class) (p : Places) (found : AreFound table sphere range (reach_of range a b) a b c p) where
   pub degrees_are : HaveDegrees table sphere a b c p
   degrees_are =
       record { ab = omega (arith, ints); bc = omega (arith, ints); abc = omega (arith, ints) }
@@ -58,8 +59,13 @@ module _ (table sphere : Staircase) (range : Range) (is_sphere : IsSphere (resol
   placed : range_refusal OutOfRange range (through range table) (through range sphere) a.s b.s c.s (a.t +ℤ b.t) (b.t +ℤ c.t) (a.t +ℤ b.t +ℤ c.t) ≡ place_refusal table sphere range p
   placed = cc (found.a_is.row, found.b_is.row, found.c_is.row, degrees_are.ab, degrees_are.bc, degrees_are.abc)
 
-  pub refused_by_places : (o : Option MasseyFault) → class_refusal NoClass (through range table) (through range sphere) a b c ≡ None → place_refusal table sphere range p ≡ o → refusal_of table sphere range a b c ≡ o
-  refused_by_places o none e = let same = placed ∙ e in cc
+  pub refused_by_places : (o : Option MasseyFault) → class_refusal NoClass (through range table) (through (reach_of range a b) sphere) a b c ≡ None → place_refusal table sphere range p ≡ o → refusal_of table sphere range a b c ≡ o
+  refused_by_places o none e =
+      let same = placed ∙ e in
+      let within : class_refusal NoClass (through range table) (through range sphere) a b c ≡ None = sym (refusal_within table sphere range a b c is_sphere.bottom) ∙ none in
+      cc
 
-pub refused_by_class : (table sphere : Staircase) (range : Range) (a b c : Class) (f : MasseyFault) → class_refusal NoClass (through range table) (through range sphere) a b c ≡ Some f → refusal_of table sphere range a b c ≡ Some f
-refused_by_class table sphere range a b c f e = cc
+pub refused_by_class : (table sphere : Staircase) (range : Range) → IsSphere (resolution_of sphere) → (a b c : Class) (f : MasseyFault) → class_refusal NoClass (through range table) (through (reach_of range a b) sphere) a b c ≡ Some f → refusal_of table sphere range a b c ≡ Some f
+refused_by_class table sphere range is_sphere a b c f e =
+    let within : class_refusal NoClass (through range table) (through range sphere) a b c ≡ Some f = sym (refusal_within table sphere range a b c is_sphere.bottom) ∙ e in
+    cc

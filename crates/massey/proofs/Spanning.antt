@@ -21,11 +21,11 @@ use Rattle.chain_map.specs.Lifting.{LiftValues, resolution_of, IsCanonicalIn, ma
 use Rattle.yoneda.specs.Products.{class_above, IsYonedaProduct, AreProducts}
 use Rattle.massey.specs.declared.places.Places.{Places}
 use Rattle.chain_map.specs.Classes.{through}
-use Rattle.massey.specs.Inside.{above_of, above_ab, above_bc, IsSetting, AreLifts, lower_product, AreSpanning}
+use Rattle.massey.specs.Inside.{above_of, above_ab, above_bc, IsSettingIn, AreLifts, lower_product, AreSpanning}
 use Rattle.yoneda.proofs.Through.{count_through, on_square_through, coefficient_through}
 use Rattle.massey.proofs.Members.{gamma_through}
 
-module _ (table sphere : Staircase) (range : Range) (p : Places) (s : IsSetting table sphere range p) (all : IsCanonicalIn range table) (all_q : IsCanonicalIn range sphere) (n : ℕ) (n_row : suc n ≡ p.c.s + p.b.s)
+module _ (table sphere : Staircase) (range far : Range) (p : Places) (s : IsSettingIn table sphere range far p) (all : IsCanonicalIn range table) (all_q : IsCanonicalIn far sphere) (n : ℕ) (n_row : suc n ≡ p.c.s + p.b.s)
     (rows : List (List Bool)) (count : length rows ≡ count_of (resolution_of table) n (above_bc p)) (are : AreProducts table sphere p.a n (above_bc p) rows) where
   abbrev r : Resolution
   r = resolution_of table
@@ -37,7 +37,7 @@ module _ (table sphere : Staircase) (range : Range) (p : Places) (s : IsSetting 
   rc = through range table
 
   abbrev qc : Resolution
-  qc = through range sphere
+  qc = through far sphere
 
   abbrev a : Class
   a = class_above p.a
@@ -53,7 +53,7 @@ module _ (table sphere : Staircase) (range : Range) (p : Places) (s : IsSetting 
 
   products : (j : ℕ) → j < length rows → IsYonedaProduct rc qc a (z j) (row rows j)
   products j h =
-      are j h range range s.through_table s.through_sphere (omega arith) (omega arith) (omega arith) (omega arith) all all_q
+      are j h range far s.through_table s.through_sphere (omega arith) (omega arith) (omega arith) (omega arith) all all_q
 
   -- a lift of number j of the square of bc one row lower
   chosen : (j : ℕ) → (j < length rows) ⊎ (length rows ≤ j) → ℕ → ℕ → List Bool
@@ -89,13 +89,13 @@ module _ (table sphere : Staircase) (range : Range) (p : Places) (s : IsSetting 
   unfolding lifts
   lifts-is j l = chosen-is j (cases_lt j (length rows)) l
 
-  pub spanning : (beta gamma : LiftValues) → AreLifts table sphere p beta gamma → (whole : List (List Bool)) → ((l : ℕ) → suc l ≡ p.b.s + p.a.s → whole ≡ rows ++ map (lower_product table sphere p gamma l) (range_with_len 0 (count_of q l (above_ab p)))) → AreSpanning table sphere range p n whole
+  pub spanning : (beta gamma : LiftValues) → AreLifts table sphere p beta gamma → (whole : List (List Bool)) → ((l : ℕ) → suc l ≡ p.b.s + p.a.s → whole ≡ rows ++ map (lower_product table sphere p gamma l) (range_with_len 0 (count_of q l (above_ab p)))) → AreSpanning table sphere p n whole range far
   spanning beta gamma ls whole gives l l_row =
       let i = s.inside in
       let in_row = in_rows in
       let ab_degree = i.ab_degree in
       let count_rc : count_of rc n (above_bc p) ≡ count_of r n (above_bc p) = count_through table range n (above_bc p) (omega arith) i.bc_degree in
-      let count_qc : count_of qc l (above_ab p) ≡ count_of q l (above_ab p) = count_through sphere range l (above_ab p) (omega arith) ab_degree in
+      let count_qc : count_of qc l (above_ab p) ≡ count_of q l (above_ab p) = count_through sphere far l (above_ab p) (omega arith) ab_degree in
       let F : ℕ → List Bool = λ j. product_by rc qc a (lifts j) (n + p.a.s) (above_of p) in
       let G : ℕ → List Bool = λ k. on_square rc (n + p.a.s) (above_of p) (λ g. bit (coefficients qc l (above_ab p) (map_of gamma l g)) k) in
       let len = length-map-range_with_len F 0 (count_of rc n (above_bc p)) in
@@ -107,7 +107,7 @@ module _ (table sphere : Staircase) (range : Range) (p : Places) (s : IsSetting 
       ap (λ (w : ℕ). on_square r w (above_of p) (λ g. coefficient_of q y (map_of gamma l g))) same_row
       ∙ (sym (on_square_through table range (n + p.a.s) (above_of p) (λ g. coefficient_of q y (map_of gamma l g)) in_row i.degree)
       ∙ on_square-same rc (n + p.a.s) (above_of p) (λ g. coefficient_of q y (map_of gamma l g)) (λ g. bit (coefficients qc l (above_ab p) (map_of gamma l g)) k)
-      (λ m h. sym (coefficient_through sphere range y (map_of gamma l (first_of rc (n + p.a.s) (above_of p) + m)) (omega arith) ab_degree)
+      (λ m h. sym (coefficient_through sphere far y (map_of gamma l (first_of rc (n + p.a.s) (above_of p) + m)) (omega arith) ab_degree)
       ∙ sym (get_or-drop (old_width qc l (above_ab p)) (map_of gamma l (first_of rc (n + p.a.s) (above_of p) + m)) k false))) in
       let second : map (lower_product table sphere p gamma l) (range_with_len 0 (count_of q l (above_ab p))) ≡ map G (range_with_len 0 (count_of qc l (above_ab p))) =
       map_range (lower_product table sphere p gamma l) G 0 (count_of q l (above_ab p)) (λ k h. each (0 + k)) ∙ ap (λ (c : ℕ). map G (range_with_len 0 c)) (sym count_qc) in
@@ -115,7 +115,7 @@ module _ (table sphere : Staircase) (range : Range) (p : Places) (s : IsSetting 
         lifts = lifts;
         gamma = map_of gamma;
         each = λ j h. (lifts-is j (omega arith)).is_lift;
-        gamma_lift = gamma_through table sphere range p s all all_q beta gamma ls l l_row;
+        gamma_lift = gamma_through table sphere range far p s all all_q beta gamma ls l l_row;
         are = gives l l_row ∙ (ap (λ (w : List (List Bool)). w ++ map (lower_product table sphere p gamma l) (range_with_len 0 (count_of q l (above_ab p)))) first ∙ ap (λ (w : List (List Bool)). map F (range_with_len 0 (count_of rc n (above_bc p))) ++ w) second);
       }
 

@@ -1,17 +1,24 @@
 -- The values of lifts on the squares of the products and of the bracket.
-use Rattle.std.proofs.Common.{◌≡◌, ℕ, suc, ◌+◌, ◌-◌, ◌<◌, pos, ◌-ℤ◌, length, arith}
+use Rattle.std.proofs.Common.{◌≡◌, ℕ, suc, ◌+◌, ◌-◌, ◌<◌, ◌≤◌, pos, ◌-ℤ◌, length, arith}
 use Rattle.std.proofs.lemmas.Int.{ints}
 use Rattle.bidegree.specs.declared.range.Range.{Range}
 use Rattle.bidegree.specs.declared.place.Place.{Place}
-use Rattle.square.specs.Tables.{Staircase, row_in, content_at}
-use Rattle.chain_map.specs.Lifting.{LiftValues, IsLiftOver}
+use Rattle.square.specs.Tables.{Staircase, row_in, content_at, IsThrough}
+use Rattle.chain_map.specs.Lifting.{LiftValues, degrees_through, IsLiftOver}
 use Rattle.yoneda.specs.Products.{class_above, IsThere}
-use Rattle.yoneda.proofs.Lifted.{HasRow, has_row}
+use Rattle.yoneda.proofs.Lifted.{shifted_length-positive, HasRow, has_row}
 use Rattle.massey.specs.declared.places.Places.{Places}
-use Rattle.massey.specs.Inside.{above_of, above_ab, AreInside, IsSetting, AreLifts}
+use Rattle.massey.specs.Inside.{above_of, above_ab, AreInside, IsSettingIn, AreLifts}
 use Rattle.bracket_laws.specs.Brackets.{HasRoom}
 
-module _ (table sphere : Staircase) (range : Range) (p : Places) (s : IsSetting table sphere range p) where
+-- a lift over tables with these ranges goes through its degrees
+pub reaches_in : (table sphere : Staircase) (range far : Range) → IsThrough range table.rows → IsThrough far sphere.rows → (s above upto at : ℕ) → s + upto ≤ range.s → upto ≤ far.s → at ≤ range.t → at ≤ above + far.t → at < degrees_through table sphere s above upto
+reaches_in table sphere range far whole whole_q s above upto at rows rows_q small small_q =
+    let long = whole_q upto rows_q in
+    let e = shifted_length-positive above (length (row_in sphere.rows upto)) (omega arith) in
+    omega (arith, whole (s + upto) rows)
+
+module _ (table sphere : Staircase) (range far : Range) (p : Places) (s : IsSettingIn table sphere range far p) where
   pub a_is_there : IsThere sphere p.a
   a_is_there = let long = s.through_sphere p.a.s (omega arith) in record { square = omega arith; generator = s.a_in.generator }
 
@@ -20,7 +27,7 @@ module _ (table sphere : Staircase) (range : Range) (p : Places) (s : IsSetting 
 
   -- the lift of b, for ab
   pub values_ab : (beta : LiftValues) → IsLiftOver sphere sphere p.b.s p.b.above p.b.i p.a.s beta → HasRow sphere sphere p.a p.b p.a.s beta
-  values_ab beta l = let long = s.through_sphere p.a.s (omega arith) in has_row sphere sphere range s.through_sphere s.is_sphere p.a p.b p.a.s beta (omega arith) (omega arith) s.inside.ab_degree (omega arith) l
+  values_ab beta l = let long = s.through_sphere p.a.s (omega arith) in has_row sphere sphere far s.through_sphere s.is_sphere p.a p.b p.a.s beta (omega arith) (omega arith) s.inside.ab_degree (omega arith) l
 
   -- the lift of c, for bc
   pub values_bc : (gamma : LiftValues) → IsLiftOver table sphere p.c.s p.c.above p.c.i (p.b.s + (p.a.s - 1)) gamma → HasRow table sphere p.b p.c (p.b.s + (p.a.s - 1)) gamma
@@ -44,6 +51,6 @@ pub bracket_row : (p : Places) → (p.b.s ≡ 0 → ⊥) → pos (((p.c.s + p.b.
 bracket_row p h = omega (arith, ints)
 
 -- the tables have the rows and degrees of a bracket
-pub room_of : (table sphere : Staircase) (range : Range) (p : Places) → AreInside range p.a p.b p.c → (beta gamma : LiftValues) → AreLifts table sphere p beta gamma → (n : ℕ) → suc n ≡ p.c.s + p.b.s → (l : ℕ) → suc l ≡ p.b.s + p.a.s → HasRoom range.s range.t range.s range.t (class_above p.a) (class_above p.b) (class_above p.c) n l
-room_of table sphere range p i beta gamma lifts n n_row l l_row =
+pub room_of : (table sphere : Staircase) (range far : Range) (p : Places) → AreInside range far p → (beta gamma : LiftValues) → AreLifts table sphere p beta gamma → (n : ℕ) → suc n ≡ p.c.s + p.b.s → (l : ℕ) → suc l ≡ p.b.s + p.a.s → HasRoom range.s range.t far.s far.t (class_above p.a) (class_above p.b) (class_above p.c) n l
+room_of table sphere range far p i beta gamma lifts n n_row l l_row =
     record { last = lifts.last; low = lifts.low; a_row = lifts.a_row; b_row = lifts.b_row; n_row = n_row; l_row = l_row; rows_r = omega arith; rows_q = omega arith; degrees_r = i.degree; degrees_q = i.ab_degree }

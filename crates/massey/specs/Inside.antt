@@ -3,7 +3,6 @@
 use Rattle.std.specs.Prelude.{◌≡◌, ℕ, suc, ◌+◌, ◌≤◌, pos, ◌+ℤ◌, Bool, List, Option, ℤ, ◌-ℤ◌, map, take}
 use Rattle.bidegree.specs.declared.range.Range.{Range}
 use Rattle.bidegree.specs.declared.class.Class.{Class}
-use Rattle.bidegree.specs.declared.place.Place.{Place}
 use Rattle.f2_vec.specs.Vectors.{IsZero, sum_of, zeros}
 use Rattle.f2_vec.specs.Spans.{row}
 use Rattle.free_module.specs.FreeModule.{free_width}
@@ -14,13 +13,13 @@ use Rattle.square.specs.Tables.{Staircase, IsTable, IsThrough}
 use Rattle.lift_laws.specs.Lifts.{IsSphere, degree}
 use Rattle.lift_laws.specs.Products.{degree_of_class, coefficient_of, on_square, product_by, first_of}
 use Rattle.bracket_laws.specs.Brackets.{IsNullHomotopy, composed, top_of, IsBracketMember, IsIndeterminacy}
-use Rattle.chain_map.specs.Lifting.{LiftValues, resolution_of, map_of, IsLiftOver, row_values, joined, AreChosen, target_of, next_goal, lowered_row}
+use Rattle.chain_map.specs.Lifting.{LiftValues, resolution_of, IsCanonicalIn, map_of, IsLiftOver, row_values, joined, AreChosen, target_of, next_goal, lowered_row}
 use Rattle.chain_map.specs.Classes.{through, range_refusal}
 use Rattle.yoneda.specs.Products.{class_above, IsPlaceIn, IsPlaceOf}
 use Rattle.massey.specs.declared.fault.MasseyFault.{MasseyFault}
 use Rattle.massey.specs.declared.fault.MasseyFault.TheVariants.{OutOfRange}
 use Rattle.massey.specs.declared.places.Places.{Places}
-use Rattle.massey.specs.Brackets.{IsBracketOf}
+use Rattle.massey.specs.Brackets.{HaveSquares, IsBracketOf}
 
 -- how many degrees the bracket is above the bottom, and ab, and bc
 abbrev pub above_of : Places → ℕ
@@ -34,20 +33,19 @@ above_bc p = p.b.above + p.c.above
 
 -- ---- places
 
--- ab, bc and the bracket are in the range
-pub record AreInside (range : Range) (a b c : Place) : Type 0 where
-  pub ab_row : a.s + b.s ≤ range.s
-  pub ab_degree : a.above + b.above ≤ range.t
-  pub bc_row : b.s + c.s ≤ range.s
-  pub bc_degree : b.above + c.above ≤ range.t
-  pub row : a.s + b.s + c.s ≤ range.s + 1
-  pub degree : a.above + b.above + c.above ≤ range.t
+-- the ranges of the two tables have the squares of the products and of the bracket
+abbrev pub AreInside : Range → Range → Places → Type 0
+AreInside range far p = HaveSquares range far (class_above p.a) (class_above p.b) (class_above p.c)
 
--- where the classes stand
-pub record AreFound (table sphere : Staircase) (range : Range) (a b c : Class) (places : Places) : Type 0 where
-  pub a_is : IsPlaceOf sphere range a places.a
-  pub b_is : IsPlaceOf sphere range b places.b
+-- where the classes stand: those of the sphere within one range, and that of the module within another
+pub record AreFound (table sphere : Staircase) (range far : Range) (a b c : Class) (places : Places) : Type 0 where
+  pub a_is : IsPlaceOf sphere far a places.a
+  pub b_is : IsPlaceOf sphere far b places.b
   pub c_is : IsPlaceOf table range c places.c
+
+-- the least range that has ab
+abbrev pub far_of : Places → Range
+far_of p = record { s = p.a.s + p.b.s; t = p.a.above + p.b.above }
 
 -- what the fault names of places
 abbrev pub place_refusal : Staircase → Staircase → Range → Places → Option MasseyFault
@@ -56,24 +54,34 @@ place_refusal table sphere range p =
     (bottom_of sphere.resolved +ℤ pos (above_ab p)) (bottom_of table.resolved +ℤ pos (above_bc p))
     (bottom_of table.resolved +ℤ pos (above_of p))
 
--- the bracket of the classes at these places of two tables, through the range
-abbrev pub IsBracket : Staircase → Staircase → Range → Places → List Bool → List (List Bool) → Type 0
-IsBracket table sphere range p value rows = IsBracketOf (through range table) (through range sphere) (class_above p.a)
+-- the bracket of the classes at these places of two tables, each through a range
+abbrev pub IsBracket : Staircase → Staircase → Places → List Bool → List (List Bool) → Range → Range → Type 0
+IsBracket table sphere p value rows range far = IsBracketOf (through range table) (through far sphere) (class_above p.a)
     (class_above p.b) (class_above p.c) value rows
 
 -- ---- lifts and maps
 
--- the tables have the range, the second is of the sphere, and the classes at these places have products and a bracket in the range
-pub record IsSetting (table sphere : Staircase) (range : Range) (p : Places) : Type 0 where
+-- each table has its range, the second is of the sphere, and the classes at these places have products and a bracket in these ranges
+pub record IsSettingIn (table sphere : Staircase) (range far : Range) (p : Places) : Type 0 where
   pub is_table : IsTable table
   pub is_sphere_table : IsTable sphere
   pub through_table : IsThrough range table.rows
-  pub through_sphere : IsThrough range sphere.rows
+  pub through_sphere : IsThrough far sphere.rows
   pub is_sphere : IsSphere (resolution_of sphere)
-  pub a_in : IsPlaceIn sphere range p.a
-  pub b_in : IsPlaceIn sphere range p.b
+  pub a_in : IsPlaceIn sphere far p.a
+  pub b_in : IsPlaceIn sphere far p.b
   pub c_in : IsPlaceIn table range p.c
-  pub inside : AreInside range p.a p.b p.c
+  pub inside : AreInside range far p
+
+-- the sphere's table has ab, and perhaps no more
+abbrev pub IsSetting : Staircase → Staircase → Range → Places → Type 0
+IsSetting table sphere range p = IsSettingIn table sphere range (far_of p) p
+
+-- P is so of any ranges that have the classes and their squares, where the squares of these ranges are those of the canonical
+-- resolutions
+abbrev pub IsSoIn : (Range → Range → Type 0) → Staircase → Staircase → Places → Type 0
+IsSoIn P table sphere p = (range far : Range) → IsSettingIn table sphere range far p → IsCanonicalIn range table →
+    IsCanonicalIn far sphere → P range far
 
 -- Lifts of b and of c, as far as a bracket needs them, where b.s and a.s are not 0: to row l, which is one below that of ab, for c.
 -- The products ab and bc, which they give, are zero.
@@ -90,21 +98,21 @@ pub record AreLifts (table sphere : Staircase) (p : Places) (beta gamma : LiftVa
       (p.c.s + p.b.s) (above_bc p))
 
 -- maps H, and the values of the last of them
-pub record IsLastMap (table sphere : Staircase) (range : Range) (p : Places) (n : ℕ) (beta gamma : LiftValues)
-    (last : List (List Bool)) : Type 0 where
+pub record IsLastMap (table sphere : Staircase) (p : Places) (n : ℕ) (beta gamma : LiftValues)
+    (last : List (List Bool)) (range far : Range) : Type 0 where
   pub H : ℕ → ℕ → List Bool
-  pub homotopy : IsNullHomotopy (through range table) (through range sphere) n
+  pub homotopy : IsNullHomotopy (through range table) (through far sphere) n
       (degree_of_class (through range table) (class_above p.c)
-      +ℤ degree_of_class (through range sphere) (class_above p.b))
-      (composed (through range sphere) p.b.s (degree_of_class (through range sphere) (class_above p.b))
+      +ℤ degree_of_class (through far sphere) (class_above p.b))
+      (composed (through far sphere) p.b.s (degree_of_class (through far sphere) (class_above p.b))
       (degree_of_class (through range table) (class_above p.c)) (map_of beta) (map_of gamma))
       p.a.s (top_of (through range table) (class_above p.a) (class_above p.b) (class_above p.c)) H
   pub values : (g : ℕ) → row last g ≡ H p.a.s g
 
 -- v is a value of the bracket, by lifts and a null homotopy
-abbrev pub IsMemberBy : Staircase → Staircase → Range → Places → ℕ → List Bool → Type 0
-IsMemberBy table sphere range p n v = (l : ℕ) → suc l ≡ p.b.s + p.a.s →
-    IsBracketMember (through range table) (through range sphere) (class_above p.a) (class_above p.b) (class_above p.c) n
+abbrev pub IsMemberBy : Staircase → Staircase → Places → ℕ → List Bool → Range → Range → Type 0
+IsMemberBy table sphere p n v range far = (l : ℕ) → suc l ≡ p.b.s + p.a.s →
+    IsBracketMember (through range table) (through far sphere) (class_above p.a) (class_above p.b) (class_above p.c) n
     l (top_of (through range table) (class_above p.a) (class_above p.b) (class_above p.c)) v
 
 -- the product of number i of the square of ab one row lower, in row l of the sphere, with the class that the maps lift
@@ -113,17 +121,20 @@ lower_product table sphere p gamma l i = on_square (resolution_of table) (p.c.s 
     (λ g. coefficient_of (resolution_of sphere) (record { s = l; above = above_ab p; i = i }) (map_of gamma l g))
 
 -- the rows span the indeterminacy
-abbrev pub AreSpanning : Staircase → Staircase → Range → Places → ℕ → List (List Bool) → Type 0
-AreSpanning table sphere range p n rows = (l : ℕ) → suc l ≡ p.b.s + p.a.s →
-    IsIndeterminacy (through range table) (through range sphere) (class_above p.a) (class_above p.b) (class_above p.c) n
+abbrev pub AreSpanning : Staircase → Staircase → Places → ℕ → List (List Bool) → Range → Range → Type 0
+AreSpanning table sphere p n rows range far = (l : ℕ) → suc l ≡ p.b.s + p.a.s →
+    IsIndeterminacy (through range table) (through far sphere) (class_above p.a) (class_above p.b) (class_above p.c) n
     l (top_of (through range table) (class_above p.a) (class_above p.b) (class_above p.c)) rows
 
 -- the lifts of b and c can be composed, and row n is one below that of bc
-pub record IsComposite (table sphere : Staircase) (range : Range) (p : Places) (n : ℕ) (beta gamma : LiftValues)
+pub record IsCompositeIn (table sphere : Staircase) (range far : Range) (p : Places) (n : ℕ) (beta gamma : LiftValues)
     : Type 0 where
-  pub setting : IsSetting table sphere range p
+  pub setting : IsSettingIn table sphere range far p
   pub lifts : AreLifts table sphere p beta gamma
   pub n_row : suc n ≡ p.c.s + p.b.s
+
+abbrev pub IsComposite : Staircase → Staircase → Range → Places → ℕ → LiftValues → LiftValues → Type 0
+IsComposite table sphere range p n beta gamma = IsCompositeIn table sphere range (far_of p) p n beta gamma
 
 -- beta_k and H_k as they are computed: from the generators of their rows through the degrees of ab and of the bracket, which are
 -- lowered, to those of row k of the sphere through the degree of a

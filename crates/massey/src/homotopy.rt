@@ -6,9 +6,9 @@ ghost use Rattle.free_module.specs.Graded.{free_graded};
 ghost use Rattle.free_module.specs.LinearMap.{AreImages, mapped};
 ghost use Rattle.square.specs.Squares.{bottom_of};
 ghost use Rattle.lift_laws.specs.Products.{first_of};
-ghost use Rattle.chain_map.specs.Lifting.{lowered_row, resolution_of, IsCanonicalIn, target_of, AreChosen};
+ghost use Rattle.chain_map.specs.Lifting.{lowered_row, resolution_of, target_of, AreChosen};
 ghost use Rattle.yoneda.specs.Products.{AreOnSquare};
-ghost use Rattle.massey.specs.Inside.{above_of, above_bc, IsSetting, IsLastMap, AreLifts, IsComposite, AreMapsOf, AreNext, homotopy_goal, zero_map};
+ghost use Rattle.massey.specs.Inside.{above_of, above_bc, IsSetting, IsSoIn, IsLastMap, AreLifts, IsComposite, AreMapsOf, AreNext, homotopy_goal, zero_map};
 
 use crate::setting::Setting;
 use chain_map::{Held, Inverse, Lift, Source, lowered_generators};
@@ -37,10 +37,9 @@ pub(crate) fn last_map(
     requires n { suc n ≡ setting.now.places.c.s + setting.now.places.b.s }
     ensures values { IfOk result (λ last. AreOnSquare setting.now.table.now setting.now.sphere.now setting.now.places.a
         (n + setting.now.places.a.s) (above_of setting.now.places) last.items) }
-    ensures map { IfOk result (λ last. IsCanonicalIn setting.now.range setting.now.table.now →
-        IsCanonicalIn setting.now.range setting.now.sphere.now →
-        IsLastMap setting.now.table.now setting.now.sphere.now setting.now.range setting.now.places n beta.now gamma.now
-        last.items) }
+    ensures map { IfOk result (λ last. IsSoIn
+        (IsLastMap setting.now.table.now setting.now.sphere.now setting.now.places n beta.now gamma.now last.items)
+        setting.now.table.now setting.now.sphere.now setting.now.places) }
 {
     // Why there are such maps.
     canonical_table_is_minimal_resolution();

@@ -11,3 +11,4 @@ mod setting;
 pub use answer::Bracket;
 pub use fault::MasseyFault;
 pub use making::bracket;
+pub use places::reach;

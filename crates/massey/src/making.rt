@@ -7,10 +7,10 @@ ghost use Rattle.square.specs.Squares.{bottom_of};
 ghost use Rattle.square.specs.Tables.{IsThrough};
 ghost use Rattle.lift_laws.specs.Lifts.{IsSphere};
 ghost use Rattle.lift_laws.specs.Products.{count_of, product_by};
-ghost use Rattle.chain_map.specs.Lifting.{resolution_of, IsCanonicalIn, map_of, IsLiftOver};
+ghost use Rattle.chain_map.specs.Lifting.{resolution_of, map_of, IsLiftOver};
 ghost use Rattle.yoneda.specs.Products.{class_above, IsPlaceOf, AreProducts};
-ghost use Rattle.massey.specs.Brackets.{refusal_of, count_below, IsBracketOver, IsCause};
-ghost use Rattle.massey.specs.Inside.{above_of, above_ab, above_bc, IsSetting, AreLifts, IsMemberBy, AreSpanning, IsBracket, lower_product};
+ghost use Rattle.massey.specs.Brackets.{reach_of, refusal_of, count_below, IsBracketOver, IsCause};
+ghost use Rattle.massey.specs.Inside.{above_of, above_ab, above_bc, far_of, IsSetting, IsSoIn, AreLifts, IsMemberBy, AreSpanning, IsBracket, lower_product};
 
 use crate::answer::Bracket;
 use crate::fault::MasseyFault;
@@ -32,7 +32,7 @@ use yoneda::{coefficients, product_by_lift, products};
 
 /// The bracket <a, b, c> of the classes a and b of the sphere with the class c of the module, where ab and bc are zero: the values that lifts of b
 /// and c and null homotopies give, in the square (a.s + b.s + c.s - 1, a.t + b.t + c.t), are one of them and the indeterminacy, which is spanned by
-/// the products of a and by those with c.
+/// the products of a and by those with c. The sphere's table is asked through the square of ab, and no further.
 ///
 /// # Errors
 /// The first of: a, b and then c is no class of its table through the range; the square of ab, of bc or of the bracket is past the range; ab
@@ -47,11 +47,11 @@ pub fn bracket(
     c: Class,
 ) -> Result<Bracket, MasseyFault>
     requires table { IsThrough range table.now.rows }
-    requires sphere_table { IsThrough range sphere.now.rows }
+    requires sphere_table { IsThrough (reach_of range a b) sphere.now.rows }
     requires sphere { IsSphere (resolution_of sphere.now) }
     ensures made { OnOk result (refusal_of table.now sphere.now range a b c ≡ None) }
     ensures cause { IfErr result (IsCause table.now sphere.now range a b c) }
-    ensures bracket { IfOk result (IsBracketOver table.now sphere.now range a b c) }
+    ensures bracket { IfOk result (IsBracketOver table.now sphere.now a b c) }
 {
     // Why every lift gives these products.
     modules_are_graded_modules();
@@ -91,7 +91,7 @@ pub fn bracket(
 /// A lift of b to row a.s of the sphere.
 fn lift_of_b(alloc: Global, setting: &Setting<'_>, b: Class) -> Result<Lift, Memory>
     requires setting { IsSetting setting.now.table.now setting.now.sphere.now setting.now.range setting.now.places }
-    requires class { IsPlaceOf setting.now.sphere.now setting.now.range b setting.now.places.b }
+    requires class { IsPlaceOf setting.now.sphere.now (far_of setting.now.places) b setting.now.places.b }
     ensures { IfOk result (IsLiftOver setting.now.sphere.now setting.now.sphere.now setting.now.places.b.s
         setting.now.places.b.above setting.now.places.b.i setting.now.places.a.s) }
 {
@@ -140,10 +140,10 @@ fn by_lifts(
     ensures one_each { IfOk result (λ bracket. length bracket.value ≡ count_below
         (resolution_of setting.now.table.now)
         (setting.now.places.a.s + setting.now.places.b.s + setting.now.places.c.s) (above_of setting.now.places)) }
-    ensures bracket { IfOk result (λ bracket. IsCanonicalIn setting.now.range setting.now.table.now →
-        IsCanonicalIn setting.now.range setting.now.sphere.now →
-        IsBracket setting.now.table.now setting.now.sphere.now setting.now.range setting.now.places bracket.value
-        bracket.indeterminacy.rows) }
+    ensures bracket { IfOk result (λ bracket. IsSoIn
+        (IsBracket setting.now.table.now setting.now.sphere.now setting.now.places bracket.value
+        bracket.indeterminacy.rows)
+        setting.now.table.now setting.now.sphere.now setting.now.places) }
 {
     // Why neither a nor b is in row 0.
     units_have_no_zero_products();
@@ -201,10 +201,10 @@ fn coset(
     ensures t { IfOk result
         (λ bracket. bracket.t ≡ bottom_of setting.now.table.now.resolved +ℤ pos (above_of setting.now.places)) }
     ensures widths { IfOk result (λ bracket. bracket.indeterminacy.cols ≡ length bracket.value) }
-    ensures bracket { IfOk result (λ bracket. IsCanonicalIn setting.now.range setting.now.table.now →
-        IsCanonicalIn setting.now.range setting.now.sphere.now →
-        IsBracket setting.now.table.now setting.now.sphere.now setting.now.range setting.now.places bracket.value
-        bracket.indeterminacy.rows) }
+    ensures bracket { IfOk result (λ bracket. IsSoIn
+        (IsBracket setting.now.table.now setting.now.sphere.now setting.now.places bracket.value
+        bracket.indeterminacy.rows)
+        setting.now.table.now setting.now.sphere.now setting.now.places) }
 {
     // Why the value and the indeterminacy are all values.
     canonical_table_is_minimal_resolution();
@@ -239,9 +239,9 @@ fn member(
     requires n { suc n ≡ setting.now.places.c.s + setting.now.places.b.s }
     ensures length { IfOk result (λ v. length v
         ≡ count_of (resolution_of setting.now.table.now) (n + setting.now.places.a.s) (above_of setting.now.places)) }
-    ensures member { IfOk result (λ v. IsCanonicalIn setting.now.range setting.now.table.now →
-        IsCanonicalIn setting.now.range setting.now.sphere.now →
-        IsMemberBy setting.now.table.now setting.now.sphere.now setting.now.range setting.now.places n v) }
+    ensures member { IfOk result (λ v. IsSoIn
+        (IsMemberBy setting.now.table.now setting.now.sphere.now setting.now.places n v)
+        setting.now.table.now setting.now.sphere.now setting.now.places) }
 {
     let last = last_map(alloc, setting, beta, gamma, n)?;
     let a = setting.places.a;
@@ -271,9 +271,9 @@ fn indeterminacy_rows(
     ensures widths { IfOk result (λ rows. HaveWidth
         (count_of (resolution_of setting.now.table.now) (n + setting.now.places.a.s) (above_of setting.now.places))
         rows.items) }
-    ensures spanning { IfOk result (λ rows. IsCanonicalIn setting.now.range setting.now.table.now →
-        IsCanonicalIn setting.now.range setting.now.sphere.now →
-        AreSpanning setting.now.table.now setting.now.sphere.now setting.now.range setting.now.places n rows.items) }
+    ensures spanning { IfOk result (λ rows. IsSoIn
+        (AreSpanning setting.now.table.now setting.now.sphere.now setting.now.places n rows.items)
+        setting.now.table.now setting.now.sphere.now setting.now.places) }
 {
     let mut rows = products(
         alloc,

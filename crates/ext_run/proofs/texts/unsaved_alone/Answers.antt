@@ -11,3 +11,7 @@ returns-in-Products-clause-told c = λ has.
 pub returns-in-Products-2-clause-told : goal.returns-in-Products-2-clause-told
 returns-in-Products-2-clause-told c = λ has.
     subst (λ (form : Form). IsInForm form c.args.resolution.common.range c.args.resolution.resolved.plain (answer_of c.products_alone.result)) (sym c.in-Products-2.is) (c.products_alone.ensures.told has)
+
+pub returns-in-Bracket-clause-told : goal.returns-in-Bracket-clause-told
+returns-in-Bracket-clause-told c = λ has.
+    subst (λ (form : Form). IsInForm form c.args.resolution.common.range c.args.resolution.resolved.plain (answer_of c.bracket_alone.result)) (sym c.in-Bracket.is) (c.bracket_alone.ensures.told has)

@@ -7,3 +7,7 @@ use Rattle.ext_run.proofs.texts.unsaved_by_workers.Goals as goal
 pub returns-in-Products-false-clause-told : goal.returns-in-Products-false-clause-told
 returns-in-Products-false-clause-told g c = λ has.
     subst (λ (form : Form). IsInForm form c.args.resolution.common.range c.args.resolution.resolved.plain (answer_of c.products_by-text.result)) (sym c.in-Products-false.is-0) (c.products_by-text.ensures.told has)
+
+pub returns-in-Bracket-false-clause-told : goal.returns-in-Bracket-false-clause-told
+returns-in-Bracket-false-clause-told g c = λ has.
+    subst (λ (form : Form). IsInForm form c.args.resolution.common.range c.args.resolution.resolved.plain (answer_of c.bracket_by-text.result)) (sym c.in-Bracket-false.is-0) (c.bracket_by-text.ensures.told has)

@@ -2,7 +2,7 @@ use Rattle.std.proofs.Common.{◌≡◌, ℕ, ◌+◌, Bool, List, sym, subst, a
 use Rattle.free_module.specs.Graded.{free_graded}
 use Rattle.free_module.specs.LinearMap.{AreImages}
 use Rattle.chain_map.specs.Lifting.{target_of, lowered_row}
-use Rattle.massey.specs.Inside.{above_of, above_bc, AreNext}
+use Rattle.massey.specs.Inside.{above_of, above_bc, AreNext, far_of}
 use Rattle.massey.proofs.Chosen.{AreMaps, maps_first, maps_more}
 use Rattle.massey.proofs.MapValues.{maps_are_images, last_on_square}
 use Rattle.massey.proofs.LastMap.{is_last_map}
@@ -23,7 +23,7 @@ next_map-requires-clause-below c =
     let p = setting.places in
     let k = c.loop-k.k in
     subst (AreImages (free_graded (target_of setting.sphere.now k (p.a.above + 1))) (lowered_row setting.table.now (c.args.n + k) (above_of p + 1) (above_bc p))) (sym c.as_slice.ensures.value)
-    (maps_are_images setting.table.now setting.sphere.now setting.range p c.args.n c.args.beta.now c.args.gamma.now (record { setting = c.requires.setting; lifts = c.requires.lifts; n_row = c.requires.n }) k (omega (arith, c.loop-k-test.true)) c.loop-k.values.items c.loop-k.invariant)
+    (maps_are_images setting.table.now setting.sphere.now setting.range (far_of p) p c.args.n c.args.beta.now c.args.gamma.now (record { setting = c.requires.setting; lifts = c.requires.lifts; n_row = c.requires.n }) k (omega (arith, c.loop-k-test.true)) c.loop-k.values.items c.loop-k.invariant)
 
 pub loop-k-preserved : goal.loop-k-preserved
 loop-k-preserved c =
@@ -37,13 +37,13 @@ returns-clause-values c =
     let setting = c.args.setting.now in
     let p = setting.places in
     let all : c.loop-k.k ≡ p.a.s = omega (arith, c.loop-k.auto.k-end, c.loop-k-test.false) in
-    last_on_square setting.table.now setting.sphere.now setting.range p c.args.n c.args.beta.now c.args.gamma.now (record { setting = c.requires.setting; lifts = c.requires.lifts; n_row = c.requires.n }) c.loop-k.values.items
+    last_on_square setting.table.now setting.sphere.now setting.range (far_of p) p c.args.n c.args.beta.now c.args.gamma.now (record { setting = c.requires.setting; lifts = c.requires.lifts; n_row = c.requires.n }) c.loop-k.values.items
     (subst (λ (k : ℕ). AreMaps setting.table.now setting.sphere.now p c.args.n c.args.beta.now c.args.gamma.now k c.loop-k.values.items) all c.loop-k.invariant)
 
 pub returns-clause-map : goal.returns-clause-map
-returns-clause-map c = λ canonical canonical_q.
+returns-clause-map c = λ range far s canonical canonical_q.
     let setting = c.args.setting.now in
     let p = setting.places in
     let all : c.loop-k.k ≡ p.a.s = omega (arith, c.loop-k.auto.k-end, c.loop-k-test.false) in
-    is_last_map c.canonical_table_is_minimal_resolution.ensures c.modules_are_graded_modules.ensures setting.table.now setting.sphere.now setting.range p c.args.n c.args.beta.now c.args.gamma.now (record { setting = c.requires.setting; lifts = c.requires.lifts; n_row = c.requires.n }) canonical canonical_q c.loop-k.values.items
+    is_last_map c.canonical_table_is_minimal_resolution.ensures c.modules_are_graded_modules.ensures setting.table.now setting.sphere.now range far p c.args.n c.args.beta.now c.args.gamma.now (record { setting = s; lifts = c.requires.lifts; n_row = c.requires.n }) canonical canonical_q c.loop-k.values.items
     (subst (λ (k : ℕ). AreMaps setting.table.now setting.sphere.now p c.args.n c.args.beta.now c.args.gamma.now k c.loop-k.values.items) all c.loop-k.invariant)

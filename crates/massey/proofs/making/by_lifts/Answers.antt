@@ -34,7 +34,7 @@ pub returns-clause-s : goal.returns-clause-s
 returns-clause-s c = IfOk-weaker c.coset.result _ _ (λ bracket e. e ∙ bracket_row c.args.setting.now.places c.if-places-eq0-2.false) c.coset.ensures.s
 
 pub returns-then-places-eq0-clause-bracket : goal.returns-then-places-eq0-clause-bracket
-returns-then-places-eq0-clause-bracket c = IfOk-weaker c.empty.result _ _ (λ bracket e all all_q. absurd (let up = a_row_positive c.units_have_no_zero_products.ensures c.modules_are_graded_modules.ensures c.args.setting.now.table.now c.args.setting.now.sphere.now c.args.setting.now.range c.args.setting.now.places c.requires.setting all all_q c.args.beta.now c.requires.beta c.requires.ab_zero in let row = c.if-places-eq0.true in omega arith)) c.empty.ensures.widths
+returns-then-places-eq0-clause-bracket c = IfOk-weaker c.empty.result _ _ (λ bracket e range far s all all_q. absurd (let up = a_row_positive c.units_have_no_zero_products.ensures c.modules_are_graded_modules.ensures c.args.setting.now.table.now c.args.setting.now.sphere.now range far c.args.setting.now.places s all all_q c.args.beta.now c.requires.beta c.requires.ab_zero in let row = c.if-places-eq0.true in omega arith)) c.empty.ensures.widths
 
 pub returns-then-places-eq0-2-clause-bracket : goal.returns-then-places-eq0-2-clause-bracket
-returns-then-places-eq0-2-clause-bracket c = IfOk-weaker c.empty-then-places-eq0-2.result _ _ (λ bracket e all all_q. absurd (let up = b_row_positive c.units_have_no_zero_products.ensures c.modules_are_graded_modules.ensures c.args.setting.now.table.now c.args.setting.now.sphere.now c.args.setting.now.range c.args.setting.now.places c.requires.setting all all_q c.args.gamma.now c.requires.gamma c.requires.bc_zero in let row = c.if-places-eq0-2.true in omega arith)) c.empty-then-places-eq0-2.ensures.widths
+returns-then-places-eq0-2-clause-bracket c = IfOk-weaker c.empty-then-places-eq0-2.result _ _ (λ bracket e range far s all all_q. absurd (let up = b_row_positive c.units_have_no_zero_products.ensures c.modules_are_graded_modules.ensures c.args.setting.now.table.now c.args.setting.now.sphere.now range far c.args.setting.now.places s all all_q c.args.gamma.now c.requires.gamma c.requires.bc_zero in let row = c.if-places-eq0-2.true in omega arith)) c.empty-then-places-eq0-2.ensures.widths

@@ -7,7 +7,7 @@ use Rattle.square.specs.Tables.{Staircase}
 use Rattle.lift_laws.specs.Products.{first_of}
 use Rattle.chain_map.specs.Lifting.{lowered_row, LiftValues, resolution_of, row_values, joined, target_of, AreChosen}
 use Rattle.massey.specs.declared.places.Places.{Places}
-use Rattle.massey.specs.Inside.{above_of, above_ab, above_bc, homotopy_goal, beta_values}
+use Rattle.massey.specs.Inside.{above_of, above_ab, above_bc, homotopy_goal, beta_values, far_of}
 use Rattle.massey.proofs.Composites.{beta_row, beta_count, inner_count, beta_images}
 use Rattle.massey.proofs.homotopy.Composite.next_map.Goals as goal
 
@@ -22,7 +22,7 @@ taken-is sphere p beta k degrees inner vectors count same is =
 pub vectors-requires : goal.vectors-requires
 vectors-requires c =
     let self = c.args.self.now in
-    beta_row self.setting.table.now self.setting.sphere.now self.setting.range self.setting.places self.n self.beta.now self.gamma.now c.requires.composite c.args.k (omega (arith, c.requires.row))
+    beta_row self.setting.table.now self.setting.sphere.now self.setting.range (far_of self.setting.places) self.setting.places self.n self.beta.now self.gamma.now c.requires.composite c.args.k (omega (arith, c.requires.row))
 
 pub basis-requires : goal.basis-requires
 basis-requires c =
@@ -36,8 +36,8 @@ slice_bounds-new-end c =
     let p = self.setting.places in
     let k = c.args.k in
     let inner = inner-is sphere p k c.above_ab.result c.in_ok-inner.inner c.in_ok-inner.ensures c.above_ab.ensures in
-    let count = inner_count self.setting.table.now sphere self.setting.range p self.n self.beta.now self.gamma.now c.requires.composite k in
-    let most = beta_count self.setting.table.now sphere self.setting.range p self.n self.beta.now self.gamma.now c.requires.composite k (omega arith) in
+    let count = inner_count self.setting.table.now sphere self.setting.range (far_of p) p self.n self.beta.now self.gamma.now c.requires.composite k in
+    let most = beta_count self.setting.table.now sphere self.setting.range (far_of p) p self.n self.beta.now self.gamma.now c.requires.composite k (omega arith) in
     sym (length-take-le (length c.degrees-count.result.now) c.vectors.result.now (omega (arith, ap length c.degrees-count.ensures, ap length inner, ap length c.vectors.ensures)))
 
 pub new-beta-requires : goal.new-beta-requires
@@ -47,7 +47,7 @@ new-beta-requires c =
     let p = self.setting.places in
     let k = c.args.k in
     let inner = inner-is sphere p k c.above_ab.result c.in_ok-inner.inner c.in_ok-inner.ensures c.above_ab.ensures in
-    let count = inner_count self.setting.table.now sphere self.setting.range p self.n self.beta.now self.gamma.now c.requires.composite k in
+    let count = inner_count self.setting.table.now sphere self.setting.range (far_of p) p self.n self.beta.now self.gamma.now c.requires.composite k in
     let taken = taken-is sphere p self.beta.now k c.degrees-count.result.now c.in_ok-inner.inner c.vectors.result.now (ap length inner ∙ count) c.degrees-count.ensures c.vectors.ensures in
     let target = target_of sphere k (p.a.above + 1) in
     let source = lowered_row sphere (p.b.s + k) (above_ab p + 1) p.b.above in
@@ -55,7 +55,7 @@ new-beta-requires c =
     subst (λ (t : List ℤ). AreImages (free_graded t) c.in_ok-inner.inner values) (sym c.in_ok-target.ensures)
     (subst (λ (i : List ℤ). AreImages (free_graded target) i values) (sym inner)
     (subst (AreImages (free_graded target) source) (sym taken)
-    (beta_images self.setting.table.now sphere self.setting.range p self.n self.beta.now self.gamma.now c.requires.composite k (omega (arith, c.requires.row)))))
+    (beta_images self.setting.table.now sphere self.setting.range (far_of p) p self.n self.beta.now self.gamma.now c.requires.composite k (omega (arith, c.requires.row)))))
 
 pub returns : goal.returns
 returns c =
@@ -66,7 +66,7 @@ returns c =
     let n = self.n in
     let k = c.args.k in
     let inner = inner-is sphere p k c.above_ab.result c.in_ok-inner.inner c.in_ok-inner.ensures c.above_ab.ensures in
-    let count = inner_count table sphere self.setting.range p n self.beta.now self.gamma.now c.requires.composite k in
+    let count = inner_count table sphere self.setting.range (far_of p) p n self.beta.now self.gamma.now c.requires.composite k in
     let taken = taken-is sphere p self.beta.now k c.degrees-count.result.now c.in_ok-inner.inner c.vectors.result.now (ap length inner ∙ count) c.degrees-count.ensures c.vectors.ensures in
     let last : c.loop-j.j ≡ above_of p + 1 = omega (arith, c.above-j-end.ensures, c.loop-j.auto.j-end, c.loop-j-test.false) in
     let P : List (List Bool) → List (List Bool) → ℕ → Type 0 = λ images below j. AreChosen table sphere (suc (n + k)) (suc k) (bottom_of table.resolved +ℤ pos (above_bc p)) (homotopy_goal table sphere p n k images self.gamma.now below) (first_of (resolution_of table) (suc (n + k)) j) c.loop-j.values.items in

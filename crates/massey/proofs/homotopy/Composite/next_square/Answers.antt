@@ -15,7 +15,7 @@ use Rattle.chain_map.proofs.Generators.{first_of-more}
 use Rattle.chain_map.proofs.Goals.{place_there, sphere_square, reach_low, reach_target}
 use Rattle.chain_map.proofs.Places.{image_width}
 use Rattle.chain_map.proofs.Widths.{width-take, next_goal_fits}
-use Rattle.massey.specs.Inside.{above_of, above_ab, above_bc, homotopy_goal}
+use Rattle.massey.specs.Inside.{above_of, above_ab, above_bc, homotopy_goal, far_of}
 use Rattle.massey.proofs.Composites.{through_bracket, gamma_there, gamma_width, inner_reach}
 use Rattle.massey.proofs.MapValues.{next_row_there}
 use Rattle.massey.proofs.NextGoals.{degree_is, goal_is}
@@ -41,7 +41,7 @@ inside c are = let test = c.loop-i-test.true in omega (arith, ap length are)
 bound : (c : After-len) → c.images_of-images.result.now ≡ (content_at c.args.self.now.setting.table.now.rows (suc (c.args.self.now.n + c.args.k)) c.args.j).images → c.len.result < length c.vectors-inner.result.now
 bound c are =
     let self = c.args.self.now in
-    let there = gamma_there self.setting.table.now self.setting.sphere.now self.setting.range self.setting.places self.n self.beta.now self.gamma.now c.requires.composite c.args.k c.args.j c.loop-i.i c.requires.row (omega arith) (inside c are) in
+    let there = gamma_there self.setting.table.now self.setting.sphere.now self.setting.range (far_of self.setting.places) self.setting.places self.n self.beta.now self.gamma.now c.requires.composite c.args.k c.args.j c.loop-i.i c.requires.row (omega arith) (inside c are) in
     omega (arith, ap length c.vectors-inner.ensures, c.len.ensures)
 
 image-is : (c : After-index-images-i) → c.images_of-images.result.now ≡ (content_at c.args.self.now.setting.table.now.rows (suc (c.args.self.now.n + c.args.k)) c.args.j).images → c.index-images-i.result ≡ row (content_at c.args.self.now.setting.table.now.rows (suc (c.args.self.now.n + c.args.k)) c.args.j).images c.loop-i.i
@@ -71,7 +71,7 @@ returns-then-is_empty c =
     let j = c.args.j in
     let images = c.images_of-images.result.now in
     let none : 0 ≡ length images = grind (arith, nat_tests, c.is_empty.ensures, c.if-is_empty.true) in
-    let long = next_row_there table sphere self.setting.range p n self.beta.now self.gamma.now c.requires.composite k c.requires.row in
+    let long = next_row_there table sphere self.setting.range (far_of p) p n self.beta.now self.gamma.now c.requires.composite k c.requires.row in
     let all = all-of table (suc (n + k)) j 0 images (omega arith) (images-are ((goal.at.returns-then-is_empty c).After-images_of-images)) none in
     chosen_in table sphere (suc (n + k)) (suc k) (bottom_of table.resolved +ℤ pos (above_bc p)) (homotopy_goal table sphere p n k c.args.beta.now.images.now self.gamma.now c.args.map.now.images.now) (first_of (resolution_of table) (suc (n + k)) j) (first_of (resolution_of table) (suc (n + k)) (j + 1)) c.args.values.now.items (omega arith) c.requires.made
 
@@ -83,7 +83,7 @@ of-requires c = λ low.
     let p = self.setting.places in
     let u = to_z w32 (of_z w32 c.over-u.result) in
     let at = u-is ((goal.at.of-requires c).After-over-u) in
-    sphere_square table sphere self.n (above_bc p) (c.args.k + 1) (above_of p + 1) (p.a.above + 1) c.args.j c.requires.composite.setting.is_sphere (through_bracket table sphere self.setting.range p self.n self.beta.now self.gamma.now c.requires.composite (c.args.k + 1) (omega (arith, c.requires.row))) c.requires.within u at low
+    sphere_square table sphere self.n (above_bc p) (c.args.k + 1) (above_of p + 1) (p.a.above + 1) c.args.j c.requires.composite.setting.is_sphere (through_bracket table sphere self.setting.range (far_of p) p self.n self.beta.now self.gamma.now c.requires.composite (c.args.k + 1) (omega (arith, c.requires.row))) c.requires.within u at low
 
 pub bounds-inner-len : goal.bounds-inner-len
 bounds-inner-len c =
@@ -100,7 +100,7 @@ goal-requires-clause-beta_source c =
     let beta = c.args.beta.now in
     let u = to_z w32 (of_z w32 c.over-u.result) in
     let at = u-is ((goal.at.goal-requires-clause-beta_source c).After-over-u) in
-    inner_reach self.setting.table.now self.setting.sphere.now self.setting.range p self.n self.beta.now self.gamma.now c.requires.composite c.args.k c.args.j beta.basis.now beta.source.now u (omega (arith, c.requires.within)) c.requires.maps.beta_basis_reaches c.requires.maps.beta_source_is at
+    inner_reach self.setting.table.now self.setting.sphere.now self.setting.range (far_of p) p self.n self.beta.now self.gamma.now c.requires.composite c.args.k c.args.j beta.basis.now beta.source.now u (omega (arith, c.requires.within)) c.requires.maps.beta_basis_reaches c.requires.maps.beta_source_is at
 
 pub goal-requires-clause-beta_target : goal.goal-requires-clause-beta_target
 goal-requires-clause-beta_target c =
@@ -111,7 +111,7 @@ goal-requires-clause-beta_target c =
     let beta = c.args.beta.now in
     let u = to_z w32 (of_z w32 c.over-u.result) in
     let at = u-is ((goal.at.goal-requires-clause-beta_target c).After-over-u) in
-    reach_target table sphere self.n (above_bc p) c.args.k (above_of p + 1) (p.a.above + 1) c.args.j c.requires.composite.setting.is_sphere (through_bracket table sphere self.setting.range p self.n self.beta.now self.gamma.now c.requires.composite c.args.k (omega arith)) c.requires.within beta.basis.now u (omega (arith, c.requires.within, c.requires.maps.beta_basis_reaches)) at c.args.k beta.target.now c.requires.maps.beta_target_is
+    reach_target table sphere self.n (above_bc p) c.args.k (above_of p + 1) (p.a.above + 1) c.args.j c.requires.composite.setting.is_sphere (through_bracket table sphere self.setting.range (far_of p) p self.n self.beta.now self.gamma.now c.requires.composite c.args.k (omega arith)) c.requires.within beta.basis.now u (omega (arith, c.requires.within, c.requires.maps.beta_basis_reaches)) at c.args.k beta.target.now c.requires.maps.beta_target_is
 
 pub goal-requires-clause-map_source : goal.goal-requires-clause-map_source
 goal-requires-clause-map_source c =
@@ -122,7 +122,7 @@ goal-requires-clause-map_source c =
     let map = c.args.map.now in
     let u = to_z w32 (of_z w32 c.over-u.result) in
     let at = u-is ((goal.at.goal-requires-clause-map_source c).After-over-u) in
-    reach_low table sphere self.n (above_bc p) c.args.k (above_of p + 1) (p.a.above + 1) c.args.j c.requires.composite.setting.is_sphere (through_bracket table sphere self.setting.range p self.n self.beta.now self.gamma.now c.requires.composite c.args.k (omega arith)) c.requires.within map.basis.now u (omega (arith, c.requires.within, c.requires.maps.map_basis_reaches)) at (self.n + c.args.k) map.source.now c.requires.maps.map_source_is
+    reach_low table sphere self.n (above_bc p) c.args.k (above_of p + 1) (p.a.above + 1) c.args.j c.requires.composite.setting.is_sphere (through_bracket table sphere self.setting.range (far_of p) p self.n self.beta.now self.gamma.now c.requires.composite c.args.k (omega arith)) c.requires.within map.basis.now u (omega (arith, c.requires.within, c.requires.maps.map_basis_reaches)) at (self.n + c.args.k) map.source.now c.requires.maps.map_source_is
 
 pub goal-requires-clause-map_target : goal.goal-requires-clause-map_target
 goal-requires-clause-map_target c =
@@ -133,7 +133,7 @@ goal-requires-clause-map_target c =
     let map = c.args.map.now in
     let u = to_z w32 (of_z w32 c.over-u.result) in
     let at = u-is ((goal.at.goal-requires-clause-map_target c).After-over-u) in
-    reach_target table sphere self.n (above_bc p) c.args.k (above_of p + 1) (p.a.above + 1) c.args.j c.requires.composite.setting.is_sphere (through_bracket table sphere self.setting.range p self.n self.beta.now self.gamma.now c.requires.composite c.args.k (omega arith)) c.requires.within map.basis.now u (omega (arith, c.requires.within, c.requires.maps.map_basis_reaches)) at c.args.k map.target.now c.requires.maps.map_target_is
+    reach_target table sphere self.n (above_bc p) c.args.k (above_of p + 1) (p.a.above + 1) c.args.j c.requires.composite.setting.is_sphere (through_bracket table sphere self.setting.range (far_of p) p self.n self.beta.now self.gamma.now c.requires.composite c.args.k (omega arith)) c.requires.within map.basis.now u (omega (arith, c.requires.within, c.requires.maps.map_basis_reaches)) at c.args.k map.target.now c.requires.maps.map_target_is
 
 pub goal-requires-clause-gamma : goal.goal-requires-clause-gamma
 goal-requires-clause-gamma c =
@@ -144,7 +144,7 @@ goal-requires-clause-gamma c =
     let u = to_z w32 (of_z w32 c.over-u.result) in
     let at = u-is ((goal.at.goal-requires-clause-gamma c).After-over-u) in
     ap length (value-is ((goal.at.goal-requires-clause-gamma c).After-index-inner-len) (bound here are))
-    ∙ (gamma_width self.setting.table.now self.setting.sphere.now self.setting.range p self.n self.beta.now self.gamma.now c.requires.composite c.args.k c.args.j c.loop-i.i c.requires.row (omega (arith, c.requires.within)) (inside here are)
+    ∙ (gamma_width self.setting.table.now self.setting.sphere.now self.setting.range (far_of p) p self.n self.beta.now self.gamma.now c.requires.composite c.args.k c.args.j c.loop-i.i c.requires.row (omega (arith, c.requires.within)) (inside here are)
     ∙ sym (ap (λ (z : List ℤ). free_width z u) c.requires.maps.beta_source_is ∙ ap (free_width (lowered_row self.setting.sphere.now (p.b.s + c.args.k) (above_ab p + 1) p.b.above)) at))
 
 pub goal-requires-clause-image : goal.goal-requires-clause-image
@@ -153,7 +153,7 @@ goal-requires-clause-image c =
     let p = self.setting.places in
     let within = c.requires.within in
     let are = images-are ((goal.at.goal-requires-clause-image c).After-images_of-images) in
-    let long = next_row_there self.setting.table.now self.setting.sphere.now self.setting.range p self.n self.beta.now self.gamma.now c.requires.composite c.args.k c.requires.row in
+    let long = next_row_there self.setting.table.now self.setting.sphere.now self.setting.range (far_of p) p self.n self.beta.now self.gamma.now c.requires.composite c.args.k c.requires.row in
     let at = u-is ((goal.at.goal-requires-clause-image c).After-over-u) in
     image_width self.setting.table.now c.requires.composite.setting.is_table (self.n + c.args.k) (above_bc p) (above_of p + 1) c.args.j c.loop-i.i c.args.map.now.source.now c.index-images-i.result within (omega arith) (omega (arith, ap length are)) c.requires.maps.map_source_is (image-is ((goal.at.goal-requires-clause-image c).After-index-images-i) are)
     ∙ sym (ap (free_width c.args.map.now.source.now) at)
@@ -173,7 +173,7 @@ preimage-requires c =
     let wide = c.in_ok-goal.ensures.length
     ∙ (ap (λ (z : List ℤ). free_width z u) c.requires.maps.map_target_is
     ∙ (ap (free_width (target_of sphere k (p.a.above + 1))) at ∙ width-take (bottom_of sphere.resolved) (row_of (plain_rows sphere.rows) k) (p.a.above + 1) low (omega (arith, ints)))) in
-    next_goal_fits sphere k low c.in_ok-inverse.inverse c.in_ok-goal.goal (place_there table sphere self.n (above_bc p) (suc k) (above_of p + 1) (p.a.above + 1) j c.requires.composite.setting.is_sphere (through_bracket table sphere self.setting.range p self.n self.beta.now self.gamma.now c.requires.composite (suc k) (omega arith)) within) (inverse-in sphere k u low c.in_ok-inverse.inverse at c.in_ok-inverse.ensures) wide
+    next_goal_fits sphere k low c.in_ok-inverse.inverse c.in_ok-goal.goal (place_there table sphere self.n (above_bc p) (suc k) (above_of p + 1) (p.a.above + 1) j c.requires.composite.setting.is_sphere (through_bracket table sphere self.setting.range (far_of p) p self.n self.beta.now self.gamma.now c.requires.composite (suc k) (omega arith)) within) (inverse-in sphere k u low c.in_ok-inverse.inverse at c.in_ok-inverse.ensures) wide
 
 pub loop-i-preserved : goal.loop-i-preserved
 loop-i-preserved c =
@@ -190,7 +190,7 @@ loop-i-preserved c =
     let here = (goal.at.loop-i-preserved c).After-len in
     let are = images-are ((goal.at.loop-i-preserved c).After-images_of-images) in
     let there = inside here are in
-    let long = next_row_there table sphere self.setting.range p n self.beta.now self.gamma.now c.requires.composite k c.requires.row in
+    let long = next_row_there table sphere self.setting.range (far_of p) p n self.beta.now self.gamma.now c.requires.composite k c.requires.row in
     let len = length-row_of table.rows (suc (n + k)) in
     let there_row : j < length (row_of (plain_rows table.rows) (suc (n + k))) = omega arith in
     let g = first_of (resolution_of table) (suc (n + k)) j + i in
@@ -215,6 +215,6 @@ returns c =
     let n = self.n in
     let k = c.args.k in
     let j = c.args.j in
-    let long = next_row_there table sphere self.setting.range p n self.beta.now self.gamma.now c.requires.composite k c.requires.row in
+    let long = next_row_there table sphere self.setting.range (far_of p) p n self.beta.now self.gamma.now c.requires.composite k c.requires.row in
     let all = all-of table (suc (n + k)) j c.loop-i.i c.images_of-images.result.now (omega arith) (images-are ((goal.at.returns c).After-images_of-images)) (omega arith) in
     chosen_in table sphere (suc (n + k)) (suc k) (bottom_of table.resolved +ℤ pos (above_bc p)) (homotopy_goal table sphere p n k c.args.beta.now.images.now self.gamma.now c.args.map.now.images.now) (first_of (resolution_of table) (suc (n + k)) j + c.loop-i.i) (first_of (resolution_of table) (suc (n + k)) (j + 1)) c.loop-i.values.items all c.loop-i.invariant

@@ -1,0 +1,22 @@
+use Rattle.std.proofs.Common.{◌⊎◌, ◌≡◌, subst}
+use Rattle.std.specs.Prelude.{Err, IfErr}
+use Rattle.finite_module.specs.Checked.{Checked}
+use Rattle.ext_report.specs.declared.failure.Failure.TheVariants.{Memory}
+use Rattle.ext_run.specs.declared.plan.Form.TheVariants.{Bracket}
+use Rattle.ext_run.specs.Forms.{IsInForm, IsRefusedIn}
+use Rattle.ext_run.specs.Work.{answer_of}
+use Rattle.ext_run.proofs.WholeImages.{whole_made}
+use Rattle.ext_run.proofs.brackets_over_images.bracket_by.Goals as goal
+
+pub bracket_over-text-requires-clause-whole : goal.bracket_over-text-requires-clause-whole
+bracket_over-text-requires-clause-whole g c =
+    let made = c.in_ok-images.ensures in
+    whole_made c.in_ok-images.images c.args.resolved c.args.range made.resolved made.range made.canonical c.requires.rows c.requires.degrees
+
+pub returns-clause-told : goal.returns-clause-told
+returns-clause-told g c = λ has.
+    subst (λ (m : Checked). IsInForm (Bracket c.args.a c.args.b c.args.c) c.args.range m.plain (answer_of c.bracket_over-text.result)) c.in_ok-images.ensures.resolved (c.bracket_over-text.ensures.told has)
+
+pub returns-clause-why : goal.returns-clause-why
+returns-clause-why g c =
+    subst (λ (m : Checked). IfErr c.bracket_over-text.result (λ e. (e ≡ Memory) ⊎ IsRefusedIn (Bracket c.args.a c.args.b c.args.c) c.args.range m.plain (Err e))) c.in_ok-images.ensures.resolved c.bracket_over-text.ensures.why
